@@ -1,0 +1,9 @@
+pub mod Changes
+pub mod AllOrNothing
+pub mod Locality
+pub mod Undo
+pub mod Redo
+pub mod Inverses
+pub mod Dependents
+pub mod Log
+pub mod Evaluation

@@ -1,0 +1,6 @@
+pub mod Packed
+pub mod Names
+pub mod Shapes
+pub mod Cells
+pub mod WellFormed
+pub mod Readers

@@ -1,0 +1,92 @@
+ghost use Rattle.std.specs.Prelude.{◌≡◌, ℕ, ◌+◌, ◌-◌, ◌^◌, List, length, min, IfOk, IfErr, OnOk, OnErr};
+ghost use Rattle.std.specs.FinMap as map;
+ghost use Rattle.selective_undo.specs.Changes.{apply, inverse};
+ghost use Rattle.wb_book.specs.Cells.{written_more, count_of};
+
+use std::alloc::Global;
+use std::collections::BTreeMap;
+use std::marker::Model;
+
+use crate::book::store;
+use crate::cells::cell::Cell;
+use crate::cells::value::Value;
+use crate::changes::delta::Delta;
+use crate::changes::inverse::Inverse;
+use wb_range::NoMemory;
+
+/// A workbook: its cells, and how many were set so far.
+#[derive(Drop)]
+pub struct Book {
+    alloc: Global,
+    cells: BTreeMap<Cell, Value>,
+    writes: u128,
+}
+
+impl Model for Book {
+    ghost use Rattle.wb_book.specs.Cells.{Contents, contents_code, state_of};
+
+    ghost Value = { Contents };
+
+    ghost coded = { contents_code };
+
+    ghost view = { λ a. record { cells = state_of a.cells; writes = a.writes } };
+}
+
+impl Book {
+    pub fn new(alloc: Global) -> Book
+        ensures { result ≡ record { cells = map.empty; writes = 0 } }
+    {
+        Book {
+            alloc,
+            cells: BTreeMap::new(alloc),
+            writes: 0,
+        }
+    }
+
+    /// What stands in a cell.
+    pub fn get(&self, cell: Cell) -> Option<Value>
+        ensures { result ≡ map.get self.now.cells cell }
+    {
+        store::look(&self.cells, cell)
+    }
+
+    /// How many cells were set so far, up to the type's greatest value.
+    pub fn writes(&self) -> u128
+        ensures { result ≡ self.now.writes }
+    {
+        self.writes
+    }
+
+    /// Makes the changes, or none where no memory is left, and gives what takes them back.
+    pub fn apply(&mut self, delta: Delta) -> Result<Inverse, (Delta, NoMemory)>
+        ensures inverse { IfOk result (λ i. i ≡ inverse delta self.old.cells) }
+        ensures cells { OnOk result (self.new.cells ≡ apply delta self.old.cells) }
+        ensures writes { OnOk result (self.new.writes ≡ written_more self.old.writes (count_of delta)) }
+        ensures err { OnErr result (self.new ≡ self.old) }
+        ensures given_back { IfErr result (λ e. e.0 ≡ delta) }
+    {
+        match store::change_all(self.alloc, &mut self.cells, delta.changes()) {
+            Ok(before) => {
+                self.writes = self.writes.saturating_add(delta.count() as u128);
+                Ok(Inverse::new(before))
+            }
+            Err(why) => Err((delta, why)),
+        }
+    }
+
+    /// Sets the cells back to what they were, or none where no memory is left.
+    pub fn revert(&mut self, inverse: Inverse) -> Result<(), (Inverse, NoMemory)>
+        ensures cells { OnOk result (self.new.cells ≡ apply inverse self.old.cells) }
+        ensures writes { OnOk result (self.new.writes ≡ written_more self.old.writes (count_of inverse)) }
+        ensures err { OnErr result (self.new ≡ self.old) }
+        ensures given_back { IfErr result (λ e. e.0 ≡ inverse) }
+    {
+        match store::change_all(self.alloc, &mut self.cells, inverse.before()) {
+            Ok(_) => {
+                self.writes = self.writes.saturating_add(inverse.count() as u128);
+                Ok(())
+            }
+            Err(why) => Err((inverse, why)),
+        }
+    }
+}

@@ -1,0 +1,5 @@
+//! Cells, what may stand in them, and names for families of them.
+
+pub mod cell;
+pub mod pattern;
+pub mod value;

@@ -1,0 +1,77 @@
+ghost use Rattle.std.specs.Prelude.{◌≡◌};
+
+use crate::values::name::Name;
+use crate::values::rectangle::AnyRect;
+use std::marker::Model;
+
+/// What kind of domain there is, or an array is over: rectangular, with its rank.
+#[derive(Clone, Copy, Debug, PartialEq, Eq)]
+pub enum Kind {
+    /// Rectangular, of a rank.
+    Rectangular(u8),
+}
+
+/// Which locale each index lies on: locale 0 for all.
+#[derive(Clone, Copy, Debug, PartialEq, Eq)]
+pub enum Layout {
+    /// All indices on one locale.
+    Whole,
+}
+
+/// How an object is bound to a domain.
+#[derive(Clone, Copy, Debug, PartialEq, Eq)]
+pub enum Binding {
+    /// An array over it.
+    Array,
+}
+
+/// What stands in a cell.
+#[derive(Clone, Copy)]
+pub enum Value {
+    /// A domain of a kind.
+    Domain(Kind),
+    /// An array over the domain of a name, which is of a kind.
+    Array(Name, Kind),
+    /// The ranges of a rectangular domain.
+    Ranges(AnyRect),
+    /// The mapping of a rectangular domain.
+    Mapping(Layout),
+    /// That an index is there.
+    Present,
+    /// What an object is to a domain.
+    Bound(Binding),
+    /// An element, or an implicit value.
+    Number(i64),
+}
+
+/// What stands in a cell, in a form that `Option` may hold. Contracts see it as its `Value`.
+#[derive(Clone, Copy)]
+pub struct AnyValue {
+    value: Value,
+}
+
+impl Model for AnyValue {
+    ghost use Rattle.wb_book.specs.declared.cells.value.Value as held;
+
+    ghost Value = { held.Value };
+
+    ghost view = { λ a. a.value };
+
+    ghost inverse = { λ v. record { value = v } };
+}
+
+impl AnyValue {
+    /// The value, to be held by another one.
+    pub fn new(value: Value) -> AnyValue
+        ensures { result ≡ value }
+    {
+        AnyValue { value }
+    }
+
+    /// The value.
+    pub fn value(&self) -> Value
+        ensures { result ≡ self.now }
+    {
+        self.value
+    }
+}

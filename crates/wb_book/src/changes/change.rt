@@ -1,0 +1,71 @@
+ghost use Rattle.std.specs.Prelude.{◌≡◌};
+ghost use Rattle.wb_book.specs.Cells.{is_counted, count_of};
+
+use crate::cells::cell::{AnyCell, Cell};
+use crate::cells::value::{AnyValue, Value};
+use std::marker::Model;
+
+/// A cell with its new value, or with none where it is to be absent. Contracts see it as a `Change`.
+#[derive(Clone, Copy)]
+pub struct CellChange {
+    cell: AnyCell,
+    value: Option<AnyValue>,
+}
+
+impl Model for CellChange {
+    ghost use Rattle.wb_book.specs.declared.cells.cell.Cell.{Cell};
+    ghost use Rattle.wb_book.specs.declared.cells.value.Value as held;
+    ghost use Rattle.selective_undo.specs.declared.Change.{Change};
+
+    ghost Value = { Change Cell held.Value };
+
+    ghost view = { λ a. record { cell = a.cell; value = a.value } };
+
+    ghost inverse = { λ v. record { cell = v.cell; value = v.value } };
+}
+
+impl CellChange {
+    /// The change of a cell to a value, or to absent.
+    pub fn new(cell: Cell, value: Option<Value>) -> CellChange
+        ensures { result ≡ record { cell = cell; value = value } }
+    {
+        let cell = AnyCell::new(cell);
+        match value {
+            Some(value) => CellChange {
+                cell,
+                value: Some(AnyValue::new(value)),
+            },
+            None => CellChange { cell, value: None },
+        }
+    }
+
+    /// The cell that changes.
+    pub fn cell(&self) -> Cell
+        ensures { result ≡ self.now.cell }
+    {
+        self.cell.cell()
+    }
+
+    /// What the cell is to hold, if it is to be present.
+    pub fn value(&self) -> Option<Value>
+        ensures { result ≡ self.now.value }
+    {
+        match self.value {
+            Some(value) => Some(value.value()),
+            None => None,
+        }
+    }
+}
+
+fn is_counted(cell: Cell) -> bool
+    ensures { result ≡ is_counted cell }
+{
+    !matches!(&cell, Cell::In(_, _))
+}
+
+/// How many of the changes are to other cells than `In`.
+pub(crate) fn counted(changes: &[CellChange]) -> usize
+    ensures { result ≡ count_of changes.now }
+{
+    changes.iter().filter(|x| is_counted(x.cell())).count()
+}

@@ -1,0 +1,69 @@
+ghost use Rattle.std.specs.Prelude.{◌≡◌, ℕ, List, [], ◌∷◌, ◌++◌, length, Some, None, false, OnOk, OnErr};
+ghost use Rattle.selective_undo.specs.Changes.{changes, AllOnce};
+ghost use Rattle.wb_book.specs.Cells.{cell_cmp, count_of};
+
+use crate::cells::cell::Cell;
+use crate::cells::value::Value;
+use crate::changes::change::{CellChange, counted};
+use std::alloc::Global;
+use std::marker::Model;
+use wb_range::NoMemory;
+
+/// Changes to cells, each cell once. Contracts see their list.
+#[derive(Drop)]
+pub struct Delta {
+    changes: Vec<CellChange>,
+}
+
+impl Model for Delta {
+    ghost use Rattle.std.specs.Prelude.{List};
+    ghost use Rattle.selective_undo.specs.declared.Change.{Change};
+    ghost use Rattle.wb_book.specs.declared.cells.cell.Cell.{Cell};
+    ghost use Rattle.wb_book.specs.declared.cells.value.Value as held;
+    ghost use Rattle.selective_undo.specs.Changes.{AllOnce};
+    ghost use Rattle.wb_book.specs.Cells.{cell_cmp};
+
+    ghost Value = { List (Change Cell held.Value) };
+
+    ghost view = { λ a. a.changes.items };
+
+    ghost invariant = { λ a. AllOnce cell_cmp a.changes.items };
+}
+
+impl Delta {
+    /// No changes.
+    pub fn new(alloc: Global) -> Delta
+        ensures { result ≡ [] }
+    {
+        Delta {
+            changes: Vec::new(alloc),
+        }
+    }
+
+    /// Adds a change of a cell that is not there yet: to a value, or to absent.
+    pub fn put(&mut self, cell: Cell, value: Option<Value>) -> Result<(), NoMemory>
+        requires { changes cell_cmp self.old cell ≡ false }
+        ensures ok { OnOk result (self.new ≡ self.old ++ record { cell = cell; value = value } ∷ []) }
+        ensures err { OnErr result (self.new ≡ self.old) }
+    {
+        match self.changes.push(CellChange::new(cell, value)) {
+            Ok(()) => Ok(()),
+            Err(_) => Err(NoMemory),
+        }
+    }
+
+    /// How many cells change; the cells `In`, which follow from the shapes, are not counted.
+    pub fn count(&self) -> usize
+        ensures { result ≡ count_of self.now }
+    {
+        counted(self.changes.as_slice())
+    }
+
+    /// The changes, in the order in which they were put.
+    pub fn changes(&self) -> &[CellChange]
+        ensures same { result.now ≡ self.now }
+        ensures once { AllOnce cell_cmp self.now }
+    {
+        self.changes.as_slice()
+    }
+}

@@ -1,0 +1,19 @@
+//! A workbook: named domains and arrays as a finite map of cells, and changes to them, all or nothing.
+#![tactic(auto)]
+
+mod book;
+mod cells;
+mod changes;
+mod values;
+
+pub use crate::book::Book;
+pub use crate::cells::cell::{AnyCell, Cell};
+pub use crate::cells::pattern::Pattern;
+pub use crate::cells::value::{AnyValue, Binding, Kind, Layout, Value};
+pub use crate::changes::change::CellChange;
+pub use crate::changes::delta::Delta;
+pub use crate::changes::inverse::Inverse;
+pub use crate::values::index::{AnyIndex, Index};
+pub use crate::values::name::{BadName, Name};
+pub use crate::values::point::Point;
+pub use crate::values::rectangle::AnyRect;

@@ -1,0 +1,6 @@
+//! The fixed-size values that cells are made of.
+
+pub mod index;
+pub mod name;
+pub mod point;
+pub mod rectangle;

@@ -1,0 +1,58 @@
+-- The commands: for each, its tests in their order, what they look at, and the cells that it writes.
+use Rattle.std.specs.Prelude.{ℤ, pos, List, [], ◌∷◌, ◌++◌, map, length}
+use Rattle.selective_undo.specs.Edit.{write}
+use Rattle.wb_book.specs.declared.cells.cell.Cell.TheVariants.{Object, Shape, In, Mapping, Use, Implicit, Element}
+use Rattle.wb_book.specs.declared.cells.value.Binding.TheVariants.{Array}
+use Rattle.wb_book.specs.declared.cells.value.Kind.TheVariants.{Rectangular}
+use Rattle.wb_book.specs.declared.cells.value.Kind.{Kind}
+use Rattle.wb_book.specs.declared.cells.value.Layout.TheVariants.{Whole}
+use Rattle.wb_book.specs.declared.cells.value.Value.TheVariants.{Domain, Array, Ranges, Mapping, Present, Bound, Number}
+use Rattle.wb_book.specs.declared.values.index.Index.{Index}
+use Rattle.wb_book.specs.Cells.{Name, Changes}
+use Rattle.wb_book.specs.Shapes.{Range, indices}
+use Rattle.wb_edit.specs.declared.edit.Edit.{Edit as Command}
+use Rattle.wb_edit.specs.declared.edit.Edit.TheVariants.{Domain, Array, Set}
+use Rattle.wb_edit.specs.Looks.{Tree, ◌>>=◌, ◌>>◌}
+use Rattle.wb_edit.specs.Tests.{free, dom, arr, key, element, idx}
+use Rattle.wb_edit.specs.Writes.{put, put_all}
+
+-- a new rectangular domain
+abbrev pub domain_cells : Name → List Range → Changes
+domain_cells d rs =
+    put (Object d) (Domain (Rectangular (length rs)))
+    ∷ put (Shape d) (Ranges rs)
+    ∷ put (Mapping d) (Mapping Whole)
+    ∷ put_all (map (In d) (indices rs)) Present
+
+abbrev pub domain : Name → List Range → Tree
+domain d rs = do
+  unit ← free d
+  write (domain_cells d rs)
+
+-- a new array, 0 at each index
+abbrev pub array_cells : Name → Name → Kind → List Index → Changes
+array_cells a d kind is =
+    put (Object a) (Array d kind)
+    ∷ put (Use d a) (Bound Array)
+    ∷ put (Implicit a) (Number (pos 0))
+    ∷ put_all (map (Element a) is) (Number (pos 0))
+
+abbrev pub array : Name → Name → Tree
+array a d = do
+  unit ← free a
+  kind ← dom d
+  is ← idx d kind
+  write (array_cells a d kind is)
+
+-- a new element
+abbrev pub set : Name → Index → ℤ → Tree
+set a i v = do
+  (d, kind) ← arr a
+  unit ← key kind i
+  there ← element a i
+  write (put (Element a i) (Number v) ∷ [])
+
+abbrev pub meaning : Command → Tree
+meaning (Domain d rs) = domain d rs
+meaning (Array a d) = array a d
+meaning (Set a i v) = set a i v

@@ -1,0 +1,6 @@
+pub mod Schema
+pub mod Looks
+pub mod Tests
+pub mod Writes
+pub mod Commands
+pub mod Plans

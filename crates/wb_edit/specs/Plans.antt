@@ -1,0 +1,66 @@
+-- What the code of a plan says of a tree.
+use Rattle.std.specs.Prelude.{◌≡◌, ℕ, List, [], ◌++◌, Option, Some, None, Result, Ok, Err, ⊤}
+use Rattle.selective_undo.specs.Edit.{outcome, reads}
+use Rattle.wb_book.specs.declared.cells.cell.Cell.{Cell}
+use Rattle.wb_book.specs.declared.cells.cell.Cell.TheVariants.{In, Element}
+use Rattle.wb_book.specs.declared.cells.pattern.Pattern.{Pattern}
+use Rattle.wb_book.specs.Cells.{Cells, Changes, count_of}
+use Rattle.wb_edit.specs.declared.commands.writes.Column.{Column}
+use Rattle.wb_edit.specs.declared.commands.writes.Column.TheVariants.{Inside, Elements}
+use Rattle.wb_edit.specs.declared.planning.PlanErr.{PlanErr}
+use Rattle.wb_edit.specs.declared.planning.PlanErr.TheVariants.{Refused as PlanRefused, NoMemory as PlanNoMemory}
+use Rattle.wb_edit.specs.declared.tests.stop.Stop.{Stop}
+use Rattle.wb_edit.specs.declared.tests.stop.Stop.TheVariants.{Refused as StopRefused, NoMemory as StopNoMemory}
+use Rattle.wb_edit.specs.declared.refusal.Refusal.{Refusal}
+use Rattle.wb_book.specs.declared.values.index.Index.{Index}
+use Rattle.wb_book.specs.Shapes.{Range}
+use Rattle.wb_edit.specs.Tests.{indices_of}
+use Rattle.wb_edit.specs.Looks.{Tree, Look}
+
+-- A plan is what the tree says: its outcome, its reads and the number of its changes, not counting the cells `In`.
+abbrev pub IsPlan : Tree → Cells → Result (Changes × List Pattern × ℕ) PlanErr → Type 0
+IsPlan e s (Ok (xs, rs, n)) = (outcome e s ≡ Ok xs) × (rs ≡ reads e s) × (n ≡ count_of xs)
+IsPlan e s (Err (PlanRefused why rs)) = (outcome e s ≡ Err why) × (rs ≡ reads e s)
+IsPlan e s (Err PlanNoMemory) = ⊤
+
+-- ---- a plan in the making, where rs was read before and ss after
+
+-- an attempt comes out as the tree does, and adds what it reads
+abbrev pub Attempts : Tree → Cells → List Pattern → Result Changes Stop → List Pattern → Type 0
+Attempts e s rs (Ok xs) ss = (outcome e s ≡ Ok xs) × (ss ≡ rs ++ reads e s)
+Attempts e s rs (Err (StopRefused why)) ss = (outcome e s ≡ Err why) × (ss ≡ rs ++ reads e s)
+Attempts e s rs (Err StopNoMemory) ss = ⊤
+
+-- whatever comes next, a look goes on with x
+abbrev pub Gives : {X : Type 0} → Look X → Cells → List Pattern → X → List Pattern → Type 0
+Gives t s rs x ss = (next : _ → Tree) → (outcome (t next) s ≡ outcome (next x) s) × (rs ++ reads (t next) s ≡ ss ++ reads (next x) s)
+
+-- whatever comes next, a look refuses the edit
+abbrev pub Refuses : {X : Type 0} → Look X → Cells → List Pattern → Refusal → List Pattern → Type 0
+Refuses t s rs why ss = (next : _ → Tree) → (outcome (t next) s ≡ Err why) × (ss ≡ rs ++ reads (t next) s)
+
+-- a look comes out as its tree does
+abbrev pub Looks : {X : Type 0} → Look X → Cells → List Pattern → Result X Stop → List Pattern → Type 0
+Looks t s rs (Ok x) ss = Gives t s rs x ss
+Looks t s rs (Err (StopRefused why)) ss = Refuses t s rs why ss
+Looks t s rs (Err StopNoMemory) ss = ⊤
+
+-- the changes, unless no memory was left
+abbrev pub Makes : Changes → Result Changes Stop → Type 0
+Makes xs (Ok ys) = ys ≡ xs
+Makes xs (Err why) = why ≡ StopNoMemory
+
+-- a judgement, where it may stop an attempt
+abbrev pub stopped : {X : Type 0} → Result X Refusal → Result X Stop
+stopped (Ok x) = Ok x
+stopped (Err why) = Err (StopRefused why)
+
+-- ranges that were seen, as the indices that they stand for
+abbrev pub shown_indices : Result (Option (List Range)) Stop → Result (List Index) Stop
+shown_indices (Ok rs) = Ok (indices_of rs)
+shown_indices (Err why) = Err why
+
+-- the cell of a column at an index
+abbrev pub cell_at : Column → Index → Cell
+cell_at (Inside d) i = In d i
+cell_at (Elements a) i = Element a i

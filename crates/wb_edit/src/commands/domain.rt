@@ -1,0 +1,36 @@
+ghost use Rattle.std.specs.Prelude.{◌≡◌};
+ghost use Rattle.wb_edit.specs.Commands.{domain, domain_cells};
+ghost use Rattle.wb_edit.specs.Plans.{Attempts, Makes};
+
+use crate::commands::writes::{Column, put, put_all};
+use crate::foot::Foot;
+use crate::tests::looks;
+use crate::tests::stop::Stop;
+use std::alloc::Global;
+use wb_book::{AnyRect, Book, Cell, Delta, Kind, Layout, Name, Value};
+
+/// A new rectangular domain.
+pub(crate) fn plan_domain(
+    alloc: Global,
+    book: &Book,
+    foot: &mut Foot,
+    name: Name,
+    ranges: &AnyRect,
+) -> Result<Delta, Stop>
+    ensures { Attempts (domain name ranges.now) book.now.cells foot.old result foot.new }
+{
+    looks::free(book, foot, name)?;
+    domain_changes(alloc, name, ranges)
+}
+
+fn domain_changes(alloc: Global, name: Name, ranges: &AnyRect) -> Result<Delta, Stop>
+    ensures { Makes (domain_cells name ranges.now) result }
+{
+    let mut delta = Delta::new(alloc);
+    let kind = Kind::Rectangular(ranges.rank());
+    put(&mut delta, Cell::Object(name), Value::Domain(kind))?;
+    put(&mut delta, Cell::Shape(name), Value::Ranges(*ranges))?;
+    put(&mut delta, Cell::Mapping(name), Value::Mapping(Layout::Whole))?;
+    put_all(&mut delta, &Column::Inside(name), ranges, &Value::Present)?;
+    Ok(delta)
+}

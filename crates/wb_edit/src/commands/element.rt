@@ -1,0 +1,44 @@
+ghost use Rattle.std.specs.Prelude.{◌≡◌, [], ◌∷◌};
+ghost use Rattle.wb_book.specs.declared.cells.cell.Cell.TheVariants.{Element};
+ghost use Rattle.wb_book.specs.declared.cells.value.Value.TheVariants.{Number};
+ghost use Rattle.wb_edit.specs.Commands.{set};
+ghost use Rattle.wb_edit.specs.Plans.{Attempts, Makes};
+ghost use Rattle.wb_edit.specs.Writes.{put};
+
+use crate::commands::writes::put;
+use crate::foot::Foot;
+use crate::tests::judgements;
+use crate::tests::looks;
+use crate::tests::stop::{Stop, stopped};
+use std::alloc::Global;
+use wb_book::{AnyIndex, Book, Cell, Delta, Name, Value};
+
+/// A new element.
+pub(crate) fn plan_set(
+    alloc: Global,
+    book: &Book,
+    foot: &mut Foot,
+    array: Name,
+    index: AnyIndex,
+    value: i64,
+) -> Result<Delta, Stop>
+    ensures { Attempts (set array index value) book.now.cells foot.old result foot.new }
+{
+    let (_domain, kind) = looks::arr(book, foot, array)?;
+    stopped(judgements::fits(kind, index))?;
+    looks::element(book, foot, array, index)?;
+    element_change(alloc, array, index, value)
+}
+
+fn element_change(
+    alloc: Global,
+    array: Name,
+    index: AnyIndex,
+    value: i64,
+) -> Result<Delta, Stop>
+    ensures { Makes (put (Element array index) (Number value) ∷ []) result }
+{
+    let mut delta = Delta::new(alloc);
+    put(&mut delta, Cell::Element(array, index), Value::Number(value))?;
+    Ok(delta)
+}

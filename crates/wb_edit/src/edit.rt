@@ -1,0 +1,29 @@
+ghost use Rattle.std.specs.Prelude.{◌≡◌, IfOk};
+
+use std::alloc::Global;
+use wb_book::{AnyIndex, AnyRect, Name};
+use wb_range::NoMemory;
+
+/// A change to a workbook, as it is asked for. Its meaning is the tree that the definitions give it.
+#[derive(Drop)]
+pub enum Edit {
+    /// A new rectangular domain with these ranges, all of it on one locale.
+    Domain(Name, AnyRect),
+    /// A new array, the first name, over the domain that the second one names; all elements are 0.
+    Array(Name, Name),
+    /// A new element of an array, at an index.
+    Set(Name, AnyIndex, i64),
+}
+
+impl Edit {
+    /// An equal edit, or `NoMemory`.
+    pub fn copy(&self, _alloc: Global) -> Result<Edit, NoMemory>
+        ensures { IfOk result (λ e. e ≡ self.now) }
+    {
+        match self {
+            Edit::Domain(domain, ranges) => Ok(Edit::Domain(*domain, *ranges)),
+            Edit::Array(array, domain) => Ok(Edit::Array(*array, *domain)),
+            Edit::Set(array, index, value) => Ok(Edit::Set(*array, *index, *value)),
+        }
+    }
+}

@@ -1,0 +1,54 @@
+ghost use Rattle.std.specs.Prelude.{◌≡◌, List, [], ◌∷◌, ◌++◌, OnOk, OnErr};
+
+use smallvec::SmallVec;
+use std::alloc::Global;
+use std::marker::Model;
+use wb_book::Pattern;
+use wb_range::NoMemory;
+
+/// How many patterns are kept in place.
+const FEW: usize = 2;
+
+/// What an edit read, in order. Contracts see the list of its patterns.
+#[derive(Drop)]
+pub struct Foot {
+    reads: SmallVec<Pattern, FEW>,
+}
+
+impl Model for Foot {
+    ghost use Rattle.std.specs.Prelude.{List};
+    ghost use Rattle.wb_book.specs.declared.cells.pattern.Pattern.{Pattern};
+
+    ghost Value = { List Pattern };
+
+    ghost view = { λ a. a.reads.items };
+}
+
+impl Foot {
+    /// Nothing read yet.
+    pub(crate) fn new(alloc: Global) -> Foot
+        ensures { result ≡ [] }
+    {
+        Foot {
+            reads: SmallVec::new(alloc),
+        }
+    }
+
+    /// The patterns that were read, in order.
+    pub fn reads(&self) -> &[Pattern]
+        ensures { result.now ≡ self.now }
+    {
+        self.reads.as_slice()
+    }
+
+    /// Keeps that a pattern was read.
+    pub(crate) fn keep(&mut self, pattern: Pattern) -> Result<(), NoMemory>
+        ensures ok { OnOk result (self.new ≡ self.old ++ pattern ∷ []) }
+        ensures err { OnErr result (self.new ≡ self.old) }
+    {
+        match self.reads.push(pattern) {
+            Ok(()) => Ok(()),
+            Err(_) => Err(NoMemory),
+        }
+    }
+}

@@ -1,0 +1,18 @@
+use thiserror::Error;
+
+/// Why an edit is refused.
+#[derive(Clone, Copy, Debug, PartialEq, Eq, Error)]
+pub enum Refusal {
+    /// E03: an object of that name is there.
+    #[error("name-taken")]
+    NameTaken,
+    /// E04: no object of that name is there.
+    #[error("no-such-name")]
+    NoSuchName,
+    /// E05: a domain where an array is wanted or the reverse, or an index of another rank or type.
+    #[error("wrong-kind")]
+    WrongKind,
+    /// E06: an index that isn't there.
+    #[error("out-of-domain")]
+    OutOfDomain,
+}

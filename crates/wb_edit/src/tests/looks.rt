@@ -1,0 +1,76 @@
+//! Looks at cells: each keeps the pattern that it read.
+
+ghost use Rattle.std.specs.Prelude.{◌≡◌, List, [], ◌∷◌, ◌++◌, IfOk, OnOk};
+ghost use Rattle.std.specs.FinMap as map;
+ghost use Rattle.wb_edit.specs.Looks.{read};
+ghost use Rattle.wb_edit.specs.Tests.{free, dom, arr, key, element, idx};
+ghost use Rattle.wb_edit.specs.Plans.{Looks, shown_indices};
+
+use crate::foot::Foot;
+use crate::tests::judgements;
+use crate::tests::stop::{Stop, stopped};
+use wb_book::{AnyCell, AnyIndex, AnyRect, Book, Cell, Kind, Name, Pattern, Value};
+
+/// What a cell holds.
+pub(crate) fn read(book: &Book, foot: &mut Foot, cell: &Cell) -> Result<Option<Value>, Stop>
+    ensures { Looks (read cell.now) book.now.cells foot.old result foot.new }
+{
+    match foot.keep(Pattern::One(AnyCell::new(*cell))) {
+        Ok(()) => Ok(book.get(*cell)),
+        Err(_) => Err(Stop::NoMemory),
+    }
+}
+
+/// Nothing has the name.
+pub(crate) fn free(book: &Book, foot: &mut Foot, name: Name) -> Result<(), Stop>
+    ensures { Looks (free name) book.now.cells foot.old result foot.new }
+{
+    let object = read(book, foot, &Cell::Object(name))?;
+    stopped(judgements::is_free(object))
+}
+
+/// The name is there, and names a domain: its kind.
+pub(crate) fn dom(book: &Book, foot: &mut Foot, domain: Name) -> Result<Kind, Stop>
+    ensures { Looks (dom domain) book.now.cells foot.old result foot.new }
+{
+    let object = read(book, foot, &Cell::Object(domain))?;
+    stopped(judgements::domain_kind(object))
+}
+
+/// The name is there, and names an array: its domain, and that domain's kind.
+pub(crate) fn arr(book: &Book, foot: &mut Foot, array: Name) -> Result<(Name, Kind), Stop>
+    ensures { Looks (arr array) book.now.cells foot.old result foot.new }
+{
+    let object = read(book, foot, &Cell::Object(array))?;
+    stopped(judgements::array_kind(object))
+}
+
+/// The element is there.
+pub(crate) fn element(
+    book: &Book,
+    foot: &mut Foot,
+    array: Name,
+    index: AnyIndex,
+) -> Result<(), Stop>
+    ensures { Looks (element array index) book.now.cells foot.old result foot.new }
+{
+    let element = read(book, foot, &Cell::Element(array, index))?;
+    stopped(judgements::is_there(element))
+}
+
+/// The ranges of a domain, whose indices are those of the domain; none have no indices.
+pub(crate) fn idx(
+    book: &Book,
+    foot: &mut Foot,
+    domain: Name,
+    kind: Kind,
+) -> Result<Option<AnyRect>, Stop>
+    ensures { Looks (idx domain kind) book.now.cells foot.old (shown_indices result) foot.new }
+{
+    match kind {
+        Kind::Rectangular(_) => {
+            let shape = read(book, foot, &Cell::Shape(domain))?;
+            Ok(judgements::ranges_in(shape))
+        }
+    }
+}

@@ -1,0 +1,5 @@
+//! The tests that commands are made of: each looks at cells, keeps that it did, and goes on or stops.
+
+pub mod judgements;
+pub mod looks;
+pub mod stop;
