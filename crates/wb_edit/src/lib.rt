@@ -13,3 +13,4 @@ pub use crate::edit::Edit;
 pub use crate::foot::Foot;
 pub use crate::planning::{PlanErr, plan};
 pub use crate::refusal::Refusal;
+pub use crate::tests::judgements;

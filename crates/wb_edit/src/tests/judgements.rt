@@ -7,7 +7,7 @@ use crate::refusal::Refusal;
 use wb_book::{AnyIndex, AnyRect, Index, Kind, Name, Value};
 
 /// Nothing has the name.
-pub(crate) fn is_free(object: Option<Value>) -> Result<(), Refusal>
+pub fn is_free(object: Option<Value>) -> Result<(), Refusal>
     ensures { result ≡ is_free object }
 {
     match object {
@@ -17,7 +17,7 @@ pub(crate) fn is_free(object: Option<Value>) -> Result<(), Refusal>
 }
 
 /// The name is there, and names a domain: its kind.
-pub(crate) fn domain_kind(object: Option<Value>) -> Result<Kind, Refusal>
+pub fn domain_kind(object: Option<Value>) -> Result<Kind, Refusal>
     ensures { result ≡ domain_kind object }
 {
     match object {
@@ -35,7 +35,7 @@ pub(crate) fn domain_kind(object: Option<Value>) -> Result<Kind, Refusal>
 }
 
 /// The name is there, and names an array: its domain, and that domain's kind.
-pub(crate) fn array_kind(object: Option<Value>) -> Result<(Name, Kind), Refusal>
+pub fn array_kind(object: Option<Value>) -> Result<(Name, Kind), Refusal>
     ensures { result ≡ array_kind object }
 {
     match object {
@@ -53,7 +53,7 @@ pub(crate) fn array_kind(object: Option<Value>) -> Result<(Name, Kind), Refusal>
 }
 
 /// The element is there.
-pub(crate) fn is_there(element: Option<Value>) -> Result<(), Refusal>
+pub fn is_there(element: Option<Value>) -> Result<(), Refusal>
     ensures { result ≡ is_there element }
 {
     match element {
@@ -74,7 +74,7 @@ fn is_key(kind: Kind, index: Index) -> bool
 }
 
 /// The index is of the rank and type of the domain's indices.
-pub(crate) fn fits(kind: Kind, index: AnyIndex) -> Result<(), Refusal>
+pub fn fits(kind: Kind, index: AnyIndex) -> Result<(), Refusal>
     ensures { result ≡ fits kind index }
 {
     if is_key(kind, index.index()) {
@@ -85,7 +85,7 @@ pub(crate) fn fits(kind: Kind, index: AnyIndex) -> Result<(), Refusal>
 }
 
 /// The ranges that a cell holds.
-pub(crate) fn ranges_in(shape: Option<Value>) -> Option<AnyRect>
+pub fn ranges_in(shape: Option<Value>) -> Option<AnyRect>
     ensures { result ≡ ranges_in shape }
 {
     match shape {

@@ -1,0 +1,10 @@
+use Rattle.std.proofs.Common.{Some, refl, sym, ◌∙◌, ap, ◌++◌, ◌∷◌, []}
+use Rattle.wb_history.proofs.Entries.{more_kept}
+use Rattle.wb_history.specs.declared.entry.Kept.{Kept}
+use Rattle.wb_history.proofs.steps.edit.keep_new.Goals as goal
+
+pub returns-in-Ok-push-clause-kept : goal.returns-in-Ok-push-clause-kept
+returns-in-Ok-push-clause-kept c =
+    let q : Kept = record { foot = c.args.foot; inverse = c.in-Ok.inverse } in
+    rw (c.in-Ok.ensures.cells, c.in-Ok-push.ensures.items, c.reserve.ensures.items)
+    (more_kept c.args.book.now.cells c.args.entries.now.items c.args.edit c.args.delta q c.requires.kept c.requires.outcome c.requires.reads c.in-Ok.ensures.inverse)

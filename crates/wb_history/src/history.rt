@@ -1,0 +1,120 @@
+ghost use Rattle.std.specs.Prelude.{◌≡◌, ℕ, ◌+◌, ◌-◌, length, [], ◌∷◌, ◌++◌, OnOk, OnErr, IfOk, true, false};
+ghost use Rattle.selective_undo.specs.History.{replay};
+ghost use Rattle.wb_book.specs.Cells.{written_more};
+ghost use Rattle.wb_edit.specs.Commands.{meaning};
+ghost use Rattle.wb_history.specs.Past.{meant, out_of_force, into_force, force_of};
+ghost use Rattle.wb_history.specs.Replies.{EditReply, UndoReply, RedoReply, ByNumber};
+
+use crate::entry::Entry;
+use crate::refusal::Refusal;
+use crate::steps;
+use std::alloc::Global;
+use std::marker::Model;
+use wb_book::Book;
+use wb_edit::Edit;
+
+/// A workbook, and the edits that made it, each in force or out of force.
+#[derive(Drop)]
+pub struct History {
+    alloc: Global,
+    book: Book,
+    entries: Vec<Entry>,
+}
+
+impl Model for History {
+    ghost use Rattle.wb_history.specs.Past.{Past, past_code};
+    ghost use Rattle.wb_history.specs.Kept.{numbers, Shows};
+
+    ghost Value = { Past };
+
+    ghost coded = { past_code };
+
+    ghost view = { λ a. record { entries = numbers a.entries.items; writes = a.book.writes } };
+
+    ghost invariant = { λ a. Shows a.entries.items a.book.cells };
+}
+
+impl History {
+    pub fn new(alloc: Global) -> History
+        ensures { result ≡ record { entries = []; writes = 0 } }
+    {
+        History {
+            alloc,
+            book: Book::new(alloc),
+            entries: Vec::new(alloc),
+        }
+    }
+
+    /// How many edits there are, in force and out of force.
+    pub fn len(&self) -> u64
+        ensures { result ≡ length self.now.entries }
+    {
+        self.entries.len() as u64
+    }
+
+    /// The workbook: what the edits in force make of an empty one.
+    pub fn book(&self) -> &Book
+        ensures cells { result.now.cells ≡ replay (meant self.now.entries) }
+        ensures writes { result.now.writes ≡ self.now.writes }
+    {
+        &self.book
+    }
+
+    /// Makes an edit: its number, from 1, and how many cells it changes.
+    pub fn edit(&mut self, edit: Edit) -> Result<(u64, usize), Refusal>
+        ensures reply { EditReply (meant self.old.entries) (meaning edit) result }
+        ensures entries { OnOk result (self.new.entries ≡ self.old.entries ++ record { edit = edit; in_force = true } ∷ []) }
+        ensures writes { IfOk result (λ r. self.new.writes ≡ written_more self.old.writes r.1) }
+        ensures err { OnErr result (self.new ≡ self.old) }
+    {
+        steps::edit::add(self.alloc, &mut self.book, &mut self.entries, edit)
+    }
+
+    /// Undoes the edit of a number, where no later edit in force needs it.
+    pub fn undo(&mut self, number: u64) -> Result<usize, Refusal>
+        ensures reply { ByNumber (UndoReply (meant self.old.entries)) number result }
+        ensures entries { OnOk result (self.new.entries ≡ out_of_force (number - 1) self.old.entries) }
+        ensures writes { IfOk result (λ n. self.new.writes ≡ written_more self.old.writes n) }
+        ensures err { OnErr result (self.new ≡ self.old) }
+    {
+        if number == 0 {
+            return Err(Refusal::NoSuchEdit);
+        }
+        let at = (number - 1) as usize;
+        if at >= self.entries.len() {
+            return Err(Refusal::NoSuchEdit);
+        }
+        steps::undo::undo_at(&mut self.book, &mut self.entries, at)
+    }
+
+    /// Redoes the edit of a number in its own place, where no later edit in force is in its way.
+    pub fn redo(&mut self, number: u64) -> Result<usize, Refusal>
+        ensures reply { ByNumber (RedoReply (meant self.old.entries)) number result }
+        ensures entries { OnOk result (self.new.entries ≡ into_force (number - 1) self.old.entries) }
+        ensures writes { IfOk result (λ n. self.new.writes ≡ written_more self.old.writes n) }
+        ensures err { OnErr result (self.new ≡ self.old) }
+    {
+        if number == 0 {
+            return Err(Refusal::NoSuchEdit);
+        }
+        let at = (number - 1) as usize;
+        if at >= self.entries.len() {
+            return Err(Refusal::NoSuchEdit);
+        }
+        steps::redo::redo_at(self.alloc, &mut self.book, &mut self.entries, at)
+    }
+
+    /// Whether the edit of a number is in force.
+    pub fn in_force(&self, number: u64) -> Option<bool>
+        ensures { result ≡ force_of self.now.entries number }
+    {
+        if number == 0 {
+            return None;
+        }
+        let at = (number - 1) as usize;
+        if at >= self.entries.len() {
+            return None;
+        }
+        Some(self.entries[at].kept.is_some())
+    }
+}

@@ -1,0 +1,14 @@
+//! Numbered edits over one workbook: each can be undone and redone by its number.
+#![tactic(auto)]
+
+mod blockers;
+mod entry;
+mod history;
+pub mod laws;
+mod query;
+mod refusal;
+mod steps;
+
+pub use crate::history::History;
+pub use crate::query::{Answer, Query};
+pub use crate::refusal::Refusal;

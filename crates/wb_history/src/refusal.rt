@@ -1,0 +1,33 @@
+use thiserror::Error;
+
+/// Why a request is refused. The text of each is its name in a reply.
+#[derive(Clone, Copy, Debug, PartialEq, Eq, Error)]
+pub enum Refusal {
+    /// E01: no request. Given by the reading of a request alone.
+    #[error("bad-request")]
+    BadRequest,
+    /// E02: a literal outside its grammar, or stride 0. Given by the reading of a request alone.
+    #[error("bad-literal")]
+    BadLiteral,
+    /// E03 to E10 and E15: the edit or the query is refused.
+    #[error("{0}")]
+    Refused(wb_edit::Refusal),
+    /// E11: no edit of that number, or nothing in force for undo of the latest.
+    #[error("no-such-edit")]
+    NoSuchEdit,
+    /// E12: undo of an edit that is undone.
+    #[error("not-in-force")]
+    NotInForce,
+    /// E13: redo of an edit that is in force.
+    #[error("in-force")]
+    InForce,
+    /// E14: the edit of this number, the least one, blocks it.
+    #[error("blocked")]
+    Blocked(u64),
+    /// E16: redo of an edit that would be refused now.
+    #[error("refused-in-place")]
+    RefusedInPlace(wb_edit::Refusal),
+    /// E90: a growth was refused.
+    #[error("no-memory")]
+    NoMemory,
+}

@@ -1,0 +1,124 @@
+ghost use Rattle.std.specs.Prelude.{◌≡◌, ℕ, ◌+◌, ◌^◌, ◌<◌, length, [], None, Some, Err, OnOk, OnErr, IfOk, IfErr};
+ghost use Rattle.selective_undo.specs.Changes.{apply, inverse};
+ghost use Rattle.wb_book.specs.Cells.{written_more, count_of};
+ghost use Rattle.wb_history.specs.Kept.{Shows, PlansAgain, redo_blocker, stopped_refusal, entries_meant, numbers};
+ghost use Rattle.wb_history.specs.Past.{into_force};
+ghost use Rattle.wb_history.specs.Replies.{RedoReply};
+
+use crate::blockers::first_to_block_redo;
+use crate::entry::{Entry, Kept};
+use crate::refusal::Refusal;
+use crate::steps::undo::later_than;
+use std::alloc::Global;
+use wb_book::{Book, Delta};
+use wb_edit::{Foot, PlanErr, plan};
+use wb_range::NoMemory;
+
+/// Plans an edit out of force again, unless a later one is in its way.
+fn plan_again(
+    alloc: Global,
+    book: &Book,
+    entries: &[Entry],
+    at: usize,
+) -> Result<(Delta, Foot, usize), Refusal>
+    requires in_log { at < length entries.now }
+    requires few { length entries.now < 2 ^ 63 }
+    requires kept { Shows entries.now book.now.cells }
+    ensures ok { IfOk result (λ p. PlansAgain entries.now at book.now.cells p.0 p.1 p.2) }
+    ensures err { IfErr result (λ why. RedoReply (entries_meant entries.now) at (Err why)) }
+{
+    let entry = &entries[at];
+    if entry.kept.is_some() {
+        return Err(Refusal::InForce);
+    }
+    match plan(alloc, book, &entry.edit) {
+        Err(stop) => Err(refusal_in_place(entries, at, stop)),
+        Ok((delta, foot, count)) => match plan_blocker(entries, at, &foot, &delta) {
+            Some(by) => Err(Refusal::Blocked(by)),
+            None => Ok((delta, foot, count)),
+        },
+    }
+}
+
+/// The number of the first later edit that a plan meets.
+fn plan_blocker(entries: &[Entry], at: usize, foot: &Foot, delta: &Delta) -> Option<u64>
+    requires in_log { at < length entries.now }
+    requires few { length entries.now < 2 ^ 63 }
+    ensures { result ≡ redo_blocker entries.now at foot.now delta.now }
+{
+    let later = later_than(entries, at);
+    first_to_block_redo(later, at as u64 + 2, foot.reads(), delta.changes())
+}
+
+/// The same of a plan that is refused.
+fn refused_blocker(entries: &[Entry], at: usize, foot: &Foot) -> Option<u64>
+    requires in_log { at < length entries.now }
+    requires few { length entries.now < 2 ^ 63 }
+    ensures { result ≡ redo_blocker entries.now at foot.now [] }
+{
+    let later = later_than(entries, at);
+    first_to_block_redo(later, at as u64 + 2, foot.reads(), &[])
+}
+
+/// Why an edit whose plan stopped is not redone.
+fn refusal_in_place(entries: &[Entry], at: usize, stop: PlanErr) -> Refusal
+    requires in_log { at < length entries.now }
+    requires few { length entries.now < 2 ^ 63 }
+    ensures { result ≡ stopped_refusal entries.now at stop }
+{
+    match stop {
+        PlanErr::NoMemory => Refusal::NoMemory,
+        PlanErr::Refused(why, foot) => match refused_blocker(entries, at, &foot) {
+            Some(by) => Refusal::Blocked(by),
+            None => Refusal::RefusedInPlace(why),
+        },
+    }
+}
+
+/// Makes the changes of an edit again.
+fn put_in(
+    book: &mut Book,
+    entry: &mut Entry,
+    delta: Delta,
+    foot: Foot,
+) -> Result<(), NoMemory>
+    ensures entry { OnOk result (entry.new ≡ record { edit = entry.old.edit; kept = Some (record { foot = foot; inverse = inverse delta book.old.cells }) }) }
+    ensures cells { OnOk result (book.new.cells ≡ apply delta book.old.cells) }
+    ensures writes { OnOk result (book.new.writes ≡ written_more book.old.writes (count_of delta)) }
+    ensures entry_stays { OnErr result (entry.new ≡ entry.old) }
+    ensures book_stays { OnErr result (book.new ≡ book.old) }
+{
+    match book.apply(delta) {
+        Err(_) => Err(NoMemory),
+        Ok(inverse) => {
+            entry.kept = Some(Kept { foot, inverse });
+            Ok(())
+        }
+    }
+}
+
+/// Redoes the edit at a place.
+pub(crate) fn redo_at(
+    alloc: Global,
+    book: &mut Book,
+    entries: &mut [Entry],
+    at: usize,
+) -> Result<usize, Refusal>
+    requires in_log { at < length entries.old }
+    requires few { length entries.old < 2 ^ 63 }
+    requires kept { Shows entries.old book.old.cells }
+    ensures kept { Shows entries.new book.new.cells }
+    ensures reply { RedoReply (entries_meant entries.old) at result }
+    ensures entries { OnOk result (numbers entries.new ≡ into_force at (numbers entries.old)) }
+    ensures writes { IfOk result (λ n. book.new.writes ≡ written_more book.old.writes n) }
+    ensures entries_stay { OnErr result (numbers entries.new ≡ numbers entries.old) }
+    ensures book_stays { OnErr result (book.new ≡ book.old) }
+{
+    match plan_again(alloc, book, entries, at) {
+        Err(why) => Err(why),
+        Ok((delta, foot, count)) => match put_in(book, &mut entries[at], delta, foot) {
+            Ok(()) => Ok(count),
+            Err(_) => Err(Refusal::NoMemory),
+        },
+    }
+}

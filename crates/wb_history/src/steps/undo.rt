@@ -1,0 +1,79 @@
+ghost use Rattle.std.specs.Prelude.{◌≡◌, ℕ, ◌+◌, ◌^◌, ◌<◌, length, Some, OnOk, OnErr, IfOk, IfErr, drop};
+ghost use Rattle.wb_book.specs.Cells.{written_more};
+ghost use Rattle.wb_history.specs.Kept.{Shows, MayUndo, TakenBack, refusal_of, entries_meant, numbers};
+ghost use Rattle.wb_history.specs.Past.{out_of_force};
+ghost use Rattle.wb_history.specs.Replies.{UndoReply};
+
+use crate::blockers::first_to_block_undo;
+use crate::entry::{Entry, Kept};
+use crate::refusal::Refusal;
+use wb_book::Book;
+
+pub(crate) fn later_than(entries: &[Entry], at: usize) -> &[Entry]
+    requires { at < length entries.now }
+    ensures { result.now ≡ drop (at + 1) entries.now }
+{
+    &entries[at + 1..]
+}
+
+/// Whether an edit may not be undone.
+fn undo_refusal(entries: &[Entry], at: usize) -> Option<Refusal>
+    requires in_log { at < length entries.now }
+    requires few { length entries.now < 2 ^ 63 }
+    ensures { MayUndo entries.now at result }
+{
+    match &entries[at].kept {
+        None => Some(Refusal::NotInForce),
+        Some(kept) => {
+            let later = later_than(entries, at);
+            match first_to_block_undo(later, at as u64 + 2, kept.inverse.before()) {
+                Some(by) => Some(Refusal::Blocked(by)),
+                None => None,
+            }
+        }
+    }
+}
+
+/// Sets back what an edit in force wrote.
+fn take_back(book: &mut Book, entry: &mut Entry) -> Result<usize, Refusal>
+    ensures ok { IfOk result (λ n. TakenBack entry.old n entry.new book.old book.new) }
+    ensures why { IfErr result (λ e. e ≡ refusal_of entry.old) }
+    ensures entry_stays { OnErr result (entry.new ≡ entry.old) }
+    ensures book_stays { OnErr result (book.new ≡ book.old) }
+{
+    match entry.kept.take() {
+        None => Err(Refusal::NotInForce),
+        Some(Kept { foot, inverse }) => {
+            let count = inverse.count();
+            match book.revert(inverse) {
+                Ok(()) => Ok(count),
+                Err((inverse, _)) => {
+                    entry.kept = Some(Kept { foot, inverse });
+                    Err(Refusal::NoMemory)
+                }
+            }
+        }
+    }
+}
+
+/// Undoes the edit at a place.
+pub(crate) fn undo_at(
+    book: &mut Book,
+    entries: &mut [Entry],
+    at: usize,
+) -> Result<usize, Refusal>
+    requires in_log { at < length entries.old }
+    requires few { length entries.old < 2 ^ 63 }
+    requires kept { Shows entries.old book.old.cells }
+    ensures kept { Shows entries.new book.new.cells }
+    ensures reply { UndoReply (entries_meant entries.old) at result }
+    ensures entries { OnOk result (numbers entries.new ≡ out_of_force at (numbers entries.old)) }
+    ensures writes { IfOk result (λ n. book.new.writes ≡ written_more book.old.writes n) }
+    ensures entries_stay { OnErr result (numbers entries.new ≡ numbers entries.old) }
+    ensures book_stays { OnErr result (book.new ≡ book.old) }
+{
+    match undo_refusal(entries, at) {
+        Some(why) => Err(why),
+        None => take_back(book, &mut entries[at]),
+    }
+}
