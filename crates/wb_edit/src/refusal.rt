@@ -15,4 +15,7 @@ pub enum Refusal {
     /// E06: an index that isn't there.
     #[error("out-of-domain")]
     OutOfDomain,
+    /// E09: a limit of ranges or domains.
+    #[error("too-large")]
+    TooLarge,
 }

@@ -1,5 +1,5 @@
 -- What the code keeps of a history, in the terms of its definitions.
-use Rattle.std.specs.Prelude.{◌≡◌, ℕ, ◌+◌, List, [], map, Option, Some, None, is_some, option_map, Ok, slice_get, drop}
+use Rattle.std.specs.Prelude.{◌≡◌, ℕ, ◌+◌, ◌≤◌, List, [], map, Option, Some, None, is_some, option_map, Ok, slice_get, drop}
 use Rattle.selective_undo.specs.Changes.{apply}
 use Rattle.selective_undo.specs.Edit.{outcome, reads}
 use Rattle.selective_undo.specs.History as h
@@ -84,3 +84,8 @@ abbrev pub PlansAgain : List kept.Entry → ℕ → Cells → Changes → List P
 PlansAgain es k s xs rs n =
     (x : kept.Entry) × (slice_get es k ≡ Some x) × (x.kept ≡ None) × (outcome (meaning x.edit) s ≡ Ok xs) × (rs ≡ reads (meaning x.edit) s) × (n ≡ count_of xs)
     × (redo_blocker es k rs xs ≡ None)
+
+-- the place of the latest entry that keeps something, or none does
+abbrev pub IsLatest : List (Option (Foot workbook)) → Option ℕ → Type 0
+IsLatest ks (Some p) = (f : Foot workbook) × (slice_get ks p ≡ Some (Some f)) × ((q : ℕ) (g : Foot workbook) → slice_get ks q ≡ Some (Some g) → q ≤ p)
+IsLatest ks None = (q : ℕ) (g : Foot workbook) → slice_get ks q ≡ Some (Some g) → ⊥

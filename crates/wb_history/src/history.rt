@@ -3,9 +3,11 @@ ghost use Rattle.selective_undo.specs.History.{replay};
 ghost use Rattle.wb_book.specs.Cells.{written_more};
 ghost use Rattle.wb_edit.specs.Commands.{meaning};
 ghost use Rattle.wb_history.specs.Past.{meant, out_of_force, into_force, force_of};
-ghost use Rattle.wb_history.specs.Replies.{EditReply, UndoReply, RedoReply, ByNumber};
+ghost use Rattle.wb_history.specs.Replies.{EditReply, UndoReply, LastReply, RedoReply, ByNumber};
+ghost use Rattle.wb_history.specs.Queries.{answer};
 
 use crate::entry::Entry;
+use crate::query::{Answer, Query, element_of, force_answer, value_answer};
 use crate::refusal::Refusal;
 use crate::steps;
 use std::alloc::Global;
@@ -87,6 +89,16 @@ impl History {
         steps::undo::undo_at(&mut self.book, &mut self.entries, at)
     }
 
+    /// Undoes the latest edit in force: its number, and how many cells it sets back.
+    pub fn undo_last(&mut self) -> Result<(u64, usize), Refusal>
+        ensures reply { LastReply (meant self.old.entries) result }
+        ensures entries { IfOk result (λ r. self.new.entries ≡ out_of_force (r.0 - 1) self.old.entries) }
+        ensures writes { IfOk result (λ r. self.new.writes ≡ written_more self.old.writes r.1) }
+        ensures err { OnErr result (self.new ≡ self.old) }
+    {
+        steps::undo::undo_latest(&mut self.book, &mut self.entries)
+    }
+
     /// Redoes the edit of a number in its own place, where no later edit in force is in its way.
     pub fn redo(&mut self, number: u64) -> Result<usize, Refusal>
         ensures reply { ByNumber (RedoReply (meant self.old.entries)) number result }
@@ -116,5 +128,15 @@ impl History {
             return None;
         }
         Some(self.entries[at].kept.is_some())
+    }
+
+    /// What a query is answered, from the workbook as it is. It takes no memory.
+    pub fn query(&self, query: &Query) -> Result<Answer, Refusal>
+        ensures { result ≡ answer (replay (meant self.now.entries)) self.now.entries query.now }
+    {
+        match query {
+            Query::Get(array, index) => value_answer(element_of(self.book(), *array, *index)),
+            Query::State(number) => force_answer(self.in_force(*number)),
+        }
     }
 }

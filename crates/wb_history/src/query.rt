@@ -1,5 +1,5 @@
 ghost use Rattle.std.specs.Prelude.{◌≡◌};
-ghost use Rattle.wb_history.specs.Queries.{get_answer, number_in};
+ghost use Rattle.wb_history.specs.Queries.{get_answer, number_in, value_answer, force_answer};
 
 use crate::refusal::Refusal;
 use wb_book::{AnyIndex, Book, Cell, Name, Value};
@@ -50,5 +50,23 @@ fn number_in(element: Option<Value>) -> Result<i64, wb_edit::Refusal>
             Value::Present => Err(wb_edit::Refusal::OutOfDomain),
             Value::Bound(_) => Err(wb_edit::Refusal::OutOfDomain),
         },
+    }
+}
+
+pub(crate) fn value_answer(found: Result<i64, wb_edit::Refusal>) -> Result<Answer, Refusal>
+    ensures { result ≡ value_answer found }
+{
+    match found {
+        Ok(value) => Ok(Answer::Value(value)),
+        Err(why) => Err(Refusal::Refused(why)),
+    }
+}
+
+pub(crate) fn force_answer(found: Option<bool>) -> Result<Answer, Refusal>
+    ensures { result ≡ force_answer found }
+{
+    match found {
+        Some(in_force) => Ok(Answer::InForce(in_force)),
+        None => Err(Refusal::NoSuchEdit),
     }
 }

@@ -1,8 +1,8 @@
-ghost use Rattle.std.specs.Prelude.{◌≡◌, ℕ, ◌+◌, ◌^◌, ◌<◌, length, Some, OnOk, OnErr, IfOk, IfErr, drop};
+ghost use Rattle.std.specs.Prelude.{◌≡◌, ℕ, ◌+◌, ◌-◌, ◌^◌, ◌<◌, length, Some, OnOk, OnErr, IfOk, IfErr, drop};
 ghost use Rattle.wb_book.specs.Cells.{written_more};
-ghost use Rattle.wb_history.specs.Kept.{Shows, MayUndo, TakenBack, refusal_of, entries_meant, numbers};
+ghost use Rattle.wb_history.specs.Kept.{kept_all, IsLatest, Shows, MayUndo, TakenBack, refusal_of, entries_meant, numbers};
 ghost use Rattle.wb_history.specs.Past.{out_of_force};
-ghost use Rattle.wb_history.specs.Replies.{UndoReply};
+ghost use Rattle.wb_history.specs.Replies.{UndoReply, LastReply};
 
 use crate::blockers::first_to_block_undo;
 use crate::entry::{Entry, Kept};
@@ -75,5 +75,42 @@ pub(crate) fn undo_at(
     match undo_refusal(entries, at) {
         Some(why) => Err(why),
         None => take_back(book, &mut entries[at]),
+    }
+}
+
+/// The place of the latest edit in force.
+fn latest(entries: &[Entry]) -> Option<usize>
+    ensures { IsLatest (kept_all entries.now) result }
+{
+    let mut at = entries.len();
+    while at > 0 {
+        at -= 1;
+        if entries[at].kept.is_some() {
+            return Some(at);
+        }
+    }
+    None
+}
+
+/// Undoes the latest edit in force: its number, and how many cells it sets back.
+pub(crate) fn undo_latest(
+    book: &mut Book,
+    entries: &mut [Entry],
+) -> Result<(u64, usize), Refusal>
+    requires few { length entries.old < 2 ^ 63 }
+    requires kept { Shows entries.old book.old.cells }
+    ensures kept { Shows entries.new book.new.cells }
+    ensures reply { LastReply (entries_meant entries.old) result }
+    ensures entries { IfOk result (λ r. numbers entries.new ≡ out_of_force (r.0 - 1) (numbers entries.old)) }
+    ensures writes { IfOk result (λ r. book.new.writes ≡ written_more book.old.writes r.1) }
+    ensures entries_stay { OnErr result (numbers entries.new ≡ numbers entries.old) }
+    ensures book_stays { OnErr result (book.new ≡ book.old) }
+{
+    match latest(entries) {
+        None => Err(Refusal::NoSuchEdit),
+        Some(at) => match undo_at(book, entries, at) {
+            Ok(count) => Ok((at as u64 + 1, count)),
+            Err(why) => Err(why),
+        },
     }
 }
