@@ -1,4 +1,4 @@
-ghost use Rattle.std.specs.Prelude.{◌≡◌, ℕ, ◌≤◌, List, length, take, IfOk, is_ok, nat_eq};
+ghost use Rattle.std.specs.Prelude.{◌≡◌, ℕ, ◌≤◌, List, length, IfOk, is_ok};
 ghost use Rattle.std.specs.Ordering.{nat_cmp, as_partial_cmp, eq_by_cmp};
 ghost use Rattle.std.specs.Cmp.Lexicographic.{slice_cmp, nat_list_cmp_total};
 ghost use Rattle.std.specs.FinMap.{slice_cmp-IsAntisymmetric, nat_cmp-IsAntisymmetric};
@@ -6,78 +6,87 @@ ghost use Rattle.std.proofs.Common.{rules};
 ghost use Rattle.std.specs.Cmp.{partial_order_from_total, partial_equiv_from_equiv, eq_by_cmp_equiv};
 ghost use Rattle.std.specs.Cmp.Rules.{comparing};
 ghost use Rattle.std.specs.List.{list_all};
-ghost use Rattle.std.specs.Str.{IsUtf8};
-ghost use Rattle.wb_assoc.specs.Labels.{is_plain, is_label};
+ghost use Rattle.wb_assoc.specs.Labels.{is_plain, is_label, IsLabel};
 
 use std::cmp::Ordering;
+use std::fmt;
 use std::marker::Model;
+use std::str::from_utf8;
+use thiserror::Error;
 use wb_range::Key;
 
-/// Why a text is no label.
-#[derive(Clone, Copy, Debug, PartialEq, Eq)]
+/// A label has at most so many bytes.
+const MAX_BYTES: usize = 64;
+
+/// A text is no label: it is too long, or it holds a character that no label holds.
+#[derive(Clone, Copy, Debug, PartialEq, Eq, Error)]
+#[error("not at most 64 bytes without quotes, backslashes and control characters")]
 pub struct BadLabel;
 
-/// A short text as a key: at most 64 bytes, ordered by them.
-#[derive(Clone, Copy, Debug)]
+/// A short text that is an index: at most 64 bytes of UTF-8 without `"`, `\`, characters below U+0020 and U+007F.
+///
+/// It has a fixed size and takes no memory. Labels are ordered by their bytes, and contracts see one as its bytes.
+#[derive(Clone, Copy)]
 pub struct Label {
-    bytes: [u8; 64],
+    bytes: [u8; MAX_BYTES],
     len: u8,
 }
 
 impl Model for Label {
-    ghost use Rattle.std.specs.Prelude.{◌≡◌, ℕ, ◌≤◌, ◌-◌, List, length, take, drop, replicate};
-    ghost use Rattle.std.specs.Str.{IsUtf8};
-    ghost use Rattle.wb_assoc.specs.Labels.{padded, padded-take, len-take};
+    ghost use Rattle.std.specs.Prelude.{ℕ, List, length, take};
+    ghost use Rattle.wb_assoc.specs.Labels.{padded};
+    ghost use Rattle.wb_assoc.specs.Packed.{IsPacked, padded-take, length-take};
 
     ghost Value = { List ℕ };
 
     ghost view = { λ n. take n.len n.bytes };
 
-    ghost invariant = { λ n. (n.len ≤ 64) × (drop n.len n.bytes ≡ replicate (64 - n.len) 0) × (length n.bytes ≡ 64) × IsUtf8 (take n.len n.bytes) };
+    ghost invariant = { λ n. IsPacked n.bytes n.len };
 
     ghost inverse = { λ v. record { bytes = padded v; len = length v } };
 
-    ghost inverse_ok = { λ a h. λ i. record { bytes = padded-take a.bytes a.len h.0 h.1 h.2 i; len = len-take a.bytes a.len h.0 h.2 i } };
+    ghost inverse_ok = { λ a h. λ i. record { bytes = padded-take a.bytes a.len h i; len = length-take a.bytes a.len h i } };
 }
 
 impl Label {
-    /// The text as a label.
+    /// The label with this text, or [`BadLabel`] exactly where `text` is none.
     pub fn new(text: &str) -> Result<Label, BadLabel>
-        ensures label { IfOk result (λ n. n ≡ text.now) }
-        ensures accepts { is_ok result ≡ is_label text.now }
+        ensures value { IfOk result (λ n. n ≡ text.now) }
+        ensures accepted { is_ok result ≡ is_label text.now }
     {
         let source = text.as_bytes();
-        if !is_label_text(source) {
+        if !is_label(source) {
             return Err(BadLabel);
         }
         Ok(packed(source))
     }
 
-    /// The text.
+    /// The text of the label.
     pub fn as_str(&self) -> &str
-        ensures { result.now ≡ self.now }
+        ensures value { result.now ≡ self.now }
+        ensures label { IsLabel self.now }
     {
-        match std::str::from_utf8(&self.bytes[..self.len as usize]) {
+        match from_utf8(self.as_bytes()) {
             Ok(text) => text,
-            Err(_) => "",
+            Err(_) => unreachable!(),
         }
     }
 
-    /// The bytes of the text.
-    pub fn as_bytes(&self) -> &[u8]
-        ensures { result.now ≡ self.now }
+    // The bytes of the text.
+    fn as_bytes(&self) -> &[u8]
+        ensures value { result.now ≡ self.now }
+        ensures label { IsLabel self.now }
     {
         &self.bytes[..self.len as usize]
     }
 }
 
-// The bytes as a label.
+// The label with these bytes.
 fn packed(source: &[u8]) -> Label
-    requires few { length source.now ≤ 64 }
-    requires text { IsUtf8 source.now }
+    requires { IsLabel source.now }
     ensures { result ≡ source.now }
 {
-    let mut bytes = [0; 64];
+    let mut bytes = [0; MAX_BYTES];
     let len = source.len();
     bytes[..len].copy_from_slice(source);
     Label {
@@ -86,25 +95,34 @@ fn packed(source: &[u8]) -> Label
     }
 }
 
+// Whether these bytes of a text are those of a label.
+fn is_label(source: &[u8]) -> bool
+    ensures { result ≡ is_label source.now }
+{
+    if source.len() > MAX_BYTES {
+        return false;
+    }
+    are_plain(source)
+}
+
+// Whether a label may have each of these bytes.
+fn are_plain(source: &[u8]) -> bool
+    ensures { result ≡ list_all is_plain source.now }
+{
+    source.iter().all(|c| is_plain(*c))
+}
+
+// Whether a label may have this byte: those from 0x80 on are parts of longer characters.
 fn is_plain(c: u8) -> bool
     ensures { result ≡ is_plain c }
 {
-    32 <= c && (c != 34 && (c != 92 && c != 127))
+    b' ' <= c && (c != b'"' && (c != b'\\' && c != 0x7f))
 }
 
-fn is_label_text(s: &[u8]) -> bool
-    ensures { result ≡ is_label s.now }
-{
-    if s.len() > 64 {
-        return false;
+impl fmt::Debug for Label {
+    fn fmt<W: fmt::Write>(&self, f: &mut fmt::Formatter<W>) -> fmt::Result {
+        write!(f, "{:?}", self.as_str())
     }
-    are_plain(s)
-}
-
-fn are_plain(s: &[u8]) -> bool
-    ensures { result ≡ list_all is_plain s.now }
-{
-    s.iter().all(|c| is_plain(*c))
 }
 
 impl PartialEq for Label {
@@ -147,4 +165,23 @@ impl Ord for Label {
 
 impl Key for Label {
     ghost exact = { slice_cmp-IsAntisymmetric nat_cmp-IsAntisymmetric };
+}
+
+#[cfg(test)]
+mod tests {
+    use super::*;
+    use std::test::Fail;
+
+    #[test]
+    fn bounds_of_texts(rt: HostRuntime) -> Result<(), Fail> {
+        let longest = "0123456789012345678901234567890123456789012345678901234567890123";
+        for text in ["", "a b", "~", "é", longest] {
+            assert_eq!(rt; Label::new(text)?.as_str(), text);
+        }
+        let too_long = "01234567890123456789012345678901234567890123456789012345678901234";
+        for text in [too_long, "\"", "\\", "a\nb", "\u{1f}", "\u{7f}"] {
+            assert_eq!(rt; Label::new(text), Err(BadLabel), "{text:?}");
+        }
+        Ok(())
+    }
 }

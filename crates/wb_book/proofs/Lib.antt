@@ -1,3 +1,4 @@
 pub mod Shown
 pub mod Packing
 pub mod Points
+pub mod Empty

@@ -1,11 +1,9 @@
 -- Well-formed workbooks: which cells are present, and what stands in them.
-use Rattle.std.specs.Prelude.{◌≡◌, ◌≢◌, ℕ, ◌≤◌, Bool, true, false, ℤ, pos, List, length, Option, Some, None, is_some, slice_index_or, ⊤, FitsSigned}
+use Rattle.std.specs.Prelude.{◌≡◌, ℕ, Bool, true, false, ℤ, pos, List, Option, Some, None, is_some, ⊤, FitsSigned}
 use Rattle.std.specs.Int.{w64}
-use Rattle.std.specs.List.{All, list_any}
+use Rattle.std.specs.List.{list_any}
 use Rattle.std.specs.FinMap.{get}
-use Rattle.wb_range.specs.Sequence.{IsBound}
-use Rattle.wb_range.specs.Steps.{steps}
-use Rattle.wb_rect.specs.Product.{product}
+pub use Rattle.wb_rect.specs.Product.{IsRectangle}
 use Rattle.wb_book.specs.declared.cells.value.Binding.TheVariants.{Array}
 use Rattle.wb_book.specs.declared.cells.cell.Cell.TheVariants.{Object, Shape, In, Mapping, Use, Implicit, Element}
 use Rattle.wb_book.specs.declared.cells.value.Kind.{Kind}
@@ -17,24 +15,6 @@ use Rattle.wb_book.specs.declared.values.index.Index.{Index}
 use Rattle.wb_book.specs.Names.{is_name}
 use Rattle.wb_book.specs.Cells.{Name, Cells, is_same_name, is_same_index}
 use Rattle.wb_book.specs.Shapes.{Range, indices}
-
--- ---- ranges and rectangles within their limits
-
--- at equal distances, at most 65,536 integers, each from -10^18 to 10^18
-pub record IsRange (r : Range) : Type 0 where
-  pub stride : ℤ
-  pub nonzero : stride ≢ pos 0
-  pub even : r ≡ steps (slice_index_or r 0 (pos 1)) stride (length r)
-  pub few : length r ≤ 65536
-  pub bounded : All IsBound r
-
--- the ranges of a rectangular domain of the rank: 1 to 3 of them, with at most 65,536 indices in all
-pub record IsRectangle (rank : ℕ) (rs : List Range) : Type 0 where
-  pub ranges : All IsRange rs
-  pub dimensions : length rs ≡ rank
-  pub at_least_one : 1 ≤ rank
-  pub at_most_three : rank ≤ 3
-  pub size : length (product rs) ≤ 65536
 
 -- ---- what the objects of a workbook are
 

@@ -1,2 +1,4 @@
 pub mod Trees
 pub mod Columns
+pub mod Gets
+pub mod Kept

@@ -4,3 +4,5 @@ pub mod Tests
 pub mod Writes
 pub mod Commands
 pub mod Plans
+pub mod Valid
+pub mod Laws

@@ -1,4 +1,5 @@
 ghost use Rattle.std.specs.Prelude.{◌≡◌, IfOk};
+ghost use Rattle.wb_edit.specs.Valid.{IsValid};
 
 use std::alloc::Global;
 use wb_book::{AnyIndex, AnyRect, Name};
@@ -24,6 +25,26 @@ impl Edit {
             Edit::Domain(domain, ranges) => Ok(Edit::Domain(*domain, *ranges)),
             Edit::Array(array, domain) => Ok(Edit::Array(*array, *domain)),
             Edit::Set(array, index, value) => Ok(Edit::Set(*array, *index, *value)),
+        }
+    }
+
+    /// What every edit is: its names are names, its ranges are within the limits, its numbers are of 64 bits.
+    ///
+    /// It computes nothing; callers learn the clause.
+    pub fn validity(&self)
+        ensures { IsValid self.now }
+    {
+        match self {
+            Edit::Domain(domain, ranges) => {
+                let _name = domain.as_bytes();
+                let _rank = ranges.rank();
+            }
+            Edit::Array(array, _) => {
+                let _name = array.as_bytes();
+            }
+            Edit::Set(_, _, value) => {
+                let _value = *value;
+            }
         }
     }
 }

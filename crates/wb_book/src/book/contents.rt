@@ -2,6 +2,7 @@ ghost use Rattle.std.specs.Prelude.{◌≡◌, ℕ, ◌+◌, ◌-◌, ◌^◌, L
 ghost use Rattle.std.specs.FinMap as map;
 ghost use Rattle.selective_undo.specs.Changes.{apply, inverse};
 ghost use Rattle.wb_book.specs.Cells.{written_more, count_of};
+ghost use Rattle.wb_book.specs.WellFormed.{IsWellFormed};
 
 use std::alloc::Global;
 use std::collections::BTreeMap;
@@ -14,7 +15,7 @@ use crate::changes::delta::Delta;
 use crate::changes::inverse::Inverse;
 use wb_range::NoMemory;
 
-/// A workbook: its cells, and how many were set so far.
+/// A workbook: its cells, well formed, and how many were set so far.
 #[derive(Drop)]
 pub struct Book {
     alloc: Global,
@@ -30,9 +31,14 @@ impl Model for Book {
     ghost coded = { contents_code };
 
     ghost view = { λ a. record { cells = state_of a.cells; writes = a.writes } };
+
+    ghost use Rattle.wb_book.specs.WellFormed.{IsWellFormed};
+
+    ghost invariant = { λ a. IsWellFormed (state_of a.cells) };
 }
 
 impl Book {
+    /// The empty workbook.
     pub fn new(alloc: Global) -> Book
         ensures { result ≡ record { cells = map.empty; writes = 0 } }
     {
@@ -50,15 +56,18 @@ impl Book {
         store::look(&self.cells, cell)
     }
 
-    /// How many cells were set so far, up to the type's greatest value.
+    /// How many cells were set so far by `apply` and `revert`, up to the type's greatest value; the cells `In` are not
+    /// counted. A book is well formed.
     pub fn writes(&self) -> u128
-        ensures { result ≡ self.now.writes }
+        ensures value { result ≡ self.now.writes }
+        ensures kept { IsWellFormed self.now.cells }
     {
         self.writes
     }
 
     /// Makes the changes, or none where no memory is left, and gives what takes them back.
     pub fn apply(&mut self, delta: Delta) -> Result<Inverse, (Delta, NoMemory)>
+        requires { IsWellFormed (apply delta self.old.cells) }
         ensures inverse { IfOk result (λ i. i ≡ inverse delta self.old.cells) }
         ensures cells { OnOk result (self.new.cells ≡ apply delta self.old.cells) }
         ensures writes { OnOk result (self.new.writes ≡ written_more self.old.writes (count_of delta)) }
@@ -76,6 +85,7 @@ impl Book {
 
     /// Sets the cells back to what they were, or none where no memory is left.
     pub fn revert(&mut self, inverse: Inverse) -> Result<(), (Inverse, NoMemory)>
+        requires { IsWellFormed (apply inverse self.old.cells) }
         ensures cells { OnOk result (self.new.cells ≡ apply inverse self.old.cells) }
         ensures writes { OnOk result (self.new.writes ≡ written_more self.old.writes (count_of inverse)) }
         ensures err { OnErr result (self.new ≡ self.old) }

@@ -1,7 +1,7 @@
 ghost use Rattle.std.specs.Prelude.{◌≡◌, ◌≢◌, ◌↔◌, ◌<◌, ℕ, [], ◌∷◌, Some, length, slice_get, IfOk, IsTrue};
 ghost use Rattle.std.specs.List.{Contains};
 ghost use Rattle.wb_range.specs.Domain.{IsListedOnce};
-ghost use Rattle.wb_rect.specs.Product.{product};
+ghost use Rattle.wb_rect.specs.Product.{product, IsRectangle};
 ghost use Rattle.wb_book.specs.Shapes.{indices};
 ghost use Rattle.wb_book.specs.declared.values.index.Index.TheVariants.{Point as point_index};
 
@@ -20,13 +20,14 @@ pub struct AnyRect {
 }
 
 impl Model for AnyRect {
-    ghost use Rattle.std.specs.Prelude.{List, ℤ, length, ◌≡◌};
+    ghost use Rattle.std.specs.Prelude.{List, ℤ};
+    ghost use Rattle.wb_rect.specs.Product.{IsRectangle};
 
     ghost Value = { List (List ℤ) };
 
     ghost view = { λ a. a.rect };
 
-    ghost invariant = { λ a. length a.rect ≡ 1 };
+    ghost invariant = { λ a. IsRectangle 1 a.rect };
 
     ghost inverse = { λ v. record { rect = v } };
 }
@@ -42,9 +43,10 @@ impl AnyRect {
         Ok(AnyRect { rect })
     }
 
-    /// How many dimensions there are: 1 for now.
+    /// How many dimensions there are: 1 for now. The ranges and the size are within their limits.
     pub fn rank(&self) -> u8
-        ensures { result ≡ length self.now }
+        ensures value { result ≡ length self.now }
+        ensures kept { IsRectangle (length self.now) self.now }
     {
         let _ = &self.rect;
         1

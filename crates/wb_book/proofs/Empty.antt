@@ -1,0 +1,19 @@
+-- The workbook with no cells is well formed.
+use Rattle.std.proofs.Common.{sym, ◌∙◌}
+use Rattle.std.proofs.lemmas.Option.{none-some}
+use Rattle.std.specs.FinMap.{empty, get-empty}
+use Rattle.wb_book.specs.Cells.{cell_cmp}
+use Rattle.wb_book.specs.WellFormed.{IsWellFormed}
+use Rattle.wb_book.specs.declared.cells.cell.Cell.TheVariants.{Object, Shape, In, Mapping, Use, Implicit, Element}
+
+pub empty_is_well_formed : IsWellFormed empty
+empty_is_well_formed = record {
+  names = λ n v e. absurd (none-some _ (sym (get-empty cell_cmp (Object n)) ∙ e));
+  objects = λ n v e. absurd (none-some _ (sym (get-empty cell_cmp (Object n)) ∙ e));
+  shapes = λ d. rw (get-empty cell_cmp (Object d)) (get-empty cell_cmp (Shape d));
+  insides = λ d i. rw (get-empty cell_cmp (Shape d)) (get-empty cell_cmp (In d i));
+  mappings = λ d. rw (get-empty cell_cmp (Object d)) (get-empty cell_cmp (Mapping d));
+  uses = λ d n. rw (get-empty cell_cmp (Object n)) (get-empty cell_cmp (Use d n));
+  implicits = λ a. rw (get-empty cell_cmp (Object a)) (get-empty cell_cmp (Implicit a));
+  elements = λ a i. rw (get-empty cell_cmp (Object a)) (get-empty cell_cmp (Element a i));
+}

@@ -1,0 +1,17 @@
+-- Every command keeps a workbook well formed.
+pub mod Steps
+pub mod States
+pub mod NewDomain
+pub mod NewArray
+pub mod NewElement
+use Rattle.wb_edit.specs.Laws.{KeepsWellFormed}
+use Rattle.wb_edit.specs.declared.edit.Edit.TheVariants.{Domain, Array, Set}
+use Rattle.wb_edit.proofs.Kept.NewDomain.{domain_kept}
+use Rattle.wb_edit.proofs.Kept.NewArray.{array_kept}
+use Rattle.wb_edit.proofs.Kept.NewElement.{set_kept}
+
+pub keeps_well_formed : KeepsWellFormed
+keeps_well_formed (Domain d rs) s valid h = domain_kept s d rs valid h
+keeps_well_formed (Array a d) s valid h = array_kept s a d valid h
+keeps_well_formed (Set a i v) s valid h = set_kept s a i v valid h
+

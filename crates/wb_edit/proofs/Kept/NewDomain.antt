@@ -1,0 +1,85 @@
+-- A new domain keeps a workbook well formed.
+use Rattle.std.proofs.Common.{◌≡◌, Bool, true, false, cond, ◌&&◌, List, length, Option, Some, None, refl, sym, ap, ◌∙◌}
+use Rattle.std.specs.FinMap.{get}
+use Rattle.selective_undo.specs.Changes.{apply}
+use Rattle.selective_undo.specs.Edit.{write}
+use Rattle.wb_book.specs.declared.cells.cell.Cell.{Cell}
+use Rattle.wb_book.specs.declared.cells.cell.Cell.TheVariants.{Object, Shape, In, Mapping, Use, Implicit, Element}
+use Rattle.wb_book.specs.declared.cells.value.Kind.TheVariants.{Rectangular}
+use Rattle.wb_book.specs.declared.cells.value.Layout.TheVariants.{Whole}
+use Rattle.wb_book.specs.declared.cells.value.Value.{Value}
+use Rattle.wb_book.specs.declared.cells.value.Value.TheVariants.{Domain, Ranges, Mapping, Present}
+use Rattle.wb_book.specs.declared.values.index.Index.{Index}
+use Rattle.wb_book.specs.Names.{is_name}
+use Rattle.wb_book.specs.Shapes.{Range, indices}
+use Rattle.wb_book.specs.Cells.{Name, Cells, cell_cmp, cell_order, is_same_name}
+use Rattle.wb_book.specs.WellFormed.{IsWellFormed, IsRectangle, IsShape, HasMapping, has, present_if, domain_in, array_in, ranges_in, inside_of, use_of, array_at}
+use Rattle.wb_edit.specs.Commands.{domain, domain_cells}
+use Rattle.wb_edit.specs.Tests.{is_free}
+use Rattle.wb_edit.specs.Looks.{judged}
+use Rattle.wb_edit.proofs.Gets.{after, after-column, after-beside, get-apply}
+use Rattle.wb_edit.proofs.Kept.States.{in_column, domain_of_array, no_inside, indices_same, was_free, apart, stays, names_kept, objects_kept}
+use Rattle.wb_edit.proofs.Kept.Steps.{Keeps, keeps_read, keeps_judged, free_is}
+
+-- The workbook t is s with a domain of these ranges.
+record HasNewDomain (s t : Cells) (d : Name) (rs : List Range) : Type 0 where
+  object : (n : Name) → get t (Object n) ≡ cond (is_same_name n d) (Some (Domain (Rectangular (length rs)))) (get s (Object n))
+  shape : (n : Name) → get t (Shape n) ≡ cond (is_same_name n d) (Some (Ranges rs)) (get s (Shape n))
+  inside : (n : Name) (i : Index) → get t (In n i) ≡ cond (is_same_name n d && has (indices rs) i) (Some Present) (get s (In n i))
+  mapping : (n : Name) → get t (Mapping n) ≡ cond (is_same_name n d) (Some (Mapping Whole)) (get s (Mapping n))
+  used : (e n : Name) → get t (Use e n) ≡ get s (Use e n)
+  implicit : (n : Name) → get t (Implicit n) ≡ get s (Implicit n)
+  element : (n : Name) (i : Index) → get t (Element n i) ≡ get s (Element n i)
+
+has_new_domain : (s : Cells) (d : Name) (rs : List Range) → HasNewDomain s (apply (domain_cells d rs) s) d rs
+has_new_domain s d rs =
+    let at : (c : Cell) → get (apply (domain_cells d rs) s) c ≡ after cell_cmp (domain_cells d rs) c (get s c) = get-apply cell_order (domain_cells d rs) s in
+    record {
+      object = λ n. at (Object n) ∙ after-beside cell_cmp (In d) (indices rs) Present (Object n) _ (λ i. refl);
+      shape = λ n. at (Shape n) ∙ after-beside cell_cmp (In d) (indices rs) Present (Shape n) _ (λ i. refl);
+      inside = λ n i. at (In n i) ∙ after-column cell_cmp (In d) (indices rs) Present (In n i) (get s (In n i)) ∙ ap (λ b. cond b (Some Present) (get s (In n i))) (in_column _ i (indices rs));
+      mapping = λ n. at (Mapping n) ∙ after-beside cell_cmp (In d) (indices rs) Present (Mapping n) _ (λ i. refl);
+      used = λ e n. at (Use e n) ∙ after-beside cell_cmp (In d) (indices rs) Present (Use e n) _ (λ i. refl);
+      implicit = λ n. at (Implicit n) ∙ after-beside cell_cmp (In d) (indices rs) Present (Implicit n) _ (λ i. refl);
+      element = λ n i. at (Element n i) ∙ after-beside cell_cmp (In d) (indices rs) Present (Element n i) _ (λ j. refl);
+    }
+
+-- present where it is said, and nothing where nothing was
+present : (b : Bool) (o : Option Value) → o ≡ None → cond b (Some Present) o ≡ present_if b
+present true o e = refl
+present false o e = e
+
+domain_added : (s t : Cells) (d : Name) (rs : List Range) → is_name d ≡ true → IsRectangle (length rs) rs → IsWellFormed s → get s (Object d) ≡ None → HasNewDomain s t d rs → IsWellFormed t
+domain_added s t d rs named rectangle h free k =
+    let x : Value = Domain (Rectangular (length rs)) in
+    let same_array : (a : Name) → array_at t a ≡ array_at s a = stays s t d x free k.object array_in refl in
+    record {
+      names = names_kept s t d x free k.object h named;
+      objects = objects_kept s t d x free k.object h tt;
+      shapes = λ n. rw (k.object n, k.shape n) (elim (is_same_name n d) as (λ b. IsShape (domain_in (cond b (Some x) (get s (Object n)))) (cond b (Some (Ranges rs)) (get s (Shape n)))) [
+        | true ↦ (rs, refl, rectangle)
+        | false ↦ h.shapes n
+      ]);
+      insides = λ n i. rw (k.inside n i, k.shape n) (elim (is_same_name n d) as (λ b. is_same_name n d ≡ b → cond (b && has (indices rs) i) (Some Present) (get s (In n i)) ≡ inside_of (ranges_in (cond b (Some (Ranges rs)) (get s (Shape n)))) i) [
+        | true ↦ λ e. present (has (indices rs) i) (get s (In n i)) (no_inside s h n (was_free s t d x free k.object n e) i)
+        | false ↦ λ e. h.insides n i
+      ] refl);
+      mappings = λ n. rw (k.object n, k.mapping n) (elim (is_same_name n d) as (λ b. HasMapping (domain_in (cond b (Some x) (get s (Object n)))) (cond b (Some (Mapping Whole)) (get s (Mapping n)))) [
+        | true ↦ refl
+        | false ↦ h.mappings n
+      ]);
+      uses = λ e n. k.used e n ∙ h.uses e n ∙ sym (stays s t d x free k.object (use_of e) refl n);
+      implicits = λ a. rw (same_array a, k.implicit a) (h.implicits a);
+      elements = λ a i. rw (
+        same_array a,
+        k.element a i,
+        indices_same s t (array_at s a) i (λ e kind is.
+            k.inside e i ∙ ap (λ b. cond (b && has (indices rs) i) (Some Present) (get s (In e i))) (apart s t d x free k.object e kind (domain_of_array s h a e kind is))),
+      ) (h.elements a i);
+    }
+
+pub domain_kept : (s : Cells) (d : Name) (rs : List Range) → (is_name d ≡ true) × IsRectangle (length rs) rs → IsWellFormed s → Keeps (domain d rs) s
+domain_kept s d rs valid h =
+    keeps_read s (Object d) (λ v. judged (is_free v) (λ x. write (domain_cells d rs))) (λ v is.
+    keeps_judged s (is_free v) (λ x. write (domain_cells d rs)) h (λ x ok.
+    domain_added s (apply (domain_cells d rs) s) d rs valid.0 valid.1 h (is ∙ free_is v x ok) (has_new_domain s d rs)))

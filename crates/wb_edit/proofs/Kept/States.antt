@@ -1,0 +1,120 @@
+-- What follows where a workbook is well formed, and what stays so where another one holds the same.
+use Rattle.std.proofs.Common.{◌≡◌, ℕ, true, false, cond, ◌&&◌, List, Option, Some, None, is_some, refl, sym, ap, ◌∙◌, Ordering, subst}
+use Rattle.std.proofs.lemmas.Option.{none-some, same_Some}
+use Rattle.std.specs.Ordering.{is_eq, ordering_then}
+use Rattle.std.specs.declared.cmp.Ordering.TheVariants.{Less, Equal, Greater}
+use Rattle.std.specs.Cmp.{Equal-is}
+use Rattle.std.specs.List.{list_any}
+use Rattle.std.specs.FinMap.{get}
+use Rattle.wb_book.specs.declared.cells.cell.Cell.TheVariants.{Object, Shape, In, Mapping, Element}
+use Rattle.wb_book.specs.declared.cells.value.Kind.{Kind}
+use Rattle.wb_book.specs.declared.cells.value.Kind.TheVariants.{Rectangular}
+use Rattle.wb_book.specs.declared.cells.value.Value.{Value}
+use Rattle.wb_book.specs.declared.cells.value.Value.TheVariants.{Domain, Array, Ranges, Mapping, Present, Bound, Number}
+use Rattle.wb_book.specs.declared.values.index.Index.{Index}
+use Rattle.wb_book.specs.Names.{is_name}
+use Rattle.wb_book.specs.Shapes.{Range}
+use Rattle.wb_book.specs.Cells.{Name, Cells, index_cmp, is_same_name, same_names}
+use Rattle.wb_book.specs.WellFormed.{IsWellFormed, IsObject, IsRectangle, IsShape, IsElement, has, domain_in, array_in, ranges_in, inside_of, domain_at, array_at, is_index_of_array}
+use Rattle.wb_edit.proofs.Gets.{list_any-nowhere}
+
+pub same_name : (m n : Name) → is_same_name m n ≡ true → m ≡ n
+same_name m n e = same_names m n ((Equal-is _).0 e)
+
+-- ---- cells of a name and something else: the order compares the names first
+
+-- a column has the cell where the names tie and the list has the index
+pub in_column : (o : Ordering) (i : Index) (is : List Index) → list_any (λ j. is_eq (ordering_then o (index_cmp i j))) is ≡ (is_eq o && has is i)
+in_column Less i is = list_any-nowhere is
+in_column Equal i is = refl
+in_column Greater i is = list_any-nowhere is
+
+-- both parts tie
+pub second_first : (o p : Ordering) → is_eq (ordering_then o p) ≡ (is_eq p && is_eq o)
+second_first Less Less = refl
+second_first Less Equal = refl
+second_first Less Greater = refl
+second_first Equal Less = refl
+second_first Equal Equal = refl
+second_first Equal Greater = refl
+second_first Greater Less = refl
+second_first Greater Equal = refl
+second_first Greater Greater = refl
+
+-- ---- objects
+
+array_in-is : (v : Option Value) (x : Name × Kind) → array_in v ≡ Some x → v ≡ Some (Array x.0 x.1)
+array_in-is (Some (Array d k)) x e = cc
+array_in-is _ x e = cc
+
+module _ (s : Cells) (h : IsWellFormed s) where
+  -- an array's domain is there
+  pub domain_of_array : (a d : Name) (kind : Kind) → array_at s a ≡ Some (d, kind) → domain_at s d ≡ Some kind
+  domain_of_array a d kind e = h.objects a (Array d kind) (array_in-is (get s (Object a)) (d, kind) e)
+
+  -- a rectangular domain's ranges are there
+  pub shape_of_domain : (d : Name) (rank : ℕ) → get s (Object d) ≡ Some (Domain (Rectangular rank)) → (rs : List Range) × (get s (Shape d) ≡ Some (Ranges rs)) × IsRectangle rank rs
+  shape_of_domain d rank there = subst (λ o. IsShape (domain_in o) (get s (Shape d))) there (h.shapes d)
+
+  -- nothing stands in the cells of a name that is free
+  module _ (n : Name) (free : get s (Object n) ≡ None) where
+    pub no_shape : get s (Shape n) ≡ None
+    no_shape = subst (λ o. IsShape (domain_in o) (get s (Shape n))) free (h.shapes n)
+
+    pub no_inside : (i : Index) → get s (In n i) ≡ None
+    no_inside i = h.insides n i ∙ ap (λ o. inside_of (ranges_in o) i) no_shape
+
+    pub no_element : (i : Index) → get s (Element n i) ≡ None
+    no_element i = subst (λ o. IsElement (is_index_of_array s (array_in o) i) (get s (Element n i))) free (h.elements n i)
+
+-- what is said of an object stays so where the domains do
+pub IsObject-same : (s t : Cells) → ((d : Name) (kind : Kind) → domain_at s d ≡ Some kind → domain_at t d ≡ Some kind) → (v : Value) → IsObject s v → IsObject t v
+IsObject-same s t kept (Domain kind) h = h
+IsObject-same s t kept (Array d kind) h = kept d kind h
+IsObject-same s t kept (Ranges rs) h = h
+IsObject-same s t kept (Mapping m) h = h
+IsObject-same s t kept Present h = h
+IsObject-same s t kept (Bound b) h = h
+IsObject-same s t kept (Number x) h = h
+
+-- an array has the same indices where its domain does
+pub indices_same : (s t : Cells) (array : Option (Name × Kind)) (i : Index) → ((d : Name) (kind : Kind) → array ≡ Some (d, kind) → get t (In d i) ≡ get s (In d i)) → is_index_of_array t array i ≡ is_index_of_array s array i
+indices_same s t None i same = refl
+indices_same s t (Some (d, kind)) i same = ap is_some (same d kind refl)
+
+-- ---- a new object x under the name a, which was free
+
+module _ (s t : Cells) (a : Name) (x : Value) (free : get s (Object a) ≡ None) (object : (n : Name) → get t (Object n) ≡ cond (is_same_name n a) (Some x) (get s (Object n))) where
+  pub was_free : (n : Name) → is_same_name n a ≡ true → get s (Object n) ≡ None
+  was_free n e = ap (λ m. get s (Object m)) (same_name n a e) ∙ free
+
+  -- a domain has another name
+  pub apart : (d : Name) (kind : Kind) → domain_at s d ≡ Some kind → is_same_name d a ≡ false
+  apart d kind there = elim (is_same_name d a) as (λ b. is_same_name d a ≡ b → b ≡ false) [
+    | true ↦ λ e. absurd (none-some kind (sym (ap domain_in (was_free d e)) ∙ there))
+    | false ↦ λ e. refl
+  ] refl
+
+  pub domains_stay : (d : Name) (kind : Kind) → domain_at s d ≡ Some kind → domain_at t d ≡ Some kind
+  domains_stay d kind there = ap domain_in (object d ∙ ap (λ b. cond b (Some x) (get s (Object d))) (apart d kind there)) ∙ there
+
+  -- what is read off objects stays, where x gives what no object gives
+  pub stays : {A : Type 0} (f : Option Value → A) → f (Some x) ≡ f None → (n : Name) → f (get t (Object n)) ≡ f (get s (Object n))
+  stays f nothing n = ap f (object n) ∙ elim (is_same_name n a) as (λ b. is_same_name n a ≡ b → f (cond b (Some x) (get s (Object n))) ≡ f (get s (Object n))) [
+    | true ↦ λ e. nothing ∙ sym (ap f (was_free n e))
+    | false ↦ λ e. refl
+  ] refl
+
+  -- names are names
+  pub names_kept : IsWellFormed s → is_name a ≡ true → (n : Name) (v : Value) → get t (Object n) ≡ Some v → is_name n ≡ true
+  names_kept h named n v there = elim (is_same_name n a) as (λ b. is_same_name n a ≡ b → cond b (Some x) (get s (Object n)) ≡ Some v → is_name n ≡ true) [
+    | true ↦ λ e _. ap is_name (same_name n a e) ∙ named
+    | false ↦ λ e old. h.names n v old
+  ] refl (sym (object n) ∙ there)
+
+  -- each object is one
+  pub objects_kept : IsWellFormed s → IsObject t x → (n : Name) (v : Value) → get t (Object n) ≡ Some v → IsObject t v
+  objects_kept h whole n v there = elim (is_same_name n a) as (λ b. cond b (Some x) (get s (Object n)) ≡ Some v → IsObject t v) [
+    | true ↦ λ e. subst (IsObject t) (same_Some x v e) whole
+    | false ↦ λ old. IsObject-same s t domains_stay v (h.objects n v old)
+  ] (sym (object n) ∙ there)

@@ -1,0 +1,5 @@
+use Rattle.wb_edit.proofs.Kept.{keeps_well_formed}
+use Rattle.wb_edit.proofs.laws.keeps_well_formed.Goals as goal
+
+pub returns : goal.returns
+returns c = keeps_well_formed

@@ -1,0 +1,15 @@
+-- Valid commands: their names are names, their ranges are within the limits, and their numbers are of 64 bits.
+use Rattle.std.specs.Prelude.{◌≡◌, true, length, FitsSigned}
+use Rattle.std.specs.Int.{w64}
+use Rattle.wb_book.specs.Names.{is_name}
+use Rattle.wb_book.specs.WellFormed.{IsRectangle}
+use Rattle.wb_edit.specs.declared.edit.Edit.{Edit as Command}
+use Rattle.wb_edit.specs.declared.edit.Edit.TheVariants.{Domain, Array, Set}
+
+abbrev pub IsValid : Command → Type 0
+-- the new name is a name, and the ranges are those of a rectangular domain
+IsValid (Domain d rs) = (is_name d ≡ true) × IsRectangle (length rs) rs
+-- the new name is a name
+IsValid (Array a d) = is_name a ≡ true
+-- the number is one of 64 bits
+IsValid (Set a i v) = FitsSigned w64 v
