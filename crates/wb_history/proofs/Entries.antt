@@ -97,7 +97,7 @@ module _ (es : List kept.Entry) (k : ℕ) (x : kept.Entry) (is : slice_get es k 
   set_same (z ∷ xs) zero y e = let h : z ≡ y = cc in ap (λ u. u ∷ xs) (sym h)
   set_same (z ∷ xs) (suc j) y e = ap (λ us. z ∷ us) (set_same xs j y e)
 
-  taken_kept : (n : ℕ) (y : kept.Entry) (b d : Contents) → Shows es b.cells → MayUndo es k None → TakenBack x n y b d → Shows (slice_set es k y) d.cells
+  pub taken_kept : (n : ℕ) (y : kept.Entry) (b d : Contents) → Shows es b.cells → MayUndo es k None → TakenBack x n y b d → Shows (slice_set es k y) d.cells
   taken_kept n y b d shows may taken =
       let (q, has, count, gone, cells, writes) = taken in
       let (f, is_f, none) = free_now may in

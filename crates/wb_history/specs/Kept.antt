@@ -6,6 +6,7 @@ use Rattle.selective_undo.specs.History as h
 use Rattle.selective_undo.specs.Log.{Foot, Logged, IsKept, blocks_undo, blocks_redo, first_from}
 use Rattle.wb_book.specs.declared.cells.pattern.Pattern.{Pattern}
 use Rattle.wb_book.specs.Cells.{Cells, Changes, Contents, count_of, written_more}
+use Rattle.wb_book.specs.WellFormed.{IsWellFormed}
 use Rattle.wb_edit.specs.declared.planning.PlanErr.{PlanErr}
 use Rattle.wb_edit.specs.declared.planning.PlanErr.TheVariants.{Refused as PlanRefused, NoMemory as PlanNoMemory}
 use Rattle.wb_edit.specs.declared.refusal.Refusal as command_refusal
@@ -15,7 +16,7 @@ use Rattle.wb_history.specs.declared.entry.Entry as kept
 use Rattle.wb_history.specs.declared.entry.Kept.{Kept}
 use Rattle.wb_history.specs.declared.refusal.Refusal.{Refusal}
 use Rattle.wb_history.specs.declared.refusal.Refusal.TheVariants.{Refused, NotInForce, Blocked, RefusedInPlace, NoMemory}
-use Rattle.wb_history.specs.Past.{Numbered, meant}
+use Rattle.wb_history.specs.Past.{Numbered, meant, AreValid}
 
 abbrev pub foot : List Pattern → Changes → Foot workbook
 foot reads before = record { reads = reads; before = before }
@@ -59,6 +60,10 @@ MayUndo es k r = (x : kept.Entry) × (slice_get es k ≡ Some x) × (r ≡ undo_
 abbrev pub TakenBack : kept.Entry → ℕ → kept.Entry → Contents → Contents → Type 0
 TakenBack x n y b d = (k : Kept) × (x.kept ≡ Some k) × (n ≡ count_of k.inverse) × (y ≡ record { edit = x.edit; kept = None }) × (d.cells ≡ apply k.inverse b.cells) × (d.writes ≡ written_more b.writes n)
 
+-- to take an entry's edit back leaves a well-formed workbook
+abbrev pub LeavesWellFormed : kept.Entry → Cells → Type 0
+LeavesWellFormed x s = (k : Kept) → x.kept ≡ Some k → IsWellFormed (apply k.inverse s)
+
 abbrev pub refusal_of : kept.Entry → Refusal
 refusal_of x = elim x.kept [ None ↦ NotInForce | Some k ↦ NoMemory ]
 
@@ -89,3 +94,8 @@ PlansAgain es k s xs rs n =
 abbrev pub IsLatest : List (Option (Foot workbook)) → Option ℕ → Type 0
 IsLatest ks (Some p) = (f : Foot workbook) × (slice_get ks p ≡ Some (Some f)) × ((q : ℕ) (g : Foot workbook) → slice_get ks q ≡ Some (Some g) → q ≤ p)
 IsLatest ks None = (q : ℕ) (g : Foot workbook) → slice_get ks q ≡ Some (Some g) → ⊥
+
+-- What a history keeps: its entries show the cells of its book, and its edits are valid.
+pub record Keeps (es : List kept.Entry) (s : Cells) : Type 0 where
+  pub shows : Shows es s
+  pub valid : AreValid (numbers es)

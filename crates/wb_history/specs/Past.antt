@@ -1,5 +1,5 @@
 -- A history: its edits in the order of their numbers, each in force or out of force.
-use Rattle.std.specs.Prelude.{◌≡◌, ℕ, zero, suc, Bool, true, false, List, [], ◌∷◌, map, Option, None, option_map, slice_get, refl}
+use Rattle.std.specs.Prelude.{◌≡◌, ℕ, zero, suc, Bool, true, false, List, [], ◌∷◌, map, Option, None, option_map, slice_get, refl, ⊤}
 use Rattle.std.proofs.Common.{ap}
 use Rattle.std.specs.Coded.{Coded, code_by, coded×, coded_list, coded_bool, coded_ℕ}
 use Rattle.selective_undo.specs.History as h
@@ -7,6 +7,7 @@ use Rattle.wb_edit.specs.contracts.edit.Edit as edit_row
 use Rattle.wb_edit.specs.declared.edit.Edit as command
 use Rattle.wb_edit.specs.Schema.{workbook}
 use Rattle.wb_edit.specs.Commands.{meaning}
+use Rattle.wb_edit.specs.Valid.{IsValid}
 
 -- an edit of a history, with whether it is in force
 pub record Numbered : Type 0 where
@@ -54,3 +55,8 @@ into_force k es = set_force true k es
 abbrev pub force_of : List Numbered → ℕ → Option Bool
 force_of es zero = None
 force_of es (suc k) = option_map (λ x. x.in_force) (slice_get es k)
+
+-- each edit is valid: its names are names, its ranges within the limits, its numbers of 64 bits
+abbrev pub AreValid : List Numbered → Type 0
+AreValid [] = ⊤
+AreValid (x ∷ es) = IsValid x.edit × AreValid es

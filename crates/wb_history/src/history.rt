@@ -25,7 +25,7 @@ pub struct History {
 
 impl Model for History {
     ghost use Rattle.wb_history.specs.Past.{Past, past_code};
-    ghost use Rattle.wb_history.specs.Kept.{numbers, Shows};
+    ghost use Rattle.wb_history.specs.Kept.{numbers, Keeps};
 
     ghost Value = { Past };
 
@@ -33,7 +33,7 @@ impl Model for History {
 
     ghost view = { λ a. record { entries = numbers a.entries.items; writes = a.book.writes } };
 
-    ghost invariant = { λ a. Shows a.entries.items a.book.cells };
+    ghost invariant = { λ a. Keeps a.entries.items a.book.cells };
 }
 
 impl History {
@@ -69,6 +69,7 @@ impl History {
         ensures writes { IfOk result (λ r. self.new.writes ≡ written_more self.old.writes r.1) }
         ensures err { OnErr result (self.new ≡ self.old) }
     {
+        edit.validity();
         steps::edit::add(self.alloc, &mut self.book, &mut self.entries, edit)
     }
 

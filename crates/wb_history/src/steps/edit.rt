@@ -1,8 +1,12 @@
 ghost use Rattle.std.specs.Prelude.{◌≡◌, ℕ, ◌+◌, length, [], ◌∷◌, ◌++◌, OnOk, OnErr, IfOk, Ok, true};
+ghost use Rattle.selective_undo.specs.Changes.{apply};
 ghost use Rattle.selective_undo.specs.Edit.{outcome, reads};
 ghost use Rattle.wb_book.specs.Cells.{written_more, count_of};
+ghost use Rattle.wb_book.specs.WellFormed.{IsWellFormed};
 ghost use Rattle.wb_edit.specs.Commands.{meaning};
+ghost use Rattle.wb_edit.specs.Valid.{IsValid};
 ghost use Rattle.wb_history.specs.Kept.{Shows, entries_meant, numbers, plan_refusal};
+ghost use Rattle.wb_history.specs.Past.{AreValid};
 ghost use Rattle.wb_history.specs.Replies.{EditReply};
 
 use crate::entry::{Entry, Kept};
@@ -19,7 +23,9 @@ pub(crate) fn add(
     entries: &mut Vec<Entry>,
     edit: Edit,
 ) -> Result<(u64, usize), Refusal>
-    requires { Shows entries.old.items book.old.cells }
+    requires kept { Shows entries.old.items book.old.cells }
+    requires valid { AreValid (numbers entries.old.items) }
+    requires valid_edit { IsValid edit }
     ensures kept { Shows entries.new.items book.new.cells }
     ensures reply { EditReply (entries_meant entries.old.items) (meaning edit) result }
     ensures entries { OnOk result (numbers entries.new.items ≡ numbers entries.old.items ++ record { edit = edit; in_force = true } ∷ []) }
@@ -56,6 +62,7 @@ fn keep_new(
     requires kept { Shows entries.old.items book.old.cells }
     requires outcome { outcome (meaning edit) book.old.cells ≡ Ok delta }
     requires reads { foot ≡ reads (meaning edit) book.old.cells }
+    requires well_formed { IsWellFormed (apply delta book.old.cells) }
     ensures kept { Shows entries.new.items book.new.cells }
     ensures number { IfOk result (λ k. k ≡ length entries.old.items + 1) }
     ensures entries { OnOk result (numbers entries.new.items ≡ numbers entries.old.items ++ record { edit = edit; in_force = true } ∷ []) }

@@ -1,8 +1,9 @@
 ghost use Rattle.std.specs.Prelude.{◌≡◌, ℕ, ◌+◌, ◌^◌, ◌<◌, length, [], None, Some, Err, OnOk, OnErr, IfOk, IfErr};
 ghost use Rattle.selective_undo.specs.Changes.{apply, inverse};
 ghost use Rattle.wb_book.specs.Cells.{written_more, count_of};
+ghost use Rattle.wb_book.specs.WellFormed.{IsWellFormed};
 ghost use Rattle.wb_history.specs.Kept.{Shows, PlansAgain, redo_blocker, stopped_refusal, entries_meant, numbers};
-ghost use Rattle.wb_history.specs.Past.{into_force};
+ghost use Rattle.wb_history.specs.Past.{into_force, AreValid};
 ghost use Rattle.wb_history.specs.Replies.{RedoReply};
 
 use crate::blockers::first_to_block_redo;
@@ -82,6 +83,7 @@ fn put_in(
     delta: Delta,
     foot: Foot,
 ) -> Result<(), NoMemory>
+    requires { IsWellFormed (apply delta book.old.cells) }
     ensures entry { OnOk result (entry.new ≡ record { edit = entry.old.edit; kept = Some (record { foot = foot; inverse = inverse delta book.old.cells }) }) }
     ensures cells { OnOk result (book.new.cells ≡ apply delta book.old.cells) }
     ensures writes { OnOk result (book.new.writes ≡ written_more book.old.writes (count_of delta)) }
@@ -107,6 +109,7 @@ pub(crate) fn redo_at(
     requires in_log { at < length entries.old }
     requires few { length entries.old < 2 ^ 63 }
     requires kept { Shows entries.old book.old.cells }
+    requires valid { AreValid (numbers entries.old) }
     ensures kept { Shows entries.new book.new.cells }
     ensures reply { RedoReply (entries_meant entries.old) at result }
     ensures entries { OnOk result (numbers entries.new ≡ into_force at (numbers entries.old)) }

@@ -1,7 +1,7 @@
 ghost use Rattle.std.specs.Prelude.{◌≡◌, ℕ, ◌+◌, ◌-◌, ◌^◌, ◌<◌, length, Some, OnOk, OnErr, IfOk, IfErr, drop};
 ghost use Rattle.wb_book.specs.Cells.{written_more};
-ghost use Rattle.wb_history.specs.Kept.{kept_all, IsLatest, Shows, MayUndo, TakenBack, refusal_of, entries_meant, numbers};
-ghost use Rattle.wb_history.specs.Past.{out_of_force};
+ghost use Rattle.wb_history.specs.Kept.{kept_all, IsLatest, Shows, MayUndo, TakenBack, LeavesWellFormed, refusal_of, entries_meant, numbers};
+ghost use Rattle.wb_history.specs.Past.{out_of_force, AreValid};
 ghost use Rattle.wb_history.specs.Replies.{UndoReply, LastReply};
 
 use crate::blockers::first_to_block_undo;
@@ -36,6 +36,7 @@ fn undo_refusal(entries: &[Entry], at: usize) -> Option<Refusal>
 
 /// Sets back what an edit in force wrote.
 fn take_back(book: &mut Book, entry: &mut Entry) -> Result<usize, Refusal>
+    requires { LeavesWellFormed entry.old book.old.cells }
     ensures ok { IfOk result (λ n. TakenBack entry.old n entry.new book.old book.new) }
     ensures why { IfErr result (λ e. e ≡ refusal_of entry.old) }
     ensures entry_stays { OnErr result (entry.new ≡ entry.old) }
@@ -65,6 +66,7 @@ pub(crate) fn undo_at(
     requires in_log { at < length entries.old }
     requires few { length entries.old < 2 ^ 63 }
     requires kept { Shows entries.old book.old.cells }
+    requires valid { AreValid (numbers entries.old) }
     ensures kept { Shows entries.new book.new.cells }
     ensures reply { UndoReply (entries_meant entries.old) at result }
     ensures entries { OnOk result (numbers entries.new ≡ out_of_force at (numbers entries.old)) }
@@ -99,6 +101,7 @@ pub(crate) fn undo_latest(
 ) -> Result<(u64, usize), Refusal>
     requires few { length entries.old < 2 ^ 63 }
     requires kept { Shows entries.old book.old.cells }
+    requires valid { AreValid (numbers entries.old) }
     ensures kept { Shows entries.new book.new.cells }
     ensures reply { LastReply (entries_meant entries.old) result }
     ensures entries { IfOk result (λ r. numbers entries.new ≡ out_of_force (r.0 - 1) (numbers entries.old)) }

@@ -5,4 +5,4 @@ use Rattle.wb_history.proofs.Entries.{history-log}
 use Rattle.wb_history.proofs.history.History.book.Goals as goal
 
 pub returns-clause-cells : goal.returns-clause-cells
-returns-clause-cells c = c.self.invariant.shown ∙ ap replay (history-log c.self.inside.entries.items) ∙ ap (λ p. replay (meant p.entries)) c.self.view_is
+returns-clause-cells c = c.self.invariant.shows.shown ∙ ap replay (history-log c.self.inside.entries.items) ∙ ap (λ p. replay (meant p.entries)) c.self.view_is

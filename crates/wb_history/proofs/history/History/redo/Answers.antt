@@ -1,4 +1,7 @@
-use Rattle.std.proofs.Common.{◌<◌, ◌-◌, arith, ap, ◌∙◌, subst}
+use Rattle.wb_history.proofs.Valid.{keeps_valid, whole_slice}
+use Rattle.wb_history.specs.Past.{AreValid}
+use Rattle.wb_history.specs.Kept.{Keeps, numbers}
+use Rattle.std.proofs.Common.{length, drop, sym, true, ◌<◌, ◌-◌, arith, ap, ◌∙◌, subst}
 use Rattle.wb_history.specs.Past.{meant}
 use Rattle.wb_history.specs.Replies.{RedoReply, ByNumber}
 use Rattle.wb_history.specs.Kept.{entries_meant}
@@ -12,3 +15,14 @@ returns-clause-reply c =
     let v = c.deref_mut.ensures.value in
     subst (λ p. ByNumber (RedoReply (meant p.entries)) c.args.number c.redo_at.result) c.self.view_is
     (by_number (RedoReply (entries_meant c.self.inside.entries.items)) c.args.number c.redo_at.result some (subst (λ es. RedoReply (entries_meant es) (c.args.number - 1) c.redo_at.result) v h))
+
+pub invariant_of-self : goal.invariant_of-self
+invariant_of-self c =
+    let es = c.deref_mut.result.now in
+    let fs = c.redo_at.new.entries in
+    let valid : AreValid (numbers es) = subst (λ gs. AreValid (numbers gs)) (sym c.deref_mut.ensures.value) c.self.invariant.valid in
+    let same = whole_slice c.self.inside.entries.len fs (drop (length fs) c.self.inside.entries.items) (sym (c.redo_at.auto.entries ∙ c.deref_mut.ensures.len)) in
+    subst (λ gs. Keeps gs c.redo_at.new.book.cells) (sym same) (record {
+      shows = c.redo_at.ensures.kept;
+      valid = keeps_valid true (c.args.number - 1) es fs c.redo_at.result valid c.redo_at.ensures.entries c.redo_at.ensures.entries_stay;
+    })

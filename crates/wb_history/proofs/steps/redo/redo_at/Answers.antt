@@ -1,3 +1,4 @@
+use Rattle.wb_history.proofs.Valid.{planned_again_well_formed}
 use Rattle.std.proofs.Common.{slice_index_or}
 use Rattle.std.proofs.lemmas.Option.{slice_get-get_or}
 use Rattle.wb_history.proofs.Redone.{redone_kept, redone_reply, redone_numbers}
@@ -23,3 +24,8 @@ returns-in-Ok-put_in-clause-entries c =
     let x = slice_index_or es c.args.at c.index-entries-at.result in
     let is = slice_get-get_or es c.args.at c.index-entries-at.result c.requires.in_log in
     redone_numbers c.args.book.now.cells es c.args.at x c.requires.kept is c.in-Ok.delta c.in-Ok.foot c.in-Ok.count c.in-Ok.ensures.ok c.put_in.new.entry c.in-Ok-put_in.ensures.entry
+
+pub put_in-requires : goal.put_in-requires
+put_in-requires c =
+    let plan = c.in-Ok.ensures.ok in
+    planned_again_well_formed c.args.entries.now c.args.book.now.cells c.args.at plan.0 c.in-Ok.delta c.requires.kept c.requires.valid plan.1 plan.3

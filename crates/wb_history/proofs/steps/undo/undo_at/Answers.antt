@@ -1,3 +1,4 @@
+use Rattle.wb_history.proofs.Valid.{undone_well_formed}
 use Rattle.std.proofs.Common.{slice_index_or}
 use Rattle.std.proofs.lemmas.Option.{slice_get-get_or}
 use Rattle.wb_history.proofs.Entries.{refused_reply, undone_kept, undone_reply, undone_numbers, stay_numbers}
@@ -28,3 +29,10 @@ returns-in-None-clause-entries c =
     let x = slice_index_or es c.args.at c.index-entries-at.result in
     let is = slice_get-get_or es c.args.at c.index-entries-at.result c.requires.in_log in
     undone_numbers es c.args.at x is c.take_back.result c.take_back.new.entry c.args.book.now c.take_back.new.book c.take_back.ensures.ok
+
+pub take_back-requires : goal.take_back-requires
+take_back-requires c =
+    let es = c.args.entries.now in
+    let x = slice_index_or es c.args.at c.index-entries-at.result in
+    let is = slice_get-get_or es c.args.at c.index-entries-at.result c.requires.in_log in
+    undone_well_formed es c.args.book.now.cells c.args.at x c.requires.kept c.requires.valid is c.in-None.ensures

@@ -1,0 +1,8 @@
+use Rattle.wb_history.proofs.Valid.{keeps_valid_more}
+use Rattle.wb_history.proofs.history.History.edit.Goals as goal
+
+pub invariant_of-self : goal.invariant_of-self
+invariant_of-self c = record {
+  shows = c.add.ensures.kept;
+  valid = keeps_valid_more c.self.inside.entries.items c.add.new.entries.items c.args.edit c.add.result c.self.invariant.valid c.validity.ensures c.add.ensures.entries c.add.ensures.entries_stay;
+}

@@ -1,0 +1,16 @@
+use Rattle.std.proofs.Common.{◌-◌, length, drop, subst, sym, ◌∙◌, false}
+use Rattle.wb_history.proofs.Valid.{keeps_valid, whole_slice}
+use Rattle.wb_history.specs.Past.{AreValid}
+use Rattle.wb_history.specs.Kept.{Keeps, numbers}
+use Rattle.wb_history.proofs.history.History.undo.Goals as goal
+
+pub invariant_of-self : goal.invariant_of-self
+invariant_of-self c =
+    let es = c.deref_mut.result.now in
+    let fs = c.undo_at.new.entries in
+    let valid : AreValid (numbers es) = subst (λ gs. AreValid (numbers gs)) (sym c.deref_mut.ensures.value) c.self.invariant.valid in
+    let same = whole_slice c.self.inside.entries.len fs (drop (length fs) c.self.inside.entries.items) (sym (c.undo_at.auto.entries ∙ c.deref_mut.ensures.len)) in
+    subst (λ gs. Keeps gs c.undo_at.new.book.cells) (sym same) (record {
+      shows = c.undo_at.ensures.kept;
+      valid = keeps_valid false (c.args.number - 1) es fs c.undo_at.result valid c.undo_at.ensures.entries c.undo_at.ensures.entries_stay;
+    })

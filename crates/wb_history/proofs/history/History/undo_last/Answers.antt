@@ -1,0 +1,16 @@
+use Rattle.std.proofs.Common.{◌-◌, length, drop, subst, sym, ◌∙◌, false}
+use Rattle.wb_history.proofs.Valid.{keeps_valid_last, whole_slice}
+use Rattle.wb_history.specs.Past.{AreValid}
+use Rattle.wb_history.specs.Kept.{Keeps, numbers}
+use Rattle.wb_history.proofs.history.History.undo_last.Goals as goal
+
+pub invariant_of-self : goal.invariant_of-self
+invariant_of-self c =
+    let es = c.deref_mut.result.now in
+    let fs = c.undo_latest.new.entries in
+    let valid : AreValid (numbers es) = subst (λ gs. AreValid (numbers gs)) (sym c.deref_mut.ensures.value) c.self.invariant.valid in
+    let same = whole_slice c.self.inside.entries.len fs (drop (length fs) c.self.inside.entries.items) (sym (c.undo_latest.auto.entries ∙ c.deref_mut.ensures.len)) in
+    subst (λ gs. Keeps gs c.undo_latest.new.book.cells) (sym same) (record {
+      shows = c.undo_latest.ensures.kept;
+      valid = keeps_valid_last es fs c.undo_latest.result valid c.undo_latest.ensures.entries c.undo_latest.ensures.entries_stay;
+    })
