@@ -4,6 +4,8 @@ use Rattle.std.specs.Ordering.{eq_by_cmp}
 use Rattle.std.specs.Cmp.{Equal-is}
 use Rattle.std.specs.FinMap.{FinMap, get}
 use Rattle.selective_undo.specs.declared.Change.{Change}
+use Rattle.selective_undo.specs.Edit.{Schema}
+use Rattle.selective_undo.specs.Laws.{OfEach, ApplyLaw, TakeBackLaw, SetFirstLaw, RoomLaw}
 use Rattle.selective_undo.specs.Changes.{IsOrder, put, apply, inverse, changes, AllOnce, sets, clears, RoomFor, HasRoom}
 use Rattle.selective_undo.proofs.Changes.{same_states, get-put, apply_keeps, apply_sets, apply_swap, changes-inverse, apply-inverse, is_itself, not_true}
 use Rattle.selective_undo.proofs.Locality.{or_neither}
@@ -76,6 +78,14 @@ module _ {K V : Type 0} {order : K → K → Ordering} (ordered : IsOrder order)
       let other : eq_by_cmp order y.cell x.cell ≡ false = not_true _ (λ e. true≢false (sym (is_itself ordered x.cell) ∙ ap (λ c. eq_by_cmp order x.cell c) (sym (tied ordered y.cell x.cell e)) ∙ parts.0)) in
       (rw (get-put ordered x s y.cell, other) room.0, room-put x xs s parts.1 room.1)
 
+  -- a cell that is changed once has the value of its change
+  set_value : (xs : List (Change K V)) (s : FinMap order V) (x : Change K V) (i : ℕ) → AllOnce order xs → i < length xs → get_or xs i x ≡ x → get (apply xs s) x.cell ≡ x.value
+  set_value [] s x i once low is = absurd (omega (arith, low))
+  set_value (y ∷ xs) s x zero once low is =
+      let same : y ≡ x = is in
+      apply_keeps ordered xs (put y s) x.cell (rw (← same) once.0) ∙ rw (get-put ordered y s x.cell, same, is_itself ordered x.cell) refl
+  set_value (y ∷ xs) s x (suc i) once low is = set_value xs (put y s) x i once.1 (omega (arith, low)) is
+
   -- ---- a loop over the changes
 
   pub set_others : (x : Change K V) (s : FinMap order V) (c : K) → eq_by_cmp order c x.cell ≡ false → get (apply (sets (x ∷ [])) s) c ≡ get s c
@@ -116,3 +126,21 @@ module _ {K V : Type 0} {order : K → K → Ordering} (ordered : IsOrder order)
 
   pub room_here : (xs : List (Change K V)) (i : ℕ) (d : Change K V) (s : FinMap order V) → i < length xs → HasRoom (drop i xs) s → RoomFor (get_or xs i d).value (get s (get_or xs i d).cell)
   room_here xs i d s low room = let room' : HasRoom (get_or xs i d ∷ drop (suc i) xs) s = rw (drop-cons xs i d low) at room in room'.0
+
+-- ---- laws
+
+pub apply_law : (w : Schema) → ApplyLaw w
+apply_law w xs s = (λ c other. apply_keeps w.is_order xs s c other, λ once x is. set_value w.is_order xs s x is.0 once is.1 is.2)
+
+pub take_back_law : (w : Schema) → TakeBackLaw w
+take_back_law w xs s t others = off_cells w.is_order xs s t others
+
+pub set_first_law : (w : Schema) → SetFirstLaw w
+set_first_law w xs s once = sets_clears w.is_order xs s once
+
+pub room_law : (w : Schema) → RoomLaw w
+room_law w xs s t stays = room-inverse xs s t stays
+
+-- a law of each workbook, where the law names nothing that tells the patterns and refusals
+pub of_each : (Cell Value Pattern Refusal : Type 0) (Law : Schema → Type 0) → ((w : Schema) → Law w) → OfEach Cell Value Pattern Refusal Law
+of_each Cell Value Pattern Refusal Law all = λ order is_order matches. all (record { Cell = Cell; order = order; is_order = is_order; Value = Value; Pattern = Pattern; matches = matches; Refusal = Refusal })

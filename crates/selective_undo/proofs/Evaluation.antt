@@ -9,6 +9,7 @@ use Rattle.selective_undo.specs.declared.Change as declared
 use Rattle.selective_undo.specs.Changes.{IsOrder, put, apply, inverse}
 use Rattle.selective_undo.specs.Edit.{Schema, State, Edit, refuse, write, look, written, outcome, reads, trace, step}
 use Rattle.selective_undo.specs.History.{Entry, done, undone, replay, replay_from, traces, traces_from}
+use Rattle.selective_undo.specs.Laws.{EvaluateEditLaw, EvaluateHistoryLaw}
 use Rattle.selective_undo.specs.Evaluation.{put_in, apply_in, inverse_in, outcome_in, reads_in, trace_in, step_in, replay_in, traces_in}
 use Rattle.selective_undo.proofs.Changes.{same_states}
 
@@ -91,3 +92,9 @@ module _ {w : Schema} where
 
   pub traces-in : (h : List (Entry w)) → traces h ≡ traces_in h []
   traces-in h = traces-entries h empty ∙ ap (traces_in h) (entries-empty w.order)
+
+pub evaluate_edit_law : (w : Schema) → EvaluateEditLaw w
+evaluate_edit_law w e s = (trace-entries e s, step-entries e s)
+
+pub evaluate_history_law : (w : Schema) → EvaluateHistoryLaw w
+evaluate_history_law w h = (traces-in h, entries-replay h)

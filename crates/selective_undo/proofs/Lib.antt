@@ -4,6 +4,10 @@ pub mod Locality
 pub mod Undo
 pub mod Redo
 pub mod Inverses
+pub mod Invariants
 pub mod Dependents
+pub mod FindDependents
 pub mod Log
+pub mod LogLaws
 pub mod Evaluation
+mod Examples

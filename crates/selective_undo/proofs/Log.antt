@@ -1,5 +1,5 @@
 -- A log that is kept stays so when an edit comes, is undone or is redone.
-use Rattle.std.proofs.Common.{◌≡◌, ℕ, zero, suc, ◌+◌, ◌<◌, ◌≤◌, List, [], ◌∷◌, ◌++◌, map, refl, sym, ap, ◌∙◌, subst, Option, Some, None, option_map, Bool, true, false, ◌||◌, Ok, is_ok, slice_get, slice_set, drop, arith, inl, inr, ◌⊎◌, if◌then◌else◌}
+use Rattle.std.proofs.Common.{◌≡◌, ℕ, zero, suc, ◌+◌, ◌<◌, ◌≤◌, List, [], ◌∷◌, ◌++◌, map, refl, sym, ap, ◌∙◌, subst, Option, Some, None, option_map, Bool, true, false, ◌||◌, Ok, IsOk, is_ok, slice_get, slice_set, drop, arith, inl, inr, ◌⊎◌, if◌then◌else◌}
 use Rattle.selective_undo.specs.Changes.{apply, inverse, changes}
 use Rattle.selective_undo.proofs.Changes.{changes-inverse}
 use Rattle.selective_undo.specs.Edit.{Schema, State, Change, Edit, Trace, covers, outcome, reads, written, trace, needs, Needs}
@@ -101,7 +101,7 @@ module _ {X : Type 0} (p : X → Bool) where
         | suc j ↦ λ up at. none_at i n xs j y e (omega (arith, up)) at
       ] up is
 
-cases_lt : (a b : ℕ) → (a < b) ⊎ (b ≤ a)
+pub cases_lt : (a b : ℕ) → (a < b) ⊎ (b ≤ a)
 cases_lt a zero = inr (omega arith)
 cases_lt zero (suc b) = inl (omega arith)
 cases_lt (suc a) (suc b) = elim (cases_lt a b) [ inl low ↦ inl (omega (arith, low)) | inr up ↦ inr (omega (arith, up)) ]
@@ -118,7 +118,7 @@ module _ {w : Schema} where
   trace_of (None ∷ ts) zero f is = cc
   trace_of (t ∷ ts) (suc j) f is = trace_of ts j f is
 
-  some_foot : (xs : List (Change w)) (o : Option (Foot w)) → blocks_undo xs o ≡ true → (f : Foot w) × (o ≡ Some f) × (meets_any f xs ≡ true)
+  pub some_foot : (xs : List (Change w)) (o : Option (Foot w)) → blocks_undo xs o ≡ true → (f : Foot w) × (o ≡ Some f) × (meets_any f xs ≡ true)
   some_foot xs None e = cc
   some_foot xs (Some f) e = (f, refl, e)
 
@@ -154,7 +154,7 @@ module _ {w : Schema} where
 
   -- ---- the least edit that blocks a redo
 
-  meets_foot : (g : Foot w) (o : Option (Foot w)) → blocks_redo g o ≡ true → (f : Foot w) × (o ≡ Some f) × ((meets_any f g.before ≡ true) ⊎ (meets_any g f.before ≡ true))
+  pub meets_foot : (g : Foot w) (o : Option (Foot w)) → blocks_redo g o ≡ true → (f : Foot w) × (o ≡ Some f) × ((meets_any f g.before ≡ true) ⊎ (meets_any g f.before ≡ true))
   meets_foot g None e = cc
   meets_foot g (Some f) e =
       elim (meets_any f g.before) as (λ b. meets_any f g.before ≡ b → b || meets_any g f.before ≡ true → (h : Foot w) × (Some f ≡ Some h) × ((meets_any h g.before ≡ true) ⊎ (meets_any g h.before ≡ true))) [
@@ -207,7 +207,7 @@ module _ {w : Schema} where
       ap (λ b. (b || covers w (reads e s) y.cell) || meets_any (planned e s) ys) (sym (changes-inverse (written (outcome e s)) s y.cell))
       ∙ ap (λ b. (changes w.order (trace e s).before y.cell || covers w (reads e s) y.cell) || b) (any_planned e s ys)
 
-  same_blocks : (e : Edit w) (s : State w) (o : Option (Foot w)) → blocks_redo (planned e s) o ≡ blocks_redo (foot_of (trace e s)) o
+  pub same_blocks : (e : Edit w) (s : State w) (o : Option (Foot w)) → blocks_redo (planned e s) o ≡ blocks_redo (foot_of (trace e s)) o
   same_blocks e s None = refl
   same_blocks e s (Some f) =
       ap (λ b. b || meets_any (planned e s) f.before) (sym (any_inverse f (written (outcome e s)) s))
@@ -235,6 +235,13 @@ module _ {w : Schema} where
   set_redo (x ∷ h) zero e is = let same : x ≡ undone e = cc in rw same
   set_redo (x ∷ h) (suc k) e is = ap (λ r. x ∷ r) (set_redo h k e is)
 
+  pub accepted_append : (h : List (Entry w)) (e : Edit w) → IsLegal h → IsOk (outcome e (replay h)) → IsLegal (h ++ done e ∷ [])
+  accepted_append h e legal accepted j u is =
+      elim (last_or (traces h) (Some (trace e (replay h))) (Some u) j (subst (λ ts. InForce ts j u) (append_law w h e).1 is)) [
+        | inl last ↦ (let same : u ≡ trace e (replay h) = cc in rw same accepted)
+        | inr old ↦ legal j u old
+      ]
+
   -- an edit comes
   pub kept_append : (s : State w) (log : List (Logged w)) (e : Edit w) (xs : List (Change w)) → IsKept s log → outcome e s ≡ Ok xs
       → IsKept (apply xs s) (log ++ record { edit = e; kept = Some (record { reads = reads e s; before = inverse xs s }) } ∷ [])
@@ -246,10 +253,7 @@ module _ {w : Schema} where
       let made : trace e (replay h) ≡ record { reads = reads e s; outcome = Ok xs; before = inverse xs s } =
       rw (← kept.shown, accepted) refl in
       record {
-        legal = λ j u is. elim (last_or (traces h) (Some (trace e (replay h))) (Some u) j (subst (λ ts. InForce ts j u) (ap traces now_is ∙ law.1) is)) [
-          | inl last ↦ (let same : u ≡ trace e (replay h) = cc in ap (λ v. is_ok v.outcome) (same ∙ made))
-          | inr old ↦ kept.legal j u old
-        ];
+        legal = subst (λ g. IsLegal g) (sym now_is) (accepted_append h e kept.legal (ap (λ v. is_ok v.outcome) made));
         shown = rw (now_is, law.0, ← kept.shown, accepted) refl;
         feet = append-map (λ x. x.kept) log (more ∷ []) ∙ ap (λ fs. fs ++ more.kept ∷ []) kept.feet
             ∙ sym (ap (λ g. feet (traces g)) now_is ∙ ap feet law.1 ∙ append-map (option_map foot_of) (traces h) (Some (trace e (replay h)) ∷ []) ∙ ap (λ t. feet (traces h) ++ Some (foot_of t) ∷ []) made);

@@ -1,5 +1,5 @@
--- A log of edits as a program keeps it: with each edit in force, what it read and what it wrote over.
-use Rattle.std.specs.Prelude.{◌≡◌, ℕ, ◌+◌, ◌≤◌, ◌<◌, Bool, false, ◌||◌, List, [], ◌∷◌, map, Option, Some, None, option_map, ◌⊎◌, if◌then◌else◌}
+-- A log of edits as a program keeps it: with each edit in force a record of what it read and what it wrote over, so that no undo has to replay.
+use Rattle.std.specs.Prelude.{◌≡◌, ℕ, suc, slice_get, drop, ◌+◌, ◌≤◌, ◌<◌, Bool, true, false, ◌||◌, List, [], ◌∷◌, map, Option, Some, None, option_map, ◌⊎◌, if◌then◌else◌}
 use Rattle.std.specs.List.{list_any}
 use Rattle.selective_undo.specs.Changes.{changes}
 use Rattle.selective_undo.specs.Edit.{Schema, State, Change, Edit, Trace, covers, reads, outcome, written, Needs}
@@ -16,19 +16,24 @@ pub record Logged (w : Schema) : Type 0 where
   pub kept : Option (Foot w)
 
 module _ {w : Schema} where
+  -- what is kept of a trace
   abbrev pub foot_of : Trace w → Foot w
   foot_of t = record { reads = t.reads; before = t.before }
 
+  -- and of each trace of a history
   abbrev pub feet : List (Option (Trace w)) → List (Option (Foot w))
   feet ts = map (option_map foot_of) ts
 
+  -- an edit is in force where something is kept of it
   abbrev pub entry_by : Edit w → Option (Foot w) → Entry w
   entry_by e (Some f) = done e
   entry_by e None = undone e
 
+  -- an entry of the log as one of a history
   abbrev pub entry_of : Logged w → Entry w
   entry_of x = entry_by x.edit x.kept
 
+  -- the history that the log stands for
   abbrev pub history : List (Logged w) → List (Entry w)
   history log = map entry_of log
 
@@ -46,7 +51,7 @@ module _ {w : Schema} where
   blocks_redo g None = false
   blocks_redo g (Some f) = meets_any f g.before || meets_any g f.before
 
-  -- what an edit would read and write in a state
+  -- what an edit would read and write in a state, with the values that it would write
   abbrev pub planned : Edit w → State w → Foot w
   planned e s = record { reads = reads e s; before = written (outcome e s) }
 
@@ -55,7 +60,24 @@ abbrev pub first_from : {X : Type 0} → (X → Bool) → ℕ → List X → Opt
 first_from p i [] = None
 first_from p i (x ∷ xs) = if p x then Some i else first_from p (i + 1) xs
 
--- The state is what the log says, and what is kept of each edit in force is what it did.
+module _ {w : Schema} where
+  -- the first edit after k that, by what is kept, blocks the undo of changes xs
+  abbrev pub undo_blocker : List (Logged w) → ℕ → List (Change w) → Option ℕ
+  undo_blocker log k xs = first_from (blocks_undo xs) (suc k) (drop (suc k) (map (λ x. x.kept) log))
+
+  -- and the redo of an edit with foot g
+  abbrev pub redo_blocker : List (Logged w) → ℕ → Foot w → Option ℕ
+  redo_blocker log k g = first_from (blocks_redo g) (suc k) (drop (suc k) (map (λ x. x.kept) log))
+
+  -- how an edit stands in a log: in force, with what is kept of its trace
+  abbrev pub logged_done : Edit w → Trace w → Logged w
+  logged_done e t = record { edit = e; kept = Some (foot_of t) }
+
+  -- and out of force
+  abbrev pub logged_undone : Edit w → Logged w
+  logged_undone e = record { edit = e; kept = None }
+
+-- The log is legal, the state is its replay, and what is kept of each edit in force is what it does in that replay.
 pub record IsKept {w : Schema} (s : State w) (log : List (Logged w)) : Type 0 where
   pub legal : IsLegal (history log)
   pub shown : s ≡ replay (history log)
@@ -66,9 +88,23 @@ pub record Least (P : ℕ → Type 0) (j : ℕ) : Type 0 where
   pub holds : P j
   pub least : (i : ℕ) → P i → j ≤ i
 
--- The later edit j, in force, needs edit k as it would be with trace t, or that one needs j.
+-- Edit j blocks the redo of edit k, which would have trace t: j is later and in force, and one of the two needs the other.
 pub record BlocksRedo {w : Schema} (ts : List (Option (Trace w))) (k : ℕ) (t : Trace w) (j : ℕ) : Type 0 where
   pub later : k < j
   pub of_j : Trace w
   pub j_in_force : InForce ts j of_j
   pub meets : Needs of_j t ⊎ Needs t of_j
+
+-- The record of the later edit j meets a cell of the changes.
+pub record RecordBlocksUndo {w : Schema} (log : List (Logged w)) (k : ℕ) (xs : List (Change w)) (j : ℕ) : Type 0 where
+  pub later : k < j
+  pub entry : Logged w
+  pub there : slice_get log j ≡ Some entry
+  pub meets : blocks_undo xs entry.kept ≡ true
+
+-- The record of the later edit j and foot g meet, one way or the other.
+pub record RecordBlocksRedo {w : Schema} (log : List (Logged w)) (k : ℕ) (g : Foot w) (j : ℕ) : Type 0 where
+  pub later : k < j
+  pub entry : Logged w
+  pub there : slice_get log j ≡ Some entry
+  pub meets : blocks_redo g entry.kept ≡ true

@@ -1,5 +1,7 @@
 //! The laws of the commands: each is the contract of a function that does nothing.
 
+ghost use Rattle.selective_undo.specs.Laws.{LocalityLaw};
+ghost use Rattle.wb_edit.specs.Schema.{workbook};
 ghost use Rattle.wb_edit.specs.Laws.{KeepsWellFormed};
 
 /// A valid command, accepted or refused, leaves a well-formed workbook well formed.
@@ -8,4 +10,10 @@ ghost use Rattle.wb_edit.specs.Laws.{KeepsWellFormed};
 /// cells `In` are exactly those of the shapes; names are names, and all limits hold.
 pub fn keeps_well_formed()
     ensures { KeepsWellFormed }
+{}
+
+/// What an edit does depends on what it reads alone: in two workbooks that agree on the cells that it reads in one of
+/// them, it is refused alike or writes the same, and reads the same. The law names no command.
+pub fn locality()
+    ensures { LocalityLaw workbook }
 {}
