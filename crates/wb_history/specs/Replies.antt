@@ -1,10 +1,12 @@
 -- The machine of edits, undos and redos: what each answer says of the history. Causes exclude one another, so that each
 -- answer comes exactly when its cause is there.
-use Rattle.std.specs.Prelude.{◌≡◌, ℕ, zero, suc, ◌+◌, List, [], length, Option, Some, None, Result, Ok, Err, slice_get, ⊤}
-use Rattle.selective_undo.specs.Edit.{Edit, Trace, trace, outcome}
+use Rattle.std.specs.Prelude.{◌≡◌, ℕ, zero, suc, ◌+◌, List, [], length, Option, Some, None, Result, Ok, Err, slice_get, slice_set, ⊤, if◌then◌else◌}
+use Rattle.std.specs.FinMap.{get}
+use Rattle.selective_undo.specs.Edit.{Edit, Trace, trace, outcome, writes}
 use Rattle.selective_undo.specs.History as h
-use Rattle.selective_undo.specs.History.{undone, traces, replay, Blocks, CanUndo, CanRedo, InForce, IsLast}
+use Rattle.selective_undo.specs.History.{undone, traces, replay, Blocks, CanUndo, CanRedo, InForce, IsLast, state_before}
 use Rattle.selective_undo.specs.Log.{Least, BlocksRedo}
+use Rattle.wb_book.specs.declared.cells.cell.Cell.{Cell}
 use Rattle.wb_book.specs.Cells.{Changes, count_of}
 use Rattle.wb_edit.specs.Schema.{workbook}
 use Rattle.wb_history.specs.declared.refusal.Refusal.{Refusal}
@@ -49,3 +51,17 @@ RedoReply es k (Err why) = ⊥
 abbrev pub ByNumber : (ℕ → Result ℕ Refusal → Type 0) → ℕ → Result ℕ Refusal → Type 0
 ByNumber Reply zero r = r ≡ Err NoSuchEdit
 ByNumber Reply (suc k) r = Reply k r
+
+-- ---- what a grant leaves, from history es to history fs
+
+-- Each cell that edit k touched has its value from before it, and every other cell stays.
+abbrev pub SetsBack : List (h.Entry workbook) → ℕ → List (h.Entry workbook) → Type 0
+SetsBack es k fs = (t : Trace workbook) → InForce (traces es) k t → (c : Cell) → get (replay fs) c ≡ (if writes t c then get (state_before k es) c else get (replay es) c)
+
+-- The workbook is that of the edits in force below k: domains, elements and mappings exactly.
+abbrev pub Restores : List (h.Entry workbook) → ℕ → List (h.Entry workbook) → Type 0
+Restores es k fs = replay fs ≡ state_before k es
+
+-- Edit k does in its own place what it would do now, and each other edit in force does what it did.
+abbrev pub RedoesInPlace : List (h.Entry workbook) → ℕ → List (h.Entry workbook) → Type 0
+RedoesInPlace es k fs = (e : Edit workbook) → slice_get es k ≡ Some (undone e) → traces fs ≡ slice_set (traces es) k (Some (trace e (replay es)))

@@ -3,7 +3,7 @@ ghost use Rattle.selective_undo.specs.History.{replay};
 ghost use Rattle.wb_book.specs.Cells.{written_more};
 ghost use Rattle.wb_edit.specs.Commands.{meaning};
 ghost use Rattle.wb_history.specs.Past.{meant, out_of_force, into_force, force_of};
-ghost use Rattle.wb_history.specs.Replies.{EditReply, UndoReply, LastReply, RedoReply, ByNumber};
+ghost use Rattle.wb_history.specs.Replies.{EditReply, UndoReply, LastReply, RedoReply, ByNumber, SetsBack, Restores, RedoesInPlace};
 ghost use Rattle.wb_history.specs.Queries.{answer};
 
 use crate::entry::Entry;
@@ -77,6 +77,7 @@ impl History {
     pub fn undo(&mut self, number: u64) -> Result<usize, Refusal>
         ensures reply { ByNumber (UndoReply (meant self.old.entries)) number result }
         ensures entries { OnOk result (self.new.entries ≡ out_of_force (number - 1) self.old.entries) }
+        ensures set_back { OnOk result (SetsBack (meant self.old.entries) (number - 1) (meant self.new.entries)) }
         ensures writes { IfOk result (λ n. self.new.writes ≡ written_more self.old.writes n) }
         ensures err { OnErr result (self.new ≡ self.old) }
     {
@@ -94,6 +95,7 @@ impl History {
     pub fn undo_last(&mut self) -> Result<(u64, usize), Refusal>
         ensures reply { LastReply (meant self.old.entries) result }
         ensures entries { IfOk result (λ r. self.new.entries ≡ out_of_force (r.0 - 1) self.old.entries) }
+        ensures restored { IfOk result (λ r. Restores (meant self.old.entries) (r.0 - 1) (meant self.new.entries)) }
         ensures writes { IfOk result (λ r. self.new.writes ≡ written_more self.old.writes r.1) }
         ensures err { OnErr result (self.new ≡ self.old) }
     {
@@ -104,6 +106,7 @@ impl History {
     pub fn redo(&mut self, number: u64) -> Result<usize, Refusal>
         ensures reply { ByNumber (RedoReply (meant self.old.entries)) number result }
         ensures entries { OnOk result (self.new.entries ≡ into_force (number - 1) self.old.entries) }
+        ensures in_place { OnOk result (RedoesInPlace (meant self.old.entries) (number - 1) (meant self.new.entries)) }
         ensures writes { IfOk result (λ n. self.new.writes ≡ written_more self.old.writes n) }
         ensures err { OnErr result (self.new ≡ self.old) }
     {

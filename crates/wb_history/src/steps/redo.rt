@@ -4,7 +4,7 @@ ghost use Rattle.wb_book.specs.Cells.{written_more, count_of};
 ghost use Rattle.wb_book.specs.WellFormed.{IsWellFormed};
 ghost use Rattle.wb_history.specs.Kept.{Shows, PlansAgain, redo_blocker, stopped_refusal, entries_meant, numbers};
 ghost use Rattle.wb_history.specs.Past.{into_force, AreValid};
-ghost use Rattle.wb_history.specs.Replies.{RedoReply};
+ghost use Rattle.wb_history.specs.Replies.{RedoReply, RedoesInPlace};
 
 use crate::blockers::first_to_block_redo;
 use crate::entry::{Entry, Kept};
@@ -113,6 +113,7 @@ pub(crate) fn redo_at(
     ensures kept { Shows entries.new book.new.cells }
     ensures reply { RedoReply (entries_meant entries.old) at result }
     ensures entries { OnOk result (numbers entries.new ≡ into_force at (numbers entries.old)) }
+    ensures in_place { OnOk result (RedoesInPlace (entries_meant entries.old) at (entries_meant entries.new)) }
     ensures writes { IfOk result (λ n. book.new.writes ≡ written_more book.old.writes n) }
     ensures entries_stay { OnErr result (numbers entries.new ≡ numbers entries.old) }
     ensures book_stays { OnErr result (book.new ≡ book.old) }

@@ -1,3 +1,5 @@
+use Rattle.wb_history.proofs.Granted.{redoes_in_place}
+use Rattle.std.proofs.Common.{slice_set, Ok}
 use Rattle.wb_history.proofs.Valid.{planned_again_well_formed}
 use Rattle.std.proofs.Common.{slice_index_or}
 use Rattle.std.proofs.lemmas.Option.{slice_get-get_or}
@@ -29,3 +31,13 @@ pub put_in-requires : goal.put_in-requires
 put_in-requires c =
     let plan = c.in-Ok.ensures.ok in
     planned_again_well_formed c.args.entries.now c.args.book.now.cells c.args.at plan.0 c.in-Ok.delta c.requires.kept c.requires.valid plan.1 plan.3
+
+pub returns-in-Ok-put_in-clause-in_place : goal.returns-in-Ok-put_in-clause-in_place
+returns-in-Ok-put_in-clause-in_place c =
+    let es = c.args.entries.now in
+    let x = slice_index_or es c.args.at c.index-entries-at.result in
+    let is = slice_get-get_or es c.args.at c.index-entries-at.result c.requires.in_log in
+    let s = c.args.book.now.cells in
+    redoes_in_place s es (slice_set es c.args.at c.put_in.new.entry) c.requires.kept c.args.at (Ok c.in-Ok.count)
+    (redone_reply s es c.args.at x c.requires.kept is c.in-Ok.delta c.in-Ok.foot c.in-Ok.count c.in-Ok.ensures.ok)
+    (redone_numbers s es c.args.at x c.requires.kept is c.in-Ok.delta c.in-Ok.foot c.in-Ok.count c.in-Ok.ensures.ok c.put_in.new.entry c.in-Ok-put_in.ensures.entry)

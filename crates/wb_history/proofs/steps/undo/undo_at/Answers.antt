@@ -1,3 +1,5 @@
+use Rattle.wb_history.proofs.Granted.{sets_back}
+use Rattle.std.proofs.Common.{slice_set}
 use Rattle.wb_history.proofs.Valid.{undone_well_formed}
 use Rattle.std.proofs.Common.{slice_index_or}
 use Rattle.std.proofs.lemmas.Option.{slice_get-get_or}
@@ -36,3 +38,12 @@ take_back-requires c =
     let x = slice_index_or es c.args.at c.index-entries-at.result in
     let is = slice_get-get_or es c.args.at c.index-entries-at.result c.requires.in_log in
     undone_well_formed es c.args.book.now.cells c.args.at x c.requires.kept c.requires.valid is c.in-None.ensures
+
+pub returns-in-None-clause-set_back : goal.returns-in-None-clause-set_back
+returns-in-None-clause-set_back c =
+    let es = c.args.entries.now in
+    let x = slice_index_or es c.args.at c.index-entries-at.result in
+    let is = slice_get-get_or es c.args.at c.index-entries-at.result c.requires.in_log in
+    let reply = undone_reply es c.args.at x is c.take_back.result c.take_back.new.entry c.args.book.now c.take_back.new.book c.requires.kept c.in-None.ensures c.take_back.ensures.ok c.take_back.ensures.why in
+    let now = undone_numbers es c.args.at x is c.take_back.result c.take_back.new.entry c.args.book.now c.take_back.new.book c.take_back.ensures.ok in
+    sets_back c.args.book.now.cells es (slice_set es c.args.at c.take_back.new.entry) c.requires.kept c.args.at c.take_back.result reply now
