@@ -68,12 +68,12 @@ pub(crate) fn first_to_block_undo(
     requires { from + length later.now < 2 ^ 64 }
     ensures { result ≡ first_from (blocks_undo before.now) from (kept_all later.now) }
 {
-    let mut number = from;
+    let mut place = from;
     for x in later {
         if blocks_undo(x, before) {
-            return Some(number);
+            return Some(place);
         }
-        number += 1;
+        place += 1;
     }
     None
 }
