@@ -1,0 +1,42 @@
+-- What a session does, up to its end.
+use Rattle.std.specs.Prelude.{◌≡◌, ◌⊎◌, ◌<◌, ℕ, List, [], ◌∷◌, ◌++◌, length, take, nat_lt, codes, MatchBool}
+use Rattle.wb_lines.specs.Lines.{ended, lines, whole_lines}
+use Rattle.wb_lines.specs.Reading.{line_limit}
+use Rattle.wb_lines.specs.Replies.{Replies}
+use Rattle.wb_lines.specs.declared.machine.SessionEnd.{SessionEnd}
+use Rattle.wb_lines.specs.declared.machine.SessionEnd.TheVariants as ends
+
+-- the reply to a line that is too long
+abbrev pub too_long : List ℕ
+too_long = codes "{\"error\":\"E91\",\"name\":\"line-too-long\"}"
+
+-- A line that is too long is answered without the machine.
+abbrev pub AnswersLine : {M : Type 0} → (M → List ℕ → List ℕ → M → Type 0) → M → List ℕ → List ℕ → M → Type 0
+AnswersLine answers m line reply n = MatchBool (nat_lt line_limit (length line)) ((reply ≡ too_long) × (n ≡ m)) (answers m line reply n)
+
+-- The machine may have stood still, or have answered with nobody told.
+abbrev pub MayAnswer : {M : Type 0} → (M → List ℕ → List ℕ → M → Type 0) → M → List ℕ → M → Type 0
+MayAnswer answers m line n = (n ≡ m) ⊎ ((reply : List ℕ) × answers m line reply n)
+
+-- each of these lines was answered, and so many they are
+abbrev pub AnswersAll : {M : Type 0} → (M → List ℕ → List ℕ → M → Type 0) → M → List (List ℕ) → List ℕ → ℕ → M → Type 0
+AnswersAll answers m asked text count n = Replies (AnswersLine answers) m asked text n × (count ≡ length asked)
+
+-- the next line was answered, and of the reply and its line end a front was sent, and not all
+abbrev pub BreaksOff : {M : Type 0} → (M → List ℕ → List ℕ → M → Type 0) → M → List (List ℕ) → List ℕ → M → Type 0
+BreaksOff answers m [] text n = ⊥
+BreaksOff answers m (line ∷ more) text n = (reply : List ℕ) × AnswersLine answers m line reply n × ((k : ℕ) × (k < length (ended reply)) × (text ≡ take k (ended reply)))
+
+-- some of these lines were answered, and perhaps one more, whose reply was not sent whole
+abbrev pub AnswersSome : {M : Type 0} → (M → List ℕ → List ℕ → M → Type 0) → M → List (List ℕ) → List ℕ → ℕ → M → Type 0
+AnswersSome answers m asked text count n = (answered rest : List (List ℕ)) × (sent part : List ℕ) × (between : _)
+    × (asked ≡ answered ++ rest) × AnswersAll answers m answered sent count between × (text ≡ sent ++ part)
+    × (((part ≡ []) × (n ≡ between)) ⊎ BreaksOff answers between rest part n)
+
+-- from the bytes that were read to the text that was written
+abbrev pub Serves : {M : Type 0} → (M → List ℕ → List ℕ → M → Type 0) → SessionEnd → M → List ℕ → List ℕ → M → Type 0
+Serves answers (ends.Done count) m read text n = AnswersAll answers m (lines read) text count n
+Serves answers (ends.ReadFault count) m read text n = AnswersAll answers m (whole_lines read) text count n
+Serves answers (ends.TooManyReads count) m read text n = AnswersAll answers m (whole_lines read) text count n
+Serves answers (ends.WriteFault count) m read text n = AnswersSome answers m (lines read) text count n
+Serves answers (ends.NoMemory count) m read text n = AnswersSome answers m (lines read) text count n

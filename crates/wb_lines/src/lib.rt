@@ -1,0 +1,15 @@
+//! Lines read from any reader, replies sent to any writer, and the session that joins them.
+#![tactic(auto)]
+
+mod buffer;
+mod machine;
+mod sending;
+mod session;
+
+pub use buffer::{LINE_LIMIT, Line, LineBuffer, LineFault, READ_LIMIT, next_line};
+pub use machine::{Machine, SessionEnd};
+pub use sending::{WriteFault, send};
+pub use session::serve_lines;
+
+#[cfg(test)]
+mod tests;

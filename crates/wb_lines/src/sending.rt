@@ -1,0 +1,31 @@
+ghost use Rattle.std.specs.Prelude.{ℕ, ◌<◌, length, take, OnOk, OnErr};
+ghost use Rattle.std.specs.Io.KnownBytes.{Appends};
+
+use std::io::Write;
+use thiserror::Error;
+
+/// A write failed or took nothing.
+#[derive(Clone, Copy, Debug, PartialEq, Eq, Error)]
+#[error("output failed")]
+pub struct WriteFault;
+
+/// Sends the bytes, by as many writes as it takes. After a fault a front of them went out, and not all.
+pub fn send<W: Write>(writer: &mut W, bytes: &[u8]) -> Result<(), WriteFault>
+    ensures sent { OnOk result (Appends (W.contents writer.old) (W.contents writer.new) bytes.now) }
+    ensures part { OnErr result ((n : ℕ) × (n < length bytes.now)
+        × Appends (W.contents writer.old) (W.contents writer.new) (take n bytes.now)) }
+{
+    let mut sent = 0;
+    while sent < bytes.len() {
+        match writer.write(&bytes[sent..]) {
+            Ok(n) => {
+                if n == 0 {
+                    return Err(WriteFault);
+                }
+                sent += n;
+            }
+            Err(_) => return Err(WriteFault),
+        }
+    }
+    Ok(())
+}

@@ -1,0 +1,131 @@
+ghost use Rattle.std.specs.Prelude.{◌≡◌, ◌≢◌, ◌⊎◌, ◌<◌, ℕ, List, [], ◌++◌, length, take, IfOk, OnOk, OnErr};
+ghost use Rattle.std.specs.Io.KnownBytes.{Appends, Consumes, IsAtEnd, Keeps};
+ghost use Rattle.wb_lines.specs.Lines.{ended};
+ghost use Rattle.wb_lines.specs.Reading.{IsText};
+ghost use Rattle.wb_lines.specs.Session.{AnswersLine, MayAnswer, Serves};
+ghost use Rattle.wb_lines.specs.declared.machine.SessionEnd.{SessionEnd};
+
+use crate::buffer::{Line, LineBuffer, LineFault, next_line};
+use crate::machine::{Machine, SessionEnd};
+use crate::sending::{WriteFault, send};
+use std::alloc::{AllocError, Global};
+use std::io::{Read, Write};
+
+const TOO_LONG: &[u8] = b"{\"error\":\"E91\",\"name\":\"line-too-long\"}";
+
+// Why a line is not answered whole.
+#[derive(Clone, Copy)]
+enum Stop {
+    WriteFault,
+    NoMemory,
+}
+
+// The reply to a line that is no end.
+fn reply_to<M: Machine>(
+    alloc: Global,
+    machine: &mut M,
+    line: Line,
+    bytes: &[u8],
+) -> Result<Vec<u8>, AllocError>
+    requires { line ≢ Line.End }
+    ensures ok { IfOk result (λ reply. (text : List ℕ) → IsText line bytes.now text
+        → AnswersLine M.answers machine.old text reply.items machine.new) }
+    ensures err { OnErr result ((text : List ℕ) → IsText line bytes.now text
+        → MayAnswer (AnswersLine M.answers) machine.old text machine.new) }
+{
+    match line {
+        Line::TooLong => Vec::from_slice(alloc, TOO_LONG),
+        _ => machine.answer(bytes),
+    }
+}
+
+// Answers a line: the reply and a line end.
+fn answer_line<M: Machine, W: Write>(
+    alloc: Global,
+    machine: &mut M,
+    writer: &mut W,
+    line: Line,
+    bytes: &[u8],
+) -> Result<(), Stop>
+    requires { line ≢ Line.End }
+    ensures ok { OnOk result ((text : List ℕ) → IsText line bytes.now text → (reply : List ℕ)
+        × AnswersLine M.answers machine.old text reply machine.new
+        × Appends (W.contents writer.old) (W.contents writer.new) (ended reply)) }
+    ensures err { OnErr result ((text : List ℕ) → IsText line bytes.now text
+        → ((machine.new ≡ machine.old) × Appends (W.contents writer.old) (W.contents writer.new) [])
+        ⊎ ((reply : List ℕ) × AnswersLine M.answers machine.old text reply machine.new
+        × ((k : ℕ) × (k < length (ended reply))
+        × Appends (W.contents writer.old) (W.contents writer.new) (take k (ended reply))))) }
+{
+    let mut reply = match reply_to(alloc, machine, line, bytes) {
+        Ok(reply) => reply,
+        Err(_) => return Err(Stop::NoMemory),
+    };
+    if reply.push(b'\n').is_err() {
+        return Err(Stop::NoMemory);
+    }
+    match send(writer, reply.as_slice()) {
+        Ok(()) => Ok(()),
+        Err(_) => Err(Stop::WriteFault),
+    }
+}
+
+// Sends on what a writer holds back, where the next line takes a read.
+fn flush_before_wait<W: Write>(writer: &mut W, buffer: &LineBuffer) -> Result<(), WriteFault>
+    ensures { Keeps (W.contents writer.old) (W.contents writer.new) }
+{
+    if buffer.has_line() {
+        return Ok(());
+    }
+    match writer.flush() {
+        Ok(()) => Ok(()),
+        Err(_) => Err(WriteFault),
+    }
+}
+
+// Sends on what a writer holds back, if it can, where a session ends for another fault.
+fn flush_at_fault<W: Write>(writer: &mut W)
+    ensures { Keeps (W.contents writer.old) (W.contents writer.new) }
+{
+    let _ = writer.flush();
+}
+
+/// Answers each line that is read, in order, until the end of input or a fault. A line that is too
+/// long is answered E91, and the machine stays. A writer that holds bytes back is flushed before
+/// each read and at the end.
+pub fn serve_lines<M: Machine, R: Read, W: Write>(
+    alloc: Global,
+    machine: &mut M,
+    reader: &mut R,
+    writer: &mut W,
+) -> SessionEnd
+    ensures serves { (read : List ℕ) × Consumes (R.remaining reader.old) (R.remaining reader.new) read
+        × ((text : List ℕ) × Appends (W.contents writer.old) (W.contents writer.new) text
+        × Serves M.answers result machine.old read text machine.new) }
+    ensures done { (n : ℕ) → result ≡ SessionEnd.Done n → IsAtEnd (R.remaining reader.new) }
+{
+    let mut buffer = LineBuffer::new(alloc);
+    let mut answered = 0;
+    'lines: loop {
+        if flush_before_wait(writer, &buffer).is_err() {
+            return SessionEnd::WriteFault(answered);
+        }
+        match next_line(reader, &mut buffer) {
+            Ok(Line::End) => return SessionEnd::Done(answered),
+            Ok(line) => match answer_line(alloc, machine, writer, line, buffer.line()) {
+                Ok(()) => answered += 1,
+                Err(Stop::WriteFault) => return SessionEnd::WriteFault(answered),
+                Err(Stop::NoMemory) => {
+                    flush_at_fault(writer);
+                    return SessionEnd::NoMemory(answered);
+                }
+            },
+            Err(LineFault::ReadFault) => return SessionEnd::ReadFault(answered),
+            Err(LineFault::TooManyReads) => return SessionEnd::TooManyReads(answered),
+            Err(LineFault::NoMemory) => {
+                flush_at_fault(writer);
+                return SessionEnd::NoMemory(answered);
+            }
+        }
+    }
+}

@@ -1,0 +1,102 @@
+use super::devices::{Narrow, Pieces};
+use super::{Counter, FIRST_LINES, FIRST_REPLIES};
+use crate::{LineBuffer, LineFault, SessionEnd, WriteFault, next_line, send, serve_lines};
+use std::test::Fail;
+
+// How many of the first bytes end a line.
+fn line_ends(bytes: &[u8]) -> u64 {
+    let mut ends = 0u64;
+    for byte in bytes {
+        if *byte == b'\n' {
+            ends = ends.wrapping_add(1);
+        }
+    }
+    ends
+}
+
+#[test]
+fn answers_whole_lines_before_a_read_fault(rt: HostRuntime) -> Result<(), Fail> {
+    let alloc = rt.alloc();
+    for at in 0..FIRST_LINES.len() {
+        let mut input = Pieces::failing_at(FIRST_LINES, at);
+        let mut output = Vec::new(alloc);
+        let mut machine = Counter { alloc, lines: 0 };
+        let end = serve_lines(alloc, &mut machine, &mut input, &mut output);
+        let whole = line_ends(&FIRST_LINES[..at]);
+        assert_eq!(rt; end, SessionEnd::ReadFault(whole), "at {at}");
+        assert_eq!(rt; machine.lines, whole, "at {at}");
+        let sent = output.len();
+        assert!(rt; sent <= FIRST_REPLIES.len());
+        assert_eq!(rt; output.as_slice(), &FIRST_REPLIES[..sent], "at {at}");
+        assert_eq!(rt; line_ends(output.as_slice()), whole, "at {at}");
+    }
+    Ok(())
+}
+
+#[test]
+fn stops_where_a_write_fails(rt: HostRuntime) -> Result<(), Fail> {
+    let alloc = rt.alloc();
+    for limit in 0..FIRST_REPLIES.len() {
+        for fails in [true, false] {
+            let mut input = FIRST_LINES;
+            let mut output = Narrow::new(alloc, limit, fails);
+            let mut machine = Counter { alloc, lines: 0 };
+            let end = serve_lines(alloc, &mut machine, &mut input, &mut output);
+            let whole = line_ends(&FIRST_REPLIES[..limit]);
+            assert_eq!(rt; end, SessionEnd::WriteFault(whole), "at {limit}");
+            assert_eq!(rt; machine.lines, whole.wrapping_add(1), "at {limit}");
+            assert_eq!(rt; output.taken.as_slice(), &FIRST_REPLIES[..limit]);
+        }
+    }
+    let mut input = FIRST_LINES;
+    let mut output = Narrow::new(alloc, FIRST_REPLIES.len(), true);
+    let mut machine = Counter { alloc, lines: 0 };
+    let end = serve_lines(alloc, &mut machine, &mut input, &mut output);
+    assert_eq!(rt; end, SessionEnd::Done(3));
+    Ok(())
+}
+
+// A writer that takes 30 bytes takes one reply whole; a reader that fails in the third line leaves two answered.
+#[test]
+fn failing_devices(rt: HostRuntime) -> Result<(), Fail> {
+    let alloc = rt.alloc();
+    let mut input = FIRST_LINES;
+    let mut output = Narrow::new(alloc, 30, true);
+    let mut machine = Counter { alloc, lines: 0 };
+    let end = serve_lines(alloc, &mut machine, &mut input, &mut output);
+    assert_eq!(rt; end, SessionEnd::WriteFault(1));
+    assert_eq!(rt; machine.lines, 2);
+    let mut input = Pieces::failing_at(b"one\nseventh\n0123456789\n", 22);
+    let mut output = Vec::new(alloc);
+    let mut machine = Counter { alloc, lines: 0 };
+    let end = serve_lines(alloc, &mut machine, &mut input, &mut output);
+    assert_eq!(rt; end, SessionEnd::ReadFault(2));
+    assert_eq!(rt; output.len(), 34);
+    assert_eq!(rt; machine.lines, 2);
+    Ok(())
+}
+
+#[test]
+fn gives_a_fault_again(rt: HostRuntime) -> Result<(), Fail> {
+    let mut input = Pieces::failing_at(b"a\nb\n", 3);
+    let mut buffer = LineBuffer::new(rt.alloc());
+    assert!(rt; next_line(&mut input, &mut buffer).is_ok());
+    assert_eq!(rt;
+        next_line(&mut input, &mut buffer),
+        Err(LineFault::ReadFault)
+    );
+    assert_eq!(rt;
+        next_line(&mut input, &mut buffer),
+        Err(LineFault::ReadFault)
+    );
+    Ok(())
+}
+
+#[test]
+fn sends_by_single_bytes(rt: HostRuntime) -> Result<(), Fail> {
+    let mut output = Narrow::new(rt.alloc(), 4, false);
+    assert_eq!(rt; send(&mut output, b"abc"), Ok(()));
+    assert_eq!(rt; send(&mut output, b"de"), Err(WriteFault));
+    assert_eq!(rt; output.taken.as_slice(), b"abcd".as_slice());
+    Ok(())
+}

@@ -1,0 +1,11 @@
+pub mod Tokens
+pub mod Integer
+pub mod Spelling
+pub mod Range
+pub mod RangeText
+pub mod Rectangle
+pub mod Index
+pub mod Mapping
+pub mod Set
+pub mod Domain
+pub mod Said

@@ -1,0 +1,27 @@
+//! The literals of ranges, domains, indices and mappings, read from texts exactly by their grammar.
+//!
+//! A reader gives what was written: bounds, counts, strides, lists. What it means, and the limits that it has to
+//! keep, come after it.
+#![tactic(auto)]
+
+mod domain;
+mod index;
+mod integer;
+mod mapping;
+mod printed;
+mod range;
+mod rectangle;
+mod set;
+mod tokens;
+
+pub use domain::{DomainLiteral, read_domain};
+pub use index::{GridLiteral, IndexLiteral, grid_at, index_at, read_index};
+pub use integer::{integer_at, integer_spelling, natural_at};
+pub use mapping::{MappingLiteral, mapping_at, read_mapping};
+pub use printed::{print_range, printed_is_read};
+pub use range::{RangeLiteral, Stride, Upper, range_at, read_range};
+pub use rectangle::{RectangleLiteral, read_rectangle, rectangle_at};
+pub use set::{SetLiteral, read_set, set_at};
+
+#[cfg(test)]
+mod tests;

@@ -1,0 +1,3 @@
+mod mappings;
+mod ranges;
+mod sets;

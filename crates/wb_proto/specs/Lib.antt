@@ -1,0 +1,5 @@
+pub mod Fields
+pub mod Literals
+pub mod Requests
+pub mod Replies
+pub mod Machine

@@ -1,0 +1,82 @@
+-- The machine of requests and replies over a history: what is replied to a request, and what the history is next. A refusal
+-- and a query leave it as it was.
+use Rattle.std.specs.Prelude.{◌≡◌, ◌-◌, ◌⊎◌, ℕ, List, [], ◌∷◌, ◌++◌, true, Option, Some, None, Result, Ok, Err}
+use Rattle.selective_undo.specs.History.{replay}
+use Rattle.wb_book.specs.Cells.{written_more}
+use Rattle.wb_edit.specs.Commands.{meaning}
+use Rattle.wb_edit.specs.declared.edit.Edit.{Edit}
+use Rattle.wb_history.specs.Past.{Past, meant, out_of_force, into_force}
+use Rattle.wb_history.specs.Queries.{answer}
+use Rattle.wb_history.specs.Replies.{EditReply, UndoReply, LastReply, RedoReply, ByNumber}
+use Rattle.wb_history.specs.declared.query.Query.{Query}
+use Rattle.wb_history.specs.declared.refusal.Refusal.{Refusal}
+use Rattle.wb_history.specs.declared.refusal.Refusal.TheVariants.{NoMemory}
+use Rattle.wb_proto.specs.Replies.{reply_of}
+use Rattle.wb_proto.specs.Requests.{request}
+use Rattle.wb_proto.specs.declared.replies.reply.Reply.{Reply}
+use Rattle.wb_proto.specs.declared.replies.reply.Reply.TheVariants.{Edited, Undone, Redone, Answered, Refused}
+use Rattle.wb_proto.specs.declared.requests.request.Request.{Request}
+use Rattle.wb_proto.specs.declared.requests.request.Request.TheVariants.{Change, Undo, Redo, Ask}
+
+-- An edit comes last, in force; n cells were set.
+pub record Appends (e : Edit) (n : ℕ) (old new : Past) : Type 0 where
+  pub entries : new.entries ≡ old.entries ++ record { edit = e; in_force = true } ∷ []
+  pub writes : new.writes ≡ written_more old.writes n
+
+-- Edit k, from 1, goes out of force; n cells were set back.
+pub record TakesOut (k n : ℕ) (old new : Past) : Type 0 where
+  pub entries : new.entries ≡ out_of_force (k - 1) old.entries
+  pub writes : new.writes ≡ written_more old.writes n
+
+-- Edit k, from 1, comes into force in its own place; n cells were set.
+pub record PutsIn (k n : ℕ) (old new : Past) : Type 0 where
+  pub entries : new.entries ≡ into_force (k - 1) old.entries
+  pub writes : new.writes ≡ written_more old.writes n
+
+abbrev pub Changes : Past → Edit → Reply → Past → Type 0
+Changes p e (Edited k n) q = EditReply (meant p.entries) (meaning e) (Ok (k, n)) × Appends e n p q
+Changes p e (Refused why) q = EditReply (meant p.entries) (meaning e) (Err why) × (q ≡ p)
+Changes p e _ q = ⊥
+
+abbrev pub UndoesNumber : Past → ℕ → Reply → Past → Type 0
+UndoesNumber p k (Undone j n) q = (j ≡ k) × ByNumber (UndoReply (meant p.entries)) k (Ok n) × TakesOut k n p q
+UndoesNumber p k (Refused why) q = ByNumber (UndoReply (meant p.entries)) k (Err why) × (q ≡ p)
+UndoesNumber p k _ q = ⊥
+
+abbrev pub UndoesLatest : Past → Reply → Past → Type 0
+UndoesLatest p (Undone k n) q = LastReply (meant p.entries) (Ok (k, n)) × TakesOut k n p q
+UndoesLatest p (Refused why) q = LastReply (meant p.entries) (Err why) × (q ≡ p)
+UndoesLatest p _ q = ⊥
+
+abbrev pub Redoes : Past → ℕ → Reply → Past → Type 0
+Redoes p k (Redone j n) q = (j ≡ k) × ByNumber (RedoReply (meant p.entries)) k (Ok n) × PutsIn k n p q
+Redoes p k (Refused why) q = ByNumber (RedoReply (meant p.entries)) k (Err why) × (q ≡ p)
+Redoes p k _ q = ⊥
+
+abbrev pub Answers : Past → Query → Reply → Past → Type 0
+Answers p asked (Answered a) q = (answer (replay (meant p.entries)) p.entries asked ≡ Ok a) × (q ≡ p)
+Answers p asked (Refused why) q = (answer (replay (meant p.entries)) p.entries asked ≡ Err why) × (q ≡ p)
+Answers p asked _ q = ⊥
+
+-- One step: from a history, by a request, to a reply and the next history.
+abbrev pub Step : Past → Request → Reply → Past → Type 0
+Step p (Change e) r q = Changes p e r q
+Step p (Undo (Some k)) r q = UndoesNumber p k r q
+Step p (Undo None) r q = UndoesLatest p r q
+Step p (Redo k) r q = Redoes p k r q
+Step p (Ask asked) r q = Answers p asked r q
+
+-- What was read is answered by a step, or by why it is no request.
+abbrev pub StepIfRead : Past → Result Request Refusal → Reply → Past → Type 0
+StepIfRead p (Ok asked) r q = Step p asked r q
+StepIfRead p (Err why) r q = (r ≡ Refused why) × (q ≡ p)
+
+-- Memory ran out, and nothing changed. This may be the answer to any line.
+abbrev pub NothingDone : Past → Reply → Past → Type 0
+NothingDone p r q = (r ≡ Refused NoMemory) × (q ≡ p)
+
+-- A line is answered with the text of a reply to its request.
+pub record AnswersLine (p : Past) (line text : List ℕ) (q : Past) : Type 0 where
+  pub reply : Reply
+  pub is_reply : StepIfRead p (request line) reply q ⊎ NothingDone p reply q
+  pub is_text : text ≡ reply_of reply

@@ -1,0 +1,101 @@
+-- The request that a line is, or why it is none: the names, numbers and texts of all its fields are read first, then its
+-- literals, and then their limits are judged.
+use Rattle.std.specs.Prelude.{ℕ, List, codes, Bool, true, false, Option, Some, None, Result, Ok, Err, bytes_eq, nat_eq, if◌then◌else◌}
+use Rattle.std.specs.Str.{is_utf8}
+use Rattle.serde_json.specs.Data.{Data}
+use Rattle.serde_json.specs.Read.{read}
+use Rattle.wb_edit.specs.declared.edit.Edit.TheVariants.{Domain, Array, Set}
+use Rattle.wb_history.specs.declared.query.Query.TheVariants.{Get, State}
+use Rattle.wb_history.specs.declared.refusal.Refusal.{Refusal}
+use Rattle.wb_history.specs.declared.refusal.Refusal.TheVariants.{BadRequest}
+use Rattle.wb_proto.specs.Fields.{◌>>=◌, field_count, has_fields, text_field, i64_field, u64_field, name_field, index_field}
+use Rattle.wb_proto.specs.Literals.{literal_bounds, domain_within}
+use Rattle.wb_proto.specs.declared.requests.request.Request.{Request}
+use Rattle.wb_proto.specs.declared.requests.request.Request.TheVariants.{Change, Undo, Redo, Ask}
+
+-- {"op":"domain","d":NAME,"is":LITERAL}
+abbrev pub domain_of : Data → Result Request Refusal
+domain_of d = do
+  unit ← has_fields 3 d
+  name ← name_field (codes "d") d
+  text ← text_field (codes "is") d
+  bounds ← literal_bounds text
+  ranges ← domain_within bounds
+  Ok (Change (Domain name ranges))
+
+-- {"op":"array","a":NAME,"d":NAME}
+abbrev pub array_of : Data → Result Request Refusal
+array_of d = do
+  unit ← has_fields 3 d
+  name ← name_field (codes "a") d
+  domain ← name_field (codes "d") d
+  Ok (Change (Array name domain))
+
+-- {"op":"set","a":NAME,"i":INDEX,"v":INTEGER}
+abbrev pub set_of : Data → Result Request Refusal
+set_of d = do
+  unit ← has_fields 4 d
+  name ← name_field (codes "a") d
+  index ← index_field (codes "i") d
+  value ← i64_field (codes "v") d
+  Ok (Change (Set name index value))
+
+-- {"op":"undo","k":NUMBER}
+abbrev pub undo_by_number : Data → Result Request Refusal
+undo_by_number d = do
+  unit ← has_fields 2 d
+  number ← u64_field (codes "k") d
+  Ok (Undo (Some number))
+
+-- the same with or without the field `k`
+abbrev pub undo_of : Data → Result Request Refusal
+undo_of d = if nat_eq (field_count d) 1 then Ok (Undo None) else undo_by_number d
+
+-- {"op":"redo","k":NUMBER}
+abbrev pub redo_of : Data → Result Request Refusal
+redo_of d = do
+  unit ← has_fields 2 d
+  number ← u64_field (codes "k") d
+  Ok (Redo number)
+
+-- {"op":"get","a":NAME,"i":INDEX}
+abbrev pub get_of : Data → Result Request Refusal
+get_of d = do
+  unit ← has_fields 3 d
+  name ← name_field (codes "a") d
+  index ← index_field (codes "i") d
+  Ok (Ask (Get name index))
+
+-- {"op":"state","k":NUMBER}
+abbrev pub state_of : Data → Result Request Refusal
+state_of d = do
+  unit ← has_fields 2 d
+  number ← u64_field (codes "k") d
+  Ok (Ask (State number))
+
+-- by its op, which is one of these
+abbrev pub by_op : List ℕ → Data → Result Request Refusal
+by_op op d =
+    if bytes_eq op (codes "domain") then domain_of d else
+    if bytes_eq op (codes "array") then array_of d else
+    if bytes_eq op (codes "set") then set_of d else
+    if bytes_eq op (codes "undo") then undo_of d else
+    if bytes_eq op (codes "redo") then redo_of d else
+    if bytes_eq op (codes "get") then get_of d else
+    if bytes_eq op (codes "state") then state_of d else
+    Err BadRequest
+
+-- the request that a JSON value is
+abbrev pub request_of : Data → Result Request Refusal
+request_of d = do
+  op ← text_field (codes "op") d
+  by_op op d
+
+-- the request of a text that is JSON, or none
+abbrev pub of_json : Option Data → Result Request Refusal
+of_json (Some d) = request_of d
+of_json None = Err BadRequest
+
+-- the request that a line is: UTF-8 that is JSON
+abbrev pub request : List ℕ → Result Request Refusal
+request line = if is_utf8 line then of_json (read line) else Err BadRequest

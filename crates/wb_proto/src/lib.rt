@@ -1,0 +1,13 @@
+//! Requests and replies as JSON lines, and sessions that answer one with the other.
+#![tactic(auto)]
+
+mod replies;
+mod requests;
+mod serving;
+
+pub use crate::replies::reply::Reply;
+pub use crate::replies::text::reply_text;
+pub use crate::requests::reading::read_request;
+pub use crate::requests::request::Request;
+pub use crate::serving::lines::session;
+pub use crate::serving::steps::answer_request;

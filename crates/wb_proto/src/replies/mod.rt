@@ -1,0 +1,4 @@
+//! What a request is answered.
+
+pub mod reply;
+pub mod text;

@@ -1,0 +1,35 @@
+ghost use Rattle.std.specs.Prelude.{◌≡◌, IfOk};
+
+use std::alloc::Global;
+use wb_history::{Answer, Refusal};
+use wb_range::NoMemory;
+
+/// What a request is answered.
+#[derive(Debug, PartialEq, Drop)]
+pub enum Reply {
+    /// The number of a new edit, and how many cells it changed.
+    Edited(u64, usize),
+    /// The number of the edit that was undone, and how many cells were set back.
+    Undone(u64, usize),
+    /// The number of the edit that was redone, and how many cells it changed.
+    Redone(u64, usize),
+    /// The answer of a query.
+    Answered(Answer),
+    /// Why nothing was done.
+    Refused(Refusal),
+}
+
+impl Reply {
+    /// An equal reply, or `NoMemory`.
+    pub fn copy(&self, _alloc: Global) -> Result<Reply, NoMemory>
+        ensures { IfOk result (λ r. r ≡ self.now) }
+    {
+        match self {
+            Reply::Edited(edit, n) => Ok(Reply::Edited(*edit, *n)),
+            Reply::Undone(edit, n) => Ok(Reply::Undone(*edit, *n)),
+            Reply::Redone(edit, n) => Ok(Reply::Redone(*edit, *n)),
+            Reply::Answered(answer) => Ok(Reply::Answered(*answer)),
+            Reply::Refused(why) => Ok(Reply::Refused(*why)),
+        }
+    }
+}

@@ -1,0 +1,134 @@
+// Fields of a JSON object, by their names.
+ghost use Rattle.std.specs.Prelude.{◌≡◌, ℕ, List, codes};
+ghost use Rattle.std.specs.Result.{result_map_both};
+ghost use Rattle.serde_json.specs.View.{view, items_view};
+ghost use Rattle.wb_proto.specs.Fields.{field_count, has_fields, text_field, i64_field, u64_field, name_of, name_field, integer_of, pair_of, triple_of, tuple_of, label_of, index_of, index_field};
+
+use serde_json::Value;
+use wb_assoc::Label;
+use wb_book::{AnyIndex, Index, Name, Point};
+use wb_history::Refusal;
+
+/// How many fields an object has.
+pub(crate) fn field_count(value: &Value) -> usize
+    ensures { result ≡ field_count (view value.now) }
+{
+    match value.as_object() {
+        Some(fields) => fields.len(),
+        None => 0,
+    }
+}
+
+/// That an object has so many fields.
+pub(crate) fn has_fields(value: &Value, count: usize) -> Result<(), Refusal>
+    ensures { result ≡ has_fields count (view value.now) }
+{
+    if field_count(value) == count {
+        Ok(())
+    } else {
+        Err(Refusal::BadRequest)
+    }
+}
+
+/// A field that is a text.
+pub(crate) fn text_field<'a>(value: &'a Value, key: &str) -> Result<&'a str, Refusal>
+    ensures { result_map_both (λ s. s.now) (λ e. e) result ≡ text_field key.now (view value.now) }
+{
+    value.get(key).and_then(Value::as_str).ok_or(Refusal::BadRequest)
+}
+
+/// A field that is an `i64`.
+pub(crate) fn i64_field(value: &Value, key: &str) -> Result<i64, Refusal>
+    ensures { result ≡ i64_field key.now (view value.now) }
+{
+    value.get(key).and_then(Value::as_i64).ok_or(Refusal::BadRequest)
+}
+
+/// A field that is a `u64`.
+pub(crate) fn u64_field(value: &Value, key: &str) -> Result<u64, Refusal>
+    ensures { result ≡ u64_field key.now (view value.now) }
+{
+    value.get(key).and_then(Value::as_u64).ok_or(Refusal::BadRequest)
+}
+
+fn name_of(text: &str) -> Result<Name, Refusal>
+    ensures { result ≡ name_of text.now }
+{
+    match Name::new(text) {
+        Ok(name) => Ok(name),
+        Err(_) => Err(Refusal::BadRequest),
+    }
+}
+
+/// A field that is a name.
+pub(crate) fn name_field(value: &Value, key: &str) -> Result<Name, Refusal>
+    ensures { result ≡ name_field key.now (view value.now) }
+{
+    let text = text_field(value, key)?;
+    name_of(text)
+}
+
+fn pair_of(first: &Value, second: &Value) -> Option<Index>
+    ensures { result ≡ pair_of (view first.now) (view second.now) }
+{
+    let i = first.as_i64()?;
+    let j = second.as_i64()?;
+    Some(Index::Point(Point::pair(i, j)))
+}
+
+fn triple_of(first: &Value, second: &Value, third: &Value) -> Option<Index>
+    ensures { result ≡ triple_of (view first.now) (view second.now) (view third.now) }
+{
+    let i = first.as_i64()?;
+    let j = second.as_i64()?;
+    let k = third.as_i64()?;
+    Some(Index::Point(Point::triple(i, j, k)))
+}
+
+// Two or three integers as a point.
+fn tuple_of(items: &[Value]) -> Option<Index>
+    ensures { result ≡ tuple_of (items_view items.now) }
+{
+    match items {
+        [first, second] => pair_of(first, second),
+        [first, second, third] => triple_of(first, second, third),
+        [] => None,
+        [_] => None,
+        [_, _, _, _, ..] => None,
+    }
+}
+
+fn label_of(text: &str) -> Option<Index>
+    ensures { result ≡ label_of text.now }
+{
+    match Label::new(text) {
+        Ok(label) => Some(Index::Text(label)),
+        Err(_) => None,
+    }
+}
+
+fn index_of(value: &Value) -> Option<Index>
+    ensures { result ≡ index_of (view value.now) }
+{
+    match value {
+        Value::Number(number) => {
+            let i = number.as_i64()?;
+            Some(Index::Point(Point::single(i)))
+        }
+        Value::Array(items) => tuple_of(items.as_slice()),
+        Value::String(text) => label_of(text.as_str()),
+        Value::Null => None,
+        Value::Bool(_) => None,
+        Value::Object(_) => None,
+    }
+}
+
+/// A field that is an index: an integer, an array of two or three of them, or a text.
+pub(crate) fn index_field(value: &Value, key: &str) -> Result<AnyIndex, Refusal>
+    ensures { result ≡ index_field key.now (view value.now) }
+{
+    match value.get(key).and_then(index_of) {
+        Some(index) => Ok(AnyIndex::new(index)),
+        None => Err(Refusal::BadRequest),
+    }
+}

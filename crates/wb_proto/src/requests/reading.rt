@@ -1,0 +1,147 @@
+// Lines as requests.
+ghost use Rattle.std.specs.Prelude.{◌≡◌, ◌≢◌, codes, IfOk, IfErr, Ok, Err};
+ghost use Rattle.serde_json.specs.Errors.{IsMemory};
+ghost use Rattle.serde_json.specs.View.{view};
+ghost use Rattle.wb_proto.specs.Requests.{domain_of, array_of, set_of, undo_by_number, undo_of, redo_of, get_of, state_of, by_op, request_of, request};
+
+use crate::requests::fields::{
+    field_count, has_fields, i64_field, index_field, name_field, text_field, u64_field,
+};
+use crate::requests::literals::{domain_within, literal_bounds};
+use crate::requests::request::Request;
+use serde_json::{Category, Error, Value};
+use std::alloc::Global;
+use wb_edit::Edit;
+use wb_history::{Query, Refusal};
+
+fn domain_of(value: &Value) -> Result<Request, Refusal>
+    ensures { result ≡ domain_of (view value.now) }
+{
+    has_fields(value, 3)?;
+    let name = name_field(value, "d")?;
+    let text = text_field(value, "is")?;
+    let bounds = literal_bounds(text)?;
+    let ranges = domain_within(bounds)?;
+    Ok(Request::Change(Edit::Domain(name, ranges)))
+}
+
+fn array_of(value: &Value) -> Result<Request, Refusal>
+    ensures { result ≡ array_of (view value.now) }
+{
+    has_fields(value, 3)?;
+    let name = name_field(value, "a")?;
+    let domain = name_field(value, "d")?;
+    Ok(Request::Change(Edit::Array(name, domain)))
+}
+
+fn set_of(value: &Value) -> Result<Request, Refusal>
+    ensures { result ≡ set_of (view value.now) }
+{
+    has_fields(value, 4)?;
+    let name = name_field(value, "a")?;
+    let index = index_field(value, "i")?;
+    let number = i64_field(value, "v")?;
+    Ok(Request::Change(Edit::Set(name, index, number)))
+}
+
+fn undo_by_number(value: &Value) -> Result<Request, Refusal>
+    ensures { result ≡ undo_by_number (view value.now) }
+{
+    has_fields(value, 2)?;
+    let number = u64_field(value, "k")?;
+    Ok(Request::Undo(Some(number)))
+}
+
+fn undo_of(value: &Value) -> Result<Request, Refusal>
+    ensures { result ≡ undo_of (view value.now) }
+{
+    if field_count(value) == 1 {
+        Ok(Request::Undo(None))
+    } else {
+        undo_by_number(value)
+    }
+}
+
+fn redo_of(value: &Value) -> Result<Request, Refusal>
+    ensures { result ≡ redo_of (view value.now) }
+{
+    has_fields(value, 2)?;
+    let number = u64_field(value, "k")?;
+    Ok(Request::Redo(number))
+}
+
+fn get_of(value: &Value) -> Result<Request, Refusal>
+    ensures { result ≡ get_of (view value.now) }
+{
+    has_fields(value, 3)?;
+    let name = name_field(value, "a")?;
+    let index = index_field(value, "i")?;
+    Ok(Request::Ask(Query::Get(name, index)))
+}
+
+fn state_of(value: &Value) -> Result<Request, Refusal>
+    ensures { result ≡ state_of (view value.now) }
+{
+    has_fields(value, 2)?;
+    let number = u64_field(value, "k")?;
+    Ok(Request::Ask(Query::State(number)))
+}
+
+fn by_op(op: &str, value: &Value) -> Result<Request, Refusal>
+    ensures { result ≡ by_op op.now (view value.now) }
+{
+    if op == "domain" {
+        return domain_of(value);
+    }
+    if op == "array" {
+        return array_of(value);
+    }
+    if op == "set" {
+        return set_of(value);
+    }
+    if op == "undo" {
+        return undo_of(value);
+    }
+    if op == "redo" {
+        return redo_of(value);
+    }
+    if op == "get" {
+        return get_of(value);
+    }
+    if op == "state" {
+        return state_of(value);
+    }
+    Err(Refusal::BadRequest)
+}
+
+fn request_of(value: &Value) -> Result<Request, Refusal>
+    ensures { result ≡ request_of (view value.now) }
+{
+    let op = text_field(value, "op")?;
+    by_op(op, value)
+}
+
+// Why a text is no JSON, or that memory ran out.
+fn refusal_of(error: &Error) -> Refusal
+    ensures memory { IsMemory error.now → result ≡ Refusal.NoMemory }
+    ensures other { ¬ IsMemory error.now → result ≡ Refusal.BadRequest }
+{
+    if error.classify() == Category::Memory {
+        Refusal::NoMemory
+    } else {
+        Refusal::BadRequest
+    }
+}
+
+/// The request that a line is, of any length: UTF-8 that is JSON (RFC 8259), an object with `op` and exactly the
+/// fields of that op. Refused with E01 for the request, E02 for a literal, E09 for a limit, the first of these that any
+/// field has; `NoMemory` (E90) may stand for any answer.
+pub fn read_request(alloc: Global, line: &[u8]) -> Result<Request, Refusal>
+    ensures ok { IfOk result (λ r. request line.now ≡ Ok r) }
+    ensures err { IfErr result (λ why. why ≢ Refusal.NoMemory → request line.now ≡ Err why) }
+{
+    match Value::from_slice(alloc, line) {
+        Ok(value) => request_of(&value),
+        Err(error) => Err(refusal_of(&error)),
+    }
+}

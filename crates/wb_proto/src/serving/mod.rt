@@ -1,0 +1,5 @@
+//! Requests answered by a history, one after another.
+
+pub mod lines;
+pub mod machine;
+pub mod steps;
