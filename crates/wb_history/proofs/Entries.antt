@@ -74,8 +74,8 @@ module _ (es : List kept.Entry) (k : ℕ) (x : kept.Entry) (is : slice_get es k 
       elim (kept_in x) as (λ o. kept_in x ≡ o → Some why ≡ undo_blocker es k o → UndoReply (entries_meant es) k (Err why)) [
         | Some f ↦ λ has d. blocked_reply s f (first_from (blocks_undo f.before) (k + 2) (drop (k + 1) (kept_all es))) why shows has refl d
         | None ↦ λ has d.
-          let same : why ≡ NotInForce = cc in
-          rw same (meaning x.edit, ap (λ h. slice_get h k) (sym (history-log es)) ∙ get-map entry_of (log es) k ∙ ap (option_map entry_of) (log_at es k x is ∙ ap (λ o. Some (record { edit = meaning x.edit; kept = o })) has))
+            let same : why ≡ NotInForce = cc in
+            rw same (meaning x.edit, ap (λ h. slice_get h k) (sym (history-log es)) ∙ get-map entry_of (log es) k ∙ ap (option_map entry_of) (log_at es k x is ∙ ap (λ o. Some (record { edit = meaning x.edit; kept = o })) has))
       ] refl e
 
   -- ---- the edit is taken back

@@ -81,7 +81,7 @@ latest_refused s es p NoSuchEdit shows latest reply =
 latest_refused s es p NotInForce shows latest reply =
     let x = here_is (slice_get es p) latest.0 (sym (get-map kept_in es p) ∙ latest.1) in
     let there = get-map (λ y. entry_at y.edit y.in_force) (numbers es) p ∙ ap (option_map (λ y. entry_at y.edit y.in_force)) (get-map numbered es p ∙ ap (option_map numbered) x.1)
-        ∙ ap (λ b. Some (entry_at x.0.edit b)) (on_of x.0.kept latest.0 x.2) in
+    ∙ ap (λ b. Some (entry_at x.0.edit b)) (on_of x.0.kept latest.0 x.2) in
     let same : Some (undone reply.0) ≡ Some (entry_at x.0.edit true) = sym reply.1 ∙ there in
     cc
 latest_refused s es p (Blocked by) shows latest (j, number, least) =

@@ -76,9 +76,12 @@ module _ (s : Cells) (es : List kept.Entry) (k : ℕ) (x : kept.Entry) (shows : 
     pub in_place_reply : (why : command_refusal.Refusal) → outcome (meaning x.edit) s ≡ Err why → redo_blocker es k (reads (meaning x.edit) s) (written (outcome (meaning x.edit) s)) ≡ None → RedoReply (entries_meant es) k (Err (RefusedInPlace why))
     in_place_reply why refused none =
         let free = redo_free (traces (history (log es))) k (k + 2) (trace (meaning x.edit) s) (first_is None none) in
-        let P : List (Entry workbook) → Type 0 = λ h. (j : ℕ) → BlocksRedo (traces h) k (trace (meaning x.edit) (replay h)) j → ⊥ in
-        (meaning x.edit, out_at, ap (outcome (meaning x.edit)) (sym (shows.shown ∙ ap replay (history-log es))) ∙ refused,
-          subst P (history-log es) (subst (λ u. (j : ℕ) → BlocksRedo (traces (history (log es))) k (trace (meaning x.edit) u) j → ⊥) shows.shown free))
+        let P : List (Entry workbook) → Type 0 = λ h. (j : ℕ) → BlocksRedo (traces h) k (trace (meaning x.edit) (replay h)) j → ⊥ in (
+          meaning x.edit,
+          out_at,
+          ap (outcome (meaning x.edit)) (sym (shows.shown ∙ ap replay (history-log es))) ∙ refused,
+          subst P (history-log es) (subst (λ u. (j : ℕ) → BlocksRedo (traces (history (log es))) k (trace (meaning x.edit) u) j → ⊥) shows.shown free),
+        )
 
     pub stopped_reply : (stop : PlanErr) → IsPlan (meaning x.edit) s (Err stop) → RedoReply (entries_meant es) k (Err (stopped_refusal es k stop))
     stopped_reply PlanNoMemory plan = tt

@@ -60,11 +60,7 @@ fn blocks_redo(x: &Entry, reads: &[Pattern], delta: &[CellChange]) -> bool
 }
 
 /// The number of the first edit in force that needs one that wrote the cells.
-pub(crate) fn first_to_block_undo(
-    later: &[Entry],
-    from: u64,
-    before: &[CellChange],
-) -> Option<u64>
+pub(crate) fn first_to_block_undo(later: &[Entry], from: u64, before: &[CellChange]) -> Option<u64>
     requires { from + length later.now < 2 ^ 64 }
     ensures { result ≡ first_from (blocks_undo before.now) from (kept_all later.now) }
 {

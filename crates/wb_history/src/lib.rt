@@ -12,3 +12,6 @@ mod steps;
 pub use crate::history::History;
 pub use crate::query::{Answer, Query};
 pub use crate::refusal::Refusal;
+
+#[cfg(test)]
+mod tests;

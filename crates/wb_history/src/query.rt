@@ -24,11 +24,7 @@ pub enum Answer {
 }
 
 /// The element at an index of an array, or why there is none.
-pub(crate) fn element_of(
-    book: &Book,
-    array: Name,
-    index: AnyIndex,
-) -> Result<i64, wb_edit::Refusal>
+pub(crate) fn element_of(book: &Book, array: Name, index: AnyIndex) -> Result<i64, wb_edit::Refusal>
     ensures { result ≡ get_answer book.now.cells array index }
 {
     let (_domain, kind) = judgements::array_kind(book.get(Cell::Object(array)))?;

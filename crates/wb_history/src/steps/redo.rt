@@ -77,12 +77,7 @@ fn refusal_in_place(entries: &[Entry], at: usize, stop: PlanErr) -> Refusal
 }
 
 /// Makes the changes of an edit again.
-fn put_in(
-    book: &mut Book,
-    entry: &mut Entry,
-    delta: Delta,
-    foot: Foot,
-) -> Result<(), NoMemory>
+fn put_in(book: &mut Book, entry: &mut Entry, delta: Delta, foot: Foot) -> Result<(), NoMemory>
     requires { IsWellFormed (apply delta book.old.cells) }
     ensures entry { OnOk result (entry.new ≡ record { edit = entry.old.edit; kept = Some (record { foot = foot; inverse = inverse delta book.old.cells }) }) }
     ensures cells { OnOk result (book.new.cells ≡ apply delta book.old.cells) }

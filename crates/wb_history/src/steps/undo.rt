@@ -58,11 +58,7 @@ fn take_back(book: &mut Book, entry: &mut Entry) -> Result<usize, Refusal>
 }
 
 /// Undoes the edit at a place.
-pub(crate) fn undo_at(
-    book: &mut Book,
-    entries: &mut [Entry],
-    at: usize,
-) -> Result<usize, Refusal>
+pub(crate) fn undo_at(book: &mut Book, entries: &mut [Entry], at: usize) -> Result<usize, Refusal>
     requires in_log { at < length entries.old }
     requires few { length entries.old < 2 ^ 63 }
     requires kept { Shows entries.old book.old.cells }
@@ -96,10 +92,7 @@ fn latest(entries: &[Entry]) -> Option<usize>
 }
 
 /// Undoes the latest edit in force: its number, and how many cells it sets back.
-pub(crate) fn undo_latest(
-    book: &mut Book,
-    entries: &mut [Entry],
-) -> Result<(u64, usize), Refusal>
+pub(crate) fn undo_latest(book: &mut Book, entries: &mut [Entry]) -> Result<(u64, usize), Refusal>
     requires few { length entries.old < 2 ^ 63 }
     requires kept { Shows entries.old book.old.cells }
     requires valid { AreValid (numbers entries.old) }

@@ -8,4 +8,4 @@ pub returns : goal.returns
 returns c =
     blocker_is c.args.entries.now c.args.at c.args.foot.now c.args.delta.now c.later_than-later.result.now c.first_to_block_redo.result c.later_than-later.ensures
     (c.first_to_block_redo.ensures ∙ ap (λ rs. first_from (blocks_redo (foot rs c.changes.result.now)) (c.args.at + 2) (kept_all c.later_than-later.result.now)) c.reads.ensures
-      ∙ ap (λ xs. first_from (blocks_redo (foot c.args.foot.now xs)) (c.args.at + 2) (kept_all c.later_than-later.result.now)) c.changes.ensures.same)
+    ∙ ap (λ xs. first_from (blocks_redo (foot c.args.foot.now xs)) (c.args.at + 2) (kept_all c.later_than-later.result.now)) c.changes.ensures.same)
