@@ -15,24 +15,28 @@ pub struct Kept {
     pub second: bool,
 }
 
+/// The keys of either set.
 pub const UNION: Kept = Kept {
     first: true,
     both: true,
     second: true,
 };
 
+/// The keys of both sets.
 pub const INTERSECTION: Kept = Kept {
     first: false,
     both: true,
     second: false,
 };
 
+/// The keys that the second set doesn't have.
 pub const DIFFERENCE: Kept = Kept {
     first: true,
     both: false,
     second: false,
 };
 
+/// The keys of exactly one of the sets.
 pub const SYMMETRIC_DIFFERENCE: Kept = Kept {
     first: true,
     both: false,

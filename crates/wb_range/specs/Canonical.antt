@@ -1,4 +1,5 @@
--- the canonical spelling of a range, by its bounds and its stride (this repository's own: each sequence has one)
+-- the canonical spelling of a range, by its bounds and its stride (this repository's own: each
+-- sequence has one)
 use Rattle.std.specs.Prelude.{◌≡◌, ◌≢◌, ℤ, pos, List, [], ◌∷◌, None}
 use Rattle.std.specs.List.{fold}
 use Rattle.std.specs.Int.{int_min, int_max}

@@ -1,5 +1,5 @@
-//! The arithmetic of ranges: where the congruent integers between two bounds begin, how many they are, and how many
-//! strides lead from one integer to another.
+//! The arithmetic of ranges: where the congruent integers between two bounds begin, how many they
+//! are, and how many strides lead from one integer to another.
 ghost use Rattle.std.specs.Prelude.{◌≡◌, ◌≢◌, ℕ, ◌+◌, ◌-◌, ◌*◌, ◌^◌, ◌<◌, ◌≤◌, pos, ◌+ℤ◌, ◌-ℤ◌, ◌*ℤ◌, ◌↔◌, unsigned_abs, FitsSigned, IsTrue};
 ghost use Rattle.std.specs.Int.{w64};
 ghost use Rattle.wb_range.specs.Steps.{steps};
@@ -31,7 +31,8 @@ fn integers_between(lo: i64, hi: i64) -> u64
     if lo <= hi { hi.abs_diff(lo) + 1 } else { 0 }
 }
 
-// How far from `start`, in the direction of `stride`, the first integer lies that is congruent to `align`.
+// How far from `start`, in the direction of `stride`, the first integer lies that is congruent to
+// `align`.
 fn offset_of(start: i64, stride: i64, align: i64) -> u64
     requires { stride ≢ pos 0 }
     ensures below { result < unsigned_abs stride }

@@ -96,7 +96,8 @@ impl<const R: usize> Sparse<R> {
     /// [`SparseErr::OutOfParent`] where `index` is outside the parent. Where it is there already nothing changes and no
     /// memory is taken. After an error the set is as it was.
     pub fn add(&mut self, index: [i64; R]) -> Result<usize, SparseErr>
-        ensures members { OnOk result ((i : List ℤ) → Contains self.new.indices i ↔ (Contains self.old.indices i ⊎ (i ≡ index.entry))) }
+        ensures members { OnOk result ((i : List ℤ) → Contains self.new.indices i
+            ↔ (Contains self.old.indices i ⊎ (i ≡ index.entry))) }
         ensures count { IfOk result (λ n. length self.new.indices ≡ length self.old.indices + n) }
         ensures ascending { OnOk result (IsStrictlySortedBy (slice_cmp int_cmp) self.new.indices) }
         ensures present { Contains self.old.indices index.entry → (result ≡ Ok 0) × (self.new ≡ self.old) }

@@ -8,7 +8,8 @@ const LIMIT: i64 = 1_000_000_000_000_000_000;
 // The bounds of a range of stride 1 without index.
 const NONE: (i64, i64) = (1, 0);
 
-// These make values without their contracts, in which a proof would list every integer between the literals.
+// These make values without their contracts, in which a proof would list every integer between the
+// literals.
 fn by(low: i64, high: i64, stride: i64) -> Result<Rect<1>, Fail> {
     Ok(Rect::new([Range::new(low, high, stride, None)?])?)
 }

@@ -1,0 +1,5 @@
+use Rattle.wb_dist.specs.Same.{same_cyclic-exact}
+use Rattle.wb_dist.proofs.cyclic.CyclicPartialEq.eq.Goals as goal
+
+pub returns-clause-exact : goal.returns-clause-exact
+returns-clause-exact g c = rw c.is_same.ensures (same_cyclic-exact c.args.self.now c.args.other.now)

@@ -1,0 +1,25 @@
+//! Mappings of indices to locales: the standard distributions of the chapter Domain Maps of the Chapel Language
+//! Specification. `specs/Maps.antt` says on which locale each of them puts an index.
+//!
+//! Making a mapping and asking it for the locale of an index takes no memory, and time in the number of dimensions.
+#![tactic(auto)]
+
+mod axis;
+mod block;
+mod block_cyclic;
+mod cyclic;
+mod errors;
+mod grid;
+mod home;
+mod layout;
+mod place;
+
+pub use block::Block;
+pub use block_cyclic::BlockCyclic;
+pub use cyclic::Cyclic;
+pub use errors::{BadMapping, PieceErr};
+pub use home::Home;
+pub use layout::{Distribution, Layout};
+
+#[cfg(test)]
+mod tests;
