@@ -1,11 +1,11 @@
 -- The entries of the code as the log and the history of the definitions.
-use Rattle.std.proofs.Common.{◌≡◌, ℕ, zero, suc, ◌+◌, ◌<◌, Bool, true, false, List, [], ◌∷◌, ◌++◌, map, length, drop, refl, sym, ap, ◌∙◌, subst, Option, Some, None, is_some, option_map, Result, Ok, Err, IfOk, IfErr, OnOk, OnErr, slice_get, slice_set, arith, add-one}
+use Rattle.std.proofs.Common.{◌≡◌, ℕ, zero, suc, ◌+◌, false, List, [], ◌∷◌, ◌++◌, map, length, drop, refl, sym, ap, ◌∙◌, subst, Option, Some, None, is_some, option_map, Result, Ok, Err, IfOk, IfErr, OnOk, OnErr, slice_get, slice_set, arith, add-one}
 use Rattle.selective_undo.specs.Changes.{apply, inverse}
-use Rattle.selective_undo.specs.Edit.{Edit, Trace, outcome, reads, trace}
-use Rattle.selective_undo.specs.History.{Entry, done, undone, traces, replay, Blocks, CanUndo, InForce}
-use Rattle.selective_undo.specs.Log.{Foot, Logged, IsKept, Least, history, entry_of, foot_of, feet, blocks_undo, first_from}
+use Rattle.selective_undo.specs.Edit.{outcome, reads}
+use Rattle.selective_undo.specs.History.{traces, replay}
+use Rattle.selective_undo.specs.Log.{Foot, IsKept, history, entry_of, feet, blocks_undo, first_from}
 use Rattle.selective_undo.proofs.Log.{get-map, set-map, append-map, kept_append, kept_undo, trace_there, undo_least}
-use Rattle.wb_book.specs.Cells.{Changes, Contents, count_of, written_more}
+use Rattle.wb_book.specs.Cells.{Changes, Contents, count_of}
 use Rattle.wb_edit.specs.Schema.{workbook}
 use Rattle.wb_edit.specs.Commands.{meaning}
 use Rattle.wb_edit.specs.Plans.{IsPlan}
@@ -16,7 +16,7 @@ use Rattle.wb_history.specs.declared.entry.Entry as kept
 use Rattle.wb_history.specs.declared.entry.Kept.{Kept}
 use Rattle.wb_history.specs.declared.refusal.Refusal.{Refusal}
 use Rattle.wb_history.specs.declared.refusal.Refusal.TheVariants.{NotInForce, Blocked, NoMemory}
-use Rattle.wb_history.specs.Past.{Numbered, entry_at, meant, set_force, out_of_force}
+use Rattle.wb_history.specs.Past.{entry_at, out_of_force}
 use Rattle.wb_history.specs.Replies.{UndoReply, EditReply}
 use Rattle.wb_history.specs.Kept.{foot, kept_in, kept_all, logged, log, Shows, numbered, numbers, entries_meant, undo_blocker, MayUndo, TakenBack, refusal_of, plan_refusal}
 

@@ -1,7 +1,7 @@
 -- What a granted undo or redo leaves.
-use Rattle.std.proofs.Common.{◌≡◌, ℕ, zero, suc, ◌-◌, true, false, List, [], ◌∷◌, map, Some, Result, Ok, Err, OnOk, IfOk, slice_get, slice_set, refl, sym, ap, ◌∙◌, subst, arith}
-use Rattle.selective_undo.specs.Edit.{Edit, Trace, trace}
-use Rattle.selective_undo.specs.History.{Entry, done, undone, undo, redo, traces, replay, InForce, IsLegal, CanUndo, state_before}
+use Rattle.std.proofs.Common.{◌≡◌, ℕ, zero, suc, ◌-◌, true, false, List, [], ◌∷◌, Some, Result, Ok, Err, OnOk, IfOk, slice_set, refl, sym, ap, ◌∙◌, subst, arith}
+use Rattle.selective_undo.specs.Edit.{Edit, trace}
+use Rattle.selective_undo.specs.History.{Entry, undone, undo, redo, traces, replay, IsLegal}
 use Rattle.selective_undo.proofs.Inverses.{set_back_law, last_law}
 use Rattle.selective_undo.proofs.Redo.{redo_law}
 use Rattle.wb_book.specs.Cells.{Cells}

@@ -1,18 +1,17 @@
 -- The latest edit in force.
-use Rattle.std.proofs.Common.{◌≡◌, ℕ, suc, ◌+◌, ◌≤◌, ◌<◌, ◌⊎◌, inl, inr, true, false, List, map, Option, Some, None, is_some, option_map, Result, Ok, Err, slice_get, refl, sym, ap, ◌∙◌, arith, add-one}
+use Rattle.std.proofs.Common.{◌≡◌, ℕ, suc, ◌≤◌, inl, inr, true, false, List, Option, Some, None, is_some, option_map, Err, slice_get, refl, sym, ap, ◌∙◌, arith}
 use Rattle.std.proofs.Math.Nat.{eq-or-lt_of_le}
 use Rattle.selective_undo.specs.Edit.{Trace}
-use Rattle.selective_undo.specs.History.{Entry, undone, traces, InForce, IsLast, Blocks}
+use Rattle.selective_undo.specs.History.{undone, traces, InForce, IsLast}
 use Rattle.selective_undo.specs.Log.{Foot, foot_of, feet}
 use Rattle.selective_undo.proofs.Log.{get-map, foot_at}
 use Rattle.wb_book.specs.Cells.{Cells}
 use Rattle.wb_edit.specs.Schema.{workbook}
-use Rattle.wb_edit.specs.Commands.{meaning}
 use Rattle.wb_history.specs.declared.entry.Entry as kept
 use Rattle.wb_history.specs.declared.entry.Kept.{Kept}
 use Rattle.wb_history.specs.declared.refusal.Refusal.{Refusal}
 use Rattle.wb_history.specs.declared.refusal.Refusal.TheVariants.{BadRequest, BadLiteral, Refused, NoSuchEdit, NotInForce, InForce as IsInForce, Blocked, RefusedInPlace, NoMemory}
-use Rattle.wb_history.specs.Past.{entry_at, Numbered}
+use Rattle.wb_history.specs.Past.{entry_at}
 use Rattle.wb_history.specs.Replies.{UndoReply, LastReply}
 use Rattle.wb_history.specs.Kept.{foot, kept_in, kept_all, Shows, numbered, numbers, entries_meant, IsLatest}
 use Rattle.wb_history.proofs.Entries.{history-log, kept-log}

@@ -1,12 +1,12 @@
 -- A redo over the entries of the code.
-use Rattle.std.proofs.Common.{if◌then◌else◌, ◌≡◌, ℕ, zero, suc, ◌+◌, ◌-◌, ◌<◌, Bool, true, false, List, [], ◌∷◌, ◌++◌, map, length, drop, refl, sym, ap, ◌∙◌, subst, Option, Some, None, is_some, option_map, Result, Ok, Err, IfOk, IfErr, OnOk, OnErr, slice_get, slice_set, arith, add-one}
+use Rattle.std.proofs.Common.{if◌then◌else◌, ◌≡◌, ℕ, zero, suc, ◌+◌, ◌-◌, ◌<◌, Bool, true, false, List, [], ◌∷◌, map, length, drop, refl, sym, ap, ◌∙◌, subst, Option, Some, None, is_some, option_map, Result, Ok, Err, slice_get, slice_set, arith, add-one}
 use Rattle.std.specs.FinMap.{get}
 use Rattle.std.specs.List.{filter}
 use Rattle.selective_undo.specs.Changes.{apply, inverse}
-use Rattle.selective_undo.specs.Edit.{Edit, Trace, outcome, reads, written, trace}
-use Rattle.selective_undo.specs.History.{Entry, done, undone, traces, replay, CanRedo}
-use Rattle.selective_undo.specs.Log.{Foot, Logged, IsKept, Least, history, entry_of, foot_of, feet, planned, blocks_redo, first_from, BlocksRedo}
-use Rattle.selective_undo.proofs.Log.{get-map, set-map, append-map, kept_append, kept_redo, redo_can, redo_free, redo_least, first_planned}
+use Rattle.selective_undo.specs.Edit.{outcome, reads, written, trace}
+use Rattle.selective_undo.specs.History.{Entry, undone, traces, replay, CanRedo}
+use Rattle.selective_undo.specs.Log.{IsKept, Least, history, foot_of, feet, planned, blocks_redo, first_from, BlocksRedo}
+use Rattle.selective_undo.proofs.Log.{get-map, set-map, kept_redo, redo_can, redo_free, redo_least, first_planned}
 use Rattle.wb_history.proofs.Entries.{drop-map, history-log, kept-log, log_at}
 use Rattle.wb_book.specs.declared.cells.pattern.Pattern.{Pattern}
 use Rattle.wb_book.specs.Cells.{Cells, Changes, count_of, is_counted}
@@ -19,8 +19,8 @@ use Rattle.wb_edit.specs.declared.planning.PlanErr.TheVariants.{Refused as PlanR
 use Rattle.wb_history.specs.declared.entry.Entry as kept
 use Rattle.wb_history.specs.declared.entry.Kept.{Kept}
 use Rattle.wb_history.specs.declared.refusal.Refusal.{Refusal}
-use Rattle.wb_history.specs.declared.refusal.Refusal.TheVariants.{InForce, Blocked, RefusedInPlace, NoMemory}
-use Rattle.wb_history.specs.Past.{Numbered, entry_at, meant, set_force, out_of_force, into_force, force_of}
+use Rattle.wb_history.specs.declared.refusal.Refusal.TheVariants.{InForce, Blocked, RefusedInPlace}
+use Rattle.wb_history.specs.Past.{entry_at, into_force, force_of}
 use Rattle.wb_history.specs.Replies.{RedoReply, ByNumber}
 use Rattle.wb_history.specs.Kept.{foot, kept_in, kept_all, logged, log, Shows, numbered, numbers, entries_meant, redo_blocker, in_place, stopped_refusal, PlansAgain}
 

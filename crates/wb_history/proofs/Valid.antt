@@ -1,8 +1,8 @@
 -- Histories of valid edits, and the well-formed workbooks that they give.
 use Rattle.std.proofs.Math.Seq.{take-append_seam}
-use Rattle.std.proofs.Common.{length, take, ◌-◌, Result, Err, IfOk, OnOk, OnErr, ◌≡◌, ℕ, zero, suc, Bool, true, false, List, [], ◌∷◌, ◌++◌, Option, Some, None, is_some, Ok, slice_get, slice_set, refl, sym, ap, ◌∙◌, subst}
+use Rattle.std.proofs.Common.{length, take, ◌-◌, Result, Err, IfOk, OnOk, OnErr, ◌≡◌, ℕ, zero, suc, Bool, true, false, List, [], ◌∷◌, ◌++◌, Option, Some, None, Ok, slice_get, slice_set, refl, sym, ap, ◌∙◌, subst}
 use Rattle.std.specs.FinMap.{empty}
-use Rattle.selective_undo.specs.Changes.{apply, inverse}
+use Rattle.selective_undo.specs.Changes.{apply}
 use Rattle.selective_undo.specs.Edit.{outcome, written, step}
 use Rattle.selective_undo.specs.History.{replay, replay_from}
 use Rattle.wb_book.specs.Cells.{Cells, Changes, Contents, count_of, written_more}
@@ -16,7 +16,7 @@ use Rattle.wb_history.specs.declared.entry.Entry as kept
 use Rattle.wb_history.specs.declared.entry.Kept.{Kept}
 use Rattle.wb_history.specs.declared.refusal.Refusal.{Refusal}
 use Rattle.wb_history.specs.Past.{Numbered, meant, entry_at, set_force, AreValid}
-use Rattle.wb_history.specs.Kept.{Shows, numbers, numbered, entries_meant, MayUndo, LeavesWellFormed}
+use Rattle.wb_history.specs.Kept.{Shows, numbers, MayUndo, LeavesWellFormed}
 use Rattle.wb_history.proofs.Entries.{history-log, taken_kept}
 
 -- ---- valid edits stay valid

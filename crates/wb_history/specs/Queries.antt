@@ -1,5 +1,5 @@
 -- What queries are answered, from the cells of the workbook and the history.
-use Rattle.std.specs.Prelude.{ℕ, Bool, ℤ, List, Option, Some, None, Result, Ok, Err}
+use Rattle.std.specs.Prelude.{Bool, ℤ, List, Option, Some, None, Result, Ok, Err}
 use Rattle.std.specs.FinMap.{get}
 use Rattle.wb_book.specs.declared.cells.cell.Cell.TheVariants.{Object, Element}
 use Rattle.wb_book.specs.declared.cells.value.Kind.{Kind}

@@ -1,6 +1,6 @@
 -- The machine of edits, undos and redos: what each answer says of the history. Causes exclude one another, so that each
 -- answer comes exactly when its cause is there.
-use Rattle.std.specs.Prelude.{◌≡◌, ℕ, zero, suc, ◌+◌, List, [], length, Option, Some, None, Result, Ok, Err, slice_get, slice_set, ⊤, if◌then◌else◌}
+use Rattle.std.specs.Prelude.{◌≡◌, ℕ, zero, suc, ◌+◌, List, length, Some, None, Result, Ok, Err, slice_get, slice_set, ⊤, if◌then◌else◌}
 use Rattle.std.specs.FinMap.{get}
 use Rattle.selective_undo.specs.Edit.{Edit, Trace, trace, outcome, writes}
 use Rattle.selective_undo.specs.History as h

@@ -36,8 +36,9 @@ pub fn command_of(alloc: Global, words: &[&str]) -> Result<Asked, CommandErr> {
 }
 
 fn parsed(alloc: Global, words: &[&str]) -> Result<Option<Asked>, clap::Error> {
-    let run = Command::new(alloc, "run")
-        .about("Answers each request line of standard input on standard output");
+    let run = Command::new(alloc, "run").about(
+        "Answers each request line of standard input on standard output",
+    );
     let command = Command::new(alloc, "workbook")
         .about("A shared workbook of whole-number arrays with selective undo")
         .subcommand_required(true)

@@ -3,7 +3,6 @@
 
 mod command;
 mod running;
-
 #[cfg(test)]
 mod tests;
 
@@ -40,7 +39,9 @@ fn status_of_words(rt: &HostRuntime) -> io::Result<u8> {
     }
     let mut texts = Vec::new(alloc);
     for word in &words {
-        texts.push(word.as_str()).map_err(|_| io::ErrorKind::OutOfMemory)?;
+        texts
+            .push(word.as_str())
+            .map_err(|_| io::ErrorKind::OutOfMemory)?;
     }
     match command_of(alloc, &texts) {
         Ok(Asked::Run) => run(rt),

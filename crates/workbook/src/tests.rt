@@ -2,7 +2,8 @@ use crate::command::{Asked, CommandErr, command_of};
 use crate::running::run_with;
 use std::test::Fail;
 
-const FIRST_RUN: &[u8] = b"{\"op\":\"domain\",\"d\":\"D\",\"is\":\"{1..4}\"}\n{\"op\":\"array\",\"a\":\"A\",\"d\":\"D\"}\n{\"op\":\"set\",\"a\":\"A\",\"i\":4,\"v\":9}\n{\"op\":\"undo\"}\n{\"op\":\"get\",\"a\":\"A\",\"i\":4}\n";
+const FIRST_RUN: &[u8] =
+    b"{\"op\":\"domain\",\"d\":\"D\",\"is\":\"{1..4}\"}\n{\"op\":\"array\",\"a\":\"A\",\"d\":\"D\"}\n{\"op\":\"set\",\"a\":\"A\",\"i\":4,\"v\":9}\n{\"op\":\"undo\"}\n{\"op\":\"get\",\"a\":\"A\",\"i\":4}\n";
 
 #[test]
 fn first_run(rt: HostRuntime) -> Result<(), Fail> {
@@ -10,18 +11,49 @@ fn first_run(rt: HostRuntime) -> Result<(), Fail> {
     let mut output = Vec::new(rt.alloc());
     let status = run_with(rt.alloc(), &mut input, &mut output);
     assert_eq!(rt; status, 0);
-    assert_eq!(rt; output.as_slice(), b"{\"edit\":1,\"n\":3}\n{\"edit\":2,\"n\":7}\n{\"edit\":3,\"n\":1}\n{\"n\":1,\"undone\":3}\n{\"value\":0}\n".as_slice());
+    assert_eq!(rt;
+        output.as_slice(),
+        b"{\"edit\":1,\"n\":3}\n{\"edit\":2,\"n\":7}\n{\"edit\":3,\"n\":1}\n{\"n\":1,\"undone\":3}\n{\"value\":0}\n".as_slice()
+    );
     Ok(())
 }
 
 #[test]
 fn command_lines(rt: HostRuntime) -> Result<(), Fail> {
     let alloc = rt.alloc();
-    assert_eq!(rt; command_of(alloc, &["workbook", "run"]).ok(), Some(Asked::Run));
-    assert!(rt; matches!(command_of(alloc, &["workbook"]), Err(CommandErr::BadCommandLine)));
-    assert!(rt; matches!(command_of(alloc, &["workbook", "walk"]), Err(CommandErr::BadCommandLine)));
-    assert!(rt; matches!(command_of(alloc, &["workbook", "run", "--fast"]), Err(CommandErr::BadCommandLine)));
-    assert!(rt; matches!(command_of(alloc, &["workbook", "--help"]), Err(CommandErr::Help(_))));
-    assert!(rt; matches!(command_of(alloc, &["workbook", "run", "--help"]), Err(CommandErr::Help(_))));
+    assert_eq!(rt;
+        command_of(alloc, &["workbook", "run"]).ok(),
+        Some(Asked::Run)
+    );
+    assert!(rt;
+        matches!(
+            command_of(alloc, &["workbook"]),
+            Err(CommandErr::BadCommandLine)
+        )
+    );
+    assert!(rt;
+        matches!(
+            command_of(alloc, &["workbook", "walk"]),
+            Err(CommandErr::BadCommandLine)
+        )
+    );
+    assert!(rt;
+        matches!(
+            command_of(alloc, &["workbook", "run", "--fast"]),
+            Err(CommandErr::BadCommandLine)
+        )
+    );
+    assert!(rt;
+        matches!(
+            command_of(alloc, &["workbook", "--help"]),
+            Err(CommandErr::Help(_))
+        )
+    );
+    assert!(rt;
+        matches!(
+            command_of(alloc, &["workbook", "run", "--help"]),
+            Err(CommandErr::Help(_))
+        )
+    );
     Ok(())
 }

@@ -1,4 +1,4 @@
-use Rattle.std.proofs.Common.{◌<◌, ◌-◌, arith, ap, ◌∙◌, subst, sym, Some, slice_index_or, is_some, length}
+use Rattle.std.proofs.Common.{◌<◌, ◌-◌, arith, ap, ◌∙◌, Some, slice_index_or, is_some, length}
 use Rattle.std.proofs.lemmas.Option.{slice_get-get_or}
 use Rattle.wb_history.specs.Past.{force_of}
 use Rattle.wb_history.proofs.Redone.{force_is}

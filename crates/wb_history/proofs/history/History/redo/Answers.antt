@@ -1,7 +1,7 @@
 use Rattle.wb_history.proofs.Valid.{keeps_valid, whole_slice}
 use Rattle.wb_history.specs.Past.{AreValid}
 use Rattle.wb_history.specs.Kept.{Keeps, numbers}
-use Rattle.std.proofs.Common.{length, drop, sym, true, ◌<◌, ◌-◌, arith, ap, ◌∙◌, subst}
+use Rattle.std.proofs.Common.{length, drop, sym, true, ◌<◌, ◌-◌, arith, ◌∙◌, subst}
 use Rattle.wb_history.specs.Past.{meant}
 use Rattle.wb_history.specs.Replies.{RedoReply, ByNumber}
 use Rattle.wb_history.specs.Kept.{entries_meant}

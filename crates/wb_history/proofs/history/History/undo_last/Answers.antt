@@ -1,4 +1,4 @@
-use Rattle.std.proofs.Common.{◌-◌, length, drop, subst, sym, ◌∙◌, false}
+use Rattle.std.proofs.Common.{length, drop, subst, sym, ◌∙◌}
 use Rattle.wb_history.proofs.Valid.{keeps_valid_last, whole_slice}
 use Rattle.wb_history.specs.Past.{AreValid}
 use Rattle.wb_history.specs.Kept.{Keeps, numbers}

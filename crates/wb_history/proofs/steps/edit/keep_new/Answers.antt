@@ -1,4 +1,3 @@
-use Rattle.std.proofs.Common.{Some, refl, sym, ◌∙◌, ap, ◌++◌, ◌∷◌, []}
 use Rattle.wb_history.proofs.Entries.{more_kept}
 use Rattle.wb_history.specs.declared.entry.Kept.{Kept}
 use Rattle.wb_history.proofs.steps.edit.keep_new.Goals as goal

@@ -1,8 +1,5 @@
-use Rattle.std.proofs.Common.{slice_index_or, ◌≡◌, ◌-◌, ◌≤◌, ℕ, suc, Some, ap, sym, ◌∙◌, arith, subst, slice_get}
+use Rattle.std.proofs.Common.{slice_index_or, ◌-◌, sym, ◌∙◌, arith}
 use Rattle.std.proofs.lemmas.Option.{slice_get-get_or}
-use Rattle.selective_undo.specs.Log.{Foot}
-use Rattle.wb_edit.specs.Schema.{workbook}
-use Rattle.wb_history.specs.Kept.{kept_all}
 use Rattle.wb_history.proofs.Latest.{is_latest, still_none}
 use Rattle.wb_history.proofs.steps.undo.latest.Goals as goal
 

@@ -3,7 +3,7 @@ use Rattle.std.proofs.Common.{slice_set}
 use Rattle.wb_history.proofs.Valid.{undone_well_formed}
 use Rattle.std.proofs.Common.{slice_index_or}
 use Rattle.std.proofs.lemmas.Option.{slice_get-get_or}
-use Rattle.wb_history.proofs.Entries.{refused_reply, undone_kept, undone_reply, undone_numbers, stay_numbers}
+use Rattle.wb_history.proofs.Entries.{refused_reply, undone_kept, undone_reply, undone_numbers}
 use Rattle.wb_history.proofs.steps.undo.undo_at.Goals as goal
 
 pub returns-in-Some-clause-reply : goal.returns-in-Some-clause-reply
