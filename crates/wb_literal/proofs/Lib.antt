@@ -5,3 +5,10 @@ pub mod PrintedRange
 pub mod Spelled
 pub mod Texts
 pub mod Listing
+pub mod TokenLemmas
+pub mod Exact
+pub mod RangeGrammar
+pub mod ListGrammar
+pub mod RectangleGrammar
+pub mod IndexGrammar
+pub mod MappingGrammar

@@ -48,7 +48,14 @@ decided_no : (b : Bool) (P : Type 0) → Decides b P → (P → ⊥) → b ≡ f
 decided_no true P d n = absurd (n (d.0 refl))
 decided_no false P d n = refl
 
-int_ne : (z : ℤ) → z ≢ pos 0 → int_eq z (pos 0) ≡ false
+decided_yes : (b : Bool) (P : Type 0) → Decides b P → P → b ≡ true
+decided_yes true P d h = refl
+decided_yes false P d h = d.1 h
+
+pub int_same : (z : ℤ) → z ≡ pos 0 → int_eq z (pos 0) ≡ true
+int_same z h = decided_yes (int_eq z (pos 0)) (z ≡ pos 0) (Decides-int_eq z (pos 0)) h
+
+pub int_ne : (z : ℤ) → z ≢ pos 0 → int_eq z (pos 0) ≡ false
 int_ne z h = decided_no (int_eq z (pos 0)) (z ≡ pos 0) (Decides-int_eq z (pos 0)) h
 
 stride_back : (stride : ℤ) → IsWithin stride → stride ≢ pos 0 → stride_at (codes " by " ++ signed_decimal stride) ≡ Some (Some (record { stride = stride; align = None }), [])

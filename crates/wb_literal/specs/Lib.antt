@@ -9,3 +9,4 @@ pub mod Mapping
 pub mod Set
 pub mod Domain
 pub mod Said
+pub mod Grammar

@@ -1,6 +1,8 @@
 // Mappings (Chapel Language Specification, Domain Maps).
-ghost use Rattle.std.specs.Prelude.{◌≡◌, ℕ, ℤ, List, Some, None, codes, option_map, option_and_then};
+ghost use Rattle.std.specs.Prelude.{◌≡◌, ◌↔◌, ℕ, ℤ, List, Some, None, codes, option_map, option_and_then};
 ghost use Rattle.wb_literal.specs.Mapping.{last_grid_at, next_index_at, block_at, cyclic_at, block_cyclic_at, mapping_at, mapping_of};
+ghost use Rattle.wb_literal.specs.Grammar.{IsMapping};
+ghost use Rattle.wb_literal.specs.declared.mapping.MappingLiteral.{MappingLiteral};
 
 use crate::index::{GridLiteral, IndexLiteral, grid_at, index_at};
 use crate::rectangle::{RectangleLiteral, rectangle_at};
@@ -79,10 +81,18 @@ pub fn mapping_at(bytes: &[u8]) -> Option<(MappingLiteral, &[u8])>
     Some((MappingLiteral::Whole, rest))
 }
 
-/// The mapping that a text spells.
-pub fn read_mapping(text: &str) -> Option<MappingLiteral>
-    ensures { result ≡ mapping_of text.now }
+// The mapping that all of the bytes spell.
+fn whole_mapping(bytes: &[u8]) -> Option<MappingLiteral>
+    ensures { result ≡ mapping_of bytes.now }
 {
-    let (mapping, rest) = mapping_at(text.as_bytes())?;
+    let (mapping, rest) = mapping_at(bytes)?;
     if rest.len() == 0 { Some(mapping) } else { None }
+}
+
+/// The mapping that a text spells. A text is read just where the grammar spells the mapping by it.
+pub fn read_mapping(text: &str) -> Option<MappingLiteral>
+    ensures value { result ≡ mapping_of text.now }
+    ensures spelling { (m : MappingLiteral) → (result ≡ Some m) ↔ IsMapping text.now m }
+{
+    whole_mapping(text.as_bytes())
 }

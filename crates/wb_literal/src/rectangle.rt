@@ -1,6 +1,8 @@
 // Rectangles: 1 to 3 ranges in braces.
-ghost use Rattle.std.specs.Prelude.{◌≡◌, ℕ, List, Some, None, codes, option_map, option_and_then};
+ghost use Rattle.std.specs.Prelude.{◌≡◌, ◌↔◌, ℕ, List, Some, None, codes, option_map, option_and_then};
 ghost use Rattle.wb_literal.specs.Rectangle.{next_range_at, third_range_at, second_range_at, rectangle_at, rectangle_of};
+ghost use Rattle.wb_literal.specs.Grammar.{IsRectangle};
+ghost use Rattle.wb_literal.specs.declared.rectangle.RectangleLiteral.{RectangleLiteral};
 
 use crate::range::{RangeLiteral, range_at};
 use crate::tokens::{after_token, close_at, comma_at};
@@ -54,10 +56,23 @@ pub fn rectangle_at(bytes: &[u8]) -> Option<(RectangleLiteral, &[u8])>
     second_range_at(a, rest)
 }
 
-/// The rectangle that a text spells.
-pub fn read_rectangle(text: &str) -> Option<RectangleLiteral>
-    ensures { result ≡ rectangle_of text.now }
+// The rectangle that all of the bytes spell.
+fn whole_rectangle(bytes: &[u8]) -> Option<RectangleLiteral>
+    ensures { result ≡ rectangle_of bytes.now }
 {
-    let (rect, rest) = rectangle_at(text.as_bytes())?;
-    if rest.len() == 0 { Some(rect) } else { None }
+    let (rectangle, rest) = rectangle_at(bytes)?;
+    if rest.len() == 0 {
+        Some(rectangle)
+    } else {
+        None
+    }
+}
+
+/// The rectangle that a text spells: 1 to 3 ranges in braces. A text is read just where the grammar
+/// spells the rectangle by it.
+pub fn read_rectangle(text: &str) -> Option<RectangleLiteral>
+    ensures value { result ≡ rectangle_of text.now }
+    ensures spelling { (r : RectangleLiteral) → (result ≡ Some r) ↔ IsRectangle text.now r }
+{
+    whole_rectangle(text.as_bytes())
 }

@@ -1,0 +1,25 @@
+-- Sessions of the program, and the exit status after each.
+use Rattle.std.specs.Prelude.{ℕ, List, []}
+use Rattle.std.specs.Io.KnownBytes.{Appends, Consumes}
+use Rattle.wb_history.specs.Past.{Past}
+use Rattle.wb_lines.specs.Session.{Serves}
+use Rattle.wb_lines.specs.declared.machine.SessionEnd.{SessionEnd}
+use Rattle.wb_lines.specs.declared.machine.SessionEnd.TheVariants.{Done, ReadFault, WriteFault, TooManyReads, NoMemory}
+use Rattle.wb_proto.specs.Machine.{AnswersLine}
+
+-- 0 where all was answered, 3 where input or output failed, 4 where a growth was refused
+abbrev pub status_of : SessionEnd → ℕ
+status_of (Done n) = 0
+status_of (ReadFault n) = 3
+status_of (WriteFault n) = 3
+status_of (TooManyReads n) = 3
+status_of (NoMemory n) = 4
+
+-- no edits yet
+abbrev pub opening : Past
+opening = record { entries = []; writes = 0 }
+
+-- A session on an empty workbook that read these bytes, wrote this text and ended so.
+pub record ServesFromEmpty (end : SessionEnd) (read text : List ℕ) : Type 0 where
+  pub after : Past
+  pub serves : Serves AnswersLine end opening read text after
