@@ -18,6 +18,7 @@ abbrev pub ◌>>=◌ : {X Y : Type 0} → Result X Refusal → (X → Result Y R
 Ok x >>= next = next x
 Err why >>= next = Err why
 
+-- how many members there are
 abbrev pub member_count : Members → ℕ
 member_count no_members = 0
 member_count (member k d ms) = suc (member_count ms)
@@ -47,6 +48,7 @@ i64_field key d = ok_or (option_and_then as_i64 (option_and_then as_number (get 
 abbrev pub u64_field : List ℕ → Data → Result ℕ Refusal
 u64_field key d = ok_or (option_and_then as_u64 (option_and_then as_number (get key d))) BadRequest
 
+-- the text, where it is a name
 abbrev pub name_of : List ℕ → Result Name Refusal
 name_of text = if is_name text then Ok text else Err BadRequest
 
@@ -56,12 +58,15 @@ name_field key d = do
   text ← text_field key d
   name_of text
 
+-- an integer of 64 bits with a sign
 abbrev pub integer_of : Data → Option ℤ
 integer_of d = option_and_then as_i64 (as_number d)
 
+-- a pair of integers
 abbrev pub pair_of : Data → Data → Option Index
 pair_of c d = option_and_then (λ i. option_map (λ j. Point (i ∷ j ∷ [])) (integer_of d)) (integer_of c)
 
+-- a triple of integers
 abbrev pub triple_of : Data → Data → Data → Option Index
 triple_of c d e = option_and_then (λ i. option_and_then (λ j. option_map (λ k. Point (i ∷ j ∷ k ∷ [])) (integer_of e)) (integer_of d)) (integer_of c)
 
@@ -71,6 +76,7 @@ tuple_of (item c (item d no_items)) = pair_of c d
 tuple_of (item c (item d (item e no_items))) = triple_of c d e
 tuple_of _ = None
 
+-- the text, where it is short and plain
 abbrev pub label_of : List ℕ → Option Index
 label_of text = if is_label text then Some (Text text) else None
 

@@ -9,7 +9,6 @@ use Rattle.wb_edit.specs.declared.refusal.Refusal.TheVariants.{TooLarge}
 use Rattle.wb_history.specs.declared.refusal.Refusal.{Refusal}
 use Rattle.wb_history.specs.declared.refusal.Refusal.TheVariants.{BadLiteral, Refused}
 use Rattle.wb_literal.specs.Rectangle.{rectangle_of}
-use Rattle.wb_literal.specs.declared.range.RangeLiteral.{RangeLiteral}
 use Rattle.wb_literal.specs.declared.range.Stride.{Stride}
 use Rattle.wb_literal.specs.declared.range.Upper.{Upper}
 use Rattle.wb_literal.specs.declared.range.Upper.TheVariants.{To, Below, Count}

@@ -1,6 +1,6 @@
 -- The machine of requests and replies over a history: what is replied to a request, and what the history is next. A refusal
 -- and a query leave it as it was.
-use Rattle.std.specs.Prelude.{◌≡◌, ◌-◌, ◌⊎◌, ℕ, List, [], ◌∷◌, ◌++◌, true, Option, Some, None, Result, Ok, Err}
+use Rattle.std.specs.Prelude.{◌≡◌, ◌-◌, ◌⊎◌, ℕ, List, [], ◌∷◌, ◌++◌, true, Some, None, Result, Ok, Err}
 use Rattle.selective_undo.specs.History.{replay}
 use Rattle.wb_book.specs.Cells.{written_more}
 use Rattle.wb_edit.specs.Commands.{meaning}
@@ -33,26 +33,31 @@ pub record PutsIn (k n : ℕ) (old new : Past) : Type 0 where
   pub entries : new.entries ≡ into_force (k - 1) old.entries
   pub writes : new.writes ≡ written_more old.writes n
 
+-- an edit: its number and how many cells it changes, or why it is refused
 abbrev pub Changes : Past → Edit → Reply → Past → Type 0
 Changes p e (Edited k n) q = EditReply (meant p.entries) (meaning e) (Ok (k, n)) × Appends e n p q
 Changes p e (Refused why) q = EditReply (meant p.entries) (meaning e) (Err why) × (q ≡ p)
 Changes p e _ q = ⊥
 
+-- undo of the edit of a number: how many cells are set back, or why it is refused
 abbrev pub UndoesNumber : Past → ℕ → Reply → Past → Type 0
 UndoesNumber p k (Undone j n) q = (j ≡ k) × ByNumber (UndoReply (meant p.entries)) k (Ok n) × TakesOut k n p q
 UndoesNumber p k (Refused why) q = ByNumber (UndoReply (meant p.entries)) k (Err why) × (q ≡ p)
 UndoesNumber p k _ q = ⊥
 
+-- undo of the latest edit in force: its number too
 abbrev pub UndoesLatest : Past → Reply → Past → Type 0
 UndoesLatest p (Undone k n) q = LastReply (meant p.entries) (Ok (k, n)) × TakesOut k n p q
 UndoesLatest p (Refused why) q = LastReply (meant p.entries) (Err why) × (q ≡ p)
 UndoesLatest p _ q = ⊥
 
+-- redo of the edit of a number: how many cells it changes now, or why it is refused
 abbrev pub Redoes : Past → ℕ → Reply → Past → Type 0
 Redoes p k (Redone j n) q = (j ≡ k) × ByNumber (RedoReply (meant p.entries)) k (Ok n) × PutsIn k n p q
 Redoes p k (Refused why) q = ByNumber (RedoReply (meant p.entries)) k (Err why) × (q ≡ p)
 Redoes p k _ q = ⊥
 
+-- a query: what the workbook and the history say
 abbrev pub Answers : Past → Query → Reply → Past → Type 0
 Answers p asked (Answered a) q = (answer (replay (meant p.entries)) p.entries asked ≡ Ok a) × (q ≡ p)
 Answers p asked (Refused why) q = (answer (replay (meant p.entries)) p.entries asked ≡ Err why) × (q ≡ p)
@@ -76,7 +81,7 @@ abbrev pub NothingDone : Past → Reply → Past → Type 0
 NothingDone p r q = (r ≡ Refused NoMemory) × (q ≡ p)
 
 -- A line is answered with the text of a reply to its request.
-pub record AnswersLine (p : Past) (line text : List ℕ) (q : Past) : Type 0 where
+pub record AnswersText (p : Past) (line text : List ℕ) (q : Past) : Type 0 where
   pub reply : Reply
   pub is_reply : StepIfRead p (request line) reply q ⊎ NothingDone p reply q
   pub is_text : text ≡ reply_of reply

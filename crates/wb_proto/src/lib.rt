@@ -11,3 +11,6 @@ pub use crate::requests::reading::read_request;
 pub use crate::requests::request::Request;
 pub use crate::serving::lines::session;
 pub use crate::serving::steps::answer_request;
+
+#[cfg(test)]
+mod tests;

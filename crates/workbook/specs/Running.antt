@@ -5,7 +5,7 @@ use Rattle.wb_history.specs.Past.{Past}
 use Rattle.wb_lines.specs.Session.{Serves}
 use Rattle.wb_lines.specs.declared.machine.SessionEnd.{SessionEnd}
 use Rattle.wb_lines.specs.declared.machine.SessionEnd.TheVariants.{Done, ReadFault, WriteFault, TooManyReads, NoMemory}
-use Rattle.wb_proto.specs.Machine.{AnswersLine}
+use Rattle.wb_proto.specs.Machine.{AnswersText}
 
 -- 0 where all was answered, 3 where input or output failed, 4 where a growth was refused
 abbrev pub status_of : SessionEnd → ℕ
@@ -22,4 +22,4 @@ opening = record { entries = []; writes = 0 }
 -- A session on an empty workbook that read these bytes, wrote this text and ended so.
 pub record ServesFromEmpty (end : SessionEnd) (read text : List ℕ) : Type 0 where
   pub after : Past
-  pub serves : Serves AnswersLine end opening read text after
+  pub serves : Serves AnswersText end opening read text after

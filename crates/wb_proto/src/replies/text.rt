@@ -1,6 +1,8 @@
 // The texts of replies: compact JSON, keys in ascending order.
 ghost use Rattle.std.specs.Prelude.{◌≡◌, codes, IfOk, string_bytes};
 ghost use Rattle.serde_json.specs.View.{view};
+ghost use Rattle.serde_json.specs.Written.{compact_text};
+ghost use Rattle.wb_proto.specs.Printed.{numbers_text, value_text, in_force_text};
 ghost use Rattle.wb_proto.specs.Replies.{edit_code, edit_name, code_of, name_of, refusal_data, answer_data, reply_data, reply_of};
 
 use crate::replies::reply::Reply;
@@ -86,35 +88,71 @@ fn refusal_value(alloc: Global, refusal: Refusal) -> Result<Value, AllocError>
     }
 }
 
-fn answer_value(alloc: Global, answer: Answer) -> Result<Value, AllocError>
-    ensures { IfOk result (λ v. view v ≡ answer_data answer) }
+fn refusal_text(alloc: Global, refusal: Refusal) -> Result<String, AllocError>
+    ensures { IfOk result (λ s. string_bytes s ≡ compact_text (refusal_data refusal)) }
+{
+    let value = refusal_value(alloc, refusal)?;
+    value.to_string(alloc)
+}
+
+// The object of two numbers, written without a value of it in between.
+fn numbers_text(
+    alloc: Global,
+    first: &str,
+    a: u64,
+    second: &str,
+    b: u64,
+) -> Result<String, AllocError>
+    ensures { IfOk result (λ s. string_bytes s ≡ numbers_text first.now a second.now b) }
+{
+    format!(in alloc; "{{\"{first}\":{a},\"{second}\":{b}}}")
+}
+
+// The object of an element, written in the same way.
+fn value_text(alloc: Global, value: i64) -> Result<String, AllocError>
+    ensures { IfOk result (λ s. string_bytes s ≡ value_text value) }
+{
+    format!(in alloc; "{{\"value\":{value}}}")
+}
+
+fn in_force_text(alloc: Global, in_force: bool) -> Result<String, AllocError>
+    ensures { IfOk result (λ s. string_bytes s ≡ in_force_text in_force) }
+{
+    if in_force {
+        String::from_str(alloc, "{\"in_force\":true}")
+    } else {
+        String::from_str(alloc, "{\"in_force\":false}")
+    }
+}
+
+#[tactic(auto, using(crate::proofs::Texts::value_is, crate::proofs::Texts::in_force_is))]
+fn answer_text(alloc: Global, answer: Answer) -> Result<String, AllocError>
+    ensures { IfOk result (λ s. string_bytes s ≡ compact_text (answer_data answer)) }
 {
     match answer {
-        Answer::Value(number) => json!(in alloc; {"value": number}),
-        Answer::InForce(in_force) => json!(in alloc; {"in_force": in_force}),
+        Answer::Value(value) => value_text(alloc, value),
+        Answer::InForce(in_force) => in_force_text(alloc, in_force),
     }
 }
 
-fn reply_value(alloc: Global, reply: &Reply) -> Result<Value, AllocError>
-    ensures { IfOk result (λ v. view v ≡ reply_data reply.now) }
+#[tactic(auto, using(crate::proofs::Texts::edited_is, crate::proofs::Texts::undone_is, crate::proofs::Texts::redone_is))]
+fn text_of(alloc: Global, reply: &Reply) -> Result<String, AllocError>
+    ensures { IfOk result (λ s. string_bytes s ≡ reply_of reply.now) }
 {
     match reply {
-        Reply::Edited(edit, n) => json!(in alloc; {"edit": *edit, "n": *n}),
-        Reply::Undone(edit, n) => json!(in alloc; {"n": *n, "undone": *edit}),
-        Reply::Redone(edit, n) => json!(in alloc; {"n": *n, "redone": *edit}),
-        Reply::Answered(answer) => answer_value(alloc, *answer),
-        Reply::Refused(refusal) => refusal_value(alloc, *refusal),
+        Reply::Edited(edit, n) => numbers_text(alloc, "edit", *edit, "n", *n as u64),
+        Reply::Undone(edit, n) => numbers_text(alloc, "n", *n as u64, "undone", *edit),
+        Reply::Redone(edit, n) => numbers_text(alloc, "n", *n as u64, "redone", *edit),
+        Reply::Answered(answer) => answer_text(alloc, *answer),
+        Reply::Refused(refusal) => refusal_text(alloc, *refusal),
     }
 }
 
-/// The text of a reply, without a line end: compact JSON with its keys in ascending order.
+/// The text of a reply, without a line end: compact JSON (RFC 8259) with its keys in ascending order.
 pub fn reply_text(alloc: Global, reply: &Reply) -> Result<String, NoMemory>
     ensures { IfOk result (λ s. string_bytes s ≡ reply_of reply.now) }
 {
-    let Ok(value) = reply_value(alloc, reply) else {
-        return Err(NoMemory);
-    };
-    match value.to_string(alloc) {
+    match text_of(alloc, reply) {
         Ok(text) => Ok(text),
         Err(_) => Err(NoMemory),
     }

@@ -34,23 +34,33 @@ pub(crate) fn has_fields(value: &Value, count: usize) -> Result<(), Refusal>
 pub(crate) fn text_field<'a>(value: &'a Value, key: &str) -> Result<&'a str, Refusal>
     ensures { result_map_both (λ s. s.now) (λ e. e) result ≡ text_field key.now (view value.now) }
 {
-    value.get(key).and_then(Value::as_str).ok_or(Refusal::BadRequest)
+    value
+        .get(key)
+        .and_then(Value::as_str)
+        .ok_or(Refusal::BadRequest)
 }
 
 /// A field that is an `i64`.
 pub(crate) fn i64_field(value: &Value, key: &str) -> Result<i64, Refusal>
     ensures { result ≡ i64_field key.now (view value.now) }
 {
-    value.get(key).and_then(Value::as_i64).ok_or(Refusal::BadRequest)
+    value
+        .get(key)
+        .and_then(Value::as_i64)
+        .ok_or(Refusal::BadRequest)
 }
 
 /// A field that is a `u64`.
 pub(crate) fn u64_field(value: &Value, key: &str) -> Result<u64, Refusal>
     ensures { result ≡ u64_field key.now (view value.now) }
 {
-    value.get(key).and_then(Value::as_u64).ok_or(Refusal::BadRequest)
+    value
+        .get(key)
+        .and_then(Value::as_u64)
+        .ok_or(Refusal::BadRequest)
 }
 
+// The text, where it is a name.
 fn name_of(text: &str) -> Result<Name, Refusal>
     ensures { result ≡ name_of text.now }
 {
@@ -68,6 +78,7 @@ pub(crate) fn name_field(value: &Value, key: &str) -> Result<Name, Refusal>
     name_of(text)
 }
 
+// A pair of integers.
 fn pair_of(first: &Value, second: &Value) -> Option<Index>
     ensures { result ≡ pair_of (view first.now) (view second.now) }
 {
@@ -76,6 +87,7 @@ fn pair_of(first: &Value, second: &Value) -> Option<Index>
     Some(Index::Point(Point::pair(i, j)))
 }
 
+// A triple of integers.
 fn triple_of(first: &Value, second: &Value, third: &Value) -> Option<Index>
     ensures { result ≡ triple_of (view first.now) (view second.now) (view third.now) }
 {
@@ -98,6 +110,7 @@ fn tuple_of(items: &[Value]) -> Option<Index>
     }
 }
 
+// The text, where it is a label.
 fn label_of(text: &str) -> Option<Index>
     ensures { result ≡ label_of text.now }
 {
@@ -107,6 +120,7 @@ fn label_of(text: &str) -> Option<Index>
     }
 }
 
+// The index that a value is.
 fn index_of(value: &Value) -> Option<Index>
     ensures { result ≡ index_of (view value.now) }
 {

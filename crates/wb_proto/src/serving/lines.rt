@@ -2,9 +2,9 @@
 ghost use Rattle.std.specs.Prelude.{◌≡◌, ℕ, List};
 ghost use Rattle.std.specs.Io.KnownBytes.{Appends, Consumes, IsAtEnd};
 ghost use Rattle.wb_lines.specs.Session.{Serves};
-ghost use Rattle.wb_proto.specs.Machine.{AnswersLine};
+ghost use Rattle.wb_proto.specs.Machine.{AnswersText};
 
-use crate::serving::machine::Teller;
+use crate::serving::machine::HistoryMachine;
 use std::alloc::Global;
 use std::io::{Read, Write};
 use std::mem;
@@ -23,11 +23,11 @@ pub fn session<R: Read, W: Write>(
 ) -> SessionEnd
     ensures serves { (read : List ℕ) × Consumes (R.remaining reader.old) (R.remaining reader.new) read
         × ((text : List ℕ) × Appends (W.contents writer.old) (W.contents writer.new) text
-        × Serves AnswersLine result history.old read text history.new) }
+        × Serves AnswersText result history.old read text history.new) }
     ensures done { (n : ℕ) → result ≡ SessionEnd.Done n → IsAtEnd (R.remaining reader.new) }
 {
-    let mut teller = Teller::new(alloc, mem::replace(history, History::new(alloc)));
-    let end = serve_lines(alloc, &mut teller, reader, writer);
-    *history = teller.into_history();
+    let mut machine = HistoryMachine::new(alloc, mem::replace(history, History::new(alloc)));
+    let end = serve_lines(alloc, &mut machine, reader, writer);
+    *history = machine.into_history();
     end
 }

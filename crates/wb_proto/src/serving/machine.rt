@@ -1,6 +1,6 @@
 // A history as what answers lines.
 ghost use Rattle.std.specs.Prelude.{◌≡◌, ◌⊎◌, IfOk, OnErr};
-ghost use Rattle.wb_proto.specs.Machine.{StepIfRead, NothingDone, AnswersLine};
+ghost use Rattle.wb_proto.specs.Machine.{StepIfRead, NothingDone, AnswersText};
 ghost use Rattle.wb_proto.specs.Requests.{request};
 
 use crate::replies::reply::Reply;
@@ -14,12 +14,12 @@ use wb_lines::Machine;
 
 /// A history that answers lines. Contracts see it as the history.
 #[derive(Drop)]
-pub(crate) struct Teller {
+pub(crate) struct HistoryMachine {
     alloc: Global,
     history: History,
 }
 
-impl Model for Teller {
+impl Model for HistoryMachine {
     ghost use Rattle.wb_history.specs.Past.{Past, past_code};
 
     ghost Value = { Past };
@@ -29,11 +29,11 @@ impl Model for Teller {
     ghost view = { λ a. a.history };
 }
 
-impl Teller {
-    pub(crate) fn new(alloc: Global, history: History) -> Teller
+impl HistoryMachine {
+    pub(crate) fn new(alloc: Global, history: History) -> HistoryMachine
         ensures { result ≡ history }
     {
-        Teller { alloc, history }
+        HistoryMachine { alloc, history }
     }
 
     pub(crate) fn into_history(self) -> History
@@ -53,8 +53,8 @@ fn reply_to(alloc: Global, history: &mut History, line: &[u8]) -> Reply
     }
 }
 
-impl Machine for Teller {
-    ghost answers = { AnswersLine };
+impl Machine for HistoryMachine {
+    ghost answers = { AnswersText };
 
     fn answer(&mut self, line: &[u8]) -> Result<Vec<u8>, AllocError> {
         let reply = reply_to(self.alloc, &mut self.history, line);

@@ -1,8 +1,7 @@
 -- The reply stood, and its text found no memory.
-use Rattle.std.proofs.Common.{rules, Result, Ok, Err, OnErr, inr, refl}
-use Rattle.wb_proto.specs.Machine.{StepIfRead, NothingDone, AnswersLine}
+use Rattle.std.proofs.Common.{Result, Ok, Err, OnErr, inr, refl}
 use Rattle.wb_proto.specs.Replies.{reply_of}
-use Rattle.wb_proto.proofs.serving.machine.TellerMachine.answer.Goals as goal
+use Rattle.wb_proto.proofs.serving.machine.HistoryMachineMachine.answer.Goals as goal
 
 on_err : {T E : Type 0} (r : Result T E) (P : Type 0) → P → OnErr r P
 on_err (Ok x) P p = tt

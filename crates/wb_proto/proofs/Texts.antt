@@ -1,0 +1,30 @@
+-- What is written straight is the compact text of the reply.
+use Rattle.std.proofs.Common.{◌≡◌, ℕ, ℤ, pos, negsuc, Bool, true, false, codes, refl}
+use Rattle.serde_json.proofs.OnLiterals.{serde_json_on_literals}
+use Rattle.serde_json.specs.Written.{compact_text}
+use Rattle.wb_history.specs.declared.query.Answer.TheVariants.{Value, InForce}
+use Rattle.wb_proto.specs.Printed.{numbers_text, value_text, in_force_text}
+use Rattle.wb_proto.specs.Replies.{answer_data, reply_of}
+use Rattle.wb_proto.specs.declared.replies.reply.Reply.TheVariants.{Edited, Undone, Redone}
+
+pub edited_is : (k n : ℕ) → numbers_text (codes "edit") k (codes "n") n ≡ reply_of (Edited k n)
+unfolding serde_json_on_literals
+edited_is k n = refl
+
+pub undone_is : (k n : ℕ) → numbers_text (codes "n") n (codes "undone") k ≡ reply_of (Undone k n)
+unfolding serde_json_on_literals
+undone_is k n = refl
+
+pub redone_is : (k n : ℕ) → numbers_text (codes "n") n (codes "redone") k ≡ reply_of (Redone k n)
+unfolding serde_json_on_literals
+redone_is k n = refl
+
+pub value_is : (z : ℤ) → value_text z ≡ compact_text (answer_data (Value z))
+unfolding serde_json_on_literals
+value_is (pos n) = refl
+value_is (negsuc n) = refl
+
+pub in_force_is : (b : Bool) → in_force_text b ≡ compact_text (answer_data (InForce b))
+unfolding serde_json_on_literals
+in_force_is true = refl
+in_force_is false = refl

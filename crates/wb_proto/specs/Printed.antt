@@ -1,0 +1,16 @@
+-- The parts of replies that are written straight, with no JSON value of them in between.
+use Rattle.std.specs.Prelude.{ℕ, ℤ, Bool, true, false, List, ◌++◌, codes, decimal}
+use Rattle.std.specs.Fmt.{signed_decimal}
+
+-- two numbers under their keys
+abbrev pub numbers_text : List ℕ → ℕ → List ℕ → ℕ → List ℕ
+numbers_text first a second b = codes "{\"" ++ (first ++ (codes "\":" ++ (decimal a ++ (codes ",\"" ++ (second ++ (codes "\":" ++ (decimal b ++ codes "}")))))))
+
+-- an element
+abbrev pub value_text : ℤ → List ℕ
+value_text z = codes "{\"value\":" ++ (signed_decimal z ++ codes "}")
+
+-- whether an edit is in force
+abbrev pub in_force_text : Bool → List ℕ
+in_force_text true = codes "{\"in_force\":true}"
+in_force_text false = codes "{\"in_force\":false}"

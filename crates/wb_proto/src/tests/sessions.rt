@@ -1,0 +1,144 @@
+use super::replies;
+use crate::{Reply, Request, answer_request, session};
+use std::test::Fail;
+use wb_history::{History, Refusal};
+use wb_lines::SessionEnd;
+
+const BUILT: &str =
+    "{\"op\":\"domain\",\"d\":\"D\",\"is\":\"{1..4}\"}\n{\"op\":\"array\",\"a\":\"A\",\"d\":\"D\"}\n{\"op\":\"set\",\"a\":\"A\",\"i\":1,\"v\":5}\n";
+
+#[test]
+fn first_run(rt: HostRuntime) -> Result<(), Fail> {
+    let alloc = rt.alloc();
+    let mut history = History::new(alloc);
+    for (line, reply, writes) in [
+        (
+            "{\"op\":\"domain\",\"d\":\"D\",\"is\":\"{1..4}\"}\n",
+            "{\"edit\":1,\"n\":3}\n",
+            3,
+        ),
+        (
+            "{\"op\":\"array\",\"a\":\"A\",\"d\":\"D\"}\n",
+            "{\"edit\":2,\"n\":7}\n",
+            10,
+        ),
+        (
+            "{\"op\":\"set\",\"a\":\"A\",\"i\":4,\"v\":9}\n",
+            "{\"edit\":3,\"n\":1}\n",
+            11,
+        ),
+        ("{\"op\":\"undo\"}\n", "{\"n\":1,\"undone\":3}\n", 12),
+        (
+            "{\"op\":\"get\",\"a\":\"A\",\"i\":4}\n",
+            "{\"value\":0}\n",
+            12,
+        ),
+    ] {
+        assert_eq!(rt; replies(alloc, &mut history, line)?.as_str(), reply);
+        assert_eq!(rt; history.book().writes(), writes);
+    }
+    Ok(())
+}
+
+#[test]
+fn refusals_of_undo_and_redo(rt: HostRuntime) -> Result<(), Fail> {
+    let alloc = rt.alloc();
+    let mut history = History::new(alloc);
+    let nothing = replies(alloc, &mut history, "{\"op\":\"undo\"}\n")?;
+    assert_eq!(rt;
+        nothing.as_str(),
+        "{\"error\":\"E11\",\"name\":\"no-such-edit\"}\n"
+    );
+    replies(alloc, &mut history, BUILT)?;
+    for (line, reply) in [
+        (
+            "{\"op\":\"array\",\"a\":\"A\",\"d\":\"D\"}",
+            "{\"error\":\"E03\",\"name\":\"name-taken\"}\n",
+        ),
+        (
+            "{\"op\":\"get\",\"a\":\"A\",\"i\":\"x\"}",
+            "{\"error\":\"E05\",\"name\":\"wrong-kind\"}\n",
+        ),
+        (
+            "{\"op\":\"get\",\"a\":\"A\",\"i\":[1,2]}",
+            "{\"error\":\"E05\",\"name\":\"wrong-kind\"}\n",
+        ),
+        (
+            "{\"op\":\"get\",\"a\":\"A\",\"i\":5}",
+            "{\"error\":\"E06\",\"name\":\"out-of-domain\"}\n",
+        ),
+        (
+            "{\"op\":\"undo\",\"k\":0}",
+            "{\"error\":\"E11\",\"name\":\"no-such-edit\"}\n",
+        ),
+        (
+            "{\"op\":\"undo\",\"k\":4}",
+            "{\"error\":\"E11\",\"name\":\"no-such-edit\"}\n",
+        ),
+        (
+            "{\"op\":\"undo\",\"k\":1}",
+            "{\"by\":2,\"error\":\"E14\",\"name\":\"blocked\"}\n",
+        ),
+        (
+            "{\"op\":\"redo\",\"k\":3}",
+            "{\"error\":\"E13\",\"name\":\"in-force\"}\n",
+        ),
+        ("{\"op\":\"state\",\"k\":3}", "{\"in_force\":true}\n"),
+        ("{\"op\":\"undo\",\"k\":3}", "{\"n\":1,\"undone\":3}\n"),
+        ("{\"op\":\"state\",\"k\":3}", "{\"in_force\":false}\n"),
+        (
+            "{\"op\":\"undo\",\"k\":3}",
+            "{\"error\":\"E12\",\"name\":\"not-in-force\"}\n",
+        ),
+        ("{\"op\":\"undo\",\"k\":2}", "{\"n\":7,\"undone\":2}\n"),
+        (
+            "{\"op\":\"redo\",\"k\":3}",
+            "{\"code\":\"E04\",\"error\":\"E16\",\"name\":\"refused-in-place\"}\n",
+        ),
+        ("{\"op\":\"redo\",\"k\":2}", "{\"n\":7,\"redone\":2}\n"),
+    ] {
+        assert_eq!(rt;
+            replies(alloc, &mut history, line)?.as_str(),
+            reply,
+            "at {line}"
+        );
+    }
+    Ok(())
+}
+
+#[test]
+fn broken_lines(rt: HostRuntime) -> Result<(), Fail> {
+    let alloc = rt.alloc();
+    let mut lines = Vec::from_slice(alloc, b"{\"op\":\"domain\",\"d\":\"D\"\n")?;
+    for _ in 0..65_537u32 {
+        lines.push(b' ')?;
+    }
+    lines.extend_from_slice(b"\n{\"op\":\"get\",\"a\":\"D\",\"i\":1}\n{\"op\":\"pri")?;
+    let mut input = lines.as_slice();
+    let mut output = Vec::new(alloc);
+    let mut history = History::new(alloc);
+    let end = session(alloc, &mut history, &mut input, &mut output);
+    assert_eq!(rt; end, SessionEnd::Done(4));
+    assert_eq!(rt;
+        std::str::from_utf8(&output)?,
+        "{\"error\":\"E01\",\"name\":\"bad-request\"}\n{\"error\":\"E91\",\"name\":\"line-too-long\"}\n{\"error\":\"E04\",\"name\":\"no-such-name\"}\n{\"error\":\"E01\",\"name\":\"bad-request\"}\n"
+    );
+    Ok(())
+}
+
+#[test]
+fn copies_are_answered_alike(rt: HostRuntime) -> Result<(), Fail> {
+    let alloc = rt.alloc();
+    let mut history = History::new(alloc);
+    let request = Request::Undo(Some(7));
+    let copied = request.copy(alloc);
+    let reply = answer_request(&mut history, request);
+    assert_eq!(rt; reply, Reply::Refused(Refusal::NoSuchEdit));
+    if let Ok(copied) = copied {
+        assert_eq!(rt; answer_request(&mut history, copied), reply);
+    }
+    if let Ok(other) = reply.copy(alloc) {
+        assert_eq!(rt; other, reply);
+    }
+    Ok(())
+}
