@@ -1,12 +1,11 @@
 -- Columns of cells: each cell once.
-use Rattle.std.proofs.Common.{◌≡◌, ℕ, zero, suc, ◌+◌, ◌<◌, Bool, true, false, ◌||◌, List, [], ◌∷◌, ◌++◌, map, take, length, Option, Some, None, slice_get, refl, sym, ap, ◌∙◌, arith, add-one}
+use Rattle.std.proofs.Common.{◌≡◌, ℕ, zero, suc, ◌+◌, ◌<◌, true, false, ◌||◌, List, [], ◌∷◌, ◌++◌, map, take, length, Some, None, slice_get, refl, sym, ap, ◌∙◌, arith, add-one}
 use Rattle.std.specs.Ordering.{eq_by_cmp}
 use Rattle.std.specs.Cmp.{Equal-is}
 use Rattle.selective_undo.specs.Changes.{changes}
 use Rattle.selective_undo.proofs.Changes.{not_true}
 use Rattle.wb_range.specs.Domain.{IsListedOnce}
 use Rattle.wb_book.specs.declared.cells.cell.Cell.{Cell}
-use Rattle.wb_book.specs.declared.cells.cell.Cell.TheVariants.{In, Element}
 use Rattle.wb_book.specs.declared.cells.value.Value.{Value}
 use Rattle.wb_book.specs.declared.values.index.Index.{Index}
 use Rattle.wb_book.specs.Cells.{cell_cmp, cell_order, Changes}

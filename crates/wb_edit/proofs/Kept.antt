@@ -4,7 +4,15 @@ pub mod States
 pub mod NewDomain
 pub mod NewArray
 pub mod NewElement
+use Rattle.std.proofs.Common.{◌≡◌, Ok, subst}
+use Rattle.selective_undo.specs.Changes.{apply}
+use Rattle.selective_undo.specs.Edit.{outcome, written}
+use Rattle.wb_book.specs.Cells.{Cells, Changes}
+use Rattle.wb_book.specs.WellFormed.{IsWellFormed}
+use Rattle.wb_edit.specs.Commands.{meaning}
 use Rattle.wb_edit.specs.Laws.{KeepsWellFormed}
+use Rattle.wb_edit.specs.Valid.{IsValid}
+use Rattle.wb_edit.specs.declared.edit.Edit.{Edit as Command}
 use Rattle.wb_edit.specs.declared.edit.Edit.TheVariants.{Domain, Array, Set}
 use Rattle.wb_edit.proofs.Kept.NewDomain.{domain_kept}
 use Rattle.wb_edit.proofs.Kept.NewArray.{array_kept}
@@ -15,3 +23,6 @@ keeps_well_formed (Domain d rs) s valid h = domain_kept s d rs valid h
 keeps_well_formed (Array a d) s valid h = array_kept s a d valid h
 keeps_well_formed (Set a i v) s valid h = set_kept s a i v valid h
 
+-- where it is accepted, the changes leave a well-formed workbook
+pub accepted_well_formed : (e : Command) (s : Cells) (xs : Changes) → IsValid e → IsWellFormed s → outcome (meaning e) s ≡ Ok xs → IsWellFormed (apply xs s)
+accepted_well_formed e s xs valid h accepted = subst (λ o. IsWellFormed (apply (written o) s)) accepted (keeps_well_formed e s valid h)

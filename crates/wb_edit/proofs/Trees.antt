@@ -1,21 +1,21 @@
 -- What looks and attempts come to, step by step.
-use Rattle.std.proofs.Common.{◌≡◌, Bool, true, false, cond, List, [], ◌∷◌, ◌++◌, Option, Some, None, Result, Ok, Err, refl, sym, ap, ◌∙◌, append_assoc, append-nil}
+use Rattle.std.proofs.Common.{◌≡◌, true, false, cond, List, [], ◌∷◌, ◌++◌, Option, Some, Result, Ok, Err, refl, sym, ap, ◌∙◌, append_assoc, append-nil}
 use Rattle.std.specs.Ordering.{eq_by_cmp}
 use Rattle.std.specs.FinMap.{get, find, entries, get-entries}
 use Rattle.std.specs.FinMap.Entries.{where_key}
 use Rattle.selective_undo.proofs.Evaluation.{entries-retain_keys}
-use Rattle.selective_undo.specs.Edit.{write, outcome, reads, seen}
+use Rattle.selective_undo.specs.Edit.{outcome, reads, seen}
 use Rattle.wb_book.specs.declared.cells.cell.Cell.{Cell}
 use Rattle.wb_book.specs.declared.cells.pattern.Pattern.{Pattern}
 use Rattle.wb_book.specs.declared.cells.pattern.Pattern.TheVariants.{One}
 use Rattle.wb_book.specs.declared.cells.value.Value.{Value}
-use Rattle.wb_book.specs.Cells.{cell_cmp, cell_order, Cells, Changes}
+use Rattle.wb_book.specs.Cells.{cell_cmp, cell_order, Cells}
 use Rattle.wb_edit.specs.declared.refusal.Refusal.{Refusal}
 use Rattle.wb_edit.specs.declared.tests.stop.Stop.{Stop}
 use Rattle.wb_edit.specs.declared.tests.stop.Stop.TheVariants.{Refused, NoMemory}
 use Rattle.wb_edit.specs.Schema.{workbook}
-use Rattle.wb_edit.specs.Looks.{Tree, Look, first_value, read, judged}
-use Rattle.wb_edit.specs.Plans.{Attempts, Gives, Looks, Makes, stopped}
+use Rattle.wb_edit.specs.Looks.{Look, first_value, read, judged}
+use Rattle.wb_edit.specs.Plans.{Gives, Looks, stopped}
 
 -- ---- a look at one cell
 
@@ -59,23 +59,3 @@ module _ {X : Type 0} (t : Look X) (s : Cells) (rs ss : List Pattern) where
   -- what was seen is turned into something else
   pub then_shown : {Y : Type 0} (f : X → Y) (x : X) → Gives t s rs x ss → Gives (λ next. t (λ x. next (f x))) s rs (f x) ss
   then_shown f x g next = g (λ x. next (f x))
-
-  -- ---- attempts
-
-  pub attempts_gives : (next : X → Tree) (x : X) (r : Result Changes Stop) (us : List Pattern) → Gives t s rs x ss → Attempts (next x) s ss r us → Attempts (t next) s rs r us
-  attempts_gives next x (Ok xs) us g a = ((g next).0 ∙ a.0, a.1 ∙ sym (g next).1)
-  attempts_gives next x (Err (Refused why)) us g a = ((g next).0 ∙ a.0, a.1 ∙ sym (g next).1)
-  attempts_gives next x (Err NoMemory) us g a = tt
-
-  pub attempts_halts : (next : X → Tree) (stop : Stop) → Looks t s rs (Err stop) ss → Attempts (t next) s rs (Err stop) ss
-  attempts_halts next (Refused why) h = h next
-  attempts_halts next NoMemory h = tt
-
--- a judgement that looks at nothing more
-pub judgement : {X : Type 0} (s : Cells) (rs : List Pattern) (j : Result X Refusal) → Looks (judged j) s rs (stopped j) rs
-judgement s rs (Ok x) = λ next. (refl, refl)
-judgement s rs (Err why) = λ next. (refl, sym (append-nil rs))
-
-pub attempts_write : (xs : Changes) (s : Cells) (rs : List Pattern) (r : Result Changes Stop) → Makes xs r → Attempts (write xs) s rs r rs
-attempts_write xs s rs (Ok ys) is = (ap Ok (sym is), sym (append-nil rs))
-attempts_write xs s rs (Err why) is = rw is tt

@@ -1,5 +1,6 @@
--- The commands: for each, its tests in their order, what they look at, and the cells that it writes.
-use Rattle.std.specs.Prelude.{ℤ, pos, List, [], ◌∷◌, ◌++◌, map, length}
+-- The commands. Each is its tests in their order, and then the cells that it writes with their new values.
+-- A test that refuses ends the command: it has read what the tests so far looked at, that one's own looks too, and writes nothing.
+use Rattle.std.specs.Prelude.{ℤ, pos, List, [], ◌∷◌, map, length}
 use Rattle.selective_undo.specs.Edit.{write}
 use Rattle.wb_book.specs.declared.cells.cell.Cell.TheVariants.{Object, Shape, In, Mapping, Use, Implicit, Element}
 use Rattle.wb_book.specs.declared.cells.value.Binding.TheVariants.{Array}
@@ -12,11 +13,12 @@ use Rattle.wb_book.specs.Cells.{Name, Changes}
 use Rattle.wb_book.specs.Shapes.{Range, indices}
 use Rattle.wb_edit.specs.declared.edit.Edit.{Edit as Command}
 use Rattle.wb_edit.specs.declared.edit.Edit.TheVariants.{Domain, Array, Set}
-use Rattle.wb_edit.specs.Looks.{Tree, ◌>>=◌, ◌>>◌}
+use Rattle.wb_edit.specs.Looks.{Tree, ◌>>=◌}
 use Rattle.wb_edit.specs.Tests.{free, dom, arr, key, element, idx}
 use Rattle.wb_edit.specs.Writes.{put, put_all}
 
--- a new rectangular domain
+-- what a new rectangular domain writes: the domain with its rank, its ranges, that all of it lies on one locale,
+-- and that each of its indices is in it (Chapel Language Specification, Domains)
 abbrev pub domain_cells : Name → List Range → Changes
 domain_cells d rs =
     put (Object d) (Domain (Rectangular (length rs)))
@@ -24,12 +26,14 @@ domain_cells d rs =
     ∷ put (Mapping d) (Mapping Whole)
     ∷ put_all (map (In d) (indices rs)) Present
 
+-- a new rectangular domain: its name is free
 abbrev pub domain : Name → List Range → Tree
 domain d rs = do
   unit ← free d
   write (domain_cells d rs)
 
--- a new array, 0 at each index
+-- what a new array over a domain writes: the array with its domain and that one's kind, that it is bound to the domain,
+-- its implicit value 0, and 0 as its element at each index (Chapel Language Specification, Arrays)
 abbrev pub array_cells : Name → Name → Kind → List Index → Changes
 array_cells a d kind is =
     put (Object a) (Array d kind)
@@ -37,6 +41,7 @@ array_cells a d kind is =
     ∷ put (Implicit a) (Number (pos 0))
     ∷ put_all (map (Element a) is) (Number (pos 0))
 
+-- a new array: its name is free, the domain is there, and it is seen which indices that has
 abbrev pub array : Name → Name → Tree
 array a d = do
   unit ← free a
@@ -44,7 +49,7 @@ array a d = do
   is ← idx d kind
   write (array_cells a d kind is)
 
--- a new element
+-- a new element: the array is there, the index is of the rank and type of its domain, and there is an element at it
 abbrev pub set : Name → Index → ℤ → Tree
 set a i v = do
   (d, kind) ← arr a
@@ -52,6 +57,7 @@ set a i v = do
   there ← element a i
   write (put (Element a i) (Number v) ∷ [])
 
+-- what a command means
 abbrev pub meaning : Command → Tree
 meaning (Domain d rs) = domain d rs
 meaning (Array a d) = array a d

@@ -7,22 +7,26 @@ use Rattle.wb_book.specs.declared.cells.value.Value.{Value}
 use Rattle.wb_edit.specs.declared.refusal.Refusal.{Refusal}
 use Rattle.wb_edit.specs.Schema.{workbook}
 
--- An edit is a tree: `refuse why`, `write changes`, or a look and what follows for each thing that it may show.
+-- An edit of a workbook is a tree: `refuse why`, `write changes`, or a look and what follows for each thing that it may show.
 abbrev pub Tree : Type 0
 Tree = Edit workbook
 
--- A look whose answer the rest of the edit goes by. `x ← t` is "by t, get x, and go on"; a test that gives nothing stands alone.
+-- A test, or a look, by whose answer the rest of an edit goes on: it is given the rest, and is the whole edit.
+-- `x ← t` says: by t, get x, and go on. `unit ← t` is a test that says no more than that the edit goes on.
 abbrev pub Look : Type 0 → Type 0
 Look X = (X → Tree) → Tree
 
+-- t, and then the rest by what t gives: what `x ← t` stands for
 infixr 10 ◌>>=◌
 abbrev pub ◌>>=◌ : {X : Type 0} → Look X → (X → Tree) → Tree
 t >>= next = t next
 
+-- the same where t gives nothing
 infixr 10 ◌>>◌
 abbrev pub ◌>>◌ : (Tree → Tree) → Tree → Tree
 t >> next = t next
 
+-- a look at one cell shows that cell with its value, or nothing
 abbrev pub first_value : List (Cell × Value) → Option Value
 first_value [] = None
 first_value (x ∷ xs) = Some x.1

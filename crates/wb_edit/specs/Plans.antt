@@ -1,5 +1,5 @@
 -- What the code of a plan says of a tree.
-use Rattle.std.specs.Prelude.{◌≡◌, ℕ, List, [], ◌++◌, Option, Some, None, Result, Ok, Err, ⊤}
+use Rattle.std.specs.Prelude.{◌≡◌, ℕ, List, ◌++◌, Option, Result, Ok, Err, ⊤}
 use Rattle.selective_undo.specs.Edit.{outcome, reads}
 use Rattle.wb_book.specs.declared.cells.cell.Cell.{Cell}
 use Rattle.wb_book.specs.declared.cells.cell.Cell.TheVariants.{In, Element}
@@ -17,7 +17,8 @@ use Rattle.wb_book.specs.Shapes.{Range}
 use Rattle.wb_edit.specs.Tests.{indices_of}
 use Rattle.wb_edit.specs.Looks.{Tree, Look}
 
--- A plan is what the tree says: its outcome, its reads and the number of its changes, not counting the cells `In`.
+-- A plan is what the tree says of the cells: the changes, or the refusal; the reads in their order; and how many cells change,
+-- the cells `In` aside. Nothing is said where no memory was left.
 abbrev pub IsPlan : Tree → Cells → Result (Changes × List Pattern × ℕ) PlanErr → Type 0
 IsPlan e s (Ok (xs, rs, n)) = (outcome e s ≡ Ok xs) × (rs ≡ reads e s) × (n ≡ count_of xs)
 IsPlan e s (Err (PlanRefused why rs)) = (outcome e s ≡ Err why) × (rs ≡ reads e s)

@@ -1,5 +1,6 @@
 -- The tests that commands are made of. Each looks at some cells, and then the edit goes on, with what was seen, or is refused.
-use Rattle.std.specs.Prelude.{ℕ, ◌==◌, Bool, true, false, ℤ, pos, List, [], length, Option, Some, None, Result, Ok, Err}
+-- A test is a look and a judgement: the judgements say what follows from what a cell holds, and look at nothing.
+use Rattle.std.specs.Prelude.{◌==◌, Bool, true, false, List, [], length, Option, Some, None, Result, Ok, Err}
 use Rattle.wb_book.specs.declared.cells.cell.Cell.TheVariants.{Object, Shape, Element}
 use Rattle.wb_book.specs.declared.cells.value.Kind.{Kind}
 use Rattle.wb_book.specs.declared.cells.value.Kind.TheVariants.{Rectangular}
@@ -12,37 +13,38 @@ use Rattle.wb_book.specs.Shapes.{Range, indices}
 pub use Rattle.wb_book.specs.WellFormed.{ranges_in}
 use Rattle.wb_edit.specs.declared.refusal.Refusal.{Refusal}
 use Rattle.wb_edit.specs.declared.refusal.Refusal.TheVariants.{NameTaken, NoSuchName, WrongKind, OutOfDomain}
-use Rattle.wb_edit.specs.Looks.{Tree, Look, ◌>>=◌, ◌>>◌, read, judged}
+use Rattle.wb_edit.specs.Looks.{Look, ◌>>=◌, read, judged}
 
 -- ---- judgements of what a cell holds
 
--- nothing has the name
+-- nothing has the name; else it is taken
 abbrev pub is_free : Option Value → Result (Unit {0}) Refusal
 is_free None = Ok tt
 is_free (Some v) = Err NameTaken
 
--- the name is there, and names a domain
+-- the name is that of a domain: its kind. It is no name where nothing has it, and of the wrong kind where an array has it
 abbrev pub domain_kind : Option Value → Result Kind Refusal
 domain_kind None = Err NoSuchName
 domain_kind (Some (Domain kind)) = Ok kind
 domain_kind (Some v) = Err WrongKind
 
--- the name is there, and names an array: its domain, and that domain's kind
+-- the name is that of an array: its domain, and that domain's kind
 abbrev pub array_kind : Option Value → Result (Name × Kind) Refusal
 array_kind None = Err NoSuchName
 array_kind (Some (Array d kind)) = Ok (d, kind)
 array_kind (Some v) = Err WrongKind
 
--- the element is there
+-- an element is there; else the index is outside
 abbrev pub is_there : Option Value → Result (Unit {0}) Refusal
 is_there None = Err OutOfDomain
 is_there (Some v) = Ok tt
 
+-- an index of a rectangular domain has as many coordinates as that has dimensions (Chapel Language Specification, Domains)
 abbrev pub is_key : Kind → Index → Bool
 is_key (Rectangular rank) (Point is) = length is == rank
 is_key (Rectangular rank) (Text t) = false
 
--- the index is of the rank and type of the domain's indices
+-- the index is of the rank and type of the indices of a domain of this kind; else it is of the wrong kind
 abbrev pub fits : Kind → Index → Result (Unit {0}) Refusal
 fits kind i = elim (is_key kind i) [ true ↦ Ok tt | false ↦ Err WrongKind ]
 
@@ -53,30 +55,35 @@ indices_of None = []
 
 -- ---- the tests
 
+-- the name is free: looks at its object
 abbrev pub free : Name → Look (Unit {0})
 free n next = do
   v ← read (Object n)
   judged (is_free v) next
 
+-- a domain of the name: looks at its object
 abbrev pub dom : Name → Look Kind
 dom d next = do
   v ← read (Object d)
   judged (domain_kind v) next
 
+-- an array of the name: looks at its object
 abbrev pub arr : Name → Look (Name × Kind)
 arr a next = do
   v ← read (Object a)
   judged (array_kind v) next
 
+-- an index that fits: looks at nothing
 abbrev pub key : Kind → Index → Look (Unit {0})
 key kind i = judged (fits kind i)
 
+-- an array's element at an index: looks at it
 abbrev pub element : Name → Index → Look (Unit {0})
 element a i next = do
   v ← read (Element a i)
   judged (is_there v) next
 
--- the indices of a domain
+-- the indices of a domain, in its order: looks at its ranges
 abbrev pub idx : Name → Kind → Look (List Index)
 idx d (Rectangular rank) next = do
   v ← read (Shape d)

@@ -6,6 +6,7 @@ use Rattle.wb_book.specs.WellFormed.{IsRectangle}
 use Rattle.wb_edit.specs.declared.edit.Edit.{Edit as Command}
 use Rattle.wb_edit.specs.declared.edit.Edit.TheVariants.{Domain, Array, Set}
 
+-- what a command has to be so that it keeps a workbook well formed; every value of the type `Edit` is
 abbrev pub IsValid : Command → Type 0
 -- the new name is a name, and the ranges are those of a rectangular domain
 IsValid (Domain d rs) = (is_name d ≡ true) × IsRectangle (length rs) rs

@@ -5,19 +5,23 @@ use std::alloc::Global;
 use wb_book::{AnyIndex, AnyRect, Name};
 use wb_range::NoMemory;
 
-/// A change to a workbook, as it is asked for. Its meaning is the tree that the definitions give it.
+/// A command that changes a workbook, as it is asked for.
+///
+/// What it tests, reads and writes is its `meaning` in `specs/Commands.antt`.
 #[derive(Drop)]
 pub enum Edit {
-    /// A new rectangular domain with these ranges, all of it on one locale.
+    /// A new rectangular domain of this name, with these ranges, all of it on one locale
+    /// (Chapel Language Specification, Domains).
     Domain(Name, AnyRect),
-    /// A new array, the first name, over the domain that the second one names; all elements are 0.
+    /// A new array of the first name, over the domain of the second one; its elements are 0
+    /// (Chapel Language Specification, Arrays).
     Array(Name, Name),
-    /// A new element of an array, at an index.
+    /// A new value for the element of an array at an index.
     Set(Name, AnyIndex, i64),
 }
 
 impl Edit {
-    /// An equal edit, or `NoMemory`.
+    /// An equal edit, or `NoMemory` where none is left. The edits so far are of a fixed size and take none.
     pub fn copy(&self, _alloc: Global) -> Result<Edit, NoMemory>
         ensures { IfOk result (λ e. e ≡ self.now) }
     {
@@ -28,9 +32,8 @@ impl Edit {
         }
     }
 
-    /// What every edit is: its names are names, its ranges are within the limits, its numbers are of 64 bits.
-    ///
-    /// It computes nothing; callers learn the clause.
+    /// Computes nothing. Callers learn what every edit is: its new name is a name, its ranges are within the limits,
+    /// its number is one of 64 bits.
     pub fn validity(&self)
         ensures { IsValid self.now }
     {

@@ -6,10 +6,10 @@ use std::marker::Model;
 use wb_book::Pattern;
 use wb_range::NoMemory;
 
-/// How many patterns are kept in place.
+/// So many patterns take no memory of their own.
 const FEW: usize = 2;
 
-/// What an edit read, in order. Contracts see the list of its patterns.
+/// The footprint of an edit: what it read, in order. Contracts see the list of its patterns.
 #[derive(Drop)]
 pub struct Foot {
     reads: SmallVec<Pattern, FEW>,
@@ -41,7 +41,7 @@ impl Foot {
         self.reads.as_slice()
     }
 
-    /// Keeps that a pattern was read.
+    /// Keeps that a pattern was read, after the others; `NoMemory` where none is left, and then nothing is kept.
     pub(crate) fn keep(&mut self, pattern: Pattern) -> Result<(), NoMemory>
         ensures ok { OnOk result (self.new ≡ self.old ++ pattern ∷ []) }
         ensures err { OnErr result (self.new ≡ self.old) }

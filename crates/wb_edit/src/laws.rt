@@ -1,4 +1,4 @@
-//! The laws of the commands: each is the contract of a function that does nothing.
+//! What holds of every command: each law is the contract of a function that does nothing.
 
 ghost use Rattle.selective_undo.specs.Laws.{LocalityLaw};
 ghost use Rattle.wb_edit.specs.Schema.{workbook};

@@ -1,6 +1,11 @@
-//! Edits of a workbook: each is planned by looking at cells, and then refused or written.
+//! Edits of a workbook: each is planned by looking at cells, and then it is refused or says what to write.
+//!
+//! What each command means stands in `specs/Commands.antt`, a tree of the tests of `specs/Tests.antt`. [`plan`] is
+//! proved to do what the tree says, and [`laws`] what holds of every command.
 #![tactic(auto)]
 
+#[cfg(test)]
+mod checks;
 mod commands;
 mod edit;
 mod foot;

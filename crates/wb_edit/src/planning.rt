@@ -13,20 +13,18 @@ use wb_book::{Book, Delta};
 /// Why there is no plan.
 #[derive(Drop)]
 pub enum PlanErr {
-    /// The edit is refused, and what it read up to the test that refused it.
+    /// Why the edit is refused, and what it read up to and with the test that refused it.
     Refused(Refusal, Foot),
-    /// A growth was refused.
+    /// No memory was left; it may be planned again.
     NoMemory,
 }
 
-/// What the edit would change, what it reads, and how many cells it touches (those that `In` names aside).
+/// What an edit would change in a workbook, what it reads, in order, and how many cells it touches.
 ///
-/// It is refused exactly where its meaning is, with the same reads.
-pub fn plan(
-    alloc: Global,
-    book: &Book,
-    edit: &Edit,
-) -> Result<(Delta, Foot, usize), PlanErr>
+/// The workbook stays as it is. The count leaves out the cells `In`, which follow from the shapes. The edit is
+/// refused exactly where its meaning is, and then it has read what its tests looked at, up to and with the one that
+/// refused it.
+pub fn plan(alloc: Global, book: &Book, edit: &Edit) -> Result<(Delta, Foot, usize), PlanErr>
     ensures { IsPlan (meaning edit.now) book.now.cells result }
 {
     let mut foot = Foot::new(alloc);
@@ -40,6 +38,7 @@ pub fn plan(
     }
 }
 
+// The changes of the edit; what it reads is added to `foot`.
 fn attempt(alloc: Global, book: &Book, foot: &mut Foot, edit: &Edit) -> Result<Delta, Stop>
     ensures { Attempts (meaning edit.now) book.now.cells foot.old result foot.new }
 {

@@ -37,10 +37,19 @@ fn array_changes(
 {
     let mut delta = Delta::new(alloc);
     put(&mut delta, Cell::Object(name), Value::Array(domain, kind))?;
-    put(&mut delta, Cell::Use(domain, name), Value::Bound(Binding::Array))?;
+    put(
+        &mut delta,
+        Cell::Use(domain, name),
+        Value::Bound(Binding::Array),
+    )?;
     put(&mut delta, Cell::Implicit(name), Value::Number(0))?;
     if let Some(ranges) = ranges {
-        put_all(&mut delta, &Column::Elements(name), &ranges, &Value::Number(0))?;
+        put_all(
+            &mut delta,
+            &Column::Elements(name),
+            &ranges,
+            &Value::Number(0),
+        )?;
     }
     Ok(delta)
 }

@@ -30,7 +30,11 @@ fn domain_changes(alloc: Global, name: Name, ranges: &AnyRect) -> Result<Delta, 
     let kind = Kind::Rectangular(ranges.rank());
     put(&mut delta, Cell::Object(name), Value::Domain(kind))?;
     put(&mut delta, Cell::Shape(name), Value::Ranges(*ranges))?;
-    put(&mut delta, Cell::Mapping(name), Value::Mapping(Layout::Whole))?;
+    put(
+        &mut delta,
+        Cell::Mapping(name),
+        Value::Mapping(Layout::Whole),
+    )?;
     put_all(&mut delta, &Column::Inside(name), ranges, &Value::Present)?;
     Ok(delta)
 }

@@ -7,9 +7,8 @@ ghost use Rattle.wb_edit.specs.Writes.{put};
 
 use crate::commands::writes::put;
 use crate::foot::Foot;
-use crate::tests::judgements;
-use crate::tests::looks;
 use crate::tests::stop::{Stop, stopped};
+use crate::tests::{judgements, looks};
 use std::alloc::Global;
 use wb_book::{AnyIndex, Book, Cell, Delta, Name, Value};
 
@@ -30,15 +29,14 @@ pub(crate) fn plan_set(
     element_change(alloc, array, index, value)
 }
 
-fn element_change(
-    alloc: Global,
-    array: Name,
-    index: AnyIndex,
-    value: i64,
-) -> Result<Delta, Stop>
+fn element_change(alloc: Global, array: Name, index: AnyIndex, value: i64) -> Result<Delta, Stop>
     ensures { Makes (put (Element array index) (Number value) ∷ []) result }
 {
     let mut delta = Delta::new(alloc);
-    put(&mut delta, Cell::Element(array, index), Value::Number(value))?;
+    put(
+        &mut delta,
+        Cell::Element(array, index),
+        Value::Number(value),
+    )?;
     Ok(delta)
 }

@@ -6,7 +6,7 @@ ghost use Rattle.wb_edit.specs.Tests.{is_free, domain_kind, array_kind, is_there
 use crate::refusal::Refusal;
 use wb_book::{AnyIndex, AnyRect, Index, Kind, Name, Value};
 
-/// Nothing has the name.
+/// That nothing has the name whose object is given; `NameTaken` where something has.
 pub fn is_free(object: Option<Value>) -> Result<(), Refusal>
     ensures { result ≡ is_free object }
 {
@@ -16,7 +16,7 @@ pub fn is_free(object: Option<Value>) -> Result<(), Refusal>
     }
 }
 
-/// The name is there, and names a domain: its kind.
+/// The kind of the domain whose object is given; `NoSuchName` where nothing is there, `WrongKind` where no domain is.
 pub fn domain_kind(object: Option<Value>) -> Result<Kind, Refusal>
     ensures { result ≡ domain_kind object }
 {
@@ -34,7 +34,8 @@ pub fn domain_kind(object: Option<Value>) -> Result<Kind, Refusal>
     }
 }
 
-/// The name is there, and names an array: its domain, and that domain's kind.
+/// The domain of the array whose object is given, and that domain's kind; `NoSuchName` where nothing is there,
+/// `WrongKind` where no array is.
 pub fn array_kind(object: Option<Value>) -> Result<(Name, Kind), Refusal>
     ensures { result ≡ array_kind object }
 {
@@ -52,7 +53,7 @@ pub fn array_kind(object: Option<Value>) -> Result<(Name, Kind), Refusal>
     }
 }
 
-/// The element is there.
+/// That the element is there; `OutOfDomain` where it is not.
 pub fn is_there(element: Option<Value>) -> Result<(), Refusal>
     ensures { result ≡ is_there element }
 {
@@ -62,6 +63,7 @@ pub fn is_there(element: Option<Value>) -> Result<(), Refusal>
     }
 }
 
+// Whether an index has as many coordinates as the domain has dimensions.
 fn is_key(kind: Kind, index: Index) -> bool
     ensures { result ≡ is_key kind index }
 {
@@ -73,7 +75,7 @@ fn is_key(kind: Kind, index: Index) -> bool
     }
 }
 
-/// The index is of the rank and type of the domain's indices.
+/// That the index is of the rank and type of the indices of a domain of this kind; `WrongKind` where it is not.
 pub fn fits(kind: Kind, index: AnyIndex) -> Result<(), Refusal>
     ensures { result ≡ fits kind index }
 {
@@ -84,7 +86,7 @@ pub fn fits(kind: Kind, index: AnyIndex) -> Result<(), Refusal>
     }
 }
 
-/// The ranges that a cell holds.
+/// The ranges that a cell holds, if it holds ranges.
 pub fn ranges_in(shape: Option<Value>) -> Option<AnyRect>
     ensures { result ≡ ranges_in shape }
 {

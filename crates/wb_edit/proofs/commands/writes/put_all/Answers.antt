@@ -1,6 +1,4 @@
-use Rattle.std.proofs.Common.{◌≡◌, ◌<◌, length, arith, ◌++◌, ◌∷◌, [], map, take, Some, slice_get, sym, ap, ◌∙◌, append_assoc, false}
-use Rattle.selective_undo.specs.Changes.{changes}
-use Rattle.wb_book.specs.Cells.{cell_cmp}
+use Rattle.std.proofs.Common.{◌≡◌, ◌<◌, length, arith, ◌++◌, ◌∷◌, [], map, take, Some, slice_get, sym, ap, ◌∙◌, append_assoc}
 use Rattle.wb_book.specs.Shapes.{indices}
 use Rattle.wb_edit.specs.Plans.{cell_at}
 use Rattle.wb_edit.specs.Writes.{put, put_all}

@@ -1,6 +1,3 @@
-use Rattle.std.proofs.Common.{sym, subst}
-use Rattle.wb_edit.specs.Looks.{read}
-use Rattle.wb_edit.specs.Plans.{Gives}
 use Rattle.wb_edit.proofs.Trees.{gives_read}
 use Rattle.wb_edit.proofs.tests.looks.read.Goals as goal
 

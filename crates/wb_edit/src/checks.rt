@@ -1,0 +1,280 @@
+//! The commands on a small workbook: what they count, what they read, and where they are refused.
+//!
+//! A call that runs out of memory is made once more, so that the tests hold where any one growth is refused.
+
+ghost use Rattle.wb_edit.specs.Commands.{meaning};
+ghost use Rattle.wb_edit.specs.Plans.{IsPlan};
+
+use super::*;
+use std::alloc::Global;
+use std::test::Fail;
+use wb_assoc::Label;
+use wb_book::{
+    AnyIndex, AnyRect, Book, Cell, CellChange, Delta, Index, Name, Pattern, Point, Value,
+};
+use wb_range::Range;
+
+// The rectangle of a range, without its contract, in which a proof would list every integer of it.
+fn interval(low: i64, high: i64) -> Option<AnyRect> {
+    AnyRect::from_range(Range::new(low, high, 1, None).ok()?).ok()
+}
+
+fn name(text: &str) -> Option<Name> {
+    Name::new(text).ok()
+}
+
+fn at(i: i64) -> AnyIndex {
+    AnyIndex::new(Index::Point(Point::single(i)))
+}
+
+fn planned(alloc: Global, book: &Book, edit: &Edit) -> Result<(Delta, Foot, usize), PlanErr>
+    ensures { IsPlan (meaning edit.now) book.now.cells result }
+{
+    match plan(alloc, book, edit) {
+        Ok(done) => Ok(done),
+        Err(PlanErr::Refused(why, foot)) => Err(PlanErr::Refused(why, foot)),
+        Err(PlanErr::NoMemory) => plan(alloc, book, edit),
+    }
+}
+
+// Makes an edit: what it read, and how many cells it touches.
+fn made(alloc: Global, book: &mut Book, edit: Edit) -> Option<(Foot, usize)> {
+    edit.validity();
+    let _writes = book.writes();
+    let Ok((delta, foot, count)) = planned(alloc, book, &edit) else {
+        return None;
+    };
+    match book.apply(delta) {
+        Ok(_) => Some((foot, count)),
+        Err((delta, _)) => match book.apply(delta) {
+            Ok(_) => Some((foot, count)),
+            Err(_) => None,
+        },
+    }
+}
+
+fn is_read(pattern: &Pattern, cell: &Cell) -> bool {
+    match *pattern {
+        Pattern::One(read) => read.cell() == *cell,
+        Pattern::Objects => false,
+        Pattern::Uses(_) => false,
+        Pattern::Elements(_) => false,
+    }
+}
+
+// Whether just these cells were read, in this order.
+fn reads_are(foot: &Foot, cells: &[Cell]) -> bool {
+    let reads = foot.reads();
+    for k in 0..cells.len() {
+        if k >= reads.len() || !is_read(&reads[k], &cells[k]) {
+            return false;
+        }
+    }
+    reads.len() == cells.len()
+}
+
+// Whether the edit is refused so, after these reads.
+fn is_refused(alloc: Global, book: &Book, edit: &Edit, wanted: Refusal, cells: &[Cell]) -> bool {
+    match planned(alloc, book, edit) {
+        Err(PlanErr::Refused(why, foot)) => why == wanted && reads_are(&foot, cells),
+        Err(PlanErr::NoMemory) => false,
+        Ok(_) => false,
+    }
+}
+
+fn number(value: Option<Value>) -> Option<i64> {
+    match value {
+        Some(Value::Number(number)) => Some(number),
+        _ => None,
+    }
+}
+
+// The domain D {1..4}, and A over it.
+fn small_book(alloc: Global) -> Option<Book> {
+    let mut book = Book::new(alloc);
+    let domain = name("D")?;
+    let array = name("A")?;
+    let ranges = interval(1, 4)?;
+    made(alloc, &mut book, Edit::Domain(domain, ranges))?;
+    made(alloc, &mut book, Edit::Array(array, domain))?;
+    Some(book)
+}
+
+#[test]
+fn first_run(rt: HostRuntime) -> Result<(), Fail> {
+    let alloc = rt.alloc();
+    let mut book = Book::new(alloc);
+    let domain = name("D").ok_or("a name")?;
+    let array = name("A").ok_or("a name")?;
+    let ranges = interval(1, 4).ok_or("a rectangle")?;
+    let (foot, count) = made(alloc, &mut book, Edit::Domain(domain, ranges)).ok_or("a domain")?;
+    assert_eq!(rt; count, 3);
+    assert!(rt; reads_are(&foot, &[Cell::Object(domain)]));
+    let (foot, count) = made(alloc, &mut book, Edit::Array(array, domain)).ok_or("an array")?;
+    assert_eq!(rt; count, 7);
+    assert!(rt;
+        reads_are(
+            &foot,
+            &[
+                Cell::Object(array),
+                Cell::Object(domain),
+                Cell::Shape(domain)
+            ]
+        )
+    );
+    assert_eq!(rt; number(book.get(Cell::Element(array, at(4)))), Some(0));
+    let (foot, count) = made(alloc, &mut book, Edit::Set(array, at(4), 9)).ok_or("an element")?;
+    assert_eq!(rt; count, 1);
+    assert!(rt; reads_are(&foot, &[Cell::Object(array), Cell::Element(array, at(4))]));
+    assert_eq!(rt; number(book.get(Cell::Element(array, at(4)))), Some(9));
+    assert_eq!(rt; number(book.get(Cell::Element(array, at(3)))), Some(0));
+    assert_eq!(rt; book.writes(), 11);
+    Ok(())
+}
+
+#[test]
+fn refusals_of_a_new_domain_or_array(rt: HostRuntime) -> Result<(), Fail> {
+    let alloc = rt.alloc();
+    let book = small_book(alloc).ok_or("a book")?;
+    let domain = name("D").ok_or("a name")?;
+    let array = name("A").ok_or("a name")?;
+    let other = name("B").ok_or("a name")?;
+    let absent = name("X").ok_or("a name")?;
+    let ranges = interval(1, 2).ok_or("a rectangle")?;
+    let taken = Refusal::NameTaken;
+    let refused = |edit: Edit, why, cells: &[Cell]| is_refused(alloc, &book, &edit, why, cells);
+    assert!(rt; refused(Edit::Domain(domain, ranges), taken, &[Cell::Object(domain)]));
+    assert!(rt; refused(Edit::Domain(array, ranges), taken, &[Cell::Object(array)]));
+    assert!(rt; refused(Edit::Array(domain, domain), taken, &[Cell::Object(domain)]));
+    assert!(rt; refused(Edit::Array(array, absent), taken, &[Cell::Object(array)]));
+    assert!(rt;
+        refused(
+            Edit::Array(other, absent),
+            Refusal::NoSuchName,
+            &[Cell::Object(other), Cell::Object(absent)]
+        )
+    );
+    assert!(rt;
+        refused(
+            Edit::Array(other, array),
+            Refusal::WrongKind,
+            &[Cell::Object(other), Cell::Object(array)]
+        )
+    );
+    Ok(())
+}
+
+#[test]
+fn refusals_of_a_new_element(rt: HostRuntime) -> Result<(), Fail> {
+    let alloc = rt.alloc();
+    let book = small_book(alloc).ok_or("a book")?;
+    let domain = name("D").ok_or("a name")?;
+    let array = name("A").ok_or("a name")?;
+    let absent = name("X").ok_or("a name")?;
+    let pair = AnyIndex::new(Index::Point(Point::pair(1, 2)));
+    let text = AnyIndex::new(Index::Text(Label::new("a")?));
+    let wrong = Refusal::WrongKind;
+    let refused = |array, index, why, cells: &[Cell]| {
+        is_refused(alloc, &book, &Edit::Set(array, index, 9), why, cells)
+    };
+    assert!(rt; refused(absent, at(4), Refusal::NoSuchName, &[Cell::Object(absent)]));
+    assert!(rt; refused(domain, at(4), wrong, &[Cell::Object(domain)]));
+    assert!(rt; refused(array, pair, wrong, &[Cell::Object(array)]));
+    assert!(rt; refused(array, text, wrong, &[Cell::Object(array)]));
+    for i in [0, 5] {
+        assert!(rt;
+            refused(
+                array,
+                at(i),
+                Refusal::OutOfDomain,
+                &[Cell::Object(array), Cell::Element(array, at(i))]
+            ),
+            "at {i}"
+        );
+    }
+    Ok(())
+}
+
+// Whether just these cells change, in this order.
+fn cells_are(changes: &[CellChange], cells: &[Cell]) -> bool {
+    for k in 0..cells.len() {
+        if k >= changes.len() || changes[k].cell() != cells[k] {
+            return false;
+        }
+    }
+    changes.len() == cells.len()
+}
+
+#[test]
+fn cells_of_a_domain_and_its_array(rt: HostRuntime) -> Result<(), Fail> {
+    let alloc = rt.alloc();
+    let mut book = Book::new(alloc);
+    let domain = name("a2345678901234567890123456789012").ok_or("a name")?;
+    let array = name("A").ok_or("a name")?;
+    let edit = Edit::Domain(domain, interval(-1, 0).ok_or("a rectangle")?);
+    let Ok((delta, _, _)) = planned(alloc, &book, &edit) else {
+        return Err(Fail::new("a domain"));
+    };
+    assert!(rt;
+        cells_are(
+            delta.changes(),
+            &[
+                Cell::Object(domain),
+                Cell::Shape(domain),
+                Cell::Mapping(domain),
+                Cell::In(domain, at(-1)),
+                Cell::In(domain, at(0))
+            ]
+        )
+    );
+    made(alloc, &mut book, edit).ok_or("a domain")?;
+    let Ok((delta, _, _)) = planned(alloc, &book, &Edit::Array(array, domain)) else {
+        return Err(Fail::new("an array"));
+    };
+    assert!(rt;
+        cells_are(
+            delta.changes(),
+            &[
+                Cell::Object(array),
+                Cell::Use(domain, array),
+                Cell::Implicit(array),
+                Cell::Element(array, at(-1)),
+                Cell::Element(array, at(0))
+            ]
+        )
+    );
+    Ok(())
+}
+
+#[test]
+fn empty_domains(rt: HostRuntime) -> Result<(), Fail> {
+    let alloc = rt.alloc();
+    let mut book = Book::new(alloc);
+    let domain = name("D").ok_or("a name")?;
+    let array = name("A").ok_or("a name")?;
+    let ranges = interval(5, 4).ok_or("a rectangle")?;
+    let (_, count) = made(alloc, &mut book, Edit::Domain(domain, ranges)).ok_or("a domain")?;
+    assert_eq!(rt; count, 3);
+    let (_, count) = made(alloc, &mut book, Edit::Array(array, domain)).ok_or("an array")?;
+    assert_eq!(rt; count, 3);
+    assert_eq!(rt; book.writes(), 6);
+    Ok(())
+}
+
+#[test]
+fn copies(rt: HostRuntime) -> Result<(), Fail> {
+    let alloc = rt.alloc();
+    let domain = name("D").ok_or("a name")?;
+    let array = name("A").ok_or("a name")?;
+    let Edit::Array(first, second) = Edit::Array(array, domain).copy(alloc)? else {
+        return Err(Fail::new("an array"));
+    };
+    assert_eq!(rt; (first, second), (array, domain));
+    let Edit::Set(first, index, value) = Edit::Set(array, at(4), 9).copy(alloc)? else {
+        return Err(Fail::new("an element"));
+    };
+    assert_eq!(rt; first, array);
+    assert_eq!(rt; index, at(4));
+    assert_eq!(rt; value, 9);
+    Ok(())
+}
