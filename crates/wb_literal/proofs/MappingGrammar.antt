@@ -71,7 +71,6 @@ last_found bytes rest g e =
 last_ends : (text rest : List ℕ) (g : GridLiteral) → IsLastGrid text g → Ends (text ++ rest)
 last_ends text rest g (c, x, t, p, i, q, e) = subst Ends (sym (ap (λ z. z ++ rest) e ∙ append_assoc c (x ++ (t ++ codes ")")) rest)) (comma_ends c ((x ++ (t ++ codes ")")) ++ rest) p)
 
-
 block_body : (b l rest : List ℕ) (box : RectangleLiteral) (g : GridLiteral) → IsRectangle b box → IsLastGrid l g → block_at (b ++ (l ++ rest)) ≡ Some (mappings.Block box g, rest)
 block_body b l rest box g h k = rw (rectangle_read b (l ++ rest) box h, last_read l rest g k) refl
 
