@@ -1,0 +1,4 @@
+pub mod Splits
+pub mod Parts
+pub mod Places
+pub mod Writes

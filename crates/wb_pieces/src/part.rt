@@ -1,0 +1,70 @@
+ghost use Rattle.std.specs.Prelude.{◌≡◌, ◌<◌, [], ◌∷◌, ◌++◌, OnOk, IfOk, vec_len, slice_index_or, slice_set};
+ghost use Rattle.std.specs.Prelude.{replicate};
+ghost use Rattle.wb_pieces.specs.Pieces.{pieces_from, lists_of, LieBelow};
+
+use std::alloc::{AllocError, Global};
+use std::collections::BTreeMap;
+use wb_range::{Key, Mapping, NoMemory};
+
+/// The pieces of `count` locales from `first` on, in one pass over the array:
+/// piece l has the pairs whose index has locale l, ascending by index.
+pub fn part_of<I: Key, M: Mapping<Index = I>>(
+    alloc: Global,
+    mapping: &M,
+    whole: &BTreeMap<I, i64>,
+    first: usize,
+    count: usize,
+) -> Result<Vec<Vec<(I, i64)>>, NoMemory>
+    ensures pieces { IfOk result (λ v. lists_of v.items ≡ pieces_from (M.locale mapping.now) whole.now.entries first count) }
+    ensures below { OnOk result (LieBelow (M.locale mapping.now) (M.locale_count mapping.now) whole.now.entries) }
+{
+    distributed(alloc, mapping, whole, first, count).map_err(|_| NoMemory)
+}
+
+// The pieces of `count` locales from `first` on.
+fn distributed<I: Key, M: Mapping<Index = I>>(
+    alloc: Global,
+    mapping: &M,
+    whole: &BTreeMap<I, i64>,
+    first: usize,
+    count: usize,
+) -> Result<Vec<Vec<(I, i64)>>, AllocError>
+    ensures pieces { IfOk result (λ v. lists_of v.items ≡ pieces_from (M.locale mapping.now) whole.now.entries first count) }
+    ensures below { OnOk result (LieBelow (M.locale mapping.now) (M.locale_count mapping.now) whole.now.entries) }
+{
+    let mut pieces = empty_pieces(alloc, count)?;
+    for (index, value) in whole {
+        let locale = mapping.locale_of(*index);
+        if first <= locale {
+            let place = locale - first;
+            if place < count {
+                push_at(&mut pieces, place, (*index, *value))?;
+            }
+        }
+    }
+    Ok(pieces)
+}
+
+// Vectors without pairs.
+fn empty_pieces<I: Copy>(alloc: Global, count: usize) -> Result<Vec<Vec<(I, i64)>>, AllocError>
+    ensures { IfOk result (λ v. lists_of v.items ≡ replicate count []) }
+{
+    let mut pieces = Vec::new(alloc);
+    for _ in 0..count {
+        pieces.push(Vec::new(alloc))?;
+    }
+    Ok(pieces)
+}
+
+// Adds a pair to one of the pieces.
+fn push_at<I: Copy>(
+    pieces: &mut Vec<Vec<(I, i64)>>,
+    place: usize,
+    pair: (I, i64),
+) -> Result<(), AllocError>
+    requires { place < vec_len pieces.old }
+    ensures { OnOk result (lists_of pieces.new.items ≡ slice_set (lists_of pieces.old.items) place (slice_index_or (lists_of pieces.old.items) place [] ++ pair ∷ [])) }
+{
+    pieces[place].push(pair)?;
+    Ok(())
+}

@@ -1,0 +1,230 @@
+ghost use Rattle.std.specs.Prelude.{◌≡◌, ℕ, ℤ, ◌<◌, ◌≤◌, ◌↔◌, List, length, IfOk, IfSome, MatchOption, MatchResult, OnOk, OnErr, IfNone, Err, Some, None, [], slice_index_or, slice_set};
+ghost use Rattle.std.specs.List.Sorted.{IsStrictlySortedBy};
+ghost use Rattle.std.specs.Map.{keys_of, set_value};
+ghost use Rattle.std.specs.BTreeMap.{is_at};
+ghost use Rattle.wb_array.specs.Elements.{value_at};
+ghost use Rattle.wb_pieces.specs.Pieces.{piece_of, pieces_of, lists_of, merged, LieBelow};
+
+use crate::part::part_of;
+use std::alloc::{AllocError, Global};
+use std::collections::BTreeMap;
+use std::marker::{Model, PhantomData};
+use wb_array::{Bound, Dropped, OutOfDomain, Store, put_absent};
+use wb_dist::PieceErr;
+use wb_range::{Domain, Key, Mapping, NoMemory};
+
+/// An array kept in pieces: for each locale of the mapping the pairs whose
+/// index has that locale, ascending by index.
+#[derive(Drop)]
+pub struct Pieces<D: Domain, M: Mapping<Index = D::Index>> {
+    pieces: Vec<Vec<(D::Index, i64)>>,
+    size: usize,
+    mapping: M,
+    alloc: Global,
+    of: PhantomData<D>,
+}
+
+impl<D: Domain, M: Mapping<Index = D::Index>> Model for Pieces<D, M> {
+    ghost use Rattle.std.specs.Prelude.{List, ℤ};
+    ghost use Rattle.wb_pieces.specs.Pieces.{merged, lists_of, IsSplit};
+
+    ghost Value = { List (D.Index × ℤ) × M };
+
+    ghost view = { λ p. (merged D.Index.cmp (lists_of p.pieces.items), p.mapping) };
+
+    ghost invariant = { λ p. IsSplit D.Index.cmp (M.locale p.mapping) (M.locale_count p.mapping) p.size (lists_of p.pieces.items) };
+}
+
+impl<D: Domain, M: Mapping<Index = D::Index>> Pieces<D, M> {
+    /// The array split by the mapping, in one pass over its elements.
+    pub fn split(alloc: Global, mapping: &M, whole: &Bound<D>) -> Result<Pieces<D, M>, NoMemory>
+        ensures { IfOk result (λ p. p ≡ (whole.now, mapping.now)) }
+    {
+        let pieces = match part_of(alloc, mapping, whole.as_map(), 0, mapping.locales()) {
+            Ok(pieces) => pieces,
+            Err(refusal) => return Err(refusal),
+        };
+        Ok(Pieces::from_parts(alloc, mapping, whole, pieces))
+    }
+
+    /// The pieces of an array, from the vectors that `part_of` made of it.
+    pub fn from_parts(
+        alloc: Global,
+        mapping: &M,
+        whole: &Bound<D>,
+        pieces: Vec<Vec<(D::Index, i64)>>,
+    ) -> Pieces<D, M>
+        requires are_pieces { lists_of pieces.items ≡ pieces_of (M.locale mapping.now) (M.locale_count mapping.now) whole.now }
+        requires below { LieBelow (M.locale mapping.now) (M.locale_count mapping.now) whole.now }
+        ensures { result ≡ (whole.now, mapping.now) }
+    {
+        Pieces {
+            pieces,
+            size: whole.len(),
+            mapping: *mapping,
+            alloc,
+            of: PhantomData,
+        }
+    }
+
+    /// The whole array.
+    pub fn gather(&self) -> Result<Bound<D>, NoMemory>
+        ensures { IfOk result (λ b. b ≡ self.now.0) }
+    {
+        match gathered(self.alloc, self.pieces.as_slice()) {
+            Ok(map) => Ok(Bound::from_map(self.alloc, map)),
+            Err(_) => Err(NoMemory),
+        }
+    }
+
+    /// Lends the pairs of locale `locale`, ascending by index; `None` where the
+    /// mapping has no such locale.
+    pub fn pairs(&self, locale: usize) -> Option<&[(D::Index, i64)]>
+        ensures cases { MatchOption result (M.locale_count self.now.1 ≤ locale) (λ s. (locale < M.locale_count self.now.1) × (s.now ≡ piece_of (M.locale self.now.1) self.now.0 locale)) }
+        ensures ascending { IfSome result (λ s. IsStrictlySortedBy D.Index.cmp (keys_of s.now)) }
+    {
+        if self.mapping().locales() <= locale {
+            return None;
+        }
+        Some(self.list_of(locale))
+    }
+
+    /// A copy of the pairs of locale `locale`, ascending by index.
+    pub fn piece(&self, locale: usize) -> Result<Vec<(D::Index, i64)>, PieceErr>
+        ensures ok { IfOk result (λ v. (locale < M.locale_count self.now.1) × (v.items ≡ piece_of (M.locale self.now.1) self.now.0 locale)) }
+        ensures ascending { IfOk result (λ v. IsStrictlySortedBy D.Index.cmp (keys_of v.items)) }
+        ensures no_locale { (result ≡ Err PieceErr.NoLocale) ↔ (M.locale_count self.now.1 ≤ locale) }
+    {
+        match self.pairs(locale) {
+            None => Err(PieceErr::NoLocale),
+            Some(pairs) => match Vec::from_slice(self.alloc, pairs) {
+                Ok(copy) => Ok(copy),
+                Err(_) => Err(PieceErr::NoMemory),
+            },
+        }
+    }
+
+    /// The mapping that says on which locale each index lies.
+    pub fn mapping(&self) -> M
+        ensures { result ≡ self.now.1 }
+    {
+        let _ = &self.pieces;
+        self.mapping
+    }
+
+    // The pairs of a locale that the mapping has.
+    fn list_of(&self, locale: usize) -> &[(D::Index, i64)]
+        requires { locale < M.locale_count self.now.1 }
+        ensures value { result.now ≡ piece_of (M.locale self.now.1) self.now.0 locale }
+        ensures ascending { IsStrictlySortedBy D.Index.cmp (keys_of result.now) }
+    {
+        let _ = &self.mapping;
+        list_at(self.pieces.as_slice(), locale)
+    }
+
+    // Replaces the pair at `place` of the piece of its own locale, and gives the
+    // old element.
+    fn write(&mut self, locale: usize, place: usize, pair: (D::Index, i64)) -> i64
+        requires locale { (locale < M.locale_count self.old.1) × (locale ≡ M.locale self.old.1 pair.0) }
+        requires place { place < length (piece_of (M.locale self.old.1) self.old.0 locale) }
+        requires index { (d : D.Index × ℤ) → (slice_index_or (piece_of (M.locale self.old.1) self.old.0 locale) place d).0 ≡ pair.0 }
+        ensures elements { self.new ≡ (set_value (is_at (D.Index.cmp pair.0)) self.old.0 pair.1, self.old.1) }
+        ensures old { value_at D.Index.cmp self.old.0 pair.0 ≡ Some result }
+    {
+        let old = self.list_of(locale)[place].1;
+        write_at(&mut self.pieces, locale, place, pair);
+        old
+    }
+}
+
+impl<D: Domain, M: Mapping<Index = D::Index>> Store for Pieces<D, M> {
+    type Index = D::Index;
+
+    type Dom = D;
+
+    ghost contents = { λ p. p.0 };
+
+    ghost same_layout = { λ p q. p.1 ≡ q.1 };
+
+    fn len(&self) -> usize {
+        let _ = &self.mapping;
+        self.size
+    }
+
+    fn get(&self, index: D::Index) -> Option<i64> {
+        value_in(self.list_of(self.mapping().locale_of(index)), index)
+    }
+
+    fn set(&mut self, index: D::Index, value: i64) -> Result<i64, OutOfDomain> {
+        let locale = self.mapping().locale_of(index);
+        match place_in(self.list_of(locale), index) {
+            Some(place) => Ok(self.write(locale, place, (index, value))),
+            None => Err(OutOfDomain),
+        }
+    }
+
+    fn reshape(&mut self, old: &D, new: &D, default: i64) -> Result<Dropped<D::Index>, NoMemory> {
+        let mut whole = self.gather()?;
+        let dropped = whole.reshape(old, new, default)?;
+        let fresh = Pieces::split(self.alloc, &self.mapping(), &whole)?;
+        *self = fresh;
+        Ok(dropped)
+    }
+
+    fn restore(&mut self, old: &D, new: &D, dropped: &Dropped<D::Index>) -> Result<(), NoMemory> {
+        let mut whole = self.gather()?;
+        whole.restore(old, new, dropped)?;
+        let fresh = Pieces::split(self.alloc, &self.mapping(), &whole)?;
+        *self = fresh;
+        Ok(())
+    }
+}
+
+// The pairs of all pieces in one map.
+fn gathered<I: Key>(alloc: Global, pieces: &[Vec<(I, i64)>]) -> Result<BTreeMap<I, i64>, AllocError>
+    ensures { IfOk result (λ m. m.entries ≡ merged I.cmp (lists_of pieces.now)) }
+{
+    let mut map = BTreeMap::new(alloc);
+    for piece in pieces {
+        put_absent(&mut map, piece)?;
+    }
+    let _ = map.len();
+    Ok(map)
+}
+
+// The pairs of one of the pieces.
+fn list_at<I: Copy>(pieces: &[Vec<(I, i64)>], place: usize) -> &[(I, i64)]
+    requires { place < length pieces.now }
+    ensures { result.now ≡ slice_index_or (lists_of pieces.now) place [] }
+{
+    pieces[place].as_slice()
+}
+
+// Replaces one pair of one of the pieces.
+fn write_at<I: Copy>(pieces: &mut Vec<Vec<(I, i64)>>, locale: usize, place: usize, pair: (I, i64))
+    requires locale { locale < length pieces.old.items }
+    requires place { place < length (slice_index_or (lists_of pieces.old.items) locale []) }
+    ensures { lists_of pieces.new.items ≡ slice_set (lists_of pieces.old.items) locale (slice_set (slice_index_or (lists_of pieces.old.items) locale []) place pair) }
+{
+    pieces[locale][place] = pair;
+}
+
+// The element at `index` among ascending pairs.
+fn value_in<I: Key>(pairs: &[(I, i64)], index: I) -> Option<i64>
+    requires { IsStrictlySortedBy I.cmp (keys_of pairs.now) }
+    ensures { result ≡ value_at I.cmp pairs.now index }
+{
+    match place_in(pairs, index) {
+        Some(place) => Some(pairs[place].1),
+        None => None,
+    }
+}
+
+// The place of `index` among ascending pairs.
+fn place_in<I: Key>(pairs: &[(I, i64)], index: I) -> Option<usize>
+    requires { IsStrictlySortedBy I.cmp (keys_of pairs.now) }
+    ensures found { IfSome result (λ p. (p < length pairs.now) × ((d : I × ℤ) → (slice_index_or pairs.now p d).0 ≡ index)) }
+    ensures absent { IfNone result (value_at I.cmp pairs.now index ≡ None) }
+{
+    pairs.binary_search_by_key(&index, |&(key, _)| key).ok()
+}

@@ -1,0 +1,15 @@
+//! Moving arrays from one mapping to another, by one thread or by several, and
+//! reducing them.
+#![tactic(auto)]
+
+mod mover;
+mod share;
+mod team;
+mod workers;
+
+pub use mover::{MoveErr, Mover, Way};
+pub use team::Team;
+pub use workers::{BadWorkers, Gate, OneThread, Open, Workers};
+
+#[cfg(test)]
+mod tests;

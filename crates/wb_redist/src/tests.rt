@@ -1,0 +1,165 @@
+ghost use Rattle.std.specs.Prelude.{⊤, pos, ◌+◌, ◌%◌, if◌then◌else◌, int_lt, unsigned_abs};
+
+use crate::{BadWorkers, Gate, MoveErr, Mover, OneThread, Open, Way, Workers};
+use std::alloc::Global;
+use std::marker::PhantomData;
+use std::process::Abort;
+use std::sync::atomic::{AtomicUsize, Ordering};
+use std::test::Fail;
+use std::thread::Threads;
+use wb_array::{Bound, Store};
+use wb_pieces::Pieces;
+use wb_range::{Domain, Mapping, Range};
+
+// The integers from 1 to 10 over four locales, in blocks or in turn.
+#[derive(Clone, Copy)]
+struct Spread {
+    in_turn: bool,
+}
+
+impl Mapping for Spread {
+    type Index = i64;
+
+    ghost locale = { λ m i. if m.in_turn then (unsigned_abs i + 3) % 4 else (if int_lt i (pos 4) then 0 else (if int_lt i (pos 6) then 1 else (if int_lt i (pos 9) then 2 else 3))) };
+
+    ghost locale_count = { λ m. 4 };
+
+    fn locales(&self) -> usize {
+        4
+    }
+
+    fn locale_of(&self, i: i64) -> usize {
+        if self.in_turn {
+            return ((i.unsigned_abs() + 3) % 4) as usize;
+        }
+        if i < 4 {
+            0
+        } else if i < 6 {
+            1
+        } else if i < 9 {
+            2
+        } else {
+            3
+        }
+    }
+}
+
+// The elements 10, 20 .. 100 at 1 to 10, in blocks.
+fn tens(rt: &impl Abort, alloc: Global) -> Pieces<Range, Spread> {
+    let Ok(domain) = Range::new(1, 10, 1, None) else {
+        panic!(rt; "the range is refused")
+    };
+    let Ok(mut whole) = Bound::new(alloc, &domain) else {
+        panic!(rt; "no memory")
+    };
+    for k in 1u8..11 {
+        let i = k as i64;
+        assert_eq!(rt; whole.set(i, i * 10), Ok(0));
+    }
+    let Ok(pieces) = Pieces::split(alloc, &Spread { in_turn: false }, &whole) else {
+        panic!(rt; "no memory")
+    };
+    pieces
+}
+
+// Moves the tens by the mover, and looks at each piece and at the whole.
+fn moves_the_tens<X: Mover>(rt: &impl Abort, alloc: Global, mover: &X) {
+    let from = tens(rt, alloc);
+    let Ok(moved) = mover.move_pieces(alloc, &from, &Spread { in_turn: true }) else {
+        panic!(rt; "nothing was moved")
+    };
+    let first = moved.pairs(0).expect(rt, "locale 0");
+    assert_eq!(rt; first, [(1, 10), (5, 50), (9, 90)].as_slice());
+    let second = moved.pairs(1).expect(rt, "locale 1");
+    assert_eq!(rt; second, [(2, 20), (6, 60), (10, 100)].as_slice());
+    let third = moved.pairs(2).expect(rt, "locale 2");
+    assert_eq!(rt; third, [(3, 30), (7, 70)].as_slice());
+    let fourth = moved.pairs(3).expect(rt, "locale 3");
+    assert_eq!(rt; fourth, [(4, 40), (8, 80)].as_slice());
+    let Ok(whole) = moved.gather() else {
+        panic!(rt; "no memory")
+    };
+    assert_eq!(rt; whole.len(), 10);
+    for k in 1u8..11 {
+        let i = k as i64;
+        assert_eq!(rt; whole.get(i), Some(i * 10));
+    }
+}
+
+// One thread and 1, 3 and 64 workers make the same pieces.
+#[test]
+fn pieces_by_any_workers(rt: HostRuntime) -> Result<(), Fail> {
+    let alone: OneThread<&HostRuntime> = OneThread::new();
+    moves_the_tens(&rt, rt.alloc(), &alone);
+    for count in [1, 3, 64] {
+        let workers = Workers::new(&rt, count, Open).map_err(|_| "workers are refused")?;
+        moves_the_tens(&rt, rt.alloc(), &workers);
+    }
+    for count in [0, 65] {
+        assert!(rt; Workers::new(&rt, count, Open).is_err_and(|e| e == BadWorkers));
+    }
+    Ok(())
+}
+
+// Worker 0 waits here until worker 1 has come, for a while.
+#[derive(Drop)]
+struct Meeting<'a> {
+    arrived: &'a AtomicUsize,
+    met: &'a AtomicUsize,
+}
+
+impl Gate for Meeting<'_> {
+    fn arrive(&self, worker: usize) {
+        if worker == 1 {
+            self.arrived.store(1, Ordering::SeqCst);
+            return;
+        }
+        for _ in 0..100_000_000u64 {
+            if self.arrived.load(Ordering::SeqCst) == 1 {
+                self.met.store(1, Ordering::SeqCst);
+                return;
+            }
+        }
+    }
+}
+
+// Two workers are at work at the same time.
+#[test]
+fn two_workers_meet(rt: HostRuntime) -> Result<(), Fail> {
+    let arrived = AtomicUsize::new(0);
+    let met = AtomicUsize::new(0);
+    let gate = Meeting {
+        arrived: &arrived,
+        met: &met,
+    };
+    let workers = Workers::new(&rt, 2, gate).map_err(|_| "workers are refused")?;
+    moves_the_tens(&rt, rt.alloc(), &workers);
+    assert_eq!(rt; met.load(Ordering::SeqCst), 1);
+    Ok(())
+}
+
+// A mover that has no thread.
+#[derive(Drop)]
+struct Threadless<R> {
+    of: PhantomData<R>,
+}
+
+impl<R: Threads + Sync> Mover for Threadless<R> {
+    type R = R;
+
+    type G = Open;
+
+    ghost may_lack_threads = { λ m. ⊤ };
+
+    fn way(&self) -> Way<'_, R, Open> {
+        Way::NoThread
+    }
+}
+
+#[test]
+fn mover_without_threads(rt: HostRuntime) {
+    let mover: Threadless<&HostRuntime> = Threadless { of: PhantomData };
+    let from = tens(&rt, rt.alloc());
+    let refused = mover.move_pieces(rt.alloc(), &from, &Spread { in_turn: true });
+    assert!(rt; refused.is_err_and(|e| e == MoveErr::NoThread));
+}
