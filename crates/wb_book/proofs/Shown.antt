@@ -1,5 +1,5 @@
 -- What a map of the cells shows, and how its methods change that.
-use Rattle.std.proofs.Common.{if◌then◌else◌, ◌≡◌, ◌<◌, ℕ, zero, suc, ◌+◌, cond, Bool, true, false, ◌||◌, List, [], ◌∷◌, ◌++◌, refl, sym, ap, ◌∙◌, Some, None, Option, drop, slice_get, arith}
+use Rattle.std.proofs.Common.{if◌then◌else◌, ◌≡◌, cond, Bool, true, false, ◌||◌, List, [], ◌∷◌, ◌++◌, refl, sym, ap, ◌∙◌, Some, None}
 use Rattle.std.specs.Ordering.{eq_by_cmp}
 use Rattle.std.specs.Cmp.{eq_by_cmp_equiv}
 use Rattle.std.specs.Map.{lookup}
@@ -7,8 +7,8 @@ use Rattle.std.specs.BTreeMap.{BTreeMap, is_at, Updates}
 use Rattle.std.specs.BTreeMap as tree
 use Rattle.std.specs.FinMap.{get, find, insert, remove, get-from_entries, get-insert, get-remove}
 use Rattle.selective_undo.specs.declared.Change.{Change}
-use Rattle.selective_undo.specs.Changes.{put, changes, AllOnce}
-use Rattle.selective_undo.proofs.Changes.{same_states, is_itself}
+use Rattle.selective_undo.specs.Changes.{changes, AllOnce}
+use Rattle.selective_undo.proofs.Changes.{same_states}
 use Rattle.selective_undo.proofs.Locality.{or_neither}
 use Rattle.wb_book.specs.declared.cells.cell.Cell.{Cell}
 use Rattle.wb_book.specs.declared.cells.value.Value.{Value}

@@ -1,6 +1,5 @@
 -- Index sets of rectangular domains.
-use Rattle.std.specs.Prelude.{Bool, ℤ, List, map}
-use Rattle.std.specs.List.{list_any}
+use Rattle.std.specs.Prelude.{ℤ, List, map}
 use Rattle.wb_rect.specs.Product.{product}
 use Rattle.wb_book.specs.declared.values.index.Index.{Index}
 use Rattle.wb_book.specs.declared.values.index.Index.TheVariants.{Point}

@@ -1,5 +1,5 @@
 -- Well-formed workbooks: which cells are present, and what stands in them.
-use Rattle.std.specs.Prelude.{◌≡◌, ℕ, Bool, true, false, ℤ, pos, List, Option, Some, None, is_some, ⊤, FitsSigned}
+use Rattle.std.specs.Prelude.{◌≡◌, Bool, true, false, ℤ, pos, List, Option, Some, None, is_some, ⊤, FitsSigned}
 use Rattle.std.specs.Int.{w64}
 use Rattle.std.specs.List.{list_any}
 use Rattle.std.specs.FinMap.{get}

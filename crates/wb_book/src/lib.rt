@@ -4,6 +4,8 @@
 mod book;
 mod cells;
 mod changes;
+#[cfg(test)]
+mod tests;
 mod values;
 
 pub use crate::book::Book;

@@ -122,12 +122,12 @@ fn first_run(rt: HostRuntime) -> Result<(), Fail> {
             ]
         )
     );
-    assert_eq!(rt; number(book.get(Cell::Element(array, at(4)))), Some(0));
+    assert_eq!(rt; number(book.get(&Cell::Element(array, at(4)))), Some(0));
     let (foot, count) = made(alloc, &mut book, Edit::Set(array, at(4), 9)).ok_or("an element")?;
     assert_eq!(rt; count, 1);
     assert!(rt; reads_are(&foot, &[Cell::Object(array), Cell::Element(array, at(4))]));
-    assert_eq!(rt; number(book.get(Cell::Element(array, at(4)))), Some(9));
-    assert_eq!(rt; number(book.get(Cell::Element(array, at(3)))), Some(0));
+    assert_eq!(rt; number(book.get(&Cell::Element(array, at(4)))), Some(9));
+    assert_eq!(rt; number(book.get(&Cell::Element(array, at(3)))), Some(0));
     assert_eq!(rt; book.writes(), 11);
     Ok(())
 }

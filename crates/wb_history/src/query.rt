@@ -27,9 +27,9 @@ pub enum Answer {
 pub(crate) fn element_of(book: &Book, array: Name, index: AnyIndex) -> Result<i64, wb_edit::Refusal>
     ensures { result ≡ get_answer book.now.cells array index }
 {
-    let (_domain, kind) = judgements::array_kind(book.get(Cell::Object(array)))?;
+    let (_domain, kind) = judgements::array_kind(book.get(&Cell::Object(array)))?;
     judgements::fits(kind, index)?;
-    number_in(book.get(Cell::Element(array, index)))
+    number_in(book.get(&Cell::Element(array, index)))
 }
 
 fn number_in(element: Option<Value>) -> Result<i64, wb_edit::Refusal>

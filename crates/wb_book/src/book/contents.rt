@@ -1,18 +1,20 @@
-ghost use Rattle.std.specs.Prelude.{◌≡◌, ℕ, ◌+◌, ◌-◌, ◌^◌, List, length, min, IfOk, IfErr, OnOk, OnErr};
+ghost use Rattle.std.specs.Prelude.{◌≡◌, ℕ, ◌+◌, ◌-◌, ◌^◌, List, length, slice_get, min, IfOk, IfErr, OnOk, OnErr};
 ghost use Rattle.std.specs.FinMap as map;
 ghost use Rattle.selective_undo.specs.Changes.{apply, inverse};
 ghost use Rattle.wb_book.specs.Cells.{written_more, count_of};
+ghost use Rattle.wb_book.specs.Readers.{objects, users, size_at, index_at};
 ghost use Rattle.wb_book.specs.WellFormed.{IsWellFormed};
 
-use std::alloc::Global;
-use std::collections::BTreeMap;
-use std::marker::Model;
-
-use crate::book::store;
+use crate::book::{readers, store};
 use crate::cells::cell::Cell;
 use crate::cells::value::Value;
 use crate::changes::delta::Delta;
 use crate::changes::inverse::Inverse;
+use crate::values::index::AnyIndex;
+use crate::values::name::Name;
+use std::alloc::Global;
+use std::collections::BTreeMap;
+use std::marker::Model;
 use wb_range::NoMemory;
 
 /// A workbook: its cells, well formed, and how many were set so far.
@@ -50,10 +52,47 @@ impl Book {
     }
 
     /// What stands in a cell.
-    pub fn get(&self, cell: Cell) -> Option<Value>
-        ensures { result ≡ map.get self.now.cells cell }
+    pub fn get(&self, cell: &Cell) -> Option<Value>
+        ensures { result ≡ map.get self.now.cells cell.now }
     {
-        store::look(&self.cells, cell)
+        store::look(&self.cells, *cell)
+    }
+
+    /// How many objects there are: domains and arrays.
+    pub fn objects(&self) -> usize
+        ensures { result ≡ length (objects self.now.cells) }
+    {
+        readers::object_count(&self.cells)
+    }
+
+    /// The name of the object at place `p`, counted from 0; the names ascend.
+    pub fn object(&self, p: usize) -> Option<Name>
+        ensures { result ≡ slice_get (objects self.now.cells) p }
+    {
+        readers::object_at(&self.cells, p)
+    }
+
+    /// The name at place `p` of what is bound to the domain of a name, counted from 0; the names ascend.
+    pub fn user(&self, name: &Name, p: usize) -> Option<Name>
+        ensures { result ≡ slice_get (users self.now.cells name.now) p }
+    {
+        readers::user_at(&self.cells, *name, p)
+    }
+
+    /// How many indices the domain of a name has, and `None` where there is no such domain
+    /// (Chapel Language Specification, Domains).
+    pub fn size(&self, name: &Name) -> Option<usize>
+        ensures { result ≡ size_at self.now.cells name.now }
+    {
+        readers::size_at(&self.cells, *name)
+    }
+
+    /// The index at place `p` of the domain of a name, counted from 0 in the domain's order, row by row
+    /// (Chapel Language Specification, Domains).
+    pub fn index(&self, name: &Name, p: usize) -> Option<AnyIndex>
+        ensures { result ≡ index_at self.now.cells name.now p }
+    {
+        readers::index_at(&self.cells, *name, p)
     }
 
     /// How many cells were set so far by `apply` and `revert`, up to the type's greatest value; the cells `In` are not

@@ -11,18 +11,13 @@ use std::alloc::{AllocError, Global};
 use std::collections::BTreeMap;
 use wb_range::NoMemory;
 
-
 pub(crate) fn look(cells: &BTreeMap<Cell, Value>, cell: Cell) -> Option<Value>
     ensures { result ≡ map.get (state_of cells.now) cell }
 {
     cells.get(&cell).copied()
 }
 
-fn set_cell(
-    cells: &mut BTreeMap<Cell, Value>,
-    cell: Cell,
-    value: Value,
-) -> Result<(), NoMemory>
+fn set_cell(cells: &mut BTreeMap<Cell, Value>, cell: Cell, value: Value) -> Result<(), NoMemory>
     ensures ok { OnOk result (state_of cells.new ≡ map.insert (state_of cells.old) cell value) }
     ensures absent { OnErr result (map.get (state_of cells.old) cell ≡ None) }
     ensures err { OnErr result (state_of cells.new ≡ state_of cells.old) }
@@ -54,10 +49,7 @@ fn values_before(
 }
 
 /// Sets a cell, if the change gives it a value.
-fn set_one(
-    cells: &mut BTreeMap<Cell, Value>,
-    change: &CellChange,
-) -> Result<(), NoMemory>
+fn set_one(cells: &mut BTreeMap<Cell, Value>, change: &CellChange) -> Result<(), NoMemory>
     ensures ok { OnOk result (state_of cells.new ≡ apply (sets (change.now ∷ [])) (state_of cells.old)) }
     ensures err { OnErr result (state_of cells.new ≡ state_of cells.old) }
 {
@@ -68,10 +60,7 @@ fn set_one(
 }
 
 /// Sets the cells that the changes give a value. It may stop midway.
-fn set_present(
-    cells: &mut BTreeMap<Cell, Value>,
-    delta: &[CellChange],
-) -> Result<(), NoMemory>
+fn set_present(cells: &mut BTreeMap<Cell, Value>, delta: &[CellChange]) -> Result<(), NoMemory>
     ensures ok { OnOk result (state_of cells.new ≡ apply (sets delta.now) (state_of cells.old)) }
     ensures others { (c : Cell) → changes cell_cmp delta.now c ≡ false → map.get (state_of cells.new) c ≡ map.get (state_of cells.old) c }
     ensures stays { (c : Cell) → IsSome (map.get (state_of cells.old) c) → IsSome (map.get (state_of cells.new) c) }

@@ -1,4 +1,4 @@
-ghost use Rattle.std.specs.Prelude.{◌≡◌, ℕ, ◌≤◌, List, length, take, true, IfOk, is_ok};
+ghost use Rattle.std.specs.Prelude.{◌≡◌, ℕ, ◌≤◌, List, [], ◌∷◌, length, take, true, IfOk, is_ok};
 ghost use Rattle.std.specs.Ordering.{nat_cmp, as_partial_cmp, eq_by_cmp};
 ghost use Rattle.std.specs.Cmp.Lexicographic.{slice_cmp, nat_list_cmp_total};
 ghost use Rattle.std.specs.Cmp.{partial_order_from_total, partial_equiv_from_equiv, eq_by_cmp_equiv};
@@ -53,6 +53,13 @@ impl Name {
             return Err(BadName);
         }
         Ok(kept(source))
+    }
+
+    // `A`, the least name.
+    pub(crate) fn least() -> Name
+        ensures { result ≡ 65 ∷ [] }
+    {
+        kept(b"A")
     }
 
     /// The name as a text.

@@ -16,7 +16,7 @@ pub(crate) fn read(book: &Book, foot: &mut Foot, cell: &Cell) -> Result<Option<V
     ensures { Looks (read cell.now) book.now.cells foot.old result foot.new }
 {
     match foot.keep(Pattern::One(AnyCell::new(*cell))) {
-        Ok(()) => Ok(book.get(*cell)),
+        Ok(()) => Ok(book.get(cell)),
         Err(_) => Err(Stop::NoMemory),
     }
 }

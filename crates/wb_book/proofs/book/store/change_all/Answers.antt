@@ -1,4 +1,4 @@
-use Rattle.std.proofs.Common.{sym, ◌∙◌, ap}
+use Rattle.std.proofs.Common.{◌∙◌, ap}
 use Rattle.selective_undo.specs.Changes.{apply, clears}
 use Rattle.selective_undo.proofs.AllOrNothing.{once-inverse, room-inverse, off_cells, sets_clears}
 use Rattle.wb_book.specs.Cells.{cell_order, state_of}

@@ -1,10 +1,10 @@
 use Rattle.std.proofs.Common.{◌≡◌, get_or, subst}
 use Rattle.selective_undo.specs.Changes.{apply, put}
 use Rattle.selective_undo.specs.declared.Change.{Change}
-use Rattle.selective_undo.proofs.AllOrNothing.{put_step, once_step, room_step, room_here}
+use Rattle.selective_undo.proofs.AllOrNothing.{put_step, once_step, room_step}
 use Rattle.wb_book.specs.declared.cells.cell.Cell.{Cell}
 use Rattle.wb_book.specs.declared.cells.value.Value.{Value}
-use Rattle.wb_book.specs.Cells.{cell_cmp, cell_order, state_of}
+use Rattle.wb_book.specs.Cells.{cell_order, state_of}
 use Rattle.wb_book.proofs.book.store.put_back.Goals as goal
 
 pub loop-x-preserved : goal.loop-x-preserved

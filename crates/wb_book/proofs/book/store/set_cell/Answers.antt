@@ -1,4 +1,4 @@
-use Rattle.std.proofs.Common.{sym, ◌∙◌, ap}
+use Rattle.std.proofs.Common.{◌∙◌}
 use Rattle.wb_book.proofs.Shown.{get-state_of, set-state_of}
 use Rattle.wb_book.proofs.book.store.set_cell.Goals as goal
 

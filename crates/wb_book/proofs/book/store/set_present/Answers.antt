@@ -5,7 +5,7 @@ use Rattle.selective_undo.specs.declared.Change.{Change}
 use Rattle.selective_undo.proofs.AllOrNothing.{set_step, set_others, set_stays, other_cell}
 use Rattle.wb_book.specs.declared.cells.cell.Cell.{Cell}
 use Rattle.wb_book.specs.declared.cells.value.Value.{Value}
-use Rattle.wb_book.specs.Cells.{cell_cmp, cell_order, state_of}
+use Rattle.wb_book.specs.Cells.{cell_order, state_of}
 use Rattle.wb_book.proofs.book.store.set_present.Goals as goal
 
 pub loop-x-preserved : goal.loop-x-preserved

@@ -8,4 +8,5 @@ invariant_of-result c =
       c.requires.few,
       behind 32 c.args.source.now,
       whole 32 c.args.source.now c.requires.few,
-      front IsName 32 c.args.source.now (record { utf8 = c.requires.text; spelled = c.requires.name }))
+      front IsName 32 c.args.source.now (record { utf8 = c.requires.text; spelled = c.requires.name }),
+    )

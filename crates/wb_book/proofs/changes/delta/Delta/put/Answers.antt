@@ -1,4 +1,4 @@
-use Rattle.std.proofs.Common.{is_ok, ap, false, ◌≡◌}
+use Rattle.std.proofs.Common.{is_ok, false, ◌≡◌}
 use Rattle.selective_undo.specs.Changes.{changes}
 use Rattle.wb_book.specs.Cells.{cell_cmp}
 use Rattle.wb_book.proofs.Shown.{once_pushed}

@@ -1,0 +1,105 @@
+//! Answers about the objects of a book, from the map of its cells. They take no memory.
+
+ghost use Rattle.std.specs.Prelude.{◌≡◌, is_some, length, slice_get};
+ghost use Rattle.std.specs.FinMap as map;
+ghost use Rattle.wb_book.specs.Cells.{state_of};
+ghost use Rattle.wb_book.specs.Readers.{object_of, objects, user_of, users, size_at, index_at};
+ghost use Rattle.wb_book.specs.WellFormed.{IsWellFormed, ranges_in};
+ghost use Rattle.wb_book.specs.declared.cells.cell.Cell.TheVariants.{Shape};
+
+use crate::book::store::look;
+use crate::cells::cell::Cell;
+use crate::cells::value::Value;
+use crate::values::index::AnyIndex;
+use crate::values::name::Name;
+use crate::values::rectangle::AnyRect;
+use std::collections::BTreeMap;
+
+/// The object that a cell tells of.
+fn object_of(cell: &Cell) -> Option<Name>
+    ensures { result ≡ object_of cell.now }
+{
+    match *cell {
+        Cell::Object(name) => Some(name),
+        Cell::Shape(_)
+        | Cell::In(_, _)
+        | Cell::Mapping(_)
+        | Cell::Use(_, _)
+        | Cell::Implicit(_)
+        | Cell::Element(_, _) => None,
+    }
+}
+
+/// The user of a domain that a cell tells of.
+fn user_of(domain: Name, cell: &Cell) -> Option<Name>
+    ensures { result ≡ user_of domain cell.now }
+{
+    match *cell {
+        Cell::Use(other, user) => { if domain == other { Some(user) } else { None } }
+        Cell::Object(_)
+        | Cell::Shape(_)
+        | Cell::In(_, _)
+        | Cell::Mapping(_)
+        | Cell::Implicit(_)
+        | Cell::Element(_, _) => None,
+    }
+}
+
+fn is_object(cell: &Cell) -> bool
+    ensures { result ≡ is_some (object_of cell.now) }
+{
+    object_of(cell).is_some()
+}
+
+/// How many objects there are. They stand in front of all other cells.
+pub(crate) fn object_count(cells: &BTreeMap<Cell, Value>) -> usize
+    ensures { result ≡ length (objects (state_of cells.now)) }
+{
+    cells.keys().take_while(|c| is_object(c)).count()
+}
+
+/// The object at place `p`, ascending.
+pub(crate) fn object_at(cells: &BTreeMap<Cell, Value>, p: usize) -> Option<Name>
+    ensures { result ≡ slice_get (objects (state_of cells.now)) p }
+{
+    object_of(cells.keys().nth(p)?)
+}
+
+/// The user of a domain at place `p`, ascending. The users stand together, from the least name on.
+pub(crate) fn user_at(cells: &BTreeMap<Cell, Value>, domain: Name, p: usize) -> Option<Name>
+    requires { IsWellFormed (state_of cells.now) }
+    ensures { result ≡ slice_get (users (state_of cells.now) domain) p }
+{
+    let (cell, _) = cells.range(Cell::Use(domain, Name::least())..).nth(p)?;
+    user_of(domain, cell)
+}
+
+fn ranges_at(cells: &BTreeMap<Cell, Value>, domain: Name) -> Option<AnyRect>
+    ensures { result ≡ ranges_in (map.get (state_of cells.now) (Shape domain)) }
+{
+    match look(cells, Cell::Shape(domain))? {
+        Value::Ranges(rect) => Some(rect),
+        Value::Domain(_)
+        | Value::Array(_, _)
+        | Value::Mapping(_)
+        | Value::Present
+        | Value::Bound(_)
+        | Value::Number(_) => None,
+    }
+}
+
+/// How many indices a domain has.
+pub(crate) fn size_at(cells: &BTreeMap<Cell, Value>, domain: Name) -> Option<usize>
+    ensures { result ≡ size_at (state_of cells.now) domain }
+{
+    let rect = ranges_at(cells, domain)?;
+    Some(rect.size())
+}
+
+/// The index of a domain at place `p`.
+pub(crate) fn index_at(cells: &BTreeMap<Cell, Value>, domain: Name, p: usize) -> Option<AnyIndex>
+    ensures { result ≡ index_at (state_of cells.now) domain p }
+{
+    let rect = ranges_at(cells, domain)?;
+    rect.nth(p)
+}
