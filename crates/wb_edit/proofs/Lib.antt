@@ -1,4 +1,5 @@
 pub mod Trees
 pub mod Columns
 pub mod Gets
+pub mod Sums
 pub mod Kept

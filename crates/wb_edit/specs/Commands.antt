@@ -11,9 +11,10 @@ use Rattle.wb_book.specs.declared.values.index.Index.{Index}
 use Rattle.wb_book.specs.Cells.{Name, Changes}
 use Rattle.wb_book.specs.Shapes.{Range, indices}
 use Rattle.wb_edit.specs.declared.edit.Edit.{Edit as Command}
-use Rattle.wb_edit.specs.declared.edit.Edit.TheVariants.{Domain, Array, Set}
+use Rattle.wb_edit.specs.declared.edit.Edit.TheVariants.{Domain, Array, Set, Copy}
 use Rattle.wb_edit.specs.Looks.{Tree, ◌>>=◌, ◌>>◌}
 use Rattle.wb_edit.specs.Tests.{free, dom, arr, key, element, idx}
+use Rattle.wb_edit.specs.Numbers.{number, sum}
 use Rattle.wb_edit.specs.Writes.{put, put_all}
 
 -- a new rectangular domain
@@ -52,7 +53,21 @@ set a i v = do
   there ← element a i
   write (put (Element a i) (Number v) ∷ [])
 
+-- an element that is another one and a number more, a[i] = b[j] + c: the arrays are there, each index is of the rank and
+-- type of its array's domain, both elements are there, and the sum is within 64 bits
+abbrev pub copy : Name → Index → Name → Index → ℤ → Tree
+copy a i b j c = do
+  (d, kind) ← arr a
+  (e, kind_of_e) ← arr b
+  unit ← key kind i
+  unit ← key kind_of_e j
+  there ← element a i
+  x ← number b j
+  y ← sum x c
+  write (put (Element a i) (Number y) ∷ [])
+
 abbrev pub meaning : Command → Tree
 meaning (Domain d rs) = domain d rs
 meaning (Array a d) = array a d
 meaning (Set a i v) = set a i v
+meaning (Copy a i b j c) = copy a i b j c

@@ -1,6 +1,7 @@
 pub mod Schema
 pub mod Looks
 pub mod Tests
+pub mod Numbers
 pub mod Writes
 pub mod Commands
 pub mod Plans

@@ -14,6 +14,8 @@ pub enum Edit {
     Array(Name, Name),
     /// A new element of an array, at an index.
     Set(Name, AnyIndex, i64),
+    /// An element, the first name and index, becomes another one, the second name and index, plus a number.
+    Copy(Name, AnyIndex, Name, AnyIndex, i64),
 }
 
 impl Edit {
@@ -25,6 +27,9 @@ impl Edit {
             Edit::Domain(domain, ranges) => Ok(Edit::Domain(*domain, *ranges)),
             Edit::Array(array, domain) => Ok(Edit::Array(*array, *domain)),
             Edit::Set(array, index, value) => Ok(Edit::Set(*array, *index, *value)),
+            Edit::Copy(array, index, source, place, more) => {
+                Ok(Edit::Copy(*array, *index, *source, *place, *more))
+            }
         }
     }
 
@@ -44,6 +49,9 @@ impl Edit {
             }
             Edit::Set(_, _, value) => {
                 let _value = *value;
+            }
+            Edit::Copy(_, _, _, _, more) => {
+                let _more = *more;
             }
         }
     }

@@ -2,7 +2,7 @@ ghost use Rattle.std.specs.Prelude.{◌≡◌, []};
 ghost use Rattle.wb_edit.specs.Commands.{meaning};
 ghost use Rattle.wb_edit.specs.Plans.{Attempts, IsPlan};
 
-use crate::commands::{array, domain, element};
+use crate::commands::{array, copied, domain, element};
 use crate::edit::Edit;
 use crate::foot::Foot;
 use crate::refusal::Refusal;
@@ -22,11 +22,7 @@ pub enum PlanErr {
 /// What the edit would change, what it reads, and how many cells it touches (those that `In` names aside).
 ///
 /// It is refused exactly where its meaning is, with the same reads.
-pub fn plan(
-    alloc: Global,
-    book: &Book,
-    edit: &Edit,
-) -> Result<(Delta, Foot, usize), PlanErr>
+pub fn plan(alloc: Global, book: &Book, edit: &Edit) -> Result<(Delta, Foot, usize), PlanErr>
     ensures { IsPlan (meaning edit.now) book.now.cells result }
 {
     let mut foot = Foot::new(alloc);
@@ -48,6 +44,9 @@ fn attempt(alloc: Global, book: &Book, foot: &mut Foot, edit: &Edit) -> Result<D
         Edit::Array(name, over) => array::plan_array(alloc, book, foot, *name, *over),
         Edit::Set(name, index, value) => {
             element::plan_set(alloc, book, foot, *name, *index, *value)
+        }
+        Edit::Copy(name, index, source, place, more) => {
+            copied::plan_copy(alloc, book, foot, (*name, *index), (*source, *place), *more)
         }
     }
 }

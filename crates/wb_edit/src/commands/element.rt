@@ -30,7 +30,8 @@ pub(crate) fn plan_set(
     element_change(alloc, array, index, value)
 }
 
-fn element_change(
+/// One element gets a value.
+pub(crate) fn element_change(
     alloc: Global,
     array: Name,
     index: AnyIndex,

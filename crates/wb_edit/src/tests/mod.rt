@@ -2,4 +2,5 @@
 
 pub mod judgements;
 pub mod looks;
+pub mod numbers;
 pub mod stop;
