@@ -22,7 +22,11 @@ pub enum PlanErr {
 /// What the edit would change, what it reads, and how many cells it touches (those that `In` names aside).
 ///
 /// It is refused exactly where its meaning is, with the same reads.
-pub fn plan(alloc: Global, book: &Book, edit: &Edit) -> Result<(Delta, Foot, usize), PlanErr>
+pub fn plan(
+    alloc: Global,
+    book: &Book,
+    edit: &Edit,
+) -> Result<(Delta, Foot, usize), PlanErr>
     ensures { IsPlan (meaning edit.now) book.now.cells result }
 {
     let mut foot = Foot::new(alloc);
