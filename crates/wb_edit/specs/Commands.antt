@@ -11,10 +11,11 @@ use Rattle.wb_book.specs.declared.values.index.Index.{Index}
 use Rattle.wb_book.specs.Cells.{Name, Changes}
 use Rattle.wb_book.specs.Shapes.{Range, indices}
 use Rattle.wb_edit.specs.declared.edit.Edit.{Edit as Command}
-use Rattle.wb_edit.specs.declared.edit.Edit.TheVariants.{Domain, Array, Set, Copy}
+use Rattle.wb_edit.specs.declared.edit.Edit.TheVariants.{Domain, Array, Set, Copy, Fill}
 use Rattle.wb_edit.specs.Looks.{Tree, ◌>>=◌, ◌>>◌}
 use Rattle.wb_edit.specs.Tests.{free, dom, arr, key, element, idx}
 use Rattle.wb_edit.specs.Numbers.{number, sum}
+use Rattle.wb_edit.specs.Rectangles.{over_rectangle, all_elements}
 use Rattle.wb_edit.specs.Writes.{put, put_all}
 
 -- a new rectangular domain
@@ -66,8 +67,18 @@ copy a i b j c = do
   y ← sum x c
   write (put (Element a i) (Number y) ∷ [])
 
+-- one number as the elements at the indices of a rectangle: the array is there, over a rectangular domain of its rank, and
+-- has all those indices
+abbrev pub fill : Name → List Range → ℤ → Tree
+fill a on v = do
+  (d, kind) ← arr a
+  unit ← over_rectangle (length on) kind
+  there ← all_elements a (indices on)
+  write (put_all (map (Element a) (indices on)) (Number v))
+
 abbrev pub meaning : Command → Tree
 meaning (Domain d rs) = domain d rs
 meaning (Array a d) = array a d
 meaning (Set a i v) = set a i v
 meaning (Copy a i b j c) = copy a i b j c
+meaning (Fill a on v) = fill a on v

@@ -4,7 +4,7 @@ use Rattle.std.specs.Int.{w64}
 use Rattle.wb_book.specs.Names.{is_name}
 use Rattle.wb_book.specs.WellFormed.{IsRectangle}
 use Rattle.wb_edit.specs.declared.edit.Edit.{Edit as Command}
-use Rattle.wb_edit.specs.declared.edit.Edit.TheVariants.{Domain, Array, Set, Copy}
+use Rattle.wb_edit.specs.declared.edit.Edit.TheVariants.{Domain, Array, Set, Copy, Fill}
 
 abbrev pub IsValid : Command → Type 0
 -- the new name is a name, and the ranges are those of a rectangular domain
@@ -15,3 +15,5 @@ IsValid (Array a d) = is_name a ≡ true
 IsValid (Set a i v) = FitsSigned w64 v
 -- the number is one of 64 bits
 IsValid (Copy a i b j c) = FitsSigned w64 c
+-- the number is one of 64 bits
+IsValid (Fill a on v) = FitsSigned w64 v

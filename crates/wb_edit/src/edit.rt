@@ -16,6 +16,8 @@ pub enum Edit {
     Set(Name, AnyIndex, i64),
     /// An element, the first name and index, becomes another one, the second name and index, plus a number.
     Copy(Name, AnyIndex, Name, AnyIndex, i64),
+    /// One number as the elements of an array at the indices of a rectangle.
+    Fill(Name, AnyRect, i64),
 }
 
 impl Edit {
@@ -30,6 +32,7 @@ impl Edit {
             Edit::Copy(array, index, source, place, more) => {
                 Ok(Edit::Copy(*array, *index, *source, *place, *more))
             }
+            Edit::Fill(array, on, value) => Ok(Edit::Fill(*array, *on, *value)),
         }
     }
 
@@ -52,6 +55,9 @@ impl Edit {
             }
             Edit::Copy(_, _, _, _, more) => {
                 let _more = *more;
+            }
+            Edit::Fill(_, _, value) => {
+                let _value = *value;
             }
         }
     }

@@ -4,4 +4,5 @@ pub mod array;
 pub mod copied;
 pub mod domain;
 pub mod element;
+pub mod filled;
 pub mod writes;

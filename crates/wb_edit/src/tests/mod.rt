@@ -3,4 +3,5 @@
 pub mod judgements;
 pub mod looks;
 pub mod numbers;
+pub mod rectangles;
 pub mod stop;
