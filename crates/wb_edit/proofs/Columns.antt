@@ -51,13 +51,13 @@ next_is_new column v old is p i once fresh here =
     absurd (omega (arith, h.0, same)) in
     changes-append old (put_all (map (cell_at column) (take p is)) v) (cell_at column i) ∙ rw (fresh i, other_cells column v i (take p is) other) refl
 
-take_more : {X : Type 0} (xs : List X) (p : ℕ) (x : X) → slice_get xs p ≡ Some x → take (suc p) xs ≡ take p xs ++ x ∷ []
+pub take_more : {X : Type 0} (xs : List X) (p : ℕ) (x : X) → slice_get xs p ≡ Some x → take (suc p) xs ≡ take p xs ++ x ∷ []
 take_more [] zero x e = cc
 take_more [] (suc p) x e = cc
 take_more (y ∷ xs) zero x e = let h : y ≡ x = cc in ap (λ z. z ∷ []) h
 take_more (y ∷ xs) (suc p) x e = ap (λ zs. y ∷ zs) (take_more xs p x e)
 
-map-append : {X Y : Type 0} (f : X → Y) (xs ys : List X) → map f (xs ++ ys) ≡ map f xs ++ map f ys
+pub map-append : {X Y : Type 0} (f : X → Y) (xs ys : List X) → map f (xs ++ ys) ≡ map f xs ++ map f ys
 map-append f [] ys = refl
 map-append f (x ∷ xs) ys = ap (λ zs. f x ∷ zs) (map-append f xs ys)
 

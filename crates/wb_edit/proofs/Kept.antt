@@ -4,6 +4,9 @@ pub mod States
 pub mod NewDomain
 pub mod NewArray
 pub mod NewElement
+pub mod CopiedElement
+pub mod NewElements
+pub mod Fills
 use Rattle.std.proofs.Common.{◌≡◌, Ok, subst}
 use Rattle.selective_undo.specs.Changes.{apply}
 use Rattle.selective_undo.specs.Edit.{outcome, written}
@@ -13,15 +16,19 @@ use Rattle.wb_edit.specs.Commands.{meaning}
 use Rattle.wb_edit.specs.Laws.{KeepsWellFormed}
 use Rattle.wb_edit.specs.Valid.{IsValid}
 use Rattle.wb_edit.specs.declared.edit.Edit.{Edit as Command}
-use Rattle.wb_edit.specs.declared.edit.Edit.TheVariants.{Domain, Array, Set}
+use Rattle.wb_edit.specs.declared.edit.Edit.TheVariants.{Domain, Array, Set, Copy, Fill}
 use Rattle.wb_edit.proofs.Kept.NewDomain.{domain_kept}
 use Rattle.wb_edit.proofs.Kept.NewArray.{array_kept}
 use Rattle.wb_edit.proofs.Kept.NewElement.{set_kept}
+use Rattle.wb_edit.proofs.Kept.CopiedElement.{copy_kept}
+use Rattle.wb_edit.proofs.Kept.Fills.{fill_kept}
 
 pub keeps_well_formed : KeepsWellFormed
 keeps_well_formed (Domain d rs) s valid h = domain_kept s d rs valid h
 keeps_well_formed (Array a d) s valid h = array_kept s a d valid h
 keeps_well_formed (Set a i v) s valid h = set_kept s a i v valid h
+keeps_well_formed (Copy a i b j c) s valid h = copy_kept s a i b j c h
+keeps_well_formed (Fill a on v) s valid h = fill_kept s a on v valid h
 
 -- where it is accepted, the changes leave a well-formed workbook
 pub accepted_well_formed : (e : Command) (s : Cells) (xs : Changes) → IsValid e → IsWellFormed s → outcome (meaning e) s ≡ Ok xs → IsWellFormed (apply xs s)

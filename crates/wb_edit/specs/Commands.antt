@@ -12,9 +12,11 @@ use Rattle.wb_book.specs.declared.values.index.Index.{Index}
 use Rattle.wb_book.specs.Cells.{Name, Changes}
 use Rattle.wb_book.specs.Shapes.{Range, indices}
 use Rattle.wb_edit.specs.declared.edit.Edit.{Edit as Command}
-use Rattle.wb_edit.specs.declared.edit.Edit.TheVariants.{Domain, Array, Set}
+use Rattle.wb_edit.specs.declared.edit.Edit.TheVariants.{Domain, Array, Set, Copy, Fill}
 use Rattle.wb_edit.specs.Looks.{Tree, ◌>>=◌}
 use Rattle.wb_edit.specs.Tests.{free, dom, arr, key, element, idx}
+use Rattle.wb_edit.specs.Numbers.{number, sum}
+use Rattle.wb_edit.specs.Rectangles.{over_rectangle, all_elements}
 use Rattle.wb_edit.specs.Writes.{put, put_all}
 
 -- what a new rectangular domain writes: the domain with its rank, its ranges, that all of it lies on one locale,
@@ -57,8 +59,32 @@ set a i v = do
   there ← element a i
   write (put (Element a i) (Number v) ∷ [])
 
+-- an element that is another one and a number more, a[i] = b[j] + c: the arrays are there, each index is of the rank and
+-- type of its array's domain, both elements are there, and the sum is within 64 bits
+abbrev pub copy : Name → Index → Name → Index → ℤ → Tree
+copy a i b j c = do
+  (d, kind) ← arr a
+  (e, kind_of_e) ← arr b
+  unit ← key kind i
+  unit ← key kind_of_e j
+  there ← element a i
+  x ← number b j
+  y ← sum x c
+  write (put (Element a i) (Number y) ∷ [])
+
+-- one number as the elements at the indices of a rectangle: the array is there, over a rectangular domain of its rank, and
+-- has all those indices
+abbrev pub fill : Name → List Range → ℤ → Tree
+fill a on v = do
+  (d, kind) ← arr a
+  unit ← over_rectangle (length on) kind
+  there ← all_elements a (indices on)
+  write (put_all (map (Element a) (indices on)) (Number v))
+
 -- what a command means
 abbrev pub meaning : Command → Tree
 meaning (Domain d rs) = domain d rs
 meaning (Array a d) = array a d
 meaning (Set a i v) = set a i v
+meaning (Copy a i b j c) = copy a i b j c
+meaning (Fill a on v) = fill a on v

@@ -1,6 +1,8 @@
 pub mod Schema
 pub mod Looks
 pub mod Tests
+pub mod Numbers
+pub mod Rectangles
 pub mod Writes
 pub mod Commands
 pub mod Plans

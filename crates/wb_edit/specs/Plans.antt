@@ -4,6 +4,7 @@ use Rattle.selective_undo.specs.Edit.{outcome, reads}
 use Rattle.wb_book.specs.declared.cells.cell.Cell.{Cell}
 use Rattle.wb_book.specs.declared.cells.cell.Cell.TheVariants.{In, Element}
 use Rattle.wb_book.specs.declared.cells.pattern.Pattern.{Pattern}
+use Rattle.wb_book.specs.declared.cells.pattern.Pattern.TheVariants.{One}
 use Rattle.wb_book.specs.Cells.{Cells, Changes, count_of}
 use Rattle.wb_edit.specs.declared.commands.writes.Column.{Column}
 use Rattle.wb_edit.specs.declared.commands.writes.Column.TheVariants.{Inside, Elements}
@@ -65,3 +66,7 @@ shown_indices (Err why) = Err why
 abbrev pub cell_at : Column → Index → Cell
 cell_at (Inside d) i = In d i
 cell_at (Elements a) i = Element a i
+
+-- the pattern of one cell
+abbrev pub one_of : Cell → Pattern
+one_of c = One c

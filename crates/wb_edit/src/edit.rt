@@ -18,6 +18,10 @@ pub enum Edit {
     Array(Name, Name),
     /// A new value for the element of an array at an index.
     Set(Name, AnyIndex, i64),
+    /// An element, the first name and index, becomes another one, the second name and index, plus a number.
+    Copy(Name, AnyIndex, Name, AnyIndex, i64),
+    /// One number as the elements of an array at the indices of a rectangle.
+    Fill(Name, AnyRect, i64),
 }
 
 impl Edit {
@@ -29,6 +33,10 @@ impl Edit {
             Edit::Domain(domain, ranges) => Ok(Edit::Domain(*domain, *ranges)),
             Edit::Array(array, domain) => Ok(Edit::Array(*array, *domain)),
             Edit::Set(array, index, value) => Ok(Edit::Set(*array, *index, *value)),
+            Edit::Copy(array, index, source, place, more) => {
+                Ok(Edit::Copy(*array, *index, *source, *place, *more))
+            }
+            Edit::Fill(array, on, value) => Ok(Edit::Fill(*array, *on, *value)),
         }
     }
 
@@ -46,6 +54,12 @@ impl Edit {
                 let _name = array.as_bytes();
             }
             Edit::Set(_, _, value) => {
+                let _value = *value;
+            }
+            Edit::Copy(_, _, _, _, more) => {
+                let _more = *more;
+            }
+            Edit::Fill(_, _, value) => {
                 let _value = *value;
             }
         }

@@ -2,7 +2,7 @@ ghost use Rattle.std.specs.Prelude.{◌≡◌, []};
 ghost use Rattle.wb_edit.specs.Commands.{meaning};
 ghost use Rattle.wb_edit.specs.Plans.{Attempts, IsPlan};
 
-use crate::commands::{array, domain, element};
+use crate::commands::{array, copied, domain, element, filled};
 use crate::edit::Edit;
 use crate::foot::Foot;
 use crate::refusal::Refusal;
@@ -48,5 +48,9 @@ fn attempt(alloc: Global, book: &Book, foot: &mut Foot, edit: &Edit) -> Result<D
         Edit::Set(name, index, value) => {
             element::plan_set(alloc, book, foot, *name, *index, *value)
         }
+        Edit::Copy(name, index, source, place, more) => {
+            copied::plan_copy(alloc, book, foot, (*name, *index), (*source, *place), *more)
+        }
+        Edit::Fill(name, on, value) => filled::plan_fill(alloc, book, foot, *name, on, *value),
     }
 }

@@ -15,7 +15,13 @@ pub enum Refusal {
     /// E06: an index that isn't there.
     #[error("out-of-domain")]
     OutOfDomain,
+    /// E08: something is bound to the domain.
+    #[error("in-use")]
+    InUse,
     /// E09: a limit of ranges or domains.
     #[error("too-large")]
     TooLarge,
+    /// E10: a result outside the integers of 64 bits.
+    #[error("overflow")]
+    Overflow,
 }

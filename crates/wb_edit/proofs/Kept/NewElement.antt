@@ -26,7 +26,7 @@ still_element true old new x there h n = n
 still_element false old new x there h n = absurd (none-some x (sym h ∙ there))
 
 -- one that is there is set
-element_set : (s : Cells) (a : Name) (i : Index) (v : ℤ) (x : Value) → IsWellFormed s → get s (Element a i) ≡ Some x → FitsSigned w64 v → IsWellFormed (insert s (Element a i) (Number v))
+pub element_set : (s : Cells) (a : Name) (i : Index) (v : ℤ) (x : Value) → IsWellFormed s → get s (Element a i) ≡ Some x → FitsSigned w64 v → IsWellFormed (insert s (Element a i) (Number v))
 element_set s a i v x h there within =
     let t : Cells = insert s (Element a i) (Number v) in
     let at : (c : Cell) → get t c ≡ cond (eq_by_cmp cell_cmp c (Element a i)) (Some (Number v)) (get s c) = get-apply cell_order (put (Element a i) (Number v) ∷ []) s in

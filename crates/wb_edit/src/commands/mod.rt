@@ -1,6 +1,8 @@
 //! The commands: for each, its tests in their order, and then the changes that it makes.
 
 pub mod array;
+pub mod copied;
 pub mod domain;
 pub mod element;
+pub mod filled;
 pub mod writes;

@@ -2,4 +2,6 @@
 
 pub mod judgements;
 pub mod looks;
+pub mod numbers;
+pub mod rectangles;
 pub mod stop;

@@ -19,7 +19,9 @@ fn edit_code(refusal: wb_edit::Refusal) -> &'static str
         wb_edit::Refusal::NoSuchName => "E04",
         wb_edit::Refusal::WrongKind => "E05",
         wb_edit::Refusal::OutOfDomain => "E06",
+        wb_edit::Refusal::InUse => "E08",
         wb_edit::Refusal::TooLarge => "E09",
+        wb_edit::Refusal::Overflow => "E10",
     }
 }
 
@@ -31,7 +33,9 @@ fn edit_name(refusal: wb_edit::Refusal) -> &'static str
         wb_edit::Refusal::NoSuchName => "no-such-name",
         wb_edit::Refusal::WrongKind => "wrong-kind",
         wb_edit::Refusal::OutOfDomain => "out-of-domain",
+        wb_edit::Refusal::InUse => "in-use",
         wb_edit::Refusal::TooLarge => "too-large",
+        wb_edit::Refusal::Overflow => "overflow",
     }
 }
 

@@ -1,0 +1,59 @@
+-- Looks at many cells.
+use Rattle.std.proofs.Common.{◌≡◌, ℕ, zero, suc, ◌+◌, ◌≤◌, arith, Bool, true, false, ◌&&◌, List, [], ◌∷◌, ◌++◌, map, take, length, Option, Some, is_some, slice_get, refl, sym, ap, ◌∙◌, append_assoc, append-nil, add-one}
+use Rattle.std.specs.FinMap.{get}
+use Rattle.std.specs.List.{list_all}
+use Rattle.selective_undo.specs.Edit.{reads}
+use Rattle.wb_book.specs.declared.cells.cell.Cell.{Cell}
+use Rattle.wb_book.specs.declared.cells.pattern.Pattern.{Pattern}
+use Rattle.wb_book.specs.declared.cells.value.Value.{Value}
+use Rattle.wb_book.specs.declared.values.index.Index.{Index}
+use Rattle.wb_book.specs.Cells.{Cells}
+use Rattle.wb_edit.specs.Plans.{Gives, one_of}
+use Rattle.wb_edit.specs.Rectangles.{read_all}
+use Rattle.wb_edit.proofs.Columns.{take_more, map-append}
+use Rattle.wb_edit.proofs.Trees.{gives_read}
+
+-- all of a list
+pub whole : {X : Type 0} (xs : List X) (n : ℕ) → length xs ≤ n → take n xs ≡ xs
+whole [] zero low = refl
+whole [] (suc n) low = refl
+whole (x ∷ xs) zero low = absurd (omega (arith, low))
+whole (x ∷ xs) (suc n) low = ap (λ ys. x ∷ ys) (whole xs n (omega (arith, low)))
+
+-- a look at many cells shows what each holds
+pub gives_all : (s : Cells) (cs : List Cell) (rs : List Pattern) → Gives (read_all cs) s rs (map (get s) cs) (rs ++ map one_of cs)
+gives_all s [] rs = λ next. (refl, ap (λ ps. ps ++ reads (next []) s) (sym (append-nil rs)))
+gives_all s (c ∷ cs) rs = λ next.
+    let h = gives_read s c (get s c) rs refl (λ v. read_all cs (λ vs. next (v ∷ vs))) in
+    let k = gives_all s cs (rs ++ one_of c ∷ []) (λ vs. next (get s c ∷ vs)) in
+    (h.0 ∙ k.0, h.1 ∙ k.1 ∙ ap (λ ps. ps ++ reads (next (get s c ∷ map (get s) cs)) s) (append_assoc rs (one_of c ∷ []) (map one_of cs)))
+
+and-last : (a b : Bool) → (a && (b && true)) ≡ (a && b)
+and-last true true = refl
+and-last true false = refl
+and-last false b = refl
+
+and-assoc : (a b d : Bool) → (a && (b && d)) ≡ ((a && b) && d)
+and-assoc true b d = refl
+and-assoc false b d = refl
+
+list_all-last : (vs : List (Option Value)) (v : Option Value) → list_all is_some (vs ++ v ∷ []) ≡ (list_all is_some vs && is_some v)
+list_all-last [] v = elim (is_some v) as (λ b. (b && true) ≡ b) [ true ↦ refl | false ↦ refl ]
+list_all-last (w ∷ vs) v = ap (λ b. is_some w && b) (list_all-last vs v) ∙ and-assoc (is_some w) (list_all is_some vs) (is_some v)
+
+module _ (f : Index → Cell) (is : List Index) (p : ℕ) (i : Index) (here : slice_get is p ≡ Some i) where
+  cells_more : map f (take (p + 1) is) ≡ map f (take p is) ++ f i ∷ []
+  cells_more = ap (λ n. map f (take n is)) (add-one p) ∙ ap (map f) (take_more is p i here) ∙ map-append f (take p is) (i ∷ [])
+
+  -- one more index
+  pub reads_more : (rs : List Pattern) → rs ++ map one_of (map f (take (p + 1) is)) ≡ (rs ++ map one_of (map f (take p is))) ++ one_of (f i) ∷ []
+  reads_more rs =
+      ap (λ cs. rs ++ map one_of cs) cells_more
+      ∙ ap (λ ps. rs ++ ps) (map-append one_of (map f (take p is)) (f i ∷ []))
+      ∙ sym (append_assoc rs (map one_of (map f (take p is))) (one_of (f i) ∷ []))
+
+  pub all_more : (s : Cells) → list_all is_some (map (get s) (map f (take (p + 1) is))) ≡ (list_all is_some (map (get s) (map f (take p is))) && is_some (get s (f i)))
+  all_more s =
+      ap (λ cs. list_all is_some (map (get s) cs)) cells_more
+      ∙ ap (list_all is_some) (map-append (get s) (map f (take p is)) (f i ∷ []))
+      ∙ list_all-last (map (get s) (map f (take p is))) (get s (f i))

@@ -1,0 +1,42 @@
+-- Tests on numbers: the element that is read, and sums within 64 bits.
+use Rattle.std.specs.Prelude.{◌^◌, nat_lt, Bool, true, false, ℤ, pos, negsuc, ◌+ℤ◌, Option, Some, None, Result, Ok, Err}
+use Rattle.wb_book.specs.declared.cells.cell.Cell.TheVariants.{Element}
+use Rattle.wb_book.specs.declared.cells.value.Value.{Value}
+use Rattle.wb_book.specs.declared.cells.value.Value.TheVariants.{Number}
+use Rattle.wb_book.specs.declared.values.index.Index.{Index}
+use Rattle.wb_book.specs.Cells.{Name}
+use Rattle.wb_edit.specs.declared.refusal.Refusal.{Refusal}
+use Rattle.wb_edit.specs.declared.refusal.Refusal.TheVariants.{OutOfDomain, Overflow}
+use Rattle.wb_edit.specs.Looks.{Look, ◌>>=◌, read, judged}
+
+-- ---- judgements
+
+-- the element that a cell holds
+abbrev pub number_in : Option Value → Result ℤ Refusal
+number_in (Some (Number x)) = Ok x
+number_in _ = Err OutOfDomain
+
+-- whether an integer is one of 64 bits: -2^63 to 2^63 - 1
+abbrev pub is_i64 : ℤ → Bool
+is_i64 (pos n) = nat_lt n (2 ^ 63)
+is_i64 (negsuc n) = nat_lt n (2 ^ 63)
+
+abbrev pub kept_if : Bool → ℤ → Result ℤ Refusal
+kept_if true z = Ok z
+kept_if false z = Err Overflow
+
+-- an integer, where it is one of 64 bits
+abbrev pub within : ℤ → Result ℤ Refusal
+within z = kept_if (is_i64 z) z
+
+-- ---- the tests
+
+-- an array's element at an index: looks at it
+abbrev pub number : Name → Index → Look ℤ
+number a i next = do
+  v ← read (Element a i)
+  judged (number_in v) next
+
+-- a sum within 64 bits: looks at nothing
+abbrev pub sum : ℤ → ℤ → Look ℤ
+sum x y = judged (within (x +ℤ y))

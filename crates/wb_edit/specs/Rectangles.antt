@@ -1,0 +1,50 @@
+-- Tests on the indices of a rectangle: whether an array may have them, and whether its elements at all of them are there.
+use Rattle.std.specs.Prelude.{ℕ, ◌==◌, Bool, true, false, List, [], ◌∷◌, map, Option, is_some, Result, Ok, Err}
+use Rattle.std.specs.List.{list_all}
+use Rattle.wb_book.specs.declared.cells.cell.Cell.{Cell}
+use Rattle.wb_book.specs.declared.cells.cell.Cell.TheVariants.{Element}
+use Rattle.wb_book.specs.declared.cells.value.Kind.{Kind}
+use Rattle.wb_book.specs.declared.cells.value.Kind.TheVariants.{Rectangular}
+use Rattle.wb_book.specs.declared.cells.value.Value.{Value}
+use Rattle.wb_book.specs.declared.values.index.Index.{Index}
+use Rattle.wb_book.specs.Cells.{Name}
+use Rattle.wb_edit.specs.declared.refusal.Refusal.{Refusal}
+use Rattle.wb_edit.specs.declared.refusal.Refusal.TheVariants.{WrongKind, OutOfDomain}
+use Rattle.wb_edit.specs.Looks.{Look, ◌>>=◌, read, judged}
+
+-- ---- judgements
+
+abbrev pub is_rectangular_of : ℕ → Kind → Bool
+is_rectangular_of rank (Rectangular r) = r == rank
+
+-- the array is over a rectangular domain of the rank; else it is of the wrong kind
+abbrev pub of_rank : ℕ → Kind → Result (Unit {0}) Refusal
+of_rank rank kind = elim (is_rectangular_of rank kind) [ true ↦ Ok tt | false ↦ Err WrongKind ]
+
+-- all of them are there; else an index is outside
+abbrev pub there_if : Bool → Result (Unit {0}) Refusal
+there_if true = Ok tt
+there_if false = Err OutOfDomain
+
+abbrev pub all_there : List (Option Value) → Result (Unit {0}) Refusal
+all_there vs = there_if (list_all is_some vs)
+
+-- ---- the tests
+
+-- what each of some cells holds: all are looked at, one after another
+abbrev pub read_all : List Cell → Look (List (Option Value))
+read_all [] next = next []
+read_all (c ∷ cs) next = do
+  v ← read c
+  vs ← read_all cs
+  next (v ∷ vs)
+
+-- an array over a rectangular domain of the rank: looks at nothing
+abbrev pub over_rectangle : ℕ → Kind → Look (Unit {0})
+over_rectangle rank kind = judged (of_rank rank kind)
+
+-- an array's elements at some indices: looks at all of them before it judges
+abbrev pub all_elements : Name → List Index → Look (Unit {0})
+all_elements a is next = do
+  vs ← read_all (map (Element a) is)
+  judged (all_there vs) next

@@ -1,0 +1,33 @@
+ghost use Rattle.std.specs.Prelude.{◌≡◌};
+ghost use Rattle.wb_edit.specs.Commands.{copy};
+ghost use Rattle.wb_edit.specs.Plans.{Attempts};
+
+use crate::commands::element::element_change;
+use crate::foot::Foot;
+use crate::tests::stop::{Stop, stopped};
+use crate::tests::{judgements, looks, numbers};
+use std::alloc::Global;
+use wb_book::{AnyIndex, Book, Delta, Name};
+
+/// An element that is another one and a number more.
+pub(crate) fn plan_copy(
+    alloc: Global,
+    book: &Book,
+    foot: &mut Foot,
+    target: (Name, AnyIndex),
+    source: (Name, AnyIndex),
+    more: i64,
+) -> Result<Delta, Stop>
+    ensures { Attempts (copy target.0 target.1 source.0 source.1 more) book.now.cells foot.old result foot.new }
+{
+    let (array, index) = target;
+    let (other, place) = source;
+    let (_domain, kind) = looks::arr(book, foot, array)?;
+    let (_over, kind_of_other) = looks::arr(book, foot, other)?;
+    stopped(judgements::fits(kind, index))?;
+    stopped(judgements::fits(kind_of_other, place))?;
+    looks::element(book, foot, array, index)?;
+    let number = numbers::number(book, foot, other, place)?;
+    let sum = stopped(numbers::sum(number, more))?;
+    element_change(alloc, array, index, sum)
+}

@@ -1,0 +1,52 @@
+//! Tests on numbers: the element that is read, and sums within 64 bits.
+
+ghost use Rattle.std.specs.Prelude.{◌≡◌, ◌+ℤ◌};
+ghost use Rattle.wb_edit.specs.Numbers.{number_in, within, number};
+ghost use Rattle.wb_edit.specs.Plans.{Looks};
+
+use crate::foot::Foot;
+use crate::refusal::Refusal;
+use crate::tests::looks::read;
+use crate::tests::stop::{Stop, stopped};
+use wb_book::{AnyIndex, Book, Cell, Name, Value};
+
+/// The element that a cell holds.
+pub fn number_in(element: Option<Value>) -> Result<i64, Refusal>
+    ensures { result ≡ number_in element }
+{
+    match element {
+        None => Err(Refusal::OutOfDomain),
+        Some(value) => match value {
+            Value::Number(number) => Ok(number),
+            Value::Domain(_) => Err(Refusal::OutOfDomain),
+            Value::Array(_, _) => Err(Refusal::OutOfDomain),
+            Value::Ranges(_) => Err(Refusal::OutOfDomain),
+            Value::Mapping(_) => Err(Refusal::OutOfDomain),
+            Value::Present => Err(Refusal::OutOfDomain),
+            Value::Bound(_) => Err(Refusal::OutOfDomain),
+        },
+    }
+}
+
+/// The sum, where it is within 64 bits.
+pub fn sum(x: i64, y: i64) -> Result<i64, Refusal>
+    ensures { result ≡ within (x +ℤ y) }
+{
+    match x.checked_add(y) {
+        Some(sum) => Ok(sum),
+        None => Err(Refusal::Overflow),
+    }
+}
+
+/// An array's element at an index.
+pub(crate) fn number(
+    book: &Book,
+    foot: &mut Foot,
+    array: Name,
+    index: AnyIndex,
+) -> Result<i64, Stop>
+    ensures { Looks (number array index) book.now.cells foot.old result foot.new }
+{
+    let element = read(book, foot, &Cell::Element(array, index))?;
+    stopped(number_in(element))
+}
