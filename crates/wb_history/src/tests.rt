@@ -25,6 +25,11 @@ fn set(name: &str, i: i64, value: i64) -> Result<Edit, Fail> {
     Ok(Edit::Set(Name::new(name)?, at(i), value))
 }
 
+// to[i] = from[j] + c
+fn copy(to: &str, i: i64, from: &str, j: i64, c: i64) -> Result<Edit, Fail> {
+    Ok(Edit::Copy(Name::new(to)?, at(i), Name::new(from)?, at(j), c))
+}
+
 fn element(history: &History, name: &str, i: i64) -> Result<Result<Answer, Refusal>, Fail> {
     Ok(history.query(&Query::Get(Name::new(name)?, at(i))))
 }
@@ -239,5 +244,42 @@ fn redo_keeps_its_place(rt: HostRuntime) -> Result<(), Fail> {
     assert_eq!(rt; history.len(), 4);
     assert_eq!(rt; history.undo_last(), Ok((4, 1)));
     assert_eq!(rt; element(&history, "A", 1)?, Ok(Answer::Value(5)));
+    Ok(())
+}
+
+#[test]
+fn copy_depends_on_its_source(rt: HostRuntime) -> Result<(), Fail> {
+    let mut history = opening(&rt, rt.alloc())?;
+    edit(&rt, rt.alloc(), &mut history, set("A", 1, 5)?)?;
+    assert_eq!(rt;
+        edit(&rt, rt.alloc(), &mut history, copy("A", 2, "A", 1, 1)?)?,
+        (4, 1)
+    );
+    assert_eq!(rt; element(&history, "A", 2)?, Ok(Answer::Value(6)));
+    assert_eq!(rt; history.undo(3), Err(Refusal::Blocked(4)));
+    assert_eq!(rt; history.book().writes(), 12);
+    assert_eq!(rt; undo(&rt, &mut history, 4)?, 1);
+    assert_eq!(rt; undo(&rt, &mut history, 3)?, 1);
+    assert_eq!(rt; redo(&rt, &mut history, 4)?, 1);
+    assert_eq!(rt; element(&history, "A", 2)?, Ok(Answer::Value(1)));
+    assert_eq!(rt; history.redo(3), Err(Refusal::Blocked(4)));
+    assert_eq!(rt; history.book().writes(), 15);
+    Ok(())
+}
+
+#[test]
+fn redo_blocked_by_a_later_set(rt: HostRuntime) -> Result<(), Fail> {
+    let mut history = opening(&rt, rt.alloc())?;
+    edit(&rt, rt.alloc(), &mut history, array("B", "D")?)?;
+    assert_eq!(rt;
+        edit(&rt, rt.alloc(), &mut history, copy("A", 1, "B", 1, 1)?)?,
+        (4, 1)
+    );
+    edit(&rt, rt.alloc(), &mut history, set("B", 1, 5)?)?;
+    assert_eq!(rt; undo(&rt, &mut history, 4)?, 1);
+    assert_eq!(rt; history.redo(4), Err(Refusal::Blocked(5)));
+    assert_eq!(rt; undo(&rt, &mut history, 5)?, 1);
+    assert_eq!(rt; redo(&rt, &mut history, 4)?, 1);
+    assert_eq!(rt; element(&history, "A", 1)?, Ok(Answer::Value(1)));
     Ok(())
 }

@@ -34,9 +34,10 @@ set_or_there false w v there = there
 still_numbers : (s : Cells) (a : Name) (c : Cell) (w : Value) (es : List (Index × ℤ)) → AreNumbers s a es → AreNumbers (insert s c w) a es
 still_numbers s a c w [] h = tt
 still_numbers s a c w (e ∷ es) h = (
-    ap is_some (get-apply cell_order (put c w ∷ []) s (Element a e.0)) ∙ set_or_there (eq_by_cmp cell_cmp (Element a e.0) c) w (get s (Element a e.0)) h.0,
-    h.1,
-    still_numbers s a c w es h.2)
+  ap is_some (get-apply cell_order (put c w ∷ []) s (Element a e.0)) ∙ set_or_there (eq_by_cmp cell_cmp (Element a e.0) c) w (get s (Element a e.0)) h.0,
+  h.1,
+  still_numbers s a c w es h.2,
+)
 
 pub numbers_kept : (s : Cells) (a : Name) (es : List (Index × ℤ)) → IsWellFormed s → AreNumbers s a es → IsWellFormed (apply (new_numbers a es) s)
 numbers_kept s a [] h are = h

@@ -30,7 +30,12 @@ pub(crate) fn plan_set(
 }
 
 /// One element gets a value.
-pub(crate) fn element_change(alloc: Global, array: Name, index: AnyIndex, value: i64) -> Result<Delta, Stop>
+pub(crate) fn element_change(
+    alloc: Global,
+    array: Name,
+    index: AnyIndex,
+    value: i64,
+) -> Result<Delta, Stop>
     ensures { Makes (put (Element array index) (Number value) ∷ []) result }
 {
     let mut delta = Delta::new(alloc);

@@ -8,9 +8,8 @@ ghost use Rattle.wb_edit.specs.Writes.{put_all};
 
 use crate::commands::writes::{Column, put_all};
 use crate::foot::Foot;
-use crate::tests::looks;
-use crate::tests::rectangles;
 use crate::tests::stop::Stop;
+use crate::tests::{looks, rectangles};
 use std::alloc::Global;
 use wb_book::{AnyRect, Book, Delta, Name, Value};
 
@@ -35,6 +34,11 @@ fn fill_changes(alloc: Global, array: Name, on: &AnyRect, value: i64) -> Result<
     ensures { Makes (put_all (map (Element array) (indices on.now)) (Number value)) result }
 {
     let mut delta = Delta::new(alloc);
-    put_all(&mut delta, &Column::Elements(array), on, &Value::Number(value))?;
+    put_all(
+        &mut delta,
+        &Column::Elements(array),
+        on,
+        &Value::Number(value),
+    )?;
     Ok(delta)
 }

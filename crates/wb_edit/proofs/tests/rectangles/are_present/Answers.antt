@@ -20,7 +20,7 @@ loop-p-preserved c =
           let here : slice_get is c.loop-p.p ≡ Some i = sym c.nth.ensures ∙ w.in-Some.is in
           record {
             read = w.foot-is ∙ w.in_ok-here-in-Some.ensures.read ∙ ap (λ rs. rs ++ one_of (Element a i) ∷ []) c.loop-p.invariant.read ∙ sym (reads_more (Element a) is c.loop-p.p i here c.args.foot.now);
-            present = w.all-is ∙ w.both-all.ensures ∙ rw (w.in_ok-here-in-Some.ensures.present, c.loop-p.invariant.present) (sym (all_more (Element a) is c.loop-p.p i here s))
+            present = w.all-is ∙ w.both-all.ensures ∙ rw (w.in_ok-here-in-Some.ensures.present, c.loop-p.invariant.present) (sym (all_more (Element a) is c.loop-p.p i here s));
           }
       | in-None w ↦
           let low : c.loop-p.p < length is = omega (arith, c.size-p-end.ensures.count) in

@@ -10,5 +10,5 @@ use Rattle.wb_edit.proofs.tests.rectangles.are_present.Given as goal
 abbrev pub invariant-loop-p : goal.invariant-loop-p
 invariant-loop-p l = record {
   read : l.foot ≡ l.fn.foot ++ map one_of (map (Element l.array) (take l.p (indices l.on)));
-  present : l.all ≡ list_all is_some (map (get l.book.cells) (map (Element l.array) (take l.p (indices l.on))))
+  present : l.all ≡ list_all is_some (map (get l.book.cells) (map (Element l.array) (take l.p (indices l.on))));
 }

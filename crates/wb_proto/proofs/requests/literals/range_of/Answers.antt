@@ -18,7 +18,8 @@ within low high h = rw (
   above low (pos 1000000000000000000) h.low_bound.high,
   above (negsuc 999999999999999999) high h.high_bound.low,
   above high (pos 1000000000000000000) h.high_bound.high,
-  few (length (sequence low high (pos 1) None)) 65536 h.count)
+  few (length (sequence low high (pos 1) None)) 65536 h.count,
+)
 
 pub returns-in-Ok : goal.returns-in-Ok
 returns-in-Ok c =
