@@ -1,5 +1,5 @@
 -- Pairs go to their pieces one after another.
-use Rattle.std.proofs.Common.{◌≡◌, ◌≢◌, ℕ, zero, suc, ◌+◌, ◌<◌, ◌≤◌, ℤ, Bool, true, false, cond, eqb, List, [], ◌∷◌, ◌++◌, map, length, replicate, get_or, set, inl, inr, ◌⊎◌, refl, sym, ap, ◌∙◌, arith, eq-eqb, add-zero}
+use Rattle.std.proofs.Common.{◌≡◌, ◌≢◌, ℕ, zero, suc, ◌+◌, ◌<◌, ℤ, Bool, true, false, cond, eqb, List, [], ◌∷◌, ◌++◌, map, length, replicate, get_or, set, inl, inr, ◌⊎◌, refl, sym, ap, ◌∙◌, arith, eq-eqb, add-zero}
 use Rattle.std.specs.declared.vec.Vec.{Vec}
 use Rattle.std.specs.List.{range_with_len}
 use Rattle.std.proofs.lemmas.Bool.{true≢false, cases_eq}

@@ -106,7 +106,8 @@ impl<D: Domain, M: Mapping<Index = D::Index>> Pieces<D, M> {
 
     /// The mapping that says on which locale each index lies.
     pub fn mapping(&self) -> M
-        ensures { result ≡ self.now.1 }
+        ensures value { result ≡ self.now.1 }
+        ensures below { LieBelow (M.locale self.now.1) (M.locale_count self.now.1) self.now.0 }
     {
         let _ = &self.pieces;
         self.mapping

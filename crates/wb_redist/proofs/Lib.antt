@@ -1,1 +1,2 @@
+pub mod Reducing
 pub mod Sharing

@@ -1,7 +1,7 @@
 -- The shares of all workers, side by side, are the pieces of all locales.
-use Rattle.std.proofs.Common.{◌≡◌, ℕ, zero, suc, ◌+◌, ◌-◌, ◌*◌, ◌/◌, ◌%◌, ◌<◌, ◌≤◌, min, ℤ, List, [], ◌∷◌, ◌++◌, map, length, get_or, Result, Ok, Err, IsOk, IfOk, OnOk, refl, sym, ap, subst, ◌∙◌, arith, add-zero}
+use Rattle.std.proofs.Common.{◌≡◌, ℕ, zero, suc, ◌+◌, ◌-◌, ◌*◌, ◌/◌, ◌<◌, ◌≤◌, ℤ, List, [], ◌∷◌, ◌++◌, length, get_or, Result, Ok, Err, IsOk, IfOk, OnOk, refl, ap, ◌∙◌, arith, add-zero}
 use Rattle.std.specs.declared.vec.Vec.{Vec}
-use Rattle.std.specs.List.{range_with_len, flat_map, All}
+use Rattle.std.specs.List.{All}
 use Rattle.std.proofs.lemmas.List.Elements.{All-get_or}
 use Rattle.std.proofs.Math.Nat.{mul-le-mul_right}
 use Rattle.wb_pieces.specs.Pieces.{piece_of, pieces_from, pieces_of, lists_of}

@@ -3,11 +3,13 @@
 #![tactic(auto)]
 
 mod mover;
+mod reduction;
 mod share;
 mod team;
 mod workers;
 
 pub use mover::{MoveErr, Mover, Way};
+pub use reduction::{Op, ReduceErr, reduce};
 pub use team::Team;
 pub use workers::{BadWorkers, Gate, OneThread, Open, Workers};
 

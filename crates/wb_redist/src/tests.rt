@@ -1,6 +1,8 @@
 ghost use Rattle.std.specs.Prelude.{⊤, pos, ◌+◌, ◌%◌, if◌then◌else◌, int_lt, unsigned_abs};
 
-use crate::{BadWorkers, Gate, MoveErr, Mover, OneThread, Open, Way, Workers};
+use crate::{
+    BadWorkers, Gate, MoveErr, Mover, OneThread, Op, Open, ReduceErr, Way, Workers, reduce,
+};
 use std::alloc::Global;
 use std::marker::PhantomData;
 use std::process::Abort;
@@ -8,8 +10,10 @@ use std::sync::atomic::{AtomicUsize, Ordering};
 use std::test::Fail;
 use std::thread::Threads;
 use wb_array::{Bound, Store};
+use wb_dist::{Block, Cyclic};
 use wb_pieces::Pieces;
 use wb_range::{Domain, Mapping, Range};
+use wb_rect::Rect;
 
 // The integers from 1 to 10 over four locales, in blocks or in turn.
 #[derive(Clone, Copy)]
@@ -162,4 +166,103 @@ fn mover_without_threads(rt: HostRuntime) {
     let from = tens(&rt, rt.alloc());
     let refused = mover.move_pieces(rt.alloc(), &from, &Spread { in_turn: true });
     assert!(rt; refused.is_err_and(|e| e == MoveErr::NoThread));
+}
+
+// The elements at 1, 2 .. up to `high`, in the pieces of the mapping.
+fn pieces_of<M: Mapping<Index = [i64; 1]>>(
+    rt: &impl Abort,
+    alloc: Global,
+    mapping: &M,
+    high: i64,
+    elements: &[(i64, i64)],
+) -> Pieces<Rect<1>, M> {
+    let Ok(range) = Range::new(1, high, 1, None) else {
+        panic!(rt; "the range is refused")
+    };
+    let Ok(domain) = Rect::new([range]) else {
+        panic!(rt; "the rectangle is refused")
+    };
+    let Ok(mut whole) = Bound::new(alloc, &domain) else {
+        panic!(rt; "no memory")
+    };
+    for (i, value) in elements {
+        assert_eq!(rt; whole.set([*i], *value), Ok(0));
+    }
+    let Ok(pieces) = Pieces::split(alloc, mapping, &whole) else {
+        panic!(rt; "no memory")
+    };
+    pieces
+}
+
+// The sum, the least and the greatest of the elements.
+fn reductions<M: Mapping<Index = [i64; 1]>>(
+    rt: &(impl Abort + Threads + Sync),
+    alloc: Global,
+    mapping: &M,
+    high: i64,
+    elements: &[(i64, i64)],
+) -> [Result<i64, ReduceErr>; 3] {
+    let pieces = pieces_of(rt, alloc, mapping, high, elements);
+    [
+        reduce(rt, Op::Sum, &pieces),
+        reduce(rt, Op::Min, &pieces),
+        reduce(rt, Op::Max, &pieces),
+    ]
+}
+
+// The tens over four locales, in blocks and in turn.
+#[test]
+fn reductions_of_the_tens(rt: HostRuntime) -> Result<(), Fail> {
+    let tens = [
+        (1, 10),
+        (2, 20),
+        (3, 30),
+        (4, 40),
+        (5, 50),
+        (6, 60),
+        (7, 70),
+        (8, 80),
+        (9, 90),
+        (10, 100),
+    ];
+    let wanted = [Ok(550), Ok(10), Ok(100)];
+    let bounds = Rect::new([Range::new(1, 10, 1, None)?])?;
+    let blocks = Block::new(bounds, [4])?;
+    assert_eq!(rt; reductions(&rt, rt.alloc(), &blocks, 10, &tens), wanted);
+    let in_turn = Cyclic::new([1], [4])?;
+    assert_eq!(rt; reductions(&rt, rt.alloc(), &in_turn, 10, &tens), wanted);
+    Ok(())
+}
+
+// The sum of nothing is 0, and nothing has no least and no greatest element.
+#[test]
+fn reductions_of_nothing(rt: HostRuntime) -> Result<(), Fail> {
+    let in_turn = Cyclic::new([1], [3])?;
+    assert_eq!(rt;
+        reductions(&rt, rt.alloc(), &in_turn, 0, &[]),
+        [Ok(0), Err(ReduceErr::Empty), Err(ReduceErr::Empty)]
+    );
+    Ok(())
+}
+
+// Only the whole sum has to be an i64: locale 0 has the greatest i64 and 1, and locale 1 may bring the sum back.
+#[test]
+fn reductions_past_i64(rt: HostRuntime) -> Result<(), Fail> {
+    let in_turn = Cyclic::new([1], [2])?;
+    let past = [(1, i64::MAX), (3, 1)];
+    assert_eq!(rt;
+        reductions(&rt, rt.alloc(), &in_turn, 3, &past),
+        [Err(ReduceErr::Overflow), Ok(0), Ok(i64::MAX)]
+    );
+    let back = [(1, i64::MAX), (2, -1), (3, 1)];
+    assert_eq!(rt;
+        reductions(&rt, rt.alloc(), &in_turn, 3, &back),
+        [Ok(i64::MAX), Ok(-1), Ok(i64::MAX)]
+    );
+    let below = [(1, i64::MIN), (2, -1)];
+    assert_eq!(rt;
+        reductions(&rt, rt.alloc(), &in_turn, 3, &below),
+        [Err(ReduceErr::Overflow), Ok(i64::MIN), Ok(0)]
+    );
+    Ok(())
 }

@@ -1,5 +1,5 @@
-use Rattle.std.proofs.Common.{◌<◌, ◌≡◌, length, get_or, arith, []}
-use Rattle.wb_pieces.specs.Pieces.{lists_of, piece_of, merged}
+use Rattle.std.proofs.Common.{◌<◌, arith}
+use Rattle.wb_pieces.specs.Pieces.{lists_of, merged}
 use Rattle.wb_pieces.proofs.Splits.{piece_at, piece_count, piece-ascending, merged-ascending}
 use Rattle.wb_pieces.proofs.Parts.{length-lists_of}
 use Rattle.wb_pieces.proofs.pieces.Pieces.list_of.Goals as goal

@@ -1,7 +1,7 @@
-use Rattle.std.proofs.Common.{◌<◌, ◌≡◌, length, get_or, arith, [], sym, ap, ◌∙◌, rules, to_z, of_z, w64}
+use Rattle.std.proofs.Common.{◌<◌, ◌≡◌, length, get_or, arith, sym, ap, ◌∙◌, rules, to_z, of_z, w64}
 use Rattle.wb_array.specs.Elements.{value_at}
 use Rattle.wb_pieces.specs.Pieces.{lists_of, piece_of, merged}
-use Rattle.wb_pieces.proofs.Splits.{piece_at, piece_count, piece-ascending, merged-ascending}
+use Rattle.wb_pieces.proofs.Splits.{piece_at, piece_count}
 use Rattle.wb_pieces.proofs.Parts.{length-lists_of}
 use Rattle.wb_pieces.proofs.Places.{value_found}
 use Rattle.wb_pieces.proofs.Writes.{written_split, value_at-own}
