@@ -1,5 +1,6 @@
 pub mod Packed
 pub mod Names
+pub mod Ranks
 pub mod Shapes
 pub mod Cells
 pub mod WellFormed

@@ -1,14 +1,16 @@
--- The domain literals that requests take: a rectangle of one range `a..b`. Other texts are bad literals, and only then its
--- limits are judged (Chapel Language Specification, Domains).
-use Rattle.std.specs.Prelude.{ℕ, ℤ, pos, negsuc, int_le, List, [], ◌∷◌, length, Bool, ◌&&◌, nat_le, Option, Some, None, option_and_then, Result, Ok, Err, if◌then◌else◌}
+-- The domain literals that requests take: a rectangle of 1 to 3 ranges. Other texts are bad literals, and only then the
+-- limits of the ranges and of the rectangle are judged (Chapel Language Specification, Ranges and Domains).
+use Rattle.std.specs.Prelude.{ℕ, ℤ, pos, negsuc, ◌-ℤ◌, int_le, List, [], ◌∷◌, length, Bool, not, ◌&&◌, nat_le, Option, Some, None, Result, Ok, Err, if◌then◌else◌}
 use Rattle.std.specs.Option.{ok_or}
-use Rattle.wb_range.specs.Sequence.{sequence}
+use Rattle.std.specs.Ordering.{int_eq}
+use Rattle.wb_range.specs.Sequence.{sequence, counted_bounds}
 use Rattle.wb_rect.specs.Product.{product}
 use Rattle.wb_book.specs.Shapes.{Range}
 use Rattle.wb_edit.specs.declared.refusal.Refusal.TheVariants.{TooLarge}
 use Rattle.wb_history.specs.declared.refusal.Refusal.{Refusal}
 use Rattle.wb_history.specs.declared.refusal.Refusal.TheVariants.{BadLiteral, Refused}
 use Rattle.wb_literal.specs.Rectangle.{rectangle_of}
+use Rattle.wb_literal.specs.declared.range.RangeLiteral.{RangeLiteral}
 use Rattle.wb_literal.specs.declared.range.Stride.{Stride}
 use Rattle.wb_literal.specs.declared.range.Upper.{Upper}
 use Rattle.wb_literal.specs.declared.range.Upper.TheVariants.{To, Below, Count}
@@ -16,41 +18,56 @@ use Rattle.wb_literal.specs.declared.rectangle.RectangleLiteral.{RectangleLitera
 use Rattle.wb_literal.specs.declared.rectangle.RectangleLiteral.TheVariants.{Line, Plane, Solid}
 use Rattle.wb_proto.specs.Fields.{◌>>=◌}
 
--- a range with its last bound and no stride, as its bounds
-abbrev pub bounds_to : ℤ → Upper → Option Stride → Option (ℤ × ℤ)
-bounds_to low (To high) None = Some (low, high)
-bounds_to low (To high) (Some stride) = None
-bounds_to low (Below high) stride = None
-bounds_to low (Count n) stride = None
+-- the rectangle that a literal spells
+abbrev pub literal_rectangle : List ℕ → Result RectangleLiteral Refusal
+literal_rectangle text = ok_or (rectangle_of text) BadLiteral
 
--- one such range
-abbrev pub bounds_of : RectangleLiteral → Option (ℤ × ℤ)
-bounds_of (Line r) = bounds_to r.low r.upper r.stride
-bounds_of (Plane r s) = None
-bounds_of (Solid r s t) = None
+-- `a..b` has the bounds a and b, `a..<b` goes to b - 1, and `a..#n` has n integers from a on, where none are `1..0`
+abbrev pub bounds_to : ℤ → Upper → ℤ × ℤ
+bounds_to low (To high) = (low, high)
+bounds_to low (Below high) = (low, high -ℤ pos 1)
+bounds_to low (Count n) = counted_bounds low n
 
--- the bounds that a literal spells
-abbrev pub literal_bounds : List ℕ → Result (ℤ × ℤ) Refusal
-literal_bounds text = ok_or (option_and_then bounds_of (rectangle_of text)) BadLiteral
+-- the stride is 1 where none is written
+abbrev pub stride_in : Option Stride → ℤ
+stride_in None = pos 1
+stride_in (Some s) = s.stride
+
+abbrev pub align_in : Option Stride → Option ℤ
+align_in None = None
+align_in (Some s) = s.align
 
 -- from -10^18 to 10^18
 abbrev pub is_bound : ℤ → Bool
 is_bound i = int_le (negsuc 999999999999999999) i && int_le i (pos 1000000000000000000)
 
--- the bounds are within their limits, and a range has at most 65,536 indices
-abbrev pub is_range : ℤ → ℤ → Bool
-is_range low high = is_bound low && (is_bound high && nat_le (length (sequence low high (pos 1) None)) 65536)
+-- the bounds are within their limits, and a range has at most 65,536 indices; no literal has stride 0
+abbrev pub is_range : ℤ × ℤ → ℤ → Option ℤ → Bool
+is_range b stride align = not (int_eq stride (pos 0)) && (is_bound b.0 && (is_bound b.1 && nat_le (length (sequence b.0 b.1 stride align)) 65536))
 
--- the integers from the low bound to the high one
-abbrev pub range_of : ℤ → ℤ → Result Range Refusal
-range_of low high = if is_range low high then Ok (sequence low high (pos 1) None) else Err (Refused TooLarge)
+-- the range of these bounds, within the limits
+abbrev pub range_within : ℤ × ℤ → ℤ → Option ℤ → Result Range Refusal
+range_within b stride align = if is_range b stride align then Ok (sequence b.0 b.1 stride align) else Err (Refused TooLarge)
+
+-- the range that a literal stands for, within the limits
+abbrev pub range_of : RangeLiteral → Result Range Refusal
+range_of r = range_within (bounds_to r.low r.upper) (stride_in r.stride) (align_in r.stride)
 
 -- a rectangle has at most 65,536 indices
 abbrev pub rectangle_within : List Range → Result (List Range) Refusal
 rectangle_within rs = if nat_le (length (product rs)) 65536 then Ok rs else Err (Refused TooLarge)
 
--- the domain that bounds stand for, within all limits
-abbrev pub domain_within : ℤ × ℤ → Result (List Range) Refusal
-domain_within b = do
-  range ← range_of b.0 b.1
-  rectangle_within (range ∷ [])
+-- the domain that a literal stands for, within all limits
+abbrev pub domain_within : RectangleLiteral → Result (List Range) Refusal
+domain_within (Line r) = do
+  a ← range_of r
+  rectangle_within (a ∷ [])
+domain_within (Plane r s) = do
+  a ← range_of r
+  b ← range_of s
+  rectangle_within (a ∷ b ∷ [])
+domain_within (Solid r s t) = do
+  a ← range_of r
+  b ← range_of s
+  c ← range_of t
+  rectangle_within (a ∷ b ∷ c ∷ [])

@@ -9,7 +9,7 @@ use Rattle.wb_history.specs.declared.query.Query.TheVariants.{Get, State}
 use Rattle.wb_history.specs.declared.refusal.Refusal.{Refusal}
 use Rattle.wb_history.specs.declared.refusal.Refusal.TheVariants.{BadRequest}
 use Rattle.wb_proto.specs.Fields.{◌>>=◌, field_count, has_fields, text_field, i64_field, u64_field, name_field, index_field}
-use Rattle.wb_proto.specs.Literals.{literal_bounds, domain_within}
+use Rattle.wb_proto.specs.Literals.{literal_rectangle, domain_within}
 use Rattle.wb_proto.specs.declared.requests.request.Request.{Request}
 use Rattle.wb_proto.specs.declared.requests.request.Request.TheVariants.{Change, Undo, Redo, Ask}
 
@@ -19,8 +19,8 @@ domain_of d = do
   unit ← has_fields 3 d
   name ← name_field (codes "d") d
   text ← text_field (codes "is") d
-  bounds ← literal_bounds text
-  ranges ← domain_within bounds
+  literal ← literal_rectangle text
+  ranges ← domain_within literal
   Ok (Change (Domain name ranges))
 
 -- {"op":"array","a":NAME,"d":NAME}

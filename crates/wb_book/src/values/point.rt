@@ -1,4 +1,4 @@
-ghost use Rattle.std.specs.Prelude.{◌≡◌, [], ◌∷◌};
+ghost use Rattle.std.specs.Prelude.{◌≡◌, ◌≤◌, [], ◌∷◌, length};
 ghost use Rattle.std.specs.Ordering.{int_cmp, as_partial_cmp, eq_by_cmp};
 ghost use Rattle.std.specs.Cmp.Lexicographic.{slice_cmp, lists_total};
 ghost use Rattle.std.specs.Cmp.{partial_order_from_total, partial_equiv_from_equiv, eq_by_cmp_equiv, int_cmp_total};
@@ -60,6 +60,20 @@ impl Point {
         Point {
             at: [i, j, k],
             rank: 3,
+        }
+    }
+
+    // The point with these coordinates.
+    pub(crate) fn of(coordinates: &[i64]) -> Point
+        requires { length coordinates.now ≤ 3 }
+        ensures { result ≡ coordinates.now }
+    {
+        let mut at = [0; 3];
+        let rank = coordinates.len();
+        at[..rank].copy_from_slice(coordinates);
+        Point {
+            at,
+            rank: rank as u8,
         }
     }
 

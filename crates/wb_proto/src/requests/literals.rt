@@ -1,72 +1,105 @@
 // Domain literals, and the limits of what they spell.
-ghost use Rattle.std.specs.Prelude.{◌≡◌, ℕ, ℤ, List, [], ◌∷◌};
-ghost use Rattle.wb_proto.specs.Literals.{bounds_to, bounds_of, literal_bounds, range_of, rectangle_within, domain_within};
+ghost use Rattle.std.specs.Prelude.{◌≡◌, ◌≤◌, ℕ, ℤ, List, length};
+ghost use Rattle.wb_proto.specs.Literals.{literal_rectangle, stride_in, align_in, range_within, range_of, rectangle_within, domain_within};
 
 use wb_book::AnyRect;
 use wb_history::Refusal;
-use wb_literal::{RectangleLiteral, Stride, Upper, read_rectangle};
-use wb_range::{Range, RangeErr};
+use wb_literal::{RangeLiteral, RectangleLiteral, Stride, Upper, read_rectangle};
+use wb_range::{Range, RangeErr, counted};
 use wb_rect::RectErr;
 
 const TOO_LARGE: Refusal = Refusal::Refused(wb_edit::Refusal::TooLarge);
 
-fn bounds_to(low: i64, upper: Upper, stride: Option<Stride>) -> Option<(i64, i64)>
-    ensures { result ≡ bounds_to low upper stride }
+/// The rectangle that a literal spells.
+pub(crate) fn literal_rectangle(text: &str) -> Result<RectangleLiteral, Refusal>
+    ensures { result ≡ literal_rectangle text.now }
 {
-    match upper {
-        Upper::To(high) => match stride {
-            None => Some((low, high)),
-            Some(_) => None,
-        },
-        Upper::Below(_) => None,
-        Upper::Count(_) => None,
-    }
-}
-
-fn bounds_of(literal: RectangleLiteral) -> Option<(i64, i64)>
-    ensures { result ≡ bounds_of literal }
-{
-    match literal {
-        RectangleLiteral::Line(range) => bounds_to(range.low, range.upper, range.stride),
-        RectangleLiteral::Plane(_, _) => None,
-        RectangleLiteral::Solid(_, _, _) => None,
-    }
-}
-
-/// The bounds that a literal spells.
-pub(crate) fn literal_bounds(text: &str) -> Result<(i64, i64), Refusal>
-    ensures { result ≡ literal_bounds text.now }
-{
-    match read_rectangle(text).and_then(bounds_of) {
-        Some(bounds) => Ok(bounds),
+    match read_rectangle(text) {
+        Some(literal) => Ok(literal),
         None => Err(Refusal::BadLiteral),
     }
 }
 
-fn range_of(low: i64, high: i64) -> Result<Range, Refusal>
-    ensures { result ≡ range_of low high }
+fn stride_in(stride: &Option<Stride>) -> i64
+    ensures { result ≡ stride_in stride.now }
 {
-    match Range::new(low, high, 1, None) {
+    match stride {
+        None => 1,
+        Some(stride) => stride.stride,
+    }
+}
+
+fn align_in(stride: &Option<Stride>) -> Option<i64>
+    ensures { result ≡ align_in stride.now }
+{
+    match stride {
+        None => None,
+        Some(stride) => stride.align,
+    }
+}
+
+fn range_within(low: i64, high: i64, stride: i64, align: Option<i64>) -> Result<Range, Refusal>
+    ensures { result ≡ range_within (low, high) stride align }
+{
+    match Range::new(low, high, stride, align) {
         Ok(range) => Ok(range),
         Err(RangeErr::TooLarge) => Err(TOO_LARGE),
         Err(RangeErr::ZeroStride) => Err(TOO_LARGE),
     }
 }
 
-fn rectangle_within(range: Range) -> Result<AnyRect, Refusal>
-    ensures { result ≡ rectangle_within (range ∷ []) }
+// The range that a literal stands for, within its limits.
+fn range_of(literal: &RangeLiteral) -> Result<Range, Refusal>
+    ensures { result ≡ range_of literal.now }
 {
-    match AnyRect::from_range(range) {
+    let low = literal.low;
+    let stride = stride_in(&literal.stride);
+    let align = align_in(&literal.stride);
+    match literal.upper {
+        Upper::To(high) => range_within(low, high, stride, align),
+        Upper::Below(high) => match high.checked_sub(1) {
+            Some(last) => range_within(low, last, stride, align),
+            None => Err(TOO_LARGE),
+        },
+        Upper::Count(count) => match counted(low, count) {
+            Ok(bounds) => range_within(bounds.0, bounds.1, stride, align),
+            Err(RangeErr::TooLarge) => Err(TOO_LARGE),
+            Err(RangeErr::ZeroStride) => Err(TOO_LARGE),
+        },
+    }
+}
+
+fn rectangle_within(ranges: &[Range]) -> Result<AnyRect, Refusal>
+    requires low { 1 ≤ length ranges.now }
+    requires high { length ranges.now ≤ 3 }
+    ensures { result ≡ rectangle_within ranges.now }
+{
+    match AnyRect::from_ranges(ranges) {
         Ok(domain) => Ok(domain),
         Err(RectErr::TooLarge) => Err(TOO_LARGE),
         Err(RectErr::Strided) => Err(TOO_LARGE),
     }
 }
 
-/// The domain that bounds stand for, within all limits.
-pub(crate) fn domain_within(bounds: (i64, i64)) -> Result<AnyRect, Refusal>
-    ensures { result ≡ domain_within bounds }
+/// The domain that a literal stands for, within all limits.
+pub(crate) fn domain_within(literal: &RectangleLiteral) -> Result<AnyRect, Refusal>
+    ensures { result ≡ domain_within literal.now }
 {
-    let range = range_of(bounds.0, bounds.1)?;
-    rectangle_within(range)
+    match literal {
+        RectangleLiteral::Line(first) => {
+            let first = range_of(first)?;
+            rectangle_within(&[first])
+        }
+        RectangleLiteral::Plane(first, second) => {
+            let first = range_of(first)?;
+            let second = range_of(second)?;
+            rectangle_within(&[first, second])
+        }
+        RectangleLiteral::Solid(first, second, third) => {
+            let first = range_of(first)?;
+            let second = range_of(second)?;
+            let third = range_of(third)?;
+            rectangle_within(&[first, second, third])
+        }
+    }
 }

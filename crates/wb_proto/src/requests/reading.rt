@@ -7,7 +7,7 @@ ghost use Rattle.wb_proto.specs.Requests.{domain_of, array_of, set_of, undo_by_n
 use crate::requests::fields::{
     field_count, has_fields, i64_field, index_field, name_field, text_field, u64_field,
 };
-use crate::requests::literals::{domain_within, literal_bounds};
+use crate::requests::literals::{domain_within, literal_rectangle};
 use crate::requests::request::Request;
 use serde_json::{Category, Error, Value};
 use std::alloc::Global;
@@ -20,8 +20,8 @@ fn domain_of(value: &Value) -> Result<Request, Refusal>
     has_fields(value, 3)?;
     let name = name_field(value, "d")?;
     let text = text_field(value, "is")?;
-    let bounds = literal_bounds(text)?;
-    let ranges = domain_within(bounds)?;
+    let literal = literal_rectangle(text)?;
+    let ranges = domain_within(&literal)?;
     Ok(Request::Change(Edit::Domain(name, ranges)))
 }
 

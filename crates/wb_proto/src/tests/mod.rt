@@ -1,3 +1,4 @@
+mod domains;
 mod requests;
 mod sessions;
 
