@@ -19,3 +19,4 @@ pub use crate::foot::Foot;
 pub use crate::planning::{PlanErr, plan};
 pub use crate::refusal::Refusal;
 pub use crate::tests::judgements;
+pub use crate::tests::numbers::number_in;

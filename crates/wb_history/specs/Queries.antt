@@ -1,27 +1,21 @@
 -- What queries are answered, from the cells of the workbook and the history.
-use Rattle.std.specs.Prelude.{Bool, ℤ, List, Option, Some, None, Result, Ok, Err}
+use Rattle.std.specs.Prelude.{Bool, ℕ, ℤ, List, Option, Some, None, Result, Ok, Err, unwrap_or}
 use Rattle.std.specs.FinMap.{get}
 use Rattle.wb_book.specs.declared.cells.cell.Cell.TheVariants.{Object, Element}
 use Rattle.wb_book.specs.declared.cells.value.Kind.{Kind}
-use Rattle.wb_book.specs.declared.cells.value.Value.{Value}
-use Rattle.wb_book.specs.declared.cells.value.Value.TheVariants.{Number}
 use Rattle.wb_book.specs.declared.values.index.Index.{Index}
 use Rattle.wb_book.specs.Cells.{Name, Cells}
+use Rattle.wb_book.specs.Readers.{size_at}
 use Rattle.wb_edit.specs.declared.refusal.Refusal as why
-use Rattle.wb_edit.specs.declared.refusal.Refusal.TheVariants.{OutOfDomain}
-use Rattle.wb_edit.specs.Tests.{array_kind, fits}
+use Rattle.wb_edit.specs.Numbers.{number_in}
+use Rattle.wb_edit.specs.Tests.{domain_kind, array_kind, fits}
 use Rattle.wb_history.specs.declared.query.Answer.{Answer}
-use Rattle.wb_history.specs.declared.query.Answer.TheVariants.{Value as ValueIs, InForce}
+use Rattle.wb_history.specs.declared.query.Answer.TheVariants.{Value as ValueIs, Size as SizeIs, InForce}
 use Rattle.wb_history.specs.declared.query.Query.{Query}
-use Rattle.wb_history.specs.declared.query.Query.TheVariants.{Get, State}
+use Rattle.wb_history.specs.declared.query.Query.TheVariants.{Get, Size, State}
 use Rattle.wb_history.specs.declared.refusal.Refusal.{Refusal}
 use Rattle.wb_history.specs.declared.refusal.Refusal.TheVariants.{Refused, NoSuchEdit}
 use Rattle.wb_history.specs.Past.{Numbered, force_of}
-
--- the element that a cell holds
-abbrev pub number_in : Option Value → Result ℤ why.Refusal
-number_in (Some (Number x)) = Ok x
-number_in _ = Err OutOfDomain
 
 -- the element at an index of the type and rank of the array's
 abbrev pub element_at : Cells → Name → Index → Result (Unit {0}) why.Refusal → Result ℤ why.Refusal
@@ -40,10 +34,24 @@ abbrev pub value_answer : Result ℤ why.Refusal → Result Answer Refusal
 value_answer (Ok x) = Ok (ValueIs x)
 value_answer (Err e) = Err (Refused e)
 
+-- how many indices a domain has, whatever its kind
+abbrev pub size_from : Cells → Name → Result Kind why.Refusal → Result ℕ why.Refusal
+size_from s d (Ok kind) = Ok (unwrap_or (size_at s d) 0)
+size_from s d (Err e) = Err e
+
+-- the name is a domain's, and the domain has so many indices
+abbrev pub size_answer : Cells → Name → Result ℕ why.Refusal
+size_answer s d = size_from s d (domain_kind (get s (Object d)))
+
+abbrev pub count_answer : Result ℕ why.Refusal → Result Answer Refusal
+count_answer (Ok n) = Ok (SizeIs n)
+count_answer (Err e) = Err (Refused e)
+
 abbrev pub force_answer : Option Bool → Result Answer Refusal
 force_answer (Some b) = Ok (InForce b)
 force_answer None = Err NoSuchEdit
 
 abbrev pub answer : Cells → List Numbered → Query → Result Answer Refusal
 answer s es (Get a i) = value_answer (get_answer s a i)
+answer s es (Size d) = count_answer (size_answer s d)
 answer s es (State k) = force_answer (force_of es k)

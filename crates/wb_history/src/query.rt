@@ -1,15 +1,17 @@
 ghost use Rattle.std.specs.Prelude.{◌≡◌};
-ghost use Rattle.wb_history.specs.Queries.{get_answer, number_in, value_answer, force_answer};
+ghost use Rattle.wb_history.specs.Queries.{get_answer, value_answer, size_answer, count_answer, force_answer};
 
 use crate::refusal::Refusal;
-use wb_book::{AnyIndex, Book, Cell, Name, Value};
-use wb_edit::judgements;
+use wb_book::{AnyIndex, Book, Cell, Name};
+use wb_edit::{judgements, number_in};
 
 /// A question about the workbook or its history.
 #[derive(Clone, Copy, Debug)]
 pub enum Query {
     /// The element of an array at an index.
     Get(Name, AnyIndex),
+    /// How many indices a domain has.
+    Size(Name),
     /// Whether the edit of a number is in force.
     State(u64),
 }
@@ -19,6 +21,8 @@ pub enum Query {
 pub enum Answer {
     /// An element.
     Value(i64),
+    /// How many indices there are.
+    Size(usize),
     /// Whether an edit is in force.
     InForce(bool),
 }
@@ -32,21 +36,12 @@ pub(crate) fn element_of(book: &Book, array: Name, index: AnyIndex) -> Result<i6
     number_in(book.get(&Cell::Element(array, index)))
 }
 
-fn number_in(element: Option<Value>) -> Result<i64, wb_edit::Refusal>
-    ensures { result ≡ number_in element }
+/// How many indices a domain has, or why there is none.
+pub(crate) fn size_of(book: &Book, domain: Name) -> Result<usize, wb_edit::Refusal>
+    ensures { result ≡ size_answer book.now.cells domain }
 {
-    match element {
-        None => Err(wb_edit::Refusal::OutOfDomain),
-        Some(value) => match value {
-            Value::Number(x) => Ok(x),
-            Value::Domain(_) => Err(wb_edit::Refusal::OutOfDomain),
-            Value::Array(_, _) => Err(wb_edit::Refusal::OutOfDomain),
-            Value::Ranges(_) => Err(wb_edit::Refusal::OutOfDomain),
-            Value::Mapping(_) => Err(wb_edit::Refusal::OutOfDomain),
-            Value::Present => Err(wb_edit::Refusal::OutOfDomain),
-            Value::Bound(_) => Err(wb_edit::Refusal::OutOfDomain),
-        },
-    }
+    let _kind = judgements::domain_kind(book.get(&Cell::Object(domain)))?;
+    Ok(book.size(&domain).unwrap_or(0))
 }
 
 pub(crate) fn value_answer(found: Result<i64, wb_edit::Refusal>) -> Result<Answer, Refusal>
@@ -54,6 +49,15 @@ pub(crate) fn value_answer(found: Result<i64, wb_edit::Refusal>) -> Result<Answe
 {
     match found {
         Ok(value) => Ok(Answer::Value(value)),
+        Err(why) => Err(Refusal::Refused(why)),
+    }
+}
+
+pub(crate) fn count_answer(found: Result<usize, wb_edit::Refusal>) -> Result<Answer, Refusal>
+    ensures { result ≡ count_answer found }
+{
+    match found {
+        Ok(count) => Ok(Answer::Size(count)),
         Err(why) => Err(Refusal::Refused(why)),
     }
 }

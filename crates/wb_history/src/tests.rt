@@ -34,6 +34,10 @@ fn element(history: &History, name: &str, i: i64) -> Result<Result<Answer, Refus
     Ok(history.query(&Query::Get(Name::new(name)?, at(i))))
 }
 
+fn size(history: &History, name: &str) -> Result<Result<Answer, Refusal>, Fail> {
+    Ok(history.query(&Query::Size(Name::new(name)?)))
+}
+
 fn edit(
     rt: &impl Abort,
     alloc: Global,
@@ -172,6 +176,23 @@ fn refusals_of_edits_and_queries(rt: HostRuntime) -> Result<(), Fail> {
     );
     assert_eq!(rt; history.len(), 2);
     assert_eq!(rt; history.book().writes(), 10);
+    Ok(())
+}
+
+#[test]
+fn sizes_of_domains(rt: HostRuntime) -> Result<(), Fail> {
+    let mut history = opening(&rt, rt.alloc())?;
+    edit(&rt, rt.alloc(), &mut history, domain("E", 1, 0)?)?;
+    assert_eq!(rt; size(&history, "D")?, Ok(Answer::Size(4)));
+    assert_eq!(rt; size(&history, "E")?, Ok(Answer::Size(0)));
+    assert_eq!(rt;
+        size(&history, "A")?,
+        Err(Refusal::Refused(wb_edit::Refusal::WrongKind))
+    );
+    assert_eq!(rt;
+        size(&history, "F")?,
+        Err(Refusal::Refused(wb_edit::Refusal::NoSuchName))
+    );
     Ok(())
 }
 

@@ -10,6 +10,10 @@ numbers_text first a second b = codes "{\"" ++ (first ++ (codes "\":" ++ (decima
 abbrev pub value_text : ℤ → List ℕ
 value_text z = codes "{\"value\":" ++ (signed_decimal z ++ codes "}")
 
+-- how many indices there are
+abbrev pub size_text : ℕ → List ℕ
+size_text n = codes "{\"size\":" ++ (decimal n ++ codes "}")
+
 -- whether an edit is in force
 abbrev pub in_force_text : Bool → List ℕ
 in_force_text true = codes "{\"in_force\":true}"

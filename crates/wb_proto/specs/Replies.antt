@@ -6,7 +6,7 @@ use Rattle.serde_json.specs.Written.{compact_text}
 use Rattle.wb_edit.specs.declared.refusal.Refusal as why
 use Rattle.wb_edit.specs.declared.refusal.Refusal.TheVariants.{NameTaken, NoSuchName, WrongKind, OutOfDomain, InUse, TooLarge, Overflow}
 use Rattle.wb_history.specs.declared.query.Answer.{Answer}
-use Rattle.wb_history.specs.declared.query.Answer.TheVariants.{Value, InForce as InForceIs}
+use Rattle.wb_history.specs.declared.query.Answer.TheVariants.{Value, Size, InForce as InForceIs}
 use Rattle.wb_history.specs.declared.refusal.Refusal.{Refusal}
 use Rattle.wb_history.specs.declared.refusal.Refusal.TheVariants.{BadRequest, BadLiteral, Refused, NoSuchEdit, NotInForce, InForce, Blocked, RefusedInPlace, NoMemory}
 use Rattle.wb_proto.specs.declared.replies.reply.Reply.{Reply}
@@ -74,6 +74,7 @@ refusal_data NoMemory = object (named NoMemory)
 
 abbrev pub answer_data : Answer → Data
 answer_data (Value v) = object (member (codes "value") (number (of_integer v)) no_members)
+answer_data (Size n) = object (member (codes "size") (number (unsigned n)) no_members)
 answer_data (InForceIs b) = object (member (codes "in_force") (boolean b) no_members)
 
 abbrev pub reply_data : Reply → Data

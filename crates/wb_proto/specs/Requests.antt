@@ -4,8 +4,8 @@ use Rattle.std.specs.Prelude.{ℕ, List, codes, Option, Some, None, Result, Ok, 
 use Rattle.std.specs.Str.{is_utf8}
 use Rattle.serde_json.specs.Data.{Data}
 use Rattle.serde_json.specs.Read.{read}
-use Rattle.wb_edit.specs.declared.edit.Edit.TheVariants.{Domain, Array, Set}
-use Rattle.wb_history.specs.declared.query.Query.TheVariants.{Get, State}
+use Rattle.wb_edit.specs.declared.edit.Edit.TheVariants.{Domain, Array, Set, Copy, Fill}
+use Rattle.wb_history.specs.declared.query.Query.TheVariants.{Get, Size, State}
 use Rattle.wb_history.specs.declared.refusal.Refusal.{Refusal}
 use Rattle.wb_history.specs.declared.refusal.Refusal.TheVariants.{BadRequest}
 use Rattle.wb_proto.specs.Fields.{◌>>=◌, field_count, has_fields, text_field, i64_field, u64_field, name_field, index_field}
@@ -40,6 +40,28 @@ set_of d = do
   value ← i64_field (codes "v") d
   Ok (Change (Set name index value))
 
+-- {"op":"fill","a":NAME,"on":LITERAL,"v":INTEGER}
+abbrev pub fill_of : Data → Result Request Refusal
+fill_of d = do
+  unit ← has_fields 4 d
+  name ← name_field (codes "a") d
+  text ← text_field (codes "on") d
+  value ← i64_field (codes "v") d
+  literal ← literal_rectangle text
+  ranges ← domain_within literal
+  Ok (Change (Fill name ranges value))
+
+-- {"op":"copy","a":NAME,"i":INDEX,"b":NAME,"j":INDEX,"c":INTEGER}
+abbrev pub copy_of : Data → Result Request Refusal
+copy_of d = do
+  unit ← has_fields 6 d
+  name ← name_field (codes "a") d
+  index ← index_field (codes "i") d
+  source ← name_field (codes "b") d
+  place ← index_field (codes "j") d
+  more ← i64_field (codes "c") d
+  Ok (Change (Copy name index source place more))
+
 -- {"op":"undo","k":NUMBER}
 abbrev pub undo_by_number : Data → Result Request Refusal
 undo_by_number d = do
@@ -66,6 +88,13 @@ get_of d = do
   index ← index_field (codes "i") d
   Ok (Ask (Get name index))
 
+-- {"op":"size","d":NAME}
+abbrev pub size_of : Data → Result Request Refusal
+size_of d = do
+  unit ← has_fields 2 d
+  name ← name_field (codes "d") d
+  Ok (Ask (Size name))
+
 -- {"op":"state","k":NUMBER}
 abbrev pub state_of : Data → Result Request Refusal
 state_of d = do
@@ -79,9 +108,12 @@ by_op op d =
     if bytes_eq op (codes "domain") then domain_of d else
     if bytes_eq op (codes "array") then array_of d else
     if bytes_eq op (codes "set") then set_of d else
+    if bytes_eq op (codes "fill") then fill_of d else
+    if bytes_eq op (codes "copy") then copy_of d else
     if bytes_eq op (codes "undo") then undo_of d else
     if bytes_eq op (codes "redo") then redo_of d else
     if bytes_eq op (codes "get") then get_of d else
+    if bytes_eq op (codes "size") then size_of d else
     if bytes_eq op (codes "state") then state_of d else
     Err BadRequest
 

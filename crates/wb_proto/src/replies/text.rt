@@ -2,7 +2,7 @@
 ghost use Rattle.std.specs.Prelude.{◌≡◌, codes, IfOk, string_bytes};
 ghost use Rattle.serde_json.specs.View.{view};
 ghost use Rattle.serde_json.specs.Written.{compact_text};
-ghost use Rattle.wb_proto.specs.Printed.{numbers_text, value_text, in_force_text};
+ghost use Rattle.wb_proto.specs.Printed.{numbers_text, value_text, size_text, in_force_text};
 ghost use Rattle.wb_proto.specs.Replies.{edit_code, edit_name, code_of, name_of, refusal_data, answer_data, reply_data, reply_of};
 
 use crate::replies::reply::Reply;
@@ -119,6 +119,13 @@ fn value_text(alloc: Global, value: i64) -> Result<String, AllocError>
     format!(in alloc; "{{\"value\":{value}}}")
 }
 
+// The object of a number of indices.
+fn size_text(alloc: Global, size: u64) -> Result<String, AllocError>
+    ensures { IfOk result (λ s. string_bytes s ≡ size_text size) }
+{
+    format!(in alloc; "{{\"size\":{size}}}")
+}
+
 fn in_force_text(alloc: Global, in_force: bool) -> Result<String, AllocError>
     ensures { IfOk result (λ s. string_bytes s ≡ in_force_text in_force) }
 {
@@ -129,12 +136,13 @@ fn in_force_text(alloc: Global, in_force: bool) -> Result<String, AllocError>
     }
 }
 
-#[tactic(auto, using(crate::proofs::Texts::value_is, crate::proofs::Texts::in_force_is))]
+#[tactic(auto, using(crate::proofs::Texts::value_is, crate::proofs::Texts::size_is, crate::proofs::Texts::in_force_is))]
 fn answer_text(alloc: Global, answer: Answer) -> Result<String, AllocError>
     ensures { IfOk result (λ s. string_bytes s ≡ compact_text (answer_data answer)) }
 {
     match answer {
         Answer::Value(value) => value_text(alloc, value),
+        Answer::Size(size) => size_text(alloc, size as u64),
         Answer::InForce(in_force) => in_force_text(alloc, in_force),
     }
 }

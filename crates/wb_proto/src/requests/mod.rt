@@ -1,6 +1,8 @@
 //! What a line asks for.
 
+pub mod arrays;
 pub mod fields;
 pub mod literals;
+pub mod queries;
 pub mod reading;
 pub mod request;

@@ -2,17 +2,17 @@
 ghost use Rattle.std.specs.Prelude.{◌≡◌, ◌≢◌, codes, IfOk, IfErr, Ok, Err};
 ghost use Rattle.serde_json.specs.Errors.{IsMemory};
 ghost use Rattle.serde_json.specs.View.{view};
-ghost use Rattle.wb_proto.specs.Requests.{domain_of, array_of, set_of, undo_by_number, undo_of, redo_of, get_of, state_of, by_op, request_of, request};
+ghost use Rattle.wb_proto.specs.Requests.{domain_of, undo_by_number, undo_of, redo_of, by_op, request_of, request};
 
-use crate::requests::fields::{
-    field_count, has_fields, i64_field, index_field, name_field, text_field, u64_field,
-};
+use crate::requests::arrays::{array_of, copy_of, fill_of, set_of};
+use crate::requests::fields::{field_count, has_fields, name_field, text_field, u64_field};
 use crate::requests::literals::{domain_within, literal_rectangle};
+use crate::requests::queries::{get_of, size_of, state_of};
 use crate::requests::request::Request;
 use serde_json::{Category, Error, Value};
 use std::alloc::Global;
 use wb_edit::Edit;
-use wb_history::{Query, Refusal};
+use wb_history::Refusal;
 
 fn domain_of(value: &Value) -> Result<Request, Refusal>
     ensures { result ≡ domain_of (view value.now) }
@@ -23,25 +23,6 @@ fn domain_of(value: &Value) -> Result<Request, Refusal>
     let literal = literal_rectangle(text)?;
     let ranges = domain_within(&literal)?;
     Ok(Request::Change(Edit::Domain(name, ranges)))
-}
-
-fn array_of(value: &Value) -> Result<Request, Refusal>
-    ensures { result ≡ array_of (view value.now) }
-{
-    has_fields(value, 3)?;
-    let name = name_field(value, "a")?;
-    let domain = name_field(value, "d")?;
-    Ok(Request::Change(Edit::Array(name, domain)))
-}
-
-fn set_of(value: &Value) -> Result<Request, Refusal>
-    ensures { result ≡ set_of (view value.now) }
-{
-    has_fields(value, 4)?;
-    let name = name_field(value, "a")?;
-    let index = index_field(value, "i")?;
-    let number = i64_field(value, "v")?;
-    Ok(Request::Change(Edit::Set(name, index, number)))
 }
 
 fn undo_by_number(value: &Value) -> Result<Request, Refusal>
@@ -70,48 +51,22 @@ fn redo_of(value: &Value) -> Result<Request, Refusal>
     Ok(Request::Redo(number))
 }
 
-fn get_of(value: &Value) -> Result<Request, Refusal>
-    ensures { result ≡ get_of (view value.now) }
-{
-    has_fields(value, 3)?;
-    let name = name_field(value, "a")?;
-    let index = index_field(value, "i")?;
-    Ok(Request::Ask(Query::Get(name, index)))
-}
-
-fn state_of(value: &Value) -> Result<Request, Refusal>
-    ensures { result ≡ state_of (view value.now) }
-{
-    has_fields(value, 2)?;
-    let number = u64_field(value, "k")?;
-    Ok(Request::Ask(Query::State(number)))
-}
-
 fn by_op(op: &str, value: &Value) -> Result<Request, Refusal>
     ensures { result ≡ by_op op.now (view value.now) }
 {
-    if op == "domain" {
-        return domain_of(value);
+    match op {
+        "domain" => domain_of(value),
+        "array" => array_of(value),
+        "set" => set_of(value),
+        "fill" => fill_of(value),
+        "copy" => copy_of(value),
+        "undo" => undo_of(value),
+        "redo" => redo_of(value),
+        "get" => get_of(value),
+        "size" => size_of(value),
+        "state" => state_of(value),
+        _ => Err(Refusal::BadRequest),
     }
-    if op == "array" {
-        return array_of(value);
-    }
-    if op == "set" {
-        return set_of(value);
-    }
-    if op == "undo" {
-        return undo_of(value);
-    }
-    if op == "redo" {
-        return redo_of(value);
-    }
-    if op == "get" {
-        return get_of(value);
-    }
-    if op == "state" {
-        return state_of(value);
-    }
-    Err(Refusal::BadRequest)
 }
 
 fn request_of(value: &Value) -> Result<Request, Refusal>

@@ -1,7 +1,7 @@
 use super::replies;
 use crate::{Reply, read_request, reply_text};
 use std::test::Fail;
-use wb_history::{History, Refusal};
+use wb_history::{Answer, History, Refusal};
 
 const BAD: &str = "{\"error\":\"E01\",\"name\":\"bad-request\"}\n";
 
@@ -27,7 +27,16 @@ fn fields_of_their_types(rt: HostRuntime) -> Result<(), Fail> {
         "{\"op\":\"undo\",\"k\":1,\"l\":1}",
         "{\"op\":\"redo\"}",
         "{\"op\":1}",
-        "{\"op\":\"size\",\"d\":\"D\"}",
+        "{\"op\":\"count\",\"d\":\"D\"}",
+        "{\"op\":\"size\"}",
+        "{\"op\":\"size\",\"a\":\"D\"}",
+        "{\"op\":\"size\",\"d\":\"D\",\"k\":1}",
+        "{\"op\":\"fill\",\"a\":\"A\",\"on\":\"{1..4}\"}",
+        "{\"op\":\"fill\",\"a\":\"A\",\"on\":\"{1..\",\"v\":1.5}",
+        "{\"op\":\"fill\",\"a\":\"A\",\"on\":1,\"v\":1}",
+        "{\"op\":\"copy\",\"a\":\"A\",\"i\":1,\"b\":\"A\",\"j\":1}",
+        "{\"op\":\"copy\",\"a\":\"A\",\"i\":1,\"b\":\"A\",\"j\":1,\"c\":1,\"v\":1}",
+        "{\"op\":\"copy\",\"a\":\"A\",\"i\":1,\"b\":\"A\",\"j\":{},\"c\":1}",
         "{\"op\":\"array\",\"a\":\"A\"}",
         "{\"op\":\"get\",\"a\":\"A\",\"i\":[]}",
         "{\"op\":\"get\",\"a\":\"A\",\"i\":[1]}",
@@ -109,12 +118,46 @@ fn literals_after_fields_and_limits_last(rt: HostRuntime) -> Result<(), Fail> {
 }
 
 #[test]
+fn fills_read_whole_before_literals(rt: HostRuntime) -> Result<(), Fail> {
+    let alloc = rt.alloc();
+    let mut history = History::new(alloc);
+    for (name, literal, value, reply) in [
+        ("1", "{1..", "1", BAD),
+        ("A", "{1..", "true", BAD),
+        ("A", "{1..65537}", "true", BAD),
+        ("A", "{1..", "1", BAD_LITERAL),
+        ("A", "{1..65537}", "1", TOO_LARGE),
+        (
+            "A",
+            "{1..65536}",
+            "1",
+            "{\"error\":\"E04\",\"name\":\"no-such-name\"}\n",
+        ),
+    ] {
+        let line = format!(in alloc;
+            "{{\"op\":\"fill\",\"a\":\"{name}\",\"on\":\"{literal}\",\"v\":{value}}}\n"
+        )?;
+        assert_eq!(rt;
+            replies(alloc, &mut history, line.as_str())?.as_str(),
+            reply,
+            "at {literal}"
+        );
+    }
+    Ok(())
+}
+
+#[test]
 fn texts_of_replies(rt: HostRuntime) -> Result<(), Fail> {
     let alloc = rt.alloc();
     for (reply, text) in [
         (
             Reply::Redone(18_446_744_073_709_551_615, 0),
             "{\"n\":0,\"redone\":18446744073709551615}",
+        ),
+        (Reply::Answered(Answer::Size(65_536)), "{\"size\":65536}"),
+        (
+            Reply::Refused(Refusal::Refused(wb_edit::Refusal::InUse)),
+            "{\"error\":\"E08\",\"name\":\"in-use\"}",
         ),
         (
             Reply::Refused(Refusal::NoMemory),

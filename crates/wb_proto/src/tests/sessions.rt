@@ -107,6 +107,68 @@ fn refusals_of_undo_and_redo(rt: HostRuntime) -> Result<(), Fail> {
 }
 
 #[test]
+fn copies_fills_and_sizes(rt: HostRuntime) -> Result<(), Fail> {
+    let alloc = rt.alloc();
+    let mut history = History::new(alloc);
+    replies(alloc, &mut history, BUILT)?;
+    for (line, reply) in [
+        ("{\"op\":\"size\",\"d\":\"D\"}", "{\"size\":4}\n"),
+        (
+            "{\"op\":\"size\",\"d\":\"A\"}",
+            "{\"error\":\"E05\",\"name\":\"wrong-kind\"}\n",
+        ),
+        (
+            "{\"op\":\"size\",\"d\":\"E\"}",
+            "{\"error\":\"E04\",\"name\":\"no-such-name\"}\n",
+        ),
+        (
+            "{\"op\":\"copy\",\"a\":\"A\",\"i\":2,\"b\":\"A\",\"j\":1,\"c\":1}",
+            "{\"edit\":4,\"n\":1}\n",
+        ),
+        ("{\"op\":\"get\",\"a\":\"A\",\"i\":2}", "{\"value\":6}\n"),
+        (
+            "{\"op\":\"undo\",\"k\":3}",
+            "{\"by\":4,\"error\":\"E14\",\"name\":\"blocked\"}\n",
+        ),
+        (
+            "{\"op\":\"copy\",\"a\":\"A\",\"i\":1,\"b\":\"A\",\"j\":1,\"c\":9223372036854775803}",
+            "{\"error\":\"E10\",\"name\":\"overflow\"}\n",
+        ),
+        (
+            "{\"op\":\"copy\",\"a\":\"A\",\"i\":1,\"b\":\"A\",\"j\":5,\"c\":1}",
+            "{\"error\":\"E06\",\"name\":\"out-of-domain\"}\n",
+        ),
+        (
+            "{\"op\":\"fill\",\"a\":\"A\",\"on\":\"{2..3}\",\"v\":8}",
+            "{\"edit\":5,\"n\":2}\n",
+        ),
+        ("{\"op\":\"get\",\"a\":\"A\",\"i\":3}", "{\"value\":8}\n"),
+        ("{\"op\":\"get\",\"a\":\"A\",\"i\":4}", "{\"value\":0}\n"),
+        (
+            "{\"op\":\"fill\",\"a\":\"A\",\"on\":\"{4..5}\",\"v\":8}",
+            "{\"error\":\"E06\",\"name\":\"out-of-domain\"}\n",
+        ),
+        (
+            "{\"op\":\"fill\",\"a\":\"A\",\"on\":\"{1..0}\",\"v\":8}",
+            "{\"edit\":6,\"n\":0}\n",
+        ),
+        (
+            "{\"op\":\"undo\",\"k\":4}",
+            "{\"by\":5,\"error\":\"E14\",\"name\":\"blocked\"}\n",
+        ),
+        ("{\"op\":\"undo\",\"k\":5}", "{\"n\":2,\"undone\":5}\n"),
+        ("{\"op\":\"get\",\"a\":\"A\",\"i\":2}", "{\"value\":6}\n"),
+    ] {
+        assert_eq!(rt;
+            replies(alloc, &mut history, line)?.as_str(),
+            reply,
+            "at {line}"
+        );
+    }
+    Ok(())
+}
+
+#[test]
 fn broken_lines(rt: HostRuntime) -> Result<(), Fail> {
     let alloc = rt.alloc();
     let mut lines = Vec::from_slice(alloc, b"{\"op\":\"domain\",\"d\":\"D\"\n")?;

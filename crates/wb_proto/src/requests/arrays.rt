@@ -1,0 +1,58 @@
+// Requests for changes to arrays.
+ghost use Rattle.std.specs.Prelude.{◌≡◌, codes};
+ghost use Rattle.serde_json.specs.View.{view};
+ghost use Rattle.wb_proto.specs.Requests.{array_of, set_of, fill_of, copy_of};
+
+use crate::requests::fields::{has_fields, i64_field, index_field, name_field, text_field};
+use crate::requests::literals::{domain_within, literal_rectangle};
+use crate::requests::request::Request;
+use serde_json::Value;
+use wb_edit::Edit;
+use wb_history::Refusal;
+
+/// A new array.
+pub(crate) fn array_of(value: &Value) -> Result<Request, Refusal>
+    ensures { result ≡ array_of (view value.now) }
+{
+    has_fields(value, 3)?;
+    let name = name_field(value, "a")?;
+    let domain = name_field(value, "d")?;
+    Ok(Request::Change(Edit::Array(name, domain)))
+}
+
+/// A new element.
+pub(crate) fn set_of(value: &Value) -> Result<Request, Refusal>
+    ensures { result ≡ set_of (view value.now) }
+{
+    has_fields(value, 4)?;
+    let name = name_field(value, "a")?;
+    let index = index_field(value, "i")?;
+    let number = i64_field(value, "v")?;
+    Ok(Request::Change(Edit::Set(name, index, number)))
+}
+
+/// A number at the indices of a rectangle.
+pub(crate) fn fill_of(value: &Value) -> Result<Request, Refusal>
+    ensures { result ≡ fill_of (view value.now) }
+{
+    has_fields(value, 4)?;
+    let name = name_field(value, "a")?;
+    let text = text_field(value, "on")?;
+    let number = i64_field(value, "v")?;
+    let literal = literal_rectangle(text)?;
+    let ranges = domain_within(&literal)?;
+    Ok(Request::Change(Edit::Fill(name, ranges, number)))
+}
+
+/// An element that becomes another one and a number more.
+pub(crate) fn copy_of(value: &Value) -> Result<Request, Refusal>
+    ensures { result ≡ copy_of (view value.now) }
+{
+    has_fields(value, 6)?;
+    let name = name_field(value, "a")?;
+    let index = index_field(value, "i")?;
+    let source = name_field(value, "b")?;
+    let place = index_field(value, "j")?;
+    let more = i64_field(value, "c")?;
+    Ok(Request::Change(Edit::Copy(name, index, source, place, more)))
+}

@@ -1,0 +1,37 @@
+// Requests for what the workbook and its history say.
+ghost use Rattle.std.specs.Prelude.{◌≡◌, codes};
+ghost use Rattle.serde_json.specs.View.{view};
+ghost use Rattle.wb_proto.specs.Requests.{get_of, size_of, state_of};
+
+use crate::requests::fields::{has_fields, index_field, name_field, u64_field};
+use crate::requests::request::Request;
+use serde_json::Value;
+use wb_history::{Query, Refusal};
+
+/// The element at an index.
+pub(crate) fn get_of(value: &Value) -> Result<Request, Refusal>
+    ensures { result ≡ get_of (view value.now) }
+{
+    has_fields(value, 3)?;
+    let name = name_field(value, "a")?;
+    let index = index_field(value, "i")?;
+    Ok(Request::Ask(Query::Get(name, index)))
+}
+
+/// How many indices a domain has.
+pub(crate) fn size_of(value: &Value) -> Result<Request, Refusal>
+    ensures { result ≡ size_of (view value.now) }
+{
+    has_fields(value, 2)?;
+    let name = name_field(value, "d")?;
+    Ok(Request::Ask(Query::Size(name)))
+}
+
+/// Whether an edit is in force.
+pub(crate) fn state_of(value: &Value) -> Result<Request, Refusal>
+    ensures { result ≡ state_of (view value.now) }
+{
+    has_fields(value, 2)?;
+    let number = u64_field(value, "k")?;
+    Ok(Request::Ask(Query::State(number)))
+}
