@@ -40,6 +40,19 @@ has_fields n d = if nat_eq (field_count d) n then Ok tt else Err BadRequest
 abbrev pub text_field : List ℕ → Data → Result (List ℕ) Refusal
 text_field key d = ok_or (option_and_then as_str (get key d)) BadRequest
 
+abbrev pub text_if_there : Option Data → Result (Option (List ℕ)) Refusal
+text_if_there None = Ok None
+text_if_there (Some field) = ok_or (option_map Some (as_str field)) BadRequest
+
+-- a field that is a text, or that isn't there
+abbrev pub optional_text : List ℕ → Data → Result (Option (List ℕ)) Refusal
+optional_text key d = text_if_there (get key d)
+
+-- So many fields, and one more where that one is there.
+abbrev pub has_fields_and : {X : Type 0} → ℕ → Option X → Data → Result (Unit {0}) Refusal
+has_fields_and n None d = has_fields n d
+has_fields_and n (Some x) d = has_fields (suc n) d
+
 -- a field that is an integer of 64 bits with a sign; a fraction or an exponent makes a number none
 abbrev pub i64_field : List ℕ → Data → Result ℤ Refusal
 i64_field key d = ok_or (option_and_then as_i64 (option_and_then as_number (get key d))) BadRequest

@@ -1,5 +1,6 @@
 pub mod Fields
 pub mod Literals
+pub mod Mappings
 pub mod Requests
 pub mod Replies
 pub mod Printed

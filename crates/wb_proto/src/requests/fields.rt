@@ -1,8 +1,8 @@
 // Fields of a JSON object, by their names.
-ghost use Rattle.std.specs.Prelude.{◌≡◌, ℕ, List, codes};
+ghost use Rattle.std.specs.Prelude.{◌≡◌, ◌<◌, ◌^◌, ℕ, List, codes, option_map};
 ghost use Rattle.std.specs.Result.{result_map_both};
 ghost use Rattle.serde_json.specs.View.{view, items_view};
-ghost use Rattle.wb_proto.specs.Fields.{field_count, has_fields, text_field, i64_field, u64_field, name_of, name_field, integer_of, pair_of, triple_of, tuple_of, label_of, index_of, index_field};
+ghost use Rattle.wb_proto.specs.Fields.{field_count, has_fields, has_fields_and, text_field, optional_text, i64_field, u64_field, name_of, name_field, integer_of, pair_of, triple_of, tuple_of, label_of, index_of, index_field};
 
 use serde_json::Value;
 use wb_assoc::Label;
@@ -38,6 +38,34 @@ pub(crate) fn text_field<'a>(value: &'a Value, key: &str) -> Result<&'a str, Ref
         .get(key)
         .and_then(Value::as_str)
         .ok_or(Refusal::BadRequest)
+}
+
+/// A field that is a text, or that isn't there.
+pub(crate) fn optional_text<'a>(value: &'a Value, key: &str) -> Result<Option<&'a str>, Refusal>
+    ensures { result_map_both (λ o. option_map (λ s. s.now) o) (λ e. e) result ≡ optional_text key.now (view value.now) }
+{
+    match value.get(key) {
+        None => Ok(None),
+        Some(field) => match field.as_str() {
+            Some(text) => Ok(Some(text)),
+            None => Err(Refusal::BadRequest),
+        },
+    }
+}
+
+/// That an object has so many fields, and one more where that one is there.
+pub(crate) fn has_fields_and<X>(
+    value: &Value,
+    count: usize,
+    more: &Option<X>,
+) -> Result<(), Refusal>
+    requires { count < 2 ^ 32 }
+    ensures { result ≡ has_fields_and count more.now (view value.now) }
+{
+    match more {
+        None => has_fields(value, count),
+        Some(_) => has_fields(value, count + 1),
+    }
 }
 
 /// A field that is an `i64`.

@@ -3,6 +3,7 @@
 pub mod arrays;
 pub mod fields;
 pub mod literals;
+pub mod mappings;
 pub mod queries;
 pub mod reading;
 pub mod request;
