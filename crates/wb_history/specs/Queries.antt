@@ -3,6 +3,7 @@ use Rattle.std.specs.Prelude.{Bool, ℕ, ℤ, List, Option, Some, None, Result, 
 use Rattle.std.specs.FinMap.{get}
 use Rattle.wb_book.specs.declared.cells.cell.Cell.TheVariants.{Object, Element}
 use Rattle.wb_book.specs.declared.cells.value.Kind.{Kind}
+use Rattle.wb_book.specs.declared.cells.value.Kind.TheVariants.{Rectangular}
 use Rattle.wb_book.specs.declared.values.index.Index.{Index}
 use Rattle.wb_book.specs.Cells.{Name, Cells}
 use Rattle.wb_book.specs.Readers.{size_at}
@@ -34,15 +35,19 @@ abbrev pub value_answer : Result ℤ why.Refusal → Result Answer Refusal
 value_answer (Ok x) = Ok (ValueIs x)
 value_answer (Err e) = Err (Refused e)
 
--- how many indices a domain has, whatever its kind
+-- how many indices a domain of a kind has: a rectangular one those of its ranges
+abbrev pub size_in : Cells → Name → Kind → ℕ
+size_in s d (Rectangular rank) = unwrap_or (size_at s d) 0
+
 abbrev pub size_from : Cells → Name → Result Kind why.Refusal → Result ℕ why.Refusal
-size_from s d (Ok kind) = Ok (unwrap_or (size_at s d) 0)
+size_from s d (Ok kind) = Ok (size_in s d kind)
 size_from s d (Err e) = Err e
 
 -- the name is a domain's, and the domain has so many indices
 abbrev pub size_answer : Cells → Name → Result ℕ why.Refusal
 size_answer s d = size_from s d (domain_kind (get s (Object d)))
 
+-- the count as an answer, or why there is none
 abbrev pub count_answer : Result ℕ why.Refusal → Result Answer Refusal
 count_answer (Ok n) = Ok (SizeIs n)
 count_answer (Err e) = Err (Refused e)

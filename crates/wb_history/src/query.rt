@@ -1,8 +1,8 @@
 ghost use Rattle.std.specs.Prelude.{◌≡◌};
-ghost use Rattle.wb_history.specs.Queries.{get_answer, value_answer, size_answer, count_answer, force_answer};
+ghost use Rattle.wb_history.specs.Queries.{get_answer, value_answer, size_in, size_answer, count_answer, force_answer};
 
 use crate::refusal::Refusal;
-use wb_book::{AnyIndex, Book, Cell, Name};
+use wb_book::{AnyIndex, Book, Cell, Kind, Name};
 use wb_edit::{judgements, number_in};
 
 /// A question about the workbook or its history.
@@ -36,12 +36,21 @@ pub(crate) fn element_of(book: &Book, array: Name, index: AnyIndex) -> Result<i6
     number_in(book.get(&Cell::Element(array, index)))
 }
 
+// How many indices a domain of a kind has.
+fn size_in(book: &Book, domain: Name, kind: Kind) -> usize
+    ensures { result ≡ size_in book.now.cells domain kind }
+{
+    match kind {
+        Kind::Rectangular(_) => book.size(&domain).unwrap_or(0),
+    }
+}
+
 /// How many indices a domain has, or why there is none.
 pub(crate) fn size_of(book: &Book, domain: Name) -> Result<usize, wb_edit::Refusal>
     ensures { result ≡ size_answer book.now.cells domain }
 {
-    let _kind = judgements::domain_kind(book.get(&Cell::Object(domain)))?;
-    Ok(book.size(&domain).unwrap_or(0))
+    let kind = judgements::domain_kind(book.get(&Cell::Object(domain)))?;
+    Ok(size_in(book, domain, kind))
 }
 
 pub(crate) fn value_answer(found: Result<i64, wb_edit::Refusal>) -> Result<Answer, Refusal>

@@ -40,6 +40,7 @@ has_fields n d = if nat_eq (field_count d) n then Ok tt else Err BadRequest
 abbrev pub text_field : List ℕ → Data → Result (List ℕ) Refusal
 text_field key d = ok_or (option_and_then as_str (get key d)) BadRequest
 
+-- the text that a field is, if there is a field
 abbrev pub text_if_there : Option Data → Result (Option (List ℕ)) Refusal
 text_if_there None = Ok None
 text_if_there (Some field) = ok_or (option_map Some (as_str field)) BadRequest
