@@ -4,7 +4,7 @@ use Rattle.std.specs.BTreeMap.{BTreeMap, IsOrdered, keys}
 use Rattle.std.specs.List.{AllByRecursion, filter_map, prefix_len}
 use Rattle.std.specs.List.Sorted.{IsStrictlySortedBy}
 use Rattle.wb_book.specs.declared.cells.cell.Cell.{Cell}
-use Rattle.wb_book.specs.declared.cells.cell.Cell.TheVariants.{Object, Shape, In, Mapping, Use, Implicit, Element}
+use Rattle.wb_book.specs.declared.cells.cell.Cell.TheVariants.{Object, Shape, In, Member, Mapping, Use, Implicit, Element}
 use Rattle.std.specs.Option.{option_and_then}
 use Rattle.wb_book.specs.declared.cells.value.Value.{Value}
 use Rattle.wb_book.specs.Cells.{cell_cmp, state_of}
@@ -19,12 +19,14 @@ objects_stop : Stops object_of any_cell
 objects_stop (Object m) y any above e = cc
 objects_stop x (Shape n) any above e = refl
 objects_stop x (In n i) any above e = refl
+objects_stop x (Member n i) any above e = refl
 objects_stop x (Mapping n) any above e = refl
 objects_stop x (Use d n) any above e = refl
 objects_stop x (Implicit n) any above e = refl
 objects_stop x (Element n i) any above e = refl
 objects_stop (Shape m) (Object n) any above e = cc
 objects_stop (In m i) (Object n) any above e = cc
+objects_stop (Member m i) (Object n) any above e = cc
 objects_stop (Mapping m) (Object n) any above e = cc
 objects_stop (Use d m) (Object n) any above e = cc
 objects_stop (Implicit m) (Object n) any above e = cc

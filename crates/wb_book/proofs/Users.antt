@@ -17,7 +17,7 @@ use Rattle.std.proofs.lemmas.Cmp.{ranked}
 use Rattle.std.proofs.lemmas.Map.Views.{All-keys_found}
 use Rattle.selective_undo.proofs.Log.{get-map}
 use Rattle.wb_book.specs.declared.cells.cell.Cell.{Cell}
-use Rattle.wb_book.specs.declared.cells.cell.Cell.TheVariants.{Object, Shape, In, Mapping, Use, Implicit, Element}
+use Rattle.wb_book.specs.declared.cells.cell.Cell.TheVariants.{Object, Shape, In, Member, Mapping, Use, Implicit, Element}
 use Rattle.wb_book.specs.declared.cells.value.Value.{Value}
 use Rattle.wb_book.specs.Names.{is_letter, is_name_part, is_name}
 use Rattle.wb_book.specs.Cells.{Name, cell_cmp, cell_order, same_names, state_of}
@@ -53,12 +53,14 @@ users_stop : (d : Name) → Stops (user_of d) (λ x. is_from d x ≡ true)
 users_stop d x (Object n) from up none = refl
 users_stop d x (Shape n) from up none = refl
 users_stop d x (In n i) from up none = refl
+users_stop d x (Member n i) from up none = refl
 users_stop d x (Mapping n) from up none = refl
 users_stop d x (Implicit n) from up none = refl
 users_stop d x (Element n i) from up none = refl
 users_stop d (Object m) (Use e n) from up none = cc
 users_stop d (Shape m) (Use e n) from up none = cc
 users_stop d (In m i) (Use e n) from up none = cc
+users_stop d (Member m i) (Use e n) from up none = cc
 users_stop d (Mapping m) (Use e n) from up none = cc
 users_stop d (Implicit m) (Use e n) from up none = cc
 users_stop d (Element m i) (Use e n) from up none = cc
@@ -114,6 +116,7 @@ covered : (m : BTreeMap Cell Value) → IsWellFormed (state_of m) → (d : Name)
 covered m ok d (Object n) there from = refl
 covered m ok d (Shape n) there from = refl
 covered m ok d (In n i) there from = refl
+covered m ok d (Member n i) there from = refl
 covered m ok d (Mapping n) there from = refl
 covered m ok d (Implicit n) there from = refl
 covered m ok d (Element n i) there from = refl

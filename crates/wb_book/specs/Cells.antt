@@ -18,9 +18,9 @@ use Rattle.wb_book.specs.contracts.cells.cell.CellOrd.TheImpl.Laws as laws
 use Rattle.wb_book.specs.contracts.cells.value.Value as value_row
 use Rattle.wb_book.specs.contracts.values.index.IndexOrd.TheImpl as the_indices
 use Rattle.wb_book.specs.declared.cells.cell.Cell.{Cell}
-use Rattle.wb_book.specs.declared.cells.cell.Cell.TheVariants.{Object, Shape, In, Mapping, Use, Implicit, Element}
+use Rattle.wb_book.specs.declared.cells.cell.Cell.TheVariants.{Object, Shape, In, Member, Mapping, Use, Implicit, Element}
 use Rattle.wb_book.specs.declared.cells.pattern.Pattern.{Pattern}
-use Rattle.wb_book.specs.declared.cells.pattern.Pattern.TheVariants.{Objects, One, Uses, Elements}
+use Rattle.wb_book.specs.declared.cells.pattern.Pattern.TheVariants.{Objects, One, Members, Uses, Elements}
 use Rattle.wb_book.specs.declared.cells.value.Value as held
 use Rattle.wb_book.specs.declared.values.index.Index.{Index}
 use Rattle.wb_book.specs.declared.values.index.Index.TheVariants.{Point, Text}
@@ -46,6 +46,8 @@ abbrev pub matches : Pattern → Cell → Bool
 matches Objects (Object n) = true
 matches Objects _ = false
 matches (One c) x = eq_by_cmp cell_cmp c x
+matches (Members d) (Member e i) = is_same_name d e
+matches (Members d) _ = false
 matches (Uses d) (Use e n) = is_same_name d e
 matches (Uses d) _ = false
 matches (Elements a) (Element b i) = is_same_name a b
@@ -80,6 +82,7 @@ pub cell_cmp-IsAntisymmetric : IsAntisymmetric cell_cmp
 cell_cmp-IsAntisymmetric (Object m) (Object n) e = ap Object (same_names m n e)
 cell_cmp-IsAntisymmetric (Shape m) (Shape n) e = ap Shape (same_names m n e)
 cell_cmp-IsAntisymmetric (In d i) (In e j) tie = same_at In d e i j tie
+cell_cmp-IsAntisymmetric (Member d i) (Member e j) tie = same_at Member d e i j tie
 cell_cmp-IsAntisymmetric (Mapping m) (Mapping n) e = ap Mapping (same_names m n e)
 cell_cmp-IsAntisymmetric (Use d m) (Use e n) tie =
     let both = both_equal (slice_cmp nat_cmp d e) (slice_cmp nat_cmp m n) tie in

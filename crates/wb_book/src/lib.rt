@@ -10,8 +10,9 @@ mod values;
 
 pub use crate::book::Book;
 pub use crate::cells::cell::{AnyCell, Cell};
+pub use crate::cells::kind::{AnyDomain, DomainKind, KeyType, Kind};
 pub use crate::cells::pattern::Pattern;
-pub use crate::cells::value::{AnyValue, Binding, Kind, Layout, Value};
+pub use crate::cells::value::{AnyValue, Binding, Layout, Value};
 pub use crate::changes::change::CellChange;
 pub use crate::changes::delta::Delta;
 pub use crate::changes::inverse::Inverse;

@@ -3,7 +3,8 @@
 
 use crate::book::{Book, readers, store};
 use crate::cells::cell::Cell;
-use crate::cells::value::{Kind, Layout, Value};
+use crate::cells::kind::{AnyDomain, DomainKind};
+use crate::cells::value::{Layout, Value};
 use crate::changes::delta::Delta;
 use crate::values::index::{AnyIndex, Index};
 use crate::values::name::{BadName, Name};
@@ -36,7 +37,7 @@ fn domain(alloc: Global, name: Name, ranges: AnyRect) -> Result<Delta, NoMemory>
     let mut delta = Delta::new(alloc);
     delta.put(
         Cell::Object(name),
-        Some(Value::Domain(Kind::Rectangular(1))),
+        Some(Value::Domain(AnyDomain::new(DomainKind::Rectangular(1)))),
     )?;
     delta.put(Cell::Shape(name), Some(Value::Ranges(ranges)))?;
     delta.put(Cell::In(name, at(3)), Some(Value::Present))?;

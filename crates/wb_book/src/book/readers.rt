@@ -23,6 +23,7 @@ fn object_of(cell: &Cell) -> Option<Name>
         Cell::Object(name) => Some(name),
         Cell::Shape(_)
         | Cell::In(_, _)
+        | Cell::Member(_, _)
         | Cell::Mapping(_)
         | Cell::Use(_, _)
         | Cell::Implicit(_)
@@ -39,6 +40,7 @@ fn user_of(domain: Name, cell: &Cell) -> Option<Name>
         Cell::Object(_)
         | Cell::Shape(_)
         | Cell::In(_, _)
+        | Cell::Member(_, _)
         | Cell::Mapping(_)
         | Cell::Implicit(_)
         | Cell::Element(_, _) => None,

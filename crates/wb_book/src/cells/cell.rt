@@ -13,6 +13,8 @@ pub enum Cell {
     Shape(Name),
     /// That an index is in a rectangular domain. It follows from the shape.
     In(Name, AnyIndex),
+    /// That an index is in a sparse or associative domain.
+    Member(Name, AnyIndex),
     /// The mapping of a rectangular domain.
     Mapping(Name),
     /// What the second name is to the domain that the first one names.

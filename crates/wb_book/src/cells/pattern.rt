@@ -12,6 +12,8 @@ pub enum Pattern {
     Objects,
     /// One cell.
     One(AnyCell),
+    /// `Member(d, i)` for each index i.
+    Members(Name),
     /// `Use(d, n)` for each name n.
     Uses(Name),
     /// `Element(a, i)` for each index i.
@@ -26,6 +28,7 @@ impl Pattern {
         match *self {
             Pattern::Objects => matches!(&cell, Cell::Object(_)),
             Pattern::One(c) => c.cell() == cell,
+            Pattern::Members(d) => matches!(&cell, Cell::Member(e, _) if d == *e),
             Pattern::Uses(d) => matches!(&cell, Cell::Use(e, _) if d == *e),
             Pattern::Elements(a) => matches!(&cell, Cell::Element(b, _) if a == *b),
         }

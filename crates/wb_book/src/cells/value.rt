@@ -1,15 +1,9 @@
 ghost use Rattle.std.specs.Prelude.{◌≡◌};
 
+use crate::cells::kind::{AnyDomain, Kind};
 use crate::values::name::Name;
 use crate::values::rectangle::AnyRect;
 use std::marker::Model;
-
-/// What kind of domain there is, or an array is over: rectangular, with its rank.
-#[derive(Clone, Copy, Debug, PartialEq, Eq)]
-pub enum Kind {
-    /// Rectangular, of a rank.
-    Rectangular(u8),
-}
 
 /// Which locale each index lies on: locale 0 for all.
 #[derive(Clone, Copy, Debug, PartialEq, Eq)]
@@ -23,13 +17,15 @@ pub enum Layout {
 pub enum Binding {
     /// An array over it.
     Array,
+    /// A sparse domain in it.
+    Sparse,
 }
 
 /// What stands in a cell.
 #[derive(Clone, Copy)]
 pub enum Value {
     /// A domain of a kind.
-    Domain(Kind),
+    Domain(AnyDomain),
     /// An array over the domain of a name, which is of a kind.
     Array(Name, Kind),
     /// The ranges of a rectangular domain.
