@@ -6,3 +6,4 @@ pub mod Order
 pub mod Leading
 pub mod Objects
 pub mod Users
+pub mod Families

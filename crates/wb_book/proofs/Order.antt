@@ -31,5 +31,8 @@ entries_ascending (e ∷ es) s =
     ∙ ap (put cell_cmp e.0 e.1) (entries_ascending es (rest_sorted e es s))
     ∙ put_first e es s
 
+pub entries-state_of : (m : BTreeMap Cell Value) → tree.IsOrdered cell_cmp m → entries (state_of m) ≡ m.entries
+entries-state_of m s = entries_ascending m.entries s
+
 pub keys-state_of : (m : BTreeMap Cell Value) → tree.IsOrdered cell_cmp m → keys (state_of m) ≡ tree.keys m
 keys-state_of m s = ap (λ es. keys_of es) (entries_ascending m.entries s)

@@ -21,15 +21,12 @@ use Rattle.wb_book.specs.declared.cells.cell.Cell.TheVariants.{Object, Shape, In
 use Rattle.wb_book.specs.declared.cells.value.Value.{Value}
 use Rattle.wb_book.specs.Names.{is_letter, is_name_part, is_name}
 use Rattle.wb_book.specs.Cells.{Name, cell_cmp, cell_order, same_names, state_of}
+use Rattle.wb_book.specs.Families.{least}
 use Rattle.wb_book.specs.Readers.{user_of, users}
 use Rattle.wb_book.specs.WellFormed.{IsWellFormed, use_of}
 use Rattle.wb_book.proofs.Leading.{Stops, leads_from, same_taken, get_leading}
 use Rattle.wb_book.proofs.Order.{keys-state_of}
 use Rattle.wb_book.proofs.Shown.{get-state_of}
-
--- `A`, the least name
-abbrev pub least : Name
-least = 65 ∷ []
 
 abbrev pub is_from : Name → Cell → Bool
 is_from d = range_contains cell_cmp (Included (Use d least)) Unbounded
@@ -41,7 +38,7 @@ before Less r n from none = refl
 before Equal r n from none = cc
 before Greater r n from none = cc
 
-later : (d f e : Name) (o r : Ordering) → slice_cmp nat_cmp f e ≡ o → ordering_then o r ≡ Less → slice_cmp nat_cmp d f ≡ Less → slice_cmp nat_cmp d e ≡ Less
+pub later : (d f e : Name) (o r : Ordering) → slice_cmp nat_cmp f e ≡ o → ordering_then o r ≡ Less → slice_cmp nat_cmp d f ≡ Less → slice_cmp nat_cmp d e ≡ Less
 later d f e Less r is up below = nat_list_cmp_total.trans d f e below is
 later d f e Equal r is up below = subst (λ (g : Name). slice_cmp nat_cmp d g ≡ Less) (same_names f e is) below
 later d f e Greater r is up below = cc
@@ -70,7 +67,7 @@ users_stop d (Use f m) (Use e n) from up none =
 
 -- ---- before them stands none
 
-user_is_object : (d : Name) (o : Option Value) → IsSome (use_of d o) → (v : Value) × (o ≡ Some v)
+pub user_is_object : (d : Name) (o : Option Value) → IsSome (use_of d o) → (v : Value) × (o ≡ Some v)
 user_is_object d None there = let no : ⊥ = cc in absurd no
 user_is_object d (Some v) there = (v, refl)
 
@@ -96,7 +93,7 @@ nothing_is_least : (cs : List ℕ) → is_le (slice_cmp nat_cmp [] cs) ≡ true
 nothing_is_least [] = refl
 nothing_is_least (c ∷ cs) = refl
 
-least_is_least : (n : Name) → is_name n ≡ true → is_le (slice_cmp nat_cmp least n) ≡ true
+pub least_is_least : (n : Name) → is_name n ≡ true → is_le (slice_cmp nat_cmp least n) ≡ true
 least_is_least [] named = cc
 least_is_least (c ∷ cs) named = elim (nat_cmp 65 c) as (λ o. nat_cmp 65 c ≡ o → is_le (ordering_then o (slice_cmp nat_cmp [] cs)) ≡ true) [
   | Less ↦ λ e. refl

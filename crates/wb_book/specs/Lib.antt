@@ -6,3 +6,4 @@ pub mod Kinds
 pub mod Cells
 pub mod WellFormed
 pub mod Readers
+pub mod Families

@@ -1,13 +1,19 @@
 -- What the readers of a book answer, from its cells.
 use Rattle.std.specs.Prelude.{ℕ, cond, List, length, Option, Some, None, option_map, option_and_then, slice_get}
 use Rattle.std.specs.List.{filter_map}
-use Rattle.std.specs.FinMap.{get, keys}
+use Rattle.std.specs.FinMap.{get, keys, entries, retain_keys}
 use Rattle.wb_book.specs.declared.cells.cell.Cell.{Cell}
 use Rattle.wb_book.specs.declared.cells.cell.Cell.TheVariants.{Object, Shape, Use}
+use Rattle.wb_book.specs.declared.cells.pattern.Pattern.{Pattern}
+use Rattle.wb_book.specs.declared.cells.value.Value.{Value}
 use Rattle.wb_book.specs.declared.values.index.Index.{Index}
-use Rattle.wb_book.specs.Cells.{Name, Cells, is_same_name}
+use Rattle.wb_book.specs.Cells.{Name, Cells, is_same_name, matches}
 use Rattle.wb_book.specs.Shapes.{indices}
 use Rattle.wb_book.specs.WellFormed.{ranges_in}
+
+-- what a look at a pattern shows: the cells that it names and that are there, with their values, in their order
+abbrev pub seen : Cells → Pattern → List (Cell × Value)
+seen s p = entries (retain_keys s (matches p))
 
 -- the object that a cell tells of
 abbrev pub object_of : Cell → Option Name

@@ -2,11 +2,12 @@ ghost use Rattle.std.specs.Prelude.{◌≡◌, ℕ, ◌+◌, ◌-◌, ◌^◌, L
 ghost use Rattle.std.specs.FinMap as map;
 ghost use Rattle.selective_undo.specs.Changes.{apply, inverse};
 ghost use Rattle.wb_book.specs.Cells.{written_more, count_of};
-ghost use Rattle.wb_book.specs.Readers.{objects, users, size_at, index_at};
+ghost use Rattle.wb_book.specs.Readers.{seen, objects, users, size_at, index_at};
 ghost use Rattle.wb_book.specs.WellFormed.{IsWellFormed};
 
-use crate::book::{readers, store};
+use crate::book::{families, readers, store};
 use crate::cells::cell::Cell;
+use crate::cells::pattern::Pattern;
 use crate::cells::value::Value;
 use crate::changes::delta::Delta;
 use crate::changes::inverse::Inverse;
@@ -56,6 +57,17 @@ impl Book {
         ensures { result ≡ map.get self.now.cells cell.now }
     {
         store::look(&self.cells, *cell)
+    }
+
+    /// What a look at a pattern shows: the cells that it names and that are there, with their values, in their order;
+    /// `NoMemory` where none is left. It costs time and memory in the number of those cells.
+    pub fn seen(&self, alloc: Global, pattern: &Pattern) -> Result<Vec<(Cell, Value)>, NoMemory>
+        ensures { IfOk result (λ v. v.items ≡ seen self.now.cells pattern.now) }
+    {
+        match families::seen(alloc, &self.cells, pattern) {
+            Ok(shown) => Ok(shown),
+            Err(_) => Err(NoMemory),
+        }
     }
 
     /// How many objects there are: domains and arrays.

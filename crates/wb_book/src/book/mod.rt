@@ -1,6 +1,7 @@
 //! The book: a map of its cells, and how many were set so far.
 
 mod contents;
+pub(crate) mod families;
 pub(crate) mod readers;
 pub(crate) mod store;
 

@@ -1,4 +1,5 @@
-ghost use Rattle.std.specs.Prelude.{◌≡◌};
+ghost use Rattle.std.specs.Prelude.{◌≡◌, []};
+ghost use Rattle.wb_book.specs.declared.values.index.Index.TheVariants.{Point as point_index};
 
 use crate::values::point::Point;
 use std::marker::Model;
@@ -35,6 +36,13 @@ impl AnyIndex {
         ensures { result ≡ index }
     {
         AnyIndex { index }
+    }
+
+    // The empty list of coordinates: no index of a domain, and less than all of them.
+    pub(crate) fn least() -> AnyIndex
+        ensures { result ≡ point_index [] }
+    {
+        AnyIndex::new(Index::Point(Point::empty()))
     }
 
     /// The index.

@@ -33,6 +33,16 @@ impl Model for Point {
 }
 
 impl Point {
+    // No coordinates: less than all others.
+    pub(crate) fn empty() -> Point
+        ensures { result ≡ [] }
+    {
+        Point {
+            at: [0, 0, 0],
+            rank: 0,
+        }
+    }
+
     /// The integer `i`.
     pub fn single(i: i64) -> Point
         ensures { result ≡ i ∷ [] }
