@@ -4,4 +4,5 @@ pub mod Gets
 pub mod Attempts
 pub mod Sums
 pub mod Rectangles
+pub mod Members
 pub mod Kept

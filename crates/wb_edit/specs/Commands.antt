@@ -4,12 +4,13 @@ use Rattle.std.specs.Prelude.{ℤ, pos, List, [], ◌∷◌, map, length}
 use Rattle.selective_undo.specs.Edit.{write}
 use Rattle.wb_book.specs.declared.cells.cell.Cell.TheVariants.{Object, Shape, In, Mapping, Use, Implicit, Element}
 use Rattle.wb_book.specs.declared.cells.value.Binding.TheVariants.{Array}
-use Rattle.wb_book.specs.declared.cells.value.Kind.TheVariants.{Rectangular}
-use Rattle.wb_book.specs.declared.cells.value.Kind.{Kind}
+use Rattle.wb_book.specs.declared.cells.kind.DomainKind.TheVariants.{Rectangular}
+use Rattle.wb_book.specs.declared.cells.kind.Kind.{Kind}
 use Rattle.wb_book.specs.declared.cells.value.Layout.TheVariants.{Whole}
 use Rattle.wb_book.specs.declared.cells.value.Value.TheVariants.{Domain, Array, Ranges, Mapping, Present, Bound, Number}
 use Rattle.wb_book.specs.declared.values.index.Index.{Index}
 use Rattle.wb_book.specs.Cells.{Name, Changes}
+use Rattle.wb_book.specs.Kinds.{kind_of}
 use Rattle.wb_book.specs.Shapes.{Range, indices}
 use Rattle.wb_edit.specs.declared.edit.Edit.{Edit as Command}
 use Rattle.wb_edit.specs.declared.edit.Edit.TheVariants.{Domain, Array, Set, Copy, Fill}
@@ -49,7 +50,7 @@ array a d = do
   unit ← free a
   kind ← dom d
   is ← idx d kind
-  write (array_cells a d kind is)
+  write (array_cells a d (kind_of kind) is)
 
 -- a new element: the array is there, the index is of the rank and type of its domain, and there is an element at it
 abbrev pub set : Name → Index → ℤ → Tree

@@ -1,4 +1,5 @@
 -- What the code of a plan says of a tree.
+use Rattle.std.specs.declared.vec.Vec.{Vec}
 use Rattle.std.specs.Prelude.{◌≡◌, ℕ, List, ◌++◌, Option, Result, Ok, Err, ⊤}
 use Rattle.selective_undo.specs.Edit.{outcome, reads}
 use Rattle.wb_book.specs.declared.cells.cell.Cell.{Cell}
@@ -10,12 +11,13 @@ use Rattle.wb_edit.specs.declared.commands.writes.Column.{Column}
 use Rattle.wb_edit.specs.declared.commands.writes.Column.TheVariants.{Inside, Elements}
 use Rattle.wb_edit.specs.declared.planning.PlanErr.{PlanErr}
 use Rattle.wb_edit.specs.declared.planning.PlanErr.TheVariants.{Refused as PlanRefused, NoMemory as PlanNoMemory}
+use Rattle.wb_edit.specs.declared.tests.indices.Indices.{Indices}
+use Rattle.wb_edit.specs.declared.tests.indices.Indices.TheVariants.{Product, Listed}
 use Rattle.wb_edit.specs.declared.tests.stop.Stop.{Stop}
 use Rattle.wb_edit.specs.declared.tests.stop.Stop.TheVariants.{Refused as StopRefused, NoMemory as StopNoMemory}
 use Rattle.wb_edit.specs.declared.refusal.Refusal.{Refusal}
 use Rattle.wb_book.specs.declared.values.index.Index.{Index}
-use Rattle.wb_book.specs.Shapes.{Range}
-use Rattle.wb_edit.specs.Tests.{indices_of}
+use Rattle.wb_book.specs.Shapes.{indices}
 use Rattle.wb_edit.specs.Looks.{Tree, Look}
 
 -- A plan is what the tree says of the cells: the changes, or the refusal; the reads in their order; and how many cells change,
@@ -57,9 +59,19 @@ abbrev pub stopped : {X : Type 0} → Result X Refusal → Result X Stop
 stopped (Ok x) = Ok x
 stopped (Err why) = Err (StopRefused why)
 
--- ranges that were seen, as the indices that they stand for
-abbrev pub shown_indices : Result (Option (List Range)) Stop → Result (List Index) Stop
-shown_indices (Ok rs) = Ok (indices_of rs)
+-- the indices that were found, by ranges or one by one
+abbrev pub indices_in : Indices → List Index
+indices_in (Product rs) = indices rs
+indices_in (Listed is) = is.items
+
+-- the members that a look found
+abbrev pub found_members : {Z : Type 0} → Result (Vec Index Z) Stop → Result (List Index) Stop
+found_members (Ok is) = Ok is.items
+found_members (Err why) = Err why
+
+-- what a look at indices found, as the indices that it stands for
+abbrev pub shown_indices : Result Indices Stop → Result (List Index) Stop
+shown_indices (Ok found) = Ok (indices_in found)
 shown_indices (Err why) = Err why
 
 -- the cell of a column at an index

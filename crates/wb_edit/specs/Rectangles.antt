@@ -3,8 +3,8 @@ use Rattle.std.specs.Prelude.{ℕ, ◌==◌, Bool, true, false, List, [], ◌∷
 use Rattle.std.specs.List.{list_all}
 use Rattle.wb_book.specs.declared.cells.cell.Cell.{Cell}
 use Rattle.wb_book.specs.declared.cells.cell.Cell.TheVariants.{Element}
-use Rattle.wb_book.specs.declared.cells.value.Kind.{Kind}
-use Rattle.wb_book.specs.declared.cells.value.Kind.TheVariants.{Rectangular}
+use Rattle.wb_book.specs.declared.cells.kind.Kind.{Kind}
+use Rattle.wb_book.specs.declared.cells.kind.Kind.TheVariants.{Rectangular, Sparse, Associative}
 use Rattle.wb_book.specs.declared.cells.value.Value.{Value}
 use Rattle.wb_book.specs.declared.values.index.Index.{Index}
 use Rattle.wb_book.specs.Cells.{Name}
@@ -16,6 +16,8 @@ use Rattle.wb_edit.specs.Looks.{Look, ◌>>=◌, read, judged}
 
 abbrev pub is_rectangular_of : ℕ → Kind → Bool
 is_rectangular_of rank (Rectangular r) = r == rank
+is_rectangular_of rank (Sparse r) = false
+is_rectangular_of rank (Associative type) = false
 
 -- the array is over a rectangular domain of the rank; else it is of the wrong kind
 abbrev pub of_rank : ℕ → Kind → Result (Unit {0}) Refusal

@@ -1,14 +1,19 @@
 -- The tests that commands are made of. Each looks at some cells, and then the edit goes on, with what was seen, or is refused.
 -- A test is a look and a judgement: the judgements say what follows from what a cell holds, and look at nothing.
-use Rattle.std.specs.Prelude.{◌==◌, Bool, true, false, List, [], length, Option, Some, None, Result, Ok, Err}
-use Rattle.wb_book.specs.declared.cells.cell.Cell.TheVariants.{Object, Shape, Element}
-use Rattle.wb_book.specs.declared.cells.value.Kind.{Kind}
-use Rattle.wb_book.specs.declared.cells.value.Kind.TheVariants.{Rectangular}
+use Rattle.std.specs.Prelude.{Bool, true, false, List, [], Option, Some, None, Result, Ok, Err}
+use Rattle.std.specs.List.{filter_map}
+use Rattle.selective_undo.specs.Edit.{look}
+use Rattle.wb_book.specs.declared.cells.cell.Cell.{Cell}
+use Rattle.wb_book.specs.declared.cells.cell.Cell.TheVariants.{Object, Shape, Member, Element}
+use Rattle.wb_book.specs.declared.cells.kind.DomainKind.{DomainKind}
+use Rattle.wb_book.specs.declared.cells.kind.DomainKind.TheVariants.{Rectangular, Sparse, Associative}
+use Rattle.wb_book.specs.declared.cells.kind.Kind.{Kind}
+use Rattle.wb_book.specs.declared.cells.pattern.Pattern.TheVariants.{Members}
 use Rattle.wb_book.specs.declared.cells.value.Value.{Value}
 use Rattle.wb_book.specs.declared.cells.value.Value.TheVariants.{Domain, Array}
 use Rattle.wb_book.specs.declared.values.index.Index.{Index}
-use Rattle.wb_book.specs.declared.values.index.Index.TheVariants.{Point, Text}
 use Rattle.wb_book.specs.Cells.{Name}
+use Rattle.wb_book.specs.Kinds.{is_key}
 use Rattle.wb_book.specs.Shapes.{Range, indices}
 pub use Rattle.wb_book.specs.WellFormed.{ranges_in}
 use Rattle.wb_edit.specs.declared.refusal.Refusal.{Refusal}
@@ -22,8 +27,8 @@ abbrev pub is_free : Option Value → Result (Unit {0}) Refusal
 is_free None = Ok tt
 is_free (Some v) = Err NameTaken
 
--- the name is that of a domain: its kind. It is no name where nothing has it, and of the wrong kind where an array has it
-abbrev pub domain_kind : Option Value → Result Kind Refusal
+-- the name is that of a domain: what it is. It is no name where nothing has it, and of the wrong kind where an array has it
+abbrev pub domain_kind : Option Value → Result DomainKind Refusal
 domain_kind None = Err NoSuchName
 domain_kind (Some (Domain kind)) = Ok kind
 domain_kind (Some v) = Err WrongKind
@@ -39,11 +44,6 @@ abbrev pub is_there : Option Value → Result (Unit {0}) Refusal
 is_there None = Err OutOfDomain
 is_there (Some v) = Ok tt
 
--- an index of a rectangular domain has as many coordinates as that has dimensions (Chapel Language Specification, Domains)
-abbrev pub is_key : Kind → Index → Bool
-is_key (Rectangular rank) (Point is) = length is == rank
-is_key (Rectangular rank) (Text t) = false
-
 -- the index is of the rank and type of the indices of a domain of this kind; else it is of the wrong kind
 abbrev pub fits : Kind → Index → Result (Unit {0}) Refusal
 fits kind i = elim (is_key kind i) [ true ↦ Ok tt | false ↦ Err WrongKind ]
@@ -52,6 +52,11 @@ fits kind i = elim (is_key kind i) [ true ↦ Ok tt | false ↦ Err WrongKind ]
 abbrev pub indices_of : Option (List Range) → List Index
 indices_of (Some rs) = indices rs
 indices_of None = []
+
+-- the index of a domain that a cell tells of
+abbrev pub member_in : Cell × Value → Option Index
+member_in (Member d i, v) = Some i
+member_in (c, v) = None
 
 -- ---- the tests
 
@@ -62,7 +67,7 @@ free n next = do
   judged (is_free v) next
 
 -- a domain of the name: looks at its object
-abbrev pub dom : Name → Look Kind
+abbrev pub dom : Name → Look DomainKind
 dom d next = do
   v ← read (Object d)
   judged (domain_kind v) next
@@ -83,8 +88,18 @@ element a i next = do
   v ← read (Element a i)
   judged (is_there v) next
 
--- the indices of a domain, in its order: looks at its ranges
-abbrev pub idx : Name → Kind → Look (List Index)
-idx d (Rectangular rank) next = do
+-- the indices of a sparse or associative domain, ascending: looks at all of them
+abbrev pub members : Name → Look (List Index)
+members d next = look (Members d) (λ seen. next (filter_map member_in seen))
+
+-- the indices of a rectangular domain, row by row: looks at its ranges
+abbrev pub points : Name → Look (List Index)
+points d next = do
   v ← read (Shape d)
   next (indices_of (ranges_in v))
+
+-- the indices of a domain, in its order: looks at its ranges, or at all of its members
+abbrev pub idx : Name → DomainKind → Look (List Index)
+idx d (Rectangular rank) next = points d next
+idx d (Sparse parent rank) next = members d next
+idx d (Associative type) next = members d next

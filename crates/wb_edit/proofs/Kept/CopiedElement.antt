@@ -1,7 +1,7 @@
 -- An element that becomes another one and a number more keeps a workbook well formed.
 use Rattle.std.proofs.Common.{◌≡◌, [], ◌∷◌, ℤ, ◌+ℤ◌, ◌∙◌}
 use Rattle.wb_book.specs.declared.cells.cell.Cell.TheVariants.{Object, Element}
-use Rattle.wb_book.specs.declared.cells.value.Kind.{Kind}
+use Rattle.wb_book.specs.declared.cells.kind.Kind.{Kind}
 use Rattle.wb_book.specs.declared.cells.value.Value.TheVariants.{Number}
 use Rattle.wb_book.specs.declared.values.index.Index.{Index}
 use Rattle.wb_book.specs.Cells.{Name, Cells}

@@ -1,11 +1,13 @@
 -- A new domain keeps a workbook well formed.
-use Rattle.std.proofs.Common.{◌≡◌, Bool, true, false, cond, ◌&&◌, List, length, Option, Some, None, refl, sym, ap, ◌∙◌}
+use Rattle.std.proofs.Common.{◌≡◌, Bool, true, false, cond, ◌&&◌, List, length, Option, Some, None, option_map, refl, sym, ap, ◌∙◌}
 use Rattle.std.specs.FinMap.{get}
 use Rattle.selective_undo.specs.Changes.{apply}
 use Rattle.selective_undo.specs.Edit.{write}
 use Rattle.wb_book.specs.declared.cells.cell.Cell.{Cell}
-use Rattle.wb_book.specs.declared.cells.cell.Cell.TheVariants.{Object, Shape, In, Mapping, Use, Implicit, Element}
-use Rattle.wb_book.specs.declared.cells.value.Kind.TheVariants.{Rectangular}
+use Rattle.wb_book.specs.declared.cells.cell.Cell.TheVariants.{Object, Shape, In, Member, Mapping, Use, Implicit, Element}
+use Rattle.wb_book.specs.declared.cells.kind.DomainKind.{DomainKind}
+use Rattle.wb_book.specs.declared.cells.kind.DomainKind.TheVariants.{Rectangular}
+use Rattle.wb_book.specs.declared.cells.kind.Kind.{Kind}
 use Rattle.wb_book.specs.declared.cells.value.Layout.TheVariants.{Whole}
 use Rattle.wb_book.specs.declared.cells.value.Value.{Value}
 use Rattle.wb_book.specs.declared.cells.value.Value.TheVariants.{Domain, Ranges, Mapping, Present}
@@ -13,12 +15,13 @@ use Rattle.wb_book.specs.declared.values.index.Index.{Index}
 use Rattle.wb_book.specs.Names.{is_name}
 use Rattle.wb_book.specs.Shapes.{Range, indices}
 use Rattle.wb_book.specs.Cells.{Name, Cells, cell_cmp, cell_order, is_same_name}
-use Rattle.wb_book.specs.WellFormed.{IsWellFormed, IsRectangle, IsShape, HasMapping, has, present_if, domain_in, array_in, ranges_in, inside_of, use_of, array_at}
+use Rattle.wb_book.specs.WellFormed.{IsWellFormed, IsRectangle, IsShape, IsMember, HasMapping, has, present_if, domain_in, array_in, ranges_in, inside_of, use_of, domain_at, array_at, index_cell}
+use Rattle.wb_book.specs.Kinds.{kind_of}
 use Rattle.wb_edit.specs.Commands.{domain, domain_cells}
 use Rattle.wb_edit.specs.Tests.{is_free}
 use Rattle.wb_edit.specs.Looks.{judged}
 use Rattle.wb_edit.proofs.Gets.{after, after-column, after-beside, get-apply}
-use Rattle.wb_edit.proofs.Kept.States.{in_column, domain_of_array, no_inside, indices_same, was_free, apart, stays, names_kept, objects_kept}
+use Rattle.wb_edit.proofs.Kept.States.{in_column, domain_of_array, of_kind, no_inside, no_member, IsMember-same, index_cell_same, indices_same, was_free, apart, stays, names_kept, objects_kept}
 use Rattle.wb_edit.proofs.Kept.Steps.{Keeps, keeps_read, keeps_judged, free_is}
 
 -- The workbook t is s with a domain of these ranges.
@@ -26,6 +29,7 @@ record HasNewDomain (s t : Cells) (d : Name) (rs : List Range) : Type 0 where
   object : (n : Name) → get t (Object n) ≡ cond (is_same_name n d) (Some (Domain (Rectangular (length rs)))) (get s (Object n))
   shape : (n : Name) → get t (Shape n) ≡ cond (is_same_name n d) (Some (Ranges rs)) (get s (Shape n))
   inside : (n : Name) (i : Index) → get t (In n i) ≡ cond (is_same_name n d && has (indices rs) i) (Some Present) (get s (In n i))
+  member : (n : Name) (i : Index) → get t (Member n i) ≡ get s (Member n i)
   mapping : (n : Name) → get t (Mapping n) ≡ cond (is_same_name n d) (Some (Mapping Whole)) (get s (Mapping n))
   used : (e n : Name) → get t (Use e n) ≡ get s (Use e n)
   implicit : (n : Name) → get t (Implicit n) ≡ get s (Implicit n)
@@ -38,6 +42,7 @@ has_new_domain s d rs =
       object = λ n. at (Object n) ∙ after-beside cell_cmp (In d) (indices rs) Present (Object n) _ (λ i. refl);
       shape = λ n. at (Shape n) ∙ after-beside cell_cmp (In d) (indices rs) Present (Shape n) _ (λ i. refl);
       inside = λ n i. at (In n i) ∙ after-column cell_cmp (In d) (indices rs) Present (In n i) (get s (In n i)) ∙ ap (λ b. cond b (Some Present) (get s (In n i))) (in_column _ i (indices rs));
+      member = λ n i. at (Member n i) ∙ after-beside cell_cmp (In d) (indices rs) Present (Member n i) _ (λ j. refl);
       mapping = λ n. at (Mapping n) ∙ after-beside cell_cmp (In d) (indices rs) Present (Mapping n) _ (λ i. refl);
       used = λ e n. at (Use e n) ∙ after-beside cell_cmp (In d) (indices rs) Present (Use e n) _ (λ i. refl);
       implicit = λ n. at (Implicit n) ∙ after-beside cell_cmp (In d) (indices rs) Present (Implicit n) _ (λ i. refl);
@@ -49,10 +54,20 @@ present : (b : Bool) (o : Option Value) → o ≡ None → cond b (Some Present)
 present true o e = refl
 present false o e = e
 
+either : (b : Bool) → cond b (Some Present) (Some Present) ≡ Some Present
+either true = refl
+either false = refl
+
 domain_added : (s t : Cells) (d : Name) (rs : List Range) → is_name d ≡ true → IsRectangle (length rs) rs → IsWellFormed s → get s (Object d) ≡ None → HasNewDomain s t d rs → IsWellFormed t
 domain_added s t d rs named rectangle h free k =
     let x : Value = Domain (Rectangular (length rs)) in
     let same_array : (a : Name) → array_at t a ≡ array_at s a = stays s t d x free k.object array_in refl in
+    let still : (e : Name) (i : Index) → get s (In e i) ≡ Some Present → get t (In e i) ≡ Some Present =
+        λ e i there. k.inside e i ∙ ap (λ o. cond (is_same_name e d && has (indices rs) i) (Some Present) o) there ∙ either (is_same_name e d && has (indices rs) i) in
+    let elsewhere : (e : Name) (kind : Kind) (i : Index) → option_map kind_of (domain_at s e) ≡ Some kind → get t (index_cell kind e i) ≡ get s (index_cell kind e i) =
+        λ e kind i over.
+        let of = of_kind (domain_at s e) kind over in
+        index_cell_same s t kind e i (k.inside e i ∙ ap (λ b. cond (b && has (indices rs) i) (Some Present) (get s (In e i))) (apart s t d x free k.object e of.0 of.1)) (k.member e i) in
     record {
       names = names_kept s t d x free k.object h named;
       objects = objects_kept s t d x free k.object h tt;
@@ -64,6 +79,10 @@ domain_added s t d rs named rectangle h free k =
         | true ↦ λ e. present (has (indices rs) i) (get s (In n i)) (no_inside s h n (was_free s t d x free k.object n e) i)
         | false ↦ λ e. h.insides n i
       ] refl);
+      members = λ n i. rw (k.object n, k.member n i) (elim (is_same_name n d) as (λ b. is_same_name n d ≡ b → IsMember t (domain_in (cond b (Some x) (get s (Object n)))) i (get s (Member n i))) [
+        | true ↦ λ e. rw (no_member s h n (was_free s t d x free k.object n e) i) tt
+        | false ↦ λ e. IsMember-same s t still (domain_at s n) i (get s (Member n i)) (h.members n i)
+      ] refl);
       mappings = λ n. rw (k.object n, k.mapping n) (elim (is_same_name n d) as (λ b. HasMapping (domain_in (cond b (Some x) (get s (Object n)))) (cond b (Some (Mapping Whole)) (get s (Mapping n)))) [
         | true ↦ refl
         | false ↦ h.mappings n
@@ -73,8 +92,7 @@ domain_added s t d rs named rectangle h free k =
       elements = λ a i. rw (
         same_array a,
         k.element a i,
-        indices_same s t (array_at s a) i (λ e kind is.
-            k.inside e i ∙ ap (λ b. cond (b && has (indices rs) i) (Some Present) (get s (In e i))) (apart s t d x free k.object e kind (domain_of_array s h a e kind is))),
+        indices_same s t (array_at s a) i (λ e kind is. elsewhere e kind i (domain_of_array s h a e kind is)),
       ) (h.elements a i);
     }
 

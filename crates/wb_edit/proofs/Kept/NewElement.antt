@@ -6,18 +6,18 @@ use Rattle.std.specs.Ordering.{eq_by_cmp}
 use Rattle.std.specs.FinMap.{get, insert}
 use Rattle.selective_undo.specs.Edit.{write}
 use Rattle.wb_book.specs.declared.cells.cell.Cell.{Cell}
-use Rattle.wb_book.specs.declared.cells.cell.Cell.TheVariants.{Object, Shape, In, Mapping, Use, Implicit, Element}
+use Rattle.wb_book.specs.declared.cells.cell.Cell.TheVariants.{Object, Shape, In, Member, Mapping, Use, Implicit, Element}
 use Rattle.wb_book.specs.declared.cells.value.Value.{Value}
 use Rattle.wb_book.specs.declared.cells.value.Value.TheVariants.{Number}
 use Rattle.wb_book.specs.declared.values.index.Index.{Index}
 use Rattle.wb_book.specs.Cells.{Name, Cells, cell_cmp, cell_order}
-use Rattle.wb_book.specs.WellFormed.{IsWellFormed, IsElement, IsNumber, array_at, is_index_of_array}
+use Rattle.wb_book.specs.WellFormed.{IsWellFormed, IsElement, IsNumber, domain_at, array_at, is_index_of_array}
 use Rattle.wb_edit.specs.Commands.{set}
 use Rattle.wb_edit.specs.Looks.{Tree, judged}
 use Rattle.wb_edit.specs.Tests.{array_kind, is_there, fits, key, element}
 use Rattle.wb_edit.specs.Writes.{put}
 use Rattle.wb_edit.proofs.Gets.{same_key, get-apply}
-use Rattle.wb_edit.proofs.Kept.States.{IsObject-same, indices_same}
+use Rattle.wb_edit.proofs.Kept.States.{IsObject-same, IsMember-same, index_cell_same, indices_same}
 use Rattle.wb_edit.proofs.Kept.Steps.{Keeps, keeps_read, keeps_judged, there_is}
 
 -- where an element is there, it is at an index of the array, and so may be another number
@@ -32,15 +32,17 @@ element_set s a i v x h there within =
     let at : (c : Cell) → get t c ≡ cond (eq_by_cmp cell_cmp c (Element a i)) (Some (Number v)) (get s c) = get-apply cell_order (put (Element a i) (Number v) ∷ []) s in
     let object : (n : Name) → get t (Object n) ≡ get s (Object n) = λ n. at (Object n) in
     let inside : (d : Name) (j : Index) → get t (In d j) ≡ get s (In d j) = λ d j. at (In d j) in
+    let member : (d : Name) (j : Index) → get t (Member d j) ≡ get s (Member d j) = λ d j. at (Member d j) in
     record {
       names = λ n w e. h.names n w (sym (object n) ∙ e);
       objects = λ n w e. IsObject-same s t (λ d kind old. rw (object d) old) w (h.objects n w (sym (object n) ∙ e));
       shapes = λ d. rw (object d, at (Shape d)) (h.shapes d);
       insides = λ d j. rw (inside d j, at (Shape d)) (h.insides d j);
+      members = λ d j. rw (object d, member d j) (IsMember-same s t (λ e k there. inside e k ∙ there) (domain_at s d) j (get s (Member d j)) (h.members d j));
       mappings = λ d. rw (object d, at (Mapping d)) (h.mappings d);
       uses = λ d n. rw (at (Use d n), object n) (h.uses d n);
       implicits = λ b. rw (object b, at (Implicit b)) (h.implicits b);
-      elements = λ b j. rw (object b, indices_same s t (array_at s b) j (λ d kind is. inside d j), at (Element b j)) (
+      elements = λ b j. rw (object b, indices_same s t (array_at s b) j (λ d kind is. index_cell_same s t kind d j (inside d j) (member d j)), at (Element b j)) (
           elim (eq_by_cmp cell_cmp (Element b j) (Element a i)) as (λ k. eq_by_cmp cell_cmp (Element b j) (Element a i) ≡ k → IsElement (is_index_of_array s (array_at s b) j) (cond k (Some (Number v)) (get s (Element b j)))) [
             | true ↦ λ e. still_element _ (get s (Element b j)) _ x (ap (get s) (same_key cell_order (Element b j) (Element a i) e) ∙ there) (h.elements b j) (v, refl, within)
             | false ↦ λ e. h.elements b j

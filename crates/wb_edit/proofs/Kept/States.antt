@@ -1,21 +1,24 @@
 -- What follows where a workbook is well formed, and what stays so where another one holds the same.
-use Rattle.std.proofs.Common.{◌≡◌, ℕ, true, false, cond, ◌&&◌, List, Option, Some, None, is_some, refl, sym, ap, ◌∙◌, Ordering, subst}
+use Rattle.std.proofs.Common.{◌≡◌, ℕ, true, false, cond, ◌&&◌, List, Option, Some, None, is_some, option_map, refl, sym, ap, ◌∙◌, Ordering, subst}
 use Rattle.std.proofs.lemmas.Option.{none-some, same_Some}
 use Rattle.std.specs.Ordering.{is_eq, ordering_then}
 use Rattle.std.specs.declared.cmp.Ordering.TheVariants.{Less, Equal, Greater}
 use Rattle.std.specs.Cmp.{Equal-is}
 use Rattle.std.specs.List.{list_any}
 use Rattle.std.specs.FinMap.{get}
-use Rattle.wb_book.specs.declared.cells.cell.Cell.TheVariants.{Object, Shape, In, Mapping, Element}
-use Rattle.wb_book.specs.declared.cells.value.Kind.{Kind}
-use Rattle.wb_book.specs.declared.cells.value.Kind.TheVariants.{Rectangular}
+use Rattle.wb_book.specs.declared.cells.cell.Cell.TheVariants.{Object, Shape, In, Member, Mapping, Element}
+use Rattle.wb_book.specs.declared.cells.kind.DomainKind.{DomainKind}
+use Rattle.wb_book.specs.declared.cells.kind.DomainKind.TheVariants.{Rectangular, Sparse, Associative}
+use Rattle.wb_book.specs.declared.cells.kind.Kind.{Kind}
+use Rattle.wb_book.specs.declared.cells.kind.Kind.TheVariants.{Rectangular, Sparse, Associative}
 use Rattle.wb_book.specs.declared.cells.value.Value.{Value}
 use Rattle.wb_book.specs.declared.cells.value.Value.TheVariants.{Domain, Array, Ranges, Mapping, Present, Bound, Number}
 use Rattle.wb_book.specs.declared.values.index.Index.{Index}
 use Rattle.wb_book.specs.Names.{is_name}
 use Rattle.wb_book.specs.Shapes.{Range}
 use Rattle.wb_book.specs.Cells.{Name, Cells, index_cmp, is_same_name, same_names}
-use Rattle.wb_book.specs.WellFormed.{IsWellFormed, IsObject, IsRectangle, IsShape, IsElement, has, domain_in, array_in, ranges_in, inside_of, domain_at, array_at, is_index_of_array}
+use Rattle.wb_book.specs.WellFormed.{IsWellFormed, IsObject, IsRectangle, IsShape, IsMember, IsElement, has, domain_in, array_in, ranges_in, inside_of, domain_at, array_at, index_cell, is_index_of_array}
+use Rattle.wb_book.specs.Kinds.{kind_of}
 use Rattle.wb_edit.proofs.Gets.{list_any-nowhere}
 
 pub same_name : (m n : Name) → is_same_name m n ≡ true → m ≡ n
@@ -43,13 +46,22 @@ second_first Greater Greater = refl
 
 -- ---- objects
 
+nothing_is_member : (s : Cells) (i : Index) (v : Option Value) → IsMember s None i v → v ≡ None
+nothing_is_member s i None m = refl
+nothing_is_member s i (Some v) m = absurd m.1
+
+-- a domain of a kind
+pub of_kind : (o : Option DomainKind) (kind : Kind) → option_map kind_of o ≡ Some kind → (x : DomainKind) × (o ≡ Some x) × (kind_of x ≡ kind)
+of_kind None kind e = cc
+of_kind (Some x) kind e = (x, refl, same_Some (kind_of x) kind e)
+
 array_in-is : (v : Option Value) (x : Name × Kind) → array_in v ≡ Some x → v ≡ Some (Array x.0 x.1)
 array_in-is (Some (Array d k)) x e = cc
 array_in-is _ x e = cc
 
 module _ (s : Cells) (h : IsWellFormed s) where
   -- an array's domain is there
-  pub domain_of_array : (a d : Name) (kind : Kind) → array_at s a ≡ Some (d, kind) → domain_at s d ≡ Some kind
+  pub domain_of_array : (a d : Name) (kind : Kind) → array_at s a ≡ Some (d, kind) → option_map kind_of (domain_at s d) ≡ Some kind
   domain_of_array a d kind e = h.objects a (Array d kind) (array_in-is (get s (Object a)) (d, kind) e)
 
   -- a rectangular domain's ranges are there
@@ -64,21 +76,40 @@ module _ (s : Cells) (h : IsWellFormed s) where
     pub no_inside : (i : Index) → get s (In n i) ≡ None
     no_inside i = h.insides n i ∙ ap (λ o. inside_of (ranges_in o) i) no_shape
 
+    pub no_member : (i : Index) → get s (Member n i) ≡ None
+    no_member i = nothing_is_member s i (get s (Member n i)) (subst (λ o. IsMember s (domain_in o) i (get s (Member n i))) free (h.members n i))
+
     pub no_element : (i : Index) → get s (Element n i) ≡ None
     no_element i = subst (λ o. IsElement (is_index_of_array s (array_in o) i) (get s (Element n i))) free (h.elements n i)
 
 -- what is said of an object stays so where the domains do
-pub IsObject-same : (s t : Cells) → ((d : Name) (kind : Kind) → domain_at s d ≡ Some kind → domain_at t d ≡ Some kind) → (v : Value) → IsObject s v → IsObject t v
-IsObject-same s t kept (Domain kind) h = h
-IsObject-same s t kept (Array d kind) h = kept d kind h
+pub IsObject-same : (s t : Cells) → ((d : Name) (kind : DomainKind) → domain_at s d ≡ Some kind → domain_at t d ≡ Some kind) → (v : Value) → IsObject s v → IsObject t v
+IsObject-same s t kept (Domain (Rectangular rank)) h = h
+IsObject-same s t kept (Domain (Sparse parent rank)) h = kept parent (Rectangular rank) h
+IsObject-same s t kept (Domain (Associative type)) h = h
+IsObject-same s t kept (Array d kind) h = let over = of_kind (domain_at s d) kind h in ap (option_map kind_of) (kept d over.0 over.1) ∙ ap Some over.2
 IsObject-same s t kept (Ranges rs) h = h
 IsObject-same s t kept (Mapping m) h = h
 IsObject-same s t kept Present h = h
 IsObject-same s t kept (Bound b) h = h
 IsObject-same s t kept (Number x) h = h
 
+-- what is said of a member stays so where the indices of rectangular domains do
+pub IsMember-same : (s t : Cells) → ((d : Name) (i : Index) → get s (In d i) ≡ Some Present → get t (In d i) ≡ Some Present) → (kind : Option DomainKind) (i : Index) (v : Option Value) → IsMember s kind i v → IsMember t kind i v
+IsMember-same s t kept kind i None m = m
+IsMember-same s t kept (Some (Sparse parent rank)) i (Some v) m = (m.0, kept parent i m.1)
+IsMember-same s t kept (Some (Associative type)) i (Some v) m = m
+IsMember-same s t kept (Some (Rectangular rank)) i (Some v) m = m
+IsMember-same s t kept None i (Some v) m = m
+
+-- the cell that says whether an index is in a domain holds the same where both cells do that may say so
+pub index_cell_same : (s t : Cells) (kind : Kind) (d : Name) (i : Index) → get t (In d i) ≡ get s (In d i) → get t (Member d i) ≡ get s (Member d i) → get t (index_cell kind d i) ≡ get s (index_cell kind d i)
+index_cell_same s t (Rectangular rank) d i inside member = inside
+index_cell_same s t (Sparse rank) d i inside member = member
+index_cell_same s t (Associative type) d i inside member = member
+
 -- an array has the same indices where its domain does
-pub indices_same : (s t : Cells) (array : Option (Name × Kind)) (i : Index) → ((d : Name) (kind : Kind) → array ≡ Some (d, kind) → get t (In d i) ≡ get s (In d i)) → is_index_of_array t array i ≡ is_index_of_array s array i
+pub indices_same : (s t : Cells) (array : Option (Name × Kind)) (i : Index) → ((d : Name) (kind : Kind) → array ≡ Some (d, kind) → get t (index_cell kind d i) ≡ get s (index_cell kind d i)) → is_index_of_array t array i ≡ is_index_of_array s array i
 indices_same s t None i same = refl
 indices_same s t (Some (d, kind)) i same = ap is_some (same d kind refl)
 
@@ -89,13 +120,13 @@ module _ (s t : Cells) (a : Name) (x : Value) (free : get s (Object a) ≡ None)
   was_free n e = ap (λ m. get s (Object m)) (same_name n a e) ∙ free
 
   -- a domain has another name
-  pub apart : (d : Name) (kind : Kind) → domain_at s d ≡ Some kind → is_same_name d a ≡ false
+  pub apart : (d : Name) (kind : DomainKind) → domain_at s d ≡ Some kind → is_same_name d a ≡ false
   apart d kind there = elim (is_same_name d a) as (λ b. is_same_name d a ≡ b → b ≡ false) [
     | true ↦ λ e. absurd (none-some kind (sym (ap domain_in (was_free d e)) ∙ there))
     | false ↦ λ e. refl
   ] refl
 
-  pub domains_stay : (d : Name) (kind : Kind) → domain_at s d ≡ Some kind → domain_at t d ≡ Some kind
+  pub domains_stay : (d : Name) (kind : DomainKind) → domain_at s d ≡ Some kind → domain_at t d ≡ Some kind
   domains_stay d kind there = ap domain_in (object d ∙ ap (λ b. cond b (Some x) (get s (Object d))) (apart d kind there)) ∙ there
 
   -- what is read off objects stays, where x gives what no object gives

@@ -3,7 +3,8 @@ use Rattle.std.proofs.Common.{◌≡◌, Option, Some, None, Result, Ok, Err, re
 use Rattle.std.specs.FinMap.{get}
 use Rattle.selective_undo.specs.Edit.{step}
 use Rattle.wb_book.specs.declared.cells.cell.Cell.{Cell}
-use Rattle.wb_book.specs.declared.cells.value.Kind.{Kind}
+use Rattle.wb_book.specs.declared.cells.kind.DomainKind.{DomainKind}
+use Rattle.wb_book.specs.declared.cells.kind.Kind.{Kind}
 use Rattle.wb_book.specs.declared.cells.value.Value.{Value}
 use Rattle.wb_book.specs.declared.cells.value.Value.TheVariants.{Domain, Array}
 use Rattle.wb_book.specs.Cells.{Name, Cells}
@@ -32,7 +33,7 @@ pub free_is : (v : Option Value) (x : Unit {0}) → is_free v ≡ Ok x → v ≡
 free_is None x e = refl
 free_is (Some v) x e = cc
 
-pub domain_is : (v : Option Value) (kind : Kind) → domain_kind v ≡ Ok kind → v ≡ Some (Domain kind)
+pub domain_is : (v : Option Value) (kind : DomainKind) → domain_kind v ≡ Ok kind → v ≡ Some (Domain kind)
 domain_is (Some (Domain k)) kind e = cc
 domain_is _ kind e = cc
 

@@ -1,14 +1,15 @@
 ghost use Rattle.std.specs.Prelude.{◌≡◌};
+ghost use Rattle.wb_range.specs.Domain.{IsListedOnce};
 ghost use Rattle.wb_edit.specs.Commands.{array, array_cells};
-ghost use Rattle.wb_edit.specs.Plans.{Attempts, Makes};
-ghost use Rattle.wb_edit.specs.Tests.{indices_of};
+ghost use Rattle.wb_edit.specs.Plans.{Attempts, Makes, indices_in};
 
-use crate::commands::writes::{Column, put, put_all};
+use crate::commands::writes::{Column, put, put_found};
 use crate::foot::Foot;
+use crate::tests::indices::{Indices, idx};
 use crate::tests::looks;
 use crate::tests::stop::Stop;
 use std::alloc::Global;
-use wb_book::{AnyRect, Binding, Book, Cell, Delta, Kind, Name, Value};
+use wb_book::{Binding, Book, Cell, Delta, Kind, Name, Value};
 
 /// A new array over a domain.
 pub(crate) fn plan_array(
@@ -22,8 +23,8 @@ pub(crate) fn plan_array(
 {
     looks::free(book, foot, name)?;
     let kind = looks::dom(book, foot, domain)?;
-    let ranges = looks::idx(book, foot, domain, kind)?;
-    array_changes(alloc, name, domain, kind, ranges)
+    let found = idx(alloc, book, foot, domain, &kind)?;
+    array_changes(alloc, name, domain, kind.kind(), &found)
 }
 
 fn array_changes(
@@ -31,9 +32,10 @@ fn array_changes(
     name: Name,
     domain: Name,
     kind: Kind,
-    ranges: Option<AnyRect>,
+    found: &Indices,
 ) -> Result<Delta, Stop>
-    ensures { Makes (array_cells name domain kind (indices_of ranges)) result }
+    requires { IsListedOnce (indices_in found.now) }
+    ensures { Makes (array_cells name domain kind (indices_in found.now)) result }
 {
     let mut delta = Delta::new(alloc);
     put(&mut delta, Cell::Object(name), Value::Array(domain, kind))?;
@@ -43,13 +45,11 @@ fn array_changes(
         Value::Bound(Binding::Array),
     )?;
     put(&mut delta, Cell::Implicit(name), Value::Number(0))?;
-    if let Some(ranges) = ranges {
-        put_all(
-            &mut delta,
-            &Column::Elements(name),
-            &ranges,
-            &Value::Number(0),
-        )?;
-    }
+    put_found(
+        &mut delta,
+        &Column::Elements(name),
+        found,
+        &Value::Number(0),
+    )?;
     Ok(delta)
 }

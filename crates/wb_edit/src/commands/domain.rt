@@ -7,7 +7,7 @@ use crate::foot::Foot;
 use crate::tests::looks;
 use crate::tests::stop::Stop;
 use std::alloc::Global;
-use wb_book::{AnyRect, Book, Cell, Delta, Kind, Layout, Name, Value};
+use wb_book::{AnyDomain, AnyRect, Book, Cell, Delta, DomainKind, Layout, Name, Value};
 
 /// A new rectangular domain.
 pub(crate) fn plan_domain(
@@ -27,7 +27,7 @@ fn domain_changes(alloc: Global, name: Name, ranges: &AnyRect) -> Result<Delta, 
     ensures { Makes (domain_cells name ranges.now) result }
 {
     let mut delta = Delta::new(alloc);
-    let kind = Kind::Rectangular(ranges.rank());
+    let kind = AnyDomain::new(DomainKind::Rectangular(ranges.rank()));
     put(&mut delta, Cell::Object(name), Value::Domain(kind))?;
     put(&mut delta, Cell::Shape(name), Value::Ranges(*ranges))?;
     put(

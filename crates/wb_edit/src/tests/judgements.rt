@@ -1,10 +1,10 @@
 //! What a cell's value says: tests on what was seen, which look at nothing more.
 
 ghost use Rattle.std.specs.Prelude.{◌≡◌, option_map};
-ghost use Rattle.wb_edit.specs.Tests.{is_free, domain_kind, array_kind, is_there, fits, is_key, ranges_in};
+ghost use Rattle.wb_edit.specs.Tests.{is_free, domain_kind, array_kind, is_there, fits, ranges_in};
 
 use crate::refusal::Refusal;
-use wb_book::{AnyIndex, AnyRect, Index, Kind, Name, Value};
+use wb_book::{AnyDomain, AnyIndex, AnyRect, Kind, Name, Value};
 
 /// That nothing has the name whose object is given; `NameTaken` where something has.
 pub fn is_free(object: Option<Value>) -> Result<(), Refusal>
@@ -16,8 +16,8 @@ pub fn is_free(object: Option<Value>) -> Result<(), Refusal>
     }
 }
 
-/// The kind of the domain whose object is given; `NoSuchName` where nothing is there, `WrongKind` where no domain is.
-pub fn domain_kind(object: Option<Value>) -> Result<Kind, Refusal>
+/// What the domain is whose object is given; `NoSuchName` where nothing is there, `WrongKind` where no domain is.
+pub fn domain_kind(object: Option<Value>) -> Result<AnyDomain, Refusal>
     ensures { result ≡ domain_kind object }
 {
     match object {
@@ -63,23 +63,11 @@ pub fn is_there(element: Option<Value>) -> Result<(), Refusal>
     }
 }
 
-// Whether an index has as many coordinates as the domain has dimensions.
-fn is_key(kind: Kind, index: Index) -> bool
-    ensures { result ≡ is_key kind index }
-{
-    match kind {
-        Kind::Rectangular(rank) => match index {
-            Index::Point(point) => point.coordinates().len() == rank as usize,
-            Index::Text(_) => false,
-        },
-    }
-}
-
 /// That the index is of the rank and type of the indices of a domain of this kind; `WrongKind` where it is not.
 pub fn fits(kind: Kind, index: AnyIndex) -> Result<(), Refusal>
     ensures { result ≡ fits kind index }
 {
-    if is_key(kind, index.index()) {
+    if kind.is_key(&index.index()) {
         Ok(())
     } else {
         Err(Refusal::WrongKind)

@@ -3,13 +3,13 @@
 ghost use Rattle.std.specs.Prelude.{◌≡◌, List, [], ◌∷◌, ◌++◌, IfOk, OnOk};
 ghost use Rattle.std.specs.FinMap as map;
 ghost use Rattle.wb_edit.specs.Looks.{read};
-ghost use Rattle.wb_edit.specs.Tests.{free, dom, arr, key, element, idx};
-ghost use Rattle.wb_edit.specs.Plans.{Looks, shown_indices};
+ghost use Rattle.wb_edit.specs.Tests.{free, dom, arr, key, element};
+ghost use Rattle.wb_edit.specs.Plans.{Looks};
 
 use crate::foot::Foot;
 use crate::tests::judgements;
 use crate::tests::stop::{Stop, stopped};
-use wb_book::{AnyCell, AnyIndex, AnyRect, Book, Cell, Kind, Name, Pattern, Value};
+use wb_book::{AnyCell, AnyDomain, AnyIndex, Book, Cell, Kind, Name, Pattern, Value};
 
 /// What a cell holds.
 pub(crate) fn read(book: &Book, foot: &mut Foot, cell: &Cell) -> Result<Option<Value>, Stop>
@@ -29,8 +29,8 @@ pub(crate) fn free(book: &Book, foot: &mut Foot, name: Name) -> Result<(), Stop>
     stopped(judgements::is_free(object))
 }
 
-/// The name is there, and names a domain: its kind.
-pub(crate) fn dom(book: &Book, foot: &mut Foot, domain: Name) -> Result<Kind, Stop>
+/// The name is there, and names a domain: what it is.
+pub(crate) fn dom(book: &Book, foot: &mut Foot, domain: Name) -> Result<AnyDomain, Stop>
     ensures { Looks (dom domain) book.now.cells foot.old result foot.new }
 {
     let object = read(book, foot, &Cell::Object(domain))?;
@@ -56,21 +56,4 @@ pub(crate) fn element(
 {
     let element = read(book, foot, &Cell::Element(array, index))?;
     stopped(judgements::is_there(element))
-}
-
-/// The ranges of a domain, whose indices are those of the domain; none have no indices.
-pub(crate) fn idx(
-    book: &Book,
-    foot: &mut Foot,
-    domain: Name,
-    kind: Kind,
-) -> Result<Option<AnyRect>, Stop>
-    ensures { Looks (idx domain kind) book.now.cells foot.old (shown_indices result) foot.new }
-{
-    match kind {
-        Kind::Rectangular(_) => {
-            let shape = read(book, foot, &Cell::Shape(domain))?;
-            Ok(judgements::ranges_in(shape))
-        }
-    }
 }

@@ -19,6 +19,8 @@ fn is_rectangular_of(rank: u8, kind: Kind) -> bool
 {
     match kind {
         Kind::Rectangular(own) => own == rank,
+        Kind::Sparse(_) => false,
+        Kind::Associative(_) => false,
     }
 }
 

@@ -2,7 +2,7 @@ use Rattle.std.proofs.Common.{List, map, length, FitsSigned, sym, ◌∙◌}
 use Rattle.std.proofs.lemmas.Int.{to_z-of_z}
 use Rattle.std.specs.Int.{w64}
 use Rattle.wb_book.specs.declared.cells.cell.Cell.TheVariants.{Element}
-use Rattle.wb_book.specs.declared.cells.value.Kind.{Kind}
+use Rattle.wb_book.specs.declared.cells.kind.Kind.{Kind}
 use Rattle.wb_book.specs.declared.cells.value.Value.TheVariants.{Number}
 use Rattle.wb_book.specs.declared.values.index.Index.{Index}
 use Rattle.wb_book.specs.Cells.{Name, Changes}
