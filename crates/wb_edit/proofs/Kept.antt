@@ -4,6 +4,8 @@ pub mod States
 pub mod NewDomain
 pub mod NewArray
 pub mod NewElement
+pub mod NewSet
+pub mod NewImplicit
 pub mod CopiedElement
 pub mod NewElements
 pub mod Fills
@@ -16,17 +18,22 @@ use Rattle.wb_edit.specs.Commands.{meaning}
 use Rattle.wb_edit.specs.Laws.{KeepsWellFormed}
 use Rattle.wb_edit.specs.Valid.{IsValid}
 use Rattle.wb_edit.specs.declared.edit.Edit.{Edit as Command}
-use Rattle.wb_edit.specs.declared.edit.Edit.TheVariants.{Domain, Array, Set, Copy, Fill}
+use Rattle.wb_edit.specs.declared.edit.Edit.TheVariants.{Domain, Sparse, Assoc, Array, Set, Irv, Copy, Fill}
 use Rattle.wb_edit.proofs.Kept.NewDomain.{domain_kept}
+use Rattle.wb_edit.proofs.Kept.NewSet.{sparse_kept, assoc_kept}
 use Rattle.wb_edit.proofs.Kept.NewArray.{array_kept}
+use Rattle.wb_edit.proofs.Kept.NewImplicit.{irv_kept}
 use Rattle.wb_edit.proofs.Kept.NewElement.{set_kept}
 use Rattle.wb_edit.proofs.Kept.CopiedElement.{copy_kept}
 use Rattle.wb_edit.proofs.Kept.Fills.{fill_kept}
 
 pub keeps_well_formed : KeepsWellFormed
 keeps_well_formed (Domain d rs) s valid h = domain_kept s d rs valid h
+keeps_well_formed (Sparse d parent) s valid h = sparse_kept s d parent valid h
+keeps_well_formed (Assoc d type) s valid h = assoc_kept s d type valid h
 keeps_well_formed (Array a d) s valid h = array_kept s a d valid h
 keeps_well_formed (Set a i v) s valid h = set_kept s a i v valid h
+keeps_well_formed (Irv a v) s valid h = irv_kept s a v valid h
 keeps_well_formed (Copy a i b j c) s valid h = copy_kept s a i b j c h
 keeps_well_formed (Fill a on v) s valid h = fill_kept s a on v valid h
 

@@ -3,8 +3,9 @@
 use Rattle.std.specs.Prelude.{ℤ, pos, List, [], ◌∷◌, map, length}
 use Rattle.selective_undo.specs.Edit.{write}
 use Rattle.wb_book.specs.declared.cells.cell.Cell.TheVariants.{Object, Shape, In, Mapping, Use, Implicit, Element}
-use Rattle.wb_book.specs.declared.cells.value.Binding.TheVariants.{Array}
-use Rattle.wb_book.specs.declared.cells.kind.DomainKind.TheVariants.{Rectangular}
+use Rattle.wb_book.specs.declared.cells.value.Binding.TheVariants.{Array, Sparse}
+use Rattle.wb_book.specs.declared.cells.kind.DomainKind.TheVariants.{Rectangular, Sparse, Associative}
+use Rattle.wb_book.specs.declared.cells.kind.KeyType.{KeyType}
 use Rattle.wb_book.specs.declared.cells.kind.Kind.{Kind}
 use Rattle.wb_book.specs.declared.cells.value.Layout.TheVariants.{Whole}
 use Rattle.wb_book.specs.declared.cells.value.Value.TheVariants.{Domain, Array, Ranges, Mapping, Present, Bound, Number}
@@ -13,9 +14,10 @@ use Rattle.wb_book.specs.Cells.{Name, Changes}
 use Rattle.wb_book.specs.Kinds.{kind_of}
 use Rattle.wb_book.specs.Shapes.{Range, indices}
 use Rattle.wb_edit.specs.declared.edit.Edit.{Edit as Command}
-use Rattle.wb_edit.specs.declared.edit.Edit.TheVariants.{Domain, Array, Set, Copy, Fill}
+use Rattle.wb_edit.specs.declared.edit.Edit.TheVariants.{Domain, Sparse, Assoc, Array, Set, Irv, Copy, Fill}
 use Rattle.wb_edit.specs.Looks.{Tree, ◌>>=◌}
 use Rattle.wb_edit.specs.Tests.{free, dom, arr, key, element, idx}
+use Rattle.wb_edit.specs.Kinds.{rectangular, over_sparse}
 use Rattle.wb_edit.specs.Numbers.{number, sum}
 use Rattle.wb_edit.specs.Rectangles.{over_rectangle, all_elements}
 use Rattle.wb_edit.specs.Writes.{put, put_all}
@@ -34,6 +36,21 @@ abbrev pub domain : Name → List Range → Tree
 domain d rs = do
   unit ← free d
   write (domain_cells d rs)
+
+-- a new sparse domain, with no index yet, in a rectangular one, to which it is bound: its name is free, and the other domain
+-- is there and rectangular (Chapel Language Specification, Domains)
+abbrev pub sparse : Name → Name → Tree
+sparse d parent = do
+  unit ← free d
+  kind ← dom parent
+  rank ← rectangular kind
+  write (put (Object d) (Domain (Sparse parent rank)) ∷ put (Use parent d) (Bound Sparse) ∷ [])
+
+-- a new associative domain, with no index yet: its name is free (Chapel Language Specification, Domains)
+abbrev pub assoc : Name → KeyType → Tree
+assoc d type = do
+  unit ← free d
+  write (put (Object d) (Domain (Associative type)) ∷ [])
 
 -- what a new array over a domain writes: the array with its domain and that one's kind, that it is bound to the domain,
 -- its implicit value 0, and 0 as its element at each index (Chapel Language Specification, Arrays)
@@ -60,6 +77,14 @@ set a i v = do
   there ← element a i
   write (put (Element a i) (Number v) ∷ [])
 
+-- a new implicit value, which the indices of the parent have that are not in the sparse domain: the array is there, over a
+-- sparse domain (Chapel Language Specification, Arrays)
+abbrev pub irv : Name → ℤ → Tree
+irv a v = do
+  (d, kind) ← arr a
+  unit ← over_sparse kind
+  write (put (Implicit a) (Number v) ∷ [])
+
 -- an element that is another one and a number more, a[i] = b[j] + c: the arrays are there, each index is of the rank and
 -- type of its array's domain, both elements are there, and the sum is within 64 bits
 abbrev pub copy : Name → Index → Name → Index → ℤ → Tree
@@ -85,7 +110,10 @@ fill a on v = do
 -- what a command means
 abbrev pub meaning : Command → Tree
 meaning (Domain d rs) = domain d rs
+meaning (Sparse d parent) = sparse d parent
+meaning (Assoc d type) = assoc d type
 meaning (Array a d) = array a d
 meaning (Set a i v) = set a i v
+meaning (Irv a v) = irv a v
 meaning (Copy a i b j c) = copy a i b j c
 meaning (Fill a on v) = fill a on v

@@ -1,6 +1,7 @@
 pub mod Schema
 pub mod Looks
 pub mod Tests
+pub mod Kinds
 pub mod Numbers
 pub mod Rectangles
 pub mod Writes

@@ -4,16 +4,22 @@ use Rattle.std.specs.Int.{w64}
 use Rattle.wb_book.specs.Names.{is_name}
 use Rattle.wb_book.specs.WellFormed.{IsRectangle}
 use Rattle.wb_edit.specs.declared.edit.Edit.{Edit as Command}
-use Rattle.wb_edit.specs.declared.edit.Edit.TheVariants.{Domain, Array, Set, Copy, Fill}
+use Rattle.wb_edit.specs.declared.edit.Edit.TheVariants.{Domain, Sparse, Assoc, Array, Set, Irv, Copy, Fill}
 
 -- what a command has to be so that it keeps a workbook well formed; every value of the type `Edit` is
 abbrev pub IsValid : Command → Type 0
 -- the new name is a name, and the ranges are those of a rectangular domain
 IsValid (Domain d rs) = (is_name d ≡ true) × IsRectangle (length rs) rs
 -- the new name is a name
+IsValid (Sparse d parent) = is_name d ≡ true
+-- the new name is a name
+IsValid (Assoc d type) = is_name d ≡ true
+-- the new name is a name
 IsValid (Array a d) = is_name a ≡ true
 -- the number is one of 64 bits
 IsValid (Set a i v) = FitsSigned w64 v
+-- the number is one of 64 bits
+IsValid (Irv a v) = FitsSigned w64 v
 -- the number is one of 64 bits
 IsValid (Copy a i b j c) = FitsSigned w64 c
 -- the number is one of 64 bits

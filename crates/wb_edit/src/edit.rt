@@ -2,7 +2,7 @@ ghost use Rattle.std.specs.Prelude.{◌≡◌, IfOk};
 ghost use Rattle.wb_edit.specs.Valid.{IsValid};
 
 use std::alloc::Global;
-use wb_book::{AnyIndex, AnyRect, Name};
+use wb_book::{AnyIndex, AnyRect, KeyType, Name};
 use wb_range::NoMemory;
 
 /// A command that changes a workbook, as it is asked for.
@@ -13,11 +13,18 @@ pub enum Edit {
     /// A new rectangular domain of this name, with these ranges, all of it on one locale
     /// (Chapel Language Specification, Domains).
     Domain(Name, AnyRect),
+    /// A new sparse domain of the first name, with no index yet, in the rectangular domain of the second one
+    /// (Chapel Language Specification, Domains).
+    Sparse(Name, Name),
+    /// A new associative domain with indices of a type, none yet (Chapel Language Specification, Domains).
+    Assoc(Name, KeyType),
     /// A new array of the first name, over the domain of the second one; its elements are 0
     /// (Chapel Language Specification, Arrays).
     Array(Name, Name),
     /// A new value for the element of an array at an index.
     Set(Name, AnyIndex, i64),
+    /// A new implicit value for an array over a sparse domain.
+    Irv(Name, i64),
     /// An element, the first name and index, becomes another one, the second name and index, plus a number.
     Copy(Name, AnyIndex, Name, AnyIndex, i64),
     /// One number as the elements of an array at the indices of a rectangle.
@@ -31,8 +38,11 @@ impl Edit {
     {
         match self {
             Edit::Domain(domain, ranges) => Ok(Edit::Domain(*domain, *ranges)),
+            Edit::Sparse(domain, parent) => Ok(Edit::Sparse(*domain, *parent)),
+            Edit::Assoc(domain, key) => Ok(Edit::Assoc(*domain, *key)),
             Edit::Array(array, domain) => Ok(Edit::Array(*array, *domain)),
             Edit::Set(array, index, value) => Ok(Edit::Set(*array, *index, *value)),
+            Edit::Irv(array, value) => Ok(Edit::Irv(*array, *value)),
             Edit::Copy(array, index, source, place, more) => {
                 Ok(Edit::Copy(*array, *index, *source, *place, *more))
             }
@@ -50,10 +60,19 @@ impl Edit {
                 let _name = domain.as_bytes();
                 let _rank = ranges.rank();
             }
+            Edit::Sparse(domain, _) => {
+                let _name = domain.as_bytes();
+            }
+            Edit::Assoc(domain, _) => {
+                let _name = domain.as_bytes();
+            }
             Edit::Array(array, _) => {
                 let _name = array.as_bytes();
             }
             Edit::Set(_, _, value) => {
+                let _value = *value;
+            }
+            Edit::Irv(_, value) => {
                 let _value = *value;
             }
             Edit::Copy(_, _, _, _, more) => {

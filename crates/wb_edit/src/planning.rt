@@ -2,7 +2,7 @@ ghost use Rattle.std.specs.Prelude.{◌≡◌, []};
 ghost use Rattle.wb_edit.specs.Commands.{meaning};
 ghost use Rattle.wb_edit.specs.Plans.{Attempts, IsPlan};
 
-use crate::commands::{array, copied, domain, element, filled};
+use crate::commands::{array, copied, domain, element, filled, implicit, sets};
 use crate::edit::Edit;
 use crate::foot::Foot;
 use crate::refusal::Refusal;
@@ -44,10 +44,13 @@ fn attempt(alloc: Global, book: &Book, foot: &mut Foot, edit: &Edit) -> Result<D
 {
     match edit {
         Edit::Domain(name, ranges) => domain::plan_domain(alloc, book, foot, *name, ranges),
+        Edit::Sparse(name, parent) => sets::plan_sparse(alloc, book, foot, *name, *parent),
+        Edit::Assoc(name, key) => sets::plan_assoc(alloc, book, foot, *name, key),
         Edit::Array(name, over) => array::plan_array(alloc, book, foot, *name, *over),
         Edit::Set(name, index, value) => {
             element::plan_set(alloc, book, foot, *name, *index, *value)
         }
+        Edit::Irv(name, value) => implicit::plan_irv(alloc, book, foot, *name, *value),
         Edit::Copy(name, index, source, place, more) => {
             copied::plan_copy(alloc, book, foot, (*name, *index), (*source, *place), *more)
         }

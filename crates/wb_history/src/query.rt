@@ -2,7 +2,7 @@ ghost use Rattle.std.specs.Prelude.{◌≡◌};
 ghost use Rattle.wb_history.specs.Queries.{get_answer, value_answer, size_in, size_answer, count_answer, force_answer};
 
 use crate::refusal::Refusal;
-use wb_book::{AnyIndex, Book, Cell, Kind, Name};
+use wb_book::{AnyDomain, AnyIndex, Book, Cell, DomainKind, Name};
 use wb_edit::{judgements, number_in};
 
 /// A question about the workbook or its history.
@@ -37,11 +37,13 @@ pub(crate) fn element_of(book: &Book, array: Name, index: AnyIndex) -> Result<i6
 }
 
 // How many indices a domain of a kind has.
-fn size_in(book: &Book, domain: Name, kind: Kind) -> usize
-    ensures { result ≡ size_in book.now.cells domain kind }
+fn size_in(book: &Book, domain: Name, kind: &AnyDomain) -> usize
+    ensures { result ≡ size_in book.now.cells domain kind.now }
 {
-    match kind {
-        Kind::Rectangular(_) => book.size(&domain).unwrap_or(0),
+    match kind.domain_kind() {
+        DomainKind::Rectangular(_) => book.size(&domain).unwrap_or(0),
+        DomainKind::Sparse(_, _) => book.member_count(&domain),
+        DomainKind::Associative(_) => book.member_count(&domain),
     }
 }
 
@@ -50,7 +52,7 @@ pub(crate) fn size_of(book: &Book, domain: Name) -> Result<usize, wb_edit::Refus
     ensures { result ≡ size_answer book.now.cells domain }
 {
     let kind = judgements::domain_kind(book.get(&Cell::Object(domain)))?;
-    Ok(size_in(book, domain, kind))
+    Ok(size_in(book, domain, &kind))
 }
 
 pub(crate) fn value_answer(found: Result<i64, wb_edit::Refusal>) -> Result<Answer, Refusal>

@@ -2,6 +2,7 @@ ghost use Rattle.std.specs.Prelude.{◌≡◌, ℕ, ◌+◌, ◌-◌, ◌^◌, L
 ghost use Rattle.std.specs.FinMap as map;
 ghost use Rattle.selective_undo.specs.Changes.{apply, inverse};
 ghost use Rattle.wb_book.specs.Cells.{written_more, count_of};
+ghost use Rattle.wb_book.specs.declared.cells.pattern.Pattern.TheVariants.{Members};
 ghost use Rattle.wb_book.specs.Readers.{seen, objects, users, size_at, index_at};
 ghost use Rattle.wb_book.specs.WellFormed.{IsWellFormed};
 
@@ -68,6 +69,13 @@ impl Book {
             Ok(shown) => Ok(shown),
             Err(_) => Err(NoMemory),
         }
+    }
+
+    /// How many indices the sparse or associative domain of a name has, and 0 where there is none.
+    pub fn member_count(&self, name: &Name) -> usize
+        ensures { result ≡ length (seen self.now.cells (Members name.now)) }
+    {
+        families::count(&self.cells, &Pattern::Members(*name))
     }
 
     /// How many objects there are: domains and arrays.

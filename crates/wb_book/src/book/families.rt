@@ -1,6 +1,6 @@
 //! The cells that a pattern names stand together, so a look at them walks over no others.
 
-ghost use Rattle.std.specs.Prelude.{◌≡◌, IfOk};
+ghost use Rattle.std.specs.Prelude.{◌≡◌, length, IfOk};
 ghost use Rattle.wb_book.specs.Cells.{matches, state_of};
 ghost use Rattle.wb_book.specs.Families.{first};
 ghost use Rattle.wb_book.specs.Readers.{seen};
@@ -41,4 +41,15 @@ pub(crate) fn seen(
         .take_while(|x| pattern.matches(*x.0))
         .map(|x| (*x.0, *x.1))
         .collect(alloc)
+}
+
+/// How many cells the pattern names that are there.
+pub(crate) fn count(cells: &BTreeMap<Cell, Value>, pattern: &Pattern) -> usize
+    requires { IsWellFormed (state_of cells.now) }
+    ensures { result ≡ length (seen (state_of cells.now) pattern.now) }
+{
+    cells
+        .range(first(pattern)..)
+        .take_while(|x| pattern.matches(*x.0))
+        .count()
 }

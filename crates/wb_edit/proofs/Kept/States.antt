@@ -17,7 +17,7 @@ use Rattle.wb_book.specs.declared.values.index.Index.{Index}
 use Rattle.wb_book.specs.Names.{is_name}
 use Rattle.wb_book.specs.Shapes.{Range}
 use Rattle.wb_book.specs.Cells.{Name, Cells, index_cmp, is_same_name, same_names}
-use Rattle.wb_book.specs.WellFormed.{IsWellFormed, IsObject, IsRectangle, IsShape, IsMember, IsElement, has, domain_in, array_in, ranges_in, inside_of, domain_at, array_at, index_cell, is_index_of_array}
+use Rattle.wb_book.specs.WellFormed.{IsWellFormed, IsObject, IsRectangle, IsShape, HasMapping, IsMember, IsElement, has, domain_in, array_in, ranges_in, inside_of, domain_at, array_at, index_cell, is_index_of_array}
 use Rattle.wb_book.specs.Kinds.{kind_of}
 use Rattle.wb_edit.proofs.Gets.{list_any-nowhere}
 
@@ -72,6 +72,9 @@ module _ (s : Cells) (h : IsWellFormed s) where
   module _ (n : Name) (free : get s (Object n) ≡ None) where
     pub no_shape : get s (Shape n) ≡ None
     no_shape = subst (λ o. IsShape (domain_in o) (get s (Shape n))) free (h.shapes n)
+
+    pub no_mapping : get s (Mapping n) ≡ None
+    no_mapping = subst (λ o. HasMapping (domain_in o) (get s (Mapping n))) free (h.mappings n)
 
     pub no_inside : (i : Index) → get s (In n i) ≡ None
     no_inside i = h.insides n i ∙ ap (λ o. inside_of (ranges_in o) i) no_shape

@@ -5,4 +5,6 @@ pub mod copied;
 pub mod domain;
 pub mod element;
 pub mod filled;
+pub mod implicit;
+pub mod sets;
 pub mod writes;

@@ -2,6 +2,7 @@
 
 pub mod indices;
 pub mod judgements;
+pub mod kinds;
 pub mod looks;
 pub mod numbers;
 pub mod rectangles;
