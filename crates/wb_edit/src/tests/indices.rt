@@ -41,7 +41,14 @@ fn member_in(shown: &(Cell, Value)) -> Option<AnyIndex>
 fn members_in(alloc: Global, shown: &[(Cell, Value)]) -> Result<Vec<AnyIndex>, AllocError>
     ensures { IfOk result (λ v. v.items ≡ filter_map member_in shown.now) }
 {
-    shown.iter().filter_map(|x| member_in(x)).collect(alloc)
+    shown
+        .iter()
+        .filter_map(
+            |x: &(Cell, Value)| -> Option<AnyIndex>
+                ensures { result ≡ member_in x.now }
+            { member_in(x) },
+        )
+        .collect(alloc)
 }
 
 /// The indices of a sparse or associative domain.
