@@ -22,7 +22,7 @@ rest_sorted : (e : Cell × Value) (es : List (Cell × Value)) → IsStrictlySort
 unfolding IsStrictlySortedBy
 rest_sorted e es s = s.1
 
-entries_ascending : (es : List (Cell × Value)) → IsStrictlySortedBy cell_cmp (keys_of es) → entries (from_entries {R = cell_cmp} es) ≡ es
+pub entries_ascending : (es : List (Cell × Value)) → IsStrictlySortedBy cell_cmp (keys_of es) → entries (from_entries {R = cell_cmp} es) ≡ es
 entries_ascending [] s =
     let none : Cells = empty in
     no_entries (entries none) (sym (len-entries none) ∙ len-empty cell_cmp Value)

@@ -1,11 +1,13 @@
 -- What the readers of a book answer, from its cells.
-use Rattle.std.specs.Prelude.{ℕ, cond, List, length, Option, Some, None, option_map, option_and_then, slice_get}
+use Rattle.std.specs.Prelude.{ℕ, ℤ, cond, List, length, Option, Some, None, option_map, option_and_then, slice_get}
 use Rattle.std.specs.List.{filter_map}
 use Rattle.std.specs.FinMap.{get, keys, entries, retain_keys}
 use Rattle.wb_book.specs.declared.cells.cell.Cell.{Cell}
-use Rattle.wb_book.specs.declared.cells.cell.Cell.TheVariants.{Object, Shape, Use}
+use Rattle.wb_book.specs.declared.cells.cell.Cell.TheVariants.{Object, Shape, Use, Element}
 use Rattle.wb_book.specs.declared.cells.pattern.Pattern.{Pattern}
+use Rattle.wb_book.specs.declared.cells.pattern.Pattern.TheVariants.{Elements}
 use Rattle.wb_book.specs.declared.cells.value.Value.{Value}
+use Rattle.wb_book.specs.declared.cells.value.Value.TheVariants.{Number}
 use Rattle.wb_book.specs.declared.values.index.Index.{Index}
 use Rattle.wb_book.specs.Cells.{Name, Cells, is_same_name, matches}
 use Rattle.wb_book.specs.Shapes.{indices}
@@ -32,6 +34,15 @@ user_of d _ = None
 -- the names of what is bound to a domain, ascending
 abbrev pub users : Cells → Name → List Name
 users s d = filter_map (user_of d) (keys s)
+
+-- the element that a cell with its value tells of, after its index
+abbrev pub element_in : Cell × Value → Option (Index × ℤ)
+element_in (Element a i, Number x) = Some (i, x)
+element_in _ = None
+
+-- the elements of an array, by what the pattern of them shows: each after its index, in the order of the indices
+abbrev pub elements : Cells → Name → List (Index × ℤ)
+elements s a = filter_map element_in (seen s (Elements a))
 
 -- the indices of a domain in its order, if the name is that of a domain
 abbrev pub indices_at : Cells → Name → Option (List Index)

@@ -80,6 +80,42 @@ fn changes_are_made_and_taken_back(rt: HostRuntime) -> Result<(), Fail> {
     Ok(())
 }
 
+// Elements of one array at 3 and 1, one of another array between them, and the implicit value of the first.
+fn some_elements(alloc: Global, a: Name, b: Name) -> Option<BTreeMap<Cell, Value>> {
+    let mut cells = BTreeMap::new(alloc);
+    cells
+        .insert(Cell::Element(a, at(3)), Value::Number(7))
+        .ok()?;
+    cells
+        .insert(Cell::Element(b, at(2)), Value::Number(6))
+        .ok()?;
+    cells
+        .insert(Cell::Element(a, at(1)), Value::Number(5))
+        .ok()?;
+    cells.insert(Cell::Implicit(a), Value::Number(4)).ok()?;
+    Some(cells)
+}
+
+#[test]
+fn elements_of_an_array(rt: HostRuntime) -> Result<(), Fail> {
+    let a = Name::new("A")?;
+    let b = Name::new("B")?;
+    let cells = match some_elements(rt.alloc(), a, b) {
+        Some(cells) => cells,
+        None => some_elements(rt.alloc(), a, b).ok_or("cells")?,
+    };
+    let elements = match families::elements(rt.alloc(), &cells, a) {
+        Ok(elements) => elements,
+        Err(_) => families::elements(rt.alloc(), &cells, a)?,
+    };
+    assert_eq!(rt; elements.len(), 2);
+    assert_eq!(rt; elements.first().copied(), Some((at(1), 5)));
+    assert_eq!(rt; elements.last().copied(), Some((at(3), 7)));
+    let none = families::elements(rt.alloc(), &cells, Name::new("C")?)?;
+    assert_eq!(rt; none.len(), 0);
+    Ok(())
+}
+
 #[test]
 fn an_empty_book(rt: HostRuntime) -> Result<(), Fail> {
     let name = Name::new("D")?;

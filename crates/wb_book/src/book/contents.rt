@@ -3,7 +3,7 @@ ghost use Rattle.std.specs.FinMap as map;
 ghost use Rattle.selective_undo.specs.Changes.{apply, inverse};
 ghost use Rattle.wb_book.specs.Cells.{written_more, count_of};
 ghost use Rattle.wb_book.specs.declared.cells.pattern.Pattern.TheVariants.{Members};
-ghost use Rattle.wb_book.specs.Readers.{seen, objects, users, size_at, index_at};
+ghost use Rattle.wb_book.specs.Readers.{seen, elements, objects, users, size_at, index_at};
 ghost use Rattle.wb_book.specs.WellFormed.{IsWellFormed};
 
 use crate::book::{families, readers, store};
@@ -97,6 +97,14 @@ impl Book {
         ensures { result ≡ slice_get (users self.now.cells name.now) p }
     {
         readers::user_at(&self.cells, *name, p)
+    }
+
+    /// The elements of the array of a name, each after its index, in the order of the indices; `NoMemory` where none is
+    /// left.
+    pub fn elements(&self, name: &Name) -> Result<Vec<(AnyIndex, i64)>, NoMemory>
+        ensures { IfOk result (λ v. v.items ≡ elements self.now.cells name.now) }
+    {
+        families::elements(self.alloc, &self.cells, *name)
     }
 
     /// How many indices the domain of a name has, and `None` where there is no such domain

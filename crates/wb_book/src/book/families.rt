@@ -3,7 +3,7 @@
 ghost use Rattle.std.specs.Prelude.{◌≡◌, length, IfOk};
 ghost use Rattle.wb_book.specs.Cells.{matches, state_of};
 ghost use Rattle.wb_book.specs.Families.{first};
-ghost use Rattle.wb_book.specs.Readers.{seen};
+ghost use Rattle.wb_book.specs.Readers.{seen, element_in, elements};
 ghost use Rattle.wb_book.specs.WellFormed.{IsWellFormed};
 
 use crate::cells::cell::Cell;
@@ -13,6 +13,7 @@ use crate::values::index::AnyIndex;
 use crate::values::name::Name;
 use std::alloc::{AllocError, Global};
 use std::collections::BTreeMap;
+use wb_range::NoMemory;
 
 /// A cell that no cell of the pattern stands before.
 fn first(pattern: &Pattern) -> Cell
@@ -52,4 +53,53 @@ pub(crate) fn count(cells: &BTreeMap<Cell, Value>, pattern: &Pattern) -> usize
         .range(first(pattern)..)
         .take_while(|x| pattern.matches(*x.0))
         .count()
+}
+
+/// The element of an array that a cell with its value tells of.
+fn element_in(cell: &Cell, value: &Value) -> Option<(AnyIndex, i64)>
+    ensures { result ≡ element_in (cell.now, value.now) }
+{
+    match *cell {
+        Cell::Element(_, index) => match *value {
+            Value::Number(number) => Some((index, number)),
+            Value::Domain(_)
+            | Value::Array(_, _)
+            | Value::Ranges(_)
+            | Value::Mapping(_)
+            | Value::Present
+            | Value::Bound(_) => None,
+        },
+        Cell::Object(_)
+        | Cell::Shape(_)
+        | Cell::In(_, _)
+        | Cell::Member(_, _)
+        | Cell::Mapping(_)
+        | Cell::Use(_, _)
+        | Cell::Implicit(_) => None,
+    }
+}
+
+/// The elements of an array, each after its index, ascending.
+pub(crate) fn elements(
+    alloc: Global,
+    cells: &BTreeMap<Cell, Value>,
+    array: Name,
+) -> Result<Vec<(AnyIndex, i64)>, NoMemory>
+    requires { IsWellFormed (state_of cells.now) }
+    ensures { IfOk result (λ v. v.items ≡ elements (state_of cells.now) array) }
+{
+    let pattern = Pattern::Elements(array);
+    let found = cells
+        .range(first(&pattern)..)
+        .take_while(|x| pattern.matches(*x.0))
+        .filter_map(
+            |x: (&Cell, &Value)| -> Option<(AnyIndex, i64)>
+                ensures { result ≡ element_in (x.entry.0.now, x.entry.1.now) }
+            { element_in(x.0, x.1) },
+        )
+        .collect(alloc);
+    match found {
+        Ok(elements) => Ok(elements),
+        Err(_) => Err(NoMemory),
+    }
 }
