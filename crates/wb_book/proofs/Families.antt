@@ -151,6 +151,26 @@ not_itself Less from = refl
 not_itself Equal from = cc
 not_itself Greater from = refl
 
+members_covered : (d : Name) (x : Cell) → Covered (Members d) x
+members_covered d (Object e) from = refl
+members_covered d (Shape e) from = refl
+members_covered d (In e n) from = refl
+members_covered d (Mapping e) from = refl
+members_covered d (Use e n) from = refl
+members_covered d (Implicit e) from = refl
+members_covered d (Element e n) from = refl
+members_covered d (Member e i) from = not_below (slice_cmp nat_cmp d e) (index_cmp (Point []) i) (no_coordinates i) from
+
+elements_covered : (d : Name) (x : Cell) → Covered (Elements d) x
+elements_covered d (Object e) from = refl
+elements_covered d (Shape e) from = refl
+elements_covered d (In e n) from = refl
+elements_covered d (Member e n) from = refl
+elements_covered d (Mapping e) from = refl
+elements_covered d (Use e n) from = refl
+elements_covered d (Implicit e) from = refl
+elements_covered d (Element e i) from = not_below (slice_cmp nat_cmp d e) (index_cmp (Point []) i) (no_coordinates i) from
+
 some_value : (o : Option Value) → IsSome o → (v : Value) × (o ≡ Some v)
 some_value None there = let no : ⊥ = cc in absurd no
 some_value (Some v) there = (v, refl)
@@ -172,22 +192,8 @@ module _ (m : BTreeMap Cell Value) (ok : IsWellFormed (state_of m)) where
   covered Objects (Implicit e) there from = refl
   covered Objects (Element e n) there from = refl
   covered (One c) x there from = not_itself (cell_cmp c x) from
-  covered (Members d) (Object e) there from = refl
-  covered (Members d) (Shape e) there from = refl
-  covered (Members d) (In e n) there from = refl
-  covered (Members d) (Mapping e) there from = refl
-  covered (Members d) (Use e n) there from = refl
-  covered (Members d) (Implicit e) there from = refl
-  covered (Members d) (Element e n) there from = refl
-  covered (Members d) (Member e i) there from = not_below (slice_cmp nat_cmp d e) (index_cmp (Point []) i) (no_coordinates i) from
-  covered (Elements d) (Object e) there from = refl
-  covered (Elements d) (Shape e) there from = refl
-  covered (Elements d) (In e n) there from = refl
-  covered (Elements d) (Member e n) there from = refl
-  covered (Elements d) (Mapping e) there from = refl
-  covered (Elements d) (Use e n) there from = refl
-  covered (Elements d) (Implicit e) there from = refl
-  covered (Elements d) (Element e i) there from = not_below (slice_cmp nat_cmp d e) (index_cmp (Point []) i) (no_coordinates i) from
+  covered (Members d) x there from = members_covered d x from
+  covered (Elements a) x there from = elements_covered a x from
   covered (Uses d) (Object e) there from = refl
   covered (Uses d) (Shape e) there from = refl
   covered (Uses d) (In e n) there from = refl
@@ -235,11 +241,24 @@ pub map-same : {X : Type 0} (xs : List X) → map (λ x. x) xs ≡ xs
 map-same [] = refl
 map-same (x ∷ xs) = ap (λ ys. x ∷ ys) (map-same xs)
 
-pub seen_found : (m : BTreeMap Cell Value) (p : Pattern) (c : Cell) (part : List (Cell × Value)) → IsWellFormed (state_of m) → IsOrdered cell_cmp m → c ≡ first p → part ≡ entries_between cell_cmp (Included c) Unbounded m.entries
+found : (m : BTreeMap Cell Value) (p : Pattern) (c : Cell) (part : List (Cell × Value)) → AllByRecursion (Covered p) (keys m) → IsOrdered cell_cmp m → c ≡ first p → part ≡ entries_between cell_cmp (Included c) Unbounded m.entries
     → take (prefix_len (named p) part) part ≡ seen (state_of m) p
-seen_found m p c part ok s from is =
-    let all = all_covered m ok p (keys m) (recursion_from_All (ContainsKey cell_cmp m) (keys m) (All-keys_found cell_order.total m s)) in
+found m p c part all s from is =
     ap (λ (es : List (Cell × Value)). take (prefix_len (named p) es) es) (is ∙ ap (λ (x : Cell). entries_between cell_cmp (Included x) Unbounded m.entries) from)
     ∙ front p m.entries all s
     ∙ sym (ap (where_key cell_cmp (matches p)) (entries-state_of m s))
     ∙ sym (entries-retain_keys cell_order (state_of m) (matches p))
+
+pub seen_found : (m : BTreeMap Cell Value) (p : Pattern) (c : Cell) (part : List (Cell × Value)) → IsWellFormed (state_of m) → IsOrdered cell_cmp m → c ≡ first p → part ≡ entries_between cell_cmp (Included c) Unbounded m.entries
+    → take (prefix_len (named p) part) part ≡ seen (state_of m) p
+seen_found m p c part ok s from is =
+    found m p c part (all_covered m ok p (keys m) (recursion_from_All (ContainsKey cell_cmp m) (keys m) (All-keys_found cell_order.total m s))) s from is
+
+all_elements_covered : (a : Name) (xs : List Cell) → AllByRecursion (Covered (Elements a)) xs
+all_elements_covered a [] = tt
+all_elements_covered a (x ∷ xs) = (elements_covered a x, all_elements_covered a xs)
+
+-- the elements of an array, in any workbook
+pub elements_found : (m : BTreeMap Cell Value) (a : Name) (c : Cell) (part : List (Cell × Value)) → IsOrdered cell_cmp m → c ≡ first (Elements a) → part ≡ entries_between cell_cmp (Included c) Unbounded m.entries
+    → take (prefix_len (named (Elements a)) part) part ≡ seen (state_of m) (Elements a)
+elements_found m a c part s from is = found m (Elements a) c part (all_elements_covered a (keys m)) s from is

@@ -1,7 +1,7 @@
 //! Tests of what no clause says: that a call succeeds while memory is left, and that what it refuses for want of memory
 //! leaves everything as it was. An `Err` is compared and tried again, so that any one allocation may fail.
 
-use crate::book::{Book, readers, store};
+use crate::book::{Book, families, readers, store};
 use crate::cells::cell::Cell;
 use crate::cells::kind::{AnyDomain, DomainKind};
 use crate::cells::value::{Layout, Value};

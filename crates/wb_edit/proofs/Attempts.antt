@@ -1,5 +1,5 @@
 -- Attempts, look by look, where the search does not find them.
-use Rattle.std.proofs.Common.{◌≡◌, List, [], ◌++◌, Result, Ok, Err, refl, sym, ap, ◌∙◌, append-nil}
+use Rattle.std.proofs.Common.{◌≡◌, List, ◌++◌, Result, Ok, Err, sym, ap, ◌∙◌, append-nil}
 use Rattle.selective_undo.specs.Edit.{write, outcome, reads}
 use Rattle.wb_book.specs.declared.cells.pattern.Pattern.{Pattern}
 use Rattle.wb_book.specs.Cells.{Cells, Changes}
@@ -7,13 +7,18 @@ use Rattle.wb_edit.specs.declared.refusal.Refusal.{Refusal}
 use Rattle.wb_edit.specs.declared.tests.stop.Stop.{Stop}
 use Rattle.wb_edit.specs.declared.tests.stop.Stop.TheVariants.{Refused, NoMemory}
 use Rattle.wb_edit.specs.Looks.{Tree, Look, judged}
-use Rattle.wb_edit.specs.Plans.{Attempts, Gives, Makes, stopped}
+use Rattle.wb_edit.specs.Plans.{Attempts, Gives, Looks, Makes, stopped}
 
 -- a look that goes on
 pub goes_on : {X : Type 0} (t : Look X) (s : Cells) (rs ss : List Pattern) (next : X → Tree) (x : X) (r : Result Changes Stop) (us : List Pattern) → Gives t s rs x ss → Attempts (next x) s ss r us → Attempts (t next) s rs r us
 goes_on t s rs ss next x (Ok xs) us g a = ((g next).0 ∙ a.0, a.1 ∙ sym (g next).1)
 goes_on t s rs ss next x (Err (Refused why)) us g a = ((g next).0 ∙ a.0, a.1 ∙ sym (g next).1)
 goes_on t s rs ss next x (Err NoMemory) us g a = tt
+
+-- a look that stops
+pub stops : {X : Type 0} (t : Look X) (s : Cells) (rs ss : List Pattern) (next : X → Tree) (why : Stop) → Looks t s rs (Err why) ss → Attempts (t next) s rs (Err why) ss
+stops t s rs ss next (Refused why) h = h next
+stops t s rs ss next NoMemory h = tt
 
 -- a judgement that goes on
 pub passes : {X : Type 0} (s : Cells) (rs : List Pattern) (j : Result X Refusal) (x : X) → stopped j ≡ Ok x → Gives (judged j) s rs x rs

@@ -8,7 +8,7 @@ use Rattle.selective_undo.specs.declared.Change.{Change}
 use Rattle.selective_undo.specs.Changes.{IsOrder, put, apply}
 use Rattle.selective_undo.proofs.Changes.{get-put}
 
-cond-or : {A : Type 0} (a b : Bool) (x y : A) → cond b x (cond a x y) ≡ cond (a || b) x y
+pub cond-or : {A : Type 0} (a b : Bool) (x y : A) → cond b x (cond a x y) ≡ cond (a || b) x y
 cond-or true true x y = refl
 cond-or true false x y = refl
 cond-or false b x y = refl

@@ -5,4 +5,7 @@ pub mod Attempts
 pub mod Sums
 pub mod Rectangles
 pub mod Members
+pub mod Sorted
+pub mod Elements
+pub mod Becoming
 pub mod Kept

@@ -1,6 +1,7 @@
 -- The commands. Each is its tests in their order, and then the cells that it writes with their new values.
 -- A test that refuses ends the command: it has read what the tests so far looked at, that one's own looks too, and writes nothing.
 use Rattle.std.specs.Prelude.{ℤ, pos, List, [], ◌∷◌, map, length}
+use Rattle.std.specs.Map.{keys_of}
 use Rattle.selective_undo.specs.Edit.{write}
 use Rattle.wb_book.specs.declared.cells.cell.Cell.TheVariants.{Object, Shape, In, Mapping, Use, Implicit, Element}
 use Rattle.wb_book.specs.declared.cells.value.Binding.TheVariants.{Array, Sparse}
@@ -14,13 +15,14 @@ use Rattle.wb_book.specs.Cells.{Name, Changes}
 use Rattle.wb_book.specs.Kinds.{kind_of}
 use Rattle.wb_book.specs.Shapes.{Range, indices}
 use Rattle.wb_edit.specs.declared.edit.Edit.{Edit as Command}
-use Rattle.wb_edit.specs.declared.edit.Edit.TheVariants.{Domain, Sparse, Assoc, Array, Set, Irv, Copy, Fill}
+use Rattle.wb_edit.specs.declared.edit.Edit.TheVariants.{Domain, Sparse, Assoc, Array, Set, Irv, Copy, Fill, FillAll, DropArray}
 use Rattle.wb_edit.specs.Looks.{Tree, ◌>>=◌}
 use Rattle.wb_edit.specs.Tests.{free, dom, arr, key, element, idx}
 use Rattle.wb_edit.specs.Kinds.{rectangular, over_sparse}
 use Rattle.wb_edit.specs.Numbers.{number, sum}
+use Rattle.wb_edit.specs.Elements.{elements}
 use Rattle.wb_edit.specs.Rectangles.{over_rectangle, all_elements}
-use Rattle.wb_edit.specs.Writes.{put, put_all}
+use Rattle.wb_edit.specs.Writes.{put, put_all, clear, clear_all}
 
 -- what a new rectangular domain writes: the domain with its rank, its ranges, that all of it lies on one locale,
 -- and that each of its indices is in it (Chapel Language Specification, Domains)
@@ -107,6 +109,25 @@ fill a on v = do
   there ← all_elements a (indices on)
   write (put_all (map (Element a) (indices on)) (Number v))
 
+-- one number as every element of an array: the array is there, and it is seen which elements that has
+abbrev pub fill_all : Name → ℤ → Tree
+fill_all a v = do
+  (d, kind) ← arr a
+  es ← elements a
+  write (put_all (map (Element a) (keys_of es)) (Number v))
+
+-- what the end of an array over a domain writes: the array, that it is bound to the domain, its implicit value, and its
+-- elements become absent
+abbrev pub dropped_cells : Name → Name → List Index → Changes
+dropped_cells a d is = clear (Object a) ∷ clear (Use d a) ∷ clear (Implicit a) ∷ clear_all (map (Element a) is)
+
+-- the end of an array: the array is there, and it is seen which elements that has
+abbrev pub drop_array : Name → Tree
+drop_array a = do
+  (d, kind) ← arr a
+  es ← elements a
+  write (dropped_cells a d (keys_of es))
+
 -- what a command means
 abbrev pub meaning : Command → Tree
 meaning (Domain d rs) = domain d rs
@@ -117,3 +138,5 @@ meaning (Set a i v) = set a i v
 meaning (Irv a v) = irv a v
 meaning (Copy a i b j c) = copy a i b j c
 meaning (Fill a on v) = fill a on v
+meaning (FillAll a v) = fill_all a v
+meaning (DropArray a) = drop_array a

@@ -4,8 +4,10 @@ pub mod Tests
 pub mod Kinds
 pub mod Numbers
 pub mod Rectangles
+pub mod Elements
 pub mod Writes
 pub mod Commands
 pub mod Plans
+pub mod Changed
 pub mod Valid
 pub mod Laws

@@ -1,10 +1,10 @@
 -- Valid commands: their names are names, their ranges are within the limits, and their numbers are of 64 bits.
-use Rattle.std.specs.Prelude.{◌≡◌, true, length, FitsSigned}
+use Rattle.std.specs.Prelude.{◌≡◌, true, length, FitsSigned, ⊤}
 use Rattle.std.specs.Int.{w64}
 use Rattle.wb_book.specs.Names.{is_name}
 use Rattle.wb_book.specs.WellFormed.{IsRectangle}
 use Rattle.wb_edit.specs.declared.edit.Edit.{Edit as Command}
-use Rattle.wb_edit.specs.declared.edit.Edit.TheVariants.{Domain, Sparse, Assoc, Array, Set, Irv, Copy, Fill}
+use Rattle.wb_edit.specs.declared.edit.Edit.TheVariants.{Domain, Sparse, Assoc, Array, Set, Irv, Copy, Fill, FillAll, DropArray}
 
 -- what a command has to be so that it keeps a workbook well formed; every value of the type `Edit` is
 abbrev pub IsValid : Command → Type 0
@@ -24,3 +24,7 @@ IsValid (Irv a v) = FitsSigned w64 v
 IsValid (Copy a i b j c) = FitsSigned w64 c
 -- the number is one of 64 bits
 IsValid (Fill a on v) = FitsSigned w64 v
+-- the number is one of 64 bits
+IsValid (FillAll a v) = FitsSigned w64 v
+-- nothing is asked
+IsValid (DropArray a) = ⊤

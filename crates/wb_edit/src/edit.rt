@@ -29,6 +29,10 @@ pub enum Edit {
     Copy(Name, AnyIndex, Name, AnyIndex, i64),
     /// One number as the elements of an array at the indices of a rectangle.
     Fill(Name, AnyRect, i64),
+    /// One number as every element of an array.
+    FillAll(Name, i64),
+    /// The end of an array: it, and its elements, are no more.
+    DropArray(Name),
 }
 
 impl Edit {
@@ -47,6 +51,8 @@ impl Edit {
                 Ok(Edit::Copy(*array, *index, *source, *place, *more))
             }
             Edit::Fill(array, on, value) => Ok(Edit::Fill(*array, *on, *value)),
+            Edit::FillAll(array, value) => Ok(Edit::FillAll(*array, *value)),
+            Edit::DropArray(array) => Ok(Edit::DropArray(*array)),
         }
     }
 
@@ -81,6 +87,10 @@ impl Edit {
             Edit::Fill(_, _, value) => {
                 let _value = *value;
             }
+            Edit::FillAll(_, value) => {
+                let _value = *value;
+            }
+            Edit::DropArray(_) => {}
         }
     }
 }

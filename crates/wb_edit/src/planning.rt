@@ -2,7 +2,9 @@ ghost use Rattle.std.specs.Prelude.{◌≡◌, []};
 ghost use Rattle.wb_edit.specs.Commands.{meaning};
 ghost use Rattle.wb_edit.specs.Plans.{Attempts, IsPlan};
 
-use crate::commands::{array, copied, domain, element, filled, implicit, sets};
+use crate::commands::{
+    array, copied, domain, dropped_array, element, filled, filled_array, implicit, sets,
+};
 use crate::edit::Edit;
 use crate::foot::Foot;
 use crate::refusal::Refusal;
@@ -55,5 +57,9 @@ fn attempt(alloc: Global, book: &Book, foot: &mut Foot, edit: &Edit) -> Result<D
             copied::plan_copy(alloc, book, foot, (*name, *index), (*source, *place), *more)
         }
         Edit::Fill(name, on, value) => filled::plan_fill(alloc, book, foot, *name, on, *value),
+        Edit::FillAll(name, value) => {
+            filled_array::plan_fill_all(alloc, book, foot, *name, *value)
+        }
+        Edit::DropArray(name) => dropped_array::plan_drop_array(alloc, book, foot, *name),
     }
 }

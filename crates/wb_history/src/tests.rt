@@ -30,6 +30,14 @@ fn copy(to: &str, i: i64, from: &str, j: i64, c: i64) -> Result<Edit, Fail> {
     Ok(Edit::Copy(Name::new(to)?, at(i), Name::new(from)?, at(j), c))
 }
 
+fn fill_all(name: &str, value: i64) -> Result<Edit, Fail> {
+    Ok(Edit::FillAll(Name::new(name)?, value))
+}
+
+fn drop_array(name: &str) -> Result<Edit, Fail> {
+    Ok(Edit::DropArray(Name::new(name)?))
+}
+
 fn element(history: &History, name: &str, i: i64) -> Result<Result<Answer, Refusal>, Fail> {
     Ok(history.query(&Query::Get(Name::new(name)?, at(i))))
 }
@@ -302,5 +310,85 @@ fn redo_blocked_by_a_later_set(rt: HostRuntime) -> Result<(), Fail> {
     assert_eq!(rt; undo(&rt, &mut history, 5)?, 1);
     assert_eq!(rt; redo(&rt, &mut history, 4)?, 1);
     assert_eq!(rt; element(&history, "A", 1)?, Ok(Answer::Value(1)));
+    Ok(())
+}
+
+#[test]
+fn filling_a_whole_array(rt: HostRuntime) -> Result<(), Fail> {
+    let mut history = opening(&rt, rt.alloc())?;
+    edit(&rt, rt.alloc(), &mut history, set("A", 1, 5)?)?;
+    assert_eq!(rt;
+        edit(&rt, rt.alloc(), &mut history, fill_all("A", 7)?)?,
+        (4, 4)
+    );
+    assert_eq!(rt; element(&history, "A", 1)?, Ok(Answer::Value(7)));
+    assert_eq!(rt; element(&history, "A", 4)?, Ok(Answer::Value(7)));
+    assert_eq!(rt; history.undo(3), Err(Refusal::Blocked(4)));
+    edit(&rt, rt.alloc(), &mut history, set("A", 2, 9)?)?;
+    assert_eq!(rt; history.undo(4), Err(Refusal::Blocked(5)));
+    assert_eq!(rt; undo(&rt, &mut history, 5)?, 1);
+    assert_eq!(rt; undo(&rt, &mut history, 4)?, 4);
+    assert_eq!(rt; element(&history, "A", 1)?, Ok(Answer::Value(5)));
+    assert_eq!(rt; element(&history, "A", 4)?, Ok(Answer::Value(0)));
+    assert_eq!(rt; undo(&rt, &mut history, 3)?, 1);
+    assert_eq!(rt; redo(&rt, &mut history, 4)?, 4);
+    assert_eq!(rt; element(&history, "A", 1)?, Ok(Answer::Value(7)));
+    assert_eq!(rt; history.redo(3), Err(Refusal::Blocked(4)));
+    Ok(())
+}
+
+#[test]
+fn filling_no_array(rt: HostRuntime) -> Result<(), Fail> {
+    let mut history = opening(&rt, rt.alloc())?;
+    assert_eq!(rt;
+        history.edit(fill_all("X", 7)?),
+        Err(Refusal::Refused(wb_edit::Refusal::NoSuchName))
+    );
+    assert_eq!(rt;
+        history.edit(fill_all("D", 7)?),
+        Err(Refusal::Refused(wb_edit::Refusal::WrongKind))
+    );
+    assert_eq!(rt; history.book().writes(), 10);
+    Ok(())
+}
+
+#[test]
+fn an_array_dropped_and_brought_back(rt: HostRuntime) -> Result<(), Fail> {
+    let mut history = opening(&rt, rt.alloc())?;
+    edit(&rt, rt.alloc(), &mut history, set("A", 1, 5)?)?;
+    assert_eq!(rt;
+        edit(&rt, rt.alloc(), &mut history, drop_array("A")?)?,
+        (4, 7)
+    );
+    let gone = Err(Refusal::Refused(wb_edit::Refusal::NoSuchName));
+    assert_eq!(rt; element(&history, "A", 1)?, gone);
+    assert_eq!(rt; history.undo(3), Err(Refusal::Blocked(4)));
+    assert_eq!(rt; undo(&rt, &mut history, 4)?, 7);
+    assert_eq!(rt; element(&history, "A", 1)?, Ok(Answer::Value(5)));
+    assert_eq!(rt; element(&history, "A", 4)?, Ok(Answer::Value(0)));
+    assert_eq!(rt; redo(&rt, &mut history, 4)?, 7);
+    let gone = Err(Refusal::Refused(wb_edit::Refusal::NoSuchName));
+    assert_eq!(rt; element(&history, "A", 1)?, gone);
+    assert_eq!(rt;
+        edit(&rt, rt.alloc(), &mut history, array("A", "D")?)?,
+        (5, 7)
+    );
+    assert_eq!(rt; element(&history, "A", 1)?, Ok(Answer::Value(0)));
+    assert_eq!(rt; history.undo(4), Err(Refusal::Blocked(5)));
+    Ok(())
+}
+
+#[test]
+fn dropping_no_array(rt: HostRuntime) -> Result<(), Fail> {
+    let mut history = opening(&rt, rt.alloc())?;
+    assert_eq!(rt;
+        history.edit(drop_array("X")?),
+        Err(Refusal::Refused(wb_edit::Refusal::NoSuchName))
+    );
+    assert_eq!(rt;
+        history.edit(drop_array("D")?),
+        Err(Refusal::Refused(wb_edit::Refusal::WrongKind))
+    );
+    assert_eq!(rt; history.book().writes(), 10);
     Ok(())
 }

@@ -3,8 +3,11 @@
 pub mod array;
 pub mod copied;
 pub mod domain;
+pub mod dropped_array;
 pub mod element;
 pub mod filled;
 pub mod implicit;
 pub mod sets;
+pub mod filled_array;
+pub mod seen;
 pub mod writes;

@@ -32,16 +32,25 @@ fn cell_at(column: &Column, index: AnyIndex) -> Cell
     }
 }
 
+/// Adds that a cell, which is not there yet, becomes a value, or absent.
+pub(crate) fn change(delta: &mut Delta, cell: Cell, value: Option<Value>) -> Result<(), Stop>
+    requires { changes cell_cmp delta.old cell ≡ false }
+    ensures ok { OnOk result (delta.new ≡ delta.old ++ record { cell = cell; value = value } ∷ []) }
+    ensures only { IfErr result (λ e. e ≡ NoMemory) }
+{
+    match delta.put(cell, value) {
+        Ok(()) => Ok(()),
+        Err(_) => Err(Stop::NoMemory),
+    }
+}
+
 /// Adds that a cell, which is not there yet, gets a value.
 pub(crate) fn put(delta: &mut Delta, cell: Cell, value: Value) -> Result<(), Stop>
     requires { changes cell_cmp delta.old cell ≡ false }
     ensures ok { OnOk result (delta.new ≡ delta.old ++ put cell value ∷ []) }
     ensures only { IfErr result (λ e. e ≡ NoMemory) }
 {
-    match delta.put(cell, Some(value)) {
-        Ok(()) => Ok(()),
-        Err(_) => Err(Stop::NoMemory),
-    }
+    change(delta, cell, Some(value))
 }
 
 /// Adds that the column's cell of each index, none of which is there yet, gets a value.

@@ -1,6 +1,7 @@
 //! The tests that commands are made of: each looks at cells, keeps that it did, and goes on or stops.
 
 pub mod indices;
+pub mod elements;
 pub mod judgements;
 pub mod kinds;
 pub mod looks;

@@ -1,0 +1,31 @@
+use Rattle.std.proofs.Common.{◌≡◌, ℤ, List, [], ◌∷◌, ◌++◌, take, sym, ap, subst, ◌∙◌, append_assoc, false}
+use Rattle.selective_undo.specs.Changes.{changes}
+use Rattle.wb_book.specs.declared.cells.cell.Cell.TheVariants.{Element}
+use Rattle.wb_book.specs.declared.values.index.Index.{Index}
+use Rattle.wb_book.specs.Cells.{Changes, cell_cmp}
+use Rattle.wb_edit.specs.Changed.{all_become}
+use Rattle.wb_edit.proofs.Becoming.{next_is_new, becomes_more}
+use Rattle.wb_edit.proofs.commands.seen.all_become.Goals as goal
+
+pub change-requires : goal.change-requires
+change-requires c =
+    let es : List (Index × ℤ) = c.args.elements.now in
+    let i = c.loop-e.e-index in
+    let e : Index × ℤ = c.e-item.result in
+    let a = c.args.array in
+    let new = next_is_new a c.args.new.now c.args.delta.now es i e c.requires.fresh c.requires.ascending c.loop-e-test.true in
+    rw c.loop-e.invariant (subst (λ (x : Index × ℤ). changes cell_cmp (c.args.delta.now ++ all_become a c.args.new.now (take i es)) (Element a x.0) ≡ false) (sym c.e-item.is) new)
+
+pub loop-e-preserved : goal.loop-e-preserved
+loop-e-preserved c =
+    let es : List (Index × ℤ) = c.args.elements.now in
+    let i = c.loop-e.e-index in
+    let e : Index × ℤ = c.e-item.result in
+    let a = c.args.array in
+    let new = c.args.new.now in
+    let old : Changes = c.args.delta.now in
+    let before : Changes = all_become a new (take i es) in
+    c.in_ok-change.ensures.ok ∙ rw (c.value_of.ensures, c.loop-e.invariant) (
+    append_assoc old before (all_become a new (e ∷ []))
+    ∙ ap (λ (x : Index × ℤ). old ++ (before ++ all_become a new (x ∷ []))) c.e-item.is
+    ∙ ap (λ xs. old ++ xs) (sym (becomes_more a new es i e c.loop-e-test.true)))

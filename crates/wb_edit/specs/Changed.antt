@@ -1,0 +1,26 @@
+-- What the code of a plan says of elements that were seen, and what becomes of them.
+use Rattle.std.specs.Prelude.{ℤ, List, map, Option, Some, None, Result, Ok, Err}
+use Rattle.std.specs.Global.{Vec}
+use Rattle.wb_book.specs.declared.cells.cell.Cell.TheVariants.{Element}
+use Rattle.wb_book.specs.declared.cells.value.Value.{Value}
+use Rattle.wb_book.specs.declared.cells.value.Value.TheVariants.{Number}
+use Rattle.wb_book.specs.declared.values.index.Index.{Index}
+use Rattle.wb_book.specs.Cells.{Name, Changes}
+use Rattle.wb_edit.specs.declared.commands.seen.Becomes.{Becomes}
+use Rattle.wb_edit.specs.declared.commands.seen.Becomes.TheVariants.{Same, Own, Absent}
+use Rattle.wb_edit.specs.declared.tests.stop.Stop.{Stop}
+
+-- a vector, as its list
+abbrev pub items_of : {X : Type 0} → Result (Vec X) Stop → Result (List X) Stop
+items_of (Ok v) = Ok v.items
+items_of (Err why) = Err why
+
+-- what an element becomes, with a number beside it
+abbrev pub value_of : Becomes → ℤ → Option Value
+value_of (Same v) x = Some (Number v)
+value_of Own x = Some (Number x)
+value_of Absent x = None
+
+-- each of the elements becomes so
+abbrev pub all_become : Name → Becomes → List (Index × ℤ) → Changes
+all_become a new es = map (λ e. record { cell = Element a e.0; value = value_of new e.1 }) es

@@ -1,0 +1,45 @@
+ghost use Rattle.std.specs.Prelude.{◌≡◌, T};
+ghost use Rattle.std.specs.FinMap.{is_sorted};
+ghost use Rattle.std.specs.Map.{keys_of};
+ghost use Rattle.wb_book.specs.Cells.{index_cmp};
+ghost use Rattle.wb_edit.specs.Commands.{drop_array, dropped_cells};
+ghost use Rattle.wb_edit.specs.Plans.{Attempts, Makes};
+
+use crate::commands::seen::{Becomes, all_become};
+use crate::commands::writes::change;
+use crate::foot::Foot;
+use crate::tests::stop::Stop;
+use crate::tests::{elements, looks};
+use std::alloc::Global;
+use wb_book::{AnyIndex, Book, Cell, Delta, Name};
+
+/// The end of an array.
+pub(crate) fn plan_drop_array(
+    alloc: Global,
+    book: &Book,
+    foot: &mut Foot,
+    array: Name,
+) -> Result<Delta, Stop>
+    ensures { Attempts (drop_array array) book.now.cells foot.old result foot.new }
+{
+    let (domain, _kind) = looks::arr(book, foot, array)?;
+    let seen = elements::elements(book, foot, array)?;
+    drop_changes(alloc, array, domain, &seen)
+}
+
+fn drop_changes(
+    alloc: Global,
+    array: Name,
+    domain: Name,
+    seen: &[(AnyIndex, i64)],
+) -> Result<Delta, Stop>
+    requires { T (is_sorted index_cmp seen.now) }
+    ensures { Makes (dropped_cells array domain (keys_of seen.now)) result }
+{
+    let mut delta = Delta::new(alloc);
+    change(&mut delta, Cell::Object(array), None)?;
+    change(&mut delta, Cell::Use(domain, array), None)?;
+    change(&mut delta, Cell::Implicit(array), None)?;
+    all_become(&mut delta, array, seen, &Becomes::Absent)?;
+    Ok(delta)
+}

@@ -1,0 +1,45 @@
+ghost use Rattle.std.specs.Prelude.{◌≡◌, T, map};
+ghost use Rattle.std.specs.FinMap.{is_sorted};
+ghost use Rattle.std.specs.Map.{keys_of};
+ghost use Rattle.wb_book.specs.Cells.{index_cmp};
+ghost use Rattle.wb_book.specs.declared.cells.cell.Cell.TheVariants.{Element};
+ghost use Rattle.wb_book.specs.declared.cells.value.Value.TheVariants.{Number};
+ghost use Rattle.wb_edit.specs.Commands.{fill_all};
+ghost use Rattle.wb_edit.specs.Plans.{Attempts, Makes};
+ghost use Rattle.wb_edit.specs.Writes.{put_all};
+
+use crate::commands::seen::{Becomes, all_become};
+use crate::foot::Foot;
+use crate::tests::stop::Stop;
+use crate::tests::{elements, looks};
+use std::alloc::Global;
+use wb_book::{AnyIndex, Book, Delta, Name};
+
+/// One number as every element of an array.
+pub(crate) fn plan_fill_all(
+    alloc: Global,
+    book: &Book,
+    foot: &mut Foot,
+    array: Name,
+    value: i64,
+) -> Result<Delta, Stop>
+    ensures { Attempts (fill_all array value) book.now.cells foot.old result foot.new }
+{
+    looks::arr(book, foot, array)?;
+    let seen = elements::elements(book, foot, array)?;
+    fill_changes(alloc, array, &seen, value)
+}
+
+fn fill_changes(
+    alloc: Global,
+    array: Name,
+    seen: &[(AnyIndex, i64)],
+    value: i64,
+) -> Result<Delta, Stop>
+    requires { T (is_sorted index_cmp seen.now) }
+    ensures { Makes (put_all (map (Element array) (keys_of seen.now)) (Number value)) result }
+{
+    let mut delta = Delta::new(alloc);
+    all_become(&mut delta, array, seen, &Becomes::Same(value))?;
+    Ok(delta)
+}

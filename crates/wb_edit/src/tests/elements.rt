@@ -1,0 +1,29 @@
+//! Tests on all elements of an array at once.
+
+ghost use Rattle.std.specs.Prelude.{◌≡◌, IfOk};
+ghost use Rattle.wb_book.specs.Readers as readers;
+ghost use Rattle.wb_edit.specs.Changed.{items_of};
+ghost use Rattle.wb_edit.specs.Elements.{elements};
+ghost use Rattle.wb_edit.specs.Plans.{Looks};
+
+use crate::foot::Foot;
+use crate::tests::stop::Stop;
+use wb_book::{AnyIndex, Book, Name, Pattern};
+
+/// The elements of an array, each after its index, in the order of the indices.
+pub(crate) fn elements(
+    book: &Book,
+    foot: &mut Foot,
+    array: Name,
+) -> Result<Vec<(AnyIndex, i64)>, Stop>
+    ensures looks { Looks (elements array) book.now.cells foot.old (items_of result) foot.new }
+    ensures seen { IfOk result (λ v. v.items ≡ readers.elements book.now.cells array) }
+{
+    if foot.keep(Pattern::Elements(array)).is_err() {
+        return Err(Stop::NoMemory);
+    }
+    match book.elements(&array) {
+        Ok(elements) => Ok(elements),
+        Err(_) => Err(Stop::NoMemory),
+    }
+}
