@@ -10,9 +10,9 @@ use Rattle.std.specs.Option.{option_and_then}
 use Rattle.selective_undo.specs.Changes.{apply}
 use Rattle.selective_undo.specs.Edit.{write}
 use Rattle.wb_book.specs.declared.cells.cell.Cell.{Cell}
-use Rattle.wb_book.specs.declared.cells.cell.Cell.TheVariants.{Object, Shape, In, Mapping, Use, Implicit, Element}
+use Rattle.wb_book.specs.declared.cells.cell.Cell.TheVariants.{Object, Shape, In, Member, Mapping, Use, Implicit, Element}
 use Rattle.wb_book.specs.declared.cells.value.Binding.TheVariants.{Array}
-use Rattle.wb_book.specs.declared.cells.value.Kind.{Kind}
+use Rattle.wb_book.specs.declared.cells.kind.Kind.{Kind}
 use Rattle.wb_book.specs.declared.cells.value.Value.{Value}
 use Rattle.wb_book.specs.declared.cells.value.Value.TheVariants.{Array, Bound}
 use Rattle.wb_book.specs.declared.values.index.Index.{Index}
@@ -26,7 +26,7 @@ use Rattle.wb_edit.specs.Tests.{array_kind}
 use Rattle.wb_edit.specs.Writes.{clear_all}
 use Rattle.wb_edit.proofs.Elements.{number_of, find_element}
 use Rattle.wb_edit.proofs.Gets.{after, cond-or, list_any-nowhere, get-apply}
-use Rattle.wb_edit.proofs.Kept.States.{same_name, in_column, second_first, indices_same, IsObject-same}
+use Rattle.wb_edit.proofs.Kept.States.{same_name, in_column, second_first, indices_same, index_cell_same, IsObject-same, IsMember-same}
 use Rattle.wb_edit.proofs.Kept.Steps.{Keeps, keeps_read, keeps_judged, array_is}
 
 -- ---- cells that become absent
@@ -43,6 +43,7 @@ record HasNoArray (s t : Cells) (a d : Name) (is : List Index) : Type 0 where
   object : (n : Name) → get t (Object n) ≡ cond (is_same_name n a) None (get s (Object n))
   shape : (n : Name) → get t (Shape n) ≡ get s (Shape n)
   inside : (n : Name) (i : Index) → get t (In n i) ≡ get s (In n i)
+  member : (n : Name) (i : Index) → get t (Member n i) ≡ get s (Member n i)
   mapping : (n : Name) → get t (Mapping n) ≡ get s (Mapping n)
   used : (e n : Name) → get t (Use e n) ≡ cond (is_same_name n a && is_same_name e d) None (get s (Use e n))
   implicit : (n : Name) → get t (Implicit n) ≡ cond (is_same_name n a) None (get s (Implicit n))
@@ -57,6 +58,7 @@ has_no_array s a d is =
       object = λ n. at (Object n) ∙ beside (Object n) _ (list_any-nowhere is);
       shape = λ n. at (Shape n) ∙ beside (Shape n) _ (list_any-nowhere is);
       inside = λ n i. at (In n i) ∙ beside (In n i) _ (list_any-nowhere is);
+      member = λ n i. at (Member n i) ∙ beside (Member n i) _ (list_any-nowhere is);
       mapping = λ n. at (Mapping n) ∙ beside (Mapping n) _ (list_any-nowhere is);
       used = λ e n. at (Use e n) ∙ beside (Use e n) _ (list_any-nowhere is) ∙ ap (λ b. cond b None (get s (Use e n))) (second_first _ _);
       implicit = λ n. at (Implicit n) ∙ beside (Implicit n) _ (list_any-nowhere is);
@@ -84,6 +86,7 @@ array_dropped s t a d kind is h there gone k =
       objects = λ n v is. IsObject-same s t (λ e other over. same_domain e ∙ over) v (h.objects n v (old n v is));
       shapes = λ n. rw (same_domain n, k.shape n) (h.shapes n);
       insides = λ n i. rw (k.inside n i, k.shape n) (h.insides n i);
+      members = λ n i. rw (same_domain n, k.member n i) (IsMember-same s t (λ e j here. k.inside e j ∙ here) (domain_at s n) i (get s (Member n i)) (h.members n i));
       mappings = λ n. rw (same_domain n, k.mapping n) (h.mappings n);
       uses = λ e n. rw (k.used e n, k.object n) (elim (is_same_name n a) as (λ b. is_same_name n a ≡ b → cond (b && is_same_name e d) None (get s (Use e n)) ≡ use_of e (cond b None (get s (Object n)))) [
         | true ↦ λ same. unbound (is_same_name e d) (get s (Use e n)) (h.uses e n ∙ ap (use_of e) (was n same))
@@ -95,7 +98,7 @@ array_dropped s t a d kind is h there gone k =
       ]);
       elements = λ n i. rw (k.object n, k.element n i) (elim (is_same_name n a) as (λ b. is_same_name n a ≡ b → IsElement (is_index_of_array t (array_in (cond b None (get s (Object n)))) i) (cond (b && has is i) None (get s (Element n i)))) [
         | true ↦ λ same. ap (λ m. cond (has is i) None (get s (Element m i))) (same_name n a same) ∙ gone i
-        | false ↦ λ same. rw (indices_same s t (array_at s n) i (λ e other over. k.inside e i)) (h.elements n i)
+        | false ↦ λ same. rw (indices_same s t (array_at s n) i (λ e other over. index_cell_same s t other e i (k.inside e i) (k.member e i))) (h.elements n i)
       ] refl);
     }
 
