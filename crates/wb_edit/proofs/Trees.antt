@@ -52,6 +52,18 @@ module _ {X : Type 0} (t : Look X) (s : Cells) (rs ss : List Pattern) where
       let h = g (λ x. judged (j x) next) in
       (h.0 ∙ ap (λ r. outcome (judged r next) s) e, sym (h.1 ∙ ap (λ r. ss ++ reads (judged r next) s) e ∙ append-nil ss))
 
+  -- a look that goes on, and then another one
+  pub then_looks : {Y : Type 0} (f : X → Look Y) (x : X) (r : Result Y Stop) (us : List Pattern) → Gives t s rs x ss → Looks (f x) s ss r us → Looks (λ next. t (λ x. f x next)) s rs r us
+  then_looks f x (Ok y) us g l = λ next.
+      let h = g (λ x. f x next) in
+      let k = l next in
+      (h.0 ∙ k.0, h.1 ∙ k.1)
+  then_looks f x (Err (Refused why)) us g l = λ next.
+      let h = g (λ x. f x next) in
+      let k = l next in
+      (h.0 ∙ k.0, k.1 ∙ sym h.1)
+  then_looks f x (Err NoMemory) us g l = tt
+
   -- what was seen is judged
   pub then_judged : {Y : Type 0} (j : X → Result Y Refusal) (x : X) → Gives t s rs x ss → Looks (λ next. t (λ x. judged (j x) next)) s rs (stopped (j x)) ss
   then_judged j x g = judged_by j x g (j x) refl

@@ -19,7 +19,8 @@ use Rattle.wb_edit.specs.declared.edit.Edit.TheVariants.{Domain, Sparse, Assoc, 
 use Rattle.wb_edit.specs.Looks.{Tree, ◌>>=◌}
 use Rattle.wb_edit.specs.Tests.{free, dom, arr, key, element, idx}
 use Rattle.wb_edit.specs.Kinds.{rectangular, over_sparse}
-use Rattle.wb_edit.specs.Numbers.{number, sum}
+use Rattle.wb_edit.specs.Numbers.{sum}
+use Rattle.wb_edit.specs.Implicit.{element_or_implicit}
 use Rattle.wb_edit.specs.Elements.{elements}
 use Rattle.wb_edit.specs.Rectangles.{over_rectangle, all_elements}
 use Rattle.wb_edit.specs.Writes.{put, put_all, clear, clear_all}
@@ -88,7 +89,7 @@ irv a v = do
   write (put (Implicit a) (Number v) ∷ [])
 
 -- an element that is another one and a number more, a[i] = b[j] + c: the arrays are there, each index is of the rank and
--- type of its array's domain, both elements are there, and the sum is within 64 bits
+-- type of its array's domain, the first element is there and the second or its implicit value, and the sum is within 64 bits
 abbrev pub copy : Name → Index → Name → Index → ℤ → Tree
 copy a i b j c = do
   (d, kind) ← arr a
@@ -96,7 +97,7 @@ copy a i b j c = do
   unit ← key kind i
   unit ← key kind_of_e j
   there ← element a i
-  x ← number b j
+  x ← element_or_implicit b e kind_of_e j
   y ← sum x c
   write (put (Element a i) (Number y) ∷ [])
 

@@ -3,6 +3,7 @@ pub mod Looks
 pub mod Tests
 pub mod Kinds
 pub mod Numbers
+pub mod Implicit
 pub mod Rectangles
 pub mod Elements
 pub mod Writes

@@ -1,13 +1,10 @@
 -- Tests on numbers: the element that is read, and sums within 64 bits.
 use Rattle.std.specs.Prelude.{◌^◌, nat_lt, Bool, true, false, ℤ, pos, negsuc, ◌+ℤ◌, Option, Some, None, Result, Ok, Err}
-use Rattle.wb_book.specs.declared.cells.cell.Cell.TheVariants.{Element}
 use Rattle.wb_book.specs.declared.cells.value.Value.{Value}
 use Rattle.wb_book.specs.declared.cells.value.Value.TheVariants.{Number}
-use Rattle.wb_book.specs.declared.values.index.Index.{Index}
-use Rattle.wb_book.specs.Cells.{Name}
 use Rattle.wb_edit.specs.declared.refusal.Refusal.{Refusal}
 use Rattle.wb_edit.specs.declared.refusal.Refusal.TheVariants.{OutOfDomain, Overflow}
-use Rattle.wb_edit.specs.Looks.{Look, ◌>>=◌, read, judged}
+use Rattle.wb_edit.specs.Looks.{Look, judged}
 
 -- ---- judgements
 
@@ -30,12 +27,6 @@ abbrev pub within : ℤ → Result ℤ Refusal
 within z = kept_if (is_i64 z) z
 
 -- ---- the tests
-
--- an array's element at an index: looks at it
-abbrev pub number : Name → Index → Look ℤ
-number a i next = do
-  v ← read (Element a i)
-  judged (number_in v) next
 
 -- a sum within 64 bits: looks at nothing
 abbrev pub sum : ℤ → ℤ → Look ℤ

@@ -18,5 +18,6 @@ pub use crate::edit::Edit;
 pub use crate::foot::Foot;
 pub use crate::planning::{PlanErr, plan};
 pub use crate::refusal::Refusal;
+pub use crate::tests::implicit::{has_implicit, parent_in};
 pub use crate::tests::judgements;
 pub use crate::tests::numbers::number_in;

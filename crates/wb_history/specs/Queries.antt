@@ -1,17 +1,19 @@
 -- What queries are answered, from the cells of the workbook and the history.
 use Rattle.std.specs.Prelude.{Bool, ℕ, ℤ, List, Option, Some, None, Result, Ok, Err, unwrap_or, length}
 use Rattle.std.specs.FinMap.{get}
-use Rattle.wb_book.specs.declared.cells.cell.Cell.TheVariants.{Object, Element}
+use Rattle.wb_book.specs.declared.cells.cell.Cell.TheVariants.{Object, In, Implicit, Element}
 use Rattle.wb_book.specs.declared.cells.kind.DomainKind.{DomainKind}
 use Rattle.wb_book.specs.declared.cells.kind.DomainKind.TheVariants.{Rectangular, Sparse, Associative}
 use Rattle.wb_book.specs.declared.cells.kind.Kind.{Kind}
 use Rattle.wb_book.specs.declared.cells.pattern.Pattern.TheVariants.{Members}
+use Rattle.wb_book.specs.declared.cells.value.Value.{Value}
 use Rattle.wb_book.specs.declared.values.index.Index.{Index}
 use Rattle.wb_book.specs.Cells.{Name, Cells}
 use Rattle.wb_book.specs.Readers.{size_at, seen}
 use Rattle.wb_edit.specs.declared.refusal.Refusal as why
+use Rattle.wb_edit.specs.Implicit.{has_implicit, parent_in}
 use Rattle.wb_edit.specs.Numbers.{number_in}
-use Rattle.wb_edit.specs.Tests.{domain_kind, array_kind, fits}
+use Rattle.wb_edit.specs.Tests.{domain_kind, array_kind, is_there, fits}
 use Rattle.wb_history.specs.declared.query.Answer.{Answer}
 use Rattle.wb_history.specs.declared.query.Answer.TheVariants.{Value as ValueIs, Size as SizeIs, InForce}
 use Rattle.wb_history.specs.declared.query.Query.{Query}
@@ -20,16 +22,36 @@ use Rattle.wb_history.specs.declared.refusal.Refusal.{Refusal}
 use Rattle.wb_history.specs.declared.refusal.Refusal.TheVariants.{Refused, NoSuchEdit}
 use Rattle.wb_history.specs.Past.{Numbered, force_of}
 
+-- the implicit value of an array
+abbrev pub value_inside : Cells → Name → Result (Unit {0}) why.Refusal → Result ℤ why.Refusal
+value_inside s a (Ok there) = number_in (get s (Implicit a))
+value_inside s a (Err e) = Err e
+
+-- the same, at an index of the parent
+abbrev pub value_within : Cells → Name → Index → Result Name why.Refusal → Result ℤ why.Refusal
+value_within s a i (Ok parent) = value_inside s a (is_there (get s (In parent i)))
+value_within s a i (Err e) = Err e
+
+-- the same, over the sparse domain d
+abbrev pub value_over : Cells → (a d : Name) → Index → Result (Unit {0}) why.Refusal → Result ℤ why.Refusal
+value_over s a d i (Ok sparse) = value_within s a i (parent_in (get s (Object d)))
+value_over s a d i (Err e) = Err e
+
+-- what stands in the element's cell, or else the implicit value, which arrays over sparse domains have
+abbrev pub element_or_implicit : Cells → (a d : Name) → Kind → Index → Option Value → Result ℤ why.Refusal
+element_or_implicit s a d kind i (Some v) = number_in (Some v)
+element_or_implicit s a d kind i None = value_over s a d i (has_implicit kind)
+
 -- the element at an index of the type and rank of the array's
-abbrev pub element_at : Cells → Name → Index → Result (Unit {0}) why.Refusal → Result ℤ why.Refusal
-element_at s a i (Ok fit) = number_in (get s (Element a i))
-element_at s a i (Err e) = Err e
+abbrev pub element_at : Cells → (a d : Name) → Kind → Index → Result (Unit {0}) why.Refusal → Result ℤ why.Refusal
+element_at s a d kind i (Ok fit) = element_or_implicit s a d kind i (get s (Element a i))
+element_at s a d kind i (Err e) = Err e
 
 abbrev pub get_from : Cells → Name → Index → Result (Name × Kind) why.Refusal → Result ℤ why.Refusal
-get_from s a i (Ok (d, kind)) = element_at s a i (fits kind i)
+get_from s a i (Ok (d, kind)) = element_at s a d kind i (fits kind i)
 get_from s a i (Err e) = Err e
 
--- the name is an array's, the index fits, and the element is there
+-- the name is an array's, the index fits, and the element is there, or the array has an implicit value at the index
 abbrev pub get_answer : Cells → Name → Index → Result ℤ why.Refusal
 get_answer s a i = get_from s a i (array_kind (get s (Object a)))
 

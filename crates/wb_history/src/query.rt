@@ -1,14 +1,14 @@
-ghost use Rattle.std.specs.Prelude.{◌≡◌};
-ghost use Rattle.wb_history.specs.Queries.{get_answer, value_answer, size_in, size_answer, count_answer, force_answer};
+ghost use Rattle.std.specs.Prelude.{◌≡◌, None};
+ghost use Rattle.wb_history.specs.Queries.{element_or_implicit, get_answer, value_answer, size_in, size_answer, count_answer, force_answer};
 
 use crate::refusal::Refusal;
-use wb_book::{AnyDomain, AnyIndex, Book, Cell, DomainKind, Name};
-use wb_edit::{judgements, number_in};
+use wb_book::{AnyDomain, AnyIndex, Book, Cell, DomainKind, Kind, Name};
+use wb_edit::{has_implicit, judgements, number_in, parent_in};
 
 /// A question about the workbook or its history.
 #[derive(Clone, Copy, Debug)]
 pub enum Query {
-    /// The element of an array at an index.
+    /// The element of an array at an index, or the implicit value of one over a sparse domain at an index of its parent.
     Get(Name, AnyIndex),
     /// How many indices a domain has.
     Size(Name),
@@ -31,9 +31,28 @@ pub enum Answer {
 pub(crate) fn element_of(book: &Book, array: Name, index: AnyIndex) -> Result<i64, wb_edit::Refusal>
     ensures { result ≡ get_answer book.now.cells array index }
 {
-    let (_domain, kind) = judgements::array_kind(book.get(&Cell::Object(array)))?;
+    let (domain, kind) = judgements::array_kind(book.get(&Cell::Object(array)))?;
     judgements::fits(kind, index)?;
-    number_in(book.get(&Cell::Element(array, index)))
+    match book.get(&Cell::Element(array, index)) {
+        Some(value) => number_in(Some(value)),
+        None => implicit_value(book, array, domain, kind, index),
+    }
+}
+
+// The implicit value of an array over a sparse domain, at an index of its parent.
+fn implicit_value(
+    book: &Book,
+    array: Name,
+    domain: Name,
+    kind: Kind,
+    index: AnyIndex,
+) -> Result<i64, wb_edit::Refusal>
+    ensures { result ≡ element_or_implicit book.now.cells array domain kind index None }
+{
+    has_implicit(&kind)?;
+    let parent = parent_in(book.get(&Cell::Object(domain)))?;
+    judgements::is_there(book.get(&Cell::In(parent, index)))?;
+    number_in(book.get(&Cell::Implicit(array)))
 }
 
 // How many indices a domain of a kind has.

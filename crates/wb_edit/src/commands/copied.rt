@@ -4,6 +4,7 @@ ghost use Rattle.wb_edit.specs.Plans.{Attempts};
 
 use crate::commands::element::element_change;
 use crate::foot::Foot;
+use crate::tests::implicit::{Source, element_or_implicit};
 use crate::tests::stop::{Stop, stopped};
 use crate::tests::{judgements, looks, numbers};
 use std::alloc::Global;
@@ -23,11 +24,16 @@ pub(crate) fn plan_copy(
     let (array, index) = target;
     let (other, place) = source;
     let (_domain, kind) = looks::arr(book, foot, array)?;
-    let (_over, kind_of_other) = looks::arr(book, foot, other)?;
+    let (over, kind_of_other) = looks::arr(book, foot, other)?;
     stopped(judgements::fits(kind, index))?;
     stopped(judgements::fits(kind_of_other, place))?;
     looks::element(book, foot, array, index)?;
-    let number = numbers::number(book, foot, other, place)?;
+    let from = Source {
+        array: other,
+        domain: over,
+        kind: kind_of_other,
+    };
+    let number = element_or_implicit(book, foot, &from, place)?;
     let sum = stopped(numbers::sum(number, more))?;
     element_change(alloc, array, index, sum)
 }

@@ -1,14 +1,10 @@
 //! Tests on numbers: the element that is read, and sums within 64 bits.
 
 ghost use Rattle.std.specs.Prelude.{◌≡◌, ◌+ℤ◌};
-ghost use Rattle.wb_edit.specs.Numbers.{number_in, within, number};
-ghost use Rattle.wb_edit.specs.Plans.{Looks};
+ghost use Rattle.wb_edit.specs.Numbers.{number_in, within};
 
-use crate::foot::Foot;
 use crate::refusal::Refusal;
-use crate::tests::looks::read;
-use crate::tests::stop::{Stop, stopped};
-use wb_book::{AnyIndex, Book, Cell, Name, Value};
+use wb_book::Value;
 
 /// The element that a cell holds.
 pub fn number_in(element: Option<Value>) -> Result<i64, Refusal>
@@ -36,17 +32,4 @@ pub fn sum(x: i64, y: i64) -> Result<i64, Refusal>
         Some(sum) => Ok(sum),
         None => Err(Refusal::Overflow),
     }
-}
-
-/// An array's element at an index.
-pub(crate) fn number(
-    book: &Book,
-    foot: &mut Foot,
-    array: Name,
-    index: AnyIndex,
-) -> Result<i64, Stop>
-    ensures { Looks (number array index) book.now.cells foot.old result foot.new }
-{
-    let element = read(book, foot, &Cell::Element(array, index))?;
-    stopped(number_in(element))
 }
