@@ -4,7 +4,7 @@ use Rattle.std.specs.Prelude.{ℕ, List, codes, Option, Some, None, Result, Ok, 
 use Rattle.std.specs.Str.{is_utf8}
 use Rattle.serde_json.specs.Data.{Data}
 use Rattle.serde_json.specs.Read.{read}
-use Rattle.wb_edit.specs.declared.edit.Edit.TheVariants.{Domain, Array, Set, Copy, Fill}
+use Rattle.wb_edit.specs.declared.edit.Edit.TheVariants.{Domain, Array, Set, Copy, Fill, FillAll, DropArray}
 use Rattle.wb_history.specs.declared.query.Query.TheVariants.{Get, Size, State}
 use Rattle.wb_history.specs.declared.refusal.Refusal.{Refusal}
 use Rattle.wb_history.specs.declared.refusal.Refusal.TheVariants.{BadRequest}
@@ -31,6 +31,13 @@ array_of d = do
   domain ← name_field (codes "d") d
   Ok (Change (Array name domain))
 
+-- {"op":"drop_array","a":NAME}
+abbrev pub drop_array_of : Data → Result Request Refusal
+drop_array_of d = do
+  unit ← has_fields 2 d
+  name ← name_field (codes "a") d
+  Ok (Change (DropArray name))
+
 -- {"op":"set","a":NAME,"i":INDEX,"v":INTEGER}
 abbrev pub set_of : Data → Result Request Refusal
 set_of d = do
@@ -50,6 +57,14 @@ fill_of d = do
   literal ← literal_rectangle text
   ranges ← domain_within literal
   Ok (Change (Fill name ranges value))
+
+-- {"op":"fill_all","a":NAME,"v":INTEGER}
+abbrev pub fill_all_of : Data → Result Request Refusal
+fill_all_of d = do
+  unit ← has_fields 3 d
+  name ← name_field (codes "a") d
+  value ← i64_field (codes "v") d
+  Ok (Change (FillAll name value))
 
 -- {"op":"copy","a":NAME,"i":INDEX,"b":NAME,"j":INDEX,"c":INTEGER}
 abbrev pub copy_of : Data → Result Request Refusal
@@ -107,8 +122,10 @@ abbrev pub by_op : List ℕ → Data → Result Request Refusal
 by_op op d =
     if bytes_eq op (codes "domain") then domain_of d else
     if bytes_eq op (codes "array") then array_of d else
+    if bytes_eq op (codes "drop_array") then drop_array_of d else
     if bytes_eq op (codes "set") then set_of d else
     if bytes_eq op (codes "fill") then fill_of d else
+    if bytes_eq op (codes "fill_all") then fill_all_of d else
     if bytes_eq op (codes "copy") then copy_of d else
     if bytes_eq op (codes "undo") then undo_of d else
     if bytes_eq op (codes "redo") then redo_of d else

@@ -1,7 +1,7 @@
 // Requests for changes to arrays.
 ghost use Rattle.std.specs.Prelude.{◌≡◌, codes};
 ghost use Rattle.serde_json.specs.View.{view};
-ghost use Rattle.wb_proto.specs.Requests.{array_of, set_of, fill_of, copy_of};
+ghost use Rattle.wb_proto.specs.Requests.{array_of, drop_array_of, set_of, fill_of, fill_all_of, copy_of};
 
 use crate::requests::fields::{has_fields, i64_field, index_field, name_field, text_field};
 use crate::requests::literals::{domain_within, literal_rectangle};
@@ -18,6 +18,15 @@ pub(crate) fn array_of(value: &Value) -> Result<Request, Refusal>
     let name = name_field(value, "a")?;
     let domain = name_field(value, "d")?;
     Ok(Request::Change(Edit::Array(name, domain)))
+}
+
+/// The end of an array.
+pub(crate) fn drop_array_of(value: &Value) -> Result<Request, Refusal>
+    ensures { result ≡ drop_array_of (view value.now) }
+{
+    has_fields(value, 2)?;
+    let name = name_field(value, "a")?;
+    Ok(Request::Change(Edit::DropArray(name)))
 }
 
 /// A new element.
@@ -42,6 +51,16 @@ pub(crate) fn fill_of(value: &Value) -> Result<Request, Refusal>
     let literal = literal_rectangle(text)?;
     let ranges = domain_within(&literal)?;
     Ok(Request::Change(Edit::Fill(name, ranges, number)))
+}
+
+/// A number as every element of an array.
+pub(crate) fn fill_all_of(value: &Value) -> Result<Request, Refusal>
+    ensures { result ≡ fill_all_of (view value.now) }
+{
+    has_fields(value, 3)?;
+    let name = name_field(value, "a")?;
+    let number = i64_field(value, "v")?;
+    Ok(Request::Change(Edit::FillAll(name, number)))
 }
 
 /// An element that becomes another one and a number more.

@@ -169,6 +169,45 @@ fn copies_fills_and_sizes(rt: HostRuntime) -> Result<(), Fail> {
 }
 
 #[test]
+fn fills_and_ends_of_whole_arrays(rt: HostRuntime) -> Result<(), Fail> {
+    let alloc = rt.alloc();
+    let mut history = History::new(alloc);
+    replies(alloc, &mut history, BUILT)?;
+    for (line, reply) in [
+        (
+            "{\"op\":\"fill_all\",\"a\":\"A\",\"v\":7}",
+            "{\"edit\":4,\"n\":4}\n",
+        ),
+        ("{\"op\":\"get\",\"a\":\"A\",\"i\":4}", "{\"value\":7}\n"),
+        (
+            "{\"op\":\"undo\",\"k\":3}",
+            "{\"by\":4,\"error\":\"E14\",\"name\":\"blocked\"}\n",
+        ),
+        (
+            "{\"op\":\"fill_all\",\"a\":\"D\",\"v\":7}",
+            "{\"error\":\"E05\",\"name\":\"wrong-kind\"}\n",
+        ),
+        (
+            "{\"op\":\"drop_array\",\"a\":\"A\"}",
+            "{\"edit\":5,\"n\":7}\n",
+        ),
+        (
+            "{\"op\":\"drop_array\",\"a\":\"A\"}",
+            "{\"error\":\"E04\",\"name\":\"no-such-name\"}\n",
+        ),
+        ("{\"op\":\"undo\"}", "{\"n\":7,\"undone\":5}\n"),
+        ("{\"op\":\"get\",\"a\":\"A\",\"i\":4}", "{\"value\":7}\n"),
+    ] {
+        assert_eq!(rt;
+            replies(alloc, &mut history, line)?.as_str(),
+            reply,
+            "at {line}"
+        );
+    }
+    Ok(())
+}
+
+#[test]
 fn broken_lines(rt: HostRuntime) -> Result<(), Fail> {
     let alloc = rt.alloc();
     let mut lines = Vec::from_slice(alloc, b"{\"op\":\"domain\",\"d\":\"D\"\n")?;
