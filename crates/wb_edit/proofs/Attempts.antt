@@ -6,6 +6,7 @@ use Rattle.wb_book.specs.Cells.{Cells, Changes}
 use Rattle.wb_edit.specs.declared.refusal.Refusal.{Refusal}
 use Rattle.wb_edit.specs.declared.tests.stop.Stop.{Stop}
 use Rattle.wb_edit.specs.declared.tests.stop.Stop.TheVariants.{Refused, NoMemory}
+use Rattle.wb_edit.specs.Changed.{Judges}
 use Rattle.wb_edit.specs.Looks.{Tree, Look, judged}
 use Rattle.wb_edit.specs.Plans.{Attempts, Gives, Looks, Makes, stopped}
 
@@ -26,6 +27,15 @@ passes s rs (Ok y) x e =
     let same : y ≡ x = cc in
     λ next. (ap (λ z. outcome (next z) s) same, ap (λ z. rs ++ reads (next z) s) same)
 passes s rs (Err why) x e = cc
+
+-- a judgement that gives something
+pub decides : {X : Type 0} (s : Cells) (rs : List Pattern) (j : Result X Refusal) (x : X) → j ≡ Ok x → Gives (judged j) s rs x rs
+decides s rs j x e = λ next. (ap (λ r. outcome (judged r next) s) e, ap (λ r. rs ++ reads (judged r next) s) e)
+
+-- a judgement that stops
+pub refuses : {X : Type 0} (s : Cells) (rs : List Pattern) (j : Result X Refusal) (next : X → Tree) (why : Stop) → Judges j (Err why) → Attempts (judged j next) s rs (Err why) rs
+refuses s rs j next (Refused why) e = (ap (λ r. outcome (judged r next) s) e, sym (ap (λ r. rs ++ reads (judged r next) s) e ∙ append-nil rs))
+refuses s rs j next NoMemory e = tt
 
 -- the end
 pub ends : (xs : Changes) (s : Cells) (rs : List Pattern) (r : Result Changes Stop) → Makes xs r → Attempts (write xs) s rs r rs

@@ -11,6 +11,7 @@ pub mod NewElements
 pub mod Fills
 pub mod FilledArray
 pub mod DroppedArray
+pub mod CombinedArrays
 use Rattle.std.proofs.Common.{◌≡◌, Ok, subst}
 use Rattle.selective_undo.specs.Changes.{apply}
 use Rattle.selective_undo.specs.Edit.{outcome, written}
@@ -20,7 +21,7 @@ use Rattle.wb_edit.specs.Commands.{meaning}
 use Rattle.wb_edit.specs.Laws.{KeepsWellFormed}
 use Rattle.wb_edit.specs.Valid.{IsValid}
 use Rattle.wb_edit.specs.declared.edit.Edit.{Edit as Command}
-use Rattle.wb_edit.specs.declared.edit.Edit.TheVariants.{Domain, Sparse, Assoc, Array, Set, Irv, Copy, Fill, FillAll, DropArray}
+use Rattle.wb_edit.specs.declared.edit.Edit.TheVariants.{Domain, Sparse, Assoc, Array, Set, Irv, Copy, Fill, FillAll, DropArray, All}
 use Rattle.wb_edit.proofs.Kept.NewDomain.{domain_kept}
 use Rattle.wb_edit.proofs.Kept.NewSet.{sparse_kept, assoc_kept}
 use Rattle.wb_edit.proofs.Kept.NewArray.{array_kept}
@@ -30,6 +31,7 @@ use Rattle.wb_edit.proofs.Kept.CopiedElement.{copy_kept}
 use Rattle.wb_edit.proofs.Kept.Fills.{fill_kept}
 use Rattle.wb_edit.proofs.Kept.FilledArray.{fill_all_kept}
 use Rattle.wb_edit.proofs.Kept.DroppedArray.{drop_array_kept}
+use Rattle.wb_edit.proofs.Kept.CombinedArrays.{all_kept}
 
 pub keeps_well_formed : KeepsWellFormed
 keeps_well_formed (Domain d rs) s valid h = domain_kept s d rs valid h
@@ -42,6 +44,7 @@ keeps_well_formed (Copy a i b j c) s valid h = copy_kept s a i b j c h
 keeps_well_formed (Fill a on v) s valid h = fill_kept s a on v valid h
 keeps_well_formed (FillAll a v) s valid h = fill_all_kept s a v valid h
 keeps_well_formed (DropArray a) s valid h = drop_array_kept s a h
+keeps_well_formed (All a how b) s valid h = all_kept s a how b h
 
 -- where it is accepted, the changes leave a well-formed workbook
 pub accepted_well_formed : (e : Command) (s : Cells) (xs : Changes) → IsValid e → IsWellFormed s → outcome (meaning e) s ≡ Ok xs → IsWellFormed (apply xs s)

@@ -8,4 +8,5 @@ pub mod Members
 pub mod Sorted
 pub mod Elements
 pub mod Becoming
+pub mod SideBySide
 pub mod Kept

@@ -1,5 +1,5 @@
 -- What the code of a plan says of elements that were seen, and what becomes of them.
-use Rattle.std.specs.Prelude.{ℤ, List, map, Option, Some, None, Result, Ok, Err}
+use Rattle.std.specs.Prelude.{◌≡◌, ⊤, ℤ, List, map, Option, Some, None, Result, Ok, Err}
 use Rattle.std.specs.Global.{Vec}
 use Rattle.wb_book.specs.declared.cells.cell.Cell.TheVariants.{Element}
 use Rattle.wb_book.specs.declared.cells.value.Value.{Value}
@@ -8,12 +8,20 @@ use Rattle.wb_book.specs.declared.values.index.Index.{Index}
 use Rattle.wb_book.specs.Cells.{Name, Changes}
 use Rattle.wb_edit.specs.declared.commands.seen.Becomes.{Becomes}
 use Rattle.wb_edit.specs.declared.commands.seen.Becomes.TheVariants.{Same, Own, Absent}
+use Rattle.wb_edit.specs.declared.refusal.Refusal.{Refusal}
 use Rattle.wb_edit.specs.declared.tests.stop.Stop.{Stop}
+use Rattle.wb_edit.specs.declared.tests.stop.Stop.TheVariants.{Refused, NoMemory}
 
 -- a vector, as its list
 abbrev pub items_of : {X : Type 0} → Result (Vec X) Stop → Result (List X) Stop
 items_of (Ok v) = Ok v.items
 items_of (Err why) = Err why
+
+-- a judgement comes out so, unless no memory was left
+abbrev pub Judges : {X : Type 0} → Result X Refusal → Result X Stop → Type 0
+Judges j (Ok x) = j ≡ Ok x
+Judges j (Err (Refused why)) = j ≡ Err why
+Judges j (Err NoMemory) = ⊤
 
 -- what an element becomes, with a number beside it
 abbrev pub value_of : Becomes → ℤ → Option Value

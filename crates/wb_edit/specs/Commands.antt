@@ -15,13 +15,14 @@ use Rattle.wb_book.specs.Cells.{Name, Changes}
 use Rattle.wb_book.specs.Kinds.{kind_of}
 use Rattle.wb_book.specs.Shapes.{Range, indices}
 use Rattle.wb_edit.specs.declared.edit.Edit.{Edit as Command}
-use Rattle.wb_edit.specs.declared.edit.Edit.TheVariants.{Domain, Sparse, Assoc, Array, Set, Irv, Copy, Fill, FillAll, DropArray}
+use Rattle.wb_edit.specs.declared.edit.Edit.TheVariants.{Domain, Sparse, Assoc, Array, Set, Irv, Copy, Fill, FillAll, DropArray, All}
+use Rattle.wb_edit.specs.declared.operation.Operation.{Operation}
 use Rattle.wb_edit.specs.Looks.{Tree, ◌>>=◌}
 use Rattle.wb_edit.specs.Tests.{free, dom, arr, key, element, idx}
 use Rattle.wb_edit.specs.Kinds.{rectangular, over_sparse}
 use Rattle.wb_edit.specs.Numbers.{sum}
 use Rattle.wb_edit.specs.Implicit.{element_or_implicit}
-use Rattle.wb_edit.specs.Elements.{elements}
+use Rattle.wb_edit.specs.Elements.{elements, over_one_domain, results_within}
 use Rattle.wb_edit.specs.Rectangles.{over_rectangle, all_elements}
 use Rattle.wb_edit.specs.Writes.{put, put_all, clear, clear_all}
 
@@ -129,6 +130,27 @@ drop_array a = do
   es ← elements a
   write (dropped_cells a d (keys_of es))
 
+-- elements of an array, each with the number after its index
+abbrev pub number_cells : Name → List (Index × ℤ) → Changes
+number_cells a es = map (λ e. put (Element a e.0) (Number e.1)) es
+
+-- each element of an array becomes what it and the element of another array at the same index make: it is seen which
+-- elements both have, and all results are within 64 bits
+abbrev pub combined : Name → Operation → Name → Tree
+combined a how b = do
+  xs ← elements a
+  ys ← elements b
+  zs ← results_within how xs ys
+  write (number_cells a zs)
+
+-- the same, where the arrays are there, over one domain
+abbrev pub all : Name → Operation → Name → Tree
+all a how b = do
+  (d, kind) ← arr a
+  (e, kind_of_e) ← arr b
+  unit ← over_one_domain d e
+  combined a how b
+
 -- what a command means
 abbrev pub meaning : Command → Tree
 meaning (Domain d rs) = domain d rs
@@ -141,3 +163,4 @@ meaning (Copy a i b j c) = copy a i b j c
 meaning (Fill a on v) = fill a on v
 meaning (FillAll a v) = fill_all a v
 meaning (DropArray a) = drop_array a
+meaning (All a how b) = all a how b

@@ -4,7 +4,7 @@ use Rattle.std.specs.Int.{w64}
 use Rattle.wb_book.specs.Names.{is_name}
 use Rattle.wb_book.specs.WellFormed.{IsRectangle}
 use Rattle.wb_edit.specs.declared.edit.Edit.{Edit as Command}
-use Rattle.wb_edit.specs.declared.edit.Edit.TheVariants.{Domain, Sparse, Assoc, Array, Set, Irv, Copy, Fill, FillAll, DropArray}
+use Rattle.wb_edit.specs.declared.edit.Edit.TheVariants.{Domain, Sparse, Assoc, Array, Set, Irv, Copy, Fill, FillAll, DropArray, All}
 
 -- what a command has to be so that it keeps a workbook well formed; every value of the type `Edit` is
 abbrev pub IsValid : Command → Type 0
@@ -28,3 +28,5 @@ IsValid (Fill a on v) = FitsSigned w64 v
 IsValid (FillAll a v) = FitsSigned w64 v
 -- nothing is asked
 IsValid (DropArray a) = ⊤
+-- nothing is asked
+IsValid (All a how b) = ⊤

@@ -1,6 +1,7 @@
 ghost use Rattle.std.specs.Prelude.{◌≡◌, IfOk};
 ghost use Rattle.wb_edit.specs.Valid.{IsValid};
 
+use crate::operation::Operation;
 use std::alloc::Global;
 use wb_book::{AnyIndex, AnyRect, KeyType, Name};
 use wb_range::NoMemory;
@@ -33,6 +34,8 @@ pub enum Edit {
     FillAll(Name, i64),
     /// The end of an array: it, and its elements, are no more.
     DropArray(Name),
+    /// Each element of the first array becomes what it and the second array's element at the same index make.
+    All(Name, Operation, Name),
 }
 
 impl Edit {
@@ -53,6 +56,7 @@ impl Edit {
             Edit::Fill(array, on, value) => Ok(Edit::Fill(*array, *on, *value)),
             Edit::FillAll(array, value) => Ok(Edit::FillAll(*array, *value)),
             Edit::DropArray(array) => Ok(Edit::DropArray(*array)),
+            Edit::All(array, how, other) => Ok(Edit::All(*array, *how, *other)),
         }
     }
 
@@ -91,6 +95,7 @@ impl Edit {
                 let _value = *value;
             }
             Edit::DropArray(_) => {}
+            Edit::All(_, _, _) => {}
         }
     }
 }

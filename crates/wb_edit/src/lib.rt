@@ -10,12 +10,14 @@ mod commands;
 mod edit;
 mod foot;
 pub mod laws;
+mod operation;
 mod planning;
 mod refusal;
 mod tests;
 
 pub use crate::edit::Edit;
 pub use crate::foot::Foot;
+pub use crate::operation::Operation;
 pub use crate::planning::{PlanErr, plan};
 pub use crate::refusal::Refusal;
 pub use crate::tests::implicit::{has_implicit, parent_in};

@@ -3,7 +3,7 @@ ghost use Rattle.wb_edit.specs.Commands.{meaning};
 ghost use Rattle.wb_edit.specs.Plans.{Attempts, IsPlan};
 
 use crate::commands::{
-    array, copied, domain, dropped_array, element, filled, filled_array, implicit, sets,
+    array, combined, copied, domain, dropped_array, element, filled, filled_array, implicit, sets,
 };
 use crate::edit::Edit;
 use crate::foot::Foot;
@@ -61,5 +61,6 @@ fn attempt(alloc: Global, book: &Book, foot: &mut Foot, edit: &Edit) -> Result<D
             filled_array::plan_fill_all(alloc, book, foot, *name, *value)
         }
         Edit::DropArray(name) => dropped_array::plan_drop_array(alloc, book, foot, *name),
+        Edit::All(name, how, other) => { combined::plan_all(alloc, book, foot, *name, how, *other) }
     }
 }

@@ -5,7 +5,7 @@ use std::alloc::Global;
 use std::process::Abort;
 use std::test::Fail;
 use wb_book::{AnyIndex, AnyRect, Index, Name, Point};
-use wb_edit::Edit;
+use wb_edit::{Edit, Operation};
 use wb_range::Range;
 
 fn at(i: i64) -> AnyIndex {
@@ -36,6 +36,11 @@ fn fill_all(name: &str, value: i64) -> Result<Edit, Fail> {
 
 fn drop_array(name: &str) -> Result<Edit, Fail> {
     Ok(Edit::DropArray(Name::new(name)?))
+}
+
+// to[i] becomes what to[i] and from[i] make, at each index i
+fn all(to: &str, how: Operation, from: &str) -> Result<Edit, Fail> {
+    Ok(Edit::All(Name::new(to)?, how, Name::new(from)?))
 }
 
 fn element(history: &History, name: &str, i: i64) -> Result<Result<Answer, Refusal>, Fail> {
@@ -390,5 +395,96 @@ fn dropping_no_array(rt: HostRuntime) -> Result<(), Fail> {
         Err(Refusal::Refused(wb_edit::Refusal::WrongKind))
     );
     assert_eq!(rt; history.book().writes(), 10);
+    Ok(())
+}
+
+// Arrays A and B over D, where A[1] is 6 and B[1] is 4.
+fn two_arrays(rt: &impl Abort, alloc: Global) -> Result<History, Fail> {
+    let mut history = opening(rt, alloc)?;
+    edit(rt, alloc, &mut history, array("B", "D")?)?;
+    edit(rt, alloc, &mut history, set("A", 1, 6)?)?;
+    edit(rt, alloc, &mut history, set("B", 1, 4)?)?;
+    Ok(history)
+}
+
+#[test]
+fn one_array_with_another(rt: HostRuntime) -> Result<(), Fail> {
+    let mut history = two_arrays(&rt, rt.alloc())?;
+    assert_eq!(rt;
+        edit(
+            &rt,
+            rt.alloc(),
+            &mut history,
+            all("A", Operation::Sum, "B")?
+        )?,
+        (6, 4)
+    );
+    assert_eq!(rt; element(&history, "A", 1)?, Ok(Answer::Value(10)));
+    edit(
+        &rt,
+        rt.alloc(),
+        &mut history,
+        all("A", Operation::Difference, "B")?,
+    )?;
+    assert_eq!(rt; element(&history, "A", 1)?, Ok(Answer::Value(6)));
+    edit(
+        &rt,
+        rt.alloc(),
+        &mut history,
+        all("A", Operation::Product, "B")?,
+    )?;
+    assert_eq!(rt; element(&history, "A", 1)?, Ok(Answer::Value(24)));
+    edit(
+        &rt,
+        rt.alloc(),
+        &mut history,
+        all("A", Operation::Product, "A")?,
+    )?;
+    assert_eq!(rt; element(&history, "A", 1)?, Ok(Answer::Value(576)));
+    edit(
+        &rt,
+        rt.alloc(),
+        &mut history,
+        all("A", Operation::Assign, "B")?,
+    )?;
+    assert_eq!(rt; element(&history, "A", 1)?, Ok(Answer::Value(4)));
+    assert_eq!(rt; element(&history, "A", 2)?, Ok(Answer::Value(0)));
+    assert_eq!(rt; history.undo(5), Err(Refusal::Blocked(6)));
+    assert_eq!(rt; undo(&rt, &mut history, 10)?, 4);
+    assert_eq!(rt; element(&history, "A", 1)?, Ok(Answer::Value(576)));
+    assert_eq!(rt; redo(&rt, &mut history, 10)?, 4);
+    assert_eq!(rt; element(&history, "A", 1)?, Ok(Answer::Value(4)));
+    Ok(())
+}
+
+#[test]
+fn arrays_that_do_not_combine(rt: HostRuntime) -> Result<(), Fail> {
+    let mut history = two_arrays(&rt, rt.alloc())?;
+    edit(&rt, rt.alloc(), &mut history, domain("E", 1, 4)?)?;
+    edit(&rt, rt.alloc(), &mut history, array("C", "E")?)?;
+    edit(
+        &rt,
+        rt.alloc(),
+        &mut history,
+        set("A", 1, 4611686018427387904)?,
+    )?;
+    let writes = history.book().writes();
+    assert_eq!(rt;
+        history.edit(all("A", Operation::Product, "B")?),
+        Err(Refusal::Refused(wb_edit::Refusal::Overflow))
+    );
+    assert_eq!(rt;
+        history.edit(all("A", Operation::Assign, "C")?),
+        Err(Refusal::Refused(wb_edit::Refusal::WrongKind))
+    );
+    assert_eq!(rt;
+        history.edit(all("A", Operation::Assign, "X")?),
+        Err(Refusal::Refused(wb_edit::Refusal::NoSuchName))
+    );
+    assert_eq!(rt; history.book().writes(), writes);
+    assert_eq!(rt;
+        element(&history, "A", 1)?,
+        Ok(Answer::Value(4611686018427387904))
+    );
     Ok(())
 }

@@ -1,6 +1,7 @@
 //! The commands: for each, its tests in their order, and then the changes that it makes.
 
 pub mod array;
+pub mod combined;
 pub mod copied;
 pub mod domain;
 pub mod dropped_array;

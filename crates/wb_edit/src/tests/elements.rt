@@ -3,10 +3,11 @@
 ghost use Rattle.std.specs.Prelude.{◌≡◌, IfOk};
 ghost use Rattle.wb_book.specs.Readers as readers;
 ghost use Rattle.wb_edit.specs.Changed.{items_of};
-ghost use Rattle.wb_edit.specs.Elements.{elements};
+ghost use Rattle.wb_edit.specs.Elements.{elements, same_domain};
 ghost use Rattle.wb_edit.specs.Plans.{Looks};
 
 use crate::foot::Foot;
+use crate::refusal::Refusal;
 use crate::tests::stop::Stop;
 use wb_book::{AnyIndex, Book, Name, Pattern};
 
@@ -25,5 +26,16 @@ pub(crate) fn elements(
     match book.elements(&array) {
         Ok(elements) => Ok(elements),
         Err(_) => Err(Stop::NoMemory),
+    }
+}
+
+/// That two arrays are over one domain, by the names of their domains; `WrongKind` where they are not.
+pub fn same_domain(domain: Name, other: Name) -> Result<(), Refusal>
+    ensures { result ≡ same_domain domain other }
+{
+    if domain == other {
+        Ok(())
+    } else {
+        Err(Refusal::WrongKind)
     }
 }

@@ -1,6 +1,6 @@
 //! Tests on numbers: the element that is read, and sums within 64 bits.
 
-ghost use Rattle.std.specs.Prelude.{◌≡◌, ◌+ℤ◌};
+ghost use Rattle.std.specs.Prelude.{◌≡◌, ◌+ℤ◌, ◌-ℤ◌, ◌*ℤ◌};
 ghost use Rattle.wb_edit.specs.Numbers.{number_in, within};
 
 use crate::refusal::Refusal;
@@ -32,4 +32,18 @@ pub fn sum(x: i64, y: i64) -> Result<i64, Refusal>
         Some(sum) => Ok(sum),
         None => Err(Refusal::Overflow),
     }
+}
+
+/// The first number less the second, where that is within 64 bits.
+pub fn difference(x: i64, y: i64) -> Result<i64, Refusal>
+    ensures { result ≡ within (x -ℤ y) }
+{
+    x.checked_sub(y).ok_or(Refusal::Overflow)
+}
+
+/// The product, where it is within 64 bits.
+pub fn product(x: i64, y: i64) -> Result<i64, Refusal>
+    ensures { result ≡ within (x *ℤ y) }
+{
+    x.checked_mul(y).ok_or(Refusal::Overflow)
 }
