@@ -7,3 +7,4 @@ pub mod Leading
 pub mod Objects
 pub mod Users
 pub mod Families
+pub mod Counts

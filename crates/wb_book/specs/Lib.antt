@@ -3,7 +3,9 @@ pub mod Names
 pub mod Ranks
 pub mod Shapes
 pub mod Kinds
+pub mod Layouts
 pub mod Cells
 pub mod WellFormed
+pub mod Locales
 pub mod Readers
 pub mod Families

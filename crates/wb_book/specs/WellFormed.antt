@@ -4,6 +4,7 @@ use Rattle.std.specs.Int.{w64}
 use Rattle.std.specs.List.{list_any}
 use Rattle.std.specs.FinMap.{get}
 pub use Rattle.wb_rect.specs.Product.{IsRectangle}
+use Rattle.wb_dist.specs.Maps.{LayoutMap}
 use Rattle.wb_book.specs.declared.cells.value.Binding.TheVariants.{Array, Sparse}
 use Rattle.wb_book.specs.declared.cells.cell.Cell.{Cell}
 use Rattle.wb_book.specs.declared.cells.cell.Cell.TheVariants.{Object, Shape, In, Member, Mapping, Use, Implicit, Element}
@@ -11,7 +12,6 @@ use Rattle.wb_book.specs.declared.cells.kind.DomainKind.{DomainKind}
 use Rattle.wb_book.specs.declared.cells.kind.DomainKind.TheVariants.{Rectangular, Sparse, Associative}
 use Rattle.wb_book.specs.declared.cells.kind.Kind.{Kind}
 use Rattle.wb_book.specs.declared.cells.kind.Kind.TheVariants.{Rectangular, Sparse, Associative}
-use Rattle.wb_book.specs.declared.cells.value.Layout.TheVariants.{Whole}
 use Rattle.wb_book.specs.declared.cells.value.Value.{Value}
 use Rattle.wb_book.specs.declared.cells.value.Value.TheVariants.{Domain, Array, Ranges, Mapping, Present, Bound, Number}
 use Rattle.wb_book.specs.declared.values.index.Index.{Index}
@@ -19,6 +19,7 @@ use Rattle.wb_book.specs.Names.{is_name}
 use Rattle.wb_book.specs.Cells.{Name, Cells, is_same_name, is_same_index}
 use Rattle.wb_book.specs.Shapes.{Range, indices}
 use Rattle.wb_book.specs.Kinds.{kind_of, is_key, IsIndex}
+use Rattle.wb_book.specs.Layouts.{IsMapping}
 
 -- ---- what the objects of a workbook are
 
@@ -54,9 +55,9 @@ abbrev pub IsShape : Option DomainKind → Option Value → Type 0
 IsShape (Some (Rectangular rank)) v = (rs : List Range) × (v ≡ Some (Ranges rs)) × IsRectangle rank rs
 IsShape _ v = v ≡ None
 
--- a rectangular domain has a mapping; nothing else has one
+-- a rectangular domain has a mapping for its rank; nothing else has one
 abbrev pub HasMapping : Option DomainKind → Option Value → Type 0
-HasMapping (Some (Rectangular rank)) v = v ≡ Some (Mapping Whole)
+HasMapping (Some (Rectangular rank)) v = (m : LayoutMap) × (v ≡ Some (Mapping m)) × IsMapping rank m
 HasMapping _ v = v ≡ None
 
 abbrev pub has : List Index → Index → Bool

@@ -4,9 +4,10 @@
 use crate::book::{Book, families, readers, store};
 use crate::cells::cell::Cell;
 use crate::cells::kind::{AnyDomain, DomainKind};
-use crate::cells::value::{Layout, Value};
+use crate::cells::value::Value;
 use crate::changes::delta::Delta;
 use crate::values::index::{AnyIndex, Index};
+use crate::values::layout::AnyLayout;
 use crate::values::name::{BadName, Name};
 use crate::values::point::Point;
 use crate::values::rectangle::AnyRect;
@@ -41,7 +42,10 @@ fn domain(alloc: Global, name: Name, ranges: AnyRect) -> Result<Delta, NoMemory>
     )?;
     delta.put(Cell::Shape(name), Some(Value::Ranges(ranges)))?;
     delta.put(Cell::In(name, at(3)), Some(Value::Present))?;
-    delta.put(Cell::Mapping(name), Some(Value::Mapping(Layout::Whole)))?;
+    delta.put(
+        Cell::Mapping(name),
+        Some(Value::Mapping(AnyLayout::whole())),
+    )?;
     Ok(delta)
 }
 

@@ -2,6 +2,7 @@
 pub mod Steps
 pub mod States
 pub mod NewDomain
+pub mod Remapped
 pub mod NewArray
 pub mod NewElement
 pub mod NewSet
@@ -21,9 +22,10 @@ use Rattle.wb_edit.specs.Commands.{meaning}
 use Rattle.wb_edit.specs.Laws.{KeepsWellFormed}
 use Rattle.wb_edit.specs.Valid.{IsValid}
 use Rattle.wb_edit.specs.declared.edit.Edit.{Edit as Command}
-use Rattle.wb_edit.specs.declared.edit.Edit.TheVariants.{Domain, Sparse, Assoc, Array, Set, Irv, Copy, Fill, FillAll, DropArray, All}
+use Rattle.wb_edit.specs.declared.edit.Edit.TheVariants.{Domain, Remap, Sparse, Assoc, Array, Set, Irv, Copy, Fill, FillAll, DropArray, All}
 use Rattle.wb_edit.proofs.Kept.NewDomain.{domain_kept}
 use Rattle.wb_edit.proofs.Kept.NewSet.{sparse_kept, assoc_kept}
+use Rattle.wb_edit.proofs.Kept.Remapped.{remap_kept}
 use Rattle.wb_edit.proofs.Kept.NewArray.{array_kept}
 use Rattle.wb_edit.proofs.Kept.NewImplicit.{irv_kept}
 use Rattle.wb_edit.proofs.Kept.NewElement.{set_kept}
@@ -34,7 +36,8 @@ use Rattle.wb_edit.proofs.Kept.DroppedArray.{drop_array_kept}
 use Rattle.wb_edit.proofs.Kept.CombinedArrays.{all_kept}
 
 pub keeps_well_formed : KeepsWellFormed
-keeps_well_formed (Domain d rs) s valid h = domain_kept s d rs valid h
+keeps_well_formed (Domain d rs m) s valid h = domain_kept s d rs m valid h
+keeps_well_formed (Remap d m) s valid h = remap_kept s d m valid h
 keeps_well_formed (Sparse d parent) s valid h = sparse_kept s d parent valid h
 keeps_well_formed (Assoc d type) s valid h = assoc_kept s d type valid h
 keeps_well_formed (Array a d) s valid h = array_kept s a d valid h

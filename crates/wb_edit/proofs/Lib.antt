@@ -9,4 +9,5 @@ pub mod Sorted
 pub mod Elements
 pub mod Becoming
 pub mod SideBySide
+pub mod Layouts
 pub mod Kept

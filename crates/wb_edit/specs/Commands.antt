@@ -3,19 +3,19 @@
 use Rattle.std.specs.Prelude.{ℤ, pos, List, [], ◌∷◌, map, length}
 use Rattle.std.specs.Map.{keys_of}
 use Rattle.selective_undo.specs.Edit.{write}
+use Rattle.wb_dist.specs.Maps.{LayoutMap}
 use Rattle.wb_book.specs.declared.cells.cell.Cell.TheVariants.{Object, Shape, In, Mapping, Use, Implicit, Element}
 use Rattle.wb_book.specs.declared.cells.value.Binding.TheVariants.{Array, Sparse}
 use Rattle.wb_book.specs.declared.cells.kind.DomainKind.TheVariants.{Rectangular, Sparse, Associative}
 use Rattle.wb_book.specs.declared.cells.kind.KeyType.{KeyType}
 use Rattle.wb_book.specs.declared.cells.kind.Kind.{Kind}
-use Rattle.wb_book.specs.declared.cells.value.Layout.TheVariants.{Whole}
 use Rattle.wb_book.specs.declared.cells.value.Value.TheVariants.{Domain, Array, Ranges, Mapping, Present, Bound, Number}
 use Rattle.wb_book.specs.declared.values.index.Index.{Index}
 use Rattle.wb_book.specs.Cells.{Name, Changes}
 use Rattle.wb_book.specs.Kinds.{kind_of}
 use Rattle.wb_book.specs.Shapes.{Range, indices}
 use Rattle.wb_edit.specs.declared.edit.Edit.{Edit as Command}
-use Rattle.wb_edit.specs.declared.edit.Edit.TheVariants.{Domain, Sparse, Assoc, Array, Set, Irv, Copy, Fill, FillAll, DropArray, All}
+use Rattle.wb_edit.specs.declared.edit.Edit.TheVariants.{Domain, Remap, Sparse, Assoc, Array, Set, Irv, Copy, Fill, FillAll, DropArray, All}
 use Rattle.wb_edit.specs.declared.operation.Operation.{Operation}
 use Rattle.wb_edit.specs.Looks.{Tree, ◌>>=◌}
 use Rattle.wb_edit.specs.Tests.{free, dom, arr, key, element, idx}
@@ -23,23 +23,33 @@ use Rattle.wb_edit.specs.Kinds.{rectangular, over_sparse}
 use Rattle.wb_edit.specs.Numbers.{sum}
 use Rattle.wb_edit.specs.Implicit.{element_or_implicit}
 use Rattle.wb_edit.specs.Elements.{elements, over_one_domain, results_within}
+use Rattle.wb_edit.specs.Layouts.{mapped}
 use Rattle.wb_edit.specs.Rectangles.{over_rectangle, all_elements}
 use Rattle.wb_edit.specs.Writes.{put, put_all, clear, clear_all}
 
--- what a new rectangular domain writes: the domain with its rank, its ranges, that all of it lies on one locale,
--- and that each of its indices is in it (Chapel Language Specification, Domains)
-abbrev pub domain_cells : Name → List Range → Changes
-domain_cells d rs =
+-- what a new rectangular domain writes: the domain with its rank, its ranges, its mapping, and that each of its indices
+-- is in it (Chapel Language Specification, Domains and Domain Maps)
+abbrev pub domain_cells : Name → List Range → LayoutMap → Changes
+domain_cells d rs m =
     put (Object d) (Domain (Rectangular (length rs)))
     ∷ put (Shape d) (Ranges rs)
-    ∷ put (Mapping d) (Mapping Whole)
+    ∷ put (Mapping d) (Mapping m)
     ∷ put_all (map (In d) (indices rs)) Present
 
--- a new rectangular domain: its name is free
-abbrev pub domain : Name → List Range → Tree
-domain d rs = do
+-- a new rectangular domain: its name is free, and the mapping is for its rank
+abbrev pub domain : Name → List Range → LayoutMap → Tree
+domain d rs m = do
   unit ← free d
-  write (domain_cells d rs)
+  unit ← mapped (length rs) m
+  write (domain_cells d rs m)
+
+-- a new mapping of a domain: the domain is there and rectangular, and the mapping is for its rank
+abbrev pub remap : Name → LayoutMap → Tree
+remap d m = do
+  kind ← dom d
+  rank ← rectangular kind
+  unit ← mapped rank m
+  write (put (Mapping d) (Mapping m) ∷ [])
 
 -- a new sparse domain, with no index yet, in a rectangular one, to which it is bound: its name is free, and the other domain
 -- is there and rectangular (Chapel Language Specification, Domains)
@@ -153,7 +163,8 @@ all a how b = do
 
 -- what a command means
 abbrev pub meaning : Command → Tree
-meaning (Domain d rs) = domain d rs
+meaning (Domain d rs m) = domain d rs m
+meaning (Remap d m) = remap d m
 meaning (Sparse d parent) = sparse d parent
 meaning (Assoc d type) = assoc d type
 meaning (Array a d) = array a d

@@ -6,6 +6,7 @@ pub mod Numbers
 pub mod Implicit
 pub mod Rectangles
 pub mod Elements
+pub mod Layouts
 pub mod Writes
 pub mod Commands
 pub mod Plans

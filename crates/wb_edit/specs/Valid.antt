@@ -1,15 +1,18 @@
--- Valid commands: their names are names, their ranges are within the limits, and their numbers are of 64 bits.
+-- Valid commands: their names are names, their ranges and mappings are within the limits, and their numbers are of 64 bits.
 use Rattle.std.specs.Prelude.{◌≡◌, true, length, FitsSigned, ⊤}
 use Rattle.std.specs.Int.{w64}
 use Rattle.wb_book.specs.Names.{is_name}
+use Rattle.wb_book.specs.Layouts.{IsLayout}
 use Rattle.wb_book.specs.WellFormed.{IsRectangle}
 use Rattle.wb_edit.specs.declared.edit.Edit.{Edit as Command}
-use Rattle.wb_edit.specs.declared.edit.Edit.TheVariants.{Domain, Sparse, Assoc, Array, Set, Irv, Copy, Fill, FillAll, DropArray, All}
+use Rattle.wb_edit.specs.declared.edit.Edit.TheVariants.{Domain, Remap, Sparse, Assoc, Array, Set, Irv, Copy, Fill, FillAll, DropArray, All}
 
 -- what a command has to be so that it keeps a workbook well formed; every value of the type `Edit` is
 abbrev pub IsValid : Command → Type 0
--- the new name is a name, and the ranges are those of a rectangular domain
-IsValid (Domain d rs) = (is_name d ≡ true) × IsRectangle (length rs) rs
+-- the new name is a name, the ranges are those of a rectangular domain, and the mapping is one for some rank
+IsValid (Domain d rs m) = (is_name d ≡ true) × IsRectangle (length rs) rs × IsLayout m
+-- the mapping is one for some rank
+IsValid (Remap d m) = IsLayout m
 -- the new name is a name
 IsValid (Sparse d parent) = is_name d ≡ true
 -- the new name is a name

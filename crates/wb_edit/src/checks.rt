@@ -10,7 +10,7 @@ use std::alloc::Global;
 use std::test::Fail;
 use wb_assoc::Label;
 use wb_book::{
-    AnyIndex, AnyRect, Book, Cell, CellChange, Delta, Index, Name, Pattern, Point, Value,
+    AnyIndex, AnyLayout, AnyRect, Book, Cell, CellChange, Delta, Index, Name, Pattern, Point, Value,
 };
 use wb_range::Range;
 
@@ -95,7 +95,11 @@ fn small_book(alloc: Global) -> Option<Book> {
     let domain = name("D")?;
     let array = name("A")?;
     let ranges = interval(1, 4)?;
-    made(alloc, &mut book, Edit::Domain(domain, ranges))?;
+    made(
+        alloc,
+        &mut book,
+        Edit::Domain(domain, ranges, AnyLayout::whole()),
+    )?;
     made(alloc, &mut book, Edit::Array(array, domain))?;
     Some(book)
 }
@@ -107,7 +111,12 @@ fn first_run(rt: HostRuntime) -> Result<(), Fail> {
     let domain = name("D").ok_or("a name")?;
     let array = name("A").ok_or("a name")?;
     let ranges = interval(1, 4).ok_or("a rectangle")?;
-    let (foot, count) = made(alloc, &mut book, Edit::Domain(domain, ranges)).ok_or("a domain")?;
+    let (foot, count) = made(
+        alloc,
+        &mut book,
+        Edit::Domain(domain, ranges, AnyLayout::whole()),
+    )
+    .ok_or("a domain")?;
     assert_eq!(rt; count, 3);
     assert!(rt; reads_are(&foot, &[Cell::Object(domain)]));
     let (foot, count) = made(alloc, &mut book, Edit::Array(array, domain)).ok_or("an array")?;
@@ -143,8 +152,20 @@ fn refusals_of_a_new_domain_or_array(rt: HostRuntime) -> Result<(), Fail> {
     let ranges = interval(1, 2).ok_or("a rectangle")?;
     let taken = Refusal::NameTaken;
     let refused = |edit: Edit, why, cells: &[Cell]| is_refused(alloc, &book, &edit, why, cells);
-    assert!(rt; refused(Edit::Domain(domain, ranges), taken, &[Cell::Object(domain)]));
-    assert!(rt; refused(Edit::Domain(array, ranges), taken, &[Cell::Object(array)]));
+    assert!(rt;
+        refused(
+            Edit::Domain(domain, ranges, AnyLayout::whole()),
+            taken,
+            &[Cell::Object(domain)]
+        )
+    );
+    assert!(rt;
+        refused(
+            Edit::Domain(array, ranges, AnyLayout::whole()),
+            taken,
+            &[Cell::Object(array)]
+        )
+    );
     assert!(rt; refused(Edit::Array(domain, domain), taken, &[Cell::Object(domain)]));
     assert!(rt; refused(Edit::Array(array, absent), taken, &[Cell::Object(array)]));
     assert!(rt;
@@ -211,7 +232,11 @@ fn cells_of_a_domain_and_its_array(rt: HostRuntime) -> Result<(), Fail> {
     let mut book = Book::new(alloc);
     let domain = name("a2345678901234567890123456789012").ok_or("a name")?;
     let array = name("A").ok_or("a name")?;
-    let edit = Edit::Domain(domain, interval(-1, 0).ok_or("a rectangle")?);
+    let edit = Edit::Domain(
+        domain,
+        interval(-1, 0).ok_or("a rectangle")?,
+        AnyLayout::whole(),
+    );
     let Ok((delta, _, _)) = planned(alloc, &book, &edit) else {
         return Err(Fail::new("a domain"));
     };
@@ -253,7 +278,12 @@ fn empty_domains(rt: HostRuntime) -> Result<(), Fail> {
     let domain = name("D").ok_or("a name")?;
     let array = name("A").ok_or("a name")?;
     let ranges = interval(5, 4).ok_or("a rectangle")?;
-    let (_, count) = made(alloc, &mut book, Edit::Domain(domain, ranges)).ok_or("a domain")?;
+    let (_, count) = made(
+        alloc,
+        &mut book,
+        Edit::Domain(domain, ranges, AnyLayout::whole()),
+    )
+    .ok_or("a domain")?;
     assert_eq!(rt; count, 3);
     let (_, count) = made(alloc, &mut book, Edit::Array(array, domain)).ok_or("an array")?;
     assert_eq!(rt; count, 3);

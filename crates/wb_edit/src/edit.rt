@@ -3,7 +3,7 @@ ghost use Rattle.wb_edit.specs.Valid.{IsValid};
 
 use crate::operation::Operation;
 use std::alloc::Global;
-use wb_book::{AnyIndex, AnyRect, KeyType, Name};
+use wb_book::{AnyIndex, AnyLayout, AnyRect, KeyType, Name};
 use wb_range::NoMemory;
 
 /// A command that changes a workbook, as it is asked for.
@@ -11,9 +11,11 @@ use wb_range::NoMemory;
 /// What it tests, reads and writes is its `meaning` in `specs/Commands.antt`.
 #[derive(Drop)]
 pub enum Edit {
-    /// A new rectangular domain of this name, with these ranges, all of it on one locale
-    /// (Chapel Language Specification, Domains).
-    Domain(Name, AnyRect),
+    /// A new rectangular domain of this name, with these ranges and this mapping
+    /// (Chapel Language Specification, Domains and Domain Maps).
+    Domain(Name, AnyRect, AnyLayout),
+    /// A new mapping of the rectangular domain of this name.
+    Remap(Name, AnyLayout),
     /// A new sparse domain of the first name, with no index yet, in the rectangular domain of the second one
     /// (Chapel Language Specification, Domains).
     Sparse(Name, Name),
@@ -44,7 +46,10 @@ impl Edit {
         ensures { IfOk result (λ e. e ≡ self.now) }
     {
         match self {
-            Edit::Domain(domain, ranges) => Ok(Edit::Domain(*domain, *ranges)),
+            Edit::Domain(domain, ranges, mapping) => {
+                Ok(Edit::Domain(*domain, *ranges, *mapping))
+            }
+            Edit::Remap(domain, mapping) => Ok(Edit::Remap(*domain, *mapping)),
             Edit::Sparse(domain, parent) => Ok(Edit::Sparse(*domain, *parent)),
             Edit::Assoc(domain, key) => Ok(Edit::Assoc(*domain, *key)),
             Edit::Array(array, domain) => Ok(Edit::Array(*array, *domain)),
@@ -60,15 +65,19 @@ impl Edit {
         }
     }
 
-    /// Computes nothing. Callers learn what every edit is: its new name is a name, its ranges are within the limits,
+    /// Computes nothing. Callers learn what every edit is: its new name is a name, its ranges and mapping are within the limits,
     /// its number is one of 64 bits.
     pub fn validity(&self)
         ensures { IsValid self.now }
     {
         match self {
-            Edit::Domain(domain, ranges) => {
+            Edit::Domain(domain, ranges, mapping) => {
                 let _name = domain.as_bytes();
-                let _rank = ranges.rank();
+                let rank = ranges.rank();
+                let _fits = mapping.is_of_rank(rank);
+            }
+            Edit::Remap(_, mapping) => {
+                let _fits = mapping.is_of_rank(1);
             }
             Edit::Sparse(domain, _) => {
                 let _name = domain.as_bytes();

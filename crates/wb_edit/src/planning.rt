@@ -3,7 +3,8 @@ ghost use Rattle.wb_edit.specs.Commands.{meaning};
 ghost use Rattle.wb_edit.specs.Plans.{Attempts, IsPlan};
 
 use crate::commands::{
-    array, combined, copied, domain, dropped_array, element, filled, filled_array, implicit, sets,
+    array, combined, copied, domain, dropped_array, element, filled, filled_array, implicit, remapped,
+    sets,
 };
 use crate::edit::Edit;
 use crate::foot::Foot;
@@ -45,7 +46,10 @@ fn attempt(alloc: Global, book: &Book, foot: &mut Foot, edit: &Edit) -> Result<D
     ensures { Attempts (meaning edit.now) book.now.cells foot.old result foot.new }
 {
     match edit {
-        Edit::Domain(name, ranges) => domain::plan_domain(alloc, book, foot, *name, ranges),
+        Edit::Domain(name, ranges, mapping) => {
+            domain::plan_domain(alloc, book, foot, *name, ranges, mapping)
+        }
+        Edit::Remap(domain, mapping) => remapped::plan_remap(alloc, book, foot, *domain, mapping),
         Edit::Sparse(name, parent) => sets::plan_sparse(alloc, book, foot, *name, *parent),
         Edit::Assoc(name, key) => sets::plan_assoc(alloc, book, foot, *name, key),
         Edit::Array(name, over) => array::plan_array(alloc, book, foot, *name, *over),

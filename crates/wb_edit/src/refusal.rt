@@ -24,4 +24,7 @@ pub enum Refusal {
     /// E10: a result outside the integers of 64 bits.
     #[error("overflow")]
     Overflow,
+    /// E15: a mapping for domains of another rank.
+    #[error("bad-mapping")]
+    BadMapping,
 }

@@ -1,4 +1,5 @@
 pub mod Past
 pub mod Replies
 pub mod Kept
+pub mod Locales
 pub mod Queries

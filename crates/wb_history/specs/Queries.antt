@@ -17,9 +17,10 @@ use Rattle.wb_edit.specs.Tests.{domain_kind, array_kind, is_there, fits}
 use Rattle.wb_history.specs.declared.query.Answer.{Answer}
 use Rattle.wb_history.specs.declared.query.Answer.TheVariants.{Value as ValueIs, Size as SizeIs, InForce}
 use Rattle.wb_history.specs.declared.query.Query.{Query}
-use Rattle.wb_history.specs.declared.query.Query.TheVariants.{Get, Size, State}
+use Rattle.wb_history.specs.declared.query.Query.TheVariants.{Get, Size, Where, State}
 use Rattle.wb_history.specs.declared.refusal.Refusal.{Refusal}
 use Rattle.wb_history.specs.declared.refusal.Refusal.TheVariants.{Refused, NoSuchEdit}
+use Rattle.wb_history.specs.Locales.{where_answer, locale_answer}
 use Rattle.wb_history.specs.Past.{Numbered, force_of}
 
 -- the implicit value of an array
@@ -85,4 +86,5 @@ force_answer None = Err NoSuchEdit
 abbrev pub answer : Cells → List Numbered → Query → Result Answer Refusal
 answer s es (Get a i) = value_answer (get_answer s a i)
 answer s es (Size d) = count_answer (size_answer s d)
+answer s es (Where d i) = locale_answer (where_answer s d i)
 answer s es (State k) = force_answer (force_of es k)

@@ -7,6 +7,7 @@ ghost use Rattle.wb_history.specs.Replies.{EditReply, UndoReply, LastReply, Redo
 ghost use Rattle.wb_history.specs.Queries.{answer};
 
 use crate::entry::Entry;
+use crate::locale::{locale_answer, locale_of};
 use crate::query::{Answer, Query, count_answer, element_of, force_answer, size_of, value_answer};
 use crate::refusal::Refusal;
 use crate::steps;
@@ -141,6 +142,9 @@ impl History {
         match query {
             Query::Get(array, index) => value_answer(element_of(self.book(), *array, *index)),
             Query::Size(domain) => count_answer(size_of(self.book(), *domain)),
+            Query::Where(domain, index) => {
+                locale_answer(locale_of(self.book(), *domain, *index))
+            }
             Query::State(number) => force_answer(self.in_force(*number)),
         }
     }

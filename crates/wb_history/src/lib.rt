@@ -5,6 +5,7 @@ mod blockers;
 mod entry;
 mod history;
 pub mod laws;
+mod locale;
 mod query;
 mod refusal;
 mod steps;

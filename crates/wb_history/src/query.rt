@@ -12,6 +12,8 @@ pub enum Query {
     Get(Name, AnyIndex),
     /// How many indices a domain has.
     Size(Name),
+    /// On which locale an index of a domain lies.
+    Where(Name, AnyIndex),
     /// Whether the edit of a number is in force.
     State(u64),
 }
@@ -23,6 +25,8 @@ pub enum Answer {
     Value(i64),
     /// How many indices there are.
     Size(usize),
+    /// A locale.
+    Locale(usize),
     /// Whether an edit is in force.
     InForce(bool),
 }

@@ -1,10 +1,12 @@
 //! Worked histories. Where a growth is refused, a step is compared with the state before it and made again.
 
+mod mappings;
+
 use crate::{Answer, History, Query, Refusal};
 use std::alloc::Global;
 use std::process::Abort;
 use std::test::Fail;
-use wb_book::{AnyIndex, AnyRect, Index, Name, Point};
+use wb_book::{AnyIndex, AnyLayout, AnyRect, Index, Name, Point};
 use wb_edit::{Edit, Operation};
 use wb_range::Range;
 
@@ -14,7 +16,7 @@ fn at(i: i64) -> AnyIndex {
 
 fn domain(name: &str, low: i64, high: i64) -> Result<Edit, Fail> {
     let ranges = AnyRect::from_range(Range::new(low, high, 1, None)?)?;
-    Ok(Edit::Domain(Name::new(name)?, ranges))
+    Ok(Edit::Domain(Name::new(name)?, ranges, AnyLayout::whole()))
 }
 
 fn array(name: &str, over: &str) -> Result<Edit, Fail> {

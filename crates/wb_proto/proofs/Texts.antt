@@ -2,8 +2,8 @@
 use Rattle.std.proofs.Common.{◌≡◌, ℕ, ℤ, pos, negsuc, Bool, true, false, codes, refl}
 use Rattle.serde_json.proofs.OnLiterals.{serde_json_on_literals}
 use Rattle.serde_json.specs.Written.{compact_text}
-use Rattle.wb_history.specs.declared.query.Answer.TheVariants.{Value, Size, InForce}
-use Rattle.wb_proto.specs.Printed.{numbers_text, value_text, size_text, in_force_text}
+use Rattle.wb_history.specs.declared.query.Answer.TheVariants.{Value, Size, Locale, InForce}
+use Rattle.wb_proto.specs.Printed.{numbers_text, value_text, size_text, locale_text, in_force_text}
 use Rattle.wb_proto.specs.Replies.{answer_data, reply_of}
 use Rattle.wb_proto.specs.declared.replies.reply.Reply.TheVariants.{Edited, Undone, Redone}
 
@@ -27,6 +27,10 @@ value_is (negsuc n) = refl
 pub size_is : (n : ℕ) → size_text n ≡ compact_text (answer_data (Size n))
 unfolding serde_json_on_literals
 size_is n = refl
+
+pub locale_is : (l : ℕ) → locale_text l ≡ compact_text (answer_data (Locale l))
+unfolding serde_json_on_literals
+locale_is l = refl
 
 pub in_force_is : (b : Bool) → in_force_text b ≡ compact_text (answer_data (InForce b))
 unfolding serde_json_on_literals

@@ -14,6 +14,10 @@ value_text z = codes "{\"value\":" ++ (signed_decimal z ++ codes "}")
 abbrev pub size_text : ℕ → List ℕ
 size_text n = codes "{\"size\":" ++ (decimal n ++ codes "}")
 
+-- a locale
+abbrev pub locale_text : ℕ → List ℕ
+locale_text l = codes "{\"locale\":" ++ (decimal l ++ codes "}")
+
 -- whether an edit is in force
 abbrev pub in_force_text : Bool → List ℕ
 in_force_text true = codes "{\"in_force\":true}"

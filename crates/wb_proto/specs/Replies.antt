@@ -4,9 +4,9 @@ use Rattle.serde_json.specs.Data.{Data, boolean, number, unsigned, string, objec
 use Rattle.serde_json.specs.Find.{of_integer}
 use Rattle.serde_json.specs.Written.{compact_text}
 use Rattle.wb_edit.specs.declared.refusal.Refusal as why
-use Rattle.wb_edit.specs.declared.refusal.Refusal.TheVariants.{NameTaken, NoSuchName, WrongKind, OutOfDomain, InUse, TooLarge, Overflow}
+use Rattle.wb_edit.specs.declared.refusal.Refusal.TheVariants.{NameTaken, NoSuchName, WrongKind, OutOfDomain, InUse, TooLarge, Overflow, BadMapping}
 use Rattle.wb_history.specs.declared.query.Answer.{Answer}
-use Rattle.wb_history.specs.declared.query.Answer.TheVariants.{Value, Size, InForce as InForceIs}
+use Rattle.wb_history.specs.declared.query.Answer.TheVariants.{Value, Size, Locale, InForce as InForceIs}
 use Rattle.wb_history.specs.declared.refusal.Refusal.{Refusal}
 use Rattle.wb_history.specs.declared.refusal.Refusal.TheVariants.{BadRequest, BadLiteral, Refused, NoSuchEdit, NotInForce, InForce, Blocked, RefusedInPlace, NoMemory}
 use Rattle.wb_proto.specs.declared.replies.reply.Reply.{Reply}
@@ -22,6 +22,7 @@ edit_code OutOfDomain = codes "E06"
 edit_code InUse = codes "E08"
 edit_code TooLarge = codes "E09"
 edit_code Overflow = codes "E10"
+edit_code BadMapping = codes "E15"
 
 abbrev pub edit_name : why.Refusal → List ℕ
 edit_name NameTaken = codes "name-taken"
@@ -31,6 +32,7 @@ edit_name OutOfDomain = codes "out-of-domain"
 edit_name InUse = codes "in-use"
 edit_name TooLarge = codes "too-large"
 edit_name Overflow = codes "overflow"
+edit_name BadMapping = codes "bad-mapping"
 
 abbrev pub code_of : Refusal → List ℕ
 code_of BadRequest = codes "E01"
@@ -75,6 +77,7 @@ refusal_data NoMemory = object (named NoMemory)
 abbrev pub answer_data : Answer → Data
 answer_data (Value v) = object (member (codes "value") (number (of_integer v)) no_members)
 answer_data (Size n) = object (member (codes "size") (number (unsigned n)) no_members)
+answer_data (Locale l) = object (member (codes "locale") (number (unsigned l)) no_members)
 answer_data (InForceIs b) = object (member (codes "in_force") (boolean b) no_members)
 
 abbrev pub reply_data : Reply → Data

@@ -4,6 +4,7 @@ use Rattle.std.specs.Prelude.{ℕ, List, codes, Option, Some, None, Result, Ok, 
 use Rattle.std.specs.Str.{is_utf8}
 use Rattle.serde_json.specs.Data.{Data}
 use Rattle.serde_json.specs.Read.{read}
+use Rattle.wb_dist.specs.Maps.{whole}
 use Rattle.wb_edit.specs.declared.edit.Edit.TheVariants.{Domain, Array, Set, Copy, Fill, FillAll, DropArray}
 use Rattle.wb_history.specs.declared.query.Query.TheVariants.{Get, Size, State}
 use Rattle.wb_history.specs.declared.refusal.Refusal.{Refusal}
@@ -21,7 +22,7 @@ domain_of d = do
   text ← text_field (codes "is") d
   literal ← literal_rectangle text
   ranges ← domain_within literal
-  Ok (Change (Domain name ranges))
+  Ok (Change (Domain name ranges whole))
 
 -- {"op":"array","a":NAME,"d":NAME}
 abbrev pub array_of : Data → Result Request Refusal

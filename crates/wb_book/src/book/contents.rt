@@ -2,11 +2,12 @@ ghost use Rattle.std.specs.Prelude.{◌≡◌, ℕ, ◌+◌, ◌-◌, ◌^◌, L
 ghost use Rattle.std.specs.FinMap as map;
 ghost use Rattle.selective_undo.specs.Changes.{apply, inverse};
 ghost use Rattle.wb_book.specs.Cells.{written_more, count_of};
+ghost use Rattle.wb_book.specs.Locales.{locale_at};
 ghost use Rattle.wb_book.specs.declared.cells.pattern.Pattern.TheVariants.{Members};
 ghost use Rattle.wb_book.specs.Readers.{seen, elements, objects, users, size_at, index_at};
 ghost use Rattle.wb_book.specs.WellFormed.{IsWellFormed};
 
-use crate::book::{families, readers, store};
+use crate::book::{families, locales, readers, store};
 use crate::cells::cell::Cell;
 use crate::cells::pattern::Pattern;
 use crate::cells::value::Value;
@@ -121,6 +122,14 @@ impl Book {
         ensures { result ≡ index_at self.now.cells name.now p }
     {
         readers::index_at(&self.cells, *name, p)
+    }
+
+    /// On which locale an index of the domain of a name lies, by the domain's mapping; `None` where there is no such
+    /// rectangular domain, and for an index of another rank (Chapel Language Specification, Domain Maps).
+    pub fn locale_of(&self, domain: &Name, index: &AnyIndex) -> Option<usize>
+        ensures { result ≡ locale_at self.now.cells domain.now index.now }
+    {
+        locales::locale_at(&self.cells, *domain, index)
     }
 
     /// How many cells were set so far by `apply` and `revert`, up to the type's greatest value; the cells `In` are not

@@ -2,6 +2,7 @@
 
 mod contents;
 pub(crate) mod families;
+pub(crate) mod locales;
 pub(crate) mod readers;
 pub(crate) mod store;
 

@@ -1,7 +1,9 @@
 ghost use Rattle.std.specs.Prelude.{◌≡◌};
+ghost use Rattle.wb_book.specs.WellFormed.{index_cell};
 ghost use Rattle.wb_book.specs.Kinds.{kind_of, is_point, is_text, is_key};
 
-use crate::values::index::Index;
+use crate::cells::cell::Cell;
+use crate::values::index::{AnyIndex, Index};
 use crate::values::name::Name;
 use std::marker::Model;
 
@@ -108,6 +110,17 @@ impl Kind {
             Kind::Sparse(rank) => is_point(*rank as usize, index),
             Kind::Associative(KeyType::Int) => is_point(1, index),
             Kind::Associative(KeyType::Text) => is_text(index),
+        }
+    }
+
+    /// The cell that says whether an index is in a domain of this kind.
+    pub fn index_cell(&self, domain: Name, index: AnyIndex) -> Cell
+        ensures { result ≡ index_cell self.now domain index }
+    {
+        match self {
+            Kind::Rectangular(_) => Cell::In(domain, index),
+            Kind::Sparse(_) => Cell::Member(domain, index),
+            Kind::Associative(_) => Cell::Member(domain, index),
         }
     }
 }

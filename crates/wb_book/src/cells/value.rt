@@ -1,15 +1,11 @@
 ghost use Rattle.std.specs.Prelude.{◌≡◌};
 
 use crate::cells::kind::{AnyDomain, Kind};
+use crate::values::layout::AnyLayout;
 use crate::values::name::Name;
 use crate::values::rectangle::AnyRect;
 use std::marker::Model;
 
-/// Which locale each index lies on: locale 0 for all.
-#[derive(Clone, Copy, Debug, PartialEq, Eq)]
-pub enum Layout {
-    /// All indices on one locale.
-    Whole,
 }
 
 /// How an object is bound to a domain.
@@ -31,7 +27,7 @@ pub enum Value {
     /// The ranges of a rectangular domain.
     Ranges(AnyRect),
     /// The mapping of a rectangular domain.
-    Mapping(Layout),
+    Mapping(AnyLayout),
     /// That an index is there.
     Present,
     /// What an object is to a domain.

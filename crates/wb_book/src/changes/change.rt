@@ -1,4 +1,4 @@
-ghost use Rattle.std.specs.Prelude.{◌≡◌};
+ghost use Rattle.std.specs.Prelude.{◌≡◌, ◌≤◌, [], ◌∷◌};
 ghost use Rattle.wb_book.specs.Cells.{is_counted, count_of};
 
 use crate::cells::cell::{AnyCell, Cell};
@@ -63,9 +63,21 @@ fn is_counted(cell: Cell) -> bool
     !matches!(&cell, Cell::In(_, _))
 }
 
+// 1 for a change of another cell than `In`, else 0.
+fn counted_one(change: &CellChange) -> usize
+    ensures value { result ≡ count_of (change.now ∷ []) }
+    ensures few { result ≤ 1 }
+{
+    if is_counted(change.cell()) { 1 } else { 0 }
+}
+
 /// How many of the changes are to other cells than `In`.
 pub(crate) fn counted(changes: &[CellChange]) -> usize
     ensures { result ≡ count_of changes.now }
 {
-    changes.iter().filter(|x| is_counted(x.cell())).count()
+    let mut count = 0;
+    for x in changes {
+        count += counted_one(x);
+    }
+    count
 }

@@ -3,41 +3,44 @@ use Rattle.std.proofs.Common.{◌≡◌, Bool, true, false, cond, ◌&&◌, List
 use Rattle.std.specs.FinMap.{get}
 use Rattle.selective_undo.specs.Changes.{apply}
 use Rattle.selective_undo.specs.Edit.{write}
+use Rattle.wb_dist.specs.Maps.{LayoutMap}
 use Rattle.wb_book.specs.declared.cells.cell.Cell.{Cell}
 use Rattle.wb_book.specs.declared.cells.cell.Cell.TheVariants.{Object, Shape, In, Member, Mapping, Use, Implicit, Element}
 use Rattle.wb_book.specs.declared.cells.kind.DomainKind.{DomainKind}
 use Rattle.wb_book.specs.declared.cells.kind.DomainKind.TheVariants.{Rectangular}
 use Rattle.wb_book.specs.declared.cells.kind.Kind.{Kind}
-use Rattle.wb_book.specs.declared.cells.value.Layout.TheVariants.{Whole}
 use Rattle.wb_book.specs.declared.cells.value.Value.{Value}
 use Rattle.wb_book.specs.declared.cells.value.Value.TheVariants.{Domain, Ranges, Mapping, Present}
 use Rattle.wb_book.specs.declared.values.index.Index.{Index}
 use Rattle.wb_book.specs.Names.{is_name}
+use Rattle.wb_book.specs.Layouts.{IsMapping, IsLayout}
 use Rattle.wb_book.specs.Shapes.{Range, indices}
 use Rattle.wb_book.specs.Cells.{Name, Cells, cell_cmp, cell_order, is_same_name}
 use Rattle.wb_book.specs.WellFormed.{IsWellFormed, IsRectangle, IsShape, IsMember, HasMapping, has, present_if, domain_in, array_in, ranges_in, inside_of, use_of, domain_at, array_at, index_cell}
 use Rattle.wb_book.specs.Kinds.{kind_of}
 use Rattle.wb_edit.specs.Commands.{domain, domain_cells}
 use Rattle.wb_edit.specs.Tests.{is_free}
+use Rattle.wb_edit.specs.Layouts.{for_rank, mapped}
 use Rattle.wb_edit.specs.Looks.{judged}
+use Rattle.wb_edit.proofs.Layouts.{mapping_for}
 use Rattle.wb_edit.proofs.Gets.{after, after-column, after-beside, get-apply}
 use Rattle.wb_edit.proofs.Kept.States.{in_column, domain_of_array, of_kind, no_inside, no_member, IsMember-same, index_cell_same, indices_same, was_free, apart, stays, names_kept, objects_kept}
 use Rattle.wb_edit.proofs.Kept.Steps.{Keeps, keeps_read, keeps_judged, free_is}
 
--- The workbook t is s with a domain of these ranges.
-record HasNewDomain (s t : Cells) (d : Name) (rs : List Range) : Type 0 where
+-- The workbook t is s with a domain of these ranges and this mapping.
+record HasNewDomain (s t : Cells) (d : Name) (rs : List Range) (m : LayoutMap) : Type 0 where
   object : (n : Name) → get t (Object n) ≡ cond (is_same_name n d) (Some (Domain (Rectangular (length rs)))) (get s (Object n))
   shape : (n : Name) → get t (Shape n) ≡ cond (is_same_name n d) (Some (Ranges rs)) (get s (Shape n))
   inside : (n : Name) (i : Index) → get t (In n i) ≡ cond (is_same_name n d && has (indices rs) i) (Some Present) (get s (In n i))
   member : (n : Name) (i : Index) → get t (Member n i) ≡ get s (Member n i)
-  mapping : (n : Name) → get t (Mapping n) ≡ cond (is_same_name n d) (Some (Mapping Whole)) (get s (Mapping n))
+  mapping : (n : Name) → get t (Mapping n) ≡ cond (is_same_name n d) (Some (Mapping m)) (get s (Mapping n))
   used : (e n : Name) → get t (Use e n) ≡ get s (Use e n)
   implicit : (n : Name) → get t (Implicit n) ≡ get s (Implicit n)
   element : (n : Name) (i : Index) → get t (Element n i) ≡ get s (Element n i)
 
-has_new_domain : (s : Cells) (d : Name) (rs : List Range) → HasNewDomain s (apply (domain_cells d rs) s) d rs
-has_new_domain s d rs =
-    let at : (c : Cell) → get (apply (domain_cells d rs) s) c ≡ after cell_cmp (domain_cells d rs) c (get s c) = get-apply cell_order (domain_cells d rs) s in
+has_new_domain : (s : Cells) (d : Name) (rs : List Range) (m : LayoutMap) → HasNewDomain s (apply (domain_cells d rs m) s) d rs m
+has_new_domain s d rs m =
+    let at : (c : Cell) → get (apply (domain_cells d rs m) s) c ≡ after cell_cmp (domain_cells d rs m) c (get s c) = get-apply cell_order (domain_cells d rs m) s in
     record {
       object = λ n. at (Object n) ∙ after-beside cell_cmp (In d) (indices rs) Present (Object n) _ (λ i. refl);
       shape = λ n. at (Shape n) ∙ after-beside cell_cmp (In d) (indices rs) Present (Shape n) _ (λ i. refl);
@@ -58,8 +61,8 @@ either : (b : Bool) → cond b (Some Present) (Some Present) ≡ Some Present
 either true = refl
 either false = refl
 
-domain_added : (s t : Cells) (d : Name) (rs : List Range) → is_name d ≡ true → IsRectangle (length rs) rs → IsWellFormed s → get s (Object d) ≡ None → HasNewDomain s t d rs → IsWellFormed t
-domain_added s t d rs named rectangle h free k =
+domain_added : (s t : Cells) (d : Name) (rs : List Range) (m : LayoutMap) → is_name d ≡ true → IsRectangle (length rs) rs → IsMapping (length rs) m → IsWellFormed s → get s (Object d) ≡ None → HasNewDomain s t d rs m → IsWellFormed t
+domain_added s t d rs m named rectangle fits h free k =
     let x : Value = Domain (Rectangular (length rs)) in
     let same_array : (a : Name) → array_at t a ≡ array_at s a = stays s t d x free k.object array_in refl in
     let still : (e : Name) (i : Index) → get s (In e i) ≡ Some Present → get t (In e i) ≡ Some Present =
@@ -83,8 +86,8 @@ domain_added s t d rs named rectangle h free k =
         | true ↦ λ e. rw (no_member s h n (was_free s t d x free k.object n e) i) tt
         | false ↦ λ e. IsMember-same s t still (domain_at s n) i (get s (Member n i)) (h.members n i)
       ] refl);
-      mappings = λ n. rw (k.object n, k.mapping n) (elim (is_same_name n d) as (λ b. HasMapping (domain_in (cond b (Some x) (get s (Object n)))) (cond b (Some (Mapping Whole)) (get s (Mapping n)))) [
-        | true ↦ refl
+      mappings = λ n. rw (k.object n, k.mapping n) (elim (is_same_name n d) as (λ b. HasMapping (domain_in (cond b (Some x) (get s (Object n)))) (cond b (Some (Mapping m)) (get s (Mapping n)))) [
+        | true ↦ (m, refl, fits)
         | false ↦ h.mappings n
       ]);
       uses = λ e n. k.used e n ∙ h.uses e n ∙ sym (stays s t d x free k.object (use_of e) refl n);
@@ -96,8 +99,10 @@ domain_added s t d rs named rectangle h free k =
       ) (h.elements a i);
     }
 
-pub domain_kept : (s : Cells) (d : Name) (rs : List Range) → (is_name d ≡ true) × IsRectangle (length rs) rs → IsWellFormed s → Keeps (domain d rs) s
-domain_kept s d rs valid h =
-    keeps_read s (Object d) (λ v. judged (is_free v) (λ x. write (domain_cells d rs))) (λ v is.
-    keeps_judged s (is_free v) (λ x. write (domain_cells d rs)) h (λ x ok.
-    domain_added s (apply (domain_cells d rs) s) d rs valid.0 valid.1 h (is ∙ free_is v x ok) (has_new_domain s d rs)))
+pub domain_kept : (s : Cells) (d : Name) (rs : List Range) (m : LayoutMap) → (is_name d ≡ true) × IsRectangle (length rs) rs × IsLayout m → IsWellFormed s → Keeps (domain d rs m) s
+domain_kept s d rs m valid h =
+    keeps_read s (Object d) (λ v. judged (is_free v) (λ x. mapped (length rs) m (λ y. write (domain_cells d rs m)))) (λ v is.
+    keeps_judged s (is_free v) (λ x. mapped (length rs) m (λ y. write (domain_cells d rs m))) h (λ x ok.
+    keeps_judged s (for_rank (length rs) m) (λ y. write (domain_cells d rs m)) h (λ y matched.
+    let fits = mapping_for (length rs) m y valid.1.at_least_one valid.1.at_most_three valid.2 matched in
+    domain_added s (apply (domain_cells d rs m) s) d rs m valid.0 valid.1 fits h (is ∙ free_is v x ok) (has_new_domain s d rs m))))

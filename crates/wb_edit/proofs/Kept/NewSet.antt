@@ -21,6 +21,7 @@ use Rattle.wb_edit.specs.Looks.{Tree, judged}
 use Rattle.wb_edit.specs.Tests.{is_free, domain_kind, dom}
 use Rattle.wb_edit.specs.Writes.{put}
 use Rattle.wb_edit.proofs.Gets.{after, get-apply}
+use Rattle.wb_edit.proofs.Layouts.{kind_is}
 use Rattle.wb_edit.proofs.Kept.States.{second_first, no_shape, no_member, no_mapping, IsMember-same, index_cell_same, indices_same, was_free, domains_stay, stays, names_kept, objects_kept}
 use Rattle.wb_edit.proofs.Kept.Steps.{Keeps, keeps_read, keeps_judged, free_is, domain_is}
 
@@ -103,11 +104,6 @@ sparse_bound s t d parent rank h free k used e n =
       | false ↦ λ same. h.uses e n
     ] refl)
 
-rectangular_is : (kind : DomainKind) (rank : ℕ) → rank_of kind ≡ Ok rank → kind ≡ Rectangular rank
-rectangular_is (Rectangular r) rank e = cc
-rectangular_is (Sparse parent r) rank e = cc
-rectangular_is (Associative type) rank e = cc
-
 pub sparse_kept : (s : Cells) (d parent : Name) → is_name d ≡ true → IsWellFormed s → Keeps (sparse d parent) s
 sparse_kept s d parent named h =
     let last : ℕ → Tree = λ rank. write (sparse_cells d parent rank) in
@@ -120,7 +116,7 @@ sparse_kept s d parent named h =
     let t : Cells = apply (sparse_cells d parent rank) s in
     let free : get s (Object d) ≡ None = was ∙ free_is v x ok in
     let k = has_new_sparse s d parent rank in
-    let over : domain_at s parent ≡ Some (Rectangular rank) = ap domain_in (is ∙ domain_is w kind found) ∙ ap Some (rectangular_is kind rank ranks) in
+    let over : domain_at s parent ≡ Some (Rectangular rank) = ap domain_in (is ∙ domain_is w kind found) ∙ ap Some (kind_is kind rank ranks) in
     set_added s t d (Sparse parent rank) named (plain_sparse parent rank) h free k
       (domains_stay s t d (Domain (Sparse parent rank)) free k.object parent (Rectangular rank) over)
       (sparse_bound s t d parent rank h free k (λ e n. get-apply cell_order (sparse_cells d parent rank) s (Use e n) ∙ ap (λ b. cond b (Some (Bound Sparse)) (get s (Use e n))) (second_first _ _))))))))

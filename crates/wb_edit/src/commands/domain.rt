@@ -4,10 +4,10 @@ ghost use Rattle.wb_edit.specs.Plans.{Attempts, Makes};
 
 use crate::commands::writes::{Column, put, put_all};
 use crate::foot::Foot;
-use crate::tests::looks;
 use crate::tests::stop::Stop;
+use crate::tests::{layouts, looks};
 use std::alloc::Global;
-use wb_book::{AnyDomain, AnyRect, Book, Cell, Delta, DomainKind, Layout, Name, Value};
+use wb_book::{AnyDomain, AnyLayout, AnyRect, Book, Cell, Delta, DomainKind, Name, Value};
 
 /// A new rectangular domain.
 pub(crate) fn plan_domain(
@@ -16,25 +16,28 @@ pub(crate) fn plan_domain(
     foot: &mut Foot,
     name: Name,
     ranges: &AnyRect,
+    mapping: &AnyLayout,
 ) -> Result<Delta, Stop>
-    ensures { Attempts (domain name ranges.now) book.now.cells foot.old result foot.new }
+    ensures { Attempts (domain name ranges.now mapping.now) book.now.cells foot.old result foot.new }
 {
     looks::free(book, foot, name)?;
-    domain_changes(alloc, name, ranges)
+    layouts::for_rectangle(ranges, mapping)?;
+    domain_changes(alloc, name, ranges, mapping)
 }
 
-fn domain_changes(alloc: Global, name: Name, ranges: &AnyRect) -> Result<Delta, Stop>
-    ensures { Makes (domain_cells name ranges.now) result }
+fn domain_changes(
+    alloc: Global,
+    name: Name,
+    ranges: &AnyRect,
+    mapping: &AnyLayout,
+) -> Result<Delta, Stop>
+    ensures { Makes (domain_cells name ranges.now mapping.now) result }
 {
     let mut delta = Delta::new(alloc);
     let kind = AnyDomain::new(DomainKind::Rectangular(ranges.rank()));
     put(&mut delta, Cell::Object(name), Value::Domain(kind))?;
     put(&mut delta, Cell::Shape(name), Value::Ranges(*ranges))?;
-    put(
-        &mut delta,
-        Cell::Mapping(name),
-        Value::Mapping(Layout::Whole),
-    )?;
+    put(&mut delta, Cell::Mapping(name), Value::Mapping(*mapping))?;
     put_all(&mut delta, &Column::Inside(name), ranges, &Value::Present)?;
     Ok(delta)
 }

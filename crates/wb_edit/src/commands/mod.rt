@@ -11,4 +11,5 @@ pub mod implicit;
 pub mod sets;
 pub mod filled_array;
 pub mod seen;
+pub mod remapped;
 pub mod writes;

@@ -5,6 +5,7 @@ pub mod indices;
 pub mod elements;
 pub mod judgements;
 pub mod kinds;
+pub mod layouts;
 pub mod looks;
 pub mod numbers;
 pub mod rectangles;

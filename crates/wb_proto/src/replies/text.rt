@@ -2,7 +2,7 @@
 ghost use Rattle.std.specs.Prelude.{◌≡◌, codes, IfOk, string_bytes};
 ghost use Rattle.serde_json.specs.View.{view};
 ghost use Rattle.serde_json.specs.Written.{compact_text};
-ghost use Rattle.wb_proto.specs.Printed.{numbers_text, value_text, size_text, in_force_text};
+ghost use Rattle.wb_proto.specs.Printed.{numbers_text, value_text, size_text, locale_text, in_force_text};
 ghost use Rattle.wb_proto.specs.Replies.{edit_code, edit_name, code_of, name_of, refusal_data, answer_data, reply_data, reply_of};
 
 use crate::replies::reply::Reply;
@@ -22,6 +22,7 @@ fn edit_code(refusal: wb_edit::Refusal) -> &'static str
         wb_edit::Refusal::InUse => "E08",
         wb_edit::Refusal::TooLarge => "E09",
         wb_edit::Refusal::Overflow => "E10",
+        wb_edit::Refusal::BadMapping => "E15",
     }
 }
 
@@ -36,6 +37,7 @@ fn edit_name(refusal: wb_edit::Refusal) -> &'static str
         wb_edit::Refusal::InUse => "in-use",
         wb_edit::Refusal::TooLarge => "too-large",
         wb_edit::Refusal::Overflow => "overflow",
+        wb_edit::Refusal::BadMapping => "bad-mapping",
     }
 }
 
@@ -126,6 +128,13 @@ fn size_text(alloc: Global, size: u64) -> Result<String, AllocError>
     format!(in alloc; "{{\"size\":{size}}}")
 }
 
+// The object of a locale.
+fn locale_text(alloc: Global, locale: u64) -> Result<String, AllocError>
+    ensures { IfOk result (λ s. string_bytes s ≡ locale_text locale) }
+{
+    format!(in alloc; "{{\"locale\":{locale}}}")
+}
+
 fn in_force_text(alloc: Global, in_force: bool) -> Result<String, AllocError>
     ensures { IfOk result (λ s. string_bytes s ≡ in_force_text in_force) }
 {
@@ -136,13 +145,14 @@ fn in_force_text(alloc: Global, in_force: bool) -> Result<String, AllocError>
     }
 }
 
-#[tactic(auto, using(crate::proofs::Texts::value_is, crate::proofs::Texts::size_is, crate::proofs::Texts::in_force_is))]
+#[tactic(auto, using(crate::proofs::Texts::value_is, crate::proofs::Texts::size_is, crate::proofs::Texts::locale_is, crate::proofs::Texts::in_force_is))]
 fn answer_text(alloc: Global, answer: Answer) -> Result<String, AllocError>
     ensures { IfOk result (λ s. string_bytes s ≡ compact_text (answer_data answer)) }
 {
     match answer {
         Answer::Value(value) => value_text(alloc, value),
         Answer::Size(size) => size_text(alloc, size as u64),
+        Answer::Locale(locale) => locale_text(alloc, locale as u64),
         Answer::InForce(in_force) => in_force_text(alloc, in_force),
     }
 }

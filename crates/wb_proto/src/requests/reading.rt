@@ -11,6 +11,7 @@ use crate::requests::queries::{get_of, size_of, state_of};
 use crate::requests::request::Request;
 use serde_json::{Category, Error, Value};
 use std::alloc::Global;
+use wb_book::AnyLayout;
 use wb_edit::Edit;
 use wb_history::Refusal;
 
@@ -22,7 +23,7 @@ fn domain_of(value: &Value) -> Result<Request, Refusal>
     let text = text_field(value, "is")?;
     let literal = literal_rectangle(text)?;
     let ranges = domain_within(&literal)?;
-    Ok(Request::Change(Edit::Domain(name, ranges)))
+    Ok(Request::Change(Edit::Domain(name, ranges, AnyLayout::whole())))
 }
 
 fn undo_by_number(value: &Value) -> Result<Request, Refusal>

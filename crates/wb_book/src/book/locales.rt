@@ -1,0 +1,41 @@
+//! On which locale an index of a domain lies.
+
+ghost use Rattle.std.specs.Prelude.{◌≡◌};
+ghost use Rattle.std.specs.FinMap as map;
+ghost use Rattle.wb_book.specs.Cells.{state_of};
+ghost use Rattle.wb_book.specs.Locales.{mapping_in, locale_at};
+ghost use Rattle.wb_book.specs.declared.cells.cell.Cell.TheVariants.{Mapping};
+
+use crate::book::store::look;
+use crate::cells::cell::Cell;
+use crate::cells::value::Value;
+use crate::values::index::AnyIndex;
+use crate::values::layout::AnyLayout;
+use crate::values::name::Name;
+use std::collections::BTreeMap;
+
+fn mapping_at(cells: &BTreeMap<Cell, Value>, domain: Name) -> Option<AnyLayout>
+    ensures { result ≡ mapping_in (map.get (state_of cells.now) (Mapping domain)) }
+{
+    match look(cells, Cell::Mapping(domain))? {
+        Value::Mapping(mapping) => Some(mapping),
+        Value::Domain(_)
+        | Value::Array(_, _)
+        | Value::Ranges(_)
+        | Value::Present
+        | Value::Bound(_)
+        | Value::Number(_) => None,
+    }
+}
+
+/// The locale of an index, by the mapping of the domain of a name.
+pub(crate) fn locale_at(
+    cells: &BTreeMap<Cell, Value>,
+    domain: Name,
+    index: &AnyIndex,
+) -> Option<usize>
+    ensures { result ≡ locale_at (state_of cells.now) domain index.now }
+{
+    let mapping = mapping_at(cells, domain)?;
+    mapping.locale_of(index)
+}

@@ -1,0 +1,19 @@
+-- Tests on mappings: for which rank one is (Chapel Language Specification, Domain Maps).
+use Rattle.std.specs.Prelude.{ℕ, Bool, true, false, Result, Ok, Err}
+use Rattle.wb_dist.specs.Maps.{LayoutMap}
+use Rattle.wb_book.specs.Layouts.{is_of_rank}
+use Rattle.wb_edit.specs.declared.refusal.Refusal.{Refusal}
+use Rattle.wb_edit.specs.declared.refusal.Refusal.TheVariants.{BadMapping}
+use Rattle.wb_edit.specs.Looks.{Look, judged}
+
+-- ---- judgements
+
+-- the mapping is for domains of the rank; else it is a bad one for them
+abbrev pub for_rank : ℕ → LayoutMap → Result (Unit {0}) Refusal
+for_rank rank m = elim (is_of_rank rank m) [ true ↦ Ok tt | false ↦ Err BadMapping ]
+
+-- ---- the tests
+
+-- a mapping for domains of the rank: looks at nothing
+abbrev pub mapped : ℕ → LayoutMap → Look (Unit {0})
+mapped rank m = judged (for_rank rank m)

@@ -1,0 +1,39 @@
+-- On which locale an index of a domain lies, or why it lies on none (Chapel Language Specification, Domain Maps).
+use Rattle.std.specs.Prelude.{ℕ, Result, Ok, Err, unwrap_or}
+use Rattle.std.specs.FinMap.{get}
+use Rattle.wb_book.specs.declared.cells.cell.Cell.TheVariants.{Object}
+use Rattle.wb_book.specs.declared.cells.kind.DomainKind.{DomainKind}
+use Rattle.wb_book.specs.declared.cells.kind.Kind.{Kind}
+use Rattle.wb_book.specs.declared.values.index.Index.{Index}
+use Rattle.wb_book.specs.Cells.{Name, Cells}
+use Rattle.wb_book.specs.Kinds.{kind_of}
+use Rattle.wb_book.specs.Locales.{locale_at}
+use Rattle.wb_book.specs.WellFormed.{index_cell}
+use Rattle.wb_edit.specs.declared.refusal.Refusal as why
+use Rattle.wb_edit.specs.Tests.{domain_kind, fits, is_there}
+use Rattle.wb_history.specs.declared.query.Answer.{Answer}
+use Rattle.wb_history.specs.declared.query.Answer.TheVariants.{Locale}
+use Rattle.wb_history.specs.declared.refusal.Refusal.{Refusal}
+use Rattle.wb_history.specs.declared.refusal.Refusal.TheVariants.{Refused}
+
+-- the locale of an index that is there: by the domain's mapping, and 0 in a domain that has none
+abbrev pub locale_found : Cells → Name → Index → Result (Unit {0}) why.Refusal → Result ℕ why.Refusal
+locale_found s d i (Ok there) = Ok (unwrap_or (locale_at s d i) 0)
+locale_found s d i (Err e) = Err e
+
+-- an index of the type and rank of the domain's
+abbrev pub locale_fitting : Cells → Name → Kind → Index → Result (Unit {0}) why.Refusal → Result ℕ why.Refusal
+locale_fitting s d kind i (Ok fit) = locale_found s d i (is_there (get s (index_cell kind d i)))
+locale_fitting s d kind i (Err e) = Err e
+
+abbrev pub locale_from : Cells → Name → Index → Result DomainKind why.Refusal → Result ℕ why.Refusal
+locale_from s d i (Ok kind) = locale_fitting s d (kind_of kind) i (fits (kind_of kind) i)
+locale_from s d i (Err e) = Err e
+
+-- the name is a domain's, the index fits and is one of the domain, and there it lies
+abbrev pub where_answer : Cells → Name → Index → Result ℕ why.Refusal
+where_answer s d i = locale_from s d i (domain_kind (get s (Object d)))
+
+abbrev pub locale_answer : Result ℕ why.Refusal → Result Answer Refusal
+locale_answer (Ok l) = Ok (Locale l)
+locale_answer (Err e) = Err (Refused e)
