@@ -19,6 +19,7 @@ use Rattle.wb_book.specs.declared.cells.value.Value.{Value}
 use Rattle.wb_book.specs.declared.cells.value.Value.TheVariants.{Array, Number}
 use Rattle.wb_book.specs.declared.values.index.Index.{Index}
 use Rattle.wb_book.specs.Cells.{Name, Cells, Changes, index_cmp, is_same_index, is_same_name}
+use Rattle.wb_book.specs.Kinds.{kind_of}
 use Rattle.wb_book.specs.Readers.{elements}
 use Rattle.wb_book.specs.WellFormed.{IsWellFormed, IsElement, array_in, domain_at, array_at, is_index_of_array}
 use Rattle.wb_edit.specs.declared.operation.Operation.{Operation}
@@ -116,9 +117,9 @@ found_same false x why e = cc
 pub one_array : (s : Cells) (a b d e : Name) (kind other : Kind) (x : Unit {0}) → IsWellFormed s → get s (Object a) ≡ Some (Array d kind) → get s (Object b) ≡ Some (Array e other) → same_domain d e ≡ Ok x → array_at s a ≡ array_at s b
 one_array s a b d e kind other x h there also same =
     let name : d ≡ e = same_name d e (found_same (is_same_name d e) x _ same) in
-    let one : domain_at s d ≡ Some kind = h.objects a (Array d kind) there in
-    let two : domain_at s e ≡ Some other = h.objects b (Array e other) also in
-    let kinds : kind ≡ other = cc in
+    let one : option_map kind_of (domain_at s d) ≡ Some kind = h.objects a (Array d kind) there in
+    let two : option_map kind_of (domain_at s e) ≡ Some other = h.objects b (Array e other) also in
+    let kinds : kind ≡ other = same_Some kind other (sym one ∙ ap (λ n. option_map kind_of (domain_at s n)) name ∙ two) in
     ap array_in (there ∙ (λ i. Some (Array (name i) (kinds i))) ∙ sym also)
 
 -- ---- side by side

@@ -6,8 +6,6 @@ use crate::values::name::Name;
 use crate::values::rectangle::AnyRect;
 use std::marker::Model;
 
-}
-
 /// How an object is bound to a domain.
 #[derive(Clone, Copy, Debug, PartialEq, Eq)]
 pub enum Binding {
