@@ -134,6 +134,6 @@ members_found s d kind i m =
     let alike : (x : Cell) → cell_cmp (Member d i) x ≡ Equal → p x ≡ p (Member d i) = λ x tie. ap p (sym (cell_order.strict (Member d i) x tie)) in
     let kept : get (retain_keys s p) (Member d i) ≡ get s (Member d i) = get-retain_keys s p (Member d i) alike ∙ ap (λ b. cond b (get s (Member d i)) None) (itself d) in
     present s kind i (get s (Member d i)) _ m (
-        ap is_some (sym kept)
-        ∙ ap is_some (get-entries (retain_keys s p) (Member d i))
-        ∙ listed d i (seen s (Members d)) (seen_of s d))
+    ap is_some (sym kept)
+    ∙ ap is_some (get-entries (retain_keys s p) (Member d i))
+    ∙ listed d i (seen s (Members d)) (seen_of s d))

@@ -3,8 +3,8 @@ ghost use Rattle.wb_edit.specs.Commands.{meaning};
 ghost use Rattle.wb_edit.specs.Plans.{Attempts, IsPlan};
 
 use crate::commands::{
-    array, combined, copied, domain, dropped_array, element, filled, filled_array, implicit, remapped,
-    sets,
+    array, combined, copied, domain, dropped_array, element, filled, filled_array, implicit,
+    remapped, sets,
 };
 use crate::edit::Edit;
 use crate::foot::Foot;

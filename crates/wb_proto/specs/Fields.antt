@@ -1,6 +1,6 @@
 -- The fields of a request, which is a JSON object (RFC 8259, section 4): its members, looked up by their names. A field
 -- that isn't there, or isn't of its type, makes the request bad.
-use Rattle.std.specs.Prelude.{ℕ, suc, ℤ, List, [], ◌∷◌, Option, Some, None, option_map, option_and_then, Result, Ok, Err, nat_eq, if◌then◌else◌}
+use Rattle.std.specs.Prelude.{ℕ, suc, ℤ, List, [], ◌∷◌, Option, Some, None, option_map, option_and_then, Result, Ok, Err, codes, bytes_eq, nat_eq, if◌then◌else◌}
 use Rattle.std.specs.Option.{ok_or}
 use Rattle.serde_json.specs.Data.{Data, null, boolean, number, string, array, object, Items, no_items, item, Members, no_members, member}
 use Rattle.serde_json.specs.Find.{get, as_number, as_str, as_i64, as_u64}
@@ -9,6 +9,10 @@ use Rattle.wb_book.specs.Cells.{Name}
 use Rattle.wb_book.specs.Names.{is_name}
 use Rattle.wb_book.specs.declared.values.index.Index.{Index}
 use Rattle.wb_book.specs.declared.values.index.Index.TheVariants.{Point, Text}
+use Rattle.wb_book.specs.declared.cells.kind.KeyType.{KeyType}
+use Rattle.wb_book.specs.declared.cells.kind.KeyType.TheVariants.{Int, Text as TextKeys}
+use Rattle.wb_edit.specs.declared.operation.Operation.{Operation}
+use Rattle.wb_edit.specs.declared.operation.Operation.TheVariants.{Assign, Sum, Difference, Product}
 use Rattle.wb_history.specs.declared.refusal.Refusal.{Refusal}
 use Rattle.wb_history.specs.declared.refusal.Refusal.TheVariants.{BadRequest}
 
@@ -106,3 +110,31 @@ index_of (object ms) = None
 -- a field that is an index
 abbrev pub index_field : List ℕ → Data → Result Index Refusal
 index_field key d = ok_or (option_and_then index_of (get key d)) BadRequest
+
+-- the type of an associative domain's indices
+abbrev pub key_type_of : List ℕ → Result KeyType Refusal
+key_type_of text =
+    if bytes_eq text (codes "int") then Ok Int else
+    if bytes_eq text (codes "text") then Ok TextKeys else
+    Err BadRequest
+
+-- a field that is such a type
+abbrev pub key_type_field : List ℕ → Data → Result KeyType Refusal
+key_type_field key d = do
+  text ← text_field key d
+  key_type_of text
+
+-- what becomes of each element of an array beside one of another
+abbrev pub operation_of : List ℕ → Result Operation Refusal
+operation_of text =
+    if bytes_eq text (codes "=") then Ok Assign else
+    if bytes_eq text (codes "+") then Ok Sum else
+    if bytes_eq text (codes "-") then Ok Difference else
+    if bytes_eq text (codes "*") then Ok Product else
+    Err BadRequest
+
+-- a field that is such an operation
+abbrev pub operation_field : List ℕ → Data → Result Operation Refusal
+operation_field key d = do
+  text ← text_field key d
+  operation_of text

@@ -5,11 +5,11 @@ use Rattle.std.specs.Str.{is_utf8}
 use Rattle.serde_json.specs.Data.{Data}
 use Rattle.serde_json.specs.Read.{read}
 use Rattle.wb_dist.specs.Maps.{whole}
-use Rattle.wb_edit.specs.declared.edit.Edit.TheVariants.{Domain, Array, Set, Copy, Fill, FillAll, DropArray}
-use Rattle.wb_history.specs.declared.query.Query.TheVariants.{Get, Size, State}
+use Rattle.wb_edit.specs.declared.edit.Edit.TheVariants.{Domain, Sparse, Assoc, Array, Set, Irv, Copy, Fill, FillAll, DropArray, All}
+use Rattle.wb_history.specs.declared.query.Query.TheVariants.{Get, Size, Where, State}
 use Rattle.wb_history.specs.declared.refusal.Refusal.{Refusal}
 use Rattle.wb_history.specs.declared.refusal.Refusal.TheVariants.{BadRequest}
-use Rattle.wb_proto.specs.Fields.{◌>>=◌, field_count, has_fields, text_field, i64_field, u64_field, name_field, index_field}
+use Rattle.wb_proto.specs.Fields.{◌>>=◌, field_count, has_fields, text_field, i64_field, u64_field, name_field, index_field, key_type_field, operation_field}
 use Rattle.wb_proto.specs.Literals.{literal_rectangle, domain_within}
 use Rattle.wb_proto.specs.declared.requests.request.Request.{Request}
 use Rattle.wb_proto.specs.declared.requests.request.Request.TheVariants.{Change, Undo, Redo, Ask}
@@ -23,6 +23,22 @@ domain_of d = do
   literal ← literal_rectangle text
   ranges ← domain_within literal
   Ok (Change (Domain name ranges whole))
+
+-- {"op":"sparse","d":NAME,"of":NAME}
+abbrev pub sparse_of : Data → Result Request Refusal
+sparse_of d = do
+  unit ← has_fields 3 d
+  name ← name_field (codes "d") d
+  parent ← name_field (codes "of") d
+  Ok (Change (Sparse name parent))
+
+-- {"op":"assoc","d":NAME,"of":TYPE}
+abbrev pub assoc_of : Data → Result Request Refusal
+assoc_of d = do
+  unit ← has_fields 3 d
+  name ← name_field (codes "d") d
+  type ← key_type_field (codes "of") d
+  Ok (Change (Assoc name type))
 
 -- {"op":"array","a":NAME,"d":NAME}
 abbrev pub array_of : Data → Result Request Refusal
@@ -38,6 +54,23 @@ drop_array_of d = do
   unit ← has_fields 2 d
   name ← name_field (codes "a") d
   Ok (Change (DropArray name))
+
+-- {"op":"irv","a":NAME,"v":INTEGER}
+abbrev pub irv_of : Data → Result Request Refusal
+irv_of d = do
+  unit ← has_fields 3 d
+  name ← name_field (codes "a") d
+  value ← i64_field (codes "v") d
+  Ok (Change (Irv name value))
+
+-- {"op":"all","a":NAME,"how":OPERATION,"b":NAME}
+abbrev pub all_of : Data → Result Request Refusal
+all_of d = do
+  unit ← has_fields 4 d
+  name ← name_field (codes "a") d
+  how ← operation_field (codes "how") d
+  other ← name_field (codes "b") d
+  Ok (Change (All name how other))
 
 -- {"op":"set","a":NAME,"i":INDEX,"v":INTEGER}
 abbrev pub set_of : Data → Result Request Refusal
@@ -104,6 +137,14 @@ get_of d = do
   index ← index_field (codes "i") d
   Ok (Ask (Get name index))
 
+-- {"op":"where","d":NAME,"i":INDEX}
+abbrev pub where_of : Data → Result Request Refusal
+where_of d = do
+  unit ← has_fields 3 d
+  name ← name_field (codes "d") d
+  index ← index_field (codes "i") d
+  Ok (Ask (Where name index))
+
 -- {"op":"size","d":NAME}
 abbrev pub size_of : Data → Result Request Refusal
 size_of d = do
@@ -122,15 +163,20 @@ state_of d = do
 abbrev pub by_op : List ℕ → Data → Result Request Refusal
 by_op op d =
     if bytes_eq op (codes "domain") then domain_of d else
+    if bytes_eq op (codes "sparse") then sparse_of d else
+    if bytes_eq op (codes "assoc") then assoc_of d else
     if bytes_eq op (codes "array") then array_of d else
     if bytes_eq op (codes "drop_array") then drop_array_of d else
     if bytes_eq op (codes "set") then set_of d else
     if bytes_eq op (codes "fill") then fill_of d else
     if bytes_eq op (codes "fill_all") then fill_all_of d else
+    if bytes_eq op (codes "irv") then irv_of d else
     if bytes_eq op (codes "copy") then copy_of d else
+    if bytes_eq op (codes "all") then all_of d else
     if bytes_eq op (codes "undo") then undo_of d else
     if bytes_eq op (codes "redo") then redo_of d else
     if bytes_eq op (codes "get") then get_of d else
+    if bytes_eq op (codes "where") then where_of d else
     if bytes_eq op (codes "size") then size_of d else
     if bytes_eq op (codes "state") then state_of d else
     Err BadRequest

@@ -116,7 +116,6 @@ over_domain s a d (Rectangular rank) named h free there =
     keeps_read s (Shape d) (λ v. write (array_cells a d kind (indices_of (ranges_in v)))) (λ v is.
     subst (λ o. Keeps (write (array_cells a d kind (indices_of (ranges_in o)))) s) (sym shape.1 ∙ is) (
     array_added s (apply (array_cells a d kind (indices shape.0)) s) a d over (indices shape.0) named h free (ap domain_in there) (λ i. h.insides d i ∙ ap (λ o. inside_of (ranges_in o) i) shape.1) (has_new_array s a d kind (indices shape.0))))
-
 over_domain s a d (Sparse parent rank) named h free there = over_members s a d (Sparse parent rank) named h free there (λ i. refl)
 over_domain s a d (Associative type) named h free there = over_members s a d (Associative type) named h free there (λ i. refl)
 

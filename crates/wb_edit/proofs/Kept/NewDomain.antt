@@ -66,11 +66,11 @@ domain_added s t d rs m named rectangle fits h free k =
     let x : Value = Domain (Rectangular (length rs)) in
     let same_array : (a : Name) → array_at t a ≡ array_at s a = stays s t d x free k.object array_in refl in
     let still : (e : Name) (i : Index) → get s (In e i) ≡ Some Present → get t (In e i) ≡ Some Present =
-        λ e i there. k.inside e i ∙ ap (λ o. cond (is_same_name e d && has (indices rs) i) (Some Present) o) there ∙ either (is_same_name e d && has (indices rs) i) in
+    λ e i there. k.inside e i ∙ ap (λ o. cond (is_same_name e d && has (indices rs) i) (Some Present) o) there ∙ either (is_same_name e d && has (indices rs) i) in
     let elsewhere : (e : Name) (kind : Kind) (i : Index) → option_map kind_of (domain_at s e) ≡ Some kind → get t (index_cell kind e i) ≡ get s (index_cell kind e i) =
-        λ e kind i over.
-        let of = of_kind (domain_at s e) kind over in
-        index_cell_same s t kind e i (k.inside e i ∙ ap (λ b. cond (b && has (indices rs) i) (Some Present) (get s (In e i))) (apart s t d x free k.object e of.0 of.1)) (k.member e i) in
+    λ e kind i over.
+    let of = of_kind (domain_at s e) kind over in
+    index_cell_same s t kind e i (k.inside e i ∙ ap (λ b. cond (b && has (indices rs) i) (Some Present) (get s (In e i))) (apart s t d x free k.object e of.0 of.1)) (k.member e i) in
     record {
       names = names_kept s t d x free k.object h named;
       objects = objects_kept s t d x free k.object h tt;

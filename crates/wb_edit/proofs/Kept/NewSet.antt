@@ -118,8 +118,8 @@ sparse_kept s d parent named h =
     let k = has_new_sparse s d parent rank in
     let over : domain_at s parent ≡ Some (Rectangular rank) = ap domain_in (is ∙ domain_is w kind found) ∙ ap Some (kind_is kind rank ranks) in
     set_added s t d (Sparse parent rank) named (plain_sparse parent rank) h free k
-      (domains_stay s t d (Domain (Sparse parent rank)) free k.object parent (Rectangular rank) over)
-      (sparse_bound s t d parent rank h free k (λ e n. get-apply cell_order (sparse_cells d parent rank) s (Use e n) ∙ ap (λ b. cond b (Some (Bound Sparse)) (get s (Use e n))) (second_first _ _))))))))
+    (domains_stay s t d (Domain (Sparse parent rank)) free k.object parent (Rectangular rank) over)
+    (sparse_bound s t d parent rank h free k (λ e n. get-apply cell_order (sparse_cells d parent rank) s (Use e n) ∙ ap (λ b. cond b (Some (Bound Sparse)) (get s (Use e n))) (second_first _ _))))))))
 
 -- ---- an associative domain
 
@@ -144,4 +144,4 @@ assoc_kept s d type named h =
     keeps_judged s (is_free v) (λ x. write xs) h (λ x ok.
     let free : get s (Object d) ≡ None = was ∙ free_is v x ok in
     set_added s t d (Associative type) named (plain_assoc type) h free k tt
-      (λ e n. at (Use e n) ∙ h.uses e n ∙ sym (stays s t d (Domain (Associative type)) free k.object (use_of e) refl n))))
+    (λ e n. at (Use e n) ∙ h.uses e n ∙ sym (stays s t d (Domain (Associative type)) free k.object (use_of e) refl n))))

@@ -1,8 +1,8 @@
 //! The tests that commands are made of: each looks at cells, keeps that it did, and goes on or stops.
 
+pub mod elements;
 pub mod implicit;
 pub mod indices;
-pub mod elements;
 pub mod judgements;
 pub mod kinds;
 pub mod layouts;

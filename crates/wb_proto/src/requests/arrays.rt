@@ -1,9 +1,11 @@
 // Requests for changes to arrays.
 ghost use Rattle.std.specs.Prelude.{◌≡◌, codes};
 ghost use Rattle.serde_json.specs.View.{view};
-ghost use Rattle.wb_proto.specs.Requests.{array_of, drop_array_of, set_of, fill_of, fill_all_of, copy_of};
+ghost use Rattle.wb_proto.specs.Requests.{array_of, drop_array_of, set_of, fill_of, fill_all_of, copy_of, irv_of, all_of};
 
-use crate::requests::fields::{has_fields, i64_field, index_field, name_field, text_field};
+use crate::requests::fields::{
+    has_fields, i64_field, index_field, name_field, operation_field, text_field,
+};
 use crate::requests::literals::{domain_within, literal_rectangle};
 use crate::requests::request::Request;
 use serde_json::Value;
@@ -74,4 +76,25 @@ pub(crate) fn copy_of(value: &Value) -> Result<Request, Refusal>
     let place = index_field(value, "j")?;
     let more = i64_field(value, "c")?;
     Ok(Request::Change(Edit::Copy(name, index, source, place, more)))
+}
+
+/// A new implicit value.
+pub(crate) fn irv_of(value: &Value) -> Result<Request, Refusal>
+    ensures { result ≡ irv_of (view value.now) }
+{
+    has_fields(value, 3)?;
+    let name = name_field(value, "a")?;
+    let number = i64_field(value, "v")?;
+    Ok(Request::Change(Edit::Irv(name, number)))
+}
+
+/// The elements of an array by those of another.
+pub(crate) fn all_of(value: &Value) -> Result<Request, Refusal>
+    ensures { result ≡ all_of (view value.now) }
+{
+    has_fields(value, 4)?;
+    let name = name_field(value, "a")?;
+    let how = operation_field(value, "how")?;
+    let other = name_field(value, "b")?;
+    Ok(Request::Change(Edit::All(name, how, other)))
 }

@@ -2,11 +2,12 @@
 ghost use Rattle.std.specs.Prelude.{◌≡◌, ◌<◌, ◌^◌, ℕ, List, codes, option_map};
 ghost use Rattle.std.specs.Result.{result_map_both};
 ghost use Rattle.serde_json.specs.View.{view, items_view};
-ghost use Rattle.wb_proto.specs.Fields.{field_count, has_fields, has_fields_and, text_field, optional_text, i64_field, u64_field, name_of, name_field, integer_of, pair_of, triple_of, tuple_of, label_of, index_of, index_field};
+ghost use Rattle.wb_proto.specs.Fields.{field_count, has_fields, has_fields_and, text_field, optional_text, i64_field, u64_field, name_of, name_field, integer_of, pair_of, triple_of, tuple_of, label_of, index_of, index_field, key_type_of, key_type_field, operation_of, operation_field};
 
 use serde_json::Value;
 use wb_assoc::Label;
-use wb_book::{AnyIndex, Index, Name, Point};
+use wb_book::{AnyIndex, Index, KeyType, Name, Point};
+use wb_edit::Operation;
 use wb_history::Refusal;
 
 /// How many fields an object has.
@@ -173,4 +174,42 @@ pub(crate) fn index_field(value: &Value, key: &str) -> Result<AnyIndex, Refusal>
         Some(index) => Ok(AnyIndex::new(index)),
         None => Err(Refusal::BadRequest),
     }
+}
+
+fn key_type_of(text: &str) -> Result<KeyType, Refusal>
+    ensures { result ≡ key_type_of text.now }
+{
+    match text {
+        "int" => Ok(KeyType::Int),
+        "text" => Ok(KeyType::Text),
+        _ => Err(Refusal::BadRequest),
+    }
+}
+
+/// A field that is the type of an associative domain's indices.
+pub(crate) fn key_type_field(value: &Value, key: &str) -> Result<KeyType, Refusal>
+    ensures { result ≡ key_type_field key.now (view value.now) }
+{
+    let text = text_field(value, key)?;
+    key_type_of(text)
+}
+
+fn operation_of(text: &str) -> Result<Operation, Refusal>
+    ensures { result ≡ operation_of text.now }
+{
+    match text {
+        "=" => Ok(Operation::Assign),
+        "+" => Ok(Operation::Sum),
+        "-" => Ok(Operation::Difference),
+        "*" => Ok(Operation::Product),
+        _ => Err(Refusal::BadRequest),
+    }
+}
+
+/// A field that is an operation on two arrays.
+pub(crate) fn operation_field(value: &Value, key: &str) -> Result<Operation, Refusal>
+    ensures { result ≡ operation_field key.now (view value.now) }
+{
+    let text = text_field(value, key)?;
+    operation_of(text)
 }

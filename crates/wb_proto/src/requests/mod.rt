@@ -7,3 +7,4 @@ pub mod mappings;
 pub mod queries;
 pub mod reading;
 pub mod request;
+pub mod sets;

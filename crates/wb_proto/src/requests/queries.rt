@@ -1,7 +1,7 @@
 // Requests for what the workbook and its history say.
 ghost use Rattle.std.specs.Prelude.{◌≡◌, codes};
 ghost use Rattle.serde_json.specs.View.{view};
-ghost use Rattle.wb_proto.specs.Requests.{get_of, size_of, state_of};
+ghost use Rattle.wb_proto.specs.Requests.{get_of, where_of, size_of, state_of};
 
 use crate::requests::fields::{has_fields, index_field, name_field, u64_field};
 use crate::requests::request::Request;
@@ -34,4 +34,14 @@ pub(crate) fn state_of(value: &Value) -> Result<Request, Refusal>
     has_fields(value, 2)?;
     let number = u64_field(value, "k")?;
     Ok(Request::Ask(Query::State(number)))
+}
+
+/// On which locale an index lies.
+pub(crate) fn where_of(value: &Value) -> Result<Request, Refusal>
+    ensures { result ≡ where_of (view value.now) }
+{
+    has_fields(value, 3)?;
+    let domain = name_field(value, "d")?;
+    let index = index_field(value, "i")?;
+    Ok(Request::Ask(Query::Where(domain, index)))
 }

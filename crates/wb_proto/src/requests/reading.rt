@@ -4,11 +4,14 @@ ghost use Rattle.serde_json.specs.Errors.{IsMemory};
 ghost use Rattle.serde_json.specs.View.{view};
 ghost use Rattle.wb_proto.specs.Requests.{domain_of, undo_by_number, undo_of, redo_of, by_op, request_of, request};
 
-use crate::requests::arrays::{array_of, copy_of, drop_array_of, fill_all_of, fill_of, set_of};
+use crate::requests::arrays::{
+    all_of, array_of, copy_of, drop_array_of, fill_all_of, fill_of, irv_of, set_of,
+};
 use crate::requests::fields::{field_count, has_fields, name_field, text_field, u64_field};
 use crate::requests::literals::{domain_within, literal_rectangle};
-use crate::requests::queries::{get_of, size_of, state_of};
+use crate::requests::queries::{get_of, size_of, state_of, where_of};
 use crate::requests::request::Request;
+use crate::requests::sets::{assoc_of, sparse_of};
 use serde_json::{Category, Error, Value};
 use std::alloc::Global;
 use wb_book::AnyLayout;
@@ -57,15 +60,20 @@ fn by_op(op: &str, value: &Value) -> Result<Request, Refusal>
 {
     match op {
         "domain" => domain_of(value),
+        "sparse" => sparse_of(value),
+        "assoc" => assoc_of(value),
         "array" => array_of(value),
         "drop_array" => drop_array_of(value),
         "set" => set_of(value),
         "fill" => fill_of(value),
         "fill_all" => fill_all_of(value),
+        "irv" => irv_of(value),
         "copy" => copy_of(value),
+        "all" => all_of(value),
         "undo" => undo_of(value),
         "redo" => redo_of(value),
         "get" => get_of(value),
+        "where" => where_of(value),
         "size" => size_of(value),
         "state" => state_of(value),
         _ => Err(Refusal::BadRequest),
