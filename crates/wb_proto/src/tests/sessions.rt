@@ -208,6 +208,188 @@ fn fills_and_ends_of_whole_arrays(rt: HostRuntime) -> Result<(), Fail> {
 }
 
 #[test]
+fn sparse_domains_and_implicit_values(rt: HostRuntime) -> Result<(), Fail> {
+    let alloc = rt.alloc();
+    let mut history = History::new(alloc);
+    replies(alloc, &mut history, BUILT)?;
+    for (line, reply) in [
+        (
+            "{\"op\":\"sparse\",\"d\":\"S\",\"of\":\"D\"}",
+            "{\"edit\":4,\"n\":2}\n",
+        ),
+        (
+            "{\"op\":\"array\",\"a\":\"B\",\"d\":\"S\"}",
+            "{\"edit\":5,\"n\":3}\n",
+        ),
+        ("{\"op\":\"get\",\"a\":\"B\",\"i\":2}", "{\"value\":0}\n"),
+        (
+            "{\"op\":\"irv\",\"a\":\"B\",\"v\":7}",
+            "{\"edit\":6,\"n\":1}\n",
+        ),
+        ("{\"op\":\"get\",\"a\":\"B\",\"i\":2}", "{\"value\":7}\n"),
+        (
+            "{\"op\":\"get\",\"a\":\"B\",\"i\":9}",
+            "{\"error\":\"E06\",\"name\":\"out-of-domain\"}\n",
+        ),
+        (
+            "{\"op\":\"copy\",\"a\":\"A\",\"i\":1,\"b\":\"B\",\"j\":2,\"c\":1}",
+            "{\"edit\":7,\"n\":1}\n",
+        ),
+        ("{\"op\":\"get\",\"a\":\"A\",\"i\":1}", "{\"value\":8}\n"),
+        (
+            "{\"op\":\"undo\",\"k\":6}",
+            "{\"by\":7,\"error\":\"E14\",\"name\":\"blocked\"}\n",
+        ),
+        (
+            "{\"op\":\"irv\",\"a\":\"A\",\"v\":1}",
+            "{\"error\":\"E05\",\"name\":\"wrong-kind\"}\n",
+        ),
+        (
+            "{\"op\":\"sparse\",\"d\":\"T\",\"of\":\"S\"}",
+            "{\"error\":\"E05\",\"name\":\"wrong-kind\"}\n",
+        ),
+        (
+            "{\"op\":\"sparse\",\"d\":\"T\",\"of\":\"X\"}",
+            "{\"error\":\"E04\",\"name\":\"no-such-name\"}\n",
+        ),
+        ("{\"op\":\"size\",\"d\":\"S\"}", "{\"size\":0}\n"),
+    ] {
+        assert_eq!(rt;
+            replies(alloc, &mut history, line)?.as_str(),
+            reply,
+            "at {line}"
+        );
+    }
+    Ok(())
+}
+
+#[test]
+fn one_array_with_another(rt: HostRuntime) -> Result<(), Fail> {
+    let alloc = rt.alloc();
+    let mut history = History::new(alloc);
+    replies(alloc, &mut history, BUILT)?;
+    for (line, reply) in [
+        (
+            "{\"op\":\"array\",\"a\":\"C\",\"d\":\"D\"}",
+            "{\"edit\":4,\"n\":7}\n",
+        ),
+        (
+            "{\"op\":\"fill_all\",\"a\":\"A\",\"v\":3}",
+            "{\"edit\":5,\"n\":4}\n",
+        ),
+        (
+            "{\"op\":\"fill_all\",\"a\":\"C\",\"v\":4}",
+            "{\"edit\":6,\"n\":4}\n",
+        ),
+        (
+            "{\"op\":\"all\",\"a\":\"A\",\"how\":\"*\",\"b\":\"C\"}",
+            "{\"edit\":7,\"n\":4}\n",
+        ),
+        ("{\"op\":\"get\",\"a\":\"A\",\"i\":4}", "{\"value\":12}\n"),
+        (
+            "{\"op\":\"all\",\"a\":\"A\",\"how\":\"-\",\"b\":\"C\"}",
+            "{\"edit\":8,\"n\":4}\n",
+        ),
+        ("{\"op\":\"get\",\"a\":\"A\",\"i\":4}", "{\"value\":8}\n"),
+        (
+            "{\"op\":\"all\",\"a\":\"A\",\"how\":\"+\",\"b\":\"A\"}",
+            "{\"edit\":9,\"n\":4}\n",
+        ),
+        ("{\"op\":\"get\",\"a\":\"A\",\"i\":1}", "{\"value\":16}\n"),
+        (
+            "{\"op\":\"all\",\"a\":\"A\",\"how\":\"=\",\"b\":\"C\"}",
+            "{\"edit\":10,\"n\":4}\n",
+        ),
+        ("{\"op\":\"get\",\"a\":\"A\",\"i\":1}", "{\"value\":4}\n"),
+        (
+            "{\"op\":\"all\",\"a\":\"A\",\"how\":\"%\",\"b\":\"C\"}",
+            "{\"error\":\"E01\",\"name\":\"bad-request\"}\n",
+        ),
+        (
+            "{\"op\":\"undo\",\"k\":6}",
+            "{\"by\":7,\"error\":\"E14\",\"name\":\"blocked\"}\n",
+        ),
+        ("{\"op\":\"where\",\"d\":\"D\",\"i\":3}", "{\"locale\":0}\n"),
+        (
+            "{\"op\":\"where\",\"d\":\"D\",\"i\":5}",
+            "{\"error\":\"E06\",\"name\":\"out-of-domain\"}\n",
+        ),
+        (
+            "{\"op\":\"where\",\"d\":\"A\",\"i\":3}",
+            "{\"error\":\"E05\",\"name\":\"wrong-kind\"}\n",
+        ),
+        (
+            "{\"op\":\"where\",\"d\":\"X\",\"i\":3}",
+            "{\"error\":\"E04\",\"name\":\"no-such-name\"}\n",
+        ),
+    ] {
+        assert_eq!(rt;
+            replies(alloc, &mut history, line)?.as_str(),
+            reply,
+            "at {line}"
+        );
+    }
+    Ok(())
+}
+
+#[test]
+fn associative_domains_of_both_types(rt: HostRuntime) -> Result<(), Fail> {
+    let alloc = rt.alloc();
+    let mut history = History::new(alloc);
+    replies(alloc, &mut history, BUILT)?;
+    for (line, reply) in [
+        (
+            "{\"op\":\"assoc\",\"d\":\"K\",\"of\":\"int\"}",
+            "{\"edit\":4,\"n\":1}\n",
+        ),
+        (
+            "{\"op\":\"assoc\",\"d\":\"T\",\"of\":\"text\"}",
+            "{\"edit\":5,\"n\":1}\n",
+        ),
+        (
+            "{\"op\":\"assoc\",\"d\":\"D\",\"of\":\"text\"}",
+            "{\"error\":\"E03\",\"name\":\"name-taken\"}\n",
+        ),
+        (
+            "{\"op\":\"array\",\"a\":\"B\",\"d\":\"K\"}",
+            "{\"edit\":6,\"n\":3}\n",
+        ),
+        (
+            "{\"op\":\"array\",\"a\":\"C\",\"d\":\"T\"}",
+            "{\"edit\":7,\"n\":3}\n",
+        ),
+        (
+            "{\"op\":\"get\",\"a\":\"B\",\"i\":2}",
+            "{\"error\":\"E06\",\"name\":\"out-of-domain\"}\n",
+        ),
+        (
+            "{\"op\":\"get\",\"a\":\"B\",\"i\":\"x\"}",
+            "{\"error\":\"E05\",\"name\":\"wrong-kind\"}\n",
+        ),
+        (
+            "{\"op\":\"get\",\"a\":\"C\",\"i\":\"x\"}",
+            "{\"error\":\"E06\",\"name\":\"out-of-domain\"}\n",
+        ),
+        (
+            "{\"op\":\"get\",\"a\":\"C\",\"i\":2}",
+            "{\"error\":\"E05\",\"name\":\"wrong-kind\"}\n",
+        ),
+        ("{\"op\":\"size\",\"d\":\"K\"}", "{\"size\":0}\n"),
+        (
+            "{\"op\":\"undo\",\"k\":4}",
+            "{\"by\":6,\"error\":\"E14\",\"name\":\"blocked\"}\n",
+        ),
+    ] {
+        assert_eq!(rt;
+            replies(alloc, &mut history, line)?.as_str(),
+            reply,
+            "at {line}"
+        );
+    }
+    Ok(())
+}
+
+#[test]
 fn broken_lines(rt: HostRuntime) -> Result<(), Fail> {
     let alloc = rt.alloc();
     let mut lines = Vec::from_slice(alloc, b"{\"op\":\"domain\",\"d\":\"D\"\n")?;
