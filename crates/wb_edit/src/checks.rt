@@ -57,6 +57,7 @@ fn is_read(pattern: &Pattern, cell: &Cell) -> bool {
     match *pattern {
         Pattern::One(read) => read.cell() == *cell,
         Pattern::Objects => false,
+        Pattern::Members(_) => false,
         Pattern::Uses(_) => false,
         Pattern::Elements(_) => false,
     }
