@@ -18,7 +18,7 @@ use Rattle.wb_book.specs.contracts.values.index.IndexOrd.TheImpl.Laws as laws
 use Rattle.wb_book.specs.Readers.{element_in, elements}
 use Rattle.selective_undo.specs.Changes.{IsOrder}
 use Rattle.selective_undo.proofs.Evaluation.{entries-retain_keys}
-use Rattle.wb_edit.proofs.Kept.States.{same_name}
+use Rattle.wb_resize.proofs.States.{same_name}
 use Rattle.wb_edit.proofs.Sorted.{both, first, second, none_below, of_entries}
 
 pub index_order : IsOrder index_cmp

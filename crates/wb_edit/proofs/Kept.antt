@@ -1,6 +1,5 @@
 -- Every command keeps a workbook well formed.
 pub mod Steps
-pub mod States
 pub mod NewDomain
 pub mod Remapped
 pub mod NewArray

@@ -1,6 +1,5 @@
 pub mod Trees
 pub mod Columns
-pub mod Gets
 pub mod Attempts
 pub mod Sums
 pub mod Rectangles

@@ -36,7 +36,7 @@ use Rattle.wb_edit.specs.Tests.{array_kind, arr}
 use Rattle.wb_edit.specs.Writes.{put}
 use Rattle.wb_edit.proofs.Columns.{map-append}
 use Rattle.wb_edit.proofs.Elements.{index_order, number_of, elements_ascend, find_element}
-use Rattle.wb_edit.proofs.Kept.States.{same_name}
+use Rattle.wb_resize.proofs.States.{same_name}
 use Rattle.wb_edit.proofs.Kept.Steps.{array_is}
 use Rattle.wb_edit.proofs.Rectangles.{whole}
 use Rattle.wb_edit.proofs.Sorted.{both, first, second}

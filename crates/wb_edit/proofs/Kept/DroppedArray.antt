@@ -25,8 +25,8 @@ use Rattle.wb_edit.specs.Looks.{Tree, judged}
 use Rattle.wb_edit.specs.Tests.{array_kind}
 use Rattle.wb_edit.specs.Writes.{clear_all}
 use Rattle.wb_edit.proofs.Elements.{number_of, find_element}
-use Rattle.wb_edit.proofs.Gets.{after, cond-or, list_any-nowhere, get-apply}
-use Rattle.wb_edit.proofs.Kept.States.{same_name, in_column, second_first, indices_same, index_cell_same, IsObject-same, IsMember-same}
+use Rattle.wb_resize.proofs.Gets.{after, cond-or, list_any-nowhere, get-apply}
+use Rattle.wb_resize.proofs.States.{same_name, in_column, second_first, indices_same, index_cell_same, IsObject-same, IsMember-same}
 use Rattle.wb_edit.proofs.Kept.Steps.{Keeps, keeps_read, keeps_judged, array_is}
 
 -- ---- cells that become absent

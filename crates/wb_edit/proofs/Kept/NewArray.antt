@@ -25,8 +25,8 @@ use Rattle.wb_book.specs.WellFormed.{IsWellFormed, IsImplicit, IsElement, has, p
 use Rattle.wb_edit.specs.Commands.{array, array_cells}
 use Rattle.wb_edit.specs.Tests.{is_free, domain_kind, dom, member_in, members, idx, indices_of}
 use Rattle.wb_edit.specs.Looks.{Tree, judged}
-use Rattle.wb_edit.proofs.Gets.{after, after-column, after-beside, get-apply}
-use Rattle.wb_edit.proofs.Kept.States.{in_column, second_first, shape_of_domain, no_element, IsMember-same, index_cell_same, indices_same, was_free, domains_stay, stays, names_kept, objects_kept}
+use Rattle.wb_resize.proofs.Gets.{after, after-column, after-beside, get-apply}
+use Rattle.wb_resize.proofs.States.{in_column, second_first, shape_of_domain, no_element, IsMember-same, index_cell_same, indices_same, was_free, domains_stay, stays, names_kept, objects_kept}
 use Rattle.wb_edit.proofs.Members.{members_found}
 use Rattle.wb_edit.proofs.Kept.Steps.{Keeps, keeps_read, keeps_judged, free_is, domain_is}
 

@@ -23,8 +23,8 @@ use Rattle.wb_edit.specs.Tests.{is_free}
 use Rattle.wb_edit.specs.Layouts.{for_rank, mapped}
 use Rattle.wb_edit.specs.Looks.{judged}
 use Rattle.wb_edit.proofs.Layouts.{mapping_for}
-use Rattle.wb_edit.proofs.Gets.{after, after-column, after-beside, get-apply}
-use Rattle.wb_edit.proofs.Kept.States.{in_column, domain_of_array, of_kind, no_inside, no_member, IsMember-same, index_cell_same, indices_same, was_free, apart, stays, names_kept, objects_kept}
+use Rattle.wb_resize.proofs.Gets.{after, after-column, after-beside, get-apply}
+use Rattle.wb_resize.proofs.States.{in_column, domain_of_array, of_kind, no_inside, no_member, IsMember-same, index_cell_same, indices_same, was_free, apart, stays, names_kept, objects_kept}
 use Rattle.wb_edit.proofs.Kept.Steps.{Keeps, keeps_read, keeps_judged, free_is}
 
 -- The workbook t is s with a domain of these ranges and this mapping.

@@ -16,8 +16,8 @@ use Rattle.wb_edit.specs.Commands.{set}
 use Rattle.wb_edit.specs.Looks.{Tree, judged}
 use Rattle.wb_edit.specs.Tests.{array_kind, is_there, fits, key, element}
 use Rattle.wb_edit.specs.Writes.{put}
-use Rattle.wb_edit.proofs.Gets.{same_key, get-apply}
-use Rattle.wb_edit.proofs.Kept.States.{IsObject-same, IsMember-same, index_cell_same, indices_same}
+use Rattle.wb_resize.proofs.Gets.{same_key, get-apply}
+use Rattle.wb_resize.proofs.States.{IsObject-same, IsMember-same, index_cell_same, indices_same}
 use Rattle.wb_edit.proofs.Kept.Steps.{Keeps, keeps_read, keeps_judged, there_is}
 
 -- where an element is there, it is at an index of the array, and so may be another number

@@ -17,8 +17,8 @@ use Rattle.wb_edit.specs.Kinds.{is_sparse, over_sparse}
 use Rattle.wb_edit.specs.Looks.{Tree, judged}
 use Rattle.wb_edit.specs.Tests.{array_kind}
 use Rattle.wb_edit.specs.Writes.{put}
-use Rattle.wb_edit.proofs.Gets.{get-apply}
-use Rattle.wb_edit.proofs.Kept.States.{same_name, IsObject-same, IsMember-same, index_cell_same, indices_same}
+use Rattle.wb_resize.proofs.Gets.{get-apply}
+use Rattle.wb_resize.proofs.States.{same_name, IsObject-same, IsMember-same, index_cell_same, indices_same}
 use Rattle.wb_edit.proofs.Kept.Steps.{Keeps, keeps_read, keeps_judged, array_is}
 
 -- over a sparse domain any number of 64 bits is one

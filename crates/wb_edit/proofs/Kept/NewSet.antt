@@ -20,9 +20,9 @@ use Rattle.wb_edit.specs.Kinds.{rank_of, rectangular}
 use Rattle.wb_edit.specs.Looks.{Tree, judged}
 use Rattle.wb_edit.specs.Tests.{is_free, domain_kind, dom}
 use Rattle.wb_edit.specs.Writes.{put}
-use Rattle.wb_edit.proofs.Gets.{after, get-apply}
+use Rattle.wb_resize.proofs.Gets.{after, get-apply}
 use Rattle.wb_edit.proofs.Layouts.{kind_is}
-use Rattle.wb_edit.proofs.Kept.States.{second_first, no_shape, no_member, no_mapping, IsMember-same, index_cell_same, indices_same, was_free, domains_stay, stays, names_kept, objects_kept}
+use Rattle.wb_resize.proofs.States.{second_first, no_shape, no_member, no_mapping, IsMember-same, index_cell_same, indices_same, was_free, domains_stay, stays, names_kept, objects_kept}
 use Rattle.wb_edit.proofs.Kept.Steps.{Keeps, keeps_read, keeps_judged, free_is, domain_is}
 
 -- The workbook t is s with a domain and no cells of it; how it is bound is said apart.

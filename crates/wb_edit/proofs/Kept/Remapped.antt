@@ -19,9 +19,9 @@ use Rattle.wb_edit.specs.Layouts.{for_rank, mapped}
 use Rattle.wb_edit.specs.Looks.{Tree, judged}
 use Rattle.wb_edit.specs.Tests.{domain_kind}
 use Rattle.wb_edit.specs.Writes.{put}
-use Rattle.wb_edit.proofs.Gets.{same_key, get-apply}
+use Rattle.wb_resize.proofs.Gets.{same_key, get-apply}
 use Rattle.wb_edit.proofs.Layouts.{kind_is, mapping_for}
-use Rattle.wb_edit.proofs.Kept.States.{IsObject-same, IsMember-same, index_cell_same, indices_same, shape_of_domain}
+use Rattle.wb_resize.proofs.States.{IsObject-same, IsMember-same, index_cell_same, indices_same, shape_of_domain}
 use Rattle.wb_edit.proofs.Kept.Steps.{Keeps, keeps_read, keeps_judged, domain_is}
 
 same_domain : (n d : Name) → ◌≡◌ {A = Cell} (Mapping n) (Mapping d) → n ≡ d

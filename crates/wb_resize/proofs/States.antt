@@ -19,7 +19,7 @@ use Rattle.wb_book.specs.Shapes.{Range}
 use Rattle.wb_book.specs.Cells.{Name, Cells, index_cmp, is_same_name, same_names}
 use Rattle.wb_book.specs.WellFormed.{IsWellFormed, IsObject, IsRectangle, IsShape, HasMapping, IsMember, IsElement, has, domain_in, array_in, ranges_in, inside_of, domain_at, array_at, index_cell, is_index_of_array}
 use Rattle.wb_book.specs.Kinds.{kind_of}
-use Rattle.wb_edit.proofs.Gets.{list_any-nowhere}
+use Rattle.wb_resize.proofs.Gets.{list_any-nowhere}
 
 pub same_name : (m n : Name) → is_same_name m n ≡ true → m ≡ n
 same_name m n e = same_names m n ((Equal-is _).0 e)

@@ -1,0 +1,51 @@
+-- What holds of every change of a domain's indices.
+use Rattle.std.specs.Prelude.{◌≡◌, ℕ, ℤ, true, List, ◌∷◌, Some, FitsSigned}
+use Rattle.std.specs.Int.{w64}
+use Rattle.std.specs.List.{Contains, list_any}
+use Rattle.std.specs.FinMap.{get}
+use Rattle.selective_undo.specs.Changes.{apply}
+use Rattle.wb_book.specs.declared.cells.cell.Cell.TheVariants.{Shape, Member, Use}
+use Rattle.wb_book.specs.declared.cells.kind.DomainKind.TheVariants.{Rectangular, Sparse, Associative}
+use Rattle.wb_book.specs.declared.cells.kind.DomainKind.{DomainKind}
+use Rattle.wb_book.specs.declared.cells.kind.Kind.TheVariants.{Rectangular as OverRectangular}
+use Rattle.wb_book.specs.declared.cells.value.Binding.TheVariants.{Array as BoundArray, Sparse as BoundSparse}
+use Rattle.wb_book.specs.declared.cells.value.Value.TheVariants.{Ranges, Present, Bound}
+use Rattle.wb_book.specs.declared.values.index.Index.{Index}
+use Rattle.wb_book.specs.Cells.{Name, Cells, is_same_name}
+use Rattle.wb_book.specs.Kinds.{kind_of}
+use Rattle.wb_book.specs.Shapes.{Range, indices}
+use Rattle.wb_book.specs.WellFormed.{IsWellFormed, IsRectangle, MayHave, domain_at, has}
+use Rattle.wb_resize.specs.Writes.{put}
+use Rattle.wb_resize.specs.Resized.{without, resized_cells}
+
+-- the arrays over a domain, all of them and no others, each with a number of 64 bits
+pub record AreFills (s : Cells) (d : Name) (fills : List (Name × ℤ)) : Type 0 where
+  pub all : (a : Name) → get s (Use d a) ≡ Some (Bound BoundArray) → list_any (λ f. is_same_name a f.0) fills ≡ true
+  pub only : (a : Name) (v : ℤ) → Contains fills (a, v) → get s (Use d a) ≡ Some (Bound BoundArray)
+  pub numbers : (a : Name) (v : ℤ) → Contains fills (a, v) → FitsSigned w64 v
+
+-- no sparse domain in d has an index that is not among is
+abbrev pub LosesNone : Cells → (d : Name) → (is : List Index) → Type 0
+LosesNone s d is = (e : Name) (i : Index) → get s (Use d e) ≡ Some (Bound BoundSparse) → get s (Member e i) ≡ Some Present → has is i ≡ true
+
+-- New ranges of a rectangular domain leave a well-formed workbook well formed, where no sparse domain in it loses an index.
+abbrev pub KeepsRectangles : Type 0
+KeepsRectangles =
+    (s : Cells) (d : Name) (rank : ℕ) (fills : List (Name × ℤ)) (old new : List Range)
+    → IsWellFormed s → domain_at s d ≡ Some (Rectangular rank) → get s (Shape d) ≡ Some (Ranges old)
+    → IsRectangle rank new → AreFills s d fills → LosesNone s d (indices new)
+    → IsWellFormed (apply (put (Shape d) (Ranges new) ∷ resized_cells (OverRectangular rank) d fills (without (indices new) (indices old)) (without (indices old) (indices new))) s)
+
+-- a domain that has members: a sparse or an associative one
+abbrev pub HasMembers : DomainKind → Type 0
+HasMembers (Rectangular rank) = ⊥
+HasMembers (Sparse parent rank) = Unit {0}
+HasMembers (Associative type) = Unit {0}
+
+-- New indices of a sparse or associative domain leave a well-formed workbook well formed, where it may have each that comes.
+abbrev pub KeepsSets : Type 0
+KeepsSets =
+    (s : Cells) (d : Name) (kind : DomainKind) (fills : List (Name × ℤ)) (leaving coming : List Index)
+    → IsWellFormed s → domain_at s d ≡ Some kind → HasMembers kind
+    → AreFills s d fills → ((i : Index) → Contains coming i → MayHave s (Some kind) i)
+    → IsWellFormed (apply (resized_cells (kind_of kind) d fills leaving coming) s)
