@@ -1,6 +1,8 @@
 mod domains;
 mod requests;
+mod rows;
 mod sessions;
+mod undo;
 
 use crate::session;
 use std::alloc::Global;
