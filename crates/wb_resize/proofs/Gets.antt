@@ -1,5 +1,5 @@
 -- What a finite map holds after changes, one key at a time.
-use Rattle.std.proofs.Common.{◌≡◌, Bool, true, false, cond, ◌||◌, List, [], ◌∷◌, map, Option, Some, refl, ap, ◌∙◌, Ordering}
+use Rattle.std.proofs.Common.{◌≡◌, Bool, true, false, cond, ◌||◌, List, [], ◌∷◌, ◌++◌, map, Option, Some, refl, ap, ◌∙◌, Ordering}
 use Rattle.std.specs.Ordering.{eq_by_cmp}
 use Rattle.std.specs.Cmp.{Equal-is}
 use Rattle.std.specs.List.{list_any}
@@ -23,21 +23,38 @@ module _ {K V : Type 0} (order : K → K → Ordering) where
   after [] c o = o
   after (x ∷ xs) c o = after xs c (cond (eq_by_cmp order c x.cell) x.value o)
 
+  -- changes and then others
+  pub after-append : (xs ys : List (Change K V)) (c : K) (o : Option V) → after (xs ++ ys) c o ≡ after ys c (after xs c o)
+  after-append [] ys c o = refl
+  after-append (x ∷ xs) ys c o = after-append xs ys c (cond (eq_by_cmp order c x.cell) x.value o)
+
+  -- one value, or nothing, at each of some keys
+  abbrev pub each : {A : Type 0} → (A → K) → List A → Option V → List (Change K V)
+  each make is v = map (λ k. record { cell = k; value = v }) (map make is)
+
+  -- a key that is one of them holds it, another one what it held
+  pub after-each : {A : Type 0} (make : A → K) (is : List A) (v : Option V) (c : K) (o : Option V) → after (each make is v) c o ≡ cond (list_any (λ i. eq_by_cmp order c (make i)) is) v o
+  after-each make [] v c o = refl
+  after-each make (i ∷ is) v c o =
+      after-each make is v c (cond (eq_by_cmp order c (make i)) v o)
+      ∙ cond-or (eq_by_cmp order c (make i)) (list_any (λ i. eq_by_cmp order c (make i)) is) v o
+
+  -- a key that is none of them holds what it held
+  pub each-beside : {A : Type 0} (make : A → K) (is : List A) (v : Option V) (c : K) (o : Option V) → ((i : A) → eq_by_cmp order c (make i) ≡ false) → after (each make is v) c o ≡ o
+  each-beside make [] v c o beside = refl
+  each-beside make (i ∷ is) v c o beside = each-beside make is v c (cond (eq_by_cmp order c (make i)) v o) beside ∙ ap (λ b. cond b v o) (beside i)
+
   -- one value at each of some keys
   abbrev pub column : {A : Type 0} → (A → K) → List A → V → List (Change K V)
-  column make is v = map (λ k. record { cell = k; value = Some v }) (map make is)
+  column make is v = each make is (Some v)
 
   -- at a key of the column, the value
   pub after-column : {A : Type 0} (make : A → K) (is : List A) (v : V) (c : K) (o : Option V) → after (column make is v) c o ≡ cond (list_any (λ i. eq_by_cmp order c (make i)) is) (Some v) o
-  after-column make [] v c o = refl
-  after-column make (i ∷ is) v c o =
-      after-column make is v c (cond (eq_by_cmp order c (make i)) (Some v) o)
-      ∙ cond-or (eq_by_cmp order c (make i)) (list_any (λ i. eq_by_cmp order c (make i)) is) (Some v) o
+  after-column make is v = after-each make is (Some v)
 
   -- a key that is none of them holds what it held
   pub after-beside : {A : Type 0} (make : A → K) (is : List A) (v : V) (c : K) (o : Option V) → ((i : A) → eq_by_cmp order c (make i) ≡ false) → after (column make is v) c o ≡ o
-  after-beside make [] v c o beside = refl
-  after-beside make (i ∷ is) v c o beside = after-beside make is v c (cond (eq_by_cmp order c (make i)) (Some v) o) beside ∙ ap (λ b. cond b (Some v) o) (beside i)
+  after-beside make is v = each-beside make is (Some v)
 
 module _ {K : Type 0} {order : K → K → Ordering} (ordered : IsOrder order) where
   -- keys that compare equal are one

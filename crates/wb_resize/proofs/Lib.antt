@@ -1,2 +1,6 @@
 pub mod Gets
 pub mod States
+pub mod Without
+pub mod Exchanged
+pub mod Resized
+pub mod Sets

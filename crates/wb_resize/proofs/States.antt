@@ -55,7 +55,7 @@ pub of_kind : (o : Option DomainKind) (kind : Kind) → option_map kind_of o ≡
 of_kind None kind e = cc
 of_kind (Some x) kind e = (x, refl, same_Some (kind_of x) kind e)
 
-array_in-is : (v : Option Value) (x : Name × Kind) → array_in v ≡ Some x → v ≡ Some (Array x.0 x.1)
+pub array_in-is : (v : Option Value) (x : Name × Kind) → array_in v ≡ Some x → v ≡ Some (Array x.0 x.1)
 array_in-is (Some (Array d k)) x e = cc
 array_in-is _ x e = cc
 

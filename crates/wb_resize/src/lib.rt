@@ -3,3 +3,5 @@
 //! Commands that change the indices of a domain, one or many, write the same kinds of cells: those that say which indices
 //! are in it, and the elements of the arrays over it. `specs/Resized.antt` says which, and `specs/Laws.antt` what holds of them.
 #![tactic(auto)]
+
+pub mod laws;

@@ -1,0 +1,9 @@
+//! What holds of every change of a domain's indices: each law is the contract of a function that does nothing.
+
+ghost use Rattle.wb_resize.specs.Laws.{KeepsSets};
+
+/// New indices of a sparse or associative domain leave a well-formed workbook well formed, where each that comes is one
+/// that the domain may have, and each array over the domain gets a number of 64 bits as its new elements.
+pub fn keeps_sets()
+    ensures { KeepsSets }
+{}
