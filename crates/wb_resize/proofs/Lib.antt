@@ -4,3 +4,4 @@ pub mod Without
 pub mod Exchanged
 pub mod Resized
 pub mod Sets
+pub mod Rectangles

@@ -60,7 +60,7 @@ is_resized s t kind d fills leaving coming at =
 
 -- ---- an index is in the domain and an array over it has an element there, or neither
 
-itself : (d : Name) → is_same_name d d ≡ true
+pub itself : (d : Name) → is_same_name d d ≡ true
 itself d = (eq_by_cmp_equiv nat_list_cmp_total).refl d
 
 not_here : (b c : Bool) (p o : Option Value) → c ≡ false → cond (b && c) p o ≡ o

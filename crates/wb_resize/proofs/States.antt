@@ -97,13 +97,18 @@ IsObject-same s t kept Present h = h
 IsObject-same s t kept (Bound b) h = h
 IsObject-same s t kept (Number x) h = h
 
--- what is said of a member stays so where the indices of rectangular domains do
+-- what is said of a member stays so where an index of a sparse domain stays in its parent
+pub IsMember-kept : (s t : Cells) (kind : Option DomainKind) (i : Index) (v : Option Value)
+    → ((parent : Name) (rank : ℕ) → kind ≡ Some (Sparse parent rank) → v ≡ Some Present → get s (In parent i) ≡ Some Present → get t (In parent i) ≡ Some Present) → IsMember s kind i v → IsMember t kind i v
+IsMember-kept s t kind i None kept m = m
+IsMember-kept s t (Some (Sparse parent rank)) i (Some v) kept m = (m.0, kept parent rank refl (ap Some m.0) m.1)
+IsMember-kept s t (Some (Associative type)) i (Some v) kept m = m
+IsMember-kept s t (Some (Rectangular rank)) i (Some v) kept m = m
+IsMember-kept s t None i (Some v) kept m = m
+
+-- so it does where the indices of rectangular domains do
 pub IsMember-same : (s t : Cells) → ((d : Name) (i : Index) → get s (In d i) ≡ Some Present → get t (In d i) ≡ Some Present) → (kind : Option DomainKind) (i : Index) (v : Option Value) → IsMember s kind i v → IsMember t kind i v
-IsMember-same s t kept kind i None m = m
-IsMember-same s t kept (Some (Sparse parent rank)) i (Some v) m = (m.0, kept parent i m.1)
-IsMember-same s t kept (Some (Associative type)) i (Some v) m = m
-IsMember-same s t kept (Some (Rectangular rank)) i (Some v) m = m
-IsMember-same s t kept None i (Some v) m = m
+IsMember-same s t kept kind i v = IsMember-kept s t kind i v (λ parent rank over there. kept parent i)
 
 -- the cell that says whether an index is in a domain holds the same where both cells do that may say so
 pub index_cell_same : (s t : Cells) (kind : Kind) (d : Name) (i : Index) → get t (In d i) ≡ get s (In d i) → get t (Member d i) ≡ get s (Member d i) → get t (index_cell kind d i) ≡ get s (index_cell kind d i)

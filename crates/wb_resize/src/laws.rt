@@ -1,6 +1,12 @@
 //! What holds of every change of a domain's indices: each law is the contract of a function that does nothing.
 
-ghost use Rattle.wb_resize.specs.Laws.{KeepsSets};
+ghost use Rattle.wb_resize.specs.Laws.{KeepsRectangles, KeepsSets};
+
+/// New ranges of a rectangular domain leave a well-formed workbook well formed, where no sparse domain in it has an index
+/// outside them, and each array over the domain gets a number of 64 bits as its new elements.
+pub fn keeps_rectangles()
+    ensures { KeepsRectangles }
+{}
 
 /// New indices of a sparse or associative domain leave a well-formed workbook well formed, where each that comes is one
 /// that the domain may have, and each array over the domain gets a number of 64 bits as its new elements.
