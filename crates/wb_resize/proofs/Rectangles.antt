@@ -5,12 +5,11 @@ use Rattle.std.specs.FinMap.{get}
 use Rattle.selective_undo.specs.Changes.{apply}
 use Rattle.wb_book.specs.declared.cells.cell.Cell.{Cell}
 use Rattle.wb_book.specs.declared.cells.cell.Cell.TheVariants.{Object, Shape, In, Member, Mapping, Use, Implicit, Element}
-use Rattle.wb_book.specs.declared.cells.kind.DomainKind.{DomainKind}
 use Rattle.wb_book.specs.declared.cells.kind.DomainKind.TheVariants.{Rectangular, Sparse}
 use Rattle.wb_book.specs.declared.cells.kind.Kind.TheVariants.{Rectangular as OverRectangular}
 use Rattle.wb_book.specs.declared.cells.value.Binding.TheVariants.{Sparse as BoundSparse}
 use Rattle.wb_book.specs.declared.cells.value.Value.{Value}
-use Rattle.wb_book.specs.declared.cells.value.Value.TheVariants.{Domain, Ranges, Present, Bound}
+use Rattle.wb_book.specs.declared.cells.value.Value.TheVariants.{Ranges, Present, Bound}
 use Rattle.wb_book.specs.declared.values.index.Index.{Index}
 use Rattle.wb_book.specs.Cells.{Name, Cells, Changes, cell_cmp, cell_order, is_same_name}
 use Rattle.wb_book.specs.Shapes.{Range, indices}
@@ -20,9 +19,9 @@ use Rattle.wb_resize.specs.Resized.{without, resized_cells}
 use Rattle.wb_resize.specs.Writes.{put}
 use Rattle.wb_resize.proofs.Gets.{after, get-apply}
 use Rattle.wb_resize.proofs.Exchanged.{exchanged_at, neither-resized}
-use Rattle.wb_resize.proofs.Resized.{itself, is_shape, IsResized, is_resized, elements_kept}
+use Rattle.wb_resize.proofs.Resized.{is_shape, IsResized, is_resized, elements_kept}
 use Rattle.wb_resize.proofs.Without.{has-without}
-use Rattle.wb_resize.proofs.States.{same_name, IsObject-same, IsMember-kept}
+use Rattle.wb_resize.proofs.States.{same_name, itself, domain_in-is, IsObject-same, IsMember-kept}
 
 -- an index is present afterwards exactly where it is among the new ones
 exchanged_present : (in_new in_old : Bool) → cond (in_new && not in_old) (Some Present) (cond (in_old && not in_new) None (present_if in_old)) ≡ present_if in_new
@@ -33,10 +32,6 @@ exchanged_present false false = refl
 
 new_present : (old new : List Range) (i : Index) → exchanged_at (without (indices new) (indices old)) (without (indices old) (indices new)) Present i (present_if (has (indices old) i)) ≡ present_if (has (indices new) i)
 new_present old new i = rw (has-without (indices new) (indices old) i, has-without (indices old) (indices new) i) (exchanged_present (has (indices new) i) (has (indices old) i))
-
-domain_in-is : (v : Option Value) (kind : DomainKind) → domain_in v ≡ Some kind → v ≡ Some (Domain kind)
-domain_in-is (Some (Domain k)) kind e = cc
-domain_in-is _ kind e = cc
 
 -- a sparse domain is bound to its parent
 parent_bound : (s : Cells) → IsWellFormed s → (d e : Name) (rank : ℕ) → domain_at s e ≡ Some (Sparse d rank) → get s (Use d e) ≡ Some (Bound BoundSparse)
@@ -58,6 +53,13 @@ rectangle_resized s t d rank fills old new h there was whole are loses shape k =
       | true ↦ λ same. ap (exchanged_at leaving coming Present i) (h.insides n i ∙ ap (λ o. inside_of (ranges_in o) i) (ap (λ m. get s (Shape m)) (same_name n d same) ∙ was)) ∙ new_present old new i
       | false ↦ λ same. refl
     ] refl in
+    let stays : (n : Name) (i : Index) (parent : Name) (other : ℕ) → domain_at s n ≡ Some (Sparse parent other) → get s (Member n i) ≡ Some Present → get s (In parent i) ≡ Some Present → get t (In parent i) ≡ Some Present = λ n i parent other sparse present was_in.
+    rw (inside parent i) (elim (is_same_name parent d) as (λ b. is_same_name parent d ≡ b → cond b (present_if (has (indices new) i)) (get s (In parent i)) ≡ Some Present) [
+      | true ↦ λ same.
+          let bound : get s (Use d n) ≡ Some (Bound BoundSparse) = parent_bound s h d n other (sparse ∙ ap (λ p. Some (Sparse p other)) (same_name parent d same)) in
+          ap present_if (loses n i bound present)
+      | false ↦ λ same. was_in
+    ] refl) in
     record {
       names = λ n v is. h.names n v (sym (k.object n) ∙ is);
       objects = λ n v is. IsObject-same s t (λ e other there. ap domain_in (k.object e) ∙ there) v (h.objects n v (sym (k.object n) ∙ is));
@@ -69,12 +71,7 @@ rectangle_resized s t d rank fills old new h there was whole are loses shape k =
         | true ↦ refl
         | false ↦ h.insides n i
       ]);
-      members = λ n i. rw (k.object n, k.member n i) (IsMember-kept s t (domain_at s n) i (get s (Member n i)) (λ parent other sparse present still. rw (inside parent i) (elim (is_same_name parent d) as (λ b. is_same_name parent d ≡ b → cond b (present_if (has (indices new) i)) (get s (In parent i)) ≡ Some Present) [
-        | true ↦ λ same.
-            let bound : get s (Use d n) ≡ Some (Bound BoundSparse) = parent_bound s h d n other (sparse ∙ ap (λ p. Some (Sparse p other)) (same_name parent d same)) in
-            ap present_if (loses n i bound present)
-        | false ↦ λ same. still
-      ] refl)) (h.members n i));
+      members = λ n i. rw (k.object n, k.member n i) (IsMember-kept s t (domain_at s n) i (get s (Member n i)) (stays n i) (h.members n i));
       mappings = λ n. rw (k.object n, k.mapping n) (h.mappings n);
       uses = λ e n. rw (k.used e n, k.object n) (h.uses e n);
       implicits = λ a. rw (k.object a, k.implicit a) (h.implicits a);

@@ -2,8 +2,6 @@
 use Rattle.std.proofs.Common.{◌≡◌, ⊎_elim, ℤ, Bool, true, false, not, cond, ◌&&◌, List, Option, Some, None, is_some, option_map, FitsSigned, refl, sym, ap, subst, ◌∙◌}
 use Rattle.std.proofs.lemmas.Option.{same_Some}
 use Rattle.std.specs.Int.{w64}
-use Rattle.std.specs.Cmp.{eq_by_cmp_equiv}
-use Rattle.std.specs.Cmp.Lexicographic.{nat_list_cmp_total}
 use Rattle.std.specs.FinMap.{get}
 use Rattle.std.specs.List.{Contains, list_any}
 use Rattle.wb_book.specs.declared.cells.cell.Cell.{Cell}
@@ -23,7 +21,7 @@ use Rattle.wb_resize.specs.Laws.{AreFills}
 use Rattle.wb_resize.specs.Resized.{elements_exchanged, resized_cells}
 use Rattle.wb_resize.proofs.Gets.{after}
 use Rattle.wb_resize.proofs.Exchanged.{has_ranges, exchanged_at, IsFilled, after-inside, after-member, no_element-resized, no_index-resized, neither-resized, filled}
-use Rattle.wb_resize.proofs.States.{same_name, array_in-is, domain_of_array, index_cell_same, indices_same}
+use Rattle.wb_resize.proofs.States.{same_name, itself, array_in-is, domain_of_array, index_cell_same, indices_same}
 
 abbrev pub is_shape : Cell → Bool
 is_shape (Shape n) = true
@@ -59,9 +57,6 @@ is_resized s t kind d fills leaving coming at =
     }
 
 -- ---- an index is in the domain and an array over it has an element there, or neither
-
-pub itself : (d : Name) → is_same_name d d ≡ true
-itself d = (eq_by_cmp_equiv nat_list_cmp_total).refl d
 
 not_here : (b c : Bool) (p o : Option Value) → c ≡ false → cond (b && c) p o ≡ o
 not_here true true p o e = cc

@@ -19,8 +19,7 @@ use Rattle.wb_resize.specs.Resized.{resized_cells}
 use Rattle.wb_resize.proofs.Gets.{after, get-apply}
 use Rattle.wb_resize.proofs.Exchanged.{has_ranges, exchanged_at, neither-resized}
 use Rattle.wb_resize.proofs.Resized.{IsResized, is_resized, elements_kept}
-use Rattle.wb_resize.proofs.Without.{same_index}
-use Rattle.wb_resize.proofs.States.{same_name, IsObject-same, IsMember-same}
+use Rattle.wb_resize.proofs.States.{same_name, same_index, IsObject-same, IsMember-same}
 
 set_has_no_ranges : (kind : DomainKind) → HasMembers kind → has_ranges (kind_of kind) ≡ false
 set_has_no_ranges (Rectangular rank) set = absurd set

@@ -3,7 +3,8 @@ use Rattle.std.proofs.Common.{◌≡◌, ℕ, true, false, cond, ◌&&◌, List,
 use Rattle.std.proofs.lemmas.Option.{none-some, same_Some}
 use Rattle.std.specs.Ordering.{is_eq, ordering_then}
 use Rattle.std.specs.declared.cmp.Ordering.TheVariants.{Less, Equal, Greater}
-use Rattle.std.specs.Cmp.{Equal-is}
+use Rattle.std.specs.Cmp.{Equal-is, eq_by_cmp_equiv}
+use Rattle.std.specs.Cmp.Lexicographic.{nat_list_cmp_total}
 use Rattle.std.specs.List.{list_any}
 use Rattle.std.specs.FinMap.{get}
 use Rattle.wb_book.specs.declared.cells.cell.Cell.TheVariants.{Object, Shape, In, Member, Mapping, Element}
@@ -16,13 +17,19 @@ use Rattle.wb_book.specs.declared.cells.value.Value.TheVariants.{Domain, Array, 
 use Rattle.wb_book.specs.declared.values.index.Index.{Index}
 use Rattle.wb_book.specs.Names.{is_name}
 use Rattle.wb_book.specs.Shapes.{Range}
-use Rattle.wb_book.specs.Cells.{Name, Cells, index_cmp, is_same_name, same_names}
+use Rattle.wb_book.specs.Cells.{Name, Cells, index_cmp, index_cmp-IsAntisymmetric, is_same_name, is_same_index, same_names}
 use Rattle.wb_book.specs.WellFormed.{IsWellFormed, IsObject, IsRectangle, IsShape, HasMapping, IsMember, IsElement, has, domain_in, array_in, ranges_in, inside_of, domain_at, array_at, index_cell, is_index_of_array}
 use Rattle.wb_book.specs.Kinds.{kind_of}
 use Rattle.wb_resize.proofs.Gets.{list_any-nowhere}
 
 pub same_name : (m n : Name) → is_same_name m n ≡ true → m ≡ n
 same_name m n e = same_names m n ((Equal-is _).0 e)
+
+pub itself : (n : Name) → is_same_name n n ≡ true
+itself n = (eq_by_cmp_equiv nat_list_cmp_total).refl n
+
+pub same_index : (i j : Index) → is_same_index i j ≡ true → i ≡ j
+same_index i j e = index_cmp-IsAntisymmetric i j ((Equal-is _).0 e)
 
 -- ---- cells of a name and something else: the order compares the names first
 
@@ -58,6 +65,10 @@ of_kind (Some x) kind e = (x, refl, same_Some (kind_of x) kind e)
 pub array_in-is : (v : Option Value) (x : Name × Kind) → array_in v ≡ Some x → v ≡ Some (Array x.0 x.1)
 array_in-is (Some (Array d k)) x e = cc
 array_in-is _ x e = cc
+
+pub domain_in-is : (v : Option Value) (kind : DomainKind) → domain_in v ≡ Some kind → v ≡ Some (Domain kind)
+domain_in-is (Some (Domain k)) kind e = cc
+domain_in-is _ kind e = cc
 
 module _ (s : Cells) (h : IsWellFormed s) where
   -- an array's domain is there

@@ -1,29 +1,20 @@
 -- The indices of one list that are not among those of another: which they are, and that each stands there once.
 use Rattle.std.proofs.Common.{◌≡◌, ℕ, zero, suc, Bool, true, false, not, cond, ◌&&◌, List, [], ◌∷◌, Some, slice_get, refl, sym, ap, ◌∙◌, arith}
+use Rattle.std.proofs.Math.Bool.{and_comm}
 use Rattle.std.proofs.lemmas.Map.Views.{any-filter_same}
-use Rattle.std.specs.Cmp.{Equal-is}
 use Rattle.std.specs.List.{filter}
 use Rattle.wb_range.specs.Domain.{IsListedOnce}
 use Rattle.wb_book.specs.declared.values.index.Index.{Index}
-use Rattle.wb_book.specs.Cells.{index_cmp-IsAntisymmetric, is_same_index}
+use Rattle.wb_book.specs.Cells.{is_same_index}
 use Rattle.wb_book.specs.WellFormed.{has}
 use Rattle.wb_resize.specs.Resized.{without}
-
--- indices that compare equal are one
-pub same_index : (i j : Index) → is_same_index i j ≡ true → i ≡ j
-same_index i j e = index_cmp-IsAntisymmetric i j ((Equal-is _).0 e)
-
-and_turned : (a b : Bool) → (a && b) ≡ (b && a)
-and_turned true true = refl
-and_turned true false = refl
-and_turned false true = refl
-and_turned false false = refl
+use Rattle.wb_resize.proofs.States.{same_index}
 
 -- those of xs that are not among ys
 pub has-without : (ys xs : List Index) (i : Index) → has (without ys xs) i ≡ (has xs i && not (has ys i))
 has-without ys xs i =
     any-filter_same (is_same_index i) (λ j. not (has ys j)) (not (has ys i)) (λ j same. ap (λ k. not (has ys k)) (sym (same_index i j same))) xs
-    ∙ and_turned (not (has ys i)) (has xs i)
+    ∙ and_comm (not (has ys i)) (has xs i)
 
 -- ---- each once
 
