@@ -1,6 +1,8 @@
 pub mod Shown
 pub mod Packing
 pub mod Points
+pub mod Inside
+pub mod ShiftTests
 pub mod Empty
 pub mod Order
 pub mod Leading

@@ -5,7 +5,7 @@ use Rattle.wb_range.specs.Domain.{IsListedOnce}
 use Rattle.wb_book.specs.declared.values.index.Index.{Index}
 use Rattle.wb_book.specs.declared.values.index.Index.TheVariants.{Point}
 
-point_there : (o : Option (List ℤ)) (i : Index) → option_map Point o ≡ Some i → (x : List ℤ) × (o ≡ Some x) × (Point x ≡ i)
+pub point_there : (o : Option (List ℤ)) (i : Index) → option_map Point o ≡ Some i → (x : List ℤ) × (o ≡ Some x) × (Point x ≡ i)
 point_there None i e = cc
 point_there (Some x) i e = let h : Point x ≡ i = cc in (x, refl, h)
 

@@ -1,6 +1,7 @@
 //! The fixed-size values that cells are made of.
 
 pub mod index;
+mod key;
 pub mod layout;
 pub mod name;
 pub mod point;

@@ -1,7 +1,12 @@
-ghost use Rattle.std.specs.Prelude.{◌≡◌, ◌≢◌, ◌↔◌, ◌<◌, ◌≤◌, [], ◌∷◌, length, slice_get, IfOk};
+ghost use Rattle.std.specs.Prelude.{◌≡◌, ◌≢◌, ◌↔◌, ◌<◌, ◌≤◌, [], ◌∷◌, true, false, length, slice_get, IfOk, OnOk, SomeIff};
 ghost use Rattle.wb_range.specs.Domain.{IsListedOnce};
+ghost use Rattle.wb_rect.specs.Offsets.{each_shifted, translated, expanded};
 ghost use Rattle.wb_rect.specs.Product.{product, IsRectangle};
+ghost use Rattle.wb_rect.specs.ShiftTests.{has_unit_strides, can_shift};
+ghost use Rattle.wb_rect.specs.Slices.{sliced};
 ghost use Rattle.wb_book.specs.Shapes.{indices};
+ghost use Rattle.wb_book.specs.WellFormed.{has};
+ghost use Rattle.wb_book.specs.declared.values.index.Index.TheVariants.{Point as point_index};
 
 use crate::values::index::{AnyIndex, Index};
 use crate::values::point::Point;
@@ -135,6 +140,90 @@ impl AnyRect {
             Ranked::Solid(rect) => nth_in(rect, p),
         }
     }
+
+    /// Whether an index is in the domain. A text is not, nor is an index of another rank.
+    pub fn contains(&self, index: &AnyIndex) -> bool
+        ensures { result ≡ has (indices self.now) index.now }
+    {
+        match index.index() {
+            Index::Text(_) => false,
+            Index::Point(point) => match &self.ranked {
+                Ranked::Line(rect) => contains_in(rect, &point),
+                Ranked::Plane(rect) => contains_in(rect, &point),
+                Ranked::Solid(rect) => contains_in(rect, &point),
+            },
+        }
+    }
+
+    /// Range by range what both have in common, each upward, and `None` where they are of different ranks (Chapel
+    /// Language Specification, Domains: domain slicing; that it runs upward is this repository's own rule).
+    pub fn slice(&self, other: &AnyRect) -> Option<AnyRect>
+        ensures { SomeIff result (length self.now ≡ length other.now) (sliced self.now other.now) }
+    {
+        match &self.ranked {
+            Ranked::Line(rect) => match &other.ranked {
+                Ranked::Line(by) => Some(AnyRect::line(rect.slice(by))),
+                Ranked::Plane(_) | Ranked::Solid(_) => None,
+            },
+            Ranked::Plane(rect) => match &other.ranked {
+                Ranked::Plane(by) => Some(AnyRect::plane(rect.slice(by))),
+                Ranked::Line(_) | Ranked::Solid(_) => None,
+            },
+            Ranked::Solid(rect) => match &other.ranked {
+                Ranked::Solid(by) => Some(AnyRect::solid(rect.slice(by))),
+                Ranked::Line(_) | Ranked::Plane(_) => None,
+            },
+        }
+    }
+
+    /// Each range `lo..hi` as `lo + o..hi + o`, `o` being the offset of its dimension. An empty range stays empty (Chapel
+    /// Language Specification, Domains: `translate`).
+    ///
+    /// Fails with `Strided` where a range has another stride than 1, and else with `TooLarge` where a bound of a resulting
+    /// range that isn't empty lies below -10^18 or above 10^18.
+    pub fn translate(&self, offsets: &[i64]) -> Result<AnyRect, RectErr>
+        requires { length offsets.now ≡ length self.now }
+        ensures ok { IfOk result (λ r. r ≡ translated offsets.now self.now) }
+        ensures within { OnOk result ((has_unit_strides self.now ≡ true) × (can_shift false offsets.now self.now ≡ true)) }
+        ensures strided { (result ≡ Err RectErr.Strided) ↔ (has_unit_strides self.now ≡ false) }
+        ensures too_large { (result ≡ Err RectErr.TooLarge) ↔
+            ((has_unit_strides self.now ≡ true) × (can_shift false offsets.now self.now ≡ false)) }
+    {
+        self.shift(offsets, false)
+    }
+
+    /// Each range `lo..hi` as `lo - o..hi + o`, `o` being the offset of its dimension. A range contracted past empty is
+    /// empty, and an empty range stays empty (Chapel Language Specification, Domains: `expand`; the two are this
+    /// repository's own rules).
+    ///
+    /// Fails with `Strided` where a range has another stride than 1, and else with `TooLarge` where a bound or the count
+    /// of a resulting range that isn't empty, or the size, is past its limit.
+    pub fn expand(&self, offsets: &[i64]) -> Result<AnyRect, RectErr>
+        requires { length offsets.now ≡ length self.now }
+        ensures ok { IfOk result (λ r. r ≡ expanded offsets.now self.now) }
+        ensures within { OnOk result ((has_unit_strides self.now ≡ true) × (can_shift true offsets.now self.now ≡ true)) }
+        ensures strided { (result ≡ Err RectErr.Strided) ↔ (has_unit_strides self.now ≡ false) }
+        ensures too_large { (result ≡ Err RectErr.TooLarge) ↔
+            ((has_unit_strides self.now ≡ true) × (can_shift true offsets.now self.now ≡ false)) }
+    {
+        self.shift(offsets, true)
+    }
+
+    // Each range shifted, as `translate` does, or outward, as `expand` does.
+    fn shift(&self, offsets: &[i64], outward: bool) -> Result<AnyRect, RectErr>
+        requires { length offsets.now ≡ length self.now }
+        ensures ok { IfOk result (λ r. r ≡ each_shifted outward offsets.now self.now) }
+        ensures within { OnOk result ((has_unit_strides self.now ≡ true) × (can_shift outward offsets.now self.now ≡ true)) }
+        ensures strided { (result ≡ Err RectErr.Strided) ↔ (has_unit_strides self.now ≡ false) }
+        ensures too_large { (result ≡ Err RectErr.TooLarge) ↔
+            ((has_unit_strides self.now ≡ true) × (can_shift outward offsets.now self.now ≡ false)) }
+    {
+        match &self.ranked {
+            Ranked::Line(rect) => Ok(AnyRect::line(shift_in(rect, offsets, outward)?)),
+            Ranked::Plane(rect) => Ok(AnyRect::plane(shift_in(rect, offsets, outward)?)),
+            Ranked::Solid(rect) => Ok(AnyRect::solid(shift_in(rect, offsets, outward)?)),
+        }
+    }
 }
 
 // How many indices a rectangle has.
@@ -152,6 +241,42 @@ fn nth_in<const R: usize>(rect: &Rect<R>, p: usize) -> Option<AnyIndex>
 {
     let index = rect.nth(p)?;
     Some(AnyIndex::new(Index::Point(Point::of(&index))))
+}
+
+// Whether a point is an index of a rectangle.
+fn contains_in<const R: usize>(rect: &Rect<R>, point: &Point) -> bool
+    ensures { result ≡ has (indices rect.now) (point_index point.now) }
+{
+    let _kept = rect.rank();
+    let coordinates = point.coordinates();
+    if coordinates.len() != R {
+        return false;
+    }
+    let mut index = [0; R];
+    index.copy_from_slice(coordinates);
+    rect.contains(index)
+}
+
+// Each range of a rectangle shifted by the offset of its dimension, outward or not.
+fn shift_in<const R: usize>(
+    rect: &Rect<R>,
+    offsets: &[i64],
+    outward: bool,
+) -> Result<Rect<R>, RectErr>
+    requires { length offsets.now ≡ R }
+    ensures ok { IfOk result (λ r. r ≡ each_shifted outward offsets.now rect.now) }
+    ensures within { OnOk result ((has_unit_strides rect.now ≡ true) × (can_shift outward offsets.now rect.now ≡ true)) }
+    ensures strided { (result ≡ Err RectErr.Strided) ↔ (has_unit_strides rect.now ≡ false) }
+    ensures too_large { (result ≡ Err RectErr.TooLarge) ↔
+        ((has_unit_strides rect.now ≡ true) × (can_shift outward offsets.now rect.now ≡ false)) }
+{
+    let mut by = [0; R];
+    by.copy_from_slice(offsets);
+    if outward {
+        rect.expand(by)
+    } else {
+        rect.translate(by)
+    }
 }
 
 #[cfg(test)]
