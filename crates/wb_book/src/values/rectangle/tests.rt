@@ -78,3 +78,96 @@ fn empty_ranges_and_the_greatest_size(rt: HostRuntime) -> Result<(), Fail> {
     assert!(rt; plane(range(1, 256, 1), range(1, 257, 1)).is_none());
     Ok(())
 }
+
+fn line(only: Option<Range>) -> Option<AnyRect> {
+    AnyRect::from_range(only?).ok()
+}
+
+fn has_single(rect: &AnyRect, i: i64) -> bool {
+    rect.contains(&AnyIndex::new(Index::Point(Point::single(i))))
+}
+
+fn has_pair(rect: &AnyRect, i: i64, j: i64) -> bool {
+    rect.contains(&AnyIndex::new(Index::Point(Point::pair(i, j))))
+}
+
+// The range shifted by an offset; `None` where it isn't of one dimension.
+fn shifted(range: Option<Range>, offset: i64, outward: bool) -> Option<Result<AnyRect, RectErr>> {
+    let rect = line(range)?;
+    if rect.rank() != 1 {
+        return None;
+    }
+    if outward {
+        Some(rect.expand(&[offset]))
+    } else {
+        Some(rect.translate(&[offset]))
+    }
+}
+
+// Whether these are the integers from `low` to `high`.
+fn is_from_to(shifted: Option<Result<AnyRect, RectErr>>, low: i64, high: i64) -> bool {
+    match shifted {
+        Some(Ok(rect)) => {
+            rect.size() as i128 == high as i128 - low as i128 + 1
+                && has_single(&rect, low)
+                && has_single(&rect, high)
+        }
+        Some(Err(_)) | None => false,
+    }
+}
+
+fn is_empty(shifted: Option<Result<AnyRect, RectErr>>) -> bool {
+    match shifted {
+        Some(Ok(rect)) => rect.size() == 0,
+        Some(Err(_)) | None => false,
+    }
+}
+
+fn is_refused(shifted: Option<Result<AnyRect, RectErr>>, why: RectErr) -> bool {
+    match shifted {
+        Some(Err(error)) => error == why,
+        Some(Ok(_)) | None => false,
+    }
+}
+
+#[test]
+fn which_indices_are_inside(rt: HostRuntime) -> Result<(), Fail> {
+    let rect = plane(range(1, 3, 1), range(2, 8, 3)).ok_or("a rectangle")?;
+    assert!(rt; has_pair(&rect, 3, 5));
+    assert!(rt; !has_pair(&rect, 3, 6));
+    assert!(rt; !has_pair(&rect, 4, 5));
+    assert!(rt; !has_single(&rect, 2));
+    Ok(())
+}
+
+#[test]
+fn a_slice_runs_upward(rt: HostRuntime) -> Result<(), Fail> {
+    let first = plane(range(1, 10, 2), range(1, 4, -1)).ok_or("a rectangle")?;
+    let second = plane(range(1, 10, 3), range(3, 9, 1)).ok_or("a rectangle")?;
+    let both = first.slice(&second).ok_or("a rectangle")?;
+    assert_eq!(rt; both.size(), 4);
+    assert!(rt; is_pair(both.nth(0), 1, 3));
+    assert!(rt; is_pair(both.nth(1), 1, 4));
+    assert!(rt; is_pair(both.nth(2), 7, 3));
+    let other = line(range(1, 10, 1)).ok_or("a rectangle")?;
+    assert!(rt; first.slice(&other).is_none());
+    Ok(())
+}
+
+#[test]
+fn translations_and_expansions(rt: HostRuntime) -> Result<(), Fail> {
+    assert!(rt; is_from_to(shifted(range(1, 4, 1), 2, false), 3, 6));
+    assert!(rt; is_from_to(shifted(range(1, 4, 1), 1, true), 0, 5));
+    assert!(rt; is_from_to(shifted(range(1, 4, 1), -1, true), 2, 3));
+    assert!(rt; is_empty(shifted(range(1, 4, 1), -2, true)));
+    Ok(())
+}
+
+#[test]
+fn refused_translations(rt: HostRuntime) -> Result<(), Fail> {
+    let far = shifted(range(1, 4, 1), 1_000_000_000_000_000_000, false);
+    assert!(rt; is_refused(far, RectErr::TooLarge));
+    let strided = shifted(range(1, 10, 2), 1, false);
+    assert!(rt; is_refused(strided, RectErr::Strided));
+    Ok(())
+}
