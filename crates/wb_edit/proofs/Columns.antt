@@ -1,18 +1,19 @@
 -- Columns of cells: each cell once.
-use Rattle.std.proofs.Common.{◌≡◌, ℕ, zero, suc, ◌+◌, ◌<◌, true, false, ◌||◌, List, [], ◌∷◌, ◌++◌, map, take, length, Some, None, slice_get, refl, sym, ap, ◌∙◌, arith, add-one}
+use Rattle.std.proofs.Common.{◌≡◌, ℕ, zero, suc, ◌+◌, ◌<◌, true, false, ◌||◌, List, [], ◌∷◌, ◌++◌, map, take, length, Option, Some, None, slice_get, refl, sym, ap, ◌∙◌, arith, add-one}
 use Rattle.std.specs.Ordering.{eq_by_cmp}
 use Rattle.std.specs.Cmp.{Equal-is}
 use Rattle.selective_undo.specs.Changes.{changes}
 use Rattle.selective_undo.proofs.Changes.{not_true}
 use Rattle.wb_range.specs.Domain.{IsListedOnce}
 use Rattle.wb_book.specs.declared.cells.cell.Cell.{Cell}
+use Rattle.wb_book.specs.declared.cells.kind.Kind.TheVariants.{Rectangular, Sparse, Associative}
 use Rattle.wb_book.specs.declared.cells.value.Value.{Value}
 use Rattle.wb_book.specs.declared.values.index.Index.{Index}
 use Rattle.wb_book.specs.Cells.{cell_cmp, cell_order, Changes}
-use Rattle.wb_edit.specs.declared.commands.writes.Column.{Column}
-use Rattle.wb_edit.specs.declared.commands.writes.Column.TheVariants.{Inside, Elements}
+use Rattle.wb_edit.specs.declared.column.Column.{Column}
+use Rattle.wb_edit.specs.declared.column.Column.TheVariants.{Inside, Elements, Membership}
 use Rattle.wb_edit.specs.Plans.{cell_at}
-use Rattle.wb_edit.specs.Writes.{put, put_all}
+use Rattle.wb_edit.specs.Changed.{set_all}
 
 pub changes-append : (xs ys : Changes) (c : Cell) → changes cell_cmp (xs ++ ys) c ≡ changes cell_cmp xs c || changes cell_cmp ys c
 changes-append [] ys c = refl
@@ -23,18 +24,26 @@ changes-append (x ∷ xs) ys c =
 same_index : (column : Column) (i j : Index) → cell_at column i ≡ cell_at column j → i ≡ j
 same_index (Inside d) i j e = cc
 same_index (Elements a) i j e = cc
+same_index (Membership (Rectangular rank) d) i j e = cc
+same_index (Membership (Sparse rank) d) i j e = cc
+same_index (Membership (Associative type) d) i j e = cc
 
 -- an index that is not among those of a column has another cell
-other_cells : (column : Column) (v : Value) (i : Index) (js : List Index) → ((q : ℕ) → slice_get js q ≡ Some i → ⊥) → changes cell_cmp (put_all (map (cell_at column) js) v) (cell_at column i) ≡ false
-other_cells column v i [] other = refl
-other_cells column v i (j ∷ js) other =
+pub other_cells : (column : Column) (o : Option Value) (i : Index) (js : List Index) → ((q : ℕ) → slice_get js q ≡ Some i → ⊥) → changes cell_cmp (set_all (map (cell_at column) js) o) (cell_at column i) ≡ false
+other_cells column o i [] other = refl
+other_cells column o i (j ∷ js) other =
     let differs : eq_by_cmp cell_cmp (cell_at column i) (cell_at column j) ≡ false = not_true _ λ e.
     let same : cell_at column i ≡ cell_at column j = cell_order.strict (cell_at column i) (cell_at column j) ((Equal-is (cell_cmp (cell_at column i) (cell_at column j))).0 e) in
     other zero (ap Some (sym (same_index column i j same))) in
-    let rest = other_cells column v i js (λ q e. other (suc q) e) in
+    let rest = other_cells column o i js (λ q e. other (suc q) e) in
     rw (differs, rest) refl
 
-get-take : {X : Type 0} (xs : List X) (n q : ℕ) (x : X) → slice_get (take n xs) q ≡ Some x → (q < n) × (slice_get xs q ≡ Some x)
+-- a cell that is none of a column's
+pub elsewhere : (f : Index → Cell) (o : Option Value) (c : Cell) (js : List Index) → ((i : Index) → eq_by_cmp cell_cmp c (f i) ≡ false) → changes cell_cmp (set_all (map f js) o) c ≡ false
+elsewhere f o c [] other = refl
+elsewhere f o c (j ∷ js) other = let rest = elsewhere f o c js other in rw (other j, rest) refl
+
+pub get-take : {X : Type 0} (xs : List X) (n q : ℕ) (x : X) → slice_get (take n xs) q ≡ Some x → (q < n) × (slice_get xs q ≡ Some x)
 get-take [] zero q x e = cc
 get-take [] (suc n) q x e = cc
 get-take (y ∷ xs) zero q x e = cc
@@ -42,14 +51,14 @@ get-take (y ∷ xs) (suc n) zero x e = (omega arith, e)
 get-take (y ∷ xs) (suc n) (suc q) x e = let h = get-take xs n q x e in (omega (arith, h.0), h.1)
 
 -- the next index of a domain has a cell that is not there yet
-pub next_is_new : (column : Column) (v : Value) (old : Changes) (is : List Index) (p : ℕ) (i : Index) → IsListedOnce is → ((i : Index) → changes cell_cmp old (cell_at column i) ≡ false) → slice_get is p ≡ Some i
-    → changes cell_cmp (old ++ put_all (map (cell_at column) (take p is)) v) (cell_at column i) ≡ false
-next_is_new column v old is p i once fresh here =
+pub next_is_new : (column : Column) (o : Option Value) (old : Changes) (is : List Index) (p : ℕ) (i : Index) → IsListedOnce is → changes cell_cmp old (cell_at column i) ≡ false → slice_get is p ≡ Some i
+    → changes cell_cmp (old ++ set_all (map (cell_at column) (take p is)) o) (cell_at column i) ≡ false
+next_is_new column o old is p i once fresh here =
     let other : (q : ℕ) → slice_get (take p is) q ≡ Some i → ⊥ = λ q e.
     let h = get-take is p q i e in
     let same : q ≡ p = once q p i h.1 here in
     absurd (omega (arith, h.0, same)) in
-    changes-append old (put_all (map (cell_at column) (take p is)) v) (cell_at column i) ∙ rw (fresh i, other_cells column v i (take p is) other) refl
+    changes-append old (set_all (map (cell_at column) (take p is)) o) (cell_at column i) ∙ rw (fresh, other_cells column o i (take p is) other) refl
 
 pub take_more : {X : Type 0} (xs : List X) (p : ℕ) (x : X) → slice_get xs p ≡ Some x → take (suc p) xs ≡ take p xs ++ x ∷ []
 take_more [] zero x e = cc
@@ -62,12 +71,12 @@ map-append f [] ys = refl
 map-append f (x ∷ xs) ys = ap (λ zs. f x ∷ zs) (map-append f xs ys)
 
 -- a column grows by its next cell
-pub grows : (column : Column) (v : Value) (is : List Index) (p : ℕ) (i : Index) → slice_get is p ≡ Some i → put_all (map (cell_at column) (take (p + 1) is)) v ≡ put_all (map (cell_at column) (take p is)) v ++ put (cell_at column i) v ∷ []
-grows column v is p i here =
-    ap (λ n. put_all (map (cell_at column) (take n is)) v) (add-one p)
-    ∙ ap (λ js. put_all (map (cell_at column) js) v) (take_more is p i here)
-    ∙ ap (λ cs. put_all cs v) (map-append (cell_at column) (take p is) (i ∷ []))
-    ∙ map-append (λ c. put c v) (map (cell_at column) (take p is)) (cell_at column i ∷ [])
+pub grows : (column : Column) (o : Option Value) (is : List Index) (p : ℕ) (i : Index) → slice_get is p ≡ Some i → set_all (map (cell_at column) (take (p + 1) is)) o ≡ set_all (map (cell_at column) (take p is)) o ++ record { cell = cell_at column i; value = o } ∷ []
+grows column o is p i here =
+    ap (λ n. set_all (map (cell_at column) (take n is)) o) (add-one p)
+    ∙ ap (λ js. set_all (map (cell_at column) js) o) (take_more is p i here)
+    ∙ ap (λ cs. set_all cs o) (map-append (cell_at column) (take p is) (i ∷ []))
+    ∙ map-append (λ c. record { cell = c; value = o }) (map (cell_at column) (take p is)) (cell_at column i ∷ [])
 
 -- below the length something stands
 pub nothing_there : {X : Type 0} (xs : List X) (p : ℕ) → p < length xs → slice_get xs p ≡ None → ⊥

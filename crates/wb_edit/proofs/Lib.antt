@@ -9,4 +9,8 @@ pub mod Elements
 pub mod Becoming
 pub mod SideBySide
 pub mod Layouts
+pub mod Exchanges
+pub mod Fills
+pub mod Memberships
+pub mod Users
 pub mod Kept

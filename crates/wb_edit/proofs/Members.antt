@@ -3,7 +3,7 @@ use Rattle.std.proofs.Common.{◌≡◌, Bool, true, false, cond, ◌&&◌, ◌|
 use Rattle.std.specs.Cmp.{Equal-is, eq_by_cmp_equiv}
 use Rattle.std.specs.Cmp.Lexicographic.{slice_cmp, nat_list_cmp_total}
 use Rattle.std.specs.FinMap.{get, find, entries, entries_sorted, retain_keys, get-entries, get-retain_keys, is_sorted}
-use Rattle.std.specs.FinMap.Entries.{where_key, below_all, is_sorted-where_key}
+use Rattle.std.specs.FinMap.Entries.{below_all}
 use Rattle.std.specs.List.{AllByRecursion, filter, filter_map}
 use Rattle.std.specs.List.Sorted.{IsStrictlySortedBy}
 use Rattle.std.specs.Ordering.{eq_by_cmp, is_eq, is_lt, nat_cmp, ordering_then}
@@ -16,19 +16,18 @@ use Rattle.wb_book.specs.declared.cells.cell.Cell.TheVariants.{Object, Shape, In
 use Rattle.wb_book.specs.declared.cells.kind.DomainKind.{DomainKind}
 use Rattle.wb_book.specs.declared.cells.pattern.Pattern.TheVariants.{Members}
 use Rattle.wb_book.specs.declared.cells.value.Value.{Value}
-use Rattle.wb_book.specs.declared.cells.value.Value.TheVariants.{Present}
 use Rattle.wb_book.specs.declared.values.index.Index.{Index}
 use Rattle.wb_book.specs.contracts.values.index.IndexOrd.TheImpl.Laws as index_laws
 use Rattle.wb_book.specs.Cells.{Name, Cells, cell_cmp, cell_order, index_cmp, index_cmp-IsAntisymmetric, is_same_name, same_names, matches}
 use Rattle.wb_book.specs.Readers.{seen}
-use Rattle.wb_book.specs.WellFormed.{IsWellFormed, IsMember, has, present_if}
+use Rattle.wb_book.specs.WellFormed.{IsMember, has, present_if}
 use Rattle.wb_edit.specs.Tests.{member_in}
 
 -- all of them are cells of the domain
 abbrev AreOf : Name → List (Cell × Value) → Type 0
 AreOf d es = AllByRecursion (λ e. matches (Members d) e.0 ≡ true) es
 
-filter_passes : (p : Cell → Bool) (es : List (Cell × Value)) → AllByRecursion (λ e. p e.0 ≡ true) (filter (λ e. p e.0) es)
+pub filter_passes : (p : Cell → Bool) (es : List (Cell × Value)) → AllByRecursion (λ e. p e.0 ≡ true) (filter (λ e. p e.0) es)
 filter_passes p [] = tt
 filter_passes p (e ∷ es) = elim (p e.0) as (λ b. p e.0 ≡ b → AllByRecursion (λ x. p x.0 ≡ true) (cond b (e ∷ filter (λ x. p x.0) es) (filter (λ x. p x.0) es))) [
   | true ↦ λ is. (is, filter_passes p es)
@@ -43,22 +42,22 @@ seen_sorted s d = entries_sorted (retain_keys s (matches (Members d)))
 
 -- ---- ascending
 
-first : (a b : Bool) → T (a && b) → T a
+pub first : (a b : Bool) → T (a && b) → T a
 first true b p = tt
 first false b p = p
 
-second : (a b : Bool) → T (a && b) → T b
+pub second : (a b : Bool) → T (a && b) → T b
 second true b p = p
 second false b p = absurd p
 
 -- two cells of one domain compare as their indices do
-same_domain : (d e f : Name) → is_same_name d e ≡ true → is_same_name d f ≡ true → slice_cmp nat_cmp e f ≡ Equal
+pub same_domain : (d e f : Name) → is_same_name d e ≡ true → is_same_name d f ≡ true → slice_cmp nat_cmp e f ≡ Equal
 same_domain d e f p q =
     let one : d ≡ e = same_names d e ((Equal-is _).0 p) in
     let two : d ≡ f = same_names d f ((Equal-is _).0 q) in
     subst (λ (n : Name). slice_cmp nat_cmp n f ≡ Equal) one ((Equal-is _).0 q)
 
-less : (o r : Ordering) → o ≡ Equal → T (is_lt (ordering_then o r)) → r ≡ Less
+pub less : (o r : Ordering) → o ≡ Equal → T (is_lt (ordering_then o r)) → r ≡ Less
 less Equal Less e p = refl
 less Equal Equal e p = absurd p
 less Equal Greater e p = absurd p
@@ -96,7 +95,7 @@ members_once s d = IsListedOnce-sorted index_cmp index_laws.total-law index_cmp-
 
 -- ---- exactly those that are there
 
-same_place : (o r : Ordering) → o ≡ Equal → is_eq (ordering_then o r) ≡ is_eq r
+pub same_place : (o r : Ordering) → o ≡ Equal → is_eq (ordering_then o r) ≡ is_eq r
 same_place Equal r e = refl
 same_place Less r e = cc
 same_place Greater r e = cc
@@ -105,7 +104,7 @@ some_or : (b : Bool) (v : Value) (o : Option Value) → is_some (cond b (Some v)
 some_or true v o = refl
 some_or false v o = refl
 
-itself : (d : Name) → is_same_name d d ≡ true
+pub itself : (d : Name) → is_same_name d d ≡ true
 itself d = (eq_by_cmp_equiv nat_list_cmp_total).refl d
 
 listed : (d : Name) (i : Index) (es : List (Cell × Value)) → AreOf d es → is_some (find cell_cmp (Member d i) es) ≡ has (filter_map member_in es) i

@@ -1,6 +1,5 @@
 -- Two arrays over one domain list the same indices, so that their elements stand side by side.
 use Rattle.std.proofs.Common.{◌≡◌, ℕ, zero, suc, ◌+◌, ◌<◌, ◌≤◌, if◌then◌else◌, is_ok, is_err, Bool, true, false, cond, ◌&&◌, T, ℤ, List, [], ◌∷◌, ◌++◌, map, take, length, get_or, Option, Some, None, option_map, Result, Ok, Err, FitsSigned, refl, sym, ap, subst, ◌∙◌, arith, add-one, Ordering}
-use Rattle.std.proofs.Math.Seq.{take-suc}
 use Rattle.std.proofs.lemmas.Option.{none-some, same_Some}
 use Rattle.std.specs.FinMap.{get, find, is_sorted}
 use Rattle.std.specs.FinMap.Entries.{below_all, same_entries}
@@ -16,7 +15,7 @@ use Rattle.wb_book.specs.declared.cells.cell.Cell.TheVariants.{Object, Element}
 use Rattle.wb_book.specs.declared.cells.pattern.Pattern.{Pattern}
 use Rattle.wb_book.specs.declared.cells.kind.Kind.{Kind}
 use Rattle.wb_book.specs.declared.cells.value.Value.{Value}
-use Rattle.wb_book.specs.declared.cells.value.Value.TheVariants.{Array, Number}
+use Rattle.wb_book.specs.declared.cells.value.Value.TheVariants.{Array}
 use Rattle.wb_book.specs.declared.values.index.Index.{Index}
 use Rattle.wb_book.specs.Cells.{Name, Cells, Changes, index_cmp, is_same_index, is_same_name}
 use Rattle.wb_book.specs.Kinds.{kind_of}
@@ -34,7 +33,6 @@ use Rattle.wb_edit.specs.Numbers.{is_i64, kept_if, within}
 use Rattle.wb_edit.specs.Plans.{Gives, stopped}
 use Rattle.wb_edit.specs.Tests.{array_kind, arr}
 use Rattle.wb_edit.specs.Writes.{put}
-use Rattle.wb_edit.proofs.Columns.{map-append}
 use Rattle.wb_edit.proofs.Elements.{index_order, number_of, elements_ascend, find_element}
 use Rattle.wb_resize.proofs.States.{same_name}
 use Rattle.wb_edit.proofs.Kept.Steps.{array_is}

@@ -1,6 +1,7 @@
 -- What the code of a plan says of elements that were seen, and what becomes of them.
-use Rattle.std.specs.Prelude.{◌≡◌, ⊤, ℤ, List, map, Option, Some, None, Result, Ok, Err}
+use Rattle.std.specs.Prelude.{◌≡◌, ⊤, ℕ, ℤ, List, map, Option, Some, None, Result, Ok, Err, slice_get}
 use Rattle.std.specs.Global.{Vec}
+use Rattle.wb_book.specs.declared.cells.cell.Cell.{Cell}
 use Rattle.wb_book.specs.declared.cells.cell.Cell.TheVariants.{Element}
 use Rattle.wb_book.specs.declared.cells.value.Value.{Value}
 use Rattle.wb_book.specs.declared.cells.value.Value.TheVariants.{Number}
@@ -22,6 +23,14 @@ abbrev pub Judges : {X : Type 0} → Result X Refusal → Result X Stop → Type
 Judges j (Ok x) = j ≡ Ok x
 Judges j (Err (Refused why)) = j ≡ Err why
 Judges j (Err NoMemory) = ⊤
+
+-- each of the cells becomes a value, or absent
+abbrev pub set_all : List Cell → Option Value → Changes
+set_all cs v = map (λ c. record { cell = c; value = v }) cs
+
+-- no element stands in both lists
+abbrev pub AreApart : {X : Type 0} → List X → List X → Type 0
+AreApart {X} xs ys = (p q : ℕ) (x : X) → slice_get xs p ≡ Some x → slice_get ys q ≡ Some x → ⊥
 
 -- what an element becomes, with a number beside it
 abbrev pub value_of : Becomes → ℤ → Option Value

@@ -1,23 +1,25 @@
 -- The commands. Each is its tests in their order, and then the cells that it writes with their new values.
 -- A test that refuses ends the command: it has read what the tests so far looked at, that one's own looks too, and writes nothing.
-use Rattle.std.specs.Prelude.{ℤ, pos, List, [], ◌∷◌, map, length}
+use Rattle.std.specs.Prelude.{ℤ, pos, List, [], ◌∷◌, map, length, Option, Some, None}
 use Rattle.std.specs.Map.{keys_of}
 use Rattle.selective_undo.specs.Edit.{write}
 use Rattle.wb_dist.specs.Maps.{LayoutMap}
-use Rattle.wb_book.specs.declared.cells.cell.Cell.TheVariants.{Object, Shape, In, Mapping, Use, Implicit, Element}
+use Rattle.wb_book.specs.declared.cells.cell.Cell.TheVariants.{Object, Shape, In, Member, Mapping, Use, Implicit, Element}
 use Rattle.wb_book.specs.declared.cells.value.Binding.TheVariants.{Array, Sparse}
+use Rattle.wb_book.specs.declared.cells.kind.DomainKind.{DomainKind}
 use Rattle.wb_book.specs.declared.cells.kind.DomainKind.TheVariants.{Rectangular, Sparse, Associative}
 use Rattle.wb_book.specs.declared.cells.kind.KeyType.{KeyType}
 use Rattle.wb_book.specs.declared.cells.kind.Kind.{Kind}
+use Rattle.wb_book.specs.declared.cells.value.Value.{Value}
 use Rattle.wb_book.specs.declared.cells.value.Value.TheVariants.{Domain, Array, Ranges, Mapping, Present, Bound, Number}
 use Rattle.wb_book.specs.declared.values.index.Index.{Index}
 use Rattle.wb_book.specs.Cells.{Name, Changes}
 use Rattle.wb_book.specs.Kinds.{kind_of}
 use Rattle.wb_book.specs.Shapes.{Range, indices}
 use Rattle.wb_edit.specs.declared.edit.Edit.{Edit as Command}
-use Rattle.wb_edit.specs.declared.edit.Edit.TheVariants.{Domain, Remap, Sparse, Assoc, Array, Set, Irv, Copy, Fill, FillAll, DropArray, All}
+use Rattle.wb_edit.specs.declared.edit.Edit.TheVariants.{Domain, Remap, Sparse, Assoc, Array, Set, Irv, Copy, Fill, FillAll, DropArray, All, Add, Remove}
 use Rattle.wb_edit.specs.declared.operation.Operation.{Operation}
-use Rattle.wb_edit.specs.Looks.{Tree, ◌>>=◌}
+use Rattle.wb_edit.specs.Looks.{Tree, ◌>>=◌, read}
 use Rattle.wb_edit.specs.Tests.{free, dom, arr, key, element, idx}
 use Rattle.wb_edit.specs.Kinds.{rectangular, over_sparse}
 use Rattle.wb_edit.specs.Numbers.{sum}
@@ -25,6 +27,9 @@ use Rattle.wb_edit.specs.Implicit.{element_or_implicit}
 use Rattle.wb_edit.specs.Elements.{elements, over_one_domain, results_within}
 use Rattle.wb_edit.specs.Layouts.{mapped}
 use Rattle.wb_edit.specs.Rectangles.{over_rectangle, all_elements}
+use Rattle.wb_edit.specs.Users.{bound, uses}
+use Rattle.wb_edit.specs.Resizing.{zeros, with_members, inside, fills}
+use Rattle.wb_resize.specs.Resized.{resized_cells}
 use Rattle.wb_edit.specs.Writes.{put, put_all, clear, clear_all}
 
 -- what a new rectangular domain writes: the domain with its rank, its ranges, its mapping, and that each of its indices
@@ -161,6 +166,52 @@ all a how b = do
   unit ← over_one_domain d e
   combined a how b
 
+-- ---- which indices a domain has (Chapel Language Specification, Domains)
+
+-- indices leave a domain of a kind and others come to it, so that it has those of the list new: if it is sparse, they are in
+-- its parent, and it is seen what new indices bring to the arrays over it
+abbrev pub resized : Name → DomainKind → (new leaving coming : List Index) → Tree
+resized d kind new leaving coming = do
+  unit ← inside kind new
+  brought ← fills d kind
+  write (resized_cells (kind_of kind) d brought leaving coming)
+
+-- a new index, where it isn't there; else the command ends, accepted, and writes nothing
+abbrev pub add_unless : Option Value → Name → DomainKind → Index → Tree
+add_unless (Some v) d kind i = write []
+add_unless None d kind i = resized d kind (i ∷ []) [] (i ∷ [])
+
+-- a new index: the domain is there and sparse or associative, the index is of its rank or type, and it is seen whether the
+-- domain has it
+abbrev pub add : Name → Index → Tree
+add d i = do
+  kind ← dom d
+  unit ← with_members kind
+  unit ← key (kind_of kind) i
+  there ← read (Member d i)
+  add_unless there d kind i
+
+-- an index leaves a domain, and the arrays over it lose their elements there: it is seen which these are
+abbrev pub left : Name → DomainKind → Index → Tree
+left d kind i = do
+  users ← uses d
+  write (resized_cells (kind_of kind) d (zeros (bound Array users)) (i ∷ []) [])
+
+-- the same, where the index is there; else the command ends, accepted, and writes nothing
+abbrev pub remove_if : Option Value → Name → DomainKind → Index → Tree
+remove_if None d kind i = write []
+remove_if (Some v) d kind i = left d kind i
+
+-- the end of an index: the domain is there and sparse or associative, the index is of its rank or type, and it is seen
+-- whether the domain has it
+abbrev pub remove : Name → Index → Tree
+remove d i = do
+  kind ← dom d
+  unit ← with_members kind
+  unit ← key (kind_of kind) i
+  there ← read (Member d i)
+  remove_if there d kind i
+
 -- what a command means
 abbrev pub meaning : Command → Tree
 meaning (Domain d rs m) = domain d rs m
@@ -175,3 +226,5 @@ meaning (Fill a on v) = fill a on v
 meaning (FillAll a v) = fill_all a v
 meaning (DropArray a) = drop_array a
 meaning (All a how b) = all a how b
+meaning (Add d i) = add d i
+meaning (Remove d i) = remove d i

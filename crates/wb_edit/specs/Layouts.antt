@@ -1,5 +1,5 @@
 -- Tests on mappings: for which rank one is (Chapel Language Specification, Domain Maps).
-use Rattle.std.specs.Prelude.{ℕ, Bool, true, false, Result, Ok, Err}
+use Rattle.std.specs.Prelude.{ℕ, true, false, Result, Ok, Err}
 use Rattle.wb_dist.specs.Maps.{LayoutMap}
 use Rattle.wb_book.specs.Layouts.{is_of_rank}
 use Rattle.wb_edit.specs.declared.refusal.Refusal.{Refusal}

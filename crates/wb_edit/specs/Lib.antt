@@ -7,6 +7,8 @@ pub mod Implicit
 pub mod Rectangles
 pub mod Elements
 pub mod Layouts
+pub mod Users
+pub mod Resizing
 pub mod Writes
 pub mod Commands
 pub mod Plans

@@ -1,5 +1,5 @@
 -- Tests on numbers: the element that is read, and sums within 64 bits.
-use Rattle.std.specs.Prelude.{◌^◌, nat_lt, Bool, true, false, ℤ, pos, negsuc, ◌+ℤ◌, Option, Some, None, Result, Ok, Err}
+use Rattle.std.specs.Prelude.{◌^◌, nat_lt, Bool, true, false, ℤ, pos, negsuc, ◌+ℤ◌, Option, Some, Result, Ok, Err}
 use Rattle.wb_book.specs.declared.cells.value.Value.{Value}
 use Rattle.wb_book.specs.declared.cells.value.Value.TheVariants.{Number}
 use Rattle.wb_edit.specs.declared.refusal.Refusal.{Refusal}

@@ -1,14 +1,14 @@
 -- What the code of a plan says of a tree.
 use Rattle.std.specs.declared.vec.Vec.{Vec}
-use Rattle.std.specs.Prelude.{◌≡◌, ℕ, List, ◌++◌, Option, Result, Ok, Err, ⊤}
+use Rattle.std.specs.Prelude.{◌≡◌, ℕ, List, ◌++◌, Result, Ok, Err, ⊤}
 use Rattle.selective_undo.specs.Edit.{outcome, reads}
 use Rattle.wb_book.specs.declared.cells.cell.Cell.{Cell}
 use Rattle.wb_book.specs.declared.cells.cell.Cell.TheVariants.{In, Element}
 use Rattle.wb_book.specs.declared.cells.pattern.Pattern.{Pattern}
 use Rattle.wb_book.specs.declared.cells.pattern.Pattern.TheVariants.{One}
 use Rattle.wb_book.specs.Cells.{Cells, Changes, count_of}
-use Rattle.wb_edit.specs.declared.commands.writes.Column.{Column}
-use Rattle.wb_edit.specs.declared.commands.writes.Column.TheVariants.{Inside, Elements}
+use Rattle.wb_edit.specs.declared.column.Column.{Column}
+use Rattle.wb_edit.specs.declared.column.Column.TheVariants.{Inside, Elements, Membership}
 use Rattle.wb_edit.specs.declared.planning.PlanErr.{PlanErr}
 use Rattle.wb_edit.specs.declared.planning.PlanErr.TheVariants.{Refused as PlanRefused, NoMemory as PlanNoMemory}
 use Rattle.wb_edit.specs.declared.tests.indices.Indices.{Indices}
@@ -18,6 +18,7 @@ use Rattle.wb_edit.specs.declared.tests.stop.Stop.TheVariants.{Refused as StopRe
 use Rattle.wb_edit.specs.declared.refusal.Refusal.{Refusal}
 use Rattle.wb_book.specs.declared.values.index.Index.{Index}
 use Rattle.wb_book.specs.Shapes.{indices}
+use Rattle.wb_book.specs.WellFormed.{index_cell}
 use Rattle.wb_edit.specs.Looks.{Tree, Look}
 
 -- A plan is what the tree says of the cells: the changes, or the refusal; the reads in their order; and how many cells change,
@@ -78,6 +79,7 @@ shown_indices (Err why) = Err why
 abbrev pub cell_at : Column → Index → Cell
 cell_at (Inside d) i = In d i
 cell_at (Elements a) i = Element a i
+cell_at (Membership kind d) i = index_cell kind d i
 
 -- the pattern of one cell
 abbrev pub one_of : Cell → Pattern

@@ -1,6 +1,6 @@
 -- The tests that commands are made of. Each looks at some cells, and then the edit goes on, with what was seen, or is refused.
 -- A test is a look and a judgement: the judgements say what follows from what a cell holds, and look at nothing.
-use Rattle.std.specs.Prelude.{Bool, true, false, List, [], Option, Some, None, Result, Ok, Err}
+use Rattle.std.specs.Prelude.{true, false, List, [], Option, Some, None, Result, Ok, Err}
 use Rattle.std.specs.List.{filter_map}
 use Rattle.selective_undo.specs.Edit.{look}
 use Rattle.wb_book.specs.declared.cells.cell.Cell.{Cell}

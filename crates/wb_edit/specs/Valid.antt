@@ -2,10 +2,11 @@
 use Rattle.std.specs.Prelude.{◌≡◌, true, length, FitsSigned, ⊤}
 use Rattle.std.specs.Int.{w64}
 use Rattle.wb_book.specs.Names.{is_name}
+use Rattle.wb_book.specs.Kinds.{IsIndex}
 use Rattle.wb_book.specs.Layouts.{IsLayout}
 use Rattle.wb_book.specs.WellFormed.{IsRectangle}
 use Rattle.wb_edit.specs.declared.edit.Edit.{Edit as Command}
-use Rattle.wb_edit.specs.declared.edit.Edit.TheVariants.{Domain, Remap, Sparse, Assoc, Array, Set, Irv, Copy, Fill, FillAll, DropArray, All}
+use Rattle.wb_edit.specs.declared.edit.Edit.TheVariants.{Domain, Remap, Sparse, Assoc, Array, Set, Irv, Copy, Fill, FillAll, DropArray, All, Add, Remove}
 
 -- what a command has to be so that it keeps a workbook well formed; every value of the type `Edit` is
 abbrev pub IsValid : Command → Type 0
@@ -33,3 +34,7 @@ IsValid (FillAll a v) = FitsSigned w64 v
 IsValid (DropArray a) = ⊤
 -- nothing is asked
 IsValid (All a how b) = ⊤
+-- the index is made of integers of 64 bits, or of the text of a label
+IsValid (Add d i) = IsIndex i
+-- nothing is asked
+IsValid (Remove d i) = ⊤

@@ -5,6 +5,8 @@
 ghost use Rattle.wb_edit.specs.Commands.{meaning};
 ghost use Rattle.wb_edit.specs.Plans.{IsPlan};
 
+mod members;
+
 use super::*;
 use std::alloc::Global;
 use std::test::Fail;

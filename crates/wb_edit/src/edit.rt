@@ -1,9 +1,12 @@
-ghost use Rattle.std.specs.Prelude.{◌≡◌, IfOk};
+ghost use Rattle.std.specs.Prelude.{◌≡◌, IfOk, FitsSigned};
+ghost use Rattle.std.specs.Int.{w64};
+ghost use Rattle.std.specs.List.{All};
+ghost use Rattle.wb_book.specs.Kinds.{IsIndex};
 ghost use Rattle.wb_edit.specs.Valid.{IsValid};
 
 use crate::operation::Operation;
 use std::alloc::Global;
-use wb_book::{AnyIndex, AnyLayout, AnyRect, KeyType, Name};
+use wb_book::{AnyIndex, AnyLayout, AnyRect, Index, KeyType, Name};
 use wb_range::NoMemory;
 
 /// A command that changes a workbook, as it is asked for.
@@ -38,6 +41,12 @@ pub enum Edit {
     DropArray(Name),
     /// Each element of the first array becomes what it and the second array's element at the same index make.
     All(Name, Operation, Name),
+    /// A new index of the sparse or associative domain of this name
+    /// (Chapel Language Specification, Domains: adding and removing indices).
+    Add(Name, AnyIndex),
+    /// The end of an index of the sparse or associative domain of this name
+    /// (Chapel Language Specification, Domains: adding and removing indices).
+    Remove(Name, AnyIndex),
 }
 
 impl Edit {
@@ -62,6 +71,8 @@ impl Edit {
             Edit::FillAll(array, value) => Ok(Edit::FillAll(*array, *value)),
             Edit::DropArray(array) => Ok(Edit::DropArray(*array)),
             Edit::All(array, how, other) => Ok(Edit::All(*array, *how, *other)),
+            Edit::Add(domain, index) => Ok(Edit::Add(*domain, *index)),
+            Edit::Remove(domain, index) => Ok(Edit::Remove(*domain, *index)),
         }
     }
 
@@ -105,6 +116,29 @@ impl Edit {
             }
             Edit::DropArray(_) => {}
             Edit::All(_, _, _) => {}
+            Edit::Add(_, index) => index_validity(index),
+            Edit::Remove(_, _) => {}
         }
+    }
+}
+
+// Computes nothing. Callers learn what an index is made of.
+fn index_validity(index: &AnyIndex)
+    ensures { IsIndex index.now }
+{
+    match index.index() {
+        Index::Point(point) => coordinates_validity(point.coordinates()),
+        Index::Text(label) => {
+            let _label = label.as_str();
+        }
+    }
+}
+
+// Computes nothing. Callers learn that the integers are of 64 bits.
+fn coordinates_validity(coordinates: &[i64])
+    ensures { All (FitsSigned w64) coordinates.now }
+{
+    for coordinate in coordinates {
+        let _coordinate = *coordinate;
     }
 }

@@ -6,6 +6,7 @@
 
 #[cfg(test)]
 mod checks;
+mod column;
 mod commands;
 mod edit;
 mod foot;

@@ -15,6 +15,9 @@ pub enum Refusal {
     /// E06: an index that isn't there.
     #[error("out-of-domain")]
     OutOfDomain,
+    /// E07: an index of a sparse domain that isn't in its parent.
+    #[error("out-of-parent")]
+    OutOfParent,
     /// E08: something is bound to the domain.
     #[error("in-use")]
     InUse,

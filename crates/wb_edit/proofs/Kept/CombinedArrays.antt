@@ -1,5 +1,5 @@
 -- Elements that become what two arrays make keep a workbook well formed.
-use Rattle.std.proofs.Common.{◌≡◌, Bool, true, false, ◌&&◌, List, [], ◌∷◌, is_some, ℤ, Ok, refl, subst}
+use Rattle.std.proofs.Common.{◌≡◌, Bool, true, false, ◌&&◌, List, [], ◌∷◌, is_some, ℤ, refl, subst}
 use Rattle.std.specs.FinMap.{get}
 use Rattle.std.specs.List.{AllByRecursion, list_all}
 use Rattle.selective_undo.specs.Edit.{write}
@@ -10,7 +10,7 @@ use Rattle.wb_book.specs.Readers as readers
 use Rattle.wb_book.specs.WellFormed.{IsWellFormed}
 use Rattle.wb_edit.specs.declared.operation.Operation.{Operation}
 use Rattle.wb_edit.specs.Commands.{all, number_cells}
-use Rattle.wb_edit.specs.Elements.{elements, same_domain, over_one_domain, value_at, result_of, results, results_within, all_kept_if, all_within}
+use Rattle.wb_edit.specs.Elements.{elements, same_domain, over_one_domain, value_at, result_of, results, results_within, all_within}
 use Rattle.wb_edit.specs.Looks.{Tree, judged}
 use Rattle.wb_edit.specs.Numbers.{is_i64}
 use Rattle.wb_edit.specs.Tests.{array_kind, arr}

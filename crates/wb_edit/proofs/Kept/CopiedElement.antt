@@ -1,5 +1,5 @@
 -- An element that becomes another one and a number more keeps a workbook well formed.
-use Rattle.std.proofs.Common.{◌≡◌, Option, Some, None, [], ◌∷◌, ℤ, ◌+ℤ◌, ◌∙◌}
+use Rattle.std.proofs.Common.{Option, Some, None, [], ◌∷◌, ℤ, ◌+ℤ◌, ◌∙◌}
 use Rattle.wb_book.specs.declared.cells.cell.Cell.TheVariants.{Object, In, Implicit, Element}
 use Rattle.wb_book.specs.declared.cells.kind.Kind.{Kind}
 use Rattle.wb_book.specs.declared.cells.value.Value.TheVariants.{Number}

@@ -30,7 +30,7 @@ found_there : (b : Bool) (x : Unit {0}) → there_if b ≡ Ok x → b ≡ true
 found_there true x e = refl
 found_there false x e = cc
 
-first_and : (a b : Bool) → (a && b) ≡ true → (a ≡ true) × (b ≡ true)
+pub first_and : (a b : Bool) → (a && b) ≡ true → (a ≡ true) × (b ≡ true)
 first_and true b e = (refl, e)
 first_and false b e = cc
 

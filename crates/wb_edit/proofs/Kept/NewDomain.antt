@@ -6,7 +6,6 @@ use Rattle.selective_undo.specs.Edit.{write}
 use Rattle.wb_dist.specs.Maps.{LayoutMap}
 use Rattle.wb_book.specs.declared.cells.cell.Cell.{Cell}
 use Rattle.wb_book.specs.declared.cells.cell.Cell.TheVariants.{Object, Shape, In, Member, Mapping, Use, Implicit, Element}
-use Rattle.wb_book.specs.declared.cells.kind.DomainKind.{DomainKind}
 use Rattle.wb_book.specs.declared.cells.kind.DomainKind.TheVariants.{Rectangular}
 use Rattle.wb_book.specs.declared.cells.kind.Kind.{Kind}
 use Rattle.wb_book.specs.declared.cells.value.Value.{Value}

@@ -3,7 +3,8 @@ ghost use Rattle.wb_range.specs.Domain.{IsListedOnce};
 ghost use Rattle.wb_edit.specs.Commands.{array, array_cells};
 ghost use Rattle.wb_edit.specs.Plans.{Attempts, Makes, indices_in};
 
-use crate::commands::writes::{Column, put, put_found};
+use crate::column::Column;
+use crate::commands::writes::{put, put_found};
 use crate::foot::Foot;
 use crate::tests::indices::{Indices, idx};
 use crate::tests::looks;

@@ -2,7 +2,8 @@ ghost use Rattle.std.specs.Prelude.{◌≡◌};
 ghost use Rattle.wb_edit.specs.Commands.{domain, domain_cells};
 ghost use Rattle.wb_edit.specs.Plans.{Attempts, Makes};
 
-use crate::commands::writes::{Column, put, put_all};
+use crate::column::Column;
+use crate::commands::writes::{put, put_all};
 use crate::foot::Foot;
 use crate::tests::stop::Stop;
 use crate::tests::{layouts, looks};

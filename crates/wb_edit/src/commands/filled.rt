@@ -6,7 +6,8 @@ ghost use Rattle.wb_edit.specs.Commands.{fill};
 ghost use Rattle.wb_edit.specs.Plans.{Attempts, Makes};
 ghost use Rattle.wb_edit.specs.Writes.{put_all};
 
-use crate::commands::writes::{Column, put_all};
+use crate::column::Column;
+use crate::commands::writes::put_all;
 use crate::foot::Foot;
 use crate::tests::stop::Stop;
 use crate::tests::{looks, rectangles};

@@ -1,5 +1,6 @@
 //! The commands: for each, its tests in their order, and then the changes that it makes.
 
+pub mod added;
 pub mod array;
 pub mod combined;
 pub mod copied;
@@ -10,6 +11,8 @@ pub mod filled;
 pub mod filled_array;
 pub mod implicit;
 pub mod remapped;
+pub mod removed;
+pub mod resized;
 pub mod seen;
 pub mod sets;
 pub mod writes;

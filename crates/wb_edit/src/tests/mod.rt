@@ -9,4 +9,6 @@ pub mod layouts;
 pub mod looks;
 pub mod numbers;
 pub mod rectangles;
+pub mod resizing;
 pub mod stop;
+pub mod users;

@@ -53,7 +53,8 @@ pub fn there_if(all: bool) -> Result<(), Refusal>
     }
 }
 
-fn is_present(book: &Book, foot: &mut Foot, cell: &Cell) -> Result<bool, Stop>
+/// Whether a cell is there; it is looked at.
+pub(crate) fn is_present(book: &Book, foot: &mut Foot, cell: &Cell) -> Result<bool, Stop>
     ensures read { OnOk result (foot.new ≡ foot.old ++ one_of cell.now ∷ []) }
     ensures present { IfOk result (λ b. b ≡ is_some (get book.now.cells cell.now)) }
     ensures only { IfErr result (λ e. e ≡ NoMemory) }
@@ -82,7 +83,8 @@ fn are_present(book: &Book, foot: &mut Foot, array: Name, on: &AnyRect) -> Resul
     Ok(all)
 }
 
-fn both(all: bool, here: bool) -> bool
+/// Both of two answers.
+pub(crate) fn both(all: bool, here: bool) -> bool
     ensures { result ≡ (all && here) }
 {
     all && here

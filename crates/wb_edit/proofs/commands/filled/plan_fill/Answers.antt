@@ -8,7 +8,6 @@ use Rattle.wb_book.specs.declared.values.index.Index.{Index}
 use Rattle.wb_book.specs.Cells.{Name, Changes}
 use Rattle.wb_book.specs.Shapes.{indices}
 use Rattle.selective_undo.specs.Edit.{write}
-use Rattle.wb_edit.specs.Looks.{Tree}
 use Rattle.wb_edit.specs.Rectangles.{of_rank, over_rectangle, all_elements}
 use Rattle.wb_edit.specs.Tests.{arr}
 use Rattle.wb_edit.specs.Writes.{put_all}

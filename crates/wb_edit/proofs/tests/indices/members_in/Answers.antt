@@ -1,4 +1,4 @@
-use Rattle.std.proofs.Common.{rules, tests, refl}
+use Rattle.std.proofs.Common.{refl}
 use Rattle.std.proofs.lemmas.Iterator.{YieldsList-from_slice, items_from_collect}
 use Rattle.std.proofs.lemmas.Iterator.Consumers.{YieldsList-at, YieldsList-from_filter_map}
 use Rattle.wb_edit.specs.Tests.{member_in}

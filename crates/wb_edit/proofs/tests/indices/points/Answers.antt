@@ -1,4 +1,3 @@
-use Rattle.std.proofs.Common.{refl}
 use Rattle.std.proofs.lemmas.Result.{err_from_is_err_and}
 use Rattle.wb_book.specs.declared.cells.cell.Cell.TheVariants.{Shape}
 use Rattle.wb_edit.specs.Looks.{read}

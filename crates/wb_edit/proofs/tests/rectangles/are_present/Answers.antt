@@ -1,5 +1,4 @@
-use Rattle.std.proofs.Common.{◌≡◌, ◌<◌, length, arith, List, ◌∷◌, [], ◌++◌, ◌&&◌, map, is_some, Some, slice_get, sym, ap, ◌∙◌}
-use Rattle.std.specs.FinMap.{get}
+use Rattle.std.proofs.Common.{◌≡◌, ◌<◌, length, arith, List, ◌∷◌, [], ◌++◌, map, Some, slice_get, sym, ap, ◌∙◌}
 use Rattle.wb_book.specs.Shapes.{indices}
 use Rattle.wb_book.specs.declared.cells.cell.Cell.TheVariants.{Element}
 use Rattle.wb_book.specs.declared.values.index.Index.{Index}

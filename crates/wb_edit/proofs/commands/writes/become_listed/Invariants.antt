@@ -1,0 +1,8 @@
+use Rattle.std.proofs.Common.{◌≡◌, ◌++◌, map, take}
+use Rattle.wb_edit.specs.Plans.{cell_at}
+use Rattle.wb_edit.specs.Changed.{set_all}
+use Rattle.wb_edit.proofs.commands.writes.become_listed.Given as goal
+
+-- the cells of the indices so far are there
+abbrev pub invariant-loop-p : goal.invariant-loop-p
+invariant-loop-p l = l.delta ≡ l.fn.delta ++ set_all (map (cell_at l.column) (take l.p l.listed)) l.value

@@ -1,0 +1,55 @@
+-- What is bound to a domain: the arrays over it, and the sparse domains in it.
+use Rattle.std.specs.Prelude.{List, [], ◌∷◌, Option, Some, None, option_map, Result, Ok, Err}
+use Rattle.std.specs.List.{filter_map}
+use Rattle.selective_undo.specs.Edit.{look}
+use Rattle.wb_book.specs.declared.cells.cell.Cell.{Cell}
+use Rattle.wb_book.specs.declared.cells.cell.Cell.TheVariants.{Use}
+use Rattle.wb_book.specs.declared.cells.pattern.Pattern.TheVariants.{Uses}
+use Rattle.wb_book.specs.declared.cells.value.Binding.{Binding}
+use Rattle.wb_book.specs.declared.cells.value.Binding.TheVariants.{Array, Sparse}
+use Rattle.wb_book.specs.declared.cells.value.Value.{Value}
+use Rattle.wb_book.specs.declared.cells.value.Value.TheVariants.{Bound}
+use Rattle.wb_book.specs.Cells.{Name}
+use Rattle.wb_edit.specs.declared.refusal.Refusal.{Refusal}
+use Rattle.wb_edit.specs.declared.refusal.Refusal.TheVariants.{InUse}
+use Rattle.wb_edit.specs.Looks.{Look, ◌>>=◌, judged}
+
+-- ---- judgements of what was seen
+
+-- how an object is bound, as a value says it
+abbrev pub binding_in : Value → Option Binding
+binding_in (Bound how) = Some how
+binding_in v = None
+
+-- the user of a domain that a cell with its value tells of, and how it is bound
+abbrev pub user_in : Cell × Value → Option (Name × Binding)
+user_in (Use d n, v) = option_map (λ how. (n, how)) (binding_in v)
+user_in (c, v) = None
+
+-- the name of a user that is bound so
+abbrev pub named : Binding → Name × Binding → Option Name
+named Array (n, Array) = Some n
+named Array (n, Sparse) = None
+named Sparse (n, Array) = None
+named Sparse (n, Sparse) = Some n
+
+-- the names of the users that are bound so
+abbrev pub bound : Binding → List (Name × Binding) → List Name
+bound how users = filter_map (named how) users
+
+-- nothing is bound to the domain; else it is in use
+abbrev pub is_unused : List (Name × Binding) → Result (Unit {0}) Refusal
+is_unused [] = Ok tt
+is_unused (u ∷ us) = Err InUse
+
+-- ---- the tests
+
+-- what is bound to a domain, and how, by their names: looks at all of that
+abbrev pub uses : Name → Look (List (Name × Binding))
+uses d next = look (Uses d) (λ seen. next (filter_map user_in seen))
+
+-- a domain to which nothing is bound: looks at all that is
+abbrev pub unused : Name → Look (Unit {0})
+unused d next = do
+  users ← uses d
+  judged (is_unused users) next

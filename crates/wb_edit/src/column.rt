@@ -1,0 +1,28 @@
+//! Columns of cells: one for each index of a domain.
+
+ghost use Rattle.std.specs.Prelude.{◌≡◌};
+ghost use Rattle.wb_edit.specs.Plans.{cell_at};
+
+use wb_book::{AnyIndex, Cell, Kind, Name};
+
+/// A cell for each index of a domain.
+#[derive(Clone, Copy)]
+pub(crate) enum Column {
+    /// `In(d, i)`.
+    Inside(Name),
+    /// `Element(a, i)`.
+    Elements(Name),
+    /// The cell that says whether an index is in a domain of this kind.
+    Membership(Kind, Name),
+}
+
+/// The column's cell of an index.
+pub(crate) fn cell_at(column: &Column, index: AnyIndex) -> Cell
+    ensures { result ≡ cell_at column.now index }
+{
+    match column {
+        Column::Inside(domain) => Cell::In(*domain, index),
+        Column::Elements(array) => Cell::Element(*array, index),
+        Column::Membership(kind, domain) => kind.index_cell(*domain, index),
+    }
+}

@@ -1,0 +1,62 @@
+//! Indices that leave a sparse or associative domain, and others that come to it.
+
+ghost use Rattle.std.specs.Prelude.{◌≡◌};
+ghost use Rattle.std.specs.Map.{keys_of};
+ghost use Rattle.wb_range.specs.Domain.{IsListedOnce};
+ghost use Rattle.wb_book.specs.Kinds.{kind_of};
+ghost use Rattle.wb_edit.specs.Changed.{AreApart};
+ghost use Rattle.wb_edit.specs.Commands.{resized};
+ghost use Rattle.wb_edit.specs.Plans.{Attempts, Makes};
+ghost use Rattle.wb_resize.specs.Resized.{resized_cells};
+
+use crate::commands::writes::{Resized, resize};
+use crate::foot::Foot;
+use crate::tests::resizing::{fills, inside};
+use crate::tests::stop::Stop;
+use std::alloc::Global;
+use wb_book::{AnyDomain, AnyIndex, Book, Delta, Name};
+
+/// Indices leave a sparse or associative domain and others come to it.
+pub(crate) fn plan_resized(
+    alloc: Global,
+    book: &Book,
+    foot: &mut Foot,
+    domain: Name,
+    kind: &AnyDomain,
+    new: &[AnyIndex],
+    leaving: &[AnyIndex],
+    coming: &[AnyIndex],
+) -> Result<Delta, Stop>
+    requires leaving { IsListedOnce leaving.now }
+    requires coming { IsListedOnce coming.now }
+    requires apart { AreApart leaving.now coming.now }
+    ensures { Attempts (resized domain kind.now new.now leaving.now coming.now) book.now.cells foot.old result foot.new }
+{
+    inside(book, foot, kind, new)?;
+    let brought = fills(alloc, book, foot, domain, kind)?;
+    resize_changes(alloc, domain, kind, &brought, leaving, coming)
+}
+
+/// What changes where indices leave a domain and others come to it.
+pub(crate) fn resize_changes(
+    alloc: Global,
+    domain: Name,
+    kind: &AnyDomain,
+    brought: &[(Name, i64)],
+    leaving: &[AnyIndex],
+    coming: &[AnyIndex],
+) -> Result<Delta, Stop>
+    requires once { IsListedOnce (keys_of brought.now) }
+    requires leaving { IsListedOnce leaving.now }
+    requires coming { IsListedOnce coming.now }
+    requires apart { AreApart leaving.now coming.now }
+    ensures { Makes (resized_cells (kind_of kind.now) domain brought.now leaving.now coming.now) result }
+{
+    let mut delta = Delta::new(alloc);
+    let over = Resized {
+        name: domain,
+        kind: kind.kind(),
+    };
+    resize(&mut delta, &over, brought, leaving, coming)?;
+    Ok(delta)
+}
