@@ -1,18 +1,20 @@
 -- The cells that a pattern names stand together: before its first cell stands none of them, and behind one that is not named
 -- there is none any more.
-use Rattle.std.proofs.Common.{◌≡◌, Bool, true, false, cond, ◌&&◌, ℕ, suc, ◌+◌, arith, List, [], ◌∷◌, map, take, Option, Some, None, refl, sym, ap, subst, ◌∙◌, IsSome}
+use Rattle.std.proofs.Common.{◌≡◌, Bool, true, false, cond, ◌&&◌, ◌||◌, ℕ, suc, ◌+◌, ◌<◌, ◌≤◌, nat_le, length, arith, List, [], ◌∷◌, map, take, Option, Some, None, refl, sym, ap, subst, ◌∙◌, IsSome}
 use Rattle.std.specs.BTreeMap.{BTreeMap, IsOrdered, ContainsKey, keys}
 use Rattle.std.specs.BTreeMap.Range.{range_contains, entries_between}
-use Rattle.std.specs.Cmp.Lexicographic.{slice_cmp}
-use Rattle.std.specs.FinMap.{get, entries}
+use Rattle.std.specs.Cmp.Lexicographic.{slice_cmp, nat_list_cmp_total}
+use Rattle.std.specs.FinMap.{get}
 use Rattle.std.specs.FinMap.Entries.{where_key}
-use Rattle.std.specs.List.{AllByRecursion, filter, prefix_len}
+use Rattle.std.specs.List.{AllByRecursion, filter, list_all, prefix_len}
 use Rattle.std.specs.List.Sorted.{IsStrictlySortedBy}
 use Rattle.std.specs.Map.{keys_of}
 use Rattle.std.specs.Ordering.{is_le, is_eq, nat_cmp, ordering_then}
 use Rattle.std.specs.declared.cmp.Ordering.{Ordering}
 use Rattle.std.specs.declared.cmp.Ordering.TheVariants.{Less, Equal, Greater}
 use Rattle.std.specs.declared.ops.Bound.TheVariants.{Included, Unbounded}
+use Rattle.std.proofs.lemmas.Bool.{leb-true}
+use Rattle.std.proofs.lemmas.Cmp.{ranked}
 use Rattle.std.proofs.lemmas.List.Elements.{recursion_from_All}
 use Rattle.std.proofs.lemmas.Map.Views.{All-keys_found}
 use Rattle.selective_undo.proofs.Evaluation.{entries-retain_keys}
@@ -23,13 +25,25 @@ use Rattle.wb_book.specs.declared.cells.pattern.Pattern.TheVariants.{Objects, On
 use Rattle.wb_book.specs.declared.cells.value.Value.{Value}
 use Rattle.wb_book.specs.declared.values.index.Index.{Index}
 use Rattle.wb_book.specs.declared.values.index.Index.TheVariants.{Point, Text}
-use Rattle.wb_book.specs.Cells.{Name, cell_cmp, cell_order, index_cmp, is_same_name, matches, state_of}
-use Rattle.wb_book.specs.Families.{first, least}
+use Rattle.wb_book.specs.Names.{is_letter, is_name_part, is_name}
+use Rattle.wb_book.specs.Cells.{Name, Cells, cell_cmp, cell_order, index_cmp, is_same_name, same_names, matches, state_of}
+use Rattle.wb_book.specs.Families.{Begins}
 use Rattle.wb_book.specs.Readers.{seen}
 use Rattle.wb_book.specs.WellFormed.{IsWellFormed, use_of}
 use Rattle.wb_book.proofs.Order.{entries-state_of}
 use Rattle.wb_book.proofs.Shown.{get-state_of}
-use Rattle.wb_book.proofs.Users.{later, least_is_least, user_is_object}
+
+-- `A`, the least name
+abbrev least : Name
+least = 65 ∷ []
+
+-- where the code begins to walk
+abbrev pub first : Pattern → Cell
+first Objects = Object least
+first (One c) = c
+first (Members d) = Member d (Point [])
+first (Uses d) = Use d least
+first (Elements a) = Element a (Point [])
 
 abbrev pub is_from : Cell → Cell → Bool
 is_from c = range_contains cell_cmp (Included c) Unbounded
@@ -51,6 +65,11 @@ at_least Greater from none = cc
 
 abbrev Stops : Pattern → Type 0
 Stops p = (x y : Cell) → is_from (first p) x ≡ true → cell_cmp x y ≡ Less → matches p x ≡ false → matches p y ≡ false
+
+later : (d f e : Name) (o r : Ordering) → slice_cmp nat_cmp f e ≡ o → ordering_then o r ≡ Less → slice_cmp nat_cmp d f ≡ Less → slice_cmp nat_cmp d e ≡ Less
+later d f e Less r is up below = nat_list_cmp_total.trans d f e below is
+later d f e Equal r is up below = subst (λ (g : Name). slice_cmp nat_cmp d g ≡ Less) (same_names f e is) below
+later d f e Greater r is up below = cc
 
 other_name : (d f e : Name) (o r q : Ordering) → is_le (ordering_then (slice_cmp nat_cmp d f) r) && true ≡ true → slice_cmp nat_cmp f e ≡ o → ordering_then o q ≡ Less → is_same_name d f ≡ false → is_same_name d e ≡ false
 other_name d f e o r q from is up none =
@@ -171,17 +190,48 @@ elements_covered d (Use e n) from = refl
 elements_covered d (Implicit e) from = refl
 elements_covered d (Element e i) from = not_below (slice_cmp nat_cmp d e) (index_cmp (Point []) i) (no_coordinates i) from
 
+user_is_object : (d : Name) (o : Option Value) → IsSome (use_of d o) → (v : Value) × (o ≡ Some v)
+user_is_object d None there = let no : ⊥ = cc in absurd no
+user_is_object d (Some v) there = (v, refl)
+
+second : (a b d : Bool) → a && b && d ≡ true → b ≡ true
+second true true d e = refl
+second true false d e = cc
+second false b d e = cc
+
+from_letter : (c : ℕ) (a b d e : Bool) → (a ≡ true → 65 ≤ c) → (d ≡ true → 65 ≤ c) → (a && b) || (d && e) ≡ true → 65 ≤ c
+from_letter c true b d e f g is = f refl
+from_letter c false b true e f g is = g refl
+from_letter c false b false e f g is = let no : ⊥ = cc in absurd no
+
+from_97 : (c : ℕ) → 97 ≤ c → 65 ≤ c
+from_97 c h = omega arith
+
+is_no_letter : (c : ℕ) → c < 65 → is_letter c ≡ true → ⊥
+is_no_letter c below is =
+    let from = from_letter c (nat_le 65 c) (nat_le c 90) (nat_le 97 c) (nat_le c 122) (leb-true 65 c) (λ e. from_97 c (leb-true 97 c e)) is in
+    omega arith
+
+nothing_is_least : (cs : List ℕ) → is_le (slice_cmp nat_cmp [] cs) ≡ true
+nothing_is_least [] = refl
+nothing_is_least (c ∷ cs) = refl
+
+least_is_least : (n : Name) → is_name n ≡ true → is_le (slice_cmp nat_cmp least n) ≡ true
+least_is_least [] named = cc
+least_is_least (c ∷ cs) named = elim (nat_cmp 65 c) as (λ o. nat_cmp 65 c ≡ o → is_le (ordering_then o (slice_cmp nat_cmp [] cs)) ≡ true) [
+  | Less ↦ λ e. refl
+  | Equal ↦ λ e. nothing_is_least cs
+  | Greater ↦ λ e. absurd (is_no_letter c (ranked 65 c Greater (sym e)) (second (nat_le (length cs) 31) (is_letter c) (list_all is_name_part cs) named))
+] refl
+
 some_value : (o : Option Value) → IsSome o → (v : Value) × (o ≡ Some v)
 some_value None there = let no : ⊥ = cc in absurd no
 some_value (Some v) there = (v, refl)
 
-module _ (m : BTreeMap Cell Value) (ok : IsWellFormed (state_of m)) where
-  object_there : (c : Cell) → ContainsKey cell_cmp m c → IsSome (get (state_of m) c)
-  object_there c there = subst (λ (o : Option Value). IsSome o) (sym (get-state_of m c)) there
-
-  covered : (p : Pattern) (x : Cell) → ContainsKey cell_cmp m x → Covered p x
+module _ (s : Cells) (ok : IsWellFormed s) where
+  covered : (p : Pattern) (x : Cell) → IsSome (get s x) → Covered p x
   covered Objects (Object n) there from =
-      let object = some_value (get (state_of m) (Object n)) (object_there (Object n) there) in
+      let object = some_value (get s (Object n)) there in
       let least_first : is_le (slice_cmp nat_cmp least n) ≡ true = least_is_least n (ok.names n object.0 object.1) in
       let no : true ≡ false = subst (λ (b : Bool). b && true ≡ false) least_first from in cc
   covered Objects (Shape e) there from = refl
@@ -202,63 +252,68 @@ module _ (m : BTreeMap Cell Value) (ok : IsWellFormed (state_of m)) where
   covered (Uses d) (Implicit e) there from = refl
   covered (Uses d) (Element e n) there from = refl
   covered (Uses d) (Use e n) there from =
-      let bound : IsSome (use_of e (get (state_of m) (Object n))) = subst (λ (o : Option Value). IsSome o) (sym (get-state_of m (Use e n)) ∙ ok.uses e n) there in
-      let object = user_is_object e (get (state_of m) (Object n)) bound in
+      let bound : IsSome (use_of e (get s (Object n))) = subst (λ (o : Option Value). IsSome o) (ok.uses e n) there in
+      let object = user_is_object e (get s (Object n)) bound in
       not_below (slice_cmp nat_cmp d e) (slice_cmp nat_cmp least n) (least_is_least n (ok.names n object.0 object.1)) from
 
-  all_covered : (p : Pattern) (xs : List Cell) → AllByRecursion (ContainsKey cell_cmp m) xs → AllByRecursion (Covered p) xs
-  all_covered p [] there = tt
-  all_covered p (x ∷ xs) there = (covered p x there.0, all_covered p xs there.1)
+pub begins : (p : Pattern) (c : Cell) → c ≡ first p → Begins p c
+begins p c is =
+    rw is (record {
+      together = λ x y from up none. stop p x y (ap (λ b. b && true) from) up none;
+      none_before = λ s x ok there before. covered s ok p x there (ap (λ b. b && true) before);
+    })
 
 -- ---- so they are the front of what stands from the first cell on
 
+with_true : (b t : Bool) → b && true ≡ t → b ≡ t
+with_true true t e = e
+with_true false t e = e
+
 abbrev pub named : Pattern → Cell × Value → Bool
 named p e = matches p e.0
-
-none_behind : (p : Pattern) (x : Cell) (es : List (Cell × Value)) → is_from (first p) x ≡ true → matches p x ≡ false → AllByRecursion (λ y. cell_cmp x y ≡ Less) (keys_of es) → filter (named p) es ≡ []
-none_behind p x [] from none above = refl
-none_behind p x (e ∷ es) from none above = rw (stop p x e.0 from above.0 none) (none_behind p x es from none above.1)
-
-one_more : (n : ℕ) (e : Cell × Value) (es : List (Cell × Value)) → take (1 + n) (e ∷ es) ≡ e ∷ take n es
-one_more n e es = let more : 1 + n ≡ suc n = omega arith in ap (λ k. take k (e ∷ es)) more
-
-front : (p : Pattern) (es : List (Cell × Value)) → AllByRecursion (Covered p) (keys_of es) → IsStrictlySortedBy cell_cmp (keys_of es)
-    → take (prefix_len (named p) (filter (λ e. is_from (first p) e.0) es)) (filter (λ e. is_from (first p) e.0) es) ≡ filter (named p) es
-unfolding IsStrictlySortedBy
-front p [] all s = refl
-front p (e ∷ es) all s =
-    let rest : List (Cell × Value) = filter (λ x. is_from (first p) x.0) es in
-    elim (is_from (first p) e.0) as (λ b. is_from (first p) e.0 ≡ b → take (prefix_len (named p) (cond b (e ∷ rest) rest)) (cond b (e ∷ rest) rest) ≡ filter (named p) (e ∷ es)) [
-      | true ↦ λ from. elim (matches p e.0) as (λ b. matches p e.0 ≡ b → take (cond b (1 + prefix_len (named p) rest) 0) (e ∷ rest) ≡ cond b (e ∷ filter (named p) es) (filter (named p) es)) [
-        | true ↦ λ here. one_more (prefix_len (named p) rest) e rest ∙ ap (λ xs. e ∷ xs) (front p es all.1 s.1)
-        | false ↦ λ none. sym (none_behind p e.0 es from none s.0)
-      ] refl
-      | false ↦ λ from. rw (all.0 from) (front p es all.1 s.1)
-    ] refl
 
 -- each as it is
 pub map-same : {X : Type 0} (xs : List X) → map (λ x. x) xs ≡ xs
 map-same [] = refl
 map-same (x ∷ xs) = ap (λ ys. x ∷ ys) (map-same xs)
 
-found : (m : BTreeMap Cell Value) (p : Pattern) (c : Cell) (part : List (Cell × Value)) → AllByRecursion (Covered p) (keys m) → IsOrdered cell_cmp m → c ≡ first p → part ≡ entries_between cell_cmp (Included c) Unbounded m.entries
+one_more : (n : ℕ) (e : Cell × Value) (es : List (Cell × Value)) → take (1 + n) (e ∷ es) ≡ e ∷ take n es
+one_more n e es = let more : 1 + n ≡ suc n = omega arith in ap (λ k. take k (e ∷ es)) more
+
+module _ (p : Pattern) (c : Cell) (b : Begins p c) where
+  pub together_from : (x y : Cell) → is_from c x ≡ true → cell_cmp x y ≡ Less → matches p x ≡ false → matches p y ≡ false
+  together_from x y from up none = b.together x y (with_true (is_le (cell_cmp c x)) true from) up none
+
+  pub all_covered : (m : BTreeMap Cell Value) → IsWellFormed (state_of m) → (xs : List Cell) → AllByRecursion (ContainsKey cell_cmp m) xs → AllByRecursion (λ x. is_from c x ≡ false → matches p x ≡ false) xs
+  all_covered m ok [] there = tt
+  all_covered m ok (x ∷ xs) there =
+      let here : IsSome (get (state_of m) x) = subst (λ (o : Option Value). IsSome o) (sym (get-state_of m x)) there.0 in
+      (λ before. b.none_before (state_of m) x ok here (with_true (is_le (cell_cmp c x)) false before), all_covered m ok xs there.1)
+
+  none_behind : (x : Cell) (es : List (Cell × Value)) → is_from c x ≡ true → matches p x ≡ false → AllByRecursion (λ y. cell_cmp x y ≡ Less) (keys_of es) → filter (named p) es ≡ []
+  none_behind x [] from none above = refl
+  none_behind x (e ∷ es) from none above = rw (together_from x e.0 from above.0 none) (none_behind x es from none above.1)
+
+  front : (es : List (Cell × Value)) → AllByRecursion (λ x. is_from c x ≡ false → matches p x ≡ false) (keys_of es) → IsStrictlySortedBy cell_cmp (keys_of es)
+      → take (prefix_len (named p) (filter (λ e. is_from c e.0) es)) (filter (λ e. is_from c e.0) es) ≡ filter (named p) es
+  unfolding IsStrictlySortedBy
+  front [] all s = refl
+  front (e ∷ es) all s =
+      let rest : List (Cell × Value) = filter (λ x. is_from c x.0) es in
+      elim (is_from c e.0) as (λ v. is_from c e.0 ≡ v → take (prefix_len (named p) (cond v (e ∷ rest) rest)) (cond v (e ∷ rest) rest) ≡ filter (named p) (e ∷ es)) [
+        | true ↦ λ from. elim (matches p e.0) as (λ v. matches p e.0 ≡ v → take (cond v (1 + prefix_len (named p) rest) 0) (e ∷ rest) ≡ cond v (e ∷ filter (named p) es) (filter (named p) es)) [
+          | true ↦ λ here. one_more (prefix_len (named p) rest) e rest ∙ ap (λ xs. e ∷ xs) (front es all.1 s.1)
+          | false ↦ λ none. sym (none_behind e.0 es from none s.0)
+        ] refl
+        | false ↦ λ from. rw (all.0 from) (front es all.1 s.1)
+      ] refl
+
+-- what stands from the first cell on
+pub seen_found : (m : BTreeMap Cell Value) (p : Pattern) (c : Cell) (part : List (Cell × Value)) → IsWellFormed (state_of m) → IsOrdered cell_cmp m → Begins p c → part ≡ entries_between cell_cmp (Included c) Unbounded m.entries
     → take (prefix_len (named p) part) part ≡ seen (state_of m) p
-found m p c part all s from is =
-    ap (λ (es : List (Cell × Value)). take (prefix_len (named p) es) es) (is ∙ ap (λ (x : Cell). entries_between cell_cmp (Included x) Unbounded m.entries) from)
-    ∙ front p m.entries all s
+seen_found m p c part ok s b is =
+    let all = all_covered p c b m ok (keys m) (recursion_from_All (ContainsKey cell_cmp m) (keys m) (All-keys_found cell_order.total m s)) in
+    ap (λ (es : List (Cell × Value)). take (prefix_len (named p) es) es) is
+    ∙ front p c b m.entries all s
     ∙ sym (ap (where_key cell_cmp (matches p)) (entries-state_of m s))
     ∙ sym (entries-retain_keys cell_order (state_of m) (matches p))
-
-pub seen_found : (m : BTreeMap Cell Value) (p : Pattern) (c : Cell) (part : List (Cell × Value)) → IsWellFormed (state_of m) → IsOrdered cell_cmp m → c ≡ first p → part ≡ entries_between cell_cmp (Included c) Unbounded m.entries
-    → take (prefix_len (named p) part) part ≡ seen (state_of m) p
-seen_found m p c part ok s from is =
-    found m p c part (all_covered m ok p (keys m) (recursion_from_All (ContainsKey cell_cmp m) (keys m) (All-keys_found cell_order.total m s))) s from is
-
-all_elements_covered : (a : Name) (xs : List Cell) → AllByRecursion (Covered (Elements a)) xs
-all_elements_covered a [] = tt
-all_elements_covered a (x ∷ xs) = (elements_covered a x, all_elements_covered a xs)
-
--- the elements of an array, in any workbook
-pub elements_found : (m : BTreeMap Cell Value) (a : Name) (c : Cell) (part : List (Cell × Value)) → IsOrdered cell_cmp m → c ≡ first (Elements a) → part ≡ entries_between cell_cmp (Included c) Unbounded m.entries
-    → take (prefix_len (named (Elements a)) part) part ≡ seen (state_of m) (Elements a)
-elements_found m a c part s from is = found m (Elements a) c part (all_elements_covered a (keys m)) s from is

@@ -2,7 +2,7 @@
 
 ghost use Rattle.std.specs.Prelude.{◌≡◌, length, IfOk};
 ghost use Rattle.wb_book.specs.Cells.{matches, state_of};
-ghost use Rattle.wb_book.specs.Families.{first};
+ghost use Rattle.wb_book.specs.Families.{Begins};
 ghost use Rattle.wb_book.specs.Readers.{seen, element_in, elements};
 ghost use Rattle.wb_book.specs.WellFormed.{IsWellFormed};
 
@@ -15,9 +15,9 @@ use std::alloc::{AllocError, Global};
 use std::collections::BTreeMap;
 use wb_range::NoMemory;
 
-/// A cell that no cell of the pattern stands before.
-fn first(pattern: &Pattern) -> Cell
-    ensures { result ≡ first pattern.now }
+/// A cell from which on the cells that the pattern names stand before all others.
+pub(crate) fn first(pattern: &Pattern) -> Cell
+    ensures { Begins pattern.now result }
 {
     match pattern {
         Pattern::Objects => Cell::Object(Name::least()),
@@ -85,6 +85,7 @@ pub(crate) fn elements(
     cells: &BTreeMap<Cell, Value>,
     array: Name,
 ) -> Result<Vec<(AnyIndex, i64)>, NoMemory>
+    requires { IsWellFormed (state_of cells.now) }
     ensures { IfOk result (λ v. v.items ≡ elements (state_of cells.now) array) }
 {
     let pattern = Pattern::Elements(array);

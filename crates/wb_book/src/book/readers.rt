@@ -7,8 +7,10 @@ ghost use Rattle.wb_book.specs.Readers.{object_of, objects, user_of, users, size
 ghost use Rattle.wb_book.specs.WellFormed.{IsWellFormed, ranges_in};
 ghost use Rattle.wb_book.specs.declared.cells.cell.Cell.TheVariants.{Shape};
 
+use crate::book::families::first;
 use crate::book::store::look;
 use crate::cells::cell::Cell;
+use crate::cells::pattern::Pattern;
 use crate::cells::value::Value;
 use crate::values::index::AnyIndex;
 use crate::values::name::Name;
@@ -67,12 +69,12 @@ pub(crate) fn object_at(cells: &BTreeMap<Cell, Value>, p: usize) -> Option<Name>
     object_of(cells.keys().nth(p)?)
 }
 
-/// The user of a domain at place `p`, ascending. The users stand together, from the least name on.
+/// The user of a domain at place `p`, ascending. The users stand together.
 pub(crate) fn user_at(cells: &BTreeMap<Cell, Value>, domain: Name, p: usize) -> Option<Name>
     requires { IsWellFormed (state_of cells.now) }
     ensures { result ≡ slice_get (users (state_of cells.now) domain) p }
 {
-    let (cell, _) = cells.range(Cell::Use(domain, Name::least())..).nth(p)?;
+    let (cell, _) = cells.range(first(&Pattern::Uses(domain))..).nth(p)?;
     user_of(domain, cell)
 }
 

@@ -15,7 +15,7 @@ returns-in_err-cell c =
     let d : Name = c.args.domain in
     let found = nth_from_yields_List c.nth.result _ c.args.p c.nth.ensures.ran (YieldsList-from_rest c.range.result refl) in
     c.from_residual.ensures ∙ sym (ap (λ o. option_and_then (λ (e : Cell × Value). user_of d e.0) (option_map deref_pair o)) c.in_err-cell.was)
-    ∙ user_found m d c.least.result c.args.p c.range.result _ c.requires c.range.ensures.ordered c.least.ensures (c.range.ensures.between tt) found
+    ∙ user_found m d c.first.result c.args.p c.range.result _ c.requires c.range.ensures.ordered c.first.ensures (c.range.ensures.between tt) found
 
 pub returns : goal.returns
 returns c =
@@ -23,4 +23,4 @@ returns c =
     let d : Name = c.args.domain in
     let found = nth_from_yields_List c.nth.result _ c.args.p c.nth.ensures.ran (YieldsList-from_rest c.range.result refl) in
     c.user_of.ensures ∙ sym (ap (λ o. option_and_then (λ (e : Cell × Value). user_of d e.0) (option_map deref_pair o)) c.in_ok-cell.was)
-    ∙ user_found m d c.least.result c.args.p c.range.result _ c.requires c.range.ensures.ordered c.least.ensures (c.range.ensures.between tt) found
+    ∙ user_found m d c.first.result c.args.p c.range.result _ c.requires c.range.ensures.ordered c.first.ensures (c.range.ensures.between tt) found
