@@ -17,6 +17,10 @@ pub list_any-nowhere : {A : Type 0} (xs : List A) → list_any (λ x. false) xs 
 list_any-nowhere [] = refl
 list_any-nowhere (x ∷ xs) = list_any-nowhere xs
 
+pub list_any-map : {A B : Type 0} (p : B → Bool) (f : A → B) (xs : List A) → list_any p (map f xs) ≡ list_any (λ x. p (f x)) xs
+list_any-map p f [] = refl
+list_any-map p f (x ∷ xs) = ap (λ b. p (f x) || b) (list_any-map p f xs)
+
 module _ {K V : Type 0} (order : K → K → Ordering) where
   -- what a key holds after the changes, where it held o: this computes
   abbrev pub after : List (Change K V) → K → Option V → Option V

@@ -1,6 +1,10 @@
 pub mod Gets
 pub mod States
+pub mod Sorted
+pub mod Seen
+pub mod Users
 pub mod Without
+pub mod Fills
 pub mod Exchanged
 pub mod Resized
 pub mod Sets

@@ -1,6 +1,5 @@
 -- A workbook after a change of a domain's indices, by what each of its cells holds, and that its arrays have their elements.
-use Rattle.std.proofs.Common.{◌≡◌, ⊎_elim, ℤ, Bool, true, false, not, cond, ◌&&◌, List, Option, Some, None, is_some, option_map, FitsSigned, refl, sym, ap, subst, ◌∙◌}
-use Rattle.std.proofs.lemmas.Option.{same_Some}
+use Rattle.std.proofs.Common.{◌≡◌, ⊎_elim, ℤ, Bool, true, false, not, cond, ◌&&◌, List, Option, Some, None, is_some, FitsSigned, refl, sym, ap, subst, ◌∙◌}
 use Rattle.std.specs.Int.{w64}
 use Rattle.std.specs.FinMap.{get}
 use Rattle.std.specs.List.{Contains, list_any}
@@ -12,16 +11,16 @@ use Rattle.wb_book.specs.declared.cells.kind.Kind.{Kind}
 use Rattle.wb_book.specs.declared.cells.kind.Kind.TheVariants.{Rectangular, Sparse, Associative}
 use Rattle.wb_book.specs.declared.cells.value.Binding.TheVariants.{Array, Sparse}
 use Rattle.wb_book.specs.declared.cells.value.Value.{Value}
-use Rattle.wb_book.specs.declared.cells.value.Value.TheVariants.{Domain, Array, Mapping, Present, Bound, Number}
+use Rattle.wb_book.specs.declared.cells.value.Value.TheVariants.{Array, Mapping, Present, Bound, Number}
 use Rattle.wb_book.specs.declared.values.index.Index.{Index}
 use Rattle.wb_book.specs.Cells.{Name, Cells, cell_cmp, is_same_name}
 use Rattle.wb_book.specs.Kinds.{kind_of}
-use Rattle.wb_book.specs.WellFormed.{IsWellFormed, IsElement, has, array_in, use_of, domain_at, array_at, index_cell, is_index_of_array}
+use Rattle.wb_book.specs.WellFormed.{IsWellFormed, IsElement, has, use_of, domain_at, array_at, index_cell, is_index_of_array}
 use Rattle.wb_resize.specs.Laws.{AreFills}
 use Rattle.wb_resize.specs.Resized.{elements_exchanged, resized_cells}
 use Rattle.wb_resize.proofs.Gets.{after}
 use Rattle.wb_resize.proofs.Exchanged.{has_ranges, exchanged_at, IsFilled, after-inside, after-member, no_element-resized, no_index-resized, neither-resized, filled}
-use Rattle.wb_resize.proofs.States.{same_name, itself, array_in-is, domain_of_array, index_cell_same, indices_same}
+use Rattle.wb_resize.proofs.States.{same_name, itself, array_in-is, array_over, index_cell_same, indices_same}
 
 abbrev pub is_shape : Cell → Bool
 is_shape (Shape n) = true
@@ -68,18 +67,6 @@ exchanged_element true leaves o p v fits old = (v, refl, fits)
 exchanged_element false true o p v fits old = refl
 exchanged_element false false o p v fits old = old
 
--- what is bound to a domain as an array is an array over it
-bound_array : (d : Name) (o : Option Value) → use_of d o ≡ Some (Bound Array) → (kind : Kind) × (array_in o ≡ Some (d, kind))
-bound_array d (Some (Array e kind)) used = elim (is_same_name d e) as (λ b. is_same_name d e ≡ b → elim b [ true ↦ Some (Bound Array) | false ↦ None ] ≡ Some (Bound Array) → (other : Kind) × (array_in (Some (Array e kind)) ≡ Some (d, other))) [
-  | true ↦ λ same _. (kind, ap (λ n. array_in (Some (Array n kind))) (sym (same_name d e same)))
-  | false ↦ λ other none. cc
-] refl used
-bound_array d (Some (Domain (Sparse parent rank))) used = absurd (elim (is_same_name d parent) as (λ b. elim b [ true ↦ Some (Bound Sparse) | false ↦ None ] ≡ Some (Bound Array) → ⊥) [
-  | true ↦ λ no. cc
-  | false ↦ λ no. cc
-] used)
-bound_array d _ used = cc
-
 index_here : (s t : Cells) (kind : Kind) (d : Name) (fills : List (Name × ℤ)) (leaving coming : List Index) → IsResized s t kind d fills leaving coming
     → (i : Index) → get t (index_cell kind d i) ≡ exchanged_at leaving coming Present i (get s (index_cell kind d i))
 index_here s t (Rectangular rank) d fills leaving coming k i = k.inside d i ∙ ap (λ b. cond b (exchanged_at leaving coming Present i (get s (In d i))) (get s (In d i))) (itself d)
@@ -96,10 +83,7 @@ module _ (s t : Cells) (kind : Kind) (d : Name) (fills : List (Name × ℤ)) (le
 module _ (s t : Cells) (d : Name) (kind : DomainKind) (fills : List (Name × ℤ)) (leaving coming : List Index) (h : IsWellFormed s) (there : domain_at s d ≡ Some kind) (are : AreFills s d fills) where
   -- each of the arrays is one over the domain
   over_it : (a : Name) (v : ℤ) → Contains fills (a, v) → array_at s a ≡ Some (d, kind_of kind)
-  over_it a v listed =
-      let array = bound_array d (get s (Object a)) (sym (h.uses d a) ∙ are.only a v listed) in
-      let same : array.0 ≡ kind_of kind = same_Some array.0 (kind_of kind) (sym (domain_of_array s h a d array.0 array.1) ∙ ap (option_map kind_of) there) in
-      array.1 ∙ ap (λ x. Some (d, x)) same
+  over_it a v listed = array_over s h d kind there a (are.only a v listed)
 
   -- an array that is none of them is over another domain
   over_another : (a e : Name) (other : Kind) → list_any (λ f. is_same_name a f.0) fills ≡ false → array_at s a ≡ Some (e, other) → is_same_name e d ≡ false

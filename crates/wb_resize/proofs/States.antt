@@ -1,5 +1,5 @@
 -- What follows where a workbook is well formed, and what stays so where another one holds the same.
-use Rattle.std.proofs.Common.{◌≡◌, ℕ, true, false, cond, ◌&&◌, List, Option, Some, None, is_some, option_map, refl, sym, ap, ◌∙◌, Ordering, subst}
+use Rattle.std.proofs.Common.{◌≡◌, ℕ, Bool, true, false, cond, ◌&&◌, List, Option, Some, None, is_some, option_map, refl, sym, ap, ◌∙◌, Ordering, subst}
 use Rattle.std.proofs.lemmas.Option.{none-some, same_Some}
 use Rattle.std.specs.Ordering.{is_eq, ordering_then}
 use Rattle.std.specs.declared.cmp.Ordering.TheVariants.{Less, Equal, Greater}
@@ -7,18 +7,19 @@ use Rattle.std.specs.Cmp.{Equal-is, eq_by_cmp_equiv}
 use Rattle.std.specs.Cmp.Lexicographic.{nat_list_cmp_total}
 use Rattle.std.specs.List.{list_any}
 use Rattle.std.specs.FinMap.{get}
-use Rattle.wb_book.specs.declared.cells.cell.Cell.TheVariants.{Object, Shape, In, Member, Mapping, Element}
+use Rattle.wb_book.specs.declared.cells.cell.Cell.TheVariants.{Object, Shape, In, Member, Mapping, Use, Element}
 use Rattle.wb_book.specs.declared.cells.kind.DomainKind.{DomainKind}
 use Rattle.wb_book.specs.declared.cells.kind.DomainKind.TheVariants.{Rectangular, Sparse, Associative}
 use Rattle.wb_book.specs.declared.cells.kind.Kind.{Kind}
 use Rattle.wb_book.specs.declared.cells.kind.Kind.TheVariants.{Rectangular, Sparse, Associative}
+use Rattle.wb_book.specs.declared.cells.value.Binding.TheVariants.{Array as BoundArray, Sparse as BoundSparse}
 use Rattle.wb_book.specs.declared.cells.value.Value.{Value}
 use Rattle.wb_book.specs.declared.cells.value.Value.TheVariants.{Domain, Array, Ranges, Mapping, Present, Bound, Number}
 use Rattle.wb_book.specs.declared.values.index.Index.{Index}
 use Rattle.wb_book.specs.Names.{is_name}
-use Rattle.wb_book.specs.Shapes.{Range}
+use Rattle.wb_book.specs.Shapes.{Range, indices}
 use Rattle.wb_book.specs.Cells.{Name, Cells, index_cmp, index_cmp-IsAntisymmetric, is_same_name, is_same_index, same_names}
-use Rattle.wb_book.specs.WellFormed.{IsWellFormed, IsObject, IsRectangle, IsShape, HasMapping, IsMember, IsElement, has, domain_in, array_in, ranges_in, inside_of, domain_at, array_at, index_cell, is_index_of_array}
+use Rattle.wb_book.specs.WellFormed.{IsWellFormed, IsObject, IsRectangle, IsShape, HasMapping, IsMember, IsElement, has, present_if, domain_in, array_in, ranges_in, inside_of, use_of, domain_at, array_at, index_cell, is_index_of_array}
 use Rattle.wb_book.specs.Kinds.{kind_of}
 use Rattle.wb_resize.proofs.Gets.{list_any-nowhere}
 
@@ -70,6 +71,34 @@ pub domain_in-is : (v : Option Value) (kind : DomainKind) → domain_in v ≡ So
 domain_in-is (Some (Domain k)) kind e = cc
 domain_in-is _ kind e = cc
 
+-- what is bound to a domain as an array is an array over it
+bound_array : (d : Name) (o : Option Value) → use_of d o ≡ Some (Bound BoundArray) → (kind : Kind) × (array_in o ≡ Some (d, kind))
+bound_array d (Some (Array e kind)) used = elim (is_same_name d e) as (λ b. is_same_name d e ≡ b → elim b [ true ↦ Some (Bound BoundArray) | false ↦ None ] ≡ Some (Bound BoundArray) → (other : Kind) × (array_in (Some (Array e kind)) ≡ Some (d, other))) [
+  | true ↦ λ same _. (kind, ap (λ n. array_in (Some (Array n kind))) (sym (same_name d e same)))
+  | false ↦ λ other none. cc
+] refl used
+bound_array d (Some (Domain (Sparse parent rank))) used = absurd (elim (is_same_name d parent) as (λ b. elim b [ true ↦ Some (Bound BoundSparse) | false ↦ None ] ≡ Some (Bound BoundArray) → ⊥) [
+  | true ↦ λ no. cc
+  | false ↦ λ no. cc
+] used)
+bound_array d _ used = cc
+
+-- what is bound to a domain as a sparse domain is one in it
+bound_sparse : (d : Name) (o : Option Value) → use_of d o ≡ Some (Bound BoundSparse) → (rank : ℕ) × (domain_in o ≡ Some (Sparse d rank))
+bound_sparse d (Some (Array e kind)) used = absurd (elim (is_same_name d e) as (λ b. elim b [ true ↦ Some (Bound BoundArray) | false ↦ None ] ≡ Some (Bound BoundSparse) → ⊥) [
+  | true ↦ λ no. cc
+  | false ↦ λ no. cc
+] used)
+bound_sparse d (Some (Domain (Sparse parent rank))) used = elim (is_same_name d parent) as (λ b. is_same_name d parent ≡ b → elim b [ true ↦ Some (Bound BoundSparse) | false ↦ None ] ≡ Some (Bound BoundSparse) → (other : ℕ) × (domain_in (Some (Domain (Sparse parent rank))) ≡ Some (Sparse d other))) [
+  | true ↦ λ same _. (rank, ap (λ n. Some (Sparse n rank)) (sym (same_name d parent same)))
+  | false ↦ λ other none. cc
+] refl used
+bound_sparse d _ used = cc
+
+pub present_is : (b : Bool) → present_if b ≡ Some Present → b ≡ true
+present_is true e = refl
+present_is false e = cc
+
 module _ (s : Cells) (h : IsWellFormed s) where
   -- an array's domain is there
   pub domain_of_array : (a d : Name) (kind : Kind) → array_at s a ≡ Some (d, kind) → option_map kind_of (domain_at s d) ≡ Some kind
@@ -78,6 +107,24 @@ module _ (s : Cells) (h : IsWellFormed s) where
   -- a rectangular domain's ranges are there
   pub shape_of_domain : (d : Name) (rank : ℕ) → get s (Object d) ≡ Some (Domain (Rectangular rank)) → (rs : List Range) × (get s (Shape d) ≡ Some (Ranges rs)) × IsRectangle rank rs
   shape_of_domain d rank there = subst (λ o. IsShape (domain_in o) (get s (Shape d))) there (h.shapes d)
+
+  -- an array that is bound to a domain is over it
+  pub array_over : (d : Name) (kind : DomainKind) → domain_at s d ≡ Some kind → (a : Name) → get s (Use d a) ≡ Some (Bound BoundArray) → array_at s a ≡ Some (d, kind_of kind)
+  array_over d kind there a used =
+      let array = bound_array d (get s (Object a)) (sym (h.uses d a) ∙ used) in
+      let same : array.0 ≡ kind_of kind = same_Some array.0 (kind_of kind) (sym (domain_of_array a d array.0 array.1) ∙ ap (option_map kind_of) there) in
+      array.1 ∙ ap (λ x. Some (d, x)) same
+
+  -- a member of a sparse domain that is bound to another one is in that
+  pub inside_parent : (d e : Name) (i : Index) → get s (Use d e) ≡ Some (Bound BoundSparse) → get s (Member e i) ≡ Some Present → get s (In d i) ≡ Some Present
+  inside_parent d e i used present =
+      let sparse = bound_sparse d (get s (Object e)) (sym (h.uses d e) ∙ used) in
+      let member : IsMember s (Some (Sparse d sparse.0)) i (Some Present) = rw (sparse.1, present) at (h.members e i) in
+      member.1
+
+  -- an index of a rectangular domain is among those of its ranges
+  pub among_ranges : (d : Name) (rs : List Range) → get s (Shape d) ≡ Some (Ranges rs) → (i : Index) → get s (In d i) ≡ Some Present → has (indices rs) i ≡ true
+  among_ranges d rs shape i present = present_is (has (indices rs) i) (ap (λ o. inside_of (ranges_in o) i) (sym shape) ∙ sym (h.insides d i) ∙ present)
 
   -- nothing stands in the cells of a name that is free
   module _ (n : Name) (free : get s (Object n) ≡ None) where

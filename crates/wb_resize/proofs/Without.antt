@@ -54,3 +54,12 @@ module _ {X : Type 0} where
 
 pub IsListedOnce-without : (ys xs : List Index) → IsListedOnce xs → IsListedOnce (without ys xs)
 IsListedOnce-without ys = IsListedOnce-filter (λ i. not (has ys i))
+
+-- no index both leaves and comes
+neither_way : (a b : Bool) → (b && not a) ≡ true → (a && not b) ≡ false
+neither_way true true e = refl
+neither_way true false e = cc
+neither_way false b e = refl
+
+pub without-apart : (xs ys : List Index) (i : Index) → has (without ys xs) i ≡ true → has (without xs ys) i ≡ false
+without-apart xs ys i there = has-without xs ys i ∙ neither_way (has ys i) (has xs i) (sym (has-without ys xs i) ∙ there)

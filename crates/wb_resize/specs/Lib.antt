@@ -1,3 +1,5 @@
 pub mod Writes
 pub mod Resized
+pub mod Users
+pub mod Fills
 pub mod Laws
