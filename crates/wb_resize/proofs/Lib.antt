@@ -9,3 +9,4 @@ pub mod Exchanged
 pub mod Resized
 pub mod Sets
 pub mod Rectangles
+pub mod Dropped

@@ -1,5 +1,5 @@
--- What holds of every change of a domain's indices.
-use Rattle.std.specs.Prelude.{◌≡◌, ℕ, ℤ, true, List, ◌∷◌, Some, FitsSigned}
+-- What holds of every change of a domain's indices, and of its end.
+use Rattle.std.specs.Prelude.{◌≡◌, ℕ, ℤ, true, List, ◌∷◌, Some, None, FitsSigned}
 use Rattle.std.specs.Int.{w64}
 use Rattle.std.specs.List.{Contains, list_any}
 use Rattle.std.specs.FinMap.{get}
@@ -14,9 +14,10 @@ use Rattle.wb_book.specs.declared.values.index.Index.{Index}
 use Rattle.wb_book.specs.Cells.{Name, Cells, is_same_name}
 use Rattle.wb_book.specs.Kinds.{kind_of}
 use Rattle.wb_book.specs.Shapes.{Range, indices}
-use Rattle.wb_book.specs.WellFormed.{IsWellFormed, IsRectangle, MayHave, domain_at, has}
+use Rattle.wb_book.specs.WellFormed.{IsWellFormed, IsRectangle, MayHave, domain_at, has, index_cell}
 use Rattle.wb_resize.specs.Writes.{put}
 use Rattle.wb_resize.specs.Resized.{without, resized_cells}
+use Rattle.wb_resize.specs.Dropped.{dropped_domain_cells}
 
 -- the arrays over a domain, all of them and no others, each with a number of 64 bits
 pub record AreFills (s : Cells) (d : Name) (fills : List (Name × ℤ)) : Type 0 where
@@ -49,3 +50,11 @@ KeepsSets =
     → IsWellFormed s → domain_at s d ≡ Some kind → HasMembers kind
     → AreFills s d fills → ((i : Index) → Contains coming i → MayHave s (Some kind) i)
     → IsWellFormed (apply (resized_cells (kind_of kind) d fills leaving coming) s)
+
+-- The end of a domain to which nothing is bound leaves a well-formed workbook well formed, where all indices of it are told.
+abbrev pub KeepsEnds : Type 0
+KeepsEnds =
+    (s : Cells) (d : Name) (kind : DomainKind) (is : List Index)
+    → IsWellFormed s → domain_at s d ≡ Some kind → ((n : Name) → get s (Use d n) ≡ None)
+    → ((i : Index) → get s (index_cell (kind_of kind) d i) ≡ Some Present → has is i ≡ true)
+    → IsWellFormed (apply (dropped_domain_cells d kind is) s)

@@ -2,4 +2,5 @@ pub mod Writes
 pub mod Resized
 pub mod Users
 pub mod Fills
+pub mod Dropped
 pub mod Laws

@@ -1,6 +1,6 @@
-//! What holds of every change of a domain's indices: each law is the contract of a function that does nothing.
+//! What holds of every change of a domain's indices, and of its end: each law is the contract of a function that does nothing.
 
-ghost use Rattle.wb_resize.specs.Laws.{KeepsRectangles, KeepsSets};
+ghost use Rattle.wb_resize.specs.Laws.{KeepsRectangles, KeepsSets, KeepsEnds};
 
 /// New ranges of a rectangular domain leave a well-formed workbook well formed, where no sparse domain in it has an index
 /// outside them, and each array over the domain gets a number of 64 bits as its new elements.
@@ -12,4 +12,10 @@ pub fn keeps_rectangles()
 /// that the domain may have, and each array over the domain gets a number of 64 bits as its new elements.
 pub fn keeps_sets()
     ensures { KeepsSets }
+{}
+
+/// The end of a domain to which nothing is bound leaves a well-formed workbook well formed, where each index that the domain
+/// has is among those that go with it.
+pub fn keeps_ends()
+    ensures { KeepsEnds }
 {}

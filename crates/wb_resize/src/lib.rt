@@ -1,7 +1,8 @@
-//! What a change of a domain's indices writes, and that it leaves a workbook well formed.
+//! What a change of a domain's indices writes, and the end of a domain, and that both leave a workbook well formed.
 //!
 //! Commands that change the indices of a domain, one or many, write the same kinds of cells: those that say which indices
-//! are in it, and the elements of the arrays over it. `specs/Resized.antt` says which, and `specs/Laws.antt` what holds of them.
+//! are in it, and the elements of the arrays over it. `specs/Resized.antt` says which, `specs/Dropped.antt` what the end of a
+//! domain writes, and `specs/Laws.antt` what holds of them.
 #![tactic(auto)]
 
 pub mod laws;
