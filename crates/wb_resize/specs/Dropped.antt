@@ -1,20 +1,21 @@
 -- What the end of a domain writes (Chapel Language Specification, Domains).
-use Rattle.std.specs.Prelude.{List, ◌∷◌, map}
+use Rattle.std.specs.Prelude.{List, [], ◌∷◌, ◌++◌, map}
 use Rattle.wb_book.specs.declared.cells.cell.Cell.{Cell}
-use Rattle.wb_book.specs.declared.cells.cell.Cell.TheVariants.{Object, Shape, In, Member, Mapping, Use}
+use Rattle.wb_book.specs.declared.cells.cell.Cell.TheVariants.{Object, Shape, Mapping, Use}
 use Rattle.wb_book.specs.declared.cells.kind.DomainKind.{DomainKind}
 use Rattle.wb_book.specs.declared.cells.kind.DomainKind.TheVariants.{Rectangular, Sparse, Associative}
 use Rattle.wb_book.specs.declared.values.index.Index.{Index}
 use Rattle.wb_book.specs.Cells.{Name, Changes}
-use Rattle.wb_resize.specs.Writes.{clear, clear_all}
+use Rattle.wb_book.specs.Kinds.{kind_of}
+use Rattle.wb_book.specs.WellFormed.{index_cell}
+use Rattle.wb_resize.specs.Writes.{clear_all}
 
--- the cells of a domain with these indices, besides its object: a rectangular one has ranges and a mapping, a sparse one is
--- bound to its parent, and each says which indices are in it
-abbrev pub parts : Name → DomainKind → List Index → List Cell
-parts d (Rectangular rank) is = Shape d ∷ Mapping d ∷ map (In d) is
-parts d (Sparse parent rank) is = Use parent d ∷ map (Member d) is
-parts d (Associative type) is = map (Member d) is
+-- what there is of a domain besides its indices
+abbrev pub own_cells : Name → DomainKind → List Cell
+own_cells d (Rectangular rank) = Object d ∷ Shape d ∷ Mapping d ∷ []
+own_cells d (Sparse parent rank) = Object d ∷ Use parent d ∷ []
+own_cells d (Associative type) = Object d ∷ []
 
--- the domain and its parts become absent
-abbrev pub dropped_domain_cells : Name → DomainKind → List Index → Changes
-dropped_domain_cells d kind is = clear (Object d) ∷ clear_all (parts d kind is)
+-- what the end of a domain writes: all of it becomes absent, and so does that it has its indices
+abbrev pub ended_cells : Name → DomainKind → List Index → Changes
+ended_cells d kind is = clear_all (own_cells d kind) ++ clear_all (map (index_cell (kind_of kind) d) is)

@@ -17,7 +17,7 @@ use Rattle.wb_book.specs.Shapes.{Range, indices}
 use Rattle.wb_book.specs.WellFormed.{IsWellFormed, IsRectangle, MayHave, domain_at, has, index_cell}
 use Rattle.wb_resize.specs.Writes.{put}
 use Rattle.wb_resize.specs.Resized.{without, resized_cells}
-use Rattle.wb_resize.specs.Dropped.{dropped_domain_cells}
+use Rattle.wb_resize.specs.Dropped.{ended_cells}
 
 -- the arrays over a domain, all of them and no others, each with a number of 64 bits
 pub record AreFills (s : Cells) (d : Name) (fills : List (Name × ℤ)) : Type 0 where
@@ -57,4 +57,4 @@ KeepsEnds =
     (s : Cells) (d : Name) (kind : DomainKind) (is : List Index)
     → IsWellFormed s → domain_at s d ≡ Some kind → ((n : Name) → get s (Use d n) ≡ None)
     → ((i : Index) → get s (index_cell (kind_of kind) d i) ≡ Some Present → has is i ≡ true)
-    → IsWellFormed (apply (dropped_domain_cells d kind is) s)
+    → IsWellFormed (apply (ended_cells d kind is) s)
