@@ -9,18 +9,22 @@ use Rattle.selective_undo.proofs.Changes.{not_true}
 use Rattle.wb_range.specs.Domain.{IsListedOnce}
 use Rattle.wb_book.specs.declared.cells.cell.Cell.{Cell}
 use Rattle.wb_book.specs.declared.cells.cell.Cell.TheVariants.{Element}
+use Rattle.wb_book.specs.declared.cells.kind.DomainKind.{DomainKind}
+use Rattle.wb_book.specs.declared.cells.kind.DomainKind.TheVariants.{Rectangular, Sparse, Associative}
 use Rattle.wb_book.specs.declared.cells.kind.Kind.{Kind}
-use Rattle.wb_book.specs.declared.cells.kind.Kind.TheVariants.{Rectangular, Sparse, Associative}
+use Rattle.wb_book.specs.declared.cells.kind.Kind.TheVariants.{Rectangular as over_rectangular, Sparse as over_sparse, Associative as over_associative}
 use Rattle.wb_book.specs.declared.cells.value.Value.{Value}
 use Rattle.wb_book.specs.declared.cells.value.Value.TheVariants.{Number, Present}
 use Rattle.wb_book.specs.declared.values.index.Index.{Index}
 use Rattle.wb_book.specs.Cells.{Name, Changes, cell_cmp, cell_order}
+use Rattle.wb_book.specs.Kinds.{kind_of}
 use Rattle.wb_resize.specs.Resized.{exchanged, elements_exchanged}
 use Rattle.wb_resize.specs.Writes.{put_all, clear_all}
 use Rattle.wb_resize.proofs.Gets.{same_key}
 use Rattle.wb_edit.specs.declared.column.Column.{Column}
 use Rattle.wb_edit.specs.declared.column.Column.TheVariants.{Membership}
 use Rattle.wb_edit.specs.Changed.{set_all, AreApart}
+use Rattle.wb_edit.specs.Commands.{own_cells}
 use Rattle.wb_edit.specs.Plans.{cell_at}
 use Rattle.wb_edit.proofs.Columns.{changes-append, other_cells, elsewhere, get-take}
 
@@ -85,9 +89,9 @@ module _ (leaving coming : List Index) where
       ∙ ap (λ xs. elements_exchanged (take k fs) leaving coming ++ xs) (append-nil (f (get_or fs k d)))
 
   membership_apart : (kind : Kind) (d a : Name) (i j : Index) → eq_by_cmp cell_cmp (Element a i) (cell_at (Membership kind d) j) ≡ false
-  membership_apart (Rectangular rank) d a i j = refl
-  membership_apart (Sparse rank) d a i j = refl
-  membership_apart (Associative type) d a i j = refl
+  membership_apart (over_rectangular rank) d a i j = refl
+  membership_apart (over_sparse rank) d a i j = refl
+  membership_apart (over_associative type) d a i j = refl
 
   -- no element is among the cells that say which indices are there
   pub elements_are_new : (kind : Kind) (d : Name) (old : Changes) → ((a : Name) (i : Index) → changes cell_cmp old (Element a i) ≡ false) → (a : Name) (i : Index)
@@ -95,3 +99,9 @@ module _ (leaving coming : List Index) where
   elements_are_new kind d old fresh a i =
       changes-append old (exchanged (cell_at (Membership kind d)) leaving coming Present) (Element a i)
       ∙ neither _ _ (fresh a i) (none_exchanged (cell_at (Membership kind d)) Present (Element a i) (λ j. membership_apart kind d a i j))
+
+-- the cells that say which indices a domain has are no others of it
+pub own_apart : (kind : DomainKind) (d : Name) (i : Index) → changes cell_cmp (clear_all (own_cells d kind)) (cell_at (Membership (kind_of kind) d) i) ≡ false
+own_apart (Rectangular rank) d i = refl
+own_apart (Sparse parent rank) d i = refl
+own_apart (Associative type) d i = refl

@@ -1,5 +1,6 @@
 -- Every command keeps a workbook well formed.
 pub mod Steps
+pub mod Indices
 pub mod NewDomain
 pub mod Remapped
 pub mod NewArray
@@ -13,6 +14,7 @@ pub mod FilledArray
 pub mod DroppedArray
 pub mod CombinedArrays
 pub mod Resized
+pub mod DroppedDomain
 use Rattle.std.proofs.Common.{◌≡◌, Ok, subst}
 use Rattle.selective_undo.specs.Changes.{apply}
 use Rattle.selective_undo.specs.Edit.{outcome, written}
@@ -22,7 +24,7 @@ use Rattle.wb_edit.specs.Commands.{meaning}
 use Rattle.wb_edit.specs.Laws.{KeepsWellFormed}
 use Rattle.wb_edit.specs.Valid.{IsValid}
 use Rattle.wb_edit.specs.declared.edit.Edit.{Edit as Command}
-use Rattle.wb_edit.specs.declared.edit.Edit.TheVariants.{Domain, Remap, Sparse, Assoc, Array, Set, Irv, Copy, Fill, FillAll, DropArray, All, Add, Remove}
+use Rattle.wb_edit.specs.declared.edit.Edit.TheVariants.{Domain, Remap, Sparse, Assoc, Array, Set, Irv, Copy, Fill, FillAll, DropArray, All, Add, Remove, DropDomain}
 use Rattle.wb_edit.proofs.Kept.NewDomain.{domain_kept}
 use Rattle.wb_edit.proofs.Kept.NewSet.{sparse_kept, assoc_kept}
 use Rattle.wb_edit.proofs.Kept.Remapped.{remap_kept}
@@ -34,6 +36,7 @@ use Rattle.wb_edit.proofs.Kept.Fills.{fill_kept}
 use Rattle.wb_edit.proofs.Kept.FilledArray.{fill_all_kept}
 use Rattle.wb_edit.proofs.Kept.DroppedArray.{drop_array_kept}
 use Rattle.wb_edit.proofs.Kept.CombinedArrays.{all_kept}
+use Rattle.wb_edit.proofs.Kept.DroppedDomain.{drop_domain_kept}
 use Rattle.wb_edit.proofs.Kept.Resized.{add_kept, remove_kept}
 
 pub keeps_well_formed : KeepsWellFormed
@@ -51,6 +54,7 @@ keeps_well_formed (DropArray a) s valid h = drop_array_kept s a h
 keeps_well_formed (All a how b) s valid h = all_kept s a how b h
 keeps_well_formed (Add d i) s valid h = add_kept s d i valid h
 keeps_well_formed (Remove d i) s valid h = remove_kept s d i h
+keeps_well_formed (DropDomain d) s valid h = drop_domain_kept s d h
 
 -- where it is accepted, the changes leave a well-formed workbook
 pub accepted_well_formed : (e : Command) (s : Cells) (xs : Changes) → IsValid e → IsWellFormed s → outcome (meaning e) s ≡ Ok xs → IsWellFormed (apply xs s)

@@ -1,9 +1,10 @@
 -- The commands. Each is its tests in their order, and then the cells that it writes with their new values.
 -- A test that refuses ends the command: it has read what the tests so far looked at, that one's own looks too, and writes nothing.
-use Rattle.std.specs.Prelude.{ℤ, pos, List, [], ◌∷◌, map, length, Option, Some, None}
+use Rattle.std.specs.Prelude.{ℤ, pos, List, [], ◌∷◌, ◌++◌, map, length, Option, Some, None}
 use Rattle.std.specs.Map.{keys_of}
 use Rattle.selective_undo.specs.Edit.{write}
 use Rattle.wb_dist.specs.Maps.{LayoutMap}
+use Rattle.wb_book.specs.declared.cells.cell.Cell.{Cell}
 use Rattle.wb_book.specs.declared.cells.cell.Cell.TheVariants.{Object, Shape, In, Member, Mapping, Use, Implicit, Element}
 use Rattle.wb_book.specs.declared.cells.value.Binding.TheVariants.{Array, Sparse}
 use Rattle.wb_book.specs.declared.cells.kind.DomainKind.{DomainKind}
@@ -16,8 +17,9 @@ use Rattle.wb_book.specs.declared.values.index.Index.{Index}
 use Rattle.wb_book.specs.Cells.{Name, Changes}
 use Rattle.wb_book.specs.Kinds.{kind_of}
 use Rattle.wb_book.specs.Shapes.{Range, indices}
+use Rattle.wb_book.specs.WellFormed.{index_cell}
 use Rattle.wb_edit.specs.declared.edit.Edit.{Edit as Command}
-use Rattle.wb_edit.specs.declared.edit.Edit.TheVariants.{Domain, Remap, Sparse, Assoc, Array, Set, Irv, Copy, Fill, FillAll, DropArray, All, Add, Remove}
+use Rattle.wb_edit.specs.declared.edit.Edit.TheVariants.{Domain, Remap, Sparse, Assoc, Array, Set, Irv, Copy, Fill, FillAll, DropArray, All, Add, Remove, DropDomain}
 use Rattle.wb_edit.specs.declared.operation.Operation.{Operation}
 use Rattle.wb_edit.specs.Looks.{Tree, ◌>>=◌, read}
 use Rattle.wb_edit.specs.Tests.{free, dom, arr, key, element, idx}
@@ -27,7 +29,7 @@ use Rattle.wb_edit.specs.Implicit.{element_or_implicit}
 use Rattle.wb_edit.specs.Elements.{elements, over_one_domain, results_within}
 use Rattle.wb_edit.specs.Layouts.{mapped}
 use Rattle.wb_edit.specs.Rectangles.{over_rectangle, all_elements}
-use Rattle.wb_edit.specs.Users.{bound, uses}
+use Rattle.wb_edit.specs.Users.{bound, uses, unused}
 use Rattle.wb_edit.specs.Resizing.{zeros, with_members, inside, fills}
 use Rattle.wb_resize.specs.Resized.{resized_cells}
 use Rattle.wb_edit.specs.Writes.{put, put_all, clear, clear_all}
@@ -166,6 +168,24 @@ all a how b = do
   unit ← over_one_domain d e
   combined a how b
 
+-- what there is of a domain besides its indices
+abbrev pub own_cells : Name → DomainKind → List Cell
+own_cells d (Rectangular rank) = Object d ∷ Shape d ∷ Mapping d ∷ []
+own_cells d (Sparse parent rank) = Object d ∷ Use parent d ∷ []
+own_cells d (Associative type) = Object d ∷ []
+
+-- what the end of a domain writes: all of it becomes absent, and so does that it has its indices
+abbrev pub ended_cells : Name → DomainKind → List Index → Changes
+ended_cells d kind is = clear_all (own_cells d kind) ++ clear_all (map (index_cell (kind_of kind) d) is)
+
+-- the end of a domain: it is there, nothing is bound to it, and it is seen which indices it has
+abbrev pub drop_domain : Name → Tree
+drop_domain d = do
+  kind ← dom d
+  unit ← unused d
+  is ← idx d kind
+  write (ended_cells d kind is)
+
 -- ---- which indices a domain has (Chapel Language Specification, Domains)
 
 -- indices leave a domain of a kind and others come to it, so that it has those of the list new: if it is sparse, they are in
@@ -228,3 +248,4 @@ meaning (DropArray a) = drop_array a
 meaning (All a how b) = all a how b
 meaning (Add d i) = add d i
 meaning (Remove d i) = remove d i
+meaning (DropDomain d) = drop_domain d

@@ -6,7 +6,7 @@ use Rattle.wb_book.specs.Kinds.{IsIndex}
 use Rattle.wb_book.specs.Layouts.{IsLayout}
 use Rattle.wb_book.specs.WellFormed.{IsRectangle}
 use Rattle.wb_edit.specs.declared.edit.Edit.{Edit as Command}
-use Rattle.wb_edit.specs.declared.edit.Edit.TheVariants.{Domain, Remap, Sparse, Assoc, Array, Set, Irv, Copy, Fill, FillAll, DropArray, All, Add, Remove}
+use Rattle.wb_edit.specs.declared.edit.Edit.TheVariants.{Domain, Remap, Sparse, Assoc, Array, Set, Irv, Copy, Fill, FillAll, DropArray, All, Add, Remove, DropDomain}
 
 -- what a command has to be so that it keeps a workbook well formed; every value of the type `Edit` is
 abbrev pub IsValid : Command → Type 0
@@ -38,3 +38,5 @@ IsValid (All a how b) = ⊤
 IsValid (Add d i) = IsIndex i
 -- nothing is asked
 IsValid (Remove d i) = ⊤
+-- nothing is asked
+IsValid (DropDomain d) = ⊤

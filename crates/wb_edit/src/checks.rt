@@ -5,6 +5,7 @@
 ghost use Rattle.wb_edit.specs.Commands.{meaning};
 ghost use Rattle.wb_edit.specs.Plans.{IsPlan};
 
+mod dropped;
 mod members;
 
 use super::*;

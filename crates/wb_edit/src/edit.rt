@@ -47,6 +47,8 @@ pub enum Edit {
     /// The end of an index of the sparse or associative domain of this name
     /// (Chapel Language Specification, Domains: adding and removing indices).
     Remove(Name, AnyIndex),
+    /// The end of a domain to which nothing is bound.
+    DropDomain(Name),
 }
 
 impl Edit {
@@ -73,6 +75,7 @@ impl Edit {
             Edit::All(array, how, other) => Ok(Edit::All(*array, *how, *other)),
             Edit::Add(domain, index) => Ok(Edit::Add(*domain, *index)),
             Edit::Remove(domain, index) => Ok(Edit::Remove(*domain, *index)),
+            Edit::DropDomain(domain) => Ok(Edit::DropDomain(*domain)),
         }
     }
 
@@ -118,6 +121,7 @@ impl Edit {
             Edit::All(_, _, _) => {}
             Edit::Add(_, index) => index_validity(index),
             Edit::Remove(_, _) => {}
+            Edit::DropDomain(_) => {}
         }
     }
 }

@@ -3,8 +3,8 @@ ghost use Rattle.wb_edit.specs.Commands.{meaning};
 ghost use Rattle.wb_edit.specs.Plans.{Attempts, IsPlan};
 
 use crate::commands::{
-    added, array, combined, copied, domain, dropped_array, element, filled, filled_array, implicit,
-    remapped, removed, sets,
+    added, array, combined, copied, domain, dropped_array, dropped_domain, element, filled,
+    filled_array, implicit, remapped, removed, sets,
 };
 use crate::edit::Edit;
 use crate::foot::Foot;
@@ -68,5 +68,6 @@ fn attempt(alloc: Global, book: &Book, foot: &mut Foot, edit: &Edit) -> Result<D
         Edit::All(name, how, other) => { combined::plan_all(alloc, book, foot, *name, how, *other) }
         Edit::Add(domain, index) => added::plan_add(alloc, book, foot, *domain, *index),
         Edit::Remove(domain, index) => removed::plan_remove(alloc, book, foot, *domain, *index),
+        Edit::DropDomain(domain) => dropped_domain::plan_drop_domain(alloc, book, foot, *domain),
     }
 }

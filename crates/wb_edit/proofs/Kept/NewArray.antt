@@ -1,8 +1,7 @@
 -- A new array keeps a workbook well formed.
-use Rattle.std.proofs.Common.{rules, ◌≡◌, Bool, true, false, cond, ◌&&◌, List, Option, Some, None, is_some, option_map, pos, FitsSigned, refl, sym, ap, ◌∙◌, subst}
+use Rattle.std.proofs.Common.{rules, ◌≡◌, Bool, true, false, cond, ◌&&◌, List, Option, Some, None, is_some, option_map, pos, FitsSigned, refl, ap, ◌∙◌}
 use Rattle.std.specs.Int.{w64}
 use Rattle.std.specs.FinMap.{get}
-use Rattle.std.specs.List.{filter_map}
 use Rattle.selective_undo.specs.Changes.{apply}
 use Rattle.selective_undo.specs.Edit.{write}
 use Rattle.wb_book.specs.declared.cells.cell.Cell.{Cell}
@@ -12,22 +11,19 @@ use Rattle.wb_book.specs.declared.cells.kind.DomainKind.{DomainKind}
 use Rattle.wb_book.specs.declared.cells.kind.DomainKind.TheVariants.{Rectangular, Sparse, Associative}
 use Rattle.wb_book.specs.declared.cells.kind.Kind.{Kind}
 use Rattle.wb_book.specs.declared.cells.kind.Kind.TheVariants.{Rectangular, Sparse, Associative}
-use Rattle.wb_book.specs.declared.cells.pattern.Pattern.TheVariants.{Members}
 use Rattle.wb_book.specs.Kinds.{kind_of}
-use Rattle.wb_book.specs.Readers.{seen}
 use Rattle.wb_book.specs.declared.cells.value.Value.{Value}
 use Rattle.wb_book.specs.declared.cells.value.Value.TheVariants.{Domain, Array, Bound, Number}
 use Rattle.wb_book.specs.declared.values.index.Index.{Index}
 use Rattle.wb_book.specs.Names.{is_name}
-use Rattle.wb_book.specs.Shapes.{indices}
 use Rattle.wb_book.specs.Cells.{Name, Cells, cell_cmp, cell_order, is_same_name}
-use Rattle.wb_book.specs.WellFormed.{IsWellFormed, IsImplicit, IsElement, has, present_if, domain_in, array_in, ranges_in, inside_of, use_of, domain_at, array_at, index_cell, is_index_of_array}
+use Rattle.wb_book.specs.WellFormed.{IsWellFormed, IsImplicit, IsElement, has, present_if, domain_in, array_in, use_of, domain_at, array_at, index_cell, is_index_of_array}
 use Rattle.wb_edit.specs.Commands.{array, array_cells}
-use Rattle.wb_edit.specs.Tests.{is_free, domain_kind, dom, member_in, members, idx, indices_of}
+use Rattle.wb_edit.specs.Tests.{is_free, domain_kind, dom, idx}
 use Rattle.wb_edit.specs.Looks.{Tree, judged}
 use Rattle.wb_resize.proofs.Gets.{after, after-column, after-beside, get-apply}
-use Rattle.wb_resize.proofs.States.{in_column, second_first, shape_of_domain, no_element, IsMember-same, index_cell_same, indices_same, was_free, domains_stay, stays, names_kept, objects_kept}
-use Rattle.wb_edit.proofs.Members.{members_found}
+use Rattle.wb_resize.proofs.States.{in_column, second_first, no_element, IsMember-same, index_cell_same, indices_same, was_free, domains_stay, stays, names_kept, objects_kept}
+use Rattle.wb_edit.proofs.Kept.Indices.{keeps_idx}
 use Rattle.wb_edit.proofs.Kept.Steps.{Keeps, keeps_read, keeps_judged, free_is, domain_is}
 
 -- The workbook t is s with an array over d, 0 at these indices.
@@ -61,7 +57,7 @@ bound : (b : Bool) (o : Option Value) → o ≡ None → cond b (Some (Bound Arr
 bound true o e = refl
 bound false o e = e
 
-zero_fits : FitsSigned w64 (pos 0)
+pub zero_fits : FitsSigned w64 (pos 0)
 zero_fits = search rules
 
 -- 0 at each index, where nothing was
@@ -101,24 +97,6 @@ array_added s t a d over is named h free there inside k =
       ] refl);
     }
 
--- over members that were found
-over_members : (s : Cells) (a d : Name) (over : DomainKind) → is_name a ≡ true → IsWellFormed s → get s (Object a) ≡ None → get s (Object d) ≡ Some (Domain over) → ((i : Index) → index_cell (kind_of over) d i ≡ Member d i) → Keeps (members d (λ is. write (array_cells a d (kind_of over) is))) s
-over_members s a d over named h free there cell =
-    let is : List Index = filter_map member_in (seen s (Members d)) in
-    array_added s (apply (array_cells a d (kind_of over) is) s) a d over is named h free (ap domain_in there) (λ i. ap (get s) (cell i) ∙ members_found s d (domain_at s d) i (h.members d i)) (has_new_array s a d (kind_of over) is)
-
--- over a domain that was found
-over_domain : (s : Cells) (a d : Name) (kind : DomainKind) → is_name a ≡ true → IsWellFormed s → get s (Object a) ≡ None → get s (Object d) ≡ Some (Domain kind) → Keeps (idx d kind (λ is. write (array_cells a d (kind_of kind) is))) s
-over_domain s a d (Rectangular rank) named h free there =
-    let over : DomainKind = Rectangular rank in
-    let kind : Kind = kind_of over in
-    let shape = shape_of_domain s h d rank there in
-    keeps_read s (Shape d) (λ v. write (array_cells a d kind (indices_of (ranges_in v)))) (λ v is.
-    subst (λ o. Keeps (write (array_cells a d kind (indices_of (ranges_in o)))) s) (sym shape.1 ∙ is) (
-    array_added s (apply (array_cells a d kind (indices shape.0)) s) a d over (indices shape.0) named h free (ap domain_in there) (λ i. h.insides d i ∙ ap (λ o. inside_of (ranges_in o) i) shape.1) (has_new_array s a d kind (indices shape.0))))
-over_domain s a d (Sparse parent rank) named h free there = over_members s a d (Sparse parent rank) named h free there (λ i. refl)
-over_domain s a d (Associative type) named h free there = over_members s a d (Associative type) named h free there (λ i. refl)
-
 pub array_kept : (s : Cells) (a d : Name) → is_name a ≡ true → IsWellFormed s → Keeps (array a d) s
 array_kept s a d named h =
     let last : DomainKind → Tree = λ kind. idx d kind (λ is. write (array_cells a d (kind_of kind) is)) in
@@ -126,4 +104,6 @@ array_kept s a d named h =
     keeps_judged s (is_free v) (λ x. dom d last) h (λ x ok.
     keeps_read s (Object d) (λ w. judged (domain_kind w) last) (λ w is.
     keeps_judged s (domain_kind w) last h (λ kind found.
-    over_domain s a d kind named h (was ∙ free_is v x ok) (is ∙ domain_is w kind found)))))
+    let there : get s (Object d) ≡ Some (Domain kind) = is ∙ domain_is w kind found in
+    keeps_idx s d kind (λ is. write (array_cells a d (kind_of kind) is)) h there (λ is listed.
+    array_added s (apply (array_cells a d (kind_of kind) is) s) a d kind is named h (was ∙ free_is v x ok) (ap domain_in there) listed (has_new_array s a d (kind_of kind) is))))))

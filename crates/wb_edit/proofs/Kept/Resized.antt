@@ -1,5 +1,5 @@
 -- New and absent indices of sparse and associative domains keep a workbook well formed.
-use Rattle.std.proofs.Common.{rules, ◌≡◌, Bool, true, false, ◌||◌, List, [], ◌∷◌, map, Option, Some, None, is_some, Result, Ok, Err, ℤ, pos, FitsSigned, refl, sym, ap, subst, ◌∙◌, arith}
+use Rattle.std.proofs.Common.{◌≡◌, Bool, true, false, ◌||◌, List, [], ◌∷◌, map, Option, Some, None, is_some, Result, Ok, Err, ℤ, pos, FitsSigned, refl, sym, ap, subst, ◌∙◌, arith}
 use Rattle.std.specs.Int.{w64}
 use Rattle.std.specs.FinMap.{get}
 use Rattle.std.specs.List.{AllByRecursion, Contains, list_all, list_any, zip}
@@ -31,13 +31,11 @@ use Rattle.wb_edit.specs.Resizing.{has_members, with_members, inside_if, all_ins
 use Rattle.wb_edit.specs.Tests.{domain_kind, fits, key}
 use Rattle.wb_edit.proofs.Fills.{keys_with}
 use Rattle.wb_edit.proofs.Users.{names, bound_there, bound_shown, holds_at}
+use Rattle.wb_edit.proofs.Kept.NewArray.{zero_fits}
 use Rattle.wb_edit.proofs.Kept.Fills.{keeps_all, first_and}
 use Rattle.wb_edit.proofs.Kept.Steps.{Keeps, keeps_read, keeps_judged, domain_is}
 
 -- ---- the arrays over a domain, with numbers
-
-pub zero_fits : FitsSigned w64 (pos 0)
-zero_fits = search rules
 
 any_key : (a : Name) (fs : List (Name × ℤ)) → list_any (λ f. is_same_name a f.0) fs ≡ list_any (λ n. is_same_name a n) (keys_of fs)
 any_key a [] = refl

@@ -4,7 +4,7 @@ use super::*;
 use wb_book::KeyType;
 
 // The domain D {1..10}, S in it, and A over S with the implicit value 7.
-fn sparse_book(alloc: Global) -> Option<Book> {
+pub(crate) fn sparse_book(alloc: Global) -> Option<Book> {
     let mut book = Book::new(alloc);
     let domain = name("D")?;
     let inner = name("S")?;

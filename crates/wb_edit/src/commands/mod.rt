@@ -6,6 +6,7 @@ pub mod combined;
 pub mod copied;
 pub mod domain;
 pub mod dropped_array;
+pub mod dropped_domain;
 pub mod element;
 pub mod filled;
 pub mod filled_array;

@@ -42,6 +42,28 @@ pub(crate) fn put(delta: &mut Delta, cell: Cell, value: Value) -> Result<(), Sto
     change(delta, cell, Some(value))
 }
 
+/// Adds that the column's cell of each index, none of which is there yet, becomes a value, or absent.
+fn become_all(
+    delta: &mut Delta,
+    column: &Column,
+    ranges: &AnyRect,
+    value: &Option<Value>,
+) -> Result<(), Stop>
+    requires { (i : Index) → changes cell_cmp delta.old (cell_at column.now i) ≡ false }
+    ensures ok { OnOk result (delta.new ≡ delta.old ++ set_all (map (cell_at column.now) (indices ranges.now)) value.now) }
+    ensures only { IfErr result (λ e. e ≡ NoMemory) }
+{
+    for p in 0..ranges.size() {
+        match ranges.nth(p) {
+            Some(index) => {
+                change(delta, cell_at(column, index), *value)?;
+            }
+            None => {}
+        }
+    }
+    Ok(())
+}
+
 /// Adds that the column's cell of each index, none of which is there yet, gets a value.
 pub(crate) fn put_all(
     delta: &mut Delta,
@@ -53,15 +75,7 @@ pub(crate) fn put_all(
     ensures ok { OnOk result (delta.new ≡ delta.old ++ put_all (map (cell_at column.now) (indices ranges.now)) value.now) }
     ensures only { IfErr result (λ e. e ≡ NoMemory) }
 {
-    for p in 0..ranges.size() {
-        match ranges.nth(p) {
-            Some(index) => {
-                put(delta, cell_at(column, index), *value)?;
-            }
-            None => {}
-        }
-    }
-    Ok(())
+    become_all(delta, column, ranges, &Some(*value))
 }
 
 /// The domain of a name, with its kind.
@@ -197,6 +211,24 @@ pub(crate) fn resize(
     exchange_elements(delta, fills, leaving, coming)
 }
 
+/// Adds that the column's cell of each index that was found, none of which is there yet, becomes a value, or absent.
+pub(crate) fn become_found(
+    delta: &mut Delta,
+    column: &Column,
+    found: &Indices,
+    value: &Option<Value>,
+) -> Result<(), Stop>
+    requires once { IsListedOnce (indices_in found.now) }
+    requires new { (i : Index) → changes cell_cmp delta.old (cell_at column.now i) ≡ false }
+    ensures ok { OnOk result (delta.new ≡ delta.old ++ set_all (map (cell_at column.now) (indices_in found.now)) value.now) }
+    ensures only { IfErr result (λ e. e ≡ NoMemory) }
+{
+    match found {
+        Indices::Product(ranges) => become_all(delta, column, ranges, value),
+        Indices::Listed(listed) => become_listed(delta, column, listed, value),
+    }
+}
+
 /// Adds that the column's cell of each index that was found, none of which is there yet, gets a value.
 pub(crate) fn put_found(
     delta: &mut Delta,
@@ -209,8 +241,5 @@ pub(crate) fn put_found(
     ensures ok { OnOk result (delta.new ≡ delta.old ++ put_all (map (cell_at column.now) (indices_in found.now)) value.now) }
     ensures only { IfErr result (λ e. e ≡ NoMemory) }
 {
-    match found {
-        Indices::Product(ranges) => put_all(delta, column, ranges, value),
-        Indices::Listed(listed) => put_listed(delta, column, listed, value),
-    }
+    become_found(delta, column, found, &Some(*value))
 }

@@ -7,11 +7,12 @@ ghost use Rattle.wb_book.specs.declared.cells.pattern.Pattern.TheVariants.{Uses}
 ghost use Rattle.wb_book.specs.declared.cells.value.Binding.TheVariants.{Array};
 ghost use Rattle.wb_edit.specs.Changed.{items_of};
 ghost use Rattle.wb_edit.specs.Plans.{Looks};
-ghost use Rattle.wb_edit.specs.Users.{binding_in, user_in, named, bound, uses};
+ghost use Rattle.wb_edit.specs.Users.{binding_in, user_in, named, bound, is_unused, uses, unused};
 ghost use Rattle.wb_edit.specs.declared.tests.stop.Stop.TheVariants.{NoMemory};
 
 use crate::foot::Foot;
-use crate::tests::stop::Stop;
+use crate::refusal::Refusal;
+use crate::tests::stop::{Stop, stopped};
 use std::alloc::{AllocError, Global};
 use wb_book::{Binding, Book, Cell, Name, Pattern, Value};
 
@@ -117,4 +118,23 @@ pub(crate) fn arrays(alloc: Global, users: &[(Name, Binding)]) -> Result<Vec<Nam
         Ok(names) => Ok(names),
         Err(_) => Err(Stop::NoMemory),
     }
+}
+
+/// That nothing is bound to a domain, by what is; `InUse` where something is.
+pub fn is_unused(users: &[(Name, Binding)]) -> Result<(), Refusal>
+    ensures { result ≡ is_unused users.now }
+{
+    if users.is_empty() {
+        Ok(())
+    } else {
+        Err(Refusal::InUse)
+    }
+}
+
+/// Nothing is bound to the domain.
+pub(crate) fn unused(alloc: Global, book: &Book, foot: &mut Foot, domain: Name) -> Result<(), Stop>
+    ensures { Looks (unused domain) book.now.cells foot.old result foot.new }
+{
+    let users = uses(alloc, book, foot, domain)?;
+    stopped(is_unused(&users))
 }

@@ -1,9 +1,9 @@
 use Rattle.std.proofs.Common.{◌≡◌, ◌++◌, map, take}
 use Rattle.wb_book.specs.Shapes.{indices}
 use Rattle.wb_edit.specs.Plans.{cell_at}
-use Rattle.wb_edit.specs.Writes.{put_all}
-use Rattle.wb_edit.proofs.commands.writes.put_all.Given as goal
+use Rattle.wb_edit.specs.Changed.{set_all}
+use Rattle.wb_edit.proofs.commands.writes.become_all.Given as goal
 
 -- the cells of the indices so far are there
 abbrev pub invariant-loop-p : goal.invariant-loop-p
-invariant-loop-p l = l.delta ≡ l.fn.delta ++ put_all (map (cell_at l.column) (take l.p (indices l.ranges))) l.value
+invariant-loop-p l = l.delta ≡ l.fn.delta ++ set_all (map (cell_at l.column) (take l.p (indices l.ranges))) l.value
