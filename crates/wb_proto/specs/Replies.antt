@@ -4,7 +4,7 @@ use Rattle.serde_json.specs.Data.{Data, boolean, number, unsigned, string, objec
 use Rattle.serde_json.specs.Find.{of_integer}
 use Rattle.serde_json.specs.Written.{compact_text}
 use Rattle.wb_edit.specs.declared.refusal.Refusal as why
-use Rattle.wb_edit.specs.declared.refusal.Refusal.TheVariants.{NameTaken, NoSuchName, WrongKind, OutOfDomain, InUse, TooLarge, Overflow, BadMapping}
+use Rattle.wb_edit.specs.declared.refusal.Refusal.TheVariants.{NameTaken, NoSuchName, WrongKind, OutOfDomain, OutOfParent, InUse, TooLarge, Overflow, BadMapping}
 use Rattle.wb_history.specs.declared.query.Answer.{Answer}
 use Rattle.wb_history.specs.declared.query.Answer.TheVariants.{Value, Size, Locale, InForce as InForceIs}
 use Rattle.wb_history.specs.declared.refusal.Refusal.{Refusal}
@@ -19,6 +19,7 @@ edit_code NameTaken = codes "E03"
 edit_code NoSuchName = codes "E04"
 edit_code WrongKind = codes "E05"
 edit_code OutOfDomain = codes "E06"
+edit_code OutOfParent = codes "E07"
 edit_code InUse = codes "E08"
 edit_code TooLarge = codes "E09"
 edit_code Overflow = codes "E10"
@@ -29,6 +30,7 @@ edit_name NameTaken = codes "name-taken"
 edit_name NoSuchName = codes "no-such-name"
 edit_name WrongKind = codes "wrong-kind"
 edit_name OutOfDomain = codes "out-of-domain"
+edit_name OutOfParent = codes "out-of-parent"
 edit_name InUse = codes "in-use"
 edit_name TooLarge = codes "too-large"
 edit_name Overflow = codes "overflow"

@@ -5,7 +5,7 @@ use Rattle.std.specs.Str.{is_utf8}
 use Rattle.serde_json.specs.Data.{Data}
 use Rattle.serde_json.specs.Read.{read}
 use Rattle.wb_dist.specs.Maps.{whole}
-use Rattle.wb_edit.specs.declared.edit.Edit.TheVariants.{Domain, Sparse, Assoc, Array, Set, Irv, Copy, Fill, FillAll, DropArray, All}
+use Rattle.wb_edit.specs.declared.edit.Edit.TheVariants.{Domain, Sparse, Assoc, Array, Set, Irv, Copy, Fill, FillAll, DropArray, All, Add, Remove}
 use Rattle.wb_history.specs.declared.query.Query.TheVariants.{Get, Size, Where, State}
 use Rattle.wb_history.specs.declared.refusal.Refusal.{Refusal}
 use Rattle.wb_history.specs.declared.refusal.Refusal.TheVariants.{BadRequest}
@@ -39,6 +39,22 @@ assoc_of d = do
   name ← name_field (codes "d") d
   type ← key_type_field (codes "of") d
   Ok (Change (Assoc name type))
+
+-- {"op":"add","d":NAME,"i":INDEX}
+abbrev pub add_of : Data → Result Request Refusal
+add_of d = do
+  unit ← has_fields 3 d
+  name ← name_field (codes "d") d
+  index ← index_field (codes "i") d
+  Ok (Change (Add name index))
+
+-- {"op":"remove","d":NAME,"i":INDEX}
+abbrev pub remove_of : Data → Result Request Refusal
+remove_of d = do
+  unit ← has_fields 3 d
+  name ← name_field (codes "d") d
+  index ← index_field (codes "i") d
+  Ok (Change (Remove name index))
 
 -- {"op":"array","a":NAME,"d":NAME}
 abbrev pub array_of : Data → Result Request Refusal
@@ -165,6 +181,8 @@ by_op op d =
     if bytes_eq op (codes "domain") then domain_of d else
     if bytes_eq op (codes "sparse") then sparse_of d else
     if bytes_eq op (codes "assoc") then assoc_of d else
+    if bytes_eq op (codes "add") then add_of d else
+    if bytes_eq op (codes "remove") then remove_of d else
     if bytes_eq op (codes "array") then array_of d else
     if bytes_eq op (codes "drop_array") then drop_array_of d else
     if bytes_eq op (codes "set") then set_of d else

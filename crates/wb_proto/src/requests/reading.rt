@@ -11,7 +11,7 @@ use crate::requests::fields::{field_count, has_fields, name_field, text_field, u
 use crate::requests::literals::{domain_within, literal_rectangle};
 use crate::requests::queries::{get_of, size_of, state_of, where_of};
 use crate::requests::request::Request;
-use crate::requests::sets::{assoc_of, sparse_of};
+use crate::requests::sets::{add_of, assoc_of, remove_of, sparse_of};
 use serde_json::{Category, Error, Value};
 use std::alloc::Global;
 use wb_book::AnyLayout;
@@ -62,6 +62,8 @@ fn by_op(op: &str, value: &Value) -> Result<Request, Refusal>
         "domain" => domain_of(value),
         "sparse" => sparse_of(value),
         "assoc" => assoc_of(value),
+        "add" => add_of(value),
+        "remove" => remove_of(value),
         "array" => array_of(value),
         "drop_array" => drop_array_of(value),
         "set" => set_of(value),
