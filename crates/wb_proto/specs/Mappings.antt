@@ -1,11 +1,19 @@
--- The mapping literals that requests take (Chapel Language Specification, Domain Maps).
-use Rattle.std.specs.Prelude.{ℕ, List, Option, Some, None, Result, Ok}
+-- The mapping literals that requests take, and the mappings that they stand for (Chapel Language Specification, Domain Maps).
+use Rattle.std.specs.Prelude.{ℕ, ◌==◌, ℤ, List, [], ◌∷◌, length, Option, Some, None, Result, Ok, Err, if◌then◌else◌}
 use Rattle.std.specs.Option.{ok_or}
+use Rattle.wb_dist.specs.Maps.{LayoutMap, whole, block, cyclic, block_cyclic, is_layout}
+use Rattle.wb_edit.specs.declared.refusal.Refusal.TheVariants.{BadMapping}
 use Rattle.wb_history.specs.declared.refusal.Refusal.{Refusal}
-use Rattle.wb_history.specs.declared.refusal.Refusal.TheVariants.{BadLiteral}
+use Rattle.wb_history.specs.declared.refusal.Refusal.TheVariants.{BadLiteral, Refused}
 use Rattle.wb_literal.specs.Mapping.{mapping_of}
+use Rattle.wb_literal.specs.declared.index.GridLiteral.{GridLiteral}
+use Rattle.wb_literal.specs.declared.index.GridLiteral.TheVariants as grids
+use Rattle.wb_literal.specs.declared.index.IndexLiteral.{IndexLiteral}
+use Rattle.wb_literal.specs.declared.index.IndexLiteral.TheVariants.{Integer, Pair, Triple}
 use Rattle.wb_literal.specs.declared.mapping.MappingLiteral.{MappingLiteral}
-use Rattle.wb_literal.specs.declared.mapping.MappingLiteral.TheVariants.{Whole}
+use Rattle.wb_literal.specs.declared.mapping.MappingLiteral.TheVariants.{Whole, Block, Cyclic, BlockCyclic}
+use Rattle.wb_proto.specs.Fields.{◌>>=◌}
+use Rattle.wb_proto.specs.Literals.{domain_within}
 
 -- the mapping that a literal spells
 abbrev pub literal_mapping : List ℕ → Result MappingLiteral Refusal
@@ -15,3 +23,46 @@ literal_mapping text = ok_or (mapping_of text) BadLiteral
 abbrev pub optional_mapping : Option (List ℕ) → Result MappingLiteral Refusal
 optional_mapping None = Ok Whole
 optional_mapping (Some text) = literal_mapping text
+
+-- the coordinates that a literal spells
+abbrev pub coordinates_of : IndexLiteral → List ℤ
+coordinates_of (Integer i) = i ∷ []
+coordinates_of (Pair i j) = i ∷ j ∷ []
+coordinates_of (Triple i j k) = i ∷ j ∷ k ∷ []
+
+-- how many locales a literal spells along each dimension
+abbrev pub counts_of : GridLiteral → List ℤ
+counts_of (grids.Line n) = n ∷ []
+counts_of (grids.Plane n m) = n ∷ m ∷ []
+counts_of (grids.Solid n m l) = n ∷ m ∷ l ∷ []
+
+-- coordinates, if there are so many
+abbrev pub of_rank : ℕ → List ℤ → Result (List ℤ) Refusal
+of_rank rank is = if length is == rank then Ok is else Err (Refused BadMapping)
+
+-- the mapping, if it is one for domains of the rank: all its parts are of that rank, and its box, its sizes and its grid
+-- are as such a mapping wants them
+abbrev pub judged : ℕ → LayoutMap → Result LayoutMap Refusal
+judged rank m = if is_layout rank m then Ok m else Err (Refused BadMapping)
+
+-- blocks of a box
+abbrev pub blocks : (box : List (List ℤ)) → (grid : List ℤ) → Result LayoutMap Refusal
+blocks box grid = judged (length grid) (block (record { box = box; grid = grid }))
+
+-- dealt out one by one
+abbrev pub dealt : (start grid : List ℤ) → Result LayoutMap Refusal
+dealt start grid = judged (length grid) (cyclic (record { start = start; grid = grid }))
+
+-- dealt out in blocks
+abbrev pub dealt_in_blocks : (start size grid : List ℤ) → Result LayoutMap Refusal
+dealt_in_blocks start size grid = judged (length grid) (block_cyclic (record { start = start; size = size; grid = grid }))
+
+-- The mapping that a literal stands for: a box is within the limits of a rectangular domain, and only then the mapping is
+-- judged.
+abbrev pub mapping_within : MappingLiteral → Result LayoutMap Refusal
+mapping_within Whole = Ok whole
+mapping_within (Block box grid) = do
+  ranges ← domain_within box
+  blocks ranges (counts_of grid)
+mapping_within (Cyclic start grid) = dealt (coordinates_of start) (counts_of grid)
+mapping_within (BlockCyclic start size grid) = dealt_in_blocks (coordinates_of start) (coordinates_of size) (counts_of grid)

@@ -1,28 +1,47 @@
 -- The request that a line is, or why it is none: the names, numbers and texts of all its fields are read first, then its
--- literals, and then their limits are judged.
+-- literals, then their limits are judged, and then its mapping.
 use Rattle.std.specs.Prelude.{ℕ, List, codes, Option, Some, None, Result, Ok, Err, bytes_eq, nat_eq, if◌then◌else◌}
 use Rattle.std.specs.Str.{is_utf8}
 use Rattle.serde_json.specs.Data.{Data}
 use Rattle.serde_json.specs.Read.{read}
-use Rattle.wb_dist.specs.Maps.{whole}
-use Rattle.wb_edit.specs.declared.edit.Edit.TheVariants.{Domain, Sparse, Assoc, Array, Set, Irv, Copy, Fill, FillAll, DropArray, All, Add, Remove}
+use Rattle.wb_book.specs.Cells.{Name}
+use Rattle.wb_edit.specs.declared.edit.Edit.TheVariants.{Domain, Remap, Sparse, Assoc, DropDomain, Add, Remove, Array, Set, Irv, Copy, Fill, FillAll, DropArray, All}
 use Rattle.wb_history.specs.declared.query.Query.TheVariants.{Get, Size, Where, State}
 use Rattle.wb_history.specs.declared.refusal.Refusal.{Refusal}
 use Rattle.wb_history.specs.declared.refusal.Refusal.TheVariants.{BadRequest}
-use Rattle.wb_proto.specs.Fields.{◌>>=◌, field_count, has_fields, text_field, i64_field, u64_field, name_field, index_field, key_type_field, operation_field}
+use Rattle.wb_proto.specs.Fields.{◌>>=◌, field_count, has_fields, has_fields_and, text_field, optional_text, i64_field, u64_field, name_field, index_field, key_type_field, operation_field}
 use Rattle.wb_proto.specs.Literals.{literal_rectangle, domain_within}
+use Rattle.wb_proto.specs.Mappings.{literal_mapping, optional_mapping, mapping_within}
 use Rattle.wb_proto.specs.declared.requests.request.Request.{Request}
 use Rattle.wb_proto.specs.declared.requests.request.Request.TheVariants.{Change, Undo, Redo, Ask}
 
--- {"op":"domain","d":NAME,"is":LITERAL}
+-- a new domain by the literals of its ranges and of its mapping, where there is one
+abbrev pub domain_by : Name → List ℕ → Option (List ℕ) → Result Request Refusal
+domain_by name text map = do
+  literal ← literal_rectangle text
+  spelled ← optional_mapping map
+  ranges ← domain_within literal
+  mapping ← mapping_within spelled
+  Ok (Change (Domain name ranges mapping))
+
+-- {"op":"domain","d":NAME,"is":LITERAL}, or with "map":MAPPING too
 abbrev pub domain_of : Data → Result Request Refusal
 domain_of d = do
-  unit ← has_fields 3 d
+  map ← optional_text (codes "map") d
+  unit ← has_fields_and 3 map d
   name ← name_field (codes "d") d
   text ← text_field (codes "is") d
-  literal ← literal_rectangle text
-  ranges ← domain_within literal
-  Ok (Change (Domain name ranges whole))
+  domain_by name text map
+
+-- {"op":"remap","d":NAME,"map":MAPPING}
+abbrev pub remap_of : Data → Result Request Refusal
+remap_of d = do
+  unit ← has_fields 3 d
+  name ← name_field (codes "d") d
+  text ← text_field (codes "map") d
+  spelled ← literal_mapping text
+  mapping ← mapping_within spelled
+  Ok (Change (Remap name mapping))
 
 -- {"op":"sparse","d":NAME,"of":NAME}
 abbrev pub sparse_of : Data → Result Request Refusal
@@ -39,6 +58,13 @@ assoc_of d = do
   name ← name_field (codes "d") d
   type ← key_type_field (codes "of") d
   Ok (Change (Assoc name type))
+
+-- {"op":"drop_domain","d":NAME}
+abbrev pub drop_domain_of : Data → Result Request Refusal
+drop_domain_of d = do
+  unit ← has_fields 2 d
+  name ← name_field (codes "d") d
+  Ok (Change (DropDomain name))
 
 -- {"op":"add","d":NAME,"i":INDEX}
 abbrev pub add_of : Data → Result Request Refusal
@@ -179,8 +205,10 @@ state_of d = do
 abbrev pub by_op : List ℕ → Data → Result Request Refusal
 by_op op d =
     if bytes_eq op (codes "domain") then domain_of d else
+    if bytes_eq op (codes "remap") then remap_of d else
     if bytes_eq op (codes "sparse") then sparse_of d else
     if bytes_eq op (codes "assoc") then assoc_of d else
+    if bytes_eq op (codes "drop_domain") then drop_domain_of d else
     if bytes_eq op (codes "add") then add_of d else
     if bytes_eq op (codes "remove") then remove_of d else
     if bytes_eq op (codes "array") then array_of d else

@@ -48,8 +48,8 @@ fn range_within(low: i64, high: i64, stride: i64, align: Option<i64>) -> Result<
     }
 }
 
-// The range that a literal stands for, within its limits.
-fn range_of(literal: &RangeLiteral) -> Result<Range, Refusal>
+/// The range that a literal stands for, within its limits.
+pub(crate) fn range_of(literal: &RangeLiteral) -> Result<Range, Refusal>
     ensures { result ≡ range_of literal.now }
 {
     let low = literal.low;

@@ -2,32 +2,19 @@
 ghost use Rattle.std.specs.Prelude.{◌≡◌, ◌≢◌, codes, IfOk, IfErr, Ok, Err};
 ghost use Rattle.serde_json.specs.Errors.{IsMemory};
 ghost use Rattle.serde_json.specs.View.{view};
-ghost use Rattle.wb_proto.specs.Requests.{domain_of, undo_by_number, undo_of, redo_of, by_op, request_of, request};
+ghost use Rattle.wb_proto.specs.Requests.{undo_by_number, undo_of, redo_of, by_op, request_of, request};
 
 use crate::requests::arrays::{
     all_of, array_of, copy_of, drop_array_of, fill_all_of, fill_of, irv_of, set_of,
 };
-use crate::requests::fields::{field_count, has_fields, name_field, text_field, u64_field};
-use crate::requests::literals::{domain_within, literal_rectangle};
+use crate::requests::domains::{domain_of, drop_domain_of, remap_of};
+use crate::requests::fields::{field_count, has_fields, text_field, u64_field};
 use crate::requests::queries::{get_of, size_of, state_of, where_of};
 use crate::requests::request::Request;
 use crate::requests::sets::{add_of, assoc_of, remove_of, sparse_of};
 use serde_json::{Category, Error, Value};
 use std::alloc::Global;
-use wb_book::AnyLayout;
-use wb_edit::Edit;
 use wb_history::Refusal;
-
-fn domain_of(value: &Value) -> Result<Request, Refusal>
-    ensures { result ≡ domain_of (view value.now) }
-{
-    has_fields(value, 3)?;
-    let name = name_field(value, "d")?;
-    let text = text_field(value, "is")?;
-    let literal = literal_rectangle(text)?;
-    let ranges = domain_within(&literal)?;
-    Ok(Request::Change(Edit::Domain(name, ranges, AnyLayout::whole())))
-}
 
 fn undo_by_number(value: &Value) -> Result<Request, Refusal>
     ensures { result ≡ undo_by_number (view value.now) }
@@ -60,8 +47,10 @@ fn by_op(op: &str, value: &Value) -> Result<Request, Refusal>
 {
     match op {
         "domain" => domain_of(value),
+        "remap" => remap_of(value),
         "sparse" => sparse_of(value),
         "assoc" => assoc_of(value),
+        "drop_domain" => drop_domain_of(value),
         "add" => add_of(value),
         "remove" => remove_of(value),
         "array" => array_of(value),
@@ -102,8 +91,8 @@ fn refusal_of(error: &Error) -> Refusal
 }
 
 /// The request that a line is, of any length: UTF-8 that is JSON (RFC 8259), an object with `op` and exactly the
-/// fields of that op. Refused with E01 for the request, E02 for a literal, E09 for a limit, the first of these that any
-/// field has; `NoMemory` (E90) may stand for any answer.
+/// fields of that op. Refused with E01 for the request, E02 for a literal, E09 for a limit, E15 for a mapping, the first
+/// of these that any field has; `NoMemory` (E90) may stand for any answer.
 pub fn read_request(alloc: Global, line: &[u8]) -> Result<Request, Refusal>
     ensures ok { IfOk result (λ r. request line.now ≡ Ok r) }
     ensures err { IfErr result (λ why. why ≢ Refusal.NoMemory → request line.now ≡ Err why) }

@@ -1,11 +1,312 @@
-use super::replies;
+use super::{Rows, all_answers, replies};
 use crate::{Reply, Request, answer_request, session};
 use std::test::Fail;
 use wb_history::{History, Refusal};
 use wb_lines::SessionEnd;
 
-const BUILT: &str =
-    "{\"op\":\"domain\",\"d\":\"D\",\"is\":\"{1..4}\"}\n{\"op\":\"array\",\"a\":\"A\",\"d\":\"D\"}\n{\"op\":\"set\",\"a\":\"A\",\"i\":1,\"v\":5}\n";
+// A domain D of 1 to 4, and an array A over it, where A[1] is 5.
+const BUILT: [(&str, &str); 3] = [
+    (
+        "{\"op\":\"domain\",\"d\":\"D\",\"is\":\"{1..4}\"}",
+        "{\"edit\":1,\"n\":3}\n",
+    ),
+    (
+        "{\"op\":\"array\",\"a\":\"A\",\"d\":\"D\"}",
+        "{\"edit\":2,\"n\":7}\n",
+    ),
+    (
+        "{\"op\":\"set\",\"a\":\"A\",\"i\":1,\"v\":5}",
+        "{\"edit\":3,\"n\":1}\n",
+    ),
+];
+
+// Refusals of undo and redo.
+const REFUSALS: [(&str, &str); 15] = [
+    (
+        "{\"op\":\"array\",\"a\":\"A\",\"d\":\"D\"}",
+        "{\"error\":\"E03\",\"name\":\"name-taken\"}\n",
+    ),
+    (
+        "{\"op\":\"get\",\"a\":\"A\",\"i\":\"x\"}",
+        "{\"error\":\"E05\",\"name\":\"wrong-kind\"}\n",
+    ),
+    (
+        "{\"op\":\"get\",\"a\":\"A\",\"i\":[1,2]}",
+        "{\"error\":\"E05\",\"name\":\"wrong-kind\"}\n",
+    ),
+    (
+        "{\"op\":\"get\",\"a\":\"A\",\"i\":5}",
+        "{\"error\":\"E06\",\"name\":\"out-of-domain\"}\n",
+    ),
+    (
+        "{\"op\":\"undo\",\"k\":0}",
+        "{\"error\":\"E11\",\"name\":\"no-such-edit\"}\n",
+    ),
+    (
+        "{\"op\":\"undo\",\"k\":4}",
+        "{\"error\":\"E11\",\"name\":\"no-such-edit\"}\n",
+    ),
+    (
+        "{\"op\":\"undo\",\"k\":1}",
+        "{\"by\":2,\"error\":\"E14\",\"name\":\"blocked\"}\n",
+    ),
+    (
+        "{\"op\":\"redo\",\"k\":3}",
+        "{\"error\":\"E13\",\"name\":\"in-force\"}\n",
+    ),
+    ("{\"op\":\"state\",\"k\":3}", "{\"in_force\":true}\n"),
+    ("{\"op\":\"undo\",\"k\":3}", "{\"n\":1,\"undone\":3}\n"),
+    ("{\"op\":\"state\",\"k\":3}", "{\"in_force\":false}\n"),
+    (
+        "{\"op\":\"undo\",\"k\":3}",
+        "{\"error\":\"E12\",\"name\":\"not-in-force\"}\n",
+    ),
+    ("{\"op\":\"undo\",\"k\":2}", "{\"n\":7,\"undone\":2}\n"),
+    (
+        "{\"op\":\"redo\",\"k\":3}",
+        "{\"code\":\"E04\",\"error\":\"E16\",\"name\":\"refused-in-place\"}\n",
+    ),
+    ("{\"op\":\"redo\",\"k\":2}", "{\"n\":7,\"redone\":2}\n"),
+];
+
+// Copies fills and sizes.
+const COPIES: [(&str, &str); 16] = [
+    ("{\"op\":\"size\",\"d\":\"D\"}", "{\"size\":4}\n"),
+    (
+        "{\"op\":\"size\",\"d\":\"A\"}",
+        "{\"error\":\"E05\",\"name\":\"wrong-kind\"}\n",
+    ),
+    (
+        "{\"op\":\"size\",\"d\":\"E\"}",
+        "{\"error\":\"E04\",\"name\":\"no-such-name\"}\n",
+    ),
+    (
+        "{\"op\":\"copy\",\"a\":\"A\",\"i\":2,\"b\":\"A\",\"j\":1,\"c\":1}",
+        "{\"edit\":4,\"n\":1}\n",
+    ),
+    ("{\"op\":\"get\",\"a\":\"A\",\"i\":2}", "{\"value\":6}\n"),
+    (
+        "{\"op\":\"undo\",\"k\":3}",
+        "{\"by\":4,\"error\":\"E14\",\"name\":\"blocked\"}\n",
+    ),
+    (
+        "{\"op\":\"copy\",\"a\":\"A\",\"i\":1,\"b\":\"A\",\"j\":1,\"c\":9223372036854775803}",
+        "{\"error\":\"E10\",\"name\":\"overflow\"}\n",
+    ),
+    (
+        "{\"op\":\"copy\",\"a\":\"A\",\"i\":1,\"b\":\"A\",\"j\":5,\"c\":1}",
+        "{\"error\":\"E06\",\"name\":\"out-of-domain\"}\n",
+    ),
+    (
+        "{\"op\":\"fill\",\"a\":\"A\",\"on\":\"{2..3}\",\"v\":8}",
+        "{\"edit\":5,\"n\":2}\n",
+    ),
+    ("{\"op\":\"get\",\"a\":\"A\",\"i\":3}", "{\"value\":8}\n"),
+    ("{\"op\":\"get\",\"a\":\"A\",\"i\":4}", "{\"value\":0}\n"),
+    (
+        "{\"op\":\"fill\",\"a\":\"A\",\"on\":\"{4..5}\",\"v\":8}",
+        "{\"error\":\"E06\",\"name\":\"out-of-domain\"}\n",
+    ),
+    (
+        "{\"op\":\"fill\",\"a\":\"A\",\"on\":\"{1..0}\",\"v\":8}",
+        "{\"edit\":6,\"n\":0}\n",
+    ),
+    (
+        "{\"op\":\"undo\",\"k\":4}",
+        "{\"by\":5,\"error\":\"E14\",\"name\":\"blocked\"}\n",
+    ),
+    ("{\"op\":\"undo\",\"k\":5}", "{\"n\":2,\"undone\":5}\n"),
+    ("{\"op\":\"get\",\"a\":\"A\",\"i\":2}", "{\"value\":6}\n"),
+];
+
+// Fills and ends of whole arrays.
+const FILLS: [(&str, &str); 8] = [
+    (
+        "{\"op\":\"fill_all\",\"a\":\"A\",\"v\":7}",
+        "{\"edit\":4,\"n\":4}\n",
+    ),
+    ("{\"op\":\"get\",\"a\":\"A\",\"i\":4}", "{\"value\":7}\n"),
+    (
+        "{\"op\":\"undo\",\"k\":3}",
+        "{\"by\":4,\"error\":\"E14\",\"name\":\"blocked\"}\n",
+    ),
+    (
+        "{\"op\":\"fill_all\",\"a\":\"D\",\"v\":7}",
+        "{\"error\":\"E05\",\"name\":\"wrong-kind\"}\n",
+    ),
+    (
+        "{\"op\":\"drop_array\",\"a\":\"A\"}",
+        "{\"edit\":5,\"n\":7}\n",
+    ),
+    (
+        "{\"op\":\"drop_array\",\"a\":\"A\"}",
+        "{\"error\":\"E04\",\"name\":\"no-such-name\"}\n",
+    ),
+    ("{\"op\":\"undo\"}", "{\"n\":7,\"undone\":5}\n"),
+    ("{\"op\":\"get\",\"a\":\"A\",\"i\":4}", "{\"value\":7}\n"),
+];
+
+// Sparse domains and implicit values.
+const SPARSE: [(&str, &str); 13] = [
+    (
+        "{\"op\":\"sparse\",\"d\":\"S\",\"of\":\"D\"}",
+        "{\"edit\":4,\"n\":2}\n",
+    ),
+    (
+        "{\"op\":\"array\",\"a\":\"B\",\"d\":\"S\"}",
+        "{\"edit\":5,\"n\":3}\n",
+    ),
+    ("{\"op\":\"get\",\"a\":\"B\",\"i\":2}", "{\"value\":0}\n"),
+    (
+        "{\"op\":\"irv\",\"a\":\"B\",\"v\":7}",
+        "{\"edit\":6,\"n\":1}\n",
+    ),
+    ("{\"op\":\"get\",\"a\":\"B\",\"i\":2}", "{\"value\":7}\n"),
+    (
+        "{\"op\":\"get\",\"a\":\"B\",\"i\":9}",
+        "{\"error\":\"E06\",\"name\":\"out-of-domain\"}\n",
+    ),
+    (
+        "{\"op\":\"copy\",\"a\":\"A\",\"i\":1,\"b\":\"B\",\"j\":2,\"c\":1}",
+        "{\"edit\":7,\"n\":1}\n",
+    ),
+    ("{\"op\":\"get\",\"a\":\"A\",\"i\":1}", "{\"value\":8}\n"),
+    (
+        "{\"op\":\"undo\",\"k\":6}",
+        "{\"by\":7,\"error\":\"E14\",\"name\":\"blocked\"}\n",
+    ),
+    (
+        "{\"op\":\"irv\",\"a\":\"A\",\"v\":1}",
+        "{\"error\":\"E05\",\"name\":\"wrong-kind\"}\n",
+    ),
+    (
+        "{\"op\":\"sparse\",\"d\":\"T\",\"of\":\"S\"}",
+        "{\"error\":\"E05\",\"name\":\"wrong-kind\"}\n",
+    ),
+    (
+        "{\"op\":\"sparse\",\"d\":\"T\",\"of\":\"X\"}",
+        "{\"error\":\"E04\",\"name\":\"no-such-name\"}\n",
+    ),
+    ("{\"op\":\"size\",\"d\":\"S\"}", "{\"size\":0}\n"),
+];
+
+// One array with another.
+const COMBINED: [(&str, &str); 17] = [
+    (
+        "{\"op\":\"array\",\"a\":\"C\",\"d\":\"D\"}",
+        "{\"edit\":4,\"n\":7}\n",
+    ),
+    (
+        "{\"op\":\"fill_all\",\"a\":\"A\",\"v\":3}",
+        "{\"edit\":5,\"n\":4}\n",
+    ),
+    (
+        "{\"op\":\"fill_all\",\"a\":\"C\",\"v\":4}",
+        "{\"edit\":6,\"n\":4}\n",
+    ),
+    (
+        "{\"op\":\"all\",\"a\":\"A\",\"how\":\"*\",\"b\":\"C\"}",
+        "{\"edit\":7,\"n\":4}\n",
+    ),
+    ("{\"op\":\"get\",\"a\":\"A\",\"i\":4}", "{\"value\":12}\n"),
+    (
+        "{\"op\":\"all\",\"a\":\"A\",\"how\":\"-\",\"b\":\"C\"}",
+        "{\"edit\":8,\"n\":4}\n",
+    ),
+    ("{\"op\":\"get\",\"a\":\"A\",\"i\":4}", "{\"value\":8}\n"),
+    (
+        "{\"op\":\"all\",\"a\":\"A\",\"how\":\"+\",\"b\":\"A\"}",
+        "{\"edit\":9,\"n\":4}\n",
+    ),
+    ("{\"op\":\"get\",\"a\":\"A\",\"i\":1}", "{\"value\":16}\n"),
+    (
+        "{\"op\":\"all\",\"a\":\"A\",\"how\":\"=\",\"b\":\"C\"}",
+        "{\"edit\":10,\"n\":4}\n",
+    ),
+    ("{\"op\":\"get\",\"a\":\"A\",\"i\":1}", "{\"value\":4}\n"),
+    (
+        "{\"op\":\"all\",\"a\":\"A\",\"how\":\"%\",\"b\":\"C\"}",
+        "{\"error\":\"E01\",\"name\":\"bad-request\"}\n",
+    ),
+    (
+        "{\"op\":\"undo\",\"k\":6}",
+        "{\"by\":7,\"error\":\"E14\",\"name\":\"blocked\"}\n",
+    ),
+    ("{\"op\":\"where\",\"d\":\"D\",\"i\":3}", "{\"locale\":0}\n"),
+    (
+        "{\"op\":\"where\",\"d\":\"D\",\"i\":5}",
+        "{\"error\":\"E06\",\"name\":\"out-of-domain\"}\n",
+    ),
+    (
+        "{\"op\":\"where\",\"d\":\"A\",\"i\":3}",
+        "{\"error\":\"E05\",\"name\":\"wrong-kind\"}\n",
+    ),
+    (
+        "{\"op\":\"where\",\"d\":\"X\",\"i\":3}",
+        "{\"error\":\"E04\",\"name\":\"no-such-name\"}\n",
+    ),
+];
+
+// Associative domains of both types.
+const ASSOCIATIVE: [(&str, &str); 11] = [
+    (
+        "{\"op\":\"assoc\",\"d\":\"K\",\"of\":\"int\"}",
+        "{\"edit\":4,\"n\":1}\n",
+    ),
+    (
+        "{\"op\":\"assoc\",\"d\":\"T\",\"of\":\"text\"}",
+        "{\"edit\":5,\"n\":1}\n",
+    ),
+    (
+        "{\"op\":\"assoc\",\"d\":\"D\",\"of\":\"text\"}",
+        "{\"error\":\"E03\",\"name\":\"name-taken\"}\n",
+    ),
+    (
+        "{\"op\":\"array\",\"a\":\"B\",\"d\":\"K\"}",
+        "{\"edit\":6,\"n\":3}\n",
+    ),
+    (
+        "{\"op\":\"array\",\"a\":\"C\",\"d\":\"T\"}",
+        "{\"edit\":7,\"n\":3}\n",
+    ),
+    (
+        "{\"op\":\"get\",\"a\":\"B\",\"i\":2}",
+        "{\"error\":\"E06\",\"name\":\"out-of-domain\"}\n",
+    ),
+    (
+        "{\"op\":\"get\",\"a\":\"B\",\"i\":\"x\"}",
+        "{\"error\":\"E05\",\"name\":\"wrong-kind\"}\n",
+    ),
+    (
+        "{\"op\":\"get\",\"a\":\"C\",\"i\":\"x\"}",
+        "{\"error\":\"E06\",\"name\":\"out-of-domain\"}\n",
+    ),
+    (
+        "{\"op\":\"get\",\"a\":\"C\",\"i\":2}",
+        "{\"error\":\"E05\",\"name\":\"wrong-kind\"}\n",
+    ),
+    ("{\"op\":\"size\",\"d\":\"K\"}", "{\"size\":0}\n"),
+    (
+        "{\"op\":\"undo\",\"k\":4}",
+        "{\"by\":6,\"error\":\"E14\",\"name\":\"blocked\"}\n",
+    ),
+];
+
+// Nothing to undo.
+const EMPTY: [(&str, &str); 3] = [
+    (
+        "{\"op\":\"undo\"}",
+        "{\"error\":\"E11\",\"name\":\"no-such-edit\"}\n",
+    ),
+    (
+        "{\"op\":\"undo\",\"k\":1}",
+        "{\"error\":\"E11\",\"name\":\"no-such-edit\"}\n",
+    ),
+    (
+        "{\"op\":\"redo\",\"k\":1}",
+        "{\"error\":\"E11\",\"name\":\"no-such-edit\"}\n",
+    ),
+];
 
 #[test]
 fn first_run(rt: HostRuntime) -> Result<(), Fail> {
@@ -41,352 +342,21 @@ fn first_run(rt: HostRuntime) -> Result<(), Fail> {
 }
 
 #[test]
-fn refusals_of_undo_and_redo(rt: HostRuntime) -> Result<(), Fail> {
-    let alloc = rt.alloc();
-    let mut history = History::new(alloc);
-    let nothing = replies(alloc, &mut history, "{\"op\":\"undo\"}\n")?;
-    assert_eq!(rt;
-        nothing.as_str(),
-        "{\"error\":\"E11\",\"name\":\"no-such-edit\"}\n"
-    );
-    replies(alloc, &mut history, BUILT)?;
-    for (line, reply) in [
-        (
-            "{\"op\":\"array\",\"a\":\"A\",\"d\":\"D\"}",
-            "{\"error\":\"E03\",\"name\":\"name-taken\"}\n",
-        ),
-        (
-            "{\"op\":\"get\",\"a\":\"A\",\"i\":\"x\"}",
-            "{\"error\":\"E05\",\"name\":\"wrong-kind\"}\n",
-        ),
-        (
-            "{\"op\":\"get\",\"a\":\"A\",\"i\":[1,2]}",
-            "{\"error\":\"E05\",\"name\":\"wrong-kind\"}\n",
-        ),
-        (
-            "{\"op\":\"get\",\"a\":\"A\",\"i\":5}",
-            "{\"error\":\"E06\",\"name\":\"out-of-domain\"}\n",
-        ),
-        (
-            "{\"op\":\"undo\",\"k\":0}",
-            "{\"error\":\"E11\",\"name\":\"no-such-edit\"}\n",
-        ),
-        (
-            "{\"op\":\"undo\",\"k\":4}",
-            "{\"error\":\"E11\",\"name\":\"no-such-edit\"}\n",
-        ),
-        (
-            "{\"op\":\"undo\",\"k\":1}",
-            "{\"by\":2,\"error\":\"E14\",\"name\":\"blocked\"}\n",
-        ),
-        (
-            "{\"op\":\"redo\",\"k\":3}",
-            "{\"error\":\"E13\",\"name\":\"in-force\"}\n",
-        ),
-        ("{\"op\":\"state\",\"k\":3}", "{\"in_force\":true}\n"),
-        ("{\"op\":\"undo\",\"k\":3}", "{\"n\":1,\"undone\":3}\n"),
-        ("{\"op\":\"state\",\"k\":3}", "{\"in_force\":false}\n"),
-        (
-            "{\"op\":\"undo\",\"k\":3}",
-            "{\"error\":\"E12\",\"name\":\"not-in-force\"}\n",
-        ),
-        ("{\"op\":\"undo\",\"k\":2}", "{\"n\":7,\"undone\":2}\n"),
-        (
-            "{\"op\":\"redo\",\"k\":3}",
-            "{\"code\":\"E04\",\"error\":\"E16\",\"name\":\"refused-in-place\"}\n",
-        ),
-        ("{\"op\":\"redo\",\"k\":2}", "{\"n\":7,\"redone\":2}\n"),
-    ] {
-        assert_eq!(rt;
-            replies(alloc, &mut history, line)?.as_str(),
-            reply,
-            "at {line}"
-        );
-    }
-    Ok(())
+fn nothing_to_undo(rt: HostRuntime) -> Result<(), Fail> {
+    all_answers(&rt, rt.alloc(), &[], &[(&EMPTY, 0, 0)])
 }
 
 #[test]
-fn copies_fills_and_sizes(rt: HostRuntime) -> Result<(), Fail> {
-    let alloc = rt.alloc();
-    let mut history = History::new(alloc);
-    replies(alloc, &mut history, BUILT)?;
-    for (line, reply) in [
-        ("{\"op\":\"size\",\"d\":\"D\"}", "{\"size\":4}\n"),
-        (
-            "{\"op\":\"size\",\"d\":\"A\"}",
-            "{\"error\":\"E05\",\"name\":\"wrong-kind\"}\n",
-        ),
-        (
-            "{\"op\":\"size\",\"d\":\"E\"}",
-            "{\"error\":\"E04\",\"name\":\"no-such-name\"}\n",
-        ),
-        (
-            "{\"op\":\"copy\",\"a\":\"A\",\"i\":2,\"b\":\"A\",\"j\":1,\"c\":1}",
-            "{\"edit\":4,\"n\":1}\n",
-        ),
-        ("{\"op\":\"get\",\"a\":\"A\",\"i\":2}", "{\"value\":6}\n"),
-        (
-            "{\"op\":\"undo\",\"k\":3}",
-            "{\"by\":4,\"error\":\"E14\",\"name\":\"blocked\"}\n",
-        ),
-        (
-            "{\"op\":\"copy\",\"a\":\"A\",\"i\":1,\"b\":\"A\",\"j\":1,\"c\":9223372036854775803}",
-            "{\"error\":\"E10\",\"name\":\"overflow\"}\n",
-        ),
-        (
-            "{\"op\":\"copy\",\"a\":\"A\",\"i\":1,\"b\":\"A\",\"j\":5,\"c\":1}",
-            "{\"error\":\"E06\",\"name\":\"out-of-domain\"}\n",
-        ),
-        (
-            "{\"op\":\"fill\",\"a\":\"A\",\"on\":\"{2..3}\",\"v\":8}",
-            "{\"edit\":5,\"n\":2}\n",
-        ),
-        ("{\"op\":\"get\",\"a\":\"A\",\"i\":3}", "{\"value\":8}\n"),
-        ("{\"op\":\"get\",\"a\":\"A\",\"i\":4}", "{\"value\":0}\n"),
-        (
-            "{\"op\":\"fill\",\"a\":\"A\",\"on\":\"{4..5}\",\"v\":8}",
-            "{\"error\":\"E06\",\"name\":\"out-of-domain\"}\n",
-        ),
-        (
-            "{\"op\":\"fill\",\"a\":\"A\",\"on\":\"{1..0}\",\"v\":8}",
-            "{\"edit\":6,\"n\":0}\n",
-        ),
-        (
-            "{\"op\":\"undo\",\"k\":4}",
-            "{\"by\":5,\"error\":\"E14\",\"name\":\"blocked\"}\n",
-        ),
-        ("{\"op\":\"undo\",\"k\":5}", "{\"n\":2,\"undone\":5}\n"),
-        ("{\"op\":\"get\",\"a\":\"A\",\"i\":2}", "{\"value\":6}\n"),
-    ] {
-        assert_eq!(rt;
-            replies(alloc, &mut history, line)?.as_str(),
-            reply,
-            "at {line}"
-        );
-    }
-    Ok(())
-}
-
-#[test]
-fn fills_and_ends_of_whole_arrays(rt: HostRuntime) -> Result<(), Fail> {
-    let alloc = rt.alloc();
-    let mut history = History::new(alloc);
-    replies(alloc, &mut history, BUILT)?;
-    for (line, reply) in [
-        (
-            "{\"op\":\"fill_all\",\"a\":\"A\",\"v\":7}",
-            "{\"edit\":4,\"n\":4}\n",
-        ),
-        ("{\"op\":\"get\",\"a\":\"A\",\"i\":4}", "{\"value\":7}\n"),
-        (
-            "{\"op\":\"undo\",\"k\":3}",
-            "{\"by\":4,\"error\":\"E14\",\"name\":\"blocked\"}\n",
-        ),
-        (
-            "{\"op\":\"fill_all\",\"a\":\"D\",\"v\":7}",
-            "{\"error\":\"E05\",\"name\":\"wrong-kind\"}\n",
-        ),
-        (
-            "{\"op\":\"drop_array\",\"a\":\"A\"}",
-            "{\"edit\":5,\"n\":7}\n",
-        ),
-        (
-            "{\"op\":\"drop_array\",\"a\":\"A\"}",
-            "{\"error\":\"E04\",\"name\":\"no-such-name\"}\n",
-        ),
-        ("{\"op\":\"undo\"}", "{\"n\":7,\"undone\":5}\n"),
-        ("{\"op\":\"get\",\"a\":\"A\",\"i\":4}", "{\"value\":7}\n"),
-    ] {
-        assert_eq!(rt;
-            replies(alloc, &mut history, line)?.as_str(),
-            reply,
-            "at {line}"
-        );
-    }
-    Ok(())
-}
-
-#[test]
-fn sparse_domains_and_implicit_values(rt: HostRuntime) -> Result<(), Fail> {
-    let alloc = rt.alloc();
-    let mut history = History::new(alloc);
-    replies(alloc, &mut history, BUILT)?;
-    for (line, reply) in [
-        (
-            "{\"op\":\"sparse\",\"d\":\"S\",\"of\":\"D\"}",
-            "{\"edit\":4,\"n\":2}\n",
-        ),
-        (
-            "{\"op\":\"array\",\"a\":\"B\",\"d\":\"S\"}",
-            "{\"edit\":5,\"n\":3}\n",
-        ),
-        ("{\"op\":\"get\",\"a\":\"B\",\"i\":2}", "{\"value\":0}\n"),
-        (
-            "{\"op\":\"irv\",\"a\":\"B\",\"v\":7}",
-            "{\"edit\":6,\"n\":1}\n",
-        ),
-        ("{\"op\":\"get\",\"a\":\"B\",\"i\":2}", "{\"value\":7}\n"),
-        (
-            "{\"op\":\"get\",\"a\":\"B\",\"i\":9}",
-            "{\"error\":\"E06\",\"name\":\"out-of-domain\"}\n",
-        ),
-        (
-            "{\"op\":\"copy\",\"a\":\"A\",\"i\":1,\"b\":\"B\",\"j\":2,\"c\":1}",
-            "{\"edit\":7,\"n\":1}\n",
-        ),
-        ("{\"op\":\"get\",\"a\":\"A\",\"i\":1}", "{\"value\":8}\n"),
-        (
-            "{\"op\":\"undo\",\"k\":6}",
-            "{\"by\":7,\"error\":\"E14\",\"name\":\"blocked\"}\n",
-        ),
-        (
-            "{\"op\":\"irv\",\"a\":\"A\",\"v\":1}",
-            "{\"error\":\"E05\",\"name\":\"wrong-kind\"}\n",
-        ),
-        (
-            "{\"op\":\"sparse\",\"d\":\"T\",\"of\":\"S\"}",
-            "{\"error\":\"E05\",\"name\":\"wrong-kind\"}\n",
-        ),
-        (
-            "{\"op\":\"sparse\",\"d\":\"T\",\"of\":\"X\"}",
-            "{\"error\":\"E04\",\"name\":\"no-such-name\"}\n",
-        ),
-        ("{\"op\":\"size\",\"d\":\"S\"}", "{\"size\":0}\n"),
-    ] {
-        assert_eq!(rt;
-            replies(alloc, &mut history, line)?.as_str(),
-            reply,
-            "at {line}"
-        );
-    }
-    Ok(())
-}
-
-#[test]
-fn one_array_with_another(rt: HostRuntime) -> Result<(), Fail> {
-    let alloc = rt.alloc();
-    let mut history = History::new(alloc);
-    replies(alloc, &mut history, BUILT)?;
-    for (line, reply) in [
-        (
-            "{\"op\":\"array\",\"a\":\"C\",\"d\":\"D\"}",
-            "{\"edit\":4,\"n\":7}\n",
-        ),
-        (
-            "{\"op\":\"fill_all\",\"a\":\"A\",\"v\":3}",
-            "{\"edit\":5,\"n\":4}\n",
-        ),
-        (
-            "{\"op\":\"fill_all\",\"a\":\"C\",\"v\":4}",
-            "{\"edit\":6,\"n\":4}\n",
-        ),
-        (
-            "{\"op\":\"all\",\"a\":\"A\",\"how\":\"*\",\"b\":\"C\"}",
-            "{\"edit\":7,\"n\":4}\n",
-        ),
-        ("{\"op\":\"get\",\"a\":\"A\",\"i\":4}", "{\"value\":12}\n"),
-        (
-            "{\"op\":\"all\",\"a\":\"A\",\"how\":\"-\",\"b\":\"C\"}",
-            "{\"edit\":8,\"n\":4}\n",
-        ),
-        ("{\"op\":\"get\",\"a\":\"A\",\"i\":4}", "{\"value\":8}\n"),
-        (
-            "{\"op\":\"all\",\"a\":\"A\",\"how\":\"+\",\"b\":\"A\"}",
-            "{\"edit\":9,\"n\":4}\n",
-        ),
-        ("{\"op\":\"get\",\"a\":\"A\",\"i\":1}", "{\"value\":16}\n"),
-        (
-            "{\"op\":\"all\",\"a\":\"A\",\"how\":\"=\",\"b\":\"C\"}",
-            "{\"edit\":10,\"n\":4}\n",
-        ),
-        ("{\"op\":\"get\",\"a\":\"A\",\"i\":1}", "{\"value\":4}\n"),
-        (
-            "{\"op\":\"all\",\"a\":\"A\",\"how\":\"%\",\"b\":\"C\"}",
-            "{\"error\":\"E01\",\"name\":\"bad-request\"}\n",
-        ),
-        (
-            "{\"op\":\"undo\",\"k\":6}",
-            "{\"by\":7,\"error\":\"E14\",\"name\":\"blocked\"}\n",
-        ),
-        ("{\"op\":\"where\",\"d\":\"D\",\"i\":3}", "{\"locale\":0}\n"),
-        (
-            "{\"op\":\"where\",\"d\":\"D\",\"i\":5}",
-            "{\"error\":\"E06\",\"name\":\"out-of-domain\"}\n",
-        ),
-        (
-            "{\"op\":\"where\",\"d\":\"A\",\"i\":3}",
-            "{\"error\":\"E05\",\"name\":\"wrong-kind\"}\n",
-        ),
-        (
-            "{\"op\":\"where\",\"d\":\"X\",\"i\":3}",
-            "{\"error\":\"E04\",\"name\":\"no-such-name\"}\n",
-        ),
-    ] {
-        assert_eq!(rt;
-            replies(alloc, &mut history, line)?.as_str(),
-            reply,
-            "at {line}"
-        );
-    }
-    Ok(())
-}
-
-#[test]
-fn associative_domains_of_both_types(rt: HostRuntime) -> Result<(), Fail> {
-    let alloc = rt.alloc();
-    let mut history = History::new(alloc);
-    replies(alloc, &mut history, BUILT)?;
-    for (line, reply) in [
-        (
-            "{\"op\":\"assoc\",\"d\":\"K\",\"of\":\"int\"}",
-            "{\"edit\":4,\"n\":1}\n",
-        ),
-        (
-            "{\"op\":\"assoc\",\"d\":\"T\",\"of\":\"text\"}",
-            "{\"edit\":5,\"n\":1}\n",
-        ),
-        (
-            "{\"op\":\"assoc\",\"d\":\"D\",\"of\":\"text\"}",
-            "{\"error\":\"E03\",\"name\":\"name-taken\"}\n",
-        ),
-        (
-            "{\"op\":\"array\",\"a\":\"B\",\"d\":\"K\"}",
-            "{\"edit\":6,\"n\":3}\n",
-        ),
-        (
-            "{\"op\":\"array\",\"a\":\"C\",\"d\":\"T\"}",
-            "{\"edit\":7,\"n\":3}\n",
-        ),
-        (
-            "{\"op\":\"get\",\"a\":\"B\",\"i\":2}",
-            "{\"error\":\"E06\",\"name\":\"out-of-domain\"}\n",
-        ),
-        (
-            "{\"op\":\"get\",\"a\":\"B\",\"i\":\"x\"}",
-            "{\"error\":\"E05\",\"name\":\"wrong-kind\"}\n",
-        ),
-        (
-            "{\"op\":\"get\",\"a\":\"C\",\"i\":\"x\"}",
-            "{\"error\":\"E06\",\"name\":\"out-of-domain\"}\n",
-        ),
-        (
-            "{\"op\":\"get\",\"a\":\"C\",\"i\":2}",
-            "{\"error\":\"E05\",\"name\":\"wrong-kind\"}\n",
-        ),
-        ("{\"op\":\"size\",\"d\":\"K\"}", "{\"size\":0}\n"),
-        (
-            "{\"op\":\"undo\",\"k\":4}",
-            "{\"by\":6,\"error\":\"E14\",\"name\":\"blocked\"}\n",
-        ),
-    ] {
-        assert_eq!(rt;
-            replies(alloc, &mut history, line)?.as_str(),
-            reply,
-            "at {line}"
-        );
-    }
-    Ok(())
+fn edits_and_queries_of_all_kinds(rt: HostRuntime) -> Result<(), Fail> {
+    let tables: [(Rows, u64, u128); 6] = [
+        (&REFUSALS, 3, 26),
+        (&COPIES, 6, 16),
+        (&FILLS, 5, 29),
+        (&SPARSE, 7, 18),
+        (&COMBINED, 10, 42),
+        (&ASSOCIATIVE, 7, 19),
+    ];
+    all_answers(&rt, rt.alloc(), &BUILT, &tables)
 }
 
 #[test]

@@ -1,0 +1,56 @@
+// Requests for rectangular domains and their mappings, and for the end of any domain.
+ghost use Rattle.std.specs.Prelude.{◌≡◌, codes, option_map};
+ghost use Rattle.serde_json.specs.View.{view};
+ghost use Rattle.wb_proto.specs.Requests.{domain_by, domain_of, drop_domain_of, remap_of};
+
+use crate::requests::fields::{has_fields, has_fields_and, name_field, optional_text, text_field};
+use crate::requests::literals::{domain_within, literal_rectangle};
+use crate::requests::mappings::{literal_mapping, mapping_within, optional_mapping};
+use crate::requests::request::Request;
+use serde_json::Value;
+use wb_book::Name;
+use wb_edit::Edit;
+use wb_history::Refusal;
+
+// A new domain by the literals of its ranges and of its mapping, where there is one.
+fn domain_by(name: Name, text: &str, map: Option<&str>) -> Result<Request, Refusal>
+    ensures { result ≡ domain_by name text.now (option_map (λ s. s.now) map.entry) }
+{
+    let literal = literal_rectangle(text)?;
+    let spelled = optional_mapping(map)?;
+    let ranges = domain_within(&literal)?;
+    let mapping = mapping_within(&spelled)?;
+    Ok(Request::Change(Edit::Domain(name, ranges, mapping)))
+}
+
+/// A new rectangular domain.
+pub(crate) fn domain_of(value: &Value) -> Result<Request, Refusal>
+    ensures { result ≡ domain_of (view value.now) }
+{
+    let map = optional_text(value, "map")?;
+    has_fields_and(value, 3, &map)?;
+    let name = name_field(value, "d")?;
+    let text = text_field(value, "is")?;
+    domain_by(name, text, map)
+}
+
+/// Another mapping of a rectangular domain.
+pub(crate) fn remap_of(value: &Value) -> Result<Request, Refusal>
+    ensures { result ≡ remap_of (view value.now) }
+{
+    has_fields(value, 3)?;
+    let name = name_field(value, "d")?;
+    let text = text_field(value, "map")?;
+    let spelled = literal_mapping(text)?;
+    let mapping = mapping_within(&spelled)?;
+    Ok(Request::Change(Edit::Remap(name, mapping)))
+}
+
+/// The end of a domain.
+pub(crate) fn drop_domain_of(value: &Value) -> Result<Request, Refusal>
+    ensures { result ≡ drop_domain_of (view value.now) }
+{
+    has_fields(value, 2)?;
+    let name = name_field(value, "d")?;
+    Ok(Request::Change(Edit::DropDomain(name)))
+}
