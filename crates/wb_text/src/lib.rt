@@ -1,0 +1,12 @@
+//! The text of a workbook: one for each workbook.
+//!
+//! Every literal in it is canonical. `specs/Literals.antt` has the texts of the literals, and `specs/Lines.antt` those
+//! of the lines and of the workbook.
+#![tactic(auto)]
+
+mod books;
+mod lines;
+mod lists;
+mod literals;
+mod mappings;
+mod objects;
