@@ -27,7 +27,7 @@ use Rattle.wb_book.specs.declared.values.index.Index.{Index}
 use Rattle.wb_book.specs.declared.values.index.Index.TheVariants.{Point, Text}
 use Rattle.wb_book.specs.Names.{is_letter, is_name_part, is_name}
 use Rattle.wb_book.specs.Cells.{Name, Cells, cell_cmp, cell_order, index_cmp, is_same_name, same_names, matches, state_of}
-use Rattle.wb_book.specs.Families.{Begins}
+use Rattle.wb_book.specs.Families.{Begins, HasName}
 use Rattle.wb_book.specs.Readers.{seen}
 use Rattle.wb_book.specs.WellFormed.{IsWellFormed, use_of}
 use Rattle.wb_book.proofs.Order.{entries-state_of}
@@ -190,10 +190,6 @@ elements_covered d (Use e n) from = refl
 elements_covered d (Implicit e) from = refl
 elements_covered d (Element e i) from = not_below (slice_cmp nat_cmp d e) (index_cmp (Point []) i) (no_coordinates i) from
 
-user_is_object : (d : Name) (o : Option Value) → IsSome (use_of d o) → (v : Value) × (o ≡ Some v)
-user_is_object d None there = let no : ⊥ = cc in absurd no
-user_is_object d (Some v) there = (v, refl)
-
 second : (a b d : Bool) → a && b && d ≡ true → b ≡ true
 second true true d e = refl
 second true false d e = cc
@@ -224,44 +220,62 @@ least_is_least (c ∷ cs) named = elim (nat_cmp 65 c) as (λ o. nat_cmp 65 c ≡
   | Greater ↦ λ e. absurd (is_no_letter c (ranked 65 c Greater (sym e)) (second (nat_le (length cs) 31) (is_letter c) (list_all is_name_part cs) named))
 ] refl
 
-some_value : (o : Option Value) → IsSome o → (v : Value) × (o ≡ Some v)
-some_value None there = let no : ⊥ = cc in absurd no
-some_value (Some v) there = (v, refl)
-
-module _ (s : Cells) (ok : IsWellFormed s) where
-  covered : (p : Pattern) (x : Cell) → IsSome (get s x) → Covered p x
-  covered Objects (Object n) there from =
-      let object = some_value (get s (Object n)) there in
-      let least_first : is_le (slice_cmp nat_cmp least n) ≡ true = least_is_least n (ok.names n object.0 object.1) in
-      let no : true ≡ false = subst (λ (b : Bool). b && true ≡ false) least_first from in cc
-  covered Objects (Shape e) there from = refl
-  covered Objects (In e n) there from = refl
-  covered Objects (Member e n) there from = refl
-  covered Objects (Mapping e) there from = refl
-  covered Objects (Use e n) there from = refl
-  covered Objects (Implicit e) there from = refl
-  covered Objects (Element e n) there from = refl
-  covered (One c) x there from = not_itself (cell_cmp c x) from
-  covered (Members d) x there from = members_covered d x from
-  covered (Elements a) x there from = elements_covered a x from
-  covered (Uses d) (Object e) there from = refl
-  covered (Uses d) (Shape e) there from = refl
-  covered (Uses d) (In e n) there from = refl
-  covered (Uses d) (Member e n) there from = refl
-  covered (Uses d) (Mapping e) there from = refl
-  covered (Uses d) (Implicit e) there from = refl
-  covered (Uses d) (Element e n) there from = refl
-  covered (Uses d) (Use e n) there from =
-      let bound : IsSome (use_of e (get s (Object n))) = subst (λ (o : Option Value). IsSome o) (ok.uses e n) there in
-      let object = user_is_object e (get s (Object n)) bound in
-      not_below (slice_cmp nat_cmp d e) (slice_cmp nat_cmp least n) (least_is_least n (ok.names n object.0 object.1)) from
+covered : (p : Pattern) (x : Cell) → HasName x → Covered p x
+covered Objects (Object n) named from =
+    let least_first : is_le (slice_cmp nat_cmp least n) ≡ true = least_is_least n named in
+    let no : true ≡ false = subst (λ (b : Bool). b && true ≡ false) least_first from in cc
+covered Objects (Shape e) named from = refl
+covered Objects (In e n) named from = refl
+covered Objects (Member e n) named from = refl
+covered Objects (Mapping e) named from = refl
+covered Objects (Use e n) named from = refl
+covered Objects (Implicit e) named from = refl
+covered Objects (Element e n) named from = refl
+covered (One c) x named from = not_itself (cell_cmp c x) from
+covered (Members d) x named from = members_covered d x from
+covered (Elements a) x named from = elements_covered a x from
+covered (Uses d) (Object e) named from = refl
+covered (Uses d) (Shape e) named from = refl
+covered (Uses d) (In e n) named from = refl
+covered (Uses d) (Member e n) named from = refl
+covered (Uses d) (Mapping e) named from = refl
+covered (Uses d) (Implicit e) named from = refl
+covered (Uses d) (Element e n) named from = refl
+covered (Uses d) (Use e n) named from = not_below (slice_cmp nat_cmp d e) (slice_cmp nat_cmp least n) (least_is_least n named) from
 
 pub begins : (p : Pattern) (c : Cell) → c ≡ first p → Begins p c
 begins p c is =
     rw is (record {
       together = λ x y from up none. stop p x y (ap (λ b. b && true) from) up none;
-      none_before = λ s x ok there before. covered s ok p x there (ap (λ b. b && true) before);
+      none_before = λ x named before. covered p x named (ap (λ b. b && true) before);
     })
+
+-- ---- the cells of a well-formed workbook have names
+
+some_value : (o : Option Value) → IsSome o → (v : Value) × (o ≡ Some v)
+some_value None there = let no : ⊥ = cc in absurd no
+some_value (Some v) there = (v, refl)
+
+user_is_object : (d : Name) (o : Option Value) → IsSome (use_of d o) → IsSome o
+user_is_object d None there = let no : ⊥ = cc in absurd no
+user_is_object d (Some v) there = there_is v
+  where
+    there_is : (w : Value) → IsSome (Some w)
+    there_is w = refl
+
+module _ (s : Cells) (ok : IsWellFormed s) where
+  object_named : (n : Name) → IsSome (get s (Object n)) → is_name n ≡ true
+  object_named n there = let object = some_value (get s (Object n)) there in ok.names n object.0 object.1
+
+  cell_named : (x : Cell) → IsSome (get s x) → HasName x
+  cell_named (Object n) there = object_named n there
+  cell_named (Use e n) there = object_named n (user_is_object e (get s (Object n)) (subst (λ (o : Option Value). IsSome o) (ok.uses e n) there))
+  cell_named (Shape e) there = tt
+  cell_named (In e n) there = tt
+  cell_named (Member e n) there = tt
+  cell_named (Mapping e) there = tt
+  cell_named (Implicit e) there = tt
+  cell_named (Element e n) there = tt
 
 -- ---- so they are the front of what stands from the first cell on
 
@@ -288,7 +302,7 @@ module _ (p : Pattern) (c : Cell) (b : Begins p c) where
   all_covered m ok [] there = tt
   all_covered m ok (x ∷ xs) there =
       let here : IsSome (get (state_of m) x) = subst (λ (o : Option Value). IsSome o) (sym (get-state_of m x)) there.0 in
-      (λ before. b.none_before (state_of m) x ok here (with_true (is_le (cell_cmp c x)) false before), all_covered m ok xs there.1)
+      (λ before. b.none_before x (cell_named (state_of m) ok x here) (with_true (is_le (cell_cmp c x)) false before), all_covered m ok xs there.1)
 
   none_behind : (x : Cell) (es : List (Cell × Value)) → is_from c x ≡ true → matches p x ≡ false → AllByRecursion (λ y. cell_cmp x y ≡ Less) (keys_of es) → filter (named p) es ≡ []
   none_behind x [] from none above = refl
@@ -308,12 +322,35 @@ module _ (p : Pattern) (c : Cell) (b : Begins p c) where
         | false ↦ λ from. rw (all.0 from) (front es all.1 s.1)
       ] refl
 
--- what stands from the first cell on
+  found : (m : BTreeMap Cell Value) (part : List (Cell × Value)) → AllByRecursion (λ x. is_from c x ≡ false → matches p x ≡ false) (keys m) → IsOrdered cell_cmp m → part ≡ entries_between cell_cmp (Included c) Unbounded m.entries
+      → take (prefix_len (named p) part) part ≡ seen (state_of m) p
+  found m part all s is =
+      ap (λ (es : List (Cell × Value)). take (prefix_len (named p) es) es) is
+      ∙ front m.entries all s
+      ∙ sym (ap (where_key cell_cmp (matches p)) (entries-state_of m s))
+      ∙ sym (entries-retain_keys cell_order (state_of m) (matches p))
+
 pub seen_found : (m : BTreeMap Cell Value) (p : Pattern) (c : Cell) (part : List (Cell × Value)) → IsWellFormed (state_of m) → IsOrdered cell_cmp m → Begins p c → part ≡ entries_between cell_cmp (Included c) Unbounded m.entries
     → take (prefix_len (named p) part) part ≡ seen (state_of m) p
 seen_found m p c part ok s b is =
-    let all = all_covered p c b m ok (keys m) (recursion_from_All (ContainsKey cell_cmp m) (keys m) (All-keys_found cell_order.total m s)) in
-    ap (λ (es : List (Cell × Value)). take (prefix_len (named p) es) es) is
-    ∙ front p c b m.entries all s
-    ∙ sym (ap (where_key cell_cmp (matches p)) (entries-state_of m s))
-    ∙ sym (entries-retain_keys cell_order (state_of m) (matches p))
+    found p c b m part (all_covered p c b m ok (keys m) (recursion_from_All (ContainsKey cell_cmp m) (keys m) (All-keys_found cell_order.total m s))) s is
+
+-- the elements of an array, in any workbook
+module _ (a : Name) (c : Cell) (b : Begins (Elements a) c) where
+  no_element_before : (x : Cell) → is_from c x ≡ false → matches (Elements a) x ≡ false
+  no_element_before (Object e) before = refl
+  no_element_before (Shape e) before = refl
+  no_element_before (In e n) before = refl
+  no_element_before (Member e n) before = refl
+  no_element_before (Mapping e) before = refl
+  no_element_before (Use e n) before = refl
+  no_element_before (Implicit e) before = refl
+  no_element_before (Element e i) before = b.none_before (Element e i) tt (with_true (is_le (cell_cmp c (Element e i))) false before)
+
+  no_elements_before : (xs : List Cell) → AllByRecursion (λ x. is_from c x ≡ false → matches (Elements a) x ≡ false) xs
+  no_elements_before [] = tt
+  no_elements_before (x ∷ xs) = (no_element_before x, no_elements_before xs)
+
+  pub elements_found : (m : BTreeMap Cell Value) (part : List (Cell × Value)) → IsOrdered cell_cmp m → part ≡ entries_between cell_cmp (Included c) Unbounded m.entries
+      → take (prefix_len (named (Elements a)) part) part ≡ seen (state_of m) (Elements a)
+  elements_found m part s is = found (Elements a) c b m part (no_elements_before (keys m)) s is

@@ -85,7 +85,6 @@ pub(crate) fn elements(
     cells: &BTreeMap<Cell, Value>,
     array: Name,
 ) -> Result<Vec<(AnyIndex, i64)>, NoMemory>
-    requires { IsWellFormed (state_of cells.now) }
     ensures { IfOk result (λ v. v.items ≡ elements (state_of cells.now) array) }
 {
     let pattern = Pattern::Elements(array);
