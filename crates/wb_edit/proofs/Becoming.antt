@@ -19,7 +19,7 @@ use Rattle.wb_edit.specs.Writes.{put_all, clear_all}
 use Rattle.wb_edit.proofs.Columns.{changes-append, map-append}
 use Rattle.wb_edit.proofs.Elements.{index_order}
 use Rattle.wb_resize.proofs.Gets.{same_key}
-use Rattle.wb_edit.proofs.Sorted.{first, second}
+use Rattle.wb_resize.proofs.Sorted.{first, second}
 
 below_at : (k : Index) (es : List (Index × ℤ)) (i : ℕ) (d : Index × ℤ) → T (below_all index_cmp k es) → i < length es → T (is_lt (index_cmp k (get_or es i d).0))
 below_at k [] i d below low = absurd (omega (arith, low))

@@ -19,7 +19,7 @@ use Rattle.wb_book.specs.Readers.{element_in, elements}
 use Rattle.selective_undo.specs.Changes.{IsOrder}
 use Rattle.selective_undo.proofs.Evaluation.{entries-retain_keys}
 use Rattle.wb_resize.proofs.States.{same_name}
-use Rattle.wb_edit.proofs.Sorted.{both, first, second, none_below, of_entries}
+use Rattle.wb_resize.proofs.Sorted.{both, first, second, none_below, of_entries}
 
 pub index_order : IsOrder index_cmp
 index_order = record { total = laws.total-law; strict = index_cmp-IsAntisymmetric }

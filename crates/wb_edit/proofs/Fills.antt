@@ -49,10 +49,6 @@ pub gives_implicits : (s : Cells) (names : List Name) (rs : List Pattern) → Gi
 gives_implicits s names rs =
     subst (λ (fs : List (Name × ℤ)). Gives (implicits names) s rs fs (rs ++ map one_of (map Implicit names))) (shown_implicits s names) (then_shown (read_all (map Implicit names)) s rs (rs ++ map one_of (map Implicit names)) (λ vs. zip names (map number_or_zero vs)) (map (get s) (map Implicit names)) (gives_all s (map Implicit names) rs))
 
-pub keys_with : (f : Name → ℤ) (names : List Name) → keys_of (map (λ a. (a, f a)) names) ≡ names
-keys_with f [] = refl
-keys_with f (a ∷ names) = ap (λ ns. a ∷ ns) (keys_with f names)
-
 -- ---- what the code says of them
 
 pub keys_by_items : (r : Result (Vec (Name × ℤ)) Stop) (fs : List (Name × ℤ)) (ns : List Name) → IfOk r (λ v. v.items ≡ fs) → keys_of fs ≡ ns → IfOk r (λ v. keys_of v.items ≡ ns)

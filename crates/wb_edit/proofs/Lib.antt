@@ -4,7 +4,6 @@ pub mod Attempts
 pub mod Sums
 pub mod Rectangles
 pub mod Members
-pub mod Sorted
 pub mod Elements
 pub mod Becoming
 pub mod SideBySide
@@ -12,5 +11,4 @@ pub mod Layouts
 pub mod Exchanges
 pub mod Fills
 pub mod Memberships
-pub mod Users
 pub mod Kept

@@ -21,53 +21,17 @@ use Rattle.wb_book.specs.contracts.values.index.IndexOrd.TheImpl.Laws as index_l
 use Rattle.wb_book.specs.Cells.{Name, Cells, cell_cmp, cell_order, index_cmp, index_cmp-IsAntisymmetric, is_same_name, same_names, matches}
 use Rattle.wb_book.specs.Readers.{seen}
 use Rattle.wb_book.specs.WellFormed.{IsMember, has, present_if}
+use Rattle.wb_resize.proofs.Seen.{AreNamed, seen_named, seen_sorted, find_seen, same_family, second_less, second_tie}
+use Rattle.wb_resize.proofs.Sorted.{first, second}
+use Rattle.wb_resize.proofs.States.{itself}
 use Rattle.wb_edit.specs.Tests.{member_in}
-
--- all of them are cells of the domain
-abbrev AreOf : Name → List (Cell × Value) → Type 0
-AreOf d es = AllByRecursion (λ e. matches (Members d) e.0 ≡ true) es
-
-pub filter_passes : (p : Cell → Bool) (es : List (Cell × Value)) → AllByRecursion (λ e. p e.0 ≡ true) (filter (λ e. p e.0) es)
-filter_passes p [] = tt
-filter_passes p (e ∷ es) = elim (p e.0) as (λ b. p e.0 ≡ b → AllByRecursion (λ x. p x.0 ≡ true) (cond b (e ∷ filter (λ x. p x.0) es) (filter (λ x. p x.0) es))) [
-  | true ↦ λ is. (is, filter_passes p es)
-  | false ↦ λ is. filter_passes p es
-] refl
-
-pub seen_of : (s : Cells) (d : Name) → AreOf d (seen s (Members d))
-seen_of s d = subst (AreOf d) (sym (entries-retain_keys cell_order s (matches (Members d)))) (filter_passes (matches (Members d)) (entries s))
-
-pub seen_sorted : (s : Cells) (d : Name) → T (is_sorted cell_cmp (seen s (Members d)))
-seen_sorted s d = entries_sorted (retain_keys s (matches (Members d)))
 
 -- ---- ascending
 
-pub first : (a b : Bool) → T (a && b) → T a
-first true b p = tt
-first false b p = p
-
-pub second : (a b : Bool) → T (a && b) → T b
-second true b p = p
-second false b p = absurd p
-
--- two cells of one domain compare as their indices do
-pub same_domain : (d e f : Name) → is_same_name d e ≡ true → is_same_name d f ≡ true → slice_cmp nat_cmp e f ≡ Equal
-same_domain d e f p q =
-    let one : d ≡ e = same_names d e ((Equal-is _).0 p) in
-    let two : d ≡ f = same_names d f ((Equal-is _).0 q) in
-    subst (λ (n : Name). slice_cmp nat_cmp n f ≡ Equal) one ((Equal-is _).0 q)
-
-pub less : (o r : Ordering) → o ≡ Equal → T (is_lt (ordering_then o r)) → r ≡ Less
-less Equal Less e p = refl
-less Equal Equal e p = absurd p
-less Equal Greater e p = absurd p
-less Less r e p = cc
-less Greater r e p = cc
-
-above : (d e : Name) (i : Index) (es : List (Cell × Value)) → is_same_name d e ≡ true → T (below_all cell_cmp (Member e i) es) → AreOf d es → AllByRecursion (λ j. index_cmp i j ≡ Less) (filter_map member_in es)
+above : (d e : Name) (i : Index) (es : List (Cell × Value)) → is_same_name d e ≡ true → T (below_all cell_cmp (Member e i) es) → AreNamed (Members d) es → AllByRecursion (λ j. index_cmp i j ≡ Less) (filter_map member_in es)
 above d e i [] same below of = tt
 above d e i ((Member f j, v) ∷ es) same below of = (
-  less (slice_cmp nat_cmp e f) (index_cmp i j) (same_domain d e f same of.0) (first _ _ below),
+  second_less (slice_cmp nat_cmp e f) (index_cmp i j) (same_family d e f same of.0) (first _ _ below),
   above d e i es same (second _ _ below) of.1,
 )
 above d e i ((Object n, v) ∷ es) same below of = let no : ⊥ = cc in absurd no
@@ -78,7 +42,7 @@ above d e i ((Use f n, v) ∷ es) same below of = let no : ⊥ = cc in absurd no
 above d e i ((Implicit n, v) ∷ es) same below of = let no : ⊥ = cc in absurd no
 above d e i ((Element f j, v) ∷ es) same below of = let no : ⊥ = cc in absurd no
 
-ascending : (d : Name) (es : List (Cell × Value)) → T (is_sorted cell_cmp es) → AreOf d es → IsStrictlySortedBy index_cmp (filter_map member_in es)
+ascending : (d : Name) (es : List (Cell × Value)) → T (is_sorted cell_cmp es) → AreNamed (Members d) es → IsStrictlySortedBy index_cmp (filter_map member_in es)
 unfolding IsStrictlySortedBy
 ascending d [] sorted of = tt
 ascending d ((Member e i, v) ∷ es) sorted of = (above d e i es of.0 (first _ _ sorted) of.1, ascending d es (second _ _ sorted) of.1)
@@ -91,27 +55,19 @@ ascending d ((Implicit n, v) ∷ es) sorted of = let no : ⊥ = cc in absurd no
 ascending d ((Element f j, v) ∷ es) sorted of = let no : ⊥ = cc in absurd no
 
 pub members_once : (s : Cells) (d : Name) → IsListedOnce (filter_map member_in (seen s (Members d)))
-members_once s d = IsListedOnce-sorted index_cmp index_laws.total-law index_cmp-IsAntisymmetric _ (ascending d (seen s (Members d)) (seen_sorted s d) (seen_of s d))
+members_once s d = IsListedOnce-sorted index_cmp index_laws.total-law index_cmp-IsAntisymmetric _ (ascending d (seen s (Members d)) (seen_sorted s (Members d)) (seen_named s (Members d)))
 
 -- ---- exactly those that are there
-
-pub same_place : (o r : Ordering) → o ≡ Equal → is_eq (ordering_then o r) ≡ is_eq r
-same_place Equal r e = refl
-same_place Less r e = cc
-same_place Greater r e = cc
 
 some_or : (b : Bool) (v : Value) (o : Option Value) → is_some (cond b (Some v) o) ≡ b || is_some o
 some_or true v o = refl
 some_or false v o = refl
 
-pub itself : (d : Name) → is_same_name d d ≡ true
-itself d = (eq_by_cmp_equiv nat_list_cmp_total).refl d
-
-listed : (d : Name) (i : Index) (es : List (Cell × Value)) → AreOf d es → is_some (find cell_cmp (Member d i) es) ≡ has (filter_map member_in es) i
+listed : (d : Name) (i : Index) (es : List (Cell × Value)) → AreNamed (Members d) es → is_some (find cell_cmp (Member d i) es) ≡ has (filter_map member_in es) i
 listed d i [] of = refl
 listed d i ((Member f j, v) ∷ es) of =
     some_or (eq_by_cmp cell_cmp (Member d i) (Member f j)) v (find cell_cmp (Member d i) es)
-    ∙ ap (λ b. b || is_some (find cell_cmp (Member d i) es)) (same_place (slice_cmp nat_cmp d f) (index_cmp i j) ((Equal-is _).0 of.0))
+    ∙ ap (λ b. b || is_some (find cell_cmp (Member d i) es)) (second_tie (slice_cmp nat_cmp d f) (index_cmp i j) ((Equal-is _).0 of.0))
     ∙ ap (λ b. is_eq (index_cmp i j) || b) (listed d i es of.1)
 listed d i ((Object n, v) ∷ es) of = let no : ⊥ = cc in absurd no
 listed d i ((Shape n, v) ∷ es) of = let no : ⊥ = cc in absurd no
@@ -129,10 +85,6 @@ present s kind i (Some v) false m e = cc
 
 pub members_found : (s : Cells) (d : Name) (kind : Option DomainKind) (i : Index) → IsMember s kind i (get s (Member d i)) → get s (Member d i) ≡ present_if (has (filter_map member_in (seen s (Members d))) i)
 members_found s d kind i m =
-    let p : Cell → Bool = matches (Members d) in
-    let alike : (x : Cell) → cell_cmp (Member d i) x ≡ Equal → p x ≡ p (Member d i) = λ x tie. ap p (sym (cell_order.strict (Member d i) x tie)) in
-    let kept : get (retain_keys s p) (Member d i) ≡ get s (Member d i) = get-retain_keys s p (Member d i) alike ∙ ap (λ b. cond b (get s (Member d i)) None) (itself d) in
     present s kind i (get s (Member d i)) _ m (
-    ap is_some (sym kept)
-    ∙ ap is_some (get-entries (retain_keys s p) (Member d i))
-    ∙ listed d i (seen s (Members d)) (seen_of s d))
+    ap is_some (sym (find_seen s (Members d) (Member d i) (itself d)))
+    ∙ listed d i (seen s (Members d)) (seen_named s (Members d)))

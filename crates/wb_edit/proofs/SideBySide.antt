@@ -37,7 +37,7 @@ use Rattle.wb_edit.proofs.Elements.{index_order, number_of, elements_ascend, fin
 use Rattle.wb_resize.proofs.States.{same_name}
 use Rattle.wb_edit.proofs.Kept.Steps.{array_is}
 use Rattle.wb_edit.proofs.Rectangles.{whole}
-use Rattle.wb_edit.proofs.Sorted.{both, first, second}
+use Rattle.wb_resize.proofs.Sorted.{both, first, second}
 use Rattle.wb_edit.proofs.Sums.{is_i64-fits}
 use Rattle.wb_edit.proofs.Trees.{seen_value}
 

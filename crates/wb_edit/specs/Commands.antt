@@ -31,6 +31,7 @@ use Rattle.wb_edit.specs.Layouts.{mapped}
 use Rattle.wb_edit.specs.Rectangles.{over_rectangle, all_elements}
 use Rattle.wb_edit.specs.Users.{bound, uses, unused}
 use Rattle.wb_edit.specs.Resizing.{zeros, with_members, inside, fills}
+pub use Rattle.wb_resize.specs.Dropped.{own_cells, ended_cells}
 use Rattle.wb_resize.specs.Resized.{resized_cells}
 use Rattle.wb_edit.specs.Writes.{put, put_all, clear, clear_all}
 
@@ -167,16 +168,6 @@ all a how b = do
   (e, kind_of_e) ← arr b
   unit ← over_one_domain d e
   combined a how b
-
--- what there is of a domain besides its indices
-abbrev pub own_cells : Name → DomainKind → List Cell
-own_cells d (Rectangular rank) = Object d ∷ Shape d ∷ Mapping d ∷ []
-own_cells d (Sparse parent rank) = Object d ∷ Use parent d ∷ []
-own_cells d (Associative type) = Object d ∷ []
-
--- what the end of a domain writes: all of it becomes absent, and so does that it has its indices
-abbrev pub ended_cells : Name → DomainKind → List Index → Changes
-ended_cells d kind is = clear_all (own_cells d kind) ++ clear_all (map (index_cell (kind_of kind) d) is)
 
 -- the end of a domain: it is there, nothing is bound to it, and it is seen which indices it has
 abbrev pub drop_domain : Name → Tree

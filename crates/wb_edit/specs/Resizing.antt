@@ -9,6 +9,7 @@ use Rattle.wb_book.specs.declared.cells.value.Value.{Value}
 use Rattle.wb_book.specs.declared.cells.value.Value.TheVariants.{Number}
 use Rattle.wb_book.specs.declared.values.index.Index.{Index}
 use Rattle.wb_book.specs.Cells.{Name}
+pub use Rattle.wb_resize.specs.Fills.{number_or_zero, zeros}
 use Rattle.wb_edit.specs.declared.refusal.Refusal.{Refusal}
 use Rattle.wb_edit.specs.declared.refusal.Refusal.TheVariants.{WrongKind, OutOfParent}
 use Rattle.wb_edit.specs.Looks.{Look, ◌>>=◌, judged}
@@ -30,15 +31,6 @@ inside_if false = Err OutOfParent
 
 abbrev pub all_inside : List (Option Value) → Result (Unit {0}) Refusal
 all_inside vs = inside_if (list_all is_some vs)
-
--- the number that a cell holds, and 0 where it holds none
-abbrev pub number_or_zero : Option Value → ℤ
-number_or_zero (Some (Number x)) = x
-number_or_zero _ = pos 0
-
--- each array with 0
-abbrev pub zeros : List Name → List (Name × ℤ)
-zeros arrays = map (λ a. (a, pos 0)) arrays
 
 -- ---- the tests
 

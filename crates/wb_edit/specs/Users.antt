@@ -10,32 +10,12 @@ use Rattle.wb_book.specs.declared.cells.value.Binding.TheVariants.{Array, Sparse
 use Rattle.wb_book.specs.declared.cells.value.Value.{Value}
 use Rattle.wb_book.specs.declared.cells.value.Value.TheVariants.{Bound}
 use Rattle.wb_book.specs.Cells.{Name}
+pub use Rattle.wb_resize.specs.Users.{binding_in, user_in, named, bound}
 use Rattle.wb_edit.specs.declared.refusal.Refusal.{Refusal}
 use Rattle.wb_edit.specs.declared.refusal.Refusal.TheVariants.{InUse}
 use Rattle.wb_edit.specs.Looks.{Look, ◌>>=◌, judged}
 
 -- ---- judgements of what was seen
-
--- how an object is bound, as a value says it
-abbrev pub binding_in : Value → Option Binding
-binding_in (Bound how) = Some how
-binding_in v = None
-
--- the user of a domain that a cell with its value tells of, and how it is bound
-abbrev pub user_in : Cell × Value → Option (Name × Binding)
-user_in (Use d n, v) = option_map (λ how. (n, how)) (binding_in v)
-user_in (c, v) = None
-
--- the name of a user that is bound so
-abbrev pub named : Binding → Name × Binding → Option Name
-named Array (n, Array) = Some n
-named Array (n, Sparse) = None
-named Sparse (n, Array) = None
-named Sparse (n, Sparse) = Some n
-
--- the names of the users that are bound so
-abbrev pub bound : Binding → List (Name × Binding) → List Name
-bound how users = filter_map (named how) users
 
 -- nothing is bound to the domain; else it is in use
 abbrev pub is_unused : List (Name × Binding) → Result (Unit {0}) Refusal

@@ -32,7 +32,7 @@ use Rattle.wb_resize.proofs.Without.{has-without}
 abbrev pub numbered : (Name → ℤ) → List Name → List (Name × ℤ)
 numbered number ns = map (λ a. (a, number a)) ns
 
-keys-numbered : (number : Name → ℤ) (ns : List Name) → keys_of (numbered number ns) ≡ ns
+pub keys-numbered : (number : Name → ℤ) (ns : List Name) → keys_of (numbered number ns) ≡ ns
 keys-numbered number [] = refl
 keys-numbered number (a ∷ ns) = ap (λ ms. a ∷ ms) (keys-numbered number ns)
 

@@ -1,5 +1,6 @@
 -- New and absent indices of sparse and associative domains keep a workbook well formed.
-use Rattle.std.proofs.Common.{◌≡◌, Bool, true, false, ◌||◌, List, [], ◌∷◌, map, Option, Some, None, is_some, Result, Ok, Err, ℤ, pos, FitsSigned, refl, sym, ap, subst, ◌∙◌, arith}
+use Rattle.std.proofs.Common.{◌≡◌, ℕ, zero, suc, ◌<◌, Bool, true, false, List, [], ◌∷◌, map, length, get_or, Option, Some, None, is_some, Result, Ok, Err, ℤ, pos, FitsSigned, refl, sym, ap, subst, ◌∙◌, arith}
+use Rattle.std.proofs.lemmas.Simd.{map-map}
 use Rattle.std.specs.Int.{w64}
 use Rattle.std.specs.FinMap.{get}
 use Rattle.std.specs.List.{AllByRecursion, Contains, list_all, list_any, zip}
@@ -22,6 +23,7 @@ use Rattle.wb_book.specs.Readers.{seen}
 use Rattle.wb_book.specs.WellFormed.{IsWellFormed, IsImplicit, MayHave, domain_in, domain_at, array_in, present_if, inside_of, ranges_in, use_of}
 use Rattle.wb_resize.specs.Laws.{AreFills, HasMembers}
 use Rattle.wb_resize.specs.Resized.{resized_cells}
+use Rattle.wb_resize.proofs.Fills.{arrays, zeros_fill, implicits_fill}
 use Rattle.wb_resize.proofs.Sets.{keeps_sets}
 use Rattle.wb_edit.specs.declared.refusal.Refusal.{Refusal}
 use Rattle.wb_edit.specs.declared.refusal.Refusal.TheVariants.{WrongKind}
@@ -29,72 +31,21 @@ use Rattle.wb_edit.specs.Commands.{add, add_unless, remove, remove_if, resized}
 use Rattle.wb_edit.specs.Looks.{Tree, judged, read}
 use Rattle.wb_edit.specs.Resizing.{has_members, with_members, inside_if, all_inside, inside, number_or_zero, zeros, defaults, fills}
 use Rattle.wb_edit.specs.Tests.{domain_kind, fits, key}
-use Rattle.wb_edit.proofs.Fills.{keys_with}
-use Rattle.wb_edit.proofs.Users.{names, bound_there, bound_shown, holds_at}
 use Rattle.wb_edit.proofs.Kept.NewArray.{zero_fits}
 use Rattle.wb_edit.proofs.Kept.Fills.{keeps_all, first_and}
 use Rattle.wb_edit.proofs.Kept.Steps.{Keeps, keeps_read, keeps_judged, domain_is}
 
 -- ---- the arrays over a domain, with numbers
 
-any_key : (a : Name) (fs : List (Name × ℤ)) → list_any (λ f. is_same_name a f.0) fs ≡ list_any (λ n. is_same_name a n) (keys_of fs)
-any_key a [] = refl
-any_key a (f ∷ fs) = ap (λ b. is_same_name a f.0 || b) (any_key a fs)
-
-of_keys : (P : Name → Type 0) (fs : List (Name × ℤ)) → AllByRecursion P (keys_of fs) → AllByRecursion (λ f. P f.0) fs
-of_keys P [] h = tt
-of_keys P (f ∷ fs) h = (h.0, of_keys P fs h.1)
-
--- numbers of 64 bits, for the arrays that a look at what is bound to a domain shows
-are_fills : (s : Cells) (d : Name) (fs : List (Name × ℤ)) → keys_of fs ≡ names Array (seen s (Uses d)) → AllByRecursion (λ f. FitsSigned w64 f.1) fs → AreFills s d fs
-are_fills s d fs keys fit =
-    let there : AllByRecursion (λ f. get s (Use d f.0) ≡ Some (Bound Array)) fs = of_keys (λ n. get s (Use d n) ≡ Some (Bound Array)) fs (subst (AllByRecursion (λ n. get s (Use d n) ≡ Some (Bound Array))) (sym keys) (bound_there s d Array)) in
-    record {
-      all = λ a bound. any_key a fs ∙ ap (λ ns. list_any (λ n. is_same_name a n) ns) keys ∙ bound_shown s d a Array bound;
-      only = λ a v among. holds_at (λ f. get s (Use d f.0) ≡ Some (Bound Array)) fs (a, v) there among;
-      numbers = λ a v among. holds_at (λ f. FitsSigned w64 f.1) fs (a, v) fit among;
-    }
-
-zeros_fit : (ns : List Name) → AllByRecursion (λ f. FitsSigned w64 f.1) (zeros ns)
-zeros_fit [] = tt
-zeros_fit (n ∷ ns) = (zero_fits, zeros_fit ns)
-
-pub are_zeros : (s : Cells) (d : Name) → AreFills s d (zeros (names Array (seen s (Uses d))))
-are_zeros s d = let ns : List Name = names Array (seen s (Uses d)) in are_fills s d (zeros ns) (keys_with (λ a. pos 0) ns) (zeros_fit ns)
-
--- what is bound as an array is one
-sparse_user : (b : Bool) → elim b [ true ↦ Some (Bound bound_sparse) | false ↦ None ] ≡ Some (Bound Array) → ⊥
-sparse_user true e = cc
-sparse_user false e = cc
-
-array_user : (d : Name) (o : Option Value) → use_of d o ≡ Some (Bound Array) → (x : Name × Kind) × (array_in o ≡ Some x)
-array_user d (Some (array_value e kind)) h = ((e, kind), refl)
-array_user d (Some (Domain (Sparse parent rank))) h = absurd (sparse_user (is_same_name d parent) h)
-array_user d _ h = cc
-
-implicit_fits : (x : Name × Kind) (v : Option Value) → IsImplicit (Some x) v → FitsSigned w64 (number_or_zero v)
-implicit_fits (d, over_sparse rank) v h = rw h.1 h.2
-implicit_fits (d, over_rectangular rank) v h = rw h zero_fits
-implicit_fits (d, over_associative type) v h = rw h zero_fits
-
-implicits_fit : (s : Cells) (d : Name) (ns : List Name) → IsWellFormed s → AllByRecursion (λ n. get s (Use d n) ≡ Some (Bound Array)) ns → AllByRecursion (λ f. FitsSigned w64 f.1) (zip ns (map number_or_zero (map (get s) (map Implicit ns))))
-implicits_fit s d [] h there = tt
-implicits_fit s d (n ∷ ns) h there =
-    let array = array_user d (get s (Object n)) (sym (h.uses d n) ∙ there.0) in
-    (implicit_fits array.0 (get s (Implicit n)) (subst (λ o. IsImplicit o (get s (Implicit n))) array.1 (h.implicits n)), implicits_fit s d ns h there.1)
-
-implicits_keys : (s : Cells) (ns : List Name) → keys_of (zip ns (map number_or_zero (map (get s) (map Implicit ns)))) ≡ ns
-implicits_keys s [] = refl
-implicits_keys s (n ∷ ns) = ap (λ ks. n ∷ ks) (implicits_keys s ns)
-
 -- a look at what new indices bring goes on with numbers for the arrays over the domain
-keeps_defaults : (s : Cells) (d : Name) (kind : DomainKind) (next : List (Name × ℤ) → Tree) → IsWellFormed s → ((fs : List (Name × ℤ)) → AreFills s d fs → Keeps (next fs) s) → Keeps (defaults kind (names Array (seen s (Uses d))) next) s
-keeps_defaults s d (Rectangular rank) next h kept = kept _ (are_zeros s d)
-keeps_defaults s d (Associative type) next h kept = kept _ (are_zeros s d)
-keeps_defaults s d (Sparse parent rank) next h kept =
-    let ns : List Name = names Array (seen s (Uses d)) in
+keeps_defaults : (s : Cells) (d : Name) (kind : DomainKind) (next : List (Name × ℤ) → Tree) → IsWellFormed s → domain_at s d ≡ Some kind → ((fs : List (Name × ℤ)) → AreFills s d fs → Keeps (next fs) s) → Keeps (defaults kind (arrays s d) next) s
+keeps_defaults s d (Rectangular rank) next h there kept = kept _ (zeros_fill s d)
+keeps_defaults s d (Associative type) next h there kept = kept _ (zeros_fill s d)
+keeps_defaults s d (Sparse parent rank) next h there kept =
+    let ns : List Name = arrays s d in
     keeps_all s (map Implicit ns) (λ vs. next (zip ns (map number_or_zero vs))) (
-    kept _ (are_fills s d _ (implicits_keys s ns) (implicits_fit s d ns h (bound_there s d Array))))
+    subst (λ vs. Keeps (next (zip ns (map number_or_zero vs))) s) (sym (map-map (get s) Implicit ns)) (
+    kept _ (implicits_fill s d parent rank h there)))
 
 -- ---- indices that a domain may have
 
@@ -141,13 +92,22 @@ may_have s (Sparse parent rank) (i ∷ is) h set keys within =
     (h.insides parent i ∙ there_inside (ranges_in (get s (Shape parent))) i (ap is_some (sym (h.insides parent i)) ∙ both.0), may_have s (Sparse parent rank) is h set keys.1 both.1)
 may_have s (Associative type) (i ∷ is) h set keys within = (keys.0, may_have s (Associative type) is h set keys.1 within)
 
+-- what holds of each element holds of one that is among them
+holds_at : {X : Type 0} (P : X → Type 0) (xs : List X) (x : X) → AllByRecursion P xs → Contains xs x → P x
+holds_at P xs x all there = at xs there.0 all there.1 there.2
+  where
+    at : (ys : List _) (k : ℕ) → AllByRecursion P ys → k < length ys → get_or ys k x ≡ x → P x
+    at [] k h low e = absurd (omega (arith, low))
+    at (y ∷ ys) zero h low e = subst P e h.0
+    at (y ∷ ys) (suc k) h low e = at ys k h.1 (omega (arith, low)) e
+
 -- indices leave, and others come that are among the new ones
 pub resized_kept : (s : Cells) (d : Name) (kind : DomainKind) (new leaving coming : List Index) → IsWellFormed s → domain_at s d ≡ Some kind → HasMembers kind → AreKeys kind new → ((i : Index) → Contains coming i → Contains new i)
     → Keeps (resized d kind new leaving coming) s
 resized_kept s d kind new leaving coming h there set keys among =
     let last : List (Name × ℤ) → Tree = λ fs. write (resized_cells (kind_of kind) d fs leaving coming) in
     keeps_inside s kind new (λ x. fills d kind last) h (λ x within.
-    keeps_defaults s d kind last h (λ fs are.
+    keeps_defaults s d kind last h there (λ fs are.
     keeps_sets s d kind fs leaving coming h there set are (λ i comes. holds_at (MayHave s (Some kind)) new i (may_have s kind new h set keys within) (among i comes))))
 
 abbrev fitting : Bool → Result (Unit {0}) Refusal
@@ -192,5 +152,5 @@ remove_kept s d i h =
     let over : domain_at s d ≡ Some kind = ap domain_in (is ∙ domain_is v kind found) in
     elim there as (λ o. Keeps (remove_if o d kind i) s) [
       | None ↦ h
-      | Some w ↦ keeps_sets s d kind (zeros (names Array (seen s (Uses d)))) (i ∷ []) [] h over (members_of kind x set) (are_zeros s d) (λ j among. absurd (nothing_in j among))
+      | Some w ↦ keeps_sets s d kind (zeros (arrays s d)) (i ∷ []) [] h over (members_of kind x set) (zeros_fill s d) (λ j among. absurd (nothing_in j among))
     ])))))

@@ -12,13 +12,12 @@ use Rattle.wb_book.specs.Cells.{Name}
 use Rattle.wb_book.specs.Kinds.{kind_of}
 use Rattle.wb_book.specs.Readers.{seen}
 use Rattle.wb_resize.specs.Resized.{resized_cells}
+use Rattle.wb_resize.proofs.Fills.{arrays, zeros_once}
 use Rattle.wb_edit.specs.Looks.{Tree}
 use Rattle.wb_edit.specs.Plans.{Makes}
 use Rattle.wb_edit.specs.Resizing.{zeros}
 use Rattle.wb_edit.specs.Users.{bound, uses}
 use Rattle.wb_edit.proofs.Attempts.{goes_on, stops, ends}
-use Rattle.wb_edit.proofs.Fills.{keys_with}
-use Rattle.wb_edit.proofs.Users.{names, bound_once}
 use Rattle.wb_edit.proofs.commands.removed.plan_left.Goals as goal
 
 pub returns-in_err-users : goal.returns-in_err-users
@@ -33,11 +32,10 @@ pub resize_changes-requires-clause-once : goal.resize_changes-requires-clause-on
 resize_changes-requires-clause-once c =
     let s = c.args.book.now.cells in
     let d : Name = c.args.domain in
-    let ns : List Name = names Array (seen s (Uses d)) in
+    let ns : List Name = arrays s d in
     let shown : c.deref-2.result.now ≡ ns = c.deref-2.ensures.value ∙ c.in_ok-names.ensures.same ∙ ap (bound Array) (c.deref.ensures.value ∙ c.in_ok-users.ensures.seen) in
     let cleared : c.deref-3.result.now ≡ zeros ns = c.deref-3.ensures.value ∙ c.in_ok-cleared.ensures.same ∙ ap zeros shown in
-    let once : IsListedOnce (keys_of (zeros ns)) = subst (λ (ks : List Name). IsListedOnce ks) (sym (keys_with (λ a. pos 0) ns)) (bound_once s d Array) in
-    subst (λ (fs : List (Name × ℤ)). IsListedOnce (keys_of fs)) (sym cleared) once
+    subst (λ (fs : List (Name × ℤ)). IsListedOnce (keys_of fs)) (sym cleared) (zeros_once s d)
 
 pub returns : goal.returns
 returns c =

@@ -4,16 +4,17 @@ use Rattle.wb_book.specs.declared.cells.cell.Cell.TheVariants.{Implicit}
 use Rattle.wb_book.specs.declared.cells.kind.DomainKind.{DomainKind}
 use Rattle.wb_book.specs.declared.cells.kind.DomainKind.TheVariants.{Sparse}
 use Rattle.wb_book.specs.Cells.{Name}
+use Rattle.wb_resize.proofs.Fills.{keys-numbered}
 use Rattle.wb_edit.specs.Changed.{items_of}
 use Rattle.wb_edit.specs.Plans.{Looks}
 use Rattle.wb_edit.specs.Resizing.{defaults, number_or_zero, zeros}
-use Rattle.wb_edit.proofs.Fills.{keys_with, keys_by_items, found_implicits}
+use Rattle.wb_edit.proofs.Fills.{keys_by_items, found_implicits}
 use Rattle.wb_edit.proofs.tests.resizing.defaults.Goals as goal
 
 pub returns-in-Rectangular-clause-keys : goal.returns-in-Rectangular-clause-keys
 returns-in-Rectangular-clause-keys c =
     let ns : List Name = c.args.arrays.now in
-    keys_by_items c.zeros.result (zeros ns) ns c.zeros.ensures.same (keys_with (λ a. pos 0) ns)
+    keys_by_items c.zeros.result (zeros ns) ns c.zeros.ensures.same (keys-numbered (λ a. pos 0) ns)
 
 pub returns-in-Sparse-clause-looks : goal.returns-in-Sparse-clause-looks
 returns-in-Sparse-clause-looks c =
@@ -29,9 +30,9 @@ pub returns-in-Sparse-clause-keys : goal.returns-in-Sparse-clause-keys
 returns-in-Sparse-clause-keys c =
     let s = c.args.book.now.cells in
     let ns : List Name = c.args.arrays.now in
-    keys_by_items c.with_implicits.result _ ns c.with_implicits.ensures.values (keys_with (λ a. number_or_zero (get s (Implicit a))) ns)
+    keys_by_items c.with_implicits.result _ ns c.with_implicits.ensures.values (keys-numbered (λ a. number_or_zero (get s (Implicit a))) ns)
 
 pub returns-in-Associative-clause-keys : goal.returns-in-Associative-clause-keys
 returns-in-Associative-clause-keys c =
     let ns : List Name = c.args.arrays.now in
-    keys_by_items c.zeros-in-Associative.result (zeros ns) ns c.zeros-in-Associative.ensures.same (keys_with (λ a. pos 0) ns)
+    keys_by_items c.zeros-in-Associative.result (zeros ns) ns c.zeros-in-Associative.ensures.same (keys-numbered (λ a. pos 0) ns)

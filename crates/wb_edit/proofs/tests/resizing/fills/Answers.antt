@@ -7,13 +7,14 @@ use Rattle.wb_book.specs.declared.cells.value.Binding.{Binding}
 use Rattle.wb_book.specs.declared.cells.value.Binding.TheVariants.{Array}
 use Rattle.wb_book.specs.Cells.{Name}
 use Rattle.wb_book.specs.Readers.{seen}
+use Rattle.wb_resize.proofs.Fills.{arrays}
+use Rattle.wb_resize.proofs.Users.{bound_once}
 use Rattle.wb_edit.specs.Changed.{items_of}
 use Rattle.wb_edit.specs.Plans.{Looks}
 use Rattle.wb_edit.specs.Resizing.{defaults}
 use Rattle.wb_edit.specs.Users.{bound, uses}
 use Rattle.wb_edit.proofs.Fills.{once_by_keys}
 use Rattle.wb_edit.proofs.Trees.{halts, then_looks}
-use Rattle.wb_edit.proofs.Users.{names, bound_once}
 use Rattle.wb_edit.proofs.tests.resizing.fills.Goals as goal
 
 pub returns-in_err-users-clause-looks : goal.returns-in_err-users-clause-looks
@@ -38,6 +39,6 @@ pub returns-clause-once : goal.returns-clause-once
 returns-clause-once c =
     let s = c.args.book.now.cells in
     let d : Name = c.args.domain in
-    let ns : List Name = names Array (seen s (Uses d)) in
+    let ns : List Name = arrays s d in
     let arrays : c.deref-2.result.now ≡ ns = c.deref-2.ensures.value ∙ c.in_ok-names.ensures.same ∙ ap (bound Array) (c.deref.ensures.value ∙ c.in_ok-users.ensures.seen) in
     once_by_keys c.defaults.result c.deref-2.result.now c.defaults.ensures.keys (subst (λ (ks : List Name). IsListedOnce ks) (sym arrays) (bound_once s d Array))
