@@ -250,6 +250,48 @@ const DOMAINS_DROPPED: [(&str, &str); 33] = [
     ),
 ];
 
+// The indices of a sparse domain lie by the mapping of its parent, also after that changes.
+const MAPPED_BY_THE_PARENT: [(&str, &str); 14] = [
+    (
+        "{\"op\":\"domain\",\"d\":\"D\",\"is\":\"{0..5}\",\"map\":\"cyclicDist(0, [2])\"}",
+        "{\"edit\":1,\"n\":3}\n",
+    ),
+    (
+        "{\"op\":\"sparse\",\"d\":\"S\",\"of\":\"D\"}",
+        "{\"edit\":2,\"n\":2}\n",
+    ),
+    (
+        "{\"op\":\"add\",\"d\":\"S\",\"i\":3}",
+        "{\"edit\":3,\"n\":1}\n",
+    ),
+    (
+        "{\"op\":\"add\",\"d\":\"S\",\"i\":4}",
+        "{\"edit\":4,\"n\":1}\n",
+    ),
+    ("{\"op\":\"where\",\"d\":\"S\",\"i\":3}", "{\"locale\":1}\n"),
+    ("{\"op\":\"where\",\"d\":\"S\",\"i\":4}", "{\"locale\":0}\n"),
+    (
+        "{\"op\":\"where\",\"d\":\"S\",\"i\":5}",
+        "{\"error\":\"E06\",\"name\":\"out-of-domain\"}\n",
+    ),
+    (
+        "{\"op\":\"remap\",\"d\":\"D\",\"map\":\"blockDist({0..5}, [2])\"}",
+        "{\"edit\":5,\"n\":1}\n",
+    ),
+    ("{\"op\":\"where\",\"d\":\"S\",\"i\":3}", "{\"locale\":1}\n"),
+    ("{\"op\":\"where\",\"d\":\"S\",\"i\":4}", "{\"locale\":1}\n"),
+    ("{\"op\":\"undo\",\"k\":5}", "{\"n\":1,\"undone\":5}\n"),
+    ("{\"op\":\"where\",\"d\":\"S\",\"i\":4}", "{\"locale\":0}\n"),
+    (
+        "{\"op\":\"remap\",\"d\":\"S\",\"map\":\"none\"}",
+        "{\"error\":\"E05\",\"name\":\"wrong-kind\"}\n",
+    ),
+    (
+        "{\"op\":\"remap\",\"d\":\"D\",\"map\":\"cyclicDist((1, 1), [2, 2])\"}",
+        "{\"error\":\"E15\",\"name\":\"bad-mapping\"}\n",
+    ),
+];
+
 #[test]
 fn adding_twice(rt: HostRuntime) -> Result<(), Fail> {
     all_answers(&rt, rt.alloc(), &[], &[(&ADDING_TWICE, 4, 3)])
@@ -268,4 +310,9 @@ fn indices_removed(rt: HostRuntime) -> Result<(), Fail> {
 #[test]
 fn domains_dropped(rt: HostRuntime) -> Result<(), Fail> {
     all_answers(&rt, rt.alloc(), &[], &[(&DOMAINS_DROPPED, 13, 61)])
+}
+
+#[test]
+fn mapped_by_the_parent(rt: HostRuntime) -> Result<(), Fail> {
+    all_answers(&rt, rt.alloc(), &[], &[(&MAPPED_BY_THE_PARENT, 5, 9)])
 }
