@@ -10,3 +10,5 @@ mod lists;
 mod literals;
 mod mappings;
 mod objects;
+#[cfg(test)]
+mod tests;

@@ -35,8 +35,8 @@ pub(crate) fn push_rectangle(out: &mut String, ranges: &[Range]) -> Result<(), A
     out.push_str("}")
 }
 
-#[tactic(auto, unfolding(crate::specs::Literals::point_text))]
 /// The text of an index by its coordinates: an integer alone, or several in parentheses.
+#[tactic(auto, unfolding(crate::specs::Literals::point_text))]
 pub(crate) fn push_point(out: &mut String, coordinates: &[i64]) -> Result<(), AllocError>
     ensures { OnOk result (string_bytes out.new ≡ string_bytes out.old ++ point_text coordinates.now) }
 {
