@@ -11,9 +11,8 @@ mod members;
 use super::*;
 use std::alloc::Global;
 use std::test::Fail;
-use wb_assoc::Label;
 use wb_book::{
-    AnyIndex, AnyLayout, AnyRect, Book, Cell, CellChange, Delta, Index, Name, Pattern, Point, Value,
+    AnyIndex, AnyLayout, AnyRect, Book, Cell, Delta, Index, Name, Pattern, Point, Value,
 };
 use wb_range::Range;
 
@@ -186,112 +185,6 @@ fn refusals_of_a_new_domain_or_array(rt: HostRuntime) -> Result<(), Fail> {
             &[Cell::Object(other), Cell::Object(array)]
         )
     );
-    Ok(())
-}
-
-#[test]
-fn refusals_of_a_new_element(rt: HostRuntime) -> Result<(), Fail> {
-    let alloc = rt.alloc();
-    let book = small_book(alloc).ok_or("a book")?;
-    let domain = name("D").ok_or("a name")?;
-    let array = name("A").ok_or("a name")?;
-    let absent = name("X").ok_or("a name")?;
-    let pair = AnyIndex::new(Index::Point(Point::pair(1, 2)));
-    let text = AnyIndex::new(Index::Text(Label::new("a")?));
-    let wrong = Refusal::WrongKind;
-    let refused = |array, index, why, cells: &[Cell]| {
-        is_refused(alloc, &book, &Edit::Set(array, index, 9), why, cells)
-    };
-    assert!(rt; refused(absent, at(4), Refusal::NoSuchName, &[Cell::Object(absent)]));
-    assert!(rt; refused(domain, at(4), wrong, &[Cell::Object(domain)]));
-    assert!(rt; refused(array, pair, wrong, &[Cell::Object(array)]));
-    assert!(rt; refused(array, text, wrong, &[Cell::Object(array)]));
-    for i in [0, 5] {
-        assert!(rt;
-            refused(
-                array,
-                at(i),
-                Refusal::OutOfDomain,
-                &[Cell::Object(array), Cell::Element(array, at(i))]
-            ),
-            "at {i}"
-        );
-    }
-    Ok(())
-}
-
-// Whether just these cells change, in this order.
-fn cells_are(changes: &[CellChange], cells: &[Cell]) -> bool {
-    for k in 0..cells.len() {
-        if k >= changes.len() || changes[k].cell() != cells[k] {
-            return false;
-        }
-    }
-    changes.len() == cells.len()
-}
-
-#[test]
-fn cells_of_a_domain_and_its_array(rt: HostRuntime) -> Result<(), Fail> {
-    let alloc = rt.alloc();
-    let mut book = Book::new(alloc);
-    let domain = name("a2345678901234567890123456789012").ok_or("a name")?;
-    let array = name("A").ok_or("a name")?;
-    let edit = Edit::Domain(
-        domain,
-        interval(-1, 0).ok_or("a rectangle")?,
-        AnyLayout::whole(),
-    );
-    let Ok((delta, _, _)) = planned(alloc, &book, &edit) else {
-        return Err(Fail::new("a domain"));
-    };
-    assert!(rt;
-        cells_are(
-            delta.changes(),
-            &[
-                Cell::Object(domain),
-                Cell::Shape(domain),
-                Cell::Mapping(domain),
-                Cell::In(domain, at(-1)),
-                Cell::In(domain, at(0))
-            ]
-        )
-    );
-    made(alloc, &mut book, edit).ok_or("a domain")?;
-    let Ok((delta, _, _)) = planned(alloc, &book, &Edit::Array(array, domain)) else {
-        return Err(Fail::new("an array"));
-    };
-    assert!(rt;
-        cells_are(
-            delta.changes(),
-            &[
-                Cell::Object(array),
-                Cell::Use(domain, array),
-                Cell::Implicit(array),
-                Cell::Element(array, at(-1)),
-                Cell::Element(array, at(0))
-            ]
-        )
-    );
-    Ok(())
-}
-
-#[test]
-fn empty_domains(rt: HostRuntime) -> Result<(), Fail> {
-    let alloc = rt.alloc();
-    let mut book = Book::new(alloc);
-    let domain = name("D").ok_or("a name")?;
-    let array = name("A").ok_or("a name")?;
-    let ranges = interval(5, 4).ok_or("a rectangle")?;
-    let (_, count) = made(
-        alloc,
-        &mut book,
-        Edit::Domain(domain, ranges, AnyLayout::whole()),
-    )
-    .ok_or("a domain")?;
-    assert_eq!(rt; count, 3);
-    let (_, count) = made(alloc, &mut book, Edit::Array(array, domain)).ok_or("an array")?;
-    assert_eq!(rt; count, 3);
-    assert_eq!(rt; book.writes(), 6);
     Ok(())
 }
 

@@ -1,7 +1,6 @@
 //! Indices that are added to sparse and associative domains, and removed.
 
 use super::*;
-use wb_book::KeyType;
 
 // The domain of a name {1..10}, with a sparse one in it.
 fn nested_domains(alloc: Global, domain: Name, inner: Name) -> Option<Book> {
@@ -75,27 +74,6 @@ fn sparse_with_an_implicit_value(rt: HostRuntime) -> Result<(), Fail> {
     let (foot, count) = removed(alloc, &mut book, inner, at(3)).ok_or("again")?;
     assert_eq!(rt; count, 0);
     assert!(rt; reads_are(&foot, &seen));
-    Ok(())
-}
-
-fn texts(alloc: Global, set: Name) -> Option<Book> {
-    let mut book = Book::new(alloc);
-    made(alloc, &mut book, Edit::Assoc(set, KeyType::Text))?;
-    Some(book)
-}
-
-#[test]
-fn adding_twice(rt: HostRuntime) -> Result<(), Fail> {
-    let alloc = rt.alloc();
-    let set = name("N").ok_or("a name")?;
-    let mut book = texts(alloc, set).ok_or("a set")?;
-    let text = AnyIndex::new(Index::Text(Label::new("x")?));
-    let (_, count) = added(alloc, &mut book, set, text).ok_or("an index")?;
-    assert_eq!(rt; count, 1);
-    let (_, count) = added(alloc, &mut book, set, text).ok_or("again")?;
-    assert_eq!(rt; count, 0);
-    let wrong = Refusal::WrongKind;
-    assert!(rt; not_added(&book, alloc, set, at(1), wrong, &[Cell::Object(set)]));
     Ok(())
 }
 

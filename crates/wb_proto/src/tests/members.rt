@@ -1,6 +1,6 @@
 //! Worked histories of domains that gain and lose indices one by one, and that end, by their request lines.
 
-use super::all_answers;
+use super::{Rows, all_answers};
 use std::test::Fail;
 
 // Adding an index that is there reads it, so the first addition cannot be undone under the second.
@@ -293,26 +293,13 @@ const MAPPED_BY_THE_PARENT: [(&str, &str); 14] = [
 ];
 
 #[test]
-fn adding_twice(rt: HostRuntime) -> Result<(), Fail> {
-    all_answers(&rt, rt.alloc(), &[], &[(&ADDING_TWICE, 4, 3)])
-}
-
-#[test]
-fn sparse_with_an_implicit_value(rt: HostRuntime) -> Result<(), Fail> {
-    all_answers(&rt, rt.alloc(), &[], &[(&IMPLICIT_VALUE, 7, 25)])
-}
-
-#[test]
-fn indices_removed(rt: HostRuntime) -> Result<(), Fail> {
-    all_answers(&rt, rt.alloc(), &[], &[(&INDEX_REMOVED, 7, 15)])
-}
-
-#[test]
-fn domains_dropped(rt: HostRuntime) -> Result<(), Fail> {
-    all_answers(&rt, rt.alloc(), &[], &[(&DOMAINS_DROPPED, 13, 61)])
-}
-
-#[test]
-fn mapped_by_the_parent(rt: HostRuntime) -> Result<(), Fail> {
-    all_answers(&rt, rt.alloc(), &[], &[(&MAPPED_BY_THE_PARENT, 5, 9)])
+fn members_of_domains(rt: HostRuntime) -> Result<(), Fail> {
+    let tables: [(Rows, u64, u128); 5] = [
+        (&ADDING_TWICE, 4, 3),
+        (&IMPLICIT_VALUE, 7, 25),
+        (&INDEX_REMOVED, 7, 15),
+        (&DOMAINS_DROPPED, 13, 61),
+        (&MAPPED_BY_THE_PARENT, 5, 9),
+    ];
+    all_answers(&rt, rt.alloc(), &[], &tables)
 }
