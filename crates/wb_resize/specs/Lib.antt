@@ -4,3 +4,4 @@ pub mod Users
 pub mod Fills
 pub mod Dropped
 pub mod Laws
+pub mod Sources

@@ -7,6 +7,8 @@
 
 mod given;
 pub mod laws;
+pub mod new_rectangles;
+pub mod set_operations;
 mod source;
 
 pub use crate::given::Given;
