@@ -19,6 +19,7 @@ fn is_in(set: &Assoc<AnyIndex>, index: &AnyIndex) -> bool
     set.contains(*index)
 }
 
+// Those of `listed` that are not in a set.
 fn kept_outside(
     alloc: Global,
     set: &Assoc<AnyIndex>,
@@ -37,6 +38,7 @@ fn kept_outside(
         .collect(alloc)
 }
 
+// Those of `listed` that are in a set.
 fn kept_inside(
     alloc: Global,
     set: &Assoc<AnyIndex>,
