@@ -1,5 +1,7 @@
 -- What two sets of indices make: each index once, and what holds of each index of both.
-use Rattle.std.proofs.Common.{◌≡◌, ◌⊎◌, inl, inr, ℕ, zero, suc, Bool, true, false, cond, not, ◌&&◌, List, [], ◌∷◌, ◌++◌, Some, slice_get, refl, sym, ap, ◌∙◌, arith}
+use Rattle.std.proofs.Common.{◌≡◌, ◌⊎◌, inl, inr, ℕ, zero, suc, Bool, true, false, cond, not, ◌&&◌, ◌||◌, List, [], ◌∷◌, ◌++◌, Some, slice_get, refl, sym, ap, ◌∙◌, arith}
+use Rattle.std.proofs.lemmas.Map.Views.{any-filter_same}
+use Rattle.std.proofs.lemmas.List.Folds.{list_any-append}
 use Rattle.std.proofs.lemmas.Map.Keys.{any_passes_from_place}
 use Rattle.std.specs.Cmp.{eq_by_cmp_equiv}
 use Rattle.std.specs.List.{AllByRecursion, filter}
@@ -10,8 +12,9 @@ use Rattle.wb_book.specs.WellFormed.{has}
 use Rattle.wb_resize.specs.declared.source.SetOperation.{SetOperation}
 use Rattle.wb_resize.specs.declared.source.SetOperation.TheVariants.{Union, Intersection, Difference, SymmetricDifference}
 use Rattle.wb_resize.specs.Resized.{without}
-use Rattle.wb_resize.specs.Sources.{among, combined}
+use Rattle.wb_resize.specs.Sources.{among, combined, keeps}
 use Rattle.wb_resize.proofs.Members.{index_total}
+use Rattle.wb_resize.proofs.States.{same_index}
 use Rattle.wb_resize.proofs.Without.{has-without, IsListedOnce-filter, IsListedOnce-without, without-apart}
 
 -- ---- each once
@@ -76,6 +79,31 @@ IsListedOnce-combined Intersection given old g o = IsListedOnce-filter (has give
 IsListedOnce-combined Difference given old g o = IsListedOnce-without given old o
 IsListedOnce-combined SymmetricDifference given old g o =
     apart_once (without given old) (without old given) (IsListedOnce-without given old o) (IsListedOnce-without old given g) (without-apart old given)
+
+-- ---- exactly those that the operation keeps
+
+has_either : (xs ys : List Index) (i : Index) → has (xs ++ ys) i ≡ (has xs i || has ys i)
+has_either xs ys i = list_any-append (is_same_index i) xs ys
+
+-- those of xs that are among ys
+pub has-among : (ys xs : List Index) (i : Index) → has (among ys xs) i ≡ (has ys i && has xs i)
+has-among ys xs i = any-filter_same (is_same_index i) (has ys) (has ys i) (λ j same. ap (has ys) (sym (same_index i j same))) xs
+
+old_or_new : (given old : Bool) → (old || (given && not old)) ≡ (given || old)
+old_or_new true true = refl
+old_or_new true false = refl
+old_or_new false true = refl
+old_or_new false false = refl
+
+pub has-combined : (how : SetOperation) (given old : List Index) (i : Index) → has (combined how given old) i ≡ keeps how (has given i) (has old i)
+has-combined Union given old i =
+    has_either old (without old given) i ∙ ap (λ b. has old i || b) (has-without old given i) ∙ old_or_new (has given i) (has old i)
+has-combined Intersection given old i = has-among given old i
+has-combined Difference given old i = has-without given old i
+has-combined SymmetricDifference given old i =
+    has_either (without given old) (without old given) i
+    ∙ ap (λ b. b || has (without old given) i) (has-without given old i)
+    ∙ ap (λ b. (has old i && not (has given i)) || b) (has-without old given i)
 
 -- ---- what holds of each
 

@@ -1,5 +1,5 @@
 -- Which indices and ranges the sources of a domain's new value make (Chapel Language Specification, Domains).
-use Rattle.std.specs.Prelude.{Bool, true, false, ℤ, List, [], ◌∷◌, ◌++◌}
+use Rattle.std.specs.Prelude.{Bool, true, false, not, ◌&&◌, ◌||◌, ℤ, List, [], ◌∷◌, ◌++◌}
 use Rattle.std.specs.List.{filter}
 use Rattle.std.specs.declared.cmp.Ordering.{Ordering}
 use Rattle.std.specs.declared.cmp.Ordering.TheVariants.{Less, Equal, Greater}
@@ -25,6 +25,13 @@ combined Union given old = old ++ without old given
 combined Intersection given old = among given old
 combined Difference given old = without given old
 combined SymmetricDifference given old = without given old ++ without old given
+
+-- whether a set operation keeps an index, by whether the given ones and the old ones have it
+abbrev pub keeps : SetOperation → (given old : Bool) → Bool
+keeps Union given old = given || old
+keeps Intersection given old = given && old
+keeps Difference given old = old && not given
+keeps SymmetricDifference given old = (old && not given) || (given && not old)
 
 -- ranges, displaced by the offset at each place (Chapel Language Specification, Domains: translate, expand)
 abbrev pub displaced : Displacement → (offsets : List ℤ) → List Range → List Range
