@@ -4,6 +4,9 @@ pub mod Sorted
 pub mod Seen
 pub mod Users
 pub mod Without
+pub mod Members
+pub mod Ascending
+pub mod Sources
 pub mod Fills
 pub mod Exchanged
 pub mod Resized

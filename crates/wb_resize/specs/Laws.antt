@@ -1,8 +1,10 @@
--- What holds of every change of a domain's indices, and of its end.
+-- What holds of every change of a domain's indices, of its end, and of what two sets make.
 use Rattle.std.specs.Prelude.{◌≡◌, ℕ, ℤ, true, List, ◌∷◌, Some, None, FitsSigned}
 use Rattle.std.specs.Int.{w64}
 use Rattle.std.specs.List.{Contains, list_any}
+use Rattle.std.specs.List.Sorted.{IsStrictlySortedBy}
 use Rattle.std.specs.FinMap.{get}
+use Rattle.wb_range.specs.Domain.{IsListedOnce}
 use Rattle.selective_undo.specs.Changes.{apply}
 use Rattle.wb_book.specs.declared.cells.cell.Cell.TheVariants.{Shape, Member, Use}
 use Rattle.wb_book.specs.declared.cells.kind.DomainKind.TheVariants.{Rectangular, Sparse, Associative}
@@ -11,13 +13,15 @@ use Rattle.wb_book.specs.declared.cells.kind.Kind.TheVariants.{Rectangular as Ov
 use Rattle.wb_book.specs.declared.cells.value.Binding.TheVariants.{Array as BoundArray, Sparse as BoundSparse}
 use Rattle.wb_book.specs.declared.cells.value.Value.TheVariants.{Ranges, Present, Bound}
 use Rattle.wb_book.specs.declared.values.index.Index.{Index}
-use Rattle.wb_book.specs.Cells.{Name, Cells, is_same_name}
+use Rattle.wb_book.specs.Cells.{Name, Cells, index_cmp, is_same_name}
 use Rattle.wb_book.specs.Kinds.{kind_of}
 use Rattle.wb_book.specs.Shapes.{Range, indices}
 use Rattle.wb_book.specs.WellFormed.{IsWellFormed, IsRectangle, MayHave, domain_at, has, index_cell}
+use Rattle.wb_resize.specs.declared.source.SetOperation.{SetOperation}
 use Rattle.wb_resize.specs.Writes.{put}
 use Rattle.wb_resize.specs.Resized.{without, resized_cells}
 use Rattle.wb_resize.specs.Dropped.{ended_cells}
+use Rattle.wb_resize.specs.Sources.{combined, keeps, ascending}
 
 -- the arrays over a domain, all of them and no others, each with a number of 64 bits
 pub record AreFills (s : Cells) (d : Name) (fills : List (Name × ℤ)) : Type 0 where
@@ -58,3 +62,13 @@ KeepsEnds =
     → IsWellFormed s → domain_at s d ≡ Some kind → ((n : Name) → get s (Use d n) ≡ None)
     → ((i : Index) → get s (index_cell (kind_of kind) d i) ≡ Some Present → has is i ≡ true)
     → IsWellFormed (apply (ended_cells d kind is) s)
+
+-- What two sets make has each index once, and exactly those that the operation keeps.
+abbrev pub CombinesSets : Type 0
+CombinesSets =
+    (how : SetOperation) (given old : List Index) → IsListedOnce given → IsListedOnce old
+    → IsListedOnce (combined how given old) × ((i : Index) → has (combined how given old) i ≡ keeps how (has given i) (has old i))
+
+-- Indices in ascending order are strictly ascending, and the same ones.
+abbrev pub SortsIndices : Type 0
+SortsIndices = (is : List Index) → IsStrictlySortedBy index_cmp (ascending is) × ((i : Index) → has (ascending is) i ≡ has is i)

@@ -1,6 +1,6 @@
-//! What holds of every change of a domain's indices, and of its end: each law is the contract of a function that does nothing.
+//! What holds of every change of a domain's indices, of its end, and of what two sets make: each law is the contract of a function that does nothing.
 
-ghost use Rattle.wb_resize.specs.Laws.{KeepsRectangles, KeepsSets, KeepsEnds};
+ghost use Rattle.wb_resize.specs.Laws.{KeepsRectangles, KeepsSets, KeepsEnds, CombinesSets, SortsIndices};
 
 /// New ranges of a rectangular domain leave a well-formed workbook well formed, where no sparse domain in it has an index
 /// outside them, and each array over the domain gets a number of 64 bits as its new elements.
@@ -18,4 +18,14 @@ pub fn keeps_sets()
 /// has is among those that go with it.
 pub fn keeps_ends()
     ensures { KeepsEnds }
+{}
+
+/// What two sets make has each index once, and exactly those that the operation keeps.
+pub fn combines_sets()
+    ensures { CombinesSets }
+{}
+
+/// Indices in ascending order are strictly ascending, and the same ones.
+pub fn sorts_indices()
+    ensures { SortsIndices }
 {}
