@@ -1,5 +1,5 @@
 -- How many of some changes are counted, one change at a time.
-use Rattle.std.proofs.Common.{◌≡◌, ℕ, suc, ◌+◌, ◌<◌, Bool, true, false, cond, [], ◌∷◌, length, get_or, drop, drop-cons, add-one, refl, sym, ap, ◌∙◌, arith}
+use Rattle.std.proofs.Common.{◌≡◌, ℕ, suc, ◌+◌, ◌<◌, true, false, cond, [], ◌∷◌, length, get_or, drop, drop-cons, add-one, ap, ◌∙◌, arith}
 use Rattle.std.specs.List.{filter}
 use Rattle.selective_undo.specs.declared.Change.{Change}
 use Rattle.wb_book.specs.declared.cells.cell.Cell.{Cell}

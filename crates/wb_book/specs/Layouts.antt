@@ -1,6 +1,6 @@
 -- Mappings of the workbook's rectangular domains: for which rank, and on which locale an index lies
 -- (Chapel Language Specification, Domain Maps).
-use Rattle.std.specs.Prelude.{◌≡◌, ℕ, ◌==◌, nat_eq, Bool, true, List, length, Option, Some, None, ⊤, refl, if◌then◌else◌}
+use Rattle.std.specs.Prelude.{◌≡◌, ℕ, ◌==◌, nat_eq, Bool, true, length, Option, Some, None, ⊤, refl, if◌then◌else◌}
 use Rattle.wb_rect.specs.Product.{IsRectangle}
 use Rattle.wb_dist.specs.Maps.{LayoutMap, whole, block, cyclic, block_cyclic, is_layout, locale_of}
 use Rattle.wb_book.specs.declared.values.index.Index.{Index}

@@ -130,6 +130,7 @@ fn an_empty_book(rt: HostRuntime) -> Result<(), Fail> {
     assert_eq!(rt; book.user(&name, 0), None);
     assert_eq!(rt; book.size(&name), None);
     assert_eq!(rt; book.index(&name, 0), None);
+    assert_eq!(rt; book.locale_count(&name), None);
     assert!(rt; book.get(&Cell::Object(name)).is_none());
     match book.apply(Delta::new(rt.alloc())) {
         Ok(inverse) => {

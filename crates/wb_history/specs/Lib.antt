@@ -2,4 +2,5 @@ pub mod Past
 pub mod Replies
 pub mod Kept
 pub mod Locales
+pub mod Pieces
 pub mod Queries

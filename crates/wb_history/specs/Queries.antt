@@ -1,5 +1,5 @@
 -- What queries are answered, from the cells of the workbook and the history.
-use Rattle.std.specs.Prelude.{Bool, ℕ, ℤ, List, Option, Some, None, Result, Ok, Err, unwrap_or, length}
+use Rattle.std.specs.Prelude.{◌≡◌, Bool, ℕ, ℤ, List, Option, Some, None, Result, Ok, Err, unwrap_or, length}
 use Rattle.std.specs.FinMap.{get}
 use Rattle.wb_book.specs.declared.cells.cell.Cell.TheVariants.{Object, In, Implicit, Element}
 use Rattle.wb_book.specs.declared.cells.kind.DomainKind.{DomainKind}
@@ -17,10 +17,11 @@ use Rattle.wb_edit.specs.Tests.{domain_kind, array_kind, is_there, fits}
 use Rattle.wb_history.specs.declared.query.Answer.{Answer}
 use Rattle.wb_history.specs.declared.query.Answer.TheVariants.{Value as ValueIs, Size as SizeIs, InForce}
 use Rattle.wb_history.specs.declared.query.Query.{Query}
-use Rattle.wb_history.specs.declared.query.Query.TheVariants.{Get, Size, Where, State}
+use Rattle.wb_history.specs.declared.query.Query.TheVariants.{Get, Size, Where, Piece, State}
 use Rattle.wb_history.specs.declared.refusal.Refusal.{Refusal}
 use Rattle.wb_history.specs.declared.refusal.Refusal.TheVariants.{Refused, NoSuchEdit}
 use Rattle.wb_history.specs.Locales.{where_answer, locale_answer}
+use Rattle.wb_history.specs.Pieces.{piece_of, piece_answer, OrNoMemory}
 use Rattle.wb_history.specs.Past.{Numbered, force_of}
 
 -- the implicit value of an array
@@ -87,4 +88,13 @@ abbrev pub answer : Cells → List Numbered → Query → Result Answer Refusal
 answer s es (Get a i) = value_answer (get_answer s a i)
 answer s es (Size d) = count_answer (size_answer s d)
 answer s es (Where d i) = locale_answer (where_answer s d i)
+answer s es (Piece a l) = piece_answer (piece_of s a l)
 answer s es (State k) = force_answer (force_of es k)
+
+-- A query is answered so; memory may run out where the answer is a list, and nowhere else.
+abbrev pub QueryReply : Cells → List Numbered → Query → Result Answer Refusal → Type 0
+QueryReply s es (Get a i) r = r ≡ answer s es (Get a i)
+QueryReply s es (Size d) r = r ≡ answer s es (Size d)
+QueryReply s es (Where d i) r = r ≡ answer s es (Where d i)
+QueryReply s es (Piece a l) r = OrNoMemory (answer s es (Piece a l)) r
+QueryReply s es (State k) r = r ≡ answer s es (State k)

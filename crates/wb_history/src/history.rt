@@ -4,10 +4,11 @@ ghost use Rattle.wb_book.specs.Cells.{written_more};
 ghost use Rattle.wb_edit.specs.Commands.{meaning};
 ghost use Rattle.wb_history.specs.Past.{meant, out_of_force, into_force, force_of};
 ghost use Rattle.wb_history.specs.Replies.{EditReply, UndoReply, LastReply, RedoReply, ByNumber, SetsBack, Restores, RedoesInPlace};
-ghost use Rattle.wb_history.specs.Queries.{answer};
+ghost use Rattle.wb_history.specs.Queries.{QueryReply};
 
 use crate::entry::Entry;
 use crate::locale::{locale_answer, locale_of};
+use crate::piece::piece_answer;
 use crate::query::{Answer, Query, count_answer, element_of, force_answer, size_of, value_answer};
 use crate::refusal::Refusal;
 use crate::steps;
@@ -135,9 +136,9 @@ impl History {
         Some(self.entries[at].kept.is_some())
     }
 
-    /// What a query is answered, from the workbook as it is. It takes no memory.
+    /// What a query is answered, from the workbook as it is; `NoMemory` may stand for a piece, and for nothing else.
     pub fn query(&self, query: &Query) -> Result<Answer, Refusal>
-        ensures { result ≡ answer (replay (meant self.now.entries)) self.now.entries query.now }
+        ensures { QueryReply (replay (meant self.now.entries)) self.now.entries query.now result }
     {
         match query {
             Query::Get(array, index) => value_answer(element_of(self.book(), *array, *index)),
@@ -145,6 +146,7 @@ impl History {
             Query::Where(domain, index) => {
                 locale_answer(locale_of(self.book(), *domain, *index))
             }
+            Query::Piece(array, locale) => piece_answer(self.book(), *array, *locale),
             Query::State(number) => force_answer(self.in_force(*number)),
         }
     }

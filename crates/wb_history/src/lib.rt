@@ -6,11 +6,13 @@ mod entry;
 mod history;
 pub mod laws;
 mod locale;
+mod piece;
 mod query;
 mod refusal;
 mod steps;
 
 pub use crate::history::History;
+pub use crate::piece::Piece;
 pub use crate::query::{Answer, Query};
 pub use crate::refusal::Refusal;
 

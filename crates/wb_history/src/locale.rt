@@ -9,8 +9,8 @@ use crate::refusal::Refusal;
 use wb_book::{AnyDomain, AnyIndex, Book, Cell, DomainKind, Name};
 use wb_edit::judgements;
 
-// The domain by whose mapping the indices of a domain lie: a sparse one goes by its parent's.
-fn mapped_by(domain: Name, kind: &AnyDomain) -> Name
+/// The domain by whose mapping the indices of a domain lie: a sparse one goes by its parent's.
+pub(crate) fn mapped_by(domain: Name, kind: &AnyDomain) -> Name
     ensures { result ≡ mapped_by domain kind.now }
 {
     match kind.domain_kind() {

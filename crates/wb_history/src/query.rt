@@ -1,6 +1,7 @@
 ghost use Rattle.std.specs.Prelude.{◌≡◌, None};
 ghost use Rattle.wb_history.specs.Queries.{element_or_implicit, get_answer, value_answer, size_in, size_answer, count_answer, force_answer};
 
+use crate::piece::Piece;
 use crate::refusal::Refusal;
 use wb_book::{AnyDomain, AnyIndex, Book, Cell, DomainKind, Kind, Name};
 use wb_edit::{has_implicit, judgements, number_in, parent_in};
@@ -14,12 +15,14 @@ pub enum Query {
     Size(Name),
     /// On which locale an index of a domain lies.
     Where(Name, AnyIndex),
+    /// The elements of an array on a locale, numbered from 0.
+    Piece(Name, u64),
     /// Whether the edit of a number is in force.
     State(u64),
 }
 
 /// What a query is answered.
-#[derive(Clone, Copy, Debug, PartialEq, Eq)]
+#[derive(Debug, Drop)]
 pub enum Answer {
     /// An element.
     Value(i64),
@@ -27,6 +30,8 @@ pub enum Answer {
     Size(usize),
     /// A locale.
     Locale(usize),
+    /// The elements on a locale.
+    Piece(Piece),
     /// Whether an edit is in force.
     InForce(bool),
 }

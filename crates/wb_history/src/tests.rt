@@ -1,7 +1,7 @@
 //! A worked history by its own calls; further ones are told by request lines, in `wb_proto`. Where a growth is refused, a
 //! step is compared with the state before it and made again.
 
-use crate::{Answer, History, Query, Refusal};
+use crate::{Answer, History, Piece, Query, Refusal};
 use std::alloc::Global;
 use std::process::Abort;
 use std::test::Fail;
@@ -35,8 +35,24 @@ fn set(name: &str, i: i64, value: i64) -> Result<Edit, Fail> {
     Ok(Edit::Set(Name::new(name)?, at(i), value))
 }
 
-fn element(history: &History, name: &str, i: i64) -> Result<Result<Answer, Refusal>, Fail> {
-    Ok(history.query(&Query::Get(Name::new(name)?, at(i))))
+fn element(history: &History, name: &str, i: i64) -> Result<Option<i64>, Fail> {
+    match history.query(&Query::Get(Name::new(name)?, at(i)))? {
+        Answer::Value(value) => Ok(Some(value)),
+        Answer::Size(_) | Answer::Locale(_) | Answer::Piece(_) | Answer::InForce(_) => Ok(None),
+    }
+}
+
+// The elements on a locale. Where memory runs out, the query is made again.
+fn piece(history: &History, name: &str, locale: u64) -> Result<Option<Piece>, Fail> {
+    let query = Query::Piece(Name::new(name)?, locale);
+    let answer = match history.query(&query) {
+        Err(Refusal::NoMemory) => history.query(&query)?,
+        other => other?,
+    };
+    match answer {
+        Answer::Piece(piece) => Ok(Some(piece)),
+        Answer::Size(_) | Answer::Locale(_) | Answer::Value(_) | Answer::InForce(_) => Ok(None),
+    }
 }
 
 fn edit(
@@ -118,15 +134,31 @@ fn first_run(rt: HostRuntime) -> Result<(), Fail> {
         (3, 1)
     );
     assert_eq!(rt; history.book().writes(), 11);
-    assert_eq!(rt; element(&history, "A", 4)?, Ok(Answer::Value(9)));
+    assert_eq!(rt; element(&history, "A", 4)?, Some(9));
     assert_eq!(rt; history.undo_last(), Ok((3, 1)));
     assert_eq!(rt; history.book().writes(), 12);
-    assert_eq!(rt; element(&history, "A", 4)?, Ok(Answer::Value(0)));
+    assert_eq!(rt; element(&history, "A", 4)?, Some(0));
     assert_eq!(rt; redo(&rt, &mut history, 3)?, 1);
     assert_eq!(rt; history.in_force(3), Some(true));
     assert_eq!(rt; undo(&rt, &mut history, 3)?, 1);
     assert_eq!(rt; history.in_force(3), Some(false));
     assert_eq!(rt; history.len(), 3);
+    Ok(())
+}
+
+#[test]
+fn the_piece_of_an_array(rt: HostRuntime) -> Result<(), Fail> {
+    let mut history = History::new(rt.alloc());
+    edit(&rt, rt.alloc(), &mut history, domain("D", 1, 2)?)?;
+    edit(&rt, rt.alloc(), &mut history, array("A", "D")?)?;
+    edit(&rt, rt.alloc(), &mut history, set("A", 2, 5)?)?;
+    let found = piece(&history, "A", 0)?.ok_or("a piece")?;
+    assert_eq!(rt; found.pairs(), [(at(1), 0), (at(2), 5)].as_slice());
+    let copied = match found.copy(rt.alloc()) {
+        Ok(copied) => copied,
+        Err(_) => found.copy(rt.alloc())?,
+    };
+    assert_eq!(rt; copied.pairs(), found.pairs());
     Ok(())
 }
 

@@ -2,7 +2,7 @@ ghost use Rattle.std.specs.Prelude.{◌≡◌, ℕ, ◌+◌, ◌-◌, ◌^◌, L
 ghost use Rattle.std.specs.FinMap as map;
 ghost use Rattle.selective_undo.specs.Changes.{apply, inverse};
 ghost use Rattle.wb_book.specs.Cells.{written_more, count_of};
-ghost use Rattle.wb_book.specs.Locales.{locale_at};
+ghost use Rattle.wb_book.specs.Locales.{locale_at, locale_count_at};
 ghost use Rattle.wb_book.specs.declared.cells.pattern.Pattern.TheVariants.{Members};
 ghost use Rattle.wb_book.specs.Readers.{seen, elements, objects, users, size_at, index_at};
 ghost use Rattle.wb_book.specs.WellFormed.{IsWellFormed};
@@ -130,6 +130,14 @@ impl Book {
         ensures { result ≡ locale_at self.now.cells domain.now index.now }
     {
         locales::locale_at(&self.cells, *domain, index)
+    }
+
+    /// How many locales the mapping of the domain of a name has; `None` where there is no such rectangular domain
+    /// (Chapel Language Specification, Domain Maps).
+    pub fn locale_count(&self, domain: &Name) -> Option<usize>
+        ensures { result ≡ locale_count_at self.now.cells domain.now }
+    {
+        locales::locale_count_at(&self.cells, *domain)
     }
 
     /// How many cells were set so far by `apply` and `revert`, up to the type's greatest value; the cells `In` are not

@@ -3,7 +3,7 @@
 ghost use Rattle.std.specs.Prelude.{◌≡◌};
 ghost use Rattle.std.specs.FinMap as map;
 ghost use Rattle.wb_book.specs.Cells.{state_of};
-ghost use Rattle.wb_book.specs.Locales.{mapping_in, locale_at};
+ghost use Rattle.wb_book.specs.Locales.{mapping_in, locale_at, locale_count_at};
 ghost use Rattle.wb_book.specs.declared.cells.cell.Cell.TheVariants.{Mapping};
 
 use crate::book::store::look;
@@ -38,4 +38,12 @@ pub(crate) fn locale_at(
 {
     let mapping = mapping_at(cells, domain)?;
     mapping.locale_of(index)
+}
+
+/// How many locales the mapping of the domain of a name has.
+pub(crate) fn locale_count_at(cells: &BTreeMap<Cell, Value>, domain: Name) -> Option<usize>
+    ensures { result ≡ locale_count_at (state_of cells.now) domain }
+{
+    let mapping = mapping_at(cells, domain)?;
+    Some(mapping.locale_count())
 }

@@ -1,6 +1,6 @@
-ghost use Rattle.std.specs.Prelude.{◌≡◌, ◌≤◌, true, false};
-ghost use Rattle.wb_dist.specs.Maps.{whole};
-ghost use Rattle.wb_book.specs.Layouts.{is_of_rank, IsLayout, IsDealt, locale_in};
+ghost use Rattle.std.specs.Prelude.{◌≡◌, ◌≤◌, ◌<◌, true, false};
+ghost use Rattle.wb_dist.specs.Maps.{whole, locale_count_of};
+ghost use Rattle.wb_book.specs.Layouts.{map_of, is_of_rank, IsLayout, IsDealt, locale_in};
 ghost use Rattle.wb_book.specs.declared.values.index.Index.TheVariants.{Point as point_index};
 
 use crate::values::index::{AnyIndex, Index};
@@ -11,7 +11,7 @@ use wb_range::Mapping;
 
 /// A mapping by its rank.
 #[derive(Clone, Copy)]
-enum Laid {
+pub enum Laid {
     /// All on one locale, at any rank.
     Whole,
     /// Of rank 1.
@@ -100,6 +100,27 @@ impl AnyLayout {
             Laid::Line(_) => rank == 1,
             Laid::Plane(_) => rank == 2,
             Laid::Solid(_) => rank == 3,
+        }
+    }
+
+    /// The mapping by its rank.
+    pub fn laid(&self) -> Laid
+        ensures { map_of result ≡ self.now }
+    {
+        self.laid
+    }
+
+    /// How many locales there are: the product of the grid, from 1 to 256, and 1 where all is on one locale (Chapel
+    /// Language Specification, Domain Maps).
+    pub fn locale_count(&self) -> usize
+        ensures count { result ≡ locale_count_of self.now }
+        ensures some { 0 < result }
+    {
+        match &self.laid {
+            Laid::Whole => 1,
+            Laid::Line(layout) => layout.locales(),
+            Laid::Plane(layout) => layout.locales(),
+            Laid::Solid(layout) => layout.locales(),
         }
     }
 

@@ -4,6 +4,7 @@ ghost use Rattle.wb_rect.specs.Offsets.{each_shifted, translated, expanded};
 ghost use Rattle.wb_rect.specs.Product.{product, IsRectangle};
 ghost use Rattle.wb_rect.specs.ShiftTests.{has_unit_strides, can_shift};
 ghost use Rattle.wb_rect.specs.Slices.{sliced};
+ghost use Rattle.wb_book.specs.Ranks.{ranges_of};
 ghost use Rattle.wb_book.specs.Shapes.{indices};
 ghost use Rattle.wb_book.specs.WellFormed.{has};
 ghost use Rattle.wb_book.specs.declared.values.index.Index.TheVariants.{Point as point_index};
@@ -16,7 +17,7 @@ use wb_rect::{Rect, RectErr};
 
 /// A rectangular domain by its rank.
 #[derive(Clone, Copy)]
-enum Ranked {
+pub enum Ranked {
     /// One range.
     Line(Rect<1>),
     /// Two ranges.
@@ -104,6 +105,13 @@ impl AnyRect {
         AnyRect {
             ranked: Ranked::Solid(rect),
         }
+    }
+
+    /// The domain by its rank: with the same ranges, as a rectangle of 1, 2 or 3 dimensions.
+    pub fn ranked(&self) -> Ranked
+        ensures { ranges_of result ≡ self.now }
+    {
+        self.ranked
     }
 
     /// How many dimensions there are: 1, 2 or 3. The ranges and the size are within their limits.

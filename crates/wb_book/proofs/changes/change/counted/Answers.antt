@@ -1,4 +1,4 @@
-use Rattle.std.proofs.Common.{◌≡◌, ◌+◌, [], ◌∷◌, length, get_or, subst, arith}
+use Rattle.std.proofs.Common.{◌≡◌, [], ◌∷◌, get_or, subst, arith}
 use Rattle.selective_undo.specs.declared.Change.{Change}
 use Rattle.wb_book.specs.declared.cells.cell.Cell.{Cell}
 use Rattle.wb_book.specs.declared.cells.value.Value.{Value}

@@ -1,0 +1,61 @@
+-- The piece of an array on a locale: its elements at the indices that lie there (Chapel Language Specification, Domain
+-- Maps).
+use Rattle.std.specs.Prelude.{◌≡◌, Bool, ℕ, ◌==◌, nat_lt, ℤ, List, filter, Result, Ok, Err, ⊤, unwrap_or, if◌then◌else◌}
+use Rattle.std.specs.FinMap.{get}
+use Rattle.wb_book.specs.declared.cells.cell.Cell.TheVariants.{Object}
+use Rattle.wb_book.specs.declared.cells.kind.DomainKind.{DomainKind}
+use Rattle.wb_book.specs.declared.cells.kind.Kind.{Kind}
+use Rattle.wb_book.specs.declared.values.index.Index.{Index}
+use Rattle.wb_book.specs.Cells.{Name, Cells}
+use Rattle.wb_book.specs.Locales.{locale_at, locale_count_at}
+use Rattle.wb_book.specs.Readers.{elements}
+use Rattle.wb_edit.specs.declared.refusal.Refusal as why
+use Rattle.wb_edit.specs.declared.refusal.Refusal.TheVariants.{OutOfDomain}
+use Rattle.wb_edit.specs.Tests.{domain_kind, array_kind}
+use Rattle.wb_history.specs.declared.query.Answer.{Answer}
+use Rattle.wb_history.specs.declared.query.Answer.TheVariants.{Piece}
+use Rattle.wb_history.specs.declared.refusal.Refusal.{Refusal}
+use Rattle.wb_history.specs.declared.refusal.Refusal.TheVariants.{Refused, NoMemory}
+use Rattle.wb_history.specs.Locales.{mapped_by}
+
+-- the domain by whose mapping the indices of d lie, by what d is
+abbrev pub mapped_as : (d : Name) → Result DomainKind why.Refusal → Name
+mapped_as d (Ok kind) = mapped_by d kind
+mapped_as d (Err e) = d
+
+abbrev pub mapped_at : Cells → (d : Name) → Name
+mapped_at s d = mapped_as d (domain_kind (get s (Object d)))
+
+-- how many locales there are by the mapping of the domain e, and 1 where that has none
+abbrev pub locales_of : Cells → (e : Name) → ℕ
+locales_of s e = unwrap_or (locale_count_at s e) 1
+
+-- an element after its index lies on locale l by the mapping of the domain e: on 0 where that has none
+abbrev pub lies_on : Cells → (e : Name) → (l : ℕ) → Index × ℤ → Bool
+lies_on s e l x = unwrap_or (locale_at s e x.0) 0 == l
+
+-- the elements of the array a on locale l, each after its index, ascending by index
+abbrev pub piece_on : Cells → (a e : Name) → (l : ℕ) → List (Index × ℤ)
+piece_on s a e l = filter (lies_on s e l) (elements s a)
+
+-- the same where there is such a locale; they are numbered from 0
+abbrev pub piece_by : Cells → (a e : Name) → (l : ℕ) → Result (List (Index × ℤ)) why.Refusal
+piece_by s a e l = if nat_lt l (locales_of s e) then Ok (piece_on s a e l) else Err OutOfDomain
+
+abbrev pub piece_from : Cells → (a : Name) → (l : ℕ) → Result (Name × Kind) why.Refusal → Result (List (Index × ℤ)) why.Refusal
+piece_from s a l (Ok (d, kind)) = piece_by s a (mapped_at s d) l
+piece_from s a l (Err e) = Err e
+
+-- the name is an array's, and the mapping of its domain has the locale
+abbrev pub piece_of : Cells → (a : Name) → (l : ℕ) → Result (List (Index × ℤ)) why.Refusal
+piece_of s a l = piece_from s a l (array_kind (get s (Object a)))
+
+abbrev pub piece_answer : Result (List (Index × ℤ)) why.Refusal → Result Answer Refusal
+piece_answer (Ok xs) = Ok (Piece xs)
+piece_answer (Err e) = Err (Refused e)
+
+-- What is to be answered, but that memory may run out.
+abbrev pub OrNoMemory : (due found : Result Answer Refusal) → Type 0
+OrNoMemory due (Ok a) = due ≡ Ok a
+OrNoMemory due (Err NoMemory) = ⊤
+OrNoMemory due (Err why) = due ≡ Err why
