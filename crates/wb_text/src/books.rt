@@ -2,15 +2,57 @@
 ghost use Rattle.std.specs.Prelude.{◌≡◌, [], IfOk, unwrap_or};
 ghost use Rattle.std.specs.FinMap as map;
 ghost use Rattle.std.specs.List.{filter_map};
-ghost use Rattle.wb_book.specs.Readers.{indices_at};
+ghost use Rattle.wb_book.specs.Locales.{mapping_in};
+ghost use Rattle.wb_book.specs.Readers.{indices_at, object_of, objects};
 ghost use Rattle.wb_book.specs.Shapes.{indices};
 ghost use Rattle.wb_book.specs.WellFormed.{ranges_in};
-ghost use Rattle.wb_book.specs.declared.cells.cell.Cell.TheVariants.{Shape};
+ghost use Rattle.wb_book.specs.declared.cells.cell.Cell.TheVariants.{Shape, Mapping};
 ghost use Rattle.wb_text.specs.Lines.{member_in, members, indices_in, number_in, element_at, elements_at, implicit_in};
 
 use std::alloc::{AllocError, Global};
-use wb_book::{AnyIndex, AnyRect, Book, Cell, Kind, Name, Pattern, Value};
+use wb_book::{AnyIndex, AnyLayout, AnyRect, Book, Cell, Kind, Name, Pattern, Value};
 use wb_range::NoMemory;
+
+// The object that a cell tells of.
+fn object_in(shown: &(Cell, Value)) -> Option<Name>
+    ensures { result ≡ object_of shown.now.0 }
+{
+    match shown.0 {
+        Cell::Object(name) => Some(name),
+        Cell::Shape(_)
+        | Cell::In(_, _)
+        | Cell::Member(_, _)
+        | Cell::Mapping(_)
+        | Cell::Use(_, _)
+        | Cell::Implicit(_)
+        | Cell::Element(_, _) => None,
+    }
+}
+
+fn objects_in(alloc: Global, shown: &[(Cell, Value)]) -> Result<Vec<Name>, AllocError>
+    ensures { IfOk result (λ v. v.items ≡ filter_map (λ x. object_of x.0) shown.now) }
+{
+    shown
+        .iter()
+        .filter_map(
+            |x: &(Cell, Value)| -> Option<Name>
+                ensures { result ≡ object_of x.now.0 }
+            { object_in(x) },
+        )
+        .collect(alloc)
+}
+
+/// The names of the objects, ascending, by one walk over them.
+#[tactic(auto, using(crate::proofs::ObjectNames::objects_shown))]
+pub(crate) fn objects(alloc: Global, book: &Book) -> Result<Vec<Name>, NoMemory>
+    ensures { IfOk result (λ v. v.items ≡ objects book.now.cells) }
+{
+    let shown = book.seen(alloc, &Pattern::Objects)?;
+    match objects_in(alloc, &shown) {
+        Ok(found) => Ok(found),
+        Err(_) => Err(NoMemory),
+    }
+}
 
 // The index of a domain that a cell tells of.
 fn member_in(shown: &(Cell, Value)) -> Option<AnyIndex>
@@ -65,8 +107,8 @@ fn points_of(alloc: Global, ranges: &AnyRect) -> Result<Vec<AnyIndex>, AllocErro
     Ok(points)
 }
 
-// The ranges of a rectangular domain.
-fn ranges_at(book: &Book, domain: &Name) -> Option<AnyRect>
+/// The ranges of a rectangular domain.
+pub(crate) fn ranges_at(book: &Book, domain: &Name) -> Option<AnyRect>
     ensures { result ≡ ranges_in (map.get book.now.cells (Shape domain.now)) }
 {
     match book.get(&Cell::Shape(*domain))? {
@@ -74,6 +116,21 @@ fn ranges_at(book: &Book, domain: &Name) -> Option<AnyRect>
         Value::Domain(_)
         | Value::Array(_, _)
         | Value::Mapping(_)
+        | Value::Present
+        | Value::Bound(_)
+        | Value::Number(_) => None,
+    }
+}
+
+/// The mapping of a rectangular domain.
+pub(crate) fn mapping_at(book: &Book, domain: &Name) -> Option<AnyLayout>
+    ensures { result ≡ mapping_in (map.get book.now.cells (Mapping domain.now)) }
+{
+    match book.get(&Cell::Mapping(*domain))? {
+        Value::Mapping(layout) => Some(layout),
+        Value::Domain(_)
+        | Value::Array(_, _)
+        | Value::Ranges(_)
         | Value::Present
         | Value::Bound(_)
         | Value::Number(_) => None,

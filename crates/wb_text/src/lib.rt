@@ -10,5 +10,8 @@ mod lists;
 mod literals;
 mod mappings;
 mod objects;
+mod printed;
 #[cfg(test)]
 mod tests;
+
+pub use crate::printed::print_book;

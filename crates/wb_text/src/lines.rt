@@ -1,30 +1,39 @@
 //! The lines of objects, each put at the end of a text.
-ghost use Rattle.std.specs.Prelude.{◌≡◌, ◌++◌, OnOk, string_bytes};
+ghost use Rattle.std.specs.Prelude.{◌≡◌, ◌++◌, [], OnOk, string_bytes, unwrap_or};
+ghost use Rattle.wb_text.specs.Literals.{rectangle_text};
 ghost use Rattle.wb_text.specs.Lines.{rectangular_line, sparse_line, type_text, associative_line, implicit_text, array_line};
 
 use crate::literals::{push_list, push_set};
-use crate::mappings::{push_layout, push_rect};
+use crate::mappings::{push_any_layout, push_any_rect};
 use std::alloc::{AllocError, Global};
 use std::fmt::Write;
-use wb_book::{AnyIndex, KeyType, Name};
-use wb_dist::Layout;
-use wb_rect::Rect;
+use wb_book::{AnyIndex, AnyLayout, AnyRect, KeyType, Name};
+
+// The ranges of a rectangular domain in braces.
+fn push_ranges(alloc: Global, out: &mut String, ranges: &Option<AnyRect>) -> Result<(), AllocError>
+    ensures { OnOk result (string_bytes out.new ≡ string_bytes out.old ++ rectangle_text (unwrap_or ranges.now [])) }
+{
+    match ranges {
+        None => out.push_str("{}"),
+        Some(rect) => push_any_rect(alloc, out, rect),
+    }
+}
 
 /// The line of a rectangular domain.
-pub(crate) fn push_rectangular_line<const R: usize>(
+pub(crate) fn push_rectangular_line(
     alloc: Global,
     out: &mut String,
     domain: &Name,
-    rect: &Rect<R>,
-    layout: &Layout<R>,
+    ranges: &Option<AnyRect>,
+    layout: &AnyLayout,
 ) -> Result<(), AllocError>
-    ensures { OnOk result (string_bytes out.new ≡ string_bytes out.old ++ rectangular_line domain.now rect.now layout.now) }
+    ensures { OnOk result (string_bytes out.new ≡ string_bytes out.old ++ rectangular_line domain.now (unwrap_or ranges.now []) layout.now) }
 {
     let name = domain.as_str();
     write!(out, "rect {name} ")?;
-    push_rect(alloc, out, rect)?;
+    push_ranges(alloc, out, ranges)?;
     out.push_str(" ")?;
-    push_layout(alloc, out, layout)?;
+    push_any_layout(alloc, out, layout)?;
     out.push_str("\n")
 }
 

@@ -5,6 +5,7 @@ ghost use Rattle.wb_text.specs.Literals.{rectangle_text, point_text, last_grid_t
 
 use crate::literals::{push_list, push_point, push_rectangle};
 use std::alloc::{AllocError, Global};
+use wb_book::{AnyLayout, AnyRect, Laid, Ranked};
 use wb_dist::{Block, BlockCyclic, Cyclic, Distribution, Layout};
 use wb_range::Range;
 use wb_rect::Rect;
@@ -22,8 +23,7 @@ fn ranges_of<const R: usize>(alloc: Global, rect: &Rect<R>) -> Result<Vec<Range>
     Ok(ranges)
 }
 
-/// The text of a rectangle.
-pub(crate) fn push_rect<const R: usize>(
+fn push_rect<const R: usize>(
     alloc: Global,
     out: &mut String,
     rect: &Rect<R>,
@@ -88,8 +88,7 @@ fn push_block_cyclic<const R: usize>(
     push_sizes(out, &dealt.size(), &dealt.grid())
 }
 
-/// The text of a mapping.
-pub(crate) fn push_layout<const R: usize>(
+fn push_layout<const R: usize>(
     alloc: Global,
     out: &mut String,
     layout: &Layout<R>,
@@ -101,5 +100,36 @@ pub(crate) fn push_layout<const R: usize>(
         Distribution::Block(dealt) => push_block(alloc, out, &dealt),
         Distribution::Cyclic(dealt) => push_cyclic(out, &dealt),
         Distribution::BlockCyclic(dealt) => push_block_cyclic(out, &dealt),
+    }
+}
+
+/// The text of a rectangle of any rank.
+pub(crate) fn push_any_rect(
+    alloc: Global,
+    out: &mut String,
+    rect: &AnyRect,
+) -> Result<(), AllocError>
+    ensures { OnOk result (string_bytes out.new ≡ string_bytes out.old ++ rectangle_text rect.now) }
+{
+    match rect.ranked() {
+        Ranked::Line(line) => push_rect(alloc, out, &line),
+        Ranked::Plane(plane) => push_rect(alloc, out, &plane),
+        Ranked::Solid(solid) => push_rect(alloc, out, &solid),
+    }
+}
+
+/// The text of a mapping of any rank.
+pub(crate) fn push_any_layout(
+    alloc: Global,
+    out: &mut String,
+    layout: &AnyLayout,
+) -> Result<(), AllocError>
+    ensures { OnOk result (string_bytes out.new ≡ string_bytes out.old ++ mapping_text layout.now) }
+{
+    match layout.laid() {
+        Laid::Whole => out.push_str("none"),
+        Laid::Line(line) => push_layout(alloc, out, &line),
+        Laid::Plane(plane) => push_layout(alloc, out, &plane),
+        Laid::Solid(solid) => push_layout(alloc, out, &solid),
     }
 }

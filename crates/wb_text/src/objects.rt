@@ -1,15 +1,34 @@
 //! The lines of a workbook's objects, by what stands in the book.
-ghost use Rattle.std.specs.Prelude.{◌≡◌, ◌++◌, OnOk, string_bytes};
-ghost use Rattle.wb_text.specs.Lines.{members, indices_in, elements_at, implicit_in, sparse_line, associative_line, array_line};
+ghost use Rattle.std.specs.Prelude.{◌≡◌, ◌++◌, Some, OnOk, string_bytes};
+ghost use Rattle.wb_book.specs.declared.cells.kind.DomainKind.TheVariants.{Rectangular};
+ghost use Rattle.wb_text.specs.Lines.{members, indices_in, elements_at, implicit_in, sparse_line, associative_line, array_line, domain_line, line_in, object_line};
 
-use crate::books::{elements_at, implicit_in, indices_in, members};
-use crate::lines::{push_array_line, push_associative_line, push_sparse_line};
+use crate::books::{elements_at, implicit_in, indices_in, mapping_at, members, ranges_at};
+use crate::lines::{
+    push_array_line, push_associative_line, push_rectangular_line, push_sparse_line,
+};
 use std::alloc::Global;
-use wb_book::{Book, KeyType, Kind, Name};
+use wb_book::{AnyLayout, Book, Cell, DomainKind, KeyType, Kind, Name, Value};
 use wb_range::NoMemory;
 
-/// The line of a sparse domain of the book.
-pub(crate) fn push_sparse(
+// The line of a rectangular domain of the book.
+fn push_rectangular(
+    alloc: Global,
+    out: &mut String,
+    book: &Book,
+    domain: &Name,
+    rank: u8,
+) -> Result<(), NoMemory>
+    ensures { OnOk result (string_bytes out.new ≡ string_bytes out.old ++ domain_line book.now.cells domain.now (Rectangular rank)) }
+{
+    let ranges = ranges_at(book, domain);
+    let layout = mapping_at(book, domain).unwrap_or(AnyLayout::whole());
+    push_rectangular_line(alloc, out, domain, &ranges, &layout)?;
+    Ok(())
+}
+
+// The line of a sparse domain of the book.
+fn push_sparse(
     alloc: Global,
     out: &mut String,
     book: &Book,
@@ -23,8 +42,8 @@ pub(crate) fn push_sparse(
     Ok(())
 }
 
-/// The line of an associative domain of the book.
-pub(crate) fn push_associative(
+// The line of an associative domain of the book.
+fn push_associative(
     alloc: Global,
     out: &mut String,
     book: &Book,
@@ -38,8 +57,25 @@ pub(crate) fn push_associative(
     Ok(())
 }
 
-/// The line of an array of the book, over a domain of the kind.
-pub(crate) fn push_array(
+// The line of a domain of the book, of the kind.
+fn push_domain(
+    alloc: Global,
+    out: &mut String,
+    book: &Book,
+    domain: &Name,
+    kind: DomainKind,
+) -> Result<(), NoMemory>
+    ensures { OnOk result (string_bytes out.new ≡ string_bytes out.old ++ domain_line book.now.cells domain.now kind) }
+{
+    match kind {
+        DomainKind::Rectangular(rank) => push_rectangular(alloc, out, book, domain, rank),
+        DomainKind::Sparse(parent, _) => push_sparse(alloc, out, book, domain, &parent),
+        DomainKind::Associative(key) => push_associative(alloc, out, book, domain, key),
+    }
+}
+
+// The line of an array of the book, over a domain of the kind.
+fn push_array(
     alloc: Global,
     out: &mut String,
     book: &Book,
@@ -56,4 +92,40 @@ pub(crate) fn push_array(
     let implicit = implicit_in(book, array, *kept);
     push_array_line(out, array, domain, &elements, implicit)?;
     Ok(())
+}
+
+// The line of the object of a name, of which this stands in the book.
+fn push_value(
+    alloc: Global,
+    out: &mut String,
+    book: &Book,
+    name: &Name,
+    value: Value,
+) -> Result<(), NoMemory>
+    ensures { OnOk result (string_bytes out.new ≡ string_bytes out.old ++ line_in book.now.cells name.now (Some value)) }
+{
+    match value {
+        Value::Domain(domain) => push_domain(alloc, out, book, name, domain.domain_kind()),
+        Value::Array(domain, kind) => push_array(alloc, out, book, name, &domain, kind),
+        Value::Ranges(_)
+        | Value::Mapping(_)
+        | Value::Present
+        | Value::Bound(_)
+        | Value::Number(_) => Ok(()),
+    }
+}
+
+/// The line of the object of a name.
+pub(crate) fn push_object(
+    alloc: Global,
+    out: &mut String,
+    book: &Book,
+    name: &Name,
+) -> Result<(), NoMemory>
+    ensures { OnOk result (string_bytes out.new ≡ string_bytes out.old ++ object_line book.now.cells name.now) }
+{
+    match book.get(&Cell::Object(*name)) {
+        None => Ok(()),
+        Some(value) => push_value(alloc, out, book, name, value),
+    }
 }

@@ -1,14 +1,12 @@
 //! The lines of objects, as the format spells them.
 
-ghost use Rattle.std.specs.Prelude.{◌≤◌};
-
 use crate::lines::{
     push_array_line, push_associative_line, push_rectangular_line, push_sparse_line,
 };
 use std::alloc::Global;
 use std::test::Fail;
 use wb_assoc::Label;
-use wb_book::{AnyIndex, Index, KeyType, Name, Point};
+use wb_book::{AnyIndex, AnyLayout, AnyRect, Index, KeyType, Name, Point};
 use wb_dist::{Block, BlockCyclic, Cyclic, Distribution, Layout};
 use wb_range::{Range, RangeErr};
 use wb_rect::Rect;
@@ -18,29 +16,30 @@ fn range(low: i64, high: i64, stride: i64) -> Result<Range, RangeErr> {
     Range::new(low, high, stride, None)
 }
 
-fn whole<const R: usize>(alloc: Global, rect: &Rect<R>) -> Result<String, Fail>
-    requires low { 1 ≤ R }
-    requires high { R ≤ 3 }
-{
+fn line_of(alloc: Global, rect: AnyRect, layout: AnyLayout) -> Result<String, Fail> {
     let mut out = String::new(alloc);
-    let layout = Layout::new(Distribution::Whole);
-    push_rectangular_line(alloc, &mut out, &Name::new("D")?, rect, &layout)?;
+    push_rectangular_line(alloc, &mut out, &Name::new("D")?, &Some(rect), &layout)?;
     Ok(out)
+}
+
+fn whole(alloc: Global, rect: AnyRect) -> Result<String, Fail> {
+    line_of(alloc, rect, AnyLayout::whole())
 }
 
 #[test]
 fn rectangular_domains(rt: HostRuntime) -> Result<(), Fail> {
     let alloc = rt.alloc();
-    let line = Rect::new([range(1, 4, 1)?])?;
-    assert_eq!(rt; whole(alloc, &line)?.as_str(), "rect D {1..4} none\n");
-    let downward = Rect::new([range(1, 10, -3)?, range(5, 4, 2)?])?;
+    let line = AnyRect::line(Rect::new([range(1, 4, 1)?])?);
+    assert_eq!(rt; whole(alloc, line)?.as_str(), "rect D {1..4} none\n");
+    let downward = AnyRect::plane(Rect::new([range(1, 10, -3)?, range(5, 4, 2)?])?);
     assert_eq!(rt;
-        whole(alloc, &downward)?.as_str(),
+        whole(alloc, downward)?.as_str(),
         "rect D {1..10 by -3, 1..0} none\n"
     );
     let solid = Rect::new([range(2, 9, 3)?, range(7, 8, 5)?, range(-1, 1, 1)?])?;
+    let solid = AnyRect::solid(solid);
     assert_eq!(rt;
-        whole(alloc, &solid)?.as_str(),
+        whole(alloc, solid)?.as_str(),
         "rect D {2..8 by 3, 7..7, -1..1} none\n"
     );
     Ok(())
@@ -49,27 +48,26 @@ fn rectangular_domains(rt: HostRuntime) -> Result<(), Fail> {
 #[test]
 fn mappings(rt: HostRuntime) -> Result<(), Fail> {
     let alloc = rt.alloc();
-    let name = Name::new("D")?;
-    let line = Rect::new([range(0, 11, 1)?])?;
+    let line = AnyRect::line(Rect::new([range(0, 11, 1)?])?);
     let block = Block::new(Rect::new([range(1, 10, 1)?])?, [4])?;
-    let mut out = String::new(alloc);
-    let layout = Layout::new(Distribution::Block(block));
-    push_rectangular_line(alloc, &mut out, &name, &line, &layout)?;
-    assert_eq!(rt; out.as_str(), "rect D {0..11} blockDist({1..10}, [4])\n");
-    let plane = Rect::new([range(0, 1, 1)?, range(0, 2, 1)?])?;
-    let cyclic = Cyclic::new([0, -1], [2, 3])?;
-    let mut out = String::new(alloc);
-    let layout = Layout::new(Distribution::Cyclic(cyclic));
-    push_rectangular_line(alloc, &mut out, &name, &plane, &layout)?;
+    let layout = AnyLayout::line(Layout::new(Distribution::Block(block)));
     assert_eq!(rt;
-        out.as_str(),
+        line_of(alloc, line, layout)?.as_str(),
+        "rect D {0..11} blockDist({1..10}, [4])\n"
+    );
+    let plane = AnyRect::plane(Rect::new([range(0, 1, 1)?, range(0, 2, 1)?])?);
+    let cyclic = Cyclic::new([0, -1], [2, 3])?;
+    let layout = AnyLayout::plane(Layout::new(Distribution::Cyclic(cyclic)));
+    assert_eq!(rt;
+        line_of(alloc, plane, layout)?.as_str(),
         "rect D {0..1, 0..2} cyclicDist((0, -1), [2, 3])\n"
     );
     let dealt = BlockCyclic::new([1], [2], [3])?;
-    let mut out = String::new(alloc);
-    let layout = Layout::new(Distribution::BlockCyclic(dealt));
-    push_rectangular_line(alloc, &mut out, &name, &line, &layout)?;
-    assert_eq!(rt; out.as_str(), "rect D {0..11} blockCycDist(1, 2, [3])\n");
+    let layout = AnyLayout::line(Layout::new(Distribution::BlockCyclic(dealt)));
+    assert_eq!(rt;
+        line_of(alloc, line, layout)?.as_str(),
+        "rect D {0..11} blockCycDist(1, 2, [3])\n"
+    );
     Ok(())
 }
 
