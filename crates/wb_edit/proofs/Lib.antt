@@ -3,6 +3,7 @@ pub mod Columns
 pub mod Attempts
 pub mod Sums
 pub mod Rectangles
+pub mod Absences
 pub mod Members
 pub mod Elements
 pub mod Becoming

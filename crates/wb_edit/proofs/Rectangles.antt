@@ -1,7 +1,7 @@
 -- Looks at many cells.
-use Rattle.std.proofs.Common.{◌≡◌, ℕ, zero, suc, ◌+◌, ◌≤◌, arith, Bool, true, false, ◌&&◌, List, [], ◌∷◌, ◌++◌, map, take, length, Option, Some, is_some, slice_get, refl, sym, ap, ◌∙◌, append_assoc, append-nil, add-one}
+use Rattle.std.proofs.Common.{◌≡◌, ℕ, zero, suc, ◌+◌, ◌≤◌, arith, Bool, true, false, ◌&&◌, ◌||◌, List, [], ◌∷◌, ◌++◌, map, take, length, Option, Some, is_some, slice_get, refl, sym, ap, ◌∙◌, append_assoc, append-nil, add-one}
 use Rattle.std.specs.FinMap.{get}
-use Rattle.std.specs.List.{list_all}
+use Rattle.std.specs.List.{list_all, list_any}
 use Rattle.selective_undo.specs.Edit.{reads}
 use Rattle.wb_book.specs.declared.cells.cell.Cell.{Cell}
 use Rattle.wb_book.specs.declared.cells.pattern.Pattern.{Pattern}
@@ -41,6 +41,19 @@ list_all-last : (vs : List (Option Value)) (v : Option Value) → list_all is_so
 list_all-last [] v = elim (is_some v) as (λ b. (b && true) ≡ b) [ true ↦ refl | false ↦ refl ]
 list_all-last (w ∷ vs) v = ap (λ b. is_some w && b) (list_all-last vs v) ∙ and-assoc (is_some w) (list_all is_some vs) (is_some v)
 
+or-assoc : (a b d : Bool) → (a || (b || d)) ≡ ((a || b) || d)
+or-assoc true b d = refl
+or-assoc false b d = refl
+
+or-false : (b : Bool) → (b || false) ≡ b
+or-false true = refl
+or-false false = refl
+
+-- one of two lists holds something
+pub list_any-append : (vs ws : List (Option Value)) → list_any is_some (vs ++ ws) ≡ (list_any is_some vs || list_any is_some ws)
+list_any-append [] ws = refl
+list_any-append (v ∷ vs) ws = ap (λ b. is_some v || b) (list_any-append vs ws) ∙ or-assoc (is_some v) (list_any is_some vs) (list_any is_some ws)
+
 module _ (f : Index → Cell) (is : List Index) (p : ℕ) (i : Index) (here : slice_get is p ≡ Some i) where
   cells_more : map f (take (p + 1) is) ≡ map f (take p is) ++ f i ∷ []
   cells_more = ap (λ n. map f (take n is)) (add-one p) ∙ ap (map f) (take_more is p i here) ∙ map-append f (take p is) (i ∷ [])
@@ -57,3 +70,10 @@ module _ (f : Index → Cell) (is : List Index) (p : ℕ) (i : Index) (here : sl
       ap (λ cs. list_all is_some (map (get s) cs)) cells_more
       ∙ ap (list_all is_some) (map-append (get s) (map f (take p is)) (f i ∷ []))
       ∙ list_all-last (map (get s) (map f (take p is))) (get s (f i))
+
+  pub any_more : (s : Cells) → list_any is_some (map (get s) (map f (take (p + 1) is))) ≡ (list_any is_some (map (get s) (map f (take p is))) || is_some (get s (f i)))
+  any_more s =
+      ap (λ cs. list_any is_some (map (get s) cs)) cells_more
+      ∙ ap (list_any is_some) (map-append (get s) (map f (take p is)) (f i ∷ []))
+      ∙ list_any-append (map (get s) (map f (take p is))) (get s (f i) ∷ [])
+      ∙ ap (λ b. list_any is_some (map (get s) (map f (take p is))) || b) (or-false (is_some (get s (f i))))

@@ -30,7 +30,8 @@ use Rattle.wb_edit.specs.Elements.{elements, over_one_domain, results_within}
 use Rattle.wb_edit.specs.Layouts.{mapped}
 use Rattle.wb_edit.specs.Rectangles.{over_rectangle, all_elements}
 use Rattle.wb_edit.specs.Users.{bound, uses, unused}
-use Rattle.wb_edit.specs.Resizing.{zeros, with_members, inside, fills}
+use Rattle.wb_edit.specs.Resizing.{zeros, with_members}
+pub use Rattle.wb_edit.specs.Resizing.{resized}
 pub use Rattle.wb_resize.specs.Dropped.{own_cells, ended_cells}
 use Rattle.wb_resize.specs.Resized.{resized_cells}
 use Rattle.wb_edit.specs.Writes.{put, put_all, clear, clear_all}
@@ -178,14 +179,6 @@ drop_domain d = do
   write (ended_cells d kind is)
 
 -- ---- which indices a domain has (Chapel Language Specification, Domains)
-
--- indices leave a domain of a kind and others come to it, so that it has those of the list new: if it is sparse, they are in
--- its parent, and it is seen what new indices bring to the arrays over it
-abbrev pub resized : Name → DomainKind → (new leaving coming : List Index) → Tree
-resized d kind new leaving coming = do
-  unit ← inside kind new
-  brought ← fills d kind
-  write (resized_cells (kind_of kind) d brought leaving coming)
 
 -- a new index, where it isn't there; else the command ends, accepted, and writes nothing
 abbrev pub add_unless : Option Value → Name → DomainKind → Index → Tree

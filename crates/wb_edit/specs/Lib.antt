@@ -10,6 +10,7 @@ pub mod Layouts
 pub mod Users
 pub mod Resizing
 pub mod Writes
+pub mod Reshape
 pub mod Commands
 pub mod Plans
 pub mod Changed
