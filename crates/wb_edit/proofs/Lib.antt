@@ -12,4 +12,5 @@ pub mod Layouts
 pub mod Exchanges
 pub mod Fills
 pub mod Memberships
+pub mod Sets
 pub mod Kept

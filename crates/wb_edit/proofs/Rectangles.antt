@@ -41,6 +41,15 @@ list_all-last : (vs : List (Option Value)) (v : Option Value) → list_all is_so
 list_all-last [] v = elim (is_some v) as (λ b. (b && true) ≡ b) [ true ↦ refl | false ↦ refl ]
 list_all-last (w ∷ vs) v = ap (λ b. is_some w && b) (list_all-last vs v) ∙ and-assoc (is_some w) (list_all is_some vs) (is_some v)
 
+-- one more element that a test is asked of
+pub each_more : {X : Type 0} (test : X → Bool) (xs : List X) (p : ℕ) (x : X) → slice_get xs p ≡ Some x → list_all test (take (p + 1) xs) ≡ (list_all test (take p xs) && test x)
+each_more test xs p x here =
+    ap (λ n. list_all test (take n xs)) (add-one p) ∙ ap (list_all test) (take_more xs p x here) ∙ last (take p xs)
+  where
+    last : (ys : List _) → list_all test (ys ++ x ∷ []) ≡ (list_all test ys && test x)
+    last [] = elim (test x) as (λ b. (b && true) ≡ b) [ true ↦ refl | false ↦ refl ]
+    last (y ∷ ys) = ap (λ b. test y && b) (last ys) ∙ and-assoc (test y) (list_all test ys) (test x)
+
 or-assoc : (a b d : Bool) → (a || (b || d)) ≡ ((a || b) || d)
 or-assoc true b d = refl
 or-assoc false b d = refl

@@ -11,6 +11,7 @@ pub mod Users
 pub mod Resizing
 pub mod Writes
 pub mod Reshape
+pub mod Sources
 pub mod Commands
 pub mod Plans
 pub mod Changed

@@ -11,5 +11,6 @@ pub mod numbers;
 pub mod rectangles;
 pub mod reshaping;
 pub mod resizing;
+pub mod sources;
 pub mod stop;
 pub mod users;

@@ -14,7 +14,7 @@ use Rattle.wb_edit.specs.Plans.{Looks, Makes}
 use Rattle.wb_edit.specs.Reshape.{none_there, reshaped_cells}
 use Rattle.wb_edit.specs.Users.{bound, uses}
 use Rattle.wb_edit.proofs.Attempts.{goes_on, stops, ends}
-use Rattle.wb_edit.proofs.commands.reshape.rectangles.plan_replaced.Goals as goal
+use Rattle.wb_edit.proofs.commands.reshape.replaced.plan_replaced.Goals as goal
 
 -- what is written once it is seen that no index that leaves is in the way
 abbrev last : Name → List Range → (leaving coming : List Index) → List (Name × Binding) → Tree

@@ -4,7 +4,7 @@ use Rattle.wb_range.specs.Domain.{IsListedOnce}
 use Rattle.wb_book.specs.Cells.{Name}
 use Rattle.wb_resize.proofs.Fills.{keys-numbered}
 use Rattle.wb_edit.specs.Resizing.{zeros}
-use Rattle.wb_edit.proofs.commands.reshape.rectangles.replace_changes.Goals as goal
+use Rattle.wb_edit.proofs.commands.reshape.replaced.replace_changes.Goals as goal
 
 pub resize-requires-clause-once : goal.resize-requires-clause-once
 resize-requires-clause-once c =
