@@ -2,6 +2,7 @@
 use Rattle.std.proofs.Common.{◌≡◌, ℕ, ◌+◌, ◌<◌, ◌||◌, List, [], ◌∷◌, ◌++◌, map, take, length, get_or, is_some, sym, ap, ◌∙◌, append_assoc, append-nil, add-one}
 use Rattle.std.proofs.Math.Seq.{take-suc}
 use Rattle.std.proofs.lemmas.Grind.{flat_map-append}
+use Rattle.std.proofs.lemmas.List.Folds.{list_any-append}
 use Rattle.std.specs.FinMap.{get}
 use Rattle.std.specs.List.{list_any}
 use Rattle.wb_book.specs.declared.cells.cell.Cell.TheVariants.{Member}
@@ -11,7 +12,6 @@ use Rattle.wb_book.specs.Cells.{Name, Cells}
 use Rattle.wb_edit.specs.Plans.{one_of}
 use Rattle.wb_edit.specs.Reshape.{member_cells}
 use Rattle.wb_edit.proofs.Columns.{map-append}
-use Rattle.wb_edit.proofs.Rectangles.{list_any-append}
 
 module _ (names : List Name) (is : List Index) (k : ℕ) (e : Name) (low : k < length names) (here : e ≡ get_or names k e) where
   cells_more : member_cells (take (k + 1) names) is ≡ member_cells (take k names) is ++ map (Member e) is
@@ -33,4 +33,4 @@ module _ (names : List Name) (is : List Index) (k : ℕ) (e : Name) (low : k < l
   any_more s =
       ap (λ cs. list_any is_some (map (get s) cs)) cells_more
       ∙ ap (list_any is_some) (map-append (get s) (member_cells (take k names) is) (map (Member e) is))
-      ∙ list_any-append (map (get s) (member_cells (take k names) is)) (map (get s) (map (Member e) is))
+      ∙ list_any-append is_some (map (get s) (member_cells (take k names) is)) (map (get s) (map (Member e) is))

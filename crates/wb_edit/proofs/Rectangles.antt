@@ -1,5 +1,6 @@
 -- Looks at many cells.
 use Rattle.std.proofs.Common.{◌≡◌, ℕ, zero, suc, ◌+◌, ◌≤◌, arith, Bool, true, false, ◌&&◌, ◌||◌, List, [], ◌∷◌, ◌++◌, map, take, length, Option, Some, is_some, slice_get, refl, sym, ap, ◌∙◌, append_assoc, append-nil, add-one}
+use Rattle.std.proofs.lemmas.List.Folds.{list_any-append}
 use Rattle.std.specs.FinMap.{get}
 use Rattle.std.specs.List.{list_all, list_any}
 use Rattle.selective_undo.specs.Edit.{reads}
@@ -50,18 +51,9 @@ each_more test xs p x here =
     last [] = elim (test x) as (λ b. (b && true) ≡ b) [ true ↦ refl | false ↦ refl ]
     last (y ∷ ys) = ap (λ b. test y && b) (last ys) ∙ and-assoc (test y) (list_all test ys) (test x)
 
-or-assoc : (a b d : Bool) → (a || (b || d)) ≡ ((a || b) || d)
-or-assoc true b d = refl
-or-assoc false b d = refl
-
 or-false : (b : Bool) → (b || false) ≡ b
 or-false true = refl
 or-false false = refl
-
--- one of two lists holds something
-pub list_any-append : (vs ws : List (Option Value)) → list_any is_some (vs ++ ws) ≡ (list_any is_some vs || list_any is_some ws)
-list_any-append [] ws = refl
-list_any-append (v ∷ vs) ws = ap (λ b. is_some v || b) (list_any-append vs ws) ∙ or-assoc (is_some v) (list_any is_some vs) (list_any is_some ws)
 
 module _ (f : Index → Cell) (is : List Index) (p : ℕ) (i : Index) (here : slice_get is p ≡ Some i) where
   cells_more : map f (take (p + 1) is) ≡ map f (take p is) ++ f i ∷ []
@@ -84,5 +76,5 @@ module _ (f : Index → Cell) (is : List Index) (p : ℕ) (i : Index) (here : sl
   any_more s =
       ap (λ cs. list_any is_some (map (get s) cs)) cells_more
       ∙ ap (list_any is_some) (map-append (get s) (map f (take p is)) (f i ∷ []))
-      ∙ list_any-append (map (get s) (map f (take p is))) (get s (f i) ∷ [])
+      ∙ list_any-append is_some (map (get s) (map f (take p is))) (get s (f i) ∷ [])
       ∙ ap (λ b. list_any is_some (map (get s) (map f (take p is))) || b) (or-false (is_some (get s (f i))))

@@ -15,5 +15,6 @@ pub mod Sources
 pub mod Commands
 pub mod Plans
 pub mod Changed
+pub mod ValidSources
 pub mod Valid
 pub mod Laws

@@ -56,12 +56,7 @@ fn either(any: bool, here: bool) -> bool
 }
 
 // Whether a domain has one of some indices; each of them is looked at.
-fn has_some(
-    book: &Book,
-    foot: &mut Foot,
-    domain: Name,
-    listed: &[AnyIndex],
-) -> Result<bool, Stop>
+fn has_some(book: &Book, foot: &mut Foot, domain: Name, listed: &[AnyIndex]) -> Result<bool, Stop>
     ensures read { OnOk result (foot.new ≡ foot.old ++ map one_of (map (Member domain) listed.now)) }
     ensures there { IfOk result (λ b. b ≡ list_any is_some (map (get book.now.cells) (map (Member domain) listed.now))) }
     ensures only { IfErr result (λ e. e ≡ NoMemory) }

@@ -172,12 +172,7 @@ fn names_set(book: &Book, foot: &mut Foot, kind: Kind, name: Name) -> Result<(),
 }
 
 /// A set for a domain of the kind is given.
-pub(crate) fn gives_set(
-    book: &Book,
-    foot: &mut Foot,
-    kind: Kind,
-    given: &Given,
-) -> Result<(), Stop>
+pub(crate) fn gives_set(book: &Book, foot: &mut Foot, kind: Kind, given: &Given) -> Result<(), Stop>
     ensures { Looks (gives_set kind given.now) book.now.cells foot.old result foot.new }
 {
     match given {

@@ -56,9 +56,9 @@ returns c =
     let tested = subst (λ (k : Kind). Looks (gives_set k given) s rs (Ok tt) ss) c.kind.ensures c.in_ok-gives_set.ensures in
     let shown_old : c.deref-3.result.now ≡ old = c.deref-3.ensures.value in
     let shown_new : c.deref-4.result.now ≡ combined c.args.how other old =
-        c.deref-4.ensures.value ∙ c.in-Ok.ensures.same
-        ∙ ap (λ (is : List Index). combined c.args.how is c.deref-2.result.now) c.deref.ensures.value
-        ∙ ap (λ (is : List Index). combined c.args.how other is) c.deref-2.ensures.value in
+    c.deref-4.ensures.value ∙ c.in-Ok.ensures.same
+    ∙ ap (λ (is : List Index). combined c.args.how is c.deref-2.result.now) c.deref.ensures.value
+    ∙ ap (λ (is : List Index). combined c.args.how other is) c.deref-2.ensures.value in
     both_seen s d (kind_of kind) given next rs ss c.members.new.foot tested vs old c.in_ok-old.ensures.looks ws other r c.in_ok-other.ensures.looks (
     subst (λ (is : List Index). Attempts (exchanged d kind old is) s vs r ws) shown_new (
     subst (λ (is : List Index). Attempts (exchanged d kind is c.deref-4.result.now) s vs r ws) shown_old c.plan_exchanged.ensures))
