@@ -5,7 +5,7 @@ use Rattle.std.proofs.lemmas.Grind.{flat_map-append}
 use Rattle.std.specs.Map.{keys_of}
 use Rattle.std.specs.Ordering.{eq_by_cmp}
 use Rattle.selective_undo.specs.Changes.{changes}
-use Rattle.selective_undo.proofs.Changes.{not_true}
+use Rattle.selective_undo.proofs.Changes.{not_true, is_itself}
 use Rattle.wb_range.specs.Domain.{IsListedOnce}
 use Rattle.wb_book.specs.declared.cells.cell.Cell.{Cell}
 use Rattle.wb_book.specs.declared.cells.cell.Cell.TheVariants.{Element}
@@ -16,17 +16,20 @@ use Rattle.wb_book.specs.declared.cells.kind.Kind.TheVariants.{Rectangular as ov
 use Rattle.wb_book.specs.declared.cells.value.Value.{Value}
 use Rattle.wb_book.specs.declared.cells.value.Value.TheVariants.{Number, Present}
 use Rattle.wb_book.specs.declared.values.index.Index.{Index}
-use Rattle.wb_book.specs.Cells.{Name, Changes, cell_cmp, cell_order}
+use Rattle.wb_book.specs.Cells.{Name, Changes, cell_cmp, cell_order, is_same_index}
 use Rattle.wb_book.specs.Kinds.{kind_of}
-use Rattle.wb_resize.specs.Resized.{exchanged, elements_exchanged}
+use Rattle.wb_book.specs.WellFormed.{has}
+use Rattle.wb_resize.specs.Resized.{without, exchanged, elements_exchanged}
 use Rattle.wb_resize.specs.Writes.{put_all, clear_all}
 use Rattle.wb_resize.proofs.Gets.{same_key}
+use Rattle.wb_resize.proofs.Without.{without-apart}
 use Rattle.wb_edit.specs.declared.column.Column.{Column}
 use Rattle.wb_edit.specs.declared.column.Column.TheVariants.{Membership}
 use Rattle.wb_edit.specs.Changed.{set_all, AreApart}
 use Rattle.wb_edit.specs.Commands.{own_cells}
 use Rattle.wb_edit.specs.Plans.{cell_at}
 use Rattle.wb_edit.proofs.Columns.{changes-append, other_cells, elsewhere, get-take}
+use Rattle.wb_edit.proofs.Elements.{index_order}
 
 neither : (a b : Bool) → a ≡ false → b ≡ false → (a || b) ≡ false
 neither true b e f = cc
@@ -105,3 +108,22 @@ pub own_apart : (kind : DomainKind) (d : Name) (i : Index) → changes cell_cmp 
 own_apart (Rectangular rank) d i = refl
 own_apart (Sparse parent rank) d i = refl
 own_apart (Associative type) d i = refl
+
+-- ---- the indices that leave and those that come, by two lists of indices
+
+has_at : (xs : List Index) (p : ℕ) (i : Index) → slice_get xs p ≡ Some i → has xs i ≡ true
+has_at [] p i e = cc
+has_at (x ∷ xs) zero i e =
+    let same : i ≡ x = cc in
+    ap (λ b. b || has xs i) (ap (λ j. is_same_index i j) (sym same) ∙ is_itself index_order i)
+has_at (x ∷ xs) (suc p) i e = ap (λ b. is_same_index i x || b) (has_at xs p i e) ∙ or_true (is_same_index i x)
+  where
+    or_true : (b : Bool) → (b || true) ≡ true
+    or_true true = refl
+    or_true false = refl
+
+-- none is among both
+pub apart_without : (xs ys : List Index) → AreApart (without ys xs) (without xs ys)
+apart_without xs ys p q i leaves comes =
+    let no : true ≡ false = sym (has_at (without xs ys) q i comes) ∙ without-apart xs ys i (has_at (without ys xs) p i leaves) in
+    cc

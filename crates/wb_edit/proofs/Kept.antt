@@ -15,6 +15,9 @@ pub mod DroppedArray
 pub mod CombinedArrays
 pub mod Resized
 pub mod DroppedDomain
+pub mod Reshaped
+pub mod Exchanged
+pub mod NewValue
 use Rattle.std.proofs.Common.{◌≡◌, Ok, subst}
 use Rattle.selective_undo.specs.Changes.{apply}
 use Rattle.selective_undo.specs.Edit.{outcome, written}
@@ -24,7 +27,7 @@ use Rattle.wb_edit.specs.Commands.{meaning}
 use Rattle.wb_edit.specs.Laws.{KeepsWellFormed}
 use Rattle.wb_edit.specs.Valid.{IsValid}
 use Rattle.wb_edit.specs.declared.edit.Edit.{Edit as Command}
-use Rattle.wb_edit.specs.declared.edit.Edit.TheVariants.{Domain, Remap, Sparse, Assoc, Array, Set, Irv, Copy, Fill, FillAll, DropArray, All, Add, Remove, DropDomain}
+use Rattle.wb_edit.specs.declared.edit.Edit.TheVariants.{Domain, Remap, Sparse, Assoc, Array, Set, Irv, Copy, Fill, FillAll, DropArray, All, Add, Remove, DropDomain, Reshape}
 use Rattle.wb_edit.proofs.Kept.NewDomain.{domain_kept}
 use Rattle.wb_edit.proofs.Kept.NewSet.{sparse_kept, assoc_kept}
 use Rattle.wb_edit.proofs.Kept.Remapped.{remap_kept}
@@ -38,6 +41,7 @@ use Rattle.wb_edit.proofs.Kept.DroppedArray.{drop_array_kept}
 use Rattle.wb_edit.proofs.Kept.CombinedArrays.{all_kept}
 use Rattle.wb_edit.proofs.Kept.DroppedDomain.{drop_domain_kept}
 use Rattle.wb_edit.proofs.Kept.Resized.{add_kept, remove_kept}
+use Rattle.wb_edit.proofs.Kept.NewValue.{reshape_kept}
 
 pub keeps_well_formed : KeepsWellFormed
 keeps_well_formed (Domain d rs m) s valid h = domain_kept s d rs m valid h
@@ -55,6 +59,7 @@ keeps_well_formed (All a how b) s valid h = all_kept s a how b h
 keeps_well_formed (Add d i) s valid h = add_kept s d i valid h
 keeps_well_formed (Remove d i) s valid h = remove_kept s d i h
 keeps_well_formed (DropDomain d) s valid h = drop_domain_kept s d h
+keeps_well_formed (Reshape d source) s valid h = reshape_kept s d source valid h
 
 -- where it is accepted, the changes leave a well-formed workbook
 pub accepted_well_formed : (e : Command) (s : Cells) (xs : Changes) → IsValid e → IsWellFormed s → outcome (meaning e) s ≡ Ok xs → IsWellFormed (apply xs s)

@@ -3,6 +3,7 @@ pub mod Columns
 pub mod Attempts
 pub mod Sums
 pub mod Rectangles
+pub mod Absences
 pub mod Members
 pub mod Elements
 pub mod Becoming
@@ -11,4 +12,5 @@ pub mod Layouts
 pub mod Exchanges
 pub mod Fills
 pub mod Memberships
+pub mod Sets
 pub mod Kept

@@ -1,7 +1,8 @@
 -- Looks at many cells.
-use Rattle.std.proofs.Common.{◌≡◌, ℕ, zero, suc, ◌+◌, ◌≤◌, arith, Bool, true, false, ◌&&◌, List, [], ◌∷◌, ◌++◌, map, take, length, Option, Some, is_some, slice_get, refl, sym, ap, ◌∙◌, append_assoc, append-nil, add-one}
+use Rattle.std.proofs.Common.{◌≡◌, ℕ, zero, suc, ◌+◌, ◌≤◌, arith, Bool, true, false, ◌&&◌, ◌||◌, List, [], ◌∷◌, ◌++◌, map, take, length, Option, Some, is_some, slice_get, refl, sym, ap, ◌∙◌, append_assoc, append-nil, add-one}
+use Rattle.std.proofs.lemmas.List.Folds.{list_any-append}
 use Rattle.std.specs.FinMap.{get}
-use Rattle.std.specs.List.{list_all}
+use Rattle.std.specs.List.{list_all, list_any}
 use Rattle.selective_undo.specs.Edit.{reads}
 use Rattle.wb_book.specs.declared.cells.cell.Cell.{Cell}
 use Rattle.wb_book.specs.declared.cells.pattern.Pattern.{Pattern}
@@ -41,6 +42,19 @@ list_all-last : (vs : List (Option Value)) (v : Option Value) → list_all is_so
 list_all-last [] v = elim (is_some v) as (λ b. (b && true) ≡ b) [ true ↦ refl | false ↦ refl ]
 list_all-last (w ∷ vs) v = ap (λ b. is_some w && b) (list_all-last vs v) ∙ and-assoc (is_some w) (list_all is_some vs) (is_some v)
 
+-- one more element that a test is asked of
+pub each_more : {X : Type 0} (test : X → Bool) (xs : List X) (p : ℕ) (x : X) → slice_get xs p ≡ Some x → list_all test (take (p + 1) xs) ≡ (list_all test (take p xs) && test x)
+each_more test xs p x here =
+    ap (λ n. list_all test (take n xs)) (add-one p) ∙ ap (list_all test) (take_more xs p x here) ∙ last (take p xs)
+  where
+    last : (ys : List _) → list_all test (ys ++ x ∷ []) ≡ (list_all test ys && test x)
+    last [] = elim (test x) as (λ b. (b && true) ≡ b) [ true ↦ refl | false ↦ refl ]
+    last (y ∷ ys) = ap (λ b. test y && b) (last ys) ∙ and-assoc (test y) (list_all test ys) (test x)
+
+or-false : (b : Bool) → (b || false) ≡ b
+or-false true = refl
+or-false false = refl
+
 module _ (f : Index → Cell) (is : List Index) (p : ℕ) (i : Index) (here : slice_get is p ≡ Some i) where
   cells_more : map f (take (p + 1) is) ≡ map f (take p is) ++ f i ∷ []
   cells_more = ap (λ n. map f (take n is)) (add-one p) ∙ ap (map f) (take_more is p i here) ∙ map-append f (take p is) (i ∷ [])
@@ -57,3 +71,10 @@ module _ (f : Index → Cell) (is : List Index) (p : ℕ) (i : Index) (here : sl
       ap (λ cs. list_all is_some (map (get s) cs)) cells_more
       ∙ ap (list_all is_some) (map-append (get s) (map f (take p is)) (f i ∷ []))
       ∙ list_all-last (map (get s) (map f (take p is))) (get s (f i))
+
+  pub any_more : (s : Cells) → list_any is_some (map (get s) (map f (take (p + 1) is))) ≡ (list_any is_some (map (get s) (map f (take p is))) || is_some (get s (f i)))
+  any_more s =
+      ap (λ cs. list_any is_some (map (get s) cs)) cells_more
+      ∙ ap (list_any is_some) (map-append (get s) (map f (take p is)) (f i ∷ []))
+      ∙ list_any-append is_some (map (get s) (map f (take p is))) (get s (f i) ∷ [])
+      ∙ ap (λ b. list_any is_some (map (get s) (map f (take p is))) || b) (or-false (is_some (get s (f i))))

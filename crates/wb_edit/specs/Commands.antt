@@ -19,7 +19,7 @@ use Rattle.wb_book.specs.Kinds.{kind_of}
 use Rattle.wb_book.specs.Shapes.{Range, indices}
 use Rattle.wb_book.specs.WellFormed.{index_cell}
 use Rattle.wb_edit.specs.declared.edit.Edit.{Edit as Command}
-use Rattle.wb_edit.specs.declared.edit.Edit.TheVariants.{Domain, Remap, Sparse, Assoc, Array, Set, Irv, Copy, Fill, FillAll, DropArray, All, Add, Remove, DropDomain}
+use Rattle.wb_edit.specs.declared.edit.Edit.TheVariants.{Domain, Remap, Sparse, Assoc, Array, Set, Irv, Copy, Fill, FillAll, DropArray, All, Add, Remove, DropDomain, Reshape}
 use Rattle.wb_edit.specs.declared.operation.Operation.{Operation}
 use Rattle.wb_edit.specs.Looks.{Tree, ◌>>=◌, read}
 use Rattle.wb_edit.specs.Tests.{free, dom, arr, key, element, idx}
@@ -30,7 +30,9 @@ use Rattle.wb_edit.specs.Elements.{elements, over_one_domain, results_within}
 use Rattle.wb_edit.specs.Layouts.{mapped}
 use Rattle.wb_edit.specs.Rectangles.{over_rectangle, all_elements}
 use Rattle.wb_edit.specs.Users.{bound, uses, unused}
-use Rattle.wb_edit.specs.Resizing.{zeros, with_members, inside, fills}
+use Rattle.wb_edit.specs.Resizing.{zeros, with_members}
+pub use Rattle.wb_edit.specs.Resizing.{resized}
+pub use Rattle.wb_edit.specs.Sources.{reshape}
 pub use Rattle.wb_resize.specs.Dropped.{own_cells, ended_cells}
 use Rattle.wb_resize.specs.Resized.{resized_cells}
 use Rattle.wb_edit.specs.Writes.{put, put_all, clear, clear_all}
@@ -179,14 +181,6 @@ drop_domain d = do
 
 -- ---- which indices a domain has (Chapel Language Specification, Domains)
 
--- indices leave a domain of a kind and others come to it, so that it has those of the list new: if it is sparse, they are in
--- its parent, and it is seen what new indices bring to the arrays over it
-abbrev pub resized : Name → DomainKind → (new leaving coming : List Index) → Tree
-resized d kind new leaving coming = do
-  unit ← inside kind new
-  brought ← fills d kind
-  write (resized_cells (kind_of kind) d brought leaving coming)
-
 -- a new index, where it isn't there; else the command ends, accepted, and writes nothing
 abbrev pub add_unless : Option Value → Name → DomainKind → Index → Tree
 add_unless (Some v) d kind i = write []
@@ -240,3 +234,4 @@ meaning (All a how b) = all a how b
 meaning (Add d i) = add d i
 meaning (Remove d i) = remove d i
 meaning (DropDomain d) = drop_domain d
+meaning (Reshape d source) = reshape d source

@@ -10,8 +10,11 @@ pub mod Layouts
 pub mod Users
 pub mod Resizing
 pub mod Writes
+pub mod Reshape
+pub mod Sources
 pub mod Commands
 pub mod Plans
 pub mod Changed
+pub mod ValidSources
 pub mod Valid
 pub mod Laws

@@ -1,6 +1,7 @@
 -- Tests of commands that change which indices a domain has, and what new indices bring to the arrays over it.
 use Rattle.std.specs.Prelude.{Bool, true, false, ℤ, pos, List, map, Option, Some, is_some, Result, Ok, Err}
 use Rattle.std.specs.List.{list_all, zip}
+use Rattle.selective_undo.specs.Edit.{write}
 use Rattle.wb_book.specs.declared.cells.cell.Cell.TheVariants.{In, Implicit}
 use Rattle.wb_book.specs.declared.cells.kind.DomainKind.{DomainKind}
 use Rattle.wb_book.specs.declared.cells.kind.DomainKind.TheVariants.{Rectangular, Sparse, Associative}
@@ -9,10 +10,12 @@ use Rattle.wb_book.specs.declared.cells.value.Value.{Value}
 use Rattle.wb_book.specs.declared.cells.value.Value.TheVariants.{Number}
 use Rattle.wb_book.specs.declared.values.index.Index.{Index}
 use Rattle.wb_book.specs.Cells.{Name}
+use Rattle.wb_book.specs.Kinds.{kind_of}
+use Rattle.wb_resize.specs.Resized.{resized_cells}
 pub use Rattle.wb_resize.specs.Fills.{number_or_zero, zeros}
 use Rattle.wb_edit.specs.declared.refusal.Refusal.{Refusal}
 use Rattle.wb_edit.specs.declared.refusal.Refusal.TheVariants.{WrongKind, OutOfParent}
-use Rattle.wb_edit.specs.Looks.{Look, ◌>>=◌, judged}
+use Rattle.wb_edit.specs.Looks.{Tree, Look, ◌>>=◌, judged}
 use Rattle.wb_edit.specs.Rectangles.{read_all}
 use Rattle.wb_edit.specs.Users.{bound, uses}
 
@@ -68,3 +71,13 @@ abbrev pub fills : Name → DomainKind → Look (List (Name × ℤ))
 fills d kind next = do
   users ← uses d
   defaults kind (bound Array users) next
+
+-- ---- what follows
+
+-- indices leave a domain of a kind and others come to it, so that it has those of the list new: if it is sparse, they are in
+-- its parent, and it is seen what new indices bring to the arrays over it
+abbrev pub resized : Name → DomainKind → (new leaving coming : List Index) → Tree
+resized d kind new leaving coming = do
+  unit ← inside kind new
+  brought ← fills d kind
+  write (resized_cells (kind_of kind) d brought leaving coming)

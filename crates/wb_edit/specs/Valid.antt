@@ -6,7 +6,8 @@ use Rattle.wb_book.specs.Kinds.{IsIndex}
 use Rattle.wb_book.specs.Layouts.{IsLayout}
 use Rattle.wb_book.specs.WellFormed.{IsRectangle}
 use Rattle.wb_edit.specs.declared.edit.Edit.{Edit as Command}
-use Rattle.wb_edit.specs.declared.edit.Edit.TheVariants.{Domain, Remap, Sparse, Assoc, Array, Set, Irv, Copy, Fill, FillAll, DropArray, All, Add, Remove, DropDomain}
+use Rattle.wb_edit.specs.ValidSources.{IsSource}
+use Rattle.wb_edit.specs.declared.edit.Edit.TheVariants.{Domain, Remap, Sparse, Assoc, Array, Set, Irv, Copy, Fill, FillAll, DropArray, All, Add, Remove, DropDomain, Reshape}
 
 -- what a command has to be so that it keeps a workbook well formed; every value of the type `Edit` is
 abbrev pub IsValid : Command → Type 0
@@ -40,3 +41,5 @@ IsValid (Add d i) = IsIndex i
 IsValid (Remove d i) = ⊤
 -- nothing is asked
 IsValid (DropDomain d) = ⊤
+-- what is given is as it has to be
+IsValid (Reshape d source) = IsSource source

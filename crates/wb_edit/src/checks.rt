@@ -7,6 +7,7 @@ ghost use Rattle.wb_edit.specs.Plans.{IsPlan};
 
 mod dropped;
 mod members;
+mod reshaped;
 
 use super::*;
 use std::alloc::Global;

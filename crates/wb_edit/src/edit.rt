@@ -3,11 +3,13 @@ ghost use Rattle.std.specs.Int.{w64};
 ghost use Rattle.std.specs.List.{All};
 ghost use Rattle.wb_book.specs.Kinds.{IsIndex};
 ghost use Rattle.wb_edit.specs.Valid.{IsValid};
+ghost use Rattle.wb_edit.specs.ValidSources.{IsGiven, IsSource};
 
 use crate::operation::Operation;
 use std::alloc::Global;
 use wb_book::{AnyIndex, AnyLayout, AnyRect, Index, KeyType, Name};
 use wb_range::NoMemory;
+use wb_resize::{Given, Source};
 
 /// A command that changes a workbook, as it is asked for.
 ///
@@ -49,11 +51,14 @@ pub enum Edit {
     Remove(Name, AnyIndex),
     /// The end of a domain to which nothing is bound.
     DropDomain(Name),
+    /// A new value of the domain of this name, from a source of its kind (Chapel Language Specification, Domains: assignment,
+    /// slicing, translate, expand, and set operations on associative domains).
+    Reshape(Name, Source),
 }
 
 impl Edit {
-    /// An equal edit, or `NoMemory` where none is left. The edits so far are of a fixed size and take none.
-    pub fn copy(&self, _alloc: Global) -> Result<Edit, NoMemory>
+    /// An equal edit, or `NoMemory` where none is left for a set of indices in it. All else is of a fixed size and takes none.
+    pub fn copy(&self, alloc: Global) -> Result<Edit, NoMemory>
         ensures { IfOk result (λ e. e ≡ self.now) }
     {
         match self {
@@ -76,11 +81,12 @@ impl Edit {
             Edit::Add(domain, index) => Ok(Edit::Add(*domain, *index)),
             Edit::Remove(domain, index) => Ok(Edit::Remove(*domain, *index)),
             Edit::DropDomain(domain) => Ok(Edit::DropDomain(*domain)),
+            Edit::Reshape(domain, source) => Ok(Edit::Reshape(*domain, source.copy(alloc)?)),
         }
     }
 
     /// Computes nothing. Callers learn what every edit is: its new name is a name, its ranges and mapping are within the limits,
-    /// its number is one of 64 bits.
+    /// its number is one of 64 bits, and its indices are made of such numbers or of texts of labels.
     pub fn validity(&self)
         ensures { IsValid self.now }
     {
@@ -122,7 +128,42 @@ impl Edit {
             Edit::Add(_, index) => index_validity(index),
             Edit::Remove(_, _) => {}
             Edit::DropDomain(_) => {}
+            Edit::Reshape(_, source) => source_validity(source),
         }
+    }
+}
+
+// Computes nothing. Callers learn what the source of a domain's new value is made of.
+fn source_validity(source: &Source)
+    ensures { IsSource source.now }
+{
+    match source {
+        Source::To(given) => given_validity(given),
+        Source::Slice(given) => given_validity(given),
+        Source::Displace(_, _) => {}
+        Source::Combine(_, given) => given_validity(given),
+    }
+}
+
+// Computes nothing. Callers learn what is given.
+fn given_validity(given: &Given)
+    ensures { IsGiven given.now }
+{
+    match given {
+        Given::Rectangle(ranges) => {
+            let _rank = ranges.rank();
+        }
+        Given::Items(items) => indices_validity(items.as_slice()),
+        Given::Named(_) => {}
+    }
+}
+
+// Computes nothing. Callers learn what the indices are made of.
+fn indices_validity(indices: &[AnyIndex])
+    ensures { All IsIndex indices.now }
+{
+    for index in indices {
+        index_validity(index);
     }
 }
 

@@ -33,7 +33,7 @@ use Rattle.wb_edit.specs.Resizing.{has_members, with_members, inside_if, all_ins
 use Rattle.wb_edit.specs.Tests.{domain_kind, fits, key}
 use Rattle.wb_edit.proofs.Kept.NewArray.{zero_fits}
 use Rattle.wb_edit.proofs.Kept.Fills.{keeps_all, first_and}
-use Rattle.wb_edit.proofs.Kept.Steps.{Keeps, keeps_read, keeps_judged, domain_is}
+use Rattle.wb_edit.proofs.Kept.Steps.{Keeps, keeps_read, keeps_judged, domain_is, passed_is}
 
 -- ---- the arrays over a domain, with numbers
 
@@ -72,9 +72,16 @@ keeps_inside s (Sparse parent rank) is next h kept =
     keeps_all s cs (λ vs. judged (all_inside vs) next) (
     keeps_judged s (all_inside (map (get s) cs)) next h (λ x ok. kept x (found_inside _ x ok)))
 
--- indices of the type of a domain
-abbrev pub AreKeys : DomainKind → List Index → Type 0
-AreKeys kind is = AllByRecursion (λ i. (is_key (kind_of kind) i ≡ true) × IsIndex i) is
+-- what is asked of an index that comes to a domain, besides that it is in the parent
+abbrev pub IsKeyOf : DomainKind → Index → Type 0
+IsKeyOf (Rectangular rank) i = Unit {0}
+IsKeyOf (Sparse parent rank) i = Unit {0}
+IsKeyOf (Associative type) i = (is_key (over_associative type) i ≡ true) × IsIndex i
+
+key_of : (kind : DomainKind) (i : Index) → is_key (kind_of kind) i ≡ true → IsIndex i → IsKeyOf kind i
+key_of (Rectangular rank) i fitting valid = tt
+key_of (Sparse parent rank) i fitting valid = tt
+key_of (Associative type) i fitting valid = (fitting, valid)
 
 was_present : (b : Bool) → is_some (present_if b) ≡ true → present_if b ≡ Some Present
 was_present true e = refl
@@ -84,16 +91,15 @@ there_inside : (o : Option (List (List ℤ))) (i : Index) → is_some (inside_of
 there_inside (Some rs) i e = was_present _ e
 there_inside None i e = cc
 
-may_have : (s : Cells) (kind : DomainKind) (is : List Index) → IsWellFormed s → HasMembers kind → AreKeys kind is → AreInside s kind is → AllByRecursion (MayHave s (Some kind)) is
-may_have s kind [] h set keys within = tt
-may_have s (Rectangular rank) (i ∷ is) h set keys within = absurd set
-may_have s (Sparse parent rank) (i ∷ is) h set keys within =
+-- the indices that were found are in the parent
+all_present : (s : Cells) (parent : Name) (is : List Index) → IsWellFormed s → list_all is_some (map (get s) (map (In parent) is)) ≡ true → AllByRecursion (λ i. get s (In parent i) ≡ Some Present) is
+all_present s parent [] h within = tt
+all_present s parent (i ∷ is) h within =
     let both = first_and (is_some (get s (In parent i))) (list_all is_some (map (get s) (map (In parent) is))) within in
-    (h.insides parent i ∙ there_inside (ranges_in (get s (Shape parent))) i (ap is_some (sym (h.insides parent i)) ∙ both.0), may_have s (Sparse parent rank) is h set keys.1 both.1)
-may_have s (Associative type) (i ∷ is) h set keys within = (keys.0, may_have s (Associative type) is h set keys.1 within)
+    (h.insides parent i ∙ there_inside (ranges_in (get s (Shape parent))) i (ap is_some (sym (h.insides parent i)) ∙ both.0), all_present s parent is h both.1)
 
 -- what holds of each element holds of one that is among them
-holds_at : {X : Type 0} (P : X → Type 0) (xs : List X) (x : X) → AllByRecursion P xs → Contains xs x → P x
+pub holds_at : {X : Type 0} (P : X → Type 0) (xs : List X) (x : X) → AllByRecursion P xs → Contains xs x → P x
 holds_at P xs x all there = at xs there.0 all there.1 there.2
   where
     at : (ys : List _) (k : ℕ) → AllByRecursion P ys → k < length ys → get_or ys k x ≡ x → P x
@@ -101,24 +107,22 @@ holds_at P xs x all there = at xs there.0 all there.1 there.2
     at (y ∷ ys) zero h low e = subst P e h.0
     at (y ∷ ys) (suc k) h low e = at ys k h.1 (omega (arith, low)) e
 
+may_have : (s : Cells) (kind : DomainKind) (is : List Index) (i : Index) → IsWellFormed s → HasMembers kind → AreInside s kind is → Contains is i → IsKeyOf kind i → MayHave s (Some kind) i
+may_have s (Rectangular rank) is i h set within new keyed = absurd set
+may_have s (Sparse parent rank) is i h set within new keyed = holds_at (λ j. get s (In parent j) ≡ Some Present) is i (all_present s parent is h within) new
+may_have s (Associative type) is i h set within new keyed = keyed
+
 -- indices leave, and others come that are among the new ones
-pub resized_kept : (s : Cells) (d : Name) (kind : DomainKind) (new leaving coming : List Index) → IsWellFormed s → domain_at s d ≡ Some kind → HasMembers kind → AreKeys kind new → ((i : Index) → Contains coming i → Contains new i)
+pub resized_kept : (s : Cells) (d : Name) (kind : DomainKind) (new leaving coming : List Index) → IsWellFormed s → domain_at s d ≡ Some kind → HasMembers kind → ((i : Index) → Contains coming i → Contains new i × IsKeyOf kind i)
     → Keeps (resized d kind new leaving coming) s
-resized_kept s d kind new leaving coming h there set keys among =
+resized_kept s d kind new leaving coming h there set come =
     let last : List (Name × ℤ) → Tree = λ fs. write (resized_cells (kind_of kind) d fs leaving coming) in
     keeps_inside s kind new (λ x. fills d kind last) h (λ x within.
     keeps_defaults s d kind last h there (λ fs are.
-    keeps_sets s d kind fs leaving coming h there set are (λ i comes. holds_at (MayHave s (Some kind)) new i (may_have s kind new h set keys within) (among i comes))))
-
-abbrev fitting : Bool → Result (Unit {0}) Refusal
-fitting b = elim b [ true ↦ Ok tt | false ↦ Err WrongKind ]
+    keeps_sets s d kind fs leaving coming h there set are (λ i comes. may_have s kind new i h set within (come i comes).0 (come i comes).1)))
 
 fits_is : (kind : Kind) (i : Index) (x : Unit {0}) → fits kind i ≡ Ok x → is_key kind i ≡ true
-fits_is kind i x e = by (is_key kind i) e
-  where
-    by : (b : Bool) → fitting b ≡ Ok x → b ≡ true
-    by true e = refl
-    by false e = cc
+fits_is kind i x e = passed_is (is_key kind i) x e
 
 -- ---- the commands
 
@@ -134,7 +138,7 @@ add_kept s d i valid h =
     let over : domain_at s d ≡ Some kind = ap domain_in (is ∙ domain_is v kind found) in
     elim there as (λ o. Keeps (add_unless o d kind i) s) [
       | Some w ↦ h
-      | None ↦ resized_kept s d kind (i ∷ []) [] (i ∷ []) h over (members_of kind x set) ((fits_is (kind_of kind) i y ok, valid), tt) (λ j among. among)
+      | None ↦ resized_kept s d kind (i ∷ []) [] (i ∷ []) h over (members_of kind x set) (λ j comes. (comes, holds_at (IsKeyOf kind) (i ∷ []) j (key_of kind i (fits_is (kind_of kind) i y ok) valid, tt) comes))
     ])))))
 
 nothing_in : {X : Type 0} (x : X) → Contains [] x → ⊥

@@ -1,5 +1,5 @@
 -- What a look and a judgement let through, and what they saw then.
-use Rattle.std.proofs.Common.{◌≡◌, Option, Some, None, Result, Ok, Err, refl, sym, subst}
+use Rattle.std.proofs.Common.{◌≡◌, Bool, true, false, Option, Some, None, Result, Ok, Err, refl, sym, subst}
 use Rattle.std.specs.FinMap.{get}
 use Rattle.selective_undo.specs.Edit.{step}
 use Rattle.wb_book.specs.declared.cells.cell.Cell.{Cell}
@@ -10,6 +10,7 @@ use Rattle.wb_book.specs.declared.cells.value.Value.TheVariants.{Domain, Array}
 use Rattle.wb_book.specs.Cells.{Name, Cells}
 use Rattle.wb_book.specs.WellFormed.{IsWellFormed}
 use Rattle.wb_edit.specs.declared.refusal.Refusal.{Refusal}
+use Rattle.wb_edit.specs.declared.refusal.Refusal.TheVariants.{WrongKind}
 use Rattle.wb_edit.specs.Looks.{Tree, read, judged}
 use Rattle.wb_edit.specs.Tests.{is_free, domain_kind, array_kind, is_there}
 use Rattle.wb_edit.proofs.Trees.{seen_value}
@@ -44,3 +45,8 @@ array_is _ x e = cc
 pub there_is : (v : Option Value) (x : Unit {0}) → is_there v ≡ Ok x → (w : Value) × (v ≡ Some w)
 there_is None x e = cc
 there_is (Some w) x e = (w, refl)
+
+-- a test that was passed
+pub passed_is : (b : Bool) (x : Unit {0}) → ◌≡◌ {A = Result (Unit {0}) Refusal} (elim b [ true ↦ Ok tt | false ↦ Err WrongKind ]) (Ok x) → b ≡ true
+passed_is true x e = refl
+passed_is false x e = cc

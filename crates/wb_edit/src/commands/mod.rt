@@ -13,6 +13,7 @@ pub mod filled_array;
 pub mod implicit;
 pub mod remapped;
 pub mod removed;
+pub mod reshape;
 pub mod resized;
 pub mod seen;
 pub mod sets;

@@ -9,6 +9,8 @@ pub mod layouts;
 pub mod looks;
 pub mod numbers;
 pub mod rectangles;
+pub mod reshaping;
 pub mod resizing;
+pub mod sources;
 pub mod stop;
 pub mod users;

@@ -4,7 +4,7 @@ ghost use Rattle.std.specs.Prelude.{◌≡◌, IfOk, IfErr};
 ghost use Rattle.std.specs.List.{filter_map};
 ghost use Rattle.wb_book.specs.Readers.{seen};
 ghost use Rattle.wb_book.specs.declared.cells.pattern.Pattern.TheVariants.{Uses};
-ghost use Rattle.wb_book.specs.declared.cells.value.Binding.TheVariants.{Array};
+ghost use Rattle.wb_book.specs.declared.cells.value.Binding.TheVariants.{Array, Sparse};
 ghost use Rattle.wb_edit.specs.Changed.{items_of};
 ghost use Rattle.wb_edit.specs.Plans.{Looks};
 ghost use Rattle.wb_edit.specs.Users.{binding_in, user_in, named, bound, is_unused, uses, unused};
@@ -115,6 +115,40 @@ pub(crate) fn arrays(alloc: Global, users: &[(Name, Binding)]) -> Result<Vec<Nam
     ensures only { IfErr result (λ e. e ≡ NoMemory) }
 {
     match arrays_in(alloc, users) {
+        Ok(names) => Ok(names),
+        Err(_) => Err(Stop::NoMemory),
+    }
+}
+
+// The name of a user that is a sparse domain.
+fn named_sparse(user: &(Name, Binding)) -> Option<Name>
+    ensures { result ≡ named Sparse user.now }
+{
+    match user.1 {
+        Binding::Array => None,
+        Binding::Sparse => Some(user.0),
+    }
+}
+
+fn sparse_in(alloc: Global, users: &[(Name, Binding)]) -> Result<Vec<Name>, AllocError>
+    ensures { IfOk result (λ v. v.items ≡ bound Sparse users.now) }
+{
+    users
+        .iter()
+        .filter_map(
+            |user: &(Name, Binding)| -> Option<Name>
+                ensures { result ≡ named Sparse user.now }
+            { named_sparse(user) },
+        )
+        .collect(alloc)
+}
+
+/// The names of the users that are sparse domains.
+pub(crate) fn sparse_domains(alloc: Global, users: &[(Name, Binding)]) -> Result<Vec<Name>, Stop>
+    ensures same { IfOk result (λ v. v.items ≡ bound Sparse users.now) }
+    ensures only { IfErr result (λ e. e ≡ NoMemory) }
+{
+    match sparse_in(alloc, users) {
         Ok(names) => Ok(names),
         Err(_) => Err(Stop::NoMemory),
     }

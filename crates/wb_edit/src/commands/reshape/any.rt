@@ -1,0 +1,48 @@
+//! A new value of a domain of any kind.
+
+ghost use Rattle.wb_edit.specs.Plans.{Attempts};
+ghost use Rattle.wb_edit.specs.Sources.{reshape, reshape_kind};
+
+use crate::commands::reshape::rectangles::plan_reshape_rectangle;
+use crate::commands::reshape::sets::{plan_reshape_associative, plan_reshape_sparse};
+use crate::foot::Foot;
+use crate::tests::looks::dom;
+use crate::tests::stop::Stop;
+use std::alloc::Global;
+use wb_book::{AnyDomain, Book, Delta, DomainKind, Name};
+use wb_resize::Source;
+
+fn plan_reshape_kind(
+    alloc: Global,
+    book: &Book,
+    foot: &mut Foot,
+    domain: Name,
+    kind: &AnyDomain,
+    source: &Source,
+) -> Result<Delta, Stop>
+    ensures { Attempts (reshape_kind domain kind.now source.now) book.now.cells foot.old result foot.new }
+{
+    match kind.domain_kind() {
+        DomainKind::Rectangular(rank) => {
+            plan_reshape_rectangle(alloc, book, foot, domain, rank, source)
+        }
+        DomainKind::Sparse(_, _) => plan_reshape_sparse(alloc, book, foot, domain, kind, source),
+        DomainKind::Associative(_) => {
+            plan_reshape_associative(alloc, book, foot, domain, kind, source)
+        }
+    }
+}
+
+/// A new value of a domain.
+pub(crate) fn plan_reshape(
+    alloc: Global,
+    book: &Book,
+    foot: &mut Foot,
+    domain: Name,
+    source: &Source,
+) -> Result<Delta, Stop>
+    ensures { Attempts (reshape domain source.now) book.now.cells foot.old result foot.new }
+{
+    let kind = dom(book, foot, domain)?;
+    plan_reshape_kind(alloc, book, foot, domain, &kind, source)
+}

@@ -1,0 +1,110 @@
+//! New ranges of a rectangular domain, by their source.
+
+ghost use Rattle.wb_edit.specs.Plans.{Attempts};
+ghost use Rattle.wb_edit.specs.Reshape.{reshaped};
+ghost use Rattle.wb_edit.specs.Sources.{to_rectangle, slice_rectangle, displace_rectangle, reshape_rectangle};
+
+use crate::commands::reshape::no_source::plan_no_source;
+use crate::commands::reshape::replaced::plan_replaced;
+use crate::foot::Foot;
+use crate::tests::reshaping::shape;
+use crate::tests::sources::{displacement_of, gives_rectangle, ranges_given, same_rank, slice_of};
+use crate::tests::stop::{Stop, stopped};
+use std::alloc::Global;
+use wb_book::{AnyRect, Book, Delta, Name, Point};
+use wb_resize::new_rectangles::left_out;
+use wb_resize::{Displacement, Given, Source};
+
+// A rectangular domain with some ranges gets new ones.
+fn plan_reshaped(
+    alloc: Global,
+    book: &Book,
+    foot: &mut Foot,
+    domain: Name,
+    old: &AnyRect,
+    new: &AnyRect,
+) -> Result<Delta, Stop>
+    ensures { Attempts (reshaped domain old.now new.now) book.now.cells foot.old result foot.new }
+{
+    let Ok(leaving) = left_out(alloc, new, old) else {
+        return Err(Stop::NoMemory);
+    };
+    let Ok(coming) = left_out(alloc, old, new) else {
+        return Err(Stop::NoMemory);
+    };
+    plan_replaced(alloc, book, foot, domain, new, &leaving, &coming)
+}
+
+// What is given takes the place of the ranges.
+fn plan_to(
+    alloc: Global,
+    book: &Book,
+    foot: &mut Foot,
+    domain: Name,
+    rank: u8,
+    given: &Given,
+) -> Result<Delta, Stop>
+    ensures { Attempts (to_rectangle domain rank given.now) book.now.cells foot.old result foot.new }
+{
+    gives_rectangle(book, foot, rank, given)?;
+    let old = shape(book, foot, domain)?;
+    let new = ranges_given(book, foot, given)?;
+    plan_reshaped(alloc, book, foot, domain, &old, &new)
+}
+
+// The ranges become what they have in common with those that are given.
+fn plan_slice(
+    alloc: Global,
+    book: &Book,
+    foot: &mut Foot,
+    domain: Name,
+    rank: u8,
+    given: &Given,
+) -> Result<Delta, Stop>
+    ensures { Attempts (slice_rectangle domain rank given.now) book.now.cells foot.old result foot.new }
+{
+    gives_rectangle(book, foot, rank, given)?;
+    let old = shape(book, foot, domain)?;
+    let by = ranges_given(book, foot, given)?;
+    let new = stopped(slice_of(&old, &by))?;
+    plan_reshaped(alloc, book, foot, domain, &old, &new)
+}
+
+// The ranges move by an offset for each dimension.
+fn plan_displace(
+    alloc: Global,
+    book: &Book,
+    foot: &mut Foot,
+    domain: Name,
+    rank: u8,
+    how: Displacement,
+    offsets: &Point,
+) -> Result<Delta, Stop>
+    ensures { Attempts (displace_rectangle domain rank how offsets.now) book.now.cells foot.old result foot.new }
+{
+    stopped(same_rank(rank as usize, offsets.coordinates().len()))?;
+    let old = shape(book, foot, domain)?;
+    let new = stopped(displacement_of(how, offsets, &old))?;
+    plan_reshaped(alloc, book, foot, domain, &old, &new)
+}
+
+/// A new value of a rectangular domain of a rank.
+pub(crate) fn plan_reshape_rectangle(
+    alloc: Global,
+    book: &Book,
+    foot: &mut Foot,
+    domain: Name,
+    rank: u8,
+    source: &Source,
+) -> Result<Delta, Stop>
+    ensures { Attempts (reshape_rectangle domain rank source.now) book.now.cells foot.old result foot.new }
+{
+    match source {
+        Source::To(given) => plan_to(alloc, book, foot, domain, rank, given),
+        Source::Slice(given) => plan_slice(alloc, book, foot, domain, rank, given),
+        Source::Displace(how, offsets) => {
+            plan_displace(alloc, book, foot, domain, rank, *how, offsets)
+        }
+        Source::Combine(_, given) => plan_no_source(book, foot, given),
+    }
+}
