@@ -8,6 +8,7 @@ use std::test::Fail;
 use wb_book::{AnyIndex, AnyLayout, AnyRect, Index, Name, Point};
 use wb_edit::Edit;
 use wb_range::Range;
+use wb_resize::{Given, Source};
 
 fn at(i: i64) -> AnyIndex {
     AnyIndex::new(Index::Point(Point::single(i)))
@@ -33,6 +34,11 @@ fn array(name: &str, over: &str) -> Result<Edit, Fail> {
 
 fn set(name: &str, i: i64, value: i64) -> Result<Edit, Fail> {
     Ok(Edit::Set(Name::new(name)?, at(i), value))
+}
+
+fn reshape(name: &str, low: i64, high: i64) -> Result<Edit, Fail> {
+    let ranges = interval(low, high).ok_or("a rectangle")?;
+    Ok(Edit::Reshape(Name::new(name)?, Source::To(Given::Rectangle(ranges))))
 }
 
 fn element(history: &History, name: &str, i: i64) -> Result<Option<i64>, Fail> {
@@ -143,6 +149,30 @@ fn first_run(rt: HostRuntime) -> Result<(), Fail> {
     assert_eq!(rt; undo(&rt, &mut history, 3)?, 1);
     assert_eq!(rt; history.in_force(3), Some(false));
     assert_eq!(rt; history.len(), 3);
+    Ok(())
+}
+
+// A fill, a reshape and the end of an array, each undone and put in force again.
+#[test]
+fn refused_growths(rt: HostRuntime) -> Result<(), Fail> {
+    let alloc = rt.alloc();
+    let mut history = History::new(alloc);
+    edit(&rt, alloc, &mut history, domain("D", 1, 4)?)?;
+    edit(&rt, alloc, &mut history, array("A", "D")?)?;
+    let array = Name::new("A")?;
+    let (_, filled) = edit(&rt, alloc, &mut history, Edit::FillAll(array, 7))?;
+    let (_, reshaped) = edit(&rt, alloc, &mut history, reshape("D", 1, 2)?)?;
+    let (_, dropped) = edit(&rt, alloc, &mut history, Edit::DropArray(array))?;
+    assert_eq!(rt; (filled, reshaped, dropped), (4, 3, 5));
+    for (number, count) in [(5, 5), (4, 3), (3, 4)] {
+        assert_eq!(rt; undo(&rt, &mut history, number)?, count);
+    }
+    assert_eq!(rt; element(&history, "A", 4)?, Some(0));
+    assert_eq!(rt; redo(&rt, &mut history, 3)?, 4);
+    assert_eq!(rt; element(&history, "A", 4)?, Some(7));
+    assert_eq!(rt; redo(&rt, &mut history, 4)?, 3);
+    assert_eq!(rt; redo(&rt, &mut history, 5)?, 5);
+    assert_eq!(rt; history.book().writes(), 46);
     Ok(())
 }
 
