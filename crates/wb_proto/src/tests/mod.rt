@@ -4,6 +4,7 @@ mod mappings;
 mod members;
 mod requests;
 mod sessions;
+mod texts;
 
 use crate::session;
 use std::alloc::Global;
