@@ -2,12 +2,13 @@
 ghost use Rattle.std.specs.Prelude.{◌≡◌, ◌≢◌, codes, IfOk, IfErr, Ok, Err};
 ghost use Rattle.serde_json.specs.Errors.{IsMemory};
 ghost use Rattle.serde_json.specs.View.{view};
+ghost use Rattle.wb_proto.specs.Answers.{IsAnswer};
 ghost use Rattle.wb_proto.specs.Requests.{undo_by_number, undo_of, redo_of, by_op, request_of, request};
 
 use crate::requests::arrays::{
     all_of, array_of, copy_of, drop_array_of, fill_all_of, fill_of, irv_of, set_of,
 };
-use crate::requests::domains::{domain_of, drop_domain_of, remap_of};
+use crate::requests::domains::{domain_of, drop_domain_of, remap_of, reshape_of};
 use crate::requests::fields::{field_count, has_fields, text_field, u64_field};
 use crate::requests::queries::{get_of, size_of, state_of, where_of};
 use crate::requests::request::Request;
@@ -42,8 +43,9 @@ fn redo_of(value: &Value) -> Result<Request, Refusal>
     Ok(Request::Redo(number))
 }
 
-fn by_op(op: &str, value: &Value) -> Result<Request, Refusal>
-    ensures { result ≡ by_op op.now (view value.now) }
+#[tactic(auto, using(crate::proofs::Lines::as_answer))]
+fn by_op(alloc: Global, op: &str, value: &Value) -> Result<Request, Refusal>
+    ensures { IsAnswer (by_op op.now (view value.now)) result }
 {
     match op {
         "domain" => domain_of(value),
@@ -51,6 +53,7 @@ fn by_op(op: &str, value: &Value) -> Result<Request, Refusal>
         "sparse" => sparse_of(value),
         "assoc" => assoc_of(value),
         "drop_domain" => drop_domain_of(value),
+        "reshape" => reshape_of(alloc, value),
         "add" => add_of(value),
         "remove" => remove_of(value),
         "array" => array_of(value),
@@ -71,11 +74,11 @@ fn by_op(op: &str, value: &Value) -> Result<Request, Refusal>
     }
 }
 
-fn request_of(value: &Value) -> Result<Request, Refusal>
-    ensures { result ≡ request_of (view value.now) }
+fn request_of(alloc: Global, value: &Value) -> Result<Request, Refusal>
+    ensures { IsAnswer (request_of (view value.now)) result }
 {
     let op = text_field(value, "op")?;
-    by_op(op, value)
+    by_op(alloc, op, value)
 }
 
 // Why a text is no JSON, or that memory ran out.
@@ -98,7 +101,7 @@ pub fn read_request(alloc: Global, line: &[u8]) -> Result<Request, Refusal>
     ensures err { IfErr result (λ why. why ≢ Refusal.NoMemory → request line.now ≡ Err why) }
 {
     match Value::from_slice(alloc, line) {
-        Ok(value) => request_of(&value),
+        Ok(value) => request_of(alloc, &value),
         Err(error) => Err(refusal_of(&error)),
     }
 }
