@@ -1,2 +1,9 @@
 pub mod Listing
 pub mod ObjectNames
+pub mod Readable
+pub mod ReadIndices
+pub mod ReadRanges
+pub mod ReadMappings
+pub mod ReadLines
+pub mod BookLines
+pub mod RangeSpelled

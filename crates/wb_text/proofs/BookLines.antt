@@ -1,0 +1,71 @@
+-- The text of a workbook is that of its lines, and two workbooks with one text have the same lines.
+use Rattle.std.proofs.Common.{◌≡◌, ℕ, List, [], ◌∷◌, ◌++◌, codes, Option, Some, None, unwrap_or, refl, sym, ap, ◌∙◌}
+use Rattle.std.proofs.lemmas.List.{append_cancel_left}
+use Rattle.std.specs.FinMap.{get}
+use Rattle.std.specs.List.{cons_option, filter_map, flat_map}
+use Rattle.wb_dist.specs.Maps.{whole}
+use Rattle.wb_book.specs.declared.cells.cell.Cell.TheVariants.{Object, Shape, Mapping}
+use Rattle.wb_book.specs.declared.cells.kind.DomainKind.{DomainKind}
+use Rattle.wb_book.specs.declared.cells.kind.DomainKind.TheVariants.{Rectangular, Sparse, Associative}
+use Rattle.wb_book.specs.declared.cells.value.Value.{Value}
+use Rattle.wb_book.specs.declared.cells.value.Value.TheVariants.{Domain, Array}
+use Rattle.wb_book.specs.Cells.{Name, Cells}
+use Rattle.wb_book.specs.Locales.{mapping_in}
+use Rattle.wb_book.specs.Readers.{objects}
+use Rattle.wb_book.specs.WellFormed.{ranges_in}
+use Rattle.wb_text.specs.Lines.{members, indices_in, elements_at, implicit_in, line_in, object_line, book_text}
+use Rattle.wb_text.proofs.Readable.{Each}
+use Rattle.wb_text.proofs.ReadLines.{Line, rectangular, sparse, associative, array, line_text, IsLine, lines_text, lines_read}
+
+-- what the line of a domain says
+abbrev pub domain_said : Cells → Name → DomainKind → Line
+domain_said s d (Rectangular rank) = rectangular d (unwrap_or (ranges_in (get s (Shape d))) []) (unwrap_or (mapping_in (get s (Mapping d))) whole)
+domain_said s d (Sparse parent rank) = sparse d parent (members s d)
+domain_said s d (Associative type) = associative d type (members s d)
+
+-- what the line of a name says, by what stands under it
+abbrev pub said_in : Cells → Name → Option Value → Option Line
+said_in s n (Some (Domain kind)) = Some (domain_said s n kind)
+said_in s n (Some (Array d kind)) = Some (array n d (elements_at s n (indices_in s d kind)) (implicit_in s n kind))
+said_in s n _ = None
+
+abbrev pub said_of : Cells → Name → Option Line
+said_of s n = said_in s n (get s (Object n))
+
+-- what the lines of a workbook say
+abbrev pub said : Cells → List Line
+said s = filter_map (said_of s) (objects s)
+
+abbrev text_or_none : Option Line → List ℕ
+text_or_none None = []
+text_or_none (Some l) = line_text l
+
+domain_text : (s : Cells) (n : Name) (kind : DomainKind) → line_in s n (Some (Domain kind)) ≡ line_text (domain_said s n kind)
+domain_text s n (Rectangular rank) = refl
+domain_text s n (Sparse parent rank) = refl
+domain_text s n (Associative type) = refl
+
+value_text : (s : Cells) (n : Name) (v : Option Value) → line_in s n v ≡ text_or_none (said_in s n v)
+value_text s n None = refl
+value_text s n (Some (Domain kind)) = domain_text s n kind
+value_text s n (Some (Array d kind)) = refl
+value_text s n (Some v) = refl
+
+one_more : (o : Option Line) (ls : List Line) → text_or_none o ++ flat_map line_text ls ≡ flat_map line_text (cons_option o ls)
+one_more None ls = refl
+one_more (Some l) ls = refl
+
+texts_of : (s : Cells) (ns : List Name) → flat_map (object_line s) ns ≡ flat_map line_text (filter_map (said_of s) ns)
+texts_of s [] = refl
+texts_of s (n ∷ ns) =
+    ap (λ t. t ++ flat_map (object_line s) ns) (value_text s n (get s (Object n)))
+    ∙ ap (λ t. text_or_none (said_of s n) ++ t) (texts_of s ns)
+    ∙ one_more (said_of s n) (filter_map (said_of s) ns)
+
+pub text_of_lines : (s : Cells) → book_text s ≡ codes "chapel-workbook 1\n" ++ lines_text (said s)
+text_of_lines s = ap (λ t. codes "chapel-workbook 1\n" ++ (t ++ codes "end\n")) (texts_of s (objects s))
+
+-- two workbooks with one text have the same lines, if each part of these may be written
+pub same_lines : (s t : Cells) → Each IsLine (said s) → Each IsLine (said t) → book_text s ≡ book_text t → said s ≡ said t
+same_lines s t h k e =
+    lines_read (said s) (said t) h k (append_cancel_left (codes "chapel-workbook 1\n") (lines_text (said s)) (lines_text (said t)) (sym (text_of_lines s) ∙ e ∙ text_of_lines t))
