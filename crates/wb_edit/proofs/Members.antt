@@ -1,14 +1,13 @@
 -- The members of a domain, as a look at all of them shows them: ascending, each once, and exactly those that are there.
-use Rattle.std.proofs.Common.{◌≡◌, Bool, true, false, cond, ◌&&◌, ◌||◌, T, List, [], ◌∷◌, Option, Some, None, is_some, refl, sym, ap, subst, ◌∙◌, Ordering}
-use Rattle.std.specs.Cmp.{Equal-is, eq_by_cmp_equiv}
-use Rattle.std.specs.Cmp.Lexicographic.{slice_cmp, nat_list_cmp_total}
-use Rattle.std.specs.FinMap.{get, find, entries, entries_sorted, retain_keys, get-entries, get-retain_keys, is_sorted}
+use Rattle.std.proofs.Common.{◌≡◌, Bool, true, false, cond, ◌||◌, T, List, [], ◌∷◌, Option, Some, None, is_some, refl, sym, ap, ◌∙◌}
+use Rattle.std.specs.Cmp.{Equal-is}
+use Rattle.std.specs.Cmp.Lexicographic.{slice_cmp}
+use Rattle.std.specs.FinMap.{get, find, is_sorted}
 use Rattle.std.specs.FinMap.Entries.{below_all}
-use Rattle.std.specs.List.{AllByRecursion, filter, filter_map}
+use Rattle.std.specs.List.{AllByRecursion, filter_map}
 use Rattle.std.specs.List.Sorted.{IsStrictlySortedBy}
-use Rattle.std.specs.Ordering.{eq_by_cmp, is_eq, is_lt, nat_cmp, ordering_then}
-use Rattle.std.specs.declared.cmp.Ordering.TheVariants.{Less, Equal, Greater}
-use Rattle.selective_undo.proofs.Evaluation.{entries-retain_keys}
+use Rattle.std.specs.Ordering.{eq_by_cmp, is_eq, nat_cmp}
+use Rattle.std.specs.declared.cmp.Ordering.TheVariants.{Less}
 use Rattle.wb_range.specs.Domain.{IsListedOnce}
 use Rattle.wb_assoc.proofs.Ascending.{IsListedOnce-sorted}
 use Rattle.wb_book.specs.declared.cells.cell.Cell.{Cell}
@@ -18,7 +17,7 @@ use Rattle.wb_book.specs.declared.cells.pattern.Pattern.TheVariants.{Members}
 use Rattle.wb_book.specs.declared.cells.value.Value.{Value}
 use Rattle.wb_book.specs.declared.values.index.Index.{Index}
 use Rattle.wb_book.specs.contracts.values.index.IndexOrd.TheImpl.Laws as index_laws
-use Rattle.wb_book.specs.Cells.{Name, Cells, cell_cmp, cell_order, index_cmp, index_cmp-IsAntisymmetric, is_same_name, same_names, matches}
+use Rattle.wb_book.specs.Cells.{Name, Cells, cell_cmp, index_cmp, index_cmp-IsAntisymmetric, is_same_name}
 use Rattle.wb_book.specs.Readers.{seen}
 use Rattle.wb_book.specs.WellFormed.{IsMember, has, present_if}
 use Rattle.wb_resize.proofs.Seen.{AreNamed, seen_named, seen_sorted, find_seen, same_family, second_less, second_tie}

@@ -1,5 +1,5 @@
 -- A look at the indices of a domain and at those that are given as its source.
-use Rattle.std.proofs.Common.{List, Result, Ok, Err}
+use Rattle.std.proofs.Common.{List, Result, Err}
 use Rattle.wb_book.specs.declared.cells.kind.Kind.{Kind}
 use Rattle.wb_book.specs.declared.cells.pattern.Pattern.{Pattern}
 use Rattle.wb_book.specs.declared.values.index.Index.{Index}

@@ -1,5 +1,5 @@
 -- Tests of commands that change which indices a domain has, and what new indices bring to the arrays over it.
-use Rattle.std.specs.Prelude.{Bool, true, false, ℤ, pos, List, map, Option, Some, is_some, Result, Ok, Err}
+use Rattle.std.specs.Prelude.{Bool, true, false, ℤ, List, map, Option, is_some, Result, Ok, Err}
 use Rattle.std.specs.List.{list_all, zip}
 use Rattle.selective_undo.specs.Edit.{write}
 use Rattle.wb_book.specs.declared.cells.cell.Cell.TheVariants.{In, Implicit}
@@ -7,7 +7,6 @@ use Rattle.wb_book.specs.declared.cells.kind.DomainKind.{DomainKind}
 use Rattle.wb_book.specs.declared.cells.kind.DomainKind.TheVariants.{Rectangular, Sparse, Associative}
 use Rattle.wb_book.specs.declared.cells.value.Binding.TheVariants.{Array}
 use Rattle.wb_book.specs.declared.cells.value.Value.{Value}
-use Rattle.wb_book.specs.declared.cells.value.Value.TheVariants.{Number}
 use Rattle.wb_book.specs.declared.values.index.Index.{Index}
 use Rattle.wb_book.specs.Cells.{Name}
 use Rattle.wb_book.specs.Kinds.{kind_of}

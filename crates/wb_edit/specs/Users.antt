@@ -1,14 +1,9 @@
 -- What is bound to a domain: the arrays over it, and the sparse domains in it.
-use Rattle.std.specs.Prelude.{List, [], ◌∷◌, Option, Some, None, option_map, Result, Ok, Err}
+use Rattle.std.specs.Prelude.{List, [], ◌∷◌, Result, Ok, Err}
 use Rattle.std.specs.List.{filter_map}
 use Rattle.selective_undo.specs.Edit.{look}
-use Rattle.wb_book.specs.declared.cells.cell.Cell.{Cell}
-use Rattle.wb_book.specs.declared.cells.cell.Cell.TheVariants.{Use}
 use Rattle.wb_book.specs.declared.cells.pattern.Pattern.TheVariants.{Uses}
 use Rattle.wb_book.specs.declared.cells.value.Binding.{Binding}
-use Rattle.wb_book.specs.declared.cells.value.Binding.TheVariants.{Array, Sparse}
-use Rattle.wb_book.specs.declared.cells.value.Value.{Value}
-use Rattle.wb_book.specs.declared.cells.value.Value.TheVariants.{Bound}
 use Rattle.wb_book.specs.Cells.{Name}
 pub use Rattle.wb_resize.specs.Users.{binding_in, user_in, named, bound}
 use Rattle.wb_edit.specs.declared.refusal.Refusal.{Refusal}

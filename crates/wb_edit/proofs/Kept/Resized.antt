@@ -1,37 +1,28 @@
 -- New and absent indices of sparse and associative domains keep a workbook well formed.
-use Rattle.std.proofs.Common.{◌≡◌, ℕ, zero, suc, ◌<◌, Bool, true, false, List, [], ◌∷◌, map, length, get_or, Option, Some, None, is_some, Result, Ok, Err, ℤ, pos, FitsSigned, refl, sym, ap, subst, ◌∙◌, arith}
+use Rattle.std.proofs.Common.{◌≡◌, ℕ, zero, suc, ◌<◌, Bool, true, false, List, [], ◌∷◌, map, length, get_or, Option, Some, None, is_some, Ok, ℤ, refl, sym, ap, subst, ◌∙◌, arith}
 use Rattle.std.proofs.lemmas.Simd.{map-map}
-use Rattle.std.specs.Int.{w64}
 use Rattle.std.specs.FinMap.{get}
-use Rattle.std.specs.List.{AllByRecursion, Contains, list_all, list_any, zip}
-use Rattle.std.specs.Map.{keys_of}
+use Rattle.std.specs.List.{AllByRecursion, Contains, list_all, zip}
 use Rattle.selective_undo.specs.Edit.{write}
 use Rattle.wb_book.specs.declared.cells.cell.Cell.{Cell}
-use Rattle.wb_book.specs.declared.cells.cell.Cell.TheVariants.{Object, Shape, In, Member, Use, Implicit}
+use Rattle.wb_book.specs.declared.cells.cell.Cell.TheVariants.{Object, Shape, In, Member, Implicit}
 use Rattle.wb_book.specs.declared.cells.kind.DomainKind.{DomainKind}
 use Rattle.wb_book.specs.declared.cells.kind.DomainKind.TheVariants.{Rectangular, Sparse, Associative}
 use Rattle.wb_book.specs.declared.cells.kind.Kind.{Kind}
-use Rattle.wb_book.specs.declared.cells.kind.Kind.TheVariants.{Rectangular as over_rectangular, Sparse as over_sparse, Associative as over_associative}
-use Rattle.wb_book.specs.declared.cells.pattern.Pattern.TheVariants.{Uses}
-use Rattle.wb_book.specs.declared.cells.value.Binding.TheVariants.{Array, Sparse as bound_sparse}
-use Rattle.wb_book.specs.declared.cells.value.Value.{Value}
-use Rattle.wb_book.specs.declared.cells.value.Value.TheVariants.{Domain, Array as array_value, Present, Bound}
+use Rattle.wb_book.specs.declared.cells.kind.Kind.TheVariants.{Associative as over_associative}
+use Rattle.wb_book.specs.declared.cells.value.Value.TheVariants.{Present}
 use Rattle.wb_book.specs.declared.values.index.Index.{Index}
-use Rattle.wb_book.specs.Cells.{Name, Cells, is_same_name}
+use Rattle.wb_book.specs.Cells.{Name, Cells}
 use Rattle.wb_book.specs.Kinds.{kind_of, is_key, IsIndex}
-use Rattle.wb_book.specs.Readers.{seen}
-use Rattle.wb_book.specs.WellFormed.{IsWellFormed, IsImplicit, MayHave, domain_in, domain_at, array_in, present_if, inside_of, ranges_in, use_of}
+use Rattle.wb_book.specs.WellFormed.{IsWellFormed, MayHave, domain_in, domain_at, present_if, inside_of, ranges_in}
 use Rattle.wb_resize.specs.Laws.{AreFills, HasMembers}
 use Rattle.wb_resize.specs.Resized.{resized_cells}
 use Rattle.wb_resize.proofs.Fills.{arrays, zeros_fill, implicits_fill}
 use Rattle.wb_resize.proofs.Sets.{keeps_sets}
-use Rattle.wb_edit.specs.declared.refusal.Refusal.{Refusal}
-use Rattle.wb_edit.specs.declared.refusal.Refusal.TheVariants.{WrongKind}
 use Rattle.wb_edit.specs.Commands.{add, add_unless, remove, remove_if, resized}
 use Rattle.wb_edit.specs.Looks.{Tree, judged, read}
 use Rattle.wb_edit.specs.Resizing.{has_members, with_members, inside_if, all_inside, inside, number_or_zero, zeros, defaults, fills}
 use Rattle.wb_edit.specs.Tests.{domain_kind, fits, key}
-use Rattle.wb_edit.proofs.Kept.NewArray.{zero_fits}
 use Rattle.wb_edit.proofs.Kept.Fills.{keeps_all, first_and}
 use Rattle.wb_edit.proofs.Kept.Steps.{Keeps, keeps_read, keeps_judged, domain_is, passed_is}
 

@@ -1,16 +1,14 @@
-use Rattle.std.proofs.Common.{◌≡◌, ℤ, pos, List, [], ◌∷◌, sym, ap, subst, ◌∙◌}
+use Rattle.std.proofs.Common.{◌≡◌, ℤ, List, [], ◌∷◌, sym, ap, subst, ◌∙◌}
 use Rattle.std.proofs.lemmas.Result.{err_from_is_err_and}
 use Rattle.std.specs.Map.{keys_of}
 use Rattle.selective_undo.specs.Edit.{write}
 use Rattle.wb_range.specs.Domain.{IsListedOnce}
 use Rattle.wb_book.specs.declared.cells.kind.DomainKind.{DomainKind}
-use Rattle.wb_book.specs.declared.cells.pattern.Pattern.TheVariants.{Uses}
 use Rattle.wb_book.specs.declared.cells.value.Binding.{Binding}
 use Rattle.wb_book.specs.declared.cells.value.Binding.TheVariants.{Array}
 use Rattle.wb_book.specs.declared.values.index.Index.{Index}
 use Rattle.wb_book.specs.Cells.{Name}
 use Rattle.wb_book.specs.Kinds.{kind_of}
-use Rattle.wb_book.specs.Readers.{seen}
 use Rattle.wb_resize.specs.Resized.{resized_cells}
 use Rattle.wb_resize.proofs.Fills.{arrays, zeros_once}
 use Rattle.wb_edit.specs.Looks.{Tree}

@@ -1,4 +1,4 @@
-use Rattle.std.proofs.Common.{◌≡◌, List, ◌++◌, map, sym, ap, ◌∙◌}
+use Rattle.std.proofs.Common.{List, ◌++◌, map, sym, ap, ◌∙◌}
 use Rattle.wb_book.specs.declared.cells.cell.Cell.TheVariants.{Member}
 use Rattle.wb_book.specs.declared.values.index.Index.{Index}
 use Rattle.wb_book.specs.Cells.{Name}

@@ -1,4 +1,4 @@
-use Rattle.std.proofs.Common.{◌≡◌, List, Ok, Err, sym, ap, subst, ◌∙◌}
+use Rattle.std.proofs.Common.{◌≡◌, List, Ok, ap, subst, ◌∙◌}
 use Rattle.std.proofs.lemmas.Result.{err_from_is_err_and}
 use Rattle.wb_book.specs.declared.cells.kind.DomainKind.{DomainKind}
 use Rattle.wb_book.specs.declared.cells.kind.Kind.{Kind}
