@@ -1,10 +1,12 @@
-ghost use Rattle.std.specs.Prelude.{◌≡◌, None};
+ghost use Rattle.std.specs.Prelude.{◌≡◌, None, IfOk};
 ghost use Rattle.wb_history.specs.Queries.{element_or_implicit, get_answer, value_answer, size_in, size_answer, count_answer, force_answer};
 
 use crate::piece::Piece;
 use crate::refusal::Refusal;
+use std::alloc::Global;
 use wb_book::{AnyDomain, AnyIndex, Book, Cell, DomainKind, Kind, Name};
 use wb_edit::{has_implicit, judgements, number_in, parent_in};
+use wb_range::NoMemory;
 
 /// A question about the workbook or its history.
 #[derive(Clone, Copy, Debug)]
@@ -34,6 +36,21 @@ pub enum Answer {
     Piece(Piece),
     /// Whether an edit is in force.
     InForce(bool),
+}
+
+impl Answer {
+    /// An equal answer, or `NoMemory`.
+    pub fn copy(&self, alloc: Global) -> Result<Answer, NoMemory>
+        ensures { IfOk result (λ a. a ≡ self.now) }
+    {
+        match self {
+            Answer::Value(value) => Ok(Answer::Value(*value)),
+            Answer::Size(size) => Ok(Answer::Size(*size)),
+            Answer::Locale(locale) => Ok(Answer::Locale(*locale)),
+            Answer::Piece(piece) => Ok(Answer::Piece(piece.copy(alloc)?)),
+            Answer::InForce(in_force) => Ok(Answer::InForce(*in_force)),
+        }
+    }
 }
 
 /// The element at an index of an array, or why there is none.

@@ -1,3 +1,4 @@
 pub mod Counts
 pub mod Lines
+pub mod Pieces
 pub mod Texts

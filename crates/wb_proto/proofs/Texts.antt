@@ -1,7 +1,8 @@
 -- What is written straight is the compact text of the reply.
-use Rattle.std.proofs.Common.{◌≡◌, ℕ, ℤ, pos, negsuc, Bool, true, false, codes, refl}
+use Rattle.std.proofs.Common.{◌≡◌, ℕ, ℤ, pos, negsuc, List, Bool, true, false, codes, subst, sym, refl, ap, ◌∙◌}
 use Rattle.serde_json.proofs.OnLiterals.{serde_json_on_literals}
 use Rattle.serde_json.specs.Written.{compact_text}
+use Rattle.wb_history.specs.declared.query.Answer.{Answer}
 use Rattle.wb_history.specs.declared.query.Answer.TheVariants.{Value, Size, Locale, InForce}
 use Rattle.wb_proto.specs.Printed.{numbers_text, value_text, size_text, locale_text, in_force_text}
 use Rattle.wb_proto.specs.Replies.{answer_data, reply_of}
@@ -36,3 +37,7 @@ pub in_force_is : (b : Bool) → in_force_text b ≡ compact_text (answer_data (
 unfolding serde_json_on_literals
 in_force_is true = refl
 in_force_is false = refl
+
+-- what is said of the text of an answer, by which answer it is
+pub by_answer : (P : List ℕ → Type 0) (a b : Answer) (t : List ℕ) → a ≡ b → t ≡ compact_text (answer_data b) → P t → P (compact_text (answer_data a))
+by_answer P a b t is text told = subst P (text ∙ ap (λ x. compact_text (answer_data x)) (sym is)) told

@@ -4,6 +4,7 @@ pub mod Literals
 pub mod Mappings
 pub mod Sources
 pub mod Requests
+pub mod Pieces
 pub mod Replies
 pub mod Printed
 pub mod Machine

@@ -6,7 +6,7 @@ use Rattle.wb_book.specs.Cells.{written_more}
 use Rattle.wb_edit.specs.Commands.{meaning}
 use Rattle.wb_edit.specs.declared.edit.Edit.{Edit}
 use Rattle.wb_history.specs.Past.{Past, meant, out_of_force, into_force}
-use Rattle.wb_history.specs.Queries.{answer}
+use Rattle.wb_history.specs.Queries.{QueryReply}
 use Rattle.wb_history.specs.Replies.{EditReply, UndoReply, LastReply, RedoReply, ByNumber}
 use Rattle.wb_history.specs.declared.query.Query.{Query}
 use Rattle.wb_history.specs.declared.refusal.Refusal.{Refusal}
@@ -59,8 +59,8 @@ Redoes p k _ q = ⊥
 
 -- a query: what the workbook and the history say
 abbrev pub Answers : Past → Query → Reply → Past → Type 0
-Answers p asked (Answered a) q = (answer (replay (meant p.entries)) p.entries asked ≡ Ok a) × (q ≡ p)
-Answers p asked (Refused why) q = (answer (replay (meant p.entries)) p.entries asked ≡ Err why) × (q ≡ p)
+Answers p asked (Answered a) q = QueryReply (replay (meant p.entries)) p.entries asked (Ok a) × (q ≡ p)
+Answers p asked (Refused why) q = QueryReply (replay (meant p.entries)) p.entries asked (Err why) × (q ≡ p)
 Answers p asked _ q = ⊥
 
 -- One step: from a history, by a request, to a reply and the next history.

@@ -6,9 +6,10 @@ use Rattle.serde_json.specs.Written.{compact_text}
 use Rattle.wb_edit.specs.declared.refusal.Refusal as why
 use Rattle.wb_edit.specs.declared.refusal.Refusal.TheVariants.{NameTaken, NoSuchName, WrongKind, OutOfDomain, OutOfParent, InUse, TooLarge, Overflow, BadMapping}
 use Rattle.wb_history.specs.declared.query.Answer.{Answer}
-use Rattle.wb_history.specs.declared.query.Answer.TheVariants.{Value, Size, Locale, InForce as InForceIs}
+use Rattle.wb_history.specs.declared.query.Answer.TheVariants.{Value, Size, Locale, Piece, InForce as InForceIs}
 use Rattle.wb_history.specs.declared.refusal.Refusal.{Refusal}
 use Rattle.wb_history.specs.declared.refusal.Refusal.TheVariants.{BadRequest, BadLiteral, Refused, NoSuchEdit, NotInForce, InForce, Blocked, RefusedInPlace, NoMemory}
+use Rattle.wb_proto.specs.Pieces.{piece_data}
 use Rattle.wb_proto.specs.declared.replies.reply.Reply.{Reply}
 use Rattle.wb_proto.specs.declared.replies.reply.Reply.TheVariants.{Edited, Undone, Redone, Answered, Refused as Refusing}
 
@@ -80,6 +81,7 @@ abbrev pub answer_data : Answer → Data
 answer_data (Value v) = object (member (codes "value") (number (of_integer v)) no_members)
 answer_data (Size n) = object (member (codes "size") (number (unsigned n)) no_members)
 answer_data (Locale l) = object (member (codes "locale") (number (unsigned l)) no_members)
+answer_data (Piece xs) = piece_data xs
 answer_data (InForceIs b) = object (member (codes "in_force") (boolean b) no_members)
 
 abbrev pub reply_data : Reply → Data

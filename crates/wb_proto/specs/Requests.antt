@@ -6,7 +6,7 @@ use Rattle.serde_json.specs.Data.{Data}
 use Rattle.serde_json.specs.Read.{read}
 use Rattle.wb_book.specs.Cells.{Name}
 use Rattle.wb_edit.specs.declared.edit.Edit.TheVariants.{Domain, Remap, Reshape, Sparse, Assoc, DropDomain, Add, Remove, Array, Set, Irv, Copy, Fill, FillAll, DropArray, All}
-use Rattle.wb_history.specs.declared.query.Query.TheVariants.{Get, Size, Where, State}
+use Rattle.wb_history.specs.declared.query.Query.TheVariants.{Get, Size, Where, Piece, State}
 use Rattle.wb_history.specs.declared.refusal.Refusal.{Refusal}
 use Rattle.wb_history.specs.declared.refusal.Refusal.TheVariants.{BadRequest}
 use Rattle.wb_proto.specs.Fields.{◌>>=◌, field_count, has_fields, has_fields_and, text_field, optional_text, i64_field, u64_field, name_field, index_field, key_type_field, operation_field}
@@ -203,6 +203,14 @@ size_of d = do
   name ← name_field (codes "d") d
   Ok (Ask (Size name))
 
+-- {"op":"piece","a":NAME,"l":NUMBER}
+abbrev pub piece_of : Data → Result Request Refusal
+piece_of d = do
+  unit ← has_fields 3 d
+  name ← name_field (codes "a") d
+  locale ← u64_field (codes "l") d
+  Ok (Ask (Piece name locale))
+
 -- {"op":"state","k":NUMBER}
 abbrev pub state_of : Data → Result Request Refusal
 state_of d = do
@@ -234,6 +242,7 @@ by_op op d =
     if bytes_eq op (codes "get") then get_of d else
     if bytes_eq op (codes "where") then where_of d else
     if bytes_eq op (codes "size") then size_of d else
+    if bytes_eq op (codes "piece") then piece_of d else
     if bytes_eq op (codes "state") then state_of d else
     Err BadRequest
 

@@ -1,4 +1,5 @@
 //! What a request is answered.
 
+pub mod pieces;
 pub mod reply;
 pub mod text;

@@ -5,7 +5,7 @@ use wb_history::{Answer, Refusal};
 use wb_range::NoMemory;
 
 /// What a request is answered.
-#[derive(Debug, PartialEq, Drop)]
+#[derive(Debug, Drop)]
 pub enum Reply {
     /// The number of a new edit, and how many cells it changed.
     Edited(u64, usize),
@@ -21,14 +21,14 @@ pub enum Reply {
 
 impl Reply {
     /// An equal reply, or `NoMemory`.
-    pub fn copy(&self, _alloc: Global) -> Result<Reply, NoMemory>
+    pub fn copy(&self, alloc: Global) -> Result<Reply, NoMemory>
         ensures { IfOk result (λ r. r ≡ self.now) }
     {
         match self {
             Reply::Edited(edit, n) => Ok(Reply::Edited(*edit, *n)),
             Reply::Undone(edit, n) => Ok(Reply::Undone(*edit, *n)),
             Reply::Redone(edit, n) => Ok(Reply::Redone(*edit, *n)),
-            Reply::Answered(answer) => Ok(Reply::Answered(*answer)),
+            Reply::Answered(answer) => Ok(Reply::Answered(answer.copy(alloc)?)),
             Reply::Refused(why) => Ok(Reply::Refused(*why)),
         }
     }

@@ -5,6 +5,7 @@ ghost use Rattle.serde_json.specs.Written.{compact_text};
 ghost use Rattle.wb_proto.specs.Printed.{numbers_text, value_text, size_text, locale_text, in_force_text};
 ghost use Rattle.wb_proto.specs.Replies.{edit_code, edit_name, code_of, name_of, refusal_data, answer_data, reply_data, reply_of};
 
+use crate::replies::pieces::piece_text;
 use crate::replies::reply::Reply;
 use serde_json::{Value, json};
 use std::alloc::{AllocError, Global};
@@ -147,15 +148,15 @@ fn in_force_text(alloc: Global, in_force: bool) -> Result<String, AllocError>
     }
 }
 
-#[tactic(auto, using(crate::proofs::Texts::value_is, crate::proofs::Texts::size_is, crate::proofs::Texts::locale_is, crate::proofs::Texts::in_force_is))]
-fn answer_text(alloc: Global, answer: Answer) -> Result<String, AllocError>
-    ensures { IfOk result (λ s. string_bytes s ≡ compact_text (answer_data answer)) }
+fn answer_text(alloc: Global, answer: &Answer) -> Result<String, AllocError>
+    ensures { IfOk result (λ s. string_bytes s ≡ compact_text (answer_data answer.now)) }
 {
     match answer {
-        Answer::Value(value) => value_text(alloc, value),
-        Answer::Size(size) => size_text(alloc, size as u64),
-        Answer::Locale(locale) => locale_text(alloc, locale as u64),
-        Answer::InForce(in_force) => in_force_text(alloc, in_force),
+        Answer::Value(value) => value_text(alloc, *value),
+        Answer::Size(size) => size_text(alloc, *size as u64),
+        Answer::Locale(locale) => locale_text(alloc, *locale as u64),
+        Answer::Piece(piece) => piece_text(alloc, piece),
+        Answer::InForce(in_force) => in_force_text(alloc, *in_force),
     }
 }
 
@@ -167,7 +168,7 @@ fn text_of(alloc: Global, reply: &Reply) -> Result<String, AllocError>
         Reply::Edited(edit, n) => numbers_text(alloc, "edit", *edit, "n", *n as u64),
         Reply::Undone(edit, n) => numbers_text(alloc, "n", *n as u64, "undone", *edit),
         Reply::Redone(edit, n) => numbers_text(alloc, "n", *n as u64, "redone", *edit),
-        Reply::Answered(answer) => answer_text(alloc, *answer),
+        Reply::Answered(answer) => answer_text(alloc, answer),
         Reply::Refused(refusal) => refusal_text(alloc, *refusal),
     }
 }

@@ -1,7 +1,7 @@
 // Requests for what the workbook and its history say.
 ghost use Rattle.std.specs.Prelude.{◌≡◌, codes};
 ghost use Rattle.serde_json.specs.View.{view};
-ghost use Rattle.wb_proto.specs.Requests.{get_of, where_of, size_of, state_of};
+ghost use Rattle.wb_proto.specs.Requests.{get_of, where_of, size_of, piece_of, state_of};
 
 use crate::requests::fields::{has_fields, index_field, name_field, u64_field};
 use crate::requests::request::Request;
@@ -25,6 +25,16 @@ pub(crate) fn size_of(value: &Value) -> Result<Request, Refusal>
     has_fields(value, 2)?;
     let name = name_field(value, "d")?;
     Ok(Request::Ask(Query::Size(name)))
+}
+
+/// The elements on a locale.
+pub(crate) fn piece_of(value: &Value) -> Result<Request, Refusal>
+    ensures { result ≡ piece_of (view value.now) }
+{
+    has_fields(value, 3)?;
+    let array = name_field(value, "a")?;
+    let locale = u64_field(value, "l")?;
+    Ok(Request::Ask(Query::Piece(array, locale)))
 }
 
 /// Whether an edit is in force.

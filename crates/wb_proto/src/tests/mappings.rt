@@ -350,14 +350,134 @@ const IN_ORDER: [(&str, &str); 30] = [
     ),
 ];
 
+// The elements on each locale, by the mapping as it is: upward also where the stride is negative, by the parent's mapping
+// for a sparse domain, and all on one locale where there is none.
+const PIECES: [(&str, &str); 30] = [
+    (
+        "{\"op\":\"domain\",\"d\":\"D\",\"is\":\"{0..5}\",\"map\":\"blockDist({0..5}, [2])\"}",
+        "{\"edit\":1,\"n\":3}\n",
+    ),
+    (
+        "{\"op\":\"remap\",\"d\":\"D\",\"map\":\"cyclicDist(0, [2])\"}",
+        "{\"edit\":2,\"n\":1}\n",
+    ),
+    (
+        "{\"op\":\"array\",\"a\":\"B\",\"d\":\"D\"}",
+        "{\"edit\":3,\"n\":9}\n",
+    ),
+    (
+        "{\"op\":\"piece\",\"a\":\"B\",\"l\":0}",
+        "{\"piece\":[[0,0],[2,0],[4,0]]}\n",
+    ),
+    ("{\"op\":\"undo\",\"k\":2}", "{\"n\":1,\"undone\":2}\n"),
+    (
+        "{\"op\":\"piece\",\"a\":\"B\",\"l\":0}",
+        "{\"piece\":[[0,0],[1,0],[2,0]]}\n",
+    ),
+    (
+        "{\"op\":\"piece\",\"a\":\"B\",\"l\":1}",
+        "{\"piece\":[[3,0],[4,0],[5,0]]}\n",
+    ),
+    (
+        "{\"op\":\"piece\",\"a\":\"B\",\"l\":2}",
+        "{\"error\":\"E06\",\"name\":\"out-of-domain\"}\n",
+    ),
+    (
+        "{\"op\":\"piece\",\"a\":\"X\",\"l\":0}",
+        "{\"error\":\"E04\",\"name\":\"no-such-name\"}\n",
+    ),
+    (
+        "{\"op\":\"piece\",\"a\":\"D\",\"l\":2}",
+        "{\"error\":\"E05\",\"name\":\"wrong-kind\"}\n",
+    ),
+    (
+        "{\"op\":\"piece\",\"a\":\"B\",\"l\":-1}",
+        "{\"error\":\"E01\",\"name\":\"bad-request\"}\n",
+    ),
+    (
+        "{\"op\":\"domain\",\"d\":\"E\",\"is\":\"{1..10 by -3}\"}",
+        "{\"edit\":4,\"n\":3}\n",
+    ),
+    (
+        "{\"op\":\"array\",\"a\":\"C\",\"d\":\"E\"}",
+        "{\"edit\":5,\"n\":7}\n",
+    ),
+    (
+        "{\"op\":\"set\",\"a\":\"C\",\"i\":10,\"v\":-5}",
+        "{\"edit\":6,\"n\":1}\n",
+    ),
+    (
+        "{\"op\":\"piece\",\"a\":\"C\",\"l\":0}",
+        "{\"piece\":[[1,0],[4,0],[7,0],[10,-5]]}\n",
+    ),
+    (
+        "{\"op\":\"piece\",\"a\":\"C\",\"l\":1}",
+        "{\"error\":\"E06\",\"name\":\"out-of-domain\"}\n",
+    ),
+    (
+        "{\"op\":\"domain\",\"d\":\"P\",\"is\":\"{1..2, 0..1}\",\"map\":\"cyclicDist((1, 0), [2, 1])\"}",
+        "{\"edit\":7,\"n\":3}\n",
+    ),
+    (
+        "{\"op\":\"array\",\"a\":\"Q\",\"d\":\"P\"}",
+        "{\"edit\":8,\"n\":7}\n",
+    ),
+    (
+        "{\"op\":\"piece\",\"a\":\"Q\",\"l\":1}",
+        "{\"piece\":[[[2,0],0],[[2,1],0]]}\n",
+    ),
+    (
+        "{\"op\":\"sparse\",\"d\":\"S\",\"of\":\"P\"}",
+        "{\"edit\":9,\"n\":2}\n",
+    ),
+    (
+        "{\"op\":\"add\",\"d\":\"S\",\"i\":[2,1]}",
+        "{\"edit\":10,\"n\":1}\n",
+    ),
+    (
+        "{\"op\":\"array\",\"a\":\"T\",\"d\":\"S\"}",
+        "{\"edit\":11,\"n\":4}\n",
+    ),
+    (
+        "{\"op\":\"piece\",\"a\":\"T\",\"l\":1}",
+        "{\"piece\":[[[2,1],0]]}\n",
+    ),
+    ("{\"op\":\"piece\",\"a\":\"T\",\"l\":0}", "{\"piece\":[]}\n"),
+    (
+        "{\"op\":\"piece\",\"a\":\"T\",\"l\":2}",
+        "{\"error\":\"E06\",\"name\":\"out-of-domain\"}\n",
+    ),
+    (
+        "{\"op\":\"assoc\",\"d\":\"N\",\"of\":\"text\"}",
+        "{\"edit\":12,\"n\":1}\n",
+    ),
+    (
+        "{\"op\":\"add\",\"d\":\"N\",\"i\":\"a\"}",
+        "{\"edit\":13,\"n\":1}\n",
+    ),
+    (
+        "{\"op\":\"array\",\"a\":\"M\",\"d\":\"N\"}",
+        "{\"edit\":14,\"n\":4}\n",
+    ),
+    (
+        "{\"op\":\"piece\",\"a\":\"M\",\"l\":0}",
+        "{\"piece\":[[\"a\",0]]}\n",
+    ),
+    (
+        "{\"op\":\"piece\",\"a\":\"M\",\"l\":1}",
+        "{\"error\":\"E06\",\"name\":\"out-of-domain\"}\n",
+    ),
+];
+
 #[test]
 fn mappings_of_domains(rt: HostRuntime) -> Result<(), Fail> {
-    let tables: [(Rows, u64, u128); 5] = [
+    let tables: [(Rows, u64, u128); 6] = [
         (&BLOCKS, 2, 6),
         (&DEALT, 6, 18),
         (&REMAPPED, 4, 16),
         (&NOT_MAPPED, 2, 10),
         (&IN_ORDER, 1, 3),
+        (&PIECES, 14, 48),
     ];
     all_answers(&rt, rt.alloc(), &[], &tables)
 }

@@ -379,6 +379,10 @@ fn broken_lines(rt: HostRuntime) -> Result<(), Fail> {
     Ok(())
 }
 
+fn is_no_such_edit(reply: &Reply) -> bool {
+    matches!(reply, Reply::Refused(Refusal::NoSuchEdit))
+}
+
 #[test]
 fn copies_are_answered_alike(rt: HostRuntime) -> Result<(), Fail> {
     let alloc = rt.alloc();
@@ -386,12 +390,12 @@ fn copies_are_answered_alike(rt: HostRuntime) -> Result<(), Fail> {
     let request = Request::Undo(Some(7));
     let copied = request.copy(alloc);
     let reply = answer_request(&mut history, request);
-    assert_eq!(rt; reply, Reply::Refused(Refusal::NoSuchEdit));
+    assert!(rt; is_no_such_edit(&reply));
     if let Ok(copied) = copied {
-        assert_eq!(rt; answer_request(&mut history, copied), reply);
+        assert!(rt; is_no_such_edit(&answer_request(&mut history, copied)));
     }
     if let Ok(other) = reply.copy(alloc) {
-        assert_eq!(rt; other, reply);
+        assert!(rt; is_no_such_edit(&other));
     }
     Ok(())
 }

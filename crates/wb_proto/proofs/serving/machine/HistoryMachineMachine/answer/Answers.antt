@@ -1,11 +1,15 @@
 -- The reply stood, and its text found no memory.
-use Rattle.std.proofs.Common.{Result, Ok, Err, OnErr, inr, refl}
+use Rattle.std.proofs.Common.{List, ℕ, ◌⊎◌, inr, refl}
+use Rattle.wb_history.specs.Past.{Past}
+use Rattle.wb_lines.specs.Session.{MayAnswer}
+use Rattle.wb_proto.specs.Machine.{StepIfRead, NothingDone, AnswersText}
 use Rattle.wb_proto.specs.Replies.{reply_of}
+use Rattle.wb_proto.specs.Requests.{request}
+use Rattle.wb_proto.specs.declared.replies.reply.Reply.{Reply}
 use Rattle.wb_proto.proofs.serving.machine.HistoryMachineMachine.answer.Goals as goal
 
-on_err : {T E : Type 0} (r : Result T E) (P : Type 0) → P → OnErr r P
-on_err (Ok x) P p = tt
-on_err (Err e) P p = p
+stood : (p : Past) (line : List ℕ) (r : Reply) (q : Past) → StepIfRead p (request line) r q ⊎ NothingDone p r q → MayAnswer AnswersText p line q
+stood p line r q is = inr (reply_of r, record { reply = r; is_reply = is; is_text = refl })
 
 pub returns-clause-err : goal.returns-clause-err
-returns-clause-err c = on_err _ _ (inr (reply_of c.reply_to-reply.result, record { reply = c.reply_to-reply.result; is_reply = rw c.self.view_is at c.reply_to-reply.ensures; is_text = refl }))
+returns-clause-err c = stood c.args.self.now c.args.line.now c.reply_to-reply.result c.reply_to-reply.new.history (rw c.self.view_is at c.reply_to-reply.ensures)
