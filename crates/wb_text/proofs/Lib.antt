@@ -8,3 +8,4 @@ pub mod ReadLines
 pub mod BookLines
 pub mod RangeSpelled
 pub mod MappingWritten
+pub mod MembersWritten
