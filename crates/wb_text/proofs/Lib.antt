@@ -7,3 +7,5 @@ pub mod ReadMappings
 pub mod ReadLines
 pub mod BookLines
 pub mod RangeSpelled
+pub mod MappingWritten
+pub mod MembersWritten

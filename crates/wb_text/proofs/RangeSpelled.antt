@@ -3,10 +3,12 @@ use Rattle.std.proofs.Common.{◌≡◌, ◌≢◌, ℕ, zero, suc, ◌+◌, ◌
 use Rattle.std.proofs.lemmas.Bool.{cases_lt}
 use Rattle.std.proofs.lemmas.Int.{ints}
 use Rattle.std.proofs.Math.Nat.{mul-mod_left}
+use Rattle.std.specs.List.{Contains}
 use Rattle.wb_range.specs.Canonical.{IsRange}
 use Rattle.wb_range.specs.Sequence.{start, direction, or_zero, sequence, IsBound}
 use Rattle.wb_range.specs.Steps.{steps, stride_of}
 use Rattle.wb_range.proofs.Bounds.{are_bounds, canonical_one, canonical_many, length-sequence}
+use Rattle.wb_range.proofs.Closed.{Contains-steps}
 use Rattle.wb_range.proofs.Offset.{no_offset}
 use Rattle.wb_range.proofs.Places.{above_zero}
 use Rattle.wb_range.proofs.Spelling.{AreBoundsOf, bounds_up, bounds_down}
@@ -118,3 +120,15 @@ pub range_spelled : (xs : List ℤ) → IsRange xs → IsSpelled xs
 range_spelled xs r =
     let parts = steps_of xs r in
     by_count parts.first parts.stride parts.count xs parts.nonzero parts.few parts.head parts.last parts.is
+
+-- ---- the indices of a range
+
+pub member_within : (xs : List ℤ) (x : ℤ) → IsRange xs → Contains xs x → IsWithin x
+member_within xs x r c =
+    let parts = steps_of xs r in
+    let at = (Contains-steps parts.first parts.stride x parts.count).0 (subst (λ (ys : List ℤ). Contains ys x) (sym parts.is) c) in
+    let below : at.0 < parts.count = at.1 in
+    let some : parts.count ≢ 0 = λ z. omega (arith, below, z) in
+    let b = parts.head some in let l = parts.last some in
+    let between = Between-steps parts.first parts.stride _ _ parts.count at.0 below b.low b.high l.low l.high in
+    subst IsWithin (sym at.2) (bound_within _ (record { low = between.0; high = between.1 }))
