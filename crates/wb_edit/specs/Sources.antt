@@ -37,7 +37,8 @@ use Rattle.wb_edit.specs.Tests.{dom, members}
 abbrev pub same_rank : (rank dimensions : ℕ) → Result (Unit {0}) Refusal
 same_rank rank dimensions = elim (dimensions == rank) [ true ↦ Ok tt | false ↦ Err WrongKind ]
 
--- what two rectangles of one rank have in common; else the other one is of the wrong kind
+-- what two rectangles of one rank have in common; else the other one is of the wrong kind, which in a well-formed workbook
+-- was tested before both were looked at
 abbrev pub slice_of : (old by : List Range) → Result (List Range) Refusal
 slice_of old by = elim (length old == length by) [ true ↦ Ok (sliced old by) | false ↦ Err WrongKind ]
 
@@ -47,7 +48,8 @@ displaced_if false within new = Err WrongKind
 displaced_if true false new = Err TooLarge
 displaced_if true true new = Ok new
 
--- ranges displaced by an offset for each; offsets of another number are of the wrong kind
+-- ranges displaced by an offset for each; offsets of another number are of the wrong kind, which in a well-formed workbook was
+-- tested before the ranges were looked at
 abbrev pub displacement_of : Displacement → (offsets : List ℤ) → (old : List Range) → Result (List Range) Refusal
 displacement_of how offsets old = elim (length offsets == length old) [
   | true ↦ displaced_if (has_unit_strides old) (can_displace how offsets old) (displaced how offsets old)
@@ -88,7 +90,7 @@ gives_rectangle rank (Rectangle rs) next = judged (same_rank rank (length rs)) n
 gives_rectangle rank (Items is) next = refuse WrongKind
 gives_rectangle rank (Named e) next = names_rectangle rank e next
 
--- the ranges that are given: looks at those of the domain that is named
+-- the ranges that are given: looks at those of the domain that is named. A set has none, and is refused before
 abbrev pub ranges_given : Given → Look (List Range)
 ranges_given (Rectangle rs) next = next rs
 ranges_given (Items is) next = refuse WrongKind
@@ -106,7 +108,7 @@ gives_set kind (Rectangle rs) next = refuse WrongKind
 gives_set kind (Items is) next = judged (all_fit kind is) next
 gives_set kind (Named e) next = names_set kind e next
 
--- the indices that are given: looks at those of the domain that is named
+-- the indices that are given: looks at those of the domain that is named. A rectangle is no set, and is refused before
 abbrev pub indices_given : Given → Look (List Index)
 indices_given (Rectangle rs) next = refuse WrongKind
 indices_given (Items is) next = next is
