@@ -1,6 +1,8 @@
+pub mod Answers
 pub mod Fields
 pub mod Literals
 pub mod Mappings
+pub mod Sources
 pub mod Requests
 pub mod Replies
 pub mod Printed

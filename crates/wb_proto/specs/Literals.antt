@@ -1,15 +1,19 @@
--- The domain literals that requests take: a rectangle of 1 to 3 ranges. Other texts are bad literals, and only then the
--- limits of the ranges and of the rectangle are judged (Chapel Language Specification, Ranges and Domains).
-use Rattle.std.specs.Prelude.{ℕ, ℤ, pos, negsuc, ◌-ℤ◌, int_le, List, [], ◌∷◌, length, Bool, not, ◌&&◌, nat_le, Option, Some, None, Result, Ok, Err, if◌then◌else◌}
+-- The domain literals that requests take: a rectangle of 1 to 3 ranges, or a set. Other texts are bad literals, and only
+-- then the limits of the ranges and of the rectangle are judged (Chapel Language Specification, Ranges and Domains).
+use Rattle.std.specs.Prelude.{ℕ, ℤ, pos, negsuc, ◌-ℤ◌, int_le, List, [], ◌∷◌, length, map, Bool, not, ◌&&◌, nat_le, Option, Some, None, Result, Ok, Err, if◌then◌else◌}
 use Rattle.std.specs.Option.{ok_or}
 use Rattle.std.specs.Ordering.{int_eq}
 use Rattle.wb_range.specs.Sequence.{sequence, counted_bounds}
 use Rattle.wb_rect.specs.Product.{product}
 use Rattle.wb_book.specs.Shapes.{Range}
+use Rattle.wb_book.specs.declared.values.index.Index.{Index}
+use Rattle.wb_book.specs.declared.values.index.Index.TheVariants.{Point, Text}
 use Rattle.wb_edit.specs.declared.refusal.Refusal.TheVariants.{TooLarge}
 use Rattle.wb_history.specs.declared.refusal.Refusal.{Refusal}
 use Rattle.wb_history.specs.declared.refusal.Refusal.TheVariants.{BadLiteral, Refused}
+use Rattle.wb_literal.specs.Domain.{Domain, domain_of}
 use Rattle.wb_literal.specs.Rectangle.{rectangle_of}
+use Rattle.wb_literal.specs.Set.{Items, nothing, integers, pairs, triples, texts}
 use Rattle.wb_literal.specs.declared.range.RangeLiteral.{RangeLiteral}
 use Rattle.wb_literal.specs.declared.range.Stride.{Stride}
 use Rattle.wb_literal.specs.declared.range.Upper.{Upper}
@@ -21,6 +25,18 @@ use Rattle.wb_proto.specs.Fields.{◌>>=◌}
 -- the rectangle that a literal spells
 abbrev pub literal_rectangle : List ℕ → Result RectangleLiteral Refusal
 literal_rectangle text = ok_or (rectangle_of text) BadLiteral
+
+-- the rectangle or the set that a literal spells
+abbrev pub literal_domain : List ℕ → Result Domain Refusal
+literal_domain text = ok_or (domain_of text) BadLiteral
+
+-- the indices that a set lists, in the order of its text
+abbrev pub listed_in : Items → List Index
+listed_in nothing = []
+listed_in (integers is) = map (λ i. Point (i ∷ [])) is
+listed_in (pairs ps) = map Point ps
+listed_in (triples ts) = map Point ts
+listed_in (texts ts) = map Text ts
 
 -- `a..b` has the bounds a and b, `a..<b` goes to b - 1, and `a..#n` has n integers from a on, where none are `1..0`
 abbrev pub bounds_to : ℤ → Upper → ℤ × ℤ

@@ -89,8 +89,8 @@ pub(crate) fn u64_field(value: &Value, key: &str) -> Result<u64, Refusal>
         .ok_or(Refusal::BadRequest)
 }
 
-// The text, where it is a name.
-fn name_of(text: &str) -> Result<Name, Refusal>
+/// The text, where it is a name.
+pub(crate) fn name_of(text: &str) -> Result<Name, Refusal>
     ensures { result ≡ name_of text.now }
 {
     match Name::new(text) {
@@ -149,8 +149,8 @@ fn label_of(text: &str) -> Option<Index>
     }
 }
 
-// The index that a value is.
-fn index_of(value: &Value) -> Option<Index>
+/// The index that a value is: an integer, an array of two or three of them, or a text.
+pub(crate) fn index_of(value: &Value) -> Option<Index>
     ensures { result ≡ index_of (view value.now) }
 {
     match value {

@@ -1,10 +1,16 @@
 // Domain literals, and the limits of what they spell.
 ghost use Rattle.std.specs.Prelude.{◌≡◌, ◌≤◌, ℕ, ℤ, List, length};
-ghost use Rattle.wb_proto.specs.Literals.{literal_rectangle, stride_in, align_in, range_within, range_of, rectangle_within, domain_within};
+ghost use Rattle.std.specs.Result.{result_map_both};
+ghost use Rattle.wb_literal.specs.Said.{domain};
+ghost use Rattle.wb_proto.specs.Answers.{IsAnswer};
+ghost use Rattle.wb_proto.specs.Literals.{literal_rectangle, literal_domain, stride_in, align_in, range_within, range_of, rectangle_within, domain_within};
 
+use std::alloc::Global;
 use wb_book::AnyRect;
 use wb_history::Refusal;
-use wb_literal::{RangeLiteral, RectangleLiteral, Stride, Upper, read_rectangle};
+use wb_literal::{
+    DomainLiteral, RangeLiteral, RectangleLiteral, Stride, Upper, read_domain, read_rectangle,
+};
 use wb_range::{Range, RangeErr, counted};
 use wb_rect::RectErr;
 
@@ -17,6 +23,17 @@ pub(crate) fn literal_rectangle(text: &str) -> Result<RectangleLiteral, Refusal>
     match read_rectangle(text) {
         Some(literal) => Ok(literal),
         None => Err(Refusal::BadLiteral),
+    }
+}
+
+/// The rectangle or the set that a literal spells.
+pub(crate) fn literal_domain(alloc: Global, text: &str) -> Result<DomainLiteral, Refusal>
+    ensures { IsAnswer (literal_domain text.now) (result_map_both domain (λ e. e) result) }
+{
+    match read_domain(alloc, text) {
+        Ok(Some(literal)) => Ok(literal),
+        Ok(None) => Err(Refusal::BadLiteral),
+        Err(_) => Err(Refusal::NoMemory),
     }
 }
 

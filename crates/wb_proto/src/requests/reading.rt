@@ -2,6 +2,7 @@
 ghost use Rattle.std.specs.Prelude.{◌≡◌, ◌≢◌, codes, IfOk, IfErr, Ok, Err};
 ghost use Rattle.serde_json.specs.Errors.{IsMemory};
 ghost use Rattle.serde_json.specs.View.{view};
+ghost use Rattle.wb_proto.specs.Answers.{IsAnswer};
 ghost use Rattle.wb_proto.specs.Requests.{undo_by_number, undo_of, redo_of, by_op, request_of, request};
 
 use crate::requests::arrays::{
@@ -42,8 +43,9 @@ fn redo_of(value: &Value) -> Result<Request, Refusal>
     Ok(Request::Redo(number))
 }
 
-fn by_op(op: &str, value: &Value) -> Result<Request, Refusal>
-    ensures { result ≡ by_op op.now (view value.now) }
+#[tactic(auto, using(crate::proofs::Lines::as_answer))]
+fn by_op(alloc: Global, op: &str, value: &Value) -> Result<Request, Refusal>
+    ensures { IsAnswer (by_op op.now (view value.now)) result }
 {
     match op {
         "domain" => domain_of(value),
@@ -71,11 +73,11 @@ fn by_op(op: &str, value: &Value) -> Result<Request, Refusal>
     }
 }
 
-fn request_of(value: &Value) -> Result<Request, Refusal>
-    ensures { result ≡ request_of (view value.now) }
+fn request_of(alloc: Global, value: &Value) -> Result<Request, Refusal>
+    ensures { IsAnswer (request_of (view value.now)) result }
 {
     let op = text_field(value, "op")?;
-    by_op(op, value)
+    by_op(alloc, op, value)
 }
 
 // Why a text is no JSON, or that memory ran out.
@@ -98,7 +100,7 @@ pub fn read_request(alloc: Global, line: &[u8]) -> Result<Request, Refusal>
     ensures err { IfErr result (λ why. why ≢ Refusal.NoMemory → request line.now ≡ Err why) }
 {
     match Value::from_slice(alloc, line) {
-        Ok(value) => request_of(&value),
+        Ok(value) => request_of(alloc, &value),
         Err(error) => Err(refusal_of(&error)),
     }
 }

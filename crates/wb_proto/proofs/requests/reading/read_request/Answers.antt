@@ -7,12 +7,12 @@ use Rattle.wb_proto.proofs.requests.reading.read_request.Goals as goal
 pub returns-in-Ok-clause-ok : goal.returns-in-Ok-clause-ok
 returns-in-Ok-clause-ok c =
     let said = c.in-Ok.ensures.ok in
-    as_ok _ _ (json_line c.args.line.now (view c.in-Ok.value) said.0 said.1 ∙ sym c.request_of.ensures)
+    as_ok _ _ _ (json_line c.args.line.now (view c.in-Ok.value) said.0 said.1) c.request_of.ensures
 
 pub returns-in-Ok-clause-err : goal.returns-in-Ok-clause-err
 returns-in-Ok-clause-err c =
     let said = c.in-Ok.ensures.ok in
-    as_err _ _ (json_line c.args.line.now (view c.in-Ok.value) said.0 said.1 ∙ sym c.request_of.ensures)
+    as_err _ _ _ (json_line c.args.line.now (view c.in-Ok.value) said.0 said.1) c.request_of.ensures
 
 pub returns-in-Err-clause-err : goal.returns-in-Err-clause-err
 returns-in-Err-clause-err c = λ h.
