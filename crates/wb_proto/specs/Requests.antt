@@ -5,13 +5,14 @@ use Rattle.std.specs.Str.{is_utf8}
 use Rattle.serde_json.specs.Data.{Data}
 use Rattle.serde_json.specs.Read.{read}
 use Rattle.wb_book.specs.Cells.{Name}
-use Rattle.wb_edit.specs.declared.edit.Edit.TheVariants.{Domain, Remap, Sparse, Assoc, DropDomain, Add, Remove, Array, Set, Irv, Copy, Fill, FillAll, DropArray, All}
+use Rattle.wb_edit.specs.declared.edit.Edit.TheVariants.{Domain, Remap, Reshape, Sparse, Assoc, DropDomain, Add, Remove, Array, Set, Irv, Copy, Fill, FillAll, DropArray, All}
 use Rattle.wb_history.specs.declared.query.Query.TheVariants.{Get, Size, Where, State}
 use Rattle.wb_history.specs.declared.refusal.Refusal.{Refusal}
 use Rattle.wb_history.specs.declared.refusal.Refusal.TheVariants.{BadRequest}
 use Rattle.wb_proto.specs.Fields.{◌>>=◌, field_count, has_fields, has_fields_and, text_field, optional_text, i64_field, u64_field, name_field, index_field, key_type_field, operation_field}
 use Rattle.wb_proto.specs.Literals.{literal_rectangle, domain_within}
 use Rattle.wb_proto.specs.Mappings.{literal_mapping, optional_mapping, mapping_within}
+use Rattle.wb_proto.specs.Sources.{source_of}
 use Rattle.wb_proto.specs.declared.requests.request.Request.{Request}
 use Rattle.wb_proto.specs.declared.requests.request.Request.TheVariants.{Change, Undo, Redo, Ask}
 
@@ -81,6 +82,14 @@ remove_of d = do
   name ← name_field (codes "d") d
   index ← index_field (codes "i") d
   Ok (Change (Remove name index))
+
+-- {"op":"reshape","d":NAME}, and one field more, which says where the new value comes from
+abbrev pub reshape_of : Data → Result Request Refusal
+reshape_of d = do
+  unit ← has_fields 3 d
+  name ← name_field (codes "d") d
+  source ← source_of d
+  Ok (Change (Reshape name source))
 
 -- {"op":"array","a":NAME,"d":NAME}
 abbrev pub array_of : Data → Result Request Refusal
@@ -209,6 +218,7 @@ by_op op d =
     if bytes_eq op (codes "sparse") then sparse_of d else
     if bytes_eq op (codes "assoc") then assoc_of d else
     if bytes_eq op (codes "drop_domain") then drop_domain_of d else
+    if bytes_eq op (codes "reshape") then reshape_of d else
     if bytes_eq op (codes "add") then add_of d else
     if bytes_eq op (codes "remove") then remove_of d else
     if bytes_eq op (codes "array") then array_of d else

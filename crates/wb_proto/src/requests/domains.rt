@@ -1,13 +1,16 @@
-// Requests for rectangular domains and their mappings, and for the end of any domain.
+// Requests for rectangular domains and their mappings, and for new values and the end of any domain.
 ghost use Rattle.std.specs.Prelude.{◌≡◌, codes, option_map};
 ghost use Rattle.serde_json.specs.View.{view};
-ghost use Rattle.wb_proto.specs.Requests.{domain_by, domain_of, drop_domain_of, remap_of};
+ghost use Rattle.wb_proto.specs.Answers.{IsAnswer};
+ghost use Rattle.wb_proto.specs.Requests.{domain_by, domain_of, reshape_of, drop_domain_of, remap_of};
 
 use crate::requests::fields::{has_fields, has_fields_and, name_field, optional_text, text_field};
 use crate::requests::literals::{domain_within, literal_rectangle};
 use crate::requests::mappings::{literal_mapping, mapping_within, optional_mapping};
 use crate::requests::request::Request;
+use crate::requests::sources::source_of;
 use serde_json::Value;
+use std::alloc::Global;
 use wb_book::Name;
 use wb_edit::Edit;
 use wb_history::Refusal;
@@ -32,6 +35,16 @@ pub(crate) fn domain_of(value: &Value) -> Result<Request, Refusal>
     let name = name_field(value, "d")?;
     let text = text_field(value, "is")?;
     domain_by(name, text, map)
+}
+
+/// A new value of a domain.
+pub(crate) fn reshape_of(alloc: Global, value: &Value) -> Result<Request, Refusal>
+    ensures { IsAnswer (reshape_of (view value.now)) result }
+{
+    has_fields(value, 3)?;
+    let name = name_field(value, "d")?;
+    let source = source_of(alloc, value)?;
+    Ok(Request::Change(Edit::Reshape(name, source)))
 }
 
 /// Another mapping of a rectangular domain.

@@ -8,7 +8,7 @@ ghost use Rattle.wb_proto.specs.Requests.{undo_by_number, undo_of, redo_of, by_o
 use crate::requests::arrays::{
     all_of, array_of, copy_of, drop_array_of, fill_all_of, fill_of, irv_of, set_of,
 };
-use crate::requests::domains::{domain_of, drop_domain_of, remap_of};
+use crate::requests::domains::{domain_of, drop_domain_of, remap_of, reshape_of};
 use crate::requests::fields::{field_count, has_fields, text_field, u64_field};
 use crate::requests::queries::{get_of, size_of, state_of, where_of};
 use crate::requests::request::Request;
@@ -53,6 +53,7 @@ fn by_op(alloc: Global, op: &str, value: &Value) -> Result<Request, Refusal>
         "sparse" => sparse_of(value),
         "assoc" => assoc_of(value),
         "drop_domain" => drop_domain_of(value),
+        "reshape" => reshape_of(alloc, value),
         "add" => add_of(value),
         "remove" => remove_of(value),
         "array" => array_of(value),

@@ -3,6 +3,7 @@ mod histories;
 mod mappings;
 mod members;
 mod requests;
+mod reshapes;
 mod sessions;
 
 use crate::session;
