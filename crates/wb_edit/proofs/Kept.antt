@@ -15,6 +15,7 @@ pub mod DroppedArray
 pub mod CombinedArrays
 pub mod Resized
 pub mod DroppedDomain
+pub mod OfSets
 pub mod Reshaped
 pub mod Exchanged
 pub mod NewValue
@@ -27,7 +28,7 @@ use Rattle.wb_edit.specs.Commands.{meaning}
 use Rattle.wb_edit.specs.Laws.{KeepsWellFormed}
 use Rattle.wb_edit.specs.Valid.{IsValid}
 use Rattle.wb_edit.specs.declared.edit.Edit.{Edit as Command}
-use Rattle.wb_edit.specs.declared.edit.Edit.TheVariants.{Domain, Remap, Sparse, Assoc, Array, Set, Irv, Copy, Fill, FillAll, DropArray, All, Add, Remove, DropDomain, Reshape}
+use Rattle.wb_edit.specs.declared.edit.Edit.TheVariants.{Domain, Remap, Sparse, Assoc, Array, Set, Irv, Copy, Fill, FillAll, DropArray, All, Add, Remove, DropDomain, Reshape, DomainOfSet, FillOfSet}
 use Rattle.wb_edit.proofs.Kept.NewDomain.{domain_kept}
 use Rattle.wb_edit.proofs.Kept.NewSet.{sparse_kept, assoc_kept}
 use Rattle.wb_edit.proofs.Kept.Remapped.{remap_kept}
@@ -40,6 +41,7 @@ use Rattle.wb_edit.proofs.Kept.FilledArray.{fill_all_kept}
 use Rattle.wb_edit.proofs.Kept.DroppedArray.{drop_array_kept}
 use Rattle.wb_edit.proofs.Kept.CombinedArrays.{all_kept}
 use Rattle.wb_edit.proofs.Kept.DroppedDomain.{drop_domain_kept}
+use Rattle.wb_edit.proofs.Kept.OfSets.{domain_of_set_kept, fill_of_set_kept}
 use Rattle.wb_edit.proofs.Kept.Resized.{add_kept, remove_kept}
 use Rattle.wb_edit.proofs.Kept.NewValue.{reshape_kept}
 
@@ -59,6 +61,8 @@ keeps_well_formed (All a how b) s valid h = all_kept s a how b h
 keeps_well_formed (Add d i) s valid h = add_kept s d i valid h
 keeps_well_formed (Remove d i) s valid h = remove_kept s d i h
 keeps_well_formed (DropDomain d) s valid h = drop_domain_kept s d h
+keeps_well_formed (DomainOfSet d) s valid h = domain_of_set_kept s d h
+keeps_well_formed (FillOfSet a) s valid h = fill_of_set_kept s a h
 keeps_well_formed (Reshape d source) s valid h = reshape_kept s d source valid h
 
 -- where it is accepted, the changes leave a well-formed workbook

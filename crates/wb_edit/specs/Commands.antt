@@ -2,7 +2,7 @@
 -- A test that refuses ends the command: it has read what the tests so far looked at, that one's own looks too, and writes nothing.
 use Rattle.std.specs.Prelude.{ℤ, pos, List, [], ◌∷◌, map, length, Option, Some, None}
 use Rattle.std.specs.Map.{keys_of}
-use Rattle.selective_undo.specs.Edit.{write}
+use Rattle.selective_undo.specs.Edit.{refuse, write}
 use Rattle.wb_dist.specs.Maps.{LayoutMap}
 use Rattle.wb_book.specs.declared.cells.cell.Cell.TheVariants.{Object, Shape, In, Member, Mapping, Use, Implicit, Element}
 use Rattle.wb_book.specs.declared.cells.value.Binding.TheVariants.{Array, Sparse}
@@ -17,8 +17,9 @@ use Rattle.wb_book.specs.Cells.{Name, Changes}
 use Rattle.wb_book.specs.Kinds.{kind_of}
 use Rattle.wb_book.specs.Shapes.{Range, indices}
 use Rattle.wb_edit.specs.declared.edit.Edit.{Edit as Command}
-use Rattle.wb_edit.specs.declared.edit.Edit.TheVariants.{Domain, Remap, Sparse, Assoc, Array, Set, Irv, Copy, Fill, FillAll, DropArray, All, Add, Remove, DropDomain, Reshape}
+use Rattle.wb_edit.specs.declared.edit.Edit.TheVariants.{Domain, Remap, Sparse, Assoc, Array, Set, Irv, Copy, Fill, FillAll, DropArray, All, Add, Remove, DropDomain, Reshape, DomainOfSet, FillOfSet}
 use Rattle.wb_edit.specs.declared.operation.Operation.{Operation}
+use Rattle.wb_edit.specs.declared.refusal.Refusal.TheVariants.{WrongKind}
 use Rattle.wb_edit.specs.Looks.{Tree, ◌>>=◌, read}
 use Rattle.wb_edit.specs.Tests.{free, dom, arr, key, element, idx}
 use Rattle.wb_edit.specs.Kinds.{rectangular, over_sparse}
@@ -215,6 +216,20 @@ remove d i = do
   there ← read (Member d i)
   remove_if there d kind i
 
+-- ---- rectangles that are asked for with a set, which is none: both commands are always refused
+
+-- a new rectangular domain: the name is free
+abbrev pub domain_of_set : Name → Tree
+domain_of_set d = do
+  unit ← free d
+  refuse WrongKind
+
+-- a number at each index of a rectangle: the array is there
+abbrev pub fill_of_set : Name → Tree
+fill_of_set a = do
+  (d, kind) ← arr a
+  refuse WrongKind
+
 -- what a command means
 abbrev pub meaning : Command → Tree
 meaning (Domain d rs m) = domain d rs m
@@ -233,3 +248,5 @@ meaning (Add d i) = add d i
 meaning (Remove d i) = remove d i
 meaning (DropDomain d) = drop_domain d
 meaning (Reshape d source) = reshape d source
+meaning (DomainOfSet d) = domain_of_set d
+meaning (FillOfSet a) = fill_of_set a

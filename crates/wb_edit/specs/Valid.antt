@@ -7,7 +7,7 @@ use Rattle.wb_book.specs.Layouts.{IsLayout}
 use Rattle.wb_book.specs.WellFormed.{IsRectangle}
 use Rattle.wb_edit.specs.declared.edit.Edit.{Edit as Command}
 use Rattle.wb_edit.specs.ValidSources.{IsSource}
-use Rattle.wb_edit.specs.declared.edit.Edit.TheVariants.{Domain, Remap, Sparse, Assoc, Array, Set, Irv, Copy, Fill, FillAll, DropArray, All, Add, Remove, DropDomain, Reshape}
+use Rattle.wb_edit.specs.declared.edit.Edit.TheVariants.{Domain, Remap, Sparse, Assoc, Array, Set, Irv, Copy, Fill, FillAll, DropArray, All, Add, Remove, DropDomain, Reshape, DomainOfSet, FillOfSet}
 
 -- what a command has to be so that it keeps a workbook well formed; every value of the type `Edit` is
 abbrev pub IsValid : Command → Type 0
@@ -43,3 +43,7 @@ IsValid (Remove d i) = ⊤
 IsValid (DropDomain d) = ⊤
 -- what is given is as it has to be
 IsValid (Reshape d source) = IsSource source
+-- nothing is asked
+IsValid (DomainOfSet d) = ⊤
+-- nothing is asked
+IsValid (FillOfSet a) = ⊤

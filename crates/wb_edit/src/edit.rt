@@ -54,6 +54,10 @@ pub enum Edit {
     /// A new value of the domain of this name, from a source of its kind (Chapel Language Specification, Domains: assignment,
     /// slicing, translate, expand, and set operations on associative domains).
     Reshape(Name, Source),
+    /// A new rectangular domain of this name that is asked for with a set: it is always refused.
+    DomainOfSet(Name),
+    /// One number as the elements of an array, asked for with a set in place of a rectangle: it is always refused.
+    FillOfSet(Name),
 }
 
 impl Edit {
@@ -82,6 +86,8 @@ impl Edit {
             Edit::Remove(domain, index) => Ok(Edit::Remove(*domain, *index)),
             Edit::DropDomain(domain) => Ok(Edit::DropDomain(*domain)),
             Edit::Reshape(domain, source) => Ok(Edit::Reshape(*domain, source.copy(alloc)?)),
+            Edit::DomainOfSet(domain) => Ok(Edit::DomainOfSet(*domain)),
+            Edit::FillOfSet(array) => Ok(Edit::FillOfSet(*array)),
         }
     }
 
@@ -128,6 +134,8 @@ impl Edit {
             Edit::Add(_, index) => index_validity(index),
             Edit::Remove(_, _) => {}
             Edit::DropDomain(_) => {}
+            Edit::DomainOfSet(_) => {}
+            Edit::FillOfSet(_) => {}
             Edit::Reshape(_, source) => source_validity(source),
         }
     }

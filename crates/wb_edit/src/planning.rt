@@ -4,7 +4,7 @@ ghost use Rattle.wb_edit.specs.Plans.{Attempts, IsPlan};
 
 use crate::commands::{
     added, array, combined, copied, domain, dropped_array, dropped_domain, element, filled,
-    filled_array, implicit, remapped, removed, reshape, sets,
+    filled_array, implicit, of_sets, remapped, removed, reshape, sets,
 };
 use crate::edit::Edit;
 use crate::foot::Foot;
@@ -69,6 +69,8 @@ fn attempt(alloc: Global, book: &Book, foot: &mut Foot, edit: &Edit) -> Result<D
         Edit::Add(domain, index) => added::plan_add(alloc, book, foot, *domain, *index),
         Edit::Remove(domain, index) => removed::plan_remove(alloc, book, foot, *domain, *index),
         Edit::DropDomain(domain) => dropped_domain::plan_drop_domain(alloc, book, foot, *domain),
+        Edit::DomainOfSet(domain) => of_sets::plan_domain_of_set(book, foot, *domain),
+        Edit::FillOfSet(array) => of_sets::plan_fill_of_set(book, foot, *array),
         Edit::Reshape(domain, source) => {
             reshape::any::plan_reshape(alloc, book, foot, *domain, source)
         }

@@ -1,0 +1,26 @@
+//! Rectangles that are asked for with a set, which is none.
+
+ghost use Rattle.wb_edit.specs.Commands.{domain_of_set, fill_of_set};
+ghost use Rattle.wb_edit.specs.Plans.{Attempts};
+
+use crate::foot::Foot;
+use crate::refusal::Refusal;
+use crate::tests::looks::{arr, free};
+use crate::tests::stop::Stop;
+use wb_book::{Book, Delta, Name};
+
+/// A new rectangular domain; its name is tested first.
+pub(crate) fn plan_domain_of_set(book: &Book, foot: &mut Foot, domain: Name) -> Result<Delta, Stop>
+    ensures { Attempts (domain_of_set domain) book.now.cells foot.old result foot.new }
+{
+    free(book, foot, domain)?;
+    Err(Stop::Refused(Refusal::WrongKind))
+}
+
+/// A number at each index of a rectangle; the array is tested first.
+pub(crate) fn plan_fill_of_set(book: &Book, foot: &mut Foot, array: Name) -> Result<Delta, Stop>
+    ensures { Attempts (fill_of_set array) book.now.cells foot.old result foot.new }
+{
+    let _over = arr(book, foot, array)?;
+    Err(Stop::Refused(Refusal::WrongKind))
+}
