@@ -12,7 +12,6 @@ use Rattle.wb_edit.specs.declared.refusal.Refusal.TheVariants.{TooLarge}
 use Rattle.wb_history.specs.declared.refusal.Refusal.{Refusal}
 use Rattle.wb_history.specs.declared.refusal.Refusal.TheVariants.{BadLiteral, Refused}
 use Rattle.wb_literal.specs.Domain.{Domain, domain_of}
-use Rattle.wb_literal.specs.Rectangle.{rectangle_of}
 use Rattle.wb_literal.specs.Set.{Items, nothing, integers, pairs, triples, texts}
 use Rattle.wb_literal.specs.declared.range.RangeLiteral.{RangeLiteral}
 use Rattle.wb_literal.specs.declared.range.Stride.{Stride}
@@ -21,10 +20,6 @@ use Rattle.wb_literal.specs.declared.range.Upper.TheVariants.{To, Below, Count}
 use Rattle.wb_literal.specs.declared.rectangle.RectangleLiteral.{RectangleLiteral}
 use Rattle.wb_literal.specs.declared.rectangle.RectangleLiteral.TheVariants.{Line, Plane, Solid}
 use Rattle.wb_proto.specs.Fields.{◌>>=◌}
-
--- the rectangle that a literal spells
-abbrev pub literal_rectangle : List ℕ → Result RectangleLiteral Refusal
-literal_rectangle text = ok_or (rectangle_of text) BadLiteral
 
 -- the rectangle or the set that a literal spells
 abbrev pub literal_domain : List ℕ → Result Domain Refusal

@@ -1,29 +1,39 @@
 -- The request that a line is, or why it is none: the names, numbers and texts of all its fields are read first, then its
 -- literals, then their limits are judged, and then its mapping.
-use Rattle.std.specs.Prelude.{ℕ, List, codes, Option, Some, None, Result, Ok, Err, bytes_eq, nat_eq, if◌then◌else◌}
+use Rattle.std.specs.Prelude.{ℕ, ℤ, List, codes, Option, Some, None, Result, Ok, Err, bytes_eq, nat_eq, if◌then◌else◌}
 use Rattle.std.specs.Str.{is_utf8}
 use Rattle.serde_json.specs.Data.{Data}
 use Rattle.serde_json.specs.Read.{read}
 use Rattle.wb_book.specs.Cells.{Name}
-use Rattle.wb_edit.specs.declared.edit.Edit.TheVariants.{Domain, Remap, Reshape, Sparse, Assoc, DropDomain, Add, Remove, Array, Set, Irv, Copy, Fill, FillAll, DropArray, All}
+use Rattle.wb_edit.specs.declared.edit.Edit.TheVariants.{Domain as NewDomain, DomainOfSet, Remap, Reshape, Sparse, Assoc, DropDomain, Add, Remove, Array, Set, Irv, Copy, Fill, FillOfSet, FillAll, DropArray, All}
 use Rattle.wb_history.specs.declared.query.Query.TheVariants.{Get, Size, Where, Piece, State}
 use Rattle.wb_history.specs.declared.refusal.Refusal.{Refusal}
 use Rattle.wb_history.specs.declared.refusal.Refusal.TheVariants.{BadRequest}
+use Rattle.wb_literal.specs.Domain.{Domain, rectangle, set}
+use Rattle.wb_literal.specs.declared.mapping.MappingLiteral.{MappingLiteral}
 use Rattle.wb_proto.specs.Fields.{◌>>=◌, field_count, has_fields, has_fields_and, text_field, optional_text, i64_field, u64_field, name_field, index_field, key_type_field, operation_field}
-use Rattle.wb_proto.specs.Literals.{literal_rectangle, domain_within}
+use Rattle.wb_proto.specs.Literals.{literal_domain, domain_within}
 use Rattle.wb_proto.specs.Mappings.{literal_mapping, optional_mapping, mapping_within}
 use Rattle.wb_proto.specs.Sources.{source_of}
 use Rattle.wb_proto.specs.declared.requests.request.Request.{Request}
 use Rattle.wb_proto.specs.declared.requests.request.Request.TheVariants.{Change, Undo, Redo, Ask}
 
--- a new domain by the literals of its ranges and of its mapping, where there is one
+-- a new domain of what a literal spells, with a mapping: a set is no rectangle, which is for the workbook to refuse
+abbrev pub domain_with : Name → Domain → MappingLiteral → Result Request Refusal
+domain_with name (rectangle r) spelled = do
+  ranges ← domain_within r
+  mapping ← mapping_within spelled
+  Ok (Change (NewDomain name ranges mapping))
+domain_with name (set items) spelled = do
+  mapping ← mapping_within spelled
+  Ok (Change (DomainOfSet name))
+
+-- a new domain by its literal and that of its mapping, where there is one
 abbrev pub domain_by : Name → List ℕ → Option (List ℕ) → Result Request Refusal
 domain_by name text map = do
-  literal ← literal_rectangle text
+  literal ← literal_domain text
   spelled ← optional_mapping map
-  ranges ← domain_within literal
-  mapping ← mapping_within spelled
-  Ok (Change (Domain name ranges mapping))
+  domain_with name literal spelled
 
 -- {"op":"domain","d":NAME,"is":LITERAL}, or with "map":MAPPING too
 abbrev pub domain_of : Data → Result Request Refusal
@@ -132,6 +142,13 @@ set_of d = do
   value ← i64_field (codes "v") d
   Ok (Change (Set name index value))
 
+-- a number at each index of what a literal spells: a set is no rectangle, which is for the workbook to refuse
+abbrev pub fill_over : Name → Domain → ℤ → Result Request Refusal
+fill_over name (rectangle r) value = do
+  ranges ← domain_within r
+  Ok (Change (Fill name ranges value))
+fill_over name (set items) value = Ok (Change (FillOfSet name))
+
 -- {"op":"fill","a":NAME,"on":LITERAL,"v":INTEGER}
 abbrev pub fill_of : Data → Result Request Refusal
 fill_of d = do
@@ -139,9 +156,8 @@ fill_of d = do
   name ← name_field (codes "a") d
   text ← text_field (codes "on") d
   value ← i64_field (codes "v") d
-  literal ← literal_rectangle text
-  ranges ← domain_within literal
-  Ok (Change (Fill name ranges value))
+  literal ← literal_domain text
+  fill_over name literal value
 
 -- {"op":"fill_all","a":NAME,"v":INTEGER}
 abbrev pub fill_all_of : Data → Result Request Refusal

@@ -1,16 +1,21 @@
 // Requests for changes to arrays.
 ghost use Rattle.std.specs.Prelude.{◌≡◌, codes};
 ghost use Rattle.serde_json.specs.View.{view};
-ghost use Rattle.wb_proto.specs.Requests.{array_of, drop_array_of, set_of, fill_of, fill_all_of, copy_of, irv_of, all_of};
+ghost use Rattle.wb_literal.specs.Said.{domain};
+ghost use Rattle.wb_proto.specs.Answers.{IsAnswer};
+ghost use Rattle.wb_proto.specs.Requests.{array_of, drop_array_of, set_of, fill_over, fill_of, fill_all_of, copy_of, irv_of, all_of};
 
 use crate::requests::fields::{
     has_fields, i64_field, index_field, name_field, operation_field, text_field,
 };
-use crate::requests::literals::{domain_within, literal_rectangle};
+use crate::requests::literals::{domain_within, literal_domain};
 use crate::requests::request::Request;
 use serde_json::Value;
+use std::alloc::Global;
+use wb_book::Name;
 use wb_edit::Edit;
 use wb_history::Refusal;
+use wb_literal::DomainLiteral;
 
 /// A new array.
 pub(crate) fn array_of(value: &Value) -> Result<Request, Refusal>
@@ -42,17 +47,30 @@ pub(crate) fn set_of(value: &Value) -> Result<Request, Refusal>
     Ok(Request::Change(Edit::Set(name, index, number)))
 }
 
+// A number at each index of what a literal spells.
+fn fill_over(name: Name, literal: &DomainLiteral, number: i64) -> Result<Request, Refusal>
+    ensures { result ≡ fill_over name (domain literal.now) number }
+{
+    match literal {
+        DomainLiteral::Rectangle(rectangle) => {
+            let ranges = domain_within(rectangle)?;
+            Ok(Request::Change(Edit::Fill(name, ranges, number)))
+        }
+        DomainLiteral::Set(_) => Ok(Request::Change(Edit::FillOfSet(name))),
+    }
+}
+
 /// A number at the indices of a rectangle.
-pub(crate) fn fill_of(value: &Value) -> Result<Request, Refusal>
-    ensures { result ≡ fill_of (view value.now) }
+pub(crate) fn fill_of(alloc: Global, value: &Value) -> Result<Request, Refusal>
+    ensures { IsAnswer (fill_of (view value.now)) result }
 {
     has_fields(value, 4)?;
     let name = name_field(value, "a")?;
     let text = text_field(value, "on")?;
     let number = i64_field(value, "v")?;
-    let literal = literal_rectangle(text)?;
-    let ranges = domain_within(&literal)?;
-    Ok(Request::Change(Edit::Fill(name, ranges, number)))
+    let literal = literal_domain(alloc, text)?;
+    let request = fill_over(name, &literal, number)?;
+    Ok(request)
 }
 
 /// A number as every element of an array.

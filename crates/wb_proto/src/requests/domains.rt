@@ -1,11 +1,13 @@
 // Requests for rectangular domains and their mappings, and for new values and the end of any domain.
 ghost use Rattle.std.specs.Prelude.{◌≡◌, codes, option_map};
 ghost use Rattle.serde_json.specs.View.{view};
+ghost use Rattle.wb_literal.specs.Domain.{rectangle};
+ghost use Rattle.wb_literal.specs.Said.{domain};
 ghost use Rattle.wb_proto.specs.Answers.{IsAnswer};
-ghost use Rattle.wb_proto.specs.Requests.{domain_by, domain_of, reshape_of, drop_domain_of, remap_of};
+ghost use Rattle.wb_proto.specs.Requests.{domain_with, domain_by, domain_of, reshape_of, drop_domain_of, remap_of};
 
 use crate::requests::fields::{has_fields, has_fields_and, name_field, optional_text, text_field};
-use crate::requests::literals::{domain_within, literal_rectangle};
+use crate::requests::literals::{domain_within, literal_domain};
 use crate::requests::mappings::{literal_mapping, mapping_within, optional_mapping};
 use crate::requests::request::Request;
 use crate::requests::sources::source_of;
@@ -14,27 +16,57 @@ use std::alloc::Global;
 use wb_book::Name;
 use wb_edit::Edit;
 use wb_history::Refusal;
+use wb_literal::{DomainLiteral, MappingLiteral, RectangleLiteral};
 
-// A new domain by the literals of its ranges and of its mapping, where there is one.
-fn domain_by(name: Name, text: &str, map: Option<&str>) -> Result<Request, Refusal>
-    ensures { result ≡ domain_by name text.now (option_map (λ s. s.now) map.entry) }
+// A new domain of a rectangle.
+fn rectangular(
+    name: Name,
+    literal: &RectangleLiteral,
+    spelled: &MappingLiteral,
+) -> Result<Request, Refusal>
+    ensures { result ≡ domain_with name (rectangle literal.now) spelled.now }
 {
-    let literal = literal_rectangle(text)?;
-    let spelled = optional_mapping(map)?;
-    let ranges = domain_within(&literal)?;
-    let mapping = mapping_within(&spelled)?;
+    let ranges = domain_within(literal)?;
+    let mapping = mapping_within(spelled)?;
     Ok(Request::Change(Edit::Domain(name, ranges, mapping)))
 }
 
+// A new domain of what a literal spells.
+fn domain_with(
+    name: Name,
+    literal: &DomainLiteral,
+    spelled: &MappingLiteral,
+) -> Result<Request, Refusal>
+    ensures { result ≡ domain_with name (domain literal.now) spelled.now }
+{
+    match literal {
+        DomainLiteral::Rectangle(literal) => rectangular(name, literal, spelled),
+        DomainLiteral::Set(_) => {
+            mapping_within(spelled)?;
+            Ok(Request::Change(Edit::DomainOfSet(name)))
+        }
+    }
+}
+
+// A new domain by its literal and that of its mapping, where there is one.
+fn domain_by(alloc: Global, name: Name, text: &str, map: Option<&str>) -> Result<Request, Refusal>
+    ensures { IsAnswer (domain_by name text.now (option_map (λ s. s.now) map.entry)) result }
+{
+    let literal = literal_domain(alloc, text)?;
+    let spelled = optional_mapping(map)?;
+    let request = domain_with(name, &literal, &spelled)?;
+    Ok(request)
+}
+
 /// A new rectangular domain.
-pub(crate) fn domain_of(value: &Value) -> Result<Request, Refusal>
-    ensures { result ≡ domain_of (view value.now) }
+pub(crate) fn domain_of(alloc: Global, value: &Value) -> Result<Request, Refusal>
+    ensures { IsAnswer (domain_of (view value.now)) result }
 {
     let map = optional_text(value, "map")?;
     has_fields_and(value, 3, &map)?;
     let name = name_field(value, "d")?;
     let text = text_field(value, "is")?;
-    domain_by(name, text, map)
+    domain_by(alloc, name, text, map)
 }
 
 /// A new value of a domain.

@@ -1,5 +1,5 @@
 // The indices that set literals list.
-ghost use Rattle.std.specs.Prelude.{◌≡◌, ◌∷◌, [], List, IfOk, map};
+ghost use Rattle.std.specs.Prelude.{◌≡◌, ◌∷◌, [], IfOk, map};
 ghost use Rattle.wb_book.specs.declared.values.index.Index.TheVariants.{Point as point_index, Text as text_index};
 ghost use Rattle.wb_literal.specs.Said.{items};
 ghost use Rattle.wb_proto.specs.Literals.{listed_in};

@@ -3,28 +3,16 @@ ghost use Rattle.std.specs.Prelude.{◌≡◌, ◌≤◌, ℕ, ℤ, List, length
 ghost use Rattle.std.specs.Result.{result_map_both};
 ghost use Rattle.wb_literal.specs.Said.{domain};
 ghost use Rattle.wb_proto.specs.Answers.{IsAnswer};
-ghost use Rattle.wb_proto.specs.Literals.{literal_rectangle, literal_domain, stride_in, align_in, range_within, range_of, rectangle_within, domain_within};
+ghost use Rattle.wb_proto.specs.Literals.{literal_domain, stride_in, align_in, range_within, range_of, rectangle_within, domain_within};
 
 use std::alloc::Global;
 use wb_book::AnyRect;
 use wb_history::Refusal;
-use wb_literal::{
-    DomainLiteral, RangeLiteral, RectangleLiteral, Stride, Upper, read_domain, read_rectangle,
-};
+use wb_literal::{DomainLiteral, RangeLiteral, RectangleLiteral, Stride, Upper, read_domain};
 use wb_range::{Range, RangeErr, counted};
 use wb_rect::RectErr;
 
 const TOO_LARGE: Refusal = Refusal::Refused(wb_edit::Refusal::TooLarge);
-
-/// The rectangle that a literal spells.
-pub(crate) fn literal_rectangle(text: &str) -> Result<RectangleLiteral, Refusal>
-    ensures { result ≡ literal_rectangle text.now }
-{
-    match read_rectangle(text) {
-        Some(literal) => Ok(literal),
-        None => Err(Refusal::BadLiteral),
-    }
-}
 
 /// The rectangle or the set that a literal spells.
 pub(crate) fn literal_domain(alloc: Global, text: &str) -> Result<DomainLiteral, Refusal>

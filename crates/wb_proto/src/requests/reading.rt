@@ -48,7 +48,7 @@ fn by_op(alloc: Global, op: &str, value: &Value) -> Result<Request, Refusal>
     ensures { IsAnswer (by_op op.now (view value.now)) result }
 {
     match op {
-        "domain" => domain_of(value),
+        "domain" => domain_of(alloc, value),
         "remap" => remap_of(value),
         "sparse" => sparse_of(value),
         "assoc" => assoc_of(value),
@@ -59,7 +59,7 @@ fn by_op(alloc: Global, op: &str, value: &Value) -> Result<Request, Refusal>
         "array" => array_of(value),
         "drop_array" => drop_array_of(value),
         "set" => set_of(value),
-        "fill" => fill_of(value),
+        "fill" => fill_of(alloc, value),
         "fill_all" => fill_all_of(value),
         "irv" => irv_of(value),
         "copy" => copy_of(value),

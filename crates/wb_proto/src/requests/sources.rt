@@ -1,5 +1,5 @@
 // Where the new value of a domain comes from.
-ghost use Rattle.std.specs.Prelude.{◌≡◌, codes, IfOk};
+ghost use Rattle.std.specs.Prelude.{◌≡◌, codes};
 ghost use Rattle.serde_json.specs.View.{view};
 ghost use Rattle.wb_literal.specs.Said.{items, domain};
 ghost use Rattle.wb_proto.specs.Answers.{IsAnswer};

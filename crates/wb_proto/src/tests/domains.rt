@@ -4,6 +4,8 @@ use wb_history::History;
 
 const BAD_LITERAL: &str = "{\"error\":\"E02\",\"name\":\"bad-literal\"}\n";
 
+const WRONG_KIND: &str = "{\"error\":\"E05\",\"name\":\"wrong-kind\"}\n";
+
 const TOO_LARGE: &str = "{\"error\":\"E09\",\"name\":\"too-large\"}\n";
 
 #[test]
@@ -87,7 +89,8 @@ fn refused_literals(rt: HostRuntime) -> Result<(), Fail> {
         ("{1..#-1}", BAD_LITERAL),
         ("{1..#9223372036854775808}", BAD_LITERAL),
         ("{1..2, 1..2, 1..2, 1..2}", BAD_LITERAL),
-        ("{1, 2}", BAD_LITERAL),
+        ("{1, 2,}", BAD_LITERAL),
+        ("{1, 2}", WRONG_KIND),
         ("{1..65537, 1..0}", TOO_LARGE),
         ("{1..256, 1..257}", TOO_LARGE),
         ("{1..<-9223372036854775808}", TOO_LARGE),

@@ -7,6 +7,8 @@ const BAD: &str = "{\"error\":\"E01\",\"name\":\"bad-request\"}\n";
 
 const BAD_LITERAL: &str = "{\"error\":\"E02\",\"name\":\"bad-literal\"}\n";
 
+const WRONG_KIND: &str = "{\"error\":\"E05\",\"name\":\"wrong-kind\"}\n";
+
 const TOO_LARGE: &str = "{\"error\":\"E09\",\"name\":\"too-large\"}\n";
 
 #[test]
@@ -106,7 +108,8 @@ fn literals_after_fields_and_limits_last(rt: HostRuntime) -> Result<(), Fail> {
         ("1", "{1..", BAD),
         ("1", "{1..65537}", BAD),
         ("D", "{1..65537} ", BAD_LITERAL),
-        ("D", "{}", BAD_LITERAL),
+        ("D", "{,}", BAD_LITERAL),
+        ("D", "{}", WRONG_KIND),
         ("D", "{1..65537}", TOO_LARGE),
         ("D", "{1000000000000000001..5}", TOO_LARGE),
         ("D", "{5..1000000000000000001}", TOO_LARGE),

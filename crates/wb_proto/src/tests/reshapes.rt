@@ -503,7 +503,7 @@ const OF_EACH_KIND: [(&str, &str); 21] = [
 ];
 
 // Requests that are refused.
-const REFUSED_RESHAPES: [(&str, &str); 26] = [
+const REFUSED_RESHAPES: [(&str, &str); 34] = [
     (
         "{\"op\":\"domain\",\"d\":\"D\",\"is\":\"{1..4}\"}",
         "{\"edit\":1,\"n\":3}\n",
@@ -603,6 +603,38 @@ const REFUSED_RESHAPES: [(&str, &str); 26] = [
     (
         "{\"op\":\"reshape\",\"d\":\"D\",\"to\":\"{1..65537}\"}",
         "{\"error\":\"E09\",\"name\":\"too-large\"}\n",
+    ),
+    (
+        "{\"op\":\"domain\",\"d\":\"D\",\"is\":\"{}\"}",
+        "{\"error\":\"E03\",\"name\":\"name-taken\"}\n",
+    ),
+    (
+        "{\"op\":\"domain\",\"d\":\"E\",\"is\":\"{}\"}",
+        "{\"error\":\"E05\",\"name\":\"wrong-kind\"}\n",
+    ),
+    (
+        "{\"op\":\"domain\",\"d\":\"E\",\"is\":\"{1, 2}\",\"map\":\"blockDist(\"}",
+        "{\"error\":\"E02\",\"name\":\"bad-literal\"}\n",
+    ),
+    (
+        "{\"op\":\"domain\",\"d\":\"E\",\"is\":\"{1, 2}\",\"map\":\"blockDist({1..65537}, [2])\"}",
+        "{\"error\":\"E09\",\"name\":\"too-large\"}\n",
+    ),
+    (
+        "{\"op\":\"domain\",\"d\":\"E\",\"is\":\"{1, 2}\",\"map\":\"cyclicDist(1, [0])\"}",
+        "{\"error\":\"E15\",\"name\":\"bad-mapping\"}\n",
+    ),
+    (
+        "{\"op\":\"fill\",\"a\":\"A\",\"on\":\"{1}\",\"v\":5}",
+        "{\"error\":\"E05\",\"name\":\"wrong-kind\"}\n",
+    ),
+    (
+        "{\"op\":\"fill\",\"a\":\"X\",\"on\":\"{1}\",\"v\":5}",
+        "{\"error\":\"E04\",\"name\":\"no-such-name\"}\n",
+    ),
+    (
+        "{\"op\":\"fill\",\"a\":\"A\",\"on\":\"{1,\",\"v\":5}",
+        "{\"error\":\"E02\",\"name\":\"bad-literal\"}\n",
     ),
     ("{\"op\":\"get\",\"a\":\"A\",\"i\":1}", "{\"value\":0}\n"),
 ];
