@@ -82,7 +82,7 @@ const SIZES: [(&str, &str); 5] = [
 ];
 
 // Refusals of undo and redo.
-const NOT_UNDONE: [(&str, &str); 11] = [
+const REFUSALS_OF_UNDO_AND_REDO: [(&str, &str); 11] = [
     (
         "{\"op\":\"set\",\"a\":\"A\",\"i\":1,\"v\":5}",
         "{\"edit\":3,\"n\":1}\n",
@@ -162,7 +162,7 @@ const EARLIER_SET: [(&str, &str); 7] = [
 ];
 
 // Redo of two sets of one element.
-const TWO_SETS: [(&str, &str); 8] = [
+const REDO_TWO_SETS: [(&str, &str); 8] = [
     (
         "{\"op\":\"set\",\"a\":\"A\",\"i\":1,\"v\":5}",
         "{\"edit\":3,\"n\":1}\n",
@@ -200,7 +200,7 @@ const IN_PLACE: [(&str, &str); 7] = [
 ];
 
 // A copy depends on its source.
-const COPIED: [(&str, &str); 4] = [
+const COPY_DEPENDS_ON_ITS_SOURCE: [(&str, &str); 4] = [
     (
         "{\"op\":\"set\",\"a\":\"A\",\"i\":1,\"v\":5}",
         "{\"edit\":3,\"n\":1}\n",
@@ -217,7 +217,7 @@ const COPIED: [(&str, &str); 4] = [
 ];
 
 // The same, undone and redone.
-const COPIED_AGAIN: [(&str, &str); 9] = [
+const COST_OF_THE_COPY: [(&str, &str); 9] = [
     (
         "{\"op\":\"set\",\"a\":\"A\",\"i\":1,\"v\":5}",
         "{\"edit\":3,\"n\":1}\n",
@@ -242,7 +242,7 @@ const COPIED_AGAIN: [(&str, &str); 9] = [
 ];
 
 // Redo blocked by a later set.
-const REDO_BLOCKED: [(&str, &str); 8] = [
+const REDO_BLOCKED_BY_A_LATER_SET: [(&str, &str); 8] = [
     (
         "{\"op\":\"array\",\"a\":\"B\",\"d\":\"D\"}",
         "{\"edit\":3,\"n\":7}\n",
@@ -438,14 +438,14 @@ fn worked_histories(rt: HostRuntime) -> Result<(), Fail> {
     let tables: [(Rows, u64, u128); 14] = [
         (&REFUSED, 2, 10),
         (&SIZES, 3, 13),
-        (&NOT_UNDONE, 3, 19),
+        (&REFUSALS_OF_UNDO_AND_REDO, 3, 19),
         (&UNDER_ARRAYS, 3, 24),
         (&EARLIER_SET, 5, 14),
-        (&TWO_SETS, 4, 16),
+        (&REDO_TWO_SETS, 4, 16),
         (&IN_PLACE, 4, 15),
-        (&COPIED, 4, 12),
-        (&COPIED_AGAIN, 4, 15),
-        (&REDO_BLOCKED, 5, 22),
+        (&COPY_DEPENDS_ON_ITS_SOURCE, 4, 12),
+        (&COST_OF_THE_COPY, 4, 15),
+        (&REDO_BLOCKED_BY_A_LATER_SET, 5, 22),
         (&FILLED, 5, 26),
         (&DROPPED, 5, 39),
         (&COMBINED, 10, 47),

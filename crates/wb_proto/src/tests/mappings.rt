@@ -4,7 +4,7 @@ use super::{Rows, all_answers};
 use std::test::Fail;
 
 // Blocks in one dimension.
-const BLOCKS: [(&str, &str); 20] = [
+const BLOCK_DISTRIBUTION: [(&str, &str); 20] = [
     (
         "{\"op\":\"domain\",\"d\":\"D\",\"is\":\"{0..11}\",\"map\":\"blockDist({1..10}, [4])\"}",
         "{\"edit\":1,\"n\":3}\n",
@@ -43,7 +43,7 @@ const BLOCKS: [(&str, &str); 20] = [
 ];
 
 // Cyclic mappings, blocks of a size, more dimensions, and limits of grids.
-const DEALT: [(&str, &str); 22] = [
+const CYCLIC_AND_GRID_LIMITS: [(&str, &str); 22] = [
     (
         "{\"op\":\"domain\",\"d\":\"C\",\"is\":\"{-1..1}\",\"map\":\"cyclicDist(1, [3])\"}",
         "{\"edit\":1,\"n\":3}\n",
@@ -352,7 +352,7 @@ const IN_ORDER: [(&str, &str); 30] = [
 
 // The elements on each locale, by the mapping as it is: upward also where the stride is negative, by the parent's mapping
 // for a sparse domain, and all on one locale where there is none.
-const PIECES: [(&str, &str); 30] = [
+const REMAP_MOVES_PIECES: [(&str, &str); 30] = [
     (
         "{\"op\":\"domain\",\"d\":\"D\",\"is\":\"{0..5}\",\"map\":\"blockDist({0..5}, [2])\"}",
         "{\"edit\":1,\"n\":3}\n",
@@ -472,12 +472,12 @@ const PIECES: [(&str, &str); 30] = [
 #[test]
 fn mappings_of_domains(rt: HostRuntime) -> Result<(), Fail> {
     let tables: [(Rows, u64, u128); 6] = [
-        (&BLOCKS, 2, 6),
-        (&DEALT, 6, 18),
+        (&BLOCK_DISTRIBUTION, 2, 6),
+        (&CYCLIC_AND_GRID_LIMITS, 6, 18),
         (&REMAPPED, 4, 16),
         (&NOT_MAPPED, 2, 10),
         (&IN_ORDER, 1, 3),
-        (&PIECES, 14, 48),
+        (&REMAP_MOVES_PIECES, 14, 48),
     ];
     all_answers(&rt, rt.alloc(), &[], &tables)
 }

@@ -30,7 +30,7 @@ const ADDING_TWICE: [(&str, &str); 7] = [
 ];
 
 // New elements over a sparse domain are the implicit value.
-const IMPLICIT_VALUE: [(&str, &str); 13] = [
+const SPARSE_WITH_AN_IMPLICIT_VALUE: [(&str, &str); 13] = [
     (
         "{\"op\":\"domain\",\"d\":\"D\",\"is\":\"{1..10}\"}",
         "{\"edit\":1,\"n\":3}\n",
@@ -296,7 +296,7 @@ const MAPPED_BY_THE_PARENT: [(&str, &str); 14] = [
 fn members_of_domains(rt: HostRuntime) -> Result<(), Fail> {
     let tables: [(Rows, u64, u128); 5] = [
         (&ADDING_TWICE, 4, 3),
-        (&IMPLICIT_VALUE, 7, 25),
+        (&SPARSE_WITH_AN_IMPLICIT_VALUE, 7, 25),
         (&INDEX_REMOVED, 7, 15),
         (&DOMAINS_DROPPED, 13, 61),
         (&MAPPED_BY_THE_PARENT, 5, 9),

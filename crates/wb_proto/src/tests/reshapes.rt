@@ -4,7 +4,7 @@ use super::{Rows, all_answers};
 use std::test::Fail;
 
 // A domain with no index, its array with no element, until the domain has indices.
-const EMPTY_RECTANGLE: [(&str, &str); 7] = [
+const EMPTY_RECTANGLES: [(&str, &str); 7] = [
     (
         "{\"op\":\"domain\",\"d\":\"E\",\"is\":\"{1..0, 1..5}\"}",
         "{\"edit\":1,\"n\":3}\n",
@@ -27,7 +27,7 @@ const EMPTY_RECTANGLE: [(&str, &str); 7] = [
 ];
 
 // What a reshape drops comes back by its undo.
-const DROPPED_AND_BACK: [(&str, &str); 7] = [
+const RESHAPE_DROPS_AND_BRINGS_BACK: [(&str, &str); 7] = [
     (
         "{\"op\":\"domain\",\"d\":\"D\",\"is\":\"{1..4}\"}",
         "{\"edit\":1,\"n\":3}\n",
@@ -53,7 +53,7 @@ const DROPPED_AND_BACK: [(&str, &str); 7] = [
 ];
 
 // An earlier reshape is undone where a later edit wrote nothing that came with it.
-const EARLIER_RESHAPE: [(&str, &str); 7] = [
+const UNDO_OF_AN_EARLIER_RESHAPE: [(&str, &str); 7] = [
     (
         "{\"op\":\"domain\",\"d\":\"D\",\"is\":\"{1..4}\"}",
         "{\"edit\":1,\"n\":3}\n",
@@ -103,7 +103,7 @@ const RESHAPE_IN_USE: [(&str, &str); 5] = [
 ];
 
 // A reshape dropped what was set.
-const BLOCKED_BY_RESHAPE: [(&str, &str); 5] = [
+const BLOCKED_BY_A_RESHAPE: [(&str, &str); 5] = [
     (
         "{\"op\":\"domain\",\"d\":\"D\",\"is\":\"{1..4}\"}",
         "{\"edit\":1,\"n\":3}\n",
@@ -262,7 +262,7 @@ const SET_OPERATIONS: [(&str, &str); 9] = [
 ];
 
 // A reshape is undone under a later mapping.
-const RESHAPED_AND_REMAPPED: [(&str, &str); 10] = [
+const UNDO_OF_A_RESHAPE_UNDER_A_REMAP: [(&str, &str); 11] = [
     (
         "{\"op\":\"domain\",\"d\":\"D\",\"is\":\"{1..4}\"}",
         "{\"edit\":1,\"n\":3}\n",
@@ -288,10 +288,14 @@ const RESHAPED_AND_REMAPPED: [(&str, &str); 10] = [
     ("{\"op\":\"get\",\"a\":\"A\",\"i\":4}", "{\"value\":9}\n"),
     ("{\"op\":\"where\",\"d\":\"D\",\"i\":4}", "{\"locale\":1}\n"),
     ("{\"op\":\"where\",\"d\":\"D\",\"i\":3}", "{\"locale\":0}\n"),
+    (
+        "{\"op\":\"piece\",\"a\":\"A\",\"l\":1}",
+        "{\"piece\":[[2,0],[4,9]]}\n",
+    ),
 ];
 
 // An earlier reshape of a sparse domain is undone, and the index that came since stays.
-const ADDED_SINCE: [(&str, &str); 10] = [
+const INDEX_ADDED_SINCE_A_RESHAPE: [(&str, &str); 10] = [
     (
         "{\"op\":\"domain\",\"d\":\"D\",\"is\":\"{1..9}\"}",
         "{\"edit\":1,\"n\":3}\n",
@@ -326,7 +330,7 @@ const ADDED_SINCE: [(&str, &str); 10] = [
 ];
 
 // A reshape is undone where an index that came to a sparse domain since did not come with it.
-const ADDED_ELSEWHERE: [(&str, &str); 5] = [
+const FINER_READS_OF_A_RESHAPE: [(&str, &str); 5] = [
     (
         "{\"op\":\"domain\",\"d\":\"D\",\"is\":\"{1..10}\"}",
         "{\"edit\":1,\"n\":3}\n",
@@ -347,7 +351,7 @@ const ADDED_ELSEWHERE: [(&str, &str); 5] = [
 ];
 
 // A reshape stays where a sparse domain has an index that came with it.
-const ADDED_WITHIN: [(&str, &str); 5] = [
+const FINER_READS_STILL_BLOCK: [(&str, &str); 5] = [
     (
         "{\"op\":\"domain\",\"d\":\"D\",\"is\":\"{1..10}\"}",
         "{\"edit\":1,\"n\":3}\n",
@@ -371,7 +375,7 @@ const ADDED_WITHIN: [(&str, &str); 5] = [
 ];
 
 // A reshape that loses no index stands in no sparse domain's way.
-const WIDENED: [(&str, &str); 5] = [
+const FINER_READS_OF_A_WIDENED_DOMAIN: [(&str, &str); 5] = [
     (
         "{\"op\":\"domain\",\"d\":\"D\",\"is\":\"{1..10}\"}",
         "{\"edit\":1,\"n\":3}\n",
@@ -392,7 +396,7 @@ const WIDENED: [(&str, &str); 5] = [
 ];
 
 // A copy of an implicit value reads that its index is in the parent, and no more of the parent.
-const IMPLICIT_COPIED: [(&str, &str); 7] = [
+const FINER_READS_OF_A_COPY: [(&str, &str); 7] = [
     (
         "{\"op\":\"domain\",\"d\":\"D\",\"is\":\"{1..4}\"}",
         "{\"edit\":1,\"n\":3}\n",
@@ -639,23 +643,66 @@ const REFUSED_RESHAPES: [(&str, &str); 34] = [
     ("{\"op\":\"get\",\"a\":\"A\",\"i\":1}", "{\"value\":0}\n"),
 ];
 
+// Fills and sums that are refused leave everything as it was; a domain without indices takes all elements.
+const REFUSED_FILLS_AND_OVERFLOW: [(&str, &str); 11] = [
+    (
+        "{\"op\":\"domain\",\"d\":\"D\",\"is\":\"{1..2}\"}",
+        "{\"edit\":1,\"n\":3}\n",
+    ),
+    (
+        "{\"op\":\"array\",\"a\":\"A\",\"d\":\"D\"}",
+        "{\"edit\":2,\"n\":5}\n",
+    ),
+    (
+        "{\"op\":\"array\",\"a\":\"B\",\"d\":\"D\"}",
+        "{\"edit\":3,\"n\":5}\n",
+    ),
+    (
+        "{\"op\":\"fill\",\"a\":\"A\",\"on\":\"{2..3}\",\"v\":4}",
+        "{\"error\":\"E06\",\"name\":\"out-of-domain\"}\n",
+    ),
+    ("{\"op\":\"get\",\"a\":\"A\",\"i\":2}", "{\"value\":0}\n"),
+    (
+        "{\"op\":\"fill_all\",\"a\":\"A\",\"v\":9223372036854775807}",
+        "{\"edit\":4,\"n\":2}\n",
+    ),
+    (
+        "{\"op\":\"set\",\"a\":\"B\",\"i\":1,\"v\":1}",
+        "{\"edit\":5,\"n\":1}\n",
+    ),
+    (
+        "{\"op\":\"all\",\"a\":\"A\",\"how\":\"+\",\"b\":\"B\"}",
+        "{\"error\":\"E10\",\"name\":\"overflow\"}\n",
+    ),
+    (
+        "{\"op\":\"get\",\"a\":\"A\",\"i\":1}",
+        "{\"value\":9223372036854775807}\n",
+    ),
+    (
+        "{\"op\":\"reshape\",\"d\":\"D\",\"to\":\"{1..0}\"}",
+        "{\"edit\":6,\"n\":5}\n",
+    ),
+    ("{\"op\":\"size\",\"d\":\"D\"}", "{\"size\":0}\n"),
+];
+
 #[test]
 fn reshaped_domains(rt: HostRuntime) -> Result<(), Fail> {
-    let tables: [(Rows, u64, u128); 16] = [
-        (&EMPTY_RECTANGLE, 3, 16),
-        (&DROPPED_AND_BACK, 4, 17),
-        (&EARLIER_RESHAPE, 4, 17),
+    let tables: [(Rows, u64, u128); 17] = [
+        (&REFUSED_FILLS_AND_OVERFLOW, 6, 21),
+        (&EMPTY_RECTANGLES, 3, 16),
+        (&RESHAPE_DROPS_AND_BRINGS_BACK, 4, 17),
+        (&UNDO_OF_AN_EARLIER_RESHAPE, 4, 17),
         (&RESHAPE_IN_USE, 4, 14),
-        (&BLOCKED_BY_RESHAPE, 4, 14),
+        (&BLOCKED_BY_A_RESHAPE, 4, 14),
         (&KEPT_BY_SPARSE, 6, 12),
         (&SLICES_AND_OFFSETS, 8, 17),
         (&SET_OPERATIONS, 6, 10),
-        (&RESHAPED_AND_REMAPPED, 5, 18),
-        (&ADDED_SINCE, 7, 25),
-        (&ADDED_ELSEWHERE, 4, 8),
-        (&ADDED_WITHIN, 4, 7),
-        (&WIDENED, 4, 8),
-        (&IMPLICIT_COPIED, 6, 22),
+        (&UNDO_OF_A_RESHAPE_UNDER_A_REMAP, 5, 18),
+        (&INDEX_ADDED_SINCE_A_RESHAPE, 7, 25),
+        (&FINER_READS_OF_A_RESHAPE, 4, 8),
+        (&FINER_READS_STILL_BLOCK, 4, 7),
+        (&FINER_READS_OF_A_WIDENED_DOMAIN, 4, 8),
+        (&FINER_READS_OF_A_COPY, 6, 22),
         (&OF_EACH_KIND, 15, 29),
         (&REFUSED_RESHAPES, 4, 13),
     ];
