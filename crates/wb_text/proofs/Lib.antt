@@ -9,3 +9,4 @@ pub mod BookLines
 pub mod RangeSpelled
 pub mod MappingWritten
 pub mod MembersWritten
+pub mod BookWritten
