@@ -10,3 +10,5 @@ pub mod RangeSpelled
 pub mod MappingWritten
 pub mod MembersWritten
 pub mod BookWritten
+pub mod LineOfName
+pub mod SameDomains
