@@ -12,3 +12,4 @@ pub mod MembersWritten
 pub mod BookWritten
 pub mod LineOfName
 pub mod SameDomains
+pub mod SameObjects

@@ -16,7 +16,7 @@ use Rattle.wb_text.proofs.ReadLines.{Line, rectangular, sparse, associative, arr
 use Rattle.wb_text.proofs.BookLines.{domain_said, said_in, said_of, said}
 use Rattle.wb_text.proofs.LineOfName.{same_line}
 
-none_some : {X Y : Type 0} (x : X) → None ≡ Some x → Y
+pub none_some : {X Y : Type 0} (x : X) → None ≡ Some x → Y
 none_some x e = cc
 
 -- ---- lines that are alike say the same
@@ -41,7 +41,7 @@ domain_line : (s : Cells) (d : Name) (kind : DomainKind) → domain_at s d ≡ S
 domain_line s d kind e = ap (said_in s d) (domain_object (get s (Object d)) kind e)
 
 -- two domains of one name are said alike
-both_said : (s t : Cells) → said s ≡ said t → (d : Name) (k l : DomainKind) → domain_at s d ≡ Some k → domain_at t d ≡ Some l → domain_said s d k ≡ domain_said t d l
+pub both_said : (s t : Cells) → said s ≡ said t → (d : Name) (k l : DomainKind) → domain_at s d ≡ Some k → domain_at t d ≡ Some l → domain_said s d k ≡ domain_said t d l
 both_said s t same d k l e f = some_same _ _ (sym (domain_line s d k e) ∙ same_line s t same d ∙ domain_line t d l f)
 
 -- ---- ranks
