@@ -9,3 +9,7 @@ pub mod BookLines
 pub mod RangeSpelled
 pub mod MappingWritten
 pub mod MembersWritten
+pub mod BookWritten
+pub mod LineOfName
+pub mod SameDomains
+pub mod SameObjects
