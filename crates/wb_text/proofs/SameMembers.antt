@@ -1,31 +1,28 @@
 -- Two well-formed workbooks with the same lines have the same implicit values, and the same indices of each domain.
-use Rattle.std.proofs.Common.{◌≡◌, ℕ, ℤ, Bool, true, false, cond, ◌||◌, List, [], ◌∷◌, map, Option, Some, None, is_some, refl, sym, ap, ◌∙◌, subst, Ordering}
+use Rattle.std.proofs.Common.{◌≡◌, ℕ, ℤ, true, cond, ◌||◌, List, [], ◌∷◌, map, Option, Some, None, is_some, refl, sym, ap, ◌∙◌, subst, Ordering}
 use Rattle.std.specs.Cmp.{Equal-is, eq_by_cmp_equiv}
 use Rattle.std.specs.Cmp.Lexicographic.{slice_cmp, nat_list_cmp_total}
-use Rattle.std.specs.FinMap.{get, keys, entries, retain_keys, contains_key-keys, get-retain_keys}
+use Rattle.std.specs.FinMap.{get, entries, retain_keys, contains_key-keys, get-retain_keys}
 use Rattle.std.specs.List.{AllByRecursion, filter_map, list_any}
 use Rattle.std.specs.Ordering.{eq_by_cmp, is_eq, nat_cmp, ordering_then}
 use Rattle.std.specs.declared.cmp.Ordering.TheVariants.{Less, Equal, Greater}
 use Rattle.wb_book.specs.declared.cells.cell.Cell.{Cell}
 use Rattle.wb_book.specs.declared.cells.cell.Cell.TheVariants.{Object, Member, Implicit}
-use Rattle.wb_book.specs.declared.cells.kind.DomainKind.{DomainKind}
-use Rattle.wb_book.specs.declared.cells.kind.DomainKind.TheVariants.{Rectangular, Sparse, Associative}
-use Rattle.wb_book.specs.declared.cells.kind.KeyType.{KeyType}
 use Rattle.wb_book.specs.declared.cells.kind.Kind.{Kind}
 use Rattle.wb_book.specs.declared.cells.kind.Kind.TheVariants as kinds
 use Rattle.wb_book.specs.declared.cells.pattern.Pattern.TheVariants.{Members}
 use Rattle.wb_book.specs.declared.cells.value.Value.{Value}
 use Rattle.wb_book.specs.declared.cells.value.Value.TheVariants as values
 use Rattle.wb_book.specs.declared.values.index.Index.{Index}
-use Rattle.wb_book.specs.Cells.{Name, Cells, cell_cmp, cell_order, index_cmp, is_same_name, matches}
-use Rattle.wb_book.specs.WellFormed.{IsWellFormed, IsImplicit, IsMember, array_at, array_in, domain_at, has}
+use Rattle.wb_book.specs.Cells.{Name, Cells, cell_cmp, cell_order, index_cmp, matches}
+use Rattle.wb_book.specs.WellFormed.{IsWellFormed, IsImplicit, array_at, array_in, has}
 use Rattle.wb_text.specs.Lines.{member_in, members, number_in, elements_at, indices_in, implicit_in}
 use Rattle.wb_text.proofs.ReadIndices.{some_same}
-use Rattle.wb_text.proofs.ReadLines.{Line, sparse, associative, array}
+use Rattle.wb_text.proofs.ReadLines.{Line, array}
 use Rattle.wb_text.proofs.BookLines.{said_in, said_of, said}
 use Rattle.wb_text.proofs.LineOfName.{same_line}
 use Rattle.wb_text.proofs.MembersWritten.{IsThere, seen_there}
-use Rattle.wb_text.proofs.SameDomains.{none_some, both_said, domains_same}
+use Rattle.wb_text.proofs.SameDomains.{none_some}
 use Rattle.wb_text.proofs.SameObjects.{objects_same}
 
 -- ---- implicit values
