@@ -13,3 +13,4 @@ pub mod BookWritten
 pub mod LineOfName
 pub mod SameDomains
 pub mod SameObjects
+pub mod SameMembers
