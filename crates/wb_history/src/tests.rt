@@ -157,22 +157,22 @@ fn first_run(rt: HostRuntime) -> Result<(), Fail> {
 fn refused_growths(rt: HostRuntime) -> Result<(), Fail> {
     let alloc = rt.alloc();
     let mut history = History::new(alloc);
-    edit(&rt, alloc, &mut history, domain("D", 1, 4)?)?;
+    edit(&rt, alloc, &mut history, domain("D", 1, 40)?)?;
     edit(&rt, alloc, &mut history, array("A", "D")?)?;
     let array = Name::new("A")?;
     let (_, filled) = edit(&rt, alloc, &mut history, Edit::FillAll(array, 7))?;
     let (_, reshaped) = edit(&rt, alloc, &mut history, reshape("D", 1, 2)?)?;
     let (_, dropped) = edit(&rt, alloc, &mut history, Edit::DropArray(array))?;
-    assert_eq!(rt; (filled, reshaped, dropped), (4, 3, 5));
-    for (number, count) in [(5, 5), (4, 3), (3, 4)] {
+    assert_eq!(rt; (filled, reshaped, dropped), (40, 39, 5));
+    for (number, count) in [(5, 5), (4, 39), (3, 40)] {
         assert_eq!(rt; undo(&rt, &mut history, number)?, count);
     }
     assert_eq!(rt; element(&history, "A", 4)?, Some(0));
-    assert_eq!(rt; redo(&rt, &mut history, 3)?, 4);
+    assert_eq!(rt; redo(&rt, &mut history, 3)?, 40);
     assert_eq!(rt; element(&history, "A", 4)?, Some(7));
-    assert_eq!(rt; redo(&rt, &mut history, 4)?, 3);
+    assert_eq!(rt; redo(&rt, &mut history, 4)?, 39);
     assert_eq!(rt; redo(&rt, &mut history, 5)?, 5);
-    assert_eq!(rt; history.book().writes(), 46);
+    assert_eq!(rt; history.book().writes(), 298);
     Ok(())
 }
 
