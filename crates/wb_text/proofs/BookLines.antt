@@ -13,28 +13,10 @@ use Rattle.wb_book.specs.Cells.{Name, Cells}
 use Rattle.wb_book.specs.Locales.{mapping_in}
 use Rattle.wb_book.specs.Readers.{objects}
 use Rattle.wb_book.specs.WellFormed.{ranges_in}
+use Rattle.wb_text.specs.Said.{Line, line_text, lines_text, domain_said, said_in, said_of, said}
 use Rattle.wb_text.specs.Lines.{members, indices_in, elements_at, implicit_in, line_in, object_line, book_text}
 use Rattle.wb_text.proofs.Readable.{Each}
-use Rattle.wb_text.proofs.ReadLines.{Line, rectangular, sparse, associative, array, line_text, IsLine, lines_text, lines_read}
-
--- what the line of a domain says
-abbrev pub domain_said : Cells → Name → DomainKind → Line
-domain_said s d (Rectangular rank) = rectangular d (unwrap_or (ranges_in (get s (Shape d))) []) (unwrap_or (mapping_in (get s (Mapping d))) whole)
-domain_said s d (Sparse parent rank) = sparse d parent (members s d)
-domain_said s d (Associative type) = associative d type (members s d)
-
--- what the line of a name says, by what stands under it
-abbrev pub said_in : Cells → Name → Option Value → Option Line
-said_in s n (Some (Domain kind)) = Some (domain_said s n kind)
-said_in s n (Some (Array d kind)) = Some (array n d (elements_at s n (indices_in s d kind)) (implicit_in s n kind))
-said_in s n _ = None
-
-abbrev pub said_of : Cells → Name → Option Line
-said_of s n = said_in s n (get s (Object n))
-
--- what the lines of a workbook say
-abbrev pub said : Cells → List Line
-said s = filter_map (said_of s) (objects s)
+use Rattle.wb_text.proofs.ReadLines.{IsLine, lines_read}
 
 abbrev text_or_none : Option Line → List ℕ
 text_or_none None = []

@@ -18,13 +18,14 @@ use Rattle.wb_book.specs.Names.{is_name}
 use Rattle.wb_book.specs.Readers.{objects}
 use Rattle.wb_book.specs.WellFormed as wf
 use Rattle.wb_book.specs.WellFormed.{IsWellFormed, IsShape, HasMapping, IsElement, IsNumber, array_at, array_in, domain_at, domain_in, is_index_of_array, ranges_in}
+use Rattle.wb_text.specs.Said.{Line, domain_said, said_in, said_of, said}
 use Rattle.wb_text.specs.Lines.{number_in, element_at, elements_at, indices_in, implicit_in, book_text}
 use Rattle.wb_text.proofs.Readable.{Each}
 use Rattle.wb_text.proofs.ReadIndices.{AreWithin}
 use Rattle.wb_text.proofs.ReadRanges.{IsSpelled}
 use Rattle.wb_text.proofs.ReadMappings.{IsMapped}
-use Rattle.wb_text.proofs.ReadLines.{Line, IsLine, IsImplicit}
-use Rattle.wb_text.proofs.BookLines.{domain_said, said_in, said_of, said, same_lines}
+use Rattle.wb_text.proofs.ReadLines.{IsLine, IsImplicit}
+use Rattle.wb_text.proofs.BookLines.{same_lines}
 use Rattle.wb_text.proofs.MappingWritten.{HasNumbers, mapping_written, rectangle_spelled}
 use Rattle.wb_text.proofs.MembersWritten.{fits_within, sparse_members, associative_members}
 

@@ -12,20 +12,7 @@ use Rattle.wb_book.specs.declared.cells.value.Value.{Value}
 use Rattle.wb_book.specs.declared.cells.value.Value.TheVariants as values
 use Rattle.wb_book.specs.Cells.{Name, Cells, cell_cmp, is_same_name, same_names}
 use Rattle.wb_book.specs.Readers.{object_of, objects}
-use Rattle.wb_text.proofs.ReadLines.{Line, rectangular, sparse, associative, array}
-use Rattle.wb_text.proofs.BookLines.{said_in, said_of, said}
-
--- whose line it is
-abbrev name_of : Line → Name
-name_of (rectangular d rs m) = d
-name_of (sparse d parent is) = d
-name_of (associative d type is) = d
-name_of (array a d xs irv) = a
-
--- the first line of a name
-abbrev line_in : Name → List Line → Option Line
-line_in n [] = None
-line_in n (l ∷ ls) = cond (is_same_name n (name_of l)) (Some l) (line_in n ls)
+use Rattle.wb_text.specs.Said.{Line, name_of, line_in, said_in, said_of, said}
 
 abbrev IsNamed : Name → Option Line → Type 0
 IsNamed n None = Unit {0}

@@ -12,23 +12,11 @@ use Rattle.wb_book.specs.Names.{is_name, is_name_part}
 use Rattle.wb_literal.specs.Integer.{IsWithin}
 use Rattle.wb_text.specs.Literals.{rectangle_text, set_text, integers_text, mapping_text}
 use Rattle.wb_text.specs.Lines.{rectangular_line, sparse_line, type_text, associative_line, implicit_text, array_line}
+use Rattle.wb_text.specs.Said.{Line, rectangular, sparse, associative, array, line_text, lines_text}
 use Rattle.wb_text.proofs.Readable.{IsRead, Each, Any, tail_same, other_first}
 use Rattle.wb_text.proofs.ReadIndices.{AreWithin, IsWritten, integer_read, integers_read, set_read, name_parts, name_read}
 use Rattle.wb_text.proofs.ReadRanges.{IsSpelled, rectangle_read}
 use Rattle.wb_text.proofs.ReadMappings.{IsMapped, mapping_read, after_word, part_read}
-
--- what the line of an object says
-pub data Line : Type 0 where
-  rectangular : Name → List (List ℤ) → LayoutMap → Line
-  sparse : Name → Name → List Index → Line
-  associative : Name → KeyType → List Index → Line
-  array : Name → Name → List ℤ → Option ℤ → Line
-
-abbrev pub line_text : Line → List ℕ
-line_text (rectangular d rs m) = rectangular_line d rs m
-line_text (sparse d parent is) = sparse_line d parent is
-line_text (associative d type is) = associative_line d type is
-line_text (array a d xs irv) = array_line a d xs irv
 
 abbrev pub IsImplicit : Option ℤ → Type 0
 IsImplicit None = Unit {0}
@@ -160,9 +148,6 @@ line_read (array a d xs z) (rectangular e us n) r q h k i j f = other_first 97 1
 line_read (array a d xs z) (sparse e o js) r q h k i j f = other_first 97 115 _ _ refl f
 line_read (array a d xs z) (associative e u js) r q h k i j f = other_first 114 115 _ _ refl (append_cancel_left (codes "a") _ _ f)
 line_read (array a d xs z) (array c e ys w) r q h k i j f = array_read a c d e xs ys z w r q h k f
-
-abbrev pub lines_text : List Line → List ℕ
-lines_text ls = flat_map line_text ls ++ codes "end\n"
 
 not_end : {X : Type 0} (l : Line) (r : List ℕ) → line_text l ++ r ≡ codes "end\n" → X
 not_end (rectangular d rs m) r f = other_first 114 101 _ _ refl f

@@ -11,9 +11,8 @@ use Rattle.wb_book.specs.declared.cells.value.Value.TheVariants as values
 use Rattle.wb_book.specs.declared.values.index.Index.{Index}
 use Rattle.wb_book.specs.Cells.{Name, Cells}
 use Rattle.wb_book.specs.WellFormed.{IsWellFormed, IsShape, domain_at, domain_in, ranges_in}
+use Rattle.wb_text.specs.Said.{Line, rectangular, sparse, associative, array, domain_said, said_in, said_of, said}
 use Rattle.wb_text.proofs.ReadIndices.{some_same}
-use Rattle.wb_text.proofs.ReadLines.{Line, rectangular, sparse, associative, array}
-use Rattle.wb_text.proofs.BookLines.{domain_said, said_in, said_of, said}
 use Rattle.wb_text.proofs.LineOfName.{same_line}
 
 pub none_some : {X Y : Type 0} (x : X) → None ≡ Some x → Y

@@ -16,10 +16,9 @@ use Rattle.wb_book.specs.declared.cells.value.Value.TheVariants as values
 use Rattle.wb_book.specs.declared.values.index.Index.{Index}
 use Rattle.wb_book.specs.Cells.{Name, Cells, cell_cmp, cell_order, index_cmp, matches}
 use Rattle.wb_book.specs.WellFormed.{IsWellFormed, IsImplicit, array_at, array_in, has}
+use Rattle.wb_text.specs.Said.{Line, array, said_in, said_of, said}
 use Rattle.wb_text.specs.Lines.{member_in, members, number_in, elements_at, indices_in, implicit_in}
 use Rattle.wb_text.proofs.ReadIndices.{some_same}
-use Rattle.wb_text.proofs.ReadLines.{Line, array}
-use Rattle.wb_text.proofs.BookLines.{said_in, said_of, said}
 use Rattle.wb_text.proofs.LineOfName.{same_line}
 use Rattle.wb_text.proofs.MembersWritten.{IsThere, seen_there}
 use Rattle.wb_text.proofs.SameDomains.{none_some}

@@ -13,9 +13,8 @@ use Rattle.wb_book.specs.Cells.{Name, Cells}
 use Rattle.wb_book.specs.Kinds.{kind_of}
 use Rattle.wb_book.specs.Locales.{mapping_in}
 use Rattle.wb_book.specs.WellFormed.{IsWellFormed, IsShape, HasMapping, domain_at, domain_in, ranges_in, inside_of, use_of}
+use Rattle.wb_text.specs.Said.{rectangular, array, said_in, said}
 use Rattle.wb_text.proofs.ReadIndices.{some_same}
-use Rattle.wb_text.proofs.ReadLines.{rectangular, array}
-use Rattle.wb_text.proofs.BookLines.{said_in, said}
 use Rattle.wb_text.proofs.LineOfName.{same_line}
 use Rattle.wb_text.proofs.SameDomains.{none_some, both_said, domains_same}
 

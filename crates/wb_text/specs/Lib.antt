@@ -1,2 +1,3 @@
 pub mod Literals
 pub mod Lines
+pub mod Said

@@ -11,7 +11,9 @@ mod literals;
 mod mappings;
 mod objects;
 mod printed;
+mod said;
 #[cfg(test)]
 mod tests;
 
 pub use crate::printed::print_book;
+pub use crate::said::ObjectLine;

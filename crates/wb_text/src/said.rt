@@ -1,0 +1,16 @@
+//! What a line of the text of a workbook says.
+
+use wb_book::{AnyIndex, AnyLayout, AnyRect, KeyType, Name};
+
+/// What the line of an object says.
+#[derive(Drop)]
+pub enum ObjectLine {
+    /// A rectangular domain: its ranges and its mapping.
+    Rectangular(Name, AnyRect, AnyLayout),
+    /// A sparse domain: its parent and its indices, ascending.
+    Sparse(Name, Name, Vec<AnyIndex>),
+    /// An associative domain: the type of its indices, and its indices, ascending.
+    Associative(Name, KeyType, Vec<AnyIndex>),
+    /// An array: its domain, its elements in the domain's order, and its implicit value if its domain is sparse.
+    Array(Name, Name, Vec<i64>, Option<i64>),
+}
