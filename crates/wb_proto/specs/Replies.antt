@@ -11,7 +11,7 @@ use Rattle.wb_history.specs.declared.refusal.Refusal.{Refusal}
 use Rattle.wb_history.specs.declared.refusal.Refusal.TheVariants.{BadRequest, BadLiteral, Refused, NoSuchEdit, NotInForce, InForce, Blocked, RefusedInPlace, NoMemory}
 use Rattle.wb_proto.specs.Pieces.{piece_data}
 use Rattle.wb_proto.specs.declared.replies.reply.Reply.{Reply}
-use Rattle.wb_proto.specs.declared.replies.reply.Reply.TheVariants.{Edited, Undone, Redone, Answered, Refused as Refusing}
+use Rattle.wb_proto.specs.declared.replies.reply.Reply.TheVariants.{Edited, Undone, Redone, Answered, Printed, Refused as Refusing}
 
 -- ---- the code and the name of each refusal
 
@@ -89,6 +89,7 @@ reply_data (Edited k n) = object (member (codes "edit") (number (unsigned k)) (m
 reply_data (Undone k n) = object (member (codes "n") (number (unsigned n)) (member (codes "undone") (number (unsigned k)) no_members))
 reply_data (Redone k n) = object (member (codes "n") (number (unsigned n)) (member (codes "redone") (number (unsigned k)) no_members))
 reply_data (Answered a) = answer_data a
+reply_data (Printed t) = object (member (codes "text") (string t) no_members)
 reply_data (Refusing r) = refusal_data r
 
 -- the text of a reply, without a line end

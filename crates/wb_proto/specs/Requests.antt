@@ -16,7 +16,7 @@ use Rattle.wb_proto.specs.Literals.{literal_domain, domain_within}
 use Rattle.wb_proto.specs.Mappings.{literal_mapping, optional_mapping, mapping_within}
 use Rattle.wb_proto.specs.Sources.{source_of}
 use Rattle.wb_proto.specs.declared.requests.request.Request.{Request}
-use Rattle.wb_proto.specs.declared.requests.request.Request.TheVariants.{Change, Undo, Redo, Ask}
+use Rattle.wb_proto.specs.declared.requests.request.Request.TheVariants.{Change, Undo, Redo, Ask, Print}
 
 -- a new domain of what a literal spells, with a mapping: a set is no rectangle, which is for the workbook to refuse
 abbrev pub domain_with : Name → Domain → MappingLiteral → Result Request Refusal
@@ -234,6 +234,12 @@ state_of d = do
   number ← u64_field (codes "k") d
   Ok (Ask (State number))
 
+-- {"op":"print"}
+abbrev pub print_of : Data → Result Request Refusal
+print_of d = do
+  unit ← has_fields 1 d
+  Ok Print
+
 -- by its op, which is one of these
 abbrev pub by_op : List ℕ → Data → Result Request Refusal
 by_op op d =
@@ -260,6 +266,7 @@ by_op op d =
     if bytes_eq op (codes "size") then size_of d else
     if bytes_eq op (codes "piece") then piece_of d else
     if bytes_eq op (codes "state") then state_of d else
+    if bytes_eq op (codes "print") then print_of d else
     Err BadRequest
 
 -- the request that a JSON value is

@@ -1,5 +1,6 @@
 ghost use Rattle.std.specs.Prelude.{◌≡◌, IfOk};
 
+use crate::replies::book_text::BookText;
 use std::alloc::Global;
 use wb_history::{Answer, Refusal};
 use wb_range::NoMemory;
@@ -15,6 +16,8 @@ pub enum Reply {
     Redone(u64, usize),
     /// The answer of a query.
     Answered(Answer),
+    /// The text of the workbook.
+    Printed(BookText),
     /// Why nothing was done.
     Refused(Refusal),
 }
@@ -29,6 +32,7 @@ impl Reply {
             Reply::Undone(edit, n) => Ok(Reply::Undone(*edit, *n)),
             Reply::Redone(edit, n) => Ok(Reply::Redone(*edit, *n)),
             Reply::Answered(answer) => Ok(Reply::Answered(answer.copy(alloc)?)),
+            Reply::Printed(text) => Ok(Reply::Printed(text.copy(alloc)?)),
             Reply::Refused(why) => Ok(Reply::Refused(*why)),
         }
     }

@@ -4,6 +4,7 @@ ghost use Rattle.serde_json.specs.View.{view};
 ghost use Rattle.serde_json.specs.Written.{compact_text};
 ghost use Rattle.wb_proto.specs.Printed.{numbers_text, value_text, size_text, locale_text, in_force_text};
 ghost use Rattle.wb_proto.specs.Replies.{edit_code, edit_name, code_of, name_of, refusal_data, answer_data, reply_data, reply_of};
+ghost use Rattle.wb_proto.specs.declared.replies.reply.Reply.TheVariants.{Printed};
 
 use crate::replies::pieces::piece_text;
 use crate::replies::reply::Reply;
@@ -160,6 +161,20 @@ fn answer_text(alloc: Global, answer: &Answer) -> Result<String, AllocError>
     }
 }
 
+// The object of the text of a workbook.
+fn printed_value(alloc: Global, text: &str) -> Result<Value, AllocError>
+    ensures { IfOk result (λ v. view v ≡ reply_data (Printed text.now)) }
+{
+    json!(in alloc; {"text": text})
+}
+
+fn printed_text(alloc: Global, text: &str) -> Result<String, AllocError>
+    ensures { IfOk result (λ s. string_bytes s ≡ reply_of (Printed text.now)) }
+{
+    let value = printed_value(alloc, text)?;
+    value.to_string(alloc)
+}
+
 #[tactic(auto, using(crate::proofs::Texts::edited_is, crate::proofs::Texts::undone_is, crate::proofs::Texts::redone_is))]
 fn text_of(alloc: Global, reply: &Reply) -> Result<String, AllocError>
     ensures { IfOk result (λ s. string_bytes s ≡ reply_of reply.now) }
@@ -169,6 +184,7 @@ fn text_of(alloc: Global, reply: &Reply) -> Result<String, AllocError>
         Reply::Undone(edit, n) => numbers_text(alloc, "n", *n as u64, "undone", *edit),
         Reply::Redone(edit, n) => numbers_text(alloc, "n", *n as u64, "redone", *edit),
         Reply::Answered(answer) => answer_text(alloc, answer),
+        Reply::Printed(text) => printed_text(alloc, text.as_str()),
         Reply::Refused(refusal) => refusal_text(alloc, *refusal),
     }
 }

@@ -1,7 +1,7 @@
 // Requests for what the workbook and its history say.
 ghost use Rattle.std.specs.Prelude.{◌≡◌, codes};
 ghost use Rattle.serde_json.specs.View.{view};
-ghost use Rattle.wb_proto.specs.Requests.{get_of, where_of, size_of, piece_of, state_of};
+ghost use Rattle.wb_proto.specs.Requests.{get_of, where_of, size_of, piece_of, state_of, print_of};
 
 use crate::requests::fields::{has_fields, index_field, name_field, u64_field};
 use crate::requests::request::Request;
@@ -54,4 +54,12 @@ pub(crate) fn where_of(value: &Value) -> Result<Request, Refusal>
     let domain = name_field(value, "d")?;
     let index = index_field(value, "i")?;
     Ok(Request::Ask(Query::Where(domain, index)))
+}
+
+/// The text of the workbook.
+pub(crate) fn print_of(value: &Value) -> Result<Request, Refusal>
+    ensures { result ≡ print_of (view value.now) }
+{
+    has_fields(value, 1)?;
+    Ok(Request::Print)
 }

@@ -16,6 +16,8 @@ pub enum Request {
     Redo(u64),
     /// A question.
     Ask(Query),
+    /// The text of the workbook.
+    Print,
 }
 
 impl Request {
@@ -28,6 +30,7 @@ impl Request {
             Request::Undo(number) => Ok(Request::Undo(*number)),
             Request::Redo(number) => Ok(Request::Redo(*number)),
             Request::Ask(query) => Ok(Request::Ask(*query)),
+            Request::Print => Ok(Request::Print),
         }
     }
 }

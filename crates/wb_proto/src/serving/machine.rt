@@ -48,7 +48,7 @@ fn reply_to(alloc: Global, history: &mut History, line: &[u8]) -> Reply
     ensures { StepIfRead history.old (request line.now) result history.new ⊎ NothingDone history.old result history.new }
 {
     match read_request(alloc, line) {
-        Ok(request) => answer_request(history, request),
+        Ok(request) => answer_request(alloc, history, request),
         Err(why) => Reply::Refused(why),
     }
 }

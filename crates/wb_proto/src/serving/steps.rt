@@ -1,11 +1,14 @@
 // One request after another, each a step of the history.
 ghost use Rattle.std.specs.Prelude.{◌≡◌, Some, None};
-ghost use Rattle.wb_proto.specs.Machine.{Changes, UndoesNumber, UndoesLatest, Redoes, Answers, Step};
+ghost use Rattle.wb_proto.specs.Machine.{Changes, UndoesNumber, UndoesLatest, Redoes, Answers, Prints, Step};
 
+use crate::replies::book_text::BookText;
 use crate::replies::reply::Reply;
 use crate::requests::request::Request;
+use std::alloc::Global;
 use wb_edit::Edit;
-use wb_history::{History, Query};
+use wb_history::{History, Query, Refusal};
+use wb_text::print_book;
 
 fn make_edit(history: &mut History, edit: Edit) -> Reply
     ensures { Changes history.old edit result history.new }
@@ -52,8 +55,17 @@ fn answer_query(history: &History, query: &Query) -> Reply
     }
 }
 
-/// Answers a request: an edit, an undo or a redo changes the history, a refusal and a query leave it.
-pub fn answer_request(history: &mut History, request: Request) -> Reply
+fn print_workbook(alloc: Global, history: &History) -> Reply
+    ensures { Prints history.now result history.now }
+{
+    match print_book(alloc, history.book()) {
+        Ok(text) => Reply::Printed(BookText::new(text)),
+        Err(_) => Reply::Refused(Refusal::NoMemory),
+    }
+}
+
+/// Answers a request: an edit, an undo or a redo changes the history, a refusal, a query and a print leave it.
+pub fn answer_request(alloc: Global, history: &mut History, request: Request) -> Reply
     ensures { Step history.old request result history.new }
 {
     match request {
@@ -62,5 +74,6 @@ pub fn answer_request(history: &mut History, request: Request) -> Reply
         Request::Undo(None) => undo_latest(history),
         Request::Redo(number) => redo_number(history, number),
         Request::Ask(query) => answer_query(history, &query),
+        Request::Print => print_workbook(alloc, history),
     }
 }

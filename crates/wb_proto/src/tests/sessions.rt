@@ -389,10 +389,10 @@ fn copies_are_answered_alike(rt: HostRuntime) -> Result<(), Fail> {
     let mut history = History::new(alloc);
     let request = Request::Undo(Some(7));
     let copied = request.copy(alloc);
-    let reply = answer_request(&mut history, request);
+    let reply = answer_request(alloc, &mut history, request);
     assert!(rt; is_no_such_edit(&reply));
     if let Ok(copied) = copied {
-        assert!(rt; is_no_such_edit(&answer_request(&mut history, copied)));
+        assert!(rt; is_no_such_edit(&answer_request(alloc, &mut history, copied)));
     }
     if let Ok(other) = reply.copy(alloc) {
         assert!(rt; is_no_such_edit(&other));
