@@ -1,4 +1,6 @@
+mod devices;
 mod domains;
+mod faults;
 mod histories;
 mod mappings;
 mod members;

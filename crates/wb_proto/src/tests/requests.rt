@@ -30,6 +30,8 @@ fn fields_of_their_types(rt: HostRuntime) -> Result<(), Fail> {
         "{\"op\":\"redo\"}",
         "{\"op\":1}",
         "{\"op\":\"count\",\"d\":\"D\"}",
+        "{\"op\":\"print\",\"d\":\"D\"}",
+        "{\"op\":\"text\"}",
         "{\"op\":\"size\"}",
         "{\"op\":\"size\",\"a\":\"D\"}",
         "{\"op\":\"size\",\"d\":\"D\",\"k\":1}",

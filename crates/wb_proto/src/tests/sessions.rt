@@ -359,6 +359,7 @@ fn edits_and_queries_of_all_kinds(rt: HostRuntime) -> Result<(), Fail> {
     all_answers(&rt, rt.alloc(), &BUILT, &tables)
 }
 
+// Lines that are no text or no JSON, a line that is too long, and a line end of two bytes.
 #[test]
 fn broken_lines(rt: HostRuntime) -> Result<(), Fail> {
     let alloc = rt.alloc();
@@ -366,16 +367,26 @@ fn broken_lines(rt: HostRuntime) -> Result<(), Fail> {
     for _ in 0..65_537u32 {
         lines.push(b' ')?;
     }
-    lines.extend_from_slice(b"\n{\"op\":\"get\",\"a\":\"D\",\"i\":1}\n{\"op\":\"pri")?;
-    let mut input = lines.as_slice();
-    let mut output = Vec::new(alloc);
-    let mut history = History::new(alloc);
-    let end = session(alloc, &mut history, &mut input, &mut output);
-    assert_eq!(rt; end, SessionEnd::Done(4));
-    assert_eq!(rt;
-        std::str::from_utf8(&output)?,
-        "{\"error\":\"E01\",\"name\":\"bad-request\"}\n{\"error\":\"E91\",\"name\":\"line-too-long\"}\n{\"error\":\"E04\",\"name\":\"no-such-name\"}\n{\"error\":\"E01\",\"name\":\"bad-request\"}\n"
-    );
+    lines.extend_from_slice(b"\n{\"op\":\"size\",\"d\":\"D\"}\n{\"op\":\"pri")?;
+    for (bytes, text, count) in [
+        (
+            lines.as_slice(),
+            "{\"error\":\"E01\",\"name\":\"bad-request\"}\n{\"error\":\"E91\",\"name\":\"line-too-long\"}\n{\"error\":\"E04\",\"name\":\"no-such-name\"}\n{\"error\":\"E01\",\"name\":\"bad-request\"}\n",
+            4,
+        ),
+        (
+            b"{\"op\":\"undo\",\"k\":\"\xff\"}\n{\"op\":\"undo\"}\r\n".as_slice(),
+            "{\"error\":\"E01\",\"name\":\"bad-request\"}\n{\"error\":\"E11\",\"name\":\"no-such-edit\"}\n",
+            2,
+        ),
+    ] {
+        let mut input = bytes;
+        let mut output = Vec::new(alloc);
+        let mut history = History::new(alloc);
+        let end = session(alloc, &mut history, &mut input, &mut output);
+        assert_eq!(rt; end, SessionEnd::Done(count));
+        assert_eq!(rt; std::str::from_utf8(&output)?, text);
+    }
     Ok(())
 }
 
