@@ -15,3 +15,4 @@ pub mod LineOfName
 pub mod SameDomains
 pub mod SameObjects
 pub mod SameMembers
+pub mod SameCells
