@@ -16,3 +16,4 @@ pub mod SameDomains
 pub mod SameObjects
 pub mod SameMembers
 pub mod SameCells
+pub mod NamesAscend
