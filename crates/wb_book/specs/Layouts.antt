@@ -1,6 +1,8 @@
 -- Mappings of the workbook's rectangular domains: for which rank, and on which locale an index lies
 -- (Chapel Language Specification, Domain Maps).
-use Rattle.std.specs.Prelude.{◌≡◌, ℕ, ◌==◌, nat_eq, Bool, true, length, Option, Some, None, ⊤, refl, if◌then◌else◌}
+use Rattle.std.specs.Prelude.{◌≡◌, ℕ, ◌==◌, nat_eq, Bool, true, length, Option, Some, None, ⊤, refl, if◌then◌else◌, FitsSigned}
+use Rattle.std.specs.Int.{w64}
+use Rattle.std.specs.List.{All}
 use Rattle.wb_rect.specs.Product.{IsRectangle}
 use Rattle.wb_dist.specs.Maps.{LayoutMap, whole, block, cyclic, block_cyclic, is_layout, locale_of}
 use Rattle.wb_book.specs.declared.values.index.Index.{Index}
@@ -17,12 +19,12 @@ is_of_rank rank (block m) = rank == length m.grid
 is_of_rank rank (cyclic m) = rank == length m.grid
 is_of_rank rank (block_cyclic m) = rank == length m.grid
 
--- a box is within the limits of a rectangular domain
+-- a box is within the limits of a rectangular domain, and the numbers of a start and of block sizes are of 64 bits
 abbrev pub IsInLimits : ℕ → LayoutMap → Type 0
 IsInLimits rank whole = ⊤
 IsInLimits rank (block m) = IsRectangle rank m.box
-IsInLimits rank (cyclic m) = ⊤
-IsInLimits rank (block_cyclic m) = ⊤
+IsInLimits rank (cyclic m) = All (FitsSigned w64) m.start
+IsInLimits rank (block_cyclic m) = All (FitsSigned w64) m.start × All (FitsSigned w64) m.size
 
 -- a mapping for domains of the rank
 pub record IsMapping (rank : ℕ) (m : LayoutMap) : Type 0 where

@@ -1,20 +1,17 @@
 -- The text of a workbook is that of its lines, and two workbooks with one text have the same lines.
-use Rattle.std.proofs.Common.{◌≡◌, ℕ, List, [], ◌∷◌, ◌++◌, codes, Option, Some, None, unwrap_or, refl, sym, ap, ◌∙◌}
+use Rattle.std.proofs.Common.{◌≡◌, ℕ, List, [], ◌∷◌, ◌++◌, codes, Option, Some, None, refl, sym, ap, ◌∙◌}
 use Rattle.std.proofs.lemmas.List.{append_cancel_left}
 use Rattle.std.specs.FinMap.{get}
 use Rattle.std.specs.List.{cons_option, filter_map, flat_map}
-use Rattle.wb_dist.specs.Maps.{whole}
-use Rattle.wb_book.specs.declared.cells.cell.Cell.TheVariants.{Object, Shape, Mapping}
+use Rattle.wb_book.specs.declared.cells.cell.Cell.TheVariants.{Object}
 use Rattle.wb_book.specs.declared.cells.kind.DomainKind.{DomainKind}
 use Rattle.wb_book.specs.declared.cells.kind.DomainKind.TheVariants.{Rectangular, Sparse, Associative}
 use Rattle.wb_book.specs.declared.cells.value.Value.{Value}
 use Rattle.wb_book.specs.declared.cells.value.Value.TheVariants.{Domain, Array}
 use Rattle.wb_book.specs.Cells.{Name, Cells}
-use Rattle.wb_book.specs.Locales.{mapping_in}
 use Rattle.wb_book.specs.Readers.{objects}
-use Rattle.wb_book.specs.WellFormed.{ranges_in}
 use Rattle.wb_text.specs.Said.{Line, line_text, lines_text, domain_said, said_in, said_of, said}
-use Rattle.wb_text.specs.Lines.{members, indices_in, elements_at, implicit_in, line_in, object_line, book_text}
+use Rattle.wb_text.specs.Lines.{line_in, object_line, book_text}
 use Rattle.wb_text.proofs.Readable.{Each}
 use Rattle.wb_text.proofs.ReadLines.{IsLine, lines_read}
 

@@ -2,7 +2,7 @@
 use Rattle.std.proofs.Common.{◌≡◌, ℕ, ℤ, Bool, true, false, List, [], ◌∷◌, Option, Some, None, option_map, unwrap_or, refl, sym, ap, subst}
 use Rattle.std.specs.FinMap.{get}
 use Rattle.std.specs.List.{cons_option, filter_map}
-use Rattle.wb_dist.specs.Maps.{LayoutMap, whole}
+use Rattle.wb_dist.specs.Maps.{whole}
 use Rattle.wb_book.specs.declared.cells.cell.Cell.TheVariants.{Object, Shape, Mapping, Implicit, Element}
 use Rattle.wb_book.specs.declared.cells.kind.DomainKind.{DomainKind}
 use Rattle.wb_book.specs.declared.cells.kind.DomainKind.TheVariants.{Rectangular, Sparse, Associative}
@@ -26,12 +26,9 @@ use Rattle.wb_text.proofs.ReadRanges.{IsSpelled}
 use Rattle.wb_text.proofs.ReadMappings.{IsMapped}
 use Rattle.wb_text.proofs.ReadLines.{IsLine, IsImplicit}
 use Rattle.wb_text.proofs.BookLines.{same_lines}
-use Rattle.wb_text.proofs.MappingWritten.{HasNumbers, mapping_written, rectangle_spelled}
-use Rattle.wb_text.proofs.MembersWritten.{fits_within, sparse_members, associative_members}
-
--- the starts and sizes of every mapping are of 64 bits: what is well formed says nothing of them
-abbrev pub HasMappedNumbers : Cells → Type 0
-HasMappedNumbers s = (d : Name) (m : LayoutMap) → get s (Mapping d) ≡ Some (values.Mapping m) → HasNumbers m
+use Rattle.wb_text.proofs.MappingWritten.{mapping_written, rectangle_spelled}
+use Rattle.wb_text.proofs.Numbers.{fits_within}
+use Rattle.wb_text.proofs.MembersWritten.{sparse_members, associative_members}
 
 none_some : {X Y : Type 0} (x : X) → None ≡ Some x → Y
 none_some x e = cc
@@ -85,43 +82,43 @@ ranges_written s d rank w is =
     let shape : IsShape (Some (Rectangular rank)) (get s (Shape d)) = subst (λ k. IsShape k (get s (Shape d))) is (w.shapes d) in
     subst (λ v. Each IsSpelled (unwrap_or (ranges_in v) [])) (sym shape.1) (rectangle_spelled rank shape.0 shape.2)
 
-layout_written : (s : Cells) (d : Name) (rank : ℕ) → IsWellFormed s → HasMappedNumbers s → domain_at s d ≡ Some (Rectangular rank) → IsMapped (unwrap_or (mapping_in (get s (Mapping d))) whole)
-layout_written s d rank w numbers is =
+layout_written : (s : Cells) (d : Name) (rank : ℕ) → IsWellFormed s → domain_at s d ≡ Some (Rectangular rank) → IsMapped (unwrap_or (mapping_in (get s (Mapping d))) whole)
+layout_written s d rank w is =
     let mapping : HasMapping (Some (Rectangular rank)) (get s (Mapping d)) = subst (λ k. HasMapping k (get s (Mapping d))) is (w.mappings d) in
-    subst (λ v. IsMapped (unwrap_or (mapping_in v) whole)) (sym mapping.1) (mapping_written rank mapping.0 mapping.2 (numbers d mapping.0 mapping.1))
+    subst (λ v. IsMapped (unwrap_or (mapping_in v) whole)) (sym mapping.1) (mapping_written rank mapping.0 mapping.2)
 
-domain_written : (s : Cells) (d : Name) (kind : DomainKind) → IsWellFormed s → HasMappedNumbers s → get s (Object d) ≡ Some (values.Domain kind) → IsLine (domain_said s d kind)
-domain_written s d (Rectangular rank) w numbers e =
+domain_written : (s : Cells) (d : Name) (kind : DomainKind) → IsWellFormed s → get s (Object d) ≡ Some (values.Domain kind) → IsLine (domain_said s d kind)
+domain_written s d (Rectangular rank) w e =
     let is = ap domain_in e in
-    (w.names d _ e, ranges_written s d rank w is, layout_written s d rank w numbers is)
-domain_written s d (Sparse parent rank) w numbers e =
+    (w.names d _ e, ranges_written s d rank w is, layout_written s d rank w is)
+domain_written s d (Sparse parent rank) w e =
     let within = w.objects d _ e in
     (w.names d _ e, domain_named s parent (Rectangular rank) w within, sparse_members s d parent rank w (ap domain_in e) within)
-domain_written s d (Associative type) w numbers e = (w.names d _ e, associative_members s d type w (ap domain_in e))
+domain_written s d (Associative type) w e = (w.names d _ e, associative_members s d type w (ap domain_in e))
 
 abbrev AreLines : Option Line → Type 0
 AreLines None = Unit {0}
 AreLines (Some l) = IsLine l
 
-value_written : (s : Cells) (n : Name) (v : Option Value) → IsWellFormed s → HasMappedNumbers s → get s (Object n) ≡ v → AreLines (said_in s n v)
-value_written s n None w numbers e = tt
-value_written s n (Some (values.Domain kind)) w numbers e = domain_written s n kind w numbers e
-value_written s n (Some (values.Array d kind)) w numbers e =
+value_written : (s : Cells) (n : Name) (v : Option Value) → IsWellFormed s → get s (Object n) ≡ v → AreLines (said_in s n v)
+value_written s n None w e = tt
+value_written s n (Some (values.Domain kind)) w e = domain_written s n kind w e
+value_written s n (Some (values.Array d kind)) w e =
     (w.names n _ e, bound_named s d kind w (w.objects n _ e), elements_within s n w (indices_in s d kind), implicit_within s n d kind w (ap array_in e))
-value_written s n (Some v) w numbers e = tt
+value_written s n (Some v) w e = tt
 
 line_more : (o : Option Line) (ls : List Line) → AreLines o → Each IsLine ls → Each IsLine (cons_option o ls)
 line_more None ls h w = w
 line_more (Some l) ls h w = (h, w)
 
-names_written : (s : Cells) → IsWellFormed s → HasMappedNumbers s → (ns : List Name) → Each IsLine (filter_map (said_of s) ns)
-names_written s w numbers [] = tt
-names_written s w numbers (n ∷ ns) =
-    line_more (said_of s n) (filter_map (said_of s) ns) (value_written s n (get s (Object n)) w numbers refl) (names_written s w numbers ns)
+names_written : (s : Cells) → IsWellFormed s → (ns : List Name) → Each IsLine (filter_map (said_of s) ns)
+names_written s w [] = tt
+names_written s w (n ∷ ns) =
+    line_more (said_of s n) (filter_map (said_of s) ns) (value_written s n (get s (Object n)) w refl) (names_written s w ns)
 
-pub said_written : (s : Cells) → IsWellFormed s → HasMappedNumbers s → Each IsLine (said s)
-said_written s w numbers = names_written s w numbers (objects s)
+pub said_written : (s : Cells) → IsWellFormed s → Each IsLine (said s)
+said_written s w = names_written s w (objects s)
 
 -- two well-formed workbooks with one text have the same lines
-pub one_text_one_list : (s t : Cells) → IsWellFormed s → IsWellFormed t → HasMappedNumbers s → HasMappedNumbers t → book_text s ≡ book_text t → said s ≡ said t
-one_text_one_list s t v w m n e = same_lines s t (said_written s v m) (said_written t w n) e
+pub one_text_one_list : (s t : Cells) → IsWellFormed s → IsWellFormed t → book_text s ≡ book_text t → said s ≡ said t
+one_text_one_list s t v w e = same_lines s t (said_written s v) (said_written t w) e

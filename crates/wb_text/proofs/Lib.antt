@@ -7,6 +7,7 @@ pub mod ReadMappings
 pub mod ReadLines
 pub mod BookLines
 pub mod RangeSpelled
+pub mod Numbers
 pub mod MappingWritten
 pub mod MembersWritten
 pub mod BookWritten
@@ -14,3 +15,5 @@ pub mod LineOfName
 pub mod SameDomains
 pub mod SameObjects
 pub mod SameMembers
+pub mod SameCells
+pub mod NamesAscend

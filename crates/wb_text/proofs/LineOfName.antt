@@ -14,11 +14,11 @@ use Rattle.wb_book.specs.Cells.{Name, Cells, cell_cmp, is_same_name, same_names}
 use Rattle.wb_book.specs.Readers.{object_of, objects}
 use Rattle.wb_text.specs.Said.{Line, name_of, line_in, said_in, said_of, said}
 
-abbrev IsNamed : Name → Option Line → Type 0
+abbrev pub IsNamed : Name → Option Line → Type 0
 IsNamed n None = Unit {0}
 IsNamed n (Some l) = name_of l ≡ n
 
-said_named : (s : Cells) (n : Name) (v : Option Value) → IsNamed n (said_in s n v)
+pub said_named : (s : Cells) (n : Name) (v : Option Value) → IsNamed n (said_in s n v)
 said_named s n None = tt
 said_named s n (Some (values.Domain (Rectangular rank))) = refl
 said_named s n (Some (values.Domain (Sparse parent rank))) = refl

@@ -1,4 +1,4 @@
--- The parts of a mapping may be written, if its starts and sizes are of 64 bits.
+-- The parts of a mapping may be written.
 use Rattle.std.proofs.Common.{◌≡◌, ◌==◌, ℕ, zero, suc, ◌*◌, ◌≤◌, ℤ, pos, negsuc, int_le, nat_le, Bool, true, false, ◌&&◌, List, [], ◌∷◌, length, refl, arith}
 use Rattle.std.proofs.lemmas.Bool.{leb-true, eqb-true}
 use Rattle.std.proofs.lemmas.List.Elements.{recursion_from_All}
@@ -11,6 +11,7 @@ use Rattle.wb_dist.specs.Maps.{LayoutMap, whole, block, cyclic, block_cyclic, is
 use Rattle.wb_book.specs.Layouts.{IsMapping}
 use Rattle.wb_literal.specs.Integer.{IsWithin}
 use Rattle.wb_text.proofs.Readable.{Each, both}
+use Rattle.wb_text.proofs.Numbers.{fit_within}
 use Rattle.wb_text.proofs.ReadIndices.{AreWithin, IsPoint}
 use Rattle.wb_text.proofs.ReadRanges.{IsSpelled}
 use Rattle.wb_text.proofs.ReadMappings.{IsMapped}
@@ -72,13 +73,6 @@ some_rank rank e = leb-true 1 rank (both (nat_le 1 rank) (nat_le rank 3) e).0
 
 -- ---- mappings
 
--- the starts and sizes of a mapping are of 64 bits
-abbrev pub HasNumbers : LayoutMap → Type 0
-HasNumbers whole = Unit {0}
-HasNumbers (block m) = Unit {0}
-HasNumbers (cyclic m) = AreWithin m.start
-HasNumbers (block_cyclic m) = AreWithin m.start × AreWithin m.size
-
 four : (a b c d : Bool) → a && b && c && d ≡ true → (a ≡ true) × (b ≡ true) × (d ≡ true)
 four true true true d e = (refl, refl, e)
 four true true false d e = cc
@@ -100,14 +94,14 @@ six true true false d g h e = cc
 six true false c d g h e = cc
 six false b c d g h e = cc
 
-pub mapping_written : (rank : ℕ) (m : LayoutMap) → IsMapping rank m → HasNumbers m → IsMapped m
-mapping_written rank whole h n = tt
-mapping_written rank (block m) h n =
+pub mapping_written : (rank : ℕ) (m : LayoutMap) → IsMapping rank m → IsMapped m
+mapping_written rank whole h = tt
+mapping_written rank (block m) h =
     (rectangle_spelled rank m.box h.in_limits, grid_within m.grid (five (is_rank rank) (length m.box == rank) (length m.grid == rank) (is_box m.box) (is_grid m.grid) h.valid))
-mapping_written rank (cyclic m) h n =
+mapping_written rank (cyclic m) h =
     let parts = four (is_rank rank) (length m.start == rank) (length m.grid == rank) (is_grid m.grid) h.valid in
-    (point_of rank m.start (some_rank rank parts.0) (eqb-true (length m.start) rank parts.1) n, grid_within m.grid parts.2)
-mapping_written rank (block_cyclic m) h n =
+    (point_of rank m.start (some_rank rank parts.0) (eqb-true (length m.start) rank parts.1) (fit_within m.start h.in_limits), grid_within m.grid parts.2)
+mapping_written rank (block_cyclic m) h =
     let parts = six (is_rank rank) (length m.start == rank) (length m.size == rank) (length m.grid == rank) (are_positive m.size) (is_grid m.grid) h.valid in
     let some = some_rank rank parts.0 in
-    (point_of rank m.start some (eqb-true (length m.start) rank parts.1) n.0, point_of rank m.size some (eqb-true (length m.size) rank parts.2) n.1, grid_within m.grid parts.3)
+    (point_of rank m.start some (eqb-true (length m.start) rank parts.1) (fit_within m.start h.in_limits.0), point_of rank m.size some (eqb-true (length m.size) rank parts.2) (fit_within m.size h.in_limits.1), grid_within m.grid parts.3)

@@ -1,6 +1,5 @@
 -- The indices of a sparse or associative domain of a well-formed workbook may be written.
-use Rattle.std.proofs.Common.{◌≡◌, ℕ, zero, suc, ℤ, pos, negsuc, FitsSigned, w64, Bool, true, false, ◌||◌, cond, nat_le, List, [], ◌∷◌, map, Option, Some, None, is_some, length, refl, sym, ap, ◌∙◌, subst, arith}
-use Rattle.std.proofs.lemmas.Int.{ints}
+use Rattle.std.proofs.Common.{◌≡◌, ℕ, zero, suc, ℤ, Bool, true, false, ◌||◌, cond, nat_le, List, [], ◌∷◌, map, Option, Some, None, is_some, length, refl, sym, ap, ◌∙◌, subst, arith}
 use Rattle.std.proofs.lemmas.List.Elements.{recursion_from_All}
 use Rattle.std.specs.Cmp.{Equal-is, eq_by_cmp_equiv}
 use Rattle.std.specs.FinMap.{get, keys, entries, retain_keys, contains_key-keys, get-retain_keys}
@@ -28,9 +27,9 @@ use Rattle.wb_book.specs.Kinds.{is_key, IsIndex}
 use Rattle.wb_book.specs.Shapes.{indices}
 use Rattle.wb_book.specs.WellFormed.{IsWellFormed, IsShape, IsMember, MayHave, domain_at, has, inside_of, present_if, ranges_in}
 use Rattle.wb_book.proofs.Inside.{has_point, has_no_text, has_none_of_other_rank}
-use Rattle.wb_literal.specs.Integer.{IsWithin}
 use Rattle.wb_text.specs.Lines.{member_in, members}
 use Rattle.wb_text.proofs.Readable.{Each, both}
+use Rattle.wb_text.proofs.Numbers.{fit_within}
 use Rattle.wb_text.proofs.ReadIndices.{AreWithin, IsWritten}
 use Rattle.wb_text.proofs.RangeSpelled.{member_within}
 
@@ -112,18 +111,10 @@ sparse_written s parent rank i w is e =
 
 -- ---- indices of an associative domain
 
-pub fits_within : (z : ℤ) → FitsSigned w64 z → IsWithin z
-fits_within (pos n) h = omega (arith, ints, h)
-fits_within (negsuc n) h = omega (arith, ints, h)
-
-all_within : (is : List ℤ) → AllByRecursion (FitsSigned w64) is → AreWithin is
-all_within [] h = tt
-all_within (i ∷ is) h = (fits_within i h.0, all_within is h.1)
-
 key_written : (type : KeyType) (i : Index) → is_key (kinds.Associative type) i ≡ true → IsIndex i → IsWritten i
 key_written types.Int (Text t) e h = true_false e
 key_written types.Int (Point []) e h = true_false e
-key_written types.Int (Point (i ∷ is)) e h = all_within (i ∷ is) (recursion_from_All (FitsSigned w64) (i ∷ is) h)
+key_written types.Int (Point (i ∷ is)) e h = fit_within (i ∷ is) h
 key_written types.Text (Point is) e h = true_false e
 key_written types.Text (Text t) e h = (both (nat_le (length t) 64) (list_all is_plain t) h.accepted).1
 

@@ -26,7 +26,7 @@ use Rattle.wb_text.proofs.SameObjects.{objects_same}
 
 -- ---- implicit values
 
-array_object : (o : Option Value) (d : Name) (kind : Kind) → array_in o ≡ Some (d, kind) → o ≡ Some (values.Array d kind)
+pub array_object : (o : Option Value) (d : Name) (kind : Kind) → array_in o ≡ Some (d, kind) → o ≡ Some (values.Array d kind)
 array_object None d kind e = none_some (d, kind) e
 array_object (Some (values.Array c k)) d kind e = ap (λ (p : Name × Kind). Some (values.Array p.0 p.1)) (some_same (c, k) (d, kind) e)
 array_object (Some v) d kind e = none_some (d, kind) e

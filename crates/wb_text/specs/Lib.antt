@@ -1,3 +1,4 @@
 pub mod Literals
 pub mod Lines
 pub mod Said
+pub mod Laws

@@ -1,10 +1,11 @@
 //! The text of a workbook: one for each workbook.
 //!
 //! Every literal in it is canonical. `specs/Literals.antt` has the texts of the literals, and `specs/Lines.antt` those
-//! of the lines and of the workbook.
+//! of the lines and of the workbook; [`laws`] has what the text tells.
 #![tactic(auto)]
 
 mod books;
+pub mod laws;
 mod lines;
 mod lists;
 mod literals;

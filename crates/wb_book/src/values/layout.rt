@@ -1,4 +1,6 @@
-ghost use Rattle.std.specs.Prelude.{◌≡◌, ◌≤◌, ◌<◌, true, false};
+ghost use Rattle.std.specs.Prelude.{◌≡◌, ◌≤◌, ◌<◌, true, false, FitsSigned};
+ghost use Rattle.std.specs.Int.{w64};
+ghost use Rattle.std.specs.List.{All};
 ghost use Rattle.wb_dist.specs.Maps.{whole, locale_count_of};
 ghost use Rattle.wb_book.specs.Layouts.{map_of, is_of_rank, IsLayout, IsDealt, locale_in};
 ghost use Rattle.wb_book.specs.declared.values.index.Index.TheVariants.{Point as point_index};
@@ -152,8 +154,24 @@ fn is_whole<const R: usize>(layout: &Layout<R>) -> bool
             let _kept = block.bounds().rank();
             false
         }
-        Distribution::Cyclic(_) => false,
-        Distribution::BlockCyclic(_) => false,
+        Distribution::Cyclic(cyclic) => {
+            numbers_validity(&cyclic.start());
+            false
+        }
+        Distribution::BlockCyclic(block_cyclic) => {
+            numbers_validity(&block_cyclic.start());
+            numbers_validity(&block_cyclic.size());
+            false
+        }
+    }
+}
+
+// Computes nothing. Callers learn that the numbers are of 64 bits.
+fn numbers_validity(numbers: &[i64])
+    ensures { All (FitsSigned w64) numbers.now }
+{
+    for number in numbers {
+        let _number = *number;
     }
 }
 
