@@ -5,11 +5,13 @@ mod buffer;
 mod machine;
 mod sending;
 mod session;
+mod whole;
 
 pub use buffer::{LINE_LIMIT, Line, LineBuffer, LineFault, READ_LIMIT, next_line};
 pub use machine::{Machine, SessionEnd};
 pub use sending::{WriteFault, send};
 pub use session::serve_lines;
+pub use whole::read_all;
 
 #[cfg(test)]
 mod tests;

@@ -1,6 +1,8 @@
 use super::devices::{Narrow, Pieces};
 use super::{Counter, FIRST_LINES, FIRST_REPLIES};
-use crate::{LineBuffer, LineFault, SessionEnd, WriteFault, next_line, send, serve_lines};
+use crate::{
+    LineBuffer, LineFault, SessionEnd, WriteFault, next_line, read_all, send, serve_lines,
+};
 use std::test::Fail;
 
 // How many of the first bytes end a line.
@@ -98,5 +100,19 @@ fn sends_by_single_bytes(rt: HostRuntime) -> Result<(), Fail> {
     assert_eq!(rt; send(&mut output, b"abc"), Ok(()));
     assert_eq!(rt; send(&mut output, b"de"), Err(WriteFault));
     assert_eq!(rt; output.taken.as_slice(), b"abcd".as_slice());
+    Ok(())
+}
+
+#[test]
+fn reads_the_whole_input(rt: HostRuntime) -> Result<(), Fail> {
+    let alloc = rt.alloc();
+    let read = read_all(alloc, &mut Pieces::new(FIRST_LINES)).unwrap_or(Vec::new(alloc));
+    assert_eq!(rt; read.as_slice(), FIRST_LINES);
+    assert!(rt;
+        matches!(
+            read_all(alloc, &mut Pieces::failing_at(FIRST_LINES, 9)),
+            Err(LineFault::ReadFault)
+        )
+    );
     Ok(())
 }

@@ -1,0 +1,43 @@
+ghost use Rattle.std.specs.Prelude.{◌≡◌, ◌++◌, ℕ, List, false, IfOk, OnOk, OnErr};
+ghost use Rattle.std.specs.Io.KnownBytes.{Consumes, IsAtEnd};
+
+use crate::buffer::{LineFault, READ_LIMIT};
+use std::alloc::Global;
+use std::io::{ErrorKind, Read};
+
+// One read asks for so many bytes.
+const BLOCK_SIZE: usize = 8192;
+
+// Reads once more, onto the bytes. Says whether there may be more; a read that a signal interrupted gives nothing.
+fn read_more<R: Read>(reader: &mut R, bytes: &mut Vec<u8>) -> Result<bool, LineFault>
+    ensures read { (got : List ℕ) × Consumes (R.remaining reader.old) (R.remaining reader.new) got
+        × OnOk result (bytes.new.items ≡ bytes.old.items ++ got) }
+    ensures end { IfOk result (λ more. more ≡ false → IsAtEnd (R.remaining reader.new)) }
+{
+    let mut block = [0; BLOCK_SIZE];
+    match reader.read(&mut block) {
+        Ok(n) => match bytes.extend_from_slice(&block[..n]) {
+            Ok(()) => Ok(n > 0),
+            Err(_) => Err(LineFault::NoMemory),
+        },
+        Err(error) if error.kind() == ErrorKind::Interrupted => Ok(true),
+        Err(_) => Err(LineFault::ReadFault),
+    }
+}
+
+/// All bytes of a reader up to the end of input, by at most `READ_LIMIT` reads. After a fault a front of them was read.
+pub fn read_all<R: Read>(alloc: Global, reader: &mut R) -> Result<Vec<u8>, LineFault>
+    ensures ok { IfOk result (λ bytes. Consumes (R.remaining reader.old) (R.remaining reader.new) bytes.items
+        × IsAtEnd (R.remaining reader.new)) }
+    ensures err { OnErr result ((got : List ℕ) × Consumes (R.remaining reader.old) (R.remaining reader.new) got) }
+{
+    let mut bytes = Vec::new(alloc);
+    for _ in 0..READ_LIMIT {
+        match read_more(reader, &mut bytes) {
+            Ok(true) => {}
+            Ok(false) => return Ok(bytes),
+            Err(fault) => return Err(fault),
+        }
+    }
+    Err(LineFault::TooManyReads)
+}
