@@ -1,7 +1,6 @@
 pub mod Answers
 pub mod Fields
 pub mod Literals
-pub mod Mappings
 pub mod Sources
 pub mod Requests
 pub mod Pieces

@@ -1,84 +1,52 @@
--- The domain literals that requests take: a rectangle of 1 to 3 ranges, or a set. Other texts are bad literals, and only
--- then the limits of the ranges and of the rectangle are judged (Chapel Language Specification, Ranges and Domains).
-use Rattle.std.specs.Prelude.{ℕ, ℤ, pos, negsuc, ◌-ℤ◌, int_le, List, [], ◌∷◌, length, map, Bool, not, ◌&&◌, nat_le, Option, Some, None, Result, Ok, Err, if◌then◌else◌}
+-- The literals that requests take: what they spell, and then, within the limits, what that stands for (Chapel Language
+-- Specification, Ranges, Domains and Domain Maps).
+use Rattle.std.specs.Prelude.{ℕ, List, Option, Some, None, Result, Ok, Err}
 use Rattle.std.specs.Option.{ok_or}
-use Rattle.std.specs.Ordering.{int_eq}
-use Rattle.wb_range.specs.Sequence.{sequence, counted_bounds}
-use Rattle.wb_rect.specs.Product.{product}
+use Rattle.wb_dist.specs.Maps.{LayoutMap}
 use Rattle.wb_book.specs.Shapes.{Range}
-use Rattle.wb_book.specs.declared.values.index.Index.{Index}
-use Rattle.wb_book.specs.declared.values.index.Index.TheVariants.{Point, Text}
-use Rattle.wb_edit.specs.declared.refusal.Refusal.TheVariants.{TooLarge}
+use Rattle.wb_edit.specs.declared.refusal.Refusal.TheVariants as edits
 use Rattle.wb_history.specs.declared.refusal.Refusal.{Refusal}
 use Rattle.wb_history.specs.declared.refusal.Refusal.TheVariants.{BadLiteral, Refused}
+use Rattle.wb_limits.specs.Literals as limits
+use Rattle.wb_limits.specs.Mappings as mapping_limits
+use Rattle.wb_limits.specs.declared.limit.LimitErr.{LimitErr}
+use Rattle.wb_limits.specs.declared.limit.LimitErr.TheVariants.{TooLarge, BadMapping}
 use Rattle.wb_literal.specs.Domain.{Domain, domain_of}
-use Rattle.wb_literal.specs.Set.{Items, nothing, integers, pairs, triples, texts}
-use Rattle.wb_literal.specs.declared.range.RangeLiteral.{RangeLiteral}
-use Rattle.wb_literal.specs.declared.range.Stride.{Stride}
-use Rattle.wb_literal.specs.declared.range.Upper.{Upper}
-use Rattle.wb_literal.specs.declared.range.Upper.TheVariants.{To, Below, Count}
+use Rattle.wb_literal.specs.Mapping.{mapping_of}
+use Rattle.wb_literal.specs.declared.mapping.MappingLiteral.{MappingLiteral}
+use Rattle.wb_literal.specs.declared.mapping.MappingLiteral.TheVariants.{Whole}
 use Rattle.wb_literal.specs.declared.rectangle.RectangleLiteral.{RectangleLiteral}
-use Rattle.wb_literal.specs.declared.rectangle.RectangleLiteral.TheVariants.{Line, Plane, Solid}
-use Rattle.wb_proto.specs.Fields.{◌>>=◌}
+
+-- ---- what is spelled
 
 -- the rectangle or the set that a literal spells
 abbrev pub literal_domain : List ℕ → Result Domain Refusal
 literal_domain text = ok_or (domain_of text) BadLiteral
 
--- the indices that a set lists, in the order of its text
-abbrev pub listed_in : Items → List Index
-listed_in nothing = []
-listed_in (integers is) = map (λ i. Point (i ∷ [])) is
-listed_in (pairs ps) = map Point ps
-listed_in (triples ts) = map Point ts
-listed_in (texts ts) = map Text ts
+-- the mapping that a literal spells
+abbrev pub literal_mapping : List ℕ → Result MappingLiteral Refusal
+literal_mapping text = ok_or (mapping_of text) BadLiteral
 
--- `a..b` has the bounds a and b, `a..<b` goes to b - 1, and `a..#n` has n integers from a on, where none are `1..0`
-abbrev pub bounds_to : ℤ → Upper → ℤ × ℤ
-bounds_to low (To high) = (low, high)
-bounds_to low (Below high) = (low, high -ℤ pos 1)
-bounds_to low (Count n) = counted_bounds low n
+-- the same, where there is a literal; all lies on one locale where there is none
+abbrev pub optional_mapping : Option (List ℕ) → Result MappingLiteral Refusal
+optional_mapping None = Ok Whole
+optional_mapping (Some text) = literal_mapping text
 
--- the stride is 1 where none is written
-abbrev pub stride_in : Option Stride → ℤ
-stride_in None = pos 1
-stride_in (Some s) = s.stride
+-- ---- what it stands for
 
-abbrev pub align_in : Option Stride → Option ℤ
-align_in None = None
-align_in (Some s) = s.align
+-- a limit is one of edits
+abbrev pub refusal_of_limit : LimitErr → Refusal
+refusal_of_limit TooLarge = Refused edits.TooLarge
+refusal_of_limit BadMapping = Refused edits.BadMapping
 
--- from -10^18 to 10^18
-abbrev pub is_bound : ℤ → Bool
-is_bound i = int_le (negsuc 999999999999999999) i && int_le i (pos 1000000000000000000)
-
--- the bounds are within their limits, and a range has at most 65,536 indices; no literal has stride 0
-abbrev pub is_range : ℤ × ℤ → ℤ → Option ℤ → Bool
-is_range b stride align = not (int_eq stride (pos 0)) && (is_bound b.0 && (is_bound b.1 && nat_le (length (sequence b.0 b.1 stride align)) 65536))
-
--- the range of these bounds, within the limits
-abbrev pub range_within : ℤ × ℤ → ℤ → Option ℤ → Result Range Refusal
-range_within b stride align = if is_range b stride align then Ok (sequence b.0 b.1 stride align) else Err (Refused TooLarge)
-
--- the range that a literal stands for, within the limits
-abbrev pub range_of : RangeLiteral → Result Range Refusal
-range_of r = range_within (bounds_to r.low r.upper) (stride_in r.stride) (align_in r.stride)
-
--- a rectangle has at most 65,536 indices
-abbrev pub rectangle_within : List Range → Result (List Range) Refusal
-rectangle_within rs = if nat_le (length (product rs)) 65536 then Ok rs else Err (Refused TooLarge)
+abbrev pub within : {X : Type 0} → Result X LimitErr → Result X Refusal
+within (Ok x) = Ok x
+within (Err why) = Err (refusal_of_limit why)
 
 -- the domain that a literal stands for, within all limits
 abbrev pub domain_within : RectangleLiteral → Result (List Range) Refusal
-domain_within (Line r) = do
-  a ← range_of r
-  rectangle_within (a ∷ [])
-domain_within (Plane r s) = do
-  a ← range_of r
-  b ← range_of s
-  rectangle_within (a ∷ b ∷ [])
-domain_within (Solid r s t) = do
-  a ← range_of r
-  b ← range_of s
-  c ← range_of t
-  rectangle_within (a ∷ b ∷ c ∷ [])
+domain_within r = within (limits.domain_within r)
+
+-- the mapping that a literal stands for, within all limits
+abbrev pub mapping_within : MappingLiteral → Result LayoutMap Refusal
+mapping_within m = within (mapping_limits.mapping_within m)

@@ -12,8 +12,7 @@ use Rattle.wb_history.specs.declared.refusal.Refusal.TheVariants.{BadRequest}
 use Rattle.wb_literal.specs.Domain.{Domain, rectangle, set}
 use Rattle.wb_literal.specs.declared.mapping.MappingLiteral.{MappingLiteral}
 use Rattle.wb_proto.specs.Fields.{◌>>=◌, field_count, has_fields, has_fields_and, text_field, optional_text, i64_field, u64_field, name_field, index_field, key_type_field, operation_field}
-use Rattle.wb_proto.specs.Literals.{literal_domain, domain_within}
-use Rattle.wb_proto.specs.Mappings.{literal_mapping, optional_mapping, mapping_within}
+use Rattle.wb_proto.specs.Literals.{literal_domain, literal_mapping, optional_mapping, domain_within, mapping_within}
 use Rattle.wb_proto.specs.Sources.{source_of}
 use Rattle.wb_proto.specs.declared.requests.request.Request.{Request}
 use Rattle.wb_proto.specs.declared.requests.request.Request.TheVariants.{Change, Undo, Redo, Ask, Print}

@@ -10,7 +10,8 @@ use Rattle.wb_history.specs.declared.refusal.Refusal.{Refusal}
 use Rattle.wb_history.specs.declared.refusal.Refusal.TheVariants.{BadRequest}
 use Rattle.wb_literal.specs.Domain.{Domain, rectangle, set}
 use Rattle.wb_proto.specs.Fields.{◌>>=◌, name_of, index_of}
-use Rattle.wb_proto.specs.Literals.{literal_domain, listed_in, domain_within}
+use Rattle.wb_limits.specs.Literals.{listed_in}
+use Rattle.wb_proto.specs.Literals.{literal_domain, domain_within}
 use Rattle.wb_resize.specs.Sources.{ascending}
 use Rattle.wb_resize.specs.declared.given.Given.{Given}
 use Rattle.wb_resize.specs.declared.given.Given.TheVariants.{Rectangle, Items, Named}

@@ -7,8 +7,9 @@ ghost use Rattle.wb_proto.specs.Answers.{IsAnswer};
 ghost use Rattle.wb_proto.specs.Requests.{domain_with, domain_by, domain_of, reshape_of, drop_domain_of, remap_of};
 
 use crate::requests::fields::{has_fields, has_fields_and, name_field, optional_text, text_field};
-use crate::requests::literals::{domain_within, literal_domain};
-use crate::requests::mappings::{literal_mapping, mapping_within, optional_mapping};
+use crate::requests::literals::{
+    domain_within, literal_domain, literal_mapping, mapping_within, optional_mapping,
+};
 use crate::requests::request::Request;
 use crate::requests::sources::source_of;
 use serde_json::Value;

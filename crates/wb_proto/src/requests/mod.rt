@@ -3,9 +3,7 @@
 pub mod arrays;
 pub mod domains;
 pub mod fields;
-pub mod listed;
 pub mod literals;
-pub mod mappings;
 pub mod queries;
 pub mod reading;
 pub mod request;
