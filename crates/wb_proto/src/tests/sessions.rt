@@ -390,23 +390,29 @@ fn broken_lines(rt: HostRuntime) -> Result<(), Fail> {
     Ok(())
 }
 
-fn is_no_such_edit(reply: &Reply) -> bool {
-    matches!(reply, Reply::Refused(Refusal::NoSuchEdit))
+// That a reply is the one to undo of an edit that isn't there, or to a print of the empty workbook.
+fn is_due(reply: &Reply) -> bool {
+    match reply {
+        Reply::Refused(why) => *why == Refusal::NoSuchEdit,
+        Reply::Printed(text) => text.as_str() == "chapel-workbook 1\nend\n",
+        _ => false,
+    }
 }
 
 #[test]
 fn copies_are_answered_alike(rt: HostRuntime) -> Result<(), Fail> {
     let alloc = rt.alloc();
     let mut history = History::new(alloc);
-    let request = Request::Undo(Some(7));
-    let copied = request.copy(alloc);
-    let reply = answer_request(alloc, &mut history, request);
-    assert!(rt; is_no_such_edit(&reply));
-    if let Ok(copied) = copied {
-        assert!(rt; is_no_such_edit(&answer_request(alloc, &mut history, copied)));
-    }
-    if let Ok(other) = reply.copy(alloc) {
-        assert!(rt; is_no_such_edit(&other));
+    for request in [Request::Undo(Some(7)), Request::Print] {
+        let copied = request.copy(alloc);
+        let reply = answer_request(alloc, &mut history, request);
+        assert!(rt; is_due(&reply));
+        if let Ok(copied) = copied {
+            assert!(rt; is_due(&answer_request(alloc, &mut history, copied)));
+        }
+        if let Ok(other) = reply.copy(alloc) {
+            assert!(rt; is_due(&other));
+        }
     }
     Ok(())
 }
