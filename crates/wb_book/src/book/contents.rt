@@ -1,7 +1,7 @@
 ghost use Rattle.std.specs.Prelude.{◌≡◌, ℕ, ◌+◌, ◌-◌, ◌^◌, List, length, slice_get, min, IfOk, IfErr, OnOk, OnErr};
 ghost use Rattle.std.specs.FinMap as map;
 ghost use Rattle.selective_undo.specs.Changes.{apply, inverse};
-ghost use Rattle.wb_book.specs.Cells.{written_more, count_of};
+ghost use Rattle.wb_book.specs.Cells.{state_of, written_more, count_of};
 ghost use Rattle.wb_book.specs.Locales.{locale_at, locale_count_at};
 ghost use Rattle.wb_book.specs.declared.cells.pattern.Pattern.TheVariants.{Members};
 ghost use Rattle.wb_book.specs.Readers.{seen, elements, objects, users, size_at, index_at};
@@ -51,6 +51,19 @@ impl Book {
             alloc,
             cells: BTreeMap::new(alloc),
             writes: 0,
+        }
+    }
+
+    /// The workbook of these cells, which were set by no change.
+    pub fn of_cells(alloc: Global, cells: BTreeMap<Cell, Value>) -> Book
+        requires { IsWellFormed (state_of cells) }
+        ensures { result ≡ record { cells = state_of cells; writes = 0 } }
+    {
+        let writes = 0;
+        Book {
+            alloc,
+            cells,
+            writes,
         }
     }
 

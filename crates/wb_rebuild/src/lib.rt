@@ -1,0 +1,13 @@
+//! The workbook that lines tell of.
+//!
+//! `specs/Told.antt` has the cells that lines tell of, and `specs/Rebuilt.antt` the law that a well-formed workbook
+//! comes back from what its lines say.
+#![tactic(auto)]
+
+mod finding;
+mod making;
+mod putting;
+mod rebuilding;
+mod told;
+
+pub use crate::rebuilding::rebuild;
