@@ -1,0 +1,6 @@
+-- What is written is read back.
+pub mod Spelled
+pub mod Ranges
+pub mod Mappings
+pub mod Items
+pub mod Sets

@@ -1,0 +1,159 @@
+-- Sets are read back: indices of one rank, or texts.
+use Rattle.std.proofs.Common.{◌≡◌, ◌≢◌, ◌==◌, ℕ, ◌+◌, ◌≤◌, ◌<◌, ℤ, pos, Bool, true, false, ◌&&◌, not, nat_le, nat_eq, List, [], ◌∷◌, ◌++◌, map, codes, length, take, drop, Option, Some, None, option_map, option_and_then, position, inl, inr, refl, sym, ap, ap₂, ◌∙◌, subst, append_assoc, ne_eqb, eqb-true, arith}
+use Rattle.std.proofs.Math.Seq.{take-append_seam, drop-append_seam, drop-append-add}
+use Rattle.std.specs.Fmt.{signed_decimal}
+use Rattle.std.specs.List.{list_all}
+use Rattle.std.specs.Option.{option_map_or}
+use Rattle.wb_assoc.specs.Labels.{IsLabel, is_label, is_plain}
+use Rattle.wb_book.specs.declared.values.index.Index.{Index}
+use Rattle.wb_book.specs.declared.values.index.Index.TheVariants.{Point, Text}
+use Rattle.wb_literal.specs.Integer.{integer_at}
+use Rattle.wb_literal.specs.Index.{index_at}
+use Rattle.wb_literal.specs.Tokens.{skip_spaces, after, after_token, close_at}
+use Rattle.wb_literal.specs.Set.{Items, nothing, integers, pairs, triples, texts, items_at, listed_at, as_pair, pair_at, as_triple, triple_at, is_quote, label_of, quoted_at, text_at, indices_at, texts_at, filled_at, set_at}
+use Rattle.wb_literal.specs.declared.index.IndexLiteral.{IndexLiteral}
+use Rattle.wb_literal.specs.declared.index.IndexLiteral.TheVariants.{Integer, Pair, Triple}
+use Rattle.wb_literal.proofs.DigitsBack.{integer_back}
+use Rattle.wb_literal.proofs.IndexGrammar.{index_read}
+use Rattle.wb_literal.proofs.ListGrammar.{brace}
+use Rattle.wb_literal.proofs.RangeGrammar.{Ends, Starts, ends_digits, integer_starts}
+use Rattle.wb_literal.proofs.Texts.{label_yes}
+use Rattle.wb_literal.proofs.TokenLemmas.{NoSpace, skip_over, not_after}
+use Rattle.wb_limits.specs.Literals.{listed_in}
+use Rattle.wb_text.specs.Literals.{point_text, index_text, set_text}
+use Rattle.wb_text.proofs.Readable.{Each, both}
+use Rattle.wb_text.proofs.ReadIndices.{AreWithin, IsPoint, IsWritten}
+use Rattle.wb_parse.proofs.Names.{found_at, none_of}
+use Rattle.wb_parse.proofs.Back.Spelled.{IsShort, by_length, integer_spelled, index_of, point_spelled}
+use Rattle.wb_parse.proofs.Back.Items.{tail, tail_ends, all_back, inside}
+
+-- ---- indices of one rank, and texts
+
+-- so many coordinates, each of 64 bits
+abbrev pub IsOfRank : ℕ → Index → Type 0
+IsOfRank rank (Point is) = (length is ≡ rank) × AreWithin is
+IsOfRank rank (Text t) = ⊥
+
+abbrev pub IsOfText : Index → Type 0
+IsOfText (Point is) = ⊥
+IsOfText (Text t) = IsLabel t
+
+-- all are indices of one rank from 1 to 3, or all are texts
+pub data AreAlike (is : List Index) : Type 0 where
+  points : (rank : ℕ) → 1 ≤ rank → rank ≤ 3 → Each (IsOfRank rank) is → AreAlike is
+  labels : Each IsOfText is → AreAlike is
+
+coordinates : Index → List ℤ
+coordinates (Point is) = is
+coordinates (Text t) = []
+
+single : Index → ℤ
+single (Point (i ∷ is)) = i
+single _ = pos 0
+
+label : Index → List ℕ
+label (Point is) = []
+label (Text t) = t
+
+-- ---- the first byte of an index
+
+-- the first byte is neither a space nor the closing brace
+record Opens (quote : Bool) (bytes : List ℕ) : Type 0 where
+  first : ℕ
+  more : List ℕ
+  is : bytes ≡ first ∷ more
+  space : first ≢ 32
+  close : first ≢ 125
+  quoted : nat_eq first 34 ≡ quote
+
+number_opens : (text rest : List ℕ) → Starts text → Opens false (text ++ rest)
+number_opens [] rest h = absurd h
+number_opens (b ∷ text) rest (inl e) = record { first = b; more = text ++ rest; is = refl; space = λ x. omega (arith, x, e); close = λ x. omega (arith, x, e); quoted = ne_eqb b 34 (λ x. omega (arith, x, e)) }
+number_opens (b ∷ text) rest (inr h) =
+    let low = h.0 in let high = h.1 in
+    record { first = b; more = text ++ rest; is = refl; space = λ x. omega (arith, x, low); close = λ x. omega (arith, x, high); quoted = ne_eqb b 34 (λ x. omega (arith, x, low)) }
+
+parenthesis_opens : (rest : List ℕ) → Opens false (40 ∷ rest)
+parenthesis_opens rest = record { first = 40; more = rest; is = refl; space = λ x. omega (arith, x); close = λ x. omega (arith, x); quoted = refl }
+
+quote_opens : (rest : List ℕ) → Opens true (34 ∷ rest)
+quote_opens rest = record { first = 34; more = rest; is = refl; space = λ x. omega (arith, x); close = λ x. omega (arith, x); quoted = refl }
+
+point_opens : (is : List ℤ) (rest : List ℕ) → IsShort is → AreWithin is → Opens false (point_text is ++ rest)
+unfolding point_text
+point_opens is rest = by_length (λ is. AreWithin is → Opens false (point_text is ++ rest))
+    (λ i h. number_opens (signed_decimal i) rest (integer_starts (signed_decimal i) i (integer_spelled i h.0)))
+    (λ i j h. parenthesis_opens _) (λ i j k h. parenthesis_opens _) is
+
+opens_unspaced : (quote : Bool) (bytes : List ℕ) → Opens quote bytes → NoSpace bytes
+opens_unspaced quote bytes o = subst NoSpace (sym o.is) o.space
+
+-- ---- one index
+
+short_point : (rank : ℕ) (is : List ℤ) → 1 ≤ rank → rank ≤ 3 → length is ≡ rank → IsShort is
+short_point rank is low high e = record { some = omega (arith, low, e); few = omega (arith, high, e) }
+
+index_back : (rank : ℕ) (is : List ℤ) (rest : List ℕ) → 1 ≤ rank → rank ≤ 3 → length is ≡ rank → AreWithin is → Ends rest → index_at (point_text is ++ rest) ≡ Some (index_of is, rest)
+index_back rank is rest low high e h f = index_read (point_text is) rest (index_of is) (point_spelled is (short_point rank is low high e) h) f
+
+point_unspaced : (rank : ℕ) → 1 ≤ rank → rank ≤ 3 → (i : Index) (rest : List ℕ) → IsOfRank rank i → NoSpace (index_text i ++ rest)
+point_unspaced rank low high (Point is) rest h = opens_unspaced false (point_text is ++ rest) (point_opens is rest (short_point rank is low high h.0) h.1)
+point_unspaced rank low high (Text t) rest h = absurd h
+
+single_back : (i : Index) (rest : List ℕ) → IsOfRank 1 i → Ends rest → integer_at (index_text i ++ rest) ≡ Some (single i, rest)
+unfolding point_text single
+single_back (Point []) rest h f = let e = h.0 in absurd (omega (arith, e))
+single_back (Point (i ∷ [])) rest h f = integer_back i rest h.1.0 (ends_digits rest f)
+single_back (Point (i ∷ j ∷ is)) rest h f = let e = h.0 in absurd (omega (arith, e))
+single_back (Text t) rest h f = absurd h
+
+two : (is : List ℤ) → length is ≡ 2 → as_pair (index_of is) ≡ Some is
+unfolding index_of
+two [] e = absurd (omega (arith, e))
+two (i ∷ []) e = absurd (omega (arith, e))
+two (i ∷ j ∷ []) e = refl
+two (i ∷ j ∷ k ∷ is) e = absurd (omega (arith, e))
+
+three : (is : List ℤ) → length is ≡ 3 → as_triple (index_of is) ≡ Some is
+unfolding index_of
+three [] e = absurd (omega (arith, e))
+three (i ∷ []) e = absurd (omega (arith, e))
+three (i ∷ j ∷ []) e = absurd (omega (arith, e))
+three (i ∷ j ∷ k ∷ []) e = refl
+three (i ∷ j ∷ k ∷ l ∷ is) e = absurd (omega (arith, e))
+
+pair_back : (i : Index) (rest : List ℕ) → IsOfRank 2 i → Ends rest → pair_at (index_text i ++ rest) ≡ Some (coordinates i, rest)
+unfolding coordinates
+pair_back (Point is) rest h f = rw (index_back 2 is rest (omega arith) (omega arith) h.0 h.1 f, two is h.0) refl
+pair_back (Text t) rest h f = absurd h
+
+triple_back : (i : Index) (rest : List ℕ) → IsOfRank 3 i → Ends rest → triple_at (index_text i ++ rest) ≡ Some (coordinates i, rest)
+unfolding coordinates
+triple_back (Point is) rest h f = rw (index_back 3 is rest (omega arith) (omega arith) h.0 h.1 f, three is h.0) refl
+triple_back (Text t) rest h f = absurd h
+
+-- ---- one text
+
+plain_unquoted : (c : ℕ) → is_plain c ≡ true → is_quote c ≡ false
+plain_unquoted c e = ne_eqb c 34 (λ x. let h = ap is_plain x in cc)
+
+quoted_back : (t rest : List ℕ) → IsLabel t → quoted_at (t ++ (34 ∷ rest)) (length t) ≡ Some (t, rest)
+quoted_back t rest h =
+    let e : drop (length t + 1) (t ++ (34 ∷ rest)) ≡ rest = drop-append-add t (34 ∷ rest) 1 in
+    ap (λ m. option_map (λ u. (u, drop (length t + 1) (t ++ (34 ∷ rest)))) (label_of m)) (take-append_seam t (34 ∷ rest))
+    ∙ ap (option_map (λ u. (u, drop (length t + 1) (t ++ (34 ∷ rest))))) (label_yes t h.utf8 h.accepted)
+    ∙ ap (λ m. Some (t, m)) e
+
+text_back : (i : Index) (rest : List ℕ) → IsOfText i → Ends rest → text_at (index_text i ++ rest) ≡ Some (label i, rest)
+unfolding label
+text_back (Point is) rest h f = absurd h
+text_back (Text t) rest h f =
+    let plain = (both (nat_le (length t) 64) (list_all is_plain t) h.accepted).1 in
+    let behind : List ℕ → Option (List ℕ × List ℕ) = λ inside. option_and_then (quoted_at inside) (position is_quote inside) in
+    ap behind (append_assoc t (34 ∷ []) rest)
+    ∙ ap (option_and_then (quoted_at (t ++ (34 ∷ rest)))) (found_at is_quote t 34 rest (none_of is_plain is_quote plain_unquoted t plain) refl)
+    ∙ quoted_back t rest h
+
+text_unspaced : (i : Index) (rest : List ℕ) → IsOfText i → NoSpace (index_text i ++ rest)
+text_unspaced (Point is) rest h = absurd h
+text_unspaced (Text t) rest h = opens_unspaced true (34 ∷ ((t ++ (34 ∷ [])) ++ rest)) (quote_opens ((t ++ (34 ∷ [])) ++ rest))
