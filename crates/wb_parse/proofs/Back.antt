@@ -4,3 +4,5 @@ pub mod Ranges
 pub mod Mappings
 pub mod Items
 pub mod Sets
+pub mod Elements
+pub mod Lines

@@ -34,7 +34,7 @@ none_at (suc n) rest e h = rw (e, ← h) refl
 pub no_line : (n : ℕ) (ls : List ObjectLine) (rest : List ℕ) → is_end rest ≡ false → None ≡ line_at rest → None ≡ onto ls (lines_at n rest)
 no_line n ls rest e h = ap (onto ls) (none_at n rest e h)
 
-more_at : (n : ℕ) (l : Line) (rest behind : List ℕ) → is_end rest ≡ false → Some (l, behind) ≡ line_at rest → lines_at (suc n) rest ≡ option_map (λ ms. l ∷ ms) (lines_at n behind)
+pub more_at : (n : ℕ) (l : Line) (rest behind : List ℕ) → is_end rest ≡ false → Some (l, behind) ≡ line_at rest → lines_at (suc n) rest ≡ option_map (λ ms. l ∷ ms) (lines_at n behind)
 more_at n l rest behind e h = rw (e, ← h) refl
 
 pub more_lines : (end i : ℕ) (ls : List ObjectLine) (l : ObjectLine) (rest behind : List ℕ) → i < end → is_end rest ≡ false → Some (line_of l, behind) ≡ line_at rest

@@ -103,10 +103,7 @@ fn is_end(bytes: &[u8]) -> bool
 }
 
 /// All lines up to the last one, which says nothing. There are no more of them than bytes.
-pub(crate) fn lines_of(
-    alloc: Global,
-    bytes: &[u8],
-) -> Result<Option<Vec<ObjectLine>>, AllocError>
+pub(crate) fn lines_of(alloc: Global, bytes: &[u8]) -> Result<Option<Vec<ObjectLine>>, AllocError>
     ensures { IfOk result (λ r. option_map (λ v. map line_of v.items) r ≡ lines_of bytes.now) }
 {
     let mut lines = Vec::new(alloc);

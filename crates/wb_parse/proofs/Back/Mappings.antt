@@ -84,9 +84,19 @@ mapping_spelled rank (cyclic m) h w =
     let p = cyclic_parts (is_rank rank) (length m.start == rank) (length m.grid == rank) (is_grid m.grid) h.valid in
     ([], point_text m.start, last_grid_text m.grid, tt, point_spelled m.start (short_of rank m.start p.0 p.1) (point_within m.start w.0), last_grid_spelled m.grid (short_of rank m.grid p.0 p.2) w.1, refl)
 mapping_spelled rank (block_cyclic m) h w =
-    let p = block_cyclic_parts (is_rank rank) (length m.start == rank) (length m.size == rank) (length m.grid == rank) (are_positive m.size) (is_grid m.grid) h.valid in
-    ([], point_text m.start, 44 ∷ 32 ∷ [], point_text m.size, last_grid_text m.grid, tt, point_spelled m.start (short_of rank m.start p.0 p.1) (point_within m.start w.0), comma_spelled,
-    point_spelled m.size (short_of rank m.size p.0 p.2) (point_within m.size w.1), last_grid_spelled m.grid (short_of rank m.grid p.0 p.3) w.2, refl)
+    let p = block_cyclic_parts (is_rank rank) (length m.start == rank) (length m.size == rank) (length m.grid == rank) (are_positive m.size) (is_grid m.grid) h.valid in (
+      [],
+      point_text m.start,
+      44 ∷ 32 ∷ [],
+      point_text m.size,
+      last_grid_text m.grid,
+      tt,
+      point_spelled m.start (short_of rank m.start p.0 p.1) (point_within m.start w.0),
+      comma_spelled,
+      point_spelled m.size (short_of rank m.size p.0 p.2) (point_within m.size w.1),
+      last_grid_spelled m.grid (short_of rank m.grid p.0 p.3) w.2,
+      refl,
+    )
 
 mapping_back : (rank : ℕ) (m : LayoutMap) → IsMapping rank m → mapping_within (literal_of_mapping m) ≡ Ok m
 unfolding literal_of_mapping

@@ -95,13 +95,13 @@ steps_of xs r =
 
 none_bounded : (xs : List ℤ) → [] ≡ xs → IsBounded xs
 none_bounded xs e = subst IsBounded e (record {
-      nonzero = λ z. omega (arith, ints, z);
-      limits = record {
-        low_bound = record { low = omega (arith, ints); high = omega (arith, ints) };
-        high_bound = record { low = omega (arith, ints); high = omega (arith, ints) };
-        count = omega arith;
-      };
-    })
+  nonzero = λ z. omega (arith, ints, z);
+  limits = record {
+    low_bound = record { low = omega (arith, ints); high = omega (arith, ints) };
+    high_bound = record { low = omega (arith, ints); high = omega (arith, ints) };
+    count = omega arith;
+  };
+})
 
 one_bounded : (a : ℤ) (xs : List ℤ) → IsBound a → (a ∷ []) ≡ xs → IsBounded xs
 one_bounded a xs b e =
@@ -144,9 +144,9 @@ literal_spelled xs r =
 
 stride_back : (s : ℤ) → stride_in (unaligned (written_stride s)) ≡ s
 stride_back s = elim (int_eq s (pos 1)) as (λ t. int_eq s (pos 1) ≡ t → stride_in (unaligned (if t then None else Some s)) ≡ s) [
-      | true ↦ λ e. sym ((Decides-int_eq s (pos 1)).0 e)
-      | false ↦ λ e. refl
-    ] refl
+  | true ↦ λ e. sym ((Decides-int_eq s (pos 1)).0 e)
+  | false ↦ λ e. refl
+] refl
 
 align_back : (s : ℤ) → align_in (unaligned (written_stride s)) ≡ None
 align_back s = elim (int_eq s (pos 1)) as (λ t. align_in (unaligned (if t then None else Some s)) ≡ None) [ true ↦ refl | false ↦ refl ]

@@ -1,8 +1,8 @@
 -- Sets are read back: indices of one rank, or texts.
-use Rattle.std.proofs.Common.{◌≡◌, ◌≢◌, ◌==◌, ℕ, ◌+◌, ◌≤◌, ◌<◌, ℤ, pos, Bool, true, false, ◌&&◌, not, nat_le, nat_eq, List, [], ◌∷◌, ◌++◌, map, codes, length, take, drop, Option, Some, None, option_map, option_and_then, position, inl, inr, refl, sym, ap, ap₂, ◌∙◌, subst, append_assoc, ne_eqb, eqb-true, arith}
+use Rattle.std.proofs.Common.{◌≡◌, ◌≢◌, ◌==◌, ℕ, zero, suc, ◌+◌, ◌≤◌, ◌<◌, ℤ, pos, Bool, true, false, ◌&&◌, not, nat_le, nat_eq, List, [], ◌∷◌, ◌++◌, map, codes, length, take, drop, Option, Some, None, option_map, option_and_then, position, inl, inr, refl, sym, ap, ap₂, ◌∙◌, subst, append_assoc, ne_eqb, eq-eqb, arith}
 use Rattle.std.proofs.Math.Seq.{take-append_seam, drop-append_seam, drop-append-add}
 use Rattle.std.specs.Fmt.{signed_decimal}
-use Rattle.std.specs.List.{list_all}
+use Rattle.std.specs.List.{list_all, flat_map}
 use Rattle.std.specs.Option.{option_map_or}
 use Rattle.wb_assoc.specs.Labels.{IsLabel, is_label, is_plain}
 use Rattle.wb_book.specs.declared.values.index.Index.{Index}
@@ -20,9 +20,10 @@ use Rattle.wb_literal.proofs.RangeGrammar.{Ends, Starts, ends_digits, integer_st
 use Rattle.wb_literal.proofs.Texts.{label_yes}
 use Rattle.wb_literal.proofs.TokenLemmas.{NoSpace, skip_over, not_after}
 use Rattle.wb_limits.specs.Literals.{listed_in}
-use Rattle.wb_text.specs.Literals.{point_text, index_text, set_text}
+use Rattle.wb_text.specs.Literals.{further, point_text, index_text, set_text}
 use Rattle.wb_text.proofs.Readable.{Each, both}
 use Rattle.wb_text.proofs.ReadIndices.{AreWithin, IsPoint, IsWritten}
+use Rattle.wb_parse.specs.Parts.{members_at}
 use Rattle.wb_parse.proofs.Names.{found_at, none_of}
 use Rattle.wb_parse.proofs.Back.Spelled.{IsShort, by_length, integer_spelled, index_of, point_spelled}
 use Rattle.wb_parse.proofs.Back.Items.{tail, tail_ends, all_back, inside}
@@ -157,3 +158,139 @@ text_back (Text t) rest h f =
 text_unspaced : (i : Index) (rest : List ℕ) → IsOfText i → NoSpace (index_text i ++ rest)
 text_unspaced (Point is) rest h = absurd h
 text_unspaced (Text t) rest h = opens_unspaced true (34 ∷ ((t ++ (34 ∷ [])) ++ rest)) (quote_opens ((t ++ (34 ∷ [])) ++ rest))
+
+-- ---- several of them
+
+-- what stands behind an index of a set
+abbrev behind : List Index → List ℕ → List ℕ
+behind is rest = flat_map (further index_text) is ++ (125 ∷ rest)
+
+listed_by : {X : Type 0} (at : List ℕ → Option (X × List ℕ)) (bytes rest : List ℕ) (xs : List X) → items_at at (length bytes) bytes ≡ Some (xs, 125 ∷ rest) → listed_at at bytes ≡ Some (xs, rest)
+listed_by {X} at bytes rest xs e = ap (option_and_then (λ (x : List X × List ℕ). option_map (λ (rest : List ℕ). (x.0, rest)) (close_at (codes "}") x.1))) e
+
+unquoted : (bytes : List ℕ) → Opens false bytes → after (34 ∷ []) bytes ≡ None
+unquoted bytes o = ap (after (34 ∷ [])) o.is ∙ not_after 34 o.first [] o.more (λ x. let t = eq-eqb o.first 34 x in let f = o.quoted in cc)
+
+-- the first index tells which ones follow
+filled_points : (is : List ℤ) (rest : List ℕ) → IsShort is → AreWithin is → Ends rest → filled_at (point_text is ++ rest) ≡ indices_at (index_of is) (point_text is ++ rest)
+filled_points is rest s h f =
+    let text : List ℕ = point_text is ++ rest in
+    ap (λ (o : Option (List ℕ)). option_map_or (λ _. texts_at text) o (option_and_then (λ (first : IndexLiteral × List ℕ). indices_at first.0 text) (index_at text))) (unquoted text (point_opens is rest s h))
+    ∙ ap (option_and_then (λ (first : IndexLiteral × List ℕ). indices_at first.0 text)) (index_read (point_text is) rest (index_of is) (point_spelled is s h) f)
+
+singles_kind : (is : List ℤ) (text : List ℕ) → length is ≡ 1 → indices_at (index_of is) text ≡ option_map (λ (x : List ℤ × List ℕ). (integers x.0, x.1)) (listed_at integer_at text)
+unfolding index_of
+singles_kind [] text e = absurd (omega (arith, e))
+singles_kind (i ∷ []) text e = refl
+singles_kind (i ∷ j ∷ is) text e = absurd (omega (arith, e))
+
+pairs_kind : (is : List ℤ) (text : List ℕ) → length is ≡ 2 → indices_at (index_of is) text ≡ option_map (λ (x : List (List ℤ) × List ℕ). (pairs x.0, x.1)) (listed_at pair_at text)
+unfolding index_of
+pairs_kind [] text e = absurd (omega (arith, e))
+pairs_kind (i ∷ []) text e = absurd (omega (arith, e))
+pairs_kind (i ∷ j ∷ []) text e = refl
+pairs_kind (i ∷ j ∷ k ∷ is) text e = absurd (omega (arith, e))
+
+triples_kind : (is : List ℤ) (text : List ℕ) → length is ≡ 3 → indices_at (index_of is) text ≡ option_map (λ (x : List (List ℤ) × List ℕ). (triples x.0, x.1)) (listed_at triple_at text)
+unfolding index_of
+triples_kind [] text e = absurd (omega (arith, e))
+triples_kind (i ∷ []) text e = absurd (omega (arith, e))
+triples_kind (i ∷ j ∷ []) text e = absurd (omega (arith, e))
+triples_kind (i ∷ j ∷ k ∷ []) text e = refl
+triples_kind (i ∷ j ∷ k ∷ l ∷ is) text e = absurd (omega (arith, e))
+
+-- one kind of indices: how they are read, and what they stand for
+record IsKind {L : Type 0} (rank : ℕ) (at : List ℕ → Option (L × List ℕ)) (literal : Index → L) (items : List L → Items) : Type 0 where
+  low : 1 ≤ rank
+  high : rank ≤ 3
+  back : (i : Index) (rest : List ℕ) → IsOfRank rank i → Ends rest → at (index_text i ++ rest) ≡ Some (literal i, rest)
+  told : (is : List ℤ) (text : List ℕ) → length is ≡ rank → indices_at (index_of is) text ≡ option_map (λ (x : List L × List ℕ). (items x.0, x.1)) (listed_at at text)
+  lists : (is : List Index) → Each (IsOfRank rank) is → listed_in (items (map literal is)) ≡ is
+
+-- the set and what follows it
+record SetBack (is : List Index) (rest : List ℕ) : Type 0 where
+  items : Items
+  read : set_at (set_text is ++ rest) ≡ Some (items, rest)
+  lists : listed_in items ≡ is
+
+set_by : (quote : Bool) (bytes rest : List ℕ) (items : Items) → Opens quote bytes → filled_at bytes ≡ Some (items, rest) → set_at (123 ∷ bytes) ≡ Some (items, rest)
+set_by quote bytes rest items o e =
+    let go : List ℕ → Option (Items × List ℕ) = λ inside. option_map_or (λ (rest : List ℕ). Some (nothing, rest)) (after (codes "}") inside) (filled_at inside) in
+    ap go (skip_over [] bytes tt (opens_unspaced quote bytes o))
+    ∙ ap (λ (z : Option (List ℕ)). option_map_or (λ (rest : List ℕ). Some (nothing, rest)) z (filled_at bytes)) (ap (after (125 ∷ [])) o.is ∙ not_after 125 o.first [] o.more o.close)
+    ∙ e
+
+points_back : {L : Type 0} (rank : ℕ) (at : List ℕ → Option (L × List ℕ)) (literal : Index → L) (items : List L → Items) → IsKind rank at literal items
+    → (i : Index) (is : List Index) (rest : List ℕ) → Each (IsOfRank rank) (i ∷ is) → SetBack (i ∷ is) rest
+points_back rank at literal items k (Text t) is rest h = absurd h.0
+points_back {L} rank at literal items k (Point ns) is rest h =
+    let unspaced = point_unspaced rank k.low k.high in
+    let short = short_point rank ns k.low k.high h.0.0 in
+    let text : List ℕ = point_text ns ++ behind is rest in
+    let ends : Ends (behind is rest) = tail_ends at index_text literal (IsOfRank rank) 125 brace k.back unspaced is rest in
+    let listed : listed_at at text ≡ Some (map literal (Point ns ∷ is), rest) = listed_by at text rest (map literal (Point ns ∷ is)) (all_back at index_text literal (IsOfRank rank) 125 brace k.back unspaced (Point ns) is rest h) in
+    let filled : filled_at text ≡ Some (items (map literal (Point ns ∷ is)), rest) =
+    filled_points ns (behind is rest) short h.0.1 ends ∙ k.told ns text h.0.0 ∙ ap (option_map (λ (x : List L × List ℕ). (items x.0, x.1))) listed in
+    record {
+      items = items (map literal (Point ns ∷ is));
+      read = ap set_at (inside at index_text literal (IsOfRank rank) 125 brace k.back unspaced (codes "{") (Point ns) is rest) ∙ set_by false text rest (items (map literal (Point ns ∷ is))) (point_opens ns (behind is rest) short h.0.1) filled;
+      lists = k.lists (Point ns ∷ is) h;
+    }
+
+labels_are : (is : List Index) → Each IsOfText is → map Text (map label is) ≡ is
+unfolding label
+labels_are [] h = refl
+labels_are (Point ns ∷ is) h = absurd h.0
+labels_are (Text t ∷ is) h = ap (λ x. Text t ∷ x) (labels_are is h.1)
+
+texts_back : (i : Index) (is : List Index) (rest : List ℕ) → Each IsOfText (i ∷ is) → SetBack (i ∷ is) rest
+texts_back (Point ns) is rest h = absurd h.0
+texts_back (Text t) is rest h =
+    let text : List ℕ = 34 ∷ ((t ++ (34 ∷ [])) ++ behind is rest) in
+    let listed : listed_at text_at text ≡ Some (map label (Text t ∷ is), rest) = listed_by text_at text rest (map label (Text t ∷ is)) (all_back text_at index_text label IsOfText 125 brace text_back text_unspaced (Text t) is rest h) in
+    record {
+      items = texts (map label (Text t ∷ is));
+      read = ap set_at (inside text_at index_text label IsOfText 125 brace text_back text_unspaced (codes "{") (Text t) is rest)
+          ∙ set_by true text rest (texts (map label (Text t ∷ is))) (quote_opens ((t ++ (34 ∷ [])) ++ behind is rest)) (ap (option_map (λ (x : List (List ℕ) × List ℕ). (texts x.0, x.1))) listed);
+      lists = labels_are (Text t ∷ is) h;
+    }
+
+-- ---- the three ranks
+
+singles_are : (is : List Index) → Each (IsOfRank 1) is → map (λ i. Point (i ∷ [])) (map single is) ≡ is
+unfolding single
+singles_are [] h = refl
+singles_are (Point [] ∷ is) h = let e = h.0.0 in absurd (omega (arith, e))
+singles_are (Point (n ∷ []) ∷ is) h = ap (λ x. Point (n ∷ []) ∷ x) (singles_are is h.1)
+singles_are (Point (n ∷ m ∷ ns) ∷ is) h = let e = h.0.0 in absurd (omega (arith, e))
+singles_are (Text t ∷ is) h = absurd h.0
+
+points_are : (rank : ℕ) (is : List Index) → Each (IsOfRank rank) is → map Point (map coordinates is) ≡ is
+unfolding coordinates
+points_are rank [] h = refl
+points_are rank (Point ns ∷ is) h = ap (λ x. Point ns ∷ x) (points_are rank is h.1)
+points_are rank (Text t ∷ is) h = absurd h.0
+
+singles_kept : IsKind 1 integer_at single integers
+singles_kept = record { low = omega arith; high = omega arith; back = single_back; told = singles_kind; lists = singles_are }
+
+pairs_kept : IsKind 2 pair_at coordinates pairs
+pairs_kept = record { low = omega arith; high = omega arith; back = pair_back; told = pairs_kind; lists = points_are 2 }
+
+triples_kept : IsKind 3 triple_at coordinates triples
+triples_kept = record { low = omega arith; high = omega arith; back = triple_back; told = triples_kind; lists = points_are 3 }
+
+by_rank : (rank : ℕ) → 1 ≤ rank → rank ≤ 3 → (i : Index) (is : List Index) (rest : List ℕ) → Each (IsOfRank rank) (i ∷ is) → SetBack (i ∷ is) rest
+by_rank zero low high i is rest h = absurd (omega (arith, low))
+by_rank (suc zero) low high i is rest h = points_back 1 integer_at single integers singles_kept i is rest h
+by_rank (suc (suc zero)) low high i is rest h = points_back 2 pair_at coordinates pairs pairs_kept i is rest h
+by_rank (suc (suc (suc zero))) low high i is rest h = points_back 3 triple_at coordinates triples triples_kept i is rest h
+by_rank (suc (suc (suc (suc n)))) low high i is rest h = absurd (omega (arith, high))
+
+set_back : (is : List Index) (rest : List ℕ) → AreAlike is → SetBack is rest
+set_back [] rest a = record { items = nothing; read = refl; lists = refl }
+set_back (i ∷ is) rest (points rank low high h) = by_rank rank low high i is rest h
+set_back (i ∷ is) rest (labels h) = texts_back i is rest h
+
+pub members_back : (is : List Index) (rest : List ℕ) → AreAlike is → members_at (32 ∷ (set_text is ++ (10 ∷ rest))) ≡ Some (is, rest)
+members_back is rest a = let b = set_back is (10 ∷ rest) a in rw b.read (ap (λ m. Some (m, rest)) b.lists)
