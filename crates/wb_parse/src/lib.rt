@@ -6,6 +6,8 @@
 
 mod lines;
 mod parts;
+#[cfg(test)]
+mod tests;
 mod text;
 
 pub use crate::text::read_lines;
