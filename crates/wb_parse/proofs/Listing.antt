@@ -1,5 +1,5 @@
 -- Lines read one at a time.
-use Rattle.std.proofs.Common.{◌≡◌, ℕ, zero, suc, ◌+◌, ◌-◌, ◌<◌, true, false, List, [], ◌∷◌, ◌++◌, map, length, Option, Some, None, option_map, refl, sym, ap, ◌∙◌, append_assoc, append-nil, arith}
+use Rattle.std.proofs.Common.{◌≡◌, ℕ, zero, suc, ◌+◌, ◌-◌, ◌<◌, true, false, List, [], ◌∷◌, ◌++◌, map, Option, Some, None, option_map, refl, sym, ap, ◌∙◌, append-nil, arith}
 use Rattle.wb_text.specs.Said.{Line, line_of}
 use Rattle.wb_text.specs.declared.said.ObjectLine.{ObjectLine}
 use Rattle.wb_parse.specs.Lines.{line_at, is_end, lines_at}

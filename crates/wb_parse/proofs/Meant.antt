@@ -1,9 +1,9 @@
 -- What the literals of a well-formed workbook's lines stand for is within the limits, and the indices of each set are alike.
-use Rattle.std.proofs.Common.{◌≡◌, ◌==◌, ℕ, ◌≤◌, ℤ, nat_eq, Bool, true, false, List, [], ◌∷◌, Option, Some, None, is_some, unwrap_or, length, refl, sym, ap, ◌∙◌, subst, eq-eqb, eqb-true, arith}
+use Rattle.std.proofs.Common.{◌≡◌, ◌==◌, ℕ, ℤ, nat_eq, Bool, true, false, List, [], ◌∷◌, Option, Some, None, is_some, unwrap_or, length, refl, sym, ap, ◌∙◌, subst, eq-eqb, eqb-true, arith}
 use Rattle.std.specs.FinMap.{get}
 use Rattle.std.specs.List.{cons_option, filter_map}
 use Rattle.wb_rect.specs.Product.{IsRectangle}
-use Rattle.wb_dist.specs.Maps.{LayoutMap, whole}
+use Rattle.wb_dist.specs.Maps.{whole}
 use Rattle.wb_book.specs.declared.cells.cell.Cell.TheVariants.{Object, Shape, In, Member, Mapping}
 use Rattle.wb_book.specs.declared.cells.kind.DomainKind.{DomainKind}
 use Rattle.wb_book.specs.declared.cells.kind.DomainKind.TheVariants.{Rectangular, Sparse, Associative}

@@ -1,5 +1,5 @@
 -- What the lines of a text say, read from its front.
-use Rattle.std.specs.Prelude.{◌≡◌, ℕ, zero, suc, List, [], ◌∷◌, length, map, codes, bytes_eq, Bool, Option, Some, None, option_map, option_and_then, if◌then◌else◌}
+use Rattle.std.specs.Prelude.{◌≡◌, ℕ, zero, suc, List, [], ◌∷◌, length, codes, bytes_eq, Bool, Option, Some, None, option_map, option_and_then, if◌then◌else◌}
 use Rattle.std.specs.Option.{option_map_or}
 use Rattle.wb_book.specs.Cells.{Cells}
 use Rattle.wb_book.specs.WellFormed.{IsWellFormed}
@@ -70,6 +70,6 @@ book_of text = option_and_then lines_of (after (codes "chapel-workbook 1\n") tex
 
 -- ---- what is promised
 
--- the lines of each well-formed workbook's text are read; of other texts nothing is said
+-- the lines of each well-formed workbook's text, its mappings of numbers of 64 bits, are read; of other texts nothing is said
 abbrev pub ReadsLines : List ℕ → Option (List Line) → Type 0
 ReadsLines text read = (w : Cells) → IsWellFormed w → HasMappedNumbers w → text ≡ book_text w → read ≡ Some (said w)

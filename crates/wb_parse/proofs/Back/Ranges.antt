@@ -1,5 +1,5 @@
 -- Rectangles are read back.
-use Rattle.std.proofs.Common.{◌≡◌, ◌≢◌, ℕ, zero, suc, ◌+◌, ◌-◌, ◌*◌, ◌%◌, ◌<◌, ◌≤◌, ℤ, pos, negsuc, ◌+ℤ◌, ◌-ℤ◌, ◌*ℤ◌, List, [], ◌∷◌, ◌++◌, map, codes, length, Bool, true, false, Option, Some, None, Result, Ok, inl, inr, unsigned_abs, if◌then◌else◌, refl, sym, ap, ◌∙◌, subst, arith, le-leb}
+use Rattle.std.proofs.Common.{◌≡◌, ◌≢◌, ℕ, zero, suc, ◌+◌, ◌-◌, ◌*◌, ◌%◌, ◌<◌, ◌≤◌, ℤ, pos, negsuc, ◌+ℤ◌, ◌-ℤ◌, ◌*ℤ◌, List, [], ◌∷◌, ◌++◌, map, codes, length, true, false, Some, None, Ok, inl, inr, unsigned_abs, if◌then◌else◌, refl, sym, ap, ◌∙◌, subst, arith, le-leb}
 use Rattle.std.proofs.lemmas.Bool.{cases_lt}
 use Rattle.std.proofs.lemmas.Bool.Decides.{Decides-int_eq}
 use Rattle.std.proofs.lemmas.Int.{ints}
@@ -8,7 +8,7 @@ use Rattle.std.proofs.Math.Nat.{mul-mod_left}
 use Rattle.std.specs.List.{AllByRecursion}
 use Rattle.std.specs.Ordering.{int_eq}
 use Rattle.wb_range.specs.Canonical.{bounds_of, IsRange}
-use Rattle.wb_range.specs.Sequence.{start, direction, or_zero, sequence, IsBound, IsWithinLimits}
+use Rattle.wb_range.specs.Sequence.{start, direction, or_zero, IsBound, IsWithinLimits}
 use Rattle.wb_range.specs.Steps.{steps, stride_of}
 use Rattle.wb_range.proofs.Bounds.{are_bounds, canonical_one, canonical_many, length-sequence}
 use Rattle.wb_range.proofs.Offset.{no_offset}
@@ -20,7 +20,6 @@ use Rattle.wb_rect.specs.Product.{IsRectangle, product}
 use Rattle.wb_literal.specs.Integer.{IsWithin}
 use Rattle.wb_literal.specs.RangeText.{unaligned, IsStride}
 use Rattle.wb_literal.specs.Grammar as grammar
-use Rattle.wb_literal.specs.Rectangle.{rectangle_at}
 use Rattle.wb_literal.specs.declared.range.RangeLiteral.{RangeLiteral}
 use Rattle.wb_literal.specs.declared.range.Upper.TheVariants.{To}
 use Rattle.wb_literal.specs.declared.rectangle.RectangleLiteral.{RectangleLiteral}
@@ -30,7 +29,6 @@ use Rattle.wb_limits.specs.Literals.{stride_in, align_in, range_within, range_of
 use Rattle.wb_limits.proofs.Within.{within}
 use Rattle.wb_text.specs.Literals.{written_stride, text_of_range, rectangle_text}
 use Rattle.wb_text.proofs.Readable.{Each}
-use Rattle.wb_text.proofs.ReadRanges.{IsSpelled}
 use Rattle.wb_text.proofs.RangeSpelled as known
 use Rattle.wb_parse.specs.Parts.{ranges_at}
 use Rattle.wb_parse.proofs.Back.Spelled.{IsShort, by_length, range_spelled, enclosed_spelled}

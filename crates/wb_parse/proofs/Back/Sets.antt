@@ -1,18 +1,17 @@
 -- Sets are read back: indices of one rank, or texts.
-use Rattle.std.proofs.Common.{◌≡◌, ◌≢◌, ◌==◌, ℕ, zero, suc, ◌+◌, ◌≤◌, ◌<◌, ℤ, pos, Bool, true, false, ◌&&◌, not, nat_le, nat_eq, List, [], ◌∷◌, ◌++◌, map, codes, length, take, drop, Option, Some, None, option_map, option_and_then, position, inl, inr, refl, sym, ap, ap₂, ◌∙◌, subst, append_assoc, ne_eqb, eq-eqb, arith}
-use Rattle.std.proofs.Math.Seq.{take-append_seam, drop-append_seam, drop-append-add}
+use Rattle.std.proofs.Common.{◌≡◌, ◌≢◌, ℕ, zero, suc, ◌+◌, ◌≤◌, ℤ, pos, Bool, true, false, nat_le, nat_eq, List, [], ◌∷◌, ◌++◌, map, codes, length, drop, Option, Some, None, option_map, option_and_then, position, inl, inr, refl, sym, ap, ◌∙◌, subst, append_assoc, ne_eqb, eq-eqb, arith}
+use Rattle.std.proofs.Math.Seq.{take-append_seam, drop-append-add}
 use Rattle.std.specs.Fmt.{signed_decimal}
 use Rattle.std.specs.List.{list_all, flat_map}
 use Rattle.std.specs.Option.{option_map_or}
-use Rattle.wb_assoc.specs.Labels.{IsLabel, is_label, is_plain}
+use Rattle.wb_assoc.specs.Labels.{IsLabel, is_plain}
 use Rattle.wb_book.specs.declared.values.index.Index.{Index}
 use Rattle.wb_book.specs.declared.values.index.Index.TheVariants.{Point, Text}
 use Rattle.wb_literal.specs.Integer.{integer_at}
 use Rattle.wb_literal.specs.Index.{index_at}
-use Rattle.wb_literal.specs.Tokens.{skip_spaces, after, after_token, close_at}
+use Rattle.wb_literal.specs.Tokens.{after, close_at}
 use Rattle.wb_literal.specs.Set.{Items, nothing, integers, pairs, triples, texts, items_at, listed_at, as_pair, pair_at, as_triple, triple_at, is_quote, label_of, quoted_at, text_at, indices_at, texts_at, filled_at, set_at}
 use Rattle.wb_literal.specs.declared.index.IndexLiteral.{IndexLiteral}
-use Rattle.wb_literal.specs.declared.index.IndexLiteral.TheVariants.{Integer, Pair, Triple}
 use Rattle.wb_literal.proofs.DigitsBack.{integer_back}
 use Rattle.wb_literal.proofs.IndexGrammar.{index_read}
 use Rattle.wb_literal.proofs.ListGrammar.{brace}
@@ -22,11 +21,11 @@ use Rattle.wb_literal.proofs.TokenLemmas.{NoSpace, skip_over, not_after}
 use Rattle.wb_limits.specs.Literals.{listed_in}
 use Rattle.wb_text.specs.Literals.{further, point_text, index_text, set_text}
 use Rattle.wb_text.proofs.Readable.{Each, both}
-use Rattle.wb_text.proofs.ReadIndices.{AreWithin, IsPoint, IsWritten}
+use Rattle.wb_text.proofs.ReadIndices.{AreWithin}
 use Rattle.wb_parse.specs.Parts.{members_at}
 use Rattle.wb_parse.proofs.Names.{found_at, none_of}
 use Rattle.wb_parse.proofs.Back.Spelled.{IsShort, by_length, integer_spelled, index_of, point_spelled}
-use Rattle.wb_parse.proofs.Back.Items.{tail, tail_ends, all_back, inside}
+use Rattle.wb_parse.proofs.Back.Items.{tail_ends, all_back, inside}
 
 -- ---- indices of one rank, and texts
 

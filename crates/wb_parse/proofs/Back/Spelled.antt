@@ -1,8 +1,7 @@
 -- The canonical texts of integers, lists, ranges, points and grids are spelled by the grammar.
-use Rattle.std.proofs.Common.{◌≡◌, ◌≢◌, ℕ, ◌≤◌, ℤ, pos, Bool, true, false, List, [], ◌∷◌, ◌++◌, map, codes, length, Option, Some, None, if◌then◌else◌, refl, sym, ap, ◌∙◌, append-nil, arith}
+use Rattle.std.proofs.Common.{ℕ, ◌≤◌, ℤ, pos, List, [], ◌∷◌, map, codes, length, Option, refl, sym, ap, ◌∙◌, append-nil, arith}
 use Rattle.std.specs.Fmt.{signed_decimal}
 use Rattle.std.specs.List.{join_by, flat_map}
-use Rattle.std.specs.Ordering.{int_eq}
 use Rattle.wb_literal.specs.Integer.{integer_at, IsWithin}
 use Rattle.wb_literal.specs.Spelling.{IsInteger}
 use Rattle.wb_literal.specs.RangeText.{range_text, unaligned, IsStride}

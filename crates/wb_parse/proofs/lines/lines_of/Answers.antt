@@ -1,6 +1,4 @@
-use Rattle.std.proofs.Common.{◌≡◌, ◌-◌, None, Some, length, sym, ◌∙◌, arith}
-use Rattle.wb_text.specs.Said.{line_of}
-use Rattle.wb_parse.specs.Lines.{line_at, is_end}
+use Rattle.std.proofs.Common.{◌-◌, length, sym, ◌∙◌, arith}
 use Rattle.wb_parse.proofs.Listing.{ended, no_line, more_lines}
 use Rattle.wb_parse.proofs.lines.lines_of.Goals as goal
 

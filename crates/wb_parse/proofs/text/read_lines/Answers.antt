@@ -1,5 +1,5 @@
-use Rattle.std.proofs.Common.{◌≡◌, List, ℕ, Option, Some, option_map, map, Result, Ok, Err, IfOk, refl, sym, ap, ◌∙◌, subst}
-use Rattle.wb_text.specs.Said.{Line, line_of}
+use Rattle.std.proofs.Common.{◌≡◌, List, ℕ, Option, Result, Ok, Err, IfOk, ap, ◌∙◌}
+use Rattle.wb_text.specs.Said.{Line}
 use Rattle.wb_parse.specs.Lines.{book_of, ReadsLines}
 use Rattle.wb_parse.proofs.Book.{book_back}
 use Rattle.wb_parse.proofs.text.read_lines.Goals as goal
