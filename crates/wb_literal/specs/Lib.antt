@@ -7,6 +7,7 @@ pub mod Rectangle
 pub mod Index
 pub mod Mapping
 pub mod Set
+pub mod Integers
 pub mod Domain
 pub mod Said
 pub mod Grammar

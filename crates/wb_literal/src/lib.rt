@@ -7,6 +7,7 @@
 mod domain;
 mod index;
 mod integer;
+mod list;
 mod mapping;
 mod printed;
 mod range;
@@ -17,11 +18,13 @@ mod tokens;
 pub use domain::{DomainLiteral, read_domain};
 pub use index::{GridLiteral, IndexLiteral, grid_at, index_at, read_index};
 pub use integer::{integer_at, integer_spelling, natural_at};
+pub use list::integers_at;
 pub use mapping::{MappingLiteral, mapping_at, read_mapping};
 pub use printed::{print_range, printed_is_read};
 pub use range::{RangeLiteral, Stride, Upper, range_at, read_range};
 pub use rectangle::{RectangleLiteral, read_rectangle, rectangle_at};
 pub use set::{SetLiteral, read_set, set_at};
+pub use tokens::after;
 
 #[cfg(test)]
 mod tests;

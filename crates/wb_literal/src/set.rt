@@ -25,8 +25,8 @@ pub enum SetLiteral {
     Texts(Vec<Label>),
 }
 
-// What a set may list.
-trait Item: Copy {
+// What a list may hold.
+pub(crate) trait Item: Copy {
     // The item at the front, and what follows it.
     ghost reads: { List ℕ → Option (Self × List ℕ) };
 
@@ -134,7 +134,10 @@ fn text_at(bytes: &[u8]) -> Option<(Label, &[u8])>
 }
 
 // One or more items, separated by commas. There are no more of them than bytes.
-fn items_at<T: Item>(alloc: Global, bytes: &[u8]) -> Result<Option<(Vec<T>, &[u8])>, AllocError>
+pub(crate) fn items_at<T: Item>(
+    alloc: Global,
+    bytes: &[u8],
+) -> Result<Option<(Vec<T>, &[u8])>, AllocError>
     ensures { IfOk result (λ r. option_map (λ x. (x.0.items, x.1.now)) r ≡ items_at T.reads (length bytes.now) bytes.now) }
 {
     let mut items = Vec::new(alloc);

@@ -17,8 +17,8 @@ pub(crate) fn skip_spaces(bytes: &[u8]) -> &[u8]
     &bytes[n..]
 }
 
-// What follows these bytes.
-pub(crate) fn after<'a>(front: &[u8], bytes: &'a [u8]) -> Option<&'a [u8]>
+/// What follows these bytes at the front, where they are there.
+pub fn after<'a>(front: &[u8], bytes: &'a [u8]) -> Option<&'a [u8]>
     ensures { option_map (λ x. x.now) result ≡ after front.now bytes.now }
 {
     if bytes.starts_with(front) {

@@ -1,0 +1,5 @@
+pub mod Names
+pub mod Listing
+pub mod Back
+pub mod Meant
+pub mod Book

@@ -1,0 +1,13 @@
+//! The lines of a workbook's text, read back.
+//!
+//! What `wb_text` writes is read: `specs/Parts.antt` and `specs/Lines.antt` have the readers as functions, and
+//! `ReadsLines` says that the lines of each workbook's text are read.
+#![tactic(auto)]
+
+mod lines;
+mod parts;
+#[cfg(test)]
+mod tests;
+mod text;
+
+pub use crate::text::read_lines;
