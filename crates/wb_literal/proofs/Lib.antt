@@ -12,3 +12,4 @@ pub mod ListGrammar
 pub mod RectangleGrammar
 pub mod IndexGrammar
 pub mod MappingGrammar
+pub mod SetGrammar

@@ -31,16 +31,16 @@ rectangle_unspaced text rest r (s, x, t, p, l, q, e) = opened 123 text (s ++ (x 
 grid_unspaced : (text rest : List ℕ) (g : GridLiteral) → IsGrid text g → NoSpace (text ++ rest)
 grid_unspaced text rest g (s, x, t, p, l, q, e) = opened 91 text (s ++ (x ++ (t ++ codes "]"))) rest (λ z. omega (arith, z)) e
 
-index_unspaced : (text rest : List ℕ) (i : IndexLiteral) → IsIndex text i → NoSpace (text ++ rest)
+pub index_unspaced : (text rest : List ℕ) (i : IndexLiteral) → IsIndex text i → NoSpace (text ++ rest)
 index_unspaced text rest (indices.Integer i) h = starts_unspaced text rest (integer_starts text i h)
 index_unspaced text rest (indices.Pair i j) (s, x, t, p, l, q, e) = opened 40 text (s ++ (x ++ (t ++ codes ")"))) rest (λ z. omega (arith, z)) e
 index_unspaced text rest (indices.Triple i j k) (s, x, t, p, l, q, e) = opened 40 text (s ++ (x ++ (t ++ codes ")"))) rest (λ z. omega (arith, z)) e
 
 -- a comma and what follows it
-comma_read : (c rest : List ℕ) → IsComma c → NoSpace rest → comma_at (c ++ rest) ≡ Some rest
+pub comma_read : (c rest : List ℕ) → IsComma c → NoSpace rest → comma_at (c ++ rest) ≡ Some rest
 comma_read c rest (s, t, a, b, e) h = ap comma_at (ap (λ x. x ++ rest) e ∙ append_assoc s (44 ∷ t) rest) ∙ comma_over s t rest a b h
 
-comma_is : (bytes rest : List ℕ) → comma_at bytes ≡ Some rest → (c : List ℕ) × IsComma c × (bytes ≡ c ++ rest)
+pub comma_is : (bytes rest : List ℕ) → comma_at bytes ≡ Some rest → (c : List ℕ) × IsComma c × (bytes ≡ c ++ rest)
 comma_is bytes rest e = let k = comma_found bytes rest e in (k.0 ++ (44 ∷ k.1), (k.0, k.1, k.2, k.3, refl), k.4 ∙ sym (append_assoc k.0 (44 ∷ k.1) rest))
 
 last_read : (text rest : List ℕ) (g : GridLiteral) → IsLastGrid text g → last_grid_at (text ++ rest) ≡ Some (g, rest)

@@ -1,6 +1,9 @@
 -- The grammar of literals, apart from how they are read: which texts spell which values.
 use Rattle.std.specs.Prelude.{◌≡◌, ◌≢◌, ℕ, ◌^◌, ◌<◌, ℤ, pos, List, [], ◌∷◌, ◌++◌, codes, Option, Some, None}
+use Rattle.wb_assoc.specs.Labels.{IsLabel}
 use Rattle.wb_literal.specs.Spelling.{IsNatural, IsInteger}
+use Rattle.wb_literal.specs.Set.{Items, nothing, integers, pairs, triples, texts}
+use Rattle.wb_literal.specs.Domain.{Domain, rectangle, set}
 use Rattle.wb_literal.specs.declared.range.Upper.{Upper}
 use Rattle.wb_literal.specs.declared.range.Upper.TheVariants.{To, Below, Count}
 use Rattle.wb_literal.specs.declared.range.Stride.{Stride}
@@ -81,6 +84,31 @@ abbrev pub IsIndex : List ℕ → IndexLiteral → Type 0
 IsIndex text (Integer i) = IsInteger text i
 IsIndex text (Pair i j) = IsEnclosed (codes "(") (codes ")") IsInteger text (i ∷ j ∷ [])
 IsIndex text (Triple i j k) = IsEnclosed (codes "(") (codes ")") IsInteger text (i ∷ j ∷ k ∷ [])
+
+-- an index of rank 2, as the list of its numbers
+abbrev pub IsPair : List ℕ → List ℤ → Type 0
+IsPair text p = (i j : ℤ) × IsIndex text (Pair i j) × (p ≡ i ∷ j ∷ [])
+
+-- an index of rank 3, as the list of its numbers
+abbrev pub IsTriple : List ℕ → List ℤ → Type 0
+IsTriple text p = (i j k : ℤ) × IsIndex text (Triple i j k) × (p ≡ i ∷ j ∷ k ∷ [])
+
+-- a label in quotes: no quote is in a label, and spaces within the quotes are part of it
+abbrev pub IsText : List ℕ → List ℕ → Type 0
+IsText text label = IsLabel label × (text ≡ codes "\"" ++ (label ++ codes "\""))
+
+-- any number of indices of one rank, or of texts, in braces (Chapel Language Specification, Domains)
+abbrev pub IsSet : List ℕ → Items → Type 0
+IsSet text nothing = (s : List ℕ) × AreSpaces s × (text ≡ codes "{" ++ (s ++ codes "}"))
+IsSet text (integers is) = IsEnclosed (codes "{") (codes "}") IsInteger text is
+IsSet text (pairs ps) = IsEnclosed (codes "{") (codes "}") IsPair text ps
+IsSet text (triples ts) = IsEnclosed (codes "{") (codes "}") IsTriple text ts
+IsSet text (texts ls) = IsEnclosed (codes "{") (codes "}") IsText text ls
+
+-- a rectangle or a set
+abbrev pub IsDomain : List ℕ → Domain → Type 0
+IsDomain text (rectangle r) = IsRectangle text r
+IsDomain text (set x) = IsSet text x
 
 abbrev pub extents_of : GridLiteral → List ℤ
 extents_of (grids.Line n) = n ∷ []

@@ -1,7 +1,8 @@
 // Literals of domains.
-ghost use Rattle.std.specs.Prelude.{◌≡◌, IfOk, option_map};
-ghost use Rattle.wb_literal.specs.Domain.{domain_of};
+ghost use Rattle.std.specs.Prelude.{◌≡◌, ◌↔◌, Some, IfOk, option_map};
+ghost use Rattle.wb_literal.specs.Domain.{Domain, domain_of};
 ghost use Rattle.wb_literal.specs.Said.{domain};
+ghost use Rattle.wb_literal.specs.Grammar.{IsDomain};
 
 use crate::rectangle::{RectangleLiteral, read_rectangle};
 use crate::set::{SetLiteral, read_set};
@@ -16,8 +17,8 @@ pub enum DomainLiteral {
     Set(SetLiteral),
 }
 
-/// The domain that a text spells.
-pub fn read_domain(alloc: Global, text: &str) -> Result<Option<DomainLiteral>, AllocError>
+// The domain that all of the text spells.
+fn whole_domain(alloc: Global, text: &str) -> Result<Option<DomainLiteral>, AllocError>
     ensures { IfOk result (λ r. option_map domain r ≡ domain_of text.now) }
 {
     if let Some(rectangle) = read_rectangle(text) {
@@ -27,4 +28,13 @@ pub fn read_domain(alloc: Global, text: &str) -> Result<Option<DomainLiteral>, A
         Some(set) => Ok(Some(DomainLiteral::Set(set))),
         None => Ok(None),
     }
+}
+
+/// The domain that a text spells: a rectangle or a set. A text is read just where the grammar spells
+/// the domain by it.
+pub fn read_domain(alloc: Global, text: &str) -> Result<Option<DomainLiteral>, AllocError>
+    ensures value { IfOk result (λ r. option_map domain r ≡ domain_of text.now) }
+    ensures spelling { IfOk result (λ r. (d : Domain) → (option_map domain r ≡ Some d) ↔ IsDomain text.now d) }
+{
+    whole_domain(alloc, text)
 }
