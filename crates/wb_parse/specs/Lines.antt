@@ -6,7 +6,6 @@ use Rattle.wb_book.specs.WellFormed.{IsWellFormed}
 use Rattle.wb_literal.specs.Tokens.{after}
 use Rattle.wb_text.specs.Lines.{book_text}
 use Rattle.wb_text.specs.Said.{Line, rectangular, sparse, associative, array, said}
-use Rattle.wb_text.proofs.BookWritten.{HasMappedNumbers}
 use Rattle.wb_parse.specs.Parts.{◌>>=◌, name_at, names_at, typed_at, ranges_at, layout_at, members_at, elements_at, implicit_at}
 
 -- ---- the four kinds of lines, each behind its first word
@@ -70,6 +69,6 @@ book_of text = option_and_then lines_of (after (codes "chapel-workbook 1\n") tex
 
 -- ---- what is promised
 
--- the lines of each well-formed workbook's text, its mappings of numbers of 64 bits, are read; of other texts nothing is said
+-- the lines of each well-formed workbook's text are read; of other texts nothing is said
 abbrev pub ReadsLines : List ℕ → Option (List Line) → Type 0
-ReadsLines text read = (w : Cells) → IsWellFormed w → HasMappedNumbers w → text ≡ book_text w → read ≡ Some (said w)
+ReadsLines text read = (w : Cells) → IsWellFormed w → text ≡ book_text w → read ≡ Some (said w)

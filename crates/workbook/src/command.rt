@@ -9,6 +9,8 @@ use std::alloc::Global;
 pub enum Asked {
     /// A session from standard input to standard output, on an empty workbook.
     Run,
+    /// Whether standard input is the text of a workbook.
+    Check,
 }
 
 /// Why the words of a command line ask for nothing.
@@ -39,13 +41,18 @@ fn parsed(alloc: Global, words: &[&str]) -> Result<Option<Asked>, clap::Error> {
     let run = Command::new(alloc, "run").about(
         "Answers each request line of standard input on standard output",
     );
+    let check = Command::new(alloc, "check").about(
+        "Tells whether standard input is the text of a workbook, and how many objects it has",
+    );
     let command = Command::new(alloc, "workbook")
         .about("A shared workbook of whole-number arrays with selective undo")
         .subcommand_required(true)
-        .subcommand(run)?;
+        .subcommand(run)?
+        .subcommand(check)?;
     let matches = command.try_get_matches_from(words)?;
     match matches.subcommand() {
         Some(("run", _)) => Ok(Some(Asked::Run)),
+        Some(("check", _)) => Ok(Some(Asked::Check)),
         _ => Ok(None),
     }
 }

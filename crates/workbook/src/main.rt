@@ -1,11 +1,13 @@
 //! `workbook`: a shared workbook of whole-number arrays with selective undo, one JSON line a request.
 #![tactic(auto)]
 
+mod checking;
 mod command;
 mod running;
 #[cfg(test)]
 mod tests;
 
+use checking::check_with;
 use command::{Asked, CommandErr, command_of};
 use running::{BAD_COMMAND_LINE, DONE, INPUT_OR_OUTPUT_FAILED, NO_MEMORY, run_with};
 use std::alloc::AllocError;
@@ -45,6 +47,7 @@ fn status_of_words(rt: &HostRuntime) -> io::Result<u8> {
     }
     match command_of(alloc, &texts) {
         Ok(Asked::Run) => run(rt),
+        Ok(Asked::Check) => check(rt),
         Err(CommandErr::Help(error)) => {
             error.print(rt)?;
             Ok(DONE)
@@ -60,4 +63,12 @@ fn run(rt: &HostRuntime) -> io::Result<u8> {
     let mut input = rt.stdin();
     let mut output = BufWriter::new(alloc, rt.stdout())?;
     Ok(run_with(alloc, &mut input, &mut output))
+}
+
+// Whether standard input is the text of a workbook.
+fn check(rt: &HostRuntime) -> io::Result<u8> {
+    let alloc = rt.alloc();
+    let mut input = rt.stdin();
+    let mut output = BufWriter::new(alloc, rt.stdout())?;
+    Ok(check_with(alloc, &mut input, &mut output))
 }

@@ -5,7 +5,7 @@ use Rattle.wb_parse.proofs.Book.{book_back}
 use Rattle.wb_parse.proofs.text.read_lines.Goals as goal
 
 reads : (text bytes : List ℕ) (read : Option (List Line)) → bytes ≡ text → read ≡ book_of bytes → ReadsLines text read
-reads text bytes read e f = λ w h n t. f ∙ ap book_of (e ∙ t) ∙ book_back w h n
+reads text bytes read e f = λ w h t. f ∙ ap book_of (e ∙ t) ∙ book_back w h
 
 if_ok : {T E : Type 0} (P Q : T → Type 0) (r : Result T E) → ((x : T) → P x → Q x) → IfOk r P → IfOk r Q
 if_ok P Q (Ok x) f h = f x h

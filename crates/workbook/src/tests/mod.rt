@@ -1,6 +1,10 @@
+mod texts;
+
+use crate::checking::check_with;
 use crate::command::{Asked, CommandErr, command_of};
 use crate::running::run_with;
 use std::test::Fail;
+use texts::{OTHERS, Text, WORKBOOKS};
 
 const FIRST_RUN: &[u8] =
     b"{\"op\":\"domain\",\"d\":\"D\",\"is\":\"{1..4}\"}\n{\"op\":\"array\",\"a\":\"A\",\"d\":\"D\"}\n{\"op\":\"set\",\"a\":\"A\",\"i\":4,\"v\":9}\n{\"op\":\"undo\"}\n{\"op\":\"get\",\"a\":\"A\",\"i\":4}\n";
@@ -19,11 +23,15 @@ fn first_run(rt: HostRuntime) -> Result<(), Fail> {
 }
 
 #[test]
-fn command_lines(rt: HostRuntime) -> Result<(), Fail> {
+fn command_line_statuses(rt: HostRuntime) -> Result<(), Fail> {
     let alloc = rt.alloc();
     assert_eq!(rt;
         command_of(alloc, &["workbook", "run"]).ok(),
         Some(Asked::Run)
+    );
+    assert_eq!(rt;
+        command_of(alloc, &["workbook", "check"]).ok(),
+        Some(Asked::Check)
     );
     assert!(rt;
         matches!(
@@ -56,4 +64,21 @@ fn command_lines(rt: HostRuntime) -> Result<(), Fail> {
         )
     );
     Ok(())
+}
+
+// Checks each text, and compares what is printed of it and the exit status.
+fn judge(rt: &HostRuntime, texts: &[Text], status: u8) -> Result<(), Fail> {
+    for (text, printed) in texts {
+        let mut input = *text;
+        let mut output = Vec::new(rt.alloc());
+        assert_eq!(rt; check_with(rt.alloc(), &mut input, &mut output), status);
+        assert_eq!(rt; output.as_slice(), *printed);
+    }
+    Ok(())
+}
+
+#[test]
+fn workbook_text(rt: HostRuntime) -> Result<(), Fail> {
+    judge(&rt, &WORKBOOKS, 0)?;
+    judge(&rt, &OTHERS, 1)
 }

@@ -1,0 +1,84 @@
+//! A workbook from its text.
+//!
+//! The lines of the text are read, the workbook that they tell of is made, and its own text is compared with the one
+//! that was given. So a text is read just where it is the text of a workbook.
+#![tactic(auto)]
+
+ghost use Rattle.std.specs.Prelude.{◌≡◌, ◌≢◌, IfOk, IfErr, IfSome, IfNone, map};
+ghost use Rattle.wb_book.specs.Cells.{Cells};
+ghost use Rattle.wb_book.specs.WellFormed.{IsWellFormed};
+ghost use Rattle.wb_reading.specs.Reading.{IsNoBook};
+ghost use Rattle.wb_text.specs.Lines.{book_text};
+ghost use Rattle.wb_text.specs.Said.{said, line_of};
+
+use std::alloc::Global;
+use thiserror::Error;
+use wb_book::Book;
+use wb_parse::read_lines;
+use wb_range::NoMemory;
+use wb_rebuild::rebuild;
+use wb_text::{ObjectLine, print_book};
+
+#[cfg(test)]
+mod tests;
+
+/// Why a text is not read.
+#[derive(Clone, Copy, Debug, PartialEq, Eq, Error)]
+pub enum BookErr {
+    /// No workbook has this text.
+    #[error("no text of a workbook")]
+    Bad,
+    /// A growth was refused.
+    #[error("no memory")]
+    NoMemory,
+}
+
+// The text of a workbook is given back with it, and nothing else is.
+fn same_text(alloc: Global, book: Book, text: &str) -> Result<Option<Book>, NoMemory>
+    ensures same { IfOk result (λ r. IfSome r (λ b. text.now ≡ book_text b.cells)) }
+    ensures other { IfOk result (λ r. IfNone r (text.now ≢ book_text book.cells)) }
+    ensures kept { IfOk result (λ r. IfSome r (λ b. b ≡ book)) }
+{
+    let printed = print_book(alloc, &book)?;
+    if printed.as_str() == text {
+        Ok(Some(book))
+    } else {
+        Ok(None)
+    }
+}
+
+// The workbook of these lines, if this is its text.
+fn book_of_lines(alloc: Global, lines: &[ObjectLine], text: &str) -> Result<Option<Book>, NoMemory>
+    ensures some { IfOk result (λ r. IfSome r (λ b. text.now ≡ book_text b.cells)) }
+    ensures none { IfOk result (λ r. IfNone r ((w : Cells) → IsWellFormed w → said w ≡ map line_of lines.now → text.now ≢ book_text w)) }
+{
+    match rebuild(alloc, lines)? {
+        Some(book) => same_text(alloc, book, text),
+        None => Ok(None),
+    }
+}
+
+// The workbook of this text, if there is one.
+fn book_of(alloc: Global, text: &str) -> Result<Option<Book>, NoMemory>
+    ensures some { IfOk result (λ r. IfSome r (λ b. text.now ≡ book_text b.cells)) }
+    ensures none { IfOk result (λ r. IfNone r (IsNoBook text.now)) }
+{
+    match read_lines(alloc, text) {
+        Ok(Some(lines)) => book_of_lines(alloc, &lines, text),
+        Ok(None) => Ok(None),
+        Err(_) => Err(NoMemory),
+    }
+}
+
+/// The workbook of this text, or `Bad` just where no well-formed workbook has it. No two workbooks share a text, so it is
+/// the only one. Nothing is said of `writes()` of a workbook that was read.
+pub fn read_book(alloc: Global, text: &str) -> Result<Book, BookErr>
+    ensures ok { IfOk result (λ b. text.now ≡ book_text b.cells) }
+    ensures bad { IfErr result (λ why. why ≡ BookErr.Bad → IsNoBook text.now) }
+{
+    match book_of(alloc, text) {
+        Ok(Some(book)) => Ok(book),
+        Ok(None) => Err(BookErr::Bad),
+        Err(NoMemory) => Err(BookErr::NoMemory),
+    }
+}
