@@ -1,13 +1,12 @@
 -- The cells put in line by line are those that the lines tell of.
-use Rattle.std.proofs.Common.{◌≡◌, Bool, true, false, cond, List, [], ◌∷◌, Option, Some, None, is_some, refl, sym, ap, ◌∙◌}
+use Rattle.std.proofs.Common.{◌≡◌, Bool, true, false, cond, List, [], ◌∷◌, Option, Some, None, is_some, refl, ap, ◌∙◌}
 use Rattle.std.specs.Cmp.{Equal-is}
 use Rattle.std.specs.FinMap.{get, empty, get-empty}
 use Rattle.wb_book.specs.declared.cells.cell.Cell.{Cell}
-use Rattle.wb_book.specs.declared.cells.value.Value.{Value}
-use Rattle.wb_book.specs.Cells.{Name, Cells, cell_cmp, cell_order, is_same_name, same_names}
+use Rattle.wb_book.specs.Cells.{Cells, cell_cmp, cell_order, is_same_name, same_names}
 use Rattle.wb_text.specs.Said.{Line, name_of, line_in}
 use Rattle.wb_rebuild.specs.Inserted.{inserted, or_else, last_of}
-use Rattle.wb_rebuild.specs.Told.{owner, cells_of, cells_put, are_distinct, told_of, told_by, told}
+use Rattle.wb_rebuild.specs.Told.{owner, cells_of, cells_put, are_distinct, told_by, told}
 use Rattle.wb_rebuild.proofs.Inserts.{none_first, get-inserted}
 use Rattle.wb_rebuild.proofs.Owners.{others, mine}
 

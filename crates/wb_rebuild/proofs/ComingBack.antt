@@ -1,5 +1,5 @@
 -- A well-formed workbook comes back from its lines.
-use Rattle.std.proofs.Common.{◌≡◌, true, false, List, refl, sym, ap, ◌∙◌}
+use Rattle.std.proofs.Common.{◌≡◌, true, false, List, sym, ap, ◌∙◌}
 use Rattle.std.specs.FinMap.{get, empty}
 use Rattle.std.specs.List.{AllByRecursion, list_all}
 use Rattle.selective_undo.proofs.Changes.{same_states}

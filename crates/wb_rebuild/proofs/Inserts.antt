@@ -1,7 +1,7 @@
 -- What stands at a key after pairs were put into a map.
-use Rattle.std.proofs.Common.{◌≡◌, ℕ, suc, ◌<◌, ◌+◌, Bool, true, false, cond, ◌||◌, List, [], ◌∷◌, map, drop, length, get_or, Option, Some, None, option_map, refl, sym, ap, ◌∙◌, Ordering, add-one, drop-cons, arith}
+use Rattle.std.proofs.Common.{◌≡◌, ℕ, suc, ◌<◌, ◌+◌, Bool, true, false, cond, ◌||◌, List, [], ◌∷◌, map, drop, length, get_or, Option, Some, None, option_map, refl, sym, ap, ◌∙◌, Ordering, add-one, drop-cons}
 use Rattle.std.specs.FinMap.{FinMap, get, insert, get-insert}
-use Rattle.std.specs.List.{list_any, zip}
+use Rattle.std.specs.List.{list_any}
 use Rattle.std.specs.Ordering.{eq_by_cmp}
 use Rattle.selective_undo.specs.Changes.{IsOrder}
 use Rattle.wb_rebuild.specs.Inserted.{inserted, or_else, last_of}
@@ -66,4 +66,4 @@ module _ {K V : Type 0} {order : K → K → Ordering} where
   put_more g is p i s t r low this made ahead =
       rw (add-one)
       (ap (λ m. inserted (map g (drop (suc p) is)) m) (made ∙ ap (λ j. insert s (g j).0 (g j).1) this)
-       ∙ ap (λ js. inserted (map g js) s) (sym (drop-cons is p i low)) ∙ ahead)
+      ∙ ap (λ js. inserted (map g js) s) (sym (drop-cons is p i low)) ∙ ahead)

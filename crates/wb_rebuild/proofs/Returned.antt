@@ -2,8 +2,8 @@
 use Rattle.std.proofs.Common.{◌≡◌, ℕ, suc, ℤ, pos, Bool, true, false, ◌||◌, cond, List, [], ◌∷◌, length, Option, Some, None, is_some, option_map, unwrap_or, refl, sym, ap, ◌∙◌, subst}
 use Rattle.std.specs.Cmp.{Equal-is, eq_by_cmp_equiv}
 use Rattle.std.specs.FinMap.{get}
-use Rattle.std.specs.List.{filter_map, cons_option, list_any, zip}
-use Rattle.wb_dist.specs.Maps.{LayoutMap, whole}
+use Rattle.std.specs.List.{filter_map, cons_option, zip}
+use Rattle.wb_dist.specs.Maps.{whole}
 use Rattle.wb_book.specs.declared.cells.cell.Cell.{Cell}
 use Rattle.wb_book.specs.declared.cells.cell.Cell.TheVariants.{Object, Shape, In, Member, Mapping, Use, Implicit, Element}
 use Rattle.wb_book.specs.declared.cells.kind.DomainKind.{DomainKind}
@@ -19,13 +19,13 @@ use Rattle.wb_book.specs.Kinds.{kind_of}
 use Rattle.wb_book.specs.Locales.{mapping_in}
 use Rattle.wb_book.specs.Readers.{indices_at}
 use Rattle.wb_book.specs.Shapes.{Range, indices}
-use Rattle.wb_book.specs.WellFormed.{IsWellFormed, IsObject, IsShape, HasMapping, IsMember, MayHave, IsImplicit, IsElement, IsNumber, domain_in, domain_at, array_in, array_at, ranges_in, inside_of, use_of, has, present_if, index_cell, is_index_of_array}
-use Rattle.wb_text.specs.Lines.{members, indices_in, number_in, element_at, elements_at, implicit_in}
-use Rattle.wb_text.specs.Said.{Line, rectangular, sparse, associative, array, line_in, domain_said, said_in, said_of, said}
+use Rattle.wb_book.specs.WellFormed.{IsWellFormed, IsShape, HasMapping, IsMember, MayHave, IsImplicit, IsElement, IsNumber, domain_in, domain_at, array_in, ranges_in, inside_of, use_of, has, present_if, index_cell, is_index_of_array}
+use Rattle.wb_text.specs.Lines.{indices_in, number_in, element_at, elements_at, implicit_in}
+use Rattle.wb_text.specs.Said.{Line, line_in, domain_said, said_in, said}
 use Rattle.wb_text.proofs.LineOfName.{line_of_name}
 use Rattle.wb_text.proofs.SameMembers.{member_listed}
 use Rattle.wb_rebuild.specs.Inserted.{or_else, last_of}
-use Rattle.wb_rebuild.specs.Told.{ranges_told, rank_told, kind_told, indices_told, implicit_told, is_domain, told_of, told_by, told}
+use Rattle.wb_rebuild.specs.Told.{ranges_told, rank_told, kind_told, indices_told, implicit_told, is_domain, told_by, told}
 
 some_same : {X : Type 0} (x y : X) → Some x ≡ Some y → x ≡ y
 some_same x y e = cc
@@ -239,7 +239,7 @@ module _ (w : Cells) (well : IsWellFormed w) where
       let shape = shape_of d rank is in
       subst (λ k. is_some (get w (index_cell k d i)) ≡ has (indices_in w d k) i) (some_same (Rectangular rank) kind e)
       (ap is_some (well.insides d i ∙ ap (λ v. inside_of (ranges_in v) i) shape.1) ∙ is_there (has (indices shape.0) i)
-       ∙ ap (λ rs. has (indices rs) i) (sym (ap (λ v. unwrap_or (ranges_in v) []) shape.1)) ∙ ap (λ is. has is i) (indices_by d rank is))
+      ∙ ap (λ rs. has (indices rs) i) (sym (ap (λ v. unwrap_or (ranges_in v) []) shape.1)) ∙ ap (λ is. has is i) (indices_by d rank is))
     where
       is_there : (b : Bool) → is_some (present_if b) ≡ b
       is_there true = refl

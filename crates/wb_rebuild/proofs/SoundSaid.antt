@@ -1,5 +1,5 @@
 -- What a well-formed workbook says is sound, and its lines are of different names.
-use Rattle.std.proofs.Common.{◌≡◌, ℕ, ◌==◌, Bool, true, false, ◌&&◌, ◌||◌, cond, List, [], ◌∷◌, length, map, Option, Some, None, is_some, unwrap_or, option_map, T, refl, sym, ap, ◌∙◌, subst, Ordering, eqb-true}
+use Rattle.std.proofs.Common.{◌≡◌, ℕ, ◌==◌, Bool, true, false, ◌&&◌, ◌||◌, cond, List, [], ◌∷◌, length, map, Option, Some, None, is_some, unwrap_or, T, refl, sym, ap, ◌∙◌, subst, Ordering, eqb-true}
 use Rattle.std.proofs.lemmas.Bool.{eq-eqb}
 use Rattle.std.specs.Cmp.Lexicographic.{slice_cmp}
 use Rattle.std.specs.FinMap.{get, entries, entries_sorted}
@@ -10,25 +10,25 @@ use Rattle.std.specs.declared.cmp.Ordering.TheVariants.{Less, Equal, Greater}
 use Rattle.wb_dist.specs.Grid.{are_positive, is_grid}
 use Rattle.wb_dist.specs.Maps.{LayoutMap, whole, block, cyclic, block_cyclic, is_rank, is_box, is_layout}
 use Rattle.wb_book.specs.declared.cells.cell.Cell.{Cell}
-use Rattle.wb_book.specs.declared.cells.cell.Cell.TheVariants.{Object, Shape, In, Member, Mapping}
+use Rattle.wb_book.specs.declared.cells.cell.Cell.TheVariants.{Object, In, Member, Mapping}
 use Rattle.wb_book.specs.declared.cells.kind.DomainKind.{DomainKind}
 use Rattle.wb_book.specs.declared.cells.kind.DomainKind.TheVariants as domains
 use Rattle.wb_book.specs.declared.cells.kind.KeyType.{KeyType}
 use Rattle.wb_book.specs.declared.cells.kind.Kind.{Kind}
-use Rattle.wb_book.specs.declared.cells.kind.Kind.TheVariants.{Rectangular, Sparse, Associative}
+use Rattle.wb_book.specs.declared.cells.kind.Kind.TheVariants.{Associative}
 use Rattle.wb_book.specs.declared.cells.value.Value.{Value}
 use Rattle.wb_book.specs.declared.cells.value.Value.TheVariants as values
 use Rattle.wb_book.specs.declared.values.index.Index.{Index}
 use Rattle.wb_book.specs.Cells.{Name, Cells, cell_cmp, is_same_name}
-use Rattle.wb_book.specs.Kinds.{kind_of, is_key}
-use Rattle.wb_book.specs.Layouts.{is_of_rank, IsMapping}
+use Rattle.wb_book.specs.Kinds.{is_key}
+use Rattle.wb_book.specs.Layouts.{is_of_rank}
 use Rattle.wb_book.specs.Locales.{mapping_in}
 use Rattle.wb_book.specs.Readers.{object_of, objects}
 use Rattle.wb_book.specs.Shapes.{indices}
 use Rattle.wb_book.specs.WellFormed.{IsWellFormed, HasMapping, IsMember, MayHave, domain_at, domain_in, ranges_in, inside_of, has, present_if}
 use Rattle.wb_book.specs.declared.cells.value.Value.TheVariants.{Present}
 use Rattle.wb_text.specs.Lines.{members, indices_in, element_at, elements_at}
-use Rattle.wb_text.specs.Said.{Line, rectangular, sparse, associative, array, name_of, line_in, said_in, said_of, said}
+use Rattle.wb_text.specs.Said.{Line, name_of, line_in, said_in, said_of, said}
 use Rattle.wb_text.proofs.MembersWritten.{members_each}
 use Rattle.wb_text.proofs.Readable.{Each}
 use Rattle.wb_rebuild.specs.Told.{are_within, is_sound, are_distinct, is_domain, indices_told}

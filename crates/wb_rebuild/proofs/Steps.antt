@@ -1,5 +1,5 @@
 -- What loops over lines come to.
-use Rattle.std.proofs.Common.{◌≡◌, ℕ, zero, suc, ◌+◌, ◌<◌, ◌≤◌, Bool, true, false, ◌&&◌, cond, List, [], ◌∷◌, map, take, drop, length, get_or, slice_get, Option, Some, None, is_some, option_and_then, refl, sym, ap, ◌∙◌, subst, arith, drop-cons}
+use Rattle.std.proofs.Common.{◌≡◌, ℕ, zero, suc, ◌<◌, ◌≤◌, Bool, true, false, ◌&&◌, cond, List, [], ◌∷◌, map, take, drop, length, get_or, slice_get, Option, Some, None, is_some, option_and_then, refl, sym, ap, ◌∙◌, subst, arith, drop-cons}
 use Rattle.std.proofs.lemmas.List.{take_all, drop-map}
 use Rattle.std.proofs.lemmas.List.Folds.{list_all-map}
 use Rattle.std.specs.BTreeMap.{BTreeMap, Updates}
@@ -115,7 +115,7 @@ pub name_again : (xs : List ObjectLine) (k j p : ℕ) (x : ObjectLine) (q : Name
 name_again xs k j p x q m h old =
     not_distinct (map line_of xs) k
     (ap are_distinct (drop-map line_of k xs) ∙ ap (λ (ys : List ObjectLine). are_distinct (map line_of ys)) (drop_at xs k j x h.low h.next h.this)
-     ∙ twice (line_of x) (map line_of (drop j xs)) (there_is xs k j x q m h ∙ ap is_some old))
+    ∙ twice (line_of x) (map line_of (drop j xs)) (there_is xs k j x q m h ∙ ap is_some old))
 
 -- ---- elements at indices
 

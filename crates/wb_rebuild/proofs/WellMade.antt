@@ -1,11 +1,11 @@
 -- Cells as sound lines tell of them are well formed.
-use Rattle.std.proofs.Common.{◌≡◌, ℕ, ℤ, pos, ◌≤◌, Bool, true, false, ◌&&◌, ◌||◌, cond, List, [], ◌∷◌, length, Option, Some, None, is_some, option_map, unwrap_or, refl, sym, ap, ◌∙◌, subst, le-leb, eqb-true, ◌==◌, arith, rules}
+use Rattle.std.proofs.Common.{◌≡◌, ℕ, ℤ, pos, ◌≤◌, Bool, true, false, ◌&&◌, ◌||◌, cond, List, [], ◌∷◌, length, Option, Some, None, is_some, option_map, refl, sym, ap, ◌∙◌, subst, le-leb, eqb-true, ◌==◌, arith, rules}
 use Rattle.std.specs.Prelude.{FitsSigned, IfSome}
 use Rattle.std.proofs.lemmas.List.Elements.{recursion_from_All}
 use Rattle.std.specs.Int.{w64}
 use Rattle.std.specs.Cmp.{Equal-is}
 use Rattle.std.specs.FinMap.{get}
-use Rattle.std.specs.List.{AllByRecursion, list_all, list_any, zip}
+use Rattle.std.specs.List.{AllByRecursion, list_all, zip}
 use Rattle.wb_dist.specs.Maps.{LayoutMap, whole, block, cyclic, block_cyclic, is_rank}
 use Rattle.wb_book.specs.declared.cells.cell.Cell.{Cell}
 use Rattle.wb_book.specs.declared.cells.cell.Cell.TheVariants.{Object, Shape, In, Member, Mapping, Use, Implicit, Element}
@@ -22,11 +22,11 @@ use Rattle.wb_book.specs.Kinds.{kind_of, is_key, IsIndex}
 use Rattle.wb_book.specs.Layouts.{is_of_rank, IsMapping, IsLayout}
 use Rattle.wb_book.specs.Names.{is_name}
 use Rattle.wb_book.specs.Shapes.{indices}
-use Rattle.wb_book.specs.WellFormed.{IsWellFormed, IsObject, IsShape, HasMapping, IsRectangle, IsMember, MayHave, IsImplicit, IsElement, IsNumber, domain_in, domain_at, array_in, array_at, ranges_in, inside_of, use_of, has, present_if, index_cell, is_index_of_array}
+use Rattle.wb_book.specs.WellFormed.{IsWellFormed, IsObject, IsShape, HasMapping, IsMember, MayHave, IsImplicit, IsElement, domain_in, array_in, ranges_in, inside_of, use_of, has, present_if, index_cell, is_index_of_array}
 use Rattle.wb_text.specs.Said.{Line, rectangular, sparse, associative, array, name_of, line_in}
 use Rattle.wb_rebuild.specs.Inserted.{or_else, last_of}
 use Rattle.wb_rebuild.specs.Made.{IsMade}
-use Rattle.wb_rebuild.specs.Told.{ranges_told, rank_told, kind_told, indices_told, implicit_told, is_domain, are_within, is_sound, told_of, told_by, told}
+use Rattle.wb_rebuild.specs.Told.{ranges_told, rank_told, kind_told, indices_told, implicit_told, is_domain, are_within, is_sound, told_by, told}
 
 some_same : {X : Type 0} (x y : X) → Some x ≡ Some y → x ≡ y
 some_same x y e = cc

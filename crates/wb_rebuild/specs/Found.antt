@@ -1,5 +1,5 @@
 -- The places of lines by their names.
-use Rattle.std.specs.Prelude.{◌≡◌, ℕ, List, map, is_some, option_and_then, slice_get}
+use Rattle.std.specs.Prelude.{◌≡◌, ℕ, List, is_some, option_and_then, slice_get}
 use Rattle.std.specs.BTreeMap.{BTreeMap}
 use Rattle.std.specs.BTreeMap as tree
 use Rattle.std.specs.Cmp.Lexicographic.{slice_cmp}

@@ -8,6 +8,8 @@ mod finding;
 mod making;
 mod putting;
 mod rebuilding;
+#[cfg(test)]
+mod tests;
 mod told;
 
 pub use crate::rebuilding::rebuild;

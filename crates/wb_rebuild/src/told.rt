@@ -23,11 +23,7 @@ use wb_text::ObjectLine;
 // ---- what a line tells of a domain to those that are bound to it
 
 // The ranges of the rectangular domain of a name.
-fn ranges_of(
-    lines: &[ObjectLine],
-    places: &BTreeMap<Name, usize>,
-    name: &Name,
-) -> Option<AnyRect>
+fn ranges_of(lines: &[ObjectLine], places: &BTreeMap<Name, usize>, name: &Name) -> Option<AnyRect>
     requires { Finds places.now (map line_of lines.now) (map line_of lines.now) }
     ensures { result ≡ ranges_told (line_in name.now (map line_of lines.now)) }
 {
@@ -167,7 +163,11 @@ fn put_sparse(
     let rank = ranges.rank();
     let kind = AnyDomain::new(DomainKind::Sparse(parent, rank));
     put(cells, Cell::Object(domain), Value::Domain(kind))?;
-    put(cells, Cell::Use(parent, domain), Value::Bound(Binding::Sparse))?;
+    put(
+        cells,
+        Cell::Use(parent, domain),
+        Value::Bound(Binding::Sparse),
+    )?;
     put_presents(cells, Kind::Sparse(rank), domain, indices)?;
     Ok(true)
 }
@@ -223,7 +223,11 @@ fn put_array(
     }
     let value = implicit_of(kind, implicit);
     put(cells, Cell::Object(array), Value::Array(domain, kind))?;
-    put(cells, Cell::Use(domain, array), Value::Bound(Binding::Array))?;
+    put(
+        cells,
+        Cell::Use(domain, array),
+        Value::Bound(Binding::Array),
+    )?;
     put(cells, Cell::Implicit(array), Value::Number(value))?;
     put_numbers(cells, array, indices, elements)?;
     Ok(true)

@@ -1,4 +1,4 @@
-use Rattle.std.proofs.Common.{◌≡◌, ℕ, suc, ◌+◌, ◌-◌, ◌<◌, length, sym, ◌∙◌, arith}
+use Rattle.std.proofs.Common.{◌≡◌, suc, ◌+◌, ◌-◌, ◌<◌, length, sym, ◌∙◌, arith}
 use Rattle.wb_rebuild.proofs.Steps.{is_read, next_found, next_distinct, name_again}
 use Rattle.wb_rebuild.proofs.finding.places_of.Goals as goal
 

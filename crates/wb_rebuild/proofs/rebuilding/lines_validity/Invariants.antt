@@ -1,4 +1,4 @@
-use Rattle.std.proofs.Common.{map, take}
+use Rattle.std.proofs.Common.{take}
 use Rattle.std.specs.List.{AllByRecursion}
 use Rattle.wb_text.specs.Said.{line_of}
 use Rattle.wb_rebuild.specs.Made.{IsMade}

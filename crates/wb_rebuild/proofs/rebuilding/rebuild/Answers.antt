@@ -25,7 +25,7 @@ returns-in-Some-2 c = λ w well e.
     ap (λ (b : Contents). Some b.cells) c.of_cells.ensures
     ∙ ap (λ s. Some s)
     (comes_back ls (state_of c.in-Some-2.cells) w (sym c.in_ok-places.ensures.distinct ∙ ap is_some c.in-Some.is)
-     (subst (λ (r : Option (BTreeMap Cell Value)). IfSome r (λ m. state_of m ≡ cells_put ls ls empty)) c.in-Some-2.is c.in_ok-cells.ensures.cells) well e)
+    (subst (λ (r : Option (BTreeMap Cell Value)). IfSome r (λ m. state_of m ≡ cells_put ls ls empty)) c.in-Some-2.is c.in_ok-cells.ensures.cells) well e)
 
 pub returns : goal.returns
 returns c = λ w well e. not_unsound (map line_of c.args.lines.now) w well e (sym c.in_ok-cells.ensures.sound ∙ ap is_some c.in-None.is)
