@@ -25,7 +25,7 @@ pub const WORKBOOKS: [Text; 6] = [
         b"ok 3\n",
     ),
     (
-        b"chapel-workbook 1\narray A over E []\narray C over T [1]\nassoc T of text {\"x\"}\nrect E {1..0, 1..5} none\nrect G {1..1, 2..2, 3..3} none\nend\n",
+        b"chapel-workbook 1\narray A over E []\narray C over T [1]\nrect E {1..0, 1..5} none\nrect G {1..1, 2..2, 3..3} none\nassoc T of text {\"x\"}\nend\n",
         b"ok 5\n",
     ),
 ];
