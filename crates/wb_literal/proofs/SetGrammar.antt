@@ -389,6 +389,7 @@ set_exact = exact set_at IsSet set_found (λ text x h. set_read text [] x h)
 
 -- ---- domains: no text is a set and a rectangle
 
+-- no bound follows the first number
 no_upper : (b : ℕ) (bytes : List ℕ) → b ≢ 46 → upper_at (b ∷ bytes) ≡ None
 no_upper b bytes h = rw (not_after 46 b (46 ∷ 60 ∷ []) bytes h, not_after 46 b (46 ∷ 35 ∷ []) bytes h, not_after 46 b (46 ∷ []) bytes h) refl
 
@@ -398,7 +399,7 @@ no_range inside behind more z b e f h = rw (e, f, no_upper b more h) refl
 no_rectangle : (bytes inside : List ℕ) → after_token (codes "{") bytes ≡ Some inside → range_at inside ≡ None → rectangle_at bytes ≡ None
 no_rectangle bytes inside o n = rw (o, n) refl
 
--- a number that another byte begins
+-- a range begins with another byte
 other_range : (b : ℕ) (text more rest : List ℕ) → ((z : List ℕ) → range_at (b ∷ z) ≡ None) → text ≡ b ∷ more → range_at (text ++ rest) ≡ None
 other_range b text more rest h e = ap (λ z. range_at (z ++ rest)) e ∙ h (more ++ rest)
 
