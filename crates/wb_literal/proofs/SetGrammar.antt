@@ -12,14 +12,13 @@ use Rattle.std.specs.Str.Lossy.{valid_len_up_to, utf8_valid_len}
 use Rattle.wb_assoc.specs.Labels.{IsLabel, is_label, is_plain}
 use Rattle.wb_literal.specs.Integer.{integer_at}
 use Rattle.wb_literal.specs.Spelling.{IsInteger}
-use Rattle.wb_literal.specs.Tokens.{skip_spaces, after, after_token, comma_at, close_at, whole}
-use Rattle.wb_literal.specs.Range.{upper_at, to_at, below_at, count_at, range_at}
-use Rattle.wb_literal.specs.Rectangle.{second_range_at, rectangle_at, rectangle_of}
+use Rattle.wb_literal.specs.Tokens.{skip_spaces, after, after_token, comma_at, close_at}
+use Rattle.wb_literal.specs.Range.{upper_at, range_at}
+use Rattle.wb_literal.specs.Rectangle.{rectangle_at, rectangle_of}
 use Rattle.wb_literal.specs.Index.{index_at}
 use Rattle.wb_literal.specs.Set.{Items, nothing, integers, pairs, triples, texts, items_at, listed_at, as_pair, pair_at, as_triple, triple_at, is_text, label_of, is_quote, quoted_at, text_at, indices_at, texts_at, filled_at, set_at, set_of}
 use Rattle.wb_literal.specs.Domain.{Domain, rectangle, set, domain_of}
-use Rattle.wb_literal.specs.Grammar.{AreSpaces, IsComma, AreMore, AreListed, IsEnclosed, IsPair, IsTriple, IsText, IsIndex, IsSet, IsDomain, IsRectangle}
-use Rattle.wb_literal.specs.declared.range.Upper.{Upper}
+use Rattle.wb_literal.specs.Grammar.{AreSpaces, IsComma, AreMore, AreListed, IsEnclosed, IsPair, IsTriple, IsText, IsIndex, IsSet, IsDomain}
 use Rattle.wb_literal.specs.declared.rectangle.RectangleLiteral.{RectangleLiteral}
 use Rattle.wb_literal.specs.declared.index.IndexLiteral.{IndexLiteral}
 use Rattle.wb_literal.specs.declared.index.IndexLiteral.TheVariants.{Integer, Pair, Triple}
@@ -390,6 +389,7 @@ set_exact = exact set_at IsSet set_found (λ text x h. set_read text [] x h)
 
 -- ---- domains: no text is a set and a rectangle
 
+-- no bound follows the first number
 no_upper : (b : ℕ) (bytes : List ℕ) → b ≢ 46 → upper_at (b ∷ bytes) ≡ None
 no_upper b bytes h = rw (not_after 46 b (46 ∷ 60 ∷ []) bytes h, not_after 46 b (46 ∷ 35 ∷ []) bytes h, not_after 46 b (46 ∷ []) bytes h) refl
 
@@ -399,7 +399,7 @@ no_range inside behind more z b e f h = rw (e, f, no_upper b more h) refl
 no_rectangle : (bytes inside : List ℕ) → after_token (codes "{") bytes ≡ Some inside → range_at inside ≡ None → rectangle_at bytes ≡ None
 no_rectangle bytes inside o n = rw (o, n) refl
 
--- a number that another byte begins
+-- a range begins with another byte
 other_range : (b : ℕ) (text more rest : List ℕ) → ((z : List ℕ) → range_at (b ∷ z) ≡ None) → text ≡ b ∷ more → range_at (text ++ rest) ≡ None
 other_range b text more rest h e = ap (λ z. range_at (z ++ rest)) e ∙ h (more ++ rest)
 
