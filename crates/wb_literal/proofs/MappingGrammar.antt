@@ -1,13 +1,12 @@
 -- Mappings: what is spelled is read, and what is read is spelled.
-use Rattle.std.proofs.Common.{◌≡◌, ◌≢◌, ◌↔◌, ◌⊎◌, inl, inr, ℕ, List, [], ◌∷◌, ◌++◌, codes, Option, Some, None, option_map, option_and_then, refl, sym, ap, ◌∙◌, subst, append_assoc, append-nil, arith}
-use Rattle.std.proofs.lemmas.Option.{option_and_then_some, some_pair_parts}
+use Rattle.std.proofs.Common.{◌≡◌, ◌≢◌, ◌↔◌, ℕ, List, [], ◌∷◌, ◌++◌, codes, Option, Some, None, option_map, option_and_then, refl, sym, ap, ◌∙◌, subst, append_assoc, arith}
+use Rattle.std.proofs.lemmas.Option.{option_and_then_some}
 use Rattle.std.specs.Option.{option_map_or}
-use Rattle.wb_literal.specs.Spelling.{IsInteger}
-use Rattle.wb_literal.specs.Tokens.{skip_spaces, after, after_token, comma_at, close_at}
+use Rattle.wb_literal.specs.Tokens.{after, after_token, comma_at, close_at}
 use Rattle.wb_literal.specs.Rectangle.{rectangle_at}
 use Rattle.wb_literal.specs.Index.{index_at, grid_at}
 use Rattle.wb_literal.specs.Mapping.{last_grid_at, next_index_at, block_at, cyclic_at, block_cyclic_at, mapping_at, mapping_of}
-use Rattle.wb_literal.specs.Grammar.{AreSpaces, IsComma, IsRectangle, IsIndex, IsGrid, IsLastGrid, IsMapping}
+use Rattle.wb_literal.specs.Grammar.{IsComma, IsRectangle, IsIndex, IsGrid, IsLastGrid, IsMapping}
 use Rattle.wb_literal.specs.declared.index.IndexLiteral.{IndexLiteral}
 use Rattle.wb_literal.specs.declared.index.IndexLiteral.TheVariants as indices
 use Rattle.wb_literal.specs.declared.index.GridLiteral.{GridLiteral}
@@ -17,7 +16,7 @@ use Rattle.wb_literal.specs.declared.mapping.MappingLiteral.TheVariants as mappi
 use Rattle.wb_literal.proofs.Exact.{exact}
 use Rattle.wb_literal.proofs.RangeGrammar.{Ends, Found, integer_starts, starts_unspaced}
 use Rattle.wb_literal.proofs.TokenLemmas.{NoSpace, skip_over, after_found, token_found, comma_over, comma_found, close_over, close_found, mapped}
-use Rattle.wb_literal.proofs.ListGrammar.{Reads, comma_ends}
+use Rattle.wb_literal.proofs.ListGrammar.{comma_ends}
 use Rattle.wb_literal.proofs.RectangleGrammar.{rectangle_found, rectangle_read}
 use Rattle.wb_literal.proofs.IndexGrammar.{grid_found, grid_read, index_found, index_read}
 
