@@ -8,10 +8,6 @@ use Rattle.wb_parse.specs.Lines.{line_at, is_end, lines_at}
 abbrev pub onto : List ObjectLine → Option (List Line) → Option (List Line)
 onto ls r = option_map (λ ms. map line_of ls ++ ms) r
 
-pub onto-nil : (r : Option (List Line)) → r ≡ onto [] r
-onto-nil None = refl
-onto-nil (Some ls) = refl
-
 pushed : (ls : List ObjectLine) (l : ObjectLine) (ms : List Line) → map line_of ls ++ (line_of l ∷ ms) ≡ map line_of (ls ++ l ∷ []) ++ ms
 pushed [] l ms = refl
 pushed (k ∷ ls) l ms = ap (λ x. line_of k ∷ x) (pushed ls l ms)
@@ -42,6 +38,3 @@ pub more_lines : (end i : ℕ) (ls : List ObjectLine) (l : ObjectLine) (rest beh
 more_lines end i ls l rest behind z e h =
     let d : end - i ≡ suc (end - (i + 1)) = omega (arith, z) in
     ap (λ n. onto ls (lines_at n rest)) d ∙ ap (onto ls) (more_at (end - (i + 1)) (line_of l) rest behind e h) ∙ onto-push ls l (lines_at (end - (i + 1)) behind)
-
-pub no_more : (n : ℕ) (ls : List ObjectLine) (rest : List ℕ) → n ≡ 0 → None ≡ onto ls (lines_at n rest)
-no_more n ls rest e = rw e refl

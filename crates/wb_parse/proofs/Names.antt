@@ -25,10 +25,6 @@ name_no bytes u h = rw (named_by bytes u ∙ h) refl
 
 -- ---- names are ASCII
 
-either : (a b : Bool) → a || b ≡ true → (a ≡ false → b ≡ true)
-either true b e f = cc
-either false b e f = e
-
 above : (c n : ℕ) (b : Bool) → b ≡ nat_le c n → b ≡ true → c ≤ n
 above c n b e t = leb-true c n (sym e ∙ t)
 

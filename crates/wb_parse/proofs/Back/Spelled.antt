@@ -30,9 +30,6 @@ range_spelled low high stride l h s = (range_exact (range_text low high stride) 
 -- ---- lists
 
 -- a comma and a space
-pub comma : List ℕ
-comma = 44 ∷ 32 ∷ []
-
 pub comma_spelled : IsComma (44 ∷ 32 ∷ [])
 comma_spelled = ([], 32 ∷ [], tt, (refl, tt), refl)
 
