@@ -3,6 +3,8 @@ mod texts;
 use crate::checking::check_with;
 use crate::command::{Asked, CommandErr, command_of};
 use crate::running::run_with;
+use std::alloc::Global;
+use std::process::Abort;
 use std::test::Fail;
 use texts::{OTHERS, Text, WORKBOOKS};
 
@@ -67,11 +69,11 @@ fn command_line_statuses(rt: HostRuntime) -> Result<(), Fail> {
 }
 
 // Checks each text, and compares what is printed of it and the exit status.
-fn judge(rt: &HostRuntime, texts: &[Text], status: u8) -> Result<(), Fail> {
+fn judge(rt: &impl Abort, alloc: Global, texts: &[Text], status: u8) -> Result<(), Fail> {
     for (text, printed) in texts {
         let mut input = *text;
-        let mut output = Vec::new(rt.alloc());
-        assert_eq!(rt; check_with(rt.alloc(), &mut input, &mut output), status);
+        let mut output = Vec::new(alloc);
+        assert_eq!(rt; check_with(alloc, &mut input, &mut output), status);
         assert_eq!(rt; output.as_slice(), *printed);
     }
     Ok(())
@@ -79,6 +81,6 @@ fn judge(rt: &HostRuntime, texts: &[Text], status: u8) -> Result<(), Fail> {
 
 #[test]
 fn workbook_text(rt: HostRuntime) -> Result<(), Fail> {
-    judge(&rt, &WORKBOOKS, 0)?;
-    judge(&rt, &OTHERS, 1)
+    judge(&rt, rt.alloc(), &WORKBOOKS, 0)?;
+    judge(&rt, rt.alloc(), &OTHERS, 1)
 }
