@@ -1,11 +1,11 @@
 -- Every range of a workbook is known by its least index, its greatest index and its stride.
-use Rattle.std.proofs.Common.{◌≡◌, ◌≢◌, ℕ, zero, suc, ◌+◌, ◌-◌, ◌*◌, ◌%◌, ◌<◌, ◌≤◌, ℤ, pos, negsuc, ◌+ℤ◌, ◌-ℤ◌, ◌*ℤ◌, List, [], ◌∷◌, None, inl, inr, unsigned_abs, refl, sym, ap, ◌∙◌, subst, arith}
+use Rattle.std.proofs.Common.{◌≡◌, ◌≢◌, ℕ, zero, suc, ◌+◌, ◌-◌, ◌*◌, ◌<◌, ◌≤◌, ℤ, pos, negsuc, ◌+ℤ◌, ◌-ℤ◌, ◌*ℤ◌, List, [], ◌∷◌, Some, None, inl, inr, unsigned_abs, refl, sym, ap, ◌∙◌, subst, arith}
 use Rattle.std.proofs.lemmas.Bool.{cases_lt}
 use Rattle.std.proofs.lemmas.Int.{ints}
-use Rattle.std.proofs.Math.Nat.{mul-mod_left}
+use Rattle.std.proofs.Math.Nat.{zero-mod}
 use Rattle.std.specs.List.{Contains}
-use Rattle.wb_range.specs.Canonical.{IsRange}
-use Rattle.wb_range.specs.Sequence.{start, direction, or_zero, sequence, IsBound}
+use Rattle.wb_range.specs.Canonical.{bounds_of, IsRange}
+use Rattle.wb_range.specs.Sequence.{start, direction, or_zero, sequence, IsBound, IsWithinLimits}
 use Rattle.wb_range.specs.Steps.{steps, stride_of}
 use Rattle.wb_range.proofs.Bounds.{are_bounds, canonical_one, canonical_many, length-sequence}
 use Rattle.wb_range.proofs.Closed.{Contains-steps}
@@ -15,6 +15,7 @@ use Rattle.wb_range.proofs.Spelling.{AreBoundsOf, bounds_up, bounds_down}
 use Rattle.wb_range.proofs.Steps.{Between-steps, stride_of-steps}
 use Rattle.wb_range.proofs.Walk.{sequence-is}
 use Rattle.wb_literal.specs.Integer.{IsWithin}
+use Rattle.wb_literal.specs.RangeText.{IsStride}
 use Rattle.wb_text.proofs.ReadRanges.{IsSpelled}
 
 -- ---- numbers of 64 bits
@@ -29,13 +30,23 @@ stride_within a (negsuc n) b l = omega (arith, ints, b.high, l.low)
 
 -- ---- from the bounds to the parts
 
-spelled_by : (low high : ℤ) (xs : List ℤ) → AreBoundsOf xs low high → IsWithin (stride_of xs) → IsSpelled xs
-spelled_by low high xs b s =
+-- the bounds and the stride give the range back, within the limits, and the stride isn't 0
+pub record IsBounded (xs : List ℤ) : Type 0 where
+  pub spelled : IsSpelled xs
+  pub nonzero : stride_of xs ≢ pos 0
+  pub limits : IsWithinLimits (bounds_of xs).0 (bounds_of xs).1 (stride_of xs) None
+
+bounded_by : (low high : ℤ) (xs : List ℤ) → AreBoundsOf xs low high → IsStride (Some (stride_of xs)) → IsBounded xs
+bounded_by low high xs b s =
     record {
-      spelled = ap (λ (p : ℤ × ℤ). sequence p.0 p.1 (stride_of xs) None) (sym b.value) ∙ b.spelled;
-      low = subst IsWithin (ap (λ (p : ℤ × ℤ). p.0) b.value) (bound_within low b.within.low_bound);
-      high = subst IsWithin (ap (λ (p : ℤ × ℤ). p.1) b.value) (bound_within high b.within.high_bound);
-      stride = s;
+      spelled = record {
+        spelled = ap (λ (p : ℤ × ℤ). sequence p.0 p.1 (stride_of xs) None) (sym b.value) ∙ b.spelled;
+        low = subst IsWithin (ap (λ (p : ℤ × ℤ). p.0) b.value) (bound_within low b.within.low_bound);
+        high = subst IsWithin (ap (λ (p : ℤ × ℤ). p.1) b.value) (bound_within high b.within.high_bound);
+        stride = s.0;
+      };
+      nonzero = s.1;
+      limits = subst (λ (p : ℤ × ℤ). IsWithinLimits p.0 p.1 (stride_of xs) None) b.value b.within;
     }
 
 -- ---- a sequence as numbers at equal distances
@@ -50,9 +61,6 @@ least_count (suc n) m h =
       | inl l ↦ (c, omega (arith, l), omega (arith, high))
       | inr g ↦ (suc c, omega (arith, g, h, low), omega (arith, g))
     ]
-
-no_rest : (m : ℕ) → 0 % m ≡ 0
-no_rest m = let e : 0 * m ≡ 0 = omega arith in subst (λ (n : ℕ). n % m ≡ 0) e (mul-mod_left 0 m)
 
 -- so many numbers, from the first index on; if there is one, the first and the last are within the bounds
 record AreSteps (xs : List ℤ) : Type 0 where
@@ -75,7 +83,7 @@ steps_of xs r =
     let count = least_count n m some in
     let c = count.0 in let low = count.1 in let high = count.2 in
     let zero_off : 0 ≡ unsigned_abs (st -ℤ st) = omega (arith, ints) in
-    let is = sequence-is r.low r.high s None st st n 0 c m r.nonzero refl refl refl refl some (no_offset st s st 0 m refl zero_off (no_rest m)) (omega (arith, low)) (omega (arith, high)) in
+    let is = sequence-is r.low r.high s None st st n 0 c m r.nonzero refl refl refl refl some (no_offset st s st 0 m refl zero_off (zero-mod m)) (omega (arith, low)) (omega (arith, high)) in
     let bounds = λ (nz : c ≢ 0). are_bounds r.low r.high s st 0 c n m r.limits.low_bound r.limits.high_bound refl refl refl nz (omega (arith, high)) in
     record {
       first = st +ℤ pos 0 *ℤ direction s;
@@ -90,36 +98,47 @@ steps_of xs r =
 
 -- ---- ranges
 
-none_spelled : (xs : List ℤ) → [] ≡ xs → IsSpelled xs
-none_spelled xs e = subst IsSpelled e (record { spelled = refl; low = omega arith; high = omega arith; stride = omega arith })
+none_bounded : (xs : List ℤ) → [] ≡ xs → IsBounded xs
+none_bounded xs e = subst IsBounded e (record {
+  spelled = record { spelled = refl; low = omega arith; high = omega arith; stride = omega arith };
+  nonzero = λ z. omega (arith, ints, z);
+  limits = record {
+    low_bound = record { low = omega (arith, ints); high = omega (arith, ints) };
+    high_bound = record { low = omega (arith, ints); high = omega (arith, ints) };
+    count = omega arith;
+  };
+})
 
-one_spelled : (a : ℤ) (xs : List ℤ) → IsBound a → (a ∷ []) ≡ xs → IsSpelled xs
-one_spelled a xs b e =
-    let one : IsWithin (pos 1) = omega arith in
-    spelled_by a _ xs (bounds_up (record { first = a; count = 1; stride = pos 1 }) xs _ (canonical_one a b) e (omega (arith, ints)) (λ z. omega arith) refl) (subst (λ ys. IsWithin (stride_of ys)) e one)
+one_bounded : (a : ℤ) (xs : List ℤ) → IsBound a → (a ∷ []) ≡ xs → IsBounded xs
+one_bounded a xs b e =
+    let one : IsStride (Some (pos 1)) = (omega arith, λ z. omega (arith, ints, z)) in
+    bounded_by a _ xs (bounds_up (record { first = a; count = 1; stride = pos 1 }) xs _ (canonical_one a b) e (omega (arith, ints)) (λ z. omega arith) refl) (subst (λ ys. IsStride (Some (stride_of ys))) e one)
 
-two_spelled : (a s : ℤ) (n : ℕ) (xs : List ℤ) → s ≢ pos 0 → suc (suc n) ≤ 65536 → IsBound a → IsBound (a +ℤ pos (suc (suc n) - 1) *ℤ s) → steps a s (suc (suc n)) ≡ xs → IsWithin (stride_of xs)
-two_spelled a s n xs nz few b l e =
+many_stride : (a s : ℤ) (n : ℕ) (xs : List ℤ) → s ≢ pos 0 → suc (suc n) ≤ 65536 → IsBound a → IsBound (a +ℤ pos (suc (suc n) - 1) *ℤ s) → steps a s (suc (suc n)) ≡ xs → IsStride (Some (stride_of xs))
+many_stride a s n xs nz few b l e =
     let next = Between-steps a s _ _ (suc (suc n)) 1 (omega arith) b.low b.high l.low l.high in
-    subst IsWithin (stride_of-steps a s (suc (suc n)) (λ h. absurd (omega (arith, h))) ∙ ap stride_of e) (stride_within a s b (record { low = next.0; high = next.1 }))
+    subst (λ z. IsStride (Some z)) (stride_of-steps a s (suc (suc n)) (λ h. absurd (omega (arith, h))) ∙ ap stride_of e) (stride_within a s b (record { low = next.0; high = next.1 }), nz)
 
-many_spelled : (a s : ℤ) (n : ℕ) (xs : List ℤ) → s ≢ pos 0 → suc (suc n) ≤ 65536 → IsBound a → IsBound (a +ℤ pos (suc (suc n) - 1) *ℤ s) → steps a s (suc (suc n)) ≡ xs → IsSpelled xs
-many_spelled a (pos k) n xs nz few b l e =
+many_bounded : (a s : ℤ) (n : ℕ) (xs : List ℤ) → s ≢ pos 0 → suc (suc n) ≤ 65536 → IsBound a → IsBound (a +ℤ pos (suc (suc n) - 1) *ℤ s) → steps a s (suc (suc n)) ≡ xs → IsBounded xs
+many_bounded a (pos k) n xs nz few b l e =
     let kept = canonical_many a (pos k) (suc (suc n)) b l nz few (λ z. omega (arith, z)) (λ z. omega (arith, z)) in
-    spelled_by a _ xs (bounds_up (record { first = a; count = suc (suc n); stride = pos k }) xs _ kept e (omega (arith, ints)) (λ z. omega (arith, z)) refl) (two_spelled a (pos k) n xs nz few b l e)
-many_spelled a (negsuc k) n xs nz few b l e =
+    bounded_by a _ xs (bounds_up (record { first = a; count = suc (suc n); stride = pos k }) xs _ kept e (omega (arith, ints)) (λ z. omega (arith, z)) refl) (many_stride a (pos k) n xs nz few b l e)
+many_bounded a (negsuc k) n xs nz few b l e =
     let kept = canonical_many a (negsuc k) (suc (suc n)) b l nz few (λ z. omega (arith, z)) (λ z. omega (arith, z)) in
-    spelled_by _ a xs (bounds_down (record { first = a; count = suc (suc n); stride = negsuc k }) xs _ kept e (omega (arith, ints)) (λ z. omega (arith, z)) refl) (two_spelled a (negsuc k) n xs nz few b l e)
+    bounded_by _ a xs (bounds_down (record { first = a; count = suc (suc n); stride = negsuc k }) xs _ kept e (omega (arith, ints)) (λ z. omega (arith, z)) refl) (many_stride a (negsuc k) n xs nz few b l e)
 
-by_count : (a s : ℤ) (c : ℕ) (xs : List ℤ) → s ≢ pos 0 → c ≤ 65536 → (c ≢ 0 → IsBound a) → (c ≢ 0 → IsBound (a +ℤ pos (c - 1) *ℤ s)) → steps a s c ≡ xs → IsSpelled xs
-by_count a s zero xs nz few b l e = none_spelled xs e
-by_count a s (suc zero) xs nz few b l e = one_spelled a xs (b (λ z. omega (arith, z))) e
-by_count a s (suc (suc n)) xs nz few b l e = many_spelled a s n xs nz few (b (λ z. omega (arith, z))) (l (λ z. omega (arith, z))) e
+by_count : (a s : ℤ) (c : ℕ) (xs : List ℤ) → s ≢ pos 0 → c ≤ 65536 → (c ≢ 0 → IsBound a) → (c ≢ 0 → IsBound (a +ℤ pos (c - 1) *ℤ s)) → steps a s c ≡ xs → IsBounded xs
+by_count a s zero xs nz few b l e = none_bounded xs e
+by_count a s (suc zero) xs nz few b l e = one_bounded a xs (b (λ z. omega (arith, z))) e
+by_count a s (suc (suc n)) xs nz few b l e = many_bounded a s n xs nz few (b (λ z. omega (arith, z))) (l (λ z. omega (arith, z))) e
 
-pub range_spelled : (xs : List ℤ) → IsRange xs → IsSpelled xs
-range_spelled xs r =
+pub range_bounded : (xs : List ℤ) → IsRange xs → IsBounded xs
+range_bounded xs r =
     let parts = steps_of xs r in
     by_count parts.first parts.stride parts.count xs parts.nonzero parts.few parts.head parts.last parts.is
+
+pub range_spelled : (xs : List ℤ) → IsRange xs → IsSpelled xs
+range_spelled xs r = (range_bounded xs r).spelled
 
 -- ---- the indices of a range
 
