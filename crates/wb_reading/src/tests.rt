@@ -3,7 +3,8 @@ use std::test::Fail;
 use wb_book::Book;
 use wb_text::print_book;
 
-const TEXT: &str = "chapel-workbook 1\narray B over S [7, 8] irv 7\nrect D {1..4} cyclicDist(1, [2])\nsparse S of D {2, 4}\nassoc T of text {\"a\", \"b\"}\nend\n";
+const TEXT: &str =
+    "chapel-workbook 1\narray B over S [7, 8] irv 7\nrect D {1..4} cyclicDist(1, [2])\nsparse S of D {2, 4}\nassoc T of text {\"a\", \"b\"}\nend\n";
 
 #[test]
 fn a_text_and_its_workbook(rt: HostRuntime) -> Result<(), Fail> {
