@@ -135,12 +135,99 @@ const EVERY_KIND: [(&str, &str); 23] = [
     ),
 ];
 
+// Ranges with a stride, upward and downward: their elements stand in their order.
+const STRIDED_AND_ALIGNED: [(&str, &str); 11] = [
+    (
+        "{\"op\":\"domain\",\"d\":\"D\",\"is\":\"{-5..5 by 4 align 1}\"}",
+        "{\"edit\":1,\"n\":3}\n",
+    ),
+    (
+        "{\"op\":\"array\",\"a\":\"A\",\"d\":\"D\"}",
+        "{\"edit\":2,\"n\":6}\n",
+    ),
+    ("{\"op\":\"size\",\"d\":\"D\"}", "{\"size\":3}\n"),
+    (
+        "{\"op\":\"set\",\"a\":\"A\",\"i\":-3,\"v\":1}",
+        "{\"edit\":3,\"n\":1}\n",
+    ),
+    (
+        "{\"op\":\"set\",\"a\":\"A\",\"i\":5,\"v\":3}",
+        "{\"edit\":4,\"n\":1}\n",
+    ),
+    (
+        "{\"op\":\"get\",\"a\":\"A\",\"i\":-5}",
+        "{\"error\":\"E06\",\"name\":\"out-of-domain\"}\n",
+    ),
+    (
+        "{\"op\":\"domain\",\"d\":\"E\",\"is\":\"{1..10 by -3}\"}",
+        "{\"edit\":5,\"n\":3}\n",
+    ),
+    (
+        "{\"op\":\"array\",\"a\":\"B\",\"d\":\"E\"}",
+        "{\"edit\":6,\"n\":7}\n",
+    ),
+    (
+        "{\"op\":\"set\",\"a\":\"B\",\"i\":10,\"v\":1}",
+        "{\"edit\":7,\"n\":1}\n",
+    ),
+    (
+        "{\"op\":\"set\",\"a\":\"B\",\"i\":1,\"v\":4}",
+        "{\"edit\":8,\"n\":1}\n",
+    ),
+    (
+        "{\"op\":\"print\"}",
+        "{\"text\":\"chapel-workbook 1\\narray A over D [1, 0, 3]\\narray B over E [1, 0, 0, 4]\\nrect D {-3..5 by 4} none\\nrect E {1..10 by -3} none\\nend\\n\"}\n",
+    ),
+];
+
+// Each range has one spelling, whatever it was spelled as.
+const SPELLINGS_OF_RANGES: [(&str, &str); 9] = [
+    (
+        "{\"op\":\"domain\",\"d\":\"P\",\"is\":\"{1..10 by -2}\"}",
+        "{\"edit\":1,\"n\":3}\n",
+    ),
+    (
+        "{\"op\":\"domain\",\"d\":\"Q\",\"is\":\"{1..10 by 2 align 0}\"}",
+        "{\"edit\":2,\"n\":3}\n",
+    ),
+    (
+        "{\"op\":\"domain\",\"d\":\"R\",\"is\":\"{5..#3}\"}",
+        "{\"edit\":3,\"n\":3}\n",
+    ),
+    (
+        "{\"op\":\"domain\",\"d\":\"S\",\"is\":\"{5..#0}\"}",
+        "{\"edit\":4,\"n\":3}\n",
+    ),
+    (
+        "{\"op\":\"domain\",\"d\":\"T\",\"is\":\"{3..<3}\"}",
+        "{\"edit\":5,\"n\":3}\n",
+    ),
+    (
+        "{\"op\":\"domain\",\"d\":\"U\",\"is\":\"{1..10 by -9223372036854775808}\"}",
+        "{\"edit\":6,\"n\":3}\n",
+    ),
+    (
+        "{\"op\":\"domain\",\"d\":\"V\",\"is\":\"{1..10 by 0}\"}",
+        "{\"error\":\"E02\",\"name\":\"bad-literal\"}\n",
+    ),
+    (
+        "{\"op\":\"domain\",\"d\":\"V\",\"is\":\"{5..#-1}\"}",
+        "{\"error\":\"E02\",\"name\":\"bad-literal\"}\n",
+    ),
+    (
+        "{\"op\":\"print\"}",
+        "{\"text\":\"chapel-workbook 1\\nrect P {2..10 by -2} none\\nrect Q {2..10 by 2} none\\nrect R {5..7} none\\nrect S {1..0} none\\nrect T {1..0} none\\nrect U {10..10} none\\nend\\n\"}\n",
+    ),
+];
+
 #[test]
 fn texts_of_workbooks(rt: HostRuntime) -> Result<(), Fail> {
-    let tables: [(Rows, u64, u128); 3] = [
+    let tables: [(Rows, u64, u128); 5] = [
         (&NOTHING, 0, 0),
         (&FIRST_RUN, 3, 19),
         (&EVERY_KIND, 22, 52),
+        (&STRIDED_AND_ALIGNED, 8, 23),
+        (&SPELLINGS_OF_RANGES, 6, 18),
     ];
     all_answers(&rt, rt.alloc(), &[], &tables)
 }
