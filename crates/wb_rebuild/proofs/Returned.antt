@@ -1,6 +1,6 @@
 -- What the lines of a well-formed workbook tell of its cells is what stands in them.
 use Rattle.std.proofs.Common.{◌≡◌, ℕ, suc, ℤ, pos, Bool, true, false, ◌||◌, cond, List, [], ◌∷◌, length, Option, Some, None, is_some, option_map, unwrap_or, refl, sym, ap, ◌∙◌, subst}
-use Rattle.std.specs.Cmp.{Equal-is, eq_by_cmp_equiv}
+use Rattle.std.specs.Cmp.{Equal-is}
 use Rattle.std.specs.FinMap.{get}
 use Rattle.std.specs.List.{filter_map, cons_option, zip}
 use Rattle.wb_dist.specs.Maps.{whole}
@@ -14,29 +14,22 @@ use Rattle.wb_book.specs.declared.cells.value.Binding.TheVariants as bindings
 use Rattle.wb_book.specs.declared.cells.value.Value.{Value}
 use Rattle.wb_book.specs.declared.cells.value.Value.TheVariants as values
 use Rattle.wb_book.specs.declared.values.index.Index.{Index}
-use Rattle.wb_book.specs.Cells.{Name, Cells, cell_order, index_cmp, index_cmp-IsAntisymmetric, is_same_name, is_same_index}
+use Rattle.wb_book.specs.Cells.{Name, Cells, index_cmp, index_cmp-IsAntisymmetric, is_same_name, is_same_index}
 use Rattle.wb_book.specs.Kinds.{kind_of}
 use Rattle.wb_book.specs.Locales.{mapping_in}
 use Rattle.wb_book.specs.Readers.{indices_at}
 use Rattle.wb_book.specs.Shapes.{Range, indices}
-use Rattle.wb_book.specs.WellFormed.{IsWellFormed, IsShape, HasMapping, IsMember, MayHave, IsImplicit, IsElement, IsNumber, domain_in, domain_at, array_in, ranges_in, inside_of, use_of, has, present_if, index_cell, is_index_of_array}
+use Rattle.wb_book.specs.WellFormed.{IsWellFormed, IsShape, HasMapping, IsMember, MayHave, IsImplicit, IsElement, domain_in, domain_at, array_in, ranges_in, inside_of, use_of, has, present_if, is_index_of_array}
 use Rattle.wb_text.specs.Lines.{indices_in, number_in, element_at, elements_at, implicit_in}
 use Rattle.wb_text.specs.Said.{Line, line_in, domain_said, said_in, said}
 use Rattle.wb_text.proofs.LineOfName.{line_of_name}
+use Rattle.wb_text.proofs.Readable.{Each}
+use Rattle.wb_text.proofs.ReadIndices.{some_same}
+use Rattle.wb_text.proofs.SameCells.{all_there, element_by}
+use Rattle.wb_text.proofs.SameDomains.{none_some, domain_object, domain_line, rank_known}
 use Rattle.wb_text.proofs.SameMembers.{member_listed}
 use Rattle.wb_rebuild.specs.Inserted.{or_else, last_of}
 use Rattle.wb_rebuild.specs.Told.{ranges_told, rank_told, kind_told, indices_told, implicit_told, is_domain, told_by, told}
-
-some_same : {X : Type 0} (x y : X) → Some x ≡ Some y → x ≡ y
-some_same x y e = cc
-
-none_some : {X Y : Type 0} (x : X) → None ≡ Some x → Y
-none_some x e = cc
-
-pub domain_object : (o : Option Value) (kind : DomainKind) → domain_in o ≡ Some kind → o ≡ Some (values.Domain kind)
-domain_object None kind e = none_some kind e
-domain_object (Some (values.Domain k)) kind e = ap (λ x. Some (values.Domain x)) (some_same k kind e)
-domain_object (Some v) kind e = none_some kind e
 
 cond_else : (b : Bool) (v : Value) → cond b (Some v) None ≡ elim b [ true ↦ Some v | false ↦ None ]
 cond_else true v = refl
@@ -44,15 +37,18 @@ cond_else false v = refl
 
 -- ---- a column of elements
 
+there_is : (o : Option ℤ) → is_some o ≡ true → (z : ℤ) × (o ≡ Some z)
+there_is None e = cc
+there_is (Some z) e = (z, refl)
+
 -- each index has a value by the function
 abbrev pub HasEach : (Index → Option ℤ) → List Index → Type 0
-HasEach f [] = Unit {0}
-HasEach f (i ∷ is) = ((z : ℤ) × (f i ≡ Some z)) × HasEach f is
+HasEach f is = Each (λ i. is_some (f i) ≡ true) is
 
 pub column_length : (f : Index → Option ℤ) (is : List Index) → HasEach f is → length is ≡ length (filter_map f is)
 column_length f [] h = refl
 column_length f (i ∷ is) h =
-    ap suc (column_length f is h.1) ∙ sym (ap (λ o. length (cons_option o (filter_map f is))) h.0.1)
+    ap suc (column_length f is h.1) ∙ sym (ap (λ o. length (cons_option o (filter_map f is))) (there_is (f i) h.0).1)
 
 one_last : (f : Index → Option ℤ) (i j : Index) (b : Bool) (z : ℤ) → f j ≡ Some z → or_else (cond b (f i) None) (cond (is_same_index i j) (Some z) None) ≡ cond (is_same_index i j || b) (f i) None
 one_last f i j b z e =
@@ -70,23 +66,10 @@ one_last f i j b z e =
 pub column_last : (f : Index → Option ℤ) (is : List Index) (i : Index) → HasEach f is → last_of index_cmp (zip is (filter_map f is)) i ≡ cond (has is i) (f i) None
 column_last f [] i h = refl
 column_last f (j ∷ is) i h =
-    ap (λ o. last_of index_cmp (zip (j ∷ is) (cons_option o (filter_map f is))) i) h.0.1
-    ∙ ap (λ o. or_else o (cond (is_same_index i j) (Some h.0.0) None)) (column_last f is i h.1)
-    ∙ one_last f i j (has is i) h.0.0 h.0.1
-
-index_itself : (i : Index) → is_same_index i i ≡ true
-index_itself i = (eq_by_cmp_equiv cell_order.total).refl (Member [] i)
-
-or_right : (a b : Bool) → b ≡ true → a || b ≡ true
-or_right true b e = refl
-or_right false b e = e
-
-has_each : (f : Index → Option ℤ) (is : List Index) → ((i : Index) → has is i ≡ true → (z : ℤ) × (f i ≡ Some z)) → HasEach f is
-has_each f [] h = tt
-has_each f (j ∷ is) h = (h j (ap (λ b. b || has is j) (index_itself j)), has_each f is (λ i e. h i (or_right (is_same_index i j) (has is i) e)))
-
-number_there : (v : Option Value) → IsNumber v → (z : ℤ) × (number_in v ≡ Some z)
-number_there v h = (h.0, ap number_in h.1)
+    let one = there_is (f j) h.0 in
+    ap (λ o. last_of index_cmp (zip (j ∷ is) (cons_option o (filter_map f is))) i) one.1
+    ∙ ap (λ o. or_else o (cond (is_same_index i j) (Some one.0) None)) (column_last f is i h.1)
+    ∙ one_last f i j (has is i) one.0 one.1
 
 number_back : (b : Bool) (v : Option Value) → IsElement b v → option_map (λ z. values.Number z) (cond b (number_in v) None) ≡ v
 number_back true v h = ap (λ x. option_map (λ z. values.Number z) (number_in x)) h.1 ∙ sym h.1
@@ -104,38 +87,35 @@ module _ (w : Cells) (well : IsWellFormed w) where
   abbrev pub ranges_at : Name → List Range
   ranges_at d = unwrap_or (ranges_in (get w (Shape d))) []
 
-  pub rank_at : (d : Name) (rank : ℕ) → domain_at w d ≡ Some (domains.Rectangular rank) → length (ranges_at d) ≡ rank
-  rank_at d rank is = let shape = shape_of d rank is in ap (λ v. length (unwrap_or (ranges_in v) [])) shape.1 ∙ shape.2.dimensions
-
-  pub domain_line : (d : Name) (kind : DomainKind) → domain_at w d ≡ Some kind → line_in d ls ≡ Some (domain_said w d kind)
-  domain_line d kind e = line_of_name w d ∙ ap (said_in w d) (domain_object (get w (Object d)) kind e)
+  line_of_domain : (d : Name) (kind : DomainKind) → domain_at w d ≡ Some kind → line_in d ls ≡ Some (domain_said w d kind)
+  line_of_domain d kind e = line_of_name w d ∙ domain_line w d kind e
 
   pub ranges_line : (d : Name) (rank : ℕ) → domain_at w d ≡ Some (domains.Rectangular rank) → ranges_told (line_in d ls) ≡ Some (ranges_at d)
-  ranges_line d rank is = ap ranges_told (domain_line d (domains.Rectangular rank) is)
+  ranges_line d rank is = ap ranges_told (line_of_domain d (domains.Rectangular rank) is)
 
   pub rank_line : (d : Name) (rank : ℕ) → domain_at w d ≡ Some (domains.Rectangular rank) → rank_told (line_in d ls) ≡ rank
-  rank_line d rank is = ap (λ o. length (unwrap_or o [])) (ranges_line d rank is) ∙ rank_at d rank is
+  rank_line d rank is = ap (λ o. length (unwrap_or o [])) (ranges_line d rank is) ∙ rank_known w d rank well is
 
   -- ---- the domain of an array
 
   domain_kind : (d : Name) (o : Option DomainKind) (kind : Kind) → domain_at w d ≡ o → option_map kind_of o ≡ Some kind → kind_told ls (line_in d ls) ≡ kind
   domain_kind d None kind is e = none_some kind e
   domain_kind d (Some (domains.Rectangular rank)) kind is e =
-      ap (kind_told ls) (domain_line d (domains.Rectangular rank) is) ∙ ap Rectangular (rank_at d rank is) ∙ some_same (Rectangular rank) kind e
+      ap (kind_told ls) (line_of_domain d (domains.Rectangular rank) is) ∙ ap Rectangular (rank_known w d rank well is) ∙ some_same (Rectangular rank) kind e
   domain_kind d (Some (domains.Sparse parent rank)) kind is e =
-      ap (kind_told ls) (domain_line d (domains.Sparse parent rank) is)
+      ap (kind_told ls) (line_of_domain d (domains.Sparse parent rank) is)
       ∙ ap Sparse (rank_line parent rank (well.objects d _ (domain_object (get w (Object d)) (domains.Sparse parent rank) is)))
       ∙ some_same (Sparse rank) kind e
-  domain_kind d (Some (domains.Associative type)) kind is e = ap (kind_told ls) (domain_line d (domains.Associative type) is) ∙ some_same (Associative type) kind e
+  domain_kind d (Some (domains.Associative type)) kind is e = ap (kind_told ls) (line_of_domain d (domains.Associative type) is) ∙ some_same (Associative type) kind e
 
   pub kind_line : (d : Name) (kind : Kind) → option_map kind_of (domain_at w d) ≡ Some kind → kind_told ls (line_in d ls) ≡ kind
   kind_line d kind e = domain_kind d (domain_at w d) kind refl e
 
   domain_is : (d : Name) (o : Option DomainKind) (kind : Kind) → domain_at w d ≡ o → option_map kind_of o ≡ Some kind → is_domain (line_in d ls) ≡ true
   domain_is d None kind is e = none_some kind e
-  domain_is d (Some (domains.Rectangular rank)) kind is e = ap is_domain (domain_line d (domains.Rectangular rank) is)
-  domain_is d (Some (domains.Sparse parent rank)) kind is e = ap is_domain (domain_line d (domains.Sparse parent rank) is)
-  domain_is d (Some (domains.Associative type)) kind is e = ap is_domain (domain_line d (domains.Associative type) is)
+  domain_is d (Some (domains.Rectangular rank)) kind is e = ap is_domain (line_of_domain d (domains.Rectangular rank) is)
+  domain_is d (Some (domains.Sparse parent rank)) kind is e = ap is_domain (line_of_domain d (domains.Sparse parent rank) is)
+  domain_is d (Some (domains.Associative type)) kind is e = ap is_domain (line_of_domain d (domains.Associative type) is)
 
   pub is_domain_line : (d : Name) (kind : Kind) → option_map kind_of (domain_at w d) ≡ Some kind → is_domain (line_in d ls) ≡ true
   is_domain_line d kind e = domain_is d (domain_at w d) kind refl e
@@ -148,9 +128,9 @@ module _ (w : Cells) (well : IsWellFormed w) where
   domain_indices : (d : Name) (o : Option DomainKind) (kind : Kind) → domain_at w d ≡ o → option_map kind_of o ≡ Some kind → indices_told (line_in d ls) ≡ indices_in w d kind
   domain_indices d None kind is e = none_some kind e
   domain_indices d (Some (domains.Rectangular rank)) kind is e =
-      ap indices_told (domain_line d (domains.Rectangular rank) is) ∙ indices_by d rank is ∙ ap (indices_in w d) (some_same (Rectangular rank) kind e)
-  domain_indices d (Some (domains.Sparse parent rank)) kind is e = ap indices_told (domain_line d (domains.Sparse parent rank) is) ∙ ap (indices_in w d) (some_same (Sparse rank) kind e)
-  domain_indices d (Some (domains.Associative type)) kind is e = ap indices_told (domain_line d (domains.Associative type) is) ∙ ap (indices_in w d) (some_same (Associative type) kind e)
+      ap indices_told (line_of_domain d (domains.Rectangular rank) is) ∙ indices_by d rank is ∙ ap (indices_in w d) (some_same (Rectangular rank) kind e)
+  domain_indices d (Some (domains.Sparse parent rank)) kind is e = ap indices_told (line_of_domain d (domains.Sparse parent rank) is) ∙ ap (indices_in w d) (some_same (Sparse rank) kind e)
+  domain_indices d (Some (domains.Associative type)) kind is e = ap indices_told (line_of_domain d (domains.Associative type) is) ∙ ap (indices_in w d) (some_same (Associative type) kind e)
 
   pub indices_line : (d : Name) (kind : Kind) → option_map kind_of (domain_at w d) ≡ Some kind → indices_told (line_in d ls) ≡ indices_in w d kind
   indices_line d kind e = domain_indices d (domain_at w d) kind refl e
@@ -159,7 +139,7 @@ module _ (w : Cells) (well : IsWellFormed w) where
 
   object_back : (n : Name) (o : Option Value) → get w (Object n) ≡ o → told_by ls (said_in w n o) (Object n) ≡ o
   object_back n None e = refl
-  object_back n (Some (values.Domain (domains.Rectangular rank))) e = ap (λ k. Some (values.Domain (domains.Rectangular k))) (rank_at n rank (ap domain_in e))
+  object_back n (Some (values.Domain (domains.Rectangular rank))) e = ap (λ k. Some (values.Domain (domains.Rectangular k))) (rank_known w n rank well (ap domain_in e))
   object_back n (Some (values.Domain (domains.Sparse parent rank))) e = ap (λ k. Some (values.Domain (domains.Sparse parent k))) (rank_line parent rank (well.objects n _ e))
   object_back n (Some (values.Domain (domains.Associative type))) e = refl
   object_back n (Some (values.Array d kind)) e = ap (λ k. Some (values.Array d k)) (kind_line d kind (well.objects n _ e))
@@ -232,39 +212,15 @@ module _ (w : Cells) (well : IsWellFormed w) where
       ap (λ k. Some (values.Number (implicit_told k (implicit_in w n kind)))) (kind_line d kind (well.objects n _ e)) ∙ implicit_kind n d kind h
   implicit_back n (Some v) e h = sym h
 
-  -- an index of the domain of an array is among its indices
-  index_listed : (d : Name) (i : Index) (o : Option DomainKind) (kind : Kind) → domain_at w d ≡ o → option_map kind_of o ≡ Some kind → is_some (get w (index_cell kind d i)) ≡ has (indices_in w d kind) i
-  index_listed d i None kind is e = none_some kind e
-  index_listed d i (Some (domains.Rectangular rank)) kind is e =
-      let shape = shape_of d rank is in
-      subst (λ k. is_some (get w (index_cell k d i)) ≡ has (indices_in w d k) i) (some_same (Rectangular rank) kind e)
-      (ap is_some (well.insides d i ∙ ap (λ v. inside_of (ranges_in v) i) shape.1) ∙ is_there (has (indices shape.0) i)
-      ∙ ap (λ rs. has (indices rs) i) (sym (ap (λ v. unwrap_or (ranges_in v) []) shape.1)) ∙ ap (λ is. has is i) (indices_by d rank is))
-    where
-      is_there : (b : Bool) → is_some (present_if b) ≡ b
-      is_there true = refl
-      is_there false = refl
-  index_listed d i (Some (domains.Sparse parent rank)) kind is e =
-      subst (λ k. is_some (get w (index_cell k d i)) ≡ has (indices_in w d k) i) (some_same (Sparse rank) kind e) (member_listed w d i)
-  index_listed d i (Some (domains.Associative type)) kind is e =
-      subst (λ k. is_some (get w (index_cell k d i)) ≡ has (indices_in w d k) i) (some_same (Associative type) kind e) (member_listed w d i)
-
-  element_is : (n d : Name) (kind : Kind) (i : Index) → get w (Object n) ≡ Some (values.Array d kind) → IsElement (has (indices_in w d kind) i) (get w (Element n i))
-  element_is n d kind i e =
-      let stands : IsElement (is_index_of_array w (Some (d, kind)) i) (get w (Element n i)) = subst (λ o. IsElement (is_index_of_array w o i) (get w (Element n i))) (ap array_in e) (well.elements n i) in
-      subst (λ b. IsElement b (get w (Element n i))) (index_listed d i (domain_at w d) kind refl (well.objects n _ e)) stands
-
   pub column : (n d : Name) (kind : Kind) → get w (Object n) ≡ Some (values.Array d kind) → HasEach (element_at w n) (indices_in w d kind)
-  column n d kind e =
-      has_each (element_at w n) (indices_in w d kind) (λ i there.
-      number_there (get w (Element n i)) (subst (λ b. IsElement b (get w (Element n i))) there (element_is n d kind i e)))
+  column n d kind e = all_there w n d kind well (ap array_in e)
 
   element_array : (n d : Name) (kind : Kind) (i : Index) → get w (Object n) ≡ Some (values.Array d kind)
       → option_map (λ z. values.Number z) (last_of index_cmp (zip (indices_told (line_in d ls)) (elements_at w n (indices_in w d kind))) i) ≡ get w (Element n i)
   element_array n d kind i e =
       ap (λ is. option_map (λ z. values.Number z) (last_of index_cmp (zip is (elements_at w n (indices_in w d kind))) i)) (indices_line d kind (well.objects n _ e))
       ∙ ap (option_map (λ z. values.Number z)) (column_last (element_at w n) (indices_in w d kind) i (column n d kind e))
-      ∙ number_back (has (indices_in w d kind) i) (get w (Element n i)) (element_is n d kind i e)
+      ∙ number_back (has (indices_in w d kind) i) (get w (Element n i)) (element_by w n d kind i (has (indices_in w d kind) i) well (ap array_in e) refl)
 
   element_back : (n : Name) (i : Index) (o : Option Value) → get w (Object n) ≡ o → IsElement (is_index_of_array w (array_in o) i) (get w (Element n i)) → told_by ls (said_in w n o) (Element n i) ≡ get w (Element n i)
   element_back n i None e h = sym h

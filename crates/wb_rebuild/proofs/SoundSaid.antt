@@ -1,15 +1,14 @@
 -- What a well-formed workbook says is sound, and its lines are of different names.
-use Rattle.std.proofs.Common.{◌≡◌, ℕ, ◌==◌, Bool, true, false, ◌&&◌, ◌||◌, cond, List, [], ◌∷◌, length, map, Option, Some, None, is_some, unwrap_or, T, refl, sym, ap, ◌∙◌, subst, Ordering, eqb-true}
+use Rattle.std.proofs.Common.{◌≡◌, ℕ, ◌==◌, Bool, true, false, ◌&&◌, cond, List, [], ◌∷◌, length, Option, Some, None, is_some, unwrap_or, refl, sym, ap, ◌∙◌, subst, eqb-true}
 use Rattle.std.proofs.lemmas.Bool.{eq-eqb}
 use Rattle.std.specs.Cmp.Lexicographic.{slice_cmp}
-use Rattle.std.specs.FinMap.{get, entries, entries_sorted}
-use Rattle.std.specs.FinMap.Entries.{is_sorted, below_all}
-use Rattle.std.specs.List.{filter_map, cons_option, list_all, list_any}
-use Rattle.std.specs.Ordering.{is_lt, is_eq, nat_cmp}
-use Rattle.std.specs.declared.cmp.Ordering.TheVariants.{Less, Equal, Greater}
+use Rattle.std.specs.FinMap.{get}
+use Rattle.std.specs.List.{AllByRecursion, filter_map, cons_option, list_all}
+use Rattle.std.specs.List.Sorted.{IsStrictlySortedBy}
+use Rattle.std.specs.Ordering.{is_eq, nat_cmp}
+use Rattle.std.specs.declared.cmp.Ordering.TheVariants.{Less}
 use Rattle.wb_dist.specs.Grid.{are_positive, is_grid}
 use Rattle.wb_dist.specs.Maps.{LayoutMap, whole, block, cyclic, block_cyclic, is_rank, is_box, is_layout}
-use Rattle.wb_book.specs.declared.cells.cell.Cell.{Cell}
 use Rattle.wb_book.specs.declared.cells.cell.Cell.TheVariants.{Object, In, Member, Mapping}
 use Rattle.wb_book.specs.declared.cells.kind.DomainKind.{DomainKind}
 use Rattle.wb_book.specs.declared.cells.kind.DomainKind.TheVariants as domains
@@ -19,20 +18,22 @@ use Rattle.wb_book.specs.declared.cells.kind.Kind.TheVariants.{Associative}
 use Rattle.wb_book.specs.declared.cells.value.Value.{Value}
 use Rattle.wb_book.specs.declared.cells.value.Value.TheVariants as values
 use Rattle.wb_book.specs.declared.values.index.Index.{Index}
-use Rattle.wb_book.specs.Cells.{Name, Cells, cell_cmp, is_same_name}
+use Rattle.wb_book.specs.Cells.{Name, Cells}
 use Rattle.wb_book.specs.Kinds.{is_key}
 use Rattle.wb_book.specs.Layouts.{is_of_rank}
 use Rattle.wb_book.specs.Locales.{mapping_in}
-use Rattle.wb_book.specs.Readers.{object_of, objects}
+use Rattle.wb_book.specs.Readers.{objects}
 use Rattle.wb_book.specs.Shapes.{indices}
-use Rattle.wb_book.specs.WellFormed.{IsWellFormed, HasMapping, IsMember, MayHave, domain_at, domain_in, ranges_in, inside_of, has, present_if}
+use Rattle.wb_book.specs.WellFormed.{IsWellFormed, HasMapping, MayHave, domain_at, domain_in, ranges_in, inside_of, has}
 use Rattle.wb_book.specs.declared.cells.value.Value.TheVariants.{Present}
 use Rattle.wb_text.specs.Lines.{members, indices_in, element_at, elements_at}
 use Rattle.wb_text.specs.Said.{Line, name_of, line_in, said_in, said_of, said}
-use Rattle.wb_text.proofs.MembersWritten.{members_each}
+use Rattle.wb_text.proofs.MembersWritten.{has_members, members_each, present_known}
+use Rattle.wb_text.proofs.NamesAscend.{lines_ascend}
 use Rattle.wb_text.proofs.Readable.{Each}
+use Rattle.wb_text.proofs.SameDomains.{rank_known}
 use Rattle.wb_rebuild.specs.Told.{are_within, is_sound, are_distinct, is_domain, indices_told}
-use Rattle.wb_rebuild.proofs.Returned.{shape_of, rank_at, ranges_at, ranges_line, is_domain_line, indices_line, column, column_length}
+use Rattle.wb_rebuild.proofs.Returned.{shape_of, ranges_at, ranges_line, is_domain_line, indices_line, column, column_length}
 
 -- ---- mappings
 
@@ -71,14 +72,6 @@ each_passes : (p : Index → Bool) (is : List Index) → Each (λ i. p i ≡ tru
 each_passes p [] h = refl
 each_passes p (i ∷ is) h = ap (λ b. b && list_all p is) h.0 ∙ each_passes p is h.1
 
-has_members : (s : Cells) (kind : Option DomainKind) (i : Index) (o : Option Value) → IsMember s kind i o → is_some o ≡ true → MayHave s kind i
-has_members s kind i None m e = cc
-has_members s kind i (Some v) m e = m.1
-
-present_known : (b : Bool) → present_if b ≡ Some Present → b ≡ true
-present_known true e = refl
-present_known false e = cc
-
 module _ (w : Cells) (well : IsWellFormed w) where
   abbrev Is : Option Line → Type 0
   Is None = Unit {0}
@@ -106,7 +99,7 @@ module _ (w : Cells) (well : IsWellFormed w) where
   mapping_sound : (n : Name) (rank : ℕ) → domain_at w n ≡ Some (domains.Rectangular rank) → HasMapping (Some (domains.Rectangular rank)) (get w (Mapping n))
       → is_of_rank (length (ranges_at w well n)) (unwrap_or (mapping_in (get w (Mapping n))) whole) ≡ true
   mapping_sound n rank is h =
-      ap (λ k. is_of_rank k (unwrap_or (mapping_in (get w (Mapping n))) whole)) (rank_at w well n rank is)
+      ap (λ k. is_of_rank k (unwrap_or (mapping_in (get w (Mapping n))) whole)) (rank_known w n rank well is)
       ∙ ap (λ v. is_of_rank rank (unwrap_or (mapping_in v) whole)) h.1 ∙ rank_of_mapping rank h.0 h.2.valid
 
   array_sound : (n d : Name) (kind : Kind) → get w (Object n) ≡ Some (values.Array d kind)
@@ -141,64 +134,14 @@ module _ (w : Cells) (well : IsWellFormed w) where
 
 -- ---- names
 
-abbrev Apart : List Name → Type 0
-Apart [] = Unit {0}
-Apart (n ∷ ns) = (list_any (is_same_name n) ns ≡ false) × Apart ns
+absent : (l : Line) (ls : List Line) → AllByRecursion (λ m. slice_cmp nat_cmp (name_of l) (name_of m) ≡ Less) ls → line_in (name_of l) ls ≡ None
+absent l [] h = refl
+absent l (m ∷ ls) h = ap (λ o. cond (is_eq o) (Some m) (line_in (name_of l) ls)) h.0 ∙ absent l ls h.1
 
-first_true : (a b : Bool) → T (a && b) → T a × T b
-first_true true b p = (tt, p)
-first_true false b p = absurd p
-
-neither : (a b : Bool) → a || b ≡ false → (a ≡ false) × (b ≡ false)
-neither true b e = cc
-neither false b e = (refl, e)
-
-less_other : (o : Ordering) → T (is_lt o) → is_eq o ≡ false
-less_other Less h = refl
-less_other Equal h = absurd h
-less_other Greater h = refl
-
-below_apart : (n : Name) (es : List (Cell × Value)) → T (below_all cell_cmp (Object n) es) → list_any (is_same_name n) (filter_map object_of (map (λ e. e.0) es)) ≡ false
-below_apart n [] h = refl
-below_apart n ((Object m, v) ∷ es) h =
-    let parts = first_true (is_lt (slice_cmp nat_cmp n m)) (below_all cell_cmp (Object n) es) h in
-    ap (λ b. b || list_any (is_same_name n) (filter_map object_of (map (λ e. e.0) es))) (less_other (slice_cmp nat_cmp n m) parts.0) ∙ below_apart n es parts.1
-below_apart n ((c, v) ∷ es) h = below_apart n es (first_true (is_lt (cell_cmp (Object n) c)) (below_all cell_cmp (Object n) es) h).1
-
-sorted_apart : (es : List (Cell × Value)) → T (is_sorted cell_cmp es) → Apart (filter_map object_of (map (λ e. e.0) es))
-sorted_apart [] h = tt
-sorted_apart ((Object n, v) ∷ es) h = let parts = first_true (below_all cell_cmp (Object n) es) (is_sorted cell_cmp es) h in (below_apart n es parts.0, sorted_apart es parts.1)
-sorted_apart ((c, v) ∷ es) h = sorted_apart es (first_true (below_all cell_cmp c es) (is_sorted cell_cmp es) h).1
-
-abbrev IsNamed : Name → Option Line → Type 0
-IsNamed n None = Unit {0}
-IsNamed n (Some l) = name_of l ≡ n
-
-named : (s : Cells) (n : Name) (v : Option Value) → IsNamed n (said_in s n v)
-named s n None = tt
-named s n (Some (values.Domain (domains.Rectangular rank))) = refl
-named s n (Some (values.Domain (domains.Sparse parent rank))) = refl
-named s n (Some (values.Domain (domains.Associative type))) = refl
-named s n (Some (values.Array d kind)) = refl
-named s n (Some v) = tt
-
-another : (n m : Name) (o : Option Line) (ls : List Line) → is_same_name n m ≡ false → IsNamed m o → line_in n ls ≡ None → line_in n (cons_option o ls) ≡ None
-another n m None ls f h e = e
-another n m (Some l) ls f h e = ap (λ k. cond (is_same_name n k) (Some l) (line_in n ls)) h ∙ ap (λ t. cond t (Some l) (line_in n ls)) f ∙ e
-
-absent : (s : Cells) (n : Name) (ns : List Name) → list_any (is_same_name n) ns ≡ false → line_in n (filter_map (said_of s) ns) ≡ None
-absent s n [] h = refl
-absent s n (m ∷ ns) h =
-    let parts = neither (is_same_name n m) (list_any (is_same_name n) ns) h in
-    another n m (said_of s m) (filter_map (said_of s) ns) parts.0 (named s m (get s (Object m))) (absent s n ns parts.1)
-
-distinct_more : (n : Name) (o : Option Line) (ls : List Line) → IsNamed n o → line_in n ls ≡ None → are_distinct ls ≡ true → are_distinct (cons_option o ls) ≡ true
-distinct_more n None ls h e d = d
-distinct_more n (Some l) ls h e d = ap (λ k. cond (is_some (line_in k ls)) false (are_distinct ls)) h ∙ ap (λ o. cond (is_some o) false (are_distinct ls)) e ∙ d
-
-all_distinct : (s : Cells) (ns : List Name) → Apart ns → are_distinct (filter_map (said_of s) ns) ≡ true
-all_distinct s [] h = refl
-all_distinct s (n ∷ ns) h = distinct_more n (said_of s n) (filter_map (said_of s) ns) (named s n (get s (Object n))) (absent s n ns h.0) (all_distinct s ns h.1)
+all_distinct : (ls : List Line) → IsStrictlySortedBy (λ l m. slice_cmp nat_cmp (name_of l) (name_of m)) ls → are_distinct ls ≡ true
+unfolding IsStrictlySortedBy
+all_distinct [] h = refl
+all_distinct (l ∷ ls) h = ap (λ o. cond (is_some o) false (are_distinct ls)) (absent l ls h.0) ∙ all_distinct ls h.1
 
 pub distinct_said : (s : Cells) → are_distinct (said s) ≡ true
-distinct_said s = all_distinct s (objects s) (sorted_apart (entries s) (entries_sorted s))
+distinct_said s = all_distinct (said s) (lines_ascend s)

@@ -1,5 +1,5 @@
 -- Cells as sound lines tell of them are well formed.
-use Rattle.std.proofs.Common.{◌≡◌, ℕ, ℤ, pos, ◌≤◌, Bool, true, false, ◌&&◌, ◌||◌, cond, List, [], ◌∷◌, length, Option, Some, None, is_some, option_map, refl, sym, ap, ◌∙◌, subst, le-leb, eqb-true, ◌==◌, arith, rules}
+use Rattle.std.proofs.Common.{◌≡◌, ℕ, ℤ, pos, ◌≤◌, Bool, true, false, ◌||◌, cond, List, [], ◌∷◌, length, Option, Some, None, is_some, option_map, refl, sym, ap, ◌∙◌, subst, le-leb, eqb-true, ◌==◌, arith, rules}
 use Rattle.std.specs.Prelude.{FitsSigned, IfSome}
 use Rattle.std.proofs.lemmas.List.Elements.{recursion_from_All}
 use Rattle.std.specs.Int.{w64}
@@ -24,19 +24,12 @@ use Rattle.wb_book.specs.Names.{is_name}
 use Rattle.wb_book.specs.Shapes.{indices}
 use Rattle.wb_book.specs.WellFormed.{IsWellFormed, IsObject, IsShape, HasMapping, IsMember, MayHave, IsImplicit, IsElement, domain_in, array_in, ranges_in, inside_of, use_of, has, present_if, index_cell, is_index_of_array}
 use Rattle.wb_text.specs.Said.{Line, rectangular, sparse, associative, array, name_of, line_in}
+use Rattle.wb_text.proofs.Readable.{both}
+use Rattle.wb_text.proofs.ReadIndices.{some_same}
+use Rattle.wb_text.proofs.SameDomains.{none_some}
 use Rattle.wb_rebuild.specs.Inserted.{or_else, last_of}
 use Rattle.wb_rebuild.specs.Made.{IsMade}
 use Rattle.wb_rebuild.specs.Told.{ranges_told, rank_told, kind_told, indices_told, implicit_told, is_domain, are_within, is_sound, told_by, told}
-
-some_same : {X : Type 0} (x y : X) → Some x ≡ Some y → x ≡ y
-some_same x y e = cc
-
-none_some : {X Y : Type 0} (x : X) → None ≡ Some x → Y
-none_some x e = cc
-
-both : (a b : Bool) → a && b ≡ true → (a ≡ true) × (b ≡ true)
-both true b e = (refl, e)
-both false b e = cc
 
 -- ---- what is known of the line of a name
 

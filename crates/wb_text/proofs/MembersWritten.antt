@@ -99,7 +99,7 @@ point_written rank rs (Point []) r e =
     true_false (has_none_of_other_rank rs [] (λ (z : 0 ≡ length rs). omega (arith, z, dims, some)) ∙ e)
 point_written rank rs (Point (i ∷ is)) r e = product_within rs (i ∷ is) (recursion_from_All IsRange rs r.kept) ((has_point rs (i ∷ is)).0 e)
 
-present_known : (b : Bool) → present_if b ≡ Some Present → b ≡ true
+pub present_known : (b : Bool) → present_if b ≡ Some Present → b ≡ true
 present_known true e = refl
 present_known false e = cc
 
@@ -120,7 +120,7 @@ key_written types.Text (Text t) e h = (both (nat_le (length t) 64) (list_all is_
 
 -- ---- members
 
-has_members : (s : Cells) (kind : Option DomainKind) (i : Index) (o : Option Value) → IsMember s kind i o → is_some o ≡ true → MayHave s kind i
+pub has_members : (s : Cells) (kind : Option DomainKind) (i : Index) (o : Option Value) → IsMember s kind i o → is_some o ≡ true → MayHave s kind i
 has_members s kind i None m e = true_false e
 has_members s kind i (Some v) m e = m.1
 

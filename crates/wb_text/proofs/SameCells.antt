@@ -139,14 +139,14 @@ index_listed s d (kinds.Rectangular rank) i w = ap is_some (w.insides d i) ∙ i
 index_listed s d (kinds.Sparse rank) i w = member_listed s d i
 index_listed s d (kinds.Associative type) i w = member_listed s d i
 
-element_by : (s : Cells) (a d : Name) (kind : Kind) (i : Index) (b : Bool) → IsWellFormed s → array_at s a ≡ Some (d, kind) → has (indices_in s d kind) i ≡ b → IsElement b (get s (Element a i))
+pub element_by : (s : Cells) (a d : Name) (kind : Kind) (i : Index) (b : Bool) → IsWellFormed s → array_at s a ≡ Some (d, kind) → has (indices_in s d kind) i ≡ b → IsElement b (get s (Element a i))
 element_by s a d kind i b w e h =
     subst (λ x. IsElement x (get s (Element a i))) (ap (λ o. is_index_of_array s o i) e ∙ index_listed s d kind i w ∙ h) (w.elements a i)
 
 number_there : (o : Option Value) → IsNumber o → is_some (number_in o) ≡ true
 number_there o h = ap (λ x. is_some (number_in x)) h.1
 
-all_there : (s : Cells) (a d : Name) (kind : Kind) → IsWellFormed s → array_at s a ≡ Some (d, kind) → Each (λ i. is_some (element_at s a i) ≡ true) (indices_in s d kind)
+pub all_there : (s : Cells) (a d : Name) (kind : Kind) → IsWellFormed s → array_at s a ≡ Some (d, kind) → Each (λ i. is_some (element_at s a i) ≡ true) (indices_in s d kind)
 all_there s a d kind w e =
     each_among (λ i. is_some (element_at s a i) ≡ true) (indices_in s d kind) (λ i h. number_there (get s (Element a i)) (element_by s a d kind i true w e h))
 

@@ -31,12 +31,12 @@ type_same d e t u is js f = cc
 
 -- ---- objects
 
-domain_object : (o : Option Value) (kind : DomainKind) → domain_in o ≡ Some kind → o ≡ Some (values.Domain kind)
+pub domain_object : (o : Option Value) (kind : DomainKind) → domain_in o ≡ Some kind → o ≡ Some (values.Domain kind)
 domain_object None kind e = none_some kind e
 domain_object (Some (values.Domain k)) kind e = ap (λ x. Some (values.Domain x)) (some_same k kind e)
 domain_object (Some v) kind e = none_some kind e
 
-domain_line : (s : Cells) (d : Name) (kind : DomainKind) → domain_at s d ≡ Some kind → said_of s d ≡ Some (domain_said s d kind)
+pub domain_line : (s : Cells) (d : Name) (kind : DomainKind) → domain_at s d ≡ Some kind → said_of s d ≡ Some (domain_said s d kind)
 domain_line s d kind e = ap (said_in s d) (domain_object (get s (Object d)) kind e)
 
 -- two domains of one name are said alike
@@ -45,7 +45,7 @@ both_said s t same d k l e f = some_same _ _ (sym (domain_line s d k e) ∙ same
 
 -- ---- ranks
 
-rank_known : (s : Cells) (d : Name) (rank : ℕ) → IsWellFormed s → domain_at s d ≡ Some (Rectangular rank) → length (unwrap_or (ranges_in (get s (Shape d))) []) ≡ rank
+pub rank_known : (s : Cells) (d : Name) (rank : ℕ) → IsWellFormed s → domain_at s d ≡ Some (Rectangular rank) → length (unwrap_or (ranges_in (get s (Shape d))) []) ≡ rank
 rank_known s d rank w is =
     let shape : IsShape (Some (Rectangular rank)) (get s (Shape d)) = subst (λ k. IsShape k (get s (Shape d))) is (w.shapes d) in
     ap (λ v. length (unwrap_or (ranges_in v) [])) shape.1 ∙ shape.2.dimensions
