@@ -47,6 +47,7 @@ indices_told _ = []
 
 -- ---- lines that tell of cells
 
+-- whether a line tells of a domain
 abbrev pub is_domain : Option Line → Bool
 is_domain (Some (rectangular d rs m)) = true
 is_domain (Some (sparse d parent is)) = true
@@ -87,20 +88,25 @@ presents make is = map (λ i. (make i, values.Present)) is
 abbrev pub numbers : Name → List (Index × ℤ) → List (Cell × Value)
 numbers a ps = map (λ (p : Index × ℤ). (Element a p.0, values.Number p.1)) ps
 
+-- a rectangular domain: what it is, its ranges, its mapping, and which indices are in it
 abbrev pub rectangular_cells : Name → List Range → LayoutMap → List (Cell × Value)
 rectangular_cells d rs m =
     (Object d, values.Domain (domains.Rectangular (length rs))) ∷ (Shape d, values.Ranges rs) ∷ (Mapping d, values.Mapping m) ∷ presents (In d) (indices rs)
 
+-- a sparse domain: what it is, that it is bound to its parent, and its indices
 abbrev pub sparse_cells : Name → Name → ℕ → List Index → List (Cell × Value)
 sparse_cells d parent rank is = (Object d, values.Domain (domains.Sparse parent rank)) ∷ (Use parent d, values.Bound bindings.Sparse) ∷ presents (Member d) is
 
+-- an associative domain: what it is, and its indices
 abbrev pub associative_cells : Name → KeyType → List Index → List (Cell × Value)
 associative_cells d type is = (Object d, values.Domain (domains.Associative type)) ∷ presents (Member d) is
 
+-- an array: what it is, that it is bound to its domain, its implicit value, and its elements
 abbrev pub array_cells : Name → Name → Kind → List Index → List ℤ → Option ℤ → List (Cell × Value)
 array_cells a d kind is xs irv =
     (Object a, values.Array d kind) ∷ (Use d a, values.Bound bindings.Array) ∷ (Implicit a, values.Number (implicit_told kind irv)) ∷ numbers a (zip is xs)
 
+-- the cells that a line tells of, among all lines
 abbrev pub cells_of : List Line → Line → List (Cell × Value)
 cells_of ls (rectangular d rs m) = rectangular_cells d rs m
 cells_of ls (sparse d parent is) = sparse_cells d parent (rank_told (line_in parent ls)) is
@@ -142,9 +148,11 @@ told_of ls (array a d xs irv) (Implicit n) = Some (values.Number (implicit_told 
 told_of ls (array a d xs irv) (Element n i) = option_map (λ z. values.Number z) (last_of index_cmp (zip (indices_told (line_in d ls)) xs) i)
 told_of ls l c = None
 
+-- the same, if there is such a line
 abbrev pub told_by : List Line → Option Line → Cell → Option Value
 told_by ls None c = None
 told_by ls (Some l) c = told_of ls l c
 
+-- what the lines tell of a cell: what the line of its owner does
 abbrev pub told : List Line → Cell → Option Value
 told ls c = told_by ls (line_in (owner c) ls) c
