@@ -1,19 +1,18 @@
 -- Indices and grids: what is spelled is read, and what is read is spelled.
-use Rattle.std.proofs.Common.{◌≡◌, ◌↔◌, inl, inr, ℕ, ℤ, List, [], ◌∷◌, ◌++◌, codes, Option, Some, None, option_map, option_and_then, refl, ap, ◌∙◌, subst, arith}
+use Rattle.std.proofs.Common.{◌≡◌, inl, inr, ℕ, ℤ, List, [], ◌∷◌, ◌++◌, codes, Option, Some, None, option_map, option_and_then, refl, ap, ◌∙◌, subst, arith}
 use Rattle.std.proofs.lemmas.Option.{option_and_then_some}
 use Rattle.std.specs.Option.{option_map_or}
 use Rattle.wb_literal.specs.Integer.{integer_at}
 use Rattle.wb_literal.specs.Spelling.{IsInteger}
 use Rattle.wb_literal.specs.Tokens.{skip_spaces, after_token, close_at}
-use Rattle.wb_literal.specs.Index.{next_integer_at, third_place_at, tuple_at, index_at, index_of, third_extent_at, second_extent_at, grid_at}
+use Rattle.wb_literal.specs.Index.{next_integer_at, third_place_at, tuple_at, index_at, third_extent_at, second_extent_at, grid_at}
 use Rattle.wb_literal.specs.Grammar.{IsEnclosed, extents_of, IsGrid, places_of, IsIndex}
 use Rattle.wb_literal.specs.declared.index.IndexLiteral.{IndexLiteral}
 use Rattle.wb_literal.specs.declared.index.IndexLiteral.TheVariants as indices
 use Rattle.wb_literal.specs.declared.index.GridLiteral.{GridLiteral}
 use Rattle.wb_literal.specs.declared.index.GridLiteral.TheVariants as grids
-use Rattle.wb_literal.proofs.Exact.{exact}
 use Rattle.wb_literal.proofs.Spelled.{integer_read, integer_found}
-use Rattle.wb_literal.proofs.RangeGrammar.{Ends, Found, Starts, ends_nil, ends_digits, integer_starts, starts_unspaced}
+use Rattle.wb_literal.proofs.RangeGrammar.{Ends, Found, Starts, ends_digits, integer_starts, starts_unspaced}
 use Rattle.wb_literal.proofs.TokenLemmas.{not_after, mapped}
 use Rattle.wb_literal.proofs.ListGrammar.{Reads, parenthesis, bracket, enclosed_read, enclosed_found, end_read, last_found, more_found, more_read, ends_read, goes_read, on_found}
 
@@ -119,6 +118,3 @@ index_by None bytes rest y o e = mapped {B = IndexLiteral × List ℕ} (λ (i : 
 
 pub index_found : (bytes rest : List ℕ) (y : IndexLiteral) → index_at bytes ≡ Some (y, rest) → Found IsIndex bytes y rest
 index_found bytes rest y e = index_by (after_token (codes "(") bytes) bytes rest y refl e
-
-pub index_exact : (text : List ℕ) (y : IndexLiteral) → (index_of text ≡ Some y) ↔ IsIndex text y
-index_exact = exact index_at IsIndex index_found (λ text y h. index_read text [] y h ends_nil)

@@ -1,7 +1,7 @@
 -- Indices and grids at the front of a text.
 use Rattle.std.specs.Prelude.{ℕ, ℤ, List, codes, Option, option_map, option_and_then}
 use Rattle.std.specs.Option.{option_map_or}
-use Rattle.wb_literal.specs.Tokens.{after_token, comma_at, close_at, whole}
+use Rattle.wb_literal.specs.Tokens.{after_token, comma_at, close_at}
 use Rattle.wb_literal.specs.Integer.{integer_at}
 use Rattle.wb_literal.specs.declared.index.IndexLiteral.{IndexLiteral}
 use Rattle.wb_literal.specs.declared.index.IndexLiteral.TheVariants as indices
@@ -34,6 +34,3 @@ second_extent_at i bytes = option_map_or (λ j. third_extent_at i j.0 j.1) (next
 -- 1 to 3 integers in brackets
 abbrev pub grid_at : List ℕ → Option (GridLiteral × List ℕ)
 grid_at bytes = option_and_then (λ inside. option_and_then (λ i. second_extent_at i.0 i.1) (integer_at inside)) (after_token (codes "[") bytes)
-
-abbrev pub index_of : List ℕ → Option IndexLiteral
-index_of text = whole index_at text

@@ -1,8 +1,6 @@
 // Indices and grids.
-ghost use Rattle.std.specs.Prelude.{◌≡◌, ◌↔◌, ℕ, ℤ, List, Some, None, codes, option_map, option_and_then};
-ghost use Rattle.wb_literal.specs.Index.{next_integer_at, third_place_at, tuple_at, index_at, third_extent_at, second_extent_at, grid_at, index_of};
-ghost use Rattle.wb_literal.specs.Grammar.{IsIndex};
-ghost use Rattle.wb_literal.specs.declared.index.IndexLiteral.{IndexLiteral};
+ghost use Rattle.std.specs.Prelude.{◌≡◌, ℕ, ℤ, List, Some, None, codes, option_map, option_and_then};
+ghost use Rattle.wb_literal.specs.Index.{next_integer_at, third_place_at, tuple_at, index_at, third_extent_at, second_extent_at, grid_at};
 
 use crate::integer::integer_at;
 use crate::tokens::{after_token, close_at, comma_at};
@@ -96,21 +94,4 @@ pub fn grid_at(bytes: &[u8]) -> Option<(GridLiteral, &[u8])>
     let inside = after_token(b"[", bytes)?;
     let (i, rest) = integer_at(inside)?;
     second_extent_at(i, rest)
-}
-
-// The index that all of the bytes spell.
-fn whole_index(bytes: &[u8]) -> Option<IndexLiteral>
-    ensures { result ≡ index_of bytes.now }
-{
-    let (index, rest) = index_at(bytes)?;
-    if rest.len() == 0 { Some(index) } else { None }
-}
-
-/// The index of numbers that a text spells. A text is read just where the grammar spells the index
-/// by it.
-pub fn read_index(text: &str) -> Option<IndexLiteral>
-    ensures value { result ≡ index_of text.now }
-    ensures spelling { (i : IndexLiteral) → (result ≡ Some i) ↔ IsIndex text.now i }
-{
-    whole_index(text.as_bytes())
 }

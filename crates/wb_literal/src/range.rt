@@ -1,8 +1,6 @@
 // Ranges.
-ghost use Rattle.std.specs.Prelude.{◌≡◌, ◌↔◌, ℕ, ℤ, List, Some, None, codes, option_map, option_and_then};
-ghost use Rattle.wb_literal.specs.Range.{upper_at, align_at, nonzero_at, stride_at, range_at, range_of};
-ghost use Rattle.wb_literal.specs.Grammar.{IsRange};
-ghost use Rattle.wb_literal.specs.declared.range.RangeLiteral.{RangeLiteral};
+ghost use Rattle.std.specs.Prelude.{◌≡◌, ℕ, ℤ, List, Some, None, codes, option_map, option_and_then};
+ghost use Rattle.wb_literal.specs.Range.{upper_at, align_at, nonzero_at, stride_at, range_at};
 
 use crate::integer::{integer_at, natural_at};
 use crate::tokens::{after_token, after_word, skip_spaces};
@@ -88,21 +86,4 @@ pub fn range_at(bytes: &[u8]) -> Option<(RangeLiteral, &[u8])>
     let (upper, rest) = upper_at(skip_spaces(rest))?;
     let (stride, rest) = stride_at(rest)?;
     Some((RangeLiteral { low, upper, stride }, rest))
-}
-
-// The range that all of the bytes spell.
-fn whole_range(bytes: &[u8]) -> Option<RangeLiteral>
-    ensures { result ≡ range_of bytes.now }
-{
-    let (range, rest) = range_at(bytes)?;
-    if rest.len() == 0 { Some(range) } else { None }
-}
-
-/// The range that a text spells: two bounds, or a bound and a count, and a stride with an alignment.
-/// A text is read just where the grammar spells the range by it.
-pub fn read_range(text: &str) -> Option<RangeLiteral>
-    ensures value { result ≡ range_of text.now }
-    ensures spelling { (r : RangeLiteral) → (result ≡ Some r) ↔ IsRange text.now r }
-{
-    whole_range(text.as_bytes())
 }

@@ -2,12 +2,12 @@
 //!
 //! What `wb_text` writes is read: `specs/Parts.antt` and `specs/Lines.antt` have the readers as functions, and
 //! `ReadsLines` says that the lines of each workbook's text are read.
+//!
+//! Its tests are in the crate `wb_reading`.
 #![tactic(auto)]
 
 mod lines;
 mod parts;
-#[cfg(test)]
-mod tests;
 mod text;
 
 pub use crate::text::read_lines;

@@ -2,14 +2,14 @@
 //!
 //! `specs/Told.antt` has the cells that lines tell of, and `specs/Rebuilt.antt` the law that a well-formed workbook
 //! comes back from what its lines say.
+//!
+//! Its tests are in the crate `wb_reading`.
 #![tactic(auto)]
 
 mod finding;
 mod making;
 mod putting;
 mod rebuilding;
-#[cfg(test)]
-mod tests;
 mod told;
 
 pub use crate::rebuilding::rebuild;

@@ -2,6 +2,8 @@
 //!
 //! Every literal in it is canonical. `specs/Literals.antt` has the texts of the literals, and `specs/Lines.antt` those
 //! of the lines and of the workbook; [`laws`] has what the text tells.
+//!
+//! Its tests are in the crate `wb_reading`.
 #![tactic(auto)]
 
 mod books;
@@ -13,8 +15,6 @@ mod mappings;
 mod objects;
 mod printed;
 mod said;
-#[cfg(test)]
-mod tests;
 
 pub use crate::printed::print_book;
 pub use crate::said::ObjectLine;

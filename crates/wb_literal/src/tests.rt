@@ -1,3 +1,0 @@
-mod mappings;
-mod ranges;
-mod sets;
