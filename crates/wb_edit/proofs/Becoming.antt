@@ -26,7 +26,7 @@ below_at k [] i d below low = absurd (omega (arith, low))
 below_at k (e ∷ es) zero d below low = first _ _ below
 below_at k (e ∷ es) (suc i) d below low = below_at k es i d (second _ _ below) (omega (arith, low))
 
-less_and_equal : (o : Ordering) → T (is_lt o) → is_eq o ≡ true → ⊥
+pub less_and_equal : (o : Ordering) → T (is_lt o) → is_eq o ≡ true → ⊥
 less_and_equal Less p e = cc
 less_and_equal Equal p e = absurd p
 less_and_equal Greater p e = absurd p

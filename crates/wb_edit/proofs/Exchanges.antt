@@ -31,7 +31,7 @@ use Rattle.wb_edit.specs.Plans.{cell_at}
 use Rattle.wb_edit.proofs.Columns.{changes-append, other_cells, elsewhere, get-take}
 use Rattle.wb_edit.proofs.Elements.{index_order}
 
-neither : (a b : Bool) → a ≡ false → b ≡ false → (a || b) ≡ false
+pub neither : (a b : Bool) → a ≡ false → b ≡ false → (a || b) ≡ false
 neither true b e f = cc
 neither false b e f = f
 
@@ -54,7 +54,7 @@ key_at (f ∷ fs) (suc k) d low = key_at fs k d (omega (arith, low))
 
 module _ (leaving coming : List Index) where
   -- a cell that is none of a column's
-  none_exchanged : (f : Index → Cell) (v : Value) (c : Cell) → ((i : Index) → eq_by_cmp cell_cmp c (f i) ≡ false) → changes cell_cmp (exchanged f leaving coming v) c ≡ false
+  pub none_exchanged : (f : Index → Cell) (v : Value) (c : Cell) → ((i : Index) → eq_by_cmp cell_cmp c (f i) ≡ false) → changes cell_cmp (exchanged f leaving coming v) c ≡ false
   none_exchanged f v c other =
       changes-append (clear_all (map f leaving)) (put_all (map f coming) v) c ∙ neither _ _ (elsewhere f None c leaving other) (elsewhere f (Some v) c coming other)
 
@@ -64,7 +64,7 @@ module _ (leaving coming : List Index) where
       let name : a ≡ b = cc in
       other name
 
-  none_of : (fs : List (Name × ℤ)) (a : Name) (i : Index) → ((q : ℕ) → slice_get (keys_of fs) q ≡ Some a → ⊥) → changes cell_cmp (elements_exchanged fs leaving coming) (Element a i) ≡ false
+  pub none_of : (fs : List (Name × ℤ)) (a : Name) (i : Index) → ((q : ℕ) → slice_get (keys_of fs) q ≡ Some a → ⊥) → changes cell_cmp (elements_exchanged fs leaving coming) (Element a i) ≡ false
   none_of [] a i other = refl
   none_of (f ∷ fs) a i other =
       changes-append (exchanged (Element f.0) leaving coming (Number f.1)) (elements_exchanged fs leaving coming) (Element a i)

@@ -19,15 +19,7 @@ pub mod OfSets
 pub mod Reshaped
 pub mod Exchanged
 pub mod NewValue
-use Rattle.std.proofs.Common.{◌≡◌, Ok, subst}
-use Rattle.selective_undo.specs.Changes.{apply}
-use Rattle.selective_undo.specs.Edit.{outcome, written}
-use Rattle.wb_book.specs.Cells.{Cells, Changes}
-use Rattle.wb_book.specs.WellFormed.{IsWellFormed}
-use Rattle.wb_edit.specs.Commands.{meaning}
 use Rattle.wb_edit.specs.Laws.{KeepsWellFormed}
-use Rattle.wb_edit.specs.Valid.{IsValid}
-use Rattle.wb_edit.specs.declared.edit.Edit.{Edit as Command}
 use Rattle.wb_edit.specs.declared.edit.Edit.TheVariants.{Domain, Remap, Sparse, Assoc, Array, Set, Irv, Copy, Fill, FillAll, DropArray, All, Add, Remove, DropDomain, Reshape, DomainOfSet, FillOfSet}
 use Rattle.wb_edit.proofs.Kept.NewDomain.{domain_kept}
 use Rattle.wb_edit.proofs.Kept.NewSet.{sparse_kept, assoc_kept}
@@ -64,7 +56,3 @@ keeps_well_formed (DropDomain d) s valid h = drop_domain_kept s d h
 keeps_well_formed (DomainOfSet d) s valid h = domain_of_set_kept s d h
 keeps_well_formed (FillOfSet a) s valid h = fill_of_set_kept s a h
 keeps_well_formed (Reshape d source) s valid h = reshape_kept s d source valid h
-
--- where it is accepted, the changes leave a well-formed workbook
-pub accepted_well_formed : (e : Command) (s : Cells) (xs : Changes) → IsValid e → IsWellFormed s → outcome (meaning e) s ≡ Ok xs → IsWellFormed (apply xs s)
-accepted_well_formed e s xs valid h accepted = subst (λ o. IsWellFormed (apply (written o) s)) accepted (keeps_well_formed e s valid h)

@@ -14,3 +14,4 @@ pub mod Fills
 pub mod Memberships
 pub mod Sets
 pub mod Kept
+pub mod Once

@@ -1,12 +1,14 @@
 -- Valid commands: their names are names, their ranges and mappings are within the limits, and their numbers are of 64 bits.
 use Rattle.std.specs.Prelude.{◌≡◌, true, length, FitsSigned, ⊤}
 use Rattle.std.specs.Int.{w64}
+use Rattle.wb_range.specs.Domain.{IsListedOnce}
 use Rattle.wb_book.specs.Names.{is_name}
 use Rattle.wb_book.specs.Kinds.{IsIndex}
 use Rattle.wb_book.specs.Layouts.{IsLayout}
+use Rattle.wb_book.specs.Shapes.{indices}
 use Rattle.wb_book.specs.WellFormed.{IsRectangle}
 use Rattle.wb_edit.specs.declared.edit.Edit.{Edit as Command}
-use Rattle.wb_edit.specs.ValidSources.{IsSource}
+use Rattle.wb_edit.specs.ValidSources.{IsSource, IsSourceOnce}
 use Rattle.wb_edit.specs.declared.edit.Edit.TheVariants.{Domain, Remap, Sparse, Assoc, Array, Set, Irv, Copy, Fill, FillAll, DropArray, All, Add, Remove, DropDomain, Reshape, DomainOfSet, FillOfSet}
 
 -- what a command has to be so that it keeps a workbook well formed; every value of the type `Edit` is
@@ -47,3 +49,9 @@ IsValid (Reshape d source) = IsSource source
 IsValid (DomainOfSet d) = ⊤
 -- nothing is asked
 IsValid (FillOfSet a) = ⊤
+
+-- The indices that a command carries are listed once each; those of every value of the type `Edit` are.
+abbrev pub ListsOnce : Command → Type 0
+ListsOnce (Fill a on v) = IsListedOnce (indices on)
+ListsOnce (Reshape d source) = IsSourceOnce source
+ListsOnce _ = ⊤

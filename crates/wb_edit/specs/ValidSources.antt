@@ -1,6 +1,7 @@
 -- Valid sources of a domain's new value: their ranges are within the limits, and their indices are ones that a domain may have.
 use Rattle.std.specs.Prelude.{length, ⊤}
 use Rattle.std.specs.List.{All}
+use Rattle.wb_range.specs.Domain.{IsListedOnce}
 use Rattle.wb_book.specs.Kinds.{IsIndex}
 use Rattle.wb_book.specs.WellFormed.{IsRectangle}
 use Rattle.wb_resize.specs.declared.given.Given.{Given}
@@ -19,3 +20,17 @@ IsSource (To given) = IsGiven given
 IsSource (Slice given) = IsGiven given
 IsSource (Displace how offsets) = ⊤
 IsSource (Combine how given) = IsGiven given
+
+-- ---- each index once
+
+-- a set that is given has each index once
+abbrev pub IsGivenOnce : Given → Type 0
+IsGivenOnce (Rectangle rs) = ⊤
+IsGivenOnce (Items is) = IsListedOnce is
+IsGivenOnce (Named e) = ⊤
+
+abbrev pub IsSourceOnce : Source → Type 0
+IsSourceOnce (To given) = IsGivenOnce given
+IsSourceOnce (Slice given) = IsGivenOnce given
+IsSourceOnce (Displace how offsets) = ⊤
+IsSourceOnce (Combine how given) = IsGivenOnce given

@@ -2,13 +2,13 @@ ghost use Rattle.std.specs.Prelude.{◌≡◌, IfOk, FitsSigned};
 ghost use Rattle.std.specs.Int.{w64};
 ghost use Rattle.std.specs.List.{All};
 ghost use Rattle.wb_book.specs.Kinds.{IsIndex};
-ghost use Rattle.wb_edit.specs.Valid.{IsValid};
-ghost use Rattle.wb_edit.specs.ValidSources.{IsGiven, IsSource};
+ghost use Rattle.wb_edit.specs.Valid.{IsValid, ListsOnce};
+ghost use Rattle.wb_edit.specs.ValidSources.{IsGiven, IsGivenOnce, IsSource, IsSourceOnce};
 
 use crate::operation::Operation;
 use std::alloc::Global;
 use wb_book::{AnyIndex, AnyLayout, AnyRect, Index, KeyType, Name};
-use wb_range::NoMemory;
+use wb_range::{Domain, NoMemory};
 use wb_resize::{Given, Source};
 
 /// A command that changes a workbook, as it is asked for.
@@ -138,6 +138,59 @@ impl Edit {
             Edit::FillOfSet(_) => {}
             Edit::Reshape(_, source) => source_validity(source),
         }
+    }
+
+    /// Computes nothing. Callers learn that the indices that an edit carries are listed once each.
+    pub fn listing(&self)
+        ensures { ListsOnce self.now }
+    {
+        match self {
+            Edit::Fill(_, on, _) => {
+                let _once = on.size();
+            }
+            Edit::Reshape(_, source) => source_listing(source),
+            Edit::Domain(_, _, _) => {}
+            Edit::Remap(_, _) => {}
+            Edit::Sparse(_, _) => {}
+            Edit::Assoc(_, _) => {}
+            Edit::Array(_, _) => {}
+            Edit::Set(_, _, _) => {}
+            Edit::Irv(_, _) => {}
+            Edit::Copy(_, _, _, _, _) => {}
+            Edit::FillAll(_, _) => {}
+            Edit::DropArray(_) => {}
+            Edit::All(_, _, _) => {}
+            Edit::Add(_, _) => {}
+            Edit::Remove(_, _) => {}
+            Edit::DropDomain(_) => {}
+            Edit::DomainOfSet(_) => {}
+            Edit::FillOfSet(_) => {}
+        }
+    }
+}
+
+// Computes nothing. Callers learn that a set in the source has each index once.
+fn source_listing(source: &Source)
+    ensures { IsSourceOnce source.now }
+{
+    match source {
+        Source::To(given) => given_listing(given),
+        Source::Slice(given) => given_listing(given),
+        Source::Displace(_, _) => {}
+        Source::Combine(_, given) => given_listing(given),
+    }
+}
+
+// Computes nothing. Callers learn that a set that is given has each index once.
+fn given_listing(given: &Given)
+    ensures { IsGivenOnce given.now }
+{
+    match given {
+        Given::Rectangle(_) => {}
+        Given::Items(items) => {
+            let _once = items.size();
+        }
+        Given::Named(_) => {}
     }
 }
 

@@ -2,7 +2,7 @@
 
 ghost use Rattle.selective_undo.specs.Laws.{LocalityLaw};
 ghost use Rattle.wb_edit.specs.Schema.{workbook};
-ghost use Rattle.wb_edit.specs.Laws.{KeepsWellFormed};
+ghost use Rattle.wb_edit.specs.Laws.{EachCellOnce, KeepsWellFormed};
 
 /// A valid command, accepted or refused, leaves a well-formed workbook well formed.
 ///
@@ -10,6 +10,12 @@ ghost use Rattle.wb_edit.specs.Laws.{KeepsWellFormed};
 /// cells `In` are exactly those of the shapes; names are names, and all limits hold.
 pub fn keeps_well_formed()
     ensures { KeepsWellFormed }
+{}
+
+/// What a valid command writes in a well-formed workbook names each cell once. So the count of a plan is how many cells the
+/// command touches, the cells `In` aside.
+pub fn each_cell_once()
+    ensures { EachCellOnce }
 {}
 
 /// What an edit does depends on what it reads alone: in two workbooks that agree on the cells that it reads in one of

@@ -4,8 +4,6 @@
 //! proved to do what the tree says, and [`laws`] what holds of every command.
 #![tactic(auto)]
 
-#[cfg(test)]
-mod checks;
 mod column;
 mod commands;
 mod edit;

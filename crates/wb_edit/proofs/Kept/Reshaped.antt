@@ -137,14 +137,14 @@ module _ (s : Cells) (rank : ℕ) (h : IsWellFormed s) where
   keeps_ranges_given (Items is) next valid of kept = h
   keeps_ranges_given (Named e) next valid of kept = keeps_shape e next of (λ rs is whole. kept rs whole)
 
-slice_is : (old by new : List Range) → slice_of old by ≡ Ok new → sliced old by ≡ new
+pub slice_is : (old by new : List Range) → slice_of old by ≡ Ok new → sliced old by ≡ new
 slice_is old by new e = from (length old == length by) e
   where
     from : (b : Bool) → ◌≡◌ {A = Result (List Range) Refusal} (elim b [ true ↦ Ok (sliced old by) | false ↦ Err WrongKind ]) (Ok new) → sliced old by ≡ new
     from true e = cc
     from false e = cc
 
-displacement_is : (how : Displacement) (offsets : List ℤ) (old new : List Range) → displacement_of how offsets old ≡ Ok new → (can_displace how offsets old ≡ true) × (displaced how offsets old ≡ new)
+pub displacement_is : (how : Displacement) (offsets : List ℤ) (old new : List Range) → displacement_of how offsets old ≡ Ok new → (can_displace how offsets old ≡ true) × (displaced how offsets old ≡ new)
 displacement_is how offsets old new e = from (length offsets == length old) (has_unit_strides old) (can_displace how offsets old) (displaced how offsets old) e
   where
     from : (fit unit_strides within : Bool) (rs : List Range) → ◌≡◌ {A = Result (List Range) Refusal} (elim fit [ true ↦ displaced_if unit_strides within rs | false ↦ Err WrongKind ]) (Ok new) → (within ≡ true) × (rs ≡ new)
@@ -153,7 +153,7 @@ displacement_is how offsets old new e = from (length offsets == length old) (has
     from true false within rs e = cc
     from false unit_strides within rs e = cc
 
-displaced_whole : (how : Displacement) (offsets : List ℤ) (rank : ℕ) (old : List Range) → IsRectangle rank old → can_displace how offsets old ≡ true → length offsets ≡ rank → IsRectangle rank (displaced how offsets old)
+pub displaced_whole : (how : Displacement) (offsets : List ℤ) (rank : ℕ) (old : List Range) → IsRectangle rank old → can_displace how offsets old ≡ true → length offsets ≡ rank → IsRectangle rank (displaced how offsets old)
 displaced_whole Translate offsets rank old whole within same = IsRectangle-each_shifted rank false offsets old whole ((Decides-can_shift false offsets old).0 within) same
 displaced_whole Expand offsets rank old whole within same = IsRectangle-each_shifted rank true offsets old whole ((Decides-can_shift true offsets old).0 within) same
 

@@ -1,0 +1,231 @@
+-- What a command writes names each cell once.
+pub mod Columns
+pub mod Looks
+pub mod Sources
+use Rattle.std.proofs.Common.{◌≡◌, ℕ, zero, suc, false, ℤ, pos, ◌+ℤ◌, List, [], ◌∷◌, map, length, Option, Some, None, refl, subst}
+use Rattle.std.specs.FinMap.{get}
+use Rattle.std.specs.Map.{keys_of}
+use Rattle.std.specs.Ordering.{eq_by_cmp}
+use Rattle.selective_undo.specs.Changes.{changes, AllOnce}
+use Rattle.selective_undo.specs.Edit.{refuse, write}
+use Rattle.wb_range.specs.Domain.{IsListedOnce}
+use Rattle.wb_dist.specs.Maps.{LayoutMap}
+use Rattle.wb_book.specs.declared.cells.cell.Cell.{Cell}
+use Rattle.wb_book.specs.declared.cells.cell.Cell.TheVariants.{Object, Shape, In, Member, Mapping, Use, Implicit, Element}
+use Rattle.wb_book.specs.declared.cells.kind.DomainKind.{DomainKind}
+use Rattle.wb_book.specs.declared.cells.kind.DomainKind.TheVariants.{Rectangular, Sparse, Associative}
+use Rattle.wb_book.specs.declared.cells.kind.KeyType.{KeyType}
+use Rattle.wb_book.specs.declared.cells.kind.Kind.{Kind}
+use Rattle.wb_book.specs.declared.cells.value.Binding.TheVariants.{Sparse}
+use Rattle.wb_book.specs.declared.cells.value.Value.{Value}
+use Rattle.wb_book.specs.declared.cells.value.Value.TheVariants.{Domain, Mapping, Present, Bound, Number}
+use Rattle.wb_book.specs.declared.values.index.Index.{Index}
+use Rattle.wb_book.specs.Cells.{Name, Cells, cell_cmp}
+use Rattle.wb_book.specs.Kinds.{kind_of}
+use Rattle.wb_book.specs.Readers as readers
+use Rattle.wb_book.specs.Shapes.{Range, indices}
+use Rattle.wb_book.specs.WellFormed.{IsWellFormed}
+use Rattle.wb_resize.specs.Dropped.{ended_cells}
+use Rattle.wb_resize.proofs.Fills.{arrays, zeros_once}
+use Rattle.wb_resize.proofs.Users.{users}
+use Rattle.wb_edit.specs.declared.commands.seen.Becomes.TheVariants.{Same, Absent}
+use Rattle.wb_edit.specs.declared.edit.Edit.TheVariants.{Domain, Remap, Sparse, Assoc, Array, Set, Irv, Copy, Fill, FillAll, DropArray, All, Add, Remove, DropDomain, Reshape, DomainOfSet, FillOfSet}
+use Rattle.wb_edit.specs.declared.operation.Operation.{Operation}
+use Rattle.wb_edit.specs.declared.refusal.Refusal.TheVariants.{WrongKind}
+use Rattle.wb_edit.specs.Changed.{set_all, value_of}
+use Rattle.wb_edit.specs.Commands.{domain_cells, domain, remap, sparse, assoc, array_cells, array, set, irv, copy, fill, fill_all, dropped_cells, drop_array, number_cells, combined, all, drop_domain, add_unless, remove_if}
+use Rattle.wb_edit.specs.Elements.{elements, same_domain, results, all_within, over_one_domain}
+use Rattle.wb_edit.specs.Implicit.{has_implicit, parent_in, implicit_value, implicit_inside, implicit_at, or_implicit, element_or_implicit}
+use Rattle.wb_edit.specs.Kinds.{rank_of, is_sparse, rectangular, over_sparse}
+use Rattle.wb_edit.specs.Laws.{EachCellOnce}
+use Rattle.wb_edit.specs.Layouts.{for_rank, mapped}
+use Rattle.wb_edit.specs.Looks.{Tree, read, judged}
+use Rattle.wb_edit.specs.Numbers.{number_in, within, sum}
+use Rattle.wb_edit.specs.Rectangles.{of_rank, all_there, over_rectangle, all_elements}
+use Rattle.wb_edit.specs.Resizing.{has_members, with_members, zeros}
+use Rattle.wb_edit.specs.Tests.{is_free, domain_kind, array_kind, is_there, fits, dom, arr, key, element, idx}
+use Rattle.wb_edit.specs.Users.{is_unused, unused}
+use Rattle.wb_edit.specs.Writes.{put, put_all, clear_all}
+use Rattle.wb_edit.proofs.Becoming.{same_all, all_absent}
+use Rattle.wb_edit.proofs.Columns.{elsewhere}
+use Rattle.wb_edit.proofs.Elements.{elements_ascend}
+use Rattle.wb_edit.proofs.SideBySide.{kept_ascend}
+use Rattle.wb_edit.proofs.Once.Columns.{once_column, once_resized, once_ended, once_seen}
+use Rattle.wb_edit.proofs.Once.Looks.{Once, once_read, once_judged, once_test, once_all, once_idx, rectangle_once, none_once, none_apart}
+use Rattle.wb_edit.proofs.Once.Sources.{resized_once, reshape_once}
+
+domain_once : (d : Name) (rs : List Range) (m : LayoutMap) → IsListedOnce (indices rs) → AllOnce cell_cmp (domain_cells d rs m)
+domain_once d rs m once =
+    let apart : (c : Cell) → ((i : Index) → eq_by_cmp cell_cmp c (In d i) ≡ false) → changes cell_cmp (put_all (map (In d) (indices rs)) Present) c ≡ false = λ c other. elsewhere (In d) (Some Present) c (indices rs) other in
+    (apart (Object d) (λ i. refl), (apart (Shape d) (λ i. refl), (apart (Mapping d) (λ i. refl), once_column (In d) (λ i j e. cc) (Some Present) (indices rs) once)))
+
+-- a cell that is no element of an array
+not_among : (a : Name) (o : Option Value) (is : List Index) (c : Cell) → ((i : Index) → eq_by_cmp cell_cmp c (Element a i) ≡ false) → changes cell_cmp (set_all (map (Element a) is) o) c ≡ false
+not_among a o is c other = elsewhere (Element a) o c is other
+
+array_once : (a d : Name) (kind : Kind) (is : List Index) → IsListedOnce is → AllOnce cell_cmp (array_cells a d kind is)
+array_once a d kind is once =
+    let apart = not_among a (Some (Number (pos 0))) is in
+    (apart (Object a) (λ i. refl), (apart (Use d a) (λ i. refl), (apart (Implicit a) (λ i. refl), once_column (Element a) (λ i j e. cc) (Some (Number (pos 0))) is once)))
+
+-- ---- all elements of an array
+
+fill_all_once : (s : Cells) (a : Name) (v : ℤ) → Once (fill_all a v) s
+fill_all_once s a v =
+    let es : List (Index × ℤ) = readers.elements s a in
+    once_test s (Object a) array_kind (λ array. elements a (λ es. write (put_all (map (Element a) (keys_of es)) (Number v)))) (λ array _.
+    subst (AllOnce cell_cmp) (same_all a v es) (once_seen a (λ e. value_of (Same v) e.1) es (elements_ascend s a)))
+
+drop_array_once : (s : Cells) (a : Name) → Once (drop_array a) s
+drop_array_once s a =
+    let es : List (Index × ℤ) = readers.elements s a in
+    let apart = not_among a None (keys_of es) in
+    let own : AllOnce cell_cmp (clear_all (map (Element a) (keys_of es))) = subst (AllOnce cell_cmp) (all_absent a es) (once_seen a (λ e. value_of Absent e.1) es (elements_ascend s a)) in
+    once_test s (Object a) array_kind (λ array. elements a (λ es. write (dropped_cells a array.0 (keys_of es)))) (λ array _.
+    (apart (Object a) (λ i. refl), (apart (Use array.0 a) (λ i. refl), (apart (Implicit a) (λ i. refl), own))))
+
+all_once : (s : Cells) (a : Name) (how : Operation) (b : Name) → Once (all a how b) s
+all_once s a how b =
+    let xs : List (Index × ℤ) = readers.elements s a in
+    let ys : List (Index × ℤ) = readers.elements s b in
+    let last : List (Index × ℤ) → Tree = λ zs. write (number_cells a zs) in
+    let one : Name × Kind → Name × Kind → Tree = λ array source. over_one_domain array.0 source.0 (λ x. combined a how b) in
+    once_test s (Object a) array_kind (λ array. arr b (one array)) (λ array _.
+    once_test s (Object b) array_kind (one array) (λ source _.
+    once_judged s (same_domain array.0 source.0) (λ x. combined a how b) (λ x _.
+    once_judged s (all_within (results how xs ys)) last (λ zs ok.
+    once_seen a (λ e. Some (Number e.1)) zs (kept_ascend how xs ys zs (elements_ascend s a) ok)))))
+
+-- ---- one element
+
+number_once : (s : Cells) (b d : Name) (kind : Kind) (j : Index) (next : ℤ → Tree) → ((x : ℤ) → Once (next x) s) → Once (element_or_implicit b d kind j next) s
+number_once s b d kind j next once = once_read s (Element b j) (λ v. or_implicit b d kind j v next) (by_case (get s (Element b j)))
+  where
+    by_case : (v : Option Value) → Once (or_implicit b d kind j v next) s
+    by_case (Some v) = once_judged s (number_in (Some v)) next (λ x _. once x)
+    by_case None =
+        once_judged s (has_implicit kind) (λ z. implicit_at b d j next) (λ z _.
+        once_test s (Object d) parent_in (λ p. implicit_inside b p j next) (λ p _.
+        once_test s (In p j) is_there (λ y. implicit_value b next) (λ y _.
+        once_test s (Implicit b) number_in next (λ x _. once x))))
+
+copy_once : (s : Cells) (a : Name) (i : Index) (b : Name) (j : Index) (c : ℤ) → Once (copy a i b j c) s
+copy_once s a i b j c =
+    let last : ℤ → Tree = λ y. write (put (Element a i) (Number y) ∷ []) in
+    let added : ℤ → Tree = λ x. sum x c last in
+    let elements : Name × Kind → Tree = λ source. element a i (λ z. element_or_implicit b source.0 source.1 j added) in
+    let keys : Kind → Name × Kind → Tree = λ kind source. key kind i (λ x. key source.1 j (λ y. elements source)) in
+    once_test s (Object a) array_kind (λ array. arr b (keys array.1)) (λ array _.
+    once_test s (Object b) array_kind (keys array.1) (λ source _.
+    once_judged s (fits array.1 i) (λ x. key source.1 j (λ y. elements source)) (λ x _.
+    once_judged s (fits source.1 j) (λ y. elements source) (λ y _.
+    once_test s (Element a i) is_there (λ z. element_or_implicit b source.0 source.1 j added) (λ z _.
+    number_once s b source.0 source.1 j added (λ x.
+    once_judged s (within (x +ℤ c)) last (λ y _. (refl, tt))))))))
+
+fill_once : (s : Cells) (a : Name) (on : List Range) (v : ℤ) → IsListedOnce (indices on) → Once (fill a on v) s
+fill_once s a on v once =
+    let last : Tree = write (put_all (map (Element a) (indices on)) (Number v)) in
+    once_test s (Object a) array_kind (λ array. over_rectangle (length on) array.1 (λ x. all_elements a (indices on) (λ y. last))) (λ array _.
+    once_judged s (of_rank (length on) array.1) (λ x. all_elements a (indices on) (λ y. last)) (λ x _.
+    once_all s (map (Element a) (indices on)) (λ vs. judged (all_there vs) (λ y. last)) (
+    once_judged s (all_there (map (get s) (map (Element a) (indices on)))) (λ y. last) (λ y _.
+    once_column (Element a) (λ i j e. cc) (Some (Number v)) (indices on) once))))
+
+-- ---- one index
+
+single_once : (i : Index) → IsListedOnce (i ∷ [])
+single_once i zero zero x e f = refl
+single_once i zero (suc q) x e f = cc
+single_once i (suc p) q x e f = cc
+
+add_unless_once : (s : Cells) (o : Option Value) (d : Name) (kind : DomainKind) (i : Index) → Once (add_unless o d kind i) s
+add_unless_once s (Some v) d kind i = tt
+add_unless_once s None d kind i = resized_once s d kind (i ∷ []) [] (i ∷ []) none_once (single_once i) (λ p q x e f. none_apart p x e)
+
+remove_if_once : (s : Cells) (o : Option Value) (d : Name) (kind : DomainKind) (i : Index) → Once (remove_if o d kind i) s
+remove_if_once s None d kind i = tt
+remove_if_once s (Some v) d kind i = once_resized (i ∷ []) [] (single_once i) none_once (λ p q x e f. none_apart q x f) (kind_of kind) d (zeros (arrays s d)) (zeros_once s d)
+
+-- the tests on an index that is added or removed
+member_once : (s : Cells) (d : Name) (i : Index) (next : Option Value → DomainKind → Tree) → ((o : Option Value) (kind : DomainKind) → Once (next o kind) s) → Once (dom d (λ kind. with_members kind (λ x. key (kind_of kind) i (λ y. read (Member d i) (λ there. next there kind))))) s
+member_once s d i next once =
+    let last : DomainKind → Tree = λ kind. read (Member d i) (λ there. next there kind) in
+    let keyed : DomainKind → Tree = λ kind. key (kind_of kind) i (λ y. last kind) in
+    once_test s (Object d) domain_kind (λ kind. with_members kind (λ x. keyed kind)) (λ kind _.
+    once_judged s (has_members kind) (λ x. keyed kind) (λ x _.
+    once_judged s (fits (kind_of kind) i) (λ y. last kind) (λ y _.
+    once_read s (Member d i) (λ there. next there kind) (once (get s (Member d i)) kind))))
+
+-- ---- every command
+
+new_domain_once : (s : Cells) (d : Name) (rs : List Range) (m : LayoutMap) → IsListedOnce (indices rs) → Once (domain d rs m) s
+new_domain_once s d rs m once =
+    let last : Tree = write (domain_cells d rs m) in
+    once_test s (Object d) is_free (λ x. mapped (length rs) m (λ y. last)) (λ x _.
+    once_judged s (for_rank (length rs) m) (λ y. last) (λ y _. domain_once d rs m once))
+
+remap_once : (s : Cells) (d : Name) (m : LayoutMap) → Once (remap d m) s
+remap_once s d m =
+    let last : Tree = write (put (Mapping d) (Mapping m) ∷ []) in
+    let ranked : ℕ → Tree = λ rank. mapped rank m (λ x. last) in
+    once_test s (Object d) domain_kind (λ kind. rectangular kind ranked) (λ kind _.
+    once_judged s (rank_of kind) ranked (λ rank _.
+    once_judged s (for_rank rank m) (λ x. last) (λ x _. (refl, tt))))
+
+sparse_once : (s : Cells) (d parent : Name) → Once (sparse d parent) s
+sparse_once s d parent =
+    let last : ℕ → Tree = λ rank. write (put (Object d) (Domain (Sparse parent rank)) ∷ put (Use parent d) (Bound Sparse) ∷ []) in
+    once_test s (Object d) is_free (λ x. dom parent (λ kind. rectangular kind last)) (λ x _.
+    once_test s (Object parent) domain_kind (λ kind. rectangular kind last) (λ kind _.
+    once_judged s (rank_of kind) last (λ rank _. (refl, (refl, tt)))))
+
+assoc_once : (s : Cells) (d : Name) (type : KeyType) → Once (assoc d type) s
+assoc_once s d type = once_test s (Object d) is_free (λ x. write (put (Object d) (Domain (Associative type)) ∷ [])) (λ x _. (refl, tt))
+
+new_array_once : (s : Cells) (a d : Name) → IsWellFormed s → Once (array a d) s
+new_array_once s a d h =
+    let last : DomainKind → List Index → Tree = λ kind is. write (array_cells a d (kind_of kind) is) in
+    once_test s (Object a) is_free (λ x. dom d (λ kind. idx d kind (last kind))) (λ x _.
+    once_test s (Object d) domain_kind (λ kind. idx d kind (last kind)) (λ kind _.
+    once_idx s h d kind (last kind) (λ is listed. array_once a d (kind_of kind) is listed)))
+
+set_once : (s : Cells) (a : Name) (i : Index) (v : ℤ) → Once (set a i v) s
+set_once s a i v =
+    let last : Tree = write (put (Element a i) (Number v) ∷ []) in
+    once_test s (Object a) array_kind (λ array. key array.1 i (λ x. element a i (λ y. last))) (λ array _.
+    once_judged s (fits array.1 i) (λ x. element a i (λ y. last)) (λ x _.
+    once_test s (Element a i) is_there (λ y. last) (λ y _. (refl, tt))))
+
+irv_once : (s : Cells) (a : Name) (v : ℤ) → Once (irv a v) s
+irv_once s a v =
+    let last : Tree = write (put (Implicit a) (Number v) ∷ []) in
+    once_test s (Object a) array_kind (λ array. over_sparse array.1 (λ x. last)) (λ array _.
+    once_judged s (is_sparse array.1) (λ x. last) (λ x _. (refl, tt)))
+
+drop_domain_once : (s : Cells) (d : Name) → IsWellFormed s → Once (drop_domain d) s
+drop_domain_once s d h =
+    let last : DomainKind → List Index → Tree = λ kind is. write (ended_cells d kind is) in
+    once_test s (Object d) domain_kind (λ kind. unused d (λ x. idx d kind (last kind))) (λ kind _.
+    once_judged s (is_unused (users s d)) (λ x. idx d kind (last kind)) (λ x _.
+    once_idx s h d kind (last kind) (λ is listed. once_ended d kind is listed)))
+
+pub each_cell_once : EachCellOnce
+each_cell_once (Domain d rs m) s valid once h = new_domain_once s d rs m (rectangle_once (length rs) rs valid.1)
+each_cell_once (Remap d m) s valid once h = remap_once s d m
+each_cell_once (Sparse d parent) s valid once h = sparse_once s d parent
+each_cell_once (Assoc d type) s valid once h = assoc_once s d type
+each_cell_once (Array a d) s valid once h = new_array_once s a d h
+each_cell_once (Set a i v) s valid once h = set_once s a i v
+each_cell_once (Irv a v) s valid once h = irv_once s a v
+each_cell_once (Copy a i b j c) s valid once h = copy_once s a i b j c
+each_cell_once (Fill a on v) s valid once h = fill_once s a on v once
+each_cell_once (FillAll a v) s valid once h = fill_all_once s a v
+each_cell_once (DropArray a) s valid once h = drop_array_once s a
+each_cell_once (All a how b) s valid once h = all_once s a how b
+each_cell_once (Add d i) s valid once h = member_once s d i (λ there kind. add_unless there d kind i) (λ there kind. add_unless_once s there d kind i)
+each_cell_once (Remove d i) s valid once h = member_once s d i (λ there kind. remove_if there d kind i) (λ there kind. remove_if_once s there d kind i)
+each_cell_once (DropDomain d) s valid once h = drop_domain_once s d h
+each_cell_once (DomainOfSet d) s valid once h = once_test s (Object d) is_free (λ x. refuse WrongKind) (λ x _. tt)
+each_cell_once (FillOfSet a) s valid once h = once_test s (Object a) array_kind (λ over. refuse WrongKind) (λ over _. tt)
+each_cell_once (Reshape d source) s valid once h = reshape_once s d source valid once h

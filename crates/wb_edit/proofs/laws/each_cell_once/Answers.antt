@@ -1,0 +1,5 @@
+use Rattle.wb_edit.proofs.Once.{each_cell_once}
+use Rattle.wb_edit.proofs.laws.each_cell_once.Goals as goal
+
+pub returns : goal.returns
+returns c = each_cell_once
