@@ -335,22 +335,22 @@ pub seen_found : (m : BTreeMap Cell Value) (p : Pattern) (c : Cell) (part : List
 seen_found m p c part ok s b is =
     found p c b m part (all_covered p c b m ok (keys m) (recursion_from_All (ContainsKey cell_cmp m) (keys m) (All-keys_found cell_order.total m s))) s is
 
--- the elements of an array, in any workbook
-module _ (a : Name) (c : Cell) (b : Begins (Elements a) c) where
-  no_element_before : (x : Cell) → is_from c x ≡ false → matches (Elements a) x ≡ false
-  no_element_before (Object e) before = refl
-  no_element_before (Shape e) before = refl
-  no_element_before (In e n) before = refl
-  no_element_before (Member e n) before = refl
-  no_element_before (Mapping e) before = refl
-  no_element_before (Use e n) before = refl
-  no_element_before (Implicit e) before = refl
-  no_element_before (Element e i) before = b.none_before (Element e i) tt (with_true (is_le (cell_cmp c (Element e i))) false before)
+-- a family of cells that are neither objects nor users, in any workbook
+module _ (p : Pattern) (c : Cell) (b : Begins p c) (no_object : (n : Name) → matches p (Object n) ≡ false) (no_user : (d n : Name) → matches p (Use d n) ≡ false) where
+  none_before : (x : Cell) → is_from c x ≡ false → matches p x ≡ false
+  none_before (Object e) before = no_object e
+  none_before (Use e n) before = no_user e n
+  none_before (Shape e) before = b.none_before (Shape e) tt (with_true (is_le (cell_cmp c (Shape e))) false before)
+  none_before (In e i) before = b.none_before (In e i) tt (with_true (is_le (cell_cmp c (In e i))) false before)
+  none_before (Member e i) before = b.none_before (Member e i) tt (with_true (is_le (cell_cmp c (Member e i))) false before)
+  none_before (Mapping e) before = b.none_before (Mapping e) tt (with_true (is_le (cell_cmp c (Mapping e))) false before)
+  none_before (Implicit e) before = b.none_before (Implicit e) tt (with_true (is_le (cell_cmp c (Implicit e))) false before)
+  none_before (Element e i) before = b.none_before (Element e i) tt (with_true (is_le (cell_cmp c (Element e i))) false before)
 
-  no_elements_before : (xs : List Cell) → AllByRecursion (λ x. is_from c x ≡ false → matches (Elements a) x ≡ false) xs
-  no_elements_before [] = tt
-  no_elements_before (x ∷ xs) = (no_element_before x, no_elements_before xs)
+  all_before : (xs : List Cell) → AllByRecursion (λ x. is_from c x ≡ false → matches p x ≡ false) xs
+  all_before [] = tt
+  all_before (x ∷ xs) = (none_before x, all_before xs)
 
-  pub elements_found : (m : BTreeMap Cell Value) (part : List (Cell × Value)) → IsOrdered cell_cmp m → part ≡ entries_between cell_cmp (Included c) Unbounded m.entries
-      → take (prefix_len (named (Elements a)) part) part ≡ seen (state_of m) (Elements a)
-  elements_found m part s is = found (Elements a) c b m part (no_elements_before (keys m)) s is
+  pub family_found : (m : BTreeMap Cell Value) (part : List (Cell × Value)) → IsOrdered cell_cmp m → part ≡ entries_between cell_cmp (Included c) Unbounded m.entries
+      → take (prefix_len (named p) part) part ≡ seen (state_of m) p
+  family_found m part s is = found p c b m part (all_before (keys m)) s is

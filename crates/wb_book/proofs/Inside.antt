@@ -56,10 +56,14 @@ length-in_product (xs ∷ rs) i m =
     let r : length p.tail ≡ length rs = length-in_product rs p.tail p.tail_in in
     ap (λ (zs : List ℤ). length zs) p.whole ∙ omega (arith, r)
 
+-- a point inside has as many coordinates as there are ranges
+pub length-inside : (rs : List (List ℤ)) (i : List ℤ) → has (indices rs) (Point i) ≡ true → length i ≡ length rs
+length-inside rs i t = length-in_product rs i ((has_point rs i).0 t)
+
 -- nor is a point of another rank
 pub has_none_of_other_rank : (rs : List (List ℤ)) (i : List ℤ) → (length i ≡ length rs → ⊥) → false ≡ has (indices rs) (Point i)
 has_none_of_other_rank rs i other = by (has (indices rs) (Point i)) refl
   where
     by : (b : Bool) → has (indices rs) (Point i) ≡ b → false ≡ has (indices rs) (Point i)
     by false e = sym e
-    by true e = absurd (other (length-in_product rs i ((has_point rs i).0 e)))
+    by true e = absurd (other (length-inside rs i e))

@@ -10,3 +10,5 @@ pub mod Objects
 pub mod Users
 pub mod Families
 pub mod Counts
+pub mod Members
+pub mod Lying

@@ -3,7 +3,6 @@ use Rattle.std.specs.Prelude.{ℕ, Result, Ok, Err, unwrap_or}
 use Rattle.std.specs.FinMap.{get}
 use Rattle.wb_book.specs.declared.cells.cell.Cell.TheVariants.{Object}
 use Rattle.wb_book.specs.declared.cells.kind.DomainKind.{DomainKind}
-use Rattle.wb_book.specs.declared.cells.kind.DomainKind.TheVariants.{Rectangular, Sparse, Associative}
 use Rattle.wb_book.specs.declared.values.index.Index.{Index}
 use Rattle.wb_book.specs.Cells.{Name, Cells}
 use Rattle.wb_book.specs.Kinds.{kind_of}
@@ -16,20 +15,14 @@ use Rattle.wb_history.specs.declared.query.Answer.TheVariants.{Locale}
 use Rattle.wb_history.specs.declared.refusal.Refusal.{Refusal}
 use Rattle.wb_history.specs.declared.refusal.Refusal.TheVariants.{Refused}
 
--- the domain by whose mapping the indices of d lie: a sparse domain has none of its own, and goes by its parent's
-abbrev pub mapped_by : (d : Name) → DomainKind → Name
-mapped_by d (Rectangular rank) = d
-mapped_by d (Sparse parent rank) = parent
-mapped_by d (Associative type) = d
-
--- the locale of an index that is there: by the mapping of the domain e, and 0 where that has none
-abbrev pub locale_found : Cells → (e : Name) → Index → Result (Unit {0}) why.Refusal → Result ℕ why.Refusal
-locale_found s e i (Ok there) = Ok (unwrap_or (locale_at s e i) 0)
-locale_found s e i (Err why) = Err why
+-- the locale of an index that is there
+abbrev pub locale_found : Cells → Name → Index → Result (Unit {0}) why.Refusal → Result ℕ why.Refusal
+locale_found s d i (Ok there) = Ok (unwrap_or (locale_at s d i) 0)
+locale_found s d i (Err why) = Err why
 
 -- an index of the type and rank of the domain's
 abbrev pub locale_fitting : Cells → Name → DomainKind → Index → Result (Unit {0}) why.Refusal → Result ℕ why.Refusal
-locale_fitting s d kind i (Ok fit) = locale_found s (mapped_by d kind) i (is_there (get s (index_cell (kind_of kind) d i)))
+locale_fitting s d kind i (Ok fit) = locale_found s d i (is_there (get s (index_cell (kind_of kind) d i)))
 locale_fitting s d kind i (Err e) = Err e
 
 abbrev pub locale_from : Cells → Name → Index → Result DomainKind why.Refusal → Result ℕ why.Refusal

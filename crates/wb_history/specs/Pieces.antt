@@ -4,10 +4,11 @@ use Rattle.std.specs.Prelude.{◌≡◌, Bool, ℕ, ◌==◌, nat_lt, ℤ, List,
 use Rattle.std.specs.FinMap.{get}
 use Rattle.wb_book.specs.declared.cells.cell.Cell.TheVariants.{Object}
 use Rattle.wb_book.specs.declared.cells.kind.DomainKind.{DomainKind}
+use Rattle.wb_book.specs.declared.cells.kind.DomainKind.TheVariants.{Rectangular, Sparse, Associative}
 use Rattle.wb_book.specs.declared.cells.kind.Kind.{Kind}
 use Rattle.wb_book.specs.declared.values.index.Index.{Index}
 use Rattle.wb_book.specs.Cells.{Name, Cells}
-use Rattle.wb_book.specs.Locales.{locale_at, locale_count_at}
+use Rattle.wb_book.specs.Locales.{locale_by, locale_count_at}
 use Rattle.wb_book.specs.Readers.{elements}
 use Rattle.wb_edit.specs.declared.refusal.Refusal as why
 use Rattle.wb_edit.specs.declared.refusal.Refusal.TheVariants.{OutOfDomain}
@@ -16,7 +17,12 @@ use Rattle.wb_history.specs.declared.query.Answer.{Answer}
 use Rattle.wb_history.specs.declared.query.Answer.TheVariants.{Piece}
 use Rattle.wb_history.specs.declared.refusal.Refusal.{Refusal}
 use Rattle.wb_history.specs.declared.refusal.Refusal.TheVariants.{Refused, NoMemory}
-use Rattle.wb_history.specs.Locales.{mapped_by}
+
+-- the domain by whose mapping the indices of d lie: a sparse domain has none of its own, and goes by its parent's
+abbrev pub mapped_by : (d : Name) → DomainKind → Name
+mapped_by d (Rectangular rank) = d
+mapped_by d (Sparse parent rank) = parent
+mapped_by d (Associative type) = d
 
 -- the domain by whose mapping the indices of d lie, by what d is
 abbrev pub mapped_as : (d : Name) → Result DomainKind why.Refusal → Name
@@ -32,7 +38,7 @@ locales_of s e = unwrap_or (locale_count_at s e) 1
 
 -- an element after its index lies on locale l by the mapping of the domain e: on 0 where that has none
 abbrev pub lies_on : Cells → (e : Name) → (l : ℕ) → Index × ℤ → Bool
-lies_on s e l x = unwrap_or (locale_at s e x.0) 0 == l
+lies_on s e l x = unwrap_or (locale_by s e x.0) 0 == l
 
 -- the elements of the array a on locale l, each after its index, ascending by index
 abbrev pub piece_on : Cells → (a e : Name) → (l : ℕ) → List (Index × ℤ)

@@ -1,15 +1,13 @@
 -- What queries are answered, from the cells of the workbook and the history.
-use Rattle.std.specs.Prelude.{◌≡◌, Bool, ℕ, ℤ, List, Option, Some, None, Result, Ok, Err, unwrap_or, length}
+use Rattle.std.specs.Prelude.{◌≡◌, Bool, ℕ, ℤ, List, Option, Some, None, Result, Ok, Err, unwrap_or}
 use Rattle.std.specs.FinMap.{get}
 use Rattle.wb_book.specs.declared.cells.cell.Cell.TheVariants.{Object, In, Implicit, Element}
 use Rattle.wb_book.specs.declared.cells.kind.DomainKind.{DomainKind}
-use Rattle.wb_book.specs.declared.cells.kind.DomainKind.TheVariants.{Rectangular, Sparse, Associative}
 use Rattle.wb_book.specs.declared.cells.kind.Kind.{Kind}
-use Rattle.wb_book.specs.declared.cells.pattern.Pattern.TheVariants.{Members}
 use Rattle.wb_book.specs.declared.cells.value.Value.{Value}
 use Rattle.wb_book.specs.declared.values.index.Index.{Index}
 use Rattle.wb_book.specs.Cells.{Name, Cells}
-use Rattle.wb_book.specs.Readers.{size_at, seen}
+use Rattle.wb_book.specs.Readers.{size_at}
 use Rattle.wb_edit.specs.declared.refusal.Refusal as why
 use Rattle.wb_edit.specs.Implicit.{has_implicit, parent_in}
 use Rattle.wb_edit.specs.Numbers.{number_in}
@@ -61,14 +59,8 @@ abbrev pub value_answer : Result ℤ why.Refusal → Result Answer Refusal
 value_answer (Ok x) = Ok (ValueIs x)
 value_answer (Err e) = Err (Refused e)
 
--- how many indices a domain of a kind has: a rectangular one those of its ranges, another one its members
-abbrev pub size_in : Cells → Name → DomainKind → ℕ
-size_in s d (Rectangular rank) = unwrap_or (size_at s d) 0
-size_in s d (Sparse parent rank) = length (seen s (Members d))
-size_in s d (Associative type) = length (seen s (Members d))
-
 abbrev pub size_from : Cells → Name → Result DomainKind why.Refusal → Result ℕ why.Refusal
-size_from s d (Ok kind) = Ok (size_in s d kind)
+size_from s d (Ok kind) = Ok (unwrap_or (size_at s d) 0)
 size_from s d (Err e) = Err e
 
 -- the name is a domain's, and the domain has so many indices

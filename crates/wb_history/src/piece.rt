@@ -1,14 +1,13 @@
 //! Pieces of arrays: the elements that lie on one locale.
 
 ghost use Rattle.std.specs.Prelude.{◌≡◌, IfOk};
-ghost use Rattle.wb_history.specs.Pieces.{mapped_at, locales_of, lies_on, piece_on, piece_of, piece_answer, OrNoMemory};
+ghost use Rattle.wb_history.specs.Pieces.{mapped_by, mapped_at, locales_of, lies_on, piece_on, piece_of, piece_answer, OrNoMemory};
 
-use crate::locale::mapped_by;
 use crate::query::Answer;
 use crate::refusal::Refusal;
 use std::alloc::Global;
 use std::marker::Model;
-use wb_book::{AnyIndex, Book, Cell, Name};
+use wb_book::{AnyDomain, AnyIndex, Book, Cell, DomainKind, Name};
 use wb_edit::judgements;
 use wb_range::NoMemory;
 
@@ -52,7 +51,18 @@ impl Piece {
     }
 }
 
-// The domain by whose mapping the indices of a domain lie.
+// The domain by whose mapping the indices of a domain lie: a sparse one goes by its parent's.
+fn mapped_by(domain: Name, kind: &AnyDomain) -> Name
+    ensures { result ≡ mapped_by domain kind.now }
+{
+    match kind.domain_kind() {
+        DomainKind::Rectangular(_) => domain,
+        DomainKind::Sparse(parent, _) => parent,
+        DomainKind::Associative(_) => domain,
+    }
+}
+
+// The same, by what the domain is.
 fn mapped_at(book: &Book, domain: Name) -> Name
     ensures { result ≡ mapped_at book.now.cells domain }
 {
@@ -73,7 +83,7 @@ fn locales_of(book: &Book, mapped: Name) -> usize
 fn lies_on(book: &Book, mapped: Name, locale: u64, element: &(AnyIndex, i64)) -> bool
     ensures { result ≡ lies_on book.now.cells mapped locale element.now }
 {
-    book.locale_of(&mapped, &element.0).unwrap_or(0) as u64 == locale
+    book.locale_by(&mapped, &element.0).unwrap_or(0) as u64 == locale
 }
 
 // The elements of an array on a locale, by the mapping of a domain.

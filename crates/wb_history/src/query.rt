@@ -1,10 +1,10 @@
 ghost use Rattle.std.specs.Prelude.{◌≡◌, None, IfOk};
-ghost use Rattle.wb_history.specs.Queries.{element_or_implicit, get_answer, value_answer, size_in, size_answer, count_answer, force_answer};
+ghost use Rattle.wb_history.specs.Queries.{element_or_implicit, get_answer, value_answer, size_answer, count_answer, force_answer};
 
 use crate::piece::Piece;
 use crate::refusal::Refusal;
 use std::alloc::Global;
-use wb_book::{AnyDomain, AnyIndex, Book, Cell, DomainKind, Kind, Name};
+use wb_book::{AnyIndex, Book, Cell, Kind, Name};
 use wb_edit::{has_implicit, judgements, number_in, parent_in};
 use wb_range::NoMemory;
 
@@ -81,23 +81,12 @@ fn implicit_value(
     number_in(book.get(&Cell::Implicit(array)))
 }
 
-// How many indices a domain of a kind has.
-fn size_in(book: &Book, domain: Name, kind: &AnyDomain) -> usize
-    ensures { result ≡ size_in book.now.cells domain kind.now }
-{
-    match kind.domain_kind() {
-        DomainKind::Rectangular(_) => book.size(&domain).unwrap_or(0),
-        DomainKind::Sparse(_, _) => book.member_count(&domain),
-        DomainKind::Associative(_) => book.member_count(&domain),
-    }
-}
-
 /// How many indices a domain has, or why there is none.
 pub(crate) fn size_of(book: &Book, domain: Name) -> Result<usize, wb_edit::Refusal>
     ensures { result ≡ size_answer book.now.cells domain }
 {
-    let kind = judgements::domain_kind(book.get(&Cell::Object(domain)))?;
-    Ok(size_in(book, domain, &kind))
+    judgements::domain_kind(book.get(&Cell::Object(domain)))?;
+    Ok(book.size(&domain).unwrap_or(0))
 }
 
 pub(crate) fn value_answer(found: Result<i64, wb_edit::Refusal>) -> Result<Answer, Refusal>

@@ -1,11 +1,10 @@
-ghost use Rattle.std.specs.Prelude.{◌≡◌, ℕ, ◌+◌, ◌-◌, ◌^◌, List, length, slice_get, min, IfOk, IfErr, OnOk, OnErr};
+ghost use Rattle.std.specs.Prelude.{◌≡◌, is_some, ℕ, ◌+◌, ◌-◌, ◌^◌, List, length, slice_get, min, IfOk, IfErr, OnOk, OnErr};
 ghost use Rattle.std.specs.FinMap as map;
 ghost use Rattle.selective_undo.specs.Changes.{apply, inverse};
 ghost use Rattle.wb_book.specs.Cells.{state_of, written_more, count_of};
-ghost use Rattle.wb_book.specs.Locales.{locale_at, locale_count_at};
-ghost use Rattle.wb_book.specs.declared.cells.pattern.Pattern.TheVariants.{Members};
+ghost use Rattle.wb_book.specs.Locales.{locale_by, is_index_at, locale_at, locale_count_at};
 ghost use Rattle.wb_book.specs.Readers.{seen, elements, objects, users, size_at, index_at};
-ghost use Rattle.wb_book.specs.WellFormed.{IsWellFormed};
+ghost use Rattle.wb_book.specs.WellFormed.{IsWellFormed, domain_at};
 
 use crate::book::{families, locales, readers, store};
 use crate::cells::cell::Cell;
@@ -59,11 +58,10 @@ impl Book {
         requires { IsWellFormed (state_of cells) }
         ensures { result ≡ record { cells = state_of cells; writes = 0 } }
     {
-        let writes = 0;
         Book {
             alloc,
             cells,
-            writes,
+            writes: 0,
         }
     }
 
@@ -83,13 +81,6 @@ impl Book {
             Ok(shown) => Ok(shown),
             Err(_) => Err(NoMemory),
         }
-    }
-
-    /// How many indices the sparse or associative domain of a name has, and 0 where there is none.
-    pub fn member_count(&self, name: &Name) -> usize
-        ensures { result ≡ length (seen self.now.cells (Members name.now)) }
-    {
-        families::count(&self.cells, &Pattern::Members(*name))
     }
 
     /// How many objects there are: domains and arrays.
@@ -121,28 +112,40 @@ impl Book {
         families::elements(self.alloc, &self.cells, *name)
     }
 
-    /// How many indices the domain of a name has, and `None` where there is no such domain
+    /// How many indices the domain of a name has, whatever its kind, and `None` exactly where there is no such domain
     /// (Chapel Language Specification, Domains).
     pub fn size(&self, name: &Name) -> Option<usize>
-        ensures { result ≡ size_at self.now.cells name.now }
+        ensures value { result ≡ size_at self.now.cells name.now }
+        ensures there { is_some result ≡ is_some (domain_at self.now.cells name.now) }
     {
         readers::size_at(&self.cells, *name)
     }
 
-    /// The index at place `p` of the domain of a name, counted from 0 in the domain's order, row by row
-    /// (Chapel Language Specification, Domains).
+    /// The index at place `p` of the domain of a name, counted from 0 in the domain's order: row by row in a rectangular
+    /// domain, ascending in another one (Chapel Language Specification, Domains).
     pub fn index(&self, name: &Name, p: usize) -> Option<AnyIndex>
         ensures { result ≡ index_at self.now.cells name.now p }
     {
         readers::index_at(&self.cells, *name, p)
     }
 
-    /// On which locale an index of the domain of a name lies, by the domain's mapping; `None` where there is no such
-    /// rectangular domain, and for an index of another rank (Chapel Language Specification, Domain Maps).
+    /// On which locale an index of the domain of a name lies, and `None` exactly where there is no such domain or it
+    /// doesn't have the index. A rectangular domain goes by its mapping, a sparse one by its parent's, and an associative
+    /// one has all on locale 0 (Chapel Language Specification, Domain Maps).
     pub fn locale_of(&self, domain: &Name, index: &AnyIndex) -> Option<usize>
-        ensures { result ≡ locale_at self.now.cells domain.now index.now }
+        ensures value { result ≡ locale_at self.now.cells domain.now index.now }
+        ensures there { is_some result ≡ is_index_at self.now.cells domain.now index.now }
     {
         locales::locale_at(&self.cells, *domain, index)
+    }
+
+    /// On which locale an index lies by the mapping of the rectangular domain of a name, whether the domain has the index
+    /// or not; `None` where there is no such rectangular domain, and for an index of another rank (Chapel Language
+    /// Specification, Domain Maps).
+    pub fn locale_by(&self, domain: &Name, index: &AnyIndex) -> Option<usize>
+        ensures { result ≡ locale_by self.now.cells domain.now index.now }
+    {
+        locales::locale_by(&self.cells, *domain, index)
     }
 
     /// How many locales the mapping of the domain of a name has; `None` where there is no such rectangular domain

@@ -1,9 +1,9 @@
 //! The cells that a pattern names stand together, so a look at them walks over no others.
 
-ghost use Rattle.std.specs.Prelude.{◌≡◌, length, IfOk};
+ghost use Rattle.std.specs.Prelude.{◌≡◌, length, slice_get, IfOk};
 ghost use Rattle.wb_book.specs.Cells.{matches, state_of};
 ghost use Rattle.wb_book.specs.Families.{Begins};
-ghost use Rattle.wb_book.specs.Readers.{seen, element_in, elements};
+ghost use Rattle.wb_book.specs.Readers.{seen, member_in, members, element_in, elements};
 ghost use Rattle.wb_book.specs.WellFormed.{IsWellFormed};
 
 use crate::cells::cell::Cell;
@@ -44,15 +44,43 @@ pub(crate) fn seen(
         .collect(alloc)
 }
 
-/// How many cells the pattern names that are there.
-pub(crate) fn count(cells: &BTreeMap<Cell, Value>, pattern: &Pattern) -> usize
-    requires { IsWellFormed (state_of cells.now) }
-    ensures { result ≡ length (seen (state_of cells.now) pattern.now) }
+/// How many members a sparse or associative domain has.
+pub(crate) fn member_count(cells: &BTreeMap<Cell, Value>, domain: Name) -> usize
+    ensures { result ≡ length (members (state_of cells.now) domain) }
 {
+    let pattern = Pattern::Members(domain);
     cells
-        .range(first(pattern)..)
+        .range(first(&pattern)..)
         .take_while(|x| pattern.matches(*x.0))
         .count()
+}
+
+/// The index that a cell tells of, as a member of a domain.
+fn member_in(cell: &Cell, value: &Value) -> Option<AnyIndex>
+    ensures { result ≡ member_in (cell.now, value.now) }
+{
+    match *cell {
+        Cell::Member(_, index) => Some(index),
+        Cell::Object(_)
+        | Cell::Shape(_)
+        | Cell::In(_, _)
+        | Cell::Mapping(_)
+        | Cell::Use(_, _)
+        | Cell::Implicit(_)
+        | Cell::Element(_, _) => None,
+    }
+}
+
+/// The member of a sparse or associative domain at place `p`, ascending.
+pub(crate) fn member_at(cells: &BTreeMap<Cell, Value>, domain: Name, p: usize) -> Option<AnyIndex>
+    ensures { result ≡ slice_get (members (state_of cells.now) domain) p }
+{
+    let pattern = Pattern::Members(domain);
+    let (cell, value) = cells
+        .range(first(&pattern)..)
+        .take_while(|x| pattern.matches(*x.0))
+        .nth(p)?;
+    member_in(cell, value)
 }
 
 /// The element of an array that a cell with its value tells of.

@@ -4,12 +4,13 @@ ghost use Rattle.std.specs.Prelude.{◌≡◌, is_some, length, slice_get};
 ghost use Rattle.std.specs.FinMap as map;
 ghost use Rattle.wb_book.specs.Cells.{state_of};
 ghost use Rattle.wb_book.specs.Readers.{object_of, objects, user_of, users, size_at, index_at};
-ghost use Rattle.wb_book.specs.WellFormed.{IsWellFormed, ranges_in};
+ghost use Rattle.wb_book.specs.WellFormed.{IsWellFormed, domain_at, ranges_in};
 ghost use Rattle.wb_book.specs.declared.cells.cell.Cell.TheVariants.{Shape};
 
-use crate::book::families::first;
+use crate::book::families::{first, member_at, member_count};
 use crate::book::store::look;
 use crate::cells::cell::Cell;
+use crate::cells::kind::{AnyDomain, DomainKind};
 use crate::cells::pattern::Pattern;
 use crate::cells::value::Value;
 use crate::values::index::AnyIndex;
@@ -78,6 +79,21 @@ pub(crate) fn user_at(cells: &BTreeMap<Cell, Value>, domain: Name, p: usize) -> 
     user_of(domain, cell)
 }
 
+/// What the domain of a name is.
+pub(crate) fn domain_at(cells: &BTreeMap<Cell, Value>, domain: Name) -> Option<AnyDomain>
+    ensures { result ≡ domain_at (state_of cells.now) domain }
+{
+    match look(cells, Cell::Object(domain))? {
+        Value::Domain(kind) => Some(kind),
+        Value::Array(_, _)
+        | Value::Ranges(_)
+        | Value::Mapping(_)
+        | Value::Present
+        | Value::Bound(_)
+        | Value::Number(_) => None,
+    }
+}
+
 fn ranges_at(cells: &BTreeMap<Cell, Value>, domain: Name) -> Option<AnyRect>
     ensures { result ≡ ranges_in (map.get (state_of cells.now) (Shape domain)) }
 {
@@ -96,14 +112,22 @@ fn ranges_at(cells: &BTreeMap<Cell, Value>, domain: Name) -> Option<AnyRect>
 pub(crate) fn size_at(cells: &BTreeMap<Cell, Value>, domain: Name) -> Option<usize>
     ensures { result ≡ size_at (state_of cells.now) domain }
 {
-    let rect = ranges_at(cells, domain)?;
-    Some(rect.size())
+    let kind = domain_at(cells, domain)?;
+    match kind.domain_kind() {
+        DomainKind::Rectangular(_) => Some(ranges_at(cells, domain)?.size()),
+        DomainKind::Sparse(_, _) => Some(member_count(cells, domain)),
+        DomainKind::Associative(_) => Some(member_count(cells, domain)),
+    }
 }
 
-/// The index of a domain at place `p`.
+/// The index of a domain at place `p`, in the domain's order.
 pub(crate) fn index_at(cells: &BTreeMap<Cell, Value>, domain: Name, p: usize) -> Option<AnyIndex>
     ensures { result ≡ index_at (state_of cells.now) domain p }
 {
-    let rect = ranges_at(cells, domain)?;
-    rect.nth(p)
+    let kind = domain_at(cells, domain)?;
+    match kind.domain_kind() {
+        DomainKind::Rectangular(_) => ranges_at(cells, domain)?.nth(p),
+        DomainKind::Sparse(_, _) => member_at(cells, domain, p),
+        DomainKind::Associative(_) => member_at(cells, domain, p),
+    }
 }
