@@ -119,7 +119,8 @@ module _ (es : List kept.Entry) (k : ℕ) (x : kept.Entry) (is : slice_get es k 
   undone_reply (Err e) y b d shows may ok why =
       let (f, is_f, none) = free_now may in
       let memory : refusal_of x ≡ NoMemory = elim x.kept as (λ o. option_map (λ k. foot k.foot k.inverse) o ≡ Some f → refusal_of (record { edit = x.edit; kept = o }) ≡ NoMemory) [ Some q ↦ λ h. refl | None ↦ λ h. cc ] is_f in
-      rw (why, memory) tt
+      let before = (kept_undo b.cells (log es) k (k + 2) (meaning x.edit) f shows (log_is f is_f) none).0 in
+      rw (why, memory, ← history-log es) (before.0, before.1)
 
   pub undone_numbers : (r : Result ℕ Refusal) (y : kept.Entry) (b d : Contents) → IfOk r (λ n. TakenBack x n y b d) → OnOk r (numbers (slice_set es k y) ≡ out_of_force k (numbers es))
   undone_numbers (Ok n) y b d ok = let (q, has, count, gone, cells, writes) = ok in rw gone (out_numbers es k x is)

@@ -86,7 +86,7 @@ latest_refused s es p NotInForce shows latest reply =
 latest_refused s es p (Blocked by) shows latest (j, number, least) =
     let last = latest_is_last s es p shows latest j least.holds.of_j least.holds.j_in_force in
     absurd (omega (arith, last, least.holds.later))
-latest_refused s es p NoMemory shows latest reply = tt
+latest_refused s es p NoMemory shows latest (t, can) = (p, t, can.in_force)
 latest_refused s es p BadRequest shows latest reply = reply
 latest_refused s es p BadLiteral shows latest reply = reply
 latest_refused s es p (Refused e) shows latest reply = reply

@@ -19,7 +19,7 @@ use Rattle.wb_edit.specs.declared.planning.PlanErr.TheVariants.{Refused as PlanR
 use Rattle.wb_history.specs.declared.entry.Entry as kept
 use Rattle.wb_history.specs.declared.entry.Kept.{Kept}
 use Rattle.wb_history.specs.declared.refusal.Refusal.{Refusal}
-use Rattle.wb_history.specs.declared.refusal.Refusal.TheVariants.{InForce, Blocked, RefusedInPlace}
+use Rattle.wb_history.specs.declared.refusal.Refusal.TheVariants.{InForce, Blocked, RefusedInPlace, NoMemory}
 use Rattle.wb_history.specs.Past.{entry_at, into_force, force_of}
 use Rattle.wb_history.specs.Replies.{RedoReply, ByNumber}
 use Rattle.wb_history.specs.Kept.{foot, kept_in, kept_all, logged, log, Shows, numbered, numbers, entries_meant, redo_blocker, in_place, stopped_refusal, PlansAgain}
@@ -55,6 +55,10 @@ module _ (s : Cells) (es : List kept.Entry) (k : ℕ) (x : kept.Entry) (shows : 
     out_at : slice_get (entries_meant es) k ≡ Some (undone (meaning x.edit))
     out_at = meant_at ∙ ap (λ o. Some (entry_at x.edit (is_some o))) off
 
+    -- memory may run out
+    pub memory_reply : RedoReply (entries_meant es) k (Err NoMemory)
+    memory_reply = (meaning x.edit, out_at)
+
     log_out : slice_get (log es) k ≡ Some (record { edit = meaning x.edit; kept = None })
     log_out = log_at es k x is ∙ ap (λ o. Some (record { edit = meaning x.edit; kept = option_map (λ k. foot k.foot k.inverse) o })) off
 
@@ -84,7 +88,7 @@ module _ (s : Cells) (es : List kept.Entry) (k : ℕ) (x : kept.Entry) (shows : 
         )
 
     pub stopped_reply : (stop : PlanErr) → IsPlan (meaning x.edit) s (Err stop) → RedoReply (entries_meant es) k (Err (stopped_refusal es k stop))
-    stopped_reply PlanNoMemory plan = tt
+    stopped_reply PlanNoMemory plan = memory_reply
     stopped_reply (PlanRefused why rs) plan =
         let same : redo_blocker es k (reads (meaning x.edit) s) (written (outcome (meaning x.edit) s)) ≡ redo_blocker es k rs [] =
         ap (λ o. redo_blocker es k (reads (meaning x.edit) s) (written o)) plan.0 ∙ ap (λ ps. redo_blocker es k ps []) (sym plan.1) in
@@ -130,6 +134,9 @@ module _ (s : Cells) (es : List kept.Entry) (k : ℕ) (z : kept.Entry) (shows : 
 
   pub redone_reply : RedoReply (entries_meant es) k (Ok n)
   redone_reply = put_reply s es k plan.0 shows plan.1 plan.2 xs rs n plan.3 plan.4 plan.5 plan.6
+
+  pub redone_memory : RedoReply (entries_meant es) k (Err NoMemory)
+  redone_memory = memory_reply s es k plan.0 shows plan.1 plan.2
 
   pub redone_numbers : (y : kept.Entry) → y ≡ record { edit = z.edit; kept = Some (record { foot = rs; inverse = inverse xs s }) } → numbers (slice_set es k y) ≡ into_force k (numbers es)
   redone_numbers y entry = rw entry (in_numbers es k z (record { foot = rs; inverse = inverse xs s }) is)

@@ -1,5 +1,6 @@
 pub mod Past
 pub mod Replies
+pub mod ReplyLaws
 pub mod Kept
 pub mod Locales
 pub mod Pieces

@@ -64,12 +64,12 @@ pub(crate) fn first_to_block_undo(later: &[Entry], from: u64, before: &[CellChan
     requires { from + length later.now < 2 ^ 64 }
     ensures { result ≡ first_from (blocks_undo before.now) from (kept_all later.now) }
 {
-    let mut place = from;
+    let mut number = from;
     for x in later {
         if blocks_undo(x, before) {
-            return Some(place);
+            return Some(number);
         }
-        place += 1;
+        number += 1;
     }
     None
 }

@@ -1,9 +1,9 @@
 ghost use Rattle.std.specs.Prelude.{◌≡◌, ℕ, ◌+◌, ◌-◌, length, [], ◌∷◌, ◌++◌, OnOk, OnErr, IfOk, true, false};
-ghost use Rattle.selective_undo.specs.History.{replay};
+ghost use Rattle.selective_undo.specs.History.{replay, IsLegal};
 ghost use Rattle.wb_book.specs.Cells.{written_more};
 ghost use Rattle.wb_edit.specs.Commands.{meaning};
 ghost use Rattle.wb_history.specs.Past.{meant, out_of_force, into_force, force_of};
-ghost use Rattle.wb_history.specs.Replies.{EditReply, UndoReply, LastReply, RedoReply, ByNumber, SetsBack, Restores, RedoesInPlace};
+ghost use Rattle.wb_history.specs.Replies.{EditReply, UndoReply, LastReply, RedoReply, ByNumber, SetsBack, LeavesOthers, Restores, RedoesInPlace};
 ghost use Rattle.wb_history.specs.Queries.{QueryReply};
 
 use crate::entry::Entry;
@@ -56,8 +56,9 @@ impl History {
         self.entries.len() as u64
     }
 
-    /// The workbook: what the edits in force make of an empty one.
+    /// The workbook: what the edits in force make of an empty one, each accepted in its place.
     pub fn book(&self) -> &Book
+        ensures legal { IsLegal (meant self.now.entries) }
         ensures cells { result.now.cells ≡ replay (meant self.now.entries) }
         ensures writes { result.now.writes ≡ self.now.writes }
     {
@@ -80,6 +81,7 @@ impl History {
         ensures reply { ByNumber (UndoReply (meant self.old.entries)) number result }
         ensures entries { OnOk result (self.new.entries ≡ out_of_force (number - 1) self.old.entries) }
         ensures set_back { OnOk result (SetsBack (meant self.old.entries) (number - 1) (meant self.new.entries)) }
+        ensures others { OnOk result (LeavesOthers (meant self.old.entries) (number - 1) (meant self.new.entries)) }
         ensures writes { IfOk result (λ n. self.new.writes ≡ written_more self.old.writes n) }
         ensures err { OnErr result (self.new ≡ self.old) }
     {
@@ -98,6 +100,7 @@ impl History {
         ensures reply { LastReply (meant self.old.entries) result }
         ensures entries { IfOk result (λ r. self.new.entries ≡ out_of_force (r.0 - 1) self.old.entries) }
         ensures restored { IfOk result (λ r. Restores (meant self.old.entries) (r.0 - 1) (meant self.new.entries)) }
+        ensures others { IfOk result (λ r. LeavesOthers (meant self.old.entries) (r.0 - 1) (meant self.new.entries)) }
         ensures writes { IfOk result (λ r. self.new.writes ≡ written_more self.old.writes r.1) }
         ensures err { OnErr result (self.new ≡ self.old) }
     {

@@ -1,8 +1,9 @@
-//! The laws of undo and redo at the workbook's own cells and commands: each is the contract of a function that does
-//! nothing. They name no command.
+//! The laws of undo and redo at the workbook's own cells and commands, and of the answers of a history: each is the
+//! contract of a function that does nothing. They name no command.
 
 ghost use Rattle.selective_undo.specs.Laws.{AppendLaw, UndoLaw, SetBackLaw, LastLaw, RedoLaw, UndoAfterRedoLaw, RedoAfterUndoLaw, RedoBackLaw, DependentsLaw, NoShorterLaw, RecordLaw, RunLaw};
 ghost use Rattle.wb_edit.specs.Schema.{workbook};
+ghost use Rattle.wb_history.specs.ReplyLaws.{EditAnswerLaw, UndoAnswerLaw, LastAnswerLaw, RedoAnswerLaw, UndoAfterRedoAnswerLaw, RedoAfterLastAnswerLaw, RedoBackAnswerLaw};
 
 /// A new edit does at the end of a history what it does in the workbook as it is, and all edits before it stay.
 pub fn append()
@@ -69,4 +70,43 @@ pub fn records()
 /// empty of the edits in force, the history is legal, and the records are those of the replay.
 pub fn run()
     ensures { RunLaw workbook }
+{}
+
+// ---- Answers
+
+/// At most one answer to an edit fits a history: its number and count, or its refusal; but memory may run out.
+pub fn one_answer_to_edit()
+    ensures { EditAnswerLaw }
+{}
+
+/// At most one answer to an undo by number fits a history, but that memory may run out: each refusal comes exactly when
+/// its cause is there.
+pub fn one_answer_to_undo()
+    ensures { UndoAnswerLaw }
+{}
+
+/// At most one answer to an undo of the latest fits a history, but that memory may run out.
+pub fn one_answer_to_undo_of_last()
+    ensures { LastAnswerLaw }
+{}
+
+/// At most one answer to a redo fits a history, but that memory may run out: each refusal comes exactly when its cause is
+/// there.
+pub fn one_answer_to_redo()
+    ensures { RedoAnswerLaw }
+{}
+
+/// The undo of an edit directly after its redo is refused for want of memory alone, and gives back the edits.
+pub fn undo_answered_after_redo()
+    ensures { UndoAfterRedoAnswerLaw }
+{}
+
+/// The redo directly after the undo of the latest is refused for want of memory alone, and gives back the edits.
+pub fn redo_answered_after_undo_of_last()
+    ensures { RedoAfterLastAnswerLaw }
+{}
+
+/// Where the redo of any edit is granted directly after its undo, it sets as many cells, and gives back the edits.
+pub fn redo_answered_after_undo()
+    ensures { RedoBackAnswerLaw }
 {}

@@ -2,7 +2,7 @@ ghost use Rattle.std.specs.Prelude.{◌≡◌, ℕ, ◌+◌, ◌-◌, ◌^◌, �
 ghost use Rattle.wb_book.specs.Cells.{written_more};
 ghost use Rattle.wb_history.specs.Kept.{kept_all, IsLatest, Shows, MayUndo, TakenBack, LeavesWellFormed, refusal_of, entries_meant, numbers};
 ghost use Rattle.wb_history.specs.Past.{out_of_force, AreValid};
-ghost use Rattle.wb_history.specs.Replies.{UndoReply, LastReply, SetsBack, Restores};
+ghost use Rattle.wb_history.specs.Replies.{UndoReply, LastReply, SetsBack, LeavesOthers, Restores};
 
 use crate::blockers::first_to_block_undo;
 use crate::entry::{Entry, Kept};
@@ -67,6 +67,7 @@ pub(crate) fn undo_at(book: &mut Book, entries: &mut [Entry], at: usize) -> Resu
     ensures reply { UndoReply (entries_meant entries.old) at result }
     ensures entries { OnOk result (numbers entries.new ≡ out_of_force at (numbers entries.old)) }
     ensures set_back { OnOk result (SetsBack (entries_meant entries.old) at (entries_meant entries.new)) }
+    ensures others { OnOk result (LeavesOthers (entries_meant entries.old) at (entries_meant entries.new)) }
     ensures writes { IfOk result (λ n. book.new.writes ≡ written_more book.old.writes n) }
     ensures entries_stay { OnErr result (numbers entries.new ≡ numbers entries.old) }
     ensures book_stays { OnErr result (book.new ≡ book.old) }
@@ -100,6 +101,7 @@ pub(crate) fn undo_latest(book: &mut Book, entries: &mut [Entry]) -> Result<(u64
     ensures reply { LastReply (entries_meant entries.old) result }
     ensures entries { IfOk result (λ r. numbers entries.new ≡ out_of_force (r.0 - 1) (numbers entries.old)) }
     ensures restored { IfOk result (λ r. Restores (entries_meant entries.old) (r.0 - 1) (entries_meant entries.new)) }
+    ensures others { IfOk result (λ r. LeavesOthers (entries_meant entries.old) (r.0 - 1) (entries_meant entries.new)) }
     ensures writes { IfOk result (λ r. book.new.writes ≡ written_more book.old.writes r.1) }
     ensures entries_stay { OnErr result (numbers entries.new ≡ numbers entries.old) }
     ensures book_stays { OnErr result (book.new ≡ book.old) }

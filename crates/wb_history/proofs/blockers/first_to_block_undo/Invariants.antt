@@ -5,6 +5,6 @@ use Rattle.wb_history.proofs.blockers.first_to_block_undo.Given as goal
 
 abbrev pub invariant-loop-x : goal.invariant-loop-x
 invariant-loop-x l = record {
-  count : l.place ≡ l.from + l.x-index;
-  ahead : first_from (blocks_undo l.before) l.place (kept_all (drop l.x-index l.later)) ≡ first_from (blocks_undo l.before) l.from (kept_all l.later);
+  count : l.number ≡ l.from + l.x-index;
+  ahead : first_from (blocks_undo l.before) l.number (kept_all (drop l.x-index l.later)) ≡ first_from (blocks_undo l.before) l.from (kept_all l.later);
 }

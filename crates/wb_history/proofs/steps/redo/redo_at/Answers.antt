@@ -3,7 +3,7 @@ use Rattle.std.proofs.Common.{slice_set, Ok}
 use Rattle.wb_history.proofs.Valid.{planned_again_well_formed}
 use Rattle.std.proofs.Common.{slice_index_or}
 use Rattle.std.proofs.lemmas.Option.{slice_get-get_or}
-use Rattle.wb_history.proofs.Redone.{redone_kept, redone_reply, redone_numbers}
+use Rattle.wb_history.proofs.Redone.{redone_kept, redone_reply, redone_memory, redone_numbers}
 use Rattle.wb_history.proofs.steps.redo.redo_at.Goals as goal
 
 pub returns-in-Ok-put_in-clause-kept : goal.returns-in-Ok-put_in-clause-kept
@@ -19,6 +19,13 @@ returns-in-Ok-put_in-clause-reply c =
     let x = slice_index_or es c.args.at c.index-entries-at.result in
     let is = slice_get-get_or es c.args.at c.index-entries-at.result c.requires.in_log in
     redone_reply c.args.book.now.cells es c.args.at x c.requires.kept is c.in-Ok.delta c.in-Ok.foot c.in-Ok.count c.in-Ok.ensures.ok
+
+pub returns-in-Err-put_in-clause-reply : goal.returns-in-Err-put_in-clause-reply
+returns-in-Err-put_in-clause-reply c =
+    let es = c.args.entries.now in
+    let x = slice_index_or es c.args.at c.index-entries-at.result in
+    let is = slice_get-get_or es c.args.at c.index-entries-at.result c.requires.in_log in
+    redone_memory c.args.book.now.cells es c.args.at x c.requires.kept is c.in-Ok.delta c.in-Ok.foot c.in-Ok.count c.in-Ok.ensures.ok
 
 pub returns-in-Ok-put_in-clause-entries : goal.returns-in-Ok-put_in-clause-entries
 returns-in-Ok-put_in-clause-entries c =

@@ -1,7 +1,6 @@
-use Rattle.wb_history.proofs.Granted.{sets_back}
-use Rattle.std.proofs.Common.{slice_set}
+use Rattle.wb_history.proofs.Granted.{sets_back, leaves_others}
 use Rattle.wb_history.proofs.Valid.{undone_well_formed}
-use Rattle.std.proofs.Common.{slice_index_or}
+use Rattle.std.proofs.Common.{slice_index_or, slice_set}
 use Rattle.std.proofs.lemmas.Option.{slice_get-get_or}
 use Rattle.wb_history.proofs.Entries.{refused_reply, undone_kept, undone_reply, undone_numbers}
 use Rattle.wb_history.proofs.steps.undo.undo_at.Goals as goal
@@ -47,3 +46,12 @@ returns-in-None-clause-set_back c =
     let reply = undone_reply es c.args.at x is c.take_back.result c.take_back.new.entry c.args.book.now c.take_back.new.book c.requires.kept c.in-None.ensures c.take_back.ensures.ok c.take_back.ensures.why in
     let now = undone_numbers es c.args.at x is c.take_back.result c.take_back.new.entry c.args.book.now c.take_back.new.book c.take_back.ensures.ok in
     sets_back c.args.book.now.cells es (slice_set es c.args.at c.take_back.new.entry) c.requires.kept c.args.at c.take_back.result reply now
+
+pub returns-in-None-clause-others : goal.returns-in-None-clause-others
+returns-in-None-clause-others c =
+    let es = c.args.entries.now in
+    let x = slice_index_or es c.args.at c.index-entries-at.result in
+    let is = slice_get-get_or es c.args.at c.index-entries-at.result c.requires.in_log in
+    let reply = undone_reply es c.args.at x is c.take_back.result c.take_back.new.entry c.args.book.now c.take_back.new.book c.requires.kept c.in-None.ensures c.take_back.ensures.ok c.take_back.ensures.why in
+    let now = undone_numbers es c.args.at x is c.take_back.result c.take_back.new.entry c.args.book.now c.take_back.new.book c.take_back.ensures.ok in
+    leaves_others c.args.book.now.cells es (slice_set es c.args.at c.take_back.new.entry) c.requires.kept c.args.at c.take_back.result reply now

@@ -1,6 +1,7 @@
 use Rattle.std.proofs.Common.{◌≡◌, ◌+◌, ◌-◌, Ok, add-one, arith, subst}
 use Rattle.wb_history.specs.Past.{out_of_force}
-use Rattle.wb_history.specs.Kept.{numbers}
+use Rattle.wb_history.specs.Kept.{numbers, entries_meant}
+use Rattle.wb_history.specs.Replies.{LeavesOthers}
 use Rattle.wb_history.proofs.Granted.{restores}
 use Rattle.wb_history.proofs.Latest.{latest_is_last, none_in_force, latest_refused}
 use Rattle.wb_history.proofs.steps.undo.undo_latest.Goals as goal
@@ -24,3 +25,11 @@ returns-in-Ok-clause-restored c =
     restores c.args.book.now.cells es fs c.requires.kept (Ok (at + 1, c.in-Ok.count))
     (at, add-one at, latest_is_last c.args.book.now.cells es at c.requires.kept c.in-Some.ensures, c.in-Ok.ensures.reply)
     (subst (λ k. numbers fs ≡ out_of_force k (numbers es)) number c.in-Ok.ensures.entries)
+
+pub returns-in-Ok-clause-others : goal.returns-in-Ok-clause-others
+returns-in-Ok-clause-others c =
+    let es = c.args.entries.now in
+    let fs = c.undo_at.new.entries in
+    let at = c.in-Some.at in
+    let number : at ≡ at + 1 - 1 = omega arith in
+    subst (λ k. LeavesOthers (entries_meant es) k (entries_meant fs)) number c.in-Ok.ensures.others
