@@ -29,11 +29,19 @@ StopsReading faults.ReadFault failed before after = failed ≡ true
 StopsReading faults.TooManyReads failed before after = RisesBy read_limit before after
 StopsReading faults.NoMemory failed before after = Unit {0}
 
--- What each end of a session says of its reader and its writer: the bytes left, whether the read that was made last failed,
--- the reads made before and after, and whether the write or flush that was made last failed.
-abbrev pub EndsWith : SessionEnd → Option (List ℕ) → Bool → ℕ → ℕ → Bool → Type 0
-EndsWith (ends.Done count) left read_failed before after write_failed = IsAtEnd left
-EndsWith (ends.ReadFault count) left read_failed before after write_failed = read_failed ≡ true
-EndsWith (ends.TooManyReads count) left read_failed before after write_failed = RisesBy read_limit before after
-EndsWith (ends.WriteFault count) left read_failed before after write_failed = write_failed ≡ true
-EndsWith (ends.NoMemory count) left read_failed before after write_failed = Unit {0}
+-- Why a session reads no more, by its end: no byte is left, or the read that was made last failed, or all reads that are
+-- allowed were made.
+abbrev pub ReadsUntil : SessionEnd → Option (List ℕ) → Bool → ℕ → ℕ → Type 0
+ReadsUntil (ends.Done count) left failed before after = IsAtEnd left
+ReadsUntil (ends.ReadFault count) left failed before after = failed ≡ true
+ReadsUntil (ends.TooManyReads count) left failed before after = RisesBy read_limit before after
+ReadsUntil (ends.WriteFault count) left failed before after = Unit {0}
+ReadsUntil (ends.NoMemory count) left failed before after = Unit {0}
+
+-- How a session leaves its writer, by its end: flushed, or the write or flush that was made last failed.
+abbrev pub WritesUntil : SessionEnd → (flushed failed : Bool) → Type 0
+WritesUntil (ends.Done count) flushed failed = flushed ≡ true
+WritesUntil (ends.ReadFault count) flushed failed = flushed ≡ true
+WritesUntil (ends.TooManyReads count) flushed failed = flushed ≡ true
+WritesUntil (ends.WriteFault count) flushed failed = failed ≡ true
+WritesUntil (ends.NoMemory count) flushed failed = Unit {0}

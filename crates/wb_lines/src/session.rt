@@ -1,7 +1,7 @@
 ghost use Rattle.std.specs.Prelude.{◌≡◌, ◌≢◌, ◌⊎◌, ◌<◌, ℕ, List, [], ◌++◌, length, take, true, IfOk, OnOk, OnErr, IsErrOf};
 ghost use Rattle.std.specs.Io.KnownBytes.{Appends, Consumes, IsAtEnd, Keeps};
-ghost use Rattle.wb_lines.specs.Causes.{EndsWith};
-ghost use Rattle.wb_lines.specs.Lines.{ended};
+ghost use Rattle.wb_lines.specs.Causes.{ReadsUntil, WritesUntil};
+ghost use Rattle.wb_lines.specs.Lines.{BeginsWithLine, ended};
 ghost use Rattle.wb_lines.specs.Reading.{IsText};
 ghost use Rattle.wb_lines.specs.Session.{AnswersLine, MayAnswer, Serves};
 ghost use Rattle.wb_lines.specs.declared.machine.SessionEnd.{SessionEnd};
@@ -76,6 +76,7 @@ fn answer_line<M: Machine, W: Sink>(
 // Sends on what a writer holds back, where the next line takes a read.
 fn flush_before_wait<W: Sink>(writer: &mut W, buffer: &LineBuffer) -> Result<(), WriteFault>
     ensures bytes { Keeps (W.contents writer.old) (W.contents writer.new) }
+    ensures flushed { OnOk result ((W.flushed writer.new ≡ true) ⊎ BeginsWithLine buffer.now.ahead) }
     ensures failed { OnErr result (W.failed writer.new ≡ true) }
 {
     if buffer.has_line() {
@@ -106,8 +107,8 @@ pub fn serve_lines<M: Machine, R: Source, W: Sink>(
     ensures serves { (read : List ℕ) × Consumes (R.remaining reader.old) (R.remaining reader.new) read
         × ((text : List ℕ) × Appends (W.contents writer.old) (W.contents writer.new) text
         × Serves M.answers result machine.old read text machine.new) }
-    ensures cause { EndsWith result (R.remaining reader.new) (R.failed reader.new)
-        (R.reads reader.old) (R.reads reader.new) (W.failed writer.new) }
+    ensures read { ReadsUntil result (R.remaining reader.new) (R.failed reader.new) (R.reads reader.old) (R.reads reader.new) }
+    ensures written { WritesUntil result (W.flushed writer.new) (W.failed writer.new) }
 {
     let mut buffer = LineBuffer::new(alloc);
     let mut answered = 0;
