@@ -1,11 +1,12 @@
 ghost use Rattle.std.specs.Prelude.{◌≡◌, ℕ, ◌+◌, ◌<◌, ◌≤◌, List, [], ◌∷◌, ◌++◌, Bool, true, false, length, take, drop, Some, None, ◌*◌, ◌≢◌, IfOk, IfErr, OnOk, OnErr, IfSome, IfNone, MatchBool, if◌then◌else◌};
 ghost use Rattle.std.specs.Io.KnownBytes.{Consumes, Keeps, IsAtEnd};
 ghost use Rattle.wb_lines.specs.Lines.{IsUnbroken, BeginsWithLine, ended};
+ghost use Rattle.wb_lines.specs.Causes.{CountsReads, FailedAt};
 ghost use Rattle.wb_lines.specs.Reading.{IsKept, line_limit, KnowsEnd, Gives, Breaks};
 
+use crate::source::{ReadErr, Source};
 use memchr::memchr;
 use std::alloc::{AllocError, Global};
-use std::io::{ErrorKind, Read};
 use std::marker::Model;
 use std::mem;
 use thiserror::Error;
@@ -207,14 +208,15 @@ impl LineBuffer {
     }
 
     // Reads once more. Says whether there may be more; a read that a signal interrupted gives nothing.
-    fn refill<R: Read>(&mut self, reader: &mut R) -> Result<bool, LineFault>
+    fn refill<R: Source>(&mut self, reader: &mut R) -> Result<bool, LineFault>
         requires { self.old.ahead ≡ [] }
         ensures bytes { Consumes (R.remaining reader.old) (R.remaining reader.new) self.new.ahead }
         ensures refills { Refills self.old self.new }
         ensures more { IfOk result (λ b. b ≡ true → self.new.reads ≡ self.old.reads + 1) }
         ensures last { IfOk result (λ b. b ≡ false → (self.new.at_end ≡ true) × (self.new.ahead ≡ [])) }
         ensures end { KnowsEnd self.old (R.remaining reader.old) → KnowsEnd self.new (R.remaining reader.new) }
-        ensures fault { IfErr result (λ f. FaultLeaves f self.old self.new) }
+        ensures fault { IfErr result (λ f. FaultLeaves f self.old self.new × FailedAt f (R.failed reader.new)) }
+        ensures counted { CountsReads self.old self.new (R.reads reader.old) (R.reads reader.new) }
     {
         if self.at_end {
             return Ok(false);
@@ -231,8 +233,8 @@ impl LineBuffer {
                 self.at_end = n == 0;
                 Ok(n > 0)
             }
-            Err(error) if error.kind() == ErrorKind::Interrupted => Ok(true),
-            Err(_) => Err(LineFault::ReadFault),
+            Err(ReadErr::Interrupted) => Ok(true),
+            Err(ReadErr::Failed) => Err(LineFault::ReadFault),
         }
     }
 }
@@ -259,13 +261,15 @@ fn add_part(line: &mut Vec<u8>, long: bool, part: &[u8]) -> Result<bool, AllocEr
 }
 
 // Reads a line, where there was no fault before.
-fn read_line<R: Read>(reader: &mut R, buffer: &mut LineBuffer) -> Result<Line, LineFault>
+fn read_line<R: Source>(reader: &mut R, buffer: &mut LineBuffer) -> Result<Line, LineFault>
     ensures ok { IfOk result (λ line. (got : List ℕ)
         × Consumes (R.remaining reader.old) (R.remaining reader.new) got
         × Gives line buffer.old buffer.new got) }
     ensures err { IfErr result (λ fault. (got : List ℕ)
         × Consumes (R.remaining reader.old) (R.remaining reader.new) got
         × Breaks fault buffer.old buffer.new got) }
+    ensures failed { IfErr result (λ fault. FailedAt fault (R.failed reader.new)) }
+    ensures counted { CountsReads buffer.old buffer.new (R.reads reader.old) (R.reads reader.new) }
     ensures end { KnowsEnd buffer.old (R.remaining reader.old) → KnowsEnd buffer.new (R.remaining reader.new) }
     ensures kept { buffer.new.fault ≡ buffer.old.fault }
 {
@@ -287,7 +291,7 @@ fn read_line<R: Read>(reader: &mut R, buffer: &mut LineBuffer) -> Result<Line, L
 /// Reads the next line: of the bytes that lie ahead in the buffer and then come from the reader,
 /// those up to a line end, or the last ones. A line that is too long is skipped with its end.
 /// After a fault it answers the same fault again.
-pub fn next_line<R: Read>(reader: &mut R, buffer: &mut LineBuffer) -> Result<Line, LineFault>
+pub fn next_line<R: Source>(reader: &mut R, buffer: &mut LineBuffer) -> Result<Line, LineFault>
     ensures ok { IfOk result (λ line. (got : List ℕ)
         × Consumes (R.remaining reader.old) (R.remaining reader.new) got
         × Gives line buffer.old buffer.new got) }
@@ -295,6 +299,8 @@ pub fn next_line<R: Read>(reader: &mut R, buffer: &mut LineBuffer) -> Result<Lin
     ensures err { buffer.old.fault ≡ None → IfErr result (λ fault. (buffer.new.fault ≡ Some fault)
         × ((got : List ℕ) × Consumes (R.remaining reader.old) (R.remaining reader.new) got
         × Breaks fault buffer.old buffer.new got)) }
+    ensures failed { buffer.old.fault ≡ None → IfErr result (λ fault. FailedAt fault (R.failed reader.new)) }
+    ensures counted { CountsReads buffer.old buffer.new (R.reads reader.old) (R.reads reader.new) }
     ensures again { IfSome buffer.old.fault (λ fault. (result ≡ Err fault) × (buffer.new ≡ buffer.old)
         × (R.remaining reader.new ≡ R.remaining reader.old)) }
     ensures end { KnowsEnd buffer.old (R.remaining reader.old) → KnowsEnd buffer.new (R.remaining reader.new) }

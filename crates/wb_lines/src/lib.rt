@@ -5,12 +5,16 @@ mod buffer;
 mod machine;
 mod sending;
 mod session;
+mod sink;
+mod source;
 mod whole;
 
 pub use buffer::{LINE_LIMIT, Line, LineBuffer, LineFault, READ_LIMIT, next_line};
 pub use machine::{Machine, SessionEnd};
 pub use sending::{WriteFault, send};
 pub use session::serve_lines;
+pub use sink::{Output, Sink};
+pub use source::{Input, ReadErr, Source};
 pub use whole::read_all;
 
 #[cfg(test)]

@@ -1,7 +1,7 @@
-ghost use Rattle.std.specs.Prelude.{ℕ, ◌<◌, length, take, OnOk, OnErr};
+ghost use Rattle.std.specs.Prelude.{◌≡◌, ℕ, ◌<◌, true, length, take, OnOk, OnErr};
 ghost use Rattle.std.specs.Io.KnownBytes.{Appends};
 
-use std::io::Write;
+use crate::sink::Sink;
 use thiserror::Error;
 
 /// A write failed or took nothing.
@@ -10,10 +10,11 @@ use thiserror::Error;
 pub struct WriteFault;
 
 /// Sends the bytes, by as many writes as it takes. After a fault a front of them went out, and not all.
-pub fn send<W: Write>(writer: &mut W, bytes: &[u8]) -> Result<(), WriteFault>
+pub fn send<W: Sink>(writer: &mut W, bytes: &[u8]) -> Result<(), WriteFault>
     ensures sent { OnOk result (Appends (W.contents writer.old) (W.contents writer.new) bytes.now) }
     ensures part { OnErr result ((n : ℕ) × (n < length bytes.now)
         × Appends (W.contents writer.old) (W.contents writer.new) (take n bytes.now)) }
+    ensures failed { OnErr result (W.failed writer.new ≡ true) }
 {
     let mut sent = 0;
     while sent < bytes.len() {

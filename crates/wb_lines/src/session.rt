@@ -1,6 +1,7 @@
-ghost use Rattle.std.specs.Prelude.{◌≡◌, ◌≢◌, ◌⊎◌, ◌<◌, ℕ, List, [], ◌++◌, length, take, IfOk, OnOk, OnErr};
+ghost use Rattle.std.specs.Prelude.{◌≡◌, ◌≢◌, ◌⊎◌, ◌<◌, ℕ, List, [], ◌++◌, length, take, true, IfOk, OnOk, OnErr, IsErrOf};
 ghost use Rattle.std.specs.Io.KnownBytes.{Appends, Consumes, IsAtEnd, Keeps};
-ghost use Rattle.wb_lines.specs.Lines.{ended};
+ghost use Rattle.wb_lines.specs.Causes.{ReadsUntil, WritesUntil};
+ghost use Rattle.wb_lines.specs.Lines.{BeginsWithLine, ended};
 ghost use Rattle.wb_lines.specs.Reading.{IsText};
 ghost use Rattle.wb_lines.specs.Session.{AnswersLine, MayAnswer, Serves};
 ghost use Rattle.wb_lines.specs.declared.machine.SessionEnd.{SessionEnd};
@@ -8,8 +9,9 @@ ghost use Rattle.wb_lines.specs.declared.machine.SessionEnd.{SessionEnd};
 use crate::buffer::{Line, LineBuffer, LineFault, next_line};
 use crate::machine::{Machine, SessionEnd};
 use crate::sending::{WriteFault, send};
+use crate::sink::Sink;
+use crate::source::Source;
 use std::alloc::{AllocError, Global};
-use std::io::{Read, Write};
 
 const TOO_LONG: &[u8] = b"{\"error\":\"E91\",\"name\":\"line-too-long\"}";
 
@@ -40,7 +42,7 @@ fn reply_to<M: Machine>(
 }
 
 // Answers a line: the reply and a line end.
-fn answer_line<M: Machine, W: Write>(
+fn answer_line<M: Machine, W: Sink>(
     alloc: Global,
     machine: &mut M,
     writer: &mut W,
@@ -56,6 +58,7 @@ fn answer_line<M: Machine, W: Write>(
         ⊎ ((reply : List ℕ) × AnswersLine M.answers machine.old text reply machine.new
         × ((k : ℕ) × (k < length (ended reply))
         × Appends (W.contents writer.old) (W.contents writer.new) (take k (ended reply))))) }
+    ensures failed { IsErrOf result Stop.WriteFault → W.failed writer.new ≡ true }
 {
     let mut reply = match reply_to(alloc, machine, line, bytes) {
         Ok(reply) => reply,
@@ -71,8 +74,10 @@ fn answer_line<M: Machine, W: Write>(
 }
 
 // Sends on what a writer holds back, where the next line takes a read.
-fn flush_before_wait<W: Write>(writer: &mut W, buffer: &LineBuffer) -> Result<(), WriteFault>
-    ensures { Keeps (W.contents writer.old) (W.contents writer.new) }
+fn flush_before_wait<W: Sink>(writer: &mut W, buffer: &LineBuffer) -> Result<(), WriteFault>
+    ensures bytes { Keeps (W.contents writer.old) (W.contents writer.new) }
+    ensures flushed { OnOk result ((W.flushed writer.new ≡ true) ⊎ BeginsWithLine buffer.now.ahead) }
+    ensures failed { OnErr result (W.failed writer.new ≡ true) }
 {
     if buffer.has_line() {
         return Ok(());
@@ -84,7 +89,7 @@ fn flush_before_wait<W: Write>(writer: &mut W, buffer: &LineBuffer) -> Result<()
 }
 
 // Sends on what a writer holds back, if it can, where a session ends for another fault.
-fn flush_at_fault<W: Write>(writer: &mut W)
+fn flush_at_fault<W: Sink>(writer: &mut W)
     ensures { Keeps (W.contents writer.old) (W.contents writer.new) }
 {
     let _ = writer.flush();
@@ -93,7 +98,7 @@ fn flush_at_fault<W: Write>(writer: &mut W)
 /// Answers each line that is read, in order, until the end of input or a fault. A line that is too
 /// long is answered E91, and the machine stays. A writer that holds bytes back is flushed before
 /// each read and at the end.
-pub fn serve_lines<M: Machine, R: Read, W: Write>(
+pub fn serve_lines<M: Machine, R: Source, W: Sink>(
     alloc: Global,
     machine: &mut M,
     reader: &mut R,
@@ -102,7 +107,8 @@ pub fn serve_lines<M: Machine, R: Read, W: Write>(
     ensures serves { (read : List ℕ) × Consumes (R.remaining reader.old) (R.remaining reader.new) read
         × ((text : List ℕ) × Appends (W.contents writer.old) (W.contents writer.new) text
         × Serves M.answers result machine.old read text machine.new) }
-    ensures done { (n : ℕ) → result ≡ SessionEnd.Done n → IsAtEnd (R.remaining reader.new) }
+    ensures read { ReadsUntil result (R.remaining reader.new) (R.failed reader.new) (R.reads reader.old) (R.reads reader.new) }
+    ensures written { WritesUntil result (W.flushed writer.new) (W.failed writer.new) }
 {
     let mut buffer = LineBuffer::new(alloc);
     let mut answered = 0;

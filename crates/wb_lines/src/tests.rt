@@ -1,7 +1,7 @@
 mod devices;
 mod faults;
 
-use crate::{Line, LineBuffer, Machine, SessionEnd, next_line, serve_lines};
+use crate::{Input, Line, LineBuffer, Machine, Output, SessionEnd, next_line, serve_lines};
 use devices::Pieces;
 use std::alloc::{AllocError, Global};
 use std::io::BufWriter;
@@ -40,10 +40,15 @@ fn answers_each_line(rt: HostRuntime) -> Result<(), Fail> {
         text.push(b' ')?;
     }
     text.extend_from_slice(b"\n\nlast")?;
-    let mut input = text.as_slice();
+    let input = text.as_slice();
     let mut output = Vec::new(alloc);
     let mut machine = Counter { alloc, lines: 0 };
-    let end = serve_lines(alloc, &mut machine, &mut input, &mut output);
+    let end = serve_lines(
+        alloc,
+        &mut machine,
+        &mut Input::new(input),
+        &mut Output::new(&mut output),
+    );
     assert_eq!(rt; end, SessionEnd::Done(4));
     assert_eq!(rt; output.as_slice(), LONG_REPLIES);
     Ok(())
@@ -57,7 +62,7 @@ fn gives_lines_at_their_limit(rt: HostRuntime) -> Result<(), Fail> {
         text.push(b'a')?;
     }
     text.extend_from_slice(b"\nb")?;
-    let mut input = text.as_slice();
+    let mut input = Input::new(text.as_slice());
     let mut buffer = LineBuffer::new(alloc);
     assert_eq!(rt; next_line(&mut input, &mut buffer), Ok(Line::Whole));
     assert_eq!(rt; buffer.line().len(), 65_536);
@@ -72,10 +77,15 @@ fn gives_lines_at_their_limit(rt: HostRuntime) -> Result<(), Fail> {
 #[test]
 fn answers_pieces_as_the_whole(rt: HostRuntime) -> Result<(), Fail> {
     let alloc = rt.alloc();
-    let mut input = Pieces::new(FIRST_LINES);
+    let input = Pieces::new(FIRST_LINES);
     let mut output = Vec::new(alloc);
     let mut machine = Counter { alloc, lines: 0 };
-    let end = serve_lines(alloc, &mut machine, &mut input, &mut output);
+    let end = serve_lines(
+        alloc,
+        &mut machine,
+        &mut Input::new(input),
+        &mut Output::new(&mut output),
+    );
     assert_eq!(rt; end, SessionEnd::Done(3));
     assert_eq!(rt; output.as_slice(), FIRST_REPLIES);
     Ok(())
@@ -84,10 +94,15 @@ fn answers_pieces_as_the_whole(rt: HostRuntime) -> Result<(), Fail> {
 #[test]
 fn flushes_before_it_waits(rt: HostRuntime) -> Result<(), Fail> {
     let alloc = rt.alloc();
-    let mut input = Pieces::failing_at(FIRST_LINES, 4);
+    let input = Pieces::failing_at(FIRST_LINES, 4);
     let mut output = BufWriter::new(alloc, Vec::new(alloc))?;
     let mut machine = Counter { alloc, lines: 0 };
-    let end = serve_lines(alloc, &mut machine, &mut input, &mut output);
+    let end = serve_lines(
+        alloc,
+        &mut machine,
+        &mut Input::new(input),
+        &mut Output::new(&mut output),
+    );
     assert_eq!(rt; end, SessionEnd::ReadFault(1));
     assert_eq!(rt;
         output.get_ref().as_slice(),

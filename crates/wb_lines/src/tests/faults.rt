@@ -1,7 +1,8 @@
 use super::devices::{Narrow, Pieces};
 use super::{Counter, FIRST_LINES, FIRST_REPLIES};
 use crate::{
-    LineBuffer, LineFault, SessionEnd, WriteFault, next_line, read_all, send, serve_lines,
+    Input, LineBuffer, LineFault, Output, SessionEnd, WriteFault, next_line, read_all, send,
+    serve_lines,
 };
 use std::test::Fail;
 
@@ -20,10 +21,15 @@ fn line_ends(bytes: &[u8]) -> u64 {
 fn answers_whole_lines_before_a_read_fault(rt: HostRuntime) -> Result<(), Fail> {
     let alloc = rt.alloc();
     for at in 0..FIRST_LINES.len() {
-        let mut input = Pieces::failing_at(FIRST_LINES, at);
+        let input = Pieces::failing_at(FIRST_LINES, at);
         let mut output = Vec::new(alloc);
         let mut machine = Counter { alloc, lines: 0 };
-        let end = serve_lines(alloc, &mut machine, &mut input, &mut output);
+        let end = serve_lines(
+            alloc,
+            &mut machine,
+            &mut Input::new(input),
+            &mut Output::new(&mut output),
+        );
         let whole = line_ends(&FIRST_LINES[..at]);
         assert_eq!(rt; end, SessionEnd::ReadFault(whole), "at {at}");
         assert_eq!(rt; machine.lines, whole, "at {at}");
@@ -40,20 +46,30 @@ fn stops_where_a_write_fails(rt: HostRuntime) -> Result<(), Fail> {
     let alloc = rt.alloc();
     for limit in 0..FIRST_REPLIES.len() {
         for fails in [true, false] {
-            let mut input = FIRST_LINES;
+            let input = FIRST_LINES;
             let mut output = Narrow::new(alloc, limit, fails);
             let mut machine = Counter { alloc, lines: 0 };
-            let end = serve_lines(alloc, &mut machine, &mut input, &mut output);
+            let end = serve_lines(
+                alloc,
+                &mut machine,
+                &mut Input::new(input),
+                &mut Output::new(&mut output),
+            );
             let whole = line_ends(&FIRST_REPLIES[..limit]);
             assert_eq!(rt; end, SessionEnd::WriteFault(whole), "at {limit}");
             assert_eq!(rt; machine.lines, whole.wrapping_add(1), "at {limit}");
             assert_eq!(rt; output.taken.as_slice(), &FIRST_REPLIES[..limit]);
         }
     }
-    let mut input = FIRST_LINES;
+    let input = FIRST_LINES;
     let mut output = Narrow::new(alloc, FIRST_REPLIES.len(), true);
     let mut machine = Counter { alloc, lines: 0 };
-    let end = serve_lines(alloc, &mut machine, &mut input, &mut output);
+    let end = serve_lines(
+        alloc,
+        &mut machine,
+        &mut Input::new(input),
+        &mut Output::new(&mut output),
+    );
     assert_eq!(rt; end, SessionEnd::Done(3));
     Ok(())
 }
@@ -62,16 +78,26 @@ fn stops_where_a_write_fails(rt: HostRuntime) -> Result<(), Fail> {
 #[test]
 fn failing_devices(rt: HostRuntime) -> Result<(), Fail> {
     let alloc = rt.alloc();
-    let mut input = FIRST_LINES;
+    let input = FIRST_LINES;
     let mut output = Narrow::new(alloc, 30, true);
     let mut machine = Counter { alloc, lines: 0 };
-    let end = serve_lines(alloc, &mut machine, &mut input, &mut output);
+    let end = serve_lines(
+        alloc,
+        &mut machine,
+        &mut Input::new(input),
+        &mut Output::new(&mut output),
+    );
     assert_eq!(rt; end, SessionEnd::WriteFault(1));
     assert_eq!(rt; machine.lines, 2);
-    let mut input = Pieces::failing_at(b"one\nseventh\n0123456789\n", 22);
+    let input = Pieces::failing_at(b"one\nseventh\n0123456789\n", 22);
     let mut output = Vec::new(alloc);
     let mut machine = Counter { alloc, lines: 0 };
-    let end = serve_lines(alloc, &mut machine, &mut input, &mut output);
+    let end = serve_lines(
+        alloc,
+        &mut machine,
+        &mut Input::new(input),
+        &mut Output::new(&mut output),
+    );
     assert_eq!(rt; end, SessionEnd::ReadFault(2));
     assert_eq!(rt; output.len(), 34);
     assert_eq!(rt; machine.lines, 2);
@@ -80,7 +106,7 @@ fn failing_devices(rt: HostRuntime) -> Result<(), Fail> {
 
 #[test]
 fn gives_a_fault_again(rt: HostRuntime) -> Result<(), Fail> {
-    let mut input = Pieces::failing_at(b"a\nb\n", 3);
+    let mut input = Input::new(Pieces::failing_at(b"a\nb\n", 3));
     let mut buffer = LineBuffer::new(rt.alloc());
     assert!(rt; next_line(&mut input, &mut buffer).is_ok());
     assert_eq!(rt;
@@ -97,8 +123,8 @@ fn gives_a_fault_again(rt: HostRuntime) -> Result<(), Fail> {
 #[test]
 fn sends_by_single_bytes(rt: HostRuntime) -> Result<(), Fail> {
     let mut output = Narrow::new(rt.alloc(), 4, false);
-    assert_eq!(rt; send(&mut output, b"abc"), Ok(()));
-    assert_eq!(rt; send(&mut output, b"de"), Err(WriteFault));
+    assert_eq!(rt; send(&mut Output::new(&mut output), b"abc"), Ok(()));
+    assert_eq!(rt; send(&mut Output::new(&mut output), b"de"), Err(WriteFault));
     assert_eq!(rt; output.taken.as_slice(), b"abcd".as_slice());
     Ok(())
 }
@@ -106,11 +132,13 @@ fn sends_by_single_bytes(rt: HostRuntime) -> Result<(), Fail> {
 #[test]
 fn reads_the_whole_input(rt: HostRuntime) -> Result<(), Fail> {
     let alloc = rt.alloc();
-    let read = read_all(alloc, &mut Pieces::new(FIRST_LINES)).unwrap_or(Vec::new(alloc));
+    let read = read_all(alloc, &mut Input::new(Pieces::new(FIRST_LINES))).unwrap_or(Vec::new(
+        alloc,
+    ));
     assert_eq!(rt; read.as_slice(), FIRST_LINES);
     assert!(rt;
         matches!(
-            read_all(alloc, &mut Pieces::failing_at(FIRST_LINES, 9)),
+            read_all(alloc, &mut Input::new(Pieces::failing_at(FIRST_LINES, 9))),
             Err(LineFault::ReadFault)
         )
     );

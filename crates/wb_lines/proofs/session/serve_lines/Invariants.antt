@@ -1,14 +1,16 @@
 use Rattle.std.proofs.Common.{ℕ, List, ◌+◌, ◌-◌, ◌*◌, length}
 use Rattle.std.specs.Io.KnownBytes.{Appends, Consumes}
-use Rattle.wb_lines.specs.Reading.{KnowsEnd, block_size, read_limit}
+use Rattle.wb_lines.specs.Causes.{CountsReads}
+use Rattle.wb_lines.specs.Reading.{KnowsEnd, unread, block_size, read_limit}
 use Rattle.wb_lines.proofs.Running.{Running}
 use Rattle.wb_lines.proofs.session.serve_lines.Given as goal
 
 abbrev pub invariant-lines : goal.invariant-lines
-invariant-lines g l = ((read text : List ℕ) × Consumes (g.R.Read.remaining l.fn.reader) (g.R.Read.remaining l.reader) read
-    × Appends (g.W.Write.contents l.fn.writer) (g.W.Write.contents l.writer) text
+invariant-lines g l = ((read text : List ℕ) × Consumes (g.R.Source.remaining l.fn.reader) (g.R.Source.remaining l.reader) read
+    × Appends (g.W.Sink.contents l.fn.writer) (g.W.Sink.contents l.writer) text
     × Running g.M.Machine.answers l.fn.machine l.machine read text l.answered l.buffer)
-    × KnowsEnd l.buffer (g.R.Read.remaining l.reader)
+    × KnowsEnd l.buffer (g.R.Source.remaining l.reader)
+    × CountsReads unread l.buffer (g.R.Source.reads l.fn.reader) (g.R.Source.reads l.reader)
 
 abbrev pub decreases-lines : goal.decreases-lines
 decreases-lines g l = block_size * (read_limit - l.buffer.reads) + length l.buffer.ahead
