@@ -10,7 +10,7 @@ use Rattle.wb_edit.specs.Schema.{workbook}
 use Rattle.wb_history.specs.declared.entry.Entry as kept
 use Rattle.wb_history.specs.declared.entry.Kept.{Kept}
 use Rattle.wb_history.specs.declared.refusal.Refusal.{Refusal}
-use Rattle.wb_history.specs.declared.refusal.Refusal.TheVariants.{BadRequest, BadLiteral, Refused, NoSuchEdit, NotInForce, InForce as IsInForce, Blocked, RefusedInPlace, NoMemory}
+use Rattle.wb_history.specs.declared.refusal.Refusal.TheVariants.{BadRequest, BadLiteral, Refused, NoSuchEdit, NotInForce, InForce as IsInForce, Blocked, RefusedInPlace, NoMemory, StrangePass}
 use Rattle.wb_history.specs.Past.{entry_at}
 use Rattle.wb_history.specs.Replies.{UndoReply, LastReply}
 use Rattle.wb_history.specs.Kept.{foot, kept_in, kept_all, Shows, numbered, numbers, entries_meant, IsLatest}
@@ -92,3 +92,4 @@ latest_refused s es p BadLiteral shows latest reply = reply
 latest_refused s es p (Refused e) shows latest reply = reply
 latest_refused s es p IsInForce shows latest reply = reply
 latest_refused s es p (RefusedInPlace e) shows latest reply = reply
+latest_refused s es p StrangePass shows latest reply = reply

@@ -30,4 +30,7 @@ pub enum Refusal {
     /// E90: a growth was refused.
     #[error("no-memory")]
     NoMemory,
+    /// E92: a pass that a desk does not know. Given by a desk alone.
+    #[error("strange-pass")]
+    StrangePass,
 }

@@ -8,7 +8,7 @@ use Rattle.wb_edit.specs.declared.refusal.Refusal.TheVariants.{NameTaken, NoSuch
 use Rattle.wb_history.specs.declared.query.Answer.{Answer}
 use Rattle.wb_history.specs.declared.query.Answer.TheVariants.{Value, Size, Locale, Piece, InForce as InForceIs}
 use Rattle.wb_history.specs.declared.refusal.Refusal.{Refusal}
-use Rattle.wb_history.specs.declared.refusal.Refusal.TheVariants.{BadRequest, BadLiteral, Refused, NoSuchEdit, NotInForce, InForce, Blocked, RefusedInPlace, NoMemory}
+use Rattle.wb_history.specs.declared.refusal.Refusal.TheVariants.{BadRequest, BadLiteral, Refused, NoSuchEdit, NotInForce, InForce, Blocked, RefusedInPlace, NoMemory, StrangePass}
 use Rattle.wb_proto.specs.Pieces.{piece_data}
 use Rattle.wb_proto.specs.declared.replies.reply.Reply.{Reply}
 use Rattle.wb_proto.specs.declared.replies.reply.Reply.TheVariants.{Edited, Undone, Redone, Answered, Printed, Refused as Refusing}
@@ -47,6 +47,7 @@ code_of InForce = codes "E13"
 code_of (Blocked by) = codes "E14"
 code_of (RefusedInPlace e) = codes "E16"
 code_of NoMemory = codes "E90"
+code_of StrangePass = codes "E92"
 
 abbrev pub name_of : Refusal → List ℕ
 name_of BadRequest = codes "bad-request"
@@ -58,6 +59,7 @@ name_of InForce = codes "in-force"
 name_of (Blocked by) = codes "blocked"
 name_of (RefusedInPlace e) = codes "refused-in-place"
 name_of NoMemory = codes "no-memory"
+name_of StrangePass = codes "strange-pass"
 
 -- ---- replies
 
@@ -76,6 +78,7 @@ refusal_data NoSuchEdit = object (named NoSuchEdit)
 refusal_data NotInForce = object (named NotInForce)
 refusal_data InForce = object (named InForce)
 refusal_data NoMemory = object (named NoMemory)
+refusal_data StrangePass = object (named StrangePass)
 
 abbrev pub answer_data : Answer → Data
 answer_data (Value v) = object (member (codes "value") (number (of_integer v)) no_members)

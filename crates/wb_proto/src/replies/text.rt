@@ -58,6 +58,7 @@ fn code_of(refusal: Refusal) -> &'static str
         Refusal::Blocked(_) => "E14",
         Refusal::RefusedInPlace(_) => "E16",
         Refusal::NoMemory => "E90",
+        Refusal::StrangePass => "E92",
     }
 }
 
@@ -74,6 +75,7 @@ fn name_of(refusal: Refusal) -> &'static str
         Refusal::Blocked(_) => "blocked",
         Refusal::RefusedInPlace(_) => "refused-in-place",
         Refusal::NoMemory => "no-memory",
+        Refusal::StrangePass => "strange-pass",
     }
 }
 
@@ -94,7 +96,8 @@ fn refusal_value(alloc: Global, refusal: Refusal) -> Result<Value, AllocError>
         | Refusal::NoSuchEdit
         | Refusal::NotInForce
         | Refusal::InForce
-        | Refusal::NoMemory => json!(in alloc; {"error": error, "name": name}),
+        | Refusal::NoMemory
+        | Refusal::StrangePass => json!(in alloc; {"error": error, "name": name}),
     }
 }
 

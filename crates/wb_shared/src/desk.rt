@@ -1,0 +1,163 @@
+//! A desk: opened, asked under its lock, and settled.
+
+ghost use Rattle.std.specs.Prelude.{◌≡◌, ◌≤◌, ◌+◌, length, IfOk, IfErr, OnOk, MatchResult};
+ghost use Rattle.wb_shared.specs.Settling.{IsSettled, IsCause, told};
+ghost use Rattle.wb_shared.specs.Openings.{nothing_done};
+ghost use Rattle.wb_shared.specs.Courses.{IsCourse};
+ghost use Rattle.wb_shared.specs.Seats.{IsNumberOfSeats, IsSeatsErr};
+ghost use Rattle.wb_shared.specs.Serving.{own_after, share_after, new_passes, AnswersSome};
+
+use crate::journal::Journal;
+use crate::opening::Opening;
+use crate::pass::Pass;
+use crate::settling::Cause;
+use crate::shared::{Shared, serve};
+use std::alloc::Global;
+use std::sync::ledger::{Blank, Ledger, Share};
+use std::sync::{Mutex, Wait};
+use thiserror::Error;
+use wb_history::History;
+use wb_proto::{Reply, Request};
+use wb_range::NoMemory;
+
+/// Why there is no desk.
+#[derive(Clone, Copy, Debug, PartialEq, Eq, Error)]
+pub enum DeskErr {
+    /// A desk has 1 to 16 seats.
+    #[error("no desk of so many seats")]
+    BadSeats,
+    /// A growth was refused.
+    #[error("no memory")]
+    NoMemory,
+}
+
+/// A workbook that several seats share.
+#[derive(Drop)]
+pub struct Desk<L: Opening> {
+    shared: Mutex<Shared<L>>,
+}
+
+// A pass for each of so many seats, each with a part of a share.
+fn first_passes<L: Ledger>(
+    alloc: Global,
+    rest: &mut Share<L>,
+    seats: usize,
+) -> Result<Vec<Pass<L>>, NoMemory>
+    requires parts { seats ≤ rest.old.parts }
+    requires amount { rest.old.amount ≡ 0 }
+    ensures passes { IfOk result (λ v. v.items ≡ new_passes seats) }
+    ensures parts { OnOk result (rest.new.parts + seats ≡ rest.old.parts) }
+    ensures amount { OnOk result (rest.new.amount ≡ 0) }
+{
+    let mut passes = Vec::new(alloc);
+    for seat in 0..seats {
+        let share = rest.split_off(1, 0);
+        let pass = Pass {
+            seat,
+            own: Vec::new(alloc),
+            share,
+        };
+        if passes.push(pass).is_err() {
+            return Err(NoMemory);
+        }
+    }
+    Ok(passes)
+}
+
+impl<L: Opening> Desk<L> {
+    /// A desk of 1 to 16 seats on an empty workbook, and a pass for each seat.
+    pub fn new(
+        alloc: Global,
+        blank: Blank,
+        seats: usize,
+    ) -> Result<(Desk<L>, Vec<Pass<L>>), DeskErr>
+        requires name { blank.name ≡ L.name }
+        requires parts { blank.parts ≡ L.parts }
+        requires sixteen { blank.parts ≡ 16 }
+        requires opening { L.opening ≡ nothing_done }
+        ensures ok { IfOk result (λ r. IsNumberOfSeats seats × (r.1.items ≡ new_passes seats)) }
+        ensures bad { IfErr result (λ why. IsSeatsErr seats why) }
+    {
+        match Desk::open_at(alloc, blank, seats, History::new(alloc)) {
+            Ok(opened) => Ok(opened),
+            Err((_, why)) => Err(why),
+        }
+    }
+
+    // A desk of 1 to 16 seats on the workbook of a history, and a pass for each seat. Where there is none, the history is given back.
+    pub(crate) fn open_at(
+        alloc: Global,
+        blank: Blank,
+        seats: usize,
+        history: History,
+    ) -> Result<(Desk<L>, Vec<Pass<L>>), (History, DeskErr)>
+        requires name { blank.name ≡ L.name }
+        requires parts { blank.parts ≡ L.parts }
+        requires sixteen { blank.parts ≡ 16 }
+        requires opening { L.opening ≡ history }
+        ensures ok { IfOk result (λ r. IsNumberOfSeats seats × (r.1.items ≡ new_passes seats)) }
+        ensures bad { IfErr result (λ e. IsSeatsErr seats e.1) }
+        ensures back { IfErr result (λ e. e.0 ≡ history) }
+    {
+        if seats == 0 || seats > 16 {
+            return Err((history, DeskErr::BadSeats));
+        }
+        let (calls, mut rest) = blank.open::<L>();
+        let Ok(passes) = first_passes(alloc, &mut rest, seats) else {
+            return Err((history, DeskErr::NoMemory));
+        };
+        match Journal::at(alloc, seats, history) {
+            Ok(journal) => {
+                let shared = Mutex::new(Shared {
+                    journal,
+                    calls,
+                    rest,
+                });
+                Ok((Desk { shared }, passes))
+            }
+            Err(history) => Err((history, DeskErr::NoMemory)),
+        }
+    }
+
+    /// Takes the lock, and answers one request of a pass.
+    pub fn call(&self, rt: &impl Wait, pass: &mut Pass<L>, request: Request) -> Reply
+        ensures reply { AnswersSome L.opening pass.old.seat pass.old.own request result }
+        ensures seat { pass.new.seat ≡ pass.old.seat }
+        ensures own { pass.new.own ≡ own_after pass.old.seat pass.old.own request result }
+        ensures share { pass.new.share ≡ share_after pass.old.share result }
+    {
+        let mut guard = self.shared.lock(rt);
+        serve(&mut guard, pass, request)
+    }
+}
+
+/// What is left where a desk is not settled: the locked value, the passes as they were handed in, and why.
+#[derive(Drop)]
+pub struct Unsettled<L: Opening> {
+    pub shared: Shared<L>,
+    pub passes: Vec<Pass<L>>,
+    pub cause: Cause,
+}
+
+/// Takes the locked value out of a desk, where each seat has one pass and the journal's entries of the seat, in order, are
+/// the list of that pass.
+pub fn settle<L: Opening>(desk: Desk<L>, passes: Vec<Pass<L>>) -> Result<Shared<L>, Unsettled<L>>
+    ensures course { MatchResult result (λ s. IsCourse L.opening s.course) (λ u. IsCourse L.opening u.shared.course) }
+    ensures ok { IfOk result (λ s. IsSettled s.course.seats s.course.entries passes.items) }
+    ensures whole { IfOk result (λ s. length s.course.entries ≡ told s.course.seats passes.items) }
+    ensures passes { IfErr result (λ u. u.passes.items ≡ passes.items) }
+    ensures cause { IfErr result (λ u. IsCause u.shared.course.seats u.shared.course.entries passes.items u.cause) }
+{
+    let Desk { shared } = desk;
+    let shared = shared.into_inner();
+    match shared.cause(&passes) {
+        None => Ok(shared),
+        Some(cause) => {
+            Err(Unsettled {
+                shared,
+                passes,
+                cause,
+            })
+        }
+    }
+}

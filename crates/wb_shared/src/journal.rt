@@ -1,0 +1,150 @@
+//! The history of a desk, and the journal of all that was asked there and replied.
+
+ghost use Rattle.std.specs.Prelude.{◌≡◌, ℕ, slice_index, ◌<◌, Bool, true, false, List, [], ◌∷◌, ◌++◌, length, MatchBool, IfOk, IfErr, OnErr};
+ghost use Rattle.wb_shared.specs.Entries.{is_entered};
+ghost use Rattle.wb_shared.specs.Courses.{IsCourse};
+ghost use Rattle.wb_shared.specs.Serving.{Knows, IsStrange, Enters, entry, own_after, AnswersCourse};
+
+use crate::entry::Entry;
+use crate::opening::Opening;
+use crate::replying::replied;
+use std::alloc::Global;
+use std::marker::{Model, PhantomData};
+use wb_history::{History, Refusal};
+use wb_proto::{Reply, Request};
+use wb_range::NoMemory;
+
+/// A history, and the journal of all that was asked of it and replied since the opening. Contracts see it as a course.
+#[derive(Drop)]
+pub(crate) struct Journal<L: Opening> {
+    alloc: Global,
+    history: History,
+    entries: Vec<Entry>,
+    counts: Vec<usize>,
+    opened: PhantomData<L>,
+}
+
+impl<L: Opening> Model for Journal<L> {
+    ghost use Rattle.std.specs.Prelude.{length};
+    ghost use Rattle.wb_shared.specs.Courses.{Course, course_code, Keeps};
+
+    ghost Value = { Course };
+
+    ghost coded = { course_code };
+
+    ghost view = { λ a. record { seats = length a.counts.items; entries = a.entries.items; history = a.history } };
+
+    ghost invariant = { λ a. Keeps L.opening a.counts.items a.entries.items a.history };
+}
+
+impl<L: Opening> Journal<L> {
+    /// An empty journal for so many seats, at a history, which is given back where there is no memory.
+    pub(crate) fn at(alloc: Global, seats: usize, history: History) -> Result<Journal<L>, History>
+        requires opening { history ≡ L.opening }
+        ensures ok { IfOk result (λ j. j ≡ record { seats = seats; entries = []; history = history }) }
+        ensures back { IfErr result (λ h. h ≡ history) }
+    {
+        match zeros(alloc, seats) {
+            Ok(counts) => {
+                Ok(Journal {
+                    alloc,
+                    history,
+                    entries: Vec::new(alloc),
+                    counts,
+                    opened: PhantomData,
+                })
+            }
+            Err(NoMemory) => Err(history),
+        }
+    }
+
+    pub(crate) fn seats(&self) -> usize
+        ensures { result ≡ self.now.seats }
+    {
+        self.counts.len()
+    }
+
+    pub(crate) fn entries(&self) -> &[Entry]
+        ensures entries { result.now ≡ self.now.entries }
+        ensures course { IsCourse L.opening self.now }
+    {
+        self.entries.as_slice()
+    }
+
+    pub(crate) fn history(&self) -> &History
+        ensures { result.now ≡ self.now.history }
+    {
+        &self.history
+    }
+
+    // Whether a seat is one of the desk's, and has so many entries.
+    fn knows(&self, seat: usize, own: &[Entry]) -> bool
+        ensures { MatchBool result (Knows self.now seat own.now) (¬ Knows self.now seat own.now) }
+    {
+        if seat >= self.counts.len() {
+            return false;
+        }
+        self.counts[seat] == own.len()
+    }
+
+    // Answers a pass that is known.
+    fn answer_known(
+        &mut self,
+        seat: usize,
+        own: &mut Vec<Entry>,
+        request: Request,
+    ) -> Result<Reply, NoMemory>
+        requires { Knows self.old seat own.old.items }
+        ensures ok { IfOk result (λ r. (is_entered r ≡ true) × Enters self.old seat request r self.new × (own.new.items ≡ own.old.items ++ entry seat request r ∷ [])) }
+        ensures err { OnErr result ((self.new ≡ self.old) × (own.new.items ≡ own.old.items)) }
+    {
+        if self.entries.reserve(1).is_err() {
+            return Err(NoMemory);
+        }
+        if own.reserve(1).is_err() {
+            return Err(NoMemory);
+        }
+        let asked = request.copy(self.alloc)?;
+        let told = request.copy(self.alloc)?;
+        let (reply, first, second) = replied(self.alloc, &mut self.history, request)?;
+        self.entries.push_reserved(Entry {
+            seat,
+            request: asked,
+            reply: first,
+        });
+        own.push_reserved(Entry {
+            seat,
+            request: told,
+            reply: second,
+        });
+        self.counts[seat] = own.len();
+        Ok(reply)
+    }
+
+    /// Answers a request of a seat, whose own entries these are, and enters the reply in the journal and among them.
+    pub(crate) fn answer(&mut self, seat: usize, own: &mut Vec<Entry>, request: Request) -> Reply
+        ensures course { IsCourse L.opening self.old }
+        ensures strange { IsStrange self.old seat own.old.items result }
+        ensures answers { AnswersCourse self.old seat request result self.new }
+        ensures own { own.new.items ≡ own_after seat own.old.items request result }
+    {
+        let _ = &self.alloc;
+        if !self.knows(seat, own.as_slice()) {
+            return Reply::Refused(Refusal::StrangePass);
+        }
+        match self.answer_known(seat, own, request) {
+            Ok(reply) => reply,
+            Err(NoMemory) => Reply::Refused(Refusal::NoMemory),
+        }
+    }
+}
+
+// So many zeros.
+fn zeros(alloc: Global, count: usize) -> Result<Vec<usize>, NoMemory>
+    ensures { IfOk result (λ v. (length v.items ≡ count) × ((k : ℕ) → k < count → slice_index v.items k ≡ 0)) }
+{
+    match Vec::from_elem(alloc, 0, count) {
+        Ok(zeros) => Ok(zeros),
+        Err(_) => Err(NoMemory),
+    }
+}

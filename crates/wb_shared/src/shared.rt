@@ -1,0 +1,84 @@
+//! What a desk keeps under its lock, and how it answers one request.
+
+ghost use Rattle.std.specs.Prelude.{◌≡◌, ◌+◌, Bool, true, false, List, ◌++◌, ◌∷◌, [], length, MatchOption};
+ghost use Rattle.wb_shared.specs.Entries.{leaves_all};
+ghost use Rattle.wb_shared.specs.Courses.{IsCourse};
+ghost use Rattle.wb_shared.specs.Settling.{IsSettled, IsCause};
+ghost use Rattle.wb_shared.specs.Serving.{IsStrange, AnswersCourse, own_after, share_after};
+
+use crate::journal::Journal;
+use crate::opening::Opening;
+use crate::pass::Pass;
+use crate::replying::is_entered;
+use crate::settling::{Cause, first_cause};
+use std::marker::Model;
+use std::sync::ledger::{Book, Share};
+use wb_history::History;
+use wb_proto::{Reply, Request};
+
+/// The locked value of a desk: the history, the journal, each seat's number of entries, and the ledger's book.
+#[derive(Drop)]
+pub struct Shared<L: Opening> {
+    pub(crate) journal: Journal<L>,
+    pub(crate) calls: Book<L>,
+    pub(crate) rest: Share<L>,
+}
+
+impl<L: Opening> Model for Shared<L> {
+    ghost use Rattle.std.specs.Prelude.{◌≡◌, ◌+◌, length};
+    ghost use Rattle.wb_shared.specs.Locked.{Locked, locked_code};
+
+    ghost Value = { Locked };
+
+    ghost coded = { locked_code };
+
+    ghost view = { λ a. record { course = a.journal; total = a.calls.total } };
+
+    ghost invariant = { λ a. (a.calls.total ≡ length a.journal.entries) × (a.rest.amount ≡ 0) × (a.rest.parts + a.journal.seats ≡ 16) };
+}
+
+impl<L: Opening> Shared<L> {
+    /// The length of the journal.
+    pub fn entries(&self) -> usize
+        ensures count { result ≡ length self.now.course.entries }
+        ensures total { self.now.total ≡ length self.now.course.entries }
+    {
+        self.journal.entries().len()
+    }
+
+    /// The history that came of the journal.
+    pub fn history(&self) -> &History
+        ensures history { result.now ≡ self.now.course.history }
+        ensures course { IsCourse L.opening self.now.course }
+    {
+        let _course = self.journal.entries();
+        self.journal.history()
+    }
+
+    // Why these passes and the journal do not agree.
+    pub(crate) fn cause(&self, passes: &[Pass<L>]) -> Option<Cause>
+        ensures course { IsCourse L.opening self.now.course }
+        ensures cause { MatchOption result (IsSettled self.now.course.seats self.now.course.entries passes.now) (λ why. IsCause self.now.course.seats self.now.course.entries passes.now why) }
+    {
+        first_cause(self.journal.entries(), passes, self.journal.seats())
+    }
+}
+
+/// Answers one request of a pass.
+#[tactic(auto, using(crate::proofs::Replies::course_left))]
+pub fn serve<L: Opening>(shared: &mut Shared<L>, pass: &mut Pass<L>, request: Request) -> Reply
+    ensures course { IsCourse L.opening shared.old.course }
+    ensures strange { IsStrange shared.old.course pass.old.seat pass.old.own result }
+    ensures answers { AnswersCourse shared.old.course pass.old.seat request result shared.new.course }
+    ensures left { leaves_all result ≡ true → shared.new.course.history ≡ shared.old.course.history }
+    ensures total { shared.new.total ≡ share_after shared.old.total result }
+    ensures seat { pass.new.seat ≡ pass.old.seat }
+    ensures own { pass.new.own ≡ own_after pass.old.seat pass.old.own request result }
+    ensures share { pass.new.share ≡ share_after pass.old.share result }
+{
+    let reply = shared.journal.answer(pass.seat, &mut pass.own, request);
+    if is_entered(&reply) {
+        shared.calls.add(&mut pass.share, 1);
+    }
+    reply
+}
