@@ -6,12 +6,12 @@ mod printer;
 
 use printer::Printer;
 use std::io::{self, BufWriter};
-use wb_lines::{SessionEnd, serve_lines};
+use wb_lines::{Input, Output, SessionEnd, serve_lines};
 
 fn main(rt: HostRuntime) -> io::Result<()> {
     let alloc = rt.alloc();
-    let mut input = rt.stdin();
-    let mut output = BufWriter::new(alloc, rt.stdout())?;
+    let mut input = Input::new(rt.stdin());
+    let mut output = Output::new(BufWriter::new(alloc, rt.stdout())?);
     match serve_lines(alloc, &mut Printer::new(alloc), &mut input, &mut output) {
         SessionEnd::Done(_) => Ok(()),
         _ => Err(io::ErrorKind::Other.into()),

@@ -1,7 +1,8 @@
 -- Sessions of the program, and the exit status after each.
-use Rattle.std.specs.Prelude.{ℕ, List, []}
-use Rattle.std.specs.Io.KnownBytes.{Appends, Consumes}
+use Rattle.std.specs.Prelude.{◌≡◌, ◌⊎◌, ℕ, List, [], Bool, true}
 use Rattle.wb_history.specs.Past.{Past}
+use Rattle.wb_lines.specs.Causes.{RisesBy}
+use Rattle.wb_lines.specs.Reading.{read_limit}
 use Rattle.wb_lines.specs.Session.{Serves}
 use Rattle.wb_lines.specs.declared.machine.SessionEnd.{SessionEnd}
 use Rattle.wb_lines.specs.declared.machine.SessionEnd.TheVariants.{Done, ReadFault, WriteFault, TooManyReads, NoMemory}
@@ -14,6 +15,10 @@ status_of (ReadFault n) = 3
 status_of (WriteFault n) = 3
 status_of (TooManyReads n) = 3
 status_of (NoMemory n) = 4
+
+-- the latest read failed, or all reads that are allowed were made, or the latest write or flush failed
+abbrev pub HasFailed : (read_failed : Bool) → (before after : ℕ) → (write_failed : Bool) → Type 0
+HasFailed read_failed before after write_failed = (read_failed ≡ true) ⊎ (RisesBy read_limit before after ⊎ (write_failed ≡ true))
 
 -- no edits yet
 abbrev pub opening : Past

@@ -1,14 +1,14 @@
 //! Whether an input is the text of a workbook.
 
-ghost use Rattle.std.specs.Prelude.{◌≡◌, ℕ, List, IfOk, string_bytes};
+ghost use Rattle.std.specs.Prelude.{◌≡◌, ℕ, List, true, IfOk, string_bytes};
 ghost use Rattle.std.specs.Io.KnownBytes.{Appends, Consumes, IsAtEnd};
 ghost use Rattle.workbook.specs.Checking.{IsVerdict, verdict_text, status_of_verdict, Says, Judges, IsAnswered};
+ghost use Rattle.workbook.specs.Running.{HasFailed};
 
 use crate::running::{DONE, INPUT_OR_OUTPUT_FAILED, NO_MEMORY};
 use std::alloc::{AllocError, Global};
-use std::io::{Read, Write};
 use std::str::from_utf8;
-use wb_lines::{LineFault, read_all, send};
+use wb_lines::{LineFault, Sink, Source, read_all, send};
 use wb_range::NoMemory;
 use wb_reading::{BookErr, read_book};
 
@@ -68,8 +68,10 @@ pub fn status_of_verdict(verdict: Verdict) -> u8
 }
 
 // Prints a verdict: the exit status.
-fn say<W: Write>(alloc: Global, verdict: Verdict, writer: &mut W) -> u8
-    ensures { (text : List ℕ) × Appends (W.contents writer.old) (W.contents writer.new) text × Says verdict result text }
+fn say<W: Sink>(alloc: Global, verdict: Verdict, writer: &mut W) -> u8
+    ensures says { (text : List ℕ) × Appends (W.contents writer.old) (W.contents writer.new) text × Says verdict result text }
+    ensures flushed { IsAnswered result → W.flushed writer.new ≡ true }
+    ensures failed { result ≡ 3 → W.failed writer.new ≡ true }
 {
     let text = match verdict_text(alloc, verdict) {
         Ok(text) => text,
@@ -85,12 +87,15 @@ fn say<W: Write>(alloc: Global, verdict: Verdict, writer: &mut W) -> u8
 }
 
 /// Reads the reader to its end and prints whether that is the text of a workbook: `ok` and the number of its objects,
-/// with exit status 0, or `refused` with status 1; 3 where input or output failed, and 4 where a growth was refused.
-pub fn check_with<R: Read, W: Write>(alloc: Global, reader: &mut R, writer: &mut W) -> u8
+/// with exit status 0, or `refused` with status 1; 3 only where the latest read, write or flush failed, or all reads that
+/// are allowed were made, and 4 where a growth was refused.
+pub fn check_with<R: Source, W: Sink>(alloc: Global, reader: &mut R, writer: &mut W) -> u8
     ensures judged { (read : List ℕ) × Consumes (R.remaining reader.old) (R.remaining reader.new) read
         × ((text : List ℕ) × Appends (W.contents writer.old) (W.contents writer.new) text
         × Judges read result text) }
-    ensures end { IsAnswered result → IsAtEnd (R.remaining reader.new) }
+    ensures done { IsAnswered result → IsAtEnd (R.remaining reader.new) × (W.flushed writer.new ≡ true) }
+    ensures failed { result ≡ 3
+        → HasFailed (R.failed reader.new) (R.reads reader.old) (R.reads reader.new) (W.failed writer.new) }
 {
     let bytes = match read_all(alloc, reader) {
         Ok(bytes) => bytes,

@@ -14,6 +14,7 @@ use std::alloc::AllocError;
 use std::env;
 use std::io::{self, BufWriter};
 use std::process::ExitCode;
+use wb_lines::{Input, Output};
 
 fn main(rt: HostRuntime) -> io::Result<ExitCode> {
     let status = match status_of_words(&rt) {
@@ -60,15 +61,15 @@ fn status_of_words(rt: &HostRuntime) -> io::Result<u8> {
 // A session from standard input to standard output.
 fn run(rt: &HostRuntime) -> io::Result<u8> {
     let alloc = rt.alloc();
-    let mut input = rt.stdin();
-    let mut output = BufWriter::new(alloc, rt.stdout())?;
+    let mut input = Input::new(rt.stdin());
+    let mut output = Output::new(BufWriter::new(alloc, rt.stdout())?);
     Ok(run_with(alloc, &mut input, &mut output))
 }
 
 // Whether standard input is the text of a workbook.
 fn check(rt: &HostRuntime) -> io::Result<u8> {
     let alloc = rt.alloc();
-    let mut input = rt.stdin();
-    let mut output = BufWriter::new(alloc, rt.stdout())?;
+    let mut input = Input::new(rt.stdin());
+    let mut output = Output::new(BufWriter::new(alloc, rt.stdout())?);
     Ok(check_with(alloc, &mut input, &mut output))
 }

@@ -7,15 +7,16 @@ use std::alloc::Global;
 use std::process::Abort;
 use std::test::Fail;
 use texts::{OTHERS, Text, WORKBOOKS};
+use wb_lines::{Input, Output};
 
 const FIRST_RUN: &[u8] =
     b"{\"op\":\"domain\",\"d\":\"D\",\"is\":\"{1..4}\"}\n{\"op\":\"array\",\"a\":\"A\",\"d\":\"D\"}\n{\"op\":\"set\",\"a\":\"A\",\"i\":4,\"v\":9}\n{\"op\":\"undo\"}\n{\"op\":\"get\",\"a\":\"A\",\"i\":4}\n";
 
 #[test]
 fn first_run(rt: HostRuntime) -> Result<(), Fail> {
-    let mut input = FIRST_RUN;
+    let mut input = Input::new(FIRST_RUN);
     let mut output = Vec::new(rt.alloc());
-    let status = run_with(rt.alloc(), &mut input, &mut output);
+    let status = run_with(rt.alloc(), &mut input, &mut Output::new(&mut output));
     assert_eq!(rt; status, 0);
     assert_eq!(rt;
         output.as_slice(),
@@ -71,9 +72,12 @@ fn command_line_statuses(rt: HostRuntime) -> Result<(), Fail> {
 // Checks each text, and compares what is printed of it and the exit status.
 fn judge(rt: &impl Abort, alloc: Global, texts: &[Text], status: u8) -> Result<(), Fail> {
     for (text, printed) in texts {
-        let mut input = *text;
+        let mut input = Input::new(*text);
         let mut output = Vec::new(alloc);
-        assert_eq!(rt; check_with(alloc, &mut input, &mut output), status);
+        assert_eq!(rt;
+            check_with(alloc, &mut input, &mut Output::new(&mut output)),
+            status
+        );
         assert_eq!(rt; output.as_slice(), *printed);
     }
     Ok(())
