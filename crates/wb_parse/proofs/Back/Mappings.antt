@@ -74,7 +74,7 @@ literal_of_mapping (block_cyclic m) = BlockCyclic (index_of m.start) (index_of m
 last_grid_spelled : (ns : List ℤ) → IsShort ns → AreWithin ns → grammar.IsLastGrid (last_grid_text ns) (grid_of ns)
 last_grid_spelled ns s h = (44 ∷ 32 ∷ [], integers_text ns, [], comma_spelled, grid_spelled ns s h, tt, refl)
 
-mapping_spelled : (rank : ℕ) (m : LayoutMap) → IsMapping rank m → IsMapped m → grammar.IsMapping (mapping_text m) (literal_of_mapping m)
+pub mapping_spelled : (rank : ℕ) (m : LayoutMap) → IsMapping rank m → IsMapped m → grammar.IsMapping (mapping_text m) (literal_of_mapping m)
 unfolding literal_of_mapping
 mapping_spelled rank whole h w = refl
 mapping_spelled rank (block m) h w =
@@ -98,7 +98,7 @@ mapping_spelled rank (block_cyclic m) h w =
       refl,
     )
 
-mapping_back : (rank : ℕ) (m : LayoutMap) → IsMapping rank m → mapping_within (literal_of_mapping m) ≡ Ok m
+pub mapping_back : (rank : ℕ) (m : LayoutMap) → IsMapping rank m → mapping_within (literal_of_mapping m) ≡ Ok m
 unfolding literal_of_mapping
 mapping_back rank whole h = refl
 mapping_back rank (block m) h =

@@ -207,10 +207,10 @@ record IsKind {L : Type 0} (rank : ℕ) (at : List ℕ → Option (L × List ℕ
   lists : (is : List Index) → Each (IsOfRank rank) is → listed_in (items (map literal is)) ≡ is
 
 -- the set and what follows it
-record SetBack (is : List Index) (rest : List ℕ) : Type 0 where
-  items : Items
-  read : set_at (set_text is ++ rest) ≡ Some (items, rest)
-  lists : listed_in items ≡ is
+pub record SetBack (is : List Index) (rest : List ℕ) : Type 0 where
+  pub items : Items
+  pub read : set_at (set_text is ++ rest) ≡ Some (items, rest)
+  pub lists : listed_in items ≡ is
 
 set_by : (quote : Bool) (bytes rest : List ℕ) (items : Items) → Opens quote bytes → filled_at bytes ≡ Some (items, rest) → set_at (123 ∷ bytes) ≡ Some (items, rest)
 set_by quote bytes rest items o e =
@@ -286,7 +286,7 @@ by_rank (suc (suc zero)) low high i is rest h = points_back 2 pair_at coordinate
 by_rank (suc (suc (suc zero))) low high i is rest h = points_back 3 triple_at coordinates triples triples_kept i is rest h
 by_rank (suc (suc (suc (suc n)))) low high i is rest h = absurd (omega (arith, high))
 
-set_back : (is : List Index) (rest : List ℕ) → AreAlike is → SetBack is rest
+pub set_back : (is : List Index) (rest : List ℕ) → AreAlike is → SetBack is rest
 set_back [] rest a = record { items = nothing; read = refl; lists = refl }
 set_back (i ∷ is) rest (points rank low high h) = by_rank rank low high i is rest h
 set_back (i ∷ is) rest (labels h) = texts_back i is rest h

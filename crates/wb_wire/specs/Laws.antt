@@ -1,0 +1,26 @@
+-- What holds of requests and their JSON values.
+use Rattle.std.specs.Prelude.{◌≡◌, ◌↔◌, ℕ, List, true, Some, Ok}
+use Rattle.std.specs.Str.{is_utf8}
+use Rattle.serde_json.specs.Data.{Data}
+use Rattle.serde_json.specs.Read.{read}
+use Rattle.wb_proto.specs.Requests.{request_of, request}
+use Rattle.wb_proto.specs.declared.requests.request.Request.{Request}
+use Rattle.wb_wire.specs.Encoded.{request_data}
+use Rattle.wb_wire.specs.Proper.{IsProperRequest}
+use Rattle.wb_wire.specs.Spelled.{IsRequest}
+
+-- A JSON value is read as a request exactly where it is that request.
+abbrev pub ReadsExactly : Type 0
+ReadsExactly = (d : Data) (r : Request) → (request_of d ≡ Ok r) ↔ IsRequest d r
+
+-- A line is read as a request exactly where it is UTF-8 that is the JSON of that request.
+abbrev pub ReadsLinesExactly : Type 0
+ReadsLinesExactly = (line : List ℕ) (r : Request) → (request line ≡ Ok r) ↔ ((d : Data) × (is_utf8 line ≡ true) × (read line ≡ Some d) × IsRequest d r)
+
+-- A JSON value is at most one request.
+abbrev pub OneRequest : Type 0
+OneRequest = (d : Data) (r s : Request) → IsRequest d r → IsRequest d s → r ≡ s
+
+-- The canonical object of a request is that request.
+abbrev pub EncodesRequests : Type 0
+EncodesRequests = (r : Request) → IsProperRequest r → IsRequest (request_data r) r

@@ -1,0 +1,5 @@
+pub mod Table
+pub mod Spelled
+pub mod Encoded
+pub mod Proper
+pub mod Laws

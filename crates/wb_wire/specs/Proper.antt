@@ -1,0 +1,66 @@
+-- Requests that a line can say: their names are names, their numbers are of 64 bits, their indices are points or labels, their
+-- ranges and mappings are within the limits, and a set lists indices of one kind, ascending and each once.
+use Rattle.std.specs.Prelude.{◌≡◌, ◌≤◌, ◌⊎◌, ℕ, ℤ, List, [], ◌∷◌, length, true}
+use Rattle.wb_assoc.specs.Labels.{IsLabel}
+use Rattle.wb_rect.specs.Product.{IsRectangle}
+use Rattle.wb_book.specs.Layouts.{IsLayout}
+use Rattle.wb_book.specs.Names.{is_name}
+use Rattle.wb_book.specs.declared.values.index.Index.{Index}
+use Rattle.wb_book.specs.declared.values.index.Index.TheVariants.{Point, Text}
+use Rattle.wb_literal.specs.Integer.{IsWithin}
+use Rattle.wb_resize.specs.Sources.{ascending}
+use Rattle.wb_resize.specs.declared.given.Given.{Given}
+use Rattle.wb_resize.specs.declared.given.Given.TheVariants.{Rectangle, Items, Named}
+use Rattle.wb_proto.specs.declared.requests.request.Request.{Request}
+use Rattle.wb_wire.specs.Table.{Meaning, word, name, integer, number, index, given, mapping, optional_mapping, some_set, some_mapping, some_integer, Fields, table}
+
+abbrev pub AllWithin : List ℤ → Type 0
+AllWithin [] = Unit {0}
+AllWithin (i ∷ is) = IsWithin i × AllWithin is
+
+-- a point of so many coordinates, each of 64 bits
+abbrev pub IsPoint : ℕ → Index → Type 0
+IsPoint rank (Point is) = (length is ≡ rank) × AllWithin is
+IsPoint rank (Text t) = ⊥
+
+abbrev pub IsText : Index → Type 0
+IsText (Point is) = ⊥
+IsText (Text t) = IsLabel t
+
+abbrev pub ArePoints : ℕ → List Index → Type 0
+ArePoints rank [] = Unit {0}
+ArePoints rank (i ∷ is) = IsPoint rank i × ArePoints rank is
+
+abbrev pub AreTexts : List Index → Type 0
+AreTexts [] = Unit {0}
+AreTexts (i ∷ is) = IsText i × AreTexts is
+
+-- all are points of one rank from 1 to 3, or all are texts
+abbrev pub AreAlike : List Index → Type 0
+AreAlike is = ((rank : ℕ) × (1 ≤ rank) × (rank ≤ 3) × ArePoints rank is) ⊎ AreTexts is
+
+abbrev pub IsProperGiven : Given → Type 0
+IsProperGiven (Rectangle ranges) = IsRectangle (length ranges) ranges
+IsProperGiven (Items is) = AreAlike is × (ascending is ≡ is)
+IsProperGiven (Named n) = is_name n ≡ true
+
+abbrev pub IsProper : Meaning → Type 0
+IsProper (word w) = Unit {0}
+IsProper (name n) = is_name n ≡ true
+IsProper (integer z) = IsWithin z
+IsProper (number k) = Unit {0}
+IsProper (index i) = AreAlike (i ∷ [])
+IsProper (given g) = IsProperGiven g
+IsProper (mapping m) = IsLayout m
+IsProper (optional_mapping m) = IsLayout m
+IsProper some_set = Unit {0}
+IsProper some_mapping = Unit {0}
+IsProper some_integer = Unit {0}
+
+abbrev pub AreProper : Fields → Type 0
+AreProper [] = Unit {0}
+AreProper (f ∷ fs) = IsProper f.1 × AreProper fs
+
+-- a request whose members can all be spelled
+abbrev pub IsProperRequest : Request → Type 0
+IsProperRequest r = AreProper (table r)
