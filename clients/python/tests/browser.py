@@ -1,0 +1,170 @@
+"""Drives a headless Chromium by its debugging socket, with the standard library alone."""
+
+import base64
+import json
+import os
+import shutil
+import socket
+import struct
+import subprocess
+import tempfile
+import time
+import urllib.request
+from typing import Any, List, Optional
+
+CHROMIUM = shutil.which("chromium") or shutil.which("chromium-browser") or shutil.which("google-chrome")
+WAIT = 20.0
+
+KEYS = {"Enter": 13, "Tab": 9, "Escape": 27, "z": 90}
+
+
+class Browser:
+    """One page. What its script throws, or writes to the console as an error, is kept in `faults`."""
+
+    def __init__(self, width: int = 1180, height: int = 720, dark: bool = False):
+        assert CHROMIUM is not None
+        self.place = tempfile.mkdtemp(prefix="workbook-browser-")
+        self.process = subprocess.Popen(
+            [
+                CHROMIUM, "--headless=new", "--no-sandbox", "--disable-gpu", "--hide-scrollbars",
+                "--disable-dev-shm-usage", "--no-first-run", "--disable-background-networking",
+                f"--user-data-dir={self.place}", "--remote-debugging-port=0", "about:blank",
+            ],
+            stdout=subprocess.DEVNULL, stderr=subprocess.DEVNULL,
+        )
+        self.faults: List[str] = []
+        self.number = 0
+        self._connect()
+        self.do("Emulation.setDeviceMetricsOverride", width=width, height=height, deviceScaleFactor=1, mobile=False)
+        scheme = [{"name": "prefers-color-scheme", "value": "dark" if dark else "light"}]
+        self.do("Emulation.setEmulatedMedia", features=scheme)
+        for domain in ("Page", "Runtime", "Log"):
+            self.do(domain + ".enable")
+
+    def _connect(self) -> None:
+        told = os.path.join(self.place, "DevToolsActivePort")
+        end = time.monotonic() + WAIT
+        while not (os.path.exists(told) and open(told).read().count("\n")):
+            if time.monotonic() > end or self.process.poll() is not None:
+                raise RuntimeError("the browser doesn't start")
+            time.sleep(0.05)
+        with open(told) as file:
+            port = int(file.readline())
+        with urllib.request.urlopen(f"http://127.0.0.1:{port}/json", timeout=WAIT) as answer:
+            (page,) = [t for t in json.load(answer) if t["type"] == "page"]
+        path = page["webSocketDebuggerUrl"].split(str(port), 1)[1]
+        self.socket = socket.create_connection(("127.0.0.1", port), WAIT)
+        key = base64.b64encode(os.urandom(16)).decode()
+        self.socket.sendall(
+            f"GET {path} HTTP/1.1\r\nHost: 127.0.0.1:{port}\r\nUpgrade: websocket\r\nConnection: Upgrade\r\n"
+            f"Sec-WebSocket-Key: {key}\r\nSec-WebSocket-Version: 13\r\n\r\n".encode()
+        )
+        self.incoming = self.socket.makefile("rb")
+        while self.incoming.readline().strip():
+            pass
+
+    def do(self, method: str, **params: Any) -> Any:
+        """One call of the debugging protocol, and what it gives."""
+        self.number += 1
+        data = json.dumps({"id": self.number, "method": method, "params": params}).encode()
+        size = len(data)
+        head = struct.pack("!BB", 0x81, 0x80 | size) if size < 126 else struct.pack("!BBH", 0x81, 0xFE, size)
+        mask = os.urandom(4)
+        self.socket.sendall(head + mask + bytes(byte ^ mask[n % 4] for n, byte in enumerate(data)))
+        while True:
+            told = self._read()
+            if told.get("id") == self.number:
+                if "error" in told:
+                    raise RuntimeError(told["error"])
+                return told["result"]
+            if told.get("method") == "Runtime.exceptionThrown":
+                self.faults.append(str(told["params"]["exceptionDetails"]))
+            elif told.get("method") == "Log.entryAdded" and told["params"]["entry"]["level"] == "error":
+                self.faults.append(str(told["params"]["entry"]))
+
+    def _read(self) -> Any:
+        out = b""
+        while True:
+            first, size = self.incoming.read(2)
+            if size == 126:
+                (size,) = struct.unpack("!H", self.incoming.read(2))
+            elif size == 127:
+                (size,) = struct.unpack("!Q", self.incoming.read(8))
+            out += self.incoming.read(size)
+            if first & 0x80:
+                return json.loads(out)
+
+    def go(self, address: str) -> None:
+        """Opens an address."""
+        self.do("Page.navigate", url=address)
+
+    def js(self, expression: str) -> Any:
+        """The value of an expression in the page."""
+        told = self.do("Runtime.evaluate", expression=expression, awaitPromise=True, returnByValue=True)
+        if "exceptionDetails" in told:
+            raise RuntimeError(told["exceptionDetails"])
+        return told["result"].get("value")
+
+    def until(self, expression: str) -> None:
+        """Waits until an expression holds in the page."""
+        end = time.monotonic() + WAIT
+        while not self.js(expression):
+            if time.monotonic() > end:
+                raise AssertionError(f"never: {expression}; the page is {self.text('body')!r}")
+            time.sleep(0.05)
+
+    def text(self, selector: str) -> str:
+        """What an element shows."""
+        return self.js(f"document.querySelector({json.dumps(selector)}).innerText")
+
+    def click(self, selector: str) -> None:
+        """Clicks in the middle of an element."""
+        x, y = self._middle(selector)
+        for kind in ("mousePressed", "mouseReleased"):
+            self.do("Input.dispatchMouseEvent", type=kind, x=x, y=y, button="left", clickCount=1)
+
+    def hover(self, selector: str) -> None:
+        """Puts the mouse over an element."""
+        x, y = self._middle(selector)
+        self.do("Input.dispatchMouseEvent", type="mouseMoved", x=x, y=y)
+
+    def _middle(self, selector: str) -> List[float]:
+        return self.js(
+            f"(() => {{ const it = document.querySelector({json.dumps(selector)}); it.scrollIntoView({{block: 'nearest'}});"
+            " const r = it.getBoundingClientRect(); return [r.x + r.width / 2, r.y + r.height / 2]; })()"
+        )
+
+    def type(self, text: str) -> None:
+        """Types where the caret is."""
+        self.do("Input.insertText", text=text)
+
+    def key(self, key: str, modifiers: int = 0) -> None:
+        """Presses a key: 2 of `modifiers` is Ctrl, 8 is Shift."""
+        given = {"key": key, "code": f"Key{key.upper()}" if len(key) == 1 else key, "windowsVirtualKeyCode": KEYS[key], "modifiers": modifiers}
+        text = {"text": "\r"} if key == "Enter" else {}
+        self.do("Input.dispatchKeyEvent", type="keyDown", **given, **text)
+        self.do("Input.dispatchKeyEvent", type="keyUp", **given)
+
+    def picture(self, path: str) -> None:
+        """Writes a picture of the page."""
+        data = self.do("Page.captureScreenshot", format="png")["data"]
+        with open(path, "wb") as file:
+            file.write(base64.b64decode(data))
+
+    def close(self) -> None:
+        """Ends the browser."""
+        try:
+            self.do("Browser.close")
+        except (OSError, RuntimeError, ValueError):
+            self.process.terminate()
+        self.incoming.close()
+        self.socket.close()
+        self.process.wait(WAIT)
+        shutil.rmtree(self.place, ignore_errors=True)
+
+    def __enter__(self) -> "Browser":
+        return self
+
+    def __exit__(self, *_: Any) -> Optional[bool]:
+        self.close()
+        return None

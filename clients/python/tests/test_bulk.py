@@ -1,0 +1,129 @@
+"""Many elements at once: lists, dicts, and arrays of numpy's where numpy is there."""
+
+import unittest
+
+from tests.support import PROGRAM
+from workbook_client import OutOfDomain, Overflow, Workbook
+
+try:
+    import numpy
+except ImportError:
+    numpy = None  # type: ignore[assignment]
+
+
+class Bulk(unittest.TestCase):
+    def setUp(self) -> None:
+        self.wb = Workbook.run(PROGRAM)
+        self.addCleanup(self.wb.close)
+
+    def test_a_list(self):
+        A = self.wb.array("A", self.wb.domain("D", range(1, 8)))
+        edits = A.put([5, 5, 5, 0, 0, 3, 2**63 - 1])
+        self.assertEqual([e.what for e in edits], ["A[1..3] = 5", "A[4..5] = 0", "A[6] = 3", "A[7] = 9223372036854775807"])
+        self.assertEqual(list(A), [5, 5, 5, 0, 0, 3, 2**63 - 1])
+        A[:] = [7] * 7
+        self.assertEqual((self.wb.last_edit.what, list(A)), ("A = 7", [7] * 7))
+        A[:] = (1, 2, 3, 4, 5, 6, 7)
+        self.assertEqual(list(A), [1, 2, 3, 4, 5, 6, 7])
+
+    def test_rows_strides_and_directions(self):
+        for ranges in ((range(1, 4), range(2, 9, 3)), (range(9, 0, -4), range(10, 0, -3)), (range(2), range(2), range(-3, 4))):
+            shape = [len(part) for part in ranges]
+            with self.subTest(ranges), Workbook.run(PROGRAM) as wb:
+                A = wb.array("A", wb.domain("D", ranges))
+                numbers = iter([1, 1, 2, 3, 3, 3, 4] * 9)
+
+                def rows(shape):
+                    return [next(numbers) if len(shape) == 1 else rows(shape[1:]) for _ in range(shape[0])]
+
+                wanted = rows(shape)
+                A.put(wanted)
+                flat = wanted
+                for _ in shape[1:]:
+                    flat = [value for part in flat for value in part]
+                self.assertEqual(list(A), flat)
+
+    def test_sparse_and_associative(self):
+        D = self.wb.domain("D", range(1, 9))
+        S = self.wb.sparse("S", D)
+        S.reshape({2, 5, 7})
+        B = self.wb.array("B", S)
+        B.put([1, 1, -4])
+        self.assertEqual(B.to_dict(), {2: 1, 5: 1, 7: -4})
+        T = self.wb.assoc("T", "text")
+        T |= {"b", "a"}
+        P = self.wb.array("P", T)
+        P[:] = [8, 8]
+        self.assertEqual(P.to_dict(), {"a": 8, "b": 8})
+
+    def test_empty(self):
+        A = self.wb.array("A", self.wb.domain("D", "{1..0}"))
+        self.assertEqual(A.put([]), [])
+        B = self.wb.array("B", self.wb.domain("M", "{1..3, 1..0}"))
+        self.assertEqual(B.put([[], [], []]), [])
+
+    def test_other_shapes_and_other_values(self):
+        A = self.wb.array("A", self.wb.domain("D", "{1..2, 1..2}"))
+        for wrong in ([1, 2], [[1, 2]], [[1, 2], [3]], [[1, 2], 3], [[[1], 2], [3, 4]], "ab", 3, None, {1: 2}):
+            with self.subTest(wrong), self.assertRaises((TypeError, ValueError)):
+                A.put(wrong)
+        with self.assertRaises(TypeError):
+            A.put([[1, 2], [3, 4.0]])
+        with self.assertRaises(ValueError):
+            A.put([[1, 2], [3, 2**63]])
+        self.assertEqual((list(A), len(self.wb.history())), ([0] * 4, 2))
+
+    def test_all_or_none(self):
+        D = self.wb.domain("D", range(1, 4))
+        A = self.wb.array("A", D)
+        with self.assertRaises(OutOfDomain):
+            A.update({1: 5, 9: 6, 2: 7})
+        self.assertEqual(list(A), [0, 0, 0])
+        self.assertEqual([e.cells for e in A.update({1: 2, 3: 3})], [1, 1])
+        with self.assertRaises(Overflow), self.wb.trying():
+            A.put([2**63 - 1, 1, 1])
+            A += A
+        self.assertEqual(list(A), [2, 0, 3])
+
+    def test_as_many_as_there_may_be(self):
+        A = self.wb.array("A", self.wb.domain("D", "{1..256, 1..256}"))
+        values = [[(row * column) % 7 for column in range(256)] for row in range(256)]
+        edits = A.put(values)
+        self.assertGreater(len(edits), 50000)
+        self.assertEqual(list(A), [value for row in values for value in row])
+
+    @unittest.skipUnless(numpy, "numpy isn't there")
+    def test_numpy(self):
+        M = self.wb.domain("M", "{1..2, 1..3}")
+        A = self.wb.array("A", M)
+        A[:] = numpy.arange(6).reshape(2, 3)
+        self.assertEqual(A.to_numpy().tolist(), [[0, 1, 2], [3, 4, 5]])
+        A[2, 3] = numpy.int64(-6)
+        A[:] = A.to_numpy() * 2
+        self.assertEqual(list(A), [0, 2, 4, 6, 8, -12])
+        A[:] = numpy.int32(4)
+        self.assertEqual((list(A), self.wb.last_edit.what), ([4] * 6, "A = 4"))
+        A.put(numpy.array([[1, 2, 3], [4, 5, 6]], dtype=numpy.uint8).T.T[::-1])
+        self.assertEqual(list(A), [4, 5, 6, 1, 2, 3])
+        for wrong in (
+            numpy.zeros((2, 3)), numpy.zeros((3, 2), dtype=int), numpy.zeros((2, 3), dtype=bool),
+            numpy.full((2, 3), 2**63, dtype=numpy.uint64), numpy.array(5),
+        ):
+            with self.subTest(wrong), self.assertRaises((TypeError, ValueError)):
+                A.put(wrong)
+        self.assertEqual(list(A), [4, 5, 6, 1, 2, 3])
+
+    @unittest.skipUnless(numpy, "numpy isn't there")
+    def test_numpy_over_any_domain(self):
+        T = self.wb.assoc("T", "int")
+        T |= {3, 1}
+        P = self.wb.array("P", T)
+        P.put(numpy.array([7, 9]))
+        self.assertEqual(P.to_numpy().tolist(), [7, 9])
+        Z = self.wb.array("Z", self.wb.domain("E", "{1..3, 1..0}"))
+        Z.put(Z.to_numpy())
+        self.assertEqual(Z.to_numpy().shape, (3, 0))
+
+
+if __name__ == "__main__":
+    unittest.main()

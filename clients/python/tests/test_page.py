@@ -1,0 +1,99 @@
+"""The page's server. How the page looks and is clicked is seen in a browser."""
+
+import http.client
+import json
+import threading
+import unittest
+
+from tests.support import PROGRAM, Server, serves
+from workbook_client import Workbook, view
+from workbook_client.page import serve
+
+
+class Page(unittest.TestCase):
+    def open(self, book: Workbook) -> None:
+        self.addCleanup(book.close)
+        self.server = serve(book)
+        self.port = self.server.server_address[1]
+        thread = threading.Thread(target=self.server.serve_forever, args=(0.05,))
+        thread.start()
+        self.addCleanup(thread.join)
+        self.addCleanup(self.server.server_close)
+        self.addCleanup(self.server.shutdown)
+
+    def ask(self, path, body=None, **headers):
+        asked = http.client.HTTPConnection("127.0.0.1", self.port, timeout=10)
+        headers = {name.replace("_", "-"): value for name, value in headers.items()}
+        if body is not None:
+            headers.setdefault("Content-Type", "application/json")
+        asked.request("GET" if body is None else "POST", path, None if body is None else json.dumps(body), headers)
+        answer = asked.getresponse()
+        text = answer.read().decode()
+        asked.close()
+        return answer.status, json.loads(text) if text[:1] == "{" else text
+
+    def lines(self, *lines):
+        for line in lines:
+            told = self.ask("/do", {"line": line})
+        return told[1]
+
+    def test_a_session_of_its_own(self):
+        self.open(Workbook.run(PROGRAM))
+        status, page = self.ask("/")
+        self.assertEqual(status, 200)
+        self.assertIn("<title>workbook</title>", page)
+        self.lines("D = {1..2} dmapped cyclicDist(1, [2])", "A over D", "A[1] = 9223372036854775807", "A[2] = A[1] - 1")
+        _, state = self.ask("/state")
+        (array,) = state["arrays"]
+        self.assertEqual(array["values"], [[["1"], "1", "9223372036854775807"], [["2"], "2", "9223372036854775806"]])
+        self.assertEqual(array["locales"], [0, 1])
+        self.assertEqual([(e["k"], e["on"], e["by"]) for e in state["edits"]], [(1, True, 2), (2, True, 3), (3, True, 4), (4, True, None)])
+        self.assertEqual(self.ask("/state?seen=" + state["version"]), (204, ""))
+        told = self.ask("/do", {"op": "undo", "k": 3})[1]
+        self.assertEqual((told["ok"], told["code"], told["by"]), (False, "E14", 4))
+        self.assertIn("cascade 3 takes back 4 and 3", told["say"])
+        self.assertTrue(self.ask("/do", {"op": "cascade", "k": 3})[1]["ok"])
+        self.assertNotEqual(self.ask("/state?seen=" + state["version"])[0], 204)
+        self.assertIn("array A over D [0, 0]", self.ask("/text")[1])
+
+    def test_wrong_lines_and_files(self):
+        self.open(Workbook.run(PROGRAM))
+        told = self.lines("A[4 = 9")
+        self.assertEqual((told["ok"], told["say"].splitlines()[1]), (False, "      ^"))
+        self.assertIn("terminal", self.lines("save x")["say"])
+        self.assertEqual(self.ask("/nothing")[0], 404)
+        self.assertEqual(self.ask("/do", {"line": "undo"}, Content_Type="text/plain")[0], 404)
+
+    def test_other_pages_are_kept_out(self):
+        self.open(Workbook.run(PROGRAM))
+        self.assertEqual(self.ask("/state", Host="evil.example")[0], 403)
+        self.assertEqual(self.ask("/do", {"line": "D = {1..4}"}, Origin="http://evil.example")[0], 403)
+        self.assertEqual(self.ask("/do", {"line": "D = {1..4}"}, Origin=f"http://127.0.0.1:{self.port}")[0], 200)
+
+    @unittest.skipUnless(serves(), "this program has no `serve`")
+    def test_a_shared_workbook(self):
+        server = Server(seats=2)
+        self.addCleanup(server.close)
+        view.APART, before = 0.0, view.APART
+        self.addCleanup(setattr, view, "APART", before)
+        self.open(server.connect())
+        other = server.connect()
+        self.lines("D = {1..2}", "A over D", "A[1] = 5")
+        _, state = self.ask("/state")
+        other["A"][1] = 6
+        _, later = self.ask("/state?seen=" + state["version"])
+        self.assertEqual([(e["k"], e["who"]) for e in later["edits"]], [(1, "me"), (2, "me"), (3, "me"), (4, "another")])
+        self.assertEqual(self.ask("/do", {"op": "undo", "k": 3})[1]["by"], 4)
+        self.assertEqual(self.ask("/state")[1]["edits"][2]["by"], 4)
+        other.undo()
+        self.assertIsNone(self.ask("/state")[1]["edits"][2]["by"])
+
+    def test_a_program_that_is_gone(self):
+        book = Workbook.run(PROGRAM)
+        self.open(book)
+        book.close()
+        self.assertEqual(self.ask("/state")[0], 503)
+
+
+if __name__ == "__main__":
+    unittest.main()

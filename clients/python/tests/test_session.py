@@ -1,0 +1,229 @@
+"""The session for people: its tables, its words, and the README's transcript."""
+
+import io
+import os
+import re
+import subprocess
+import sys
+import tempfile
+import unittest
+
+from tests.support import HERE, PROGRAM, Server, serves
+from workbook_client import Workbook
+from workbook_client.session import Session
+from workbook_client.tables import Cell, columns, elements_table, grid, plain
+
+PACKAGE = HERE.parents[1]
+
+
+class Tables(unittest.TestCase):
+    def test_a_row(self):
+        lines = ["┌───┬─────┐", "│ 1 │   2 │", "├───┼─────┤", "│ 0 │ -15 │", "└───┴─────┘"]
+        self.assertEqual(elements_table({1: 0, 2: -15}, 80).splitlines(), lines)
+
+    def test_rows_and_columns(self):
+        table = elements_table({(1, 1): 1, (1, 2): 2, (2, 1): 3, (2, 2): 4}, 80)
+        self.assertEqual(table.splitlines()[3:5], ["│ 1 │ 1 │ 2 │", "│ 2 │ 3 │ 4 │"])
+
+    def test_a_hole_of_a_sparse_domain(self):
+        self.assertIn("│ 1 │ · │ 5 │", elements_table({(1, 9): 5, (2, 3): 6}, 80))
+
+    def test_nothing_is_wider_than_the_terminal(self):
+        for values in ({i: 10**i for i in range(15)}, {(i, j): i * 10**j for i in range(5) for j in range(15)}):
+            for width in (20, 33, 80):
+                table = elements_table(values, width)
+                self.assertLessEqual(max(map(columns, table.splitlines())), max(width, 24))
+                self.assertEqual(table.count("┌"), table.count("┘"))
+        bands = elements_table({(i, j): 0 for i in range(2) for j in range(30)}, 40).split("┌")[1:]
+        self.assertGreater(len(bands), 2)
+        for band in bands:  # each has the rows' numbers
+            self.assertRegex(band, "│ 1 │ +0 │")
+
+    def test_large_arrays_are_cut(self):
+        self.assertIn("more rows", elements_table({(i, 1): 0 for i in range(100)}, 80))
+        self.assertIn("more elements", elements_table({i: 0 for i in range(1000)}, 80))
+
+    def test_wide_letters(self):
+        self.assertEqual((columns("é"), columns("e\u0301"), columns("表")), (1, 1, 2))
+        lines = elements_table({"表": 1, "a": 2}, 80).splitlines()
+        self.assertEqual(len(set(map(columns, lines))), 1)
+
+    def test_colours_come_after_the_widths(self):
+        coloured = grid(["a"], [[Cell("12", 1)]], 80)
+        self.assertIn("\x1b[33m12\x1b[0m", coloured)
+        self.assertEqual(plain(coloured), grid(["a"], [[Cell("12")]], 80))
+
+
+class Talk(unittest.TestCase):
+    def setUp(self) -> None:
+        self.wb = Workbook.run(PROGRAM)
+        self.addCleanup(self.wb.close)
+        self.session = Session(self.wb, io.StringIO(), width=80)
+
+    def say(self, *lines: str) -> str:
+        """What the last of these lines gives."""
+        for line in lines:
+            self.session.out = io.StringIO()
+            self.session.line(line)
+        return str(getattr(self.session.out, "getvalue")())
+
+    def test_blocked_says_what_to_do_next_and_that_works(self):
+        told = self.say("D = {1..4}", "A over D", "A[1] = 5", "A[2] = A[1] + 1", "undo 3")
+        self.assertIn("Blocked by edit 4 (A[2] = A[1] + 1)", told)
+        self.assertIn("next: undo 4 first, or cascade 3 takes back 4 and 3", told)
+        self.assertTrue(self.session.failed)
+        self.assertIn("edits 4, 3 taken back, 2 cells", self.say("cascade 3"))
+
+    def test_a_blocked_redo(self):
+        told = self.say("D = {1..4}", "A over D", "A[1] = 5", "undo 3", "A[1] = 6", "redo 3")
+        self.assertIn("next: undo 4 first; then redo 3, and redo 4", told)
+
+    def test_the_mark_stands_under_the_column(self):
+        told = self.say("D = {1..4}", "A over D", "A[4 = 9")
+        self.assertEqual(told.splitlines()[:2], ["  A[4 = 9", "      ^"])
+        self.session.out = io.StringIO()
+        self.session.line("A[4 = 9", "workbook> ")
+        self.assertEqual(self.session.out.getvalue().splitlines()[0], " " * (10 + 4) + "^")
+
+    def test_history_and_names(self):
+        told = self.say("D = {1..4}", "A over D", "A[4] = 9", "undo", "history")
+        self.assertIn("│ 3    │ me  │ A[4] = 9   │ 1     │ taken back │", told)
+        told = self.say("names")
+        self.assertIn("│ A    │ array  │ over D │", told)
+
+    def test_a_refusal_tells_what_is_there(self):
+        self.say("Plan = {1..4}", "Hours over Plan", "S sparse Plan")
+        for line, hint in [
+            ("Hours[9] = 1", "Hours over Plan = {1..4}"),
+            ("Hors[1] = 2", "is it Hours?"),
+            ("Hours[1] = X[2]", "there is Hours, Plan, S"),
+            ("Hours over Plan", "Hours over Plan = {1..4}"),
+            ("drop Plan", "on Plan stand: Hours, S"),
+            ("S += 9", "Plan = {1..4}"),
+            ("Hours[1, 2]", "Hours over Plan = {1..4}"),
+        ]:
+            with self.subTest(line):
+                self.assertEqual(self.say(line).splitlines()[-1].strip(), hint)
+
+    def test_a_reduction_of_what_is_no_array(self):
+        self.assertIn("E04", self.say("+ reduce X"))
+        self.assertIn("E05", self.say("D = {1..4}", "+ reduce D"))
+
+    def test_colours(self):
+        told = self.say("D = {1..2} dmapped cyclicDist(1, [2])", "A over D", "colours on", "A")
+        self.assertIn("\x1b[36mlocale 0\x1b[0m  \x1b[33mlocale 1\x1b[0m", told)
+        self.assertNotIn("\x1b", self.say("colours off", "A"))
+
+    def test_save_and_load(self):
+        with tempfile.TemporaryDirectory() as place:
+            path = os.path.join(place, "my book.txt")
+            self.say("D = {1..2, 1..3}", "A over D", "A = 4", "A[1, 2] = -1", f"save {path}")
+            text = self.wb.print_text()
+            with Workbook.run(PROGRAM) as other:
+                Session(other, io.StringIO()).line(f"load {path}")
+                self.assertEqual(other.print_text(), text)
+            self.assertIn("No such file", self.say(f"load {path}.gone"))
+
+    @unittest.skipUnless(serves(), "this program has no `serve`")
+    def test_a_shared_workbook(self):
+        server = Server(seats=2)
+        self.addCleanup(server.close)
+        self.session.book, other = server.connect(), server.connect()
+        self.say("D = {1..4}", "A over D", "A[1] = 5")
+        other["A"][1] = 6
+        told = self.say("undo 3")
+        self.assertIn("Blocked by edit 4, made by another seat: it is later", told)
+        self.assertIn("│ 4    │ another │ ?", self.say("history"))
+
+
+class Whole(unittest.TestCase):
+    """`python3 -m workbook_client`, as it is started."""
+
+    def run_with(self, script: str, *words: str) -> "subprocess.CompletedProcess[str]":
+        return subprocess.run(
+            [sys.executable, "-m", "workbook_client", "--program", PROGRAM, *words],
+            input=script, capture_output=True, text=True, cwd=PACKAGE, timeout=30,
+        )
+
+    def test_statuses(self):
+        self.assertEqual(self.run_with("D = {1..4}\n").returncode, 0)
+        stopped = self.run_with("A[1] = 2\nD = {1..4}\n")
+        self.assertEqual((stopped.returncode, stopped.stdout.count("edit 1")), (1, 0))
+        self.assertEqual(self.run_with("A[1] = 2\nD = {1..4}\n", "--keep-going").stdout.count("edit 1"), 1)
+        gone = subprocess.run(
+            [sys.executable, "-m", "workbook_client", "--program", "/no/such"], capture_output=True, text=True, cwd=PACKAGE,
+        )
+        self.assertEqual(gone.returncode, 3)
+        self.assertIn("there is no program", gone.stderr)
+
+    def test_at_a_terminal(self):
+        """A prompt, completion by Tab, Ctrl-C, and the mark under the typed line."""
+        try:
+            import pty
+        except ImportError:
+            self.skipTest("no terminals here")
+        import select
+
+        parent, child = pty.openpty()
+        process = subprocess.Popen(
+            [sys.executable, "-m", "workbook_client", "--program", PROGRAM],
+            stdin=child, stdout=child, stderr=child, cwd=PACKAGE, env={**os.environ, "TERM": "dumb", "WORKBOOK_HISTORY": os.devnull},
+            start_new_session=True,
+        )
+        os.close(child)
+        seen = ""
+
+        def until(words: str) -> str:
+            nonlocal seen
+            while words not in seen:
+                ready, _, _ = select.select([parent], [], [], 10)
+                self.assertTrue(ready, f"waited for {words!r}, saw {seen!r}")
+                seen += os.read(parent, 4096).decode()
+            at = seen.index(words) + len(words)
+            told, seen = seen[:at], seen[at:]
+            return told
+
+        try:
+            until("workbook> ")
+            os.write(parent, b"Plan = {1..4}\n")
+            until("edit 1, 3 cells")
+            until("workbook> ")
+            os.write(parent, b"A over Pl\t\n")
+            self.assertIn("A over Plan", until("edit 2, 7 cells"))
+            until("workbook> ")
+            os.write(parent, b"A[4 = 9\n")
+            self.assertIn("\n" + " " * 14 + "^", until("expected").replace("\r", ""))
+            until("workbook> ")
+            os.write(parent, b"quit\n")
+            self.assertEqual(process.wait(10), 0)
+        finally:
+            process.kill()
+            process.wait()
+            os.close(parent)
+
+    def test_the_code_of_the_readme(self):
+        """Each print gives what its remark says."""
+        text = (PACKAGE / "README.md").read_text(encoding="utf-8")
+        code = re.search(r"```python\n(.*?)```", text, re.S)[1]
+        wanted = re.findall(r"print\(.*\) +# (.*)", code)
+        told = subprocess.run(
+            [sys.executable, "-c", code], capture_output=True, text=True, cwd=PACKAGE, timeout=30,
+            env={**os.environ, "WORKBOOK_PROGRAM": PROGRAM},
+        )
+        self.assertEqual(told.stdout.splitlines(), wanted, told.stderr)
+
+    def test_the_transcript_of_the_readme(self):
+        text = (PACKAGE / "README.md").read_text(encoding="utf-8")
+        wanted = re.search(r"<!-- transcript -->\n```text\n(.*?)```", text, re.S)[1]
+        lines = re.findall(r"^workbook> (.*)$", wanted, re.M)
+        out = io.StringIO()
+        with Workbook.run(PROGRAM) as wb:
+            session = Session(wb, out, width=80)
+            for line in lines:
+                session.say("workbook> " + line)
+                session.line(line, "workbook> ")
+        self.assertEqual(out.getvalue(), wanted)
+
+
+if __name__ == "__main__":
+    unittest.main()

@@ -1,0 +1,124 @@
+"""Seats of one workbook: `workbook serve`, with a client on each seat."""
+
+import threading
+import unittest
+
+from tests.support import Server, serves
+from workbook_client import (
+    Array, Blocked, LineTooLong, NoSeat, NoServer, NoSuchName, NotTakenBack, Refusal, SessionEnded,
+    Workbook,
+)
+
+
+@unittest.skipUnless(serves(), "this program has no `serve`")
+class Shared(unittest.TestCase):
+    def setUp(self) -> None:
+        self.server = Server(seats=2)
+        self.addCleanup(self.server.close)
+        self.one, self.two = self.server.connect(), self.server.connect()
+
+    def test_two_seats(self):
+        D = self.one.domain("D", range(1, 5))
+        A = self.one.array("A", D)
+        edit = A.set(1, 5)
+        self.two["A"].set(1, 6)
+        with self.assertRaises(Blocked) as no:
+            edit.undo()
+        self.assertEqual(no.exception.by, 4)
+        self.assertIn("another's", str(no.exception))
+        told = [(e.number, e.who, e.was_in_force) for e in self.one.history()]
+        self.assertEqual(told, [(1, "me", True), (2, "me", True), (3, "me", True), (4, "another", True)])
+        self.two.undo()
+        self.assertEqual(self.one.undo(3).number, 3)
+        self.assertEqual([e.was_in_force for e in self.two.history()], [True, True, False, False])
+
+    def test_what_is_tried_and_put_back_is_for_a_session_alone(self):
+        self.one.domain("D", range(1, 5))
+        with self.assertRaisesRegex(RuntimeError, "trying"):
+            self.one.dependents(1)
+        with self.assertRaisesRegex(RuntimeError, "trying"):
+            self.one.blocker(1)
+
+    def test_what_cannot_be_taken_back(self):
+        D = self.one.domain("D", range(1, 5))
+        A = self.one.array("A", D)
+        with self.assertRaises(NotTakenBack) as left:
+            with self.one.trying():
+                A[1] = 5
+                A[2] = 6
+                self.two["A"].copy(3, A, 1)
+                raise KeyError("why")
+        self.assertEqual((left.exception.standing, left.exception.undone), ([3], []))
+        self.assertIn("edit 3 in force", str(left.exception))
+        self.assertEqual(left.exception.why.by, 5)
+        self.assertIsInstance(left.exception.__cause__, KeyError)
+
+    def test_what_cannot_be_redone(self):
+        A = self.one.array("A", self.one.domain("D", range(1, 5)))
+        edit = A.set(1, 5)
+        with self.assertRaises(NotTakenBack) as left, self.one.trying():
+            A[4] = 1
+            edit.undo()
+            self.two["A"].set(1, 6)
+            raise KeyError("why")
+        self.assertEqual((left.exception.standing, left.exception.undone), ([4], [3]))
+
+    def test_two_pipelines_at_once(self):
+        A = self.one.array("A", self.one.domain("D", range(1, 4001)))
+
+        def fill(book, numbers):
+            mine = Array(book, "A")
+            with book.pipeline():
+                for i in numbers:
+                    mine[i] = -i
+
+        other = threading.Thread(target=fill, args=(self.two, range(1, 2001)))
+        other.start()
+        fill(self.one, range(2001, 4001))
+        other.join()
+        self.assertEqual(list(A), [-i for i in range(1, 4001)])
+        self.assertEqual(len(self.two.history()), 4002)
+
+    def test_objects_of_another_seat(self):
+        D = self.one.domain("D", range(1, 5))
+        A, B = self.one.array("A", D), self.two.array("B", D)
+        B.assign(A)
+        self.assertEqual(self.two["A"].to_dict(), B.to_dict())
+
+    def test_no_seat_left(self):
+        """The connection stands, and nobody answers."""
+        with self.assertRaisesRegex(NoSeat, "all its seats are taken"):
+            Workbook.connect("127.0.0.1", self.server.port, wait=0.3)
+        self.one.close()  # a seat is given once
+        with self.assertRaises(NoSeat):
+            Workbook.connect("127.0.0.1", self.server.port, wait=0.3)
+
+    def test_a_server_that_has_ended(self):
+        self.server.settled()
+        with self.assertRaises(NoServer):
+            Workbook.connect("127.0.0.1", self.server.port)
+
+    def test_a_server_that_is_killed(self):
+        self.one.domain("D", range(1, 5))
+        self.server._process.kill()
+        with self.assertRaisesRegex(SessionEnded, "has closed the connection"):
+            self.one.print_text()
+
+    def test_what_is_an_entry(self):
+        """To take a seat is none; a question is one, and so is a refusal."""
+        self.one.domain("D", range(1, 5))
+        self.two["D"].size
+        with self.assertRaises(NoSuchName):
+            self.two.undo() and self.one.array("A", "X")
+        with self.assertRaises(Refusal):
+            self.one.cascade(9)  # its op isn't there, which is no entry; then an undo, which is one
+        self.assertEqual(self.server.settled(), (6, "chapel-workbook 1\nend\n"))
+
+    def test_the_longest_line(self):
+        with self.assertRaises(LineTooLong):
+            self.one.ask({"op": "print", "x": "y" * 70000})
+        self.assertEqual(self.server.settled()[0], 0)
+
+
+if __name__ == "__main__":
+    unittest.main()

@@ -1,0 +1,61 @@
+"""A client for `workbook`, the shared workbook of whole-number arrays with selective undo.
+
+    from workbook_client import Workbook
+
+    with Workbook.run() as wb:
+        D = wb.domain("D", range(1, 5))
+        A = wb.array("A", D)
+        A[4] = 9
+        wb.undo()
+        print(A[4])  # 0
+"""
+
+from .book import Workbook
+from .edits import Cascade, Edit, Pipeline
+from .errors import (
+    NoAnswer,
+    NoProgram,
+    NoSeat,
+    NoServer,
+    NotTakenBack,
+    SessionEnded,
+    StrangeReply,
+    WorkbookError,
+)
+from .exchange import Reading
+from .literals import block, block_cyclic, cyclic
+from .objects import Array, Domain
+from .refusals import (
+    BadLiteral,
+    BadMapping,
+    BadRequest,
+    Blocked,
+    Empty,
+    InForce,
+    InUse,
+    LineTooLong,
+    NameTaken,
+    NoMemory,
+    NoSuchEdit,
+    NoSuchName,
+    NotEmpty,
+    NotInForce,
+    OutOfDomain,
+    OutOfParent,
+    Overflow,
+    Refusal,
+    RefusedInPlace,
+    StrangePass,
+    TooLarge,
+    WrongKind,
+)
+from .snapshot import Snapshot
+
+__all__ = [
+    "Array", "BadLiteral", "BadMapping", "BadRequest", "Blocked", "Cascade", "Domain", "Edit",
+    "Empty", "InForce", "InUse", "LineTooLong", "NameTaken", "NoAnswer", "NoMemory", "NoProgram",
+    "NoSeat", "NoServer", "NoSuchEdit", "NoSuchName", "NotEmpty", "NotInForce", "NotTakenBack",
+    "OutOfDomain", "OutOfParent", "Overflow", "Pipeline", "Reading", "Refusal", "RefusedInPlace",
+    "SessionEnded", "Snapshot", "StrangePass", "StrangeReply", "TooLarge", "Workbook",
+    "WorkbookError", "WrongKind", "block", "block_cyclic", "cyclic",
+]

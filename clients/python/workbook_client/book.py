@@ -1,0 +1,301 @@
+"""A workbook: its session, its edits, and what is done to it as a whole."""
+
+from contextlib import contextmanager
+from typing import Any, Dict, Iterator, List, Optional, Sequence, Union
+
+from . import requests, standins, turning
+from .channel import Channel, ProgramChannel, SocketChannel
+from .edits import Cascade, Edit, Pipeline
+from .errors import NoAnswer, NoSeat, SessionEnded, StrangeReply
+from .exchange import Exchange, Reading, Reply, first_refusal
+from .literals import Ranges
+from .objects import Array, Domain, ours
+from .refusals import NoSuchName, WrongKind
+from .requests import Request
+from .snapshot import Snapshot
+
+
+class Workbook:
+    """A session with a workbook. One thread at a time may use it."""
+
+    def __init__(self, channel: Channel, who: str, alone: bool, where: str = ""):
+        self.exchange = Exchange(channel, self._hint)
+        """The requests and replies, for requests of one's own."""
+        self.who = who
+        """What this session calls itself in the history."""
+        self.alone = alone
+        """Whether nobody else is in this workbook."""
+        self.where = where
+        """The address of a shared workbook."""
+        self.edits: Dict[int, Edit] = {}
+        """The edits that this session made or heard of, by number."""
+        self.last_edit: Optional[Edit] = None
+        """The latest edit of this session: of `A[4] = 9` or `A += B`, which are no expressions."""
+        self.steps = turning.Steps(self)
+        self.lacking: "set[str]" = set()
+        """The ops that the program turned out not to have. See `standins`."""
+        self._pipeline: Optional[Pipeline] = None
+
+    # --- the session
+
+    @classmethod
+    def run(
+        cls, program: Optional[Union[str, Sequence[str]]] = None, timeout: Optional[float] = None
+    ) -> "Workbook":
+        """Starts a program of our own with an empty workbook, which ends with the session.
+
+        The program is what WORKBOOK_PROGRAM names, `workbook` on the path, or the one that the
+        repository has built; a list of words is started as it is. After `timeout` seconds without a byte of a reply, `NoAnswer`.
+        """
+        channel = ProgramChannel(program)
+        channel.timeout = timeout
+        return cls(channel, "me", alone=True)
+
+    @classmethod
+    def connect(
+        cls, host: str, port: int, wait: Optional[float] = 5.0, timeout: Optional[float] = None
+    ) -> "Workbook":
+        """Takes the next seat of a workbook that `workbook serve` shares.
+
+        A server whose seats are taken lets connect, and then says nothing: `NoSeat` where it
+        hasn't answered a first line within `wait` seconds. A seat is given once; it isn't free
+        again when its connection ends. `timeout` is that of the replies after.
+        """
+        channel = SocketChannel(host, port, wait)
+        book = cls(channel, "me", alone=False, where=channel.where)
+        channel.timeout = wait
+        try:
+            book.exchange.knock()
+        except NoAnswer as no:
+            book.close()
+            raise NoSeat(
+                f"{channel.where} took the connection and gave {no}: all its seats are taken"
+            ) from no
+        except StrangeReply:
+            book.close()
+            raise
+        except SessionEnded as no:
+            book.close()
+            raise NoSeat(f"{no} without an answer: it had no seat left, or has ended") from no
+        except BaseException:
+            book.close()
+            raise
+        channel.timeout = timeout
+        return book
+
+    def close(self) -> None:
+        """Ends the session. What the program was still to answer isn't waited for."""
+        self.exchange.close()
+
+    def __enter__(self) -> "Workbook":
+        return self
+
+    def __exit__(self, *_: Any) -> None:
+        self.close()
+
+    def same_as(self, other: "Workbook") -> bool:
+        """Whether this is a session with the same workbook."""
+        return self is other or (bool(self.where) and self.where == other.where)
+
+    # --- objects
+
+    def domain(self, name: str, ranges: Ranges, map: Optional[str] = None) -> Domain:
+        """A new rectangular domain of 1 to 3 ranges, with a mapping as `block(range(1, 5), 2)`."""
+        self.change(requests.domain(name, ranges, map))
+        return Domain(self, name)
+
+    def sparse(self, name: str, of: Union[str, Domain]) -> Domain:
+        """A new sparse domain, with no index yet, in a rectangular one."""
+        self.change(requests.sparse(name, ours(self, of)))
+        return Domain(self, name)
+
+    def assoc(self, name: str, of: str) -> Domain:
+        """A new associative domain, with no index yet, of "int" or of "text"."""
+        self.change(requests.assoc(name, of))
+        return Domain(self, name)
+
+    def array(self, name: str, over: Union[str, Domain]) -> Array:
+        """A new array over a domain, 0 at each index."""
+        self.change(requests.array(name, ours(self, over)))
+        return Array(self, name)
+
+    def kind(self, name: str) -> Optional[str]:
+        """ "domain", "array", or None where nothing has that name."""
+        try:
+            self.ask(requests.size(name))
+            return "domain"
+        except WrongKind:
+            return "array"
+        except NoSuchName:
+            return None
+
+    def __getitem__(self, name: str) -> Union[Domain, Array]:
+        """The object that has the name: `wb["A"]`."""
+        kind = self.kind(name)
+        if kind is None:
+            raise KeyError(name)
+        return Domain(self, name) if kind == "domain" else Array(self, name)
+
+    def __setitem__(self, name: str, value: Any) -> None:
+        """The end of `wb["A"] += B`: what was changed is put back under its name."""
+        if not isinstance(value, (Domain, Array)) or value.name != name or value.book is not self:
+            raise TypeError(f'objects are made by wb.domain, wb.array, ..; {name} is set by wb["{name}"][:] = ..')
+
+    def __contains__(self, name: str) -> bool:
+        return self.kind(name) is not None
+
+    def names(self) -> List[str]:
+        """The names of all domains and arrays."""
+        return self.snapshot().names()
+
+    def print_text(self) -> str:
+        """The text of the workbook: one text for one workbook, byte by byte."""
+        return self.ask(requests.print_text()).text("text")
+
+    def snapshot(self) -> Snapshot:
+        """Every domain and array at one moment, whoever else is editing."""
+        return Snapshot.read(self.print_text())
+
+    # --- edits
+
+    def undo(self, k: Optional[int] = None) -> Edit:
+        """Takes back edit k, or the latest in force, whoever made it, and gives it."""
+        reply = self.ask(requests.undo(k))
+        return self.steps.done("undo", reply.number("undone"), reply.number("n"))
+
+    def redo(self, k: int) -> Edit:
+        """Puts edit k in force again, in its own place, and gives it."""
+        reply = self.ask(requests.redo(k))
+        return self.steps.done("redo", reply.number("redone"), reply.number("n"))
+
+    def cascade(self, k: int) -> Cascade:
+        """Takes back edit k with its dependents: the later edits that read or touched its cells.
+
+        A program without the op is sent single undos instead; then others may edit in between.
+        """
+        reply = standins.ask_if_there(self, requests.cascade(k))
+        if reply is None:
+            return standins.cascade(self, k)
+        undone = reply.listed("undone")
+        for number in undone:
+            self.steps.done("undo", number, None)
+        return Cascade(undone, reply.number("n"), undone[-1:] == [k])
+
+    def in_force(self, k: int) -> bool:
+        """Whether edit k is in force now."""
+        return self.ask(requests.state(k)).truth("in_force")
+
+    def blocker(self, k: int) -> Optional[int]:
+        """The edit that stands in the way of undoing k, or None.
+
+        The program has no question for it, so the undo is tried and put back. In a shared
+        workbook others could see that, so this is for a session that is alone.
+        """
+        return standins.blocker(self, k)
+
+    def dependents(self, k: int) -> List[int]:
+        """The edits that `cascade(k)` would take back beside k, ascending. Tried and put back, as
+        `blocker` is."""
+        return standins.dependents(self, k)
+
+    def history(self) -> List[Edit]:
+        """Every edit, by number. Of those of others the program tells only whether they are in
+        force; `who` is "another" and `what` is empty. In a shared workbook a question for each
+        edit is asked."""
+        if not self.alone:
+            standins.hear_of_others(self)
+        return [self.edits[number] for number in sorted(self.edits)]
+
+    def load(self, text: str) -> List[Edit]:
+        """Makes the objects of a workbook's text, all or none: meant for an empty workbook.
+
+        One edit where the program has the op and the text fits in a line, else one for each step.
+        """
+        return standins.load(self, text)
+
+    # --- blocks
+
+    @contextmanager
+    def pipeline(self) -> Iterator[Pipeline]:
+        """Sends many changes without waiting for each reply. Leaving the block reads them all and
+        raises the first refusal; the other changes stand (`trying` takes them back). A pipeline
+        in another is part of that one."""
+        if self._pipeline is not None:
+            yield self._pipeline
+            return
+        self._pipeline = pipeline = Pipeline(self)
+        try:
+            yield pipeline
+        finally:
+            self._pipeline = None
+            self.exchange.read_all()
+        if pipeline.refused:
+            raise first_refusal(pipeline.refused, pipeline.sent)
+
+    @contextmanager
+    def trying(self) -> Iterator[None]:
+        """Takes back what this session did in the block, latest first, when an exception leaves it.
+
+        Undos and redos are turned round too. What others did meanwhile stays; where it stands in
+        the way, `NotTakenBack` tells which edits are left. In a shared workbook that can also be
+        an edit from before the block: one that wrote what an edit, undone in the block, had read.
+        In a pipeline, the replies of the block are read at its end.
+        """
+        pipeline = self._pipeline
+        self.exchange.read_all()
+        before = len(pipeline.refused) if pipeline else 0
+        with self.steps.kept():
+            yield
+            if pipeline is not None:
+                self.exchange.read_all()
+                refused = pipeline.refused[before:]
+                del pipeline.refused[before:]
+                if refused:
+                    raise first_refusal(refused, pipeline.sent)
+
+    # --- for the objects, and for requests of one's own
+
+    def ask(self, request: Request) -> Reply:
+        """Sends a request and waits for its reply. A refusal is raised."""
+        return self.exchange.ask(request)
+
+    def change(self, request: Request) -> Edit:
+        """Sends a change. In a pipeline the edit is on its way; else its reply is here."""
+        pipeline = self._pipeline
+        edit = Edit(self, requests.in_words(request), self.who)
+        reading = self.exchange.post(request, lambda it: self._heard(edit, it, pipeline))
+        edit._reading = reading
+        if pipeline is None:
+            reading.wait()
+        else:
+            pipeline.sent += 1
+        self.last_edit = edit
+        return edit
+
+    def made(self, request: Request, reply: Reply) -> Edit:
+        """The edit of a request that was asked and accepted."""
+        edit = self.last_edit = Edit(self, requests.in_words(request), self.who)
+        self._number(edit, reply)
+        return edit
+
+    def _heard(self, edit: Edit, reading: Reading, pipeline: Optional[Pipeline]) -> None:
+        assert reading.reply is not None
+        if "error" not in reading.reply:
+            self._number(edit, reading.reply)
+        elif pipeline is not None:
+            pipeline.refused.append(reading.refusal())
+
+    def _number(self, edit: Edit, reply: Reply) -> None:
+        edit._number, edit._cells, edit._reading = reply.number("edit"), reply.number("n"), None
+        self.edits[edit._number] = edit
+        self.steps.note("edit", edit._number)
+
+    def _hint(self, request: Request, reply: Reply) -> str:
+        if "by" not in reply:
+            return ""
+        by = self.edits.get(reply["by"])
+        hint = f" ({by.what})" if by and by.what else " (another's)"
+        hint += ", which read or touched what it wrote."
+        if request.get("op") == "undo":
+            return f"{hint} Undo {reply['by']} first, or take both back: cascade {request.get('k')}."
+        return f"{hint} Undo {reply['by']} first; redo it afterwards."

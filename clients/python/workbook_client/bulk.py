@@ -1,0 +1,52 @@
+"""Every element of an array at once, from lists or from an array of numpy's."""
+
+import itertools
+from typing import Any, Iterator, List, Sequence, Tuple
+
+from . import requests
+from .literals import integer
+from .requests import Request
+from .snapshot import AnyDomain, RectDomain
+
+
+def changes(array: str, domain: AnyDomain, values: Any) -> Iterator[Request]:
+    """The changes that give an array these elements: one where all are the same number, else a
+    fill for each run of one number along the last dimension, and a set for each other element.
+
+    The values are looked at before the first of these.
+    """
+    ranges = domain.ranges if isinstance(domain, RectDomain) else ()
+    indices = domain.indices()
+    shape = [len(part) for part in ranges] or [len(indices)]
+    elements = flat(values, shape)
+    if len(elements) > 1 and len(set(elements)) == 1:
+        return iter([requests.fill_all(array, elements[0])])
+    if not ranges:
+        return (requests.set(array, index, value) for index, value in zip(indices, elements))
+    return _runs(array, ranges, elements)
+
+
+def flat(values: Any, shape: Sequence[int]) -> List[int]:
+    """The whole numbers of nested lists of this shape, row by row."""
+    if hasattr(values, "tolist"):  # an array of numpy's, of array's, or a memoryview
+        values = values.tolist()
+    if not isinstance(values, (list, tuple)) or len(values) != shape[0]:
+        wanted = " by ".join(map(str, shape))
+        raise ValueError(f"{wanted} elements are wanted here, not {values!r:.80}")
+    if len(shape) == 1:
+        return [integer(value, "an element") for value in values]
+    return [value for part in values for value in flat(part, shape[1:])]
+
+
+def _runs(array: str, ranges: Tuple[range, ...], elements: List[int]) -> Iterator[Request]:
+    *outer, last = ranges
+    for row, place in enumerate(itertools.product(*outer)):
+        start = 0
+        for value, run in itertools.groupby(elements[row * len(last) : (row + 1) * len(last)]):
+            end = start + sum(1 for _ in run)
+            if end == start + 1:
+                yield requests.set(array, (*place, last[start]), value)
+            else:
+                here = tuple(range(at, at + 1) for at in place)
+                yield requests.fill(array, (*here, last[start:end]), value)
+            start = end

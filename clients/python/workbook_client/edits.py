@@ -1,0 +1,96 @@
+"""Edits, what a cascade took back, and the block in which changes don't wait."""
+
+from typing import TYPE_CHECKING, Any, List, NamedTuple, Optional
+
+from . import requests
+from .exchange import Reading
+from .literals import Index
+from .refusals import Refusal
+from .requests import Request
+
+if TYPE_CHECKING:
+    from .book import Workbook
+
+
+class Cascade(NamedTuple):
+    """What `cascade` took back: the edits in the order of their undos, and the cells in all."""
+
+    undone: List[int]
+    cells: int
+    whole: bool = True
+    """False where the program's memory ran out before the edit itself: the same again goes on."""
+
+
+class Edit:
+    """An accepted change. Its number never changes, whether it is in force or not."""
+
+    __slots__ = ("_book", "what", "who", "_number", "_cells", "_reading", "was_in_force")
+
+    def __init__(self, book: "Workbook", what: str, who: str, number: int = -1, cells: int = -1):
+        self._book, self.what, self.who = book, what, who
+        self._number, self._cells = number, cells
+        self._reading: Optional[Reading] = None  # while it is on its way, or where it was refused
+        self.was_in_force = True
+        """Whether it was in force when this client last heard of it."""
+
+    @property
+    def number(self) -> int:
+        """Its number. In a pipeline this waits, and raises where the change was refused."""
+        if self._number < 0 and self._reading is not None:
+            self._reading.wait()
+        return self._number
+
+    @property
+    def cells(self) -> int:
+        """How many cells it set, -1 where this client never heard."""
+        if self._cells < 0 and self._reading is not None:
+            self._reading.wait()
+        return self._cells
+
+    @property
+    def in_force(self) -> bool:
+        """Whether it is in force now: the program is asked, since others may have taken it back."""
+        return self._book.in_force(self.number)
+
+    def undo(self) -> "Edit":
+        """Takes this edit back alone. `Blocked` where a later edit in force stands in the way."""
+        return self._book.undo(self.number)
+
+    def redo(self) -> "Edit":
+        """Puts this edit in force again, in its own place."""
+        return self._book.redo(self.number)
+
+    def cascade(self) -> Cascade:
+        """Takes it back with every later edit that needs it."""
+        return self._book.cascade(self.number)
+
+    def dependents(self) -> List[int]:
+        """The later edits that would have to go first, ascending. See `Workbook.dependents`."""
+        return self._book.dependents(self.number)
+
+    def __repr__(self) -> str:
+        if self._number < 0:
+            return f"<edit on its way: {self.what}>"
+        return f"<edit {self._number}: {self.what or 'by another seat'}>"
+
+
+class Pipeline:
+    """A block in which changes go out without waiting for their replies.
+
+    Asking for a value still waits, and so reads all replies before it; `get` and `ask` don't.
+    """
+
+    def __init__(self, book: "Workbook"):
+        self._book = book
+        self.sent = 0
+        """How many changes went out."""
+        self.refused: List[Refusal] = []
+        """The refusals of changes, in the order of the requests."""
+
+    def ask(self, request: Request) -> Reading:
+        """Sends any question, as `workbook_client.requests` makes them."""
+        return self._book.exchange.post(request)
+
+    def get(self, array: Any, index: Index) -> Reading:
+        """An element that is asked for now and read later, by `.value`."""
+        return self.ask(requests.get(array, index))

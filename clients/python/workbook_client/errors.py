@@ -1,0 +1,53 @@
+"""What ends a session, or keeps it from beginning. Refusals of the program are in `refusals`."""
+
+from typing import List
+
+
+class WorkbookError(Exception):
+    """All that this client raises of its own, beside TypeError and ValueError for wrong values."""
+
+
+class NoProgram(WorkbookError):
+    """The program isn't there, or can't be started."""
+
+
+class SessionEnded(WorkbookError):
+    """The program, or the connection, is gone. What was sent without a reply may have been done."""
+
+
+class NoServer(SessionEnded):
+    """Nobody listens there."""
+
+
+class NoSeat(SessionEnded):
+    """A server took the connection and answers nothing: its seats are taken."""
+
+
+class StrangeReply(SessionEnded):
+    """What came is no reply of a workbook. The session ends, since nothing could be told apart."""
+
+
+class NoAnswer(WorkbookError):
+    """No reply within the time. The session goes on: a late reply is still read, in its turn."""
+
+
+class NotTakenBack(WorkbookError):
+    """`trying` couldn't turn everything back. `__cause__` is the exception that left the block."""
+
+    def __init__(self, standing: List[int], undone: List[int], why: Exception):
+        self.standing = standing
+        """The edits of the block that are still in force."""
+        self.undone = undone
+        """The edits that the block took back and that couldn't be put in force again."""
+        self.why = why
+        """What stood in the way: a refusal, or the end of the session."""
+        parts = []
+        if standing:
+            parts.append(f"{_edits(standing)} in force")
+        if undone:
+            parts.append(f"{_edits(undone)} taken back")
+        super().__init__(f"left as the block had it: {'; '.join(parts) or 'nothing'}, since {why}")
+
+
+def _edits(numbers: List[int]) -> str:
+    return f"{'edits' if len(numbers) > 1 else 'edit'} {', '.join(map(str, numbers))}"

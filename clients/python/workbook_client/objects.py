@@ -1,0 +1,281 @@
+"""Domains and arrays: names in a workbook, with what can be asked of them and done to them."""
+
+from typing import TYPE_CHECKING, Any, Dict, Iterator, List, Mapping, Tuple, Union
+
+from . import bulk, requests, standins
+from .literals import Index, Indices, Ranges, index_back
+from .literals import index as as_index
+from .refusals import OutOfDomain
+from .snapshot import RectDomain, Snapshot
+
+if TYPE_CHECKING:
+    from .book import Workbook
+    from .edits import Edit
+
+Source = Union[str, range, Tuple[range, ...], Indices, "Domain"]
+"""What a domain is given: a literal, ranges, a Python set of indices, or another domain."""
+
+
+class _Named:
+    """What domains and arrays have in common. Nothing is kept here but the name."""
+
+    def __init__(self, book: "Workbook", name: str):
+        self.book = book
+        """The session that it is spoken of in."""
+        self.name = name
+        """Its name in the workbook."""
+
+    def __repr__(self) -> str:
+        return f"{type(self).__name__}({self.name!r})"
+
+
+def ours(book: "Workbook", value: Any) -> Any:
+    """The value, which mustn't be an object of another workbook: only its name would be sent."""
+    if isinstance(value, _Named) and not book.same_as(value.book):
+        raise ValueError(f"{value.name} is of another workbook")
+    return value
+
+
+class Domain(_Named):
+    """A set of indices, which arrays stand on."""
+
+    def reshape(self, to: Source) -> "Edit":
+        """A new value: `D.reshape(range(1, 7))`, `N.reshape({5, 1})`, `D.reshape(E)`.
+
+        Indices in both keep their elements, in each array over the domain; new ones get 0.
+        """
+        return self.book.change(requests.reshape(self, "to", ours(self.book, to)))
+
+    def slice(self, by: Source) -> "Edit":
+        """What a rectangular domain has in common with what is given."""
+        return self.book.change(requests.reshape(self, "slice", ours(self.book, by)))
+
+    def translate(self, *by: int) -> "Edit":
+        """Moves the ranges: `D.translate(1)`, `M.translate(0, -2)`."""
+        return self.book.change(requests.reshape(self, "translate", by))
+
+    def expand(self, *by: int) -> "Edit":
+        """Widens the ranges at both ends, or narrows them by less than 0."""
+        return self.book.change(requests.reshape(self, "expand", by))
+
+    def add(self, index: Index) -> "Edit":
+        """An index comes; `cells` of the edit is 0 where it was there already."""
+        return self.book.change(requests.add(self, index))
+
+    def remove(self, index: Index) -> "Edit":
+        """An index leaves; `cells` of the edit is 0 where it wasn't there."""
+        return self.book.change(requests.remove(self, index))
+
+    def __ior__(self, other: Source) -> "Domain":
+        return self._with("or", other)
+
+    def __iand__(self, other: Source) -> "Domain":
+        return self._with("and", other)
+
+    def __isub__(self, other: Source) -> "Domain":
+        return self._with("minus", other)
+
+    def __ixor__(self, other: Source) -> "Domain":
+        return self._with("xor", other)
+
+    def _with(self, how: str, other: Source) -> "Domain":
+        self.book.change(requests.reshape(self, how, ours(self.book, other)))
+        return self
+
+    def remap(self, map: str) -> "Edit":
+        """Another mapping: `D.remap(cyclic(1, 2))`, `D.remap("none")`."""
+        return self.book.change(requests.remap(self, map))
+
+    def drop(self) -> "Edit":
+        """The end of a domain on which nothing stands."""
+        return self.book.change(requests.drop_domain(self))
+
+    @property
+    def size(self) -> int:
+        """How many indices it has. `len(D)` is the same, and an empty domain is false."""
+        return self.book.ask(requests.size(self)).number("size")
+
+    def __len__(self) -> int:
+        return self.size
+
+    def where(self, index: Index) -> int:
+        """The locale of an index."""
+        return self.book.ask(requests.where(self, index)).number("locale")
+
+    def __contains__(self, index: Index) -> bool:
+        """Whether it has the index; one of another rank or type is refused, as WrongKind."""
+        try:
+            self.where(index)
+            return True
+        except OutOfDomain:
+            return False
+
+    def indices(self) -> List[Index]:
+        """Every index, in the domain's order."""
+        shot = self.book.snapshot()
+        if self.name not in shot.domains:
+            self.book.ask(requests.size(self))  # refused: it isn't there, or is an array
+        return shot.indices(self.name)
+
+    def __iter__(self) -> Iterator[Index]:
+        return iter(self.indices())
+
+
+class Array(_Named):
+    """An element, a whole number of 64 bits, at each index of its domain."""
+
+    def __getitem__(self, index: Index) -> int:
+        """`A[4]`, `A[1, 2]`, `P["x"]`. Over a sparse domain also the implicit value. All of it is
+        `A.to_dict()`."""
+        return self.book.ask(requests.get(self, index)).number("value")
+
+    def __setitem__(self, index: Any, value: Any) -> None:
+        """`A[4] = 9`; with ranges a fill, `A[range(1, 3)] = 7`; with `:` all of it, `A[:] = 0`,
+        `A[:] = B`, or `A[:] = [5, 6, 7, 8]`, as `put`. The edit is `wb.last_edit`.
+
+        `A[4] += 3` asks for the element and then sets it: two requests, between which others may
+        come, and an edit that read nothing. `A.copy(4, A, 4, plus=3)` is one edit that reads."""
+        if isinstance(index, slice):
+            if index != slice(None):
+                as_index(index)  # tells what to write instead
+            self._set_all(value)
+        elif isinstance(index, range) or (
+            isinstance(index, tuple) and index and all(isinstance(part, range) for part in index)
+        ):
+            self.fill(index, value)
+        else:
+            self.set(index, value)
+
+    def _set_all(self, value: Any) -> None:
+        if isinstance(value, Array):
+            self.assign(value)
+        elif isinstance(value, (list, tuple)) or getattr(value, "shape", None):
+            self.put(value)
+        else:
+            self.fill_all(value)
+
+    def __iter__(self) -> Iterator[int]:
+        """The elements, in the domain's order, as Chapel's `for a in A` has them."""
+        return iter(self._shot().arrays[self.name].elements)
+
+    def set(self, index: Index, value: int) -> "Edit":
+        """A new element. `A[4] = 9` does the same."""
+        return self.book.change(requests.set(self, index, value))
+
+    def update(self, values: Mapping[Any, int]) -> "List[Edit]":
+        """Many elements at once, `A.update({1: 5, 2: 6})`: an edit for each, all or none."""
+        with self.book.trying(), self.book.pipeline():
+            return [self.set(index, value) for index, value in values.items()]
+
+    def put(self, values: Any) -> "List[Edit]":
+        """Every element, in the domain's order, all or none: from a list, from lists of lists of
+        the domain's shape, or from an array of numpy's of that shape. Over a sparse or an
+        associative domain it is one list.
+
+        A run of one number goes as one fill, so there are as many edits as there are runs. The
+        domain is read first, from the workbook's text.
+        """
+        shot = self._shot()
+        domain = shot.domains[shot.arrays[self.name].over]
+        with self.book.trying(), self.book.pipeline():
+            return [self.book.change(request) for request in bulk.changes(self.name, domain, values)]
+
+    def fill(self, on: Ranges, value: int) -> "Edit":
+        """One number at each index of a rectangle: `A.fill("{1..2}", 7)`."""
+        return self.book.change(requests.fill(self, on, value))
+
+    def fill_all(self, value: int) -> "Edit":
+        """One number as every element."""
+        return self.book.change(requests.fill_all(self, value))
+
+    def copy(self, to: Index, source: "Array", index: Index, plus: int = 0) -> "Edit":
+        """An element of another array, or of this one: `A.copy(1, B, 2, plus=3)` is
+        A[1] = B[2] + 3. It reads B[2], so whoever wrote that can't be undone alone."""
+        return self.book.change(requests.copy(self, to, ours(self.book, source), index, plus))
+
+    def assign(self, other: "Array") -> "Edit":
+        """Every element becomes that of another array over the same domain."""
+        return self.book.change(requests.all(self, "=", ours(self.book, other)))
+
+    def __iadd__(self, other: "Array") -> "Array":
+        return self._with("+", other)
+
+    def __isub__(self, other: "Array") -> "Array":
+        return self._with("-", other)
+
+    def __imul__(self, other: "Array") -> "Array":
+        return self._with("*", other)
+
+    def _with(self, how: str, other: "Array") -> "Array":
+        if not isinstance(other, Array):
+            return NotImplemented
+        self.book.change(requests.all(self, how, ours(self.book, other)))
+        return self
+
+    @property
+    def irv(self) -> int:
+        """The implicit value: that of the parent's indices that a sparse domain hasn't."""
+        return self._shot().arrays[self.name].irv
+
+    @irv.setter
+    def irv(self, value: int) -> None:
+        self.book.change(requests.irv(self, value))
+
+    def sum(self) -> int:
+        """The sum of all elements, as a whole number of 64 bits, or Overflow."""
+        return self.reduce("+")
+
+    def min(self) -> int:
+        """The least element, or Empty."""
+        return self.reduce("min")
+
+    def max(self) -> int:
+        """The greatest element, or Empty."""
+        return self.reduce("max")
+
+    def reduce(self, how: str) -> int:
+        """The sum (`+`), the least (`min`) or the greatest (`max`) of all elements."""
+        request = requests.reduce(self, how)
+        reply = standins.ask_if_there(self.book, request)
+        return standins.reduce(request, list(self)) if reply is None else reply.number("value")
+
+    def _shot(self) -> Snapshot:
+        shot = self.book.snapshot()
+        if self.name not in shot.arrays:
+            self.book.ask(requests.piece(self, 0))  # refused: it isn't there, or is a domain
+        return shot
+
+    def piece(self, locale: int) -> Dict[Index, int]:
+        """The elements on one locale, by index."""
+        pairs = self.book.ask(requests.piece(self, locale)).listed("piece")
+        return {index_back(index): value for index, value in pairs}
+
+    def pieces(self) -> List[Dict[Index, int]]:
+        """The elements on each locale. Locale by locale: in a shared workbook not one moment."""
+        found: List[Dict[Index, int]] = []
+        while True:
+            try:
+                found.append(self.piece(len(found)))
+            except OutOfDomain:
+                return found
+
+    def to_dict(self) -> Dict[Index, int]:
+        """Every element by its index, in the domain's order, at one moment."""
+        return self._shot().array(self.name)
+
+    def to_numpy(self) -> Any:
+        """An array of numpy's with the domain's shape, its first element at the domain's first
+        index. numpy has to be there."""
+        import numpy
+
+        shot = self._shot()
+        elements = shot.arrays[self.name]
+        domain = shot.domains[elements.over]
+        values = numpy.array(elements.elements, dtype=numpy.int64)
+        if isinstance(domain, RectDomain):
+            return values.reshape([len(part) for part in domain.ranges])
+        return values
+
+    def drop(self) -> "Edit":
+        """The end of the array. Its undo brings back every element."""
+        return self.book.change(requests.drop_array(self))

@@ -1,0 +1,194 @@
+"""A page for a workbook: arrays as tables, and the history with undo and redo for each edit.
+
+    python3 -m workbook_client.page --program workbook
+    python3 -m workbook_client.page --connect 127.0.0.1:7000
+
+It listens on 127.0.0.1 alone, and answers only requests that its own page sends.
+"""
+
+import base64
+import hashlib
+import json
+import re
+import sys
+import webbrowser
+from http.server import BaseHTTPRequestHandler, ThreadingHTTPServer
+from pathlib import Path
+from typing import Any, Callable, Dict, List, Optional
+from urllib.parse import parse_qs, urlparse
+
+from .book import Workbook
+from .errors import NoProgram, SessionEnded
+from .session import Session, arguments, open_book
+from .view import View
+
+PAGE = Path(__file__).with_name("page.html")
+LONGEST = 1 << 20
+"""So many bytes a request of the page may have."""
+
+
+def policy(page: str) -> str:
+    """The page's own style and script run, and nothing else."""
+    sums = {}
+    for kind in ("style", "script"):
+        (text,) = re.findall(f"<{kind}>(.*?)</{kind}>", page, re.S)
+        sums[kind] = base64.b64encode(hashlib.sha256(text.encode()).digest()).decode()
+    return (
+        f"default-src 'none'; style-src 'sha256-{sums['style']}'; "
+        f"script-src 'sha256-{sums['script']}'; connect-src 'self'; img-src data:; "
+        "base-uri 'none'; form-action 'none'; frame-ancestors 'none'"
+    )
+
+
+class Handler(BaseHTTPRequestHandler):
+    """Four addresses: / the page, /state, /text, and /do for what the page does."""
+
+    view: View
+    page: bytes
+    policy: str
+    protocol_version = "HTTP/1.1"
+    timeout = 60  # a connection that says nothing for so long is closed
+
+    def do_GET(self) -> None:
+        """The page, its state, or the text of the workbook."""
+        if not self.is_ours():
+            return
+        url = urlparse(self.path)
+        if url.path == "/":
+            self.answer(200, self.page, "text/html; charset=utf-8")
+        elif url.path == "/state":
+            self.guarded(lambda: self.state(parse_qs(url.query).get("seen", [""])[0]))
+        elif url.path == "/text":
+            self.guarded(self.text)
+        else:
+            self.tell(404, {"say": "there is nothing here"})
+
+    def do_POST(self) -> None:
+        """What the page does."""
+        body = self.body()
+        if body is None or not self.is_ours():
+            return
+        if self.path != "/do" or self.headers.get("Content-Type") != "application/json":
+            self.tell(404, {"say": "there is nothing here"})
+            return
+        try:
+            asked = json.loads(body)
+        except (ValueError, RecursionError):
+            asked = None
+        if not isinstance(asked, dict):
+            self.tell(400, {"say": "that is no JSON object"})
+            return
+        self.guarded(lambda: self.tell(200, self.view.do(asked)))
+
+    def body(self) -> Optional[bytes]:
+        """The body of a request, or None where its length isn't told or is too much."""
+        length = self.headers.get("Content-Length", "")
+        if not re.fullmatch("[0-9]{1,9}", length) or int(length) > LONGEST:
+            self.close_connection = True  # where the next request begins isn't known
+            self.tell(413, {"say": f"a request has a length, of {LONGEST} bytes at most"})
+            return None
+        return self.rfile.read(int(length))
+
+    def state(self, seen: str) -> None:
+        """What the page shows, where that isn't what it has seen."""
+        state = self.view.state()
+        if state["version"] == seen:
+            self.answer(204, b"", "application/json")
+        else:
+            self.tell(200, state)
+
+    def text(self) -> None:
+        """The text of the workbook."""
+        self.answer(200, self.view.text().encode(), "text/plain; charset=utf-8")
+
+    def guarded(self, answer: Callable[[], None]) -> None:
+        """Tells the page of what went wrong; the server goes on."""
+        try:
+            answer()
+        except ConnectionError:
+            self.close_connection = True  # the page went away
+        except SessionEnded as end:
+            self.tell(503, {"say": str(end)})
+        except Exception as fault:
+            self.tell(500, {"say": f"{type(fault).__name__}: {fault}"})
+
+    def is_ours(self) -> bool:
+        """Other pages of the browser are kept out: the host and the origin must be this server."""
+        port = self.connection.getsockname()[1]
+        hosts = (f"127.0.0.1:{port}", f"localhost:{port}")
+        origin = self.headers.get("Origin")
+        ours = origin is None or origin in [f"http://{host}" for host in hosts]
+        if self.headers.get("Host") in hosts and ours:
+            return True
+        self.tell(403, {"say": "only the page itself may ask"})
+        return False
+
+    def tell(self, status: int, what: Dict[str, Any]) -> None:
+        """Answers with JSON."""
+        self.answer(status, json.dumps(what, ensure_ascii=False).encode(), "application/json")
+
+    def answer(self, status: int, body: bytes, kind: str) -> None:
+        """Answers with bytes."""
+        self.send_response(status)
+        self.send_header("Content-Type", kind)
+        if status != 204:
+            self.send_header("Content-Length", str(len(body)))
+        self.send_header("Cache-Control", "no-store")
+        self.send_header("X-Content-Type-Options", "nosniff")
+        self.send_header("Content-Security-Policy", self.policy)
+        self.end_headers()
+        self.wfile.write(body)
+
+    def log_message(self, *_: Any) -> None:
+        """Nothing: a look each second would fill the terminal."""
+
+
+class Server(ThreadingHTTPServer):
+    """The page's server."""
+
+    daemon_threads = True
+
+    def handle_error(self, request: Any, client_address: Any) -> None:
+        """A page that went away is nothing to tell of."""
+        if not isinstance(sys.exc_info()[1], (ConnectionError, TimeoutError)):
+            super().handle_error(request, client_address)
+
+
+def serve(book: Workbook, port: int = 0) -> Server:
+    """A server of the page on 127.0.0.1; `serve_forever` runs it."""
+    page = PAGE.read_text(encoding="utf-8")
+    members = {"view": View(book), "page": page.encode(), "policy": policy(page)}
+    return Server(("127.0.0.1", port), type("PageHandler", (Handler,), members))
+
+
+def main(words: Optional[List[str]] = None) -> int:
+    """The page, until Ctrl-C."""
+    parser = arguments("A page for a workbook, on 127.0.0.1.")
+    parser.prog = "python3 -m workbook_client.page"
+    parser.add_argument("--port", type=int, default=8765, help="the page's port (0 takes any; 8765)")
+    parser.add_argument("--open", action="store_true", help="open the page in a browser")
+    parser.add_argument("--file", metavar="SCRIPT", help="run the lines of a file first")
+    args = parser.parse_args(words)
+    try:
+        with open_book(args) as book:
+            if args.file:
+                session = Session(book)
+                with open(args.file, encoding="utf-8") as lines:
+                    for line in lines:
+                        session.line(line.rstrip("\r\n"))
+            with serve(book, args.port) as server:
+                where = f"http://127.0.0.1:{server.server_address[1]}/"
+                print(f"the page is at {where} (Ctrl-C ends it)", flush=True)
+                if args.open:
+                    webbrowser.open(where)
+                server.serve_forever()
+    except KeyboardInterrupt:
+        print()
+    except (NoProgram, SessionEnded, OSError, OverflowError) as end:  # OverflowError: no such port
+        print(f"workbook_client.page: {end}", file=sys.stderr)
+        return 3
+    return 0
+
+
+if __name__ == "__main__":
+    sys.exit(main())

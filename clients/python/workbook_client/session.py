@@ -1,0 +1,421 @@
+"""The session for people: a prompt, a short language, tables, and refusals in words."""
+
+import argparse
+import io
+import os
+import re
+import shutil
+import sys
+import textwrap
+from typing import Any, Dict, List, Optional, TextIO
+
+from . import hints
+from . import literals as lit
+from .book import Workbook
+from .edits import Cascade
+from .errors import NoProgram, SessionEnded, WorkbookError
+from .language import WORDS, Command, LanguageError, parse
+from .literals import Index
+from .objects import Array
+from .refusals import Blocked, NotInForce, Refusal
+from .requests import Request
+from .tables import Cell, elements_table, grid, object_table
+
+HELP = """\
+Domains        D = {1..4}                    a new domain; on one that is there, a new value
+               D = {1..4} dmapped blockDist({1..4}, [2])
+               D dmapped cyclicDist(1, [2])  another mapping
+               S sparse D                    sparse in D, with no index yet
+               N = int     T = text          associative, with no index yet
+               S += 3      T -= "x"          an index comes, or leaves
+               N |= {3, 7} N -= {1}  N &= M  N ^= M
+               D = D[{3..9}]   D.translate(1)   D.expand(0, 2)
+Arrays         A over D                      0 at each index
+               A[4] = 9    M[1, 2] = 9       P["x"] = 9
+               A[1] = B[2] + 3               a copy: it reads B[2]
+               A[4] += 3                     a copy from itself
+               A[1..2] = 7   A = 0           fills a rectangle, or all of it
+               A = B   A += B   A *= B       element by element
+               B.irv = 7                     the implicit value over a sparse domain
+Looking        A     A[4]     A[1..20]       a table, an element, a part of the table
+               + reduce A    min reduce A    max reduce A
+               size D    where D 3    piece A 0    names    text
+               colours on                    tables by locale
+Edits          history                       every edit: who, what, whether in force
+               undo    undo 3    redo 3      one edit alone, the latest if none is named
+               dependents 3    cascade 3     who needs edit 3; takes it back with those
+Files          save FILE    load FILE        the text of the workbook
+End            quit, or Ctrl-D               // starts a remark"""
+
+
+_OBEYED = re.compile("[\x80-\x9f\u200e\u200f\u202a-\u202e\u2066-\u2069]")
+
+FEW = 500
+"""With more edits, a refusal doesn't try who would go along in a cascade; `dependents 3` does."""
+
+
+class Session:
+    """Runs lines of the short language on a workbook and prints what came of them."""
+
+    def __init__(self, book: Workbook, out: TextIO = sys.stdout, width: Optional[int] = None):
+        self.book, self.out = book, out
+        self._width = width
+        self.colours = False
+        self.failed = False
+        """Whether the last line was refused, or wasn't of the language."""
+        self.refusal: Optional[Refusal] = None
+        """What the program refused it with."""
+
+    @property
+    def width(self) -> int:
+        return self._width or max(shutil.get_terminal_size((80, 24)).columns or 80, 24)
+
+    def say(self, text: str) -> None:
+        """Prints a text. What a terminal would obey, and others may have put in, is shown as �."""
+        print(_OBEYED.sub("\ufffd", text), file=self.out)
+
+    def wrapped(self, text: str) -> None:
+        self.say(textwrap.fill(text, self.width, initial_indent="  ", subsequent_indent="  ",
+                               break_on_hyphens=False))
+
+    def line(self, text: str, prompt: str = "") -> bool:
+        """Runs a line. False where it asks for the end. `prompt` stood before it on the terminal."""
+        self.failed, self.refusal = False, None
+        try:
+            what = parse(text, self.book.kind)
+            if isinstance(what, Command):
+                return self.command(what)
+            if what is not None:
+                self.request(what)
+        except LanguageError as wrong:
+            self.failed = True
+            self.point(text, wrong, prompt)
+        except Refusal as no:
+            self.failed = True
+            self.refused(no)
+        except SessionEnded:
+            raise
+        except (WorkbookError, ValueError, TypeError, OSError, RuntimeError) as wrong:
+            self.failed = True
+            self.wrapped(str(wrong))
+        return True
+
+    def point(self, text: str, wrong: LanguageError, prompt: str) -> None:
+        """The mark stands under the column: below the typed line, or below the line again."""
+        if not prompt:
+            self.say("  " + text)
+        lead = len(prompt) if prompt else 2
+        before = text[: wrong.column]
+        self.say(" " * lead + "".join("\t" if c == "\t" else " " for c in before) + "^")
+        self.wrapped(str(wrong))
+
+    # --- requests
+
+    def request(self, request: Request) -> None:
+        op = request["op"]
+        if op == "undo":
+            self.moved("taken back", self.book.undo(request.get("k")))
+        elif op == "redo":
+            self.moved("in force again", self.book.redo(request["k"]))
+        elif op == "cascade":
+            self.cascaded(self.book.cascade(request["k"]))
+        elif op == "reduce":
+            self.say(f"  {Array(self.book, request['a']).reduce(request['how'])}")
+        elif op == "piece":
+            pairs = self.book.ask(request).listed("piece")
+            values = {lit.index_back(i): v for i, v in pairs}
+            self.say(elements_table(values, self.width, down=len(values) > 0 and isinstance(pairs[0][0], list)))
+        elif op == "where":
+            self.say(f"  locale {self.book.ask(request).number('locale')}")
+        elif op in ("get", "size"):
+            (value,) = self.book.ask(request).values()
+            self.say(f"  {value}")
+        else:
+            edit = self.book.change(request)
+            self.say(f"  edit {edit.number}, {_cells(edit.cells)}")
+
+    def moved(self, how: str, edit: Any) -> None:
+        what = f": {edit.what}" if edit.what else ""
+        self.say(f"  edit {edit.number} is {how}, {_cells(edit.cells)}{what}")
+
+    def cascaded(self, done: Cascade) -> None:
+        numbers = ", ".join(map(str, done.undone))
+        self.say(f"  {'edits' if len(done.undone) > 1 else 'edit'} {numbers} taken back, {_cells(done.cells)}")
+        if not done.whole:
+            self.wrapped("the program's memory ran out before the edit itself; the same line again goes on")
+
+    # --- commands of the session
+
+    def command(self, command: Command) -> bool:
+        if command.word == "quit":
+            return False
+        getattr(self, "do_" + command.word)(*command.args)
+        return True
+
+    def do_help(self, _word: str = "") -> None:
+        self.say(HELP)
+
+    def do_show(self, name: str, part: Optional[str] = None) -> None:
+        ranges = None if part is None else lit.spelled_ranges(part)
+        book = self.book.snapshot()
+        if name not in book.names():
+            self.wrapped(f"nothing is called {name} now")
+            return
+        self.say(object_table(book, name, self.width, self.locales(name, name in book.arrays), ranges))
+
+    def locales(self, name: str, array: bool) -> Optional[Dict[Index, int]]:
+        if not self.colours or not array:
+            return None
+        pieces = Array(self.book, name).pieces()
+        return {index: at for at, piece in enumerate(pieces) for index in piece}
+
+    def do_names(self) -> None:
+        book = self.book.snapshot()
+        rows = [[n, "domain", d.in_words()] for n, d in sorted(book.domains.items())]
+        rows += [[n, "array", f"over {a.over}"] for n, a in sorted(book.arrays.items())]
+        if not rows:
+            self.wrapped("the workbook is empty: D = {1..4} makes a domain, A over D an array")
+            return
+        self.say(self.table(["name", "kind", "what"], rows))
+
+    def do_history(self) -> None:
+        edits = self.book.history()
+        if not edits:
+            self.wrapped("no edits yet")
+            return
+        rows = [
+            [str(e.number), e.who, e.what or "?", "" if e.cells < 0 else str(e.cells),
+             "in force" if e.was_in_force else "taken back"]
+            for e in edits[-40:]
+        ]
+        self.say(self.table(["edit", "who", "what", "cells", "now"], rows))
+        if len(edits) > 40:
+            self.wrapped(f"and {len(edits) - 40} before these")
+
+    def table(self, head: List[str], rows: List[List[str]]) -> str:
+        taken = sum(max(len(row[c]) for row in [head, *rows]) + 3 for c in range(len(head)) if c != 2)
+        room = self.width - taken - 4
+        cut = [[_cut(t, room) if c == 2 else t for c, t in enumerate(row)] for row in rows]
+        return grid(head, [[Cell(t) for t in row] for row in cut], 10**6, left=len(head))
+
+    def do_dependents(self, k: int) -> None:
+        found = self.book.dependents(k)
+        if not found:
+            self.say(f"  nobody needs edit {k}: undo {k} takes it back alone")
+            return
+        for number in found:
+            self.say(f"  edit {number}: {self.book.edits[number].what}")
+        self.say(f"  cascade {k}{_takes_back(found, k)}")
+
+    def do_text(self) -> None:
+        self.say(self.book.print_text().rstrip("\n"))
+
+    def do_colours(self, on: bool) -> None:
+        self.colours = on
+        self.say("  tables are coloured by locale" if on else "  tables are plain")
+
+    def do_save(self, path: str) -> None:
+        text = self.book.print_text()
+        _write(os.path.realpath(os.path.expanduser(path)), text)
+        self.say(f"  {path}: {text.count(chr(10)) - 2} objects, {len(text.encode()):,} bytes")
+
+    def do_load(self, path: str) -> None:
+        with open(os.path.expanduser(path), encoding="utf-8", newline="") as file:
+            text = file.read()
+        edits = self.book.load(text)
+        if not edits:
+            self.say(f"  {path} is an empty workbook")
+        elif len(edits) == 1:
+            self.say(f"  edit {edits[0].number}, {_cells(edits[0].cells)}: {path}")
+        else:
+            numbers = f"edits {edits[0].number} to {edits[-1].number}"
+            self.say(f"  {numbers}: {path}, built object by object")
+
+    # --- refusals
+
+    def refused(self, no: Refusal) -> None:
+        self.refusal = no
+        if isinstance(no, Blocked):
+            self.blocked(no)
+            return
+        self.wrapped(str(no))
+        hint = hints.on(no, self.book.snapshot())
+        if hint:
+            self.wrapped(hint)
+        if isinstance(no, NotInForce) and no.request["op"] in ("undo", "cascade"):
+            self.say(f"  next: redo {no.request['k']}")
+
+    def blocked(self, no: Blocked) -> None:
+        k, redo = no.request["k"], no.request["op"] == "redo"
+        by = self.book.edits.get(no.by)
+        what = f" ({by.what})" if by and by.what else ", made by another seat"
+        self.wrapped(
+            f"Blocked by edit {no.by}{what}: it is later, in force, and read or touched "
+            f"{'cells of' if redo else 'what'} edit {k}{'' if redo else ' wrote'}."
+        )
+        if redo:
+            self.say(f"  next: undo {no.by} first; then redo {k}, and redo {no.by}")
+            return
+        self.say(f"  next: undo {no.by} first, or cascade {k}{self.with_whom(k)}")
+
+    def with_whom(self, k: int) -> str:
+        if not self.book.alone or len(self.book.edits) > FEW:
+            return " takes back all that stand in the way"
+        return _takes_back(self.book.dependents(k), k)
+
+
+def _write(path: str, text: str) -> None:
+    """Writes a file whole: what was there stays until all of the new text is on the disk."""
+    if os.path.exists(path) and not os.path.isfile(path):  # a device, or a pipe
+        with open(path, "w", encoding="utf-8", newline="\n") as file:
+            file.write(text)
+        return
+    beside = f"{path}.{os.getpid()}.new"
+    try:
+        with open(beside, "w", encoding="utf-8", newline="\n") as file:
+            file.write(text)
+            file.flush()
+            os.fsync(file.fileno())
+        if os.path.exists(path):
+            shutil.copymode(path, beside)
+        os.replace(beside, path)
+    except BaseException:
+        if os.path.exists(beside):
+            os.remove(beside)
+        raise
+
+
+def _takes_back(dependents: List[int], k: int) -> str:
+    return f" takes back {', '.join(map(str, reversed(dependents)))} and {k}"
+
+
+def _cells(number: int) -> str:
+    return "1 cell" if number == 1 else f"{number:,} cells"
+
+
+def _cut(text: str, room: int) -> str:
+    return text if len(text) <= max(room, 12) else text[: max(room, 12) - 1] + "…"
+
+
+def _completer(book: Workbook) -> Any:
+    """Completes names and words; names are asked for when a first letter is completed."""
+    found: List[str] = []
+
+    def complete(text: str, state: int) -> Optional[str]:
+        if state == 0:
+            try:
+                names = book.snapshot().names()
+            except (Refusal, SessionEnded):
+                names = []
+            words = {*names, *WORDS, "blockDist", "cyclicDist", "blockCycDist"}
+            found[:] = sorted(word for word in words if word.startswith(text))
+        return found[state] if state < len(found) else None
+
+    return complete
+
+
+def _with_readline(book: Workbook) -> Optional[str]:
+    """Turns on editing, completion and history; gives the history's file."""
+    try:
+        import readline
+    except ImportError:  # a plain prompt, then
+        return None
+    path = os.path.expanduser(os.environ.get("WORKBOOK_HISTORY", "~/.workbook_history"))
+    readline.set_completer(_completer(book))
+    readline.set_completer_delims(" \t[](){},=+-*|&^.\"")
+    readline.parse_and_bind("bind ^I rl_complete" if "libedit" in (readline.__doc__ or "") else "tab: complete")
+    readline.set_history_length(1000)
+    try:
+        readline.read_history_file(path)
+    except OSError:
+        pass
+    return path
+
+
+def converse(session: Session) -> int:
+    """A prompt until the end."""
+    path = _with_readline(session.book)
+    prompt = "workbook> "
+    session.say("help lists what you can write; quit, or Ctrl-D, ends.")
+    try:
+        while True:
+            try:
+                text = input(prompt)
+            except KeyboardInterrupt:
+                session.say("")
+                continue
+            except EOFError:
+                session.say("")
+                return 0
+            try:
+                if not session.line(text, prompt):
+                    return 0
+            except KeyboardInterrupt:
+                session.say("  (not waited for; its reply is read before the next)")
+    finally:
+        if path:
+            import readline
+
+            try:
+                readline.write_history_file(path)
+            except OSError:
+                pass
+
+
+def script(session: Session, lines: TextIO, keep_going: bool) -> int:
+    """The lines of a file, each shown before what came of it. A refusal ends it with status 1."""
+    status = 0
+    for text in lines:
+        text = text.rstrip("\r\n")
+        session.say(f"> {text}" if text else "")
+        if not session.line(text, "> "):
+            break
+        if session.failed:
+            status = 1
+            if not keep_going:
+                break
+    return status
+
+
+def open_book(args: argparse.Namespace) -> Workbook:
+    """The workbook of --program or --connect."""
+    if not args.connect:
+        return Workbook.run(args.program)
+    host, _, port = args.connect.rpartition(":")
+    if not port.isdigit():
+        raise SystemExit("--connect wants HOST:PORT, as 127.0.0.1:7000")
+    return Workbook.connect(host or "127.0.0.1", int(port))
+
+
+def arguments(description: str) -> argparse.ArgumentParser:
+    parser = argparse.ArgumentParser(description=description)
+    where = parser.add_mutually_exclusive_group()
+    where.add_argument("--program", help="the program to start (else WORKBOOK_PROGRAM, else workbook)")
+    where.add_argument("--connect", metavar="HOST:PORT", help="a workbook that `workbook serve` shares")
+    return parser
+
+
+def main(words: Optional[List[str]] = None) -> int:
+    parser = arguments("A session with a workbook: `help` at the prompt lists its language.")
+    parser.prog = "python3 -m workbook_client"
+    parser.add_argument("--file", metavar="SCRIPT", help="run the lines of a file (- for standard input)")
+    parser.add_argument("--keep-going", action="store_true", help="go on after a refused line of SCRIPT")
+    parser.add_argument("--colours", action="store_true", help="tables coloured by locale from the start")
+    args = parser.parse_args(words)
+    if isinstance(sys.stdout, io.TextIOWrapper):
+        sys.stdout.reconfigure(errors="replace")  # a terminal without the tables' characters
+    try:
+        with open_book(args) as book:
+            session = Session(book)
+            session.colours = args.colours
+            if args.file and args.file != "-":
+                with open(args.file, encoding="utf-8") as lines:
+                    return script(session, lines, args.keep_going)
+            if args.file or not sys.stdin.isatty():
+                return script(session, sys.stdin, args.keep_going)
+            return converse(session)
+    except (NoProgram, SessionEnded, OSError) as end:
+        print(f"workbook_client: {end}", file=sys.stderr)
+        return 3
+    except KeyboardInterrupt:
+        return 130
