@@ -5,6 +5,8 @@
 //! list of its pairs, ascending by index, and read by a look-up. When its
 //! domain is assigned, common indices keep their elements, new ones get a
 //! default and the rest are handed back, so that the change can be undone.
+//!
+//! Its tests are in the crate `wb_tests`.
 #![tactic(auto)]
 
 mod bound;
@@ -12,6 +14,3 @@ mod store;
 
 pub use bound::{Bound, put_absent};
 pub use store::{Dropped, OutOfDomain, Store};
-
-#[cfg(test)]
-mod tests;

@@ -166,22 +166,3 @@ impl Ord for Label {
 impl Key for Label {
     ghost exact = { slice_cmp-IsAntisymmetric nat_cmp-IsAntisymmetric };
 }
-
-#[cfg(test)]
-mod tests {
-    use super::*;
-    use std::test::Fail;
-
-    #[test]
-    fn bounds_of_texts(rt: HostRuntime) -> Result<(), Fail> {
-        let longest = "0123456789012345678901234567890123456789012345678901234567890123";
-        for text in ["", "a b", "~", "é", longest] {
-            assert_eq!(rt; Label::new(text)?.as_str(), text);
-        }
-        let too_long = "01234567890123456789012345678901234567890123456789012345678901234";
-        for text in [too_long, "\"", "\\", "a\nb", "\u{1f}", "\u{7f}"] {
-            assert_eq!(rt; Label::new(text), Err(BadLabel), "{text:?}");
-        }
-        Ok(())
-    }
-}

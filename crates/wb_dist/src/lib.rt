@@ -2,6 +2,8 @@
 //! Specification. `specs/Maps.antt` says on which locale each of them puts an index.
 //!
 //! Making a mapping and asking it for the locale of an index takes no memory, and time in the number of dimensions.
+//!
+//! Its tests are in the crate `wb_tests`.
 #![tactic(auto)]
 
 mod axis;
@@ -20,6 +22,3 @@ pub use cyclic::Cyclic;
 pub use errors::{BadMapping, PieceErr};
 pub use home::Home;
 pub use layout::{Distribution, Layout};
-
-#[cfg(test)]
-mod tests;

@@ -4,6 +4,8 @@
 //! A [`Pieces`] is seen as its pairs in one ascending list, and its mapping. It
 //! makes the promises of a [`wb_array::Store`]; beside them, piece l is exactly
 //! the pairs whose index has locale l.
+//!
+//! Its tests are in the crate `wb_tests`.
 #![tactic(auto)]
 
 mod part;
@@ -11,6 +13,3 @@ mod pieces;
 
 pub use part::part_of;
 pub use pieces::Pieces;
-
-#[cfg(test)]
-mod tests;

@@ -1,5 +1,7 @@
 //! Moving arrays from one mapping to another, by one thread or by several, and
 //! reducing them.
+//!
+//! Its tests are in the crate `wb_tests`.
 #![tactic(auto)]
 
 mod mover;
@@ -12,6 +14,3 @@ pub use mover::{MoveErr, Mover, Way};
 pub use reduction::{Op, ReduceErr, reduce};
 pub use team::Team;
 pub use workers::{BadWorkers, Gate, OneThread, Open, Workers};
-
-#[cfg(test)]
-mod tests;

@@ -1,0 +1,188 @@
+//! Arrays moved to another mapping, by one thread, by several and by none, and what reductions make of them.
+ghost use Rattle.std.specs.Prelude.{⊤};
+
+use std::alloc::Global;
+use std::marker::PhantomData;
+use std::process::Abort;
+use std::sync::atomic::{AtomicUsize, Ordering};
+use std::test::Fail;
+use std::thread::Threads;
+use wb_array::{Bound, Store};
+use wb_dist::{Block, Cyclic, Distribution, Layout};
+use wb_pieces::Pieces;
+use wb_range::Range;
+use wb_rect::Rect;
+use wb_redist::{
+    BadWorkers, Gate, MoveErr, Mover, OneThread, Op, Open, ReduceErr, Way, Workers, reduce,
+};
+
+fn blocks(high: i64, count: i64) -> Result<Layout<1>, Fail> {
+    let block = Block::new(Rect::new([Range::new(1, high, 1, None)?])?, [count])?;
+    Ok(Layout::new(Distribution::Block(block)))
+}
+
+fn in_turn(count: i64) -> Result<Layout<1>, Fail> {
+    Ok(Layout::new(Distribution::Cyclic(Cyclic::new([1], [count])?)))
+}
+
+// The elements at 1, 2 .., in the pieces of the mapping. A refused growth is tried again once.
+fn pieces_of(
+    rt: &impl Abort,
+    alloc: Global,
+    layout: &Layout<1>,
+    elements: &[i64],
+) -> Result<Pieces<Rect<1>, Layout<1>>, Fail> {
+    let domain = Rect::new([Range::new(1, elements.len() as i64, 1, None)?])?;
+    let mut whole = Bound::new(alloc, &domain).or_else(|_| Bound::new(alloc, &domain))?;
+    for p in 0..elements.len() {
+        assert_eq!(rt; whole.set([p as i64 + 1], elements[p]), Ok(0));
+    }
+    let split = Pieces::split(alloc, layout, &whole);
+    Ok(split.or_else(|_| Pieces::split(alloc, layout, &whole))?)
+}
+
+// The tens 10, 20 .. 100 at 1 to 10, in blocks.
+fn tens(rt: &impl Abort, alloc: Global) -> Result<Pieces<Rect<1>, Layout<1>>, Fail> {
+    let elements = [10, 20, 30, 40, 50, 60, 70, 80, 90, 100];
+    pieces_of(rt, alloc, &blocks(10, 4)?, &elements)
+}
+
+// The tens moved by the mover. After a refused growth they are as they were, and can be moved again.
+fn moved_at_last<X: Mover>(
+    rt: &impl Abort,
+    alloc: Global,
+    mover: &X,
+    from: &Pieces<Rect<1>, Layout<1>>,
+    to: &Layout<1>,
+) -> Result<Pieces<Rect<1>, Layout<1>>, MoveErr> {
+    let moved = mover.move_pieces(alloc, from, to);
+    if moved.is_ok() {
+        return moved;
+    }
+    let kept = from.pairs(3).expect(rt, "locale 3");
+    assert_eq!(rt; kept, [([9], 90), ([10], 100)].as_slice());
+    mover.move_pieces(alloc, from, to)
+}
+
+// Moves the tens by the mover, and looks at each piece and at the whole.
+fn moves_the_tens<X: Mover>(rt: &impl Abort, alloc: Global, mover: &X) -> Result<(), Fail> {
+    let from = tens(rt, alloc)?;
+    let moved = moved_at_last(rt, alloc, mover, &from, &in_turn(4)?)?;
+    for (locale, wanted) in [
+        (0, [([1], 10), ([5], 50), ([9], 90)].as_slice()),
+        (1, [([2], 20), ([6], 60), ([10], 100)].as_slice()),
+        (2, [([3], 30), ([7], 70)].as_slice()),
+        (3, [([4], 40), ([8], 80)].as_slice()),
+    ] {
+        assert_eq!(rt; moved.pairs(locale).expect(rt, "a locale"), wanted);
+    }
+    let whole = moved.gather().or_else(|_| moved.gather())?;
+    assert_eq!(rt; whole.len(), 10);
+    Ok(())
+}
+
+// One thread and 1, 3 and 64 workers make the same pieces.
+#[test]
+fn pieces_by_any_workers(rt: HostRuntime) -> Result<(), Fail> {
+    let alone: OneThread<&HostRuntime> = OneThread::new();
+    moves_the_tens(&rt, rt.alloc(), &alone)?;
+    for count in [1, 3, 64] {
+        let workers = Workers::new(&rt, count, Open)?;
+        moves_the_tens(&rt, rt.alloc(), &workers)?;
+    }
+    for count in [0, 65] {
+        assert!(rt; Workers::new(&rt, count, Open).is_err_and(|e| e == BadWorkers));
+    }
+    Ok(())
+}
+
+// Worker 0 waits here until worker 1 has come, for a while.
+#[derive(Drop)]
+struct Meeting<'a> {
+    arrived: &'a AtomicUsize,
+    met: &'a AtomicUsize,
+}
+
+impl Gate for Meeting<'_> {
+    fn arrive(&self, worker: usize) {
+        if worker == 1 {
+            self.arrived.store(1, Ordering::SeqCst);
+            return;
+        }
+        for _ in 0..100_000_000u64 {
+            if self.arrived.load(Ordering::SeqCst) == 1 {
+                self.met.store(1, Ordering::SeqCst);
+                return;
+            }
+        }
+    }
+}
+
+// Two workers are at work at the same time.
+#[test]
+fn two_workers_meet(rt: HostRuntime) -> Result<(), Fail> {
+    let arrived = AtomicUsize::new(0);
+    let met = AtomicUsize::new(0);
+    let gate = Meeting {
+        arrived: &arrived,
+        met: &met,
+    };
+    let workers = Workers::new(&rt, 2, gate)?;
+    moves_the_tens(&rt, rt.alloc(), &workers)?;
+    assert_eq!(rt; met.load(Ordering::SeqCst), 1);
+    Ok(())
+}
+
+// A mover that has no thread.
+#[derive(Drop)]
+struct Threadless<R> {
+    of: PhantomData<R>,
+}
+
+impl<R: Threads + Sync> Mover for Threadless<R> {
+    type R = R;
+
+    type G = Open;
+
+    ghost may_lack_threads = { λ m. ⊤ };
+
+    fn way(&self) -> Way<'_, R, Open> {
+        Way::NoThread
+    }
+}
+
+#[test]
+fn mover_without_threads(rt: HostRuntime) -> Result<(), Fail> {
+    let mover: Threadless<&HostRuntime> = Threadless { of: PhantomData };
+    let from = tens(&rt, rt.alloc())?;
+    let refused = mover.move_pieces(rt.alloc(), &from, &in_turn(4)?);
+    assert!(rt; refused.is_err_and(|e| e == MoveErr::NoThread));
+    Ok(())
+}
+
+// The sum, the least and the greatest of elements dealt out in turn. Only the whole sum has to be an i64: where locale 0
+// has the greatest i64 and 1, locale 1 may bring the sum back.
+#[test]
+fn reductions(rt: HostRuntime) -> Result<(), Fail> {
+    let (empty, overflow) = (Err(ReduceErr::Empty), Err(ReduceErr::Overflow));
+    let layout = in_turn(2)?;
+    for (elements, wanted) in [
+        ([10, 20, 30].as_slice(), [Ok(60), Ok(10), Ok(30)]),
+        ([].as_slice(), [Ok(0), empty, empty]),
+        ([i64::MAX, 0, 1].as_slice(), [overflow, Ok(0), Ok(i64::MAX)]),
+        (
+            [i64::MAX, -1, 1].as_slice(),
+            [Ok(i64::MAX), Ok(-1), Ok(i64::MAX)],
+        ),
+        ([i64::MIN, -1].as_slice(), [overflow, Ok(i64::MIN), Ok(-1)]),
+    ] {
+        let pieces = pieces_of(&rt, rt.alloc(), &layout, elements)?;
+        let found = [
+            reduce(&rt, Op::Sum, &pieces),
+            reduce(&rt, Op::Min, &pieces),
+            reduce(&rt, Op::Max, &pieces),
+        ];
+        assert_eq!(rt; found, wanted);
+    }
+    Ok(())
+}
