@@ -12,10 +12,6 @@ abbrev pub Leads : (Cell → Option Name) → List Cell → Type 0
 Leads f [] = Unit {0}
 Leads f (x ∷ xs) = (f x ≡ None → filter_map f xs ≡ []) × Leads f xs
 
-none_of_none : (f : Cell → Option Name) (o : Option Cell) → o ≡ None → option_and_then f o ≡ None
-none_of_none f None e = refl
-none_of_none f (Some x) e = cc
-
 first_here : (f : Cell → Option Name) (x : Cell) (xs : List Cell) (o : Option Name) → f x ≡ o → (f x ≡ None → filter_map f xs ≡ []) → f x ≡ slice_get (cons_option o (filter_map f xs)) 0
 first_here f x xs None e stops = rw (stops e) e
 first_here f x xs (Some n) e stops = e

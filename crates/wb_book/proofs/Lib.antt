@@ -12,3 +12,4 @@ pub mod Families
 pub mod Counts
 pub mod Members
 pub mod Lying
+pub mod TwoRanks

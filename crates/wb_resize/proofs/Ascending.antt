@@ -6,8 +6,6 @@ use Rattle.std.specs.declared.cmp.Ordering.TheVariants.{Less, Equal, Greater}
 use Rattle.std.specs.Ordering.{ordering_reverse}
 use Rattle.std.specs.List.{AllByRecursion, Contains}
 use Rattle.std.specs.List.Sorted.{IsStrictlySortedBy}
-use Rattle.wb_range.specs.Domain.{IsListedOnce}
-use Rattle.wb_assoc.proofs.Ascending.{IsListedOnce-sorted}
 use Rattle.wb_assoc.proofs.Unique.{same_members}
 use Rattle.wb_book.specs.declared.values.index.Index.{Index}
 use Rattle.wb_book.specs.Cells.{index_cmp, index_cmp-IsAntisymmetric, is_same_index}
@@ -59,10 +57,6 @@ module _ (P : Index → Type 0) where
   all_inserted i [] p all = (p, tt)
   all_inserted i (j ∷ js) p all = all_placed (index_cmp i j) i j js (inserted i js) p all.0 all.1 (all_inserted i js p all.1)
 
-  pub all-ascending : (is : List Index) → AllByRecursion P is → AllByRecursion P (ascending is)
-  all-ascending [] all = tt
-  all-ascending (i ∷ is) all = all_inserted i (ascending is) all.0 (all-ascending is all.1)
-
 -- ---- in order
 
 below_all : (i j : Index) (js : List Index) → index_cmp i j ≡ Less → AllByRecursion (λ k. index_cmp j k ≡ Less) js → AllByRecursion (λ k. index_cmp i k ≡ Less) js
@@ -85,9 +79,6 @@ pub sorted-ascending : (is : List Index) → IsStrictlySortedBy index_cmp (ascen
 unfolding IsStrictlySortedBy
 sorted-ascending [] = tt
 sorted-ascending (i ∷ is) = sorted_inserted i (ascending is) (sorted-ascending is)
-
-pub IsListedOnce-ascending : (is : List Index) → IsListedOnce (ascending is)
-IsListedOnce-ascending is = IsListedOnce-sorted index_cmp index_total index_cmp-IsAntisymmetric (ascending is) (sorted-ascending is)
 
 -- an ascending list with the members of another one is that one, in ascending order
 pub is_ascending : (xs is : List Index) → IsStrictlySortedBy index_cmp xs → ((k : Index) → Contains xs k ↔ Contains is k) → xs ≡ ascending is

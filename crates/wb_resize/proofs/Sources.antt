@@ -1,10 +1,9 @@
 -- What two sets of indices make: each index once, and what holds of each index of both.
-use Rattle.std.proofs.Common.{◌≡◌, ◌⊎◌, inl, inr, ℕ, zero, suc, Bool, true, false, cond, not, ◌&&◌, ◌||◌, List, [], ◌∷◌, ◌++◌, Some, slice_get, refl, sym, ap, ◌∙◌, arith}
+use Rattle.std.proofs.Common.{◌≡◌, ◌⊎◌, inl, inr, ℕ, zero, suc, Bool, true, false, not, ◌&&◌, ◌||◌, List, [], ◌∷◌, ◌++◌, Some, slice_get, refl, sym, ap, ◌∙◌, arith}
 use Rattle.std.proofs.lemmas.Map.Views.{any-filter_same}
 use Rattle.std.proofs.lemmas.List.Folds.{list_any-append}
 use Rattle.std.proofs.lemmas.Map.Keys.{any_passes_from_place}
 use Rattle.std.specs.Cmp.{eq_by_cmp_equiv}
-use Rattle.std.specs.List.{AllByRecursion, filter}
 use Rattle.wb_range.specs.Domain.{IsListedOnce}
 use Rattle.wb_book.specs.declared.values.index.Index.{Index}
 use Rattle.wb_book.specs.Cells.{is_same_index}
@@ -104,30 +103,3 @@ has-combined SymmetricDifference given old i =
     has_either (without given old) (without old given) i
     ∙ ap (λ b. b || has (without old given) i) (has-without given old i)
     ∙ ap (λ b. (has old i && not (has given i)) || b) (has-without old given i)
-
--- ---- what holds of each
-
-module _ (P : Index → Type 0) where
-  all_kept : (keep : Bool) (i : Index) (is : List Index) → P i → AllByRecursion P is → AllByRecursion P (cond keep (i ∷ is) is)
-  all_kept true i is p all = (p, all)
-  all_kept false i is p all = all
-
-  all_filtered : (test : Index → Bool) (is : List Index) → AllByRecursion P is → AllByRecursion P (filter test is)
-  all_filtered test [] all = tt
-  all_filtered test (i ∷ is) all = all_kept (test i) i (filter test is) all.0 (all_filtered test is all.1)
-
-  all_both : (xs ys : List Index) → AllByRecursion P xs → AllByRecursion P ys → AllByRecursion P (xs ++ ys)
-  all_both [] ys all more = more
-  all_both (x ∷ xs) ys all more = (all.0, all_both xs ys all.1 more)
-
-  pub all-without : (ys xs : List Index) → AllByRecursion P xs → AllByRecursion P (without ys xs)
-  all-without ys xs all = all_filtered (λ i. not (has ys i)) xs all
-
-  pub all-among : (ys xs : List Index) → AllByRecursion P xs → AllByRecursion P (among ys xs)
-  all-among ys xs all = all_filtered (has ys) xs all
-
-  pub all-combined : (how : SetOperation) (given old : List Index) → AllByRecursion P given → AllByRecursion P old → AllByRecursion P (combined how given old)
-  all-combined Union given old g o = all_both old (without old given) o (all-without old given g)
-  all-combined Intersection given old g o = all-among given old o
-  all-combined Difference given old g o = all-without given old o
-  all-combined SymmetricDifference given old g o = all_both (without given old) (without old given) (all-without given old o) (all-without old given g)

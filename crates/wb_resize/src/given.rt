@@ -1,4 +1,5 @@
 ghost use Rattle.std.specs.Prelude.{◌≡◌, IfOk};
+ghost use Rattle.std.specs.Bool.{Decides};
 
 use std::alloc::Global;
 use wb_assoc::Assoc;
@@ -27,4 +28,31 @@ impl Given {
             Given::Named(domain) => Ok(Given::Named(*domain)),
         }
     }
+
+    /// Whether the same is given.
+    pub fn is_same(&self, other: &Given) -> bool
+        ensures { Decides result (self.now ≡ other.now) }
+    {
+        match (self, other) {
+            (Given::Rectangle(ranges), Given::Rectangle(by)) => ranges.is_same(by),
+            (Given::Items(items), Given::Items(by)) => { are_same(items.as_slice(), by.as_slice()) }
+            (Given::Named(domain), Given::Named(by)) => domain.is_same(by),
+            _ => false,
+        }
+    }
+}
+
+// Whether these are the same indices, in the same order.
+fn are_same(indices: &[AnyIndex], others: &[AnyIndex]) -> bool
+    ensures { Decides result (indices.now ≡ others.now) }
+{
+    if indices.len() != others.len() {
+        return false;
+    }
+    for at in 0..indices.len() {
+        if !indices[at].is_same(&others[at]) {
+            return false;
+        }
+    }
+    true
 }

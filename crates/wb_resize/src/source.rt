@@ -1,4 +1,5 @@
 ghost use Rattle.std.specs.Prelude.{◌≡◌, IfOk};
+ghost use Rattle.std.specs.Bool.{Decides};
 
 use crate::given::Given;
 use std::alloc::Global;
@@ -18,6 +19,21 @@ pub enum SetOperation {
     SymmetricDifference,
 }
 
+impl SetOperation {
+    /// Whether the operations are equal.
+    pub fn is_same(self, other: SetOperation) -> bool
+        ensures { Decides result (self ≡ other) }
+    {
+        match (self, other) {
+            (SetOperation::Union, SetOperation::Union) => true,
+            (SetOperation::Intersection, SetOperation::Intersection) => true,
+            (SetOperation::Difference, SetOperation::Difference) => true,
+            (SetOperation::SymmetricDifference, SetOperation::SymmetricDifference) => true,
+            _ => false,
+        }
+    }
+}
+
 /// How ranges move by offsets (Chapel Language Specification, Domains: translate, expand).
 #[derive(Clone, Copy, Debug)]
 pub enum Displacement {
@@ -25,6 +41,19 @@ pub enum Displacement {
     Translate,
     /// Both bounds outward by the offset.
     Expand,
+}
+
+impl Displacement {
+    /// Whether the displacements are equal.
+    pub fn is_same(self, other: Displacement) -> bool
+        ensures { Decides result (self ≡ other) }
+    {
+        match (self, other) {
+            (Displacement::Translate, Displacement::Translate) => true,
+            (Displacement::Expand, Displacement::Expand) => true,
+            _ => false,
+        }
+    }
 }
 
 /// Where the new value of a domain comes from.
@@ -52,4 +81,39 @@ impl Source {
             Source::Combine(how, given) => Ok(Source::Combine(*how, given.copy(alloc)?)),
         }
     }
+
+    /// Whether the sources are equal.
+    pub fn is_same(&self, other: &Source) -> bool
+        ensures { Decides result (self.now ≡ other.now) }
+    {
+        match (self, other) {
+            (Source::To(given), Source::To(by)) => given.is_same(by),
+            (Source::Slice(given), Source::Slice(by)) => given.is_same(by),
+            (Source::Displace(how, offsets), Source::Displace(by, others)) => {
+                displace_alike(*how, offsets, *by, others)
+            }
+            (Source::Combine(how, given), Source::Combine(by, others)) => {
+                combine_alike(*how, given, *by, others)
+            }
+            _ => false,
+        }
+    }
+}
+
+fn displace_alike(how: Displacement, offsets: &Point, by: Displacement, others: &Point) -> bool
+    ensures { Decides result ((how ≡ by) × (offsets.now ≡ others.now)) }
+{
+    if !how.is_same(by) {
+        return false;
+    }
+    offsets.is_same(others)
+}
+
+fn combine_alike(how: SetOperation, given: &Given, by: SetOperation, others: &Given) -> bool
+    ensures { Decides result ((how ≡ by) × (given.now ≡ others.now)) }
+{
+    if !how.is_same(by) {
+        return false;
+    }
+    given.is_same(others)
 }

@@ -1,4 +1,5 @@
 ghost use Rattle.std.specs.Prelude.{◌≡◌};
+ghost use Rattle.std.specs.Bool.{Decides};
 ghost use Rattle.wb_book.specs.WellFormed.{index_cell};
 ghost use Rattle.wb_book.specs.Kinds.{kind_of, is_point, is_text, is_key};
 
@@ -14,6 +15,19 @@ pub enum KeyType {
     Int,
     /// Texts.
     Text,
+}
+
+impl KeyType {
+    /// Whether the types are equal.
+    pub fn is_same(self, other: KeyType) -> bool
+        ensures { Decides result (self ≡ other) }
+    {
+        match (self, other) {
+            (KeyType::Int, KeyType::Int) => true,
+            (KeyType::Text, KeyType::Text) => true,
+            _ => false,
+        }
+    }
 }
 
 /// What an array knows of its domain: the kind, with the rank or the type of the indices.

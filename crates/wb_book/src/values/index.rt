@@ -1,4 +1,5 @@
 ghost use Rattle.std.specs.Prelude.{◌≡◌, []};
+ghost use Rattle.std.specs.Bool.{Decides};
 ghost use Rattle.wb_book.specs.declared.values.index.Index.TheVariants.{Point as point_index};
 
 use crate::values::point::Point;
@@ -50,5 +51,36 @@ impl AnyIndex {
         ensures { result ≡ self.now }
     {
         self.index
+    }
+
+    /// Whether the indices are equal.
+    pub fn is_same(&self, other: &AnyIndex) -> bool
+        ensures { Decides result (self.now ≡ other.now) }
+    {
+        let index = other.index();
+        match self.index() {
+            Index::Point(point) => is_point(&point, &index),
+            Index::Text(text) => is_text(&text, &index),
+        }
+    }
+}
+
+// Whether the index is this point.
+fn is_point(point: &Point, index: &Index) -> bool
+    ensures { Decides result (Index.Point point.now ≡ index.now) }
+{
+    match index {
+        Index::Point(other) => point.is_same(other),
+        Index::Text(_) => false,
+    }
+}
+
+// Whether the index is this text.
+fn is_text(text: &Label, index: &Index) -> bool
+    ensures { Decides result (Index.Text text.now ≡ index.now) }
+{
+    match index {
+        Index::Point(_) => false,
+        Index::Text(other) => text.as_str() == other.as_str(),
     }
 }

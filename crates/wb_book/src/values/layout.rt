@@ -1,4 +1,5 @@
 ghost use Rattle.std.specs.Prelude.{◌≡◌, ◌≤◌, ◌<◌, true, false, FitsSigned};
+ghost use Rattle.std.specs.Bool.{Decides};
 ghost use Rattle.std.specs.Int.{w64};
 ghost use Rattle.std.specs.List.{All};
 ghost use Rattle.wb_dist.specs.Maps.{whole, locale_count_of};
@@ -7,6 +8,7 @@ ghost use Rattle.wb_book.specs.declared.values.index.Index.TheVariants.{Point as
 
 use crate::values::index::{AnyIndex, Index};
 use crate::values::point::Point;
+use crate::values::same::{is_laid_line, is_laid_plane, is_laid_solid, is_laid_whole};
 use std::marker::Model;
 use wb_dist::{Distribution, Layout};
 use wb_range::Mapping;
@@ -138,6 +140,19 @@ impl AnyLayout {
                 Laid::Plane(layout) => locale_on(layout, &point),
                 Laid::Solid(layout) => locale_on(layout, &point),
             },
+        }
+    }
+
+    /// Whether the mappings are equal. Those that keep all on one locale are, whatever their ranks.
+    pub fn is_same(&self, other: &AnyLayout) -> bool
+        ensures { Decides result (self.now ≡ other.now) }
+    {
+        let laid = other.laid();
+        match self.laid() {
+            Laid::Whole => is_laid_whole(&laid),
+            Laid::Line(layout) => is_laid_line(&layout, &laid),
+            Laid::Plane(layout) => is_laid_plane(&layout, &laid),
+            Laid::Solid(layout) => is_laid_solid(&layout, &laid),
         }
     }
 }

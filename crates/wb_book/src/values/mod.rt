@@ -6,3 +6,4 @@ pub mod layout;
 pub mod name;
 pub mod point;
 pub mod rectangle;
+mod same;

@@ -1,4 +1,5 @@
 ghost use Rattle.std.specs.Prelude.{◌≡◌, ℕ, ◌≤◌, List, [], ◌∷◌, length, take, true, IfOk, is_ok};
+ghost use Rattle.std.specs.Bool.{Decides};
 ghost use Rattle.std.specs.Ordering.{nat_cmp, as_partial_cmp, eq_by_cmp};
 ghost use Rattle.std.specs.Cmp.Lexicographic.{slice_cmp, nat_list_cmp_total};
 ghost use Rattle.std.specs.Cmp.{partial_order_from_total, partial_equiv_from_equiv, eq_by_cmp_equiv};
@@ -79,6 +80,13 @@ impl Name {
         ensures name { is_name self.now ≡ true }
     {
         &self.bytes[..self.len as usize]
+    }
+
+    /// Whether the names are equal.
+    pub fn is_same(&self, other: &Name) -> bool
+        ensures { Decides result (self.now ≡ other.now) }
+    {
+        self.as_bytes() == other.as_bytes()
     }
 }
 

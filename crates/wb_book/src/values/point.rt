@@ -1,4 +1,5 @@
 ghost use Rattle.std.specs.Prelude.{◌≡◌, ◌≤◌, [], ◌∷◌, length};
+ghost use Rattle.std.specs.Bool.{Decides};
 ghost use Rattle.std.specs.Ordering.{int_cmp, as_partial_cmp, eq_by_cmp};
 ghost use Rattle.std.specs.Cmp.Lexicographic.{slice_cmp, lists_total};
 ghost use Rattle.std.specs.Cmp.{partial_order_from_total, partial_equiv_from_equiv, eq_by_cmp_equiv, int_cmp_total};
@@ -92,6 +93,13 @@ impl Point {
         ensures { result.now ≡ self.now }
     {
         &self.at[..self.rank as usize]
+    }
+
+    /// Whether the points are equal.
+    pub fn is_same(&self, other: &Point) -> bool
+        ensures { Decides result (self.now ≡ other.now) }
+    {
+        self.coordinates() == other.coordinates()
     }
 }
 

@@ -1,4 +1,5 @@
 ghost use Rattle.std.specs.Prelude.{◌≡◌, ◌≢◌, ◌↔◌, ◌<◌, ◌≤◌, [], ◌∷◌, true, false, length, slice_get, IfOk, OnOk, SomeIff};
+ghost use Rattle.std.specs.Bool.{Decides};
 ghost use Rattle.wb_range.specs.Domain.{IsListedOnce};
 ghost use Rattle.wb_rect.specs.Offsets.{each_shifted, translated, expanded};
 ghost use Rattle.wb_rect.specs.Product.{product, IsRectangle};
@@ -11,6 +12,7 @@ ghost use Rattle.wb_book.specs.declared.values.index.Index.TheVariants.{Point as
 
 use crate::values::index::{AnyIndex, Index};
 use crate::values::point::Point;
+use crate::values::same::{is_line, is_plane, is_solid};
 use std::marker::Model;
 use wb_range::{Domain, Range};
 use wb_rect::{Rect, RectErr};
@@ -215,6 +217,18 @@ impl AnyRect {
             ((has_unit_strides self.now ≡ true) × (can_shift true offsets.now self.now ≡ false)) }
     {
         self.shift(offsets, true)
+    }
+
+    /// Whether the domains have the same ranges.
+    pub fn is_same(&self, other: &AnyRect) -> bool
+        ensures { Decides result (self.now ≡ other.now) }
+    {
+        let ranked = other.ranked();
+        match self.ranked() {
+            Ranked::Line(rect) => is_line(&rect, &ranked),
+            Ranked::Plane(rect) => is_plane(&rect, &ranked),
+            Ranked::Solid(rect) => is_solid(&rect, &ranked),
+        }
     }
 
     // Each range shifted, as `translate` does, or outward, as `expand` does.
