@@ -4,20 +4,33 @@
 mod checking;
 mod command;
 mod running;
+mod seat;
+mod serving;
 #[cfg(test)]
 mod tests;
 
 use checking::check_with;
 use command::{Asked, CommandErr, command_of};
 use running::{BAD_COMMAND_LINE, DONE, INPUT_OR_OUTPUT_FAILED, NO_MEMORY, run_with};
-use std::alloc::AllocError;
+use serving::serve_on;
+use std::alloc::Global;
 use std::env;
-use std::io::{self, BufWriter};
+use std::io::{self, BufWriter, Write};
+use std::net::{Net, TcpListener, TcpStream};
 use std::process::ExitCode;
+use std::sync::Wait;
+use std::thread::Threads;
 use wb_lines::{Input, Output};
 
 fn main(rt: HostRuntime) -> io::Result<ExitCode> {
-    let status = match status_of_words(&rt) {
+    let done = match asked(&rt) {
+        Ok(Ok(Asked::Run)) => run(&rt),
+        Ok(Ok(Asked::Check)) => check(&rt),
+        Ok(Ok(Asked::Serve { port, seats })) => serve(&rt, rt.alloc(), rt.stdout(), port, seats),
+        Ok(Err(status)) => Ok(status),
+        Err(error) => Err(error),
+    };
+    let status = match done {
         Ok(status) => status,
         Err(error) => match error.kind() {
             io::ErrorKind::OutOfMemory => NO_MEMORY,
@@ -33,8 +46,8 @@ fn main(rt: HostRuntime) -> io::Result<ExitCode> {
     Ok(ExitCode::from(status))
 }
 
-// Does what the command line asks for: the exit status.
-fn status_of_words(rt: &HostRuntime) -> io::Result<u8> {
+// What the command line asks for, or the exit status where that is nothing.
+fn asked(rt: &HostRuntime) -> io::Result<Result<Asked, u8>> {
     let alloc = rt.alloc();
     let mut words = Vec::new(alloc);
     for word in env::args(rt)? {
@@ -47,14 +60,13 @@ fn status_of_words(rt: &HostRuntime) -> io::Result<u8> {
             .map_err(|_| io::ErrorKind::OutOfMemory)?;
     }
     match command_of(alloc, &texts) {
-        Ok(Asked::Run) => run(rt),
-        Ok(Asked::Check) => check(rt),
+        Ok(asked) => Ok(Ok(asked)),
         Err(CommandErr::Help(error)) => {
             error.print(rt)?;
-            Ok(DONE)
+            Ok(Err(DONE))
         }
-        Err(CommandErr::BadCommandLine) => Ok(BAD_COMMAND_LINE),
-        Err(CommandErr::NoMemory) => Ok(NO_MEMORY),
+        Err(CommandErr::BadCommandLine) => Ok(Err(BAD_COMMAND_LINE)),
+        Err(CommandErr::NoMemory) => Ok(Err(NO_MEMORY)),
     }
 }
 
@@ -72,4 +84,23 @@ fn check(rt: &HostRuntime) -> io::Result<u8> {
     let mut input = Input::new(rt.stdin());
     let mut output = Output::new(BufWriter::new(alloc, rt.stdout())?);
     Ok(check_with(alloc, &mut input, &mut output))
+}
+
+// A desk of so many seats on a port of this machine.
+fn serve<
+    R: Net<Listener = TcpListener, Stream = TcpStream> + Threads + Wait + Sync,
+    W: Write + Drop,
+>(rt: &R, alloc: Global, output: W, port: u16, seats: u8) -> io::Result<u8> {
+    let listener = TcpListener::bind(rt, ("127.0.0.1", port))?;
+    let mut output = BufWriter::new(alloc, output)?;
+    let port = listener.local_addr()?.port();
+    writeln!(output, "listening on 127.0.0.1:{port}")?;
+    output.flush()?;
+    Ok(serve_on(
+        rt,
+        alloc,
+        &listener,
+        seats as usize,
+        &mut Output::new(output),
+    ))
 }

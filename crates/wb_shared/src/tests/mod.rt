@@ -30,6 +30,7 @@ const STRANGE: &str = "{\"error\":\"E92\",\"name\":\"strange-pass\"}";
 
 // What is done with a pass: a line is asked and has this reply, the pass gets the number of another seat, or its first
 // request is replaced.
+#[derive(Clone, Copy)]
 enum Act {
     Ask(&'static str, &'static str),
     Renumber(usize),
@@ -37,6 +38,7 @@ enum Act {
 }
 
 // What is done with the pass at a place.
+#[derive(Clone, Copy)]
 struct Move {
     place: usize,
     act: Act,
@@ -51,6 +53,7 @@ enum Early {
 }
 
 // A day of a desk, of which so many passes are handed in at its end.
+#[derive(Clone, Copy)]
 struct Day<'a> {
     seats: usize,
     before: &'a [Move],

@@ -1,3 +1,4 @@
+mod connections;
 mod texts;
 
 use crate::checking::check_with;
@@ -66,6 +67,48 @@ fn command_line_statuses(rt: HostRuntime) -> Result<(), Fail> {
             Err(CommandErr::Help(_))
         )
     );
+    Ok(())
+}
+
+// What stands behind `serve` where it asks for nothing.
+const NO_DESK: [&[&str]; 9] = [
+    &[],
+    &["--port", "0"],
+    &["--seats", "2"],
+    &["--port", "65536", "--seats", "2"],
+    &["--port", "-1", "--seats", "2"],
+    &["--port", "http", "--seats", "2"],
+    &["--port", "0", "--seats", "0"],
+    &["--port", "0", "--seats", "17"],
+    &["--port", "0", "--seats", "2", "now"],
+];
+
+// What words ask for that stand behind `serve`.
+fn serving(alloc: Global, words: &[&'static str]) -> Option<Asked> {
+    let mut all = Vec::new(alloc);
+    all.push("workbook").ok()?;
+    all.push("serve").ok()?;
+    all.extend_from_slice(words).ok()?;
+    command_of(alloc, &all).ok()
+}
+
+#[test]
+fn words_of_serve(rt: HostRuntime) -> Result<(), Fail> {
+    let alloc = rt.alloc();
+    assert_eq!(rt;
+        serving(alloc, &["--port", "0", "--seats", "1"]),
+        Some(Asked::Serve { port: 0, seats: 1 })
+    );
+    assert_eq!(rt;
+        serving(alloc, &["--seats", "16", "--port", "65535"]),
+        Some(Asked::Serve {
+            port: 65_535,
+            seats: 16
+        })
+    );
+    for words in &NO_DESK {
+        assert!(rt; serving(alloc, words).is_none());
+    }
     Ok(())
 }
 
