@@ -8,7 +8,7 @@ use std::sync::Wait;
 use std::test::Fail;
 use std::thread;
 use std::thread::Threads;
-use wb_lines::{Line, LineBuffer, next_line};
+use wb_lines::{Input, Line, LineBuffer, Output, next_line};
 
 const MAKE_X: &[u8] = b"{\"op\":\"domain\",\"d\":\"X\",\"is\":\"{1..1}\"}\n";
 
@@ -45,7 +45,7 @@ enum First {
 fn comes(stream: &mut TcpStream, buffer: &mut LineBuffer, line: &[u8]) -> io::Result<bool> {
     for _ in 0..100_000u32 {
         stream.write_all(line)?;
-        match next_line(stream, buffer) {
+        match next_line(&mut Input::new(&mut *stream), buffer) {
             Ok(Line::Whole) if buffer.line() == IS_THERE => return Ok(true),
             Ok(Line::Whole) => {}
             _ => return Err(io::ErrorKind::UnexpectedEof.into()),
@@ -75,7 +75,7 @@ fn first_seat(alloc: Global, stream: TcpStream) -> io::Result<bool> {
     let mut stream = stream;
     let mut buffer = LineBuffer::new(alloc);
     begin(&mut stream, First::WaitsForY)?;
-    let _ = next_line(&mut stream, &mut buffer);
+    let _ = next_line(&mut Input::new(&mut stream), &mut buffer);
     comes(&mut stream, &mut buffer, SIZE_Y)
 }
 
@@ -85,7 +85,7 @@ fn second_seat(alloc: Global, stream: TcpStream) -> io::Result<bool> {
     let mut buffer = LineBuffer::new(alloc);
     let came = comes(&mut stream, &mut buffer, SIZE_X)?;
     stream.write_all(MAKE_Y)?;
-    Ok(came && next_line(&mut stream, &mut buffer) == Ok(Line::Whole))
+    Ok(came && next_line(&mut Input::new(&mut stream), &mut buffer) == Ok(Line::Whole))
 }
 
 // Both seats: whether each had what it waited for.
