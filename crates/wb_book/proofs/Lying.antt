@@ -1,9 +1,8 @@
 -- A well-formed workbook answers for every domain: each has its indices, and each index of a domain lies on a locale.
-use Rattle.std.proofs.Common.{◌≡◌, ℕ, ◌==◌, Bool, true, false, ◌&&◌, List, Option, Some, None, is_some, length, refl, sym, ap, subst, ◌∙◌, eqb-true}
+use Rattle.std.proofs.Common.{◌≡◌, ℕ, Bool, true, false, List, Option, Some, None, is_some, length, refl, sym, ap, subst, ◌∙◌}
 use Rattle.std.proofs.lemmas.Bool.{eq-eqb}
 use Rattle.std.specs.FinMap.{get}
-use Rattle.wb_dist.specs.Maps.{LayoutMap, whole, block, cyclic, block_cyclic, is_rank, is_box, is_layout}
-use Rattle.wb_dist.specs.Grid.{are_positive, is_grid}
+use Rattle.wb_dist.specs.Maps.{LayoutMap, whole, block, cyclic, block_cyclic, is_layout}
 use Rattle.wb_book.specs.declared.cells.cell.Cell.TheVariants.{Object, Shape, In, Member, Mapping}
 use Rattle.wb_book.specs.declared.cells.kind.DomainKind.{DomainKind}
 use Rattle.wb_book.specs.declared.cells.kind.DomainKind.TheVariants.{Rectangular, Sparse, Associative}
@@ -17,6 +16,7 @@ use Rattle.wb_book.specs.Locales.{locale_by, has_index, is_index_at, locale_of_k
 use Rattle.wb_book.specs.Readers.{size_at}
 use Rattle.wb_book.specs.Shapes.{Range, indices}
 use Rattle.wb_book.specs.WellFormed.{IsWellFormed, IsObject, IsShape, HasMapping, IsMember, domain_at, domain_in, inside_of, present_if, ranges_in, has}
+use Rattle.wb_book.proofs.TwoRanks.{block_grid, cyclic_grid, block_cyclic_grid}
 use Rattle.wb_book.proofs.Inside.{has_no_text, length-inside}
 
 -- ---- how many indices
@@ -42,35 +42,12 @@ is_inside rs i there = by (has (indices rs) i) there
     by true e = refl
     by false e = cc
 
-turned : (a b : ℕ) → (a == b) ≡ true → (b == a) ≡ true
-turned a b e = eq-eqb b a (sym (eqb-true a b e))
-
-third_of_five : (a b c d g : Bool) → a && b && c && d && g ≡ true → c ≡ true
-third_of_five true true true d g e = refl
-third_of_five true true false d g e = cc
-third_of_five true false c d g e = cc
-third_of_five false b c d g e = cc
-
-third_of_four : (a b c d : Bool) → a && b && c && d ≡ true → c ≡ true
-third_of_four true true true d e = refl
-third_of_four true true false d e = cc
-third_of_four true false c d e = cc
-third_of_four false b c d e = cc
-
-fourth_of_six : (a b c d g h : Bool) → a && b && c && d && g && h ≡ true → d ≡ true
-fourth_of_six true true true true g h e = refl
-fourth_of_six true true true false g h e = cc
-fourth_of_six true true false d g h e = cc
-fourth_of_six true false c d g h e = cc
-fourth_of_six false b c d g h e = cc
-
 -- a mapping for domains of a rank is of that rank
 of_rank : (rank : ℕ) (m : LayoutMap) → is_layout rank m ≡ true → is_of_rank rank m ≡ true
 of_rank rank whole e = refl
-of_rank rank (block m) e = turned (length m.grid) rank (third_of_five (is_rank rank) (length m.box == rank) (length m.grid == rank) (is_box m.box) (is_grid m.grid) e)
-of_rank rank (cyclic m) e = turned (length m.grid) rank (third_of_four (is_rank rank) (length m.start == rank) (length m.grid == rank) (is_grid m.grid) e)
-of_rank rank (block_cyclic m) e =
-    turned (length m.grid) rank (fourth_of_six (is_rank rank) (length m.start == rank) (length m.size == rank) (length m.grid == rank) (are_positive m.size) (is_grid m.grid) e)
+of_rank rank (block m) e = eq-eqb rank (length m.grid) (sym (block_grid rank m e))
+of_rank rank (cyclic m) e = eq-eqb rank (length m.grid) (sym (cyclic_grid rank m e))
+of_rank rank (block_cyclic m) e = eq-eqb rank (length m.grid) (sym (block_cyclic_grid rank m e))
 
 -- a mapping of the rank puts each index of the ranges on a locale
 lies_inside : (m : LayoutMap) (rs : List Range) (i : Index) → is_of_rank (length rs) m ≡ true → is_some (inside_of (Some rs) i) ≡ true → is_some (locale_in m i) ≡ true
