@@ -41,6 +41,18 @@ fn reshape(name: &str, low: i64, high: i64) -> Result<Edit, Fail> {
     Ok(Edit::Reshape(Name::new(name)?, Source::To(Given::Rectangle(ranges))))
 }
 
+// The edits of the worked history, by their numbers.
+fn edit_of(number: u64) -> Result<Edit, Fail> {
+    match number {
+        1 => domain("D", 1, 4),
+        2 => array("A", "D"),
+        3 => set("A", 2, 5),
+        4 => Ok(Edit::FillAll(Name::new("A")?, 7)),
+        5 => reshape("D", 1, 2),
+        _ => Ok(Edit::DropArray(Name::new("A")?)),
+    }
+}
+
 fn element(history: &History, name: &str, i: i64) -> Result<Option<i64>, Fail> {
     match history.query(&Query::Get(Name::new(name)?, at(i)))? {
         Answer::Value(value) => Ok(Some(value)),
@@ -61,17 +73,26 @@ fn piece(history: &History, name: &str, locale: u64) -> Result<Option<Piece>, Fa
     }
 }
 
+// What a refused growth must leave as it was.
+fn seen(history: &History, number: u64) -> (u64, u128, Option<bool>) {
+    (
+        history.len(),
+        history.book().writes(),
+        history.in_force(number),
+    )
+}
+
 fn edit(
     rt: &impl Abort,
     alloc: Global,
     history: &mut History,
     edit: Edit,
 ) -> Result<(u64, usize), Fail> {
-    let before = (history.len(), history.book().writes());
+    let before = seen(history, 1);
     let again = edit.copy(alloc)?;
     match history.edit(edit) {
         Err(Refusal::NoMemory) => {
-            assert_eq!(rt; (history.len(), history.book().writes()), before);
+            assert_eq!(rt; seen(history, 1), before);
             Ok(history.edit(again)?)
         }
         other => Ok(other?),
@@ -79,21 +100,10 @@ fn edit(
 }
 
 fn undo(rt: &impl Abort, history: &mut History, number: u64) -> Result<usize, Fail> {
-    let before = (
-        history.len(),
-        history.book().writes(),
-        history.in_force(number),
-    );
+    let before = seen(history, number);
     match history.undo(number) {
         Err(Refusal::NoMemory) => {
-            assert_eq!(rt;
-                (
-                    history.len(),
-                    history.book().writes(),
-                    history.in_force(number)
-                ),
-                before
-            );
+            assert_eq!(rt; seen(history, number), before);
             Ok(history.undo(number)?)
         }
         other => Ok(other?),
@@ -101,103 +111,43 @@ fn undo(rt: &impl Abort, history: &mut History, number: u64) -> Result<usize, Fa
 }
 
 fn redo(rt: &impl Abort, history: &mut History, number: u64) -> Result<usize, Fail> {
-    let before = (
-        history.len(),
-        history.book().writes(),
-        history.in_force(number),
-    );
+    let before = seen(history, number);
     match history.redo(number) {
         Err(Refusal::NoMemory) => {
-            assert_eq!(rt;
-                (
-                    history.len(),
-                    history.book().writes(),
-                    history.in_force(number)
-                ),
-                before
-            );
+            assert_eq!(rt; seen(history, number), before);
             Ok(history.redo(number)?)
         }
         other => Ok(other?),
     }
 }
 
+// A set, a fill, a reshape and the end of an array, each undone and put in force again.
 #[test]
-fn first_run(rt: HostRuntime) -> Result<(), Fail> {
-    let mut history = History::new(rt.alloc());
-    assert_eq!(rt;
-        edit(&rt, rt.alloc(), &mut history, domain("D", 1, 4)?)?,
-        (1, 3)
-    );
-    assert_eq!(rt; history.book().writes(), 3);
-    assert_eq!(rt;
-        edit(&rt, rt.alloc(), &mut history, array("A", "D")?)?,
-        (2, 7)
-    );
-    assert_eq!(rt; history.book().writes(), 10);
-    assert_eq!(rt;
-        edit(&rt, rt.alloc(), &mut history, set("A", 4, 9)?)?,
-        (3, 1)
-    );
-    assert_eq!(rt; history.book().writes(), 11);
-    assert_eq!(rt; element(&history, "A", 4)?, Some(9));
-    assert_eq!(rt; history.undo_last(), Ok((3, 1)));
-    assert_eq!(rt; history.book().writes(), 12);
-    assert_eq!(rt; element(&history, "A", 4)?, Some(0));
-    assert_eq!(rt; redo(&rt, &mut history, 3)?, 1);
-    assert_eq!(rt; history.in_force(3), Some(true));
-    assert_eq!(rt; undo(&rt, &mut history, 3)?, 1);
-    assert_eq!(rt; history.in_force(3), Some(false));
-    assert_eq!(rt; history.len(), 3);
-    Ok(())
-}
-
-// A fill, a reshape and the end of an array, each undone and put in force again.
-#[test]
-fn refused_growths(rt: HostRuntime) -> Result<(), Fail> {
+fn edits_are_undone_and_redone(rt: HostRuntime) -> Result<(), Fail> {
     let alloc = rt.alloc();
     let mut history = History::new(alloc);
-    edit(&rt, alloc, &mut history, domain("D", 1, 40)?)?;
-    edit(&rt, alloc, &mut history, array("A", "D")?)?;
-    let array = Name::new("A")?;
-    let (_, filled) = edit(&rt, alloc, &mut history, Edit::FillAll(array, 7))?;
-    let (_, reshaped) = edit(&rt, alloc, &mut history, reshape("D", 1, 2)?)?;
-    let (_, dropped) = edit(&rt, alloc, &mut history, Edit::DropArray(array))?;
-    assert_eq!(rt; (filled, reshaped, dropped), (40, 39, 5));
-    for (number, count) in [(5, 5), (4, 39), (3, 40)] {
+    assert_eq!(rt; history.undo_last(), Err(Refusal::NoSuchEdit));
+    for (number, count) in [(1, 3), (2, 7), (3, 1), (4, 4), (5, 3), (6, 5)] {
+        assert_eq!(rt;
+            edit(&rt, alloc, &mut history, edit_of(number)?)?,
+            (number, count)
+        );
+    }
+    for (number, count) in [(6, 5), (5, 3), (4, 4)] {
         assert_eq!(rt; undo(&rt, &mut history, number)?, count);
     }
-    assert_eq!(rt; element(&history, "A", 4)?, Some(0));
-    assert_eq!(rt; redo(&rt, &mut history, 3)?, 40);
-    assert_eq!(rt; element(&history, "A", 4)?, Some(7));
-    assert_eq!(rt; redo(&rt, &mut history, 4)?, 39);
-    assert_eq!(rt; redo(&rt, &mut history, 5)?, 5);
-    assert_eq!(rt; history.book().writes(), 298);
-    Ok(())
-}
-
-#[test]
-fn the_piece_of_an_array(rt: HostRuntime) -> Result<(), Fail> {
-    let mut history = History::new(rt.alloc());
-    edit(&rt, rt.alloc(), &mut history, domain("D", 1, 2)?)?;
-    edit(&rt, rt.alloc(), &mut history, array("A", "D")?)?;
-    edit(&rt, rt.alloc(), &mut history, set("A", 2, 5)?)?;
     let found = piece(&history, "A", 0)?.ok_or("a piece")?;
-    assert_eq!(rt; found.pairs(), [(at(1), 0), (at(2), 5)].as_slice());
-    let copied = match found.copy(rt.alloc()) {
-        Ok(copied) => copied,
-        Err(_) => found.copy(rt.alloc())?,
-    };
-    assert_eq!(rt; copied.pairs(), found.pairs());
-    Ok(())
-}
-
-#[test]
-fn undo_in_an_empty_workbook(rt: HostRuntime) -> Result<(), Fail> {
-    let mut history = History::new(rt.alloc());
-    assert_eq!(rt; history.undo_last(), Err(Refusal::NoSuchEdit));
-    assert_eq!(rt; history.undo(1), Err(Refusal::NoSuchEdit));
-    assert_eq!(rt; history.redo(1), Err(Refusal::NoSuchEdit));
-    assert_eq!(rt; history.len(), 0);
+    assert_eq!(rt;
+        found.pairs(),
+        [(at(1), 0), (at(2), 5), (at(3), 0), (at(4), 0)].as_slice()
+    );
+    assert_eq!(rt; history.undo_last(), Ok((3, 1)));
+    assert_eq!(rt; element(&history, "A", 2)?, Some(0));
+    for (number, count) in [(3, 1), (4, 4), (5, 3)] {
+        assert_eq!(rt; redo(&rt, &mut history, number)?, count);
+    }
+    assert_eq!(rt; element(&history, "A", 2)?, Some(7));
+    assert_eq!(rt; (history.len(), history.in_force(6)), (6, Some(false)));
+    assert_eq!(rt; history.book().writes(), 44);
     Ok(())
 }
