@@ -9,7 +9,7 @@ use Rattle.wb_book.specs.Cells.{Changes, count_of}
 use Rattle.wb_edit.specs.Schema.{workbook}
 use Rattle.wb_edit.specs.declared.refusal.Refusal as command_refusal
 use Rattle.wb_history.specs.declared.refusal.Refusal.{Refusal}
-use Rattle.wb_history.specs.declared.refusal.Refusal.TheVariants.{BadRequest, BadLiteral, Refused, NoSuchEdit, NotInForce, InForce as IsInForce, Blocked, RefusedInPlace, NoMemory}
+use Rattle.wb_history.specs.declared.refusal.Refusal.TheVariants.{BadRequest, BadLiteral, Refused, NoSuchEdit, NotInForce, InForce as IsInForce, Blocked, RefusedInPlace, NoMemory, StrangePass}
 use Rattle.wb_history.specs.Replies.{EditReply, UndoReply, LastReply, RedoReply}
 use Rattle.wb_history.specs.ReplyLaws.{EditAnswerLaw, UndoAnswerLaw, LastAnswerLaw, RedoAnswerLaw}
 
@@ -55,6 +55,7 @@ module _ (es : List (Entry workbook)) (k : ℕ) where
   undo_cause (Err NoMemory) reply memory = absurd (memory refl)
   undo_cause (Err BadRequest) reply memory = absurd reply
   undo_cause (Err BadLiteral) reply memory = absurd reply
+  undo_cause (Err StrangePass) reply memory = absurd reply
   undo_cause (Err (Refused e)) reply memory = absurd reply
   undo_cause (Err IsInForce) reply memory = absurd reply
   undo_cause (Err (RefusedInPlace e)) reply memory = absurd reply
@@ -118,6 +119,7 @@ module _ (es : List (Entry workbook)) (k : ℕ) where
   redo_cause (Err NoMemory) reply memory = absurd (memory refl)
   redo_cause (Err BadRequest) reply memory = absurd reply
   redo_cause (Err BadLiteral) reply memory = absurd reply
+  redo_cause (Err StrangePass) reply memory = absurd reply
   redo_cause (Err (Refused e)) reply memory = absurd reply
   redo_cause (Err NotInForce) reply memory = absurd reply
 
@@ -213,6 +215,7 @@ module _ (es : List (Entry workbook)) where
   last_cause (Err (Blocked by)) reply memory = absurd reply
   last_cause (Err BadRequest) reply memory = absurd reply
   last_cause (Err BadLiteral) reply memory = absurd reply
+  last_cause (Err StrangePass) reply memory = absurd reply
   last_cause (Err (Refused e)) reply memory = absurd reply
   last_cause (Err IsInForce) reply memory = absurd reply
   last_cause (Err (RefusedInPlace e)) reply memory = absurd reply
@@ -254,6 +257,7 @@ module _ (es : List (Entry workbook)) (e : Edit workbook) where
   edit_cause (Err (Blocked by)) reply memory = absurd reply
   edit_cause (Err BadRequest) reply memory = absurd reply
   edit_cause (Err BadLiteral) reply memory = absurd reply
+  edit_cause (Err StrangePass) reply memory = absurd reply
   edit_cause (Err IsInForce) reply memory = absurd reply
   edit_cause (Err (RefusedInPlace e)) reply memory = absurd reply
 
