@@ -77,6 +77,9 @@ module _ (s : Cells) (d : Name) where
   abbrev held : (Name → Option Value) → List (Name × ℤ)
   held cell = zip arrays (map number_or_zero (map cell arrays))
 
+  pub held_once : (cell : Name → Option Value) → IsListedOnce (keys_of (held cell))
+  held_once cell = subst (λ (ns : List Name). IsListedOnce ns) (sym (ap (λ fs. keys_of fs) (zip-numbered number_or_zero cell arrays) ∙ keys-numbered (λ a. number_or_zero (cell a)) arrays)) (bound_once s d BoundArray)
+
   is_number : (v : Option Value) → IsNumber v → FitsSigned w64 (number_or_zero v)
   is_number v number = rw number.1 number.2
 
