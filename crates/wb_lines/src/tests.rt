@@ -2,7 +2,7 @@ mod devices;
 mod faults;
 
 use crate::{Input, Line, LineBuffer, Machine, Output, SessionEnd, next_line, serve_lines};
-use devices::Pieces;
+use devices::{Narrow, Pieces};
 use std::alloc::{AllocError, Global};
 use std::io::BufWriter;
 use std::test::Fail;
@@ -74,23 +74,7 @@ fn gives_lines_at_their_limit(rt: HostRuntime) -> Result<(), Fail> {
     Ok(())
 }
 
-#[test]
-fn answers_pieces_as_the_whole(rt: HostRuntime) -> Result<(), Fail> {
-    let alloc = rt.alloc();
-    let input = Pieces::new(FIRST_LINES);
-    let mut output = Vec::new(alloc);
-    let mut machine = Counter { alloc, lines: 0 };
-    let end = serve_lines(
-        alloc,
-        &mut machine,
-        &mut Input::new(input),
-        &mut Output::new(&mut output),
-    );
-    assert_eq!(rt; end, SessionEnd::Done(3));
-    assert_eq!(rt; output.as_slice(), FIRST_REPLIES);
-    Ok(())
-}
-
+// Before it waits for more input, a session sends on what its writer holds back; where that fails, it ends.
 #[test]
 fn flushes_before_it_waits(rt: HostRuntime) -> Result<(), Fail> {
     let alloc = rt.alloc();
@@ -108,5 +92,15 @@ fn flushes_before_it_waits(rt: HostRuntime) -> Result<(), Fail> {
         output.get_ref().as_slice(),
         b"{\"edit\":1,\"n\":3}\n".as_slice()
     );
+    let input = Pieces::new(FIRST_LINES);
+    let mut output = BufWriter::new(alloc, Narrow::new(alloc, 5, true))?;
+    let mut machine = Counter { alloc, lines: 0 };
+    let end = serve_lines(
+        alloc,
+        &mut machine,
+        &mut Input::new(input),
+        &mut Output::new(&mut output),
+    );
+    assert_eq!(rt; end, SessionEnd::WriteFault(1));
     Ok(())
 }
