@@ -59,12 +59,16 @@ class Server:
         first, _, text = self._told.read().decode().partition("\n")
         return int(first.split()[1]), text
 
-    def close(self) -> None:
+    def kill(self) -> None:
         """Ends the server, whoever still sits there."""
-        for book in self._taken:
-            book.close()
         self._process.kill()
         self._process.wait()
+
+    def close(self) -> None:
+        """Ends it all."""
+        for book in self._taken:
+            book.close()
+        self.kill()
         self._told.close()
 
 

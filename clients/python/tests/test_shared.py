@@ -100,7 +100,7 @@ class Shared(unittest.TestCase):
 
     def test_a_server_that_is_killed(self):
         self.one.domain("D", range(1, 5))
-        self.server._process.kill()
+        self.server.kill()
         with self.assertRaisesRegex(SessionEnded, "has closed the connection"):
             self.one.print_text()
 
