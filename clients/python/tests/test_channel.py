@@ -95,6 +95,8 @@ class Ends(unittest.TestCase):
             book.domain("D", range(1, 5))
             book.undo()
         self.assertEqual((left.exception.standing, left.exception.undone), ([1], []))
+        self.assertEqual(left.exception.unanswered, 1)
+        self.assertIn("edit 1 in force; 1 request without a reply, since the program", str(left.exception))
 
 
 class Order(unittest.TestCase):

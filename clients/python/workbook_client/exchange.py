@@ -155,6 +155,11 @@ class Exchange:
         while self._waiting:
             self.read_one()
 
+    @property
+    def unanswered(self) -> int:
+        """How many requests have no reply yet."""
+        return len(self._waiting)
+
     def close(self) -> None:
         """Ends the session."""
         self._channel.close()

@@ -93,7 +93,7 @@ class Steps:
         now = {number: way != "undo" for way, number in steps}  # by its last
         standing = sorted(number for number, on in now.items() if on and not before[number])
         undone = sorted(number for number, on in now.items() if before[number] and not on)
-        raise NotTakenBack(standing, undone, why) from cause
+        raise NotTakenBack(standing, undone, self._book.exchange.unanswered, why) from cause
 
 
 def put_back(book: "Workbook", k: int) -> None:
