@@ -218,7 +218,10 @@ class Whole(unittest.TestCase):
             os.write(parent, b"A[4 = 9\n")
             self.assertIn("\n" + " " * 14 + "^", until("expected").replace("\r", ""))
             until("workbook> ")
-            process.send_signal(signal.SIGINT)  # as Ctrl-C: the line goes, the workbook stays
+            while True:  # as Ctrl-C: the line goes, the workbook stays
+                process.send_signal(signal.SIGINT)
+                if select.select([parent], [], [], 0.5)[0]:  # else it came before it was waited for
+                    break
             until("workbook> ")
             os.write(parent, b"A[4] += 3\n")
             until("edit 3, 1 cell")
