@@ -44,12 +44,15 @@ class Browser:
     def _connect(self) -> None:
         told = os.path.join(self.place, "DevToolsActivePort")
         end = time.monotonic() + WAIT
-        while not (os.path.exists(told) and open(told).read().count("\n")):
+        line = ""
+        while not line.endswith("\n"):
             if time.monotonic() > end or self.process.poll() is not None:
                 raise RuntimeError("the browser doesn't start")
             time.sleep(0.05)
-        with open(told) as file:
-            port = int(file.readline())
+            if os.path.exists(told):
+                with open(told) as file:
+                    line = file.readline()
+        port = int(line)
         with urllib.request.urlopen(f"http://127.0.0.1:{port}/json", timeout=WAIT) as answer:
             (page,) = [t for t in json.load(answer) if t["type"] == "page"]
         path = page["webSocketDebuggerUrl"].split(str(port), 1)[1]
@@ -97,6 +100,7 @@ class Browser:
     def go(self, address: str) -> None:
         """Opens an address."""
         self.do("Page.navigate", url=address)
+        self.until("location.href !== 'about:blank' && document.readyState === 'complete'")
 
     def js(self, expression: str) -> Any:
         """The value of an expression in the page."""

@@ -27,7 +27,10 @@ PROGRAM = program()
 
 def serves() -> bool:
     """Whether the program shares a workbook: it did not always."""
-    told = subprocess.run([PROGRAM, "--help"], stdout=subprocess.PIPE, stderr=subprocess.DEVNULL)
+    try:
+        told = subprocess.run([PROGRAM, "--help"], stdout=subprocess.PIPE, stderr=subprocess.DEVNULL)
+    except OSError:  # there is none, which each test then tells
+        return False
     return b"serve" in told.stdout
 
 
@@ -59,12 +62,16 @@ class Server:
         first, _, text = self._told.read().decode().partition("\n")
         return int(first.split()[1]), text
 
-    def close(self) -> None:
+    def kill(self) -> None:
         """Ends the server, whoever still sits there."""
-        for book in self._taken:
-            book.close()
         self._process.kill()
         self._process.wait()
+
+    def close(self) -> None:
+        """Ends it all."""
+        for book in self._taken:
+            book.close()
+        self.kill()
         self._told.close()
 
 

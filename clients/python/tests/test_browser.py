@@ -58,7 +58,7 @@ class InABrowser(unittest.TestCase):
         self.assertEqual(browser.text(".edits li[data-k='3'] button:not(.link)"), "cascade")
         browser.click(".edits li[data-k='3'] button:not(.link)")
         browser.until("document.getElementById('said').innerText.includes('edits 4, 3 taken back')")
-        self.assertIn("taken back", browser.text(".edits li[data-k='4']"))
+        browser.until("document.querySelector('.edits li[data-k=\"4\"]').innerText.includes('taken back')")
         browser.click(".edits li[data-k='3'] button")
         browser.until(f'document.querySelector("{CELL.format("1, 1")}").innerText === "5"')
         # Ctrl-Z takes back the latest edit in force
@@ -86,7 +86,7 @@ class InABrowser(unittest.TestCase):
         other.undo(4)
         browser.until(f'document.querySelector("{CELL.format("1")}").innerText === "5"')
         self.assertEqual(browser.faults, [])
-        server.close()
+        server.kill()
         browser.until("document.getElementById('said').innerText.includes('closed the connection')")
 
 

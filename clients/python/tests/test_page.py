@@ -2,6 +2,7 @@
 
 import http.client
 import json
+import socket
 import threading
 import unittest
 
@@ -87,6 +88,48 @@ class Page(unittest.TestCase):
         self.assertEqual(self.ask("/state")[1]["edits"][2]["by"], 4)
         other.undo()
         self.assertIsNone(self.ask("/state")[1]["edits"][2]["by"])
+
+    @unittest.skipUnless(serves(), "this program has no `serve`")
+    def test_what_looking_costs_a_desk(self):
+        server = Server(seats=1)
+        self.addCleanup(server.close)
+        book = server.connect()
+        before, view.APART = view.APART, 0.0
+        self.addCleanup(setattr, view, "APART", before)
+        A = book.array("A", book.domain("D", range(1, 5)))
+        with book.pipeline():
+            for i in range(1, 4):
+                A[i] = i
+        shown = view.View(book)
+        shown.state()  # 5 entries so far; a question for edit 6, one for each of four edits, a print
+        for _ in range(10):
+            shown.state()  # a question for edit 6, and one for each of four edits
+        view.APART = 60.0
+        for _ in range(10):
+            shown.state()  # nothing: another page has just looked
+        self.assertEqual(server.settled()[0], 5 + 6 + 10 * 5)
+
+    def test_bodies_of_no_length_or_of_too_much(self):
+        self.open(Workbook.run(PROGRAM))
+        for length in ("-1", "x", "", "1048577", "9" * 30):
+            with self.subTest(length):
+                with socket.create_connection(("127.0.0.1", self.port), 10) as raw:
+                    raw.sendall(f"POST /do HTTP/1.1\r\nHost: 127.0.0.1:{self.port}\r\nContent-Length: {length}\r\n\r\nxx".encode())
+                    told = b"".join(iter(lambda: raw.recv(1000), b""))  # until it is closed
+                self.assertIn(b" 413 ", told)
+        self.assertEqual(self.ask("/do", [1])[0], 400)
+        self.assertFalse(self.ask("/do", {"op": "redo"})[1]["ok"])
+
+    def test_nothing_from_elsewhere_runs_in_the_page(self):
+        self.open(Workbook.run(PROGRAM))
+        asked = http.client.HTTPConnection("127.0.0.1", self.port, timeout=10)
+        asked.request("GET", "/")
+        answer = asked.getresponse()
+        answer.read()
+        asked.close()
+        policy = answer.getheader("Content-Security-Policy") or ""
+        self.assertIn("default-src 'none'", policy)
+        self.assertNotIn("unsafe", policy)
 
     def test_a_program_that_is_gone(self):
         book = Workbook.run(PROGRAM)

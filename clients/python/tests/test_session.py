@@ -3,6 +3,7 @@
 import io
 import os
 import re
+import signal
 import subprocess
 import sys
 import tempfile
@@ -114,6 +115,29 @@ class Talk(unittest.TestCase):
         self.assertIn("\x1b[36mlocale 0\x1b[0m  \x1b[33mlocale 1\x1b[0m", told)
         self.assertNotIn("\x1b", self.say("colours off", "A"))
 
+    def test_a_save_that_fails_leaves_what_was_there(self):
+        with tempfile.TemporaryDirectory() as place:
+            path = os.path.join(place, "book")
+            self.say("D = {1..4}", f"save {path}")
+            with open(path, encoding="utf-8") as file:
+                text = file.read()
+            os.chmod(place, 0o500)
+            try:
+                told = self.say("E = {1..4}", f"save {path}")
+            finally:
+                os.chmod(place, 0o700)
+            if os.geteuid() != 0:  # who may do everything may do that too
+                self.assertIn("Permission denied", told)
+                with open(path, encoding="utf-8") as file:
+                    self.assertEqual(file.read(), text)
+            self.assertEqual(os.listdir(place), ["book"])
+            self.assertIn("Is a directory", self.say(f"save {place}"))
+
+    def test_what_a_terminal_would_obey_is_not_printed(self):
+        self.wb.assoc("T", "text").add("a\x9bb\u202ec")
+        self.wb.array("P", "T")
+        self.assertIn("│ a\ufffdb\ufffdc │       0 │", self.say("P"))
+
     def test_save_and_load(self):
         with tempfile.TemporaryDirectory() as place:
             path = os.path.join(place, "my book.txt")
@@ -193,6 +217,14 @@ class Whole(unittest.TestCase):
             until("workbook> ")
             os.write(parent, b"A[4 = 9\n")
             self.assertIn("\n" + " " * 14 + "^", until("expected").replace("\r", ""))
+            until("workbook> ")
+            while True:  # as Ctrl-C: the line goes, the workbook stays
+                process.send_signal(signal.SIGINT)
+                if select.select([parent], [], [], 0.5)[0]:  # else it came before it was waited for
+                    break
+            until("workbook> ")
+            os.write(parent, b"A[4] += 3\n")
+            until("edit 3, 1 cell")
             until("workbook> ")
             os.write(parent, b"quit\n")
             self.assertEqual(process.wait(10), 0)

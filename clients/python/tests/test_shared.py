@@ -5,7 +5,7 @@ import unittest
 
 from tests.support import Server, serves
 from workbook_client import (
-    Array, Blocked, LineTooLong, NoSeat, NoServer, NoSuchName, NotTakenBack, Refusal, SessionEnded,
+    Array, BadLiteral, Blocked, LineTooLong, NoSeat, NoServer, NoSuchName, NotTakenBack, Refusal, SessionEnded,
     Workbook,
 )
 
@@ -100,7 +100,7 @@ class Shared(unittest.TestCase):
 
     def test_a_server_that_is_killed(self):
         self.one.domain("D", range(1, 5))
-        self.server._process.kill()
+        self.server.kill()
         with self.assertRaisesRegex(SessionEnded, "has closed the connection"):
             self.one.print_text()
 
@@ -112,6 +112,8 @@ class Shared(unittest.TestCase):
             self.two.undo() and self.one.array("A", "X")
         with self.assertRaises(Refusal):
             self.one.cascade(9)  # its op isn't there, which is no entry; then an undo, which is one
+        with self.assertRaises(BadLiteral):
+            self.one.domain("E", "{1..")
         self.assertEqual(self.server.settled(), (6, "chapel-workbook 1\nend\n"))
 
     def test_the_longest_line(self):

@@ -45,7 +45,8 @@ class Workbook:
         """Starts a program of our own with an empty workbook, which ends with the session.
 
         The program is what WORKBOOK_PROGRAM names, `workbook` on the path, or the one that the
-        repository has built; a list of words is started as it is. After `timeout` seconds without a byte of a reply, `NoAnswer`.
+        repository has built; a list of words is started as it is. After `timeout` seconds without
+        a byte of a reply, `NoAnswer`.
         """
         channel = ProgramChannel(program)
         channel.timeout = timeout
@@ -139,7 +140,9 @@ class Workbook:
     def __setitem__(self, name: str, value: Any) -> None:
         """The end of `wb["A"] += B`: what was changed is put back under its name."""
         if not isinstance(value, (Domain, Array)) or value.name != name or value.book is not self:
-            raise TypeError(f'objects are made by wb.domain, wb.array, ..; {name} is set by wb["{name}"][:] = ..')
+            raise TypeError(
+                f'objects are made by wb.domain, wb.array, ..; {name} is set by wb["{name}"][:] = ..'
+            )
 
     def __contains__(self, name: str) -> bool:
         return self.kind(name) is not None

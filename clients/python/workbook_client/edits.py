@@ -70,7 +70,8 @@ class Edit:
 
     def __repr__(self) -> str:
         if self._number < 0:
-            return f"<edit on its way: {self.what}>"
+            refused = self._reading is not None and self._reading.reply is not None
+            return f"<edit {'refused' if refused else 'on its way'}: {self.what}>"
         return f"<edit {self._number}: {self.what or 'by another seat'}>"
 
 
@@ -93,4 +94,6 @@ class Pipeline:
 
     def get(self, array: Any, index: Index) -> Reading:
         """An element that is asked for now and read later, by `.value`."""
+        if not self._book.same_as(getattr(array, "book", self._book)):
+            raise ValueError(f"{array.name} is of another workbook")
         return self.ask(requests.get(array, index))

@@ -34,11 +34,13 @@ class NoAnswer(WorkbookError):
 class NotTakenBack(WorkbookError):
     """`trying` couldn't turn everything back. `__cause__` is the exception that left the block."""
 
-    def __init__(self, standing: List[int], undone: List[int], why: Exception):
+    def __init__(self, standing: List[int], undone: List[int], unanswered: int, why: Exception):
         self.standing = standing
         """The edits of the block that are still in force."""
         self.undone = undone
         """The edits that the block took back and that couldn't be put in force again."""
+        self.unanswered = unanswered
+        """How many requests had no reply when the session ended: they may have been done."""
         self.why = why
         """What stood in the way: a refusal, or the end of the session."""
         parts = []
@@ -46,6 +48,8 @@ class NotTakenBack(WorkbookError):
             parts.append(f"{_edits(standing)} in force")
         if undone:
             parts.append(f"{_edits(undone)} taken back")
+        if unanswered:
+            parts.append(f"{unanswered} request{'s' * (unanswered > 1)} without a reply")
         super().__init__(f"left as the block had it: {'; '.join(parts) or 'nothing'}, since {why}")
 
 

@@ -155,6 +155,11 @@ class Exchange:
         while self._waiting:
             self.read_one()
 
+    @property
+    def unanswered(self) -> int:
+        """How many requests have no reply yet."""
+        return len(self._waiting)
+
     def close(self) -> None:
         """Ends the session."""
         self._channel.close()
@@ -175,15 +180,18 @@ class Exchange:
         self._channel.press()
 
 
+_ENCODER = json.JSONEncoder(ensure_ascii=False, allow_nan=False, separators=(",", ":"))
+_DECODER = json.JSONDecoder()
+
+
 def _line(request: Request) -> bytes:
-    text = json.dumps(request, ensure_ascii=False, allow_nan=False, separators=(",", ":"))
-    return text.encode() + b"\n"
+    return _ENCODER.encode(request).encode() + b"\n"
 
 
 def _reply(line: bytes) -> Optional[Reply]:
     """The reply of a line, or None where it is none: no JSON, no object, or an empty one."""
     try:
-        told = json.loads(line)
+        told = _DECODER.decode(line.decode())
     except (ValueError, RecursionError):
         return None
     return Reply(told) if isinstance(told, dict) and told else None

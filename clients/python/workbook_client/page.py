@@ -19,7 +19,8 @@ from urllib.parse import parse_qs, urlparse
 
 from .book import Workbook
 from .errors import NoProgram, SessionEnded
-from .session import Session, arguments, open_book
+from .session import Session
+from .terminal import arguments, open_book
 from .view import View
 
 PAGE = Path(__file__).with_name("page.html")
@@ -184,7 +185,7 @@ def main(words: Optional[List[str]] = None) -> int:
                 server.serve_forever()
     except KeyboardInterrupt:
         print()
-    except (NoProgram, SessionEnded, OSError, OverflowError) as end:  # OverflowError: no such port
+    except (NoProgram, SessionEnded, OSError, OverflowError, UnicodeDecodeError) as end:  # OverflowError: no such port
         print(f"workbook_client.page: {end}", file=sys.stderr)
         return 3
     return 0

@@ -1,7 +1,5 @@
 """The session for people: a prompt, a short language, tables, and refusals in words."""
 
-import argparse
-import io
 import os
 import re
 import shutil
@@ -13,8 +11,8 @@ from . import hints
 from . import literals as lit
 from .book import Workbook
 from .edits import Cascade
-from .errors import NoProgram, SessionEnded, WorkbookError
-from .language import WORDS, Command, LanguageError, parse
+from .errors import SessionEnded, WorkbookError
+from .language import Command, LanguageError, parse
 from .literals import Index
 from .objects import Array
 from .refusals import Blocked, NotInForce, Refusal
@@ -295,127 +293,3 @@ def _cells(number: int) -> str:
 
 def _cut(text: str, room: int) -> str:
     return text if len(text) <= max(room, 12) else text[: max(room, 12) - 1] + "…"
-
-
-def _completer(book: Workbook) -> Any:
-    """Completes names and words; names are asked for when a first letter is completed."""
-    found: List[str] = []
-
-    def complete(text: str, state: int) -> Optional[str]:
-        if state == 0:
-            try:
-                names = book.snapshot().names()
-            except (Refusal, SessionEnded):
-                names = []
-            words = {*names, *WORDS, "blockDist", "cyclicDist", "blockCycDist"}
-            found[:] = sorted(word for word in words if word.startswith(text))
-        return found[state] if state < len(found) else None
-
-    return complete
-
-
-def _with_readline(book: Workbook) -> Optional[str]:
-    """Turns on editing, completion and history; gives the history's file."""
-    try:
-        import readline
-    except ImportError:  # a plain prompt, then
-        return None
-    path = os.path.expanduser(os.environ.get("WORKBOOK_HISTORY", "~/.workbook_history"))
-    readline.set_completer(_completer(book))
-    readline.set_completer_delims(" \t[](){},=+-*|&^.\"")
-    readline.parse_and_bind("bind ^I rl_complete" if "libedit" in (readline.__doc__ or "") else "tab: complete")
-    readline.set_history_length(1000)
-    try:
-        readline.read_history_file(path)
-    except OSError:
-        pass
-    return path
-
-
-def converse(session: Session) -> int:
-    """A prompt until the end."""
-    path = _with_readline(session.book)
-    prompt = "workbook> "
-    session.say("help lists what you can write; quit, or Ctrl-D, ends.")
-    try:
-        while True:
-            try:
-                text = input(prompt)
-            except KeyboardInterrupt:
-                session.say("")
-                continue
-            except EOFError:
-                session.say("")
-                return 0
-            try:
-                if not session.line(text, prompt):
-                    return 0
-            except KeyboardInterrupt:
-                session.say("  (not waited for; its reply is read before the next)")
-    finally:
-        if path:
-            import readline
-
-            try:
-                readline.write_history_file(path)
-            except OSError:
-                pass
-
-
-def script(session: Session, lines: TextIO, keep_going: bool) -> int:
-    """The lines of a file, each shown before what came of it. A refusal ends it with status 1."""
-    status = 0
-    for text in lines:
-        text = text.rstrip("\r\n")
-        session.say(f"> {text}" if text else "")
-        if not session.line(text, "> "):
-            break
-        if session.failed:
-            status = 1
-            if not keep_going:
-                break
-    return status
-
-
-def open_book(args: argparse.Namespace) -> Workbook:
-    """The workbook of --program or --connect."""
-    if not args.connect:
-        return Workbook.run(args.program)
-    host, _, port = args.connect.rpartition(":")
-    if not port.isdigit():
-        raise SystemExit("--connect wants HOST:PORT, as 127.0.0.1:7000")
-    return Workbook.connect(host or "127.0.0.1", int(port))
-
-
-def arguments(description: str) -> argparse.ArgumentParser:
-    parser = argparse.ArgumentParser(description=description)
-    where = parser.add_mutually_exclusive_group()
-    where.add_argument("--program", help="the program to start (else WORKBOOK_PROGRAM, else workbook)")
-    where.add_argument("--connect", metavar="HOST:PORT", help="a workbook that `workbook serve` shares")
-    return parser
-
-
-def main(words: Optional[List[str]] = None) -> int:
-    parser = arguments("A session with a workbook: `help` at the prompt lists its language.")
-    parser.prog = "python3 -m workbook_client"
-    parser.add_argument("--file", metavar="SCRIPT", help="run the lines of a file (- for standard input)")
-    parser.add_argument("--keep-going", action="store_true", help="go on after a refused line of SCRIPT")
-    parser.add_argument("--colours", action="store_true", help="tables coloured by locale from the start")
-    args = parser.parse_args(words)
-    if isinstance(sys.stdout, io.TextIOWrapper):
-        sys.stdout.reconfigure(errors="replace")  # a terminal without the tables' characters
-    try:
-        with open_book(args) as book:
-            session = Session(book)
-            session.colours = args.colours
-            if args.file and args.file != "-":
-                with open(args.file, encoding="utf-8") as lines:
-                    return script(session, lines, args.keep_going)
-            if args.file or not sys.stdin.isatty():
-                return script(session, sys.stdin, args.keep_going)
-            return converse(session)
-    except (NoProgram, SessionEnded, OSError) as end:
-        print(f"workbook_client: {end}", file=sys.stderr)
-        return 3
-    except KeyboardInterrupt:
-        return 130

@@ -28,6 +28,9 @@ class Steps:
     def done(self, way: str, number: int, cells: Optional[int]) -> Edit:
         """An undo or a redo was done: the edit as it is now."""
         self.note(way, number)
+        return self._now(way, number, cells)
+
+    def _now(self, way: str, number: int, cells: Optional[int]) -> Edit:
         edit = self._book.edits.setdefault(number, Edit(self._book, "", "another", number))
         edit._cells = edit._cells if cells is None else cells
         edit.was_in_force = way == "redo"
@@ -57,14 +60,30 @@ class Steps:
         while len(self._steps) > start:
             place = len(self._steps) - 1
             way, number = self._steps[place]
-            if way != "undo":
-                book.undo(number)
-            elif book.alone:
+            if way == "undo" and book.alone:
                 put_back(book, number)
                 self.done("redo", number, None)
-            else:
+            elif way == "undo":
                 book.redo(number)
+            elif book.alone:
+                self._undo_many(start)
+                continue
+            else:
+                book.undo(number)
             del self._steps[place:]
+
+    def _undo_many(self, start: int) -> None:
+        """Takes back the latest steps, down to one that is an undo itself. They are on their way
+        together: in a session that is alone nobody stands in the way of one of them."""
+        place = len(self._steps)
+        while place > start and self._steps[place - 1][0] != "undo":
+            place -= 1
+        steps = reversed(self._steps[place:])
+        asked = [self._book.exchange.post(requests.undo(number)) for _, number in steps]
+        for reading in asked:
+            reading.wait()
+            self._now("undo", reading.request["k"], None)
+            self._steps.pop()
 
     def _left(self, start: int, why: Exception, cause: BaseException) -> None:
         if self._book.alone and isinstance(why, SessionEnded):
@@ -74,7 +93,7 @@ class Steps:
         now = {number: way != "undo" for way, number in steps}  # by its last
         standing = sorted(number for number, on in now.items() if on and not before[number])
         undone = sorted(number for number, on in now.items() if before[number] and not on)
-        raise NotTakenBack(standing, undone, why) from cause
+        raise NotTakenBack(standing, undone, self._book.exchange.unanswered, why) from cause
 
 
 def put_back(book: "Workbook", k: int) -> None:

@@ -134,33 +134,36 @@ class View:
 
     def do(self, asked: Json) -> Json:
         """A line of the short language (`line`), or an undo, redo or cascade (`op` and `k`)."""
-        said = io.StringIO()
-        session = Session(self.book, said, width=100)
         line = str(asked.get("line", ""))
         if line.split(" ")[0] in TERMINAL_ALONE:
             return {"ok": False, "say": "Files are for the terminal; the link `text` gives the text."}
+        make = WAYS.get(str(asked.get("op")))
         with self._lock:
-            make = WAYS.get(str(asked.get("op")))
-            if make is not None:
-                try:
-                    session.request(make(asked.get("k")))
-                except Refusal as no:
-                    session.refused(no)
-                except (TypeError, ValueError) as wrong:  # no number of an edit
-                    return {"ok": False, "say": str(wrong)}
-            else:
-                session.line(line)
             self._looked = float("-inf")
+            if make is None:
+                return self._done(lambda session: session.line(line))
+            try:
+                request = make(asked.get("k"))
+            except (TypeError, ValueError) as wrong:  # no number of an edit
+                return {"ok": False, "say": str(wrong)}
+            return self._done(lambda session: session.request(request))
+
+    def _done(self, act: Callable[[Session], object]) -> Json:
+        """What came of it, in the words of the session."""
+        said = io.StringIO()
+        session = Session(self.book, said, width=100)
+        try:
+            act(session)
+        except Refusal as no:
+            session.refused(no)
+        told: Json = {"ok": not session.failed, "say": said.getvalue().rstrip()}
         refused = session.refusal
-        if refused is None:
-            return {"ok": not session.failed, "say": said.getvalue().rstrip()}
-        by = refused.reply.get("by")
-        if by is not None and refused.request["op"] == "undo" and "k" in refused.request:
-            self._held[refused.request["k"]] = by
-        return {
-            "ok": False, "say": said.getvalue().rstrip(), "code": refused.code,
-            "name": refused.name, "by": by,
-        }
+        if refused is not None:
+            by, k = refused.reply.get("by"), refused.request.get("k")
+            told.update(ok=False, code=refused.code, name=refused.name, by=by)
+            if by is not None and k is not None and refused.request["op"] == "undo":
+                self._held[k] = by
+        return told
 
     def text(self) -> str:
         """The text of the workbook."""

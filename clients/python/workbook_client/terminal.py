@@ -1,0 +1,145 @@
+"""`python3 -m workbook_client`: a prompt, or the lines of a file."""
+
+import argparse
+import io
+import os
+import sys
+from typing import Any, List, Optional, TextIO, Tuple
+
+from .book import Workbook
+from .errors import NoProgram, SessionEnded
+from .language import WORDS
+from .refusals import Refusal
+from .session import Session
+
+PROMPT = "workbook> "
+
+
+def _completer(book: Workbook) -> Any:
+    """Completes names and words; names are asked for when a first letter is completed."""
+    found: List[str] = []
+
+    def complete(text: str, state: int) -> Optional[str]:
+        if state == 0:
+            try:
+                names = book.snapshot().names()
+            except (Refusal, SessionEnded):
+                names = []
+            words = {*names, *WORDS, "blockDist", "cyclicDist", "blockCycDist"}
+            found[:] = sorted(word for word in words if word.startswith(text))
+        return found[state] if state < len(found) else None
+
+    return complete
+
+
+def _with_readline(book: Workbook) -> Optional[str]:
+    """Turns on editing, completion and history; gives the history's file."""
+    try:
+        import readline
+    except ImportError:  # a plain prompt, then
+        return None
+    path = os.path.expanduser(os.environ.get("WORKBOOK_HISTORY", "~/.workbook_history"))
+    readline.set_completer(_completer(book))
+    readline.set_completer_delims(" \t[](){},=+-*|&^.\"")
+    readline.parse_and_bind("bind ^I rl_complete" if "libedit" in (readline.__doc__ or "") else "tab: complete")
+    readline.set_history_length(1000)
+    try:
+        readline.read_history_file(path)
+    except OSError:
+        pass
+    return path
+
+
+def converse(session: Session) -> int:
+    """A prompt until the end."""
+    path = _with_readline(session.book)
+    session.say("help lists what you can write; quit, or Ctrl-D, ends.")
+    try:
+        while True:
+            try:
+                text = input(PROMPT)
+            except KeyboardInterrupt:
+                session.say("")
+                continue
+            except EOFError:
+                session.say("")
+                return 0
+            try:
+                if not session.line(text, PROMPT):
+                    return 0
+            except KeyboardInterrupt:
+                session.say("  (not waited for; its reply is read before the next)")
+    finally:
+        if path:
+            import readline
+
+            try:
+                readline.write_history_file(path)
+            except OSError:
+                pass
+
+
+def script(session: Session, lines: TextIO, keep_going: bool) -> int:
+    """The lines of a file, each shown before what came of it. A refusal ends it with status 1."""
+    status = 0
+    for text in lines:
+        text = text.rstrip("\r\n")
+        session.say(f"> {text}" if text else "")
+        if not session.line(text, "> "):
+            break
+        if session.failed:
+            status = 1
+            if not keep_going:
+                break
+    return status
+
+
+def address(text: str) -> Tuple[str, int]:
+    """HOST:PORT, PORT alone with a colon before it, or [HOST]:PORT where the host has colons."""
+    host, colon, port = text.rpartition(":")
+    if not colon or not (port.isascii() and port.isdigit()):
+        raise argparse.ArgumentTypeError(f"HOST:PORT is wanted, as 127.0.0.1:7000, not {text!r}")
+    return host.strip("[]") or "127.0.0.1", int(port)
+
+
+def arguments(description: str) -> argparse.ArgumentParser:
+    """The options that the session and the page have in common."""
+    parser = argparse.ArgumentParser(description=description)
+    where = parser.add_mutually_exclusive_group()
+    where.add_argument("--program", help="the program to start (else WORKBOOK_PROGRAM, else workbook)")
+    where.add_argument(
+        "--connect", metavar="HOST:PORT", type=address, help="a workbook that `workbook serve` shares"
+    )
+    return parser
+
+
+def open_book(args: argparse.Namespace) -> Workbook:
+    """The workbook of --program or --connect."""
+    return Workbook.connect(*args.connect) if args.connect else Workbook.run(args.program)
+
+
+def main(words: Optional[List[str]] = None) -> int:
+    """The session; gives the exit status."""
+    parser = arguments("A session with a workbook: `help` at the prompt lists its language.")
+    parser.prog = "python3 -m workbook_client"
+    parser.add_argument("--file", metavar="SCRIPT", help="run the lines of a file (- for standard input)")
+    parser.add_argument("--keep-going", action="store_true", help="go on after a refused line of SCRIPT")
+    parser.add_argument("--colours", action="store_true", help="tables coloured by locale from the start")
+    args = parser.parse_args(words)
+    if isinstance(sys.stdout, io.TextIOWrapper):
+        sys.stdout.reconfigure(errors="replace")  # a terminal without the tables' characters
+    try:
+        with open_book(args) as book:
+            session = Session(book)
+            session.colours = args.colours
+            if args.file and args.file != "-":
+                with open(args.file, encoding="utf-8") as lines:
+                    return script(session, lines, args.keep_going)
+            if args.file or not sys.stdin.isatty():
+                return script(session, sys.stdin, args.keep_going)
+            return converse(session)
+    except (NoProgram, SessionEnded, OSError, UnicodeDecodeError) as end:
+        print(f"workbook_client: {end}", file=sys.stderr)
+        return 3
+    except KeyboardInterrupt:
+        return 130
