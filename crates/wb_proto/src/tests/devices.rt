@@ -1,10 +1,10 @@
-//! Readers and writers of a byte a call.
+//! A reader and a writer of a byte a call.
 
 use std::alloc::Global;
 use std::io;
 use std::io::{ErrorKind, Read, Write};
 
-// Gives one byte a call, and fails at one call, where it is told to.
+// Gives one byte a call, and fails at one of them, where it is told to.
 #[derive(Drop)]
 pub struct OneByOne<'a> {
     bytes: &'a [u8],
@@ -13,19 +13,11 @@ pub struct OneByOne<'a> {
 }
 
 impl<'a> OneByOne<'a> {
-    pub fn new(bytes: &'a [u8]) -> OneByOne<'a> {
+    pub fn new(bytes: &'a [u8], failing: Option<usize>) -> OneByOne<'a> {
         OneByOne {
             bytes,
             at: 0,
-            failing: None,
-        }
-    }
-
-    pub fn failing_at(bytes: &'a [u8], at: usize) -> OneByOne<'a> {
-        OneByOne {
-            bytes,
-            at: 0,
-            failing: Some(at),
+            failing,
         }
     }
 }

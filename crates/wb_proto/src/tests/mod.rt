@@ -1,6 +1,6 @@
+//! Worked histories, line by line, and what becomes of lines and devices that are broken.
+
 mod devices;
-mod domains;
-mod faults;
 mod histories;
 mod mappings;
 mod members;
@@ -9,21 +9,31 @@ mod reshapes;
 mod sessions;
 mod texts;
 
-use crate::session;
+use crate::{Reply, Request, answer_request, reply_text, session};
+use devices::{Narrow, OneByOne};
 use std::alloc::Global;
 use std::process::Abort;
 use std::test::Fail;
-use wb_history::History;
-
-// What one line, or several, are replied.
-fn replies(alloc: Global, history: &mut History, lines: &str) -> Result<String, Fail> {
-    let mut input = lines.as_bytes();
-    let mut output = Vec::new(alloc);
-    session(alloc, history, &mut input, &mut output);
-    Ok(String::from_str(alloc, std::str::from_utf8(&output)?)?)
-}
+use wb_history::{Answer, History, Refusal};
+use wb_lines::{Input, Output, SessionEnd};
 
 const NO_MEMORY: &str = "{\"error\":\"E90\",\"name\":\"no-memory\"}\n";
+
+// Lines over which a history begins, and those that follow, each with ` -> ` and what it is replied; and how many edits
+// there are then, and how many cells were set.
+type Script = (&'static str, &'static str, u64, u128);
+
+// What one line is replied.
+fn reply_to(alloc: Global, history: &mut History, line: &str) -> Result<String, Fail> {
+    let mut output = Vec::new(alloc);
+    session(
+        alloc,
+        history,
+        &mut Input::new(line.as_bytes()),
+        &mut Output::new(&mut output),
+    );
+    Ok(String::from_str(alloc, std::str::from_utf8(&output)?)?)
+}
 
 // What one line is replied. Where a growth is refused, nothing has changed, and the line is sent again.
 fn answer(
@@ -33,49 +43,151 @@ fn answer(
     line: &str,
 ) -> Result<String, Fail> {
     let before = (history.len(), history.book().writes());
-    let reply = replies(alloc, history, line)?;
+    let reply = reply_to(alloc, history, line)?;
     if reply.as_str() != NO_MEMORY {
         return Ok(reply);
     }
     assert_eq!(rt; (history.len(), history.book().writes()), before);
-    replies(alloc, history, line)
+    reply_to(alloc, history, line)
 }
 
-// Lines, each with what it is replied.
-type Rows<'a> = &'a [(&'a str, &'a str)];
-
 // That each line is replied as its row says.
-fn answers(
-    rt: &impl Abort,
-    alloc: Global,
-    history: &mut History,
-    rows: Rows<'_>,
-) -> Result<(), Fail> {
-    for row in rows {
-        let line = row.0;
-        assert_eq!(rt;
-            answer(rt, alloc, history, line)?.as_str(),
-            row.1,
-            "at {line}"
-        );
+fn play(rt: &impl Abort, alloc: Global, history: &mut History, rows: &str) -> Result<(), Fail> {
+    for row in rows.lines() {
+        if let Some((line, reply)) = row.split_once(" -> ") {
+            let answer = answer(rt, alloc, history, line)?;
+            assert_eq!(rt;
+                answer.as_str().strip_suffix('\n'),
+                Some(reply),
+                "at {line}"
+            );
+        }
     }
     Ok(())
 }
 
-// That the lines of each table, over a history of its own that begins with `opening`, are replied as it says, and leave
-// so many edits, and so many cells set.
-fn all_answers(
-    rt: &impl Abort,
-    alloc: Global,
-    opening: Rows<'_>,
-    tables: &[(Rows<'_>, u64, u128)],
-) -> Result<(), Fail> {
-    for table in tables {
+// That each script, over a history of its own, goes as it says.
+fn play_all(rt: &impl Abort, alloc: Global, scripts: &[Script]) -> Result<(), Fail> {
+    for script in scripts {
         let mut history = History::new(alloc);
-        answers(rt, alloc, &mut history, opening)?;
-        answers(rt, alloc, &mut history, table.0)?;
-        assert_eq!(rt; history.len(), table.1);
-        assert_eq!(rt; history.book().writes(), table.2);
+        play(rt, alloc, &mut history, script.0)?;
+        play(rt, alloc, &mut history, script.1)?;
+        assert_eq!(rt; history.len(), script.2);
+        assert_eq!(rt; history.book().writes(), script.3);
+    }
+    Ok(())
+}
+
+#[test]
+fn worked_histories(rt: HostRuntime) -> Result<(), Fail> {
+    let alloc = rt.alloc();
+    play_all(&rt, alloc, &sessions::SCRIPTS)?;
+    play_all(&rt, alloc, &requests::SCRIPTS)?;
+    play_all(&rt, alloc, &histories::SCRIPTS)?;
+    play_all(&rt, alloc, &members::SCRIPTS)?;
+    play_all(&rt, alloc, &reshapes::SCRIPTS)?;
+    play_all(&rt, alloc, &mappings::SCRIPTS)?;
+    play_all(&rt, alloc, &texts::SCRIPTS)
+}
+
+// Lines that are empty, no text or no JSON, a line that is too long, and a line end of two bytes.
+#[test]
+fn broken_lines(rt: HostRuntime) -> Result<(), Fail> {
+    let alloc = rt.alloc();
+    let mut lines = Vec::from_slice(alloc, b"{\"op\":\"domain\",\"d\":\"D\"\n")?;
+    for _ in 0..65_537u32 {
+        lines.push(b' ')?;
+    }
+    lines.extend_from_slice(b"\n{\"op\":\"size\",\"d\":\"D\"}\n{\"op\":\"pri")?;
+    for (bytes, text, count) in [
+        (
+            lines.as_slice(),
+            "{\"error\":\"E01\",\"name\":\"bad-request\"}\n{\"error\":\"E91\",\"name\":\"line-too-long\"}\n{\"error\":\"E04\",\"name\":\"no-such-name\"}\n{\"error\":\"E01\",\"name\":\"bad-request\"}\n",
+            4,
+        ),
+        (
+            b"\n{\"op\":\"undo\",\"k\":\"\xff\"}\n\xef\xbb\xbf{\"op\":\"undo\"}\n{\"op\":\"undo\"}\r\n".as_slice(),
+            "{\"error\":\"E01\",\"name\":\"bad-request\"}\n{\"error\":\"E01\",\"name\":\"bad-request\"}\n{\"error\":\"E01\",\"name\":\"bad-request\"}\n{\"error\":\"E11\",\"name\":\"no-such-edit\"}\n",
+            4,
+        ),
+    ] {
+        let mut output = Vec::new(alloc);
+        let mut history = History::new(alloc);
+        let end = session(
+            alloc,
+            &mut history,
+            &mut Input::new(bytes),
+            &mut Output::new(&mut output),
+        );
+        assert_eq!(rt; end, SessionEnd::Done(count));
+        assert_eq!(rt; std::str::from_utf8(&output)?, text);
+    }
+    Ok(())
+}
+
+const FIRST_LINES: &[u8] =
+    b"{\"op\":\"domain\",\"d\":\"D\",\"is\":\"{1..4}\"}\n{\"op\":\"array\",\"a\":\"A\",\"d\":\"D\"}\n{\"op\":\"set\",\"a\":\"A\",\"i\":4,\"v\":9}\n{\"op\":\"undo\"}\n{\"op\":\"get\",\"a\":\"A\",\"i\":4}\n";
+
+const FIRST_REPLIES: &[u8] =
+    b"{\"edit\":1,\"n\":3}\n{\"edit\":2,\"n\":7}\n{\"edit\":3,\"n\":1}\n{\"n\":1,\"undone\":3}\n{\"value\":0}\n";
+
+// A reader and a writer of a byte a call; a reader that fails after 79 bytes, in the third line; and a writer that fails
+// after 30 bytes, in the second reply, when the line is done already.
+#[test]
+fn failing_devices(rt: HostRuntime) -> Result<(), Fail> {
+    let alloc = rt.alloc();
+    for (failing, limit, wanted, sent, edits) in [
+        (None, FIRST_REPLIES.len(), SessionEnd::Done(5), 82, 3),
+        (
+            Some(79),
+            FIRST_REPLIES.len(),
+            SessionEnd::ReadFault(2),
+            34,
+            2,
+        ),
+        (None, 30, SessionEnd::WriteFault(1), 30, 2),
+    ] {
+        let mut output = Narrow::new(alloc, limit);
+        let mut history = History::new(alloc);
+        let end = session(
+            alloc,
+            &mut history,
+            &mut Input::new(OneByOne::new(FIRST_LINES, failing)),
+            &mut Output::new(&mut output),
+        );
+        assert_eq!(rt; end, wanted);
+        assert_eq!(rt; output.taken.as_slice(), &FIRST_REPLIES[..sent]);
+        assert_eq!(rt; history.len(), edits);
+    }
+    Ok(())
+}
+
+// Copies of requests and replies are answered and printed alike, and replies that no script has.
+#[test]
+fn texts_of_replies(rt: HostRuntime) -> Result<(), Fail> {
+    let alloc = rt.alloc();
+    let mut history = History::new(alloc);
+    let request = Request::Print.copy(alloc)?;
+    let printed = answer_request(alloc, &mut history, request);
+    for (reply, text) in [
+        (
+            Reply::Redone(18_446_744_073_709_551_615, 0),
+            "{\"n\":0,\"redone\":18446744073709551615}",
+        ),
+        (Reply::Answered(Answer::Size(65_536)), "{\"size\":65536}"),
+        (
+            Reply::Refused(Refusal::Refused(wb_edit::Refusal::InUse)),
+            "{\"error\":\"E08\",\"name\":\"in-use\"}",
+        ),
+        (
+            Reply::Refused(Refusal::NoMemory),
+            "{\"error\":\"E90\",\"name\":\"no-memory\"}",
+        ),
+        (printed, "{\"text\":\"chapel-workbook 1\\nend\\n\"}"),
+    ] {
+        let copied = reply.copy(alloc)?;
+        assert!(rt; reply_text(alloc, &reply).is_ok_and(|s| s.as_str() == text));
+        assert!(rt; reply_text(alloc, &copied).is_ok_and(|s| s.as_str() == text));
     }
     Ok(())
 }

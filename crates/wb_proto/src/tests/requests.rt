@@ -1,192 +1,154 @@
-use super::replies;
-use crate::{Reply, read_request, reply_text};
-use std::test::Fail;
-use wb_history::{Answer, History, Refusal};
+//! Requests that are read, and requests that are not.
 
-const BAD: &str = "{\"error\":\"E01\",\"name\":\"bad-request\"}\n";
+use super::Script;
 
-const BAD_LITERAL: &str = "{\"error\":\"E02\",\"name\":\"bad-literal\"}\n";
+// Lines that are no request.
+const FIELDS_OF_THEIR_TYPES: &str = r#"
+[] -> {"error":"E01","name":"bad-request"}
+{} -> {"error":"E01","name":"bad-request"}
+{"op":"undo","k":"\ud800"} -> {"error":"E01","name":"bad-request"}
+{"op":"undo","k":1.0} -> {"error":"E01","name":"bad-request"}
+{"op":"undo","k":1e0} -> {"error":"E01","name":"bad-request"}
+{"op":"undo","k":-1} -> {"error":"E01","name":"bad-request"}
+{"op":"undo","k":18446744073709551616} -> {"error":"E01","name":"bad-request"}
+{"op":"undo","l":1} -> {"error":"E01","name":"bad-request"}
+{"op":"undo","k":1,"l":1} -> {"error":"E01","name":"bad-request"}
+{"op":"redo"} -> {"error":"E01","name":"bad-request"}
+{"op":1} -> {"error":"E01","name":"bad-request"}
+{"op":"count","d":"D"} -> {"error":"E01","name":"bad-request"}
+{"op":"print","d":"D"} -> {"error":"E01","name":"bad-request"}
+{"op":"text"} -> {"error":"E01","name":"bad-request"}
+{"op":"size"} -> {"error":"E01","name":"bad-request"}
+{"op":"size","a":"D"} -> {"error":"E01","name":"bad-request"}
+{"op":"size","d":"D","k":1} -> {"error":"E01","name":"bad-request"}
+{"op":"fill","a":"A","on":"{1..4}"} -> {"error":"E01","name":"bad-request"}
+{"op":"fill","a":"A","on":"{1..","v":1.5} -> {"error":"E01","name":"bad-request"}
+{"op":"fill","a":"A","on":1,"v":1} -> {"error":"E01","name":"bad-request"}
+{"op":"fill_all","a":"A"} -> {"error":"E01","name":"bad-request"}
+{"op":"fill_all","a":"A","v":1,"on":"{1..4}"} -> {"error":"E01","name":"bad-request"}
+{"op":"drop_array"} -> {"error":"E01","name":"bad-request"}
+{"op":"drop_array","d":"A"} -> {"error":"E01","name":"bad-request"}
+{"op":"drop_array","a":"A","v":1} -> {"error":"E01","name":"bad-request"}
+{"op":"copy","a":"A","i":1,"b":"A","j":1} -> {"error":"E01","name":"bad-request"}
+{"op":"copy","a":"A","i":1,"b":"A","j":1,"c":1,"v":1} -> {"error":"E01","name":"bad-request"}
+{"op":"copy","a":"A","i":1,"b":"A","j":{},"c":1} -> {"error":"E01","name":"bad-request"}
+{"op":"sparse","d":"S"} -> {"error":"E01","name":"bad-request"}
+{"op":"sparse","d":"S","is":"D"} -> {"error":"E01","name":"bad-request"}
+{"op":"sparse","d":"S","of":"D","v":1} -> {"error":"E01","name":"bad-request"}
+{"op":"sparse","d":"S","of":"{1..4}"} -> {"error":"E01","name":"bad-request"}
+{"op":"assoc","d":"K"} -> {"error":"E01","name":"bad-request"}
+{"op":"assoc","d":"K","of":"integer"} -> {"error":"E01","name":"bad-request"}
+{"op":"assoc","d":"K","of":""} -> {"error":"E01","name":"bad-request"}
+{"op":"assoc","d":"K","of":1} -> {"error":"E01","name":"bad-request"}
+{"op":"assoc","d":"K","of":"int","v":1} -> {"error":"E01","name":"bad-request"}
+{"op":"irv","a":"B"} -> {"error":"E01","name":"bad-request"}
+{"op":"irv","a":"B","v":0.5} -> {"error":"E01","name":"bad-request"}
+{"op":"irv","a":"B","v":1,"i":1} -> {"error":"E01","name":"bad-request"}
+{"op":"array","a":"A"} -> {"error":"E01","name":"bad-request"}
+{"op":"get","a":"A","i":[]} -> {"error":"E01","name":"bad-request"}
+{"op":"get","a":"A","i":[1]} -> {"error":"E01","name":"bad-request"}
+{"op":"get","a":"A","i":[1,2,3,4]} -> {"error":"E01","name":"bad-request"}
+{"op":"get","a":"A","i":[1,"2"]} -> {"error":"E01","name":"bad-request"}
+{"op":"get","a":"A","i":"a\"b"} -> {"error":"E01","name":"bad-request"}
+{"op":"get","a":"A","i":null} -> {"error":"E01","name":"bad-request"}
+{"op":"set","a":"A","i":1,"v":9223372036854775808} -> {"error":"E01","name":"bad-request"}
+{"op":"set","a":"A","i":1} -> {"error":"E01","name":"bad-request"}
+"#;
 
-const WRONG_KIND: &str = "{\"error\":\"E05\",\"name\":\"wrong-kind\"}\n";
+// Names of 1 to 32 bytes; there is no domain D.
+const BOUNDS_OF_NAMES: &str = r#"
+{"op":"array","a":"a_1","d":"D"} -> {"error":"E04","name":"no-such-name"}
+{"op":"array","a":"","d":"D"} -> {"error":"E01","name":"bad-request"}
+{"op":"array","a":"1a","d":"D"} -> {"error":"E01","name":"bad-request"}
+{"op":"array","a":"a234567890123456789012345678901","d":"D"} -> {"error":"E04","name":"no-such-name"}
+{"op":"array","a":"a2345678901234567890123456789012","d":"D"} -> {"error":"E04","name":"no-such-name"}
+{"op":"array","a":"a23456789012345678901234567890123","d":"D"} -> {"error":"E01","name":"bad-request"}
+"#;
 
-const TOO_LARGE: &str = "{\"error\":\"E09\",\"name\":\"too-large\"}\n";
+// Fields before literals, and limits last.
+const LITERALS_AFTER_FIELDS: &str = r#"
+{"op":"domain","d":"1","is":"{1.."} -> {"error":"E01","name":"bad-request"}
+{"op":"domain","d":"1","is":"{1..65537}"} -> {"error":"E01","name":"bad-request"}
+{"op":"domain","d":"D","is":"{1..65537} "} -> {"error":"E02","name":"bad-literal"}
+{"op":"domain","d":"D","is":"{,}"} -> {"error":"E02","name":"bad-literal"}
+{"op":"domain","d":"D","is":"{}"} -> {"error":"E05","name":"wrong-kind"}
+{"op":"domain","d":"D","is":"{1..65537}"} -> {"error":"E09","name":"too-large"}
+{"op":"domain","d":"D","is":"{1000000000000000001..5}"} -> {"error":"E09","name":"too-large"}
+{"op":"domain","d":"D","is":"{5..1000000000000000001}"} -> {"error":"E09","name":"too-large"}
+{"op":"domain","d":"D","is":"{ 1 .. 65536 }"} -> {"edit":1,"n":3}
+{"op":"domain","d":"E","is":"{-1000000000000000000..-1000000000000000001}"} -> {"error":"E09","name":"too-large"}
+{"op":"domain","d":"E","is":"{1000000000000000000..-1000000000000000000}"} -> {"edit":2,"n":3}
+"#;
 
-#[test]
-fn fields_of_their_types(rt: HostRuntime) -> Result<(), Fail> {
-    let alloc = rt.alloc();
-    let mut history = History::new(alloc);
-    for line in [
-        "",
-        "[]",
-        "{}",
-        "\u{feff}{\"op\":\"undo\"}",
-        "{\"op\":\"undo\",\"k\":\"\\ud800\"}",
-        "{\"op\":\"undo\",\"k\":1.0}",
-        "{\"op\":\"undo\",\"k\":1e0}",
-        "{\"op\":\"undo\",\"k\":-1}",
-        "{\"op\":\"undo\",\"k\":18446744073709551616}",
-        "{\"op\":\"undo\",\"l\":1}",
-        "{\"op\":\"undo\",\"k\":1,\"l\":1}",
-        "{\"op\":\"redo\"}",
-        "{\"op\":1}",
-        "{\"op\":\"count\",\"d\":\"D\"}",
-        "{\"op\":\"print\",\"d\":\"D\"}",
-        "{\"op\":\"text\"}",
-        "{\"op\":\"size\"}",
-        "{\"op\":\"size\",\"a\":\"D\"}",
-        "{\"op\":\"size\",\"d\":\"D\",\"k\":1}",
-        "{\"op\":\"fill\",\"a\":\"A\",\"on\":\"{1..4}\"}",
-        "{\"op\":\"fill\",\"a\":\"A\",\"on\":\"{1..\",\"v\":1.5}",
-        "{\"op\":\"fill\",\"a\":\"A\",\"on\":1,\"v\":1}",
-        "{\"op\":\"fill_all\",\"a\":\"A\"}",
-        "{\"op\":\"fill_all\",\"a\":\"A\",\"v\":1,\"on\":\"{1..4}\"}",
-        "{\"op\":\"drop_array\"}",
-        "{\"op\":\"drop_array\",\"d\":\"A\"}",
-        "{\"op\":\"drop_array\",\"a\":\"A\",\"v\":1}",
-        "{\"op\":\"copy\",\"a\":\"A\",\"i\":1,\"b\":\"A\",\"j\":1}",
-        "{\"op\":\"copy\",\"a\":\"A\",\"i\":1,\"b\":\"A\",\"j\":1,\"c\":1,\"v\":1}",
-        "{\"op\":\"copy\",\"a\":\"A\",\"i\":1,\"b\":\"A\",\"j\":{},\"c\":1}",
-        "{\"op\":\"sparse\",\"d\":\"S\"}",
-        "{\"op\":\"sparse\",\"d\":\"S\",\"is\":\"D\"}",
-        "{\"op\":\"sparse\",\"d\":\"S\",\"of\":\"D\",\"v\":1}",
-        "{\"op\":\"sparse\",\"d\":\"S\",\"of\":\"{1..4}\"}",
-        "{\"op\":\"assoc\",\"d\":\"K\"}",
-        "{\"op\":\"assoc\",\"d\":\"K\",\"of\":\"integer\"}",
-        "{\"op\":\"assoc\",\"d\":\"K\",\"of\":\"\"}",
-        "{\"op\":\"assoc\",\"d\":\"K\",\"of\":1}",
-        "{\"op\":\"assoc\",\"d\":\"K\",\"of\":\"int\",\"v\":1}",
-        "{\"op\":\"irv\",\"a\":\"B\"}",
-        "{\"op\":\"irv\",\"a\":\"B\",\"v\":0.5}",
-        "{\"op\":\"irv\",\"a\":\"B\",\"v\":1,\"i\":1}",
-        "{\"op\":\"array\",\"a\":\"A\"}",
-        "{\"op\":\"get\",\"a\":\"A\",\"i\":[]}",
-        "{\"op\":\"get\",\"a\":\"A\",\"i\":[1]}",
-        "{\"op\":\"get\",\"a\":\"A\",\"i\":[1,2,3,4]}",
-        "{\"op\":\"get\",\"a\":\"A\",\"i\":[1,\"2\"]}",
-        "{\"op\":\"get\",\"a\":\"A\",\"i\":\"a\\\"b\"}",
-        "{\"op\":\"get\",\"a\":\"A\",\"i\":null}",
-        "{\"op\":\"set\",\"a\":\"A\",\"i\":1,\"v\":9223372036854775808}",
-        "{\"op\":\"set\",\"a\":\"A\",\"i\":1}",
-    ] {
-        let mut text = String::from_str(alloc, line)?;
-        text.push('\n')?;
-        assert_eq!(rt;
-            replies(alloc, &mut history, text.as_str())?.as_str(),
-            BAD,
-            "at {line}"
-        );
-    }
-    assert!(rt; read_request(alloc, b"{\"op\":\"undo\",\"k\":1}").is_ok());
-    assert!(rt; read_request(alloc, b"{\"op\":\"undo\",\"k\":1}\xff").is_err());
-    Ok(())
-}
+// A fill is read whole before its literal is judged.
+const FILLS_READ_WHOLE: &str = r#"
+{"op":"fill","a":"1","on":"{1..","v":1} -> {"error":"E01","name":"bad-request"}
+{"op":"fill","a":"A","on":"{1..","v":true} -> {"error":"E01","name":"bad-request"}
+{"op":"fill","a":"A","on":"{1..65537}","v":true} -> {"error":"E01","name":"bad-request"}
+{"op":"fill","a":"A","on":"{1..","v":1} -> {"error":"E02","name":"bad-literal"}
+{"op":"fill","a":"A","on":"{1..65537}","v":1} -> {"error":"E09","name":"too-large"}
+{"op":"fill","a":"A","on":"{1..65536}","v":1} -> {"error":"E04","name":"no-such-name"}
+"#;
 
-#[test]
-fn bounds_of_names(rt: HostRuntime) -> Result<(), Fail> {
-    let alloc = rt.alloc();
-    for (name, good) in [
-        ("a_1", true),
-        ("", false),
-        ("1a", false),
-        ("a234567890123456789012345678901", true),
-        ("a2345678901234567890123456789012", true),
-        ("a23456789012345678901234567890123", false),
-    ] {
-        let line = format!(in alloc; "{{\"op\":\"array\",\"a\":\"{name}\",\"d\":\"D\"}}")?;
-        assert_eq!(rt;
-            read_request(alloc, line.as_bytes()).is_ok(),
-            good,
-            "at {name}"
-        );
-    }
-    Ok(())
-}
+// Each domain has as many indices as its literal says.
+const SIZES_OF_LITERALS: &str = r#"
+{"op":"domain","d":"D0","is":"{1..3, 2..8 by 3}"} -> {"edit":1,"n":3}
+{"op":"array","a":"A0","d":"D0"} -> {"edit":2,"n":12}
+{"op":"domain","d":"D1","is":"{0..1, 5..6, 1..3}"} -> {"edit":3,"n":3}
+{"op":"array","a":"A1","d":"D1"} -> {"edit":4,"n":15}
+{"op":"domain","d":"D2","is":"{1..10 by -3}"} -> {"edit":5,"n":3}
+{"op":"array","a":"A2","d":"D2"} -> {"edit":6,"n":7}
+{"op":"domain","d":"D3","is":"{-5..5 by 4 align 1}"} -> {"edit":7,"n":3}
+{"op":"array","a":"A3","d":"D3"} -> {"edit":8,"n":6}
+{"op":"domain","d":"D4","is":"{1..<4}"} -> {"edit":9,"n":3}
+{"op":"array","a":"A4","d":"D4"} -> {"edit":10,"n":6}
+{"op":"domain","d":"D5","is":"{7..#4}"} -> {"edit":11,"n":3}
+{"op":"array","a":"A5","d":"D5"} -> {"edit":12,"n":7}
+{"op":"domain","d":"D6","is":"{1..#9 by 4}"} -> {"edit":13,"n":3}
+{"op":"array","a":"A6","d":"D6"} -> {"edit":14,"n":6}
+{"op":"domain","d":"D7","is":"{1000000000000000001..#0}"} -> {"edit":15,"n":3}
+{"op":"array","a":"A7","d":"D7"} -> {"edit":16,"n":3}
+{"op":"domain","d":"D8","is":"{1..65536, 1..65536, 1..0}"} -> {"edit":17,"n":3}
+{"op":"array","a":"A8","d":"D8"} -> {"edit":18,"n":3}
+{"op":"domain","d":"D9","is":"{ 1 .. 2 , 1 ..# 3 }"} -> {"edit":19,"n":3}
+{"op":"array","a":"A9","d":"D9"} -> {"edit":20,"n":9}
+"#;
 
-#[test]
-fn literals_after_fields_and_limits_last(rt: HostRuntime) -> Result<(), Fail> {
-    let alloc = rt.alloc();
-    let mut history = History::new(alloc);
-    for (name, literal, reply) in [
-        ("1", "{1..", BAD),
-        ("1", "{1..65537}", BAD),
-        ("D", "{1..65537} ", BAD_LITERAL),
-        ("D", "{,}", BAD_LITERAL),
-        ("D", "{}", WRONG_KIND),
-        ("D", "{1..65537}", TOO_LARGE),
-        ("D", "{1000000000000000001..5}", TOO_LARGE),
-        ("D", "{5..1000000000000000001}", TOO_LARGE),
-        ("D", "{ 1 .. 65536 }", "{\"edit\":1,\"n\":3}\n"),
-        (
-            "E",
-            "{-1000000000000000000..-1000000000000000001}",
-            TOO_LARGE,
-        ),
-        (
-            "E",
-            "{1000000000000000000..-1000000000000000000}",
-            "{\"edit\":2,\"n\":3}\n",
-        ),
-    ] {
-        let line = format!(in alloc;
-            "{{\"op\":\"domain\",\"d\":\"{name}\",\"is\":\"{literal}\"}}\n"
-        )?;
-        assert_eq!(rt;
-            replies(alloc, &mut history, line.as_str())?.as_str(),
-            reply,
-            "at {literal}"
-        );
-    }
-    Ok(())
-}
+// Elements of an array of rank 2.
+const INDICES_OF_A_RECTANGLE: &str = r#"
+{"op":"domain","d":"D","is":"{1..3, 2..8 by 3}"} -> {"edit":1,"n":3}
+{"op":"array","a":"A","d":"D"} -> {"edit":2,"n":12}
+{"op":"set","a":"A","i":[2,5],"v":7} -> {"edit":3,"n":1}
+{"op":"get","a":"A","i":[2,5]} -> {"value":7}
+{"op":"get","a":"A","i":[3,8]} -> {"value":0}
+{"op":"get","a":"A","i":[2,6]} -> {"error":"E06","name":"out-of-domain"}
+{"op":"get","a":"A","i":2} -> {"error":"E05","name":"wrong-kind"}
+"#;
 
-#[test]
-fn fills_read_whole_before_literals(rt: HostRuntime) -> Result<(), Fail> {
-    let alloc = rt.alloc();
-    let mut history = History::new(alloc);
-    for (name, literal, value, reply) in [
-        ("1", "{1..", "1", BAD),
-        ("A", "{1..", "true", BAD),
-        ("A", "{1..65537}", "true", BAD),
-        ("A", "{1..", "1", BAD_LITERAL),
-        ("A", "{1..65537}", "1", TOO_LARGE),
-        (
-            "A",
-            "{1..65536}",
-            "1",
-            "{\"error\":\"E04\",\"name\":\"no-such-name\"}\n",
-        ),
-    ] {
-        let line = format!(in alloc;
-            "{{\"op\":\"fill\",\"a\":\"{name}\",\"on\":\"{literal}\",\"v\":{value}}}\n"
-        )?;
-        assert_eq!(rt;
-            replies(alloc, &mut history, line.as_str())?.as_str(),
-            reply,
-            "at {literal}"
-        );
-    }
-    Ok(())
-}
+// Literals outside their grammar and beyond their limits.
+const REFUSED_LITERALS: &str = r#"
+{"op":"domain","d":"D","is":"{1..4 by 0}"} -> {"error":"E02","name":"bad-literal"}
+{"op":"domain","d":"D","is":"{1..65537, 1..4 by 0}"} -> {"error":"E02","name":"bad-literal"}
+{"op":"domain","d":"D","is":"{1..4by 2}"} -> {"error":"E02","name":"bad-literal"}
+{"op":"domain","d":"D","is":"{1..#-1}"} -> {"error":"E02","name":"bad-literal"}
+{"op":"domain","d":"D","is":"{1..#9223372036854775808}"} -> {"error":"E02","name":"bad-literal"}
+{"op":"domain","d":"D","is":"{1..2, 1..2, 1..2, 1..2}"} -> {"error":"E02","name":"bad-literal"}
+{"op":"domain","d":"D","is":"{1, 2,}"} -> {"error":"E02","name":"bad-literal"}
+{"op":"domain","d":"D","is":"{1, 2}"} -> {"error":"E05","name":"wrong-kind"}
+{"op":"domain","d":"D","is":"{1..65537, 1..0}"} -> {"error":"E09","name":"too-large"}
+{"op":"domain","d":"D","is":"{1..256, 1..257}"} -> {"error":"E09","name":"too-large"}
+{"op":"domain","d":"D","is":"{1..<-9223372036854775808}"} -> {"error":"E09","name":"too-large"}
+{"op":"domain","d":"D","is":"{1..#9223372036854775807}"} -> {"error":"E09","name":"too-large"}
+{"op":"domain","d":"D","is":"{1000000000000000000..#2}"} -> {"error":"E09","name":"too-large"}
+"#;
 
-#[test]
-fn texts_of_replies(rt: HostRuntime) -> Result<(), Fail> {
-    let alloc = rt.alloc();
-    for (reply, text) in [
-        (
-            Reply::Redone(18_446_744_073_709_551_615, 0),
-            "{\"n\":0,\"redone\":18446744073709551615}",
-        ),
-        (Reply::Answered(Answer::Size(65_536)), "{\"size\":65536}"),
-        (
-            Reply::Refused(Refusal::Refused(wb_edit::Refusal::InUse)),
-            "{\"error\":\"E08\",\"name\":\"in-use\"}",
-        ),
-        (
-            Reply::Refused(Refusal::NoMemory),
-            "{\"error\":\"E90\",\"name\":\"no-memory\"}",
-        ),
-    ] {
-        assert!(rt; reply_text(alloc, &reply).is_ok_and(|s| s.as_str() == text));
-    }
-    Ok(())
-}
+/// Each script, over a history of its own.
+pub const SCRIPTS: [Script; 7] = [
+    ("", FIELDS_OF_THEIR_TYPES, 0, 0),
+    ("", BOUNDS_OF_NAMES, 0, 0),
+    ("", LITERALS_AFTER_FIELDS, 2, 6),
+    ("", FILLS_READ_WHOLE, 0, 0),
+    ("", SIZES_OF_LITERALS, 20, 104),
+    ("", INDICES_OF_A_RECTANGLE, 3, 16),
+    ("", REFUSED_LITERALS, 0, 0),
+];
