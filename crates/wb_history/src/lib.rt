@@ -1,4 +1,6 @@
 //! Numbered edits over one workbook: each can be undone and redone by its number.
+//!
+//! Its tests are in the crate `wb_session_tests`.
 #![tactic(auto)]
 
 mod blockers;
@@ -15,6 +17,3 @@ pub use crate::history::History;
 pub use crate::piece::Piece;
 pub use crate::query::{Answer, Query};
 pub use crate::refusal::Refusal;
-
-#[cfg(test)]
-mod tests;

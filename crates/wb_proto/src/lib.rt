@@ -1,4 +1,6 @@
 //! Requests and replies as JSON lines, and sessions that answer one with the other.
+//!
+//! Its tests are in the crate `wb_session_tests`.
 #![tactic(auto)]
 
 mod replies;
@@ -12,6 +14,3 @@ pub use crate::requests::reading::read_request;
 pub use crate::requests::request::Request;
 pub use crate::serving::lines::session;
 pub use crate::serving::steps::answer_request;
-
-#[cfg(test)]
-mod tests;

@@ -1,12 +1,12 @@
-//! A worked history by its own calls; further ones are told by request lines, in `wb_proto`. Where a growth is refused, a
+//! A worked history by its own calls; further ones are told by request lines, in `scripts`. Where a growth is refused, a
 //! step is compared with the state before it and made again.
 
-use crate::{Answer, History, Piece, Query, Refusal};
 use std::alloc::Global;
 use std::process::Abort;
 use std::test::Fail;
 use wb_book::{AnyIndex, AnyLayout, AnyRect, Index, Name, Point};
 use wb_edit::Edit;
+use wb_history::{Answer, History, Piece, Query, Refusal};
 use wb_range::Range;
 use wb_resize::{Given, Source};
 

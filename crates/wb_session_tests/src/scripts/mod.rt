@@ -9,13 +9,13 @@ mod reshapes;
 mod sessions;
 mod texts;
 
-use crate::{Reply, Request, answer_request, reply_text, session};
 use devices::{Narrow, OneByOne};
 use std::alloc::Global;
 use std::process::Abort;
 use std::test::Fail;
 use wb_history::{Answer, History, Refusal};
 use wb_lines::{Input, Output, SessionEnd};
+use wb_proto::{Reply, Request, answer_request, reply_text, session};
 
 const NO_MEMORY: &str = "{\"error\":\"E90\",\"name\":\"no-memory\"}\n";
 
