@@ -16,5 +16,7 @@ mod objects;
 mod printed;
 mod said;
 
+pub use crate::literals::push_set;
+pub use crate::mappings::{push_any_layout, push_any_rect};
 pub use crate::printed::print_book;
 pub use crate::said::ObjectLine;

@@ -65,7 +65,7 @@ pub(crate) fn push_index(out: &mut String, index: &AnyIndex) -> Result<(), Alloc
 }
 
 /// The text of a set, its indices in this order.
-pub(crate) fn push_set(out: &mut String, indices: &[AnyIndex]) -> Result<(), AllocError>
+pub fn push_set(out: &mut String, indices: &[AnyIndex]) -> Result<(), AllocError>
     ensures { OnOk result (string_bytes out.new ≡ string_bytes out.old ++ set_text indices.now) }
 {
     out.push_str("{")?;

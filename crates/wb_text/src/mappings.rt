@@ -104,11 +104,7 @@ fn push_layout<const R: usize>(
 }
 
 /// The text of a rectangle of any rank.
-pub(crate) fn push_any_rect(
-    alloc: Global,
-    out: &mut String,
-    rect: &AnyRect,
-) -> Result<(), AllocError>
+pub fn push_any_rect(alloc: Global, out: &mut String, rect: &AnyRect) -> Result<(), AllocError>
     ensures { OnOk result (string_bytes out.new ≡ string_bytes out.old ++ rectangle_text rect.now) }
 {
     match rect.ranked() {
@@ -119,7 +115,7 @@ pub(crate) fn push_any_rect(
 }
 
 /// The text of a mapping of any rank.
-pub(crate) fn push_any_layout(
+pub fn push_any_layout(
     alloc: Global,
     out: &mut String,
     layout: &AnyLayout,

@@ -33,7 +33,7 @@ use Rattle.wb_wire.specs.Table.{Meaning, word, name, integer, index, given, mapp
 use Rattle.wb_wire.specs.Spelled.{IsIndex, IsGiven, Says, HasFields, IsRequest}
 use Rattle.wb_wire.proofs.Members.{are_apart, is_needed, are_needed, AllSay, there, is_there, exactly, has_fields as has_fields_of}
 use Rattle.wb_wire.proofs.Values.{step, ok_same, no_ok, text_found, says_text, valued, word_found, name_found, index_found, integer_found, natural_found, type_found, operation_found}
-use Rattle.wb_wire.proofs.Literals.{count_found, domain_found, rectangle_found, given_found, offsets_found, mapping_found, optional_found, optional_count, some_value, some_optional}
+use Rattle.wb_wire.proofs.Spellings.{count_found, domain_found, rectangle_found, given_found, offsets_found, mapping_found, optional_found, optional_count, some_value, some_optional}
 use Rattle.wb_wire.proofs.Steps.{one, two, two_of, three, five}
 
 -- what a reader reads of an object that names the op

@@ -1,8 +1,9 @@
 pub mod Members
 pub mod Values
-pub mod Literals
+pub mod Spellings
 pub mod Steps
 pub mod Found
 pub mod Read
 pub mod Encoded
 pub mod Lines
+pub mod Written

@@ -36,7 +36,7 @@ use Rattle.wb_wire.specs.Table.{Meaning, word, name, integer, index, given, mapp
 use Rattle.wb_wire.specs.Spelled.{Spells, Says, HasFields, IsRequest}
 use Rattle.wb_wire.proofs.Members.{is_free, is_needed, is_there, there, all_say, all_counted, counted, no_other}
 use Rattle.wb_wire.proofs.Values.{text_read, valued, word_read, name_read, index_read, integer_read, natural_read, type_read, operation_read}
-use Rattle.wb_wire.proofs.Literals.{count_read, domain_read, rectangle_read, given_read, offsets_read, literal_read, mapping_read, optional_read}
+use Rattle.wb_wire.proofs.Spellings.{count_read, domain_read, rectangle_read, given_read, offsets_read, literal_read, mapping_read, optional_read}
 use Rattle.wb_wire.proofs.Steps.{one_read, two_of, two_read, three_read, five_read}
 
 step_read : {X Y : Type 0} (r : Result X Refusal) (next : X → Result Y Refusal) (x : X) (y : Result Y Refusal) → r ≡ Ok x → next x ≡ y → (r >>= next) ≡ y

@@ -3,3 +3,11 @@
 #![tactic(auto)]
 
 pub mod laws;
+mod literals;
+mod objects;
+mod requests;
+mod sources;
+#[cfg(test)]
+mod tests;
+
+pub use crate::requests::{edit_text, request_text};
