@@ -12,6 +12,7 @@ pub mod laws;
 mod operation;
 mod planning;
 mod refusal;
+mod same;
 mod tests;
 
 pub use crate::edit::Edit;

@@ -1,3 +1,6 @@
+ghost use Rattle.std.specs.Prelude.{◌≡◌};
+ghost use Rattle.std.specs.Bool.{Decides};
+
 use thiserror::Error;
 
 /// Why an edit is refused.
@@ -30,4 +33,24 @@ pub enum Refusal {
     /// E15: a mapping for domains of another rank.
     #[error("bad-mapping")]
     BadMapping,
+}
+
+impl Refusal {
+    /// Whether the refusals are equal.
+    pub fn is_same(self, other: Refusal) -> bool
+        ensures { Decides result (self ≡ other) }
+    {
+        match (self, other) {
+            (Refusal::NameTaken, Refusal::NameTaken) => true,
+            (Refusal::NoSuchName, Refusal::NoSuchName) => true,
+            (Refusal::WrongKind, Refusal::WrongKind) => true,
+            (Refusal::OutOfDomain, Refusal::OutOfDomain) => true,
+            (Refusal::OutOfParent, Refusal::OutOfParent) => true,
+            (Refusal::InUse, Refusal::InUse) => true,
+            (Refusal::TooLarge, Refusal::TooLarge) => true,
+            (Refusal::Overflow, Refusal::Overflow) => true,
+            (Refusal::BadMapping, Refusal::BadMapping) => true,
+            _ => false,
+        }
+    }
 }

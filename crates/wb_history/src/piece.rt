@@ -1,6 +1,7 @@
 //! Pieces of arrays: the elements that lie on one locale.
 
 ghost use Rattle.std.specs.Prelude.{◌≡◌, IfOk};
+ghost use Rattle.std.specs.Bool.{Decides};
 ghost use Rattle.wb_history.specs.Pieces.{mapped_by, mapped_at, locales_of, lies_on, piece_on, piece_of, piece_answer, OrNoMemory};
 
 use crate::query::Answer;
@@ -49,6 +50,37 @@ impl Piece {
             Err(_) => Err(NoMemory),
         }
     }
+
+    /// Whether the pieces are equal.
+    pub fn is_same(&self, other: &Piece) -> bool
+        ensures { Decides result (self.now ≡ other.now) }
+    {
+        are_same(self.pairs(), other.pairs())
+    }
+}
+
+fn is_same_pair(pair: &(AnyIndex, i64), other: &(AnyIndex, i64)) -> bool
+    ensures { Decides result (pair.now ≡ other.now) }
+{
+    if pair.1 != other.1 {
+        return false;
+    }
+    pair.0.is_same(&other.0)
+}
+
+// Whether these are the same pairs, in the same order.
+fn are_same(pairs: &[(AnyIndex, i64)], others: &[(AnyIndex, i64)]) -> bool
+    ensures { Decides result (pairs.now ≡ others.now) }
+{
+    if pairs.len() != others.len() {
+        return false;
+    }
+    for at in 0..pairs.len() {
+        if !is_same_pair(&pairs[at], &others[at]) {
+            return false;
+        }
+    }
+    true
 }
 
 // The domain by whose mapping the indices of a domain lie: a sparse one goes by its parent's.

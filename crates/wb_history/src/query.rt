@@ -1,4 +1,5 @@
 ghost use Rattle.std.specs.Prelude.{◌≡◌, None, IfOk};
+ghost use Rattle.std.specs.Bool.{Decides};
 ghost use Rattle.wb_history.specs.Queries.{element_or_implicit, get_answer, value_answer, size_answer, count_answer, force_answer};
 
 use crate::piece::Piece;
@@ -21,6 +22,38 @@ pub enum Query {
     Piece(Name, u64),
     /// Whether the edit of a number is in force.
     State(u64),
+}
+
+fn is_same_place(name: &Name, at: &AnyIndex, by: &Name, other: &AnyIndex) -> bool
+    ensures { Decides result ((name.now ≡ by.now) × (at.now ≡ other.now)) }
+{
+    if !name.is_same(by) {
+        return false;
+    }
+    at.is_same(other)
+}
+
+impl Query {
+    /// Whether the queries are equal.
+    pub fn is_same(&self, other: &Query) -> bool
+        ensures { Decides result (self.now ≡ other.now) }
+    {
+        match (self, other) {
+            (Query::Get(array, at), Query::Get(by, index)) => is_same_place(array, at, by, index),
+            (Query::Size(domain), Query::Size(by)) => domain.is_same(by),
+            (Query::Where(domain, at), Query::Where(by, index)) => {
+                is_same_place(domain, at, by, index)
+            }
+            (Query::Piece(array, locale), Query::Piece(by, number)) => {
+                if !array.is_same(by) {
+                    return false;
+                }
+                *locale == *number
+            }
+            (Query::State(number), Query::State(by)) => *number == *by,
+            _ => false,
+        }
+    }
 }
 
 /// What a query is answered.
@@ -49,6 +82,20 @@ impl Answer {
             Answer::Locale(locale) => Ok(Answer::Locale(*locale)),
             Answer::Piece(piece) => Ok(Answer::Piece(piece.copy(alloc)?)),
             Answer::InForce(in_force) => Ok(Answer::InForce(*in_force)),
+        }
+    }
+
+    /// Whether the answers are equal.
+    pub fn is_same(&self, other: &Answer) -> bool
+        ensures { Decides result (self.now ≡ other.now) }
+    {
+        match (self, other) {
+            (Answer::Value(value), Answer::Value(by)) => *value == *by,
+            (Answer::Size(size), Answer::Size(by)) => *size == *by,
+            (Answer::Locale(locale), Answer::Locale(by)) => *locale == *by,
+            (Answer::Piece(piece), Answer::Piece(by)) => piece.is_same(by),
+            (Answer::InForce(in_force), Answer::InForce(by)) => *in_force == *by,
+            _ => false,
         }
     }
 }

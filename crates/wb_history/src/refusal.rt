@@ -1,3 +1,6 @@
+ghost use Rattle.std.specs.Prelude.{◌≡◌};
+ghost use Rattle.std.specs.Bool.{Decides};
+
 use thiserror::Error;
 
 /// Why a request is refused. The text of each is its name in a reply.
@@ -33,4 +36,25 @@ pub enum Refusal {
     /// E92: a pass that a desk does not know. Given by a desk alone.
     #[error("strange-pass")]
     StrangePass,
+}
+
+impl Refusal {
+    /// Whether the refusals are equal.
+    pub fn is_same(self, other: Refusal) -> bool
+        ensures { Decides result (self ≡ other) }
+    {
+        match (self, other) {
+            (Refusal::BadRequest, Refusal::BadRequest) => true,
+            (Refusal::BadLiteral, Refusal::BadLiteral) => true,
+            (Refusal::Refused(why), Refusal::Refused(by)) => why.is_same(by),
+            (Refusal::NoSuchEdit, Refusal::NoSuchEdit) => true,
+            (Refusal::NotInForce, Refusal::NotInForce) => true,
+            (Refusal::InForce, Refusal::InForce) => true,
+            (Refusal::Blocked(number), Refusal::Blocked(by)) => number == by,
+            (Refusal::RefusedInPlace(why), Refusal::RefusedInPlace(by)) => why.is_same(by),
+            (Refusal::NoMemory, Refusal::NoMemory) => true,
+            (Refusal::StrangePass, Refusal::StrangePass) => true,
+            _ => false,
+        }
+    }
 }

@@ -1,6 +1,7 @@
 //! A seat at a desk as what answers lines.
 ghost use Rattle.std.specs.Prelude.{◌≡◌, ◌⊎◌, ℕ, List};
 ghost use Rattle.std.specs.Io.KnownBytes.{Appends, Consumes};
+ghost use Rattle.wb_lines.specs.Causes.{ReadsUntil, WritesUntil};
 ghost use Rattle.wb_lines.specs.Session.{Serves};
 ghost use Rattle.wb_lines.specs.declared.machine.SessionEnd.{SessionEnd};
 ghost use Rattle.wb_proto.specs.Requests.{request};
@@ -71,6 +72,8 @@ pub fn serve_seat<L: Opening, R: Wait, I: Source, O: Sink>(
     writer: &mut O,
 ) -> Pass<L>
     ensures { (end : SessionEnd)
+        × ReadsUntil end (I.remaining reader.new) (I.failed reader.new) (I.reads reader.old) (I.reads reader.new)
+        × WritesUntil end (O.flushed writer.new) (O.failed writer.new)
         × ((read : List ℕ) × Consumes (I.remaining reader.old) (I.remaining reader.new) read
         × ((text : List ℕ) × Appends (O.contents writer.old) (O.contents writer.new) text
         × Serves (AnswersSeat L.opening) end pass read text result)) }

@@ -1,5 +1,5 @@
 //! A desk on connections: each seat's lines come on a connection of its own, in a thread of its own.
-ghost use Rattle.std.specs.Prelude.{◌≡◌, ℕ, List, IfOk, IfErr, string_bytes};
+ghost use Rattle.std.specs.Prelude.{◌≡◌, ℕ, List, IfOk, IfErr, string_bytes, true};
 ghost use Rattle.std.specs.Io.KnownBytes.{Appends};
 ghost use Rattle.wb_shared.specs.Openings.{nothing_done};
 ghost use Rattle.workbook.specs.Checking.{IsFault};
@@ -98,7 +98,8 @@ fn settled_text<L: Opening>(alloc: Global, shared: &Shared<L>) -> Result<String,
 
 // Prints how many entries there are, and the workbook: the exit status.
 fn print_settled<L: Opening, W: Sink>(alloc: Global, shared: &Shared<L>, writer: &mut W) -> u8
-    ensures { (text : List ℕ) × Appends (W.contents writer.old) (W.contents writer.new) text × PrintsSettled shared.now.course result text }
+    ensures prints { (text : List ℕ) × Appends (W.contents writer.old) (W.contents writer.new) text × PrintsSettled shared.now.course result text }
+    ensures flushed { result ≡ 0 → W.flushed writer.new ≡ true }
 {
     let text = match settled_text(alloc, shared) {
         Ok(text) => text,
@@ -126,7 +127,8 @@ fn serve_day<L: Opening + Send + Sync, R: Threads + Wait + Sync, W: Sink>(
     requires parts { blank.parts ≡ L.parts }
     requires sixteen { blank.parts ≡ 16 }
     requires opening { L.opening ≡ nothing_done }
-    ensures { (text : List ℕ) × Appends (W.contents writer.old) (W.contents writer.new) text × EndsDay L.opening seats result text }
+    ensures prints { (text : List ℕ) × Appends (W.contents writer.old) (W.contents writer.new) text × EndsDay L.opening seats result text }
+    ensures flushed { result ≡ 0 → W.flushed writer.new ≡ true }
 {
     let (desk, passes) = match Desk::<L>::new(alloc, blank, seats) {
         Ok(made) => made,
@@ -145,7 +147,7 @@ fn serve_day<L: Opening + Send + Sync, R: Threads + Wait + Sync, W: Sink>(
 
 /// Serves a desk of so many seats on the listener: accepts a connection for each seat, joins them all, settles, and prints the
 /// number of entries and the workbook. The exit status: 0, and what is printed is the length of a journal that runs from the
-/// empty workbook and the text of the workbook that it makes; 2 for a number of seats that no desk can have; 3 where a
+/// empty workbook and the text of the workbook that it makes, flushed; 2 for a number of seats that no desk can have; 3 where a
 /// connection or a thread could not be had, the desk did not settle or output failed; 4 where a growth was refused.
 pub fn serve_on<R: Threads + Wait + Sync, W: Sink>(
     rt: &R,
@@ -154,7 +156,8 @@ pub fn serve_on<R: Threads + Wait + Sync, W: Sink>(
     seats: usize,
     writer: &mut W,
 ) -> u8
-    ensures { (text : List ℕ) × Appends (W.contents writer.old) (W.contents writer.new) text × EndsDay nothing_done seats result text }
+    ensures prints { (text : List ℕ) × Appends (W.contents writer.old) (W.contents writer.new) text × EndsDay nothing_done seats result text }
+    ensures flushed { result ≡ 0 → W.flushed writer.new ≡ true }
 {
     serve_day::<Brand, R, W>(rt, alloc, Blank::new(16), listener, seats, writer)
 }

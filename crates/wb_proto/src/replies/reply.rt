@@ -1,4 +1,5 @@
 ghost use Rattle.std.specs.Prelude.{◌≡◌, IfOk};
+ghost use Rattle.std.specs.Bool.{Decides};
 
 use crate::replies::book_text::BookText;
 use std::alloc::Global;
@@ -36,4 +37,25 @@ impl Reply {
             Reply::Refused(why) => Ok(Reply::Refused(*why)),
         }
     }
+
+    /// Whether the replies are equal.
+    pub fn is_same(&self, other: &Reply) -> bool
+        ensures { Decides result (self.now ≡ other.now) }
+    {
+        match (self, other) {
+            (Reply::Edited(edit, n), Reply::Edited(by, m)) => are_same(*edit, *n, *by, *m),
+            (Reply::Undone(edit, n), Reply::Undone(by, m)) => are_same(*edit, *n, *by, *m),
+            (Reply::Redone(edit, n), Reply::Redone(by, m)) => are_same(*edit, *n, *by, *m),
+            (Reply::Answered(answer), Reply::Answered(by)) => answer.is_same(by),
+            (Reply::Printed(text), Reply::Printed(by)) => text.as_str() == by.as_str(),
+            (Reply::Refused(why), Reply::Refused(by)) => why.is_same(*by),
+            _ => false,
+        }
+    }
+}
+
+fn are_same(edit: u64, n: usize, by: u64, m: usize) -> bool
+    ensures { Decides result ((edit ≡ by) × (n ≡ m)) }
+{
+    edit == by && n == m
 }

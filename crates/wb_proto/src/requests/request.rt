@@ -1,4 +1,5 @@
 ghost use Rattle.std.specs.Prelude.{◌≡◌, IfOk};
+ghost use Rattle.std.specs.Bool.{Decides};
 
 use std::alloc::Global;
 use wb_edit::Edit;
@@ -32,5 +33,29 @@ impl Request {
             Request::Ask(query) => Ok(Request::Ask(*query)),
             Request::Print => Ok(Request::Print),
         }
+    }
+
+    /// Whether the requests are equal.
+    pub fn is_same(&self, other: &Request) -> bool
+        ensures { Decides result (self.now ≡ other.now) }
+    {
+        match (self, other) {
+            (Request::Change(edit), Request::Change(by)) => edit.is_same(by),
+            (Request::Undo(number), Request::Undo(by)) => is_same_number(*number, *by),
+            (Request::Redo(number), Request::Redo(by)) => *number == *by,
+            (Request::Ask(query), Request::Ask(by)) => query.is_same(by),
+            (Request::Print, Request::Print) => true,
+            _ => false,
+        }
+    }
+}
+
+fn is_same_number(number: Option<u64>, other: Option<u64>) -> bool
+    ensures { Decides result (number ≡ other) }
+{
+    match (number, other) {
+        (Some(number), Some(by)) => number == by,
+        (None, None) => true,
+        _ => false,
     }
 }
