@@ -300,6 +300,3 @@ fn shift_in<const R: usize>(
         rect.translate(by)
     }
 }
-
-#[cfg(test)]
-mod tests;
