@@ -1,9 +1,9 @@
 //! Texts of workbooks, and other texts.
 
-use crate::{BookErr, read_book};
 use std::process::Abort;
 use std::test::Fail;
 use wb_book::{AnyIndex, Binding, Book, Cell, Index, Kind, Name, Point, Value};
+use wb_reading::{BookErr, read_book};
 use wb_text::print_book;
 
 const EACH_KIND: &str =
