@@ -1,6 +1,5 @@
-//! Worked histories, line by line, and what becomes of lines and devices that are broken.
+//! Worked histories, line by line, and what becomes of lines that are broken.
 
-mod devices;
 mod histories;
 mod mappings;
 mod members;
@@ -9,7 +8,6 @@ mod reshapes;
 mod sessions;
 mod texts;
 
-use devices::{Narrow, OneByOne};
 use std::alloc::Global;
 use std::process::Abort;
 use std::test::Fail;
@@ -121,43 +119,6 @@ fn broken_lines(rt: HostRuntime) -> Result<(), Fail> {
         );
         assert_eq!(rt; end, SessionEnd::Done(count));
         assert_eq!(rt; std::str::from_utf8(&output)?, text);
-    }
-    Ok(())
-}
-
-const FIRST_LINES: &[u8] =
-    b"{\"op\":\"domain\",\"d\":\"D\",\"is\":\"{1..4}\"}\n{\"op\":\"array\",\"a\":\"A\",\"d\":\"D\"}\n{\"op\":\"set\",\"a\":\"A\",\"i\":4,\"v\":9}\n{\"op\":\"undo\"}\n{\"op\":\"get\",\"a\":\"A\",\"i\":4}\n";
-
-const FIRST_REPLIES: &[u8] =
-    b"{\"edit\":1,\"n\":3}\n{\"edit\":2,\"n\":7}\n{\"edit\":3,\"n\":1}\n{\"n\":1,\"undone\":3}\n{\"value\":0}\n";
-
-// A reader and a writer of a byte a call; a reader that fails after 79 bytes, in the third line; and a writer that fails
-// after 30 bytes, in the second reply, when the line is done already.
-#[test]
-fn failing_devices(rt: HostRuntime) -> Result<(), Fail> {
-    let alloc = rt.alloc();
-    for (failing, limit, wanted, sent, edits) in [
-        (None, FIRST_REPLIES.len(), SessionEnd::Done(5), 82, 3),
-        (
-            Some(79),
-            FIRST_REPLIES.len(),
-            SessionEnd::ReadFault(2),
-            34,
-            2,
-        ),
-        (None, 30, SessionEnd::WriteFault(1), 30, 2),
-    ] {
-        let mut output = Narrow::new(alloc, limit);
-        let mut history = History::new(alloc);
-        let end = session(
-            alloc,
-            &mut history,
-            &mut Input::new(OneByOne::new(FIRST_LINES, failing)),
-            &mut Output::new(&mut output),
-        );
-        assert_eq!(rt; end, wanted);
-        assert_eq!(rt; output.taken.as_slice(), &FIRST_REPLIES[..sent]);
-        assert_eq!(rt; history.len(), edits);
     }
     Ok(())
 }
