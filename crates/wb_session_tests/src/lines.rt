@@ -40,51 +40,57 @@ fn reply_length(lines: u64) -> usize {
     }
 }
 
-// That a session over such devices ends so, when so many bytes were sent, with so many lines answered, sent or not.
+// That a session which reads up to a fault, if there is one, and writes so many bytes, ends so, when so many were sent,
+// with so many lines answered, sent or not. The first three are edits.
 fn ends_so(
     rt: &impl Abort,
     alloc: Global,
-    input: OneByOne,
-    mut output: Narrow,
-    wanted: (SessionEnd, usize, u64),
-) -> Result<(), Fail> {
+    failing: Option<usize>,
+    output: &mut Narrow,
+    wanted: SessionEnd,
+    sent: usize,
+    answered: u64,
+) {
     let mut history = History::new(alloc);
     let end = session(
         alloc,
         &mut history,
-        &mut Input::new(input),
-        &mut Output::new(&mut output),
+        &mut Input::new(OneByOne::new(LINES, failing)),
+        &mut Output::new(&mut *output),
     );
-    assert_eq!(rt; end, wanted.0);
-    assert_eq!(rt; Some(output.taken.as_slice()), REPLIES.get(..wanted.1));
-    assert_eq!(rt; history.len(), wanted.2.min(3));
-    Ok(())
+    assert!(rt; end == wanted);
+    assert!(rt; REPLIES.get(..sent) == Some(output.taken.as_slice()));
+    assert!(rt; history.len() == answered.min(3));
 }
 
-// A reader that fails at each of its bytes, a writer that fails or takes nothing after each, and devices that do neither.
-// The first three lines are edits. Where a reply is not sent whole, its line is done already.
+// A reader that fails at each of its bytes, and devices that never fail.
 #[test]
-fn failing_devices(rt: HostRuntime) -> Result<(), Fail> {
+fn failing_reads(rt: HostRuntime) {
     let alloc = rt.alloc();
     for at in 0..LINES.len() {
         let whole = line_ends(&LINES[..at]);
-        let input = OneByOne::new(LINES, Some(at));
-        let output = Narrow::new(alloc, REPLIES.len(), true);
-        let wanted = (SessionEnd::ReadFault(whole), reply_length(whole), whole);
-        ends_so(&rt, alloc, input, output, wanted)?;
+        let mut output = Narrow::new(alloc, REPLIES.len(), true);
+        let end = SessionEnd::ReadFault(whole);
+        let sent = reply_length(whole);
+        ends_so(&rt, alloc, Some(at), &mut output, end, sent, whole);
     }
+    let mut output = Narrow::new(alloc, REPLIES.len(), true);
+    ends_so(&rt, alloc, None, &mut output, SessionEnd::Done(5), 82, 5);
+}
+
+// A writer that fails or takes nothing after each of its bytes: the line is done then, though its reply is not sent whole.
+#[test]
+fn failing_writes(rt: HostRuntime) {
+    let alloc = rt.alloc();
     for limit in 0..REPLIES.len() {
         let whole = line_ends(&REPLIES[..limit]);
         for fails in [true, false] {
-            let input = OneByOne::new(LINES, None);
-            let output = Narrow::new(alloc, limit, fails);
-            let wanted = (SessionEnd::WriteFault(whole), limit, whole.wrapping_add(1));
-            ends_so(&rt, alloc, input, output, wanted)?;
+            let mut output = Narrow::new(alloc, limit, fails);
+            let end = SessionEnd::WriteFault(whole);
+            let answered = whole.wrapping_add(1);
+            ends_so(&rt, alloc, None, &mut output, end, limit, answered);
         }
     }
-    let input = OneByOne::new(LINES, None);
-    let output = Narrow::new(alloc, REPLIES.len(), true);
-    ends_so(&rt, alloc, input, output, (SessionEnd::Done(5), 82, 5))
 }
 
 // Before it waits for more input, a session sends on what its writer holds back; where that fails, it ends.
@@ -126,35 +132,46 @@ fn gives_lines_at_their_limit(rt: HostRuntime) -> Result<(), Fail> {
     text.extend_from_slice(b"\nb")?;
     let mut input = Input::new(text.as_slice());
     let mut buffer = LineBuffer::new(alloc);
-    assert_eq!(rt; next_line(&mut input, &mut buffer), Ok(Line::Whole));
-    assert_eq!(rt; buffer.line().len(), 65_536);
-    assert!(rt; !buffer.has_line());
-    assert_eq!(rt; next_line(&mut input, &mut buffer), Ok(Line::Whole));
-    assert_eq!(rt; buffer.line(), b"b".as_slice());
-    for _ in 0..2 {
-        assert_eq!(rt; next_line(&mut input, &mut buffer), Ok(Line::End));
+    for (line, length) in [
+        (Line::Whole, 65_536),
+        (Line::Whole, 1),
+        (Line::End, 0),
+        (Line::End, 0),
+    ] {
+        assert!(rt; next_line(&mut input, &mut buffer) == Ok(line));
+        assert!(rt; buffer.line().len() == length);
+        assert!(rt; !buffer.has_line());
     }
     Ok(())
 }
 
-// A device of a byte a call is read and written whole, up to its fault, which is told again.
+// A device of a byte a call is read whole, or up to its fault.
 #[test]
-fn a_byte_a_call(rt: HostRuntime) -> Result<(), Fail> {
+fn reads_a_byte_a_call(rt: HostRuntime) -> Result<(), Fail> {
     let alloc = rt.alloc();
     let read = read_all(alloc, &mut Input::new(OneByOne::new(LINES, None)))?;
-    assert_eq!(rt; read.as_slice(), LINES);
+    assert!(rt; read.as_slice() == LINES);
     let failed = read_all(alloc, &mut Input::new(OneByOne::new(LINES, Some(9))));
     assert!(rt; matches!(failed, Err(LineFault::ReadFault)));
+    Ok(())
+}
+
+// After a fault it is told again.
+#[test]
+fn lines_up_to_a_fault(rt: HostRuntime) {
     let mut input = Input::new(OneByOne::new(b"a\nb\n", Some(3)));
-    let mut buffer = LineBuffer::new(alloc);
-    assert_eq!(rt; next_line(&mut input, &mut buffer), Ok(Line::Whole));
+    let mut buffer = LineBuffer::new(rt.alloc());
+    assert!(rt; next_line(&mut input, &mut buffer) == Ok(Line::Whole));
     for _ in 0..2 {
         let failed = next_line(&mut input, &mut buffer);
-        assert_eq!(rt; failed, Err(LineFault::ReadFault));
+        assert!(rt; failed == Err(LineFault::ReadFault));
     }
-    let mut output = Narrow::new(alloc, 4, false);
-    assert_eq!(rt; send(&mut Output::new(&mut output), b"abc"), Ok(()));
-    assert_eq!(rt; send(&mut Output::new(&mut output), b"de"), Err(WriteFault));
-    assert_eq!(rt; output.taken.as_slice(), b"abcd".as_slice());
-    Ok(())
+}
+
+#[test]
+fn sends_a_byte_a_call(rt: HostRuntime) {
+    let mut output = Narrow::new(rt.alloc(), 4, false);
+    assert!(rt; send(&mut Output::new(&mut output), b"abc") == Ok(()));
+    assert!(rt; send(&mut Output::new(&mut output), b"de") == Err(WriteFault));
+    assert!(rt; output.taken.as_slice() == b"abcd".as_slice());
 }

@@ -21,16 +21,21 @@ const NO_MEMORY: &str = "{\"error\":\"E90\",\"name\":\"no-memory\"}\n";
 // there are then, and how many cells were set.
 type Script = (&'static str, &'static str, u64, u128);
 
-// What one line is replied.
-fn reply_to(alloc: Global, history: &mut History, line: &str) -> Result<String, Fail> {
+// How a session over these bytes ends, and what it writes.
+fn replies_to(
+    alloc: Global,
+    history: &mut History,
+    bytes: &[u8],
+) -> Result<(SessionEnd, String), Fail> {
     let mut output = Vec::new(alloc);
-    session(
+    let end = session(
         alloc,
         history,
-        &mut Input::new(line.as_bytes()),
+        &mut Input::new(bytes),
         &mut Output::new(&mut output),
     );
-    Ok(String::from_str(alloc, std::str::from_utf8(&output)?)?)
+    let text = String::from_str(alloc, std::str::from_utf8(&output)?)?;
+    Ok((end, text))
 }
 
 // What one line is replied. Where a growth is refused, nothing has changed, and the line is sent again.
@@ -41,12 +46,13 @@ fn answer(
     line: &str,
 ) -> Result<String, Fail> {
     let before = (history.len(), history.book().writes());
-    let reply = reply_to(alloc, history, line)?;
+    let (_, reply) = replies_to(alloc, history, line.as_bytes())?;
     if reply.as_str() != NO_MEMORY {
         return Ok(reply);
     }
     assert_eq!(rt; (history.len(), history.book().writes()), before);
-    reply_to(alloc, history, line)
+    let (_, again) = replies_to(alloc, history, line.as_bytes())?;
+    Ok(again)
 }
 
 // That each line is replied as its row says.
@@ -109,16 +115,9 @@ fn broken_lines(rt: HostRuntime) -> Result<(), Fail> {
             4,
         ),
     ] {
-        let mut output = Vec::new(alloc);
-        let mut history = History::new(alloc);
-        let end = session(
-            alloc,
-            &mut history,
-            &mut Input::new(bytes),
-            &mut Output::new(&mut output),
-        );
+        let (end, replies) = replies_to(alloc, &mut History::new(alloc), bytes)?;
         assert_eq!(rt; end, SessionEnd::Done(count));
-        assert_eq!(rt; std::str::from_utf8(&output)?, text);
+        assert_eq!(rt; replies.as_str(), text);
     }
     Ok(())
 }
