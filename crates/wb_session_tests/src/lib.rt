@@ -1,6 +1,5 @@
-//! Tests of the crates from `wb_book` to `wb_proto` and `wb_reading`: the calls of a book, literals, texts of workbooks,
-//! and worked histories, as request lines with their replies through a session and as calls of a history where a growth is
-//! refused.
+//! Tests of the crates from `wb_book` to `wb_wire`: the calls of a book, literals, texts of workbooks, worked histories as
+//! request lines with their replies, sessions over devices that fail, and the canonical lines of requests.
 //!
 //! A crate with tests is proved twice, so these crates have none of their own.
 #![tactic(auto)]
@@ -10,8 +9,12 @@ mod book_texts;
 #[cfg(test)]
 mod books;
 #[cfg(test)]
-mod calls;
+mod devices;
+#[cfg(test)]
+mod lines;
 #[cfg(test)]
 mod literals;
 #[cfg(test)]
 mod scripts;
+#[cfg(test)]
+mod wire;

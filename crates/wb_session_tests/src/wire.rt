@@ -1,9 +1,9 @@
 //! Lines of requests as the format spells them, read and written again.
 
-use crate::{edit_text, request_text};
 use std::alloc::Global;
 use std::test::Fail;
 use wb_proto::{Request, read_request};
+use wb_wire::{edit_text, request_text};
 
 // Lines, each with the canonical line of its request.
 const LINES: [(&str, &str); 12] = [

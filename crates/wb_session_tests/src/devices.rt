@@ -1,44 +1,36 @@
+//! A reader and a writer of a byte a call, which may fail.
+
 use std::alloc::Global;
 use std::io;
 use std::io::{ErrorKind, Read, Write};
 
-// Gives its bytes one a read, is interrupted before each of them, and may fail at one of them.
+// Gives one byte a call, is interrupted before each of them, and fails at one of them, where it is told to.
 #[derive(Drop)]
-pub struct Pieces<'a> {
+pub struct OneByOne<'a> {
     bytes: &'a [u8],
     at: usize,
     failing: Option<usize>,
-    ready: bool,
+    is_interrupted: bool,
 }
 
-impl<'a> Pieces<'a> {
-    pub fn new(bytes: &'a [u8]) -> Pieces<'a> {
-        Pieces {
+impl<'a> OneByOne<'a> {
+    pub fn new(bytes: &'a [u8], failing: Option<usize>) -> OneByOne<'a> {
+        OneByOne {
             bytes,
             at: 0,
-            failing: None,
-            ready: false,
-        }
-    }
-
-    pub fn failing_at(bytes: &'a [u8], at: usize) -> Pieces<'a> {
-        Pieces {
-            bytes,
-            at: 0,
-            failing: Some(at),
-            ready: false,
+            failing,
+            is_interrupted: false,
         }
     }
 }
 
-impl<'a> Read for Pieces<'a> {
+impl<'a> Read for OneByOne<'a> {
     fn read(&mut self, buf: &mut [u8]) -> io::Result<usize> {
-        self.ready = !self.ready;
-        if self.ready {
+        self.is_interrupted = !self.is_interrupted;
+        if self.is_interrupted {
             return Err(io::Error::from(ErrorKind::Interrupted));
         }
         if self.failing == Some(self.at) {
-            self.failing = None;
             return Err(io::Error::from(ErrorKind::BrokenPipe));
         }
         match (self.bytes.get(self.at), buf.first_mut()) {
@@ -52,7 +44,7 @@ impl<'a> Read for Pieces<'a> {
     }
 }
 
-// Takes a byte a write, up to a limit, and then fails or takes nothing.
+// Takes one byte a call, up to a limit, and then fails or takes nothing.
 #[derive(Drop)]
 pub struct Narrow {
     pub taken: Vec<u8>,
