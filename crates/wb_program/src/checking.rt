@@ -2,8 +2,8 @@
 
 ghost use Rattle.std.specs.Prelude.{◌≡◌, ℕ, List, true, IfOk, string_bytes};
 ghost use Rattle.std.specs.Io.KnownBytes.{Appends, Consumes, IsAtEnd};
-ghost use Rattle.workbook.specs.Checking.{IsVerdict, verdict_text, status_of_verdict, Says, Judges, IsAnswered};
-ghost use Rattle.workbook.specs.Running.{HasFailed};
+ghost use Rattle.wb_program.specs.Checking.{IsVerdict, verdict_text, status_of_verdict, Says, Judges, IsAnswered};
+ghost use Rattle.wb_program.specs.Running.{HasFailed};
 
 use crate::running::{DONE, INPUT_OR_OUTPUT_FAILED, NO_MEMORY};
 use std::alloc::{AllocError, Global};

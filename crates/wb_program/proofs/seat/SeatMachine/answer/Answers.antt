@@ -6,8 +6,8 @@ use Rattle.wb_proto.specs.Replies.{reply_of}
 use Rattle.wb_proto.specs.Requests.{request}
 use Rattle.wb_proto.specs.declared.replies.reply.Reply.{Reply}
 use Rattle.wb_shared.specs.Serving.{Held}
-use Rattle.workbook.specs.Serving.{RepliesIfRead, NothingAsked, AnswersSeat}
-use Rattle.workbook.proofs.seat.SeatMachine.answer.Goals as goal
+use Rattle.wb_program.specs.Serving.{RepliesIfRead, NothingAsked, AnswersSeat}
+use Rattle.wb_program.proofs.seat.SeatMachine.answer.Goals as goal
 
 stood : (opening : Past) (h : Held) (line : List ℕ) (r : Reply) (k : Held) → RepliesIfRead opening h (request line) r k ⊎ NothingAsked h r k → MayAnswer (AnswersSeat opening) h line k
 stood opening h line r k is = inr (reply_of r, record { reply = r; is_reply = is; is_text = refl })

@@ -1,5 +1,5 @@
 use Rattle.wb_shared.specs.Openings.{nothing_done}
-use Rattle.workbook.proofs.serving.serve_on.Given as goal
+use Rattle.wb_program.proofs.serving.serve_on.Given as goal
 
 abbrev pub ghosts-serve_day-L-Ledger : goal.ghosts-serve_day-L-Ledger
 ghosts-serve_day-L-Ledger g a = record { name = a.blank.name; parts = a.blank.parts }

@@ -2,8 +2,8 @@
 ghost use Rattle.std.specs.Prelude.{◌≡◌, ℕ, List, IfOk, IfErr, string_bytes, true};
 ghost use Rattle.std.specs.Io.KnownBytes.{Appends};
 ghost use Rattle.wb_shared.specs.Openings.{nothing_done};
-ghost use Rattle.workbook.specs.Checking.{IsFault};
-ghost use Rattle.workbook.specs.Serving.{settled_text, PrintsSettled, EndsDay};
+ghost use Rattle.wb_program.specs.Checking.{IsFault};
+ghost use Rattle.wb_program.specs.Serving.{settled_text, PrintsSettled, EndsDay};
 
 use crate::running::{BAD_COMMAND_LINE, DONE, INPUT_OR_OUTPUT_FAILED, NO_MEMORY};
 use crate::seat::serve_seat;

@@ -1,4 +1,5 @@
-//! The command line.
+//! The command line of the program.
+#![tactic(auto)]
 
 use clap::error::ErrorKind;
 use clap::{Arg, ArgAction, ArgMatches, Command};

@@ -1,6 +1,5 @@
 //! Seats on connections of this machine: two-way talk, a connection that is cut within a line, and one that is never read.
 
-use crate::serving::serve_on;
 use std::alloc::Global;
 use std::io::{self, Write};
 use std::net::{Net, TcpListener, TcpStream};
@@ -9,6 +8,7 @@ use std::test::Fail;
 use std::thread;
 use std::thread::Threads;
 use wb_lines::{Input, Line, LineBuffer, Output, next_line};
+use wb_program::serve_on;
 
 const MAKE_X: &[u8] = b"{\"op\":\"domain\",\"d\":\"X\",\"is\":\"{1..1}\"}\n";
 

@@ -5,7 +5,7 @@ ghost use Rattle.wb_lines.specs.Causes.{ReadsUntil, WritesUntil};
 ghost use Rattle.wb_lines.specs.Session.{Serves};
 ghost use Rattle.wb_lines.specs.declared.machine.SessionEnd.{SessionEnd};
 ghost use Rattle.wb_proto.specs.Requests.{request};
-ghost use Rattle.workbook.specs.Serving.{RepliesIfRead, NothingAsked, AnswersSeat};
+ghost use Rattle.wb_program.specs.Serving.{RepliesIfRead, NothingAsked, AnswersSeat};
 
 use std::alloc::{AllocError, Global};
 use std::marker::Model;

@@ -1,14 +1,12 @@
-mod connections;
-mod texts;
+//! The command line, the first run, and texts of workbooks and of none.
 
-use crate::checking::check_with;
-use crate::command::{Asked, CommandErr, command_of};
-use crate::running::run_with;
+use crate::texts::{OTHERS, Text, WORKBOOKS};
 use std::alloc::Global;
 use std::process::Abort;
 use std::test::Fail;
-use texts::{OTHERS, Text, WORKBOOKS};
+use wb_command::{Asked, CommandErr, command_of};
 use wb_lines::{Input, Output};
+use wb_program::{check_with, run_with};
 
 const FIRST_RUN: &[u8] =
     b"{\"op\":\"domain\",\"d\":\"D\",\"is\":\"{1..4}\"}\n{\"op\":\"array\",\"a\":\"A\",\"d\":\"D\"}\n{\"op\":\"set\",\"a\":\"A\",\"i\":4,\"v\":9}\n{\"op\":\"undo\"}\n{\"op\":\"get\",\"a\":\"A\",\"i\":4}\n";

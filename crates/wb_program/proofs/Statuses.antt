@@ -4,7 +4,7 @@ use Rattle.std.specs.Io.KnownBytes.{IsAtEnd}
 use Rattle.wb_lines.specs.Causes.{ReadsUntil, WritesUntil}
 use Rattle.wb_lines.specs.declared.machine.SessionEnd.{SessionEnd}
 use Rattle.wb_lines.specs.declared.machine.SessionEnd.TheVariants.{Done, ReadFault, WriteFault, TooManyReads, NoMemory}
-use Rattle.workbook.specs.Running.{status_of, HasFailed}
+use Rattle.wb_program.specs.Running.{status_of, HasFailed}
 
 pub done_ends : (end : SessionEnd) (left : Option (List ℕ)) (read_failed : Bool) (before after : ℕ) (flushed write_failed : Bool)
     → ReadsUntil end left read_failed before after → WritesUntil end flushed write_failed → status_of end ≡ 0 → IsAtEnd left × (flushed ≡ true)

@@ -4,7 +4,7 @@ ghost use Rattle.std.specs.Prelude.{◌≡◌, ℕ, List, true};
 ghost use Rattle.std.specs.Io.KnownBytes.{Appends, Consumes, IsAtEnd};
 ghost use Rattle.wb_lines.specs.Causes.{ReadsUntil, WritesUntil};
 ghost use Rattle.wb_lines.specs.declared.machine.SessionEnd.{SessionEnd};
-ghost use Rattle.workbook.specs.Running.{status_of, HasFailed, ServesFromEmpty};
+ghost use Rattle.wb_program.specs.Running.{status_of, HasFailed, ServesFromEmpty};
 
 use std::alloc::Global;
 use wb_history::History;

@@ -13,7 +13,7 @@ use Rattle.wb_shared.specs.Courses.{Course, IsCourse}
 use Rattle.wb_shared.specs.Seats.{IsNumberOfSeats}
 use Rattle.wb_shared.specs.Serving.{Held, own_after, share_after, AnswersSome}
 use Rattle.wb_text.specs.Lines.{book_text}
-use Rattle.workbook.specs.Checking.{IsFault}
+use Rattle.wb_program.specs.Checking.{IsFault}
 
 -- a pass after a reply to its request
 abbrev pub held_after : Held → Request → Reply → Held

@@ -6,8 +6,8 @@ use Rattle.wb_book.specs.Readers.{objects}
 use Rattle.wb_book.specs.WellFormed.{IsWellFormed}
 use Rattle.wb_reading.specs.Reading.{IsNoBook}
 use Rattle.wb_text.specs.Lines.{book_text}
-use Rattle.workbook.specs.declared.checking.Verdict.{Verdict}
-use Rattle.workbook.specs.declared.checking.Verdict.TheVariants.{Workbook, Refused}
+use Rattle.wb_program.specs.declared.checking.Verdict.{Verdict}
+use Rattle.wb_program.specs.declared.checking.Verdict.TheVariants.{Workbook, Refused}
 
 -- the text of a well-formed workbook with so many objects
 pub record IsTextOf (bytes : List ℕ) (count : ℕ) : Type 0 where
