@@ -1,0 +1,13 @@
+pub mod Kept
+pub mod Written
+pub mod Same
+pub mod Elements
+pub mod Moved
+pub mod Remapped
+pub mod Seen
+pub mod Laid
+pub mod Leads
+pub mod Applied
+pub mod Built
+pub mod Grown
+pub mod Whole

@@ -1,0 +1,12 @@
+//! The workbook: its cells, kept by shapes and arrays.
+#![tactic(auto)]
+
+mod after;
+mod change;
+mod keep;
+mod looks;
+mod moving;
+mod shelf;
+mod store;
+
+pub use crate::shelf::Shelf;

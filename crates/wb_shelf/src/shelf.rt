@@ -1,0 +1,188 @@
+ghost use Rattle.std.specs.Prelude.{◌≡◌, ℕ, ℤ, IsSome, IfOk, IfErr, OnOk, OnErr, Err};
+ghost use Rattle.std.specs.List.{Contains};
+ghost use Rattle.selective_undo.specs.Changes.{apply, put, inverse, AllOnce};
+ghost use Rattle.wb_book.specs.Cells.{cell_cmp, written_more, count_of};
+ghost use Rattle.wb_book.specs.declared.values.index.Index.{Index};
+ghost use Rattle.wb_book.specs.declared.cells.cell.Cell.TheVariants.{Element};
+ghost use Rattle.wb_book.specs.Readers.{elements, seen};
+ghost use Rattle.wb_book.specs.WellFormed.{IsWellFormed};
+ghost use Rattle.wb_shelf.specs.Kept.{element_changes};
+ghost use Rattle.wb_shelf.specs.Moved.{mapping_change};
+ghost use Rattle.std.specs.FinMap as map;
+
+use crate::{after, change, keep, looks, moving};
+use std::alloc::Global;
+use std::collections::BTreeMap;
+use std::marker::Model;
+use std::mem;
+use wb_book::{AnyIndex, AnyLayout, Cell, CellChange, Delta, Inverse, Name, Pattern, Value};
+use wb_elements::Elements;
+use wb_range::NoMemory;
+use wb_redist::{MoveErr, Mover};
+
+/// A workbook: its cells, well formed, and how many were set so far.
+#[derive(Drop)]
+pub struct Shelf {
+    alloc: Global,
+    cells: BTreeMap<Cell, Value>,
+    arrays: BTreeMap<Name, Elements>,
+    writes: u128,
+}
+
+impl Model for Shelf {
+    ghost use Rattle.wb_book.specs.Cells.{Contents, contents_code};
+
+    ghost Value = { Contents };
+
+    ghost coded = { contents_code };
+
+    ghost use Rattle.wb_shelf.specs.Shelf.{cells_of, IsShelf};
+
+    ghost view = { λ a. record { cells = cells_of a.cells a.arrays; writes = a.writes } };
+
+    ghost invariant = { λ a. IsShelf a.cells a.arrays };
+}
+
+impl Shelf {
+    /// The empty workbook.
+    pub fn new(alloc: Global) -> Shelf
+        ensures { result ≡ record { cells = map.empty; writes = 0 } }
+    {
+        Shelf {
+            alloc,
+            cells: BTreeMap::new(alloc),
+            arrays: BTreeMap::new(alloc),
+            writes: 0,
+        }
+    }
+
+    /// What stands in a cell.
+    pub fn get(&self, cell: &Cell) -> Option<Value>
+        ensures { result ≡ map.get self.now.cells cell.now }
+    {
+        keep::look(&self.cells, &self.arrays, cell)
+    }
+
+    /// What a look at a pattern shows: the cells that it names and that are there, with their values, in their order.
+    pub fn seen(&self, alloc: Global, pattern: &Pattern) -> Result<Vec<(Cell, Value)>, NoMemory>
+        ensures { IfOk result (λ v. v.items ≡ seen self.now.cells pattern.now) }
+    {
+        match pattern {
+            Pattern::Elements(array) => {
+                let pairs = looks::elements(alloc, &self.arrays, array)?;
+                looks::element_cells(alloc, array, pairs.as_slice())
+            }
+            Pattern::One(cell) => {
+                let cell = cell.cell();
+                looks::one_cell(alloc, cell, keep::look(&self.cells, &self.arrays, &cell))
+            }
+            Pattern::Objects => looks::stored(alloc, &self.cells, pattern),
+            Pattern::Members(_) => looks::stored(alloc, &self.cells, pattern),
+            Pattern::Uses(_) => looks::stored(alloc, &self.cells, pattern),
+        }
+    }
+
+    /// The elements of the array of a name, each after its index, in the order of the indices; `NoMemory` where none is
+    /// left.
+    pub fn elements(&self, name: &Name) -> Result<Vec<(AnyIndex, i64)>, NoMemory>
+        ensures { IfOk result (λ v. v.items ≡ elements self.now.cells name.now) }
+    {
+        let _ = &self.cells;
+        looks::elements(self.alloc, &self.arrays, name)
+    }
+
+    /// Replaces elements of an array at indices that it has.
+    pub fn set_elements(&mut self, array: &Name, pairs: &[(AnyIndex, i64)])
+        requires there { (p : Index × ℤ) → Contains pairs.now p → IsSome (map.get self.old.cells (Element array.now p.0)) }
+        requires formed { IsWellFormed (apply (element_changes array.now pairs.now) self.old.cells) }
+        ensures cells { self.new.cells ≡ apply (element_changes array.now pairs.now) self.old.cells }
+        ensures writes { self.new.writes ≡ self.old.writes }
+    {
+        let _ = &self.cells;
+        keep::set_elements(&mut self.arrays, array, pairs);
+    }
+
+    /// Sets the mapping of a rectangular domain and moves the arrays that lie by it, or changes nothing where the mover
+    /// refuses.
+    pub fn remap<V: Mover>(
+        &mut self,
+        domain: &Name,
+        to: &AnyLayout,
+        mover: &V,
+    ) -> Result<(), MoveErr>
+        requires { IsWellFormed (put (mapping_change domain.now to.now) self.old.cells) }
+        ensures cells { OnOk result (self.new.cells ≡ put (mapping_change domain.now to.now) self.old.cells) }
+        ensures err { OnErr result (self.new ≡ self.old) }
+    {
+        let moved = match moving::moved(self.alloc, &self.cells, &self.arrays, domain, to, mover) {
+            Ok(moved) => moved,
+            Err(why) => return Err(why),
+        };
+        moving::set_mapping(&mut self.cells, domain, to);
+        moving::put_in(&mut self.arrays, moved);
+        Ok(())
+    }
+
+    // Makes the changes, or none where the mover refuses or no memory is left.
+    fn change<V: Mover>(&mut self, changes: &[CellChange], mover: &V) -> Result<(), MoveErr>
+        requires once { AllOnce cell_cmp changes.now }
+        requires formed { IsWellFormed (apply changes.now self.old.cells) }
+        ensures cells { OnOk result (self.new.cells ≡ apply changes.now self.old.cells) }
+        ensures writes { self.new.writes ≡ self.old.writes }
+        ensures err { OnErr result (self.new ≡ self.old) }
+        ensures no_thread { result ≡ Err MoveErr.NoThread → V.may_lack_threads mover.now }
+    {
+        let mut arrays = mem::replace(&mut self.arrays, BTreeMap::new(self.alloc));
+        let made = change::change_all(self.alloc, &mut self.cells, &mut arrays, changes, mover);
+        self.arrays = arrays;
+        made
+    }
+
+    /// Makes the changes, or none where the mover refuses or no memory is left, and gives what takes them back.
+    pub fn apply<V: Mover>(
+        &mut self,
+        delta: Delta,
+        mover: &V,
+    ) -> Result<Vec<CellChange>, (Delta, MoveErr)>
+        requires { IsWellFormed (apply delta self.old.cells) }
+        ensures inverse { IfOk result (λ i. i.items ≡ inverse delta self.old.cells) }
+        ensures cells { OnOk result (self.new.cells ≡ apply delta self.old.cells) }
+        ensures writes { OnOk result (self.new.writes ≡ written_more self.old.writes (count_of delta)) }
+        ensures err { OnErr result (self.new ≡ self.old) }
+        ensures given_back { IfErr result (λ e. e.0 ≡ delta) }
+        ensures no_thread { IfErr result (λ e. e.1 ≡ MoveErr.NoThread → V.may_lack_threads mover.now) }
+    {
+        let Ok(before) = after::values_before(
+            self.alloc,
+            &self.cells,
+            &self.arrays,
+            delta.changes(),
+        ) else {
+            return Err((delta, MoveErr::NoMemory));
+        };
+        match self.change(delta.changes(), mover) {
+            Ok(()) => {
+                self.writes = self.writes.saturating_add(delta.count() as u128);
+                Ok(before)
+            }
+            Err(why) => Err((delta, why)),
+        }
+    }
+
+    /// Sets the cells back to what they were, or none where the mover refuses or no memory is left.
+    pub fn revert<V: Mover>(&mut self, inverse: &Inverse, mover: &V) -> Result<(), MoveErr>
+        requires { IsWellFormed (apply inverse.now self.old.cells) }
+        ensures cells { OnOk result (self.new.cells ≡ apply inverse.now self.old.cells) }
+        ensures writes { OnOk result (self.new.writes ≡ written_more self.old.writes (count_of inverse.now)) }
+        ensures err { OnErr result (self.new ≡ self.old) }
+        ensures no_thread { result ≡ Err MoveErr.NoThread → V.may_lack_threads mover.now }
+    {
+        match self.change(inverse.before(), mover) {
+            Ok(()) => {
+                self.writes = self.writes.saturating_add(inverse.count() as u128);
+                Ok(())
+            }
+            Err(why) => Err(why),
+        }
+    }
+}
