@@ -1,5 +1,5 @@
 -- Each kind of member: what is wrong with its value is what its reader answers.
-use Rattle.std.proofs.Common.{◌≡◌, ◌⊎◌, inl, inr, ℕ, ℤ, Bool, true, false, List, [], ◌∷◌, codes, Option, Some, None, option_and_then, Result, Ok, Err, refl, sym, ap, ◌∙◌, subst, nat_eq, if◌then◌else◌, eqb-true}
+use Rattle.std.proofs.Common.{◌≡◌, ◌⊎◌, inl, inr, ℕ, ℤ, Bool, true, false, List, [], ◌∷◌, codes, Option, Some, None, option_and_then, Result, Ok, Err, refl, sym, ap, ◌∙◌, if◌then◌else◌, eqb-true}
 use Rattle.std.specs.Prelude.{bytes_eq}
 use Rattle.std.specs.Option.{ok_or}
 use Rattle.serde_json.specs.Data.{Data, null, boolean, number as json_number, string, array, object}
@@ -7,15 +7,12 @@ use Rattle.serde_json.specs.Find.{as_number, as_str, as_i64, as_u64}
 use Rattle.wb_dist.specs.Maps.{LayoutMap}
 use Rattle.wb_book.specs.Cells.{Name}
 use Rattle.wb_book.specs.Names.{is_name}
-use Rattle.wb_book.specs.Shapes.{Range}
-use Rattle.wb_book.specs.declared.values.index.Index.TheVariants.{Point}
 use Rattle.wb_book.specs.declared.cells.kind.KeyType.{KeyType}
 use Rattle.wb_book.specs.declared.cells.kind.KeyType.TheVariants as types
 use Rattle.wb_edit.specs.declared.operation.Operation.{Operation}
 use Rattle.wb_edit.specs.declared.operation.Operation.TheVariants as operations
-use Rattle.wb_edit.specs.declared.refusal.Refusal.TheVariants as edits
 use Rattle.wb_history.specs.declared.refusal.Refusal.{Refusal}
-use Rattle.wb_history.specs.declared.refusal.Refusal.TheVariants.{BadRequest, BadLiteral, Refused}
+use Rattle.wb_history.specs.declared.refusal.Refusal.TheVariants.{BadRequest, BadLiteral}
 use Rattle.wb_literal.specs.Domain.{Domain, rectangle, set, domain_of}
 use Rattle.wb_literal.specs.Mapping.{mapping_of}
 use Rattle.wb_literal.specs.Grammar as grammar
@@ -34,7 +31,7 @@ use Rattle.wb_proto.specs.Literals.{literal_domain, literal_mapping, refusal_of_
 use Rattle.wb_proto.specs.Sources.{is_braced, given_within, given_literal, given_name, given_text, given_by, point_in, offsets_by}
 use Rattle.wb_wire.specs.Faults.{Fault, bad_request, bad_literal, too_large, bad_mapping, refusal_of, Plain, Kind, plain, IsBraced, IsBad, Fails}
 use Rattle.wb_wire.specs.Faults as kinds
-use Rattle.wb_wire.proofs.Values.{ok_same, no_ok, some_of_ok, text_in, text_read, str_found, name_found, name_read, type_found, type_read, operation_found, operation_read, integer_in, integer_found, integer_read, number_in, natural_found, natural_read, index_in, index_found, index_read}
+use Rattle.wb_wire.proofs.Values.{no_ok, some_of_ok, text_in, text_read, str_found, name_found, name_read, type_found, type_read, operation_found, operation_read, integer_in, integer_found, integer_read, number_in, natural_found, natural_read, index_in, index_found, index_read}
 use Rattle.wb_wire.proofs.Spellings.{domain_found, domain_read, literal_read, offsets_found, offsets_read}
 use Rattle.wb_wire.proofs.TooLarge.{domain_large}
 

@@ -1,20 +1,16 @@
 -- What is read is without a fault, and what is refused is refused with the least.
-use Rattle.std.proofs.Common.{◌≡◌, ◌≤◌, ◌+◌, ◌*◌, ◌⊎◌, inl, inr, ℕ, suc, Bool, true, false, List, [], ◌∷◌, codes, length, Option, Some, None, Result, Ok, Err, refl, sym, ap, ◌∙◌, subst, nat_eq, if◌then◌else◌, arith}
-use Rattle.std.specs.Prelude.{bytes_eq, Contains}
+use Rattle.std.proofs.Common.{◌≡◌, ◌≤◌, ◌+◌, ◌*◌, ℕ, suc, Bool, true, false, List, [], ◌∷◌, codes, length, Option, Some, None, Result, Ok, Err, refl, sym, ap, ◌∙◌, subst, nat_eq, if◌then◌else◌, arith}
+use Rattle.std.specs.Prelude.{Contains}
 use Rattle.std.specs.List.{list_all}
-use Rattle.std.specs.Option.{ok_or, option_map_or}
-use Rattle.std.proofs.lemmas.List.Elements.{All-contains}
-use Rattle.std.proofs.lemmas.List.Sums.{AllPass-from_list_all}
 use Rattle.serde_json.specs.Data.{Data, string, object, Members}
 use Rattle.serde_json.specs.Find.{get_member}
 use Rattle.wb_history.specs.declared.refusal.Refusal.{Refusal}
 use Rattle.wb_history.specs.declared.refusal.Refusal.TheVariants.{BadRequest}
-use Rattle.wb_resize.specs.declared.source.Source.{Source}
 use Rattle.wb_proto.specs.Fields.{◌>>=◌, member_count, has_fields}
 use Rattle.wb_proto.specs.Replies.{code_of}
 use Rattle.wb_proto.specs.declared.requests.request.Request.{Request}
 use Rattle.wb_wire.specs.Faults.{Fault, bad_request, bad_literal, too_large, bad_mapping, code, refusal_of, lines, HasKeys, NamesOp, IsWhole, Plain, Kind, plain, kind_of, Fails, IsFault, not_whole, of_member, IsLeastFault}
-use Rattle.wb_wire.proofs.Values.{no_ok, some_same, no_some}
+use Rattle.wb_wire.proofs.Values.{no_ok, some_same}
 use Rattle.wb_wire.proofs.Spellings.{count_read}
 use Rattle.wb_wire.proofs.Steps.{one_of, two_of, three_of, five_of}
 use Rattle.wb_wire.proofs.Keys.{has, apart, IsThere, AllKeys, keys_made, passes, lacks, miscounted, FailsAt, all_faults}

@@ -1,16 +1,16 @@
 -- Which members an object has to have, by its op.
-use Rattle.std.proofs.Common.{◌≡◌, ◌<◌, ℕ, suc, Bool, true, false, List, [], ◌∷◌, codes, length, Option, Some, None, refl, sym, ap, ◌∙◌, subst, nat_eq, nat_lt, if◌then◌else◌, arith, eqb-true, ltb-true}
+use Rattle.std.proofs.Common.{◌≡◌, ℕ, suc, Bool, true, false, List, [], ◌∷◌, codes, length, Some, None, refl, sym, ap, ◌∙◌, subst, nat_eq, nat_lt, if◌then◌else◌, arith, eqb-true, ltb-true}
 use Rattle.std.specs.Prelude.{bytes_eq, Contains, slice_index_or}
 use Rattle.std.specs.List.{list_all}
 use Rattle.std.proofs.lemmas.List.Elements.{All-contains}
 use Rattle.std.proofs.lemmas.List.Sums.{AllPass-from_list_all}
-use Rattle.serde_json.specs.Data.{Data, string, object, Members, no_members}
+use Rattle.serde_json.specs.Data.{Data, string, object, Members}
 use Rattle.serde_json.specs.Find.{get_member}
 use Rattle.wb_proto.specs.Fields.{member_count}
 use Rattle.wb_wire.specs.Spelled.{without}
-use Rattle.wb_wire.specs.Faults.{lines, HasKeys, NamesOp, IsWhole, Kind, kind_of, Fault, bad_request, Fails, MemberFails, IsFault, not_whole, of_member}
+use Rattle.wb_wire.specs.Faults.{lines, HasKeys, NamesOp, IsWhole, Kind, kind_of, Fault, Fails, IsFault, not_whole, of_member}
 use Rattle.wb_wire.proofs.Members.{true_false, equal_key, same_key, other_same, count_out, there, free_parts, unequal, nothing_there}
-use Rattle.wb_wire.proofs.Values.{no_some, some_same}
+use Rattle.wb_wire.proofs.Values.{no_some}
 
 abbrev pub has : List ℕ → List (List ℕ) → Bool
 has k [] = false

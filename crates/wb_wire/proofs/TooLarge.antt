@@ -1,5 +1,5 @@
 -- The literal of a rectangle breaks no limit but those of sizes.
-use Rattle.std.proofs.Common.{◌≡◌, Bool, true, false, List, [], ◌∷◌, length, nat_le, Result, Ok, Err, sym, ap, ◌∙◌, if◌then◌else◌}
+use Rattle.std.proofs.Common.{◌≡◌, Bool, true, false, List, [], ◌∷◌, length, nat_le, Result, Ok, Err, sym, ap, if◌then◌else◌}
 use Rattle.wb_rect.specs.Product.{product}
 use Rattle.wb_book.specs.Shapes.{Range}
 use Rattle.wb_literal.specs.declared.range.RangeLiteral.{RangeLiteral}
