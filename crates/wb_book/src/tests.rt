@@ -207,7 +207,7 @@ fn an_empty_book(rt: HostRuntime) -> Result<(), Fail> {
     match book.apply(Delta::new(rt.alloc())) {
         Ok(inverse) => {
             assert_eq!(rt; inverse.count(), 0);
-            assert!(rt; book.revert(inverse).is_ok());
+            assert!(rt; book.revert(inverse.before()).is_ok());
         }
         Err(_) => assert_eq!(rt; book.objects(), 0),
     }

@@ -36,9 +36,6 @@ count_inverse (x ∷ xs) s =
       | false ↦ count_inverse xs s
     ]
 
-pub blocker_is : (es : List kept.Entry) (k : ℕ) (rs : List Pattern) (xs : Changes) (ls : List kept.Entry) (o : Option ℕ) → ls ≡ drop (k + 1) es → o ≡ first_from (blocks_redo (foot rs xs)) (k + 2) (kept_all ls) → o ≡ redo_blocker es k rs xs
-blocker_is es k rs xs ls o later is = is ∙ ap (λ ms. first_from (blocks_redo (foot rs xs)) (k + 2) (kept_all ms)) later ∙ ap (first_from (blocks_redo (foot rs xs)) (k + 2)) (drop-map kept_in es (k + 1))
-
 in_numbers : (es : List kept.Entry) (k : ℕ) (x : kept.Entry) (q : Kept) → slice_get es k ≡ Some x → numbers (slice_set es k (record { edit = x.edit; kept = Some q })) ≡ into_force k (numbers es)
 in_numbers [] k x q is = refl
 in_numbers (z ∷ es) zero x q is = let h : z ≡ x = cc in ap (λ y. record { edit = y.edit; in_force = true } ∷ numbers es) (sym h)
