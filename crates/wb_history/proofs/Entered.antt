@@ -1,5 +1,5 @@
 -- What has entered the indexes, as edits come, go and enter.
-use Rattle.std.proofs.Common.{if◌then◌else◌, ◌≡◌, ℕ, zero, suc, ◌+◌, ◌-◌, ◌<◌, ◌≤◌, ◌==◌, nat_lt, Bool, true, false, List, [], ◌∷◌, ◌++◌, map, length, drop, refl, sym, ap, ◌∙◌, subst, Option, Some, None, is_some, option_map, Result, Ok, Err, IfOk, OnOk, OnErr, slice_get, slice_set, arith, add-one}
+use Rattle.std.proofs.Common.{if◌then◌else◌, ◌≡◌, ℕ, zero, suc, ◌+◌, ◌-◌, ◌<◌, ◌≤◌, ◌==◌, nat_lt, Bool, true, false, List, [], ◌∷◌, ◌++◌, length, drop, refl, sym, ap, ◌∙◌, subst, Option, Some, None, is_some, option_map, Result, Ok, Err, IfOk, OnOk, OnErr, slice_get, slice_set, arith, add-one}
 use Rattle.std.proofs.lemmas.Bool.Decides.{nat_tests}
 use Rattle.std.proofs.lemmas.List.{length-append}
 use Rattle.selective_undo.specs.Log.{Foot, first_from}
@@ -13,11 +13,9 @@ use Rattle.wb_foot.specs.Relation.{IsLeastAfter, IsGreatest}
 use Rattle.wb_history.specs.declared.entry.Entry as kept
 use Rattle.wb_history.specs.declared.entry.Kept.{Kept}
 use Rattle.wb_history.specs.declared.index.Index.{Index}
-use Rattle.wb_history.specs.declared.index.footprints.Footprints.{Footprints}
-use Rattle.wb_history.specs.declared.index.in_force.InForce.{InForce}
 use Rattle.wb_history.specs.declared.refusal.Refusal.{Refusal}
 use Rattle.wb_history.specs.Kept.{kept_in, kept_all, feet_of, by_number, IsLatest, TakenBack}
-use Rattle.wb_history.specs.Indexed.{up_to, AreFootprints, AreInForce, Indexes, IsIndexed}
+use Rattle.wb_history.specs.Indexed.{up_to, Indexes, IsIndexed}
 use Rattle.wb_history.proofs.Entries.{set_same}
 use Rattle.wb_history.proofs.Firsts.{first_after}
 use Rattle.wb_history.proofs.Lists.{index_like, replaced}

@@ -1,5 +1,5 @@
 -- The least number after another is the first from the next one on.
-use Rattle.std.proofs.Common.{◌≡◌, ℕ, zero, suc, ◌+◌, ◌-◌, ◌≤◌, ◌<◌, Bool, true, false, if◌then◌else◌, List, [], ◌∷◌, ◌++◌, drop, length, slice_set, Option, Some, None, refl, sym, ap, subst, ◌∙◌, arith, add-one, add-zero, zero-add, suc-add, inl, inr}
+use Rattle.std.proofs.Common.{◌≡◌, ℕ, zero, suc, ◌+◌, ◌-◌, ◌≤◌, ◌<◌, Bool, true, false, if◌then◌else◌, List, [], ◌∷◌, drop, Option, Some, None, refl, ap, subst, ◌∙◌, arith, add-zero, zero-add, suc-add, inl, inr}
 use Rattle.std.proofs.lemmas.Bool.{cases_eq}
 use Rattle.selective_undo.specs.Log.{first_from}
 use Rattle.wb_foot.specs.Relation.{IsLeastAfter}

@@ -7,7 +7,7 @@ use Rattle.selective_undo.specs.Edit.{outcome, reads, written, trace}
 use Rattle.selective_undo.specs.History.{Entry, undone, traces, replay, CanRedo}
 use Rattle.selective_undo.specs.Log.{IsKept, Least, history, foot_of, feet, planned, blocks_redo, first_from, BlocksRedo}
 use Rattle.selective_undo.proofs.Log.{get-map, set-map, kept_redo, redo_can, redo_free, redo_least, first_planned}
-use Rattle.wb_history.proofs.Entries.{drop-map, history-log, kept-log, log_at}
+use Rattle.wb_history.proofs.Entries.{history-log, kept-log, log_at}
 use Rattle.wb_book.specs.declared.cells.pattern.Pattern.{Pattern}
 use Rattle.wb_book.specs.Cells.{Cells, Changes, count_of, is_counted}
 use Rattle.wb_edit.specs.Schema.{workbook}
@@ -22,7 +22,7 @@ use Rattle.wb_history.specs.declared.refusal.Refusal.{Refusal}
 use Rattle.wb_history.specs.declared.refusal.Refusal.TheVariants.{InForce, Blocked, RefusedInPlace, NoMemory}
 use Rattle.wb_history.specs.Past.{entry_at, into_force, force_of}
 use Rattle.wb_history.specs.Replies.{RedoReply, ByNumber}
-use Rattle.wb_history.specs.Kept.{foot, kept_in, kept_all, logged, log, Shows, numbered, numbers, entries_meant, redo_blocker, in_place, stopped_refusal, PlansAgain}
+use Rattle.wb_history.specs.Kept.{foot, kept_all, logged, log, Shows, numbered, numbers, entries_meant, redo_blocker, in_place, stopped_refusal, PlansAgain}
 
 abbrev counted : Changes → Changes
 counted xs = filter (λ x. is_counted x.cell) xs

@@ -17,7 +17,7 @@ use Rattle.wb_history.specs.declared.entry.Entry as kept
 use Rattle.wb_history.specs.declared.entry.Kept.{Kept}
 use Rattle.wb_history.specs.declared.refusal.Refusal.{Refusal}
 use Rattle.wb_history.specs.declared.refusal.Refusal.TheVariants.{Refused, NotInForce, Blocked, RefusedInPlace, NoMemory}
-use Rattle.wb_history.specs.Past.{Numbered, meant, AreValid}
+use Rattle.wb_history.specs.Past.{Numbered, meant}
 
 abbrev pub foot : List Pattern → Changes → Foot workbook
 foot reads before = record { reads = reads; before = before }
