@@ -18,6 +18,7 @@ use Rattle.wb_foot.specs.Marks.{marked}
 abbrev pub Spot : Type 0
 Spot = Name × Part
 
+-- the order in which the cells and families of one object are declared
 abbrev pub slot_cmp : slot.Slot → slot.Slot → Ordering
 slot_cmp = (slots.ghosts).cmp
 
@@ -26,6 +27,7 @@ abbrev pub index_marked : IndexMarks → Index → ℕ → Bool
 index_marked m (Point p) n = marked (slice_cmp int_cmp) m.points p n
 index_marked m (Text t) n = marked (slice_cmp nat_cmp) m.texts t n
 
+-- whether two parts are one
 abbrev pub is_same_part : Part → Part → Bool
 is_same_part (Slot s) (Slot t) = eq_by_cmp slot_cmp s t
 is_same_part (In i) (In j) = is_same_index i j

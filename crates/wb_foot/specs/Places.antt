@@ -35,6 +35,7 @@ family (c.Use d u) = Some (Of d (part.Slot s.Uses))
 family (c.Implicit d) = None
 family (c.Element d i) = Some (Of d (part.Slot s.Elements))
 
+-- the place of a pattern: that of its one cell, or of its family
 abbrev pub place_of : Pattern → Place
 place_of p.Objects = Objects
 place_of (p.One x) = own x
@@ -42,6 +43,7 @@ place_of (p.Members d) = Of d (part.Slot s.Members)
 place_of (p.Uses d) = Of d (part.Slot s.Uses)
 place_of (p.Elements d) = Of d (part.Slot s.Elements)
 
+-- whether two places are one
 abbrev pub is_same_place : Place → Place → Bool
 is_same_place Objects Objects = true
 is_same_place (Of d x) (Of e y) = is_same_spot (d, x) (e, y)

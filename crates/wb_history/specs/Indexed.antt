@@ -26,6 +26,7 @@ pub record AreInForce (in_force : InForce) (count : ℕ) (feet : Feet) : Type 0 
   pub within : in_force.entered ≤ count
   pub numbers : (k : ℕ) → numbered in_force.numbers k ≡ is_some (up_to in_force.entered feet k)
 
+-- The same of both: each index is of as much as has entered it.
 pub record Indexes (index : Index) (count : ℕ) (feet : Feet) : Type 0 where
   pub footprints : AreFootprints index.footprints count feet
   pub in_force : AreInForce index.in_force count feet
