@@ -222,8 +222,31 @@ const NOT_COMBINED: &str = r#"
 {"op":"get","a":"A","i":1} -> {"value":4611686018427387904}
 "#;
 
+// A set, a fill, a reshape and the end of an array, each undone and put in force again.
+const UNDONE_AND_REDONE: &str = r#"
+{"op":"undo"} -> {"error":"E11","name":"no-such-edit"}
+{"op":"domain","d":"D","is":"{1..4}"} -> {"edit":1,"n":3}
+{"op":"array","a":"A","d":"D"} -> {"edit":2,"n":7}
+{"op":"set","a":"A","i":2,"v":5} -> {"edit":3,"n":1}
+{"op":"fill_all","a":"A","v":7} -> {"edit":4,"n":4}
+{"op":"reshape","d":"D","to":"{1..2}"} -> {"edit":5,"n":3}
+{"op":"drop_array","a":"A"} -> {"edit":6,"n":5}
+{"op":"undo","k":6} -> {"n":5,"undone":6}
+{"op":"undo","k":5} -> {"n":3,"undone":5}
+{"op":"undo","k":4} -> {"n":4,"undone":4}
+{"op":"piece","a":"A","l":0} -> {"piece":[[1,0],[2,5],[3,0],[4,0]]}
+{"op":"undo"} -> {"n":1,"undone":3}
+{"op":"get","a":"A","i":2} -> {"value":0}
+{"op":"redo","k":3} -> {"n":1,"redone":3}
+{"op":"redo","k":4} -> {"n":4,"redone":4}
+{"op":"redo","k":5} -> {"n":3,"redone":5}
+{"op":"get","a":"A","i":2} -> {"value":7}
+{"op":"state","k":6} -> {"in_force":false}
+"#;
+
 /// Each script, over a history of its own.
-pub const SCRIPTS: [Script; 15] = [
+pub const SCRIPTS: [Script; 16] = [
+    ("", UNDONE_AND_REDONE, 6, 44),
     (OPENING, REFUSED, 2, 10),
     (OPENING, SIZES, 3, 13),
     (OPENING, REFUSALS_OF_UNDO_AND_REDO, 3, 19),
