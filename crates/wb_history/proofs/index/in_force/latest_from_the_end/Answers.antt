@@ -1,7 +1,7 @@
 use Rattle.std.proofs.Common.{slice_index_or, ◌-◌, sym, ◌∙◌, arith}
 use Rattle.std.proofs.lemmas.Option.{slice_get-get_or}
 use Rattle.wb_history.proofs.Latest.{is_latest, still_none}
-use Rattle.wb_history.proofs.steps.undo.latest.Goals as goal
+use Rattle.wb_history.proofs.index.in_force.latest_from_the_end.Goals as goal
 
 pub returns-then-is_some : goal.returns-then-is_some
 returns-then-is_some c =

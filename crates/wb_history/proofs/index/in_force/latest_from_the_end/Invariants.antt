@@ -2,7 +2,7 @@ use Rattle.std.proofs.Common.{◌≡◌, ◌≤◌, ℕ, Some, length, slice_get
 use Rattle.selective_undo.specs.Log.{Foot}
 use Rattle.wb_edit.specs.Schema.{workbook}
 use Rattle.wb_history.specs.Kept.{kept_all}
-use Rattle.wb_history.proofs.steps.undo.latest.Given as goal
+use Rattle.wb_history.proofs.index.in_force.latest_from_the_end.Given as goal
 
 -- no entry from here on keeps something
 abbrev pub invariant-loop-at : goal.invariant-loop-at
