@@ -7,6 +7,7 @@ ghost use Rattle.wb_history.specs.Replies.{EditReply, UndoReply, LastReply, Redo
 ghost use Rattle.wb_history.specs.Queries.{QueryReply};
 
 use crate::entry::Entry;
+use crate::index::Index;
 use crate::locale::{locale_answer, locale_of};
 use crate::piece::piece_answer;
 use crate::query::{Answer, Query, count_answer, element_of, force_answer, size_of, value_answer};
@@ -23,11 +24,13 @@ pub struct History {
     alloc: Global,
     book: Book,
     entries: Vec<Entry>,
+    index: Index,
 }
 
 impl Model for History {
     ghost use Rattle.wb_history.specs.Past.{Past, past_code};
-    ghost use Rattle.wb_history.specs.Kept.{numbers, Keeps};
+    ghost use Rattle.wb_history.specs.Kept.{numbers};
+    ghost use Rattle.wb_history.specs.Indexed.{Keeps};
 
     ghost Value = { Past };
 
@@ -35,7 +38,7 @@ impl Model for History {
 
     ghost view = { λ a. record { entries = numbers a.entries.items; writes = a.book.writes } };
 
-    ghost invariant = { λ a. Keeps a.entries.items a.book.cells };
+    ghost invariant = { λ a. Keeps a.entries.items a.book.cells a.index };
 }
 
 impl History {
@@ -46,6 +49,7 @@ impl History {
             alloc,
             book: Book::new(alloc),
             entries: Vec::new(alloc),
+            index: Index::new(alloc),
         }
     }
 
@@ -92,7 +96,7 @@ impl History {
         if at >= self.entries.len() {
             return Err(Refusal::NoSuchEdit);
         }
-        steps::undo::undo_at(&mut self.book, &mut self.entries, at)
+        steps::undo::undo_at(&mut self.book, &mut self.entries, &mut self.index, at)
     }
 
     /// Undoes the latest edit in force: its number, and how many cells it sets back.
@@ -104,7 +108,7 @@ impl History {
         ensures writes { IfOk result (λ r. self.new.writes ≡ written_more self.old.writes r.1) }
         ensures err { OnErr result (self.new ≡ self.old) }
     {
-        steps::undo::undo_latest(&mut self.book, &mut self.entries)
+        steps::undo::undo_latest(&mut self.book, &mut self.entries, &mut self.index)
     }
 
     /// Redoes the edit of a number in its own place, where no later edit in force is in its way.
@@ -122,7 +126,13 @@ impl History {
         if at >= self.entries.len() {
             return Err(Refusal::NoSuchEdit);
         }
-        steps::redo::redo_at(self.alloc, &mut self.book, &mut self.entries, at)
+        steps::redo::redo_at(
+            self.alloc,
+            &mut self.book,
+            &mut self.entries,
+            &mut self.index,
+            at,
+        )
     }
 
     /// Whether the edit of a number is in force.

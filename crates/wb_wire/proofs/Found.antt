@@ -1,13 +1,12 @@
 -- What is read as a request is that request.
-use Rattle.std.proofs.Common.{◌≡◌, ◌+◌, ℕ, ℤ, Bool, true, false, List, [], ◌∷◌, codes, length, Option, Some, None, Result, Ok, Err, refl, sym, ap, ◌∙◌, subst, nat_eq, if◌then◌else◌, arith, eqb-true}
+use Rattle.std.proofs.Common.{◌≡◌, ◌+◌, ℕ, ℤ, true, false, List, [], ◌∷◌, codes, length, Option, Some, None, Result, Ok, Err, refl, sym, ◌∙◌, subst, nat_eq, if◌then◌else◌, arith, eqb-true}
 use Rattle.std.specs.Prelude.{bytes_eq}
 use Rattle.std.specs.Option.{option_map_or}
 use Rattle.std.proofs.lemmas.Slice.Eq.{bytes_eq-Decides}
 use Rattle.serde_json.specs.Data.{Data, null, boolean, number as json_number, string, array, object, Members}
-use Rattle.serde_json.specs.Find.{get_member, as_str}
+use Rattle.serde_json.specs.Find.{get_member}
 use Rattle.wb_book.specs.Cells.{Name}
-use Rattle.wb_book.specs.declared.values.index.Index.{Index}
-use Rattle.wb_book.specs.declared.values.index.Index.TheVariants.{Point, Text}
+use Rattle.wb_book.specs.declared.values.index.Index.TheVariants.{Point}
 use Rattle.wb_edit.specs.declared.edit.Edit.TheVariants.{Domain, DomainOfSet, Remap, Reshape, Sparse, Assoc, DropDomain, Add, Remove, Array, Set, Irv, Copy, Fill, FillOfSet, FillAll, DropArray, All}
 use Rattle.wb_history.specs.declared.query.Query.TheVariants.{Get, Size, Where, Piece, State}
 use Rattle.wb_history.specs.declared.refusal.Refusal.{Refusal}
@@ -259,11 +258,11 @@ undo_found ms r s e = elim (nat_eq (member_count ms) 1) as (λ b. nat_eq (member
 -- ---- by the op
 
 -- an op and its reader
-abbrev Reader : Type 0
+abbrev pub Reader : Type 0
 Reader = List ℕ × (Data → Result Request Refusal)
 
 -- by the first reader of the op
-abbrev by_first : List Reader → List ℕ → Data → Result Request Refusal
+abbrev pub by_first : List Reader → List ℕ → Data → Result Request Refusal
 by_first [] op d = Err BadRequest
 by_first (x ∷ xs) op d = if bytes_eq op x.0 then x.1 d else by_first xs op d
 
@@ -278,7 +277,7 @@ first_found (x ∷ xs) h ms op r s e = elim (bytes_eq op x.0) as (λ b. bytes_eq
   | false ↦ λ is f. first_found xs h.1 ms op r s f
 ] refl e
 
-abbrev readers : List Reader
+abbrev pub readers : List Reader
 readers = (codes "domain", domain_of) ∷ (codes "remap", remap_of) ∷ (codes "sparse", sparse_of) ∷ (codes "assoc", assoc_of) ∷ (codes "drop_domain", drop_domain_of) ∷ (codes "reshape", reshape_of) ∷ (codes "add", add_of)
     ∷ (codes "remove", remove_of) ∷ (codes "array", array_of) ∷ (codes "drop_array", drop_array_of) ∷ (codes "set", set_of) ∷ (codes "fill", fill_of) ∷ (codes "fill_all", fill_all_of) ∷ (codes "irv", irv_of)
     ∷ (codes "copy", copy_of) ∷ (codes "all", all_of) ∷ (codes "undo", undo_of) ∷ (codes "redo", redo_of) ∷ (codes "get", get_of) ∷ (codes "where", where_of) ∷ (codes "size", size_of) ∷ (codes "piece", piece_of)

@@ -90,6 +90,33 @@ const IN_PLACE: &str = r#"
 {"op":"get","a":"A","i":1} -> {"value":5}
 "#;
 
+// Undo and redo by number among later edits, and of the latest over those that are out of force.
+const AMONG_LATER_EDITS: &str = r#"
+{"op":"set","a":"A","i":1,"v":3} -> {"edit":3,"n":1}
+{"op":"set","a":"A","i":2,"v":4} -> {"edit":4,"n":1}
+{"op":"set","a":"A","i":3,"v":5} -> {"edit":5,"n":1}
+{"op":"set","a":"A","i":4,"v":6} -> {"edit":6,"n":1}
+{"op":"set","a":"A","i":1,"v":7} -> {"edit":7,"n":1}
+{"op":"set","a":"A","i":2,"v":8} -> {"edit":8,"n":1}
+{"op":"undo","k":3} -> {"by":7,"error":"E14","name":"blocked"}
+{"op":"undo","k":5} -> {"n":1,"undone":5}
+{"op":"undo","k":7} -> {"n":1,"undone":7}
+{"op":"undo","k":3} -> {"n":1,"undone":3}
+{"op":"redo","k":7} -> {"n":1,"redone":7}
+{"op":"redo","k":3} -> {"by":7,"error":"E14","name":"blocked"}
+{"op":"redo","k":5} -> {"n":1,"redone":5}
+{"op":"undo"} -> {"n":1,"undone":8}
+{"op":"undo"} -> {"n":1,"undone":7}
+{"op":"redo","k":3} -> {"n":1,"redone":3}
+{"op":"set","a":"A","i":1,"v":9} -> {"edit":9,"n":1}
+{"op":"undo"} -> {"n":1,"undone":9}
+{"op":"undo"} -> {"n":1,"undone":6}
+{"op":"undo","k":2} -> {"by":3,"error":"E14","name":"blocked"}
+{"op":"get","a":"A","i":1} -> {"value":3}
+{"op":"get","a":"A","i":3} -> {"value":5}
+{"op":"get","a":"A","i":4} -> {"value":0}
+"#;
+
 // A copy depends on its source.
 const COPY_DEPENDS_ON_ITS_SOURCE: &str = r#"
 {"op":"set","a":"A","i":1,"v":5} -> {"edit":3,"n":1}
@@ -218,7 +245,7 @@ const UNDONE_AND_REDONE: &str = r#"
 "#;
 
 /// Each script, over a history of its own.
-pub const SCRIPTS: [Script; 15] = [
+pub const SCRIPTS: [Script; 16] = [
     ("", UNDONE_AND_REDONE, 6, 44),
     (OPENING, REFUSED, 2, 10),
     (OPENING, SIZES, 3, 13),
@@ -227,6 +254,7 @@ pub const SCRIPTS: [Script; 15] = [
     (OPENING, EARLIER_SET, 5, 14),
     (OPENING, REDO_TWO_SETS, 4, 16),
     (OPENING, IN_PLACE, 4, 15),
+    (OPENING, AMONG_LATER_EDITS, 9, 27),
     (OPENING, COPY_DEPENDS_ON_ITS_SOURCE, 4, 12),
     (OPENING, COST_OF_THE_COPY, 4, 15),
     (OPENING, REDO_BLOCKED_BY_A_LATER_SET, 5, 22),

@@ -1,0 +1,332 @@
+//! Days of a desk: what is done there before, by all seats at once, and after, and how it is settled.
+ghost use Rattle.std.specs.Prelude.{◌≡◌};
+ghost use Rattle.wb_shared.specs.Openings.{nothing_done};
+
+use crate::threads::{Work, all_at_once};
+use std::alloc::Global;
+use std::marker::Brand;
+use std::sync::Wait;
+use std::sync::ledger::Blank;
+use std::test::Fail;
+use std::thread::Threads;
+use wb_proto::{Reply, Request, read_request, reply_text};
+use wb_shared::{Cause, Desk, DeskErr, Opening, Pass, settle};
+
+pub const NEW_SET: &str = "{\"op\":\"assoc\",\"d\":\"N\",\"of\":\"int\"}";
+
+const NEW_RECTANGLE: &str = "{\"op\":\"domain\",\"d\":\"D\",\"is\":\"{1..2}\"}";
+
+const SIZE_OF_RECTANGLE: &str = "{\"op\":\"size\",\"d\":\"D\"}";
+
+pub const SIZE_OF_SET: &str = "{\"op\":\"size\",\"d\":\"N\"}";
+
+const STRANGE: &str = "{\"error\":\"E92\",\"name\":\"strange-pass\"}";
+
+// What is done with a pass: a line is asked and has this reply, the pass gets the number of another seat, or its first
+// request is replaced.
+#[derive(Clone, Copy)]
+pub enum Act {
+    Ask(&'static str, &'static str),
+    Renumber(usize),
+    Replace,
+}
+
+// What is done with the pass at a place.
+#[derive(Clone, Copy)]
+pub struct Move {
+    place: usize,
+    act: Act,
+}
+
+// Why a day ends early.
+#[derive(Clone, Copy, Debug, PartialEq, Eq)]
+pub enum Early {
+    NoDesk(DeskErr),
+    OtherReply,
+    NoPass,
+}
+
+// A day of a desk, of which so many passes are handed in at its end.
+#[derive(Clone, Copy)]
+struct Day<'a> {
+    seats: usize,
+    before: &'a [Move],
+    work: Work,
+    after: &'a [Move],
+    handed_in: usize,
+}
+
+// Asks one line at a desk: the reply.
+pub fn ask<L: Opening, R: Wait>(
+    rt: &R,
+    alloc: Global,
+    desk: &Desk<L>,
+    pass: &mut Pass<L>,
+    line: &str,
+) -> Reply {
+    match read_request(alloc, line.as_bytes()) {
+        Ok(request) => desk.call(rt, pass, request),
+        Err(why) => Reply::Refused(why),
+    }
+}
+
+// Whether a line that is asked has this reply.
+fn is_told<L: Opening, R: Wait>(
+    rt: &R,
+    alloc: Global,
+    desk: &Desk<L>,
+    pass: &mut Pass<L>,
+    line: &str,
+    told: &str,
+) -> bool {
+    let reply = ask(rt, alloc, desk, pass, line);
+    match reply_text(alloc, &reply) {
+        Ok(text) => text.as_str() == told,
+        Err(_) => false,
+    }
+}
+
+// The pass under the number of another seat.
+fn renumbered<L: Opening>(pass: Pass<L>, seat: usize) -> Pass<L> {
+    let (_, own, share) = pass.into_parts();
+    Pass::of_parts(seat, own, share)
+}
+
+// The pass with another first request.
+fn replaced<L: Opening>(pass: Pass<L>) -> Pass<L> {
+    let (seat, mut own, share) = pass.into_parts();
+    if let Some(entry) = own.get_mut(0) {
+        entry.request = Request::Print;
+    }
+    Pass::of_parts(seat, own, share)
+}
+
+// Does one thing with a pass: the pass then, or nothing where a reply was another one.
+fn done<L: Opening, R: Wait>(
+    rt: &R,
+    alloc: Global,
+    desk: &Desk<L>,
+    pass: Pass<L>,
+    act: &Act,
+) -> Option<Pass<L>> {
+    match act {
+        Act::Ask(line, told) => {
+            let mut pass = pass;
+            if is_told(rt, alloc, desk, &mut pass, line, told) {
+                Some(pass)
+            } else {
+                None
+            }
+        }
+        Act::Renumber(seat) => Some(renumbered(pass, *seat)),
+        Act::Replace => Some(replaced(pass)),
+    }
+}
+
+// Does each of these, in order.
+pub fn all_done<L: Opening, R: Wait>(
+    rt: &R,
+    alloc: Global,
+    desk: &Desk<L>,
+    passes: &mut Vec<Pass<L>>,
+    moves: &[Move],
+) -> Result<(), Early> {
+    for step in moves {
+        if step.place >= passes.len() {
+            return Err(Early::NoPass);
+        }
+        let pass = passes.remove(step.place);
+        let Some(pass) = done(rt, alloc, desk, pass, &step.act) else {
+            return Err(Early::OtherReply);
+        };
+        if passes.insert(step.place, pass).is_err() {
+            return Err(Early::NoPass);
+        }
+    }
+    Ok(())
+}
+
+// A day from its opening to its settling: how many entries there are, or why it is not settled.
+fn day_of<L: Opening + Send + Sync, R: Threads + Wait + Sync>(
+    rt: &R,
+    alloc: Global,
+    blank: Blank,
+    day: &Day,
+) -> Result<Result<usize, Cause>, Early>
+    requires name { blank.name ≡ L.name }
+    requires parts { blank.parts ≡ L.parts }
+    requires sixteen { blank.parts ≡ 16 }
+    requires opening { L.opening ≡ nothing_done }
+{
+    let (desk, mut passes) = match Desk::<L>::new(alloc, blank, day.seats) {
+        Ok(made) => made,
+        Err(why) => return Err(Early::NoDesk(why)),
+    };
+    all_done(rt, alloc, &desk, &mut passes, day.before)?;
+    let mut passes = match all_at_once(rt, alloc, &desk, passes, day.work) {
+        Some(passes) => passes,
+        None => return Err(Early::NoPass),
+    };
+    all_done(rt, alloc, &desk, &mut passes, day.after)?;
+    passes.truncate(day.handed_in);
+    match settle(desk, passes) {
+        Ok(shared) => Ok(Ok(shared.entries())),
+        Err(left) => Ok(Err(left.cause)),
+    }
+}
+
+pub const fn asked(place: usize, line: &'static str, told: &'static str) -> Move {
+    Move {
+        place,
+        act: Act::Ask(line, told),
+    }
+}
+
+// Two seats with a domain, an array and 48 sets each, also with the pass of the second one withheld; an entry of a pass that
+// is replaced; a pass that is renumbered to another seat, and to none; and numbers of seats that no desk can have.
+#[test]
+fn desk_of_two_seats(rt: HostRuntime) -> Result<(), Fail> {
+    let replaced = [
+        asked(0, NEW_SET, "{\"edit\":1,\"n\":1}"),
+        Move {
+            place: 0,
+            act: Act::Replace,
+        },
+    ];
+    let renumbered = [
+        asked(0, NEW_SET, "{\"edit\":1,\"n\":1}"),
+        Move {
+            place: 1,
+            act: Act::Renumber(0),
+        },
+        asked(1, SIZE_OF_SET, STRANGE),
+        Move {
+            place: 1,
+            act: Act::Renumber(2),
+        },
+        asked(1, SIZE_OF_SET, STRANGE),
+        Move {
+            place: 1,
+            act: Act::Renumber(1),
+        },
+        asked(1, SIZE_OF_SET, "{\"size\":0}"),
+    ];
+    let days = [
+        (
+            Day {
+                seats: 2,
+                before: &[],
+                work: Work::Sets,
+                after: &[],
+                handed_in: 2,
+            },
+            Ok(Ok(102)),
+        ),
+        (
+            Day {
+                seats: 2,
+                before: &[],
+                work: Work::Sets,
+                after: &[],
+                handed_in: 1,
+            },
+            Ok(Err(Cause::MissingPass { seat: 1 })),
+        ),
+        (
+            Day {
+                seats: 1,
+                before: &replaced,
+                work: Work::Nothing,
+                after: &[],
+                handed_in: 1,
+            },
+            Ok(Err(Cause::Differs { seat: 0, place: 0 })),
+        ),
+        (
+            Day {
+                seats: 2,
+                before: &renumbered,
+                work: Work::Nothing,
+                after: &[],
+                handed_in: 2,
+            },
+            Ok(Ok(2)),
+        ),
+        (
+            Day {
+                seats: 0,
+                before: &[],
+                work: Work::Nothing,
+                after: &[],
+                handed_in: 0,
+            },
+            Err(Early::NoDesk(DeskErr::BadSeats)),
+        ),
+        (
+            Day {
+                seats: 17,
+                before: &[],
+                work: Work::Nothing,
+                after: &[],
+                handed_in: 17,
+            },
+            Err(Early::NoDesk(DeskErr::BadSeats)),
+        ),
+        (
+            Day {
+                seats: 16,
+                before: &[],
+                work: Work::Nothing,
+                after: &[],
+                handed_in: 16,
+            },
+            Ok(Ok(0)),
+        ),
+    ];
+    for (day, end) in &days {
+        assert_eq!(rt;
+            day_of::<Brand, HostRuntime>(&rt, rt.alloc(), Blank::new(16), day),
+            *end
+        );
+    }
+    Ok(())
+}
+
+#[test]
+fn cross_read(rt: HostRuntime) -> Result<(), Fail> {
+    let moves = [
+        asked(0, NEW_RECTANGLE, "{\"edit\":1,\"n\":3}"),
+        asked(1, SIZE_OF_RECTANGLE, "{\"size\":2}"),
+    ];
+    let day = Day {
+        seats: 2,
+        before: &moves,
+        work: Work::Nothing,
+        after: &[],
+        handed_in: 2,
+    };
+    assert_eq!(rt;
+        day_of::<Brand, HostRuntime>(&rt, rt.alloc(), Blank::new(16), &day),
+        Ok(Ok(2))
+    );
+    Ok(())
+}
+
+// Four seats add a hundred numbers each to one set, and undo their own add of each number that 10 divides.
+#[test]
+fn mixed_load(rt: HostRuntime) -> Result<(), Fail> {
+    let before = [asked(0, NEW_SET, "{\"edit\":1,\"n\":1}")];
+    let after = [asked(0, SIZE_OF_SET, "{\"size\":360}")];
+    let day = Day {
+        seats: 4,
+        before: &before,
+        work: Work::Adds,
+        after: &after,
+        handed_in: 4,
+    };
+    assert_eq!(rt;
+        day_of::<Brand, HostRuntime>(&rt, rt.alloc(), Blank::new(16), &day),
+        Ok(Ok(442))
+    );
+    Ok(())
+}
