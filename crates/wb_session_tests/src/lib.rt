@@ -1,5 +1,6 @@
-//! Tests of the crates from `wb_book` to `wb_wire`: the calls of a book, literals, texts of workbooks, worked histories as
-//! request lines with their replies, sessions over devices that fail, and the canonical lines of requests.
+//! Tests of the crates from `wb_book` to `wb_wire`: the calls of a book, the index of footprints, literals, texts of
+//! workbooks, worked histories as request lines with their replies, sessions over devices that fail, and the canonical lines
+//! of requests.
 //!
 //! A crate with tests is proved twice, so these crates have none of their own.
 #![tactic(auto)]
@@ -10,6 +11,8 @@ mod book_texts;
 mod books;
 #[cfg(test)]
 mod devices;
+#[cfg(test)]
+mod footprints;
 #[cfg(test)]
 mod lines;
 #[cfg(test)]

@@ -1,0 +1,57 @@
+//! The index of footprints, where an element is set and a copy of it goes to another.
+
+use std::process::Abort;
+use std::test::Fail;
+use wb_book::{AnyCell, AnyIndex, Cell, CellChange, Index, Name, Pattern, Point};
+use wb_foot::FootIndex;
+
+fn element(array: Name, i: i64) -> Cell {
+    Cell::Element(array, AnyIndex::new(Index::Point(Point::single(i))))
+}
+
+fn read(cell: Cell) -> Pattern {
+    Pattern::One(AnyCell::new(cell))
+}
+
+// Adds a footprint. Where a growth is refused, none of its marks is there, and it is added again.
+fn add(
+    rt: &impl Abort,
+    index: &mut FootIndex,
+    number: u64,
+    reads: &[Pattern],
+    before: &[CellChange],
+) -> Result<(), Fail> {
+    if index.add(number, reads, before).is_ok() {
+        return Ok(());
+    }
+    assert_eq!(rt;
+        index.first_to_block_undo(before, number.saturating_sub(1)),
+        None
+    );
+    index.add(number, reads, before)?;
+    Ok(())
+}
+
+#[test]
+fn footprint_index_of_a_copy(rt: HostRuntime) -> Result<(), Fail> {
+    let array = Name::new("A")?;
+    let set = [CellChange::new(element(array, 1), None)];
+    let copied = [CellChange::new(element(array, 2), None)];
+    let reads_of_set = [read(Cell::Object(array)), read(element(array, 1))];
+    let reads_of_copy = [
+        read(Cell::Object(array)),
+        read(element(array, 2)),
+        read(element(array, 1)),
+    ];
+    let mut index = FootIndex::new(rt.alloc());
+    add(&rt, &mut index, 3, &reads_of_set, &set)?;
+    add(&rt, &mut index, 4, &reads_of_copy, &copied)?;
+    let elements = [Pattern::Elements(array)];
+    assert_eq!(rt; index.first_to_block_undo(&set, 2), Some(3));
+    assert_eq!(rt; index.first_to_block_undo(&set, 3), Some(4));
+    assert_eq!(rt; index.first_to_block_redo(&elements, &[], 3), Some(4));
+    index.take(4, &reads_of_copy, &copied);
+    assert_eq!(rt; index.first_to_block_undo(&set, 3), None);
+    assert_eq!(rt; index.first_to_block_redo(&elements, &[], 3), None);
+    Ok(())
+}
