@@ -5,3 +5,4 @@ pub mod Kept
 pub mod Locales
 pub mod Pieces
 pub mod Queries
+pub mod Restored
