@@ -4,8 +4,6 @@
 mod book;
 mod cells;
 mod changes;
-#[cfg(test)]
-mod tests;
 mod values;
 
 pub use crate::book::Book;

@@ -40,9 +40,9 @@ pub log_at : (es : List kept.Entry) (k : ℕ) (x : kept.Entry) → slice_get es 
 log_at es k x is = get-map logged es k ∙ ap (option_map logged) is
 
 pub refusal_is : (es : List kept.Entry) (at : ℕ) (x : kept.Entry) (k : Kept) (bs : Changes) (o : Option ℕ) → x.kept ≡ Some k → bs ≡ k.inverse
-    → o ≡ first_from (blocks_undo bs) (at + 2) (kept_all (drop (at + 1) es)) → option_map Blocked o ≡ undo_blocker es at (kept_in x)
+    → o ≡ first_from (blocks_undo bs) (at + 2) (drop (at + 1) (kept_all es)) → option_map Blocked o ≡ undo_blocker es at (kept_in x)
 refusal_is es at x k bs o has same is =
-    ap (option_map Blocked) (is ∙ ap (λ cs. first_from (blocks_undo cs) (at + 2) (kept_all (drop (at + 1) es))) same ∙ ap (first_from (blocks_undo k.inverse) (at + 2)) (drop-map kept_in es (at + 1)))
+    ap (option_map Blocked) (is ∙ ap (λ cs. first_from (blocks_undo cs) (at + 2) (drop (at + 1) (kept_all es))) same)
     ∙ sym (ap (λ o. undo_blocker es at (option_map (λ k. foot k.foot k.inverse) o)) has)
 
 none_of : (o : Option ℕ) → None ≡ option_map Blocked o → o ≡ None
@@ -92,7 +92,7 @@ module _ (es : List kept.Entry) (k : ℕ) (x : kept.Entry) (is : slice_get es k 
   same_foot : (q : Kept) (f : Foot workbook) → x.kept ≡ Some q → kept_in x ≡ Some f → f ≡ foot q.foot q.inverse
   same_foot q f has is_f = let h : option_map (λ k. foot k.foot k.inverse) x.kept ≡ Some (foot q.foot q.inverse) = ap (option_map (λ k. foot k.foot k.inverse)) has in cc
 
-  set_same : (xs : List kept.Entry) (j : ℕ) (y : kept.Entry) → slice_get xs j ≡ Some y → slice_set xs j y ≡ xs
+  pub set_same : (xs : List kept.Entry) (j : ℕ) (y : kept.Entry) → slice_get xs j ≡ Some y → slice_set xs j y ≡ xs
   set_same [] j y e = refl
   set_same (z ∷ xs) zero y e = let h : z ≡ y = cc in ap (λ u. u ∷ xs) (sym h)
   set_same (z ∷ xs) (suc j) y e = ap (λ us. z ∷ us) (set_same xs j y e)

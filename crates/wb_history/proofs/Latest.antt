@@ -1,9 +1,9 @@
 -- The latest edit in force.
-use Rattle.std.proofs.Common.{◌≡◌, ℕ, suc, ◌≤◌, inl, inr, true, false, List, Option, Some, None, is_some, option_map, Err, slice_get, refl, sym, ap, ◌∙◌, arith}
+use Rattle.std.proofs.Common.{◌≡◌, ℕ, zero, suc, ◌+◌, ◌≤◌, inl, inr, Bool, true, false, List, [], ◌∷◌, drop, zero-add, suc-add, Option, Some, None, is_some, option_map, Err, slice_get, refl, sym, ap, ◌∙◌, arith}
 use Rattle.std.proofs.Math.Nat.{eq-or-lt_of_le}
 use Rattle.selective_undo.specs.Edit.{Trace}
 use Rattle.selective_undo.specs.History.{undone, traces, InForce, IsLast}
-use Rattle.selective_undo.specs.Log.{Foot, foot_of, feet}
+use Rattle.selective_undo.specs.Log.{Foot, foot_of, feet, blocks_undo, first_from}
 use Rattle.selective_undo.proofs.Log.{get-map, foot_at}
 use Rattle.wb_book.specs.Cells.{Cells}
 use Rattle.wb_edit.specs.Schema.{workbook}
@@ -13,7 +13,7 @@ use Rattle.wb_history.specs.declared.refusal.Refusal.{Refusal}
 use Rattle.wb_history.specs.declared.refusal.Refusal.TheVariants.{BadRequest, BadLiteral, Refused, NoSuchEdit, NotInForce, InForce as IsInForce, Blocked, RefusedInPlace, NoMemory, StrangePass}
 use Rattle.wb_history.specs.Past.{entry_at}
 use Rattle.wb_history.specs.Replies.{UndoReply, LastReply}
-use Rattle.wb_history.specs.Kept.{foot, kept_in, kept_all, Shows, numbered, numbers, entries_meant, IsLatest}
+use Rattle.wb_history.specs.Kept.{foot, kept_in, kept_all, Shows, numbered, numbers, entries_meant, IsLatest, MayUndo, undo_blocker}
 use Rattle.wb_history.proofs.Entries.{history-log, kept-log}
 
 -- ---- in what is kept
@@ -68,6 +68,25 @@ here_is None f e = cc
 on_of : (o : Option Kept) (f : Foot workbook) → option_map (λ k. foot k.foot k.inverse) o ≡ Some f → is_some o ≡ true
 on_of (Some k) f e = refl
 on_of None f e = cc
+
+-- ---- nothing blocks its undo
+
+none_first : (p : Option (Foot workbook) → Bool) → p None ≡ false → (ks : List (Option (Foot workbook))) (i : ℕ) → ((q : ℕ) (g : Foot workbook) → slice_get ks q ≡ Some (Some g) → ⊥) → first_from p i ks ≡ None
+none_first p off [] i none = refl
+none_first p off (None ∷ ks) i none = rw off (none_first p off ks (i + 1) (λ q g e. none (suc q) g e))
+none_first p off (Some f ∷ ks) i none = absurd (none 0 f refl)
+
+later_at : (ks : List (Option (Foot workbook))) (n q : ℕ) → slice_get (drop n ks) q ≡ slice_get ks (n + q)
+later_at ks zero q = ap (slice_get ks) (sym (zero-add q))
+later_at [] (suc n) q = refl
+later_at (k ∷ ks) (suc n) q = later_at ks n q ∙ ap (slice_get (k ∷ ks)) (sym (suc-add n q))
+
+pub latest_is_free : (es : List kept.Entry) (p : ℕ) → IsLatest (kept_all es) (Some p) → MayUndo es p None
+latest_is_free es p latest =
+    let x = here_is (slice_get es p) latest.0 (sym (get-map kept_in es p) ∙ latest.1) in
+    let none : first_from (blocks_undo latest.0.before) (p + 2) (drop (p + 1) (kept_all es)) ≡ None =
+    none_first (blocks_undo latest.0.before) refl (drop (p + 1) (kept_all es)) (p + 2) (λ q g e. let low = latest.2 (p + 1 + q) g (sym (later_at (kept_all es) (p + 1) q) ∙ e) in absurd (omega (arith, low))) in
+    (x.0, x.1, sym (ap (undo_blocker es p) x.2 ∙ ap (option_map Blocked) none))
 
 pub latest_refused : (s : Cells) (es : List kept.Entry) (p : ℕ) (why : Refusal) → Shows es s → IsLatest (kept_all es) (Some p) → UndoReply (entries_meant es) p (Err why) → LastReply (entries_meant es) (Err why)
 latest_refused s es p NoSuchEdit shows latest reply =

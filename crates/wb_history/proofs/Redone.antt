@@ -7,7 +7,7 @@ use Rattle.selective_undo.specs.Edit.{outcome, reads, written, trace}
 use Rattle.selective_undo.specs.History.{Entry, undone, traces, replay, CanRedo}
 use Rattle.selective_undo.specs.Log.{IsKept, Least, history, foot_of, feet, planned, blocks_redo, first_from, BlocksRedo}
 use Rattle.selective_undo.proofs.Log.{get-map, set-map, kept_redo, redo_can, redo_free, redo_least, first_planned}
-use Rattle.wb_history.proofs.Entries.{drop-map, history-log, kept-log, log_at}
+use Rattle.wb_history.proofs.Entries.{history-log, kept-log, log_at}
 use Rattle.wb_book.specs.declared.cells.pattern.Pattern.{Pattern}
 use Rattle.wb_book.specs.Cells.{Cells, Changes, count_of, is_counted}
 use Rattle.wb_edit.specs.Schema.{workbook}
@@ -22,7 +22,7 @@ use Rattle.wb_history.specs.declared.refusal.Refusal.{Refusal}
 use Rattle.wb_history.specs.declared.refusal.Refusal.TheVariants.{InForce, Blocked, RefusedInPlace, NoMemory}
 use Rattle.wb_history.specs.Past.{entry_at, into_force, force_of}
 use Rattle.wb_history.specs.Replies.{RedoReply, ByNumber}
-use Rattle.wb_history.specs.Kept.{foot, kept_in, kept_all, logged, log, Shows, numbered, numbers, entries_meant, redo_blocker, in_place, stopped_refusal, PlansAgain}
+use Rattle.wb_history.specs.Kept.{foot, kept_all, logged, log, Shows, numbered, numbers, entries_meant, redo_blocker, in_place, stopped_refusal, PlansAgain}
 
 abbrev counted : Changes → Changes
 counted xs = filter (λ x. is_counted x.cell) xs
@@ -35,9 +35,6 @@ count_inverse (x ∷ xs) s =
       | true ↦ ap suc (count_inverse xs s)
       | false ↦ count_inverse xs s
     ]
-
-pub blocker_is : (es : List kept.Entry) (k : ℕ) (rs : List Pattern) (xs : Changes) (ls : List kept.Entry) (o : Option ℕ) → ls ≡ drop (k + 1) es → o ≡ first_from (blocks_redo (foot rs xs)) (k + 2) (kept_all ls) → o ≡ redo_blocker es k rs xs
-blocker_is es k rs xs ls o later is = is ∙ ap (λ ms. first_from (blocks_redo (foot rs xs)) (k + 2) (kept_all ms)) later ∙ ap (first_from (blocks_redo (foot rs xs)) (k + 2)) (drop-map kept_in es (k + 1))
 
 in_numbers : (es : List kept.Entry) (k : ℕ) (x : kept.Entry) (q : Kept) → slice_get es k ≡ Some x → numbers (slice_set es k (record { edit = x.edit; kept = Some q })) ≡ into_force k (numbers es)
 in_numbers [] k x q is = refl

@@ -18,9 +18,12 @@ use Rattle.wb_history.specs.declared.refusal.Refusal.TheVariants.{BadRequest, Ba
 use Rattle.wb_history.specs.declared.restore.RestoreErr.{RestoreErr}
 use Rattle.wb_history.specs.declared.restore.RestoreErr.TheVariants.{NotLegal, NoMemory as NoRoom}
 use Rattle.wb_history.specs.Past.{Numbered, Past, entry_at, meant, AreValid}
-use Rattle.wb_history.specs.Kept.{logged, log, Shows, numbered, numbers, Keeps}
+use Rattle.wb_history.specs.Kept.{logged, log, Shows, numbered, numbers}
+use Rattle.wb_history.specs.declared.index.Index.{Index}
+use Rattle.wb_history.specs.Indexed.{IsIndexed}
 use Rattle.wb_history.specs.Replies.{EditReply}
 use Rattle.wb_history.specs.Restored.{stopped, one_of, numbered_at, marked, cells_written, IsCounted, BeginsNone, RestoreReply}
+use Rattle.wb_history.proofs.Entered.{more_indexed}
 use Rattle.wb_history.proofs.Valid.{valid_append}
 use Rattle.wb_history.proofs.Entries.{numbers_more}
 
@@ -63,17 +66,22 @@ shows_aside s es e shows =
     let x : kept.Entry = record { edit = e; kept = None } in
     subst (λ l. IsKept {w = workbook} s l) (sym (append-map logged es (x ∷ []))) (kept_aside s (log es) (meaning e) shows)
 
-keeps_aside : (s : Cells) (es : List kept.Entry) (e : command.Edit) → Keeps es s → IsValid e → Keeps (es ++ record { edit = e; kept = None } ∷ []) s
-keeps_aside s es e keeps valid =
-    let x : kept.Entry = record { edit = e; kept = None } in
-    record {
-      shows = shows_aside s es e keeps.shows;
-      valid = subst AreValid (sym (numbers_more es x)) (valid_append (numbers es) (numbered x) keeps.valid valid);
-    }
+pub shows_aside_by : {X E : Type 0} (s : Cells) (es fs : List kept.Entry) (e : command.Edit) (r : Result X E) → Shows es s → OnOk r (fs ≡ es ++ record { edit = e; kept = None } ∷ []) → OnErr r (fs ≡ es) → Shows fs s
+shows_aside_by s es fs e (Ok x) shows more stay = subst (λ gs. Shows gs s) (sym more) (shows_aside s es e shows)
+shows_aside_by s es fs e (Err x) shows more stay = subst (λ gs. Shows gs s) (sym stay) shows
 
-pub keeps_aside_by : {X E : Type 0} (s : Cells) (es fs : List kept.Entry) (e : command.Edit) (r : Result X E) → Keeps es s → IsValid e → OnOk r (fs ≡ es ++ record { edit = e; kept = None } ∷ []) → OnErr r (fs ≡ es) → Keeps fs s
-keeps_aside_by s es fs e (Ok x) keeps valid more stay = subst (λ gs. Keeps gs s) (sym more) (keeps_aside s es e keeps valid)
-keeps_aside_by s es fs e (Err x) keeps valid more stay = subst (λ gs. Keeps gs s) (sym stay) keeps
+valid_aside : (es : List kept.Entry) (e : command.Edit) → AreValid (numbers es) → IsValid e → AreValid (numbers (es ++ record { edit = e; kept = None } ∷ []))
+valid_aside es e valid here =
+    let x : kept.Entry = record { edit = e; kept = None } in
+    subst AreValid (sym (numbers_more es x)) (valid_append (numbers es) (numbered x) valid here)
+
+pub valid_aside_by : {X E : Type 0} (es fs : List kept.Entry) (e : command.Edit) (r : Result X E) → AreValid (numbers es) → IsValid e → OnOk r (fs ≡ es ++ record { edit = e; kept = None } ∷ []) → OnErr r (fs ≡ es) → AreValid (numbers fs)
+valid_aside_by es fs e (Ok x) valid here more stay = subst (λ gs. AreValid (numbers gs)) (sym more) (valid_aside es e valid here)
+valid_aside_by es fs e (Err x) valid here more stay = subst (λ gs. AreValid (numbers gs)) (sym stay) valid
+
+pub indexed_aside_by : {X E : Type 0} (x : Index) (es fs : List kept.Entry) (e : command.Edit) (r : Result X E) → IsIndexed x es → OnOk r (fs ≡ es ++ record { edit = e; kept = None } ∷ []) → OnErr r (fs ≡ es) → IsIndexed x fs
+indexed_aside_by x es fs e (Ok y) h more stay = subst (λ gs. IsIndexed x gs) (sym more) (more_indexed x es (record { edit = e; kept = None }) h)
+indexed_aside_by x es fs e (Err y) h more stay = subst (λ gs. IsIndexed x gs) (sym stay) h
 
 -- ---- the entry of a number
 

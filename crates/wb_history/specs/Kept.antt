@@ -1,5 +1,5 @@
 -- What the code keeps of a history, in the terms of its definitions.
-use Rattle.std.specs.Prelude.{◌≡◌, ℕ, ◌+◌, ◌≤◌, List, [], map, Option, Some, None, is_some, option_map, Ok, slice_get, drop}
+use Rattle.std.specs.Prelude.{◌≡◌, ℕ, zero, suc, ◌+◌, ◌≤◌, List, [], ◌∷◌, map, Option, Some, None, is_some, option_map, Ok, slice_get, drop}
 use Rattle.selective_undo.specs.Changes.{apply}
 use Rattle.selective_undo.specs.Edit.{outcome, reads}
 use Rattle.selective_undo.specs.History as h
@@ -12,11 +12,12 @@ use Rattle.wb_edit.specs.declared.planning.PlanErr.TheVariants.{Refused as PlanR
 use Rattle.wb_edit.specs.declared.refusal.Refusal as command_refusal
 use Rattle.wb_edit.specs.Schema.{workbook}
 use Rattle.wb_edit.specs.Commands.{meaning}
+use Rattle.wb_foot.specs.Feet.{Feet}
 use Rattle.wb_history.specs.declared.entry.Entry as kept
 use Rattle.wb_history.specs.declared.entry.Kept.{Kept}
 use Rattle.wb_history.specs.declared.refusal.Refusal.{Refusal}
 use Rattle.wb_history.specs.declared.refusal.Refusal.TheVariants.{Refused, NotInForce, Blocked, RefusedInPlace, NoMemory}
-use Rattle.wb_history.specs.Past.{Numbered, meant, AreValid}
+use Rattle.wb_history.specs.Past.{Numbered, meant}
 
 abbrev pub foot : List Pattern → Changes → Foot workbook
 foot reads before = record { reads = reads; before = before }
@@ -27,6 +28,16 @@ kept_in x = option_map (λ k. foot k.foot k.inverse) x.kept
 
 abbrev pub kept_all : List kept.Entry → List (Option (Foot workbook))
 kept_all es = map kept_in es
+
+-- the foot kept at a number, if one is
+abbrev pub feet_of : {F : Type 0} → List (Option F) → ℕ → Option F
+feet_of [] n = None
+feet_of (x ∷ xs) zero = x
+feet_of (x ∷ xs) (suc n) = feet_of xs n
+
+-- what is kept of the edits by their numbers, from 1
+abbrev pub by_number : List kept.Entry → Feet
+by_number es = feet_of (None ∷ kept_all es)
 
 abbrev pub logged : kept.Entry → Logged workbook
 logged x = record { edit = meaning x.edit; kept = kept_in x }
@@ -94,8 +105,3 @@ PlansAgain es k s xs rs n =
 abbrev pub IsLatest : List (Option (Foot workbook)) → Option ℕ → Type 0
 IsLatest ks (Some p) = (f : Foot workbook) × (slice_get ks p ≡ Some (Some f)) × ((q : ℕ) (g : Foot workbook) → slice_get ks q ≡ Some (Some g) → q ≤ p)
 IsLatest ks None = (q : ℕ) (g : Foot workbook) → slice_get ks q ≡ Some (Some g) → ⊥
-
--- What a history keeps: its entries show the cells of its book, and its edits are valid.
-pub record Keeps (es : List kept.Entry) (s : Cells) : Type 0 where
-  pub shows : Shows es s
-  pub valid : AreValid (numbers es)

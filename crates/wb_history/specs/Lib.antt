@@ -2,6 +2,7 @@ pub mod Past
 pub mod Replies
 pub mod ReplyLaws
 pub mod Kept
+pub mod Indexed
 pub mod Locales
 pub mod Pieces
 pub mod Queries

@@ -1,4 +1,5 @@
-//! The least later edit that stands in the way of an undo or a redo, found by testing one after another.
+//! The least later edit that stands in the way of an undo or a redo, found by testing one after another: where no memory is
+//! left for the index.
 
 ghost use Rattle.std.specs.Prelude.{◌≡◌, ℕ, ◌+◌, ◌^◌, ◌<◌, ◌||◌, length, map};
 ghost use Rattle.selective_undo.specs.Changes.{changes};

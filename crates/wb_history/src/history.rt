@@ -8,6 +8,7 @@ ghost use Rattle.wb_history.specs.Queries.{QueryReply};
 ghost use Rattle.wb_history.specs.Restored.{one_of, numbered_at};
 
 use crate::entry::Entry;
+use crate::index::Index;
 use crate::locale::{locale_answer, locale_of};
 use crate::piece::piece_answer;
 use crate::query::{Answer, Query, count_answer, element_of, force_answer, size_of, value_answer};
@@ -26,11 +27,13 @@ pub struct History {
     alloc: Global,
     book: Book,
     entries: Vec<Entry>,
+    index: Index,
 }
 
 impl Model for History {
     ghost use Rattle.wb_history.specs.Past.{Past, past_code};
-    ghost use Rattle.wb_history.specs.Kept.{numbers, Keeps};
+    ghost use Rattle.wb_history.specs.Kept.{numbers};
+    ghost use Rattle.wb_history.specs.Indexed.{Keeps};
 
     ghost Value = { Past };
 
@@ -38,7 +41,7 @@ impl Model for History {
 
     ghost view = { λ a. record { entries = numbers a.entries.items; writes = a.book.writes } };
 
-    ghost invariant = { λ a. Keeps a.entries.items a.book.cells };
+    ghost invariant = { λ a. Keeps a.entries.items a.book.cells a.index };
 }
 
 impl History {
@@ -49,6 +52,7 @@ impl History {
             alloc,
             book: Book::new(alloc),
             entries: Vec::new(alloc),
+            index: Index::new(alloc),
         }
     }
 
@@ -95,7 +99,7 @@ impl History {
         if at >= self.entries.len() {
             return Err(Refusal::NoSuchEdit);
         }
-        steps::undo::undo_at(&mut self.book, &mut self.entries, at)
+        steps::undo::undo_at(&mut self.book, &mut self.entries, &mut self.index, at)
     }
 
     /// Undoes the latest edit in force: its number, and how many cells it sets back.
@@ -107,7 +111,7 @@ impl History {
         ensures writes { IfOk result (λ r. self.new.writes ≡ written_more self.old.writes r.1) }
         ensures err { OnErr result (self.new ≡ self.old) }
     {
-        steps::undo::undo_latest(&mut self.book, &mut self.entries)
+        steps::undo::undo_latest(&mut self.book, &mut self.entries, &mut self.index)
     }
 
     /// Redoes the edit of a number in its own place, where no later edit in force is in its way.
@@ -125,7 +129,13 @@ impl History {
         if at >= self.entries.len() {
             return Err(Refusal::NoSuchEdit);
         }
-        steps::redo::redo_at(self.alloc, &mut self.book, &mut self.entries, at)
+        steps::redo::redo_at(
+            self.alloc,
+            &mut self.book,
+            &mut self.entries,
+            &mut self.index,
+            at,
+        )
     }
 
     /// Whether the edit of a number is in force.
@@ -158,13 +168,13 @@ impl History {
     }
 
     /// Takes an edit in as the last one, out of force: nothing is tried or made.
-    pub(crate) fn take_in(&mut self, edit: Edit) -> Result<(), NoMemory>
-        ensures entries { OnOk result (self.new.entries ≡ self.old.entries ++ one_of edit false ∷ []) }
+    pub(crate) fn take_in(&mut self, aside: Edit) -> Result<(), NoMemory>
+        ensures entries { OnOk result (self.new.entries ≡ self.old.entries ++ one_of aside false ∷ []) }
         ensures writes { self.new.writes ≡ self.old.writes }
         ensures err { OnErr result (self.new ≡ self.old) }
     {
-        edit.validity();
-        keep_aside(&mut self.entries, edit)
+        aside.validity();
+        keep_aside(&mut self.entries, aside)
     }
 
     /// What a query is answered, from the workbook as it is; `NoMemory` may stand for a piece, and for nothing else.

@@ -6,6 +6,7 @@
 mod blockers;
 mod entry;
 mod history;
+mod index;
 pub mod laws;
 mod locale;
 mod piece;

@@ -1,4 +1,6 @@
 //! Lines read from any reader, replies sent to any writer, and the session that joins them.
+//!
+//! Its tests are in the crate `wb_session_tests`.
 #![tactic(auto)]
 
 mod buffer;
@@ -16,6 +18,3 @@ pub use session::serve_lines;
 pub use sink::{Output, Sink};
 pub use source::{Input, ReadErr, Source};
 pub use whole::read_all;
-
-#[cfg(test)]
-mod tests;

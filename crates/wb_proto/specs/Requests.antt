@@ -34,14 +34,19 @@ domain_by name text map = do
   spelled ← optional_mapping map
   domain_with name literal spelled
 
+-- a new domain beside the text of its mapping, where there is one
+abbrev pub domain_beside : Option (List ℕ) → Data → Result Request Refusal
+domain_beside map d = do
+  name ← name_field (codes "d") d
+  text ← text_field (codes "is") d
+  domain_by name text map
+
 -- {"op":"domain","d":NAME,"is":LITERAL}, or with "map":MAPPING too
 abbrev pub domain_of : Data → Result Request Refusal
 domain_of d = do
   map ← optional_text (codes "map") d
   unit ← has_fields_and 3 map d
-  name ← name_field (codes "d") d
-  text ← text_field (codes "is") d
-  domain_by name text map
+  domain_beside map d
 
 -- {"op":"remap","d":NAME,"map":MAPPING}
 abbrev pub remap_of : Data → Result Request Refusal
@@ -239,7 +244,33 @@ print_of d = do
   unit ← has_fields 1 d
   Ok Print
 
--- by its op, which is one of these
+-- what is asked of a history, by its op
+abbrev pub by_history_op : List ℕ → Data → Result Request Refusal
+by_history_op op d =
+    if bytes_eq op (codes "undo") then undo_of d else
+    if bytes_eq op (codes "redo") then redo_of d else
+    if bytes_eq op (codes "get") then get_of d else
+    if bytes_eq op (codes "where") then where_of d else
+    if bytes_eq op (codes "size") then size_of d else
+    if bytes_eq op (codes "piece") then piece_of d else
+    if bytes_eq op (codes "state") then state_of d else
+    if bytes_eq op (codes "print") then print_of d else
+    Err BadRequest
+
+-- the same, or a change to an array
+abbrev pub by_array_op : List ℕ → Data → Result Request Refusal
+by_array_op op d =
+    if bytes_eq op (codes "array") then array_of d else
+    if bytes_eq op (codes "drop_array") then drop_array_of d else
+    if bytes_eq op (codes "set") then set_of d else
+    if bytes_eq op (codes "fill") then fill_of d else
+    if bytes_eq op (codes "fill_all") then fill_all_of d else
+    if bytes_eq op (codes "irv") then irv_of d else
+    if bytes_eq op (codes "copy") then copy_of d else
+    if bytes_eq op (codes "all") then all_of d else
+    by_history_op op d
+
+-- by its op, which is one of these, or that of a change to a domain
 abbrev pub by_op : List ℕ → Data → Result Request Refusal
 by_op op d =
     if bytes_eq op (codes "domain") then domain_of d else
@@ -250,23 +281,7 @@ by_op op d =
     if bytes_eq op (codes "reshape") then reshape_of d else
     if bytes_eq op (codes "add") then add_of d else
     if bytes_eq op (codes "remove") then remove_of d else
-    if bytes_eq op (codes "array") then array_of d else
-    if bytes_eq op (codes "drop_array") then drop_array_of d else
-    if bytes_eq op (codes "set") then set_of d else
-    if bytes_eq op (codes "fill") then fill_of d else
-    if bytes_eq op (codes "fill_all") then fill_all_of d else
-    if bytes_eq op (codes "irv") then irv_of d else
-    if bytes_eq op (codes "copy") then copy_of d else
-    if bytes_eq op (codes "all") then all_of d else
-    if bytes_eq op (codes "undo") then undo_of d else
-    if bytes_eq op (codes "redo") then redo_of d else
-    if bytes_eq op (codes "get") then get_of d else
-    if bytes_eq op (codes "where") then where_of d else
-    if bytes_eq op (codes "size") then size_of d else
-    if bytes_eq op (codes "piece") then piece_of d else
-    if bytes_eq op (codes "state") then state_of d else
-    if bytes_eq op (codes "print") then print_of d else
-    Err BadRequest
+    by_array_op op d
 
 -- the request that a JSON value is
 abbrev pub request_of : Data → Result Request Refusal

@@ -19,9 +19,6 @@ use wb_range::NoMemory;
 use wb_rebuild::rebuild;
 use wb_text::{ObjectLine, print_book};
 
-#[cfg(test)]
-mod tests;
-
 /// Why a text is not read.
 #[derive(Clone, Copy, Debug, PartialEq, Eq, Error)]
 pub enum BookErr {

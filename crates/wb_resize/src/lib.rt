@@ -10,8 +10,6 @@ pub mod laws;
 pub mod new_rectangles;
 pub mod set_operations;
 mod source;
-#[cfg(test)]
-mod tests;
 
 pub use crate::given::Given;
 pub use crate::source::{Displacement, SetOperation, Source};

@@ -1,11 +1,23 @@
-//! Worked histories, as tests: request lines with their replies through a session, and the calls of a history where a
-//! growth is refused.
+//! Tests of the crates from `wb_book` to `wb_wire`: the calls of a book, the index of footprints, literals, texts of
+//! workbooks, worked histories as request lines with their replies, sessions over devices that fail, and the canonical lines
+//! of requests.
 //!
-//! They are the tests of `wb_edit`, `wb_history` and `wb_proto`. A crate with tests is proved twice, so these crates have
-//! none of their own.
+//! A crate with tests is proved twice, so these crates have none of their own.
 #![tactic(auto)]
 
 #[cfg(test)]
-mod calls;
+mod book_texts;
+#[cfg(test)]
+mod books;
+#[cfg(test)]
+mod devices;
+#[cfg(test)]
+mod footprints;
+#[cfg(test)]
+mod lines;
+#[cfg(test)]
+mod literals;
 #[cfg(test)]
 mod scripts;
+#[cfg(test)]
+mod wire;

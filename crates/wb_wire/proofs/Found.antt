@@ -259,11 +259,11 @@ undo_found ms r s e = elim (nat_eq (member_count ms) 1) as (λ b. nat_eq (member
 -- ---- by the op
 
 -- an op and its reader
-abbrev Reader : Type 0
+abbrev pub Reader : Type 0
 Reader = List ℕ × (Data → Result Request Refusal)
 
 -- by the first reader of the op
-abbrev by_first : List Reader → List ℕ → Data → Result Request Refusal
+abbrev pub by_first : List Reader → List ℕ → Data → Result Request Refusal
 by_first [] op d = Err BadRequest
 by_first (x ∷ xs) op d = if bytes_eq op x.0 then x.1 d else by_first xs op d
 
@@ -278,7 +278,7 @@ first_found (x ∷ xs) h ms op r s e = elim (bytes_eq op x.0) as (λ b. bytes_eq
   | false ↦ λ is f. first_found xs h.1 ms op r s f
 ] refl e
 
-abbrev readers : List Reader
+abbrev pub readers : List Reader
 readers = (codes "domain", domain_of) ∷ (codes "remap", remap_of) ∷ (codes "sparse", sparse_of) ∷ (codes "assoc", assoc_of) ∷ (codes "drop_domain", drop_domain_of) ∷ (codes "reshape", reshape_of) ∷ (codes "add", add_of)
     ∷ (codes "remove", remove_of) ∷ (codes "array", array_of) ∷ (codes "drop_array", drop_array_of) ∷ (codes "set", set_of) ∷ (codes "fill", fill_of) ∷ (codes "fill_all", fill_all_of) ∷ (codes "irv", irv_of)
     ∷ (codes "copy", copy_of) ∷ (codes "all", all_of) ∷ (codes "undo", undo_of) ∷ (codes "redo", redo_of) ∷ (codes "get", get_of) ∷ (codes "where", where_of) ∷ (codes "size", size_of) ∷ (codes "piece", piece_of)

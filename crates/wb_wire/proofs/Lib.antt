@@ -7,3 +7,8 @@ pub mod Read
 pub mod Encoded
 pub mod Lines
 pub mod Written
+pub mod Keys
+pub mod TooLarge
+pub mod Failing
+pub mod Judged
+pub mod Refused

@@ -13,7 +13,7 @@ use Rattle.wb_proto.specs.Fields.{member_count}
 use Rattle.wb_wire.specs.Table.{Meaning, word, name, integer, number, index, given, mapping, optional_mapping, some_set, some_mapping, some_integer, Fields}
 use Rattle.wb_wire.specs.Spelled.{Says, without, HasFields}
 
-true_false : {X : Type 0} → true ≡ false → X
+pub true_false : {X : Type 0} → true ≡ false → X
 true_false e = cc
 
 -- ---- one member, by whether its key is the one that is sought
@@ -31,7 +31,7 @@ found_by k l d ms =
 pub same_key : (k : List ℕ) → bytes_eq k k ≡ true
 same_key k = (bytes_eq-Decides k k).1 refl
 
-equal_key : (k l : List ℕ) → bytes_eq k l ≡ true → k ≡ l
+pub equal_key : (k l : List ℕ) → bytes_eq k l ≡ true → k ≡ l
 equal_key k l e = (bytes_eq-Decides k l).0 e
 
 other_key : (k l : List ℕ) → k ≢ l → bytes_eq k l ≡ false
@@ -39,7 +39,7 @@ other_key k l h = elim (bytes_eq k l) as (λ b. bytes_eq k l ≡ b → b ≡ fal
 
 -- ---- without the member of a key, another key says the same
 
-other_same : (k l : List ℕ) (ms : Members) → k ≢ l → get_member l (without k ms) ≡ get_member l ms
+pub other_same : (k l : List ℕ) (ms : Members) → k ≢ l → get_member l (without k ms) ≡ get_member l ms
 other_same k l no_members h = refl
 other_same k l (member m d ms) h = elim (bytes_eq k m) as (λ b. bytes_eq k m ≡ b → get_member l (if b then ms else member m d (without k ms)) ≡ get_member l (member m d ms)) [
   | true ↦ λ e.
@@ -55,7 +55,7 @@ abbrev pub there : Option Data → ℕ
 there None = 0
 there (Some d) = 1
 
-count_out : (k : List ℕ) (ms : Members) → there (get_member k ms) + member_count (without k ms) ≡ member_count ms
+pub count_out : (k : List ℕ) (ms : Members) → there (get_member k ms) + member_count (without k ms) ≡ member_count ms
 count_out k no_members = refl
 count_out k (member m d ms) = elim (bytes_eq k m) as (λ b. bytes_eq k m ≡ b → there (get_member k (member m d ms)) + member_count (if b then ms else member m d (without k ms)) ≡ suc (member_count ms)) [
   | true ↦ λ e. let f = ap there (found_by k m d ms ∙ ap (λ (b : Bool). if b then Some d else get_member k ms) e) in omega (arith, f)
@@ -74,7 +74,7 @@ abbrev pub are_apart : Fields → Bool
 are_apart [] = true
 are_apart (f ∷ fs) = if is_free f.0 fs then are_apart fs else false
 
-free_parts : (b c : Bool) → (if b then false else c) ≡ true → (b ≡ false) × (c ≡ true)
+pub free_parts : (b c : Bool) → (if b then false else c) ≡ true → (b ≡ false) × (c ≡ true)
 free_parts true c e = true_false (sym e)
 free_parts false c e = (refl, e)
 
@@ -82,7 +82,7 @@ apart_parts : (b c : Bool) → (if b then c else false) ≡ true → (b ≡ true
 apart_parts true c e = (refl, e)
 apart_parts false c e = true_false (sym e)
 
-unequal : (k l : List ℕ) → bytes_eq k l ≡ false → k ≢ l
+pub unequal : (k l : List ℕ) → bytes_eq k l ≡ false → k ≢ l
 unequal k l e f = true_false (sym ((bytes_eq-Decides k l).1 f) ∙ e)
 
 -- ---- what all fields say
@@ -117,7 +117,7 @@ count_without k (f ∷ fs) ms h =
 
 -- ---- an object has the fields just where all of them say what they have to and there are no more members
 
-nothing_there : (ms : Members) → 0 ≡ member_count ms → ms ≡ no_members
+pub nothing_there : (ms : Members) → 0 ≡ member_count ms → ms ≡ no_members
 nothing_there no_members e = refl
 nothing_there (member k d ms) e = absurd (omega (arith, e))
 

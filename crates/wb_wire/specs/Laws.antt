@@ -1,11 +1,13 @@
 -- What holds of requests and their JSON values.
-use Rattle.std.specs.Prelude.{◌≡◌, ◌↔◌, ℕ, List, true, Some, Ok}
+use Rattle.std.specs.Prelude.{◌≡◌, ◌↔◌, ℕ, List, true, Some, Ok, Err}
 use Rattle.std.specs.Str.{is_utf8}
 use Rattle.serde_json.specs.Data.{Data}
 use Rattle.serde_json.specs.Read.{read}
+use Rattle.wb_history.specs.declared.refusal.Refusal.{Refusal}
 use Rattle.wb_proto.specs.Requests.{request_of, request}
 use Rattle.wb_proto.specs.declared.requests.request.Request.{Request}
 use Rattle.wb_wire.specs.Encoded.{request_data}
+use Rattle.wb_wire.specs.Faults.{Fault, refusal_of, IsFault, IsLeastFault}
 use Rattle.wb_wire.specs.Proper.{IsProperRequest}
 use Rattle.wb_wire.specs.Spelled.{IsRequest}
 
@@ -24,3 +26,11 @@ OneRequest = (d : Data) (r s : Request) → IsRequest d r → IsRequest d s → 
 -- The canonical object of a request is that request.
 abbrev pub EncodesRequests : Type 0
 EncodesRequests = (r : Request) → IsProperRequest r → IsRequest (request_data r) r
+
+-- A JSON value that isn't read is answered with the least code of all that is wrong with it.
+abbrev pub RefusesByTheLeast : Type 0
+RefusesByTheLeast = (d : Data) (why : Refusal) → (request_of d ≡ Err why) ↔ ((fault : Fault) × (why ≡ refusal_of fault) × IsLeastFault d fault)
+
+-- A JSON value is read as a request exactly where nothing is wrong with it.
+abbrev pub ReadsTheFaultless : Type 0
+ReadsTheFaultless = (d : Data) → ((r : Request) × (request_of d ≡ Ok r)) ↔ ((fault : Fault) → IsFault d fault → ⊥)

@@ -1,6 +1,6 @@
 //! What holds of the lines of requests: each law is the contract of a function that does nothing.
 
-ghost use Rattle.wb_wire.specs.Laws.{ReadsExactly, ReadsLinesExactly, OneRequest, EncodesRequests};
+ghost use Rattle.wb_wire.specs.Laws.{ReadsExactly, ReadsLinesExactly, OneRequest, EncodesRequests, RefusesByTheLeast, ReadsTheFaultless};
 
 /// A JSON value is read as a request exactly where it is that request: an object with the members of the table, each
 /// once, in any order, and no others, whose values spell what the table says.
@@ -21,4 +21,15 @@ pub fn one_request()
 /// The canonical object of a request is that request: what is written is what is meant.
 pub fn encodes_requests()
     ensures { EncodesRequests }
+{}
+
+/// A JSON value that isn't read as a request is answered with the least code of all that is wrong with it: its members
+/// aren't those of a request, or the value of a member isn't what it has to spell.
+pub fn refuses_by_the_least()
+    ensures { RefusesByTheLeast }
+{}
+
+/// A JSON value is read as a request exactly where nothing is wrong with it.
+pub fn reads_the_faultless()
+    ensures { ReadsTheFaultless }
 {}

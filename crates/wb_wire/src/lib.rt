@@ -1,5 +1,7 @@
 //! The lines of requests, apart from how they are read: which members each request has and what their values spell
 //! (`specs/Table.antt` and `specs/Spelled.antt`), and the canonical line of each request.
+//!
+//! Its tests are in the crate `wb_session_tests`.
 #![tactic(auto)]
 
 pub mod laws;
@@ -7,7 +9,5 @@ mod literals;
 mod objects;
 mod requests;
 mod sources;
-#[cfg(test)]
-mod tests;
 
 pub use crate::requests::{edit_text, request_text};

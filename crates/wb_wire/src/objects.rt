@@ -136,6 +136,34 @@ pub(crate) fn piece(alloc: Global, a: &Name, l: u64) -> Result<Value, AllocError
     json!(in alloc; {"a": a.as_str(), "l": l, "op": "piece"})
 }
 
+/// `d`, `or`.
+pub(crate) fn united(alloc: Global, d: &Name, other: &str) -> Result<Value, AllocError>
+    ensures { IfOk result (λ v. view v ≡ object (member (codes "d") (string d.now) (member (codes "op") (string (codes "reshape")) (member (codes "or") (string other.now) no_members)))) }
+{
+    json!(in alloc; {"d": d.as_str(), "op": "reshape", "or": other})
+}
+
+/// `and`, `d`.
+pub(crate) fn intersected(alloc: Global, d: &Name, other: &str) -> Result<Value, AllocError>
+    ensures { IfOk result (λ v. view v ≡ object (member (codes "and") (string other.now) (member (codes "d") (string d.now) (member (codes "op") (string (codes "reshape")) no_members)))) }
+{
+    json!(in alloc; {"and": other, "d": d.as_str(), "op": "reshape"})
+}
+
+/// `d`, `minus`.
+pub(crate) fn diminished(alloc: Global, d: &Name, other: &str) -> Result<Value, AllocError>
+    ensures { IfOk result (λ v. view v ≡ object (member (codes "d") (string d.now) (member (codes "minus") (string other.now) (member (codes "op") (string (codes "reshape")) no_members)))) }
+{
+    json!(in alloc; {"d": d.as_str(), "minus": other, "op": "reshape"})
+}
+
+/// `d`, `xor`.
+pub(crate) fn exchanged(alloc: Global, d: &Name, other: &str) -> Result<Value, AllocError>
+    ensures { IfOk result (λ v. view v ≡ object (member (codes "d") (string d.now) (member (codes "op") (string (codes "reshape")) (member (codes "xor") (string other.now) no_members)))) }
+{
+    json!(in alloc; {"d": d.as_str(), "op": "reshape", "xor": other})
+}
+
 /// No member but the op.
 pub(crate) fn plain(alloc: Global, op: &str) -> Result<Value, AllocError>
     ensures { IfOk result (λ v. view v ≡ object (member (codes "op") (string op.now) no_members)) }

@@ -7,6 +7,7 @@ ghost use Rattle.wb_resize.specs.declared.source.Source.TheVariants.{Displace as
 ghost use Rattle.wb_wire.specs.Encoded.{request_data};
 
 use crate::literals::{given_text, index_value};
+use crate::objects::{diminished, exchanged, intersected, united};
 use serde_json::{Value, json};
 use std::alloc::{AllocError, Global};
 use wb_book::{AnyIndex, Index, Name, Point};
@@ -31,21 +32,16 @@ fn displaced(
     }
 }
 
+// The object of a set operation, under the key of which the other set stands.
 fn combined(alloc: Global, d: &Name, how: SetOperation, given: &Given) -> Result<Value, AllocError>
     ensures { IfOk result (λ v. view v ≡ request_data (Change (Reshape d.now (combine how given.now)))) }
 {
     let given = given_text(alloc, given)?;
     match how {
-        SetOperation::Union => { json!(in alloc; {"d": d.as_str(), "op": "reshape", "or": &given}) }
-        SetOperation::Intersection => {
-            json!(in alloc; {"and": &given, "d": d.as_str(), "op": "reshape"})
-        }
-        SetOperation::Difference => {
-            json!(in alloc; {"d": d.as_str(), "minus": &given, "op": "reshape"})
-        }
-        SetOperation::SymmetricDifference => {
-            json!(in alloc; {"d": d.as_str(), "op": "reshape", "xor": &given})
-        }
+        SetOperation::Union => united(alloc, d, &given),
+        SetOperation::Intersection => intersected(alloc, d, &given),
+        SetOperation::Difference => diminished(alloc, d, &given),
+        SetOperation::SymmetricDifference => exchanged(alloc, d, &given),
     }
 }
 

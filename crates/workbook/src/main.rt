@@ -1,18 +1,6 @@
 //! `workbook`: a shared workbook of whole-number arrays with selective undo, one JSON line a request.
 #![tactic(auto)]
 
-mod checking;
-mod command;
-mod running;
-mod seat;
-mod serving;
-#[cfg(test)]
-mod tests;
-
-use checking::check_with;
-use command::{Asked, CommandErr, command_of};
-use running::{BAD_COMMAND_LINE, DONE, INPUT_OR_OUTPUT_FAILED, NO_MEMORY, run_with};
-use serving::serve_on;
 use std::alloc::Global;
 use std::env;
 use std::io::{self, BufWriter, Write};
@@ -20,7 +8,11 @@ use std::net::{Net, TcpListener, TcpStream};
 use std::process::ExitCode;
 use std::sync::Wait;
 use std::thread::Threads;
+use wb_command::{Asked, CommandErr, command_of};
 use wb_lines::{Input, Output};
+use wb_program::{
+    BAD_COMMAND_LINE, DONE, INPUT_OR_OUTPUT_FAILED, NO_MEMORY, check_with, run_with, serve_on,
+};
 
 fn main(rt: HostRuntime) -> io::Result<ExitCode> {
     let done = match asked(&rt) {

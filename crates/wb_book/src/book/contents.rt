@@ -1,7 +1,7 @@
 ghost use Rattle.std.specs.Prelude.{◌≡◌, is_some, ℕ, ◌+◌, ◌-◌, ◌^◌, List, length, slice_get, min, IfOk, IfErr, OnOk, OnErr};
 ghost use Rattle.std.specs.FinMap as map;
-ghost use Rattle.selective_undo.specs.Changes.{apply, inverse};
-ghost use Rattle.wb_book.specs.Cells.{state_of, written_more, count_of};
+ghost use Rattle.selective_undo.specs.Changes.{apply, inverse, AllOnce};
+ghost use Rattle.wb_book.specs.Cells.{cell_cmp, state_of, written_more, count_of};
 ghost use Rattle.wb_book.specs.Locales.{locale_by, is_index_at, locale_at, locale_count_at};
 ghost use Rattle.wb_book.specs.Readers.{seen, elements, objects, users, size_at, index_at};
 ghost use Rattle.wb_book.specs.WellFormed.{IsWellFormed, domain_at};
@@ -10,6 +10,7 @@ use crate::book::{families, locales, readers, store};
 use crate::cells::cell::Cell;
 use crate::cells::pattern::Pattern;
 use crate::cells::value::Value;
+use crate::changes::change::{CellChange, counted};
 use crate::changes::delta::Delta;
 use crate::changes::inverse::Inverse;
 use crate::values::index::AnyIndex;
@@ -183,20 +184,20 @@ impl Book {
         }
     }
 
-    /// Sets the cells back to what they were, or none where no memory is left.
-    pub fn revert(&mut self, inverse: Inverse) -> Result<(), (Inverse, NoMemory)>
-        requires { IsWellFormed (apply inverse self.old.cells) }
-        ensures cells { OnOk result (self.new.cells ≡ apply inverse self.old.cells) }
-        ensures writes { OnOk result (self.new.writes ≡ written_more self.old.writes (count_of inverse)) }
+    /// Sets the cells back to what they were before, each cell once, or none where no memory is left.
+    pub fn revert(&mut self, before: &[CellChange]) -> Result<(), NoMemory>
+        requires once { AllOnce cell_cmp before.now }
+        requires well_formed { IsWellFormed (apply before.now self.old.cells) }
+        ensures cells { OnOk result (self.new.cells ≡ apply before.now self.old.cells) }
+        ensures writes { OnOk result (self.new.writes ≡ written_more self.old.writes (count_of before.now)) }
         ensures err { OnErr result (self.new ≡ self.old) }
-        ensures given_back { IfErr result (λ e. e.0 ≡ inverse) }
     {
-        match store::change_all(self.alloc, &mut self.cells, inverse.before()) {
+        match store::change_all(self.alloc, &mut self.cells, before) {
             Ok(_) => {
-                self.writes = self.writes.saturating_add(inverse.count() as u128);
+                self.writes = self.writes.saturating_add(counted(before) as u128);
                 Ok(())
             }
-            Err(why) => Err((inverse, why)),
+            Err(why) => Err(why),
         }
     }
 }

@@ -5,6 +5,7 @@ ghost use Rattle.wb_book.specs.Cells.{written_more, count_of};
 ghost use Rattle.wb_book.specs.WellFormed.{IsWellFormed};
 ghost use Rattle.wb_edit.specs.Commands.{meaning};
 ghost use Rattle.wb_edit.specs.Valid.{IsValid};
+ghost use Rattle.wb_history.specs.declared.entry.Entry.{Entry};
 ghost use Rattle.wb_history.specs.Kept.{Shows, entries_meant, numbers, plan_refusal};
 ghost use Rattle.wb_history.specs.Past.{AreValid};
 ghost use Rattle.wb_history.specs.Replies.{EditReply};
@@ -29,6 +30,7 @@ pub(crate) fn add(
     ensures kept { Shows entries.new.items book.new.cells }
     ensures reply { EditReply (entries_meant entries.old.items) (meaning edit) result }
     ensures entries { OnOk result (numbers entries.new.items ≡ numbers entries.old.items ++ record { edit = edit; in_force = true } ∷ []) }
+    ensures appended { OnOk result ((x : Entry) × (entries.new.items ≡ entries.old.items ++ x ∷ [])) }
     ensures writes { IfOk result (λ r. book.new.writes ≡ written_more book.old.writes r.1) }
     ensures entries_stay { OnErr result (entries.new.items ≡ entries.old.items) }
     ensures book_stays { OnErr result (book.new ≡ book.old) }
@@ -66,6 +68,7 @@ fn keep_new(
     ensures kept { Shows entries.new.items book.new.cells }
     ensures number { IfOk result (λ k. k ≡ length entries.old.items + 1) }
     ensures entries { OnOk result (numbers entries.new.items ≡ numbers entries.old.items ++ record { edit = edit; in_force = true } ∷ []) }
+    ensures appended { OnOk result ((x : Entry) × (entries.new.items ≡ entries.old.items ++ x ∷ [])) }
     ensures writes { OnOk result (book.new.writes ≡ written_more book.old.writes (count_of delta)) }
     ensures entries_stay { OnErr result (entries.new.items ≡ entries.old.items) }
     ensures book_stays { OnErr result (book.new ≡ book.old) }

@@ -1,7 +1,9 @@
 // The texts of replies: compact JSON, keys in ascending order.
 ghost use Rattle.std.specs.Prelude.{◌≡◌, codes, IfOk, string_bytes};
+ghost use Rattle.serde_json.specs.Data.{object, string, member, no_members};
 ghost use Rattle.serde_json.specs.View.{view};
 ghost use Rattle.serde_json.specs.Written.{compact_text};
+ghost use Rattle.wb_history.specs.declared.refusal.Refusal.TheVariants.{Blocked};
 ghost use Rattle.wb_proto.specs.Printed.{numbers_text, value_text, size_text, locale_text, in_force_text};
 ghost use Rattle.wb_proto.specs.Replies.{edit_code, edit_name, code_of, name_of, refusal_data, answer_data, reply_data, reply_of};
 ghost use Rattle.wb_proto.specs.declared.replies.reply.Reply.TheVariants.{Printed};
@@ -79,17 +81,33 @@ fn name_of(refusal: Refusal) -> &'static str
     }
 }
 
+// The object of a refusal by its code and name alone.
+fn named_value(alloc: Global, error: &str, name: &str) -> Result<Value, AllocError>
+    ensures { IfOk result (λ v. view v ≡ object (member (codes "error") (string error.now) (member (codes "name") (string name.now) no_members))) }
+{
+    json!(in alloc; {"error": error, "name": name})
+}
+
+// That of a blocked undo or redo, by its blocker.
+fn blocked_value(alloc: Global, by: u64) -> Result<Value, AllocError>
+    ensures { IfOk result (λ v. view v ≡ refusal_data (Blocked by)) }
+{
+    json!(in alloc; {"by": by, "error": "E14", "name": "blocked"})
+}
+
+// That of a redo which is refused in its place, by the code of why.
+fn in_place_value(alloc: Global, code: &str) -> Result<Value, AllocError>
+    ensures { IfOk result (λ v. view v ≡ object (member (codes "code") (string code.now) (member (codes "error") (string (codes "E16")) (member (codes "name") (string (codes "refused-in-place")) no_members)))) }
+{
+    json!(in alloc; {"code": code, "error": "E16", "name": "refused-in-place"})
+}
+
 fn refusal_value(alloc: Global, refusal: Refusal) -> Result<Value, AllocError>
     ensures { IfOk result (λ v. view v ≡ refusal_data refusal) }
 {
-    let error = code_of(refusal);
-    let name = name_of(refusal);
     match refusal {
-        Refusal::Blocked(by) => json!(in alloc; {"by": by, "error": error, "name": name}),
-        Refusal::RefusedInPlace(why) => {
-            let code = edit_code(why);
-            json!(in alloc; {"code": code, "error": error, "name": name})
-        }
+        Refusal::Blocked(by) => blocked_value(alloc, by),
+        Refusal::RefusedInPlace(why) => in_place_value(alloc, edit_code(why)),
         Refusal::BadRequest
         | Refusal::BadLiteral
         | Refusal::Refused(_)
@@ -97,7 +115,7 @@ fn refusal_value(alloc: Global, refusal: Refusal) -> Result<Value, AllocError>
         | Refusal::NotInForce
         | Refusal::InForce
         | Refusal::NoMemory
-        | Refusal::StrangePass => json!(in alloc; {"error": error, "name": name}),
+        | Refusal::StrangePass => named_value(alloc, code_of(refusal), name_of(refusal)),
     }
 }
 

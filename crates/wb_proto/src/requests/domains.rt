@@ -4,7 +4,7 @@ ghost use Rattle.serde_json.specs.View.{view};
 ghost use Rattle.wb_literal.specs.Domain.{rectangle};
 ghost use Rattle.wb_literal.specs.Said.{domain};
 ghost use Rattle.wb_proto.specs.Answers.{IsAnswer};
-ghost use Rattle.wb_proto.specs.Requests.{domain_with, domain_by, domain_of, reshape_of, drop_domain_of, remap_of};
+ghost use Rattle.wb_proto.specs.Requests.{domain_with, domain_by, domain_beside, domain_of, reshape_of, drop_domain_of, remap_of};
 
 use crate::requests::fields::{has_fields, has_fields_and, name_field, optional_text, text_field};
 use crate::requests::literals::{
@@ -59,15 +59,22 @@ fn domain_by(alloc: Global, name: Name, text: &str, map: Option<&str>) -> Result
     Ok(request)
 }
 
+// A new domain beside the text of its mapping, where there is one.
+fn domain_beside(alloc: Global, map: Option<&str>, value: &Value) -> Result<Request, Refusal>
+    ensures { IsAnswer (domain_beside (option_map (λ s. s.now) map.entry) (view value.now)) result }
+{
+    let name = name_field(value, "d")?;
+    let text = text_field(value, "is")?;
+    domain_by(alloc, name, text, map)
+}
+
 /// A new rectangular domain.
 pub(crate) fn domain_of(alloc: Global, value: &Value) -> Result<Request, Refusal>
     ensures { IsAnswer (domain_of (view value.now)) result }
 {
     let map = optional_text(value, "map")?;
     has_fields_and(value, 3, &map)?;
-    let name = name_field(value, "d")?;
-    let text = text_field(value, "is")?;
-    domain_by(alloc, name, text, map)
+    domain_beside(alloc, map, value)
 }
 
 /// A new value of a domain.

@@ -3,7 +3,7 @@ ghost use Rattle.std.specs.Prelude.{◌≡◌, ◌≢◌, codes, IfOk, IfErr, Ok
 ghost use Rattle.serde_json.specs.Errors.{IsMemory};
 ghost use Rattle.serde_json.specs.View.{view};
 ghost use Rattle.wb_proto.specs.Answers.{IsAnswer};
-ghost use Rattle.wb_proto.specs.Requests.{undo_by_number, undo_of, redo_of, by_op, request_of, request};
+ghost use Rattle.wb_proto.specs.Requests.{undo_by_number, undo_of, redo_of, by_history_op, by_array_op, by_op, request_of, request};
 
 use crate::requests::arrays::{
     all_of, array_of, copy_of, drop_array_of, fill_all_of, fill_of, irv_of, set_of,
@@ -43,6 +43,42 @@ fn redo_of(value: &Value) -> Result<Request, Refusal>
     Ok(Request::Redo(number))
 }
 
+// What is asked of a history.
+fn by_history_op(op: &str, value: &Value) -> Result<Request, Refusal>
+    ensures { result ≡ by_history_op op.now (view value.now) }
+{
+    match op {
+        "undo" => undo_of(value),
+        "redo" => redo_of(value),
+        "get" => get_of(value),
+        "where" => where_of(value),
+        "size" => size_of(value),
+        "piece" => piece_of(value),
+        "state" => state_of(value),
+        "print" => print_of(value),
+        _ => Err(Refusal::BadRequest),
+    }
+}
+
+// The same, or a change to an array.
+#[tactic(auto, using(crate::proofs::Lines::as_answer))]
+fn by_array_op(alloc: Global, op: &str, value: &Value) -> Result<Request, Refusal>
+    ensures { IsAnswer (by_array_op op.now (view value.now)) result }
+{
+    match op {
+        "array" => array_of(value),
+        "drop_array" => drop_array_of(value),
+        "set" => set_of(value),
+        "fill" => fill_of(alloc, value),
+        "fill_all" => fill_all_of(value),
+        "irv" => irv_of(value),
+        "copy" => copy_of(value),
+        "all" => all_of(value),
+        _ => by_history_op(op, value),
+    }
+}
+
+// The same, or a change to a domain.
 #[tactic(auto, using(crate::proofs::Lines::as_answer))]
 fn by_op(alloc: Global, op: &str, value: &Value) -> Result<Request, Refusal>
     ensures { IsAnswer (by_op op.now (view value.now)) result }
@@ -56,23 +92,7 @@ fn by_op(alloc: Global, op: &str, value: &Value) -> Result<Request, Refusal>
         "reshape" => reshape_of(alloc, value),
         "add" => add_of(value),
         "remove" => remove_of(value),
-        "array" => array_of(value),
-        "drop_array" => drop_array_of(value),
-        "set" => set_of(value),
-        "fill" => fill_of(alloc, value),
-        "fill_all" => fill_all_of(value),
-        "irv" => irv_of(value),
-        "copy" => copy_of(value),
-        "all" => all_of(value),
-        "undo" => undo_of(value),
-        "redo" => redo_of(value),
-        "get" => get_of(value),
-        "where" => where_of(value),
-        "size" => size_of(value),
-        "piece" => piece_of(value),
-        "state" => state_of(value),
-        "print" => print_of(value),
-        _ => Err(Refusal::BadRequest),
+        _ => by_array_op(alloc, op, value),
     }
 }
 

@@ -90,6 +90,33 @@ const IN_PLACE: &str = r#"
 {"op":"get","a":"A","i":1} -> {"value":5}
 "#;
 
+// Undo and redo by number among later edits, and of the latest over those that are out of force.
+const AMONG_LATER_EDITS: &str = r#"
+{"op":"set","a":"A","i":1,"v":3} -> {"edit":3,"n":1}
+{"op":"set","a":"A","i":2,"v":4} -> {"edit":4,"n":1}
+{"op":"set","a":"A","i":3,"v":5} -> {"edit":5,"n":1}
+{"op":"set","a":"A","i":4,"v":6} -> {"edit":6,"n":1}
+{"op":"set","a":"A","i":1,"v":7} -> {"edit":7,"n":1}
+{"op":"set","a":"A","i":2,"v":8} -> {"edit":8,"n":1}
+{"op":"undo","k":3} -> {"by":7,"error":"E14","name":"blocked"}
+{"op":"undo","k":5} -> {"n":1,"undone":5}
+{"op":"undo","k":7} -> {"n":1,"undone":7}
+{"op":"undo","k":3} -> {"n":1,"undone":3}
+{"op":"redo","k":7} -> {"n":1,"redone":7}
+{"op":"redo","k":3} -> {"by":7,"error":"E14","name":"blocked"}
+{"op":"redo","k":5} -> {"n":1,"redone":5}
+{"op":"undo"} -> {"n":1,"undone":8}
+{"op":"undo"} -> {"n":1,"undone":7}
+{"op":"redo","k":3} -> {"n":1,"redone":3}
+{"op":"set","a":"A","i":1,"v":9} -> {"edit":9,"n":1}
+{"op":"undo"} -> {"n":1,"undone":9}
+{"op":"undo"} -> {"n":1,"undone":6}
+{"op":"undo","k":2} -> {"by":3,"error":"E14","name":"blocked"}
+{"op":"get","a":"A","i":1} -> {"value":3}
+{"op":"get","a":"A","i":3} -> {"value":5}
+{"op":"get","a":"A","i":4} -> {"value":0}
+"#;
+
 // A copy depends on its source.
 const COPY_DEPENDS_ON_ITS_SOURCE: &str = r#"
 {"op":"set","a":"A","i":1,"v":5} -> {"edit":3,"n":1}
@@ -195,8 +222,31 @@ const NOT_COMBINED: &str = r#"
 {"op":"get","a":"A","i":1} -> {"value":4611686018427387904}
 "#;
 
+// A set, a fill, a reshape and the end of an array, each undone and put in force again.
+const UNDONE_AND_REDONE: &str = r#"
+{"op":"undo"} -> {"error":"E11","name":"no-such-edit"}
+{"op":"domain","d":"D","is":"{1..4}"} -> {"edit":1,"n":3}
+{"op":"array","a":"A","d":"D"} -> {"edit":2,"n":7}
+{"op":"set","a":"A","i":2,"v":5} -> {"edit":3,"n":1}
+{"op":"fill_all","a":"A","v":7} -> {"edit":4,"n":4}
+{"op":"reshape","d":"D","to":"{1..2}"} -> {"edit":5,"n":3}
+{"op":"drop_array","a":"A"} -> {"edit":6,"n":5}
+{"op":"undo","k":6} -> {"n":5,"undone":6}
+{"op":"undo","k":5} -> {"n":3,"undone":5}
+{"op":"undo","k":4} -> {"n":4,"undone":4}
+{"op":"piece","a":"A","l":0} -> {"piece":[[1,0],[2,5],[3,0],[4,0]]}
+{"op":"undo"} -> {"n":1,"undone":3}
+{"op":"get","a":"A","i":2} -> {"value":0}
+{"op":"redo","k":3} -> {"n":1,"redone":3}
+{"op":"redo","k":4} -> {"n":4,"redone":4}
+{"op":"redo","k":5} -> {"n":3,"redone":5}
+{"op":"get","a":"A","i":2} -> {"value":7}
+{"op":"state","k":6} -> {"in_force":false}
+"#;
+
 /// Each script, over a history of its own.
-pub const SCRIPTS: [Script; 14] = [
+pub const SCRIPTS: [Script; 16] = [
+    ("", UNDONE_AND_REDONE, 6, 44),
     (OPENING, REFUSED, 2, 10),
     (OPENING, SIZES, 3, 13),
     (OPENING, REFUSALS_OF_UNDO_AND_REDO, 3, 19),
@@ -204,6 +254,7 @@ pub const SCRIPTS: [Script; 14] = [
     (OPENING, EARLIER_SET, 5, 14),
     (OPENING, REDO_TWO_SETS, 4, 16),
     (OPENING, IN_PLACE, 4, 15),
+    (OPENING, AMONG_LATER_EDITS, 9, 27),
     (OPENING, COPY_DEPENDS_ON_ITS_SOURCE, 4, 12),
     (OPENING, COST_OF_THE_COPY, 4, 15),
     (OPENING, REDO_BLOCKED_BY_A_LATER_SET, 5, 22),

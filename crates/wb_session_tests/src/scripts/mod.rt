@@ -1,6 +1,5 @@
-//! Worked histories, line by line, and what becomes of lines and devices that are broken.
+//! Worked histories, line by line, and what becomes of lines that are broken.
 
-mod devices;
 mod histories;
 mod mappings;
 mod members;
@@ -9,7 +8,6 @@ mod reshapes;
 mod sessions;
 mod texts;
 
-use devices::{Narrow, OneByOne};
 use std::alloc::Global;
 use std::process::Abort;
 use std::test::Fail;
@@ -23,16 +21,21 @@ const NO_MEMORY: &str = "{\"error\":\"E90\",\"name\":\"no-memory\"}\n";
 // there are then, and how many cells were set.
 type Script = (&'static str, &'static str, u64, u128);
 
-// What one line is replied.
-fn reply_to(alloc: Global, history: &mut History, line: &str) -> Result<String, Fail> {
+// How a session over these bytes ends, and what it writes.
+fn replies_to(
+    alloc: Global,
+    history: &mut History,
+    bytes: &[u8],
+) -> Result<(SessionEnd, String), Fail> {
     let mut output = Vec::new(alloc);
-    session(
+    let end = session(
         alloc,
         history,
-        &mut Input::new(line.as_bytes()),
+        &mut Input::new(bytes),
         &mut Output::new(&mut output),
     );
-    Ok(String::from_str(alloc, std::str::from_utf8(&output)?)?)
+    let text = String::from_str(alloc, std::str::from_utf8(&output)?)?;
+    Ok((end, text))
 }
 
 // What one line is replied. Where a growth is refused, nothing has changed, and the line is sent again.
@@ -43,12 +46,13 @@ fn answer(
     line: &str,
 ) -> Result<String, Fail> {
     let before = (history.len(), history.book().writes());
-    let reply = reply_to(alloc, history, line)?;
+    let (_, reply) = replies_to(alloc, history, line.as_bytes())?;
     if reply.as_str() != NO_MEMORY {
         return Ok(reply);
     }
     assert_eq!(rt; (history.len(), history.book().writes()), before);
-    reply_to(alloc, history, line)
+    let (_, again) = replies_to(alloc, history, line.as_bytes())?;
+    Ok(again)
 }
 
 // That each line is replied as its row says.
@@ -111,53 +115,9 @@ fn broken_lines(rt: HostRuntime) -> Result<(), Fail> {
             4,
         ),
     ] {
-        let mut output = Vec::new(alloc);
-        let mut history = History::new(alloc);
-        let end = session(
-            alloc,
-            &mut history,
-            &mut Input::new(bytes),
-            &mut Output::new(&mut output),
-        );
+        let (end, replies) = replies_to(alloc, &mut History::new(alloc), bytes)?;
         assert_eq!(rt; end, SessionEnd::Done(count));
-        assert_eq!(rt; std::str::from_utf8(&output)?, text);
-    }
-    Ok(())
-}
-
-const FIRST_LINES: &[u8] =
-    b"{\"op\":\"domain\",\"d\":\"D\",\"is\":\"{1..4}\"}\n{\"op\":\"array\",\"a\":\"A\",\"d\":\"D\"}\n{\"op\":\"set\",\"a\":\"A\",\"i\":4,\"v\":9}\n{\"op\":\"undo\"}\n{\"op\":\"get\",\"a\":\"A\",\"i\":4}\n";
-
-const FIRST_REPLIES: &[u8] =
-    b"{\"edit\":1,\"n\":3}\n{\"edit\":2,\"n\":7}\n{\"edit\":3,\"n\":1}\n{\"n\":1,\"undone\":3}\n{\"value\":0}\n";
-
-// A reader and a writer of a byte a call; a reader that fails after 79 bytes, in the third line; and a writer that fails
-// after 30 bytes, in the second reply, when the line is done already.
-#[test]
-fn failing_devices(rt: HostRuntime) -> Result<(), Fail> {
-    let alloc = rt.alloc();
-    for (failing, limit, wanted, sent, edits) in [
-        (None, FIRST_REPLIES.len(), SessionEnd::Done(5), 82, 3),
-        (
-            Some(79),
-            FIRST_REPLIES.len(),
-            SessionEnd::ReadFault(2),
-            34,
-            2,
-        ),
-        (None, 30, SessionEnd::WriteFault(1), 30, 2),
-    ] {
-        let mut output = Narrow::new(alloc, limit);
-        let mut history = History::new(alloc);
-        let end = session(
-            alloc,
-            &mut history,
-            &mut Input::new(OneByOne::new(FIRST_LINES, failing)),
-            &mut Output::new(&mut output),
-        );
-        assert_eq!(rt; end, wanted);
-        assert_eq!(rt; output.taken.as_slice(), &FIRST_REPLIES[..sent]);
-        assert_eq!(rt; history.len(), edits);
+        assert_eq!(rt; replies.as_str(), text);
     }
     Ok(())
 }

@@ -1,6 +1,7 @@
 use Rattle.wb_history.proofs.Valid.{keeps_valid, whole_slice}
 use Rattle.wb_history.specs.Past.{AreValid}
-use Rattle.wb_history.specs.Kept.{Keeps, numbers}
+use Rattle.wb_history.specs.Kept.{numbers}
+use Rattle.wb_history.specs.Indexed.{Keeps}
 use Rattle.std.proofs.Common.{length, drop, sym, true, ◌<◌, ◌-◌, arith, ◌∙◌, subst}
 use Rattle.wb_history.specs.Past.{meant}
 use Rattle.wb_history.specs.Replies.{RedoReply, ByNumber}
@@ -22,7 +23,8 @@ invariant_of-self c =
     let fs = c.redo_at.new.entries in
     let valid : AreValid (numbers es) = subst (λ gs. AreValid (numbers gs)) (sym c.deref_mut.ensures.value) c.self.invariant.valid in
     let same = whole_slice c.self.inside.entries.len fs (drop (length fs) c.self.inside.entries.items) (sym (c.redo_at.auto.entries ∙ c.deref_mut.ensures.len)) in
-    subst (λ gs. Keeps gs c.redo_at.new.book.cells) (sym same) (record {
+    subst (λ gs. Keeps gs c.redo_at.new.book.cells c.redo_at.new.index) (sym same) (record {
       shows = c.redo_at.ensures.kept;
+      indexed = c.redo_at.ensures.indexed;
       valid = keeps_valid true (c.args.number - 1) es fs c.redo_at.result valid c.redo_at.ensures.entries c.redo_at.ensures.entries_stay;
     })

@@ -1,7 +1,8 @@
 use Rattle.std.proofs.Common.{◌-◌, length, drop, subst, sym, ◌∙◌, false}
 use Rattle.wb_history.proofs.Valid.{keeps_valid, whole_slice}
 use Rattle.wb_history.specs.Past.{AreValid}
-use Rattle.wb_history.specs.Kept.{Keeps, numbers}
+use Rattle.wb_history.specs.Kept.{numbers}
+use Rattle.wb_history.specs.Indexed.{Keeps}
 use Rattle.wb_history.proofs.history.History.undo.Goals as goal
 
 pub invariant_of-self : goal.invariant_of-self
@@ -10,7 +11,8 @@ invariant_of-self c =
     let fs = c.undo_at.new.entries in
     let valid : AreValid (numbers es) = subst (λ gs. AreValid (numbers gs)) (sym c.deref_mut.ensures.value) c.self.invariant.valid in
     let same = whole_slice c.self.inside.entries.len fs (drop (length fs) c.self.inside.entries.items) (sym (c.undo_at.auto.entries ∙ c.deref_mut.ensures.len)) in
-    subst (λ gs. Keeps gs c.undo_at.new.book.cells) (sym same) (record {
+    subst (λ gs. Keeps gs c.undo_at.new.book.cells c.undo_at.new.index) (sym same) (record {
       shows = c.undo_at.ensures.kept;
+      indexed = c.undo_at.ensures.indexed;
       valid = keeps_valid false (c.args.number - 1) es fs c.undo_at.result valid c.undo_at.ensures.entries c.undo_at.ensures.entries_stay;
     })

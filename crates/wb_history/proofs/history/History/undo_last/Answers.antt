@@ -1,7 +1,8 @@
 use Rattle.std.proofs.Common.{length, drop, subst, sym, ◌∙◌}
 use Rattle.wb_history.proofs.Valid.{keeps_valid_last, whole_slice}
 use Rattle.wb_history.specs.Past.{AreValid}
-use Rattle.wb_history.specs.Kept.{Keeps, numbers}
+use Rattle.wb_history.specs.Kept.{numbers}
+use Rattle.wb_history.specs.Indexed.{Keeps}
 use Rattle.wb_history.proofs.history.History.undo_last.Goals as goal
 
 pub invariant_of-self : goal.invariant_of-self
@@ -10,7 +11,8 @@ invariant_of-self c =
     let fs = c.undo_latest.new.entries in
     let valid : AreValid (numbers es) = subst (λ gs. AreValid (numbers gs)) (sym c.deref_mut.ensures.value) c.self.invariant.valid in
     let same = whole_slice c.self.inside.entries.len fs (drop (length fs) c.self.inside.entries.items) (sym (c.undo_latest.auto.entries ∙ c.deref_mut.ensures.len)) in
-    subst (λ gs. Keeps gs c.undo_latest.new.book.cells) (sym same) (record {
+    subst (λ gs. Keeps gs c.undo_latest.new.book.cells c.undo_latest.new.index) (sym same) (record {
       shows = c.undo_latest.ensures.kept;
+      indexed = c.undo_latest.ensures.indexed;
       valid = keeps_valid_last es fs c.undo_latest.result valid c.undo_latest.ensures.entries c.undo_latest.ensures.entries_stay;
     })

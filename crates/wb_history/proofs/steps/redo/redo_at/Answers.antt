@@ -1,5 +1,9 @@
 use Rattle.wb_history.proofs.Granted.{redoes_in_place}
-use Rattle.std.proofs.Common.{slice_set, Ok}
+use Rattle.std.proofs.Common.{slice_set, length, Ok, ◌≡◌, ap, sym, subst, ◌∙◌}
+use Rattle.wb_history.specs.Indexed.{IsIndexed}
+use Rattle.wb_history.specs.Kept.{by_number}
+use Rattle.wb_history.proofs.Entries.{set_same}
+use Rattle.wb_history.proofs.Entered.{set_indexed, no_kept}
 use Rattle.wb_history.proofs.Valid.{planned_again_well_formed}
 use Rattle.std.proofs.Common.{slice_index_or}
 use Rattle.std.proofs.lemmas.Option.{slice_get-get_or}
@@ -34,8 +38,8 @@ returns-in-Ok-put_in-clause-entries c =
     let is = slice_get-get_or es c.args.at c.index-entries-at.result c.requires.in_log in
     redone_numbers c.args.book.now.cells es c.args.at x c.requires.kept is c.in-Ok.delta c.in-Ok.foot c.in-Ok.count c.in-Ok.ensures.ok c.put_in.new.entry c.in-Ok-put_in.ensures.entry
 
-pub put_in-requires : goal.put_in-requires
-put_in-requires c =
+pub put_in-requires-clause-well_formed : goal.put_in-requires-clause-well_formed
+put_in-requires-clause-well_formed c =
     let plan = c.in-Ok.ensures.ok in
     planned_again_well_formed c.args.entries.now c.args.book.now.cells c.args.at plan.0 c.in-Ok.delta c.requires.kept c.requires.valid plan.1 plan.3
 
@@ -48,3 +52,17 @@ returns-in-Ok-put_in-clause-in_place c =
     redoes_in_place s es (slice_set es c.args.at c.put_in.new.entry) c.requires.kept c.args.at (Ok c.in-Ok.count)
     (redone_reply s es c.args.at x c.requires.kept is c.in-Ok.delta c.in-Ok.foot c.in-Ok.count c.in-Ok.ensures.ok)
     (redone_numbers s es c.args.at x c.requires.kept is c.in-Ok.delta c.in-Ok.foot c.in-Ok.count c.in-Ok.ensures.ok c.put_in.new.entry c.in-Ok-put_in.ensures.entry)
+
+pub returns-in-Ok-put_in-clause-indexed : goal.returns-in-Ok-put_in-clause-indexed
+returns-in-Ok-put_in-clause-indexed c =
+    let es = c.args.entries.now in
+    let plan = c.in-Ok.ensures.ok in
+    set_indexed c.put_in.new.index es c.args.at c.put_in.new.entry c.requires.in_log (c.in-Ok-put_in.ensures.put (length es) (by_number es) c.in-Ok.ensures.indexed (no_kept es c.args.at plan.0 plan.1 plan.2))
+
+pub returns-in-Err-put_in-clause-indexed : goal.returns-in-Err-put_in-clause-indexed
+returns-in-Err-put_in-clause-indexed c =
+    let es = c.args.entries.now in
+    let x = slice_index_or es c.args.at c.index-entries-at.result in
+    let is = slice_get-get_or es c.args.at c.index-entries-at.result c.requires.in_log in
+    let same : slice_set es c.args.at c.put_in.new.entry ≡ es = ap (slice_set es c.args.at) c.in-Err-put_in.ensures.entry_stays ∙ set_same es c.args.at x is es c.args.at x is in
+    subst (λ fs. IsIndexed c.put_in.new.index fs) (sym same) (subst (λ i. IsIndexed i es) (sym c.in-Err-put_in.ensures.index_stays) c.in-Ok.ensures.indexed)

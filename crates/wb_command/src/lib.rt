@@ -1,0 +1,84 @@
+//! The command line of the program.
+#![tactic(auto)]
+
+use clap::error::ErrorKind;
+use clap::{Arg, ArgAction, ArgMatches, Command};
+use std::alloc::Global;
+
+/// What the words of a command line ask for.
+#[derive(Clone, Copy, Debug, PartialEq, Eq)]
+pub enum Asked {
+    /// A session from standard input to standard output, on an empty workbook.
+    Run,
+    /// Whether standard input is the text of a workbook.
+    Check,
+    /// A desk of 1 to 16 seats on a port, or on any port where that is 0.
+    Serve { port: u16, seats: u8 },
+}
+
+/// Why the words of a command line ask for nothing.
+#[derive(Debug, Drop)]
+pub enum CommandErr {
+    /// They ask for help, which this prints.
+    Help(clap::Error),
+    /// There is no such command.
+    BadCommandLine,
+    /// A growth was refused.
+    NoMemory,
+}
+
+/// What the words ask for, the program's own name first.
+pub fn command_of(alloc: Global, words: &[&str]) -> Result<Asked, CommandErr> {
+    match parsed(alloc, words) {
+        Ok(Some(asked)) => Ok(asked),
+        Ok(None) => Err(CommandErr::BadCommandLine),
+        Err(error) => match error.kind() {
+            ErrorKind::DisplayHelp => Err(CommandErr::Help(error)),
+            ErrorKind::OutOfMemory => Err(CommandErr::NoMemory),
+            _ => Err(CommandErr::BadCommandLine),
+        },
+    }
+}
+
+fn parsed(alloc: Global, words: &[&str]) -> Result<Option<Asked>, clap::Error> {
+    let run = Command::new(alloc, "run").about(
+        "Answers each request line of standard input on standard output",
+    );
+    let check = Command::new(alloc, "check").about(
+        "Tells whether standard input is the text of a workbook, and how many objects it has",
+    );
+    let port = Arg::new(alloc, "port")
+        .long("port")
+        .required(true)
+        .action(ArgAction::Set)
+        .value_parser(clap::value_parser!(u16));
+    let seats = Arg::new(alloc, "seats")
+        .long("seats")
+        .required(true)
+        .action(ArgAction::Set)
+        .value_parser(clap::value_parser!(u8).range(1..=16));
+    let serve = Command::new(alloc, "serve")
+        .about("Answers the request lines of each seat on a connection of its own")
+        .arg(port)?
+        .arg(seats)?;
+    let command = Command::new(alloc, "workbook")
+        .about("A shared workbook of whole-number arrays with selective undo")
+        .subcommand_required(true)
+        .subcommand(run)?
+        .subcommand(check)?
+        .subcommand(serve)?;
+    let matches = command.try_get_matches_from(words)?;
+    match matches.subcommand() {
+        Some(("run", _)) => Ok(Some(Asked::Run)),
+        Some(("check", _)) => Ok(Some(Asked::Check)),
+        Some(("serve", inner)) => Ok(serve_of(inner)),
+        _ => Ok(None),
+    }
+}
+
+// The port and the number of seats.
+fn serve_of(matches: &ArgMatches) -> Option<Asked> {
+    let port = matches.get_one::<u16>("port")?;
+    let seats = matches.get_one::<u8>("seats")?;
+    Some(Asked::Serve { port, seats })
+}

@@ -1,0 +1,197 @@
+-- Feet and places: what a foot read or touched, by the marks that it has.
+use Rattle.std.proofs.Common.{◌≡◌, ℕ, Bool, true, false, ◌||◌, Option, Some, None, List, [], ◌∷◌, refl, sym, ◌∙◌, length, take, suc, ◌+◌, ◌<◌, get_or, add-one}
+use Rattle.std.specs.Prelude.{IfSome}
+use Rattle.std.specs.List.{list_any}
+use Rattle.std.specs.Ordering.{eq_by_cmp}
+use Rattle.std.proofs.lemmas.Cmp.{eq_by_cmp_equiv}
+use Rattle.selective_undo.specs.Changes.{changes}
+use Rattle.selective_undo.specs.Edit.{covers}
+use Rattle.selective_undo.specs.Log.{Foot, blocks_undo, blocks_redo}
+use Rattle.wb_book.specs.declared.cells.cell.Cell.{Cell}
+use Rattle.wb_book.specs.declared.cells.pattern.Pattern.{Pattern}
+use Rattle.wb_book.specs.declared.cells.pattern.Pattern.TheVariants as p
+use Rattle.wb_book.specs.Cells.{Changes, cell_cmp, cell_cmp_total, matches}
+use Rattle.wb_edit.specs.Schema.{workbook}
+use Rattle.std.specs.Cmp.{IsTotalOrder}
+use Rattle.std.specs.Cmp.Lexicographic.{nat_list_cmp_total}
+use Rattle.wb_book.specs.Cells.{index_cmp}
+use Rattle.wb_book.specs.contracts.values.index.IndexOrd.TheImpl.Laws as index_laws
+use Rattle.wb_foot.specs.contracts.part.SlotOrd.TheImpl.Laws as slot_laws
+use Rattle.wb_foot.specs.declared.part.Part.{Part}
+use Rattle.wb_foot.specs.declared.part.Part.TheVariants as part
+use Rattle.wb_foot.specs.declared.place.Place.{Place}
+use Rattle.wb_foot.specs.declared.place.Place.TheVariants.{Objects, Of}
+use Rattle.wb_foot.specs.declared.foot_index.FootIndex.{FootIndex}
+use Rattle.wb_foot.specs.Relation.{IsLeastAfter}
+use Rattle.wb_foot.specs.Parts.{slot_cmp, is_same_part}
+use Rattle.wb_foot.specs.Places.{place_marked}
+use Rattle.wb_foot.specs.Feet.{IsIndexOf, any_met}
+use Rattle.wb_foot.specs.Places.{own, family, place_of, is_same_place, is_family}
+use Rattle.wb_foot.specs.Feet.{at_cell, touched_at, read_at, touched_by, read_by, met_by, touched_under, foot}
+use Rattle.wb_foot.proofs.Matching.{named}
+use Rattle.wb_foot.proofs.Setting.{more_any}
+
+four : (a b c d : Bool) → ((a || b) || (c || d)) ≡ ((a || c) || (b || d))
+four true b c d = refl
+four false true true d = refl
+four false true false d = refl
+four false false c d = refl
+
+module _ {X : Type 0} where
+  pub any_or : (f g : X → Bool) (xs : List X) → list_any (λ x. f x || g x) xs ≡ (list_any f xs || list_any g xs)
+  any_or f g [] = refl
+  any_or f g (x ∷ xs) = rw (any_or f g xs) (four (f x) (g x) (list_any f xs) (list_any g xs))
+
+  pub any_like : (f g : X → Bool) (xs : List X) → ((x : X) → f x ≡ g x) → list_any f xs ≡ list_any g xs
+  any_like f g [] e = refl
+  any_like f g (x ∷ xs) e = rw (e x, any_like f g xs e)
+
+  pub any_none : (xs : List X) → list_any (λ x. false) xs ≡ false
+  any_none [] = refl
+  any_none (x ∷ xs) = any_none xs
+
+pub any_swap : {X Y : Type 0} (r : X → Y → Bool) (xs : List X) (ys : List Y) → list_any (λ x. list_any (r x) ys) xs ≡ list_any (λ y. list_any (λ x. r x y) xs) ys
+any_swap r [] ys = sym (any_none ys)
+any_swap r (x ∷ xs) ys = rw (any_swap r xs ys) (sym (any_or (r x) (λ y. list_any (λ z. r z y) xs) ys))
+
+-- ---- places are the same both ways
+
+index_total : IsTotalOrder index_cmp
+index_total = index_laws.total-law
+
+slot_total : IsTotalOrder slot_cmp
+slot_total = slot_laws.total-law
+
+same_parts : (x y : Part) → is_same_part x y ≡ is_same_part y x
+same_parts (part.Slot s) (part.Slot t) = (eq_by_cmp_equiv slot_total).symm s t
+same_parts (part.Slot s) (part.In j) = refl
+same_parts (part.Slot s) (part.Member j) = refl
+same_parts (part.Slot s) (part.User j) = refl
+same_parts (part.Slot s) (part.Element j) = refl
+same_parts (part.In i) (part.Slot t) = refl
+same_parts (part.In i) (part.In j) = (eq_by_cmp_equiv index_total).symm i j
+same_parts (part.In i) (part.Member j) = refl
+same_parts (part.In i) (part.User j) = refl
+same_parts (part.In i) (part.Element j) = refl
+same_parts (part.Member i) (part.Slot t) = refl
+same_parts (part.Member i) (part.In j) = refl
+same_parts (part.Member i) (part.Member j) = (eq_by_cmp_equiv index_total).symm i j
+same_parts (part.Member i) (part.User j) = refl
+same_parts (part.Member i) (part.Element j) = refl
+same_parts (part.User i) (part.Slot t) = refl
+same_parts (part.User i) (part.In j) = refl
+same_parts (part.User i) (part.Member j) = refl
+same_parts (part.User i) (part.User j) = (eq_by_cmp_equiv nat_list_cmp_total).symm i j
+same_parts (part.User i) (part.Element j) = refl
+same_parts (part.Element i) (part.Slot t) = refl
+same_parts (part.Element i) (part.In j) = refl
+same_parts (part.Element i) (part.Member j) = refl
+same_parts (part.Element i) (part.User j) = refl
+same_parts (part.Element i) (part.Element j) = (eq_by_cmp_equiv index_total).symm i j
+
+same_places : (a b : Place) → is_same_place a b ≡ is_same_place b a
+same_places Objects Objects = refl
+same_places Objects (Of e y) = refl
+same_places (Of d x) Objects = refl
+same_places (Of d x) (Of e y) = rw (same_parts x y, (eq_by_cmp_equiv nat_list_cmp_total).symm d e)
+
+abbrev at_family : (Place → Bool) → Option Place → Bool
+at_family t o = elim o [ Some f ↦ t f | None ↦ false ]
+
+same_family : (o : Option Place) (q : Place) → at_family (λ f. is_same_place q f) o ≡ at_family (λ f. is_same_place f q) o
+same_family None q = refl
+same_family (Some f) q = same_places q f
+
+at_named : (q : Pattern) (y : Cell) → matches q y ≡ at_cell y (place_of q)
+at_named q y = named q y ∙ rw (same_places (place_of q) (own y), same_family (family y) (place_of q))
+
+-- ---- what a foot touched and read, at places
+
+pub touched_named : (q : Pattern) (xs : Changes) → list_any (λ x. matches q x.cell) xs ≡ touched_at xs (place_of q)
+touched_named q xs = any_like (λ x. matches q x.cell) (λ x. at_cell x.cell (place_of q)) xs (λ x. at_named q x.cell)
+
+family_read : (o : Option Place) (rs : List Pattern) → list_any (λ r. at_family (λ f. is_same_place (place_of r) f) o) rs ≡ at_family (read_at rs) o
+family_read None rs = any_none rs
+family_read (Some f) rs = refl
+
+pub covers_at : (c : Cell) (rs : List Pattern) → covers workbook rs c ≡ (read_at rs (own c) || at_family (read_at rs) (family c))
+covers_at c rs =
+    any_like (λ r. matches r c) (λ r. is_same_place (place_of r) (own c) || is_family (place_of r) c) rs (λ r. named r c)
+    ∙ any_or (λ r. is_same_place (place_of r) (own c)) (λ r. is_family (place_of r) c) rs
+    ∙ rw (family_read (family c) rs)
+
+or_assoc : (a b c : Bool) → (a || (b || c)) ≡ ((a || b) || c)
+or_assoc true b c = refl
+or_assoc false b c = refl
+
+none_family : (o : Option Place) → at_family (λ f. false) o ≡ false
+none_family None = refl
+none_family (Some f) = refl
+
+pub met_at : (o : Option (Foot workbook)) (c : Cell) → met_by o c ≡ ((touched_by o (own c) || read_by o (own c)) || at_family (read_by o) (family c))
+met_at None c = sym (none_family (family c))
+met_at (Some f) c = rw (touched_named (p.One c) f.before, covers_at c f.reads) (or_assoc (touched_at f.before (own c)) (read_at f.reads (own c)) (at_family (read_at f.reads) (family c)))
+
+module _ (idx : FootIndex) (feet : ℕ → Option (Foot workbook)) (h : IsIndexOf idx feet) (n : ℕ) where
+  marked_family : (o : Option Place) → at_family (read_by (feet n)) o ≡ at_family (λ q. place_marked idx.read q n) o
+  marked_family None = refl
+  marked_family (Some f) = sym (h.read f n)
+
+  pub met_marked : (c : Cell) (q : Place) (o : Option Place) → q ≡ own c → o ≡ family c → met_by (feet n) c ≡ ((place_marked idx.touched q n || place_marked idx.read q n) || at_family (λ f. place_marked idx.read f n) o)
+  met_marked c q o e g = met_at (feet n) c ∙ rw (← e, ← g, h.touched q n, h.read q n, marked_family o)
+
+  or_nothing : (a : Bool) → a || false ≡ a
+  or_nothing true = refl
+  or_nothing false = refl
+
+  pub met_alone : (c : Cell) (q : Place) → q ≡ own c → None ≡ family c → met_by (feet n) c ≡ (place_marked idx.touched q n || place_marked idx.read q n)
+  met_alone c q e g = met_marked c q None e g ∙ or_nothing (place_marked idx.touched q n || place_marked idx.read q n)
+
+pub least_above : (p : ℕ → Bool) (after : ℕ) (r : Option ℕ) → IsLeastAfter p after r → IfSome r (λ j. after < j)
+least_above p after None h = tt
+least_above p after (Some j) h = h.0
+
+pub least_like : (p q : ℕ → Bool) (after : ℕ) (r : Option ℕ) → ((n : ℕ) → q n ≡ p n) → IsLeastAfter p after r → IsLeastAfter q after r
+least_like p q after None e h = λ n up. e n ∙ h n up
+least_like p q after (Some j) e h = (h.0, e j ∙ h.1, λ n up down. e n ∙ h.2 n up down)
+
+-- ---- undo and redo
+
+pub undo_met : (xs : Changes) (o : Option (Foot workbook)) → blocks_undo xs o ≡ any_met o xs
+undo_met xs None = sym (any_none xs)
+undo_met xs (Some f) = refl
+
+again : (c d t : Bool) → ((c || d) || (c || t)) ≡ ((c || d) || t)
+again true d t = refl
+again false true t = refl
+again false false t = refl
+
+changed_back : (xs ys : Changes) → list_any (λ x. changes cell_cmp ys x.cell) xs ≡ list_any (λ y. changes cell_cmp xs y.cell) ys
+changed_back xs ys =
+    any_swap (λ x y. eq_by_cmp cell_cmp x.cell y.cell) xs ys
+    ∙ any_like (λ y. list_any (λ x. eq_by_cmp cell_cmp x.cell y.cell) xs) (λ y. changes cell_cmp xs y.cell) ys (λ y. any_like (λ x. eq_by_cmp cell_cmp x.cell y.cell) (λ x. eq_by_cmp cell_cmp y.cell x.cell) xs (λ x. (eq_by_cmp_equiv cell_cmp_total).symm x.cell y.cell))
+
+covered_back : (rs : List Pattern) (xs : Changes) → list_any (λ x. covers workbook rs x.cell) xs ≡ list_any (λ r. touched_at xs (place_of r)) rs
+covered_back rs xs =
+    any_swap (λ x r. matches r x.cell) xs rs
+    ∙ any_like (λ r. list_any (λ x. matches r x.cell) xs) (λ r. touched_at xs (place_of r)) rs (λ r. touched_named r xs)
+
+pub redo_met : (rs : List Pattern) (xs : Changes) (o : Option (Foot workbook)) → blocks_redo (foot rs xs) o ≡ (any_met o xs || touched_under o rs)
+redo_met rs xs None = rw (any_none xs, any_none rs)
+redo_met rs xs (Some f) =
+    rw (
+      any_or (λ x. changes cell_cmp f.before x.cell) (λ x. covers workbook f.reads x.cell) xs,
+      any_or (λ x. changes cell_cmp xs x.cell) (λ x. covers workbook rs x.cell) f.before,
+      changed_back f.before xs,
+      covered_back rs f.before,
+    )
+    (again (list_any (λ x. changes cell_cmp f.before x.cell) xs) (list_any (λ x. covers workbook f.reads x.cell) xs) (list_any (λ r. touched_at f.before (place_of r)) rs))
+
+-- ---- loops
+
+module _ (feet : ℕ → Option (Foot workbook)) (after : ℕ) where
+  pub undo_more : (xs : Changes) (i : ℕ) (d : _) → i < length xs → (x : Cell) → x ≡ (get_or xs i d).cell → (r : Option ℕ) → IsLeastAfter (λ n. any_met (feet n) (take i xs) || met_by (feet n) x) after r → IsLeastAfter (λ n. any_met (feet n) (take (i + 1) xs)) after r
+  undo_more xs i d below x e r h = rw add-one (least_like (λ n. any_met (feet n) (take i xs) || met_by (feet n) x) (λ n. any_met (feet n) (take (suc i) xs)) after r (λ n. sym (rw e (more_any (λ y (o : Option (Foot workbook)). met_by o y.cell) xs i d below (feet n)))) h)
+
+  pub touch_more : (rs : List Pattern) (i : ℕ) (d : Pattern) → i < length rs → (q : Pattern) → q ≡ get_or rs i d → (r : Option ℕ) → IsLeastAfter (λ n. touched_under (feet n) (take i rs) || touched_by (feet n) (place_of q)) after r → IsLeastAfter (λ n. touched_under (feet n) (take (i + 1) rs)) after r
+  touch_more rs i d below q e r h = rw add-one (least_like (λ n. touched_under (feet n) (take i rs) || touched_by (feet n) (place_of q)) (λ n. touched_under (feet n) (take (suc i) rs)) after r (λ n. sym (rw e (more_any (λ y (o : Option (Foot workbook)). touched_by o (place_of y)) rs i d below (feet n)))) h)

@@ -1,0 +1,45 @@
+-- Which numbers stand at which parts of an object.
+use Rattle.std.specs.Prelude.{ℕ, Bool, false}
+use Rattle.std.specs.Cmp.Lexicographic.{slice_cmp}
+use Rattle.std.specs.Ordering.{nat_cmp, int_cmp, eq_by_cmp}
+use Rattle.std.specs.declared.cmp.Ordering.{Ordering}
+use Rattle.wb_book.specs.declared.values.index.Index.{Index}
+use Rattle.wb_book.specs.declared.values.index.Index.TheVariants.{Point, Text}
+use Rattle.wb_book.specs.Cells.{Name, is_same_name, is_same_index}
+use Rattle.wb_foot.specs.contracts.part.SlotOrd.TheImpl as slots
+use Rattle.wb_foot.specs.declared.part.Slot as slot
+use Rattle.wb_foot.specs.declared.part.Part.{Part}
+use Rattle.wb_foot.specs.declared.part.Part.TheVariants.{Slot, In, Member, User, Element}
+use Rattle.wb_foot.specs.declared.index_marks.IndexMarks.{IndexMarks}
+use Rattle.wb_foot.specs.declared.name_marks.NameMarks.{NameMarks}
+use Rattle.wb_foot.specs.Marks.{marked}
+
+-- a part of the object of a name
+abbrev pub Spot : Type 0
+Spot = Name × Part
+
+-- the order in which the cells and families of one object are declared
+abbrev pub slot_cmp : slot.Slot → slot.Slot → Ordering
+slot_cmp = (slots.ghosts).cmp
+
+-- whether a number stands at an index
+abbrev pub index_marked : IndexMarks → Index → ℕ → Bool
+index_marked m (Point p) n = marked (slice_cmp int_cmp) m.points p n
+index_marked m (Text t) n = marked (slice_cmp nat_cmp) m.texts t n
+
+-- whether two parts are one
+abbrev pub is_same_part : Part → Part → Bool
+is_same_part (Slot s) (Slot t) = eq_by_cmp slot_cmp s t
+is_same_part (In i) (In j) = is_same_index i j
+is_same_part (Member i) (Member j) = is_same_index i j
+is_same_part (User m) (User n) = is_same_name m n
+is_same_part (Element i) (Element j) = is_same_index i j
+is_same_part _ _ = false
+
+-- whether a number stands at a part
+abbrev pub part_marked : NameMarks → Part → ℕ → Bool
+part_marked m (Slot s) n = marked slot_cmp m.slots s n
+part_marked m (In i) n = index_marked m.inside i n
+part_marked m (Member i) n = index_marked m.members i n
+part_marked m (User u) n = marked (slice_cmp nat_cmp) m.users u n
+part_marked m (Element i) n = index_marked m.elements i n

@@ -1,0 +1,34 @@
+//! All edits that stand in the way of an undo.
+
+ghost use Rattle.std.specs.Prelude.{◌≡◌, IfOk};
+ghost use Rattle.selective_undo.specs.Log.{blocks_undo};
+ghost use Rattle.wb_foot.specs.Relation.{AreAllAfter};
+ghost use Rattle.wb_foot.specs.Feet.{Feet, IsIndexOf};
+
+use crate::foot_index::FootIndex;
+use std::alloc::Global;
+use wb_book::CellChange;
+use wb_range::NoMemory;
+
+impl FootIndex {
+    /// All numbers above `after` whose feet need one that wrote the cells, ascending.
+    pub fn blockers(
+        &self,
+        alloc: Global,
+        before: &[CellChange],
+        after: u64,
+    ) -> Result<Vec<u64>, NoMemory>
+        ensures { IfOk result (λ v. (feet : Feet) → IsIndexOf self.now feet → AreAllAfter (λ n. blocks_undo before.now (feet n)) after v.items) }
+    {
+        let mut found = Vec::new(alloc);
+        let mut from = after;
+        while let Some(number) = self.first_to_block_undo(before, from) {
+            match found.push(number) {
+                Ok(()) => {}
+                Err(_) => return Err(NoMemory),
+            }
+            from = number;
+        }
+        Ok(found)
+    }
+}

@@ -1,0 +1,59 @@
+//! The index itself: feet come and go by their numbers.
+
+ghost use Rattle.std.specs.Prelude.{◌≡◌, Some, None, OnOk, OnErr};
+ghost use Rattle.wb_foot.specs.Feet.{Feet, IsIndexOf, foot, with_foot};
+
+use crate::place_marks::PlaceMarks;
+use crate::touching::{read_all, touch_all, unread_all, untouch_all};
+use std::alloc::Global;
+use wb_book::{CellChange, Pattern};
+use wb_range::NoMemory;
+
+/// An index of feet by the cells that they read and touched. It owns no foot: its contracts speak of the feet that it is of.
+#[derive(Drop)]
+pub struct FootIndex {
+    pub(crate) touched: PlaceMarks,
+    pub(crate) read: PlaceMarks,
+}
+
+impl FootIndex {
+    /// The index without feet.
+    pub fn new(alloc: Global) -> FootIndex
+        ensures { IsIndexOf result (λ n. None) }
+    {
+        FootIndex {
+            touched: PlaceMarks::new(alloc),
+            read: PlaceMarks::new(alloc),
+        }
+    }
+
+    /// Adds a foot at a number that has none, or nothing where no memory is left.
+    pub fn add(
+        &mut self,
+        number: u64,
+        reads: &[Pattern],
+        before: &[CellChange],
+    ) -> Result<(), NoMemory>
+        ensures ok { OnOk result ((feet : Feet) → IsIndexOf self.old feet → feet number ≡ None → IsIndexOf self.new (with_foot feet number (Some (foot reads.now before.now)))) }
+        ensures err { OnErr result ((feet : Feet) → IsIndexOf self.old feet → feet number ≡ None → IsIndexOf self.new feet) }
+    {
+        if touch_all(&mut self.touched, before, number).is_err() {
+            untouch_all(&mut self.touched, before, number);
+            return Err(NoMemory);
+        }
+        if read_all(&mut self.read, reads, number).is_err() {
+            unread_all(&mut self.read, reads, number);
+            untouch_all(&mut self.touched, before, number);
+            return Err(NoMemory);
+        }
+        Ok(())
+    }
+
+    /// Takes away the foot at a number. It takes no memory.
+    pub fn take(&mut self, number: u64, reads: &[Pattern], before: &[CellChange])
+        ensures { (feet : Feet) → IsIndexOf self.old feet → feet number ≡ Some (foot reads.now before.now) → IsIndexOf self.new (with_foot feet number None) }
+    {
+        untouch_all(&mut self.touched, before, number);
+        unread_all(&mut self.read, reads, number);
+    }
+}

@@ -1,0 +1,57 @@
+//! Which numbers stand at which keys.
+
+ghost use Rattle.std.specs.Prelude.{◌≡◌, ℕ, false, true, OnOk, OnErr};
+ghost use Rattle.std.specs.Ordering.{eq_by_cmp};
+ghost use Rattle.wb_foot.specs.Relation.{Sets, IsLeastAfter};
+ghost use Rattle.wb_foot.specs.Marks.{marked};
+
+use std::alloc::Global;
+use std::collections::BTreeSet;
+use std::ops::Bound;
+use wb_range::NoMemory;
+
+/// Numbers at keys.
+#[derive(Drop)]
+pub struct Marks<K: Copy + Ord> {
+    set: BTreeSet<(K, u64)>,
+}
+
+impl<K: Copy + Ord> Marks<K> {
+    /// No marks.
+    pub fn new(alloc: Global) -> Marks<K>
+        ensures { (k : K) (n : ℕ) → marked K.cmp result k n ≡ false }
+    {
+        Marks {
+            set: BTreeSet::new(alloc),
+        }
+    }
+
+    /// Adds a number at a key.
+    pub fn add(&mut self, key: K, number: u64) -> Result<(), NoMemory>
+        ensures ok { OnOk result (Sets (marked K.cmp self.old) (marked K.cmp self.new) (eq_by_cmp K.cmp key) number true) }
+        ensures err { OnErr result (self.new ≡ self.old) }
+    {
+        match self.set.insert((key, number)) {
+            Ok(_) => Ok(()),
+            Err(_) => Err(NoMemory),
+        }
+    }
+
+    /// Takes a number away from a key.
+    pub fn take(&mut self, key: K, number: u64)
+        ensures { Sets (marked K.cmp self.old) (marked K.cmp self.new) (eq_by_cmp K.cmp key) number false }
+    {
+        self.set.remove(&(key, number));
+    }
+
+    /// The least number above `after` at a key.
+    pub fn least_after(&self, key: K, after: u64) -> Option<u64>
+        ensures { IsLeastAfter (marked K.cmp self.now key) after result }
+    {
+        let from = (Bound::Excluded((key, after)), Bound::Unbounded);
+        match self.set.range(from).next() {
+            None => None,
+            Some((found, number)) => { if *found == key { Some(*number) } else { None } }
+        }
+    }
+}

@@ -1,0 +1,49 @@
+-- Whether bytes are the text of a workbook, what is printed of it, and the exit status.
+use Rattle.std.specs.Prelude.{◌≡◌, ◌⊎◌, ℕ, List, [], ◌++◌, codes, decimal, length, take}
+use Rattle.std.specs.Str.{IsUtf8}
+use Rattle.wb_book.specs.Cells.{Cells}
+use Rattle.wb_book.specs.Readers.{objects}
+use Rattle.wb_book.specs.WellFormed.{IsWellFormed}
+use Rattle.wb_reading.specs.Reading.{IsNoBook}
+use Rattle.wb_text.specs.Lines.{book_text}
+use Rattle.wb_program.specs.declared.checking.Verdict.{Verdict}
+use Rattle.wb_program.specs.declared.checking.Verdict.TheVariants.{Workbook, Refused}
+
+-- the text of a well-formed workbook with so many objects
+pub record IsTextOf (bytes : List ℕ) (count : ℕ) : Type 0 where
+  pub cells : Cells
+  pub well_formed : IsWellFormed cells
+  pub same : bytes ≡ book_text cells
+  pub counted : count ≡ length (objects cells)
+
+-- the bytes are the text of a workbook with so many objects; or they are no UTF-8, or the text of no workbook
+abbrev pub IsVerdict : List ℕ → Verdict → Type 0
+IsVerdict bytes (Workbook count) = IsTextOf bytes count
+IsVerdict bytes Refused = ¬ IsUtf8 bytes ⊎ IsNoBook bytes
+
+-- what is printed
+abbrev pub verdict_text : Verdict → List ℕ
+verdict_text (Workbook count) = codes "ok " ++ (decimal count ++ codes "\n")
+verdict_text Refused = codes "refused\n"
+
+-- 0 for a workbook, 1 where there is none
+abbrev pub status_of_verdict : Verdict → ℕ
+status_of_verdict (Workbook count) = 0
+status_of_verdict Refused = 1
+
+-- input or output failed, or a growth was refused
+abbrev pub IsFault : ℕ → Type 0
+IsFault status = (status ≡ 3) ⊎ (status ≡ 4)
+
+-- a verdict was printed, with its status; or a front of it, at a fault
+abbrev pub Says : Verdict → ℕ → List ℕ → Type 0
+Says verdict status text = ((status ≡ status_of_verdict verdict) × (text ≡ verdict_text verdict))
+    ⊎ (IsFault status × ((count : ℕ) × (text ≡ take count (verdict_text verdict))))
+
+-- the verdict on the bytes was printed, or a front of it at a fault; a fault before it printed nothing
+abbrev pub Judges : List ℕ → ℕ → List ℕ → Type 0
+Judges read status text = ((verdict : Verdict) × IsVerdict read verdict × Says verdict status text) ⊎ (IsFault status × (text ≡ []))
+
+-- all of the input was judged
+abbrev pub IsAnswered : ℕ → Type 0
+IsAnswered status = (status ≡ 0) ⊎ (status ≡ 1)

@@ -1,0 +1,110 @@
+//! Whether an input is the text of a workbook.
+
+ghost use Rattle.std.specs.Prelude.{◌≡◌, ℕ, List, true, IfOk, string_bytes};
+ghost use Rattle.std.specs.Io.KnownBytes.{Appends, Consumes, IsAtEnd};
+ghost use Rattle.wb_program.specs.Checking.{IsVerdict, verdict_text, status_of_verdict, Says, Judges, IsAnswered};
+ghost use Rattle.wb_program.specs.Running.{HasFailed};
+
+use crate::running::{DONE, INPUT_OR_OUTPUT_FAILED, NO_MEMORY};
+use std::alloc::{AllocError, Global};
+use std::str::from_utf8;
+use wb_lines::{LineFault, Sink, Source, read_all, send};
+use wb_range::NoMemory;
+use wb_reading::{BookErr, read_book};
+
+/// The exit status of `check` where the input is no text of a workbook.
+pub const REFUSED: u8 = 1;
+
+/// What `check` finds.
+#[derive(Clone, Copy, Debug, PartialEq, Eq)]
+pub enum Verdict {
+    /// The text of a workbook with so many objects.
+    Workbook(usize),
+    /// No UTF-8, or the text of no workbook.
+    Refused,
+}
+
+// Whether a text is that of a workbook.
+fn verdict_on_text(alloc: Global, text: &str) -> Result<Verdict, NoMemory>
+    ensures { IfOk result (λ v. IsVerdict text.now v) }
+{
+    match read_book(alloc, text) {
+        Ok(book) => {
+            let _well_formed = book.writes();
+            Ok(Verdict::Workbook(book.objects()))
+        }
+        Err(BookErr::Bad) => Ok(Verdict::Refused),
+        Err(BookErr::NoMemory) => Err(NoMemory),
+    }
+}
+
+/// Whether bytes are the text of a workbook, and how many objects it has.
+pub fn verdict_on(alloc: Global, bytes: &[u8]) -> Result<Verdict, NoMemory>
+    ensures { IfOk result (λ v. IsVerdict bytes.now v) }
+{
+    match from_utf8(bytes) {
+        Ok(text) => verdict_on_text(alloc, text),
+        Err(_) => Ok(Verdict::Refused),
+    }
+}
+
+fn verdict_text(alloc: Global, verdict: Verdict) -> Result<String, AllocError>
+    ensures { IfOk result (λ t. string_bytes t ≡ verdict_text verdict) }
+{
+    match verdict {
+        Verdict::Workbook(count) => format!(in alloc; "ok {count}\n"),
+        Verdict::Refused => String::from_str(alloc, "refused\n"),
+    }
+}
+
+/// The exit status after a verdict.
+pub fn status_of_verdict(verdict: Verdict) -> u8
+    ensures { result ≡ status_of_verdict verdict }
+{
+    match verdict {
+        Verdict::Workbook(_) => DONE,
+        Verdict::Refused => REFUSED,
+    }
+}
+
+// Prints a verdict: the exit status.
+fn say<W: Sink>(alloc: Global, verdict: Verdict, writer: &mut W) -> u8
+    ensures says { (text : List ℕ) × Appends (W.contents writer.old) (W.contents writer.new) text × Says verdict result text }
+    ensures flushed { IsAnswered result → W.flushed writer.new ≡ true }
+    ensures failed { result ≡ 3 → W.failed writer.new ≡ true }
+{
+    let text = match verdict_text(alloc, verdict) {
+        Ok(text) => text,
+        Err(_) => return NO_MEMORY,
+    };
+    if send(writer, text.as_bytes()).is_err() {
+        return INPUT_OR_OUTPUT_FAILED;
+    }
+    if writer.flush().is_err() {
+        return INPUT_OR_OUTPUT_FAILED;
+    }
+    status_of_verdict(verdict)
+}
+
+/// Reads the reader to its end and prints whether that is the text of a workbook: `ok` and the number of its objects,
+/// with exit status 0, or `refused` with status 1; 3 only where the latest read, write or flush failed, or all reads that
+/// are allowed were made, and 4 where a growth was refused.
+pub fn check_with<R: Source, W: Sink>(alloc: Global, reader: &mut R, writer: &mut W) -> u8
+    ensures judged { (read : List ℕ) × Consumes (R.remaining reader.old) (R.remaining reader.new) read
+        × ((text : List ℕ) × Appends (W.contents writer.old) (W.contents writer.new) text
+        × Judges read result text) }
+    ensures done { IsAnswered result → IsAtEnd (R.remaining reader.new) × (W.flushed writer.new ≡ true) }
+    ensures failed { result ≡ 3
+        → HasFailed (R.failed reader.new) (R.reads reader.old) (R.reads reader.new) (W.failed writer.new) }
+{
+    let bytes = match read_all(alloc, reader) {
+        Ok(bytes) => bytes,
+        Err(LineFault::NoMemory) => return NO_MEMORY,
+        Err(LineFault::ReadFault) => return INPUT_OR_OUTPUT_FAILED,
+        Err(LineFault::TooManyReads) => return INPUT_OR_OUTPUT_FAILED,
+    };
+    match verdict_on(alloc, &bytes) {
+        Ok(verdict) => say(alloc, verdict, writer),
+        Err(NoMemory) => NO_MEMORY,
+    }
+}

@@ -1,0 +1,15 @@
+//! What the program does: a session on an empty workbook, the judging of a text, and a desk on connections, each over a
+//! reader and a writer, each with the exit status that comes of it.
+#![tactic(auto)]
+
+mod checking;
+mod running;
+mod seat;
+mod serving;
+
+pub use crate::checking::{REFUSED, Verdict, check_with, status_of_verdict, verdict_on};
+pub use crate::running::{
+    BAD_COMMAND_LINE, DONE, INPUT_OR_OUTPUT_FAILED, NO_MEMORY, run_with, status_of,
+};
+pub use crate::seat::serve_seat;
+pub use crate::serving::serve_on;

@@ -1,0 +1,75 @@
+//! Tests of what no clause says of a book and of what makes its domains: that a call succeeds while memory is left. A call
+//! that lacked memory is made again.
+
+use std::alloc::Global;
+use std::test::Fail;
+use wb_book::{AnyIndex, Book, Index, Name, Point};
+use wb_reading::{BookErr, read_book};
+use wb_resize::set_operations::set_of;
+use wb_resize::{Given, SetOperation, Source};
+
+fn at(i: i64) -> AnyIndex {
+    AnyIndex::new(Index::Point(Point::single(i)))
+}
+
+// A rectangular domain whose even integers are on the first of two locales, a sparse one in it, an associative one, and
+// an array over the sparse one.
+const DOMAINS: &str =
+    "chapel-workbook 1\narray A over S [7, 10] irv 0\nrect D {3..6} cyclicDist(0, [2])\nassoc K of int {-2, 9}\nsparse S of D {3, 6}\nend\n";
+
+fn book_of(alloc: Global, text: &str) -> Result<Book, BookErr> {
+    match read_book(alloc, text) {
+        Err(BookErr::NoMemory) => read_book(alloc, text),
+        other => other,
+    }
+}
+
+#[test]
+fn domains_of_every_kind(rt: HostRuntime) -> Result<(), Fail> {
+    let book = book_of(rt.alloc(), DOMAINS)?;
+    for (place, name, size, first, last) in [
+        (1, "D", 4, 3, 6),
+        (2, "K", 2, -2, 9),
+        (3, "S", 2, 3, 6),
+    ] {
+        let name = Name::new(name)?;
+        assert_eq!(rt; book.object(place), Some(name));
+        assert_eq!(rt; book.size(&name), Some(size));
+        assert_eq!(rt; book.index(&name, 0), Some(at(first)));
+        assert_eq!(rt; book.index(&name, size - 1), Some(at(last)));
+    }
+    for (name, i, locale) in [
+        ("D", 4, Some(0)),
+        ("D", 5, Some(1)),
+        ("D", 7, None),
+        ("S", 3, Some(1)),
+        ("S", 4, None),
+        ("K", 9, Some(0)),
+        ("K", 3, None),
+        ("A", 3, None),
+    ] {
+        assert_eq!(rt; book.locale_of(&Name::new(name)?, &at(i)), locale);
+    }
+    Ok(())
+}
+
+#[test]
+fn elements_of_an_array(rt: HostRuntime) -> Result<(), Fail> {
+    let book = book_of(rt.alloc(), DOMAINS)?;
+    let array = Name::new("A")?;
+    let elements = match book.elements(&array) {
+        Ok(elements) => elements,
+        Err(_) => book.elements(&array)?,
+    };
+    assert_eq!(rt; elements.as_slice(), [(at(3), 7), (at(6), 10)].as_slice());
+    Ok(())
+}
+
+#[test]
+fn copied_source(rt: HostRuntime) -> Result<(), Fail> {
+    let alloc = rt.alloc();
+    let items = set_of(alloc, &[at(3), at(1), at(3)])?;
+    let source = Source::Combine(SetOperation::Union, Given::Items(items));
+    assert!(rt; source.copy(alloc)?.is_same(&source));
+    Ok(())
+}

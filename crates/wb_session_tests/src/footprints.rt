@@ -1,0 +1,38 @@
+//! The index of footprints, where an element is set and a copy of it goes to another.
+
+use std::test::Fail;
+use wb_book::{AnyCell, AnyIndex, Cell, CellChange, Index, Name, Pattern, Point};
+use wb_foot::FootIndex;
+
+fn element(array: Name, i: i64) -> Cell {
+    Cell::Element(array, AnyIndex::new(Index::Point(Point::single(i))))
+}
+
+fn read(cell: Cell) -> Pattern {
+    Pattern::One(AnyCell::new(cell))
+}
+
+#[test]
+fn footprint_index_of_a_copy(rt: HostRuntime) -> Result<(), Fail> {
+    let array = Name::new("A")?;
+    let object = read(Cell::Object(array));
+    let source = element(array, 1);
+    let target = element(array, 2);
+    let set = [CellChange::new(source, None)];
+    let copied = [CellChange::new(target, None)];
+    let reads_of_copy = [object, read(target), read(source)];
+    let mut index = FootIndex::new(rt.alloc());
+    index.add(3, &[object, read(source)], &set)?;
+    if index.add(4, &reads_of_copy, &copied).is_err() {
+        assert_eq!(rt; index.first_to_block_undo(&set, 3), None);
+        index.add(4, &reads_of_copy, &copied)?;
+    }
+    let elements = [Pattern::Elements(array)];
+    assert_eq!(rt; index.first_to_block_undo(&set, 2), Some(3));
+    assert_eq!(rt; index.first_to_block_undo(&set, 3), Some(4));
+    assert_eq!(rt; index.first_to_block_redo(&elements, &[], 3), Some(4));
+    index.take(4, &reads_of_copy, &copied);
+    assert_eq!(rt; index.first_to_block_undo(&set, 3), None);
+    assert_eq!(rt; index.first_to_block_redo(&elements, &[], 3), None);
+    Ok(())
+}
