@@ -1,5 +1,6 @@
 //! The index of footprints, where an element is set and a copy of it goes to another.
 
+use std::process::Abort;
 use std::test::Fail;
 use wb_book::{AnyCell, AnyIndex, Cell, CellChange, Index, Name, Pattern, Point};
 use wb_foot::FootIndex;
@@ -12,6 +13,25 @@ fn read(cell: Cell) -> Pattern {
     Pattern::One(AnyCell::new(cell))
 }
 
+// Adds a footprint. Where a growth is refused, none of its marks is there, and it is added again.
+fn add(
+    rt: &impl Abort,
+    index: &mut FootIndex,
+    number: u64,
+    reads: &[Pattern],
+    before: &[CellChange],
+) -> Result<(), Fail> {
+    if index.add(number, reads, before).is_ok() {
+        return Ok(());
+    }
+    assert_eq!(rt;
+        index.first_to_block_undo(before, number.saturating_sub(1)),
+        None
+    );
+    index.add(number, reads, before)?;
+    Ok(())
+}
+
 #[test]
 fn footprint_index_of_a_copy(rt: HostRuntime) -> Result<(), Fail> {
     let array = Name::new("A")?;
@@ -22,11 +42,8 @@ fn footprint_index_of_a_copy(rt: HostRuntime) -> Result<(), Fail> {
     let copied = [CellChange::new(target, None)];
     let reads_of_copy = [object, read(target), read(source)];
     let mut index = FootIndex::new(rt.alloc());
-    index.add(3, &[object, read(source)], &set)?;
-    if index.add(4, &reads_of_copy, &copied).is_err() {
-        assert_eq!(rt; index.first_to_block_undo(&set, 3), None);
-        index.add(4, &reads_of_copy, &copied)?;
-    }
+    add(&rt, &mut index, 3, &[object, read(source)], &set)?;
+    add(&rt, &mut index, 4, &reads_of_copy, &copied)?;
     let elements = [Pattern::Elements(array)];
     assert_eq!(rt; index.first_to_block_undo(&set, 2), Some(3));
     assert_eq!(rt; index.first_to_block_undo(&set, 3), Some(4));

@@ -84,8 +84,9 @@ impl<L: Opening> Desk<L> {
         }
     }
 
-    // A desk of 1 to 16 seats on the workbook of a history, and a pass for each seat. Where there is none, the history is given back.
-    pub(crate) fn open_at(
+    /// A desk of 1 to 16 seats on the workbook of a history, and a pass for each seat. Where there is none, the history is given back.
+    #[tactic(auto, using(crate::proofs::Runs::course_opens))]
+    pub fn open_at(
         alloc: Global,
         blank: Blank,
         seats: usize,

@@ -2,31 +2,28 @@
 
 ghost use Rattle.std.specs.Prelude.{◌≡◌, ℕ, slice_index, ◌<◌, Bool, true, false, List, [], ◌∷◌, ◌++◌, length, MatchBool, IfOk, IfErr, OnErr};
 ghost use Rattle.wb_shared.specs.Entries.{is_entered};
-ghost use Rattle.wb_shared.specs.Courses.{IsCourse};
 ghost use Rattle.wb_shared.specs.Serving.{Knows, IsStrange, Enters, entry, own_after, AnswersCourse};
 
 use crate::entry::Entry;
-use crate::opening::Opening;
 use crate::replying::replied;
 use std::alloc::Global;
-use std::marker::{Model, PhantomData};
+use std::marker::Model;
 use wb_history::{History, Refusal};
 use wb_proto::{Reply, Request};
 use wb_range::NoMemory;
 
 /// A history, and the journal of all that was asked of it and replied since the opening. Contracts see it as a course.
 #[derive(Drop)]
-pub(crate) struct Journal<L: Opening> {
+pub(crate) struct Journal {
     alloc: Global,
     history: History,
     entries: Vec<Entry>,
     counts: Vec<usize>,
-    opened: PhantomData<L>,
 }
 
-impl<L: Opening> Model for Journal<L> {
+impl Model for Journal {
     ghost use Rattle.std.specs.Prelude.{length};
-    ghost use Rattle.wb_shared.specs.Courses.{Course, course_code, Keeps};
+    ghost use Rattle.wb_shared.specs.Courses.{Course, course_code, AreCounts};
 
     ghost Value = { Course };
 
@@ -34,13 +31,12 @@ impl<L: Opening> Model for Journal<L> {
 
     ghost view = { λ a. record { seats = length a.counts.items; entries = a.entries.items; history = a.history } };
 
-    ghost invariant = { λ a. Keeps L.opening a.counts.items a.entries.items a.history };
+    ghost invariant = { λ a. AreCounts a.counts.items a.entries.items };
 }
 
-impl<L: Opening> Journal<L> {
+impl Journal {
     /// An empty journal for so many seats, at a history, which is given back where there is no memory.
-    pub(crate) fn at(alloc: Global, seats: usize, history: History) -> Result<Journal<L>, History>
-        requires opening { history ≡ L.opening }
+    pub(crate) fn at(alloc: Global, seats: usize, history: History) -> Result<Journal, History>
         ensures ok { IfOk result (λ j. j ≡ record { seats = seats; entries = []; history = history }) }
         ensures back { IfErr result (λ h. h ≡ history) }
     {
@@ -51,7 +47,6 @@ impl<L: Opening> Journal<L> {
                     history,
                     entries: Vec::new(alloc),
                     counts,
-                    opened: PhantomData,
                 })
             }
             Err(NoMemory) => Err(history),
@@ -65,8 +60,7 @@ impl<L: Opening> Journal<L> {
     }
 
     pub(crate) fn entries(&self) -> &[Entry]
-        ensures entries { result.now ≡ self.now.entries }
-        ensures course { IsCourse L.opening self.now }
+        ensures { result.now ≡ self.now.entries }
     {
         self.entries.as_slice()
     }
@@ -123,7 +117,6 @@ impl<L: Opening> Journal<L> {
 
     /// Answers a request of a seat, whose own entries these are, and enters the reply in the journal and among them.
     pub(crate) fn answer(&mut self, seat: usize, own: &mut Vec<Entry>, request: Request) -> Reply
-        ensures course { IsCourse L.opening self.old }
         ensures strange { IsStrange self.old seat own.old.items result }
         ensures answers { AnswersCourse self.old seat request result self.new }
         ensures own { own.new.items ≡ own_after seat own.old.items request result }

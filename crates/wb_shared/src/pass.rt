@@ -28,6 +28,24 @@ impl<L: Ledger> Model for Pass<L> {
 }
 
 impl<L: Ledger> Pass<L> {
+    /// A pass of its parts. A desk answers a pass that isn't one of its own, as it stands, that it is strange.
+    pub fn of_parts(seat: usize, own: Vec<Entry>, share: Share<L>) -> Pass<L>
+        requires amount { share.amount ≡ length own.items }
+        requires parts { share.parts ≡ 1 }
+        ensures { result ≡ record { seat = seat; own = own.items; share = share.amount } }
+    {
+        Pass { seat, own, share }
+    }
+
+    /// The seat, the entries and the share of a pass that is given up.
+    pub fn into_parts(self) -> (usize, Vec<Entry>, Share<L>)
+        ensures seat { result.0 ≡ self.seat }
+        ensures own { result.1.items ≡ self.own }
+        ensures share { (result.2.amount ≡ self.share) × (result.2.amount ≡ length self.own) × (result.2.parts ≡ 1) }
+    {
+        (self.seat, self.own, self.share)
+    }
+
     /// The seat.
     pub fn seat(&self) -> usize
         ensures { result ≡ self.now.seat }

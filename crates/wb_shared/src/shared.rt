@@ -19,13 +19,14 @@ use wb_proto::{Reply, Request};
 /// The locked value of a desk: the history, the journal, each seat's number of entries, and the ledger's book.
 #[derive(Drop)]
 pub struct Shared<L: Opening> {
-    pub(crate) journal: Journal<L>,
+    pub(crate) journal: Journal,
     pub(crate) calls: Book<L>,
     pub(crate) rest: Share<L>,
 }
 
 impl<L: Opening> Model for Shared<L> {
     ghost use Rattle.std.specs.Prelude.{◌≡◌, ◌+◌, length};
+    ghost use Rattle.wb_shared.specs.Courses.{IsCourse};
     ghost use Rattle.wb_shared.specs.Locked.{Locked, locked_code};
 
     ghost Value = { Locked };
@@ -34,7 +35,7 @@ impl<L: Opening> Model for Shared<L> {
 
     ghost view = { λ a. record { course = a.journal; total = a.calls.total } };
 
-    ghost invariant = { λ a. (a.calls.total ≡ length a.journal.entries) × (a.rest.amount ≡ 0) × (a.rest.parts + a.journal.seats ≡ 16) };
+    ghost invariant = { λ a. (a.calls.total ≡ length a.journal.entries) × (a.rest.amount ≡ 0) × (a.rest.parts + a.journal.seats ≡ 16) × IsCourse L.opening a.journal };
 }
 
 impl<L: Opening> Shared<L> {
@@ -51,7 +52,6 @@ impl<L: Opening> Shared<L> {
         ensures history { result.now ≡ self.now.course.history }
         ensures course { IsCourse L.opening self.now.course }
     {
-        let _course = self.journal.entries();
         self.journal.history()
     }
 

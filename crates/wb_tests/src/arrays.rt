@@ -30,7 +30,6 @@ fn reallocation_of_four(rt: HostRuntime) -> Result<(), Fail> {
     }
     assert_eq!(rt; whole.set([5], 9), Err(OutOfDomain));
     let mut array = Pieces::split(rt.alloc(), &blocks(2, 5, 2)?, &whole)?;
-    assert_eq!(rt; array.len(), 4);
     let dropped = array.reshape(&old, &new, 0)?;
     for (i, element) in [
         (2, None),
@@ -43,11 +42,10 @@ fn reallocation_of_four(rt: HostRuntime) -> Result<(), Fail> {
     }
     assert_eq!(rt; dropped.pairs(), [([1], 1), ([2], 2)].as_slice());
     assert!(rt; array.unreshape(&old, &new, dropped).is_ok());
-    let gathered = array.gather()?;
     for i in 1i64..5 {
-        assert_eq!(rt; gathered.get([i]), Some(i));
+        assert_eq!(rt; array.get([i]), Some(i), "back at {i}");
     }
-    assert_eq!(rt; gathered.len(), 4);
+    assert_eq!(rt; array.len(), 4);
     Ok(())
 }
 
@@ -64,20 +62,24 @@ fn indices_on(
     Ok(indices)
 }
 
+// Whether an array over 1 to 10 has these indices on the locales 1 and 3 of four.
+fn lies_on(alloc: Global, layout: &Layout<1>, second: &[i64], last: &[i64]) -> Result<bool, Fail> {
+    let whole = Bound::new(alloc, &line(1, 10)?)?;
+    let array = Pieces::split(alloc, layout, &whole)?;
+    if array.piece(4).err() != Some(PieceErr::NoLocale) {
+        return Ok(false);
+    }
+    Ok(
+        indices_on(alloc, &array, 1)?.as_slice() == second
+            && indices_on(alloc, &array, 3)?.as_slice() == last,
+    )
+}
+
 #[test]
 fn pieces_of_ten(rt: HostRuntime) -> Result<(), Fail> {
-    let whole = Bound::new(rt.alloc(), &line(1, 10)?)?;
     let in_turn = Layout::new(Distribution::Cyclic(Cyclic::new([1], [4])?));
-    for (layout, second, last) in [
-        (in_turn, [2, 6, 10].as_slice(), [4, 8].as_slice()),
-        (blocks(1, 10, 4)?, [4, 5].as_slice(), [9, 10].as_slice()),
-    ] {
-        let array = Pieces::split(rt.alloc(), &layout, &whole)?;
-        assert_eq!(rt; indices_on(rt.alloc(), &array, 1)?.as_slice(), second);
-        assert_eq!(rt; indices_on(rt.alloc(), &array, 3)?.as_slice(), last);
-        assert!(rt; array.pairs(4).is_none());
-        assert_eq!(rt; array.piece(4).err(), Some(PieceErr::NoLocale));
-    }
+    assert!(rt; lies_on(rt.alloc(), &in_turn, &[2, 6, 10], &[4, 8])?);
+    assert!(rt; lies_on(rt.alloc(), &blocks(1, 10, 4)?, &[4, 5], &[9, 10])?);
     Ok(())
 }
 

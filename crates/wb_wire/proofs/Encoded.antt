@@ -1,9 +1,8 @@
 -- The canonical object of a request is that request.
-use Rattle.std.proofs.Common.{◌≡◌, ◌∙◌, ◌≤◌, ◌<◌, ◌^◌, ℕ, ℤ, pos, negsuc, true, List, [], ◌∷◌, ◌++◌, codes, length, Option, Some, None, Ok, inl, inr, nat_eq, refl, sym, ap, subst, append-nil, if◌then◌else◌, arith, lt-ltb}
+use Rattle.std.proofs.Common.{◌≡◌, ◌∙◌, ◌≤◌, ◌^◌, ℕ, ℤ, pos, negsuc, List, [], ◌∷◌, codes, length, Option, Some, None, inl, inr, nat_eq, refl, sym, ap, subst, append-nil, if◌then◌else◌, arith, lt-ltb}
 use Rattle.std.proofs.lemmas.List.Elements.{recursion_from_All}
 use Rattle.serde_json.specs.Data.{unsigned, string}
-use Rattle.serde_json.specs.Find.{get_member, of_integer, as_i64}
-use Rattle.wb_assoc.specs.Labels.{IsLabel, is_label}
+use Rattle.serde_json.specs.Find.{get_member, of_integer}
 use Rattle.wb_range.specs.Canonical.{IsRange}
 use Rattle.wb_rect.specs.Product.{IsRectangle}
 use Rattle.wb_dist.specs.Maps.{LayoutMap, whole, block, cyclic, block_cyclic}
@@ -29,7 +28,7 @@ use Rattle.wb_proto.specs.declared.requests.request.Request.{Request}
 use Rattle.wb_wire.specs.Table.{Meaning, word, name, integer, number, index, given, mapping, optional_mapping, some_set, some_mapping, some_integer, Fields, table}
 use Rattle.wb_wire.specs.Spelled.{IsInteger, IsIndex, IsGiven, IsMapping, Spells, Says, without, HasFields, IsRequest}
 use Rattle.wb_wire.specs.Encoded.{given_text, data_of, members_of, request_data}
-use Rattle.wb_wire.specs.Proper.{AllWithin, IsPoint, IsText, ArePoints, AreTexts, AreAlike, IsProperGiven, IsProper, AreProper, IsProperRequest}
+use Rattle.wb_wire.specs.Proper.{AllWithin, ArePoints, AreTexts, AreAlike, IsProperGiven, IsProper, AreProper, IsProperRequest}
 use Rattle.wb_wire.proofs.Members.{found_by, same_key}
 
 -- ---- numbers and indices

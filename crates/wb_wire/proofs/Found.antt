@@ -1,13 +1,12 @@
 -- What is read as a request is that request.
-use Rattle.std.proofs.Common.{◌≡◌, ◌+◌, ℕ, ℤ, Bool, true, false, List, [], ◌∷◌, codes, length, Option, Some, None, Result, Ok, Err, refl, sym, ap, ◌∙◌, subst, nat_eq, if◌then◌else◌, arith, eqb-true}
+use Rattle.std.proofs.Common.{◌≡◌, ◌+◌, ℕ, ℤ, true, false, List, [], ◌∷◌, codes, length, Option, Some, None, Result, Ok, Err, refl, sym, ◌∙◌, subst, nat_eq, if◌then◌else◌, arith, eqb-true}
 use Rattle.std.specs.Prelude.{bytes_eq}
 use Rattle.std.specs.Option.{option_map_or}
 use Rattle.std.proofs.lemmas.Slice.Eq.{bytes_eq-Decides}
 use Rattle.serde_json.specs.Data.{Data, null, boolean, number as json_number, string, array, object, Members}
-use Rattle.serde_json.specs.Find.{get_member, as_str}
+use Rattle.serde_json.specs.Find.{get_member}
 use Rattle.wb_book.specs.Cells.{Name}
-use Rattle.wb_book.specs.declared.values.index.Index.{Index}
-use Rattle.wb_book.specs.declared.values.index.Index.TheVariants.{Point, Text}
+use Rattle.wb_book.specs.declared.values.index.Index.TheVariants.{Point}
 use Rattle.wb_edit.specs.declared.edit.Edit.TheVariants.{Domain, DomainOfSet, Remap, Reshape, Sparse, Assoc, DropDomain, Add, Remove, Array, Set, Irv, Copy, Fill, FillOfSet, FillAll, DropArray, All}
 use Rattle.wb_history.specs.declared.query.Query.TheVariants.{Get, Size, Where, Piece, State}
 use Rattle.wb_history.specs.declared.refusal.Refusal.{Refusal}

@@ -9,7 +9,7 @@ use Rattle.wb_history.specs.declared.refusal.Refusal.TheVariants.{BadRequest}
 use Rattle.wb_proto.specs.Fields.{◌>>=◌, member_count, has_fields}
 use Rattle.wb_proto.specs.Replies.{code_of}
 use Rattle.wb_proto.specs.declared.requests.request.Request.{Request}
-use Rattle.wb_wire.specs.Faults.{Fault, bad_request, bad_literal, too_large, bad_mapping, code, refusal_of, lines, HasKeys, NamesOp, IsWhole, Plain, Kind, plain, kind_of, Fails, IsFault, not_whole, of_member, IsLeastFault}
+use Rattle.wb_wire.specs.Faults.{Fault, bad_request, bad_literal, too_large, bad_mapping, code, refusal_of, forms, HasKeys, NamesOp, IsWhole, Plain, Kind, plain, kind_of, Fails, IsFault, not_whole, of_member, IsLeastFault}
 use Rattle.wb_wire.proofs.Values.{no_ok, some_same}
 use Rattle.wb_wire.proofs.Spellings.{count_read}
 use Rattle.wb_wire.proofs.Steps.{one_of, two_of, three_of, five_of}
@@ -162,9 +162,9 @@ pub field_bad_by : (ms : Members) (o k : List ℕ) → NamesOp ms o → {p : Pla
     → (get_member k ms ≡ None → IsWhole (object ms) → ⊥) → (why : Refusal) → read (get_member k ms) ≡ Err why → Refused (object ms) why
 field_bad_by ms o k s r kd lacking why e = bad_at ms o k s r kd lacking why (get_member k ms) refl e
 
--- a member that each line of the op has
+-- a member that each form of the op has
 pub field_bad : (ms : Members) (o k : List ℕ) → NamesOp ms o → {p : Plain} {A : Type 0} {read : Option Data → Result A Refusal} → IsReader (plain p) read → kind_of o k ≡ Some (plain p)
-    → list_all (passes o (has k)) lines ≡ true → (why : Refusal) → read (get_member k ms) ≡ Err why → Refused (object ms) why
+    → list_all (passes o (has k)) forms ≡ true → (why : Refusal) → read (get_member k ms) ≡ Err why → Refused (object ms) why
 field_bad ms o k s r kd a why e = field_bad_by ms o k s r kd (lacks ms o k s a) why e
 
 -- ---- all members
@@ -176,7 +176,7 @@ count_is false why e = err_same why BadRequest (sym e)
 pub uncounted : (ms : Members) (n : ℕ) (why : Refusal) → has_fields n (object ms) ≡ Err why → (why ≡ BadRequest) × (member_count ms ≡ n → ⊥)
 uncounted ms n why e = (count_is (nat_eq (member_count ms) n) why e, λ q. no_err (sym (count_read ms n q) ∙ e))
 
-pub count_bad : (ms : Members) (o : List ℕ) (n : ℕ) → NamesOp ms o → list_all (passes o (λ ks. nat_eq (length ks) n)) lines ≡ true → (why : Refusal) → has_fields (suc n) (object ms) ≡ Err why → Refused (object ms) why
+pub count_bad : (ms : Members) (o : List ℕ) (n : ℕ) → NamesOp ms o → list_all (passes o (λ ks. nat_eq (length ks) n)) forms ≡ true → (why : Refusal) → has_fields (suc n) (object ms) ≡ Err why → Refused (object ms) why
 count_bad ms o n s a why e = let x = uncounted ms (suc n) why e in first (object ms) why x.0 (not_whole refl (miscounted ms o n s a x.1))
 
 each_key : (P Q : List ℕ → Type 0) → ((k : List ℕ) → P k → Q k) → (ks : List (List ℕ)) → AllKeys ks P → AllKeys ks Q
@@ -186,7 +186,7 @@ each_key P Q h (k ∷ ks) a = (h k a.0, each_key P Q h ks a.1)
 pub whole_fine : (ms : Members) (o : List ℕ) (ks : List (List ℕ)) → NamesOp ms o → apart (codes "op" ∷ ks) ≡ true → member_count ms ≡ suc (length ks) → AllKeys ks (IsThere ms) → HasKeys ms (codes "op" ∷ ks)
 whole_fine ms o ks s a n t = keys_made (codes "op" ∷ ks) ms a n ((string o, s), t)
 
-pub all_fine : (ms : Members) (o : List ℕ) (ks : List (List ℕ)) → NamesOp ms o → Contains lines (o, ks) → apart (codes "op" ∷ ks) ≡ true → member_count ms ≡ suc (length ks) → AllKeys ks (Fine ms o) → NoFault (object ms)
+pub all_fine : (ms : Members) (o : List ℕ) (ks : List (List ℕ)) → NamesOp ms o → Contains forms (o, ks) → apart (codes "op" ∷ ks) ≡ true → member_count ms ≡ suc (length ks) → AllKeys ks (Fine ms o) → NoFault (object ms)
 all_fine ms o ks s c a n t = all_faults ms o ks (λ f. ⊥) s c (whole_fine ms o ks s a n (each_key (Fine ms o) (IsThere ms) (λ k x. x.0) ks t)) (each_key (Fine ms o) (λ k. (f : Fault) → FailsAt ms o k f → ⊥) (λ k x. x.1) ks t)
 
 -- no fault of a key's value has a lower code than f
@@ -196,11 +196,11 @@ IsAbove ms o f k = (g : Fault) → FailsAt ms o k g → code f ≤ code g
 pub fine_above : (ms : Members) (o k : List ℕ) (f : Fault) → Fine ms o k → IsAbove ms o f k
 fine_above ms o k f x g y = absurd (x.1 g y)
 
-pub least_of : (ms : Members) (o : List ℕ) (ks : List (List ℕ)) (f : Fault) → NamesOp ms o → Contains lines (o, ks) → HasKeys ms (codes "op" ∷ ks) → IsFault (object ms) f → AllKeys ks (IsAbove ms o f) → IsLeastFault (object ms) f
+pub least_of : (ms : Members) (o : List ℕ) (ks : List (List ℕ)) (f : Fault) → NamesOp ms o → Contains forms (o, ks) → HasKeys ms (codes "op" ∷ ks) → IsFault (object ms) f → AllKeys ks (IsAbove ms o f) → IsLeastFault (object ms) f
 least_of ms o ks f s c h x all = (x, all_faults ms o ks (λ g. code f ≤ code g) s c h all)
 
 -- the value of one member is refused, and no other has a lower code
-pub value_bad : (ms : Members) (o : List ℕ) (ks : List (List ℕ)) → NamesOp ms o → Contains lines (o, ks) → HasKeys ms (codes "op" ∷ ks) → (k : List ℕ) {kind : Kind} {A : Type 0} {read : Option Data → Result A Refusal}
+pub value_bad : (ms : Members) (o : List ℕ) (ks : List (List ℕ)) → NamesOp ms o → Contains forms (o, ks) → HasKeys ms (codes "op" ∷ ks) → (k : List ℕ) {kind : Kind} {A : Type 0} {read : Option Data → Result A Refusal}
     → IsReader kind read → kind_of o k ≡ Some kind → (v : Data) → get_member k ms ≡ Some v → (why : Refusal) → read (Some v) ≡ Err why
     → ((f : Fault) → IsAbove ms o f k → AllKeys ks (IsAbove ms o f)) → Refused (object ms) why
 value_bad ms o ks s c h k {kind} r kd v g why e all =

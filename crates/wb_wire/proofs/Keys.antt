@@ -8,7 +8,7 @@ use Rattle.serde_json.specs.Data.{Data, string, object, Members}
 use Rattle.serde_json.specs.Find.{get_member}
 use Rattle.wb_proto.specs.Fields.{member_count}
 use Rattle.wb_wire.specs.Spelled.{without}
-use Rattle.wb_wire.specs.Faults.{lines, HasKeys, NamesOp, IsWhole, Kind, kind_of, Fault, Fails, IsFault, not_whole, of_member}
+use Rattle.wb_wire.specs.Faults.{forms, HasKeys, NamesOp, IsWhole, Kind, kind_of, Fault, Fails, IsFault, not_whole, of_member}
 use Rattle.wb_wire.proofs.Members.{true_false, equal_key, same_key, other_same, count_out, there, free_parts, unequal, nothing_there}
 use Rattle.wb_wire.proofs.Values.{no_some}
 
@@ -74,18 +74,18 @@ at_key Q k (l ∷ ks) e h = elim (bytes_eq k l) as (λ b. bytes_eq k l ≡ b →
   | false ↦ λ s f. at_key Q k ks f h.1
 ] refl e
 
--- ---- the lines of an op
+-- ---- the forms of an op
 
 abbrev pub passes : List ℕ → (List (List ℕ) → Bool) → List ℕ × List (List ℕ) → Bool
 passes op p x = if bytes_eq op x.0 then p x.1 else true
 
-pub of_line : (op : List ℕ) (ks : List (List ℕ)) (p : List (List ℕ) → Bool) → list_all (passes op p) lines ≡ true → Contains lines (op, ks) → p ks ≡ true
-of_line op ks p a c =
-    let h : passes op p (op, ks) ≡ true = All-contains (λ x. passes op p x ≡ true) lines (op, ks) (AllPass-from_list_all (passes op p) lines a) c in
+pub of_form : (op : List ℕ) (ks : List (List ℕ)) (p : List (List ℕ) → Bool) → list_all (passes op p) forms ≡ true → Contains forms (op, ks) → p ks ≡ true
+of_form op ks p a c =
+    let h : passes op p (op, ks) ≡ true = All-contains (λ x. passes op p x ≡ true) forms (op, ks) (AllPass-from_list_all (passes op p) forms a) c in
     sym (ap (λ (b : Bool). if b then p ks else true) (same_key op)) ∙ h
 
-pub line_at : (k : ℕ) (x : List ℕ × List (List ℕ)) → nat_lt k (length lines) ≡ true → slice_index_or lines k x ≡ x → Contains lines x
-line_at k x h e = (k, ltb-true k (length lines) h, e)
+pub form_at : (k : ℕ) (x : List ℕ × List (List ℕ)) → nat_lt k (length forms) ≡ true → slice_index_or forms k x ≡ x → Contains forms x
+form_at k x h e = (k, ltb-true k (length forms) h, e)
 
 pub members_same : (ms ns : Members) → object ms ≡ object ns → ms ≡ ns
 members_same ms ns e = cc
@@ -93,14 +93,14 @@ members_same ms ns e = cc
 op_same : (op other : List ℕ) → Some (string op) ≡ Some (string other) → op ≡ other
 op_same op other e = cc
 
-whole_with : (ms : Members) (op : List ℕ) → NamesOp ms op → ((ks : List (List ℕ)) → Contains lines (op, ks) → HasKeys ms (codes "op" ∷ ks) → ⊥)
-    → (ns : Members) (other : List ℕ) (ks : List (List ℕ)) → ms ≡ ns → NamesOp ns other → Contains lines (other, ks) → HasKeys ns (codes "op" ∷ ks) → ⊥
+whole_with : (ms : Members) (op : List ℕ) → NamesOp ms op → ((ks : List (List ℕ)) → Contains forms (op, ks) → HasKeys ms (codes "op" ∷ ks) → ⊥)
+    → (ns : Members) (other : List ℕ) (ks : List (List ℕ)) → ms ≡ ns → NamesOp ns other → Contains forms (other, ks) → HasKeys ns (codes "op" ∷ ks) → ⊥
 whole_with ms op s h ns other ks m t c k =
     let o : op ≡ other = op_same op other (sym s ∙ subst (λ ms. NamesOp ms other) (sym m) t) in
-    h ks (subst (λ op. Contains lines (op, ks)) (sym o) c) (subst (λ ms. HasKeys ms (codes "op" ∷ ks)) (sym m) k)
+    h ks (subst (λ op. Contains forms (op, ks)) (sym o) c) (subst (λ ms. HasKeys ms (codes "op" ∷ ks)) (sym m) k)
 
--- An object that names an op isn't whole if it hasn't the members of any line of the op.
-pub not_whole_by : (ms : Members) (op : List ℕ) → NamesOp ms op → ((ks : List (List ℕ)) → Contains lines (op, ks) → HasKeys ms (codes "op" ∷ ks) → ⊥) → IsWhole (object ms) → ⊥
+-- An object that names an op isn't whole if it hasn't the members of any form of the op.
+pub not_whole_by : (ms : Members) (op : List ℕ) → NamesOp ms op → ((ks : List (List ℕ)) → Contains forms (op, ks) → HasKeys ms (codes "op" ∷ ks) → ⊥) → IsWhole (object ms) → ⊥
 not_whole_by ms op s h w = whole_with ms op s h w.0 w.1 w.2 (members_same ms w.0 w.3) w.4 w.5 w.6
 
 has_tail : (b c : Bool) → c ≡ true → (if b then true else c) ≡ true
@@ -110,11 +110,11 @@ has_tail false c e = e
 pub key_there : (k : List ℕ) (ks : List (List ℕ)) (ms : Members) → has k ks ≡ true → HasKeys ms (codes "op" ∷ ks) → IsThere ms k
 key_there k ks ms e h = keys_there k (codes "op" ∷ ks) ms (has_tail (bytes_eq k (codes "op")) (has k ks) e) h
 
-pub lacks : (ms : Members) (op k : List ℕ) → NamesOp ms op → list_all (passes op (has k)) lines ≡ true → get_member k ms ≡ None → IsWhole (object ms) → ⊥
-lacks ms op k s a n = not_whole_by ms op s (λ ks c h. let x = key_there k ks ms (of_line op ks (has k) a c) h in no_some x.0 (sym n ∙ x.1))
+pub lacks : (ms : Members) (op k : List ℕ) → NamesOp ms op → list_all (passes op (has k)) forms ≡ true → get_member k ms ≡ None → IsWhole (object ms) → ⊥
+lacks ms op k s a n = not_whole_by ms op s (λ ks c h. let x = key_there k ks ms (of_form op ks (has k) a c) h in no_some x.0 (sym n ∙ x.1))
 
-pub miscounted : (ms : Members) (op : List ℕ) (n : ℕ) → NamesOp ms op → list_all (passes op (λ ks. nat_eq (length ks) n)) lines ≡ true → (member_count ms ≡ suc n → ⊥) → IsWhole (object ms) → ⊥
-miscounted ms op n s a other = not_whole_by ms op s (λ ks c h. other (keys_counted (codes "op" ∷ ks) ms h ∙ ap suc (eqb-true (length ks) n (of_line op ks (λ ks. nat_eq (length ks) n) a c))))
+pub miscounted : (ms : Members) (op : List ℕ) (n : ℕ) → NamesOp ms op → list_all (passes op (λ ks. nat_eq (length ks) n)) forms ≡ true → (member_count ms ≡ suc n → ⊥) → IsWhole (object ms) → ⊥
+miscounted ms op n s a other = not_whole_by ms op s (λ ks c h. other (keys_counted (codes "op" ∷ ks) ms h ∙ ap suc (eqb-true (length ks) n (of_form op ks (λ ks. nat_eq (length ks) n) a c))))
 
 -- ---- all faults of an object that is whole
 
@@ -138,7 +138,7 @@ member_with ms op P fault s h ns other k kind v m t kd g f =
     let o : op ≡ other = op_same op other (sym s ∙ subst (λ ms. NamesOp ms other) (sym m) t) in
     h k (kind, v, subst (λ op. kind_of op k ≡ Some kind) (sym o) kd, subst (λ ms. get_member k ms ≡ Some v) (sym m) g, f)
 
-pub all_faults : (ms : Members) (op : List ℕ) (ks : List (List ℕ)) (P : Fault → Type 0) → NamesOp ms op → Contains lines (op, ks) → HasKeys ms (codes "op" ∷ ks)
+pub all_faults : (ms : Members) (op : List ℕ) (ks : List (List ℕ)) (P : Fault → Type 0) → NamesOp ms op → Contains forms (op, ks) → HasKeys ms (codes "op" ∷ ks)
     → AllKeys ks (λ k. (g : Fault) → FailsAt ms op k g → P g) → (fault : Fault) → IsFault (object ms) fault → P fault
 all_faults ms op ks P s c h all fault (not_whole e other) = absurd (other (ms, op, ks, refl, s, c, h))
 all_faults ms op ks P s c h all fault (of_member m) =

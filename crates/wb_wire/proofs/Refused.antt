@@ -30,14 +30,14 @@ use Rattle.wb_proto.specs.Sources.{to_by, slice_by, displace_by, combine_by, sou
 use Rattle.wb_proto.specs.Requests.{domain_with, domain_by, domain_of, remap_of, reshape_of, fill_over, fill_of, undo_by_number, undo_of, print_of, by_op, request_of, array_of, drop_array_of, set_of, fill_all_of, copy_of, irv_of, all_of, sparse_of, assoc_of, add_of, remove_of, drop_domain_of, redo_of, get_of, where_of, size_of, piece_of, state_of}
 use Rattle.wb_proto.specs.declared.requests.request.Request.{Request}
 use Rattle.wb_proto.specs.declared.requests.request.Request.TheVariants.{Change, Undo, Redo, Ask, Print}
-use Rattle.wb_wire.specs.Faults.{Fault, bad_request, bad_literal, too_large, bad_mapping, code, refusal_of, lines, HasKeys, NamesOp, IsWhole, Kind, kind_of, Fails, not_whole}
+use Rattle.wb_wire.specs.Faults.{Fault, bad_request, bad_literal, too_large, bad_mapping, code, refusal_of, forms, HasKeys, NamesOp, IsWhole, Kind, kind_of, Fails, not_whole}
 use Rattle.wb_wire.specs.Faults as kinds
 use Rattle.wb_wire.proofs.Members.{true_false, equal_key}
 use Rattle.wb_wire.proofs.Values.{no_ok, some_of_ok, no_some, mapped, str_found, text_in, text_found, text_read, integer_in}
 use Rattle.wb_wire.proofs.Spellings.{count_found, domain_found, domain_read, literal_read}
 use Rattle.wb_wire.proofs.Steps.{two_of}
 use Rattle.wb_wire.proofs.Found.{Reader, by_first, readers}
-use Rattle.wb_wire.proofs.Keys.{has, apart, AllKeys, keys_counted, no_more, of_line, line_at, members_same, not_whole_by, key_there, passes, lacks, FailsAt}
+use Rattle.wb_wire.proofs.Keys.{has, apart, AllKeys, keys_counted, no_more, of_form, form_at, members_same, not_whole_by, key_there, passes, lacks, FailsAt}
 use Rattle.wb_wire.proofs.Failing.{err_same, no_err, or_only, IsReader, name_in, name_reader, key_type_reader, operation_reader, integer_reader, number_reader, index_reader, offsets_reader, text_bad, unspelled_domain, unspelled_mapping, rectangle_err, domain_judged, domain_in, domain_reader, mapping_in, mapping_reader, string_same, source_reader}
 use Rattle.wb_wire.proofs.Judged.{refusal_same, NoFault, Refused, Judges, Judged, IsJudged, first, bind_judged, one_judged, two_judged, three_judged, five_judged, fails_there, member_fault, Fine, fine, field_bad, field_bad_by, uncounted, count_bad, whole_fine, all_fine, IsAbove, fine_above, least_of, value_bad}
 use Rattle.std.specs.List.{list_all}
@@ -48,114 +48,114 @@ sparse_judged : IsJudged (codes "sparse") sparse_of
 sparse_judged ms s =
     let o = codes "sparse" in
     two_judged (Judged ms) (has_fields 3 (object ms)) (name_field (codes "d") (object ms)) (name_field (codes "of") (object ms)) (λ d parent. Ok (Change (Sparse d parent))) (λ why. count_bad ms o 2 s refl why) (λ why. field_bad ms o (codes "d") s name_reader refl refl why) (λ why. field_bad ms o (codes "of") s name_reader refl refl why)
-    (λ a b n p q. all_fine ms o (codes "d" ∷ codes "of" ∷ []) s (line_at 2 (o, codes "d" ∷ codes "of" ∷ []) refl refl) refl (count_found ms 3 tt n) (fine ms o (codes "d") name_reader refl a p, (fine ms o (codes "of") name_reader refl b q, tt)))
+    (λ a b n p q. all_fine ms o (codes "d" ∷ codes "of" ∷ []) s (form_at 2 (o, codes "d" ∷ codes "of" ∷ []) refl refl) refl (count_found ms 3 tt n) (fine ms o (codes "d") name_reader refl a p, (fine ms o (codes "of") name_reader refl b q, tt)))
 
 assoc_judged : IsJudged (codes "assoc") assoc_of
 assoc_judged ms s =
     let o = codes "assoc" in
     two_judged (Judged ms) (has_fields 3 (object ms)) (name_field (codes "d") (object ms)) (key_type_field (codes "of") (object ms)) (λ d type. Ok (Change (Assoc d type))) (λ why. count_bad ms o 2 s refl why) (λ why. field_bad ms o (codes "d") s name_reader refl refl why) (λ why. field_bad ms o (codes "of") s key_type_reader refl refl why)
-    (λ a b n p q. all_fine ms o (codes "d" ∷ codes "of" ∷ []) s (line_at 3 (o, codes "d" ∷ codes "of" ∷ []) refl refl) refl (count_found ms 3 tt n) (fine ms o (codes "d") name_reader refl a p, (fine ms o (codes "of") key_type_reader refl b q, tt)))
+    (λ a b n p q. all_fine ms o (codes "d" ∷ codes "of" ∷ []) s (form_at 3 (o, codes "d" ∷ codes "of" ∷ []) refl refl) refl (count_found ms 3 tt n) (fine ms o (codes "d") name_reader refl a p, (fine ms o (codes "of") key_type_reader refl b q, tt)))
 
 drop_domain_judged : IsJudged (codes "drop_domain") drop_domain_of
 drop_domain_judged ms s =
     let o = codes "drop_domain" in
     one_judged (Judged ms) (has_fields 2 (object ms)) (name_field (codes "d") (object ms)) (λ d. Ok (Change (DropDomain d))) (λ why. count_bad ms o 1 s refl why) (λ why. field_bad ms o (codes "d") s name_reader refl refl why)
-    (λ a n p. all_fine ms o (codes "d" ∷ []) s (line_at 4 (o, codes "d" ∷ []) refl refl) refl (count_found ms 2 tt n) (fine ms o (codes "d") name_reader refl a p, tt))
+    (λ a n p. all_fine ms o (codes "d" ∷ []) s (form_at 4 (o, codes "d" ∷ []) refl refl) refl (count_found ms 2 tt n) (fine ms o (codes "d") name_reader refl a p, tt))
 
 add_judged : IsJudged (codes "add") add_of
 add_judged ms s =
     let o = codes "add" in
     two_judged (Judged ms) (has_fields 3 (object ms)) (name_field (codes "d") (object ms)) (index_field (codes "i") (object ms)) (λ d i. Ok (Change (Add d i))) (λ why. count_bad ms o 2 s refl why) (λ why. field_bad ms o (codes "d") s name_reader refl refl why) (λ why. field_bad ms o (codes "i") s index_reader refl refl why)
-    (λ a b n p q. all_fine ms o (codes "d" ∷ codes "i" ∷ []) s (line_at 13 (o, codes "d" ∷ codes "i" ∷ []) refl refl) refl (count_found ms 3 tt n) (fine ms o (codes "d") name_reader refl a p, (fine ms o (codes "i") index_reader refl b q, tt)))
+    (λ a b n p q. all_fine ms o (codes "d" ∷ codes "i" ∷ []) s (form_at 13 (o, codes "d" ∷ codes "i" ∷ []) refl refl) refl (count_found ms 3 tt n) (fine ms o (codes "d") name_reader refl a p, (fine ms o (codes "i") index_reader refl b q, tt)))
 
 remove_judged : IsJudged (codes "remove") remove_of
 remove_judged ms s =
     let o = codes "remove" in
     two_judged (Judged ms) (has_fields 3 (object ms)) (name_field (codes "d") (object ms)) (index_field (codes "i") (object ms)) (λ d i. Ok (Change (Remove d i))) (λ why. count_bad ms o 2 s refl why) (λ why. field_bad ms o (codes "d") s name_reader refl refl why) (λ why. field_bad ms o (codes "i") s index_reader refl refl why)
-    (λ a b n p q. all_fine ms o (codes "d" ∷ codes "i" ∷ []) s (line_at 14 (o, codes "d" ∷ codes "i" ∷ []) refl refl) refl (count_found ms 3 tt n) (fine ms o (codes "d") name_reader refl a p, (fine ms o (codes "i") index_reader refl b q, tt)))
+    (λ a b n p q. all_fine ms o (codes "d" ∷ codes "i" ∷ []) s (form_at 14 (o, codes "d" ∷ codes "i" ∷ []) refl refl) refl (count_found ms 3 tt n) (fine ms o (codes "d") name_reader refl a p, (fine ms o (codes "i") index_reader refl b q, tt)))
 
 array_judged : IsJudged (codes "array") array_of
 array_judged ms s =
     let o = codes "array" in
     two_judged (Judged ms) (has_fields 3 (object ms)) (name_field (codes "a") (object ms)) (name_field (codes "d") (object ms)) (λ a d. Ok (Change (Array a d))) (λ why. count_bad ms o 2 s refl why) (λ why. field_bad ms o (codes "a") s name_reader refl refl why) (λ why. field_bad ms o (codes "d") s name_reader refl refl why)
-    (λ a b n p q. all_fine ms o (codes "a" ∷ codes "d" ∷ []) s (line_at 16 (o, codes "a" ∷ codes "d" ∷ []) refl refl) refl (count_found ms 3 tt n) (fine ms o (codes "a") name_reader refl a p, (fine ms o (codes "d") name_reader refl b q, tt)))
+    (λ a b n p q. all_fine ms o (codes "a" ∷ codes "d" ∷ []) s (form_at 16 (o, codes "a" ∷ codes "d" ∷ []) refl refl) refl (count_found ms 3 tt n) (fine ms o (codes "a") name_reader refl a p, (fine ms o (codes "d") name_reader refl b q, tt)))
 
 drop_array_judged : IsJudged (codes "drop_array") drop_array_of
 drop_array_judged ms s =
     let o = codes "drop_array" in
     one_judged (Judged ms) (has_fields 2 (object ms)) (name_field (codes "a") (object ms)) (λ a. Ok (Change (DropArray a))) (λ why. count_bad ms o 1 s refl why) (λ why. field_bad ms o (codes "a") s name_reader refl refl why)
-    (λ a n p. all_fine ms o (codes "a" ∷ []) s (line_at 17 (o, codes "a" ∷ []) refl refl) refl (count_found ms 2 tt n) (fine ms o (codes "a") name_reader refl a p, tt))
+    (λ a n p. all_fine ms o (codes "a" ∷ []) s (form_at 17 (o, codes "a" ∷ []) refl refl) refl (count_found ms 2 tt n) (fine ms o (codes "a") name_reader refl a p, tt))
 
 set_judged : IsJudged (codes "set") set_of
 set_judged ms s =
     let o = codes "set" in
     three_judged (Judged ms) (has_fields 4 (object ms)) (name_field (codes "a") (object ms)) (index_field (codes "i") (object ms)) (i64_field (codes "v") (object ms)) (λ a i v. Ok (Change (Set a i v))) (λ why. count_bad ms o 3 s refl why) (λ why. field_bad ms o (codes "a") s name_reader refl refl why) (λ why. field_bad ms o (codes "i") s index_reader refl refl why) (λ why. field_bad ms o (codes "v") s integer_reader refl refl why)
-    (λ a b c n p q r. all_fine ms o (codes "a" ∷ codes "i" ∷ codes "v" ∷ []) s (line_at 18 (o, codes "a" ∷ codes "i" ∷ codes "v" ∷ []) refl refl) refl (count_found ms 4 tt n) (fine ms o (codes "a") name_reader refl a p, (fine ms o (codes "i") index_reader refl b q, (fine ms o (codes "v") integer_reader refl c r, tt))))
+    (λ a b c n p q r. all_fine ms o (codes "a" ∷ codes "i" ∷ codes "v" ∷ []) s (form_at 18 (o, codes "a" ∷ codes "i" ∷ codes "v" ∷ []) refl refl) refl (count_found ms 4 tt n) (fine ms o (codes "a") name_reader refl a p, (fine ms o (codes "i") index_reader refl b q, (fine ms o (codes "v") integer_reader refl c r, tt))))
 
 fill_all_judged : IsJudged (codes "fill_all") fill_all_of
 fill_all_judged ms s =
     let o = codes "fill_all" in
     two_judged (Judged ms) (has_fields 3 (object ms)) (name_field (codes "a") (object ms)) (i64_field (codes "v") (object ms)) (λ a v. Ok (Change (FillAll a v))) (λ why. count_bad ms o 2 s refl why) (λ why. field_bad ms o (codes "a") s name_reader refl refl why) (λ why. field_bad ms o (codes "v") s integer_reader refl refl why)
-    (λ a b n p q. all_fine ms o (codes "a" ∷ codes "v" ∷ []) s (line_at 20 (o, codes "a" ∷ codes "v" ∷ []) refl refl) refl (count_found ms 3 tt n) (fine ms o (codes "a") name_reader refl a p, (fine ms o (codes "v") integer_reader refl b q, tt)))
+    (λ a b n p q. all_fine ms o (codes "a" ∷ codes "v" ∷ []) s (form_at 20 (o, codes "a" ∷ codes "v" ∷ []) refl refl) refl (count_found ms 3 tt n) (fine ms o (codes "a") name_reader refl a p, (fine ms o (codes "v") integer_reader refl b q, tt)))
 
 irv_judged : IsJudged (codes "irv") irv_of
 irv_judged ms s =
     let o = codes "irv" in
     two_judged (Judged ms) (has_fields 3 (object ms)) (name_field (codes "a") (object ms)) (i64_field (codes "v") (object ms)) (λ a v. Ok (Change (Irv a v))) (λ why. count_bad ms o 2 s refl why) (λ why. field_bad ms o (codes "a") s name_reader refl refl why) (λ why. field_bad ms o (codes "v") s integer_reader refl refl why)
-    (λ a b n p q. all_fine ms o (codes "a" ∷ codes "v" ∷ []) s (line_at 21 (o, codes "a" ∷ codes "v" ∷ []) refl refl) refl (count_found ms 3 tt n) (fine ms o (codes "a") name_reader refl a p, (fine ms o (codes "v") integer_reader refl b q, tt)))
+    (λ a b n p q. all_fine ms o (codes "a" ∷ codes "v" ∷ []) s (form_at 21 (o, codes "a" ∷ codes "v" ∷ []) refl refl) refl (count_found ms 3 tt n) (fine ms o (codes "a") name_reader refl a p, (fine ms o (codes "v") integer_reader refl b q, tt)))
 
 copy_judged : IsJudged (codes "copy") copy_of
 copy_judged ms s =
     let o = codes "copy" in
     five_judged (Judged ms) (has_fields 6 (object ms)) (name_field (codes "a") (object ms)) (index_field (codes "i") (object ms)) (name_field (codes "b") (object ms)) (index_field (codes "j") (object ms)) (i64_field (codes "c") (object ms)) (λ a i b j c. Ok (Change (Copy a i b j c))) (λ why. count_bad ms o 5 s refl why) (λ why. field_bad ms o (codes "a") s name_reader refl refl why) (λ why. field_bad ms o (codes "i") s index_reader refl refl why) (λ why. field_bad ms o (codes "b") s name_reader refl refl why) (λ why. field_bad ms o (codes "j") s index_reader refl refl why) (λ why. field_bad ms o (codes "c") s integer_reader refl refl why)
-    (λ a b c d e n p q r t w. all_fine ms o (codes "a" ∷ codes "i" ∷ codes "b" ∷ codes "j" ∷ codes "c" ∷ []) s (line_at 22 (o, codes "a" ∷ codes "i" ∷ codes "b" ∷ codes "j" ∷ codes "c" ∷ []) refl refl) refl (count_found ms 6 tt n) (fine ms o (codes "a") name_reader refl a p, (fine ms o (codes "i") index_reader refl b q, (fine ms o (codes "b") name_reader refl c r, (fine ms o (codes "j") index_reader refl d t, (fine ms o (codes "c") integer_reader refl e w, tt))))))
+    (λ a b c d e n p q r t w. all_fine ms o (codes "a" ∷ codes "i" ∷ codes "b" ∷ codes "j" ∷ codes "c" ∷ []) s (form_at 22 (o, codes "a" ∷ codes "i" ∷ codes "b" ∷ codes "j" ∷ codes "c" ∷ []) refl refl) refl (count_found ms 6 tt n) (fine ms o (codes "a") name_reader refl a p, (fine ms o (codes "i") index_reader refl b q, (fine ms o (codes "b") name_reader refl c r, (fine ms o (codes "j") index_reader refl d t, (fine ms o (codes "c") integer_reader refl e w, tt))))))
 
 all_judged : IsJudged (codes "all") all_of
 all_judged ms s =
     let o = codes "all" in
     three_judged (Judged ms) (has_fields 4 (object ms)) (name_field (codes "a") (object ms)) (operation_field (codes "how") (object ms)) (name_field (codes "b") (object ms)) (λ a how b. Ok (Change (All a how b))) (λ why. count_bad ms o 3 s refl why) (λ why. field_bad ms o (codes "a") s name_reader refl refl why) (λ why. field_bad ms o (codes "how") s operation_reader refl refl why) (λ why. field_bad ms o (codes "b") s name_reader refl refl why)
-    (λ a b c n p q r. all_fine ms o (codes "a" ∷ codes "how" ∷ codes "b" ∷ []) s (line_at 23 (o, codes "a" ∷ codes "how" ∷ codes "b" ∷ []) refl refl) refl (count_found ms 4 tt n) (fine ms o (codes "a") name_reader refl a p, (fine ms o (codes "how") operation_reader refl b q, (fine ms o (codes "b") name_reader refl c r, tt))))
+    (λ a b c n p q r. all_fine ms o (codes "a" ∷ codes "how" ∷ codes "b" ∷ []) s (form_at 23 (o, codes "a" ∷ codes "how" ∷ codes "b" ∷ []) refl refl) refl (count_found ms 4 tt n) (fine ms o (codes "a") name_reader refl a p, (fine ms o (codes "how") operation_reader refl b q, (fine ms o (codes "b") name_reader refl c r, tt))))
 
 redo_judged : IsJudged (codes "redo") redo_of
 redo_judged ms s =
     let o = codes "redo" in
     one_judged (Judged ms) (has_fields 2 (object ms)) (u64_field (codes "k") (object ms)) (λ k. Ok (Redo k)) (λ why. count_bad ms o 1 s refl why) (λ why. field_bad ms o (codes "k") s number_reader refl refl why)
-    (λ a n p. all_fine ms o (codes "k" ∷ []) s (line_at 26 (o, codes "k" ∷ []) refl refl) refl (count_found ms 2 tt n) (fine ms o (codes "k") number_reader refl a p, tt))
+    (λ a n p. all_fine ms o (codes "k" ∷ []) s (form_at 26 (o, codes "k" ∷ []) refl refl) refl (count_found ms 2 tt n) (fine ms o (codes "k") number_reader refl a p, tt))
 
 get_judged : IsJudged (codes "get") get_of
 get_judged ms s =
     let o = codes "get" in
     two_judged (Judged ms) (has_fields 3 (object ms)) (name_field (codes "a") (object ms)) (index_field (codes "i") (object ms)) (λ a i. Ok (Ask (Get a i))) (λ why. count_bad ms o 2 s refl why) (λ why. field_bad ms o (codes "a") s name_reader refl refl why) (λ why. field_bad ms o (codes "i") s index_reader refl refl why)
-    (λ a b n p q. all_fine ms o (codes "a" ∷ codes "i" ∷ []) s (line_at 27 (o, codes "a" ∷ codes "i" ∷ []) refl refl) refl (count_found ms 3 tt n) (fine ms o (codes "a") name_reader refl a p, (fine ms o (codes "i") index_reader refl b q, tt)))
+    (λ a b n p q. all_fine ms o (codes "a" ∷ codes "i" ∷ []) s (form_at 27 (o, codes "a" ∷ codes "i" ∷ []) refl refl) refl (count_found ms 3 tt n) (fine ms o (codes "a") name_reader refl a p, (fine ms o (codes "i") index_reader refl b q, tt)))
 
 where_judged : IsJudged (codes "where") where_of
 where_judged ms s =
     let o = codes "where" in
     two_judged (Judged ms) (has_fields 3 (object ms)) (name_field (codes "d") (object ms)) (index_field (codes "i") (object ms)) (λ d i. Ok (Ask (Where d i))) (λ why. count_bad ms o 2 s refl why) (λ why. field_bad ms o (codes "d") s name_reader refl refl why) (λ why. field_bad ms o (codes "i") s index_reader refl refl why)
-    (λ a b n p q. all_fine ms o (codes "d" ∷ codes "i" ∷ []) s (line_at 28 (o, codes "d" ∷ codes "i" ∷ []) refl refl) refl (count_found ms 3 tt n) (fine ms o (codes "d") name_reader refl a p, (fine ms o (codes "i") index_reader refl b q, tt)))
+    (λ a b n p q. all_fine ms o (codes "d" ∷ codes "i" ∷ []) s (form_at 28 (o, codes "d" ∷ codes "i" ∷ []) refl refl) refl (count_found ms 3 tt n) (fine ms o (codes "d") name_reader refl a p, (fine ms o (codes "i") index_reader refl b q, tt)))
 
 size_judged : IsJudged (codes "size") size_of
 size_judged ms s =
     let o = codes "size" in
     one_judged (Judged ms) (has_fields 2 (object ms)) (name_field (codes "d") (object ms)) (λ d. Ok (Ask (Size d))) (λ why. count_bad ms o 1 s refl why) (λ why. field_bad ms o (codes "d") s name_reader refl refl why)
-    (λ a n p. all_fine ms o (codes "d" ∷ []) s (line_at 29 (o, codes "d" ∷ []) refl refl) refl (count_found ms 2 tt n) (fine ms o (codes "d") name_reader refl a p, tt))
+    (λ a n p. all_fine ms o (codes "d" ∷ []) s (form_at 29 (o, codes "d" ∷ []) refl refl) refl (count_found ms 2 tt n) (fine ms o (codes "d") name_reader refl a p, tt))
 
 piece_judged : IsJudged (codes "piece") piece_of
 piece_judged ms s =
     let o = codes "piece" in
     two_judged (Judged ms) (has_fields 3 (object ms)) (name_field (codes "a") (object ms)) (u64_field (codes "l") (object ms)) (λ a l. Ok (Ask (Piece a l))) (λ why. count_bad ms o 2 s refl why) (λ why. field_bad ms o (codes "a") s name_reader refl refl why) (λ why. field_bad ms o (codes "l") s number_reader refl refl why)
-    (λ a b n p q. all_fine ms o (codes "a" ∷ codes "l" ∷ []) s (line_at 30 (o, codes "a" ∷ codes "l" ∷ []) refl refl) refl (count_found ms 3 tt n) (fine ms o (codes "a") name_reader refl a p, (fine ms o (codes "l") number_reader refl b q, tt)))
+    (λ a b n p q. all_fine ms o (codes "a" ∷ codes "l" ∷ []) s (form_at 30 (o, codes "a" ∷ codes "l" ∷ []) refl refl) refl (count_found ms 3 tt n) (fine ms o (codes "a") name_reader refl a p, (fine ms o (codes "l") number_reader refl b q, tt)))
 
 state_judged : IsJudged (codes "state") state_of
 state_judged ms s =
     let o = codes "state" in
     one_judged (Judged ms) (has_fields 2 (object ms)) (u64_field (codes "k") (object ms)) (λ k. Ok (Ask (State k))) (λ why. count_bad ms o 1 s refl why) (λ why. field_bad ms o (codes "k") s number_reader refl refl why)
-    (λ a n p. all_fine ms o (codes "k" ∷ []) s (line_at 31 (o, codes "k" ∷ []) refl refl) refl (count_found ms 2 tt n) (fine ms o (codes "k") number_reader refl a p, tt))
+    (λ a n p. all_fine ms o (codes "k" ∷ []) s (form_at 31 (o, codes "k" ∷ []) refl refl) refl (count_found ms 2 tt n) (fine ms o (codes "k") number_reader refl a p, tt))
 
 -- ---- the ops with one literal
 
 -- a text where a literal is wanted
-text_field_bad : (ms : Members) (o k : List ℕ) (kind : Kind) → NamesOp ms o → ((v : Data) → ((t : List ℕ) → v ≡ string t → ⊥) → Fails kind v bad_request) → kind_of o k ≡ Some kind → list_all (passes o (has k)) lines ≡ true
+text_field_bad : (ms : Members) (o k : List ℕ) (kind : Kind) → NamesOp ms o → ((v : Data) → ((t : List ℕ) → v ≡ string t → ⊥) → Fails kind v bad_request) → kind_of o k ≡ Some kind → list_all (passes o (has k)) forms ≡ true
     → (why : Refusal) (v : Option Data) → get_member k ms ≡ v → text_in v ≡ Err why → Refused (object ms) why
 text_field_bad ms o k kind s h kd a why None g e = first (object ms) why (err_same why BadRequest (sym e)) (not_whole refl (lacks ms o k s a g))
 text_field_bad ms o k kind s h kd a why (Some v) g e = let b = text_bad v why e in first (object ms) why b.0 (member_fault ms o k kind v bad_request s kd g (h v b.1))
@@ -181,7 +181,7 @@ remap_judged ms s =
         → Judged ms (literal_mapping text >>= (λ spelled. mapping_within spelled >>= (λ m. Ok (Change (Remap d m)))))
     with_map d text n p at =
         let o = codes "remap" in let ks = codes "d" ∷ codes "map" ∷ [] in
-        let c : Contains lines (o, ks) = line_at 15 (o, ks) refl refl in
+        let c : Contains forms (o, ks) = form_at 15 (o, ks) refl refl in
         let named : Fine ms o (codes "d") = fine ms o (codes "d") name_reader refl d p in
         spelled_judged (Judged ms) (literal_mapping text) mapping_within (λ m. Change (Remap d m))
         (λ why e. value_bad ms o ks s c (whole_fine ms o ks s refl (count_found ms 3 tt n) (named.0, ((string text, at), tt))) (codes "map") mapping_reader refl (string text) at why e (λ f same. (fine_above ms o (codes "d") f named, (same, tt))))
@@ -219,7 +219,7 @@ fill_judged ms s =
         → Judged ms (literal_domain text >>= (λ l. fill_over a l v))
     with_text a text v n p at q =
         let o = codes "fill" in let ks = codes "a" ∷ codes "on" ∷ codes "v" ∷ [] in
-        let c : Contains lines (o, ks) = line_at 19 (o, ks) refl refl in
+        let c : Contains forms (o, ks) = form_at 19 (o, ks) refl refl in
         let named : Fine ms o (codes "a") = fine ms o (codes "a") name_reader refl a p in
         let value : Fine ms o (codes "v") = fine ms o (codes "v") integer_reader refl v q in
         let bad : (why : Refusal) → domain_in (Some (string text)) ≡ Err why → Refused (object ms) why = λ why e. value_bad ms o ks s c (whole_fine ms o ks s refl (count_found ms 4 tt n) (named.0, ((string text, at), (value.0, tt))))
@@ -262,7 +262,7 @@ module _ (ms : Members) (s : NamesOp ms (codes "domain")) where
       → Judged ms (domain_by d text None)
   without_map d text none n p at =
       let o = codes "domain" in let ks = codes "d" ∷ codes "is" ∷ [] in
-      let c : Contains lines (o, ks) = line_at 0 (o, ks) refl refl in
+      let c : Contains forms (o, ks) = form_at 0 (o, ks) refl refl in
       let named : Fine ms o (codes "d") = fine ms o (codes "d") name_reader refl d p in
       let bad : (why : Refusal) → domain_in (Some (string text)) ≡ Err why → Refused (object ms) why = λ why e. value_bad ms o ks s c (whole_fine ms o ks s refl (count_found ms 3 tt n) (named.0, ((string text, at), tt)))
       (codes "is") domain_reader refl (string text) at why e (λ f same. (fine_above ms o (codes "d") f named, (same, tt))) in
@@ -276,7 +276,7 @@ module _ (ms : Members) (s : NamesOp ms (codes "domain")) where
       → Judged ms (domain_by d text (Some map))
   with_map d text map mapped n p at =
       let o = codes "domain" in let ks = codes "d" ∷ codes "is" ∷ codes "map" ∷ [] in
-      let c : Contains lines (o, ks) = line_at 1 (o, ks) refl refl in
+      let c : Contains forms (o, ks) = form_at 1 (o, ks) refl refl in
       let named : Fine ms o (codes "d") = fine ms o (codes "d") name_reader refl d p in
       let h : HasKeys ms (codes "op" ∷ ks) = whole_fine ms o ks s refl (count_found ms 4 tt n) (named.0, ((string text, at), ((string map, mapped), tt))) in
       let is_fails : (g : Fault) → FailsAt ms o (codes "is") g → Fails kinds.domain (string text) g = λ g x. fails_there ms o (codes "is") kinds.domain (string text) g refl at x in
@@ -323,7 +323,7 @@ module _ (ms : Members) (s : NamesOp ms (codes "domain")) where
 
   counted_without : get_member (codes "map") ms ≡ None → (member_count ms ≡ 3 → ⊥) → IsWhole (object ms) → ⊥
   counted_without none other = not_whole_by ms (codes "domain") s (λ ks c h.
-      let p = of_line (codes "domain") ks (λ ks. if has (codes "map") ks then true else nat_eq (length ks) 2) refl c in
+      let p = of_form (codes "domain") ks (λ ks. if has (codes "map") ks then true else nat_eq (length ks) 2) refl c in
       elim (has (codes "map") ks) as (λ b. has (codes "map") ks ≡ b → (if b then true else nat_eq (length ks) 2) ≡ true → ⊥) [
         | true ↦ λ e q. let x = key_there (codes "map") ks ms e h in no_some x.0 (sym none ∙ x.1)
         | false ↦ λ e q. other (keys_counted (codes "op" ∷ ks) ms h ∙ ap suc (eqb-true (length ks) 2 q))
@@ -331,7 +331,7 @@ module _ (ms : Members) (s : NamesOp ms (codes "domain")) where
 
   counted_with : (v : Data) → get_member (codes "map") ms ≡ Some v → (member_count ms ≡ 4 → ⊥) → IsWhole (object ms) → ⊥
   counted_with v g other = not_whole_by ms (codes "domain") s (λ ks c h.
-      let p = of_line (codes "domain") ks (λ ks. if has (codes "map") ks then nat_eq (length ks) 3 else true) refl c in
+      let p = of_form (codes "domain") ks (λ ks. if has (codes "map") ks then nat_eq (length ks) 3 else true) refl c in
       elim (has (codes "map") ks) as (λ b. has (codes "map") ks ≡ b → (if b then nat_eq (length ks) 3 else true) ≡ true → ⊥) [
         | true ↦ λ e q. other (keys_counted (codes "op" ∷ ks) ms h ∙ ap suc (eqb-true (length ks) 3 q))
         | false ↦ λ e q. no_some v (sym (no_more (codes "map") (codes "op" ∷ ks) ms e h) ∙ g)
@@ -386,10 +386,10 @@ one_there (k ∷ more) ks ms e h n = elim (has k ks) as (λ b. has k ks ≡ b �
 
 no_source : (ms : Members) → NamesOp ms (codes "reshape") → AllKeys source_keys (λ k. get_member k ms ≡ None) → IsWhole (object ms) → ⊥
 unfolding has_one
-no_source ms s n = not_whole_by ms (codes "reshape") s (λ ks c h. one_there source_keys ks ms (of_line (codes "reshape") ks (has_one source_keys) refl c) h n)
+no_source ms s n = not_whole_by ms (codes "reshape") s (λ ks c h. one_there source_keys ks ms (of_form (codes "reshape") ks (has_one source_keys) refl c) h n)
 
 module _ (ms : Members) (s : NamesOp ms (codes "reshape")) (n : member_count ms ≡ 3) (named : Fine ms (codes "reshape") (codes "d")) where
-  at_source : (k : List ℕ) {kind : Kind} {A : Type 0} {read : Option Data → Result A Refusal} → IsReader kind read → (K : A → Source) → kind_of (codes "reshape") k ≡ Some kind → Contains lines (codes "reshape", codes "d" ∷ k ∷ [])
+  at_source : (k : List ℕ) {kind : Kind} {A : Type 0} {read : Option Data → Result A Refusal} → IsReader kind read → (K : A → Source) → kind_of (codes "reshape") k ≡ Some kind → Contains forms (codes "reshape", codes "d" ∷ k ∷ [])
       → apart (codes "op" ∷ codes "d" ∷ k ∷ []) ≡ true → (v : Data) → get_member k ms ≡ Some v → Judged {X = Source} ms (read (Some v) >>= (λ a. Ok (K a)))
   at_source k {kind} {A} {read} r K kd c a v g =
       let o = codes "reshape" in let ks = codes "d" ∷ k ∷ [] in
@@ -400,14 +400,14 @@ module _ (ms : Members) (s : NamesOp ms (codes "reshape")) (n : member_count ms 
   sources_judged : Judged {X = Source} ms (source_of (object ms))
   sources_judged =
       let o = codes "reshape" in
-      source_judged (Judged {X = Source} ms) (get_member (codes "to") ms) to_by _ (λ v g. at_source (codes "to") source_reader To refl (line_at 5 (o, codes "d" ∷ codes "to" ∷ []) refl refl) refl v g) (λ a.
-      source_judged (Judged {X = Source} ms) (get_member (codes "slice") ms) slice_by _ (λ v g. at_source (codes "slice") source_reader Slice refl (line_at 6 (o, codes "d" ∷ codes "slice" ∷ []) refl refl) refl v g) (λ b.
-      source_judged (Judged {X = Source} ms) (get_member (codes "translate") ms) (displace_by Translate) _ (λ v g. at_source (codes "translate") offsets_reader (Displace Translate) refl (line_at 7 (o, codes "d" ∷ codes "translate" ∷ []) refl refl) refl v g) (λ c.
-      source_judged (Judged {X = Source} ms) (get_member (codes "expand") ms) (displace_by Expand) _ (λ v g. at_source (codes "expand") offsets_reader (Displace Expand) refl (line_at 8 (o, codes "d" ∷ codes "expand" ∷ []) refl refl) refl v g) (λ d.
-      source_judged (Judged {X = Source} ms) (get_member (codes "or") ms) (combine_by Union) _ (λ v g. at_source (codes "or") source_reader (Combine Union) refl (line_at 9 (o, codes "d" ∷ codes "or" ∷ []) refl refl) refl v g) (λ e.
-      source_judged (Judged {X = Source} ms) (get_member (codes "and") ms) (combine_by Intersection) _ (λ v g. at_source (codes "and") source_reader (Combine Intersection) refl (line_at 10 (o, codes "d" ∷ codes "and" ∷ []) refl refl) refl v g) (λ f.
-      source_judged (Judged {X = Source} ms) (get_member (codes "minus") ms) (combine_by Difference) _ (λ v g. at_source (codes "minus") source_reader (Combine Difference) refl (line_at 11 (o, codes "d" ∷ codes "minus" ∷ []) refl refl) refl v g) (λ g.
-      source_judged (Judged {X = Source} ms) (get_member (codes "xor") ms) (combine_by SymmetricDifference) _ (λ v g. at_source (codes "xor") source_reader (Combine SymmetricDifference) refl (line_at 12 (o, codes "d" ∷ codes "xor" ∷ []) refl refl) refl v g) (λ h.
+      source_judged (Judged {X = Source} ms) (get_member (codes "to") ms) to_by _ (λ v g. at_source (codes "to") source_reader To refl (form_at 5 (o, codes "d" ∷ codes "to" ∷ []) refl refl) refl v g) (λ a.
+      source_judged (Judged {X = Source} ms) (get_member (codes "slice") ms) slice_by _ (λ v g. at_source (codes "slice") source_reader Slice refl (form_at 6 (o, codes "d" ∷ codes "slice" ∷ []) refl refl) refl v g) (λ b.
+      source_judged (Judged {X = Source} ms) (get_member (codes "translate") ms) (displace_by Translate) _ (λ v g. at_source (codes "translate") offsets_reader (Displace Translate) refl (form_at 7 (o, codes "d" ∷ codes "translate" ∷ []) refl refl) refl v g) (λ c.
+      source_judged (Judged {X = Source} ms) (get_member (codes "expand") ms) (displace_by Expand) _ (λ v g. at_source (codes "expand") offsets_reader (Displace Expand) refl (form_at 8 (o, codes "d" ∷ codes "expand" ∷ []) refl refl) refl v g) (λ d.
+      source_judged (Judged {X = Source} ms) (get_member (codes "or") ms) (combine_by Union) _ (λ v g. at_source (codes "or") source_reader (Combine Union) refl (form_at 9 (o, codes "d" ∷ codes "or" ∷ []) refl refl) refl v g) (λ e.
+      source_judged (Judged {X = Source} ms) (get_member (codes "and") ms) (combine_by Intersection) _ (λ v g. at_source (codes "and") source_reader (Combine Intersection) refl (form_at 10 (o, codes "d" ∷ codes "and" ∷ []) refl refl) refl v g) (λ f.
+      source_judged (Judged {X = Source} ms) (get_member (codes "minus") ms) (combine_by Difference) _ (λ v g. at_source (codes "minus") source_reader (Combine Difference) refl (form_at 11 (o, codes "d" ∷ codes "minus" ∷ []) refl refl) refl v g) (λ g.
+      source_judged (Judged {X = Source} ms) (get_member (codes "xor") ms) (combine_by SymmetricDifference) _ (λ v g. at_source (codes "xor") source_reader (Combine SymmetricDifference) refl (form_at 12 (o, codes "d" ∷ codes "xor" ∷ []) refl refl) refl v g) (λ h.
       first (object ms) BadRequest refl (not_whole refl (no_source ms s (a, (b, (c, (d, (e, (f, (g, (h, tt))))))))))))))))))
 
 -- what a request is made of is judged as it is
@@ -427,12 +427,12 @@ reshape_judged ms s =
 print_judged : IsJudged (codes "print") print_of
 print_judged ms s =
     bind_judged (Judged ms) (has_fields 1 (object ms)) (λ u. Ok Print) (λ why. count_bad ms (codes "print") 0 s refl why)
-    (λ u n. all_fine ms (codes "print") [] s (line_at 32 (codes "print", []) refl refl) refl (count_found ms 1 u n) tt)
+    (λ u n. all_fine ms (codes "print") [] s (form_at 32 (codes "print", []) refl refl) refl (count_found ms 1 u n) tt)
 
 undo_whole : (ms : Members) → NamesOp ms (codes "undo") → (member_count ms ≡ 1 → ⊥) → (member_count ms ≡ 2 → ⊥) → IsWhole (object ms) → ⊥
 undo_whole ms s one two = not_whole_by ms (codes "undo") s (λ ks c h.
     let n = keys_counted (codes "op" ∷ ks) ms h in
-    let p = of_line (codes "undo") ks (λ ks. if nat_eq (length ks) 0 then true else nat_eq (length ks) 1) refl c in
+    let p = of_form (codes "undo") ks (λ ks. if nat_eq (length ks) 0 then true else nat_eq (length ks) 1) refl c in
     elim (nat_eq (length ks) 0) as (λ b. nat_eq (length ks) 0 ≡ b → (if b then true else nat_eq (length ks) 1) ≡ true → ⊥) [
       | true ↦ λ e q. one (n ∙ ap suc (eqb-true (length ks) 0 e))
       | false ↦ λ e q. two (n ∙ ap suc (eqb-true (length ks) 1 q))
@@ -440,7 +440,7 @@ undo_whole ms s one two = not_whole_by ms (codes "undo") s (λ ks c h.
 
 undo_lacks : (ms : Members) → NamesOp ms (codes "undo") → (member_count ms ≡ 1 → ⊥) → get_member (codes "k") ms ≡ None → IsWhole (object ms) → ⊥
 undo_lacks ms s one none = not_whole_by ms (codes "undo") s (λ ks c h.
-    let p = of_line (codes "undo") ks (λ ks. if has (codes "k") ks then true else nat_eq (length ks) 0) refl c in
+    let p = of_form (codes "undo") ks (λ ks. if has (codes "k") ks then true else nat_eq (length ks) 0) refl c in
     elim (has (codes "k") ks) as (λ b. has (codes "k") ks ≡ b → (if b then true else nat_eq (length ks) 0) ≡ true → ⊥) [
       | true ↦ λ e q. let x = key_there (codes "k") ks ms e h in no_some x.0 (sym none ∙ x.1)
       | false ↦ λ e q. one (keys_counted (codes "op" ∷ ks) ms h ∙ ap suc (eqb-true (length ks) 0 q))
@@ -450,13 +450,13 @@ undo_judged : IsJudged (codes "undo") undo_of
 undo_judged ms s =
     let o = codes "undo" in
     elim (nat_eq (member_count ms) 1) as (λ b. nat_eq (member_count ms) 1 ≡ b → Judged ms (if b then Ok (Undo None) else undo_by_number (object ms))) [
-      | true ↦ λ e. all_fine ms o [] s (line_at 24 (o, []) refl refl) refl (eqb-true (member_count ms) 1 e) tt
+      | true ↦ λ e. all_fine ms o [] s (form_at 24 (o, []) refl refl) refl (eqb-true (member_count ms) 1 e) tt
       | false ↦ λ e.
           let one : member_count ms ≡ 1 → ⊥ = λ q. true_false (sym (eq-eqb (member_count ms) 1 q) ∙ e) in
           one_judged (Judged ms) (has_fields 2 (object ms)) (u64_field (codes "k") (object ms)) (λ k. Ok (Undo (Some k)))
           (λ why f. let x = uncounted ms 2 why f in first (object ms) why x.0 (not_whole refl (undo_whole ms s one x.1)))
           (λ why f. field_bad_by ms o (codes "k") s number_reader refl (undo_lacks ms s one) why f)
-          (λ k n p. all_fine ms o (codes "k" ∷ []) s (line_at 25 (o, codes "k" ∷ []) refl refl) refl (count_found ms 2 tt n) (fine ms o (codes "k") number_reader refl k p, tt))
+          (λ k n p. all_fine ms o (codes "k" ∷ []) s (form_at 25 (o, codes "k" ∷ []) refl refl) refl (count_found ms 2 tt n) (fine ms o (codes "k") number_reader refl k p, tt))
     ] refl
 
 -- ---- by the op
@@ -479,12 +479,12 @@ first_judged (x ∷ xs) h ms op s k = elim (bytes_eq op x.0) as (λ b. bytes_eq 
 every_judged : AllJudged readers
 every_judged = (domain_judged_of, (remap_judged, (sparse_judged, (assoc_judged, (drop_domain_judged, (reshape_judged, (add_judged, (remove_judged, (array_judged, (drop_array_judged, (set_judged, (fill_judged, (fill_all_judged, (irv_judged, (copy_judged, (all_judged, (undo_judged, (redo_judged, (get_judged, (where_judged, (size_judged, (piece_judged, (state_judged, (print_judged, tt))))))))))))))))))))))))
 
--- the op of each line has a reader
+-- the op of each form has a reader
 is_read : (ms : Members) (op : List ℕ) → NamesOp ms op → IsWhole (object ms) → has op (names readers) ≡ true
 is_read ms op s w = elim (has op (names readers)) as (λ b. has op (names readers) ≡ b → b ≡ true) [
   | true ↦ λ e. refl
   | false ↦ λ e. absurd (not_whole_by ms op s (λ ks c h.
-      true_false (sym (All-contains (λ x. has x.0 (names readers) ≡ true) lines (op, ks) (AllPass-from_list_all (λ x. has x.0 (names readers)) lines refl) c) ∙ e)) w)
+      true_false (sym (All-contains (λ x. has x.0 (names readers) ≡ true) forms (op, ks) (AllPass-from_list_all (λ x. has x.0 (names readers)) forms refl) c) ∙ e)) w)
 ] refl
 
 no_op : (ms : Members) (why : Refusal) (v : Option Data) → get_member (codes "op") ms ≡ v → text_in v ≡ Err why → Refused (object ms) why

@@ -1,5 +1,5 @@
 -- Members that spell literals: what is read of them is what they spell, and the other way round.
-use Rattle.std.proofs.Common.{◌≡◌, ℕ, ◌+◌, ℤ, Bool, true, false, ◌&&◌, List, [], ◌∷◌, ◌++◌, codes, length, Option, Some, None, option_map, option_and_then, Result, Ok, Err, refl, sym, ap, ◌∙◌, subst, nat_eq, nat_le, if◌then◌else◌, eq-eqb, eqb-true, arith}
+use Rattle.std.proofs.Common.{◌≡◌, ℕ, ◌+◌, ℤ, Bool, true, false, ◌&&◌, List, [], ◌∷◌, length, Option, Some, None, option_map, option_and_then, Result, Ok, Err, refl, sym, ap, ◌∙◌, subst, nat_eq, nat_le, if◌then◌else◌, eq-eqb, eqb-true, arith}
 use Rattle.std.specs.Option.{ok_or}
 use Rattle.std.specs.List.{list_all}
 use Rattle.serde_json.specs.Data.{Data, string, object, Members}
@@ -9,7 +9,6 @@ use Rattle.wb_book.specs.Names.{is_name, is_letter, is_name_part}
 use Rattle.wb_book.specs.Shapes.{Range}
 use Rattle.wb_book.specs.declared.values.index.Index.{Index}
 use Rattle.wb_book.specs.declared.values.index.Index.TheVariants.{Point, Text}
-use Rattle.wb_history.specs.declared.refusal.Refusal.{Refusal}
 use Rattle.wb_history.specs.declared.refusal.Refusal.TheVariants.{BadRequest, BadLiteral}
 use Rattle.wb_literal.specs.Domain.{Domain, rectangle, set, domain_of}
 use Rattle.wb_literal.specs.Mapping.{mapping_of}
@@ -26,7 +25,7 @@ use Rattle.wb_limits.specs.declared.limit.LimitErr.{LimitErr}
 use Rattle.wb_resize.specs.Sources.{ascending}
 use Rattle.wb_resize.specs.declared.given.Given.{Given}
 use Rattle.wb_resize.specs.declared.given.Given.TheVariants.{Rectangle, Items, Named}
-use Rattle.wb_proto.specs.Fields.{◌>>=◌, member_count, has_fields, has_fields_and, text_if_there, name_of, index_of}
+use Rattle.wb_proto.specs.Fields.{member_count, has_fields, has_fields_and, text_if_there, name_of, index_of}
 use Rattle.wb_proto.specs.Literals.{literal_domain, literal_mapping, optional_mapping as mapping_if_there, within, domain_within, mapping_within}
 use Rattle.wb_proto.specs.Sources.{is_braced, given_within, given_literal, given_name, given_text, given_by, point_in, offsets_by}
 use Rattle.wb_wire.specs.Table.{integer, optional_mapping, some_mapping, some_integer}

@@ -1,9 +1,9 @@
 -- Each kind of field: what is read of it is what its value spells, and the other way round.
-use Rattle.std.proofs.Common.{◌≡◌, ℕ, ℤ, ◌^◌, Bool, true, false, List, [], ◌∷◌, codes, Option, Some, None, option_map, option_and_then, Result, Ok, Err, refl, sym, ap, ◌∙◌, nat_eq, nat_lt, if◌then◌else◌, arith}
+use Rattle.std.proofs.Common.{◌≡◌, ℕ, ℤ, Bool, true, false, List, [], ◌∷◌, codes, Option, Some, None, option_map, option_and_then, Result, Ok, Err, refl, sym, ap, ◌∙◌, if◌then◌else◌}
 use Rattle.std.specs.Prelude.{bytes_eq}
 use Rattle.std.specs.Option.{ok_or}
 use Rattle.std.proofs.lemmas.Slice.Eq.{bytes_eq-Decides}
-use Rattle.serde_json.specs.Data.{Num, unsigned, negative, float, Data, null, boolean, number as json_number, string, array, object, Items as JsonItems, no_items, item, Members}
+use Rattle.serde_json.specs.Data.{Num, Data, null, boolean, number as json_number, string, array, object, Items as JsonItems, no_items, item}
 use Rattle.serde_json.specs.Find.{as_number, as_str, as_i64, as_u64}
 use Rattle.wb_assoc.specs.Labels.{is_label}
 use Rattle.wb_book.specs.Cells.{Name}
@@ -16,9 +16,9 @@ use Rattle.wb_edit.specs.declared.operation.Operation.{Operation}
 use Rattle.wb_edit.specs.declared.operation.Operation.TheVariants as operations
 use Rattle.wb_history.specs.declared.refusal.Refusal.{Refusal}
 use Rattle.wb_history.specs.declared.refusal.Refusal.TheVariants.{BadRequest}
-use Rattle.wb_proto.specs.Fields.{◌>>=◌, name_of, integer_of, pair_of, triple_of, tuple_of, label_of, index_of, key_type_of, operation_of}
+use Rattle.wb_proto.specs.Fields.{◌>>=◌, name_of, integer_of, pair_of, triple_of, tuple_of, index_of, key_type_of, operation_of}
 use Rattle.wb_wire.specs.Table.{Meaning, word, name, integer, number, index, type_word, operation_word}
-use Rattle.wb_wire.specs.Spelled.{IsInteger, IsNumber, IsIndex, Spells, Says}
+use Rattle.wb_wire.specs.Spelled.{IsInteger, IsIndex, Spells, Says}
 
 -- ---- steps
 

@@ -1,14 +1,13 @@
 -- The canonical object of a request is written as its canonical line, which is read back.
 use Rattle.std.proofs.Common.{◌≡◌, ◌∙◌, ◌≤◌, ℕ, ℤ, pos, negsuc, true, false, List, [], ◌∷◌, map, Some, Ok, refl, sym, ap, subst, arith}
 use Rattle.std.specs.Str.{is_utf8}
-use Rattle.serde_json.specs.Data.{Data, Items, depth, items_depth, members_depth}
+use Rattle.serde_json.specs.Data.{depth, items_depth, members_depth}
 use Rattle.serde_json.specs.Read.{read, max_depth}
 use Rattle.serde_json.specs.View.{view, items_of}
 use Rattle.serde_json.specs.Written.{compact_text, has_float, items_have_float, members_have_float}
 use Rattle.serde_json.specs.declared.value.Value.{Value}
-use Rattle.wb_book.specs.declared.values.index.Index.{Index}
 use Rattle.wb_book.specs.declared.values.index.Index.TheVariants.{Point, Text}
-use Rattle.wb_proto.specs.Pieces.{integer_data, point_data, index_data}
+use Rattle.wb_proto.specs.Pieces.{integer_data, point_data}
 use Rattle.wb_proto.specs.Requests.{request}
 use Rattle.wb_proto.specs.declared.requests.request.Request.{Request}
 use Rattle.wb_wire.specs.Table.{Meaning, word, name, integer, number, index, given, mapping, optional_mapping, some_set, some_mapping, some_integer, Fields, table}

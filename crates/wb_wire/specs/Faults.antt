@@ -39,6 +39,7 @@ code bad_literal = 2
 code too_large = 9
 code bad_mapping = 15
 
+-- what is answered
 abbrev pub refusal_of : Fault → Refusal
 refusal_of bad_request = BadRequest
 refusal_of bad_literal = BadLiteral
@@ -47,10 +48,10 @@ refusal_of bad_mapping = Refused edits.BadMapping
 
 -- ---- which members there are
 
--- Each op with the keys of its other members. An op with a member that may be missing has two lines, and a reshape has one
+-- Each op with the keys of its other members. An op with a member that may be missing has two forms, and a reshape has one
 -- for each source.
-abbrev pub lines : List (List ℕ × List (List ℕ))
-lines =
+abbrev pub forms : List (List ℕ × List (List ℕ))
+forms =
     (codes "domain", codes "d" ∷ codes "is" ∷ [])
     ∷ (codes "domain", codes "d" ∷ codes "is" ∷ codes "map" ∷ [])
     ∷ (codes "sparse", codes "d" ∷ codes "of" ∷ [])
@@ -91,12 +92,13 @@ abbrev pub HasKeys : Members → List (List ℕ) → Type 0
 HasKeys ms [] = ms ≡ no_members
 HasKeys ms (k ∷ ks) = ((v : Data) × (get_member k ms ≡ Some v)) × HasKeys (without k ms) ks
 
+-- the op that an object names
 abbrev pub NamesOp : Members → List ℕ → Type 0
 NamesOp ms op = get_member (codes "op") ms ≡ Some (string op)
 
--- an object that names an op and has just the members of one of its lines, whatever their values are
+-- an object that names an op and has just the members of one of its forms, whatever their values are
 abbrev pub IsWhole : Data → Type 0
-IsWhole d = (ms : Members) × (op : List ℕ) × (keys : List (List ℕ)) × (d ≡ object ms) × NamesOp ms op × Contains lines (op, keys) × HasKeys ms (codes "op" ∷ keys)
+IsWhole d = (ms : Members) × (op : List ℕ) × (keys : List (List ℕ)) × (d ≡ object ms) × NamesOp ms op × Contains forms (op, keys) × HasKeys ms (codes "op" ∷ keys)
 
 -- ---- what each member spells
 
@@ -149,6 +151,7 @@ abbrev pub kind_in : List (List ℕ × Kind) → List ℕ → Option Kind
 kind_in [] key = None
 kind_in (x ∷ xs) key = if bytes_eq key x.0 then Some x.1 else kind_in xs key
 
+-- what the value of a key is to spell, in a request of an op; no request has a member of another key, but for the op
 abbrev pub kind_of : List ℕ → List ℕ → Option Kind
 kind_of op key = if bytes_eq key (codes "of") then Some (if bytes_eq op (codes "assoc") then plain key_type else plain name) else kind_in kinds key
 
@@ -192,6 +195,7 @@ DoesNotFit (plain p) d = ⊥
 DoesNotFit domain d = ⊥
 DoesNotFit source d = ⊥
 
+-- A value has this fault. (It has one at most.)
 abbrev pub Fails : Kind → Data → Fault → Type 0
 Fails kind d bad_request = IsBad kind d
 Fails kind d bad_literal = IsMisspelled kind d

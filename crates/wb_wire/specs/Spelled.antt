@@ -1,14 +1,13 @@
 -- Which JSON objects (RFC 8259, section 4) are requests, apart from how they are read: an object has the members that the
 -- table lists, each once and in any order, and no others, and the value of each spells what the table says.
 use Rattle.std.specs.Prelude.{◌≡◌, ℕ, ℤ, List, [], ◌∷◌, true, if◌then◌else◌, bytes_eq, Option, Some, None, Ok}
-use Rattle.serde_json.specs.Data.{Num, Data, null, boolean, number as json_number, string, array, object, Items as JsonItems, no_items, item, Members, no_members, member}
+use Rattle.serde_json.specs.Data.{Num, Data, number as json_number, string, array, object, no_items, item, Members, no_members, member}
 use Rattle.serde_json.specs.Find.{get_member, as_i64, as_u64}
 use Rattle.wb_assoc.specs.Labels.{is_label}
 use Rattle.wb_dist.specs.Maps.{LayoutMap, whole}
 use Rattle.wb_book.specs.Names.{is_name}
 use Rattle.wb_book.specs.declared.values.index.Index.{Index}
 use Rattle.wb_book.specs.declared.values.index.Index.TheVariants.{Point, Text}
-use Rattle.wb_literal.specs.Domain.{rectangle}
 use Rattle.wb_literal.specs.Grammar as grammar
 use Rattle.wb_literal.specs.Set.{Items as Listed}
 use Rattle.wb_literal.specs.declared.mapping.MappingLiteral.{MappingLiteral}

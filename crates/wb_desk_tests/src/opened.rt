@@ -1,9 +1,7 @@
 //! A desk that is opened at a history.
 ghost use Rattle.std.specs.Prelude.{◌≡◌};
 
-use crate::desk::{Desk, settle};
-use crate::opening::Opening;
-use crate::tests::{Early, NEW_SET, SIZE_OF_SET, all_done, asked};
+use crate::days::{Early, NEW_SET, SIZE_OF_SET, all_done, asked};
 use std::alloc::Global;
 use std::marker::Brand;
 use std::sync::Wait;
@@ -11,6 +9,7 @@ use std::sync::ledger::Blank;
 use std::test::Fail;
 use wb_history::History;
 use wb_proto::{answer_request, read_request};
+use wb_shared::{Desk, Opening, settle};
 
 // A history of one edit, the set N.
 fn with_set(alloc: Global) -> Option<History> {

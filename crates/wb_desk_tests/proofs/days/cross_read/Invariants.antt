@@ -1,5 +1,5 @@
 use Rattle.wb_shared.specs.Openings.{nothing_done}
-use Rattle.wb_shared.proofs.tests.cross_read.Given as goal
+use Rattle.wb_desk_tests.proofs.days.cross_read.Given as goal
 
 abbrev pub ghosts-day_of-L-Ledger : goal.ghosts-day_of-L-Ledger
 ghosts-day_of-L-Ledger g a = record { name = a.blank.name; parts = a.blank.parts }

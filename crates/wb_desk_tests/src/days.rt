@@ -2,14 +2,7 @@
 ghost use Rattle.std.specs.Prelude.{◌≡◌};
 ghost use Rattle.wb_shared.specs.Openings.{nothing_done};
 
-mod opened;
-mod threads;
-
-use crate::desk::{Desk, DeskErr, settle};
-use crate::opening::Opening;
-use crate::pass::Pass;
-use crate::settling::Cause;
-use crate::tests::threads::{Work, all_at_once};
+use crate::threads::{Work, all_at_once};
 use std::alloc::Global;
 use std::marker::Brand;
 use std::sync::Wait;
@@ -17,21 +10,22 @@ use std::sync::ledger::Blank;
 use std::test::Fail;
 use std::thread::Threads;
 use wb_proto::{Reply, Request, read_request, reply_text};
+use wb_shared::{Cause, Desk, DeskErr, Opening, Pass, settle};
 
-const NEW_SET: &str = "{\"op\":\"assoc\",\"d\":\"N\",\"of\":\"int\"}";
+pub const NEW_SET: &str = "{\"op\":\"assoc\",\"d\":\"N\",\"of\":\"int\"}";
 
 const NEW_RECTANGLE: &str = "{\"op\":\"domain\",\"d\":\"D\",\"is\":\"{1..2}\"}";
 
 const SIZE_OF_RECTANGLE: &str = "{\"op\":\"size\",\"d\":\"D\"}";
 
-const SIZE_OF_SET: &str = "{\"op\":\"size\",\"d\":\"N\"}";
+pub const SIZE_OF_SET: &str = "{\"op\":\"size\",\"d\":\"N\"}";
 
 const STRANGE: &str = "{\"error\":\"E92\",\"name\":\"strange-pass\"}";
 
 // What is done with a pass: a line is asked and has this reply, the pass gets the number of another seat, or its first
 // request is replaced.
 #[derive(Clone, Copy)]
-enum Act {
+pub enum Act {
     Ask(&'static str, &'static str),
     Renumber(usize),
     Replace,
@@ -39,14 +33,14 @@ enum Act {
 
 // What is done with the pass at a place.
 #[derive(Clone, Copy)]
-struct Move {
+pub struct Move {
     place: usize,
     act: Act,
 }
 
 // Why a day ends early.
 #[derive(Clone, Copy, Debug, PartialEq, Eq)]
-enum Early {
+pub enum Early {
     NoDesk(DeskErr),
     OtherReply,
     NoPass,
@@ -63,7 +57,7 @@ struct Day<'a> {
 }
 
 // Asks one line at a desk: the reply.
-fn ask<L: Opening, R: Wait>(
+pub fn ask<L: Opening, R: Wait>(
     rt: &R,
     alloc: Global,
     desk: &Desk<L>,
@@ -76,38 +70,61 @@ fn ask<L: Opening, R: Wait>(
     }
 }
 
-// Does one thing with a pass. Says whether that went as the day has it.
-fn done<L: Opening, R: Wait>(
+// Whether a line that is asked has this reply.
+fn is_told<L: Opening, R: Wait>(
     rt: &R,
     alloc: Global,
     desk: &Desk<L>,
     pass: &mut Pass<L>,
-    act: &Act,
+    line: &str,
+    told: &str,
 ) -> bool {
+    let reply = ask(rt, alloc, desk, pass, line);
+    match reply_text(alloc, &reply) {
+        Ok(text) => text.as_str() == told,
+        Err(_) => false,
+    }
+}
+
+// The pass under the number of another seat.
+fn renumbered<L: Opening>(pass: Pass<L>, seat: usize) -> Pass<L> {
+    let (_, own, share) = pass.into_parts();
+    Pass::of_parts(seat, own, share)
+}
+
+// The pass with another first request.
+fn replaced<L: Opening>(pass: Pass<L>) -> Pass<L> {
+    let (seat, mut own, share) = pass.into_parts();
+    if let Some(entry) = own.get_mut(0) {
+        entry.request = Request::Print;
+    }
+    Pass::of_parts(seat, own, share)
+}
+
+// Does one thing with a pass: the pass then, or nothing where a reply was another one.
+fn done<L: Opening, R: Wait>(
+    rt: &R,
+    alloc: Global,
+    desk: &Desk<L>,
+    pass: Pass<L>,
+    act: &Act,
+) -> Option<Pass<L>> {
     match act {
         Act::Ask(line, told) => {
-            let reply = ask(rt, alloc, desk, pass, line);
-            match reply_text(alloc, &reply) {
-                Ok(text) => text.as_str() == *told,
-                Err(_) => false,
+            let mut pass = pass;
+            if is_told(rt, alloc, desk, &mut pass, line, told) {
+                Some(pass)
+            } else {
+                None
             }
         }
-        Act::Renumber(seat) => {
-            pass.seat = *seat;
-            true
-        }
-        Act::Replace => match pass.own.get_mut(0) {
-            Some(entry) => {
-                entry.request = Request::Print;
-                true
-            }
-            None => false,
-        },
+        Act::Renumber(seat) => Some(renumbered(pass, *seat)),
+        Act::Replace => Some(replaced(pass)),
     }
 }
 
 // Does each of these, in order.
-fn all_done<L: Opening, R: Wait>(
+pub fn all_done<L: Opening, R: Wait>(
     rt: &R,
     alloc: Global,
     desk: &Desk<L>,
@@ -115,13 +132,15 @@ fn all_done<L: Opening, R: Wait>(
     moves: &[Move],
 ) -> Result<(), Early> {
     for step in moves {
-        match passes.get_mut(step.place) {
-            Some(pass) => {
-                if !done(rt, alloc, desk, pass, &step.act) {
-                    return Err(Early::OtherReply);
-                }
-            }
-            None => return Err(Early::NoPass),
+        if step.place >= passes.len() {
+            return Err(Early::NoPass);
+        }
+        let pass = passes.remove(step.place);
+        let Some(pass) = done(rt, alloc, desk, pass, &step.act) else {
+            return Err(Early::OtherReply);
+        };
+        if passes.insert(step.place, pass).is_err() {
+            return Err(Early::NoPass);
         }
     }
     Ok(())
@@ -156,7 +175,7 @@ fn day_of<L: Opening + Send + Sync, R: Threads + Wait + Sync>(
     }
 }
 
-const fn asked(place: usize, line: &'static str, told: &'static str) -> Move {
+pub const fn asked(place: usize, line: &'static str, told: &'static str) -> Move {
     Move {
         place,
         act: Act::Ask(line, told),

@@ -1,15 +1,13 @@
 //! All seats of a desk at once, each in a thread of its own.
 
-use crate::desk::Desk;
-use crate::opening::Opening;
-use crate::pass::Pass;
-use crate::tests::ask;
+use crate::days::ask;
 use std::alloc::Global;
 use std::sync::Wait;
 use std::thread;
 use std::thread::Threads;
 use wb_history::Answer;
 use wb_proto::Reply;
+use wb_shared::{Desk, Opening, Pass};
 
 /// What each seat does.
 #[derive(Clone, Copy, Debug, PartialEq, Eq)]
