@@ -35,14 +35,16 @@ fn add(
 #[test]
 fn footprint_index_of_a_copy(rt: HostRuntime) -> Result<(), Fail> {
     let array = Name::new("A")?;
-    let object = read(Cell::Object(array));
-    let source = element(array, 1);
-    let target = element(array, 2);
-    let set = [CellChange::new(source, None)];
-    let copied = [CellChange::new(target, None)];
-    let reads_of_copy = [object, read(target), read(source)];
+    let set = [CellChange::new(element(array, 1), None)];
+    let copied = [CellChange::new(element(array, 2), None)];
+    let reads_of_set = [read(Cell::Object(array)), read(element(array, 1))];
+    let reads_of_copy = [
+        read(Cell::Object(array)),
+        read(element(array, 2)),
+        read(element(array, 1)),
+    ];
     let mut index = FootIndex::new(rt.alloc());
-    add(&rt, &mut index, 3, &[object, read(source)], &set)?;
+    add(&rt, &mut index, 3, &reads_of_set, &set)?;
     add(&rt, &mut index, 4, &reads_of_copy, &copied)?;
     let elements = [Pattern::Elements(array)];
     assert_eq!(rt; index.first_to_block_undo(&set, 2), Some(3));
