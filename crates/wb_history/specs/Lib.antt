@@ -6,3 +6,4 @@ pub mod Indexed
 pub mod Locales
 pub mod Pieces
 pub mod Queries
+pub mod Restored

@@ -1,10 +1,11 @@
-ghost use Rattle.std.specs.Prelude.{◌≡◌, ℕ, ◌+◌, ◌-◌, length, [], ◌∷◌, ◌++◌, OnOk, OnErr, IfOk, true, false};
+ghost use Rattle.std.specs.Prelude.{◌≡◌, ℕ, ◌+◌, ◌-◌, length, [], ◌∷◌, ◌++◌, OnOk, OnErr, IfOk, true, false, option_map};
 ghost use Rattle.selective_undo.specs.History.{replay, IsLegal};
 ghost use Rattle.wb_book.specs.Cells.{written_more};
 ghost use Rattle.wb_edit.specs.Commands.{meaning};
 ghost use Rattle.wb_history.specs.Past.{meant, out_of_force, into_force, force_of};
 ghost use Rattle.wb_history.specs.Replies.{EditReply, UndoReply, LastReply, RedoReply, ByNumber, SetsBack, LeavesOthers, Restores, RedoesInPlace};
 ghost use Rattle.wb_history.specs.Queries.{QueryReply};
+ghost use Rattle.wb_history.specs.Restored.{one_of, numbered_at};
 
 use crate::entry::Entry;
 use crate::index::Index;
@@ -12,11 +13,13 @@ use crate::locale::{locale_answer, locale_of};
 use crate::piece::piece_answer;
 use crate::query::{Answer, Query, count_answer, element_of, force_answer, size_of, value_answer};
 use crate::refusal::Refusal;
+use crate::restore::keep_aside;
 use crate::steps;
 use std::alloc::Global;
 use std::marker::Model;
 use wb_book::Book;
 use wb_edit::Edit;
+use wb_range::NoMemory;
 
 /// A workbook, and the edits that made it, each in force or out of force.
 #[derive(Drop)]
@@ -147,6 +150,31 @@ impl History {
             return None;
         }
         Some(self.entries[at].kept.is_some())
+    }
+
+    /// The edit of a number, and whether it is in force; none where no edit has the number.
+    pub fn edit_at(&self, number: u64) -> Option<(&Edit, bool)>
+        ensures { option_map (λ x. one_of x.0.now x.1) result ≡ numbered_at self.now.entries number }
+    {
+        if number == 0 {
+            return None;
+        }
+        let at = (number - 1) as usize;
+        if at >= self.entries.len() {
+            return None;
+        }
+        let entry = &self.entries[at];
+        Some((&entry.edit, entry.kept.is_some()))
+    }
+
+    /// Takes an edit in as the last one, out of force: nothing is tried or made.
+    pub(crate) fn take_in(&mut self, aside: Edit) -> Result<(), NoMemory>
+        ensures entries { OnOk result (self.new.entries ≡ self.old.entries ++ one_of aside false ∷ []) }
+        ensures writes { self.new.writes ≡ self.old.writes }
+        ensures err { OnErr result (self.new ≡ self.old) }
+    {
+        aside.validity();
+        keep_aside(&mut self.entries, aside)
     }
 
     /// What a query is answered, from the workbook as it is; `NoMemory` may stand for a piece, and for nothing else.

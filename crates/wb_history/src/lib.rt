@@ -12,9 +12,11 @@ mod locale;
 mod piece;
 mod query;
 mod refusal;
+mod restore;
 mod steps;
 
 pub use crate::history::History;
 pub use crate::piece::Piece;
 pub use crate::query::{Answer, Query};
 pub use crate::refusal::Refusal;
+pub use crate::restore::RestoreErr;

@@ -1,0 +1,175 @@
+-- A history is made again edit by edit.
+use Rattle.std.proofs.Common.{◌≡◌, ℕ, zero, suc, ◌+◌, ◌≤◌, Bool, true, false, List, [], ◌∷◌, ◌++◌, map, length, refl, sym, ap, ◌∙◌, subst, Option, Some, None, is_some, option_map, Result, Ok, Err, IsOk, OnOk, OnErr, slice_get, arith, ◌⊎◌, inl, inr}
+use Rattle.std.specs.Prelude.{min, ◌-◌, ◌^◌}
+use Rattle.std.proofs.Math.Nat.{sub-add-min_cancel}
+use Rattle.selective_undo.specs.Edit.{Schema, State, Change, Edit, Trace, outcome, written, trace, step}
+use Rattle.selective_undo.specs.History.{Entry, done, undone, replay_from, traces_from, replay, traces, InForce, IsLegal}
+use Rattle.selective_undo.specs.Log.{Logged, IsKept, history, entry_of, feet, foot_of}
+use Rattle.selective_undo.proofs.Log.{append-map, last_or, get-map}
+use Rattle.std.specs.FinMap.{empty}
+use Rattle.wb_book.specs.Cells.{Cells, Changes, count_of, written_more}
+use Rattle.wb_edit.specs.declared.edit.Edit as command
+use Rattle.wb_edit.specs.Schema.{workbook}
+use Rattle.wb_edit.specs.Commands.{meaning}
+use Rattle.wb_edit.specs.Valid.{IsValid}
+use Rattle.wb_history.specs.declared.entry.Entry as kept
+use Rattle.wb_history.specs.declared.refusal.Refusal.{Refusal}
+use Rattle.wb_history.specs.declared.refusal.Refusal.TheVariants.{BadRequest, BadLiteral, Refused, NoSuchEdit, NotInForce, InForce as IsInForce, Blocked, RefusedInPlace, NoMemory, StrangePass}
+use Rattle.wb_history.specs.declared.restore.RestoreErr.{RestoreErr}
+use Rattle.wb_history.specs.declared.restore.RestoreErr.TheVariants.{NotLegal, NoMemory as NoRoom}
+use Rattle.wb_history.specs.Past.{Numbered, Past, entry_at, meant, AreValid}
+use Rattle.wb_history.specs.Kept.{logged, log, Shows, numbered, numbers}
+use Rattle.wb_history.specs.declared.index.Index.{Index}
+use Rattle.wb_history.specs.Indexed.{IsIndexed}
+use Rattle.wb_history.specs.Replies.{EditReply}
+use Rattle.wb_history.specs.Restored.{stopped, one_of, numbered_at, marked, cells_written, IsCounted, BeginsNone, RestoreReply}
+use Rattle.wb_history.proofs.Entered.{more_indexed}
+use Rattle.wb_history.proofs.Valid.{valid_append}
+use Rattle.wb_history.proofs.Entries.{numbers_more}
+
+-- ---- one history after another
+
+module _ {w : Schema} where
+  follows : (h k : List (Entry w)) (s : State w)
+      → (replay_from (h ++ k) s ≡ replay_from k (replay_from h s)) × (traces_from (h ++ k) s ≡ traces_from h s ++ traces_from k (replay_from h s))
+  follows [] k s = (refl, refl)
+  follows (done e ∷ h) k s = let rest = follows h k (step e s) in (rest.0, ap (λ ts. Some (trace e s) ∷ ts) rest.1)
+  follows (undone e ∷ h) k s = let rest = follows h k s in (rest.0, ap (λ ts. None ∷ ts) rest.1)
+
+  seam : (ts us : List (Option (Trace w))) (t : Trace w) → InForce (ts ++ Some t ∷ us) (length ts) t
+  seam [] us t = refl
+  seam (x ∷ ts) us t = seam ts us t
+
+  no_more : (ts : List (Option (Trace w))) (j : ℕ) (u : Trace w) → InForce (ts ++ None ∷ []) j u → InForce ts j u
+  no_more ts j u is =
+      elim (last_or ts None (Some u) j is) [
+        | inl last ↦ cc
+        | inr old ↦ old
+      ]
+
+  -- an edit comes in out of force
+  kept_aside : (s : State w) (log : List (Logged w)) (e : Edit w) → IsKept s log → IsKept s (log ++ record { edit = e; kept = None } ∷ [])
+  kept_aside s log e kept =
+      let more : Logged w = record { edit = e; kept = None } in
+      let h = history log in
+      let now_is : history (log ++ more ∷ []) ≡ h ++ undone e ∷ [] = append-map entry_of log (more ∷ []) in
+      let after = follows h (undone e ∷ []) empty in
+      record {
+        legal = λ j u is. kept.legal j u (no_more (traces h) j u (subst (λ ts. InForce ts j u) (ap traces now_is ∙ after.1) is));
+        shown = kept.shown ∙ sym (ap replay now_is ∙ after.0);
+        feet = append-map (λ x. x.kept) log (more ∷ []) ∙ ap (λ fs. fs ++ None ∷ []) kept.feet
+            ∙ sym (ap (λ g. feet (traces g)) now_is ∙ ap feet after.1 ∙ append-map (option_map foot_of) (traces h) (None ∷ []));
+      }
+
+shows_aside : (s : Cells) (es : List kept.Entry) (e : command.Edit) → Shows es s → Shows (es ++ record { edit = e; kept = None } ∷ []) s
+shows_aside s es e shows =
+    let x : kept.Entry = record { edit = e; kept = None } in
+    subst (λ l. IsKept {w = workbook} s l) (sym (append-map logged es (x ∷ []))) (kept_aside s (log es) (meaning e) shows)
+
+pub shows_aside_by : {X E : Type 0} (s : Cells) (es fs : List kept.Entry) (e : command.Edit) (r : Result X E) → Shows es s → OnOk r (fs ≡ es ++ record { edit = e; kept = None } ∷ []) → OnErr r (fs ≡ es) → Shows fs s
+shows_aside_by s es fs e (Ok x) shows more stay = subst (λ gs. Shows gs s) (sym more) (shows_aside s es e shows)
+shows_aside_by s es fs e (Err x) shows more stay = subst (λ gs. Shows gs s) (sym stay) shows
+
+valid_aside : (es : List kept.Entry) (e : command.Edit) → AreValid (numbers es) → IsValid e → AreValid (numbers (es ++ record { edit = e; kept = None } ∷ []))
+valid_aside es e valid here =
+    let x : kept.Entry = record { edit = e; kept = None } in
+    subst AreValid (sym (numbers_more es x)) (valid_append (numbers es) (numbered x) valid here)
+
+pub valid_aside_by : {X E : Type 0} (es fs : List kept.Entry) (e : command.Edit) (r : Result X E) → AreValid (numbers es) → IsValid e → OnOk r (fs ≡ es ++ record { edit = e; kept = None } ∷ []) → OnErr r (fs ≡ es) → AreValid (numbers fs)
+valid_aside_by es fs e (Ok x) valid here more stay = subst (λ gs. AreValid (numbers gs)) (sym more) (valid_aside es e valid here)
+valid_aside_by es fs e (Err x) valid here more stay = subst (λ gs. AreValid (numbers gs)) (sym stay) valid
+
+pub indexed_aside_by : {X E : Type 0} (x : Index) (es fs : List kept.Entry) (e : command.Edit) (r : Result X E) → IsIndexed x es → OnOk r (fs ≡ es ++ record { edit = e; kept = None } ∷ []) → OnErr r (fs ≡ es) → IsIndexed x fs
+indexed_aside_by x es fs e (Ok y) h more stay = subst (λ gs. IsIndexed x gs) (sym more) (more_indexed x es (record { edit = e; kept = None }) h)
+indexed_aside_by x es fs e (Err y) h more stay = subst (λ gs. IsIndexed x gs) (sym stay) h
+
+-- ---- the entry of a number
+
+pub entry_of_number : (es : List kept.Entry) (x : kept.Entry) (n : ℕ) → slice_get es n ≡ Some x → Some (one_of x.edit (is_some x.kept)) ≡ numbered_at (numbers es) (suc n)
+entry_of_number es x n at = sym (get-map numbered es n ∙ ap (option_map numbered) at)
+
+-- ---- counts
+
+written_append : (ts us : List (Option (Trace workbook))) → cells_written (ts ++ us) ≡ cells_written ts + cells_written us
+written_append [] us = sym (omega arith)
+written_append (Some t ∷ ts) us = let e = written_append ts us in omega (arith, e)
+written_append (None ∷ ts) us = written_append ts us
+
+meant_more : (es fs : List Numbered) → meant (es ++ fs) ≡ meant es ++ meant fs
+meant_more es fs = append-map (λ x. entry_at x.edit x.in_force) es fs
+
+-- a count that stops at m
+capped : (c n m : ℕ) → min (min c m + n) m ≡ min (c + n) m
+capped c n m =
+    let a = sub-add-min_cancel c m in
+    let b = sub-add-min_cancel (min c m + n) m in
+    let d = sub-add-min_cancel (c + n) m in
+    omega (arith, a, b, d)
+
+counted_on : (c d n w v : ℕ) → w ≡ written_more 0 c → v ≡ written_more w n → d ≡ c + n → v ≡ written_more 0 d
+counted_on c d n w v is more sum =
+    let m = 2 ^ 128 - 1 in
+    let zero_c : 0 + c ≡ c = omega arith in
+    let zero_d : 0 + (c + n) ≡ c + n = omega arith in
+    more ∙ ap (λ x. min (x + n) m) (is ∙ ap (λ x. min x m) zero_c) ∙ capped c n m ∙ ap (λ x. min x m) (sym zero_d) ∙ ap (λ x. min (0 + x) m) (sym sum)
+
+one_more : (h : List (Entry workbook)) (e : Edit workbook) → cells_written (traces (h ++ done e ∷ [])) ≡ cells_written (traces h) + count_of (written (outcome e (replay h)))
+one_more h e =
+    let zero_more : count_of (written (outcome e (replay h))) + 0 ≡ count_of (written (outcome e (replay h))) = omega arith in
+    ap cells_written (follows h (done e ∷ []) empty).1 ∙ written_append (traces h) (Some (trace e (replay h)) ∷ []) ∙ ap (λ n. cells_written (traces h) + n) zero_more
+
+none_more : (h : List (Entry workbook)) (e : Edit workbook) → cells_written (traces (h ++ undone e ∷ [])) ≡ cells_written (traces h)
+none_more h e =
+    let same : cells_written (traces h) + 0 ≡ cells_written (traces h) = omega arith in
+    ap cells_written (follows h (undone e ∷ []) empty).1 ∙ written_append (traces h) (None ∷ []) ∙ same
+
+pub counted_edit : (p q : Past) (e : command.Edit) (r : ℕ × ℕ) → EditReply (meant p.entries) (meaning e) (Ok r) → q.entries ≡ p.entries ++ one_of e true ∷ [] → q.writes ≡ written_more p.writes r.1 → IsCounted p → IsCounted q
+counted_edit p q e r (k, (xs, accepted, n)) more writes counted =
+    let h = meant p.entries in
+    let now_is : traces (meant q.entries) ≡ traces (h ++ done (meaning e) ∷ []) = ap (λ es. traces (meant es)) more ∙ ap traces (meant_more p.entries (one_of e true ∷ [])) in
+    let count : count_of (written (outcome (meaning e) (replay h))) ≡ r.1 = ap (λ o. count_of (written o)) accepted ∙ sym n in
+    counted_on (cells_written (traces h)) (cells_written (traces (meant q.entries))) r.1 p.writes q.writes counted writes
+    (ap cells_written now_is ∙ one_more h (meaning e) ∙ ap (λ c. cells_written (traces h) + c) count)
+
+pub counted_aside : (p q : Past) (e : command.Edit) → q.entries ≡ p.entries ++ one_of e false ∷ [] → q.writes ≡ p.writes → IsCounted p → IsCounted q
+counted_aside p q e more writes counted =
+    let h = meant p.entries in
+    let now_is : traces (meant q.entries) ≡ traces (h ++ undone (meaning e) ∷ []) = ap (λ es. traces (meant es)) more ∙ ap traces (meant_more p.entries (one_of e false ∷ [])) in
+    writes ∙ counted ∙ ap (written_more 0) (sym (ap cells_written now_is ∙ none_more h (meaning e)))
+
+-- ---- an edit in force that is refused
+
+never_ok : {E : Type 0} (T : Type 0) (o : E) → IsOk {T = T} (Err o) → ⊥
+never_ok T o q = cc
+
+not_ok : (h k : List (Entry workbook)) (e : Edit workbook) (o : _) → outcome e (replay h) ≡ Err o → IsLegal (h ++ done e ∷ k) → ⊥
+not_ok h k e o refused legal =
+    let t = trace e (replay h) in
+    let there = subst (λ ts. InForce ts (length (traces h)) t) (sym (follows h (done e ∷ k) empty).1) (seam (traces h) (traces_from k (step e (replay h))) t) in
+    let ok = legal (length (traces h)) t there in
+    never_ok (List (Change workbook)) o (subst IsOk refused ok)
+
+begins : (es fs : List Numbered) (e : command.Edit) → meant ((es ++ one_of e true ∷ []) ++ fs) ≡ meant es ++ done (meaning e) ∷ meant fs
+begins [] fs e = refl
+begins (x ∷ es) fs e = ap (λ h. entry_at x.edit x.in_force ∷ h) (begins es fs e)
+
+pub refused_here : (es : List Numbered) (e : command.Edit) (why : Refusal) → EditReply (meant es) (meaning e) (Err why) → stopped why ≡ NotLegal → BeginsNone (es ++ one_of e true ∷ [])
+refused_here es e (Refused o) reply is fs legal = not_ok (meant es) (meant fs) (meaning e) o reply (subst (λ h. IsLegal h) (begins es fs e) legal)
+refused_here es e NoMemory reply is fs legal = cc
+refused_here es e BadRequest reply is fs legal = reply
+refused_here es e BadLiteral reply is fs legal = reply
+refused_here es e NoSuchEdit reply is fs legal = reply
+refused_here es e NotInForce reply is fs legal = reply
+refused_here es e IsInForce reply is fs legal = reply
+refused_here es e (Blocked k) reply is fs legal = reply
+refused_here es e (RefusedInPlace o) reply is fs legal = reply
+refused_here es e StrangePass reply is fs legal = reply
+
+one_by_one : (es fs : List Numbered) (x : Numbered) → (es ++ x ∷ []) ++ fs ≡ es ++ x ∷ fs
+one_by_one [] fs x = refl
+one_by_one (y ∷ es) fs x = ap (λ zs. y ∷ zs) (one_by_one es fs x)
+
+pub stopped_reply : (all rest : List (command.Edit × Bool)) (es : List Numbered) (e : command.Edit) (b : Bool) (why : RestoreErr)
+    → es ++ marked ((e, b) ∷ rest) ≡ marked all → (why ≡ NotLegal → BeginsNone (es ++ one_of e b ∷ [])) → RestoreReply (marked all) (Err why)
+stopped_reply all rest es e b NotLegal is none = λ legal. none refl (marked rest) (subst (λ fs. IsLegal (meant fs)) (sym (one_by_one es (marked rest) (one_of e b) ∙ is)) legal)
+stopped_reply all rest es e b NoRoom is none = tt

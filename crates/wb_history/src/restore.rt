@@ -1,0 +1,87 @@
+//! A history from the list of its edits.
+ghost use Rattle.std.specs.Prelude.{◌≡◌, [], ◌∷◌, ◌++◌, OnOk, OnErr, IfErr, None};
+ghost use Rattle.wb_history.specs.Restored.{one_of, marked, stopped, IsCounted, BeginsNone, RestoreReply};
+
+use crate::entry::Entry;
+use crate::history::History;
+use crate::refusal::Refusal;
+use std::alloc::Global;
+use thiserror::Error;
+use wb_edit::Edit;
+use wb_range::NoMemory;
+
+/// Why a list of edits gives no history.
+#[derive(Clone, Copy, Debug, PartialEq, Eq, Error)]
+pub enum RestoreErr {
+    /// An edit in force is not accepted in its place.
+    #[error("an edit in force is not accepted in its place")]
+    NotLegal,
+    /// A growth was refused.
+    #[error("no memory")]
+    NoMemory,
+}
+
+/// Keeps an edit as the last one, out of force.
+pub(crate) fn keep_aside(entries: &mut Vec<Entry>, edit: Edit) -> Result<(), NoMemory>
+    ensures ok { OnOk result (entries.new.items ≡ entries.old.items ++ record { edit = edit; kept = None } ∷ []) }
+    ensures err { OnErr result (entries.new.items ≡ entries.old.items) }
+{
+    match entries.push(Entry { edit, kept: None }) {
+        Ok(()) => Ok(()),
+        Err(_) => Err(NoMemory),
+    }
+}
+
+// Why an edit in force is not put in.
+fn stopped(why: Refusal) -> RestoreErr
+    ensures { result ≡ stopped why }
+{
+    match why {
+        Refusal::NoMemory => RestoreErr::NoMemory,
+        Refusal::BadRequest
+        | Refusal::BadLiteral
+        | Refusal::Refused(_)
+        | Refusal::NoSuchEdit
+        | Refusal::NotInForce
+        | Refusal::InForce
+        | Refusal::Blocked(_)
+        | Refusal::RefusedInPlace(_)
+        | Refusal::StrangePass => RestoreErr::NotLegal,
+    }
+}
+
+// Puts an edit in as the last one, by its mark.
+fn put_in(history: &mut History, edit: Edit, in_force: bool) -> Result<(), RestoreErr>
+    ensures entries { OnOk result (history.new.entries ≡ history.old.entries ++ one_of edit in_force ∷ []) }
+    ensures counted { OnOk result (IsCounted history.old → IsCounted history.new) }
+    ensures refused { IfErr result (λ why. why ≡ RestoreErr.NotLegal → BeginsNone (history.old.entries ++ one_of edit in_force ∷ [])) }
+{
+    if in_force {
+        match history.edit(edit) {
+            Ok(_) => Ok(()),
+            Err(why) => Err(stopped(why)),
+        }
+    } else {
+        match history.take_in(edit) {
+            Ok(()) => Ok(()),
+            Err(_) => Err(RestoreErr::NoMemory),
+        }
+    }
+}
+
+impl History {
+    /// The history of the edits of a list, each with whether it is in force. Each edit in force is made once, in its
+    /// place; one out of force is not tried.
+    pub fn restore(alloc: Global, edits: Vec<(Edit, bool)>) -> Result<History, RestoreErr>
+        ensures { RestoreReply (marked edits.items) result }
+    {
+        let mut history = History::new(alloc);
+        for (edit, in_force) in edits {
+            if let Err(why) = put_in(&mut history, edit, in_force) {
+                return Err(why);
+            }
+        }
+        let _legal = history.book();
+        Ok(history)
+    }
+}

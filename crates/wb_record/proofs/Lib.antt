@@ -1,0 +1,6 @@
+pub mod Unbroken
+pub mod LastLine
+pub mod Heading
+pub mod Below
+pub mod Steps
+pub mod Same

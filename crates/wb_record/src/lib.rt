@@ -1,0 +1,15 @@
+//! The text of a history: printing it, and a history from its text.
+//!
+//! The edits are read from the lines of the text, the history is made again, and its own text is compared with the one
+//! that was given. So a text is read just where it is the text of a history.
+#![tactic(auto)]
+
+pub mod laws;
+mod lines;
+mod printed;
+mod reading;
+#[cfg(test)]
+mod tests;
+
+pub use crate::printed::print_history;
+pub use crate::reading::{HistoryErr, read_history};
