@@ -8,8 +8,6 @@ pub mod laws;
 mod lines;
 mod printed;
 mod reading;
-#[cfg(test)]
-mod tests;
 
 pub use crate::printed::print_history;
 pub use crate::reading::{HistoryErr, read_history};

@@ -1,4 +1,4 @@
-//! Tests of the crates from `wb_book` to `wb_wire`: the calls of a book, the index of footprints, literals, texts of
+//! Tests of the crates from `wb_book` to `wb_record`: the calls of a book, the index of footprints, literals, texts of
 //! workbooks, worked histories as request lines with their replies, sessions over devices that fail, and the canonical lines
 //! of requests.
 //!
@@ -17,6 +17,8 @@ mod footprints;
 mod lines;
 #[cfg(test)]
 mod literals;
+#[cfg(test)]
+mod records;
 #[cfg(test)]
 mod scripts;
 #[cfg(test)]

@@ -1,12 +1,12 @@
 //! A worked history's text, printed and read back, and histories made again from lists of edits.
 
-use crate::{HistoryErr, print_history, read_history};
 use std::alloc::Global;
 use std::test::Fail;
 use wb_edit::Edit;
 use wb_history::{History, RestoreErr};
 use wb_proto::{Request, read_request};
 use wb_range::NoMemory;
+use wb_record::{HistoryErr, print_history, read_history};
 
 const OBJECTS: &str = "array A over D [0, 0, 0, 0]\nrect D {1..4} none\n";
 
