@@ -10,8 +10,9 @@ ghost use Rattle.wb_journal.specs.Serving.{own_after, share_after, new_passes, A
 use crate::opening::Opening;
 use crate::shared::{Shared, serve};
 use std::alloc::Global;
+use std::hint::spin_loop;
 use std::sync::ledger::{Blank, Ledger, Share};
-use std::sync::{Mutex, Wait};
+use std::sync::{Mutex, MutexGuard, Wait};
 use thiserror::Error;
 use wb_history::History;
 use wb_journal::{Cause, Counted, Journal, Pass};
@@ -28,6 +29,9 @@ pub enum DeskErr {
     #[error("no memory")]
     NoMemory,
 }
+
+// How often a thread looks for the lock before it sleeps.
+const LOOKS: u32 = 1_000;
 
 /// A workbook that several seats share.
 #[derive(Drop)]
@@ -113,6 +117,17 @@ impl<L: Opening> Desk<L> {
         }
     }
 
+    // Takes the lock. One request is answered sooner than a thread that sleeps is woken, so it looks a while before it sleeps.
+    fn taken<R: Wait>(&self, rt: &R) -> MutexGuard<'_, Shared<L>> {
+        for _ in 0..LOOKS {
+            if let Some(guard) = self.shared.try_lock() {
+                return guard;
+            }
+            spin_loop();
+        }
+        self.shared.lock(rt)
+    }
+
     /// Takes the lock, and answers one request of a pass.
     pub fn call(&self, rt: &impl Wait, pass: &mut Pass<L>, request: Request) -> Reply
         ensures reply { AnswersSome L.opening pass.old.seat pass.old.own request result }
@@ -120,7 +135,7 @@ impl<L: Opening> Desk<L> {
         ensures own { pass.new.own ≡ own_after pass.old.seat pass.old.own request result }
         ensures share { pass.new.share ≡ share_after pass.old.share result }
     {
-        let mut guard = self.shared.lock(rt);
+        let mut guard = self.taken(rt);
         serve(&mut guard, pass, request)
     }
 }
