@@ -6,13 +6,16 @@ use Rattle.std.proofs.lemmas.Option.{slice_get_past}
 use Rattle.wb_journal.specs.declared.entry.Entry.{Entry}
 use Rattle.wb_journal.specs.Settling.{FirstDifference}
 
-pub filter_more : {X : Type 0} (p : X → Bool) (xs : List X) (i : ℕ) (d : X) → i < length xs → filter p (take (i + 1) xs) ≡ filter p (take i xs) ++ cond (p (get_or xs i d)) (get_or xs i d ∷ []) []
+pub filter_more : {X : Type 0} (p : X → Bool) (xs : List X) (i : ℕ) (d : X) → i < length xs
+    → filter p (take (i + 1) xs) ≡ filter p (take i xs) ++ cond (p (get_or xs i d)) (get_or xs i d ∷ []) []
 filter_more p xs i d h = ap (filter p) (take_more xs i d h) ∙ filter-append p (take i xs) (get_or xs i d ∷ [])
 
-pub filter_yes : {X : Type 0} (p : X → Bool) (xs : List X) (i : ℕ) (x : X) → i < length xs → x ≡ get_or xs i x → p x ≡ true → filter p (take (i + 1) xs) ≡ filter p (take i xs) ++ x ∷ []
+pub filter_yes : {X : Type 0} (p : X → Bool) (xs : List X) (i : ℕ) (x : X) → i < length xs → x ≡ get_or xs i x → p x ≡ true
+    → filter p (take (i + 1) xs) ≡ filter p (take i xs) ++ x ∷ []
 filter_yes p xs i x h is t = let t' : p (get_or xs i x) ≡ true = rw (← is) t in filter_more p xs i x h ∙ ap (λ b. filter p (take i xs) ++ cond b (get_or xs i x ∷ []) []) t' ∙ ap (λ y. filter p (take i xs) ++ y ∷ []) (sym is)
 
-pub filter_no : {X : Type 0} (p : X → Bool) (xs : List X) (i : ℕ) (x : X) → i < length xs → x ≡ get_or xs i x → p x ≡ false → filter p (take (i + 1) xs) ≡ filter p (take i xs)
+pub filter_no : {X : Type 0} (p : X → Bool) (xs : List X) (i : ℕ) (x : X) → i < length xs → x ≡ get_or xs i x → p x ≡ false
+    → filter p (take (i + 1) xs) ≡ filter p (take i xs)
 filter_no p xs i x h is t = let t' : p (get_or xs i x) ≡ false = rw (← is) t in filter_more p xs i x h ∙ ap (λ b. filter p (take i xs) ++ cond b (get_or xs i x ∷ []) []) t' ∙ append-nil (filter p (take i xs))
 
 parts : {X : Type 0} (xs : List X) (i : ℕ) → xs ≡ take i xs ++ drop i xs
@@ -29,7 +32,8 @@ append_assoc' [] x ys = refl
 append_assoc' (y ∷ xs) x ys = ap (λ zs. y ∷ zs) (append_assoc' xs x ys)
 
 -- the parts at an element that passes
-pub filter_at : {X : Type 0} (p : X → Bool) (xs : List X) (i : ℕ) (x : X) → i < length xs → x ≡ get_or xs i x → p x ≡ true → filter p xs ≡ filter p (take i xs) ++ x ∷ filter p (drop (i + 1) xs)
+pub filter_at : {X : Type 0} (p : X → Bool) (xs : List X) (i : ℕ) (x : X) → i < length xs → x ≡ get_or xs i x → p x ≡ true
+    → filter p xs ≡ filter p (take i xs) ++ x ∷ filter p (drop (i + 1) xs)
 filter_at p xs i x h is t = filter_parts p xs (i + 1) ∙ ap (λ ys. ys ++ filter p (drop (i + 1) xs)) (filter_yes p xs i x h is t) ∙ append_assoc' (filter p (take i xs)) x (filter p (drop (i + 1) xs))
 
 seam : {X : Type 0} (pre : List X) (x : X) (post : List X) → slice_get (pre ++ x ∷ post) (length pre) ≡ Some x
@@ -54,7 +58,8 @@ whole : {X : Type 0} (xs : List X) → take (length xs) xs ≡ xs
 whole [] = refl
 whole (x ∷ xs) = ap (λ ys. x ∷ ys) (whole xs)
 
-pub differs_within : (xs own pre post : List Entry) (e : Entry) (k : ℕ) → xs ≡ pre ++ e ∷ post → pre ≡ take k own → k ≤ length own → ¬ (slice_get own k ≡ Some e) → FirstDifference xs own k
+pub differs_within : (xs own pre post : List Entry) (e : Entry) (k : ℕ) → xs ≡ pre ++ e ∷ post → pre ≡ take k own → k ≤ length own
+    → ¬ (slice_get own k ≡ Some e) → FirstDifference xs own k
 differs_within xs own pre post e k is same within other =
     let long : length pre ≡ k = ap length same ∙ taken k own within in
     let start : take k xs ≡ pre = ap (take k) is ∙ ap (λ n. take n (pre ++ e ∷ post)) (sym long) ∙ front pre (e ∷ post) in
@@ -80,6 +85,7 @@ take_next (y ∷ xs) zero x h = let e : y ≡ x = cc in ap (λ z. z ∷ []) e
 take_next (y ∷ xs) (suc k) x h = ap (λ zs. y ∷ zs) (take_next xs k x h)
 
 -- one element more that passes, and stands next in the other list
-pub same_more : (p : Entry → Bool) (es own : List Entry) (i k : ℕ) (e : Entry) → i < length es → e ≡ get_or es i e → p e ≡ true → filter p (take i es) ≡ take k own → slice_get own k ≡ Some e
+pub same_more : (p : Entry → Bool) (es own : List Entry) (i k : ℕ) (e : Entry) → i < length es → e ≡ get_or es i e → p e ≡ true
+    → filter p (take i es) ≡ take k own → slice_get own k ≡ Some e
     → filter p (take (i + 1) es) ≡ take (k + 1) own
 same_more p es own i k e within is passes same next = filter_yes p es i e within is passes ∙ ap (λ xs. xs ++ e ∷ []) same ∙ sym (take_next own k e next) ∙ ap (λ n. take n own) (sym (add-one k))

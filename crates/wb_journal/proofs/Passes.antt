@@ -15,7 +15,8 @@ got [] i x h e = absurd (omega arith)
 got (y ∷ xs) zero x h e = ap Some (sym e)
 got (y ∷ xs) (suc i) x h e = got xs i x (omega arith) e
 
-pub second_pass : (ps : List Held) (k i : ℕ) (found : Option ℕ) (x : Held) → i < length ps → x ≡ get_or ps i x → (x.seat == k) ≡ true → is_some found ≡ true → FoundIn ps k i found → ¬ HasOnePass ps k
+pub second_pass : (ps : List Held) (k i : ℕ) (found : Option ℕ) (x : Held) → i < length ps → x ≡ get_or ps i x → (x.seat == k) ≡ true
+    → is_some found ≡ true → FoundIn ps k i found → ¬ HasOnePass ps k
 second_pass ps k i None x h is t some f one = cc
 second_pass ps k i (Some j) x h is t some (p, at, only) one =
     let rest : List Held = passes_of k (drop (i + 1) ps) in
@@ -23,10 +24,12 @@ second_pass ps k i (Some j) x h is t some (p, at, only) one =
     let long : length (passes_of k ps) ≡ length (p ∷ x ∷ rest) = ap length two in
     omega (arith, one, long)
 
-pub first_pass : (ps : List Held) (k i : ℕ) (found : Option ℕ) (x : Held) → i < length ps → x ≡ get_or ps i x → (x.seat == k) ≡ true → is_some found ≡ false → FoundIn ps k i found → FoundIn ps k (i + 1) (Some i)
+pub first_pass : (ps : List Held) (k i : ℕ) (found : Option ℕ) (x : Held) → i < length ps → x ≡ get_or ps i x → (x.seat == k) ≡ true
+    → is_some found ≡ false → FoundIn ps k i found → FoundIn ps k (i + 1) (Some i)
 first_pass ps k i (Some j) x h is t some f = cc
 first_pass ps k i None x h is t some f = (x, got ps i x h is, filter_yes (λ (q : Held). q.seat == k) ps i x h is t ∙ ap (λ qs. qs ++ x ∷ []) f)
 
-pub other_pass : (ps : List Held) (k i : ℕ) (found : Option ℕ) (x : Held) → i < length ps → x ≡ get_or ps i x → (x.seat == k) ≡ false → FoundIn ps k i found → FoundIn ps k (i + 1) found
+pub other_pass : (ps : List Held) (k i : ℕ) (found : Option ℕ) (x : Held) → i < length ps → x ≡ get_or ps i x → (x.seat == k) ≡ false
+    → FoundIn ps k i found → FoundIn ps k (i + 1) found
 other_pass ps k i None x h is t f = filter_no (λ (q : Held). q.seat == k) ps i x h is t ∙ f
 other_pass ps k i (Some j) x h is t (p, at, only) = (p, at, filter_no (λ (q : Held). q.seat == k) ps i x h is t ∙ only)

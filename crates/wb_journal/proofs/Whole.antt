@@ -30,7 +30,8 @@ later (suc k) e es h =
     let before = later k e es (omega arith) in
     omega (arith, own, before)
 
-by_seat : (k : ℕ) (e : Entry) (es : List Entry) (b : Bool) → (e.seat == k) ≡ b → e.seat < suc k → (e.seat < k → counted k (e ∷ es) ≡ counted k es + 1) → counted (suc k) (e ∷ es) ≡ counted (suc k) es + 1
+by_seat : (k : ℕ) (e : Entry) (es : List Entry) (b : Bool) → (e.seat == k) ≡ b → e.seat < suc k
+    → (e.seat < k → counted k (e ∷ es) ≡ counted k es + 1) → counted (suc k) (e ∷ es) ≡ counted (suc k) es + 1
 by_seat k e es true is h rest =
     let at : e.seat ≡ k = grind (arith, nat_tests) in
     let own = own_count k e es true is in

@@ -5,7 +5,8 @@ use Rattle.wb_journal.proofs.counted.Counted.answer.Goals as goal
 pub returns-then-is_entered-clause-course : goal.returns-then-is_entered-clause-course
 returns-then-is_entered-clause-course g c opening course =
     let s = c.answer-reply in
-    course_more opening c.args.self.now.journal c.pass.inside.seat c.pass.inside.own.items c.args.request s.result s.new.self course s.ensures.strange s.ensures.answers
+    course_more opening c.args.self.now.journal c.pass.inside.seat c.pass.inside.own.items c.args.request s.result s.new.self
+    course s.ensures.strange s.ensures.answers
 
 pub returns-then-is_entered-clause-left : goal.returns-then-is_entered-clause-left
 returns-then-is_entered-clause-left g c =
@@ -25,7 +26,8 @@ returns-then-is_entered-clause-entries g c =
 pub returns-else-is_entered-clause-course : goal.returns-else-is_entered-clause-course
 returns-else-is_entered-clause-course g c opening course =
     let s = c.answer-reply in
-    course_more opening c.args.self.now.journal c.pass.inside.seat c.pass.inside.own.items c.args.request s.result s.new.self course s.ensures.strange s.ensures.answers
+    course_more opening c.args.self.now.journal c.pass.inside.seat c.pass.inside.own.items c.args.request s.result s.new.self
+    course s.ensures.strange s.ensures.answers
 
 pub returns-else-is_entered-clause-left : goal.returns-else-is_entered-clause-left
 returns-else-is_entered-clause-left g c =
