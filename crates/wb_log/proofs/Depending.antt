@@ -1,15 +1,14 @@
 -- Dependents by what is kept are those of the traces.
-use Rattle.std.proofs.Common.{◌≡◌, ℕ, zero, suc, ◌+◌, ◌<◌, Bool, true, false, true≢false, List, [], ◌∷◌, Option, Some, None, is_some, Result, Ok, Err, IfOk, slice_get, arith, refl, sym, ap, ◌∙◌, subst}
+use Rattle.std.proofs.Common.{◌≡◌, ℕ, zero, suc, true, false, List, [], ◌∷◌, Option, Some, None, slice_get, arith, refl, sym, ap, ◌∙◌}
 use Rattle.selective_undo.specs.Edit.{Trace, Needs, needs}
 use Rattle.selective_undo.specs.History.{undone, traces, Blocks, InForce, Dependent, Has}
 use Rattle.selective_undo.specs.History as h
-use Rattle.selective_undo.specs.Log.{Foot, foot_of, feet, history, blocks_undo, meets_any}
+use Rattle.selective_undo.specs.Log.{foot_of, feet, blocks_undo, meets_any}
 use Rattle.selective_undo.proofs.Locality.{needs_true, needs_false}
 use Rattle.selective_undo.proofs.Log.{foot_at, trace_of, some_foot}
 use Rattle.wb_edit.specs.Schema.{workbook}
-use Rattle.wb_foot.specs.Feet.{Feet}
 use Rattle.wb_log.specs.declared.entry.Entry as kept
-use Rattle.wb_log.specs.Kept.{kept_all, feet_of, by_number, entries_meant, Shows}
+use Rattle.wb_log.specs.Kept.{feet_of, by_number, entries_meant, Shows}
 use Rattle.wb_log.specs.Needed as by_feet
 use Rattle.wb_log.specs.Needed.{NeedsKept, FromFeet, AreFromFeet}
 use Rattle.wb_log.specs.Cascades.{IsDependent, AreDependents}

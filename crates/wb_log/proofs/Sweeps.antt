@@ -1,5 +1,5 @@
 -- A sweep over what is kept, from each number that is found to those that need it.
-use Rattle.std.proofs.Common.{if◌then◌else◌, ◌≡◌, ℕ, zero, suc, ◌+◌, ◌-◌, ◌<◌, ◌≤◌, ◌==◌, Bool, true, false, true≢false, List, [], ◌∷◌, Option, Some, None, is_some, length, Result, Ok, Err, OnOk, arith, refl, sym, ap, ◌∙◌, subst, ◌⊎◌, inl, inr}
+use Rattle.std.proofs.Common.{if◌then◌else◌, ◌≡◌, ℕ, ◌<◌, ◌≤◌, ◌==◌, Bool, true, false, true≢false, List, [], ◌∷◌, Some, None, length, Result, Ok, Err, OnOk, arith, refl, sym, ap, ◌∙◌, subst, ◌⊎◌, inl, inr}
 use Rattle.std.proofs.lemmas.Bool.{cases_eq}
 use Rattle.std.proofs.lemmas.Bool.Decides.{nat_tests}
 use Rattle.selective_undo.specs.History.{Has, Falls}
@@ -9,7 +9,7 @@ use Rattle.wb_book.specs.Cells.{Changes}
 use Rattle.wb_edit.specs.Schema.{workbook}
 use Rattle.wb_foot.specs.declared.numbers.Numbers.{Numbers}
 use Rattle.wb_foot.specs.declared.foot_index.FootIndex.{FootIndex}
-use Rattle.wb_foot.specs.Feet.{Feet, IsIndexOf, foot}
+use Rattle.wb_foot.specs.Feet.{Feet, IsIndexOf}
 use Rattle.wb_foot.specs.Numbers.{numbered}
 use Rattle.wb_foot.specs.Relation.{IsLeast, IsLeastAfter}
 use Rattle.wb_log.specs.declared.entry.Entry as kept

@@ -1,13 +1,12 @@
 -- Undos one after another.
-use Rattle.std.proofs.Common.{◌≡◌, ◌≢◌, ℕ, zero, suc, ◌+◌, ◌-◌, ◌^◌, ◌<◌, ◌≤◌, Bool, true, false, List, [], ◌∷◌, ◌++◌, map, length, take, drop, Option, Some, None, is_some, option_map, Result, Ok, Err, IfOk, IfErr, slice_get, arith, refl, sym, ap, ◌∙◌, subst}
+use Rattle.std.proofs.Common.{◌≡◌, ◌≢◌, ℕ, zero, suc, ◌+◌, ◌-◌, ◌^◌, ◌<◌, ◌≤◌, true, false, List, [], ◌∷◌, ◌++◌, length, take, drop, Some, None, is_some, option_map, Result, Ok, Err, IfOk, IfErr, slice_get, arith, refl, sym, ap, ◌∙◌, subst}
 use Rattle.std.specs.Prelude.{min}
 use Rattle.std.proofs.Math.Nat.{sub-add-min_cancel}
 use Rattle.std.proofs.lemmas.List.{take-append-drop}
-use Rattle.selective_undo.specs.Edit.{Edit, Trace}
-use Rattle.selective_undo.specs.History.{Entry, undone, undo, traces, InForce, CanUndo, CanUndoAll}
-use Rattle.selective_undo.specs.Log.{history, entry_of}
+use Rattle.selective_undo.specs.Edit.{Trace}
+use Rattle.selective_undo.specs.History.{Entry, undo, traces, InForce, CanUndo, CanUndoAll}
 use Rattle.selective_undo.proofs.Log.{append-map, get-map, trace_there}
-use Rattle.wb_book.specs.Cells.{count_of, written_more}
+use Rattle.wb_book.specs.Cells.{written_more}
 use Rattle.wb_edit.specs.Schema.{workbook}
 use Rattle.wb_edit.specs.Commands.{meaning}
 use Rattle.wb_log.specs.declared.entry.Entry as kept
@@ -15,9 +14,9 @@ use Rattle.wb_log.specs.declared.refusal.Refusal.{Refusal}
 use Rattle.wb_log.specs.declared.refusal.Refusal.TheVariants.{NotInForce, NoMemory}
 use Rattle.wb_log.specs.Past.{Numbered, meant, entry_at, out_of_force, AreValid}
 use Rattle.wb_log.specs.Replies.{UndoReply, ByNumber}
-use Rattle.wb_log.specs.Kept.{kept_in, numbers, numbered, entries_meant, logged, log, foot, by_number, Shows}
+use Rattle.wb_log.specs.Kept.{numbers, numbered, entries_meant, log, foot, by_number, Shows}
 use Rattle.wb_log.specs.Needed.{AreFromFeet}
-use Rattle.wb_log.specs.Cascades.{AreDependents, DependentsReply, CascadeReply, places, touched, set_back, all_out_of_force, IsRisen, AreUndone, OfNumber}
+use Rattle.wb_log.specs.Cascades.{DependentsReply, CascadeReply, places, touched, set_back, all_out_of_force, IsRisen, AreUndone, OfNumber}
 use Rattle.wb_log.proofs.Depending.{by_traces, are_dependents}
 use Rattle.wb_log.proofs.Entries.{history-log, log_at}
 use Rattle.wb_log.proofs.Granted.{undo_meant}

@@ -1,4 +1,4 @@
-use Rattle.std.proofs.Common.{ℕ, length, reverse, ◌-◌}
+use Rattle.std.proofs.Common.{length, reverse, ◌-◌}
 use Rattle.wb_log.specs.Kept.{by_number}
 use Rattle.wb_log.proofs.Sweeps.{Swept}
 use Rattle.wb_log.proofs.sweep.needing.Given as goal

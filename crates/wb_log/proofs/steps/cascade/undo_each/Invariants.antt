@@ -1,4 +1,4 @@
-use Rattle.std.proofs.Common.{◌≡◌, ℕ, ◌-◌, ◌<◌, ◌≤◌, ◌^◌, length, take}
+use Rattle.std.proofs.Common.{◌≡◌, ◌-◌, ◌<◌, ◌≤◌, ◌^◌, length, take}
 use Rattle.wb_log.specs.Cascades.{AreUndone}
 use Rattle.wb_log.specs.Indexed.{IsIndexed}
 use Rattle.wb_log.specs.Kept.{Shows, numbers}
