@@ -2,9 +2,8 @@
 
 ghost use Rattle.std.specs.Prelude.{◌≡◌, length, slice_get, IfOk};
 ghost use Rattle.wb_book.specs.Cells.{matches, state_of};
-ghost use Rattle.wb_book.specs.Families.{Begins};
+ghost use Rattle.wb_book.specs.Families.{Begins, AreNamed};
 ghost use Rattle.wb_book.specs.Readers.{seen, member_in, members, element_in, elements};
-ghost use Rattle.wb_book.specs.WellFormed.{IsWellFormed};
 
 use crate::cells::cell::Cell;
 use crate::cells::pattern::Pattern;
@@ -29,12 +28,12 @@ pub(crate) fn first(pattern: &Pattern) -> Cell
 }
 
 /// The cells that the pattern names and that are there, with their values, in their order.
-pub(crate) fn seen(
+pub fn seen(
     alloc: Global,
     cells: &BTreeMap<Cell, Value>,
     pattern: &Pattern,
 ) -> Result<Vec<(Cell, Value)>, AllocError>
-    requires { IsWellFormed (state_of cells.now) }
+    requires { AreNamed (state_of cells.now) }
     ensures { IfOk result (λ v. v.items ≡ seen (state_of cells.now) pattern.now) }
 {
     cells
