@@ -6,7 +6,7 @@ mod cells;
 mod changes;
 mod values;
 
-pub use crate::book::Book;
+pub use crate::book::{Book, store};
 pub use crate::cells::cell::{AnyCell, Cell};
 pub use crate::cells::kind::{AnyDomain, DomainKind, KeyType, Kind};
 pub use crate::cells::pattern::Pattern;
