@@ -10,7 +10,7 @@ use crate::cells::pattern::Pattern;
 use crate::cells::value::Value;
 use crate::values::index::AnyIndex;
 use crate::values::name::Name;
-use std::alloc::{AllocError, Global};
+use std::alloc::Global;
 use std::collections::BTreeMap;
 use wb_range::NoMemory;
 
@@ -32,15 +32,19 @@ pub fn seen(
     alloc: Global,
     cells: &BTreeMap<Cell, Value>,
     pattern: &Pattern,
-) -> Result<Vec<(Cell, Value)>, AllocError>
+) -> Result<Vec<(Cell, Value)>, NoMemory>
     requires { AreNamed (state_of cells.now) }
     ensures { IfOk result (λ v. v.items ≡ seen (state_of cells.now) pattern.now) }
 {
-    cells
+    let found = cells
         .range(first(pattern)..)
         .take_while(|x| pattern.matches(*x.0))
         .map(|x| (*x.0, *x.1))
-        .collect(alloc)
+        .collect(alloc);
+    match found {
+        Ok(shown) => Ok(shown),
+        Err(_) => Err(NoMemory),
+    }
 }
 
 /// How many members a sparse or associative domain has.
