@@ -1,16 +1,16 @@
 -- What a look at a pattern shows of what is kept.
-use Rattle.std.proofs.Common.{◌≡◌, ℕ, ℤ, Bool, true, false, cond, List, [], ◌∷◌, map, filter, Option, Some, None, Result, Ok, Err, IfOk, refl, sym, ap, subst, ◌∙◌}
+use Rattle.std.proofs.Common.{◌≡◌, ℕ, ℤ, Bool, true, false, cond, List, [], ◌∷◌, filter, Option, Some, None, Result, Ok, Err, IfOk, refl, sym, ap, ◌∙◌}
 use Rattle.std.specs.declared.cmp.Ordering.TheVariants.{Less}
 use Rattle.std.specs.BTreeMap.{BTreeMap, is_at}
 use Rattle.std.specs.Cmp.{eq_by_cmp_equiv, tied_itself}
-use Rattle.std.specs.Cmp.Lexicographic.{slice_cmp, nat_list_cmp_total}
+use Rattle.std.specs.Cmp.Lexicographic.{nat_list_cmp_total}
 use Rattle.std.specs.FinMap.{get, entries, from_entries, retain_keys, get-retain_keys, get-from_entries}
 use Rattle.std.specs.List.{AllByRecursion, filter_map}
 use Rattle.std.specs.List.Sorted.{IsStrictlySortedBy}
 use Rattle.std.specs.Map.{lookup, keys_of}
 use Rattle.std.specs.Option.{option_map, option_and_then}
 use Rattle.std.specs.FinMap.Entries.{find-where_key}
-use Rattle.std.specs.Ordering.{is_eq, nat_cmp, ordering_then, eq_by_cmp}
+use Rattle.std.specs.Ordering.{is_eq, ordering_then, eq_by_cmp}
 use Rattle.selective_undo.proofs.Changes.{same_states}
 use Rattle.wb_book.specs.declared.cells.cell.Cell.{Cell}
 use Rattle.wb_book.specs.declared.cells.cell.Cell.TheVariants.{Object, Shape, In, Member, Mapping, Use, Implicit, Element}
@@ -22,14 +22,13 @@ use Rattle.wb_book.specs.declared.values.index.Index.{Index}
 use Rattle.wb_book.specs.Cells.{Name, Cells, cell_cmp, cell_order, index_cmp, is_same_name, matches}
 use Rattle.wb_book.specs.Readers.{seen, elements, element_in as told_by}
 use Rattle.wb_book.proofs.Order.{entries_ascending}
-use Rattle.wb_join.specs.Joined.{is_stored, stored_in, element_in, elements_of}
+use Rattle.wb_join.specs.Joined.{is_stored, stored_in}
 use Rattle.wb_join.proofs.Joined.{find-lookup, array_is_group}
 use Rattle.wb_shelf.specs.Kept.{Pieced, array_in, pairs_of, element_cells, one_cell}
 use Rattle.wb_shelf.specs.Shelf.{cells_of, IsShelf}
 use Rattle.wb_shelf.proofs.Kept.{get-cells_of}
 use Rattle.wb_shelf.proofs.Elements.{stored_there}
-use Rattle.wb_shelf.proofs.Written.{one_name}
-use Rattle.wb_shelf.proofs.Remapped.{one_cell as equal_cells}
+use Rattle.wb_shelf.proofs.Written.{one_name, one_cell as equal_cells}
 
 -- cells in their order that are those which the pattern names
 pub seen_is : (s : Cells) (p : Pattern) (es : List (Cell × Value)) → IsStrictlySortedBy cell_cmp (keys_of es) → ((c : Cell) → stored_in es c ≡ cond (matches p c) (get s c) None) → seen s p ≡ es
