@@ -10,6 +10,7 @@ ghost use Rattle.wb_shelf.specs.Kept.{element_changes};
 ghost use Rattle.wb_shelf.specs.Moved.{mapping_change};
 ghost use Rattle.std.specs.FinMap as map;
 
+mod parts;
 mod readers;
 
 use crate::{after, change, keep, looks, moving};
