@@ -12,3 +12,4 @@ pub mod Resting
 pub mod Grown
 pub mod Whole
 pub mod Answered
+pub mod Joining
