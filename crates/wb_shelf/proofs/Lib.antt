@@ -11,3 +11,4 @@ pub mod Applied
 pub mod Built
 pub mod Grown
 pub mod Whole
+pub mod Answered

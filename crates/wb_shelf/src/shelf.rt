@@ -10,6 +10,8 @@ ghost use Rattle.wb_shelf.specs.Kept.{element_changes};
 ghost use Rattle.wb_shelf.specs.Moved.{mapping_change};
 ghost use Rattle.std.specs.FinMap as map;
 
+mod readers;
+
 use crate::{after, change, keep, looks, moving};
 use std::alloc::Global;
 use std::collections::BTreeMap;
@@ -76,9 +78,9 @@ impl Shelf {
                 let cell = cell.cell();
                 looks::one_cell(alloc, cell, keep::look(&self.cells, &self.arrays, &cell))
             }
-            Pattern::Objects => looks::stored(alloc, &self.cells, pattern),
-            Pattern::Members(_) => looks::stored(alloc, &self.cells, pattern),
-            Pattern::Uses(_) => looks::stored(alloc, &self.cells, pattern),
+            Pattern::Objects => wb_book::seen(alloc, &self.cells, pattern),
+            Pattern::Members(_) => wb_book::seen(alloc, &self.cells, pattern),
+            Pattern::Uses(_) => wb_book::seen(alloc, &self.cells, pattern),
         }
     }
 

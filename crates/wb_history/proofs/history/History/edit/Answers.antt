@@ -1,5 +1,5 @@
-use Rattle.wb_history.proofs.Valid.{keeps_valid_more}
-use Rattle.wb_history.proofs.Entered.{still_indexed}
+use Rattle.wb_log.proofs.Valid.{keeps_valid_more}
+use Rattle.wb_log.proofs.Entered.{still_indexed}
 use Rattle.wb_history.proofs.history.History.edit.Goals as goal
 
 pub invariant_of-self : goal.invariant_of-self

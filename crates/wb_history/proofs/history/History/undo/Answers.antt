@@ -1,8 +1,8 @@
 use Rattle.std.proofs.Common.{◌-◌, length, drop, subst, sym, ◌∙◌, false}
-use Rattle.wb_history.proofs.Valid.{keeps_valid, whole_slice}
-use Rattle.wb_history.specs.Past.{AreValid}
-use Rattle.wb_history.specs.Kept.{numbers}
-use Rattle.wb_history.specs.Indexed.{Keeps}
+use Rattle.wb_log.proofs.Valid.{keeps_valid, whole_slice}
+use Rattle.wb_log.specs.Past.{AreValid}
+use Rattle.wb_log.specs.Kept.{numbers}
+use Rattle.wb_log.specs.Indexed.{Keeps}
 use Rattle.wb_history.proofs.history.History.undo.Goals as goal
 
 pub invariant_of-self : goal.invariant_of-self
