@@ -14,7 +14,7 @@ pub use crate::cells::cell::{AnyCell, Cell};
 pub use crate::cells::kind::{AnyDomain, DomainKind, KeyType, Kind};
 pub use crate::cells::pattern::Pattern;
 pub use crate::cells::value::{AnyValue, Binding, Value};
-pub use crate::changes::change::CellChange;
+pub use crate::changes::change::{CellChange, counted};
 pub use crate::changes::delta::Delta;
 pub use crate::changes::inverse::Inverse;
 pub use crate::values::index::{AnyIndex, Index};

@@ -7,12 +7,11 @@ use Rattle.std.specs.List.Sorted.{IsStrictlySortedBy}
 use Rattle.std.specs.Map.{lookup, keys_of}
 use Rattle.std.specs.Option.{option_map, option_and_then}
 use Rattle.std.specs.Ordering.{nat_cmp, eq_by_cmp}
-use Rattle.selective_undo.specs.declared.Change.{Change}
 use Rattle.selective_undo.specs.Changes.{put, apply, changes}
 use Rattle.selective_undo.proofs.Changes.{get-put, is_itself, apply_keeps}
 use Rattle.wb_dist.specs.Maps.{LayoutMap}
 use Rattle.wb_book.specs.declared.cells.cell.Cell.{Cell}
-use Rattle.wb_book.specs.declared.cells.cell.Cell.TheVariants.{Object, Shape, In, Member, Mapping, Use, Implicit, Element}
+use Rattle.wb_book.specs.declared.cells.cell.Cell.TheVariants.{Object, Mapping, Element}
 use Rattle.wb_book.specs.declared.cells.value.Value.{Value}
 use Rattle.wb_book.specs.declared.cells.value.Value.TheVariants.{Domain, Array, Ranges, Mapping as mapping_value, Present, Bound, Number}
 use Rattle.wb_book.specs.declared.cells.kind.DomainKind.{DomainKind}
@@ -28,24 +27,14 @@ use Rattle.wb_book.proofs.Shown.{get-state_of}
 use Rattle.wb_elements.specs.Changed.{changed_at}
 use Rattle.wb_join.specs.Joined.{is_stored, stored_in, element_in, AllStored}
 use Rattle.wb_shelf.specs.Kept.{Pieced, array_in, Agree}
-use Rattle.wb_shelf.specs.After.{kind_lies, domain_lies, object_lies, lies_at, LeadTo, IsAfter}
+use Rattle.wb_shelf.specs.After.{kind_lies, object_lies, lies_at, LeadTo, IsAfter}
 use Rattle.wb_shelf.specs.Moved.{put_over}
 use Rattle.wb_shelf.specs.Shelf.{cells_of, IsShelf, lies_by, mapping_of}
-use Rattle.wb_shelf.proofs.Elements.{stored_there}
-use Rattle.wb_shelf.proofs.Remapped.{one_cell as equal_cells}
+use Rattle.wb_shelf.proofs.Elements.{stored_there, differ, stored_apart}
 use Rattle.wb_shelf.proofs.Same.{same_cells}
+use Rattle.wb_shelf.proofs.Written.{one_cell as equal_cells}
 
 -- ---- the stored cells
-
-differ : (a b : Bool) → a ≡ true → b ≡ false → a ≡ b → (t : Bool) → t ≡ false
-differ a b p q r t = cc
-
-stored_apart : (c x : Cell) → is_stored c ≡ true → is_stored x ≡ false → eq_by_cmp cell_cmp c x ≡ false
-stored_apart c x st apart = by (eq_by_cmp cell_cmp c x) refl
-  where
-    by : (t : Bool) → eq_by_cmp cell_cmp c x ≡ t → t ≡ false
-    by false e = refl
-    by true e = differ (is_stored c) (is_stored x) st apart (ap is_stored (equal_cells c x e)) true
 
 -- the changes of stored cells change stored cells as all changes do
 pub stored_only : (xs : Changes) (s t : Cells) (c : Cell) → is_stored c ≡ true → get t c ≡ get s c → get (apply (filter (λ x. is_stored x.cell) xs) t) c ≡ get (apply xs s) c

@@ -3,9 +3,7 @@ pub mod Written
 pub mod Same
 pub mod Elements
 pub mod Moved
-pub mod Remapped
 pub mod Seen
-pub mod Laid
 pub mod Leads
 pub mod Applied
 pub mod Built

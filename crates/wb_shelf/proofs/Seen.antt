@@ -26,8 +26,7 @@ use Rattle.wb_join.proofs.Joined.{find-lookup, array_is_group}
 use Rattle.wb_shelf.specs.Kept.{Pieced, array_in, pairs_of, element_cells, one_cell}
 use Rattle.wb_shelf.specs.Shelf.{cells_of, IsShelf}
 use Rattle.wb_shelf.proofs.Kept.{get-cells_of}
-use Rattle.wb_shelf.proofs.Written.{one_name}
-use Rattle.wb_shelf.proofs.Remapped.{one_cell as equal_cells}
+use Rattle.wb_shelf.proofs.Written.{one_name, one_cell as equal_cells}
 
 -- cells in their order that are those which the pattern names
 pub seen_is : (s : Cells) (p : Pattern) (es : List (Cell × Value)) → IsStrictlySortedBy cell_cmp (keys_of es) → ((c : Cell) → stored_in es c ≡ cond (matches p c) (get s c) None) → seen s p ≡ es

@@ -1,5 +1,5 @@
 -- Changes that were made whole, or taken back.
-use Rattle.std.proofs.Common.{◌≡◌, ℕ, ℤ, Bool, true, false, not, cond, ◌&&◌, List, [], ◌∷◌, filter, map, Option, Some, None, is_some, IsSome, refl, sym, ap, subst, ◌∙◌}
+use Rattle.std.proofs.Common.{◌≡◌, ℕ, Bool, true, false, not, cond, ◌&&◌, List, [], ◌∷◌, filter, map, Option, Some, None, is_some, IsSome, refl, sym, ap, subst, ◌∙◌}
 use Rattle.std.specs.BTreeMap.{BTreeMap}
 use Rattle.std.specs.Cmp.Lexicographic.{slice_cmp}
 use Rattle.std.specs.FinMap.{get}
@@ -25,9 +25,9 @@ use Rattle.wb_book.specs.declared.values.index.Index.{Index}
 use Rattle.wb_book.specs.Cells.{Name, Cells, Changes, cell_cmp, cell_order, state_of}
 use Rattle.wb_book.specs.Kinds.{kind_of}
 use Rattle.wb_book.specs.Locales.{mapping_in}
-use Rattle.wb_book.specs.WellFormed.{IsWellFormed, IsObject, HasMapping, domain_at, domain_in, array_at, array_in as object_in}
+use Rattle.wb_book.specs.WellFormed.{IsWellFormed, HasMapping, domain_at, domain_in, array_at, array_in as object_in}
 use Rattle.wb_book.proofs.Shown.{get-state_of}
-use Rattle.wb_join.specs.Joined.{is_stored, stored_in, element_in, AllStored}
+use Rattle.wb_join.specs.Joined.{is_stored, stored_in, element_in}
 use Rattle.wb_shelf.specs.After.{lies_at, IsAfter, AreAfter, is_array}
 use Rattle.wb_shelf.specs.Kept.{Pieced, array_in, Agree}
 use Rattle.wb_shelf.specs.Moved.{put_over}

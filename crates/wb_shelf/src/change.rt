@@ -18,10 +18,10 @@ ghost use Rattle.wb_shelf.specs.Kept.{Pieced, array_in};
 ghost use Rattle.wb_shelf.specs.Moved.{put_over};
 ghost use Rattle.wb_shelf.specs.Shelf.{cells_of, IsShelf};
 
-use crate::{after, moving, store};
+use crate::{after, keep, moving};
 use std::alloc::Global;
 use std::collections::BTreeMap;
-use wb_book::{AnyIndex, AnyLayout, Cell, CellChange, Name, Value};
+use wb_book::{AnyIndex, AnyLayout, Cell, CellChange, Name, Value, store};
 use wb_elements::Elements;
 use wb_range::NoMemory;
 use wb_redist::{MoveErr, Mover};
@@ -213,7 +213,8 @@ fn take_back(
     let _ = cells.len();
 }
 
-/// Makes all the changes, or none where the mover refuses or no memory is left.
+/// Makes all the changes, or none where the mover refuses or no memory is left. Where they do no more than set elements
+/// that are there, it takes no memory.
 pub(crate) fn change_all<V: Mover>(
     alloc: Global,
     cells: &mut BTreeMap<Cell, Value>,
@@ -229,6 +230,10 @@ pub(crate) fn change_all<V: Mover>(
     ensures shelf { IsShelf cells.new arrays.new }
     ensures no_thread { result ≡ Err MoveErr.NoThread → V.may_lack_threads mover.now }
 {
+    if keep::are_set(arrays, delta) {
+        keep::set_all(arrays, delta);
+        return Ok(());
+    }
     let Ok(stored) = after::stored_changes(alloc, delta) else {
         return Err(MoveErr::NoMemory);
     };

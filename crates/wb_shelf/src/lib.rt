@@ -7,6 +7,5 @@ mod keep;
 mod looks;
 mod moving;
 mod shelf;
-mod store;
 
 pub use crate::shelf::Shelf;

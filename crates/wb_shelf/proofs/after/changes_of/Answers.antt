@@ -1,5 +1,5 @@
 use Rattle.std.proofs.Common.{take}
-use Rattle.wb_shelf.proofs.Leads.{none_lead, lead_more}
+use Rattle.wb_shelf.proofs.Leads.{lead_more}
 use Rattle.wb_shelf.proofs.after.changes_of.Goals as goal
 
 pub loop-change-preserved : goal.loop-change-preserved
