@@ -5,6 +5,7 @@ ghost use Rattle.wb_book.specs.Readers.{elements, seen};
 ghost use Rattle.wb_book.specs.WellFormed.{IsWellFormed};
 ghost use Rattle.std.specs.FinMap as map;
 
+mod parts;
 mod readers;
 
 use crate::{after, change, keep, looks};
