@@ -1,20 +1,15 @@
 -- The canonical object of a request is written as its canonical line, which is read back.
-use Rattle.std.proofs.Common.{◌≡◌, ◌∙◌, ◌≤◌, ℕ, ℤ, pos, negsuc, true, false, List, [], ◌∷◌, map, Some, Ok, refl, sym, ap, subst, arith}
+use Rattle.std.proofs.Common.{◌≡◌, ◌∙◌, ◌≤◌, ℕ, ℤ, pos, negsuc, true, false, List, [], ◌∷◌, map, Some, refl, sym, ap, subst, arith}
 use Rattle.std.specs.Str.{is_utf8}
-use Rattle.serde_json.specs.Data.{depth, items_depth, members_depth}
+use Rattle.serde_json.specs.Data.{Data, object, depth, items_depth, members_depth}
 use Rattle.serde_json.specs.Read.{read, max_depth}
 use Rattle.serde_json.specs.View.{view, items_of}
 use Rattle.serde_json.specs.Written.{compact_text, has_float, items_have_float, members_have_float}
 use Rattle.serde_json.specs.declared.value.Value.{Value}
 use Rattle.wb_book.specs.declared.values.index.Index.TheVariants.{Point, Text}
-use Rattle.wb_proto.specs.Pieces.{integer_data, point_data}
-use Rattle.wb_proto.specs.Requests.{request}
-use Rattle.wb_proto.specs.declared.requests.request.Request.{Request}
-use Rattle.wb_wire.specs.Table.{Meaning, word, name, integer, number, index, given, mapping, optional_mapping, some_set, some_mapping, some_integer, Fields, table}
-use Rattle.wb_wire.specs.Encoded.{data_of, members_of, request_data, request_line}
-use Rattle.wb_wire.specs.Proper.{IsProperRequest}
-use Rattle.wb_wire.proofs.Encoded.{encoded}
-use Rattle.wb_wire.proofs.Lines.{line_read}
+use Rattle.wb_encode.specs.Values.{integer_data, point_data}
+use Rattle.wb_encode.specs.Table.{Meaning, word, name, integer, number, index, given, mapping, optional_mapping, some_set, some_mapping, some_integer, Fields}
+use Rattle.wb_encode.specs.Encoded.{data_of, members_of}
 
 -- ---- no number in it is a float
 
@@ -84,15 +79,16 @@ flat_members : (fs : Fields) → members_depth (members_of fs) ≤ 1
 flat_members [] = omega arith
 flat_members (f ∷ fs) = let d = flat_data f.1 in let m = flat_members fs in omega (arith, d, m)
 
-shallow : (r : Request) → depth (request_data r) ≤ max_depth
-shallow r = let m = flat_members (table r) in omega (arith, m)
-
 -- ---- its text
 
-pub line_is : (v : Value) (r : Request) (s : List ℕ) → view v ≡ request_data r → (has_float (view v) ≡ false → s ≡ compact_text (view v)) → s ≡ request_line r
-line_is v r s e h = h (ap has_float e ∙ whole_members (table r)) ∙ ap compact_text e
+abbrev pub object_of : Fields → Data
+object_of fs = object (members_of fs)
 
-pub line_reads : (v : Value) (r : Request) (s : List ℕ) → view v ≡ request_data r → (depth (view v) ≤ max_depth → (is_utf8 s ≡ true) × (read s ≡ Some (view v))) → IsProperRequest r → request s ≡ Ok r
-line_reads v r s e h p =
-    let k = h (subst (λ d. depth d ≤ max_depth) (sym e) (shallow r)) in
-    line_read s r (request_data r, k.0, k.1 ∙ ap Some e, encoded r p)
+shallow : (fs : Fields) → depth (object_of fs) ≤ max_depth
+shallow fs = let m = flat_members fs in omega (arith, m)
+
+pub line_is : (v : Value) (fs : Fields) (s : List ℕ) → view v ≡ object_of fs → (has_float (view v) ≡ false → s ≡ compact_text (view v)) → s ≡ compact_text (object_of fs)
+line_is v fs s e h = h (ap has_float e ∙ whole_members fs) ∙ ap compact_text e
+
+pub line_json : (v : Value) (fs : Fields) (s : List ℕ) → view v ≡ object_of fs → (depth (view v) ≤ max_depth → (is_utf8 s ≡ true) × (read s ≡ Some (view v))) → (is_utf8 s ≡ true) × (read s ≡ Some (object_of fs))
+line_json v fs s e h = let k = h (subst (λ d. depth d ≤ max_depth) (sym e) (shallow fs)) in (k.0, k.1 ∙ ap Some e)

@@ -2,10 +2,9 @@
 ghost use Rattle.std.specs.Prelude.{◌≡◌, ◌++◌, ℕ, List, IfOk, OnOk, codes, string_bytes, Some, option_map};
 ghost use Rattle.std.specs.List.{flat_map};
 ghost use Rattle.wb_history.specs.Restored.{one_of};
-ghost use Rattle.wb_proto.specs.declared.requests.request.Request.TheVariants.{Change};
-ghost use Rattle.wb_record.specs.Text.{mark, edit_line, objects_text, history_text, IsSaid, AreSaid, AreProper};
-ghost use Rattle.wb_wire.specs.Proper.{IsProperRequest};
+ghost use Rattle.wb_encode.specs.Text.{mark, edit_line, objects_text, history_text, IsJson, AreJson};
 
+use crate::edits::edit_text;
 use std::alloc::{AllocError, Global};
 use std::fmt::Write;
 use wb_book::Book;
@@ -13,7 +12,6 @@ use wb_edit::Edit;
 use wb_history::History;
 use wb_range::NoMemory;
 use wb_text::print_book;
-use wb_wire::edit_text;
 
 // The lines of objects within the text of a workbook.
 fn objects_in(text: &str) -> Option<&str>
@@ -48,7 +46,7 @@ fn mark(in_force: bool) -> &'static str
 // The line of an edit.
 fn push_edit(alloc: Global, out: &mut String, edit: &Edit, in_force: bool) -> Result<(), NoMemory>
     ensures line { OnOk result (string_bytes out.new ≡ string_bytes out.old ++ edit_line (one_of edit.now in_force)) }
-    ensures said { OnOk result (IsProperRequest (Change edit.now) → IsSaid edit.now) }
+    ensures json { OnOk result (IsJson edit.now) }
 {
     let line = edit_text(alloc, edit)?;
     out.push_str(mark(in_force))?;
@@ -60,7 +58,7 @@ fn push_edit(alloc: Global, out: &mut String, edit: &Edit, in_force: bool) -> Re
 // The lines of all edits, in their order.
 fn push_edits(alloc: Global, out: &mut String, history: &History) -> Result<(), NoMemory>
     ensures lines { OnOk result (string_bytes out.new ≡ string_bytes out.old ++ flat_map edit_line history.now.entries) }
-    ensures said { OnOk result (AreProper history.now.entries → AreSaid history.now.entries) }
+    ensures json { OnOk result (AreJson history.now.entries) }
 {
     for before in 0..history.len() {
         match history.edit_at(before + 1) {
@@ -72,11 +70,11 @@ fn push_edits(alloc: Global, out: &mut String, history: &History) -> Result<(), 
 }
 
 /// The text of a history: the line `chapel-workbook 2`, the lines of its workbook's objects, how many edits there are,
-/// a line for each edit with its mark, and the line `end`. `NoMemory` where none is left. The line of each edit is read as
-/// its request, if lines can say the members of these.
+/// a line for each edit with its mark, and the line `end`. `NoMemory` where none is left. The line of each edit is
+/// the JSON of its request.
 pub fn print_history(alloc: Global, history: &History) -> Result<String, NoMemory>
     ensures text { IfOk result (λ t. string_bytes t ≡ history_text history.now.entries) }
-    ensures said { OnOk result (AreProper history.now.entries → AreSaid history.now.entries) }
+    ensures json { OnOk result (AreJson history.now.entries) }
 {
     let count = history.len();
     let mut out = String::new(alloc);
