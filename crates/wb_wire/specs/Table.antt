@@ -4,7 +4,7 @@ use Rattle.std.specs.Prelude.{[], ◌∷◌, codes, Some, None}
 use Rattle.wb_encode.specs.Table.{edit_table}
 use Rattle.wb_history.specs.declared.query.Query.TheVariants.{Get, Size, Where, Piece, State}
 use Rattle.wb_proto.specs.declared.requests.request.Request.{Request}
-use Rattle.wb_proto.specs.declared.requests.request.Request.TheVariants.{Change, Undo, Redo, Ask, Print}
+use Rattle.wb_proto.specs.declared.requests.request.Request.TheVariants.{Change, Undo, Redo, Ask, Print, History}
 pub use Rattle.wb_encode.specs.Table.{Meaning, word, name, integer, number, index, given, mapping, optional_mapping, some_set, some_mapping, some_integer, Fields, op, type_word, operation_word}
 
 -- the members of each request
@@ -19,3 +19,4 @@ table (Ask (Size d)) = (codes "d", name d) ∷ op (codes "size") ∷ []
 table (Ask (Piece a l)) = (codes "a", name a) ∷ (codes "l", number l) ∷ op (codes "piece") ∷ []
 table (Ask (State k)) = (codes "k", number k) ∷ op (codes "state") ∷ []
 table Print = op (codes "print") ∷ []
+table History = op (codes "history") ∷ []

@@ -37,6 +37,7 @@ fn request_value(alloc: Global, request: &Request) -> Result<Value, AllocError>
         Request::Redo(k) => by_number(alloc, "redo", *k),
         Request::Ask(query) => query_value(alloc, query),
         Request::Print => plain(alloc, "print"),
+        Request::History => plain(alloc, "history"),
     }
 }
 
