@@ -76,7 +76,8 @@ fn has_end(bytes: &[u8], from: usize) -> bool
     ensures { IsTrue result → HasNoEnd bytes.now → ⊥ }
 {
     match bytes.get(from.saturating_sub(LAST_LINE.len())..) {
-        Some(latest) => memmem::find(latest, LAST_LINE).is_some() && memmem::find(bytes, LAST_LINE).is_some(),
+        Some(latest) => memmem::find(latest, LAST_LINE).is_some()
+            && memmem::find(bytes, LAST_LINE).is_some(),
         None => false,
     }
 }
@@ -138,11 +139,7 @@ fn go_on<R: Source, W: Sink>(
 /// Reads the text of a history up to its line `end`, and then answers each line behind it on that history: the exit status.
 /// What was read and written is a session from the history, a run of the machine over its lines. Where there is no such
 /// text it prints `refused`, with status 1; 3 where input or output failed, 4 where a growth was refused.
-pub fn resume_with<R: Source, W: Sink>(
-    alloc: Global,
-    reader: &mut PutBack<R>,
-    writer: &mut W,
-) -> u8
+pub fn resume_with<R: Source, W: Sink>(alloc: Global, reader: &mut PutBack<R>, writer: &mut W) -> u8
     ensures resumes { (read : List ℕ) × Consumes (left_in R.remaining reader.old) (left_in R.remaining reader.new) read
         × ((text : List ℕ) × Appends (W.contents writer.old) (W.contents writer.new) text
         × IsResumed result read text) }
