@@ -1,7 +1,7 @@
 -- The text up to the first line `end`, and bytes that are put back.
-use Rattle.std.proofs.Common.{◌≡◌, ◌∙◌, ◌+◌, ◌<◌, ◌≤◌, ℕ, List, [], ◌++◌, length, take, Option, Some, None, option_map, refl, sym, ap, arith}
-use Rattle.std.proofs.lemmas.List.{append_assoc, get_or-take, length-take-le}
-use Rattle.std.specs.Io.KnownBytes.{Consumes}
+use Rattle.std.proofs.Common.{◌≡◌, ◌∙◌, ◌+◌, ◌<◌, ◌≤◌, ℕ, List, [], ◌++◌, length, take, Option, Some, None, option_map, is_some, true, IfNone, IfSome, refl, sym, ap, subst, arith}
+use Rattle.std.proofs.lemmas.List.{append-nil, append_assoc, get_or-take, length-take-le}
+use Rattle.std.specs.Io.KnownBytes.{Appends, Consumes}
 use Rattle.memchr.specs.Find.{OccursAt, FindsNeedle}
 use Rattle.wb_program.specs.Resuming.{last_line, IsUpToEnd, HasNoEnd}
 
@@ -32,26 +32,14 @@ up_to_end hay place h =
       last = size;
     }
 
-pub has_one : (hay : List ℕ) (r : Option ℕ) (k : ℕ) → FindsNeedle hay last_line 0 r → r ≡ Some k → HasNoEnd hay → ⊥
-has_one hay None k h e none = cc
-has_one hay (Some j) k h e none = none j h.0.low h.0.high h.1
+pub has_one : (hay : List ℕ) (r : Option ℕ) → FindsNeedle hay last_line 0 r → is_some r ≡ true → HasNoEnd hay → ⊥
+has_one hay None h e none = cc
+has_one hay (Some j) h e none = none j h.0.low h.0.high h.1
 
 -- ---- bytes before those of a reader
 
 abbrev pub behind : List ℕ → Option (List ℕ) → Option (List ℕ)
 behind xs o = option_map (λ t. xs ++ t) o
-
-pub nothing_ahead : (o : Option (List ℕ)) → behind [] o ≡ o
-nothing_ahead None = refl
-nothing_ahead (Some t) = refl
-
-pub put_more : (xs ys : List ℕ) (o : Option (List ℕ)) → behind (xs ++ ys) o ≡ behind xs (behind ys o)
-put_more xs ys None = refl
-put_more xs ys (Some t) = ap Some (append_assoc xs ys t)
-
-pub takes_ahead : (xs ys got : List ℕ) (o : Option (List ℕ)) → xs ≡ got ++ ys → Consumes (behind xs o) (behind ys o) got
-takes_ahead xs ys got None e = tt
-takes_ahead xs ys got (Some t) e = ap (λ zs. zs ++ t) e ∙ append_assoc got ys t
 
 -- what was read up to a place, and then from there on
 pub reads_on : (old mid new : Option (List ℕ)) (bytes front back asked : List ℕ) → Consumes old mid bytes → bytes ≡ front ++ back → Consumes (behind back mid) new asked → Consumes old new (front ++ asked)
@@ -60,3 +48,17 @@ reads_on (Some xs) None new bytes front back asked h e k = absurd h
 reads_on (Some xs) (Some m) None bytes front back asked h e k = absurd k
 reads_on (Some xs) (Some m) (Some n) bytes front back asked h e k =
     h ∙ ap (λ zs. zs ++ m) e ∙ append_assoc front back m ∙ ap (λ zs. front ++ zs) k ∙ sym (append_assoc front asked n)
+
+pub nothing_more : (o : Option (List ℕ)) → Appends o o []
+nothing_more None = tt
+nothing_more (Some xs) = sym (append-nil xs)
+
+-- ---- the value of a result
+
+pub of_none : {X : Type 0} (o : Option X) (P : Type 0) → o ≡ None → IfNone o P → P
+of_none None P e h = h
+of_none (Some x) P e h = cc
+
+pub of_some : {X : Type 0} (o : Option X) (P : X → Type 0) (x : X) → o ≡ Some x → IfSome o P → P x
+of_some None P x e h = cc
+of_some (Some y) P x e h = let f : y ≡ x = cc in subst P f h

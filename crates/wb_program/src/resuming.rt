@@ -1,5 +1,5 @@
 //! Sessions and desks that go on from the text of a history.
-ghost use Rattle.std.specs.Prelude.{◌≡◌, ◌++◌, ◌⊎◌, ℕ, List, [], true, IfOk, IfErr, IfSome, IfNone, OnErr, option_map, IsTrue};
+ghost use Rattle.std.specs.Prelude.{◌≡◌, ◌++◌, ◌⊎◌, ℕ, List, [], true, IfOk, IfErr, IfSome, IfNone, OnErr, option_map};
 ghost use Rattle.std.specs.Io.KnownBytes.{Appends, Consumes, IsAtEnd};
 ghost use Rattle.wb_lines.specs.Causes.{ReadsUntil, WritesUntil, StopsReading};
 ghost use Rattle.wb_program.specs.Checking.{IsNoRecord, IsFault};
@@ -73,7 +73,7 @@ pub fn history_from<R: Source, W: Sink>(
 
 // Whether a line `end` came among the latest bytes, from a place on.
 fn has_end(bytes: &[u8], from: usize) -> bool
-    ensures { IsTrue result → HasNoEnd bytes.now → ⊥ }
+    ensures { result ≡ true → HasNoEnd bytes.now → ⊥ }
 {
     match bytes.get(from.saturating_sub(LAST_LINE.len())..) {
         Some(latest) => memmem::find(latest, LAST_LINE).is_some()
@@ -149,12 +149,12 @@ pub fn resume_with<R: Source, W: Sink>(alloc: Global, reader: &mut PutBack<R>, w
         Ok(bytes) => bytes,
         Err(fault) => return status_of_fault(fault),
     };
-    let Some((front, behind)) = parts(&bytes) else {
-        return say(alloc, Verdict::Refused, writer);
-    };
-    match history_of(alloc, front) {
-        Ok(Some(history)) => go_on(alloc, history, behind, reader, writer),
-        Ok(None) => say(alloc, Verdict::Refused, writer),
-        Err(NoMemory) => NO_MEMORY,
+    match parts(&bytes) {
+        Some((front, behind)) => match history_of(alloc, front) {
+            Ok(Some(history)) => go_on(alloc, history, behind, reader, writer),
+            Ok(None) => say(alloc, Verdict::Refused, writer),
+            Err(NoMemory) => NO_MEMORY,
+        },
+        None => say(alloc, Verdict::Refused, writer),
     }
 }
