@@ -4,13 +4,13 @@ use std::alloc::Global;
 use std::marker::Model;
 use wb_range::NoMemory;
 
-/// The text of a workbook. Contracts see its bytes.
+/// The text of a workbook or of a history. Contracts see its bytes.
 #[derive(Debug, Drop)]
-pub struct BookText {
+pub struct PrintedText {
     text: String,
 }
 
-impl Model for BookText {
+impl Model for PrintedText {
     ghost use Rattle.std.specs.Prelude.{ℕ, List, string_bytes};
 
     ghost Value = { List ℕ };
@@ -18,11 +18,11 @@ impl Model for BookText {
     ghost view = { λ a. string_bytes a.text };
 }
 
-impl BookText {
-    pub(crate) fn new(text: String) -> BookText
+impl PrintedText {
+    pub(crate) fn new(text: String) -> PrintedText
         ensures { result ≡ string_bytes text }
     {
-        BookText { text }
+        PrintedText { text }
     }
 
     /// The text.
@@ -33,11 +33,11 @@ impl BookText {
     }
 
     /// An equal text, or `NoMemory`.
-    pub fn copy(&self, alloc: Global) -> Result<BookText, NoMemory>
+    pub fn copy(&self, alloc: Global) -> Result<PrintedText, NoMemory>
         ensures { IfOk result (λ t. t ≡ self.now) }
     {
         match String::from_str(alloc, self.as_str()) {
-            Ok(text) => Ok(BookText::new(text)),
+            Ok(text) => Ok(PrintedText::new(text)),
             Err(_) => Err(NoMemory),
         }
     }

@@ -2,9 +2,8 @@
 ghost use Rattle.std.specs.Prelude.{◌≡◌, IfOk};
 ghost use Rattle.serde_json.specs.View.{view};
 ghost use Rattle.wb_edit.specs.declared.edit.Edit.TheVariants.{Reshape};
-ghost use Rattle.wb_proto.specs.declared.requests.request.Request.TheVariants.{Change};
+ghost use Rattle.wb_encode.specs.Encoded.{edit_data};
 ghost use Rattle.wb_resize.specs.declared.source.Source.TheVariants.{Displace as displace, Combine as combine};
-ghost use Rattle.wb_wire.specs.Encoded.{request_data};
 
 use crate::literals::{given_text, index_value};
 use crate::objects::{diminished, exchanged, intersected, united};
@@ -19,7 +18,7 @@ fn displaced(
     how: Displacement,
     offsets: &Point,
 ) -> Result<Value, AllocError>
-    ensures { IfOk result (λ v. view v ≡ request_data (Change (Reshape d.now (displace how offsets.now)))) }
+    ensures { IfOk result (λ v. view v ≡ edit_data (Reshape d.now (displace how offsets.now))) }
 {
     let offsets = index_value(alloc, &AnyIndex::new(Index::Point(*offsets)))?;
     match how {
@@ -34,7 +33,7 @@ fn displaced(
 
 // The object of a set operation, under the key of which the other set stands.
 fn combined(alloc: Global, d: &Name, how: SetOperation, given: &Given) -> Result<Value, AllocError>
-    ensures { IfOk result (λ v. view v ≡ request_data (Change (Reshape d.now (combine how given.now)))) }
+    ensures { IfOk result (λ v. view v ≡ edit_data (Reshape d.now (combine how given.now))) }
 {
     let given = given_text(alloc, given)?;
     match how {
@@ -47,7 +46,7 @@ fn combined(alloc: Global, d: &Name, how: SetOperation, given: &Given) -> Result
 
 /// A new value of a domain.
 pub(crate) fn reshaped(alloc: Global, d: &Name, source: &Source) -> Result<Value, AllocError>
-    ensures { IfOk result (λ v. view v ≡ request_data (Change (Reshape d.now source.now))) }
+    ensures { IfOk result (λ v. view v ≡ edit_data (Reshape d.now source.now)) }
 {
     match source {
         Source::To(given) => {

@@ -1,7 +1,7 @@
 use Rattle.std.proofs.Common.{◌∙◌, ◌++◌, ap, refl, None, string_bytes}
-use Rattle.wb_record.specs.Text.{objects_text}
-use Rattle.wb_record.proofs.Steps.{none_some, some_same}
-use Rattle.wb_record.proofs.printed.push_objects.Goals as goal
+use Rattle.wb_encode.specs.Text.{objects_text}
+use Rattle.wb_encode.proofs.Lines.{none_some, some_same}
+use Rattle.wb_encode.proofs.printed.push_objects.Goals as goal
 
 pub unreachable-requires : goal.unreachable-requires
 unreachable-requires c =

@@ -2,10 +2,10 @@
 ghost use Rattle.std.specs.Prelude.{◌≡◌, map, IfOk, string_bytes};
 ghost use Rattle.serde_json.specs.Data.{array};
 ghost use Rattle.serde_json.specs.View.{view, items_of};
-ghost use Rattle.wb_proto.specs.Pieces.{integer_data, point_data, index_data};
+ghost use Rattle.wb_encode.specs.Values.{integer_data, point_data, index_data};
 ghost use Rattle.wb_text.specs.Literals.{rectangle_text, set_text, mapping_text};
-ghost use Rattle.wb_wire.specs.Encoded.{given_text};
-ghost use Rattle.wb_wire.specs.Table.{type_word, operation_word};
+ghost use Rattle.wb_encode.specs.Encoded.{given_text};
+ghost use Rattle.wb_encode.specs.Table.{type_word, operation_word};
 
 use serde_json::{Value, json};
 use std::alloc::{AllocError, Global};
@@ -64,7 +64,7 @@ fn integers_value(alloc: Global, integers: &[i64]) -> Result<Value, AllocError>
 }
 
 // An integer alone, or an array of several.
-#[tactic(auto, unfolding(wb_proto::specs::Pieces::point_data))]
+#[tactic(auto, unfolding(crate::specs::Values::point_data))]
 fn point_value(alloc: Global, coordinates: &[i64]) -> Result<Value, AllocError>
     ensures { IfOk result (λ v. view v ≡ point_data coordinates.now) }
 {
@@ -75,7 +75,7 @@ fn point_value(alloc: Global, coordinates: &[i64]) -> Result<Value, AllocError>
 }
 
 /// An index: an integer, an array of several, or a text.
-pub(crate) fn index_value(alloc: Global, index: &AnyIndex) -> Result<Value, AllocError>
+pub fn index_value(alloc: Global, index: &AnyIndex) -> Result<Value, AllocError>
     ensures { IfOk result (λ v. view v ≡ index_data index.now) }
 {
     match index.index() {
