@@ -1,5 +1,5 @@
 -- Arrays that were put or dropped by the changes of their objects.
-use Rattle.std.proofs.Common.{◌≡◌, ℕ, ◌+◌, ◌<◌, ℤ, suc, add-one, Bool, true, false, not, cond, ◌||◌, ◌&&◌, List, ◌∷◌, length, drop, drop-cons, get_or, Option, Some, None, is_some, refl, sym, ap, ◌∙◌}
+use Rattle.std.proofs.Common.{◌≡◌, ℕ, ◌+◌, ◌<◌, suc, add-one, Bool, true, false, not, cond, ◌||◌, ◌&&◌, List, ◌∷◌, length, drop, drop-cons, get_or, Option, Some, None, is_some, refl, sym, ap, ◌∙◌}
 use Rattle.std.specs.BTreeMap.{is_at}
 use Rattle.std.specs.Cmp.{eq_by_cmp_equiv}
 use Rattle.std.specs.Cmp.Lexicographic.{nat_list_cmp_total}
@@ -16,8 +16,7 @@ use Rattle.wb_book.specs.Cells.{Name, Changes, cell_cmp, index_cmp, is_same_name
 use Rattle.wb_join.specs.Joined.{element_in}
 use Rattle.wb_shelf.specs.After.{is_array}
 use Rattle.wb_shelf.specs.Kept.{Pieced, array_in}
-use Rattle.wb_shelf.proofs.Remapped.{one_cell as equal_cells}
-use Rattle.wb_shelf.proofs.Written.{one_name}
+use Rattle.wb_shelf.proofs.Written.{one_name, one_cell as equal_cells}
 
 -- ---- the object of a change
 

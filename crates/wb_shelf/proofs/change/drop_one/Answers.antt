@@ -1,5 +1,4 @@
-use Rattle.std.proofs.Common.{◌≡◌, sym, ◌∙◌}
-use Rattle.wb_book.specs.declared.cells.cell.Cell.TheVariants.{Object}
+use Rattle.std.proofs.Common.{sym, ◌∙◌}
 use Rattle.wb_join.specs.Joined.{stored_in}
 use Rattle.wb_shelf.specs.Kept.{array_in}
 use Rattle.wb_shelf.proofs.Grown.{kept_one, dropped_one}

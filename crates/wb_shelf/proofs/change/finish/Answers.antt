@@ -1,4 +1,4 @@
-use Rattle.std.proofs.Common.{◌≡◌, ◌&&◌, not, None, Option, cond, ap, ◌∙◌}
+use Rattle.std.proofs.Common.{◌&&◌, not, None, Option, cond, ap, ◌∙◌}
 use Rattle.selective_undo.specs.Changes.{changes}
 use Rattle.wb_book.specs.declared.cells.cell.Cell.TheVariants.{Object}
 use Rattle.wb_book.specs.Cells.{cell_cmp}

@@ -1,7 +1,6 @@
 use Rattle.std.proofs.Common.{◌≡◌, ℤ, Option, List, None, sym, ap, subst, ◌∙◌}
-use Rattle.std.specs.BTreeMap.{is_at}
 use Rattle.std.specs.List.Sorted.{IsStrictlySortedBy}
-use Rattle.std.specs.Map.{keys_of, lookup}
+use Rattle.std.specs.Map.{keys_of}
 use Rattle.wb_array.specs.Elements.{value_at}
 use Rattle.wb_book.specs.declared.values.index.Index.{Index}
 use Rattle.wb_book.specs.Cells.{index_cmp}
