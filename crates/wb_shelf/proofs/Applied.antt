@@ -1,5 +1,5 @@
 -- The workbook after changes, by what is kept of it then.
-use Rattle.std.proofs.Common.{◌≡◌, ℕ, ℤ, Bool, true, false, cond, List, [], ◌∷◌, filter, Option, Some, None, is_some, IsSome, refl, sym, ap, subst, ◌∙◌}
+use Rattle.std.proofs.Common.{◌≡◌, ℕ, Bool, true, false, cond, List, [], ◌∷◌, filter, Option, Some, None, is_some, IsSome, refl, sym, ap, subst, ◌∙◌}
 use Rattle.std.specs.BTreeMap.{BTreeMap, is_at}
 use Rattle.std.specs.Cmp.Lexicographic.{slice_cmp}
 use Rattle.std.specs.FinMap.{get}
@@ -25,9 +25,10 @@ use Rattle.wb_book.specs.Locales.{mapping_in}
 use Rattle.wb_book.specs.WellFormed.{IsWellFormed, IsElement, IsObject, HasMapping, is_index_of_array, domain_at, domain_in, array_at, array_in as object_in}
 use Rattle.wb_book.proofs.Shown.{get-state_of}
 use Rattle.wb_elements.specs.Changed.{changed_at}
-use Rattle.wb_join.specs.Joined.{is_stored, stored_in, element_in, AllStored}
+use Rattle.wb_join.specs.Joined.{is_stored, stored_in, AllStored}
 use Rattle.wb_shelf.specs.Kept.{Pieced, array_in, Agree}
-use Rattle.wb_shelf.specs.After.{kind_lies, object_lies, lies_at, LeadTo, IsAfter}
+use Rattle.wb_shelf.specs.After.{kind_lies, object_lies, lies_at, IsAfter}
+use Rattle.wb_shelf.specs.Groups.{Group, LeadTo}
 use Rattle.wb_shelf.specs.Moved.{put_over}
 use Rattle.wb_shelf.specs.Shelf.{cells_of, IsShelf, lies_by, mapping_of}
 use Rattle.wb_shelf.proofs.Elements.{stored_there, differ, stored_apart}
@@ -172,20 +173,19 @@ right_none t b formed none = record {
   elements = λ i. sym (subst (λ (o : Option (Name × Kind)). IsElement (is_index_of_array t o i) (get t (Element b i))) none (formed.elements b i));
 }
 
-pub right_made : (s : Cells) (es : List (Name × Pieced)) (delta : Changes) (b : Name) (p : Pieced) (xs : List (Index × Option ℤ)) → Agree es s → LeadTo delta b xs → Some p.1 ≡ lies_by (apply delta s) (array_at (apply delta s) b) → ((i : Index) → lookup (is_at (index_cmp i)) p.0 ≡ changed_at xs (element_in es b i) i) → IsRight (apply delta s) b (Some p)
-right_made s es delta b p xs agree lead lies made = record {
-  lies = lies;
-  elements = λ i. ap (option_map Number) (made i) ∙ lead s (element_in es b i) i (agree b i);
-}
-
-pub right_after : (s : Cells) (es : List (Name × Pieced)) (delta : Changes) (b : Name) (p : Pieced) (o : Option Pieced) (l : LayoutMap × ℕ) → Agree es s → array_in es b ≡ Some p → Some l ≡ lies_by (apply delta s) (array_at (apply delta s) b) → IsAfter delta b l p o → IsRight (apply delta s) b (put_over (Some p) o)
-right_after s es delta b p None l agree found lies after = record {
+pub right_after : (s : Cells) (es : List (Name × Pieced)) (delta : Changes) (b : Name) (p : Pieced) (o : Option Pieced) (l : LayoutMap × ℕ) (xs : Group) → LeadTo delta b xs →
+    Agree es s → array_in es b ≡ Some p → Some l ≡ lies_by (apply delta s) (array_at (apply delta s) b) → IsAfter xs l p o → IsRight (apply delta s) b (put_over (Some p) o)
+right_after s es delta b p None l xs lead agree found lies after = record {
   lies = ap (λ z. Some z) after.0 ∙ lies;
-  elements = λ i. after.1 s (lookup (is_at (index_cmp i)) p.0) i (ap (λ (z : Option Pieced). option_map Number (option_and_then (λ x. lookup (is_at (index_cmp i)) x.0) z)) (sym found) ∙ agree b i);
+  elements = λ i.
+      let was = ap (λ (z : Option Pieced). option_map Number (option_and_then (λ x. lookup (is_at (index_cmp i)) x.0) z)) (sym found) ∙ agree b i in
+      ap (λ (ys : Group). option_map Number (changed_at ys (lookup (is_at (index_cmp i)) p.0) i)) (sym after.1) ∙ lead s (lookup (is_at (index_cmp i)) p.0) i was;
 }
-right_after s es delta b p (Some q) l agree found lies after = record {
+right_after s es delta b p (Some q) l xs lead agree found lies after = record {
   lies = ap (λ z. Some z) after.0 ∙ lies;
-  elements = λ i. ap (option_map Number) (after.1.2 i) ∙ after.1.1 s (lookup (is_at (index_cmp i)) p.0) i (ap (λ (z : Option Pieced). option_map Number (option_and_then (λ x. lookup (is_at (index_cmp i)) x.0) z)) (sym found) ∙ agree b i);
+  elements = λ i.
+      let was = ap (λ (z : Option Pieced). option_map Number (option_and_then (λ x. lookup (is_at (index_cmp i)) x.0) z)) (sym found) ∙ agree b i in
+      ap (option_map Number) (after.1 i) ∙ lead s (lookup (is_at (index_cmp i)) p.0) i was;
 }
 
 -- what is kept after the changes is the workbook after them

@@ -7,6 +7,8 @@ pub mod Seen
 pub mod Leads
 pub mod Applied
 pub mod Built
+pub mod Present
+pub mod Resting
 pub mod Grown
 pub mod Whole
 pub mod Answered

@@ -1,5 +1,5 @@
 -- Changes that were made whole, or taken back.
-use Rattle.std.proofs.Common.{◌≡◌, ℕ, Bool, true, false, not, cond, ◌&&◌, List, [], ◌∷◌, filter, map, Option, Some, None, is_some, IsSome, refl, sym, ap, subst, ◌∙◌}
+use Rattle.std.proofs.Common.{◌≡◌, ℕ, Bool, true, false, true≢false, not, cond, ◌&&◌, List, [], ◌∷◌, filter, map, Option, Some, None, is_some, IsSome, refl, sym, ap, subst, ◌∙◌}
 use Rattle.std.specs.BTreeMap.{BTreeMap}
 use Rattle.std.specs.Cmp.Lexicographic.{slice_cmp}
 use Rattle.std.specs.FinMap.{get}
@@ -10,30 +10,34 @@ use Rattle.std.specs.Ordering.{nat_cmp, eq_by_cmp}
 use Rattle.selective_undo.specs.declared.Change.{Change}
 use Rattle.selective_undo.specs.Changes.{put, apply, inverse, changes, AllOnce, sets, clears}
 use Rattle.selective_undo.proofs.AllOrNothing.{sets_clears}
-use Rattle.selective_undo.proofs.Changes.{get-put, apply_keeps}
+use Rattle.std.specs.List.{list_all}
+use Rattle.selective_undo.proofs.Changes.{get-put, apply_keeps, not_true}
 use Rattle.selective_undo.proofs.Locality.{or_neither}
 use Rattle.wb_dist.specs.Maps.{LayoutMap}
 use Rattle.wb_book.specs.declared.cells.cell.Cell.{Cell}
-use Rattle.wb_book.specs.declared.cells.cell.Cell.TheVariants.{Object, Mapping, Element}
+use Rattle.wb_book.specs.declared.cells.cell.Cell.TheVariants.{Object, Shape, In, Member, Mapping, Use, Implicit, Element}
 use Rattle.wb_book.specs.declared.cells.kind.DomainKind.{DomainKind}
 use Rattle.wb_book.specs.declared.cells.kind.DomainKind.TheVariants.{Rectangular, Sparse, Associative}
 use Rattle.wb_book.specs.declared.cells.kind.KeyType.TheVariants.{Int, Text}
 use Rattle.wb_book.specs.declared.cells.kind.Kind.{Kind}
 use Rattle.wb_book.specs.declared.cells.value.Value.{Value}
-use Rattle.wb_book.specs.declared.cells.value.Value.TheVariants.{Domain, Array, Ranges, Mapping as mapping_value, Present, Bound, Number}
+use Rattle.wb_book.specs.declared.cells.value.Value.TheVariants.{Domain, Array, Number}
 use Rattle.wb_book.specs.declared.values.index.Index.{Index}
 use Rattle.wb_book.specs.Cells.{Name, Cells, Changes, cell_cmp, cell_order, state_of}
 use Rattle.wb_book.specs.Kinds.{kind_of}
 use Rattle.wb_book.specs.Locales.{mapping_in}
-use Rattle.wb_book.specs.WellFormed.{IsWellFormed, HasMapping, domain_at, domain_in, array_at, array_in as object_in}
+use Rattle.wb_book.specs.WellFormed.{IsWellFormed, HasMapping, domain_at, array_at, array_in as object_in}
 use Rattle.wb_book.proofs.Shown.{get-state_of}
 use Rattle.wb_join.specs.Joined.{is_stored, stored_in, element_in}
 use Rattle.wb_shelf.specs.After.{lies_at, IsAfter, AreAfter, is_array}
+use Rattle.wb_shelf.specs.Groups.{Group, group_in, changes_in, LeadTo, leaves}
 use Rattle.wb_shelf.specs.Kept.{Pieced, array_in, Agree}
 use Rattle.wb_shelf.specs.Moved.{put_over}
 use Rattle.wb_shelf.specs.Shelf.{cells_of, IsShelf, lies_by, mapping_of}
 use Rattle.wb_shelf.proofs.Applied.{IsRight, stored_only, stored_after, all_stored_after, all_stored_by, none_stored, lies_there, right_none, right_after, shelf_after}
-use Rattle.wb_shelf.proofs.Built.{after_in}
+use Rattle.wb_shelf.proofs.Built.{after_all}
+use Rattle.wb_shelf.proofs.Present.{domain_object, array_object}
+use Rattle.wb_shelf.proofs.Resting.{is_lay, left_alone, same_lies}
 use Rattle.wb_shelf.proofs.Elements.{stored_there}
 use Rattle.wb_shelf.proofs.Kept.{get-cells_of}
 
@@ -85,26 +89,6 @@ inverse_is answers s same (x ∷ xs) =
 
 -- ---- an array of a well-formed workbook lies by something
 
-domain_object : (o : Option Value) (k : DomainKind) → domain_in o ≡ Some k → o ≡ Some (Domain k)
-domain_object None k e = cc
-domain_object (Some (Domain j)) k e = let same : j ≡ k = cc in ap (λ z. Some (Domain z)) same
-domain_object (Some (Array n j)) k e = cc
-domain_object (Some (Ranges rs)) k e = cc
-domain_object (Some (mapping_value m)) k e = cc
-domain_object (Some Present) k e = cc
-domain_object (Some (Bound j)) k e = cc
-domain_object (Some (Number z)) k e = cc
-
-array_object : (o : Option Value) (d : Name) (k : Kind) → object_in o ≡ Some (d, k) → o ≡ Some (Array d k)
-array_object None d k e = cc
-array_object (Some (Array n j)) d k e = let both : (n, j) ≡ (d, k) = cc in ap (λ (x : Name × Kind). Some (Array x.0 x.1)) both
-array_object (Some (Domain j)) d k e = cc
-array_object (Some (Ranges rs)) d k e = cc
-array_object (Some (mapping_value m)) d k e = cc
-array_object (Some Present) d k e = cc
-array_object (Some (Bound j)) d k e = cc
-array_object (Some (Number z)) d k e = cc
-
 abbrev lies_of : ℕ → Option Value → Option (LayoutMap × ℕ)
 lies_of r v = option_map (λ m. (m, r)) (mapping_in v)
 
@@ -150,6 +134,19 @@ not_changed u b o e = rw e refl
 over_nothing : (o q : Option Pieced) → o ≡ None → put_over o q ≡ None
 over_nothing o q e = rw e refl
 
+one_lies : (p : Pieced) (l : LayoutMap × ℕ) → Some p.1 ≡ Some l → p.1 ≡ l
+one_lies p l e = cc
+
+lay_stored : (c : Cell) → is_lay c ≡ true → is_stored c ≡ true
+lay_stored (Object n) lay = refl
+lay_stored (Mapping d) lay = refl
+lay_stored (Shape d) lay = refl
+lay_stored (In d i) lay = cc
+lay_stored (Member d i) lay = refl
+lay_stored (Use d n) lay = refl
+lay_stored (Implicit a) lay = refl
+lay_stored (Element a i) lay = cc
+
 module _ (cells : BTreeMap Cell Value) (arrays : BTreeMap Name Pieced) (delta : Changes) (kept : IsShelf cells arrays) (xs : Changes) (only : xs ≡ filter (λ x. is_stored x.cell) delta) where
   by_stored : (c : Cell) → is_stored c ≡ true → get (apply delta (cells_of cells arrays)) c ≡ get (apply xs (state_of cells)) c
   by_stored c st =
@@ -180,8 +177,12 @@ module _ (cells : BTreeMap Cell Value) (arrays : BTreeMap Name Pieced) (delta : 
       (others : (b : Name) → changes cell_cmp xs (Object b) ≡ false → array_in grown b ≡ array_in arrays.entries b)
       (elements : (b : Name) (i : Index) → element_in grown b i ≡ element_in arrays.entries b i)
       (there : (b : Name) → changes cell_cmp xs (Object b) ≡ true → is_array (stored_in ready.entries (Object b)) ≡ true → IsSome (array_in grown b))
-      (ascending : IsStrictlySortedBy (slice_cmp nat_cmp) (keys_of grown))
-      (walked : AreAfter delta (lies_at (stored_in ready.entries)) grown built)
+      (gs : List (Name × Group))
+      (lead : (b : Name) → LeadTo delta b (changes_in gs b))
+      (objects : (b : Name) → changes cell_cmp delta (Object b) ≡ true → IsSome (group_in gs b))
+      (left : (b : Name) → IsSome (array_in arrays.entries b) → group_in gs b ≡ None → list_all (leaves (stored_in cells.entries)) delta ≡ true)
+      (ascending : IsStrictlySortedBy (slice_cmp nat_cmp) (keys_of gs))
+      (walked : AreAfter (lies_at (stored_in ready.entries)) grown gs built)
       (last : (b : Name) → array_in fresh b ≡ cond (changes cell_cmp xs (Object b) && not (is_array (stored_in after.entries (Object b)))) None (put_over (array_in grown b) (array_in built b))) where
     once_xs : AllOnce cell_cmp xs
     once_xs = subst (λ (ys : Changes). AllOnce cell_cmp ys) (sym only) (once_stored delta once)
@@ -208,6 +209,26 @@ module _ (cells : BTreeMap Cell Value) (arrays : BTreeMap Name Pieced) (delta : 
         there b e (ap is_array (ready_is (Object b) refl (ap is_some (array_object (get (apply delta (cells_of cells arrays)) (Object b)) d k is))) ∙ ap is_some is)
     was_there b d k is false e = subst (λ (o : Option Pieced). IsSome o) (sym (others b e)) (an_array b d k (sym (ap object_in (same_object b e)) ∙ is))
 
+    not_named : (b : Name) → group_in gs b ≡ None → changes cell_cmp delta (Object b) ≡ false
+    not_named b none = not_true (changes cell_cmp delta (Object b)) (λ e. absurd (true≢false (sym (objects b e) ∙ ap is_some none)))
+
+    left_there : (b : Name) → IsSome (array_in arrays.entries b) → group_in gs b ≡ None → (c : Cell) → is_lay c ≡ true →
+        IsSome (get (cells_of cells arrays) c) → IsSome (get (apply delta (cells_of cells arrays)) c) → get (apply delta (cells_of cells arrays)) c ≡ get (cells_of cells arrays) c
+    left_there b there none c lay here present =
+        left_alone (stored_in cells.entries) c lay (ap is_some (stored_there cells arrays kept c (lay_stored c lay)) ∙ here) delta (cells_of cells arrays) (left b there none) present
+
+    -- an array that is not named lies as before
+    rests : (b d : Name) (k : Kind) (p : Pieced) (l : LayoutMap × ℕ) → array_at (apply delta (cells_of cells arrays)) b ≡ Some (d, k) → array_in grown b ≡ Some p →
+        lies_by (apply delta (cells_of cells arrays)) (array_at (apply delta (cells_of cells arrays)) b) ≡ Some l → group_in gs b ≡ None → p.1 ≡ l
+    rests b d k p l is found lie none =
+        let s : Cells = cells_of cells arrays in
+        let t : Cells = apply delta s in
+        let unchanged : changes cell_cmp xs (Object b) ≡ false = ap (λ (ys : Changes). changes cell_cmp ys (Object b)) only ∙ none_filtered delta (Object b) (not_named b none) in
+        let was_found : array_in arrays.entries b ≡ Some p = sym (others b unchanged) ∙ found in
+        let was : array_at s b ≡ Some (d, k) = sym (ap object_in (same_object b unchanged)) ∙ is in
+        let same : lies_by t (array_at t b) ≡ lies_by s (array_at s b) = same_lies s t kept.well_formed formed (left_there b (ap is_some was_found) none) b d k was is in
+        one_lies p l (ap (option_map (λ x. x.1)) (sym was_found) ∙ kept.lie b ∙ sym same ∙ lie)
+
     right_now : (b : Name) (x : Option (Name × Kind)) → array_at (apply delta (cells_of cells arrays)) b ≡ x → IsRight (apply delta (cells_of cells arrays)) b (array_in fresh b)
     right_now b None none = subst (λ (o : Option Pieced). IsRight (apply delta (cells_of cells arrays)) b o) (sym (no_longer b none _ refl)) (right_none (apply delta (cells_of cells arrays)) b formed none)
     right_now b (Some (d, k)) is =
@@ -216,14 +237,15 @@ module _ (cells : BTreeMap Cell Value) (arrays : BTreeMap Name Pieced) (delta : 
         let found = the_one (array_in grown b) (was_there b d k is _ refl) in
         let lie = the_one (lies_by t (array_at t b)) (lies_some t formed b d k is) in
         let lying : lies_at (stored_in ready.entries) b ≡ Some lie.0 = lies_there (stored_in ready.entries) t formed ready_is b present ∙ lie.1 in
-        let step : IsAfter delta b lie.0 found.0 (array_in built b) = after_in delta (lies_at (stored_in ready.entries)) grown built walked ascending b found.0 lie.0 found.1 lying in
+        let step : IsAfter (changes_in gs b) lie.0 found.0 (array_in built b) =
+        after_all (lies_at (stored_in ready.entries)) grown gs built walked ascending b found.0 lie.0 found.1 lying (rests b d k found.0 lie.0 is found.1 lie.1) (group_in gs b) refl in
         let agree : Agree grown (cells_of cells arrays) = λ a i. ap (option_map Number) (elements a i) ∙ agree_now a i in
         let kept_one : array_in fresh b ≡ put_over (Some found.0) (array_in built b) =
         last b
         ∙ not_gone (changes cell_cmp xs (Object b)) (is_array (stored_in after.entries (Object b))) (put_over (array_in grown b) (array_in built b))
         (ap is_array (stored_after cells after arrays delta kept after_is (Object b) refl) ∙ ap is_some is)
         ∙ ap (λ (o : Option Pieced). put_over o (array_in built b)) found.1 in
-        subst (λ (o : Option Pieced). IsRight t b o) (sym kept_one) (right_after (cells_of cells arrays) grown delta b found.0 (array_in built b) lie.0 agree found.1 (sym lie.1) step)
+        subst (λ (o : Option Pieced). IsRight t b o) (sym kept_one) (right_after (cells_of cells arrays) grown delta b found.0 (array_in built b) lie.0 (changes_in gs b) (lead b) agree found.1 (sym lie.1) step)
 
     pub made_whole : (now : BTreeMap Name Pieced) → now.entries ≡ fresh → IsStrictlySortedBy cell_cmp (keys_of after.entries) → IsStrictlySortedBy (slice_cmp nat_cmp) (keys_of fresh) → (cells_of after now ≡ apply delta (cells_of cells arrays)) × IsShelf after now
     made_whole now is sorted by_name =

@@ -3,6 +3,7 @@
 
 mod after;
 mod change;
+mod groups;
 mod keep;
 mod looks;
 mod moving;

@@ -20,21 +20,25 @@ returns-then-are_set-clause-shelf g c =
     c.set_all.ensures.names c.set_all.ensures.lie c.set_all.ensures.agree).1
 
 pub finish-requires : goal.finish-requires
-finish-requires g c = built_ascending c.args.delta.now (lies_at (stored_in c.prepared.new.cells.entries)) c.prepared.new.arrays.entries c.in-Ok-prepared.built.items c.in-Ok-prepared.ensures.built c.in-Ok-prepared.ensures.ascending
+finish-requires g c =
+    built_ascending (lies_at (stored_in c.prepared.new.cells.entries)) c.prepared.new.arrays.entries c.in-Ok-concerned.groups.entries c.in-Ok-prepared.built.items
+    c.in-Ok-prepared.ensures.built c.in-Ok-concerned.ensures.ascending
 
 pub returns-in-Ok-prepared-clause-ok : goal.returns-in-Ok-prepared-clause-ok
 returns-in-Ok-prepared-clause-ok g c =
     (made_whole c.args.cells.now c.args.arrays.now c.args.delta.now c.requires.shelf c.as_slice-changed.result.now (c.as_slice-changed.ensures.value ∙ c.in-Ok.ensures) c.requires.once c.requires.formed
     c.prepared.new.cells c.finish.new.cells c.prepared.new.arrays.entries c.finish.new.arrays.entries c.in-Ok-prepared.built.items
     c.in-Ok-prepared.ensures.set c.finish.ensures.cells c.in-Ok-prepared.ensures.others c.in-Ok-prepared.ensures.elements c.in-Ok-prepared.ensures.there
-    c.in-Ok-prepared.ensures.ascending c.in-Ok-prepared.ensures.built c.finish.ensures.arrays c.finish.new.arrays refl c.finish.ensures.ascending_cells c.finish.ensures.ascending).0
+    c.in-Ok-concerned.groups.entries c.in-Ok-concerned.ensures.lead c.in-Ok-concerned.ensures.objects c.in-Ok-concerned.ensures.others
+    c.in-Ok-concerned.ensures.ascending c.in-Ok-prepared.ensures.built c.finish.ensures.arrays c.finish.new.arrays refl c.finish.ensures.ascending_cells c.finish.ensures.ascending).0
 
 pub returns-in-Ok-prepared-clause-shelf : goal.returns-in-Ok-prepared-clause-shelf
 returns-in-Ok-prepared-clause-shelf g c =
     (made_whole c.args.cells.now c.args.arrays.now c.args.delta.now c.requires.shelf c.as_slice-changed.result.now (c.as_slice-changed.ensures.value ∙ c.in-Ok.ensures) c.requires.once c.requires.formed
     c.prepared.new.cells c.finish.new.cells c.prepared.new.arrays.entries c.finish.new.arrays.entries c.in-Ok-prepared.built.items
     c.in-Ok-prepared.ensures.set c.finish.ensures.cells c.in-Ok-prepared.ensures.others c.in-Ok-prepared.ensures.elements c.in-Ok-prepared.ensures.there
-    c.in-Ok-prepared.ensures.ascending c.in-Ok-prepared.ensures.built c.finish.ensures.arrays c.finish.new.arrays refl c.finish.ensures.ascending_cells c.finish.ensures.ascending).1
+    c.in-Ok-concerned.groups.entries c.in-Ok-concerned.ensures.lead c.in-Ok-concerned.ensures.objects c.in-Ok-concerned.ensures.others
+    c.in-Ok-concerned.ensures.ascending c.in-Ok-prepared.ensures.built c.finish.ensures.arrays c.finish.new.arrays refl c.finish.ensures.ascending_cells c.finish.ensures.ascending).1
 
 pub take_back-requires-clause-once : goal.take_back-requires-clause-once
 take_back-requires-clause-once g c =
