@@ -2,23 +2,19 @@ ghost use Rattle.std.specs.Prelude.{◌≡◌, ℕ, ◌+◌, ◌-◌, length, []
 ghost use Rattle.selective_undo.specs.History.{replay, IsLegal};
 ghost use Rattle.wb_book.specs.Cells.{written_more};
 ghost use Rattle.wb_edit.specs.Commands.{meaning};
-ghost use Rattle.wb_history.specs.Past.{meant, out_of_force, into_force, force_of};
-ghost use Rattle.wb_history.specs.Replies.{EditReply, UndoReply, LastReply, RedoReply, ByNumber, SetsBack, LeavesOthers, Restores, RedoesInPlace};
+ghost use Rattle.wb_log.specs.Past.{meant, out_of_force, into_force, force_of};
+ghost use Rattle.wb_log.specs.Replies.{EditReply, UndoReply, LastReply, RedoReply, ByNumber, SetsBack, LeavesOthers, Restores, RedoesInPlace};
 ghost use Rattle.wb_history.specs.Queries.{QueryReply};
 ghost use Rattle.wb_history.specs.Restored.{one_of, numbered_at};
 
-use crate::entry::Entry;
-use crate::index::Index;
 use crate::locale::{locale_answer, locale_of};
 use crate::piece::piece_answer;
 use crate::query::{Answer, Query, count_answer, element_of, force_answer, size_of, value_answer};
-use crate::refusal::Refusal;
-use crate::restore::keep_aside;
-use crate::steps;
 use std::alloc::Global;
 use std::marker::Model;
 use wb_book::Book;
 use wb_edit::Edit;
+use wb_log::{Entry, Index, Refusal, steps};
 use wb_range::NoMemory;
 
 /// A workbook, and the edits that made it, each in force or out of force.
@@ -31,9 +27,9 @@ pub struct History {
 }
 
 impl Model for History {
-    ghost use Rattle.wb_history.specs.Past.{Past, past_code};
-    ghost use Rattle.wb_history.specs.Kept.{numbers};
-    ghost use Rattle.wb_history.specs.Indexed.{Keeps};
+    ghost use Rattle.wb_log.specs.Past.{Past, past_code};
+    ghost use Rattle.wb_log.specs.Kept.{numbers};
+    ghost use Rattle.wb_log.specs.Indexed.{Keeps};
 
     ghost Value = { Past };
 
@@ -174,7 +170,7 @@ impl History {
         ensures err { OnErr result (self.new ≡ self.old) }
     {
         aside.validity();
-        keep_aside(&mut self.entries, aside)
+        steps::aside::keep_aside(&mut self.entries, aside)
     }
 
     /// What a query is answered, from the workbook as it is; `NoMemory` may stand for a piece, and for nothing else.

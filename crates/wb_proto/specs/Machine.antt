@@ -9,8 +9,8 @@ use Rattle.wb_history.specs.Past.{Past, meant, out_of_force, into_force}
 use Rattle.wb_history.specs.Queries.{QueryReply}
 use Rattle.wb_history.specs.Replies.{EditReply, UndoReply, LastReply, RedoReply, ByNumber}
 use Rattle.wb_history.specs.declared.query.Query.{Query}
-use Rattle.wb_history.specs.declared.refusal.Refusal.{Refusal}
-use Rattle.wb_history.specs.declared.refusal.Refusal.TheVariants.{NoMemory}
+use Rattle.wb_log.specs.declared.refusal.Refusal.{Refusal}
+use Rattle.wb_log.specs.declared.refusal.Refusal.TheVariants.{NoMemory}
 use Rattle.wb_text.specs.Lines.{book_text}
 use Rattle.wb_proto.specs.Replies.{reply_of}
 use Rattle.wb_proto.specs.Requests.{request}

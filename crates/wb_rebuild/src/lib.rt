@@ -12,4 +12,6 @@ mod putting;
 mod rebuilding;
 mod told;
 
-pub use crate::rebuilding::rebuild;
+pub use crate::finding::{find, places_of};
+pub use crate::rebuilding::{lines_validity, rebuild};
+pub use crate::told::{indices_of, put_stored};

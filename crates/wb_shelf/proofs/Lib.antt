@@ -11,3 +11,5 @@ pub mod Present
 pub mod Resting
 pub mod Grown
 pub mod Whole
+pub mod Answered
+pub mod Joining

@@ -1,5 +1,5 @@
 -- What a look at a pattern shows of what is kept.
-use Rattle.std.proofs.Common.{◌≡◌, ℕ, ℤ, Bool, true, false, cond, List, [], ◌∷◌, filter, Option, Some, None, Result, Ok, Err, IfOk, refl, sym, ap, ◌∙◌}
+use Rattle.std.proofs.Common.{◌≡◌, ℕ, ℤ, Bool, true, false, cond, List, [], ◌∷◌, Option, Some, None, Result, Ok, Err, IfOk, refl, sym, ap, ◌∙◌}
 use Rattle.std.specs.declared.cmp.Ordering.TheVariants.{Less}
 use Rattle.std.specs.BTreeMap.{BTreeMap, is_at}
 use Rattle.std.specs.Cmp.{eq_by_cmp_equiv, tied_itself}
@@ -9,25 +9,23 @@ use Rattle.std.specs.List.{AllByRecursion, filter_map}
 use Rattle.std.specs.List.Sorted.{IsStrictlySortedBy}
 use Rattle.std.specs.Map.{lookup, keys_of}
 use Rattle.std.specs.Option.{option_map, option_and_then}
-use Rattle.std.specs.FinMap.Entries.{find-where_key}
 use Rattle.std.specs.Ordering.{is_eq, ordering_then, eq_by_cmp}
 use Rattle.selective_undo.proofs.Changes.{same_states}
 use Rattle.wb_book.specs.declared.cells.cell.Cell.{Cell}
 use Rattle.wb_book.specs.declared.cells.cell.Cell.TheVariants.{Object, Shape, In, Member, Mapping, Use, Implicit, Element}
 use Rattle.wb_book.specs.declared.cells.pattern.Pattern.{Pattern}
-use Rattle.wb_book.specs.declared.cells.pattern.Pattern.TheVariants.{Objects, One, Members, Uses, Elements}
+use Rattle.wb_book.specs.declared.cells.pattern.Pattern.TheVariants.{One, Elements}
 use Rattle.wb_book.specs.declared.cells.value.Value.{Value}
 use Rattle.wb_book.specs.declared.cells.value.Value.TheVariants.{Number}
 use Rattle.wb_book.specs.declared.values.index.Index.{Index}
 use Rattle.wb_book.specs.Cells.{Name, Cells, cell_cmp, cell_order, index_cmp, is_same_name, matches}
 use Rattle.wb_book.specs.Readers.{seen, elements, element_in as told_by}
 use Rattle.wb_book.proofs.Order.{entries_ascending}
-use Rattle.wb_join.specs.Joined.{is_stored, stored_in}
+use Rattle.wb_join.specs.Joined.{stored_in}
 use Rattle.wb_join.proofs.Joined.{find-lookup, array_is_group}
 use Rattle.wb_shelf.specs.Kept.{Pieced, array_in, pairs_of, element_cells, one_cell}
 use Rattle.wb_shelf.specs.Shelf.{cells_of, IsShelf}
 use Rattle.wb_shelf.proofs.Kept.{get-cells_of}
-use Rattle.wb_shelf.proofs.Elements.{stored_there}
 use Rattle.wb_shelf.proofs.Written.{one_name, one_cell as equal_cells}
 
 -- cells in their order that are those which the pattern names
@@ -118,71 +116,6 @@ seen_one s c v is = seen_is s (One c) (one_cell c v) (sorted_one c v) (λ x. one
     one_there : (w : Option Value) → w ≡ get s c → (x : Cell) → stored_in (one_cell c w) x ≡ cond (eq_by_cmp cell_cmp c x) (get s x) None
     one_there None is x = nothing_one x (eq_by_cmp cell_cmp c x) refl is
     one_there (Some w) is x = same_one w x (eq_by_cmp cell_cmp x c) (eq_by_cmp cell_cmp c x) refl refl ((eq_by_cmp_equiv cell_order.total).symm x c) is
-
--- ---- stored cells
-
-abbrev pub names_stored : Pattern → Type 0
-names_stored p = (c : Cell) → is_stored c ≡ false → matches p c ≡ false
-
-above_kept : (p : Pattern) (k : Cell) (es : List (Cell × Value)) → AllByRecursion (λ y. cell_cmp k y ≡ Less) (keys_of es) → AllByRecursion (λ y. cell_cmp k y ≡ Less) (keys_of (filter (λ e. matches p e.0) es))
-above_kept p k [] all = tt
-above_kept p k (e ∷ es) all = by (matches p e.0) (above_kept p k es all.1)
-  where
-    by : (b : Bool) → AllByRecursion (λ y. cell_cmp k y ≡ Less) (keys_of (filter (λ x. matches p x.0) es)) → AllByRecursion (λ y. cell_cmp k y ≡ Less) (keys_of (cond b (e ∷ filter (λ x. matches p x.0) es) (filter (λ x. matches p x.0) es)))
-    by true h = (all.0, h)
-    by false h = h
-
-sorted_kept : (p : Pattern) (es : List (Cell × Value)) → IsStrictlySortedBy cell_cmp (keys_of es) → IsStrictlySortedBy cell_cmp (keys_of (filter (λ e. matches p e.0) es))
-unfolding IsStrictlySortedBy
-sorted_kept p [] s = tt
-sorted_kept p (e ∷ es) s =
-    elim (matches p e.0) as (λ b. IsStrictlySortedBy cell_cmp (keys_of (cond b (e ∷ filter (λ x. matches p x.0) es) (filter (λ x. matches p x.0) es)))) [
-      | true ↦ (above_kept p e.0 es s.0, sorted_kept p es s.1)
-      | false ↦ sorted_kept p es s.1
-    ]
-
-pub seen_stored : (cells : BTreeMap Cell Value) (arrays : BTreeMap Name Pieced) (p : Pattern) → IsShelf cells arrays → names_stored p → seen (cells_of cells arrays) p ≡ filter (λ e. matches p e.0) cells.entries
-seen_stored cells arrays p kept named =
-    seen_is (cells_of cells arrays) p (filter (λ e. matches p e.0) cells.entries) (sorted_kept p cells.entries kept.ascending)
-    (λ c.
-    sym (find-lookup (filter (λ e. matches p e.0) cells.entries) c)
-    ∙ find-where_key cell_cmp (matches p) c (λ x tie. ap (matches p) (sym (cell_order.strict c x tie))) cells.entries
-    ∙ ap (λ (o : Option Value). cond (matches p c) o None) (find-lookup cells.entries c)
-    ∙ by c (is_stored c) refl)
-  where
-    by : (c : Cell) (t : Bool) → is_stored c ≡ t → cond (matches p c) (stored_in cells.entries c) None ≡ cond (matches p c) (get (cells_of cells arrays) c) None
-    by c true e = ap (λ (o : Option Value). cond (matches p c) o None) (stored_there cells arrays kept c e)
-    by c false e = rw (named c e) refl
-
-pub objects_stored : names_stored Objects
-objects_stored (In d i) e = refl
-objects_stored (Element d i) e = refl
-objects_stored (Object d) e = cc
-objects_stored (Shape d) e = refl
-objects_stored (Member d i) e = refl
-objects_stored (Mapping d) e = refl
-objects_stored (Use d n) e = refl
-objects_stored (Implicit d) e = refl
-
-pub members_stored : (n : Name) → names_stored (Members n)
-members_stored n (In d i) e = refl
-members_stored n (Element d i) e = refl
-members_stored n (Object d) e = refl
-members_stored n (Shape d) e = refl
-members_stored n (Member d i) e = cc
-members_stored n (Mapping d) e = refl
-members_stored n (Use d m) e = refl
-members_stored n (Implicit d) e = refl
-
-pub uses_stored : (n : Name) → names_stored (Uses n)
-uses_stored n (In d i) e = refl
-uses_stored n (Element d i) e = refl
-uses_stored n (Object d) e = refl
-uses_stored n (Shape d) e = refl
-uses_stored n (Member d i) e = refl
-uses_stored n (Mapping d) e = refl
-uses_stored n (Use d m) e = cc
-uses_stored n (Implicit d) e = refl
 
 -- ---- results
 

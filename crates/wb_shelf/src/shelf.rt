@@ -5,6 +5,9 @@ ghost use Rattle.wb_book.specs.Readers.{elements, seen};
 ghost use Rattle.wb_book.specs.WellFormed.{IsWellFormed};
 ghost use Rattle.std.specs.FinMap as map;
 
+mod parts;
+mod readers;
+
 use crate::{after, change, keep, looks};
 use std::alloc::Global;
 use std::collections::BTreeMap;
@@ -71,9 +74,9 @@ impl Shelf {
                 let cell = cell.cell();
                 looks::one_cell(alloc, cell, keep::look(&self.cells, &self.arrays, &cell))
             }
-            Pattern::Objects => looks::stored(alloc, &self.cells, pattern),
-            Pattern::Members(_) => looks::stored(alloc, &self.cells, pattern),
-            Pattern::Uses(_) => looks::stored(alloc, &self.cells, pattern),
+            Pattern::Objects => wb_book::seen(alloc, &self.cells, pattern),
+            Pattern::Members(_) => wb_book::seen(alloc, &self.cells, pattern),
+            Pattern::Uses(_) => wb_book::seen(alloc, &self.cells, pattern),
         }
     }
 

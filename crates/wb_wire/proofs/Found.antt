@@ -9,8 +9,8 @@ use Rattle.wb_book.specs.Cells.{Name}
 use Rattle.wb_book.specs.declared.values.index.Index.TheVariants.{Point}
 use Rattle.wb_edit.specs.declared.edit.Edit.TheVariants.{Domain, DomainOfSet, Remap, Reshape, Sparse, Assoc, DropDomain, Add, Remove, Array, Set, Irv, Copy, Fill, FillOfSet, FillAll, DropArray, All}
 use Rattle.wb_history.specs.declared.query.Query.TheVariants.{Get, Size, Where, Piece, State}
-use Rattle.wb_history.specs.declared.refusal.Refusal.{Refusal}
-use Rattle.wb_history.specs.declared.refusal.Refusal.TheVariants.{BadRequest}
+use Rattle.wb_log.specs.declared.refusal.Refusal.{Refusal}
+use Rattle.wb_log.specs.declared.refusal.Refusal.TheVariants.{BadRequest}
 use Rattle.wb_literal.specs.Domain as literals
 use Rattle.wb_literal.specs.Grammar as grammar
 use Rattle.wb_literal.specs.declared.mapping.MappingLiteral.{MappingLiteral}

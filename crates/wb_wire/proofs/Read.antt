@@ -13,7 +13,7 @@ use Rattle.wb_edit.specs.declared.edit.Edit.{Edit}
 use Rattle.wb_edit.specs.declared.edit.Edit.TheVariants.{Domain, DomainOfSet, Remap, Reshape, Sparse, Assoc, DropDomain, Add, Remove, Array, Set, Irv, Copy, Fill, FillOfSet, FillAll, DropArray, All}
 use Rattle.wb_history.specs.declared.query.Query.{Query}
 use Rattle.wb_history.specs.declared.query.Query.TheVariants.{Get, Size, Where, Piece, State}
-use Rattle.wb_history.specs.declared.refusal.Refusal.{Refusal}
+use Rattle.wb_log.specs.declared.refusal.Refusal.{Refusal}
 use Rattle.wb_literal.specs.Domain as literals
 use Rattle.wb_literal.specs.Grammar as grammar
 use Rattle.wb_literal.specs.declared.mapping.MappingLiteral.{MappingLiteral}

@@ -11,8 +11,8 @@ use Rattle.wb_book.specs.Cells.{Name}
 use Rattle.wb_book.specs.Shapes.{Range}
 use Rattle.wb_edit.specs.declared.edit.Edit.TheVariants.{Domain as NewDomain, DomainOfSet, Remap, Reshape, Sparse, Assoc, DropDomain, Add, Remove, Array, Set, Irv, Copy, Fill, FillAll, DropArray, All}
 use Rattle.wb_history.specs.declared.query.Query.TheVariants.{Get, Size, Where, Piece, State}
-use Rattle.wb_history.specs.declared.refusal.Refusal.{Refusal}
-use Rattle.wb_history.specs.declared.refusal.Refusal.TheVariants.{BadRequest, BadLiteral}
+use Rattle.wb_log.specs.declared.refusal.Refusal.{Refusal}
+use Rattle.wb_log.specs.declared.refusal.Refusal.TheVariants.{BadRequest, BadLiteral}
 use Rattle.wb_literal.specs.Domain.{Domain, rectangle, set, domain_of as domain_of_text}
 use Rattle.wb_literal.specs.Grammar as grammar
 use Rattle.wb_literal.specs.Mapping.{mapping_of}

@@ -1,0 +1,4 @@
+pub mod Past
+pub mod Replies
+pub mod Kept
+pub mod Indexed
