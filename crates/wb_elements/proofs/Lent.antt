@@ -1,47 +1,15 @@
 -- Pieces of elements whose keys stand for indices.
-use Rattle.std.proofs.Common.{◌≡◌, ℕ, ◌<◌, ◌≤◌, ℤ, ◌==◌, Bool, true, false, cond, ◌&&◌, List, [], ◌∷◌, length, filter, Option, Some, None, refl, sym, ap, ◌∙◌, eqb-true, Bor}
+use Rattle.std.proofs.Common.{◌≡◌, ℕ, ◌<◌, ◌≤◌, ℤ, ◌==◌, Bool, true, false, cond, List, [], ◌∷◌, length, filter, Option, Some, None, refl, sym, ap, ◌∙◌, eqb-true, Bor}
 use Rattle.std.specs.Option.{unwrap_or, option_map, MatchOption}
-use Rattle.std.proofs.lemmas.Bool.{eq-eqb, lt-ltb, le-ltb}
+use Rattle.std.proofs.lemmas.Bool.{lt-ltb, le-ltb}
 use Rattle.wb_book.specs.declared.values.index.Index.{Index}
 use Rattle.wb_book.specs.declared.values.index.Index.TheVariants.{Point}
 use Rattle.wb_book.specs.Kinds.{is_point}
 use Rattle.wb_book.specs.Layouts.{is_of_rank, locale_in}
-use Rattle.wb_dist.specs.Grid.{are_positive, is_grid}
-use Rattle.wb_dist.specs.Maps.{LayoutMap, whole, block, cyclic, block_cyclic, is_layout, is_rank, is_box, locale_of, locale_count_of}
+use Rattle.wb_dist.specs.Maps.{LayoutMap, locale_of, locale_count_of}
 use Rattle.wb_elements.specs.Indexed.{indexed, AllOf}
 use Rattle.wb_elements.specs.Lent.{lies_on, piece_in}
 use Rattle.wb_pieces.specs.Pieces.{piece_of}
-
--- ---- a mapping for a rank is one of that rank
-
-third4 : (a b c d e : Bool) → a && b && c && d && e ≡ true → c ≡ true
-third4 true true true d e is = refl
-third4 true true false d e is = cc
-third4 true false c d e is = cc
-third4 false b c d e is = cc
-
-third3 : (a b c d : Bool) → a && b && c && d ≡ true → c ≡ true
-third3 true true true d is = refl
-third3 true true false d is = cc
-third3 true false c d is = cc
-third3 false b c d is = cc
-
-fourth5 : (a b c d e f : Bool) → a && b && c && d && e && f ≡ true → d ≡ true
-fourth5 true true true true e f is = refl
-fourth5 true true true false e f is = cc
-fourth5 true true false d e f is = cc
-fourth5 true false c d e f is = cc
-fourth5 false b c d e f is = cc
-
-turned : (r n : ℕ) → n == r ≡ true → r == n ≡ true
-turned r n e = eq-eqb r n (sym (eqb-true n r e))
-
-pub rank_of_mapping : (r : ℕ) (m : LayoutMap) → is_layout r m ≡ true → is_of_rank r m ≡ true
-rank_of_mapping r whole e = refl
-rank_of_mapping r (block m) e = turned r (length m.grid) (third4 (is_rank r) (length m.box == r) (length m.grid == r) (is_box m.box) (is_grid m.grid) e)
-rank_of_mapping r (cyclic m) e = turned r (length m.grid) (third3 (is_rank r) (length m.start == r) (length m.grid == r) (is_grid m.grid) e)
-rank_of_mapping r (block_cyclic m) e =
-    turned r (length m.grid) (fourth5 (is_rank r) (length m.start == r) (length m.size == r) (length m.grid == r) (are_positive m.size) (is_grid m.grid) e)
 
 pub point_locale : (m : LayoutMap) (r : ℕ) (is : List ℤ) → is_of_rank r m ≡ true → is_point r (Point is) ≡ true → unwrap_or (locale_in m (Point is)) 0 ≡ locale_of m is
 point_locale m r is rank point =
