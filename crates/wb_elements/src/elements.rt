@@ -1,4 +1,4 @@
-ghost use Rattle.std.specs.Prelude.{◌≡◌, ◌≤◌, true, length, option_map, Err, IfOk};
+ghost use Rattle.std.specs.Prelude.{◌≡◌, ◌≤◌, true, length, option_map, Err, IfOk, IfSome};
 ghost use Rattle.wb_book.specs.Layouts.{is_of_rank};
 ghost use Rattle.std.specs.List.Sorted.{IsStrictlySortedBy};
 ghost use Rattle.std.specs.Map.{set_value, keys_of};
@@ -354,8 +354,37 @@ where
     ensures pairs { IfOk result (λ v. v.items ≡ indexed D.Index.as_index pieces.now.0) }
     ensures ascending { IfOk result (λ v. IsStrictlySortedBy index_cmp (keys_of v.items)) }
 {
+    let _ = len_of(pieces);
+    if let Some(all) = only_piece(pieces) {
+        let pairs = pairs_on(alloc, all)?;
+        return Ok(pairs);
+    }
     let whole = pieces.gather()?;
     pairs_in(alloc, whole.as_map())
+}
+
+// All pairs, where one locale has them.
+fn only_piece<D: Domain, M: Mapping<Index = D::Index>>(
+    pieces: &Pieces<D, M>,
+) -> Option<&[(D::Index, i64)]>
+    ensures { IfSome result (λ s. s.now ≡ pieces.now.0) }
+{
+    if pieces.mapping().locales() != 1 {
+        return None;
+    }
+    pieces.pairs(0)
+}
+
+fn pairs_on<I: AsIndex>(alloc: Global, pairs: &[(I, i64)]) -> Result<Vec<(AnyIndex, i64)>, NoMemory>
+    ensures { IfOk result (λ v. v.items ≡ indexed I.as_index pairs.now) }
+{
+    let mut found = Vec::new(alloc);
+    for (index, value) in pairs {
+        if found.push((index.any(), *value)).is_err() {
+            return Err(NoMemory);
+        }
+    }
+    Ok(found)
 }
 
 fn pairs_in<I: AsIndex>(
