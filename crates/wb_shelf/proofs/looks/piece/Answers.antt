@@ -1,4 +1,4 @@
-use Rattle.std.proofs.Common.{◌≡◌, ℤ, List, Option, None, sym, subst}
+use Rattle.std.proofs.Common.{◌≡◌, Option, None, sym, subst}
 use Rattle.std.specs.List.Sorted.{IsStrictlySortedBy}
 use Rattle.std.specs.Map.{keys_of}
 use Rattle.wb_book.specs.Cells.{index_cmp}

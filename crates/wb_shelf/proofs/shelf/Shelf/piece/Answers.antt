@@ -1,9 +1,9 @@
-use Rattle.std.proofs.Common.{◌≡◌, ℕ, ℤ, List, Option, refl, ap, ◌∙◌}
+use Rattle.std.proofs.Common.{ℕ, ℤ, List, Option, refl, ap, ◌∙◌}
 use Rattle.wb_book.specs.declared.values.index.Index.{Index}
 use Rattle.wb_book.specs.Cells.{Name, Cells, Contents}
 use Rattle.wb_book.specs.WellFormed.{array_at}
 use Rattle.wb_dist.specs.Maps.{LayoutMap}
-use Rattle.wb_shelf.specs.Kept.{Pieced, array_in, pairs_of}
+use Rattle.wb_shelf.specs.Kept.{array_in, pairs_of}
 use Rattle.wb_shelf.specs.Shelf.{cells_of, lies_by, piece_by, piece_at}
 use Rattle.wb_shelf.proofs.Seen.{elements_are}
 use Rattle.wb_shelf.proofs.shelf.Shelf.piece.Goals as goal
