@@ -158,4 +158,28 @@ def print_text(machine, r):
     return {"text": machine.book.text()}
 
 
-QUESTION = {"get": get, "where": where, "size": size, "piece": piece, "state": state, "print": print_text}
+def line_of(request):
+    """The canonical line of an edit's request: each field, keys ascending, literals in their one spelling."""
+    members = {"map": None, **request} if request["op"] == "domain" else request
+    return text_of({key: spelled(key, value) for key, value in members.items()})
+
+
+def spelled(key, value):
+    """A field as it stands in JSON."""
+    if key == "map":
+        return lit.mapping_text(value)
+    if isinstance(value, tuple) and value[:1] == ("rectangle",):
+        return lit.rectangle_text(value[1])
+    if isinstance(value, tuple) and value[:1] == ("set",):
+        return lit.set_text(value[2])
+    return value[1] if isinstance(value, tuple) and value[:1] == ("name",) else value
+
+
+def history(machine, r):
+    """The text of the history: that of the workbook, and then each edit with its mark."""
+    objects = machine.book.text().split("\n")[1:-2]
+    edits = [("+ " if edit.before is not None else "- ") + line_of(edit.request) for edit in machine.edits]
+    return {"text": "\n".join(["chapel-workbook 2", *objects, "history %d" % len(edits), *edits, "end", ""])}
+
+
+QUESTION = {"history": history, "get": get, "where": where, "size": size, "piece": piece, "state": state, "print": print_text}

@@ -128,8 +128,9 @@ FIELDS = {
     "piece": {"a": name, "l": count},
     "state": {"k": count},
     "print": {},
+    "history": {},
 }
-QUESTIONS = {"get", "where", "size", "piece", "state", "print"}
+QUESTIONS = {"history", "get", "where", "size", "piece", "state", "print"}
 SOURCES = {**{how: offset for how in OFFSETS}, **{how: source for how in LITERALS}}
 
 

@@ -49,6 +49,7 @@ fn footprint_index_of_a_copy(rt: HostRuntime) -> Result<(), Fail> {
     let elements = [Pattern::Elements(array)];
     assert_eq!(rt; index.first_to_block_undo(&set, 2), Some(3));
     assert_eq!(rt; index.first_to_block_undo(&set, 3), Some(4));
+    assert_eq!(rt; &index.blockers(rt.alloc(), &set, 3)?[..], &[4][..]);
     assert_eq!(rt; index.first_to_block_redo(&elements, &[], 3), Some(4));
     index.take(4, &reads_of_copy, &copied);
     assert_eq!(rt; index.first_to_block_undo(&set, 3), None);

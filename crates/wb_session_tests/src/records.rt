@@ -78,10 +78,10 @@ fn text_of(
     )?)
 }
 
-fn edit_of(alloc: Global, line: &str) -> Result<Edit, Fail> {
+pub(crate) fn edit_of(alloc: Global, line: &str) -> Result<Edit, Fail> {
     let edit = match read_request(alloc, line.as_bytes())? {
         Request::Change(edit) => Some(edit),
-        Request::Undo(_) | Request::Redo(_) | Request::Ask(_) | Request::Print => None,
+        Request::Undo(_) | Request::Redo(_) | Request::Ask(_) | Request::Print | Request::History => None,
     };
     Ok(edit.ok_or("an edit")?)
 }
