@@ -1,7 +1,6 @@
 //! Sessions and desks that go on from the text of a history.
-ghost use Rattle.std.specs.Prelude.{◌≡◌, ◌++◌, ◌⊎◌, ℕ, List, [], true, IfOk, IfErr, IfSome, IfNone, OnErr, option_map};
+ghost use Rattle.std.specs.Prelude.{◌≡◌, ◌++◌, ◌⊎◌, ℕ, List, true, IfOk, IfSome, IfNone, OnErr, option_map};
 ghost use Rattle.std.specs.Io.KnownBytes.{Appends, Consumes, IsAtEnd};
-ghost use Rattle.wb_lines.specs.Causes.{ReadsUntil, WritesUntil, StopsReading};
 ghost use Rattle.wb_program.specs.Checking.{IsNoRecord, IsFault};
 ghost use Rattle.wb_program.specs.Resuming.{left_in, IsRecord, IsUpToEnd, HasNoEnd, IsServed, IsResumed, IsOpening};
 

@@ -1,4 +1,4 @@
-use Rattle.std.proofs.Common.{sym, ◌∙◌, ◌++◌, ◌+◌, ap, subst, take, drop}
+use Rattle.std.proofs.Common.{sym, ◌+◌, subst}
 use Rattle.std.proofs.lemmas.List.{take-append-drop}
 use Rattle.wb_program.specs.Resuming.{IsUpToEnd}
 use Rattle.wb_program.proofs.Opening.{up_to_end}

@@ -1,4 +1,4 @@
-use Rattle.std.proofs.Common.{◌++◌, sym, subst, List, ℕ}
+use Rattle.std.proofs.Common.{◌++◌, sym, subst}
 use Rattle.std.proofs.KnownBytes.{Consumes-trans}
 use Rattle.std.specs.Io.KnownBytes.{Consumes}
 use Rattle.wb_program.specs.Resuming.{HasNoEnd}
