@@ -30,7 +30,11 @@ fn main(rt: HostRuntime) -> io::Result<ExitCode> {
             port,
             seats,
             resume: true,
-        })) => serve_resumed(&rt, port, seats),
+        })) => match opened(&rt) {
+            Ok(Ok(history)) => serve(&rt, rt.alloc(), rt.stdout(), port, seats, Some(history)),
+            Ok(Err(status)) => Ok(status),
+            Err(error) => Err(error),
+        },
         Ok(Err(status)) => Ok(status),
         Err(error) => Err(error),
     };
@@ -98,15 +102,12 @@ fn check(rt: &HostRuntime) -> io::Result<u8> {
     Ok(check_with(alloc, &mut input, &mut output))
 }
 
-// A desk on the history whose text is standard input.
-fn serve_resumed(rt: &HostRuntime, port: u16, seats: u8) -> io::Result<u8> {
+// The history whose text is standard input, or the exit status where there is none.
+fn opened(rt: &HostRuntime) -> io::Result<Result<History, u8>> {
     let alloc = rt.alloc();
     let mut input = Input::new(rt.stdin());
     let mut output = Output::new(BufWriter::new(alloc, rt.stdout())?);
-    match history_from(alloc, &mut input, &mut output) {
-        Ok(history) => serve(rt, alloc, rt.stdout(), port, seats, Some(history)),
-        Err(status) => Ok(status),
-    }
+    Ok(history_from(alloc, &mut input, &mut output))
 }
 
 // A desk of so many seats on a port of this machine, on an empty workbook or from a history.
