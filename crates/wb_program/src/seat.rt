@@ -24,7 +24,7 @@ struct Seat<'a, L: Opening, R: Wait> {
 }
 
 impl<'a, L: Opening, R: Wait> Model for Seat<'a, L, R> {
-    ghost use Rattle.wb_shared.specs.Serving.{Held, held_code};
+    ghost use Rattle.wb_journal.specs.Serving.{Held, held_code};
 
     ghost Value = { Held };
 

@@ -1,22 +1,20 @@
 //! A desk: opened, asked under its lock, and settled.
 
 ghost use Rattle.std.specs.Prelude.{◌≡◌, ◌≤◌, ◌+◌, length, IfOk, IfErr, OnOk, MatchResult};
-ghost use Rattle.wb_shared.specs.Settling.{IsSettled, IsCause, told};
+ghost use Rattle.wb_journal.specs.Settling.{IsSettled, IsCause, told};
 ghost use Rattle.wb_shared.specs.Openings.{nothing_done};
-ghost use Rattle.wb_shared.specs.Courses.{IsCourse};
+ghost use Rattle.wb_journal.specs.Courses.{IsCourse};
 ghost use Rattle.wb_shared.specs.Seats.{IsNumberOfSeats, IsSeatsErr};
-ghost use Rattle.wb_shared.specs.Serving.{own_after, share_after, new_passes, AnswersSome};
+ghost use Rattle.wb_journal.specs.Serving.{own_after, share_after, new_passes, AnswersSome};
 
-use crate::journal::Journal;
 use crate::opening::Opening;
-use crate::pass::Pass;
-use crate::settling::Cause;
 use crate::shared::{Shared, serve};
 use std::alloc::Global;
 use std::sync::ledger::{Blank, Ledger, Share};
 use std::sync::{Mutex, Wait};
 use thiserror::Error;
 use wb_history::History;
+use wb_journal::{Cause, Counted, Journal, Pass};
 use wb_proto::{Reply, Request};
 use wb_range::NoMemory;
 
@@ -52,11 +50,7 @@ fn first_passes<L: Ledger>(
     let mut passes = Vec::new(alloc);
     for seat in 0..seats {
         let share = rest.split_off(1, 0);
-        let pass = Pass {
-            seat,
-            own: Vec::new(alloc),
-            share,
-        };
+        let pass = Pass::of_parts(seat, Vec::new(alloc), share);
         if passes.push(pass).is_err() {
             return Err(NoMemory);
         }
@@ -85,7 +79,6 @@ impl<L: Opening> Desk<L> {
     }
 
     /// A desk of 1 to 16 seats on the workbook of a history, and a pass for each seat. Where there is none, the history is given back.
-    #[tactic(auto, using(crate::proofs::Runs::course_opens))]
     pub fn open_at(
         alloc: Global,
         blank: Blank,
@@ -110,8 +103,8 @@ impl<L: Opening> Desk<L> {
         match Journal::at(alloc, seats, history) {
             Ok(journal) => {
                 let shared = Mutex::new(Shared {
-                    journal,
-                    calls,
+                    alloc,
+                    kept: Counted { journal, calls },
                     rest,
                 });
                 Ok((Desk { shared }, passes))

@@ -1,41 +1,39 @@
 //! What a desk keeps under its lock, and how it answers one request.
 
 ghost use Rattle.std.specs.Prelude.{◌≡◌, ◌+◌, Bool, true, false, List, ◌++◌, ◌∷◌, [], length, MatchOption};
-ghost use Rattle.wb_shared.specs.Entries.{leaves_all};
-ghost use Rattle.wb_shared.specs.Courses.{IsCourse};
-ghost use Rattle.wb_shared.specs.Settling.{IsSettled, IsCause};
-ghost use Rattle.wb_shared.specs.Serving.{IsStrange, AnswersCourse, own_after, share_after};
+ghost use Rattle.wb_journal.specs.Entries.{leaves_all};
+ghost use Rattle.wb_journal.specs.Courses.{IsCourse};
+ghost use Rattle.wb_journal.specs.Settling.{IsSettled, IsCause};
+ghost use Rattle.wb_journal.specs.Serving.{IsStrange, AnswersCourse, own_after, share_after};
 
-use crate::journal::Journal;
 use crate::opening::Opening;
-use crate::pass::Pass;
-use crate::replying::is_entered;
-use crate::settling::{Cause, first_cause};
+use std::alloc::Global;
 use std::marker::Model;
-use std::sync::ledger::{Book, Share};
+use std::sync::ledger::Share;
 use wb_history::History;
+use wb_journal::{Cause, Counted, Pass};
 use wb_proto::{Reply, Request};
 
 /// The locked value of a desk: the history, the journal, each seat's number of entries, and the ledger's book.
 #[derive(Drop)]
 pub struct Shared<L: Opening> {
-    pub(crate) journal: Journal,
-    pub(crate) calls: Book<L>,
+    pub(crate) alloc: Global,
+    pub(crate) kept: Counted<L>,
     pub(crate) rest: Share<L>,
 }
 
 impl<L: Opening> Model for Shared<L> {
     ghost use Rattle.std.specs.Prelude.{◌≡◌, ◌+◌, length};
-    ghost use Rattle.wb_shared.specs.Courses.{IsCourse};
+    ghost use Rattle.wb_journal.specs.Courses.{IsCourse};
     ghost use Rattle.wb_shared.specs.Locked.{Locked, locked_code};
 
     ghost Value = { Locked };
 
     ghost coded = { locked_code };
 
-    ghost view = { λ a. record { course = a.journal; total = a.calls.total } };
+    ghost view = { λ a. record { course = a.kept.journal; total = a.kept.calls.total } };
 
-    ghost invariant = { λ a. (a.calls.total ≡ length a.journal.entries) × (a.rest.amount ≡ 0) × (a.rest.parts + a.journal.seats ≡ 16) × IsCourse L.opening a.journal };
+    ghost invariant = { λ a. (a.kept.calls.total ≡ length a.kept.journal.entries) × (a.rest.amount ≡ 0) × (a.rest.parts + a.kept.journal.seats ≡ 16) × IsCourse L.opening a.kept.journal };
 }
 
 impl<L: Opening> Shared<L> {
@@ -44,7 +42,7 @@ impl<L: Opening> Shared<L> {
         ensures count { result ≡ length self.now.course.entries }
         ensures total { self.now.total ≡ length self.now.course.entries }
     {
-        self.journal.entries().len()
+        self.kept.journal.len()
     }
 
     /// The history that came of the journal.
@@ -52,7 +50,7 @@ impl<L: Opening> Shared<L> {
         ensures history { result.now ≡ self.now.course.history }
         ensures course { IsCourse L.opening self.now.course }
     {
-        self.journal.history()
+        self.kept.journal.history()
     }
 
     // Why these passes and the journal do not agree.
@@ -60,12 +58,11 @@ impl<L: Opening> Shared<L> {
         ensures course { IsCourse L.opening self.now.course }
         ensures cause { MatchOption result (IsSettled self.now.course.seats self.now.course.entries passes.now) (λ why. IsCause self.now.course.seats self.now.course.entries passes.now why) }
     {
-        first_cause(self.journal.entries(), passes, self.journal.seats())
+        self.kept.journal.cause(passes)
     }
 }
 
 /// Answers one request of a pass.
-#[tactic(auto, using(crate::proofs::Replies::course_left))]
 pub fn serve<L: Opening>(shared: &mut Shared<L>, pass: &mut Pass<L>, request: Request) -> Reply
     ensures course { IsCourse L.opening shared.old.course }
     ensures strange { IsStrange shared.old.course pass.old.seat pass.old.own result }
@@ -76,9 +73,5 @@ pub fn serve<L: Opening>(shared: &mut Shared<L>, pass: &mut Pass<L>, request: Re
     ensures own { pass.new.own ≡ own_after pass.old.seat pass.old.own request result }
     ensures share { pass.new.share ≡ share_after pass.old.share result }
 {
-    let reply = shared.journal.answer(pass.seat, &mut pass.own, request);
-    if is_entered(&reply) {
-        shared.calls.add(&mut pass.share, 1);
-    }
-    reply
+    shared.kept.answer(shared.alloc, pass, request)
 }

@@ -1,18 +1,28 @@
--- A desk's answer that is entered keeps what is locked.
-use Rattle.std.proofs.Common.{◌≡◌, ◌+◌, length, true, arith}
-use Rattle.wb_shared.specs.Entries.{is_entered}
-use Rattle.wb_shared.specs.Courses.{IsCourse}
-use Rattle.wb_shared.proofs.Runs.{course_more, entries_more, seats_same}
+-- A desk's answer is that of what it keeps, and keeps what is locked.
+use Rattle.std.proofs.Common.{◌≡◌, length, arith, ap}
+use Rattle.wb_shared.specs.Locked.{Locked}
 use Rattle.wb_shared.proofs.shared.serve.Goals as goal
 
 pub invariant_of-shared : goal.invariant_of-shared
 invariant_of-shared g c =
-    let before = c.shared.inside.journal in
-    let after = c.answer-reply.new.self in
-    let answers = c.answer-reply.ensures.answers in
-    let entered : is_entered c.answer-reply.result ≡ true = cc (c.is_entered.ensures, c.if-is_entered.true) in
-    let more : length after.entries ≡ length before.entries + 1 = entries_more before c.pass.inside.seat c.args.request c.answer-reply.result after answers entered in
-    let seats : after.seats ≡ before.seats = seats_same before c.pass.inside.seat c.args.request c.answer-reply.result after answers entered in
-    let course : IsCourse g.L.Opening.opening after =
-    course_more g.L.Opening.opening before c.pass.inside.seat c.pass.inside.own.items c.args.request c.answer-reply.result after c.shared.invariant.3 c.answer-reply.ensures.strange answers in
-    (omega (arith, more, c.add.ensures.total, c.shared.invariant.0), c.shared.invariant.1, omega (arith, seats, c.shared.invariant.2), course)
+    let told = c.answer.ensures in
+    let total : c.answer.new.self.calls.total ≡ length c.answer.new.self.journal.entries = cc (told.total, told.entries, c.shared.invariant.0) in
+    (total, c.shared.invariant.1, omega (arith, told.seats, c.shared.invariant.2), told.course g.L.Opening.opening c.shared.invariant.3)
+
+pub returns-clause-strange : goal.returns-clause-strange
+returns-clause-strange g c = rw (ap (λ (s : Locked). s.course) c.shared.view_is) at c.answer.ensures.strange
+
+pub returns-clause-answers : goal.returns-clause-answers
+returns-clause-answers g c = rw (ap (λ (s : Locked). s.course) c.shared.view_is) at c.answer.ensures.answers
+
+pub returns-clause-left : goal.returns-clause-left
+returns-clause-left g c = rw (ap (λ (s : Locked). s.course) c.shared.view_is) at c.answer.ensures.left
+
+pub returns-clause-total : goal.returns-clause-total
+returns-clause-total g c = rw (ap (λ (s : Locked). s.total) c.shared.view_is) at c.answer.ensures.total
+
+pub returns-clause-own : goal.returns-clause-own
+returns-clause-own g c = c.answer.ensures.own
+
+pub returns-clause-share : goal.returns-clause-share
+returns-clause-share g c = c.answer.ensures.share

@@ -5,7 +5,7 @@ use Rattle.wb_lines.specs.Session.{MayAnswer}
 use Rattle.wb_proto.specs.Replies.{reply_of}
 use Rattle.wb_proto.specs.Requests.{request}
 use Rattle.wb_proto.specs.declared.replies.reply.Reply.{Reply}
-use Rattle.wb_shared.specs.Serving.{Held}
+use Rattle.wb_journal.specs.Serving.{Held}
 use Rattle.wb_program.specs.Serving.{RepliesIfRead, NothingAsked, AnswersSeat}
 use Rattle.wb_program.proofs.seat.SeatMachine.answer.Goals as goal
 

@@ -1,0 +1,5 @@
+pub mod Replies
+pub mod Runs
+pub mod Parts
+pub mod Passes
+pub mod Whole

@@ -1,0 +1,4 @@
+pub mod Entries
+pub mod Courses
+pub mod Serving
+pub mod Settling

@@ -1,0 +1,15 @@
+//! The journal of a desk: what was asked and replied, the passes of the seats, and whether both agree.
+#![tactic(auto)]
+
+mod counted;
+mod entry;
+mod journal;
+mod pass;
+mod replying;
+mod settling;
+
+pub use crate::counted::Counted;
+pub use crate::entry::Entry;
+pub use crate::journal::Journal;
+pub use crate::pass::Pass;
+pub use crate::settling::Cause;
