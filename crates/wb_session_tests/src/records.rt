@@ -106,11 +106,8 @@ fn history_text(rt: HostRuntime) -> Result<(), Fail> {
 pub(crate) fn edit_of(alloc: Global, line: &str) -> Result<Edit, Fail> {
     match read_request(alloc, line.as_bytes())? {
         Request::Change(edit) => Ok(edit),
-        Request::Undo(_)
-        | Request::Redo(_)
-        | Request::Ask(_)
-        | Request::Print
-        | Request::History => Err(Fail::new("no edit")),
+        Request::Undo(_) | Request::Redo(_) | Request::Ask(_) | Request::Print | Request::History =>
+            Err(Fail::new("no edit")),
     }
 }
 
