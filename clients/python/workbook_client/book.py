@@ -13,6 +13,7 @@ from .objects import Array, Domain, ours
 from .refusals import NoSuchName, WrongKind
 from .requests import Request
 from .snapshot import Snapshot
+from .streams import StreamChannel
 
 
 class Workbook:
@@ -84,6 +85,15 @@ class Workbook:
         channel.timeout = timeout
         return book
 
+    @classmethod
+    def stream(cls, url: str, name: str, timeout: Optional[float] = None) -> "Workbook":
+        """A workbook whose requests stand in a log in Redis, for a worker to answer: see docs/SCALING.md.
+
+        A request is answered once a worker has the workbook, however late; `timeout` is how long a reply is waited for.
+        """
+        channel = StreamChannel(url, name, timeout)
+        return cls(channel, "me", alone=False, where=channel.where)
+
     def close(self) -> None:
         """Ends the session. What the program was still to answer isn't waited for."""
         self.exchange.close()
@@ -154,6 +164,10 @@ class Workbook:
     def print_text(self) -> str:
         """The text of the workbook: one text for one workbook, byte by byte."""
         return self.ask(requests.print_text()).text("text")
+
+    def history_text(self) -> str:
+        """The text of the whole history, from which `--resume` goes on."""
+        return self.ask(requests.history_text()).text("text")
 
     def snapshot(self) -> Snapshot:
         """Every domain and array at one moment, whoever else is editing."""

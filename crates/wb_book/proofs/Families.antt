@@ -27,7 +27,7 @@ use Rattle.wb_book.specs.declared.values.index.Index.{Index}
 use Rattle.wb_book.specs.declared.values.index.Index.TheVariants.{Point, Text}
 use Rattle.wb_book.specs.Names.{is_letter, is_name_part, is_name}
 use Rattle.wb_book.specs.Cells.{Name, Cells, cell_cmp, cell_order, index_cmp, is_same_name, same_names, matches, state_of}
-use Rattle.wb_book.specs.Families.{Begins, HasName}
+use Rattle.wb_book.specs.Families.{Begins, HasName, AreNamed}
 use Rattle.wb_book.specs.Readers.{seen}
 use Rattle.wb_book.specs.WellFormed.{IsWellFormed, use_of}
 use Rattle.wb_book.proofs.Order.{entries-state_of}
@@ -267,7 +267,7 @@ module _ (s : Cells) (ok : IsWellFormed s) where
   object_named : (n : Name) → IsSome (get s (Object n)) → is_name n ≡ true
   object_named n there = let object = some_value (get s (Object n)) there in ok.names n object.0 object.1
 
-  cell_named : (x : Cell) → IsSome (get s x) → HasName x
+  pub cell_named : (x : Cell) → IsSome (get s x) → HasName x
   cell_named (Object n) there = object_named n there
   cell_named (Use e n) there = object_named n (user_is_object e (get s (Object n)) (subst (λ (o : Option Value). IsSome o) (ok.uses e n) there))
   cell_named (Shape e) there = tt
@@ -298,11 +298,11 @@ module _ (p : Pattern) (c : Cell) (b : Begins p c) where
   pub together_from : (x y : Cell) → is_from c x ≡ true → cell_cmp x y ≡ Less → matches p x ≡ false → matches p y ≡ false
   together_from x y from up none = b.together x y (with_true (is_le (cell_cmp c x)) true from) up none
 
-  pub all_covered : (m : BTreeMap Cell Value) → IsWellFormed (state_of m) → (xs : List Cell) → AllByRecursion (ContainsKey cell_cmp m) xs → AllByRecursion (λ x. is_from c x ≡ false → matches p x ≡ false) xs
-  all_covered m ok [] there = tt
-  all_covered m ok (x ∷ xs) there =
+  pub all_covered : (m : BTreeMap Cell Value) → AreNamed (state_of m) → (xs : List Cell) → AllByRecursion (ContainsKey cell_cmp m) xs → AllByRecursion (λ x. is_from c x ≡ false → matches p x ≡ false) xs
+  all_covered m names [] there = tt
+  all_covered m names (x ∷ xs) there =
       let here : IsSome (get (state_of m) x) = subst (λ (o : Option Value). IsSome o) (sym (get-state_of m x)) there.0 in
-      (λ before. b.none_before x (cell_named (state_of m) ok x here) (with_true (is_le (cell_cmp c x)) false before), all_covered m ok xs there.1)
+      (λ before. b.none_before x (names x here) (with_true (is_le (cell_cmp c x)) false before), all_covered m names xs there.1)
 
   none_behind : (x : Cell) (es : List (Cell × Value)) → is_from c x ≡ true → matches p x ≡ false → AllByRecursion (λ y. cell_cmp x y ≡ Less) (keys_of es) → filter (named p) es ≡ []
   none_behind x [] from none above = refl
@@ -330,10 +330,10 @@ module _ (p : Pattern) (c : Cell) (b : Begins p c) where
       ∙ sym (ap (where_key cell_cmp (matches p)) (entries-state_of m s))
       ∙ sym (entries-retain_keys cell_order (state_of m) (matches p))
 
-pub seen_found : (m : BTreeMap Cell Value) (p : Pattern) (c : Cell) (part : List (Cell × Value)) → IsWellFormed (state_of m) → IsOrdered cell_cmp m → Begins p c → part ≡ entries_between cell_cmp (Included c) Unbounded m.entries
+pub seen_found : (m : BTreeMap Cell Value) (p : Pattern) (c : Cell) (part : List (Cell × Value)) → AreNamed (state_of m) → IsOrdered cell_cmp m → Begins p c → part ≡ entries_between cell_cmp (Included c) Unbounded m.entries
     → take (prefix_len (named p) part) part ≡ seen (state_of m) p
-seen_found m p c part ok s b is =
-    found p c b m part (all_covered p c b m ok (keys m) (recursion_from_All (ContainsKey cell_cmp m) (keys m) (All-keys_found cell_order.total m s))) s is
+seen_found m p c part names s b is =
+    found p c b m part (all_covered p c b m names (keys m) (recursion_from_All (ContainsKey cell_cmp m) (keys m) (All-keys_found cell_order.total m s))) s is
 
 -- a family of cells that are neither objects nor users, in any workbook
 module _ (p : Pattern) (c : Cell) (b : Begins p c) (no_object : (n : Name) → matches p (Object n) ≡ false) (no_user : (d n : Name) → matches p (Use d n) ≡ false) where

@@ -2,6 +2,7 @@
 use Rattle.std.proofs.Common.{◌≡◌, ℕ, Bool, true, false, List, Option, Some, None, is_some, length, refl, sym, ap, subst, ◌∙◌}
 use Rattle.std.proofs.lemmas.Bool.{eq-eqb}
 use Rattle.std.specs.FinMap.{get}
+use Rattle.std.specs.Option.{option_map_or}
 use Rattle.wb_dist.specs.Maps.{LayoutMap, whole, block, cyclic, block_cyclic, is_layout}
 use Rattle.wb_book.specs.declared.cells.cell.Cell.TheVariants.{Object, Shape, In, Member, Mapping}
 use Rattle.wb_book.specs.declared.cells.kind.DomainKind.{DomainKind}
@@ -12,7 +13,7 @@ use Rattle.wb_book.specs.declared.values.index.Index.{Index}
 use Rattle.wb_book.specs.declared.values.index.Index.TheVariants.{Point, Text}
 use Rattle.wb_book.specs.Cells.{Name, Cells}
 use Rattle.wb_book.specs.Layouts.{is_of_rank, locale_in}
-use Rattle.wb_book.specs.Locales.{locale_by, has_index, is_index_at, locale_of_kind, locale_within, locale_at}
+use Rattle.wb_book.specs.Locales.{locale_by, has_index, is_index_at, locale_of_kind, locale_within, locale_at, is_held, locale_held}
 use Rattle.wb_book.specs.Readers.{size_at}
 use Rattle.wb_book.specs.Shapes.{Range, indices}
 use Rattle.wb_book.specs.WellFormed.{IsWellFormed, IsObject, IsShape, HasMapping, IsMember, domain_at, domain_in, inside_of, present_if, ranges_in, has}
@@ -96,3 +97,26 @@ module _ (s : Cells) (ok : IsWellFormed s) where
   -- an index of a domain of a well-formed workbook lies on a locale, and nothing else does
   pub locale_there : (d : Name) (i : Index) → is_some (locale_at s d i) ≡ is_index_at s d i
   locale_there d i = lies_at d i (domain_at s d) refl
+
+  -- ---- by the ranges in place of the cells `In`
+
+  in_ranges : (o : Option (List Range)) (i : Index) → is_some (inside_of o i) ≡ option_map_or (λ rs. has (indices rs) i) o false
+  in_ranges None i = refl
+  in_ranges (Some rs) i = by (has (indices rs) i)
+    where
+      by : (b : Bool) → is_some (present_if b) ≡ b
+      by true = refl
+      by false = refl
+
+  pub held : (d : Name) (i : Index) (kind : DomainKind) → is_held s d i kind ≡ has_index s d i kind
+  held d i (Rectangular rank) = sym (ap (λ v. is_some v) (ok.insides d i) ∙ in_ranges (ranges_in (get s (Shape d))) i)
+  held d i (Sparse parent rank) = refl
+  held d i (Associative type) = refl
+
+  held_by : (d : Name) (i : Index) (o : Option DomainKind) → domain_at s d ≡ o → locale_held s d i ≡ locale_at s d i
+  held_by d i None is = rw is refl
+  held_by d i (Some kind) is = rw (is, held d i kind) refl
+
+  -- the locale is the same
+  pub held_there : (d : Name) (i : Index) → locale_held s d i ≡ locale_at s d i
+  held_there d i = held_by d i (domain_at s d) refl

@@ -13,10 +13,9 @@ use Rattle.wb_book.specs.declared.cells.cell.Cell.{Cell}
 use Rattle.wb_book.specs.declared.cells.cell.Cell.TheVariants.{Object, Shape, In, Member, Mapping, Use, Implicit, Element}
 use Rattle.wb_book.specs.declared.cells.value.Value.{Value}
 use Rattle.wb_book.specs.Cells.{Name, cell_cmp, cell_order, is_same_name, matches, state_of}
-use Rattle.wb_book.specs.Families.{Begins}
+use Rattle.wb_book.specs.Families.{Begins, AreNamed}
 use Rattle.wb_book.specs.declared.cells.pattern.Pattern.TheVariants.{Uses}
 use Rattle.wb_book.specs.Readers.{user_of, users}
-use Rattle.wb_book.specs.WellFormed.{IsWellFormed}
 use Rattle.wb_book.proofs.Families.{is_from, together_from, all_covered}
 use Rattle.wb_book.proofs.Leading.{Stops, leads_from, same_taken, get_leading}
 use Rattle.wb_book.proofs.Order.{keys-state_of}
@@ -68,10 +67,10 @@ by_key : (d : Name) (found : Option (Cell × Value)) → option_and_then (λ (e 
 by_key d None = refl
 by_key d (Some e) = refl
 
-pub user_found : (m : BTreeMap Cell Value) (d : Name) (c : Cell) (p : ℕ) (part : List (Cell × Value)) (found : Option (Cell × Value)) → IsWellFormed (state_of m) → IsOrdered cell_cmp m → Begins (Uses d) c
+pub user_found : (m : BTreeMap Cell Value) (d : Name) (c : Cell) (p : ℕ) (part : List (Cell × Value)) (found : Option (Cell × Value)) → AreNamed (state_of m) → IsOrdered cell_cmp m → Begins (Uses d) c
     → part ≡ entries_between cell_cmp (Included c) Unbounded m.entries → found ≡ slice_get part p → option_and_then (λ (e : Cell × Value). user_of d e.0) found ≡ slice_get (users (state_of m) d) p
-user_found m d c p part found ok s b is there =
-    let all = no_user_before d c b (keys m) (all_covered (Uses d) c b m ok (keys m) (recursion_from_All (ContainsKey cell_cmp m) (keys m) (All-keys_found cell_order.total m s))) in
+user_found m d c p part found names s b is there =
+    let all = no_user_before d c b (keys m) (all_covered (Uses d) c b m names (keys m) (recursion_from_All (ContainsKey cell_cmp m) (keys m) (All-keys_found cell_order.total m s))) in
     let cells : keys_of part ≡ filter (is_from c) (keys m) = ap (λ (es : List (Cell × Value)). keys_of es) is ∙ keys-filter (is_from c) m.entries in
     ap (λ (o : Option (Cell × Value)). option_and_then (λ (e : Cell × Value). user_of d e.0) o) there
     ∙ by_key d (slice_get part p)

@@ -3,7 +3,7 @@ use Rattle.std.specs.Prelude.{Bool, false, ℕ, Option, Some, None, is_some, opt
 use Rattle.std.specs.FinMap.{get}
 use Rattle.std.specs.Option.{option_map_or}
 use Rattle.wb_dist.specs.Maps.{LayoutMap, locale_count_of}
-use Rattle.wb_book.specs.declared.cells.cell.Cell.TheVariants.{Mapping}
+use Rattle.wb_book.specs.declared.cells.cell.Cell.TheVariants.{Shape, Member, Mapping}
 use Rattle.wb_book.specs.declared.cells.kind.DomainKind.{DomainKind}
 use Rattle.wb_book.specs.declared.cells.kind.DomainKind.TheVariants.{Rectangular, Sparse, Associative}
 use Rattle.wb_book.specs.declared.cells.value.Value.{Value}
@@ -12,7 +12,8 @@ use Rattle.wb_book.specs.declared.values.index.Index.{Index}
 use Rattle.wb_book.specs.Cells.{Name, Cells}
 use Rattle.wb_book.specs.Kinds.{kind_of}
 use Rattle.wb_book.specs.Layouts.{locale_in}
-use Rattle.wb_book.specs.WellFormed.{domain_at, index_cell}
+use Rattle.wb_book.specs.Shapes.{indices}
+use Rattle.wb_book.specs.WellFormed.{domain_at, ranges_in, has, index_cell}
 
 -- ---- by the mapping of a rectangular domain
 
@@ -53,3 +54,19 @@ locale_within s d i kind = if has_index s d i kind then locale_of_kind s d i kin
 -- the locale of an index of the domain of a name; none where there is no such domain, or it doesn't have the index
 abbrev pub locale_at : Cells → Name → Index → Option ℕ
 locale_at s d i = option_and_then (locale_within s d i) (domain_at s d)
+
+-- ---- the same without the cells `In`, which follow from the ranges
+
+-- a domain of a kind has the index: by its ranges if it is rectangular, by its members if not
+abbrev pub is_held : Cells → Name → Index → DomainKind → Bool
+is_held s d i (Rectangular rank) = option_map_or (λ rs. has (indices rs) i) (ranges_in (get s (Shape d))) false
+is_held s d i (Sparse parent rank) = is_some (get s (Member d i))
+is_held s d i (Associative type) = is_some (get s (Member d i))
+
+-- the locale of an index that a domain of a kind has so
+abbrev pub locale_held_by : Cells → Name → Index → DomainKind → Option ℕ
+locale_held_by s d i kind = if is_held s d i kind then locale_of_kind s d i kind else None
+
+-- the locale of an index that the domain of a name has so
+abbrev pub locale_held : Cells → Name → Index → Option ℕ
+locale_held s d i = option_and_then (locale_held_by s d i) (domain_at s d)

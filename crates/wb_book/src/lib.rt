@@ -6,12 +6,15 @@ mod cells;
 mod changes;
 mod values;
 
-pub use crate::book::Book;
+pub use crate::book::families::seen;
+pub use crate::book::locales::{locale_at, locale_by, locale_count_at};
+pub use crate::book::readers::{index_at, object_at, object_count, size_at, user_at};
+pub use crate::book::{Book, store};
 pub use crate::cells::cell::{AnyCell, Cell};
 pub use crate::cells::kind::{AnyDomain, DomainKind, KeyType, Kind};
 pub use crate::cells::pattern::Pattern;
 pub use crate::cells::value::{AnyValue, Binding, Value};
-pub use crate::changes::change::CellChange;
+pub use crate::changes::change::{CellChange, counted};
 pub use crate::changes::delta::Delta;
 pub use crate::changes::inverse::Inverse;
 pub use crate::values::index::{AnyIndex, Index};

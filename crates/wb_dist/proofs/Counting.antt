@@ -16,9 +16,6 @@ pub record IsCounted (all rest : List ℤ) (locales : ℕ) : Type 0 where
 abbrev pub fits : (locales : ℕ) (count : ℤ) → Bool
 fits locales count = int_le (pos 1) count && nat_le (locales * or_zero count) 256
 
-pub counted_none : (all : List ℤ) → IsCounted all all 1
-counted_none all = record { product = omega arith; positive = refl; some = omega arith; few = omega arith }
-
 pub positive_first : (n : ℕ) → int_le (pos 1) (pos (suc n)) ≡ true
 positive_first n = grind arith
 
@@ -62,13 +59,6 @@ pub not_counted : (all : List ℤ) (n : ℤ) (ns : List ℤ) (locales : ℕ) →
 not_counted all (pos zero) ns locales h t = let f : are_positive all ≡ false = sym h.positive in rw f refl
 not_counted all (pos (suc n)) ns locales h t = none_more all ns n locales h (sym (fits_next locales n) ∙ t)
 not_counted all (negsuc n) ns locales h t = let f : are_positive all ≡ false = sym h.positive in rw f refl
-
-pub counted_all : (all : List ℤ) (locales : ℕ) → IsCounted all [] locales → Some locales ≡ (if is_grid all then Some (size_of_grid all) else None)
-counted_all all locales h =
-    let f : are_positive all ≡ true = sym h.positive in
-    let s : locales ≡ size_of_grid all = omega (arith, h.product) in
-    let g : nat_le (size_of_grid all) 256 ≡ true = let l : size_of_grid all ≤ 256 = omega (arith, h.few) in grind arith in
-    rw (f, g) (ap (λ (n : ℕ). Some n) s)
 
 -- what a choice says of its result
 pub some_if : (b : Bool) (m x : ℕ) → Some m ≡ (if b then Some x else None) → (b ≡ true) × (m ≡ x)

@@ -55,9 +55,6 @@ few_locales grid h = let g : nat_le (size_of_grid grid) 256 ≡ true = second_tr
 pub some_locales : (grid : List ℤ) → is_grid grid ≡ true → 0 < size_of_grid grid
 some_locales grid h = positive_size grid (positive_grid grid h)
 
-pub placed_none : (grid : List ℤ) (whole : List ℕ) → is_grid grid ≡ true → IsPlaced grid grid whole whole 0
-placed_none grid whole h = record { sum = omega arith; room = omega arith; positive = positive_grid grid h; few = few_locales grid h; listed = λ t e. subst (λ (n : ℕ). slice_get (points grid) n ≡ Some whole) (omega arith) e }
-
 -- an entry of a list of positive numbers
 pub positive_entry : (n : ℤ) (ns : List ℤ) → are_positive (n ∷ ns) ≡ true → pos 1 ≤ℤ n
 positive_entry (pos zero) ns h = absurd (cc)
@@ -96,9 +93,6 @@ placed_room grid ns whole left c at p h l =
     let m : (at * c + c) * 1 ≤ (at * c + c) * s = mul-le-mul_left (at * c + c) one in
     let f : at * c + c ≤ 256 = omega (arith, h.room, h.few) in
     record { few = omega arith; scaled = omega arith; next = omega arith }
-
-pub placed_all : (grid : List ℤ) (whole left : List ℕ) (at : ℕ) → IsPlaced grid [] whole left at → (at ≡ place grid whole) × (at < size_of_grid grid)
-placed_all grid whole left at h = (omega (arith, h.sum), omega (arith, h.room))
 
 pub listed_all : (grid : List ℤ) (whole : List ℕ) (at : ℕ) → IsPlaced grid [] whole [] at → slice_get (points grid) at ≡ Some whole
 listed_all grid whole at h = subst (λ (n : ℕ). slice_get (points grid) n ≡ Some whole) (omega arith) (h.listed 0 refl)

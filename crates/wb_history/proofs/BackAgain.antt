@@ -7,12 +7,12 @@ use Rattle.selective_undo.proofs.Inverses.{edit_at, undo_after_redo_law, redo_af
 use Rattle.wb_book.specs.Cells.{count_of}
 use Rattle.wb_edit.specs.Schema.{workbook}
 use Rattle.wb_edit.specs.declared.edit.Edit as command
-use Rattle.wb_history.specs.declared.refusal.Refusal.{Refusal}
-use Rattle.wb_history.specs.declared.refusal.Refusal.TheVariants.{NoMemory}
-use Rattle.wb_history.specs.Past.{Numbered, meant, entry_at, out_of_force, into_force}
-use Rattle.wb_history.specs.Replies.{UndoReply, LastReply, RedoReply}
+use Rattle.wb_log.specs.declared.refusal.Refusal.{Refusal}
+use Rattle.wb_log.specs.declared.refusal.Refusal.TheVariants.{NoMemory}
+use Rattle.wb_log.specs.Past.{Numbered, meant, entry_at, out_of_force, into_force}
+use Rattle.wb_log.specs.Replies.{UndoReply, LastReply, RedoReply}
 use Rattle.wb_history.specs.ReplyLaws.{UndoAfterRedoAnswerLaw, RedoAfterLastAnswerLaw, RedoBackAnswerLaw}
-use Rattle.wb_history.proofs.Granted.{undo_meant, redo_meant}
+use Rattle.wb_log.proofs.Granted.{undo_meant, redo_meant}
 use Rattle.wb_history.proofs.OneAnswer.{one_undo, one_redo}
 
 not_done : (e : command.Edit) (b : Bool) (d : Edit workbook) → Some (entry_at e b) ≡ Some (undone d) → b ≡ false

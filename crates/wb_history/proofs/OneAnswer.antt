@@ -8,9 +8,9 @@ use Rattle.selective_undo.proofs.Inverses.{edit_at}
 use Rattle.wb_book.specs.Cells.{Changes, count_of}
 use Rattle.wb_edit.specs.Schema.{workbook}
 use Rattle.wb_edit.specs.declared.refusal.Refusal as command_refusal
-use Rattle.wb_history.specs.declared.refusal.Refusal.{Refusal}
-use Rattle.wb_history.specs.declared.refusal.Refusal.TheVariants.{BadRequest, BadLiteral, Refused, NoSuchEdit, NotInForce, InForce as IsInForce, Blocked, RefusedInPlace, NoMemory, StrangePass}
-use Rattle.wb_history.specs.Replies.{EditReply, UndoReply, LastReply, RedoReply}
+use Rattle.wb_log.specs.declared.refusal.Refusal.{Refusal}
+use Rattle.wb_log.specs.declared.refusal.Refusal.TheVariants.{BadRequest, BadLiteral, Refused, NoSuchEdit, NotInForce, InForce as IsInForce, Blocked, RefusedInPlace, NoMemory, StrangePass}
+use Rattle.wb_log.specs.Replies.{EditReply, UndoReply, LastReply, RedoReply}
 use Rattle.wb_history.specs.ReplyLaws.{EditAnswerLaw, UndoAnswerLaw, LastAnswerLaw, RedoAnswerLaw}
 
 none_some : {A : Type 0} {o : Option A} {a : A} → o ≡ None → o ≡ Some a → ⊥

@@ -12,20 +12,20 @@ use Rattle.wb_edit.specs.declared.edit.Edit as command
 use Rattle.wb_edit.specs.Schema.{workbook}
 use Rattle.wb_edit.specs.Commands.{meaning}
 use Rattle.wb_edit.specs.Valid.{IsValid}
-use Rattle.wb_history.specs.declared.entry.Entry as kept
-use Rattle.wb_history.specs.declared.refusal.Refusal.{Refusal}
-use Rattle.wb_history.specs.declared.refusal.Refusal.TheVariants.{BadRequest, BadLiteral, Refused, NoSuchEdit, NotInForce, InForce as IsInForce, Blocked, RefusedInPlace, NoMemory, StrangePass}
+use Rattle.wb_log.specs.declared.entry.Entry as kept
+use Rattle.wb_log.specs.declared.refusal.Refusal.{Refusal}
+use Rattle.wb_log.specs.declared.refusal.Refusal.TheVariants.{BadRequest, BadLiteral, Refused, NoSuchEdit, NotInForce, InForce as IsInForce, Blocked, RefusedInPlace, NoMemory, StrangePass}
 use Rattle.wb_history.specs.declared.restore.RestoreErr.{RestoreErr}
 use Rattle.wb_history.specs.declared.restore.RestoreErr.TheVariants.{NotLegal, NoMemory as NoRoom}
-use Rattle.wb_history.specs.Past.{Numbered, Past, entry_at, meant, AreValid}
-use Rattle.wb_history.specs.Kept.{logged, log, Shows, numbered, numbers}
-use Rattle.wb_history.specs.declared.index.Index.{Index}
-use Rattle.wb_history.specs.Indexed.{IsIndexed}
-use Rattle.wb_history.specs.Replies.{EditReply}
+use Rattle.wb_log.specs.Past.{Numbered, Past, entry_at, meant, AreValid}
+use Rattle.wb_log.specs.Kept.{logged, log, Shows, numbered, numbers}
+use Rattle.wb_log.specs.declared.index.Index.{Index}
+use Rattle.wb_log.specs.Indexed.{IsIndexed}
+use Rattle.wb_log.specs.Replies.{EditReply}
 use Rattle.wb_history.specs.Restored.{stopped, one_of, numbered_at, marked, cells_written, IsCounted, BeginsNone, RestoreReply}
-use Rattle.wb_history.proofs.Entered.{more_indexed}
-use Rattle.wb_history.proofs.Valid.{valid_append}
-use Rattle.wb_history.proofs.Entries.{numbers_more}
+use Rattle.wb_log.proofs.Entered.{more_indexed}
+use Rattle.wb_log.proofs.Valid.{valid_append}
+use Rattle.wb_log.proofs.Entries.{numbers_more}
 
 -- ---- one history after another
 

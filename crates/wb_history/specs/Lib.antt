@@ -1,8 +1,7 @@
-pub mod Past
-pub mod Replies
+pub use Rattle.wb_log.specs.Past
+pub use Rattle.wb_log.specs.Replies
+pub use Rattle.wb_log.specs.Cascades
 pub mod ReplyLaws
-pub mod Kept
-pub mod Indexed
 pub mod Locales
 pub mod Pieces
 pub mod Queries

@@ -12,8 +12,8 @@ use Rattle.wb_edit.specs.declared.refusal.Refusal as why
 use Rattle.wb_edit.specs.Tests.{domain_kind, fits, is_there}
 use Rattle.wb_history.specs.declared.query.Answer.{Answer}
 use Rattle.wb_history.specs.declared.query.Answer.TheVariants.{Locale}
-use Rattle.wb_history.specs.declared.refusal.Refusal.{Refusal}
-use Rattle.wb_history.specs.declared.refusal.Refusal.TheVariants.{Refused}
+use Rattle.wb_log.specs.declared.refusal.Refusal.{Refusal}
+use Rattle.wb_log.specs.declared.refusal.Refusal.TheVariants.{Refused}
 
 -- the locale of an index that is there
 abbrev pub locale_found : Cells → Name → Index → Result (Unit {0}) why.Refusal → Result ℕ why.Refusal

@@ -15,8 +15,8 @@ use Rattle.wb_edit.specs.declared.refusal.Refusal.TheVariants.{OutOfDomain}
 use Rattle.wb_edit.specs.Tests.{domain_kind, array_kind}
 use Rattle.wb_history.specs.declared.query.Answer.{Answer}
 use Rattle.wb_history.specs.declared.query.Answer.TheVariants.{Piece}
-use Rattle.wb_history.specs.declared.refusal.Refusal.{Refusal}
-use Rattle.wb_history.specs.declared.refusal.Refusal.TheVariants.{Refused, NoMemory}
+use Rattle.wb_log.specs.declared.refusal.Refusal.{Refusal}
+use Rattle.wb_log.specs.declared.refusal.Refusal.TheVariants.{Refused, NoMemory}
 
 -- the domain by whose mapping the indices of d lie: a sparse domain has none of its own, and goes by its parent's
 abbrev pub mapped_by : (d : Name) → DomainKind → Name

@@ -16,11 +16,11 @@ use Rattle.wb_history.specs.declared.query.Answer.{Answer}
 use Rattle.wb_history.specs.declared.query.Answer.TheVariants.{Value as ValueIs, Size as SizeIs, InForce}
 use Rattle.wb_history.specs.declared.query.Query.{Query}
 use Rattle.wb_history.specs.declared.query.Query.TheVariants.{Get, Size, Where, Piece, State}
-use Rattle.wb_history.specs.declared.refusal.Refusal.{Refusal}
-use Rattle.wb_history.specs.declared.refusal.Refusal.TheVariants.{Refused, NoSuchEdit}
+use Rattle.wb_log.specs.declared.refusal.Refusal.{Refusal}
+use Rattle.wb_log.specs.declared.refusal.Refusal.TheVariants.{Refused, NoSuchEdit}
 use Rattle.wb_history.specs.Locales.{where_answer, locale_answer}
 use Rattle.wb_history.specs.Pieces.{piece_of, piece_answer, OrNoMemory}
-use Rattle.wb_history.specs.Past.{Numbered, force_of}
+use Rattle.wb_log.specs.Past.{Numbered, force_of}
 
 -- the implicit value of an array
 abbrev pub value_inside : Cells → Name → Result (Unit {0}) why.Refusal → Result ℤ why.Refusal

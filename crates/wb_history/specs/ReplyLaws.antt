@@ -5,10 +5,10 @@ use Rattle.selective_undo.specs.Edit.{Edit}
 use Rattle.selective_undo.specs.History as h
 use Rattle.selective_undo.specs.History.{IsLegal}
 use Rattle.wb_edit.specs.Schema.{workbook}
-use Rattle.wb_history.specs.Past.{Numbered, meant, out_of_force, into_force}
-use Rattle.wb_history.specs.Replies.{EditReply, UndoReply, LastReply, RedoReply, ByNumber}
-use Rattle.wb_history.specs.declared.refusal.Refusal.{Refusal}
-use Rattle.wb_history.specs.declared.refusal.Refusal.TheVariants.{NoMemory}
+use Rattle.wb_log.specs.Past.{Numbered, meant, out_of_force, into_force}
+use Rattle.wb_log.specs.Replies.{EditReply, UndoReply, LastReply, RedoReply, ByNumber}
+use Rattle.wb_log.specs.declared.refusal.Refusal.{Refusal}
+use Rattle.wb_log.specs.declared.refusal.Refusal.TheVariants.{NoMemory}
 
 -- Two answers that both fit are equal, where neither is want of memory.
 abbrev pub OneAnswer : {X : Type 0} → (Result X Refusal → Type 0) → Type 0

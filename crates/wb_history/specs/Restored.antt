@@ -7,9 +7,9 @@ use Rattle.wb_edit.specs.declared.edit.Edit as command
 use Rattle.wb_edit.specs.Schema.{workbook}
 use Rattle.wb_history.specs.declared.restore.RestoreErr.{RestoreErr}
 use Rattle.wb_history.specs.declared.restore.RestoreErr.TheVariants.{NotLegal, NoMemory}
-use Rattle.wb_history.specs.declared.refusal.Refusal.{Refusal}
-use Rattle.wb_history.specs.declared.refusal.Refusal.TheVariants as refusals
-use Rattle.wb_history.specs.Past.{Numbered, Past, pair_back, meant}
+use Rattle.wb_log.specs.declared.refusal.Refusal.{Refusal}
+use Rattle.wb_log.specs.declared.refusal.Refusal.TheVariants as refusals
+use Rattle.wb_log.specs.Past.{Numbered, Past, pair_back, meant}
 
 -- why an edit in force is not put in
 abbrev pub stopped : Refusal → RestoreErr

@@ -4,9 +4,9 @@ ghost use Rattle.std.specs.Prelude.{◌≡◌};
 ghost use Rattle.wb_history.specs.Locales.{where_answer, locale_answer};
 
 use crate::query::Answer;
-use crate::refusal::Refusal;
 use wb_book::{AnyIndex, Book, Cell, Name};
 use wb_edit::judgements;
+use wb_log::Refusal;
 
 /// The locale of an index of a domain, or why it lies on none.
 pub(crate) fn locale_of(

@@ -5,11 +5,11 @@ ghost use Rattle.std.specs.Bool.{Decides};
 ghost use Rattle.wb_history.specs.Pieces.{mapped_by, mapped_at, locales_of, lies_on, piece_on, piece_of, piece_answer, OrNoMemory};
 
 use crate::query::Answer;
-use crate::refusal::Refusal;
 use std::alloc::Global;
 use std::marker::Model;
 use wb_book::{AnyDomain, AnyIndex, Book, Cell, DomainKind, Name};
 use wb_edit::judgements;
+use wb_log::Refusal;
 use wb_range::NoMemory;
 
 /// The elements of an array on one locale, each after its index, ascending by index. Contracts see the list of them.

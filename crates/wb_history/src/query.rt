@@ -3,10 +3,10 @@ ghost use Rattle.std.specs.Bool.{Decides};
 ghost use Rattle.wb_history.specs.Queries.{element_or_implicit, get_answer, value_answer, size_answer, count_answer, force_answer};
 
 use crate::piece::Piece;
-use crate::refusal::Refusal;
 use std::alloc::Global;
 use wb_book::{AnyIndex, Book, Cell, Kind, Name};
 use wb_edit::{has_implicit, judgements, number_in, parent_in};
+use wb_log::Refusal;
 use wb_range::NoMemory;
 
 /// A question about the workbook or its history.

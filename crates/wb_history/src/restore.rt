@@ -1,14 +1,12 @@
 //! A history from the list of its edits.
-ghost use Rattle.std.specs.Prelude.{◌≡◌, [], ◌∷◌, ◌++◌, OnOk, OnErr, IfErr, None};
+ghost use Rattle.std.specs.Prelude.{◌≡◌, [], ◌∷◌, ◌++◌, OnOk, IfErr};
 ghost use Rattle.wb_history.specs.Restored.{one_of, marked, stopped, IsCounted, BeginsNone, RestoreReply};
 
-use crate::entry::Entry;
 use crate::history::History;
-use crate::refusal::Refusal;
 use std::alloc::Global;
 use thiserror::Error;
 use wb_edit::Edit;
-use wb_range::NoMemory;
+use wb_log::Refusal;
 
 /// Why a list of edits gives no history.
 #[derive(Clone, Copy, Debug, PartialEq, Eq, Error)]
@@ -19,17 +17,6 @@ pub enum RestoreErr {
     /// A growth was refused.
     #[error("no memory")]
     NoMemory,
-}
-
-/// Keeps an edit as the last one, out of force.
-pub(crate) fn keep_aside(entries: &mut Vec<Entry>, edit: Edit) -> Result<(), NoMemory>
-    ensures ok { OnOk result (entries.new.items ≡ entries.old.items ++ record { edit = edit; kept = None } ∷ []) }
-    ensures err { OnErr result (entries.new.items ≡ entries.old.items) }
-{
-    match entries.push(Entry { edit, kept: None }) {
-        Ok(()) => Ok(()),
-        Err(_) => Err(NoMemory),
-    }
 }
 
 // Why an edit in force is not put in.

@@ -1,12 +1,11 @@
 -- What stands in a cell, by what is kept.
-use Rattle.std.proofs.Common.{◌≡◌, ℤ, Bool, true, false, cond, ◌&&◌, ◌||◌, List, [], ◌∷◌, ◌++◌, map, Option, Some, None, refl, sym, ap, subst, ◌∙◌}
+use Rattle.std.proofs.Common.{◌≡◌, ℤ, Bool, true, false, cond, ◌&&◌, ◌||◌, List, [], ◌∷◌, ◌++◌, map, Option, Some, None, refl, ap, ◌∙◌}
 use Rattle.std.specs.declared.cmp.Ordering.{Ordering}
 use Rattle.std.specs.declared.cmp.Ordering.TheVariants.{Less, Equal, Greater}
 use Rattle.std.specs.BTreeMap.{is_at}
-use Rattle.std.specs.Cmp.{IsTotalOrder}
 use Rattle.std.specs.Cmp.Lexicographic.{slice_cmp, nat_list_cmp_total}
 use Rattle.std.specs.FinMap.{get, find, from_entries, get-from_entries}
-use Rattle.std.specs.List.{flat_map, list_any}
+use Rattle.std.specs.List.{flat_map}
 use Rattle.std.specs.List.Sorted.{IsStrictlySortedBy}
 use Rattle.std.specs.Map.{lookup, keys_of}
 use Rattle.std.specs.Option.{option_or, option_and_then, option_map}
@@ -16,7 +15,7 @@ use Rattle.wb_book.specs.declared.cells.cell.Cell.TheVariants.{Object, Shape, In
 use Rattle.wb_book.specs.declared.cells.value.Value.{Value}
 use Rattle.wb_book.specs.declared.cells.value.Value.TheVariants.{Domain, Array, Ranges, Mapping as mapping_value, Present, Bound, Number}
 use Rattle.wb_book.specs.declared.values.index.Index.{Index}
-use Rattle.wb_book.specs.Cells.{Name, Cells, cell_cmp, cell_order, index_cmp, is_same_name, is_same_index}
+use Rattle.wb_book.specs.Cells.{Name, cell_cmp, cell_order, index_cmp}
 use Rattle.wb_book.specs.Shapes.{indices}
 use Rattle.wb_book.specs.WellFormed.{inside_of, ranges_in, present_if, has}
 use Rattle.wb_join.specs.Joined.{elements_of, insides_of, joined, is_stored, AllStored, answer, stored_in, element_in}
@@ -167,6 +166,16 @@ element_not_stored d i (Mapping e) st = refl
 element_not_stored d i (Use e n) st = refl
 element_not_stored d i (Implicit e) st = refl
 element_not_stored d i (Element e j) st = cc
+
+pub not_kept : (c : Cell) → is_stored c ≡ false → (cells : List (Cell × Value)) → AllStored cells → stored_in cells c ≡ None
+not_kept (In d i) st cells all = not_stored (In d i) (in_not_stored d i) cells all
+not_kept (Element a i) st cells all = not_stored (Element a i) (element_not_stored a i) cells all
+not_kept (Object n) st cells all = cc
+not_kept (Shape n) st cells all = cc
+not_kept (Member n i) st cells all = cc
+not_kept (Mapping n) st cells all = cc
+not_kept (Use n m) st cells all = cc
+not_kept (Implicit n) st cells all = cc
 
 or_none : {V : Type 0} (o : Option V) → option_or o None ≡ o
 or_none None = refl

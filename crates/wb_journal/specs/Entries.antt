@@ -1,7 +1,7 @@
 -- The entries of a journal: what each seat asked, and what it was replied.
 use Rattle.std.specs.Prelude.{ℕ, Bool, true, false, ◌==◌, List, filter}
-use Rattle.wb_history.specs.declared.refusal.Refusal.{Refusal}
-use Rattle.wb_history.specs.declared.refusal.Refusal.TheVariants.{BadRequest, BadLiteral, Refused as EditRefused, NoSuchEdit, NotInForce, InForce, Blocked, RefusedInPlace, NoMemory, StrangePass}
+use Rattle.wb_log.specs.declared.refusal.Refusal.{Refusal}
+use Rattle.wb_log.specs.declared.refusal.Refusal.TheVariants.{BadRequest, BadLiteral, Refused as EditRefused, NoSuchEdit, NotInForce, InForce, Blocked, RefusedInPlace, NoMemory, StrangePass}
 use Rattle.wb_proto.specs.declared.replies.reply.Reply.{Reply}
 use Rattle.wb_proto.specs.declared.replies.reply.Reply.TheVariants.{Edited, Undone, Redone, Answered, Printed, Refused}
 use Rattle.wb_journal.specs.declared.entry.Entry.{Entry}

@@ -106,6 +106,27 @@ abbrev pub array_cells : Name → Name → Kind → List Index → List ℤ → 
 array_cells a d kind is xs irv =
     (Object a, values.Array d kind) ∷ (Use d a, values.Bound bindings.Array) ∷ (Implicit a, values.Number (implicit_told kind irv)) ∷ numbers a (zip is xs)
 
+-- of those of a rectangular domain and of an array, the ones that are stored: which indices are in the domain follows from
+-- its ranges, and elements lie in the array
+abbrev pub rectangular_stored : Name → List Range → LayoutMap → List (Cell × Value)
+rectangular_stored d rs m = (Object d, values.Domain (domains.Rectangular (length rs))) ∷ (Shape d, values.Ranges rs) ∷ (Mapping d, values.Mapping m) ∷ []
+
+abbrev pub array_stored : Name → Name → Kind → Option ℤ → List (Cell × Value)
+array_stored a d kind irv = (Object a, values.Array d kind) ∷ (Use d a, values.Bound bindings.Array) ∷ (Implicit a, values.Number (implicit_told kind irv)) ∷ []
+
+-- the stored cells that a line tells of, among all lines
+abbrev pub stored_told : List Line → Line → List (Cell × Value)
+stored_told ls (rectangular d rs m) = rectangular_stored d rs m
+stored_told ls (sparse d parent is) = sparse_cells d parent (rank_told (line_in parent ls)) is
+stored_told ls (associative d type is) = associative_cells d type is
+stored_told ls (array a d xs irv) = array_stored a d (kind_told ls (line_in d ls)) irv
+
+-- and the others
+abbrev pub derived_told : List Line → Line → List (Cell × Value)
+derived_told ls (rectangular d rs m) = presents (In d) (indices rs)
+derived_told ls (array a d xs irv) = numbers a (zip (indices_told (line_in d ls)) xs)
+derived_told ls l = []
+
 -- the cells that a line tells of, among all lines
 abbrev pub cells_of : List Line → Line → List (Cell × Value)
 cells_of ls (rectangular d rs m) = rectangular_cells d rs m

@@ -24,7 +24,7 @@ fn name_of(line: &ObjectLine) -> Name
 }
 
 /// The places of the lines by their names; `None` where two of them are of one name.
-pub(crate) fn places_of(
+pub fn places_of(
     alloc: Global,
     lines: &[ObjectLine],
 ) -> Result<Option<BTreeMap<Name, usize>>, NoMemory>
@@ -44,7 +44,7 @@ pub(crate) fn places_of(
 }
 
 /// The line of a name.
-pub(crate) fn find<'a>(
+pub fn find<'a>(
     lines: &'a [ObjectLine],
     places: &BTreeMap<Name, usize>,
     name: &Name,

@@ -18,8 +18,8 @@ use wb_book::{Book, Cell, Name, Value};
 use wb_range::NoMemory;
 use wb_text::ObjectLine;
 
-// Computes nothing. Callers learn what the lines are made of.
-fn lines_validity(lines: &[ObjectLine])
+/// Computes nothing. Callers learn what the lines are made of.
+pub fn lines_validity(lines: &[ObjectLine])
     ensures { AllByRecursion IsMade (map line_of lines.now) }
 {
     for line in lines {

@@ -1,5 +1,5 @@
 //! The cells that a line tells of.
-ghost use Rattle.std.specs.Prelude.{◌≡◌, ◌==◌, [], Some, unwrap_or, length, map, is_some, true, IfOk, IfSome};
+ghost use Rattle.std.specs.Prelude.{◌≡◌, ◌==◌, [], Some, unwrap_or, length, map, is_some, true, IfOk, OnOk, IfSome};
 ghost use Rattle.std.specs.List.{list_all};
 ghost use Rattle.wb_book.specs.Cells.{state_of};
 ghost use Rattle.wb_book.specs.Kinds.{is_key};
@@ -8,7 +8,7 @@ ghost use Rattle.wb_book.specs.declared.cells.kind.Kind.TheVariants.{Associative
 ghost use Rattle.wb_text.specs.Said.{line_in, line_of};
 ghost use Rattle.wb_rebuild.specs.Found.{Finds};
 ghost use Rattle.wb_rebuild.specs.Inserted.{inserted};
-ghost use Rattle.wb_rebuild.specs.Told.{ranges_told, rank_told, kind_told, indices_told, implicit_told, is_domain, are_within, is_sound, rectangular_cells, sparse_cells, associative_cells, array_cells, cells_of};
+ghost use Rattle.wb_rebuild.specs.Told.{ranges_told, rank_told, kind_told, indices_told, implicit_told, is_domain, are_within, is_sound, rectangular_stored, sparse_cells, associative_cells, array_stored, stored_told, derived_told, cells_of};
 
 use crate::finding::find;
 use crate::putting::{points_of, put, put_numbers, put_presents};
@@ -66,8 +66,22 @@ fn kind_of(lines: &[ObjectLine], places: &BTreeMap<Name, usize>, name: &Name) ->
     }
 }
 
-// The indices of the domain of a name, in its order; none where it is of no domain.
-fn indices_of(
+// How many indices the domain of a name has; 0 where it is of no domain.
+fn count_of(lines: &[ObjectLine], places: &BTreeMap<Name, usize>, name: &Name) -> usize
+    requires { Finds places.now (map line_of lines.now) (map line_of lines.now) }
+    ensures { result ≡ length (indices_told (line_in name.now (map line_of lines.now))) }
+{
+    match find(lines, places, name) {
+        Some(ObjectLine::Rectangular(_, ranges, _)) => ranges.size(),
+        Some(ObjectLine::Sparse(_, _, indices)) => indices.len(),
+        Some(ObjectLine::Associative(_, _, indices)) => indices.len(),
+        Some(ObjectLine::Array(_, _, _, _)) => 0,
+        None => 0,
+    }
+}
+
+/// The indices of the domain of a name, in its order; none where it is of no domain.
+pub fn indices_of(
     alloc: Global,
     lines: &[ObjectLine],
     places: &BTreeMap<Name, usize>,
@@ -114,9 +128,8 @@ fn are_keys(key: KeyType, indices: &[AnyIndex]) -> bool
 
 // ---- the cells
 
-// Puts in what the line of a rectangular domain tells of. `false` where the mapping isn't for its rank.
+// Puts in what is stored of what the line of a rectangular domain tells of. `false` where the mapping isn't for its rank.
 fn put_rectangular(
-    alloc: Global,
     cells: &mut BTreeMap<Cell, Value>,
     domain: Name,
     ranges: &AnyRect,
@@ -124,20 +137,16 @@ fn put_rectangular(
 ) -> Result<bool, NoMemory>
     ensures sound { IfOk result (λ b. b ≡ is_of_rank (length ranges.now) mapping.now) }
     ensures cells { IfOk result (λ b. b ≡ true →
-        state_of cells.new ≡ inserted (rectangular_cells domain ranges.now mapping.now) (state_of cells.old)) }
+        state_of cells.new ≡ inserted (rectangular_stored domain ranges.now mapping.now) (state_of cells.old)) }
 {
     let rank = ranges.rank();
     if !mapping.is_of_rank(rank) {
         return Ok(false);
     }
-    let Ok(points) = points_of(alloc, ranges) else {
-        return Err(NoMemory);
-    };
     let kind = AnyDomain::new(DomainKind::Rectangular(rank));
     put(cells, Cell::Object(domain), Value::Domain(kind))?;
     put(cells, Cell::Shape(domain), Value::Ranges(*ranges))?;
     put(cells, Cell::Mapping(domain), Value::Mapping(*mapping))?;
-    put_presents(cells, Kind::Rectangular(rank), domain, &points)?;
     Ok(true)
 }
 
@@ -203,22 +212,22 @@ fn implicit_of(kind: Kind, implicit: Option<i64>) -> i64
     }
 }
 
-// Puts in what the line of an array tells of, the domain being of the kind and having the indices. `false` where there
-// are not as many elements.
+// Puts in what is stored of what the line of an array tells of, the domain being of the kind and having so many indices.
+// `false` where there are not as many elements.
 fn put_array(
     cells: &mut BTreeMap<Cell, Value>,
     array: Name,
     domain: Name,
     kind: Kind,
-    indices: &[AnyIndex],
+    count: usize,
     elements: &[i64],
     implicit: Option<i64>,
 ) -> Result<bool, NoMemory>
-    ensures sound { IfOk result (λ b. b ≡ (length indices.now == length elements.now)) }
+    ensures sound { IfOk result (λ b. b ≡ (count == length elements.now)) }
     ensures cells { IfOk result (λ b. b ≡ true →
-        state_of cells.new ≡ inserted (array_cells array domain kind indices.now elements.now implicit) (state_of cells.old)) }
+        state_of cells.new ≡ inserted (array_stored array domain kind implicit) (state_of cells.old)) }
 {
-    if indices.len() != elements.len() {
+    if count != elements.len() {
         return Ok(false);
     }
     let value = implicit_of(kind, implicit);
@@ -229,8 +238,70 @@ fn put_array(
         Value::Bound(Binding::Array),
     )?;
     put(cells, Cell::Implicit(array), Value::Number(value))?;
-    put_numbers(cells, array, indices, elements)?;
     Ok(true)
+}
+
+/// Puts in the stored cells that a line tells of. `false` where it is not sound, and then the cells are of no use.
+pub fn put_stored(
+    cells: &mut BTreeMap<Cell, Value>,
+    lines: &[ObjectLine],
+    places: &BTreeMap<Name, usize>,
+    line: &ObjectLine,
+) -> Result<bool, NoMemory>
+    requires { Finds places.now (map line_of lines.now) (map line_of lines.now) }
+    ensures sound { IfOk result (λ b. b ≡ is_sound (map line_of lines.now) (line_of line.now)) }
+    ensures cells { IfOk result (λ b. b ≡ true →
+        state_of cells.new ≡ inserted (stored_told (map line_of lines.now) (line_of line.now)) (state_of cells.old)) }
+{
+    match line {
+        ObjectLine::Rectangular(domain, ranges, mapping) => {
+            put_rectangular(cells, *domain, ranges, mapping)
+        }
+        ObjectLine::Sparse(domain, parent, indices) => {
+            let ranges = ranges_of(lines, places, parent);
+            put_sparse(cells, *domain, *parent, ranges, indices)
+        }
+        ObjectLine::Associative(domain, key, indices) => {
+            put_associative(cells, *domain, *key, indices)
+        }
+        ObjectLine::Array(array, domain, elements, implicit) => {
+            let Some(kind) = kind_of(lines, places, domain) else {
+                return Ok(false);
+            };
+            let count = count_of(lines, places, domain);
+            put_array(cells, *array, *domain, kind, count, elements, *implicit)
+        }
+    }
+}
+
+// Puts in the other cells that a sound line tells of.
+fn put_derived(
+    alloc: Global,
+    cells: &mut BTreeMap<Cell, Value>,
+    lines: &[ObjectLine],
+    places: &BTreeMap<Name, usize>,
+    line: &ObjectLine,
+) -> Result<(), NoMemory>
+    requires finds { Finds places.now (map line_of lines.now) (map line_of lines.now) }
+    requires sound { is_sound (map line_of lines.now) (line_of line.now) ≡ true }
+    ensures { OnOk result (state_of cells.new ≡ inserted (derived_told (map line_of lines.now) (line_of line.now)) (state_of cells.old)) }
+{
+    match line {
+        ObjectLine::Rectangular(domain, ranges, _) => {
+            let Ok(points) = points_of(alloc, ranges) else {
+                return Err(NoMemory);
+            };
+            put_presents(cells, Kind::Rectangular(ranges.rank()), *domain, &points)
+        }
+        ObjectLine::Sparse(_, _, _) => Ok(()),
+        ObjectLine::Associative(_, _, _) => Ok(()),
+        ObjectLine::Array(array, domain, elements, _) => {
+            let Ok(indices) = indices_of(alloc, lines, places, domain) else {
+                return Err(NoMemory);
+            };
+            put_numbers(cells, *array, &indices, elements)
+        }
+    }
 }
 
 /// Puts in the cells that a line tells of. `false` where it is not sound, and then the cells are of no use.
@@ -246,25 +317,9 @@ pub(crate) fn put_line(
     ensures cells { IfOk result (λ b. b ≡ true →
         state_of cells.new ≡ inserted (cells_of (map line_of lines.now) (line_of line.now)) (state_of cells.old)) }
 {
-    match line {
-        ObjectLine::Rectangular(domain, ranges, mapping) => {
-            put_rectangular(alloc, cells, *domain, ranges, mapping)
-        }
-        ObjectLine::Sparse(domain, parent, indices) => {
-            let ranges = ranges_of(lines, places, parent);
-            put_sparse(cells, *domain, *parent, ranges, indices)
-        }
-        ObjectLine::Associative(domain, key, indices) => {
-            put_associative(cells, *domain, *key, indices)
-        }
-        ObjectLine::Array(array, domain, elements, implicit) => {
-            let Some(kind) = kind_of(lines, places, domain) else {
-                return Ok(false);
-            };
-            let Ok(indices) = indices_of(alloc, lines, places, domain) else {
-                return Err(NoMemory);
-            };
-            put_array(cells, *array, *domain, kind, &indices, elements, *implicit)
-        }
+    if !put_stored(cells, lines, places, line)? {
+        return Ok(false);
     }
+    put_derived(alloc, cells, lines, places, line)?;
+    Ok(true)
 }

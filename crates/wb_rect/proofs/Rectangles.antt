@@ -61,16 +61,6 @@ IsRectangle-sliced rank rs ts h g =
       once = IsListedOnce-product (sliced rs ts) k;
     }
 
-each_common : (rs ts : List (List ℤ)) → length ts ≡ length rs → All IsRange rs → (p : ℕ) → p < length rs → IsCommon (get_or rs p []) (get_or ts p []) (get_or (sliced rs ts) p [])
-each_common [] ts e h p l = absurd (omega arith)
-each_common (xs ∷ rs) [] e h p l = absurd (omega arith)
-each_common (xs ∷ rs) (ys ∷ ts) e h zero l = common_is xs ys (All-head IsRange xs rs h)
-each_common (xs ∷ rs) (ys ∷ ts) e h (suc p) l = each_common rs ts (omega arith) (All-tail IsRange xs rs h) p (omega arith)
-
--- the slice has the indices that both have
-pub sliced_members : (rs ts : List (List ℤ)) → length ts ≡ length rs → All IsRange rs → (i : List ℤ) → Contains (product (sliced rs ts)) i ↔ (Contains (product rs) i × Contains (product ts) i)
-sliced_members rs ts e h = common_product rs ts (sliced rs ts) e (length-sliced rs ts e) (each_common rs ts e h)
-
 -- ranges that have in common what both have are the slice
 pub sliced_is : (rs ts zs : List (List ℤ)) → length ts ≡ length rs → length zs ≡ length rs → All IsRange rs → ((p : ℕ) → p < length rs → IsCommon (get_or rs p []) (get_or ts p []) (get_or zs p [])) → zs ≡ sliced rs ts
 sliced_is [] ts [] e f h g = refl

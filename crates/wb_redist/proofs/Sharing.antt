@@ -7,9 +7,6 @@ use Rattle.std.proofs.Math.Nat.{mul-le-mul_right}
 use Rattle.wb_pieces.specs.Pieces.{piece_of, pieces_from, pieces_of, lists_of}
 use Rattle.wb_redist.specs.Shares.{first_locale, share_of, lists_in, lists_joined}
 
-pub product_le : (l n w : ℕ) → 0 < n → w ≤ n → w * (l / n) ≤ l
-product_le l n w p h = omega (arith, mul-le-mul_right (l / n) h)
-
 pub first_locale-le : (l n w : ℕ) → 0 < n → w ≤ n → first_locale l n w ≤ l
 first_locale-le l n w p h = omega (arith, mul-le-mul_right (l / n) h)
 

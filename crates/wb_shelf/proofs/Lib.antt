@@ -3,11 +3,13 @@ pub mod Written
 pub mod Same
 pub mod Elements
 pub mod Moved
-pub mod Remapped
 pub mod Seen
-pub mod Laid
 pub mod Leads
 pub mod Applied
 pub mod Built
+pub mod Present
+pub mod Resting
 pub mod Grown
 pub mod Whole
+pub mod Answered
+pub mod Joining

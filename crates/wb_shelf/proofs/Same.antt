@@ -1,5 +1,6 @@
 -- What is kept are the cells that it agrees with.
-use Rattle.std.proofs.Common.{◌≡◌, ℕ, ◌+◌, ◌<◌, ℤ, Bool, true, false, cond, ◌&&◌, List, [], ◌∷◌, ◌++◌, map, length, take, get_or, Option, Some, None, is_some, IsSome, refl, sym, ap, subst, ◌∙◌}
+use Rattle.std.proofs.Common.{◌≡◌, ℕ, ◌+◌, ◌<◌, ℤ, Bool, true, false, cond, ◌&&◌, List, [], ◌∷◌, ◌++◌, length, take, get_or, Option, Some, None, is_some}
+use Rattle.std.proofs.Common.{IsSome, refl, sym, ap, subst, ◌∙◌}
 use Rattle.std.specs.declared.cmp.Ordering.{Ordering}
 use Rattle.std.specs.declared.cmp.Ordering.TheVariants.{Less, Equal, Greater}
 use Rattle.std.specs.BTreeMap.{BTreeMap}
@@ -7,7 +8,7 @@ use Rattle.std.specs.Cmp.{eq_by_cmp_equiv}
 use Rattle.std.specs.Cmp.Lexicographic.{slice_cmp, nat_list_cmp_total}
 use Rattle.std.specs.FinMap.{get}
 use Rattle.std.specs.Option.{option_map}
-use Rattle.std.specs.Ordering.{is_eq, nat_cmp, ordering_then, eq_by_cmp}
+use Rattle.std.specs.Ordering.{is_eq, nat_cmp, ordering_then}
 use Rattle.selective_undo.specs.declared.Change.{Change}
 use Rattle.selective_undo.specs.Changes.{put, apply}
 use Rattle.selective_undo.proofs.Changes.{same_states, get-put}
@@ -17,18 +18,18 @@ use Rattle.wb_book.specs.declared.cells.value.Value.{Value}
 use Rattle.wb_book.specs.declared.cells.value.Value.TheVariants.{Number}
 use Rattle.wb_book.specs.declared.values.index.Index.{Index}
 use Rattle.wb_book.specs.contracts.values.index.IndexOrd.TheImpl.Laws as index_laws
-use Rattle.wb_book.specs.Cells.{Name, Cells, Changes, cell_cmp, cell_order, index_cmp, is_same_name, is_same_index}
+use Rattle.wb_book.specs.Cells.{Name, Cells, Changes, cell_order, index_cmp, is_same_name, is_same_index}
 use Rattle.wb_book.specs.WellFormed.{IsWellFormed, inside_of, ranges_in}
 use Rattle.wb_join.specs.Joined.{is_stored, stored_in, element_in, answer}
 use Rattle.wb_join.proofs.Joined.{IsKept, get-joined}
-use Rattle.wb_shelf.specs.Kept.{Pieced, array_in, with_element, Agree, element_changes}
+use Rattle.wb_shelf.specs.Kept.{Pieced, array_in, with_element, Agree}
 use Rattle.wb_shelf.specs.Shelf.{cells_of}
 use Rattle.std.proofs.lemmas.List.{take_more}
-use Rattle.selective_undo.proofs.Log.{append-map}
 use Rattle.wb_shelf.proofs.Written.{element_in-written, one_name, one_index}
 
 -- the stored cells and the elements are those of well-formed cells: then what is kept are these cells
-pub same_cells : (cells : BTreeMap Cell Value) (arrays : BTreeMap Name Pieced) (s : Cells) → IsKept cells.entries arrays.entries → IsWellFormed s → ((c : Cell) → is_stored c ≡ true → stored_in cells.entries c ≡ get s c) → Agree arrays.entries s → cells_of cells arrays ≡ s
+pub same_cells : (cells : BTreeMap Cell Value) (arrays : BTreeMap Name Pieced) (s : Cells) → IsKept cells.entries arrays.entries → IsWellFormed s →
+    ((c : Cell) → is_stored c ≡ true → stored_in cells.entries c ≡ get s c) → Agree arrays.entries s → cells_of cells arrays ≡ s
 same_cells cells arrays s kept formed stored agree = same_states cell_order _ _ λ c. get-joined cells.entries arrays.entries kept c ∙ by c
   where
     by : (c : Cell) → answer (stored_in cells.entries) (element_in arrays.entries) c ≡ get s c
@@ -52,7 +53,9 @@ mapped : (b : Bool) (v : ℤ) (o : Option ℤ) (p : Option Value) → option_map
 mapped true v o p e = refl
 mapped false v o p e = e
 
-pub agree_step : (es fs : List (Name × Pieced)) (s : Cells) (a : Name) (i : Index) (v : ℤ) → IsSome (element_in es a i) → ((b : Name) → array_in fs b ≡ cond (is_same_name a b) (with_element (array_in es b) i v) (array_in es b)) → Agree es s → Agree fs (put (record { cell = Element a i; value = Some (Number v) }) s)
+pub agree_step : (es fs : List (Name × Pieced)) (s : Cells) (a : Name) (i : Index) (v : ℤ) → IsSome (element_in es a i) →
+    ((b : Name) → array_in fs b ≡ cond (is_same_name a b) (with_element (array_in es b) i v) (array_in es b)) → Agree es s →
+    Agree fs (put (record { cell = Element a i; value = Some (Number v) }) s)
 agree_step es fs s a i v there is agree b j =
     ap (option_map Number) (element_in-written es fs a b i j v there (is b))
     ∙ mapped (is_same_name a b && is_same_index i j) v (element_in es b j) (get s (Element b j)) (agree b j)
@@ -64,24 +67,21 @@ pub apply-last : (xs : Changes) (x : Change Cell Value) (s : Cells) → apply (x
 apply-last [] x s = refl
 apply-last (y ∷ xs) x s = apply-last xs x (put y s)
 
-pub agree_more : (es fs : List (Name × Pieced)) (s : Cells) (a : Name) (xs : List (Index × ℤ)) (k : ℕ) (x : Index × ℤ) → k < length xs → x ≡ get_or xs k x → IsSome (element_in es a x.0) → ((b : Name) → array_in fs b ≡ cond (is_same_name a b) (with_element (array_in es b) x.0 x.1) (array_in es b)) → Agree es (apply (element_changes a (take k xs)) s) → Agree fs (apply (element_changes a (take (k + 1) xs)) s)
-agree_more es fs s a xs k x low is there made agree =
-    let change : Change Cell Value = record { cell = Element a x.0; value = Some (Number x.1) } in
-    let made_of : (Index × ℤ) → Change Cell Value = λ e. record { cell = Element a e.0; value = Some (Number e.1) } in
-    let more : take (k + 1) xs ≡ take k xs ++ x ∷ [] = take_more xs k x low ∙ ap (λ (y : Index × ℤ). take k xs ++ y ∷ []) (sym is) in
-    let whole : apply (element_changes a (take (k + 1) xs)) s ≡ put change (apply (element_changes a (take k xs)) s) =
-    ap (λ ys. apply (element_changes a ys) s) more
-    ∙ ap (λ zs. apply zs s) (append-map made_of (take k xs) (x ∷ []))
-    ∙ apply-last (element_changes a (take k xs)) change s in
-    subst (λ (t : Cells). Agree fs t) (sym whole) (agree_step es fs (apply (element_changes a (take k xs)) s) a x.0 x.1 there made agree)
+pub apply_more : (xs : Changes) (k : ℕ) (x : Change Cell Value) (s : Cells) → k < length xs → x ≡ get_or xs k x →
+    apply (take (k + 1) xs) s ≡ put x (apply (take k xs) s)
+apply_more xs k x s low is =
+    let more : take (k + 1) xs ≡ take k xs ++ x ∷ [] = take_more xs k x low ∙ ap (λ (y : Change Cell Value). take k xs ++ y ∷ []) (sym is) in
+    ap (λ ys. apply ys s) more ∙ apply-last (take k xs) x s
 
-pub there_more : (es fs : List (Name × Pieced)) (a b : Name) (i j : Index) (v : ℤ) → IsSome (element_in es a i) → array_in fs b ≡ cond (is_same_name a b) (with_element (array_in es b) i v) (array_in es b) → is_some (element_in fs b j) ≡ is_some (element_in es b j)
+pub there_more : (es fs : List (Name × Pieced)) (a b : Name) (i j : Index) (v : ℤ) → IsSome (element_in es a i) →
+    array_in fs b ≡ cond (is_same_name a b) (with_element (array_in es b) i v) (array_in es b) → is_some (element_in fs b j) ≡ is_some (element_in es b j)
 there_more es fs a b i j v there is = ap is_some (element_in-written es fs a b i j v there is) ∙ by (is_same_name a b) (is_same_index i j) refl refl
   where
     by : (t u : Bool) → is_same_name a b ≡ t → is_same_index i j ≡ u → is_some (cond (t && u) (Some v) (element_in es b j)) ≡ is_some (element_in es b j)
     by false u e f = refl
     by true false e f = refl
-    by true true e f = sym (subst (λ (k : Index). IsSome (element_in es b k)) (one_index i j f) (subst (λ (n : Name). IsSome (element_in es n i)) (one_name a b e) there))
+    by true true e f = sym (subst (λ (k : Index). IsSome (element_in es b k)) (one_index i j f)
+        (subst (λ (n : Name). IsSome (element_in es n i)) (one_name a b e) there))
 
 pub lie_more : (o p : Option Pieced) (t : Bool) (i : Index) (v : ℤ) → p ≡ cond t (with_element o i v) o → option_map (λ x. x.1) p ≡ option_map (λ x. x.1) o
 lie_more o p false i v e = ap (option_map (λ x. x.1)) e

@@ -1,38 +1,36 @@
 -- What a look at a pattern shows of what is kept.
-use Rattle.std.proofs.Common.{◌≡◌, ℕ, ℤ, Bool, true, false, cond, List, [], ◌∷◌, map, filter, Option, Some, None, Result, Ok, Err, IfOk, refl, sym, ap, subst, ◌∙◌}
+use Rattle.std.proofs.Common.{◌≡◌, ℕ, ℤ, Bool, true, false, cond, List, [], ◌∷◌, Option, Some, None, Result, Ok, Err, IfOk, refl, sym, ap, ◌∙◌}
 use Rattle.std.specs.declared.cmp.Ordering.TheVariants.{Less}
 use Rattle.std.specs.BTreeMap.{BTreeMap, is_at}
 use Rattle.std.specs.Cmp.{eq_by_cmp_equiv, tied_itself}
-use Rattle.std.specs.Cmp.Lexicographic.{slice_cmp, nat_list_cmp_total}
+use Rattle.std.specs.Cmp.Lexicographic.{nat_list_cmp_total}
 use Rattle.std.specs.FinMap.{get, entries, from_entries, retain_keys, get-retain_keys, get-from_entries}
 use Rattle.std.specs.List.{AllByRecursion, filter_map}
 use Rattle.std.specs.List.Sorted.{IsStrictlySortedBy}
 use Rattle.std.specs.Map.{lookup, keys_of}
 use Rattle.std.specs.Option.{option_map, option_and_then}
-use Rattle.std.specs.FinMap.Entries.{find-where_key}
-use Rattle.std.specs.Ordering.{is_eq, nat_cmp, ordering_then, eq_by_cmp}
+use Rattle.std.specs.Ordering.{is_eq, ordering_then, eq_by_cmp}
 use Rattle.selective_undo.proofs.Changes.{same_states}
 use Rattle.wb_book.specs.declared.cells.cell.Cell.{Cell}
 use Rattle.wb_book.specs.declared.cells.cell.Cell.TheVariants.{Object, Shape, In, Member, Mapping, Use, Implicit, Element}
 use Rattle.wb_book.specs.declared.cells.pattern.Pattern.{Pattern}
-use Rattle.wb_book.specs.declared.cells.pattern.Pattern.TheVariants.{Objects, One, Members, Uses, Elements}
+use Rattle.wb_book.specs.declared.cells.pattern.Pattern.TheVariants.{One, Elements}
 use Rattle.wb_book.specs.declared.cells.value.Value.{Value}
 use Rattle.wb_book.specs.declared.cells.value.Value.TheVariants.{Number}
 use Rattle.wb_book.specs.declared.values.index.Index.{Index}
 use Rattle.wb_book.specs.Cells.{Name, Cells, cell_cmp, cell_order, index_cmp, is_same_name, matches}
 use Rattle.wb_book.specs.Readers.{seen, elements, element_in as told_by}
 use Rattle.wb_book.proofs.Order.{entries_ascending}
-use Rattle.wb_join.specs.Joined.{is_stored, stored_in, element_in, elements_of}
+use Rattle.wb_join.specs.Joined.{stored_in}
 use Rattle.wb_join.proofs.Joined.{find-lookup, array_is_group}
 use Rattle.wb_shelf.specs.Kept.{Pieced, array_in, pairs_of, element_cells, one_cell}
 use Rattle.wb_shelf.specs.Shelf.{cells_of, IsShelf}
 use Rattle.wb_shelf.proofs.Kept.{get-cells_of}
-use Rattle.wb_shelf.proofs.Elements.{stored_there}
-use Rattle.wb_shelf.proofs.Written.{one_name}
-use Rattle.wb_shelf.proofs.Remapped.{one_cell as equal_cells}
+use Rattle.wb_shelf.proofs.Written.{one_name, one_cell as equal_cells}
 
 -- cells in their order that are those which the pattern names
-pub seen_is : (s : Cells) (p : Pattern) (es : List (Cell × Value)) → IsStrictlySortedBy cell_cmp (keys_of es) → ((c : Cell) → stored_in es c ≡ cond (matches p c) (get s c) None) → seen s p ≡ es
+pub seen_is : (s : Cells) (p : Pattern) (es : List (Cell × Value)) → IsStrictlySortedBy cell_cmp (keys_of es) →
+    ((c : Cell) → stored_in es c ≡ cond (matches p c) (get s c) None) → seen s p ≡ es
 seen_is s p es sorted is =
     ap entries (same_states cell_order (retain_keys s (matches p)) (from_entries es) (λ c.
     get-retain_keys s (matches p) c (λ x tie. ap (matches p) (sym (cell_order.strict c x tie)))
@@ -41,7 +39,8 @@ seen_is s p es sorted is =
 
 -- ---- the elements of an array
 
-element_at : (a b : Name) (i : Index) (es : List (Index × ℤ)) → stored_in (element_cells a es) (Element b i) ≡ cond (is_same_name a b) (option_map Number (lookup (is_at (index_cmp i)) es)) None
+element_at : (a b : Name) (i : Index) (es : List (Index × ℤ)) →
+    stored_in (element_cells a es) (Element b i) ≡ cond (is_same_name a b) (option_map Number (lookup (is_at (index_cmp i)) es)) None
 element_at a b i es =
     by (is_same_name b a) refl
     ∙ ap (λ (t : Bool). cond t (option_map Number (lookup (is_at (index_cmp i)) es)) None) ((eq_by_cmp_equiv nat_list_cmp_total).symm b a)
@@ -69,7 +68,8 @@ module _ (s : Cells) (a : Name) (es : List (Index × ℤ)) (agree : (i : Index) 
       by true e = agree i ∙ ap (λ (n : Name). get s (Element n i)) (one_name a b e)
       by false e = refl
 
-below_cells : (a : Name) (k : Index) (es : List (Index × ℤ)) → AllByRecursion (λ y. index_cmp k y ≡ Less) (keys_of es) → AllByRecursion (λ y. cell_cmp (Element a k) y ≡ Less) (keys_of (element_cells a es))
+below_cells : (a : Name) (k : Index) (es : List (Index × ℤ)) → AllByRecursion (λ y. index_cmp k y ≡ Less) (keys_of es) →
+    AllByRecursion (λ y. cell_cmp (Element a k) y ≡ Less) (keys_of (element_cells a es))
 below_cells a k [] all = tt
 below_cells a k (e ∷ es) all = (ap (λ o. ordering_then o (index_cmp k e.0)) (tied_itself nat_list_cmp_total a) ∙ all.0, below_cells a k es all.1)
 
@@ -82,18 +82,21 @@ pub pairs_agree : (o : Option Pieced) (i : Index) → option_and_then (λ x. loo
 pairs_agree None i = refl
 pairs_agree (Some p) i = refl
 
-pub seen_elements : (cells : BTreeMap Cell Value) (arrays : BTreeMap Name Pieced) (a : Name) (es : List (Index × ℤ)) → IsShelf cells arrays → es ≡ pairs_of (array_in arrays.entries a) → IsStrictlySortedBy index_cmp (keys_of es) → seen (cells_of cells arrays) (Elements a) ≡ element_cells a es
+pub seen_elements : (cells : BTreeMap Cell Value) (arrays : BTreeMap Name Pieced) (a : Name) (es : List (Index × ℤ)) → IsShelf cells arrays →
+    es ≡ pairs_of (array_in arrays.entries a) → IsStrictlySortedBy index_cmp (keys_of es) → seen (cells_of cells arrays) (Elements a) ≡ element_cells a es
 seen_elements cells arrays a es kept is sorted =
     let s : Cells = cells_of cells arrays in
     let agree : (i : Index) → option_map Number (lookup (is_at (index_cmp i)) es) ≡ get s (Element a i) =
-    λ i. ap (λ xs. option_map Number (lookup (is_at (index_cmp i)) xs)) is ∙ ap (option_map Number) (sym (pairs_agree (array_in arrays.entries a) i)) ∙ sym (get-cells_of cells arrays kept (Element a i)) in
+    λ i. ap (λ xs. option_map Number (lookup (is_at (index_cmp i)) xs)) is ∙ ap (option_map Number) (sym (pairs_agree (array_in arrays.entries a) i))
+    ∙ sym (get-cells_of cells arrays kept (Element a i)) in
     seen_is s (Elements a) (element_cells a es) (sorted_cells a es sorted) (those_named s a es agree)
 
 told : (a : Name) (es : List (Index × ℤ)) → filter_map told_by (element_cells a es) ≡ es
 told a [] = refl
 told a (e ∷ es) = ap (λ xs. e ∷ xs) (told a es)
 
-pub elements_are : (cells : BTreeMap Cell Value) (arrays : BTreeMap Name Pieced) (a : Name) (es : List (Index × ℤ)) → IsShelf cells arrays → es ≡ pairs_of (array_in arrays.entries a) → IsStrictlySortedBy index_cmp (keys_of es) → es ≡ elements (cells_of cells arrays) a
+pub elements_are : (cells : BTreeMap Cell Value) (arrays : BTreeMap Name Pieced) (a : Name) (es : List (Index × ℤ)) → IsShelf cells arrays →
+    es ≡ pairs_of (array_in arrays.entries a) → IsStrictlySortedBy index_cmp (keys_of es) → es ≡ elements (cells_of cells arrays) a
 elements_are cells arrays a es kept is sorted = sym (ap (filter_map told_by) (seen_elements cells arrays a es kept is sorted) ∙ told a es)
 
 -- ---- one cell
@@ -106,7 +109,8 @@ sorted_one c (Some w) = (tt, tt)
 pub seen_one : (s : Cells) (c : Cell) (v : Option Value) → v ≡ get s c → seen s (One c) ≡ one_cell c v
 seen_one s c v is = seen_is s (One c) (one_cell c v) (sorted_one c v) (λ x. one_there v is x)
   where
-    same_one : (w : Value) (x : Cell) (t u : Bool) → eq_by_cmp cell_cmp x c ≡ t → eq_by_cmp cell_cmp c x ≡ u → t ≡ u → Some w ≡ get s c → cond t (Some w) None ≡ cond u (get s x) None
+    same_one : (w : Value) (x : Cell) (t u : Bool) → eq_by_cmp cell_cmp x c ≡ t → eq_by_cmp cell_cmp c x ≡ u → t ≡ u → Some w ≡ get s c →
+        cond t (Some w) None ≡ cond u (get s x) None
     same_one w x true true e f g is = is ∙ ap (get s) (equal_cells c x f)
     same_one w x false false e f g is = refl
     same_one w x true false e f g is = cc
@@ -119,71 +123,6 @@ seen_one s c v is = seen_is s (One c) (one_cell c v) (sorted_one c v) (λ x. one
     one_there : (w : Option Value) → w ≡ get s c → (x : Cell) → stored_in (one_cell c w) x ≡ cond (eq_by_cmp cell_cmp c x) (get s x) None
     one_there None is x = nothing_one x (eq_by_cmp cell_cmp c x) refl is
     one_there (Some w) is x = same_one w x (eq_by_cmp cell_cmp x c) (eq_by_cmp cell_cmp c x) refl refl ((eq_by_cmp_equiv cell_order.total).symm x c) is
-
--- ---- stored cells
-
-abbrev pub names_stored : Pattern → Type 0
-names_stored p = (c : Cell) → is_stored c ≡ false → matches p c ≡ false
-
-above_kept : (p : Pattern) (k : Cell) (es : List (Cell × Value)) → AllByRecursion (λ y. cell_cmp k y ≡ Less) (keys_of es) → AllByRecursion (λ y. cell_cmp k y ≡ Less) (keys_of (filter (λ e. matches p e.0) es))
-above_kept p k [] all = tt
-above_kept p k (e ∷ es) all = by (matches p e.0) (above_kept p k es all.1)
-  where
-    by : (b : Bool) → AllByRecursion (λ y. cell_cmp k y ≡ Less) (keys_of (filter (λ x. matches p x.0) es)) → AllByRecursion (λ y. cell_cmp k y ≡ Less) (keys_of (cond b (e ∷ filter (λ x. matches p x.0) es) (filter (λ x. matches p x.0) es)))
-    by true h = (all.0, h)
-    by false h = h
-
-sorted_kept : (p : Pattern) (es : List (Cell × Value)) → IsStrictlySortedBy cell_cmp (keys_of es) → IsStrictlySortedBy cell_cmp (keys_of (filter (λ e. matches p e.0) es))
-unfolding IsStrictlySortedBy
-sorted_kept p [] s = tt
-sorted_kept p (e ∷ es) s =
-    elim (matches p e.0) as (λ b. IsStrictlySortedBy cell_cmp (keys_of (cond b (e ∷ filter (λ x. matches p x.0) es) (filter (λ x. matches p x.0) es)))) [
-      | true ↦ (above_kept p e.0 es s.0, sorted_kept p es s.1)
-      | false ↦ sorted_kept p es s.1
-    ]
-
-pub seen_stored : (cells : BTreeMap Cell Value) (arrays : BTreeMap Name Pieced) (p : Pattern) → IsShelf cells arrays → names_stored p → seen (cells_of cells arrays) p ≡ filter (λ e. matches p e.0) cells.entries
-seen_stored cells arrays p kept named =
-    seen_is (cells_of cells arrays) p (filter (λ e. matches p e.0) cells.entries) (sorted_kept p cells.entries kept.ascending)
-    (λ c.
-    sym (find-lookup (filter (λ e. matches p e.0) cells.entries) c)
-    ∙ find-where_key cell_cmp (matches p) c (λ x tie. ap (matches p) (sym (cell_order.strict c x tie))) cells.entries
-    ∙ ap (λ (o : Option Value). cond (matches p c) o None) (find-lookup cells.entries c)
-    ∙ by c (is_stored c) refl)
-  where
-    by : (c : Cell) (t : Bool) → is_stored c ≡ t → cond (matches p c) (stored_in cells.entries c) None ≡ cond (matches p c) (get (cells_of cells arrays) c) None
-    by c true e = ap (λ (o : Option Value). cond (matches p c) o None) (stored_there cells arrays kept c e)
-    by c false e = rw (named c e) refl
-
-pub objects_stored : names_stored Objects
-objects_stored (In d i) e = refl
-objects_stored (Element d i) e = refl
-objects_stored (Object d) e = cc
-objects_stored (Shape d) e = refl
-objects_stored (Member d i) e = refl
-objects_stored (Mapping d) e = refl
-objects_stored (Use d n) e = refl
-objects_stored (Implicit d) e = refl
-
-pub members_stored : (n : Name) → names_stored (Members n)
-members_stored n (In d i) e = refl
-members_stored n (Element d i) e = refl
-members_stored n (Object d) e = refl
-members_stored n (Shape d) e = refl
-members_stored n (Member d i) e = cc
-members_stored n (Mapping d) e = refl
-members_stored n (Use d m) e = refl
-members_stored n (Implicit d) e = refl
-
-pub uses_stored : (n : Name) → names_stored (Uses n)
-uses_stored n (In d i) e = refl
-uses_stored n (Element d i) e = refl
-uses_stored n (Object d) e = refl
-uses_stored n (Shape d) e = refl
-uses_stored n (Member d i) e = refl
-uses_stored n (Mapping d) e = refl
-uses_stored n (Use d m) e = cc
-uses_stored n (Implicit d) e = refl
 
 -- ---- results
 

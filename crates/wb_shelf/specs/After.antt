@@ -1,23 +1,22 @@
 -- The arrays after changes.
-use Rattle.std.specs.Prelude.{◌≡◌, ℕ, ℤ, Bool, List, [], ◌∷◌, Option, Some, None, option_map, is_some}
+use Rattle.std.specs.Prelude.{◌≡◌, ℕ, Bool, List, [], ◌∷◌, Option, Some, None, option_map, is_some}
 use Rattle.std.specs.BTreeMap.{is_at}
 use Rattle.std.specs.Map.{lookup}
-use Rattle.std.specs.FinMap.{get}
-use Rattle.selective_undo.specs.Changes.{apply}
 use Rattle.wb_dist.specs.Maps.{LayoutMap, whole}
 use Rattle.wb_book.specs.declared.cells.cell.Cell.{Cell}
-use Rattle.wb_book.specs.declared.cells.cell.Cell.TheVariants.{Object, Mapping, Element}
+use Rattle.wb_book.specs.declared.cells.cell.Cell.TheVariants.{Object, Mapping}
 use Rattle.wb_book.specs.declared.cells.kind.DomainKind.{DomainKind}
 use Rattle.wb_book.specs.declared.cells.kind.DomainKind.TheVariants.{Rectangular, Sparse, Associative}
 use Rattle.wb_book.specs.declared.cells.kind.KeyType.TheVariants.{Int, Text}
 use Rattle.wb_book.specs.declared.cells.value.Value.{Value}
-use Rattle.wb_book.specs.declared.cells.value.Value.TheVariants.{Array, Number}
+use Rattle.wb_book.specs.declared.cells.value.Value.TheVariants.{Array}
 use Rattle.wb_book.specs.declared.values.index.Index.{Index}
-use Rattle.wb_book.specs.Cells.{Name, Cells, Changes, index_cmp}
+use Rattle.wb_book.specs.Cells.{Name, index_cmp}
 use Rattle.wb_book.specs.Locales.{mapping_in}
 use Rattle.wb_book.specs.WellFormed.{domain_in, array_in}
 use Rattle.wb_elements.specs.Changed.{changed_at}
-use Rattle.wb_shelf.specs.Kept.{Pieced}
+use Rattle.wb_shelf.specs.Groups.{Group}
+use Rattle.wb_shelf.specs.Kept.{Pieced, array_in as kept_in}
 
 -- how a domain lies, by what stored cells answer
 abbrev pub kind_lies : (Cell → Option Value) → Name → Option DomainKind → Option (LayoutMap × ℕ)
@@ -38,24 +37,23 @@ object_lies stored _ = None
 abbrev pub lies_at : (Cell → Option Value) → Name → Option (LayoutMap × ℕ)
 lies_at stored a = object_lies stored (stored (Object a))
 
--- from the elements of an array before the changes these changes of elements lead to those after them
-abbrev pub LeadTo : Changes → Name → List (Index × Option ℤ) → Type 0
-LeadTo delta a xs = (s : Cells) (o : Option ℤ) (i : Index) → option_map Number o ≡ get s (Element a i) → option_map Number (changed_at xs o i) ≡ get (apply delta s) (Element a i)
-
 -- an array that lies so, after the changes of its elements: another one, or the one that was there
-abbrev pub IsAfter : Changes → Name → LayoutMap × ℕ → Pieced → Option Pieced → Type 0
-IsAfter delta a l p None = (p.1 ≡ l) × LeadTo delta a []
-IsAfter delta a l p (Some q) = (q.1 ≡ l) × ((xs : List (Index × Option ℤ)) × LeadTo delta a xs × ((i : Index) → lookup (is_at (index_cmp i)) q.0 ≡ changed_at xs (lookup (is_at (index_cmp i)) p.0) i))
+abbrev pub IsAfter : Group → LayoutMap × ℕ → Pieced → Option Pieced → Type 0
+IsAfter xs l p None = (p.1 ≡ l) × (xs ≡ [])
+IsAfter xs l p (Some q) = (q.1 ≡ l) × ((i : Index) → lookup (is_at (index_cmp i)) q.0 ≡ changed_at xs (lookup (is_at (index_cmp i)) p.0) i)
 
 -- with an array of a name in front, if there is one
 abbrev pub with_array : Name → Option Pieced → List (Name × Pieced) → List (Name × Pieced)
 with_array a None es = es
 with_array a (Some q) es = (a, q) ∷ es
 
--- those of the arrays that are others after the changes, in their order
-abbrev pub AreAfter : Changes → (Name → Option (LayoutMap × ℕ)) → List (Name × Pieced) → List (Name × Pieced) → Type 0
-AreAfter delta lies [] built = built ≡ []
-AreAfter delta lies (x ∷ es) built = (o : Option Pieced) × (ys : List (Name × Pieced)) × (built ≡ with_array x.0 o ys) × ((l : LayoutMap × ℕ) → lies x.0 ≡ Some l → IsAfter delta x.0 l x.1 o) × AreAfter delta lies es ys
+-- those of the arrays that are named and are others after the changes, in their order
+abbrev pub AreAfter : (Name → Option (LayoutMap × ℕ)) → List (Name × Pieced) → List (Name × Group) → List (Name × Pieced) → Type 0
+AreAfter lies arrays [] built = built ≡ []
+AreAfter lies arrays (g ∷ gs) built =
+    (o : Option Pieced) × (ys : List (Name × Pieced)) × (built ≡ with_array g.0 o ys)
+    × ((p : Pieced) (l : LayoutMap × ℕ) → kept_in arrays g.0 ≡ Some p → lies g.0 ≡ Some l → IsAfter g.1 l p o)
+    × AreAfter lies arrays gs ys
 
 -- whether an object is an array
 abbrev pub is_array : Option Value → Bool

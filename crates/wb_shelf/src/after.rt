@@ -1,16 +1,14 @@
 //! What is known of the arrays after changes, before these are made.
 
-ghost use Rattle.std.specs.Prelude.{◌≡◌, ℕ, ◌++◌, ◌∷◌, [], filter, map, List, Some, option_map, IfOk, OnOk, IfSome, Err};
-ghost use Rattle.selective_undo.specs.declared.Change.{Change};
-ghost use Rattle.wb_book.specs.declared.cells.cell.Cell.{Cell as cell_type};
+ghost use Rattle.std.specs.Prelude.{◌≡◌, ℕ, filter, map, Some, option_map, IfOk, Err};
 ghost use Rattle.wb_book.specs.declared.cells.cell.Cell.TheVariants.{Mapping as mapping_cell};
-ghost use Rattle.wb_book.specs.declared.cells.value.Value.{Value as value_type};
-ghost use Rattle.wb_book.specs.declared.cells.value.Value.TheVariants.{Number as number_value};
 ghost use Rattle.wb_dist.specs.Maps.{LayoutMap};
 ghost use Rattle.wb_book.specs.Locales.{mapping_in};
 ghost use Rattle.wb_join.specs.Joined.{answer, stored_in, element_in, is_stored};
-ghost use Rattle.wb_shelf.specs.After.{kind_lies, domain_lies, lies_at, LeadTo, IsAfter, AreAfter};
+ghost use Rattle.wb_shelf.specs.Kept.{Pieced, array_in};
+ghost use Rattle.wb_shelf.specs.After.{kind_lies, domain_lies, lies_at, IsAfter, AreAfter};
 
+use crate::groups::Group;
 use crate::keep;
 use std::alloc::{AllocError, Global};
 use std::collections::BTreeMap;
@@ -117,72 +115,18 @@ pub(crate) fn values_before(
         .collect(alloc)
 }
 
-/// The changes of the elements of an array among these; `NoMemory` also where one is set to what is no number.
-pub(crate) fn changes_of(
-    alloc: Global,
-    delta: &[CellChange],
-    array: &Name,
-) -> Result<Vec<(AnyIndex, Option<i64>)>, NoMemory>
-    ensures { IfOk result (λ v. LeadTo delta.now array.now v.items) }
-{
-    let mut changes = Vec::new(alloc);
-    for change in delta {
-        add_change(&mut changes, change, array)?;
-    }
-    Ok(changes)
-}
-
-fn add_change(
-    changes: &mut Vec<(AnyIndex, Option<i64>)>,
-    change: &CellChange,
-    array: &Name,
-) -> Result<(), NoMemory>
-    ensures { (before : List (Change cell_type value_type)) → LeadTo before array.now changes.old.items → OnOk result (LeadTo (before ++ change.now ∷ []) array.now changes.new.items) }
-{
-    match change.cell() {
-        Cell::Element(name, index) => {
-            if name != *array {
-                return Ok(());
-            }
-            match number_of(change.value()) {
-                Some(number) => match changes.push((index, number)) {
-                    Ok(()) => Ok(()),
-                    Err(_) => Err(NoMemory),
-                },
-                None => Err(NoMemory),
-            }
-        }
-        _ => Ok(()),
-    }
-}
-
-// The number that a change of an element sets, or that it clears the element; `None` for another value.
-fn number_of(value: Option<Value>) -> Option<Option<i64>>
-    ensures { IfSome result (λ v. option_map number_value v ≡ value) }
-{
-    match value {
-        Some(Value::Number(number)) => Some(Some(number)),
-        None => Some(None),
-        _ => None,
-    }
-}
-
-/// The elements of an array after changes, by how it lies then; `None` where they are as they were.
+/// The elements of an array after changes of them, by how it lies then; `None` where they are as they were.
 pub(crate) fn after_one<V: Mover>(
     alloc: Global,
-    delta: &[CellChange],
-    array: &Name,
+    changes: &[(AnyIndex, Option<i64>)],
     elements: &Elements,
     lies: &(AnyLayout, u8),
     mover: &V,
 ) -> Result<Option<Elements>, MoveErr>
-    ensures after { IfOk result (IsAfter delta.now array.now lies.now elements.now) }
+    ensures after { IfOk result (IsAfter changes.now lies.now elements.now) }
     ensures no_thread { result ≡ Err MoveErr.NoThread → V.may_lack_threads mover.now }
 {
     let (to, rank) = *lies;
-    let Ok(changes) = changes_of(alloc, delta, array) else {
-        return Err(MoveErr::NoMemory);
-    };
     if changes.is_empty() {
         if elements.lies_by(&to, rank) {
             return Ok(None);
@@ -195,44 +139,47 @@ pub(crate) fn after_one<V: Mover>(
     let Ok(pairs) = elements.pairs(alloc) else {
         return Err(MoveErr::NoMemory);
     };
-    match Elements::made(alloc, pairs.as_slice(), changes.as_slice(), &to, rank) {
+    match Elements::made(alloc, pairs.as_slice(), changes, &to, rank) {
         Ok(fresh) => Ok(Some(fresh)),
         Err(_) => Err(MoveErr::NoMemory),
     }
 }
 
-// An array after changes, as `after_one`, by how it lies by the stored cells.
-fn after_lying<V: Mover>(
+// The array of a name after changes of its elements, as `after_one`, by how it lies by the stored cells.
+fn after_named<V: Mover>(
     alloc: Global,
     cells: &BTreeMap<Cell, Value>,
-    delta: &[CellChange],
-    array: &Name,
-    elements: &Elements,
+    arrays: &BTreeMap<Name, Elements>,
+    name: &Name,
+    changes: &[(AnyIndex, Option<i64>)],
     mover: &V,
 ) -> Result<Option<Elements>, MoveErr>
-    ensures after { IfOk result (λ o. (l : LayoutMap × ℕ) → lies_at (stored_in cells.now.entries) array.now ≡ Some l → IsAfter delta.now array.now l elements.now o) }
+    ensures after { IfOk result (λ o. (p : Pieced) (l : LayoutMap × ℕ) → array_in arrays.now.entries name.now ≡ Some p → lies_at (stored_in cells.now.entries) name.now ≡ Some l → IsAfter changes.now l p o) }
     ensures no_thread { result ≡ Err MoveErr.NoThread → V.may_lack_threads mover.now }
 {
-    match lies(cells, array) {
-        Some(lies) => after_one(alloc, delta, array, elements, &lies, mover),
+    match arrays.get(name) {
+        Some(elements) => match lies(cells, name) {
+            Some(lies) => after_one(alloc, changes, elements, &lies, mover),
+            None => Ok(None),
+        },
         None => Ok(None),
     }
 }
 
-/// The arrays that are others after changes, in the order of their names.
+/// The arrays that are named and are others after changes, in the order of their names.
 pub(crate) fn built<V: Mover>(
     alloc: Global,
     cells: &BTreeMap<Cell, Value>,
     arrays: &BTreeMap<Name, Elements>,
-    delta: &[CellChange],
+    groups: &BTreeMap<Name, Group>,
     mover: &V,
 ) -> Result<Vec<(Name, Elements)>, MoveErr>
-    ensures built { IfOk result (λ v. AreAfter delta.now (lies_at (stored_in cells.now.entries)) arrays.now.entries v.items) }
+    ensures built { IfOk result (λ v. AreAfter (lies_at (stored_in cells.now.entries)) arrays.now.entries groups.now.entries v.items) }
     ensures no_thread { result ≡ Err MoveErr.NoThread → V.may_lack_threads mover.now }
 {
     let mut built = Vec::new(alloc);
-    for (name, elements) in arrays {
-        let fresh = after_lying(alloc, cells, delta, name, elements, mover)?;
+    for (name, group) in groups {
+        let fresh = after_named(alloc, cells, arrays, name, group.changes(), mover)?;
         match fresh {
             Some(fresh) => {
                 if built.push((*name, fresh)).is_err() {

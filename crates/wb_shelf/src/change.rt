@@ -18,10 +18,11 @@ ghost use Rattle.wb_shelf.specs.Kept.{Pieced, array_in};
 ghost use Rattle.wb_shelf.specs.Moved.{put_over};
 ghost use Rattle.wb_shelf.specs.Shelf.{cells_of, IsShelf};
 
-use crate::{after, moving, store};
+use crate::groups::Group;
+use crate::{after, groups, keep, moving};
 use std::alloc::Global;
 use std::collections::BTreeMap;
-use wb_book::{AnyIndex, AnyLayout, Cell, CellChange, Name, Value};
+use wb_book::{AnyIndex, AnyLayout, Cell, CellChange, Name, Value, store};
 use wb_elements::Elements;
 use wb_range::NoMemory;
 use wb_redist::{MoveErr, Mover};
@@ -149,7 +150,7 @@ fn prepared<V: Mover>(
     alloc: Global,
     cells: &mut BTreeMap<Cell, Value>,
     arrays: &mut BTreeMap<Name, Elements>,
-    delta: &[CellChange],
+    groups: &BTreeMap<Name, Group>,
     stored: &[CellChange],
     mover: &V,
 ) -> Result<Vec<(Name, Elements)>, MoveErr>
@@ -160,8 +161,7 @@ fn prepared<V: Mover>(
     ensures elements { (b : List ℕ) (i : Index) → element_in arrays.new.entries b i ≡ element_in arrays.old.entries b i }
     ensures set { OnOk result (state_of cells.new ≡ apply (sets stored.now) (state_of cells.old)) }
     ensures there { OnOk result ((b : List ℕ) → changes cell_cmp stored.now (Object b) ≡ true → is_array (stored_in cells.new.entries (Object b)) ≡ true → IsSome (array_in arrays.new.entries b)) }
-    ensures built { IfOk result (λ v. AreAfter delta.now (lies_at (stored_in cells.new.entries)) arrays.new.entries v.items) }
-    ensures ascending { OnOk result (IsStrictlySortedBy (slice_cmp nat_cmp) (keys_of arrays.new.entries)) }
+    ensures built { IfOk result (λ v. AreAfter (lies_at (stored_in cells.new.entries)) arrays.new.entries groups.now.entries v.items) }
     ensures no_thread { result ≡ Err MoveErr.NoThread → V.may_lack_threads mover.now }
 {
     if store::set_present(cells, stored).is_err() {
@@ -170,8 +170,7 @@ fn prepared<V: Mover>(
     if put_new(alloc, cells, arrays, stored).is_err() {
         return Err(MoveErr::NoMemory);
     }
-    let _ = arrays.len();
-    after::built(alloc, cells, arrays, delta, mover)
+    after::built(alloc, cells, arrays, groups, mover)
 }
 
 /// What can't fail of changes: clears the stored cells that they give no value, puts the arrays in that are others, and
@@ -213,7 +212,8 @@ fn take_back(
     let _ = cells.len();
 }
 
-/// Makes all the changes, or none where the mover refuses or no memory is left.
+/// Makes all the changes, or none where the mover refuses or no memory is left. Where they do no more than set elements
+/// that are there, it takes no memory.
 pub(crate) fn change_all<V: Mover>(
     alloc: Global,
     cells: &mut BTreeMap<Cell, Value>,
@@ -229,6 +229,10 @@ pub(crate) fn change_all<V: Mover>(
     ensures shelf { IsShelf cells.new arrays.new }
     ensures no_thread { result ≡ Err MoveErr.NoThread → V.may_lack_threads mover.now }
 {
+    if keep::are_set(arrays, delta) {
+        keep::set_all(arrays, delta);
+        return Ok(());
+    }
     let Ok(stored) = after::stored_changes(alloc, delta) else {
         return Err(MoveErr::NoMemory);
     };
@@ -237,7 +241,10 @@ pub(crate) fn change_all<V: Mover>(
         return Err(MoveErr::NoMemory);
     };
     let back = before.as_slice();
-    match prepared(alloc, cells, arrays, delta, changed, mover) {
+    let Ok(groups) = groups::concerned(alloc, cells, arrays, delta) else {
+        return Err(MoveErr::NoMemory);
+    };
+    match prepared(alloc, cells, arrays, &groups, changed, mover) {
         Ok(built) => {
             finish(cells, arrays, changed, built);
             Ok(())

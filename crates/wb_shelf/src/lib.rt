@@ -3,10 +3,10 @@
 
 mod after;
 mod change;
+mod groups;
 mod keep;
 mod looks;
 mod moving;
 mod shelf;
-mod store;
 
 pub use crate::shelf::Shelf;

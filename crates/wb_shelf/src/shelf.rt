@@ -1,21 +1,19 @@
-ghost use Rattle.std.specs.Prelude.{◌≡◌, ℕ, ℤ, IsSome, IfOk, IfErr, OnOk, OnErr, Err};
-ghost use Rattle.std.specs.List.{Contains};
-ghost use Rattle.selective_undo.specs.Changes.{apply, put, inverse, AllOnce};
+ghost use Rattle.std.specs.Prelude.{◌≡◌, IfOk, IfErr, OnOk, OnErr, Err};
+ghost use Rattle.selective_undo.specs.Changes.{apply, inverse, AllOnce};
 ghost use Rattle.wb_book.specs.Cells.{cell_cmp, written_more, count_of};
-ghost use Rattle.wb_book.specs.declared.values.index.Index.{Index};
-ghost use Rattle.wb_book.specs.declared.cells.cell.Cell.TheVariants.{Element};
 ghost use Rattle.wb_book.specs.Readers.{elements, seen};
 ghost use Rattle.wb_book.specs.WellFormed.{IsWellFormed};
-ghost use Rattle.wb_shelf.specs.Kept.{element_changes};
-ghost use Rattle.wb_shelf.specs.Moved.{mapping_change};
 ghost use Rattle.std.specs.FinMap as map;
 
-use crate::{after, change, keep, looks, moving};
+mod parts;
+mod readers;
+
+use crate::{after, change, keep, looks};
 use std::alloc::Global;
 use std::collections::BTreeMap;
 use std::marker::Model;
 use std::mem;
-use wb_book::{AnyIndex, AnyLayout, Cell, CellChange, Delta, Inverse, Name, Pattern, Value};
+use wb_book::{AnyIndex, Cell, CellChange, Delta, Inverse, Name, Pattern, Value, counted};
 use wb_elements::Elements;
 use wb_range::NoMemory;
 use wb_redist::{MoveErr, Mover};
@@ -76,9 +74,9 @@ impl Shelf {
                 let cell = cell.cell();
                 looks::one_cell(alloc, cell, keep::look(&self.cells, &self.arrays, &cell))
             }
-            Pattern::Objects => looks::stored(alloc, &self.cells, pattern),
-            Pattern::Members(_) => looks::stored(alloc, &self.cells, pattern),
-            Pattern::Uses(_) => looks::stored(alloc, &self.cells, pattern),
+            Pattern::Objects => wb_book::seen(alloc, &self.cells, pattern),
+            Pattern::Members(_) => wb_book::seen(alloc, &self.cells, pattern),
+            Pattern::Uses(_) => wb_book::seen(alloc, &self.cells, pattern),
         }
     }
 
@@ -89,38 +87,6 @@ impl Shelf {
     {
         let _ = &self.cells;
         looks::elements(self.alloc, &self.arrays, name)
-    }
-
-    /// Replaces elements of an array at indices that it has.
-    pub fn set_elements(&mut self, array: &Name, pairs: &[(AnyIndex, i64)])
-        requires there { (p : Index × ℤ) → Contains pairs.now p → IsSome (map.get self.old.cells (Element array.now p.0)) }
-        requires formed { IsWellFormed (apply (element_changes array.now pairs.now) self.old.cells) }
-        ensures cells { self.new.cells ≡ apply (element_changes array.now pairs.now) self.old.cells }
-        ensures writes { self.new.writes ≡ self.old.writes }
-    {
-        let _ = &self.cells;
-        keep::set_elements(&mut self.arrays, array, pairs);
-    }
-
-    /// Sets the mapping of a rectangular domain and moves the arrays that lie by it, or changes nothing where the mover
-    /// refuses.
-    pub fn remap<V: Mover>(
-        &mut self,
-        domain: &Name,
-        to: &AnyLayout,
-        mover: &V,
-    ) -> Result<(), MoveErr>
-        requires { IsWellFormed (put (mapping_change domain.now to.now) self.old.cells) }
-        ensures cells { OnOk result (self.new.cells ≡ put (mapping_change domain.now to.now) self.old.cells) }
-        ensures err { OnErr result (self.new ≡ self.old) }
-    {
-        let moved = match moving::moved(self.alloc, &self.cells, &self.arrays, domain, to, mover) {
-            Ok(moved) => moved,
-            Err(why) => return Err(why),
-        };
-        moving::set_mapping(&mut self.cells, domain, to);
-        moving::put_in(&mut self.arrays, moved);
-        Ok(())
     }
 
     // Makes the changes, or none where the mover refuses or no memory is left.
@@ -139,13 +105,9 @@ impl Shelf {
     }
 
     /// Makes the changes, or none where the mover refuses or no memory is left, and gives what takes them back.
-    pub fn apply<V: Mover>(
-        &mut self,
-        delta: Delta,
-        mover: &V,
-    ) -> Result<Vec<CellChange>, (Delta, MoveErr)>
+    pub fn apply<V: Mover>(&mut self, delta: Delta, mover: &V) -> Result<Inverse, (Delta, MoveErr)>
         requires { IsWellFormed (apply delta self.old.cells) }
-        ensures inverse { IfOk result (λ i. i.items ≡ inverse delta self.old.cells) }
+        ensures inverse { IfOk result (λ i. i ≡ inverse delta self.old.cells) }
         ensures cells { OnOk result (self.new.cells ≡ apply delta self.old.cells) }
         ensures writes { OnOk result (self.new.writes ≡ written_more self.old.writes (count_of delta)) }
         ensures err { OnErr result (self.new ≡ self.old) }
@@ -163,23 +125,24 @@ impl Shelf {
         match self.change(delta.changes(), mover) {
             Ok(()) => {
                 self.writes = self.writes.saturating_add(delta.count() as u128);
-                Ok(before)
+                Ok(Inverse::new(before))
             }
             Err(why) => Err((delta, why)),
         }
     }
 
-    /// Sets the cells back to what they were, or none where the mover refuses or no memory is left.
-    pub fn revert<V: Mover>(&mut self, inverse: &Inverse, mover: &V) -> Result<(), MoveErr>
-        requires { IsWellFormed (apply inverse.now self.old.cells) }
-        ensures cells { OnOk result (self.new.cells ≡ apply inverse.now self.old.cells) }
-        ensures writes { OnOk result (self.new.writes ≡ written_more self.old.writes (count_of inverse.now)) }
+    /// Sets the cells back to what they were before, each cell once, or none where the mover refuses or no memory is left.
+    pub fn revert<V: Mover>(&mut self, before: &[CellChange], mover: &V) -> Result<(), MoveErr>
+        requires once { AllOnce cell_cmp before.now }
+        requires well_formed { IsWellFormed (apply before.now self.old.cells) }
+        ensures cells { OnOk result (self.new.cells ≡ apply before.now self.old.cells) }
+        ensures writes { OnOk result (self.new.writes ≡ written_more self.old.writes (count_of before.now)) }
         ensures err { OnErr result (self.new ≡ self.old) }
         ensures no_thread { result ≡ Err MoveErr.NoThread → V.may_lack_threads mover.now }
     {
-        match self.change(inverse.before(), mover) {
+        match self.change(before, mover) {
             Ok(()) => {
-                self.writes = self.writes.saturating_add(inverse.count() as u128);
+                self.writes = self.writes.saturating_add(counted(before) as u128);
                 Ok(())
             }
             Err(why) => Err(why),

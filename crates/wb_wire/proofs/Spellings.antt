@@ -9,7 +9,7 @@ use Rattle.wb_book.specs.Names.{is_name, is_letter, is_name_part}
 use Rattle.wb_book.specs.Shapes.{Range}
 use Rattle.wb_book.specs.declared.values.index.Index.{Index}
 use Rattle.wb_book.specs.declared.values.index.Index.TheVariants.{Point, Text}
-use Rattle.wb_history.specs.declared.refusal.Refusal.TheVariants.{BadRequest, BadLiteral}
+use Rattle.wb_log.specs.declared.refusal.Refusal.TheVariants.{BadRequest, BadLiteral}
 use Rattle.wb_literal.specs.Domain.{Domain, rectangle, set, domain_of}
 use Rattle.wb_literal.specs.Mapping.{mapping_of}
 use Rattle.wb_literal.specs.Grammar as grammar

@@ -14,8 +14,8 @@ use Rattle.wb_book.specs.declared.cells.kind.KeyType.{KeyType}
 use Rattle.wb_book.specs.declared.cells.kind.KeyType.TheVariants as types
 use Rattle.wb_edit.specs.declared.operation.Operation.{Operation}
 use Rattle.wb_edit.specs.declared.operation.Operation.TheVariants as operations
-use Rattle.wb_history.specs.declared.refusal.Refusal.{Refusal}
-use Rattle.wb_history.specs.declared.refusal.Refusal.TheVariants.{BadRequest}
+use Rattle.wb_log.specs.declared.refusal.Refusal.{Refusal}
+use Rattle.wb_log.specs.declared.refusal.Refusal.TheVariants.{BadRequest}
 use Rattle.wb_proto.specs.Fields.{◌>>=◌, name_of, integer_of, pair_of, triple_of, tuple_of, index_of, key_type_of, operation_of}
 use Rattle.wb_wire.specs.Table.{Meaning, word, name, integer, number, index, type_word, operation_word}
 use Rattle.wb_wire.specs.Spelled.{IsInteger, IsIndex, Spells, Says}

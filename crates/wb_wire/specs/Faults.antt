@@ -10,8 +10,8 @@ use Rattle.wb_book.specs.declared.values.index.Index.TheVariants.{Point}
 use Rattle.wb_book.specs.declared.cells.kind.KeyType.{KeyType}
 use Rattle.wb_edit.specs.declared.operation.Operation.{Operation}
 use Rattle.wb_edit.specs.declared.refusal.Refusal.TheVariants as edits
-use Rattle.wb_history.specs.declared.refusal.Refusal.{Refusal}
-use Rattle.wb_history.specs.declared.refusal.Refusal.TheVariants.{BadRequest, BadLiteral, Refused}
+use Rattle.wb_log.specs.declared.refusal.Refusal.{Refusal}
+use Rattle.wb_log.specs.declared.refusal.Refusal.TheVariants.{BadRequest, BadLiteral, Refused}
 use Rattle.wb_literal.specs.Domain.{Domain}
 use Rattle.wb_literal.specs.Grammar as grammar
 use Rattle.wb_literal.specs.declared.mapping.MappingLiteral.{MappingLiteral}
@@ -85,6 +85,7 @@ forms =
     ∷ (codes "piece", codes "a" ∷ codes "l" ∷ [])
     ∷ (codes "state", codes "k" ∷ [])
     ∷ (codes "print", [])
+    ∷ (codes "history", [])
     ∷ []
 
 -- the members of these keys are there, each once, in any order, and no others

@@ -78,10 +78,7 @@ impl Book {
     pub fn seen(&self, alloc: Global, pattern: &Pattern) -> Result<Vec<(Cell, Value)>, NoMemory>
         ensures { IfOk result (λ v. v.items ≡ seen self.now.cells pattern.now) }
     {
-        match families::seen(alloc, &self.cells, pattern) {
-            Ok(shown) => Ok(shown),
-            Err(_) => Err(NoMemory),
-        }
+        families::seen(alloc, &self.cells, pattern)
     }
 
     /// How many objects there are: domains and arrays.

@@ -2,16 +2,15 @@
 
 ghost use Rattle.std.specs.Prelude.{◌≡◌, length, slice_get, IfOk};
 ghost use Rattle.wb_book.specs.Cells.{matches, state_of};
-ghost use Rattle.wb_book.specs.Families.{Begins};
+ghost use Rattle.wb_book.specs.Families.{Begins, AreNamed};
 ghost use Rattle.wb_book.specs.Readers.{seen, member_in, members, element_in, elements};
-ghost use Rattle.wb_book.specs.WellFormed.{IsWellFormed};
 
 use crate::cells::cell::Cell;
 use crate::cells::pattern::Pattern;
 use crate::cells::value::Value;
 use crate::values::index::AnyIndex;
 use crate::values::name::Name;
-use std::alloc::{AllocError, Global};
+use std::alloc::Global;
 use std::collections::BTreeMap;
 use wb_range::NoMemory;
 
@@ -29,19 +28,23 @@ pub(crate) fn first(pattern: &Pattern) -> Cell
 }
 
 /// The cells that the pattern names and that are there, with their values, in their order.
-pub(crate) fn seen(
+pub fn seen(
     alloc: Global,
     cells: &BTreeMap<Cell, Value>,
     pattern: &Pattern,
-) -> Result<Vec<(Cell, Value)>, AllocError>
-    requires { IsWellFormed (state_of cells.now) }
+) -> Result<Vec<(Cell, Value)>, NoMemory>
+    requires { AreNamed (state_of cells.now) }
     ensures { IfOk result (λ v. v.items ≡ seen (state_of cells.now) pattern.now) }
 {
-    cells
+    let found = cells
         .range(first(pattern)..)
         .take_while(|x| pattern.matches(*x.0))
         .map(|x| (*x.0, *x.1))
-        .collect(alloc)
+        .collect(alloc);
+    match found {
+        Ok(shown) => Ok(shown),
+        Err(_) => Err(NoMemory),
+    }
 }
 
 /// How many members a sparse or associative domain has.

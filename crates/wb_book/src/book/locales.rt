@@ -3,10 +3,10 @@
 ghost use Rattle.std.specs.Prelude.{◌≡◌};
 ghost use Rattle.std.specs.FinMap as map;
 ghost use Rattle.wb_book.specs.Cells.{state_of};
-ghost use Rattle.wb_book.specs.Locales.{mapping_in, locale_by, has_index, locale_at, locale_count_at};
+ghost use Rattle.wb_book.specs.Locales.{mapping_in, locale_by, is_held, locale_held, locale_count_at};
 ghost use Rattle.wb_book.specs.declared.cells.cell.Cell.TheVariants.{Mapping};
 
-use crate::book::readers::domain_at;
+use crate::book::readers::{domain_at, ranges_at};
 use crate::book::store::look;
 use crate::cells::cell::Cell;
 use crate::cells::kind::{AnyDomain, DomainKind};
@@ -31,38 +31,33 @@ fn mapping_at(cells: &BTreeMap<Cell, Value>, domain: Name) -> Option<AnyLayout>
 }
 
 /// The locale of an index by the mapping of a rectangular domain, whether the domain has the index or not.
-pub(crate) fn locale_by(
-    cells: &BTreeMap<Cell, Value>,
-    domain: Name,
-    index: &AnyIndex,
-) -> Option<usize>
+pub fn locale_by(cells: &BTreeMap<Cell, Value>, domain: Name, index: &AnyIndex) -> Option<usize>
     ensures { result ≡ locale_by (state_of cells.now) domain index.now }
 {
     let mapping = mapping_at(cells, domain)?;
     mapping.locale_of(index)
 }
 
-fn has_index(
-    cells: &BTreeMap<Cell, Value>,
-    domain: Name,
-    index: &AnyIndex,
-    kind: &AnyDomain,
-) -> bool
-    ensures { result ≡ has_index (state_of cells.now) domain index.now kind.now }
+// Whether a domain of a kind has an index: by its ranges if it is rectangular, by its members if not.
+fn is_held(cells: &BTreeMap<Cell, Value>, domain: Name, index: &AnyIndex, kind: &AnyDomain) -> bool
+    ensures { result ≡ is_held (state_of cells.now) domain index.now kind.now }
 {
-    look(cells, kind.kind().index_cell(domain, *index)).is_some()
+    match kind.domain_kind() {
+        DomainKind::Rectangular(_) => match ranges_at(cells, domain) {
+            Some(rect) => rect.contains(index),
+            None => false,
+        },
+        DomainKind::Sparse(_, _) => look(cells, Cell::Member(domain, *index)).is_some(),
+        DomainKind::Associative(_) => look(cells, Cell::Member(domain, *index)).is_some(),
+    }
 }
 
-/// The locale of an index of a domain.
-pub(crate) fn locale_at(
-    cells: &BTreeMap<Cell, Value>,
-    domain: Name,
-    index: &AnyIndex,
-) -> Option<usize>
-    ensures { result ≡ locale_at (state_of cells.now) domain index.now }
+/// The locale of an index of a domain, which has it by its ranges or its members: no cell `In` is looked at.
+pub fn locale_at(cells: &BTreeMap<Cell, Value>, domain: Name, index: &AnyIndex) -> Option<usize>
+    ensures { result ≡ locale_held (state_of cells.now) domain index.now }
 {
     let kind = domain_at(cells, domain)?;
-    if !has_index(cells, domain, index, &kind) {
+    if !is_held(cells, domain, index, &kind) {
         return None;
     }
     match kind.domain_kind() {
@@ -73,7 +68,7 @@ pub(crate) fn locale_at(
 }
 
 /// How many locales the mapping of the domain of a name has.
-pub(crate) fn locale_count_at(cells: &BTreeMap<Cell, Value>, domain: Name) -> Option<usize>
+pub fn locale_count_at(cells: &BTreeMap<Cell, Value>, domain: Name) -> Option<usize>
     ensures { result ≡ locale_count_at (state_of cells.now) domain }
 {
     let mapping = mapping_at(cells, domain)?;

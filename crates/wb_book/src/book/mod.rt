@@ -4,6 +4,6 @@ mod contents;
 pub(crate) mod families;
 pub(crate) mod locales;
 pub(crate) mod readers;
-pub(crate) mod store;
+pub mod store;
 
 pub use crate::book::contents::Book;

@@ -3,8 +3,9 @@
 ghost use Rattle.std.specs.Prelude.{◌≡◌, is_some, length, slice_get};
 ghost use Rattle.std.specs.FinMap as map;
 ghost use Rattle.wb_book.specs.Cells.{state_of};
+ghost use Rattle.wb_book.specs.Families.{AreNamed};
 ghost use Rattle.wb_book.specs.Readers.{object_of, objects, user_of, users, size_at, index_at};
-ghost use Rattle.wb_book.specs.WellFormed.{IsWellFormed, domain_at, ranges_in};
+ghost use Rattle.wb_book.specs.WellFormed.{domain_at, ranges_in};
 ghost use Rattle.wb_book.specs.declared.cells.cell.Cell.TheVariants.{Shape};
 
 use crate::book::families::{first, member_at, member_count};
@@ -57,22 +58,22 @@ fn is_object(cell: &Cell) -> bool
 }
 
 /// How many objects there are. They stand in front of all other cells.
-pub(crate) fn object_count(cells: &BTreeMap<Cell, Value>) -> usize
+pub fn object_count(cells: &BTreeMap<Cell, Value>) -> usize
     ensures { result ≡ length (objects (state_of cells.now)) }
 {
     cells.keys().take_while(|c| is_object(c)).count()
 }
 
 /// The object at place `p`, ascending.
-pub(crate) fn object_at(cells: &BTreeMap<Cell, Value>, p: usize) -> Option<Name>
+pub fn object_at(cells: &BTreeMap<Cell, Value>, p: usize) -> Option<Name>
     ensures { result ≡ slice_get (objects (state_of cells.now)) p }
 {
     object_of(cells.keys().nth(p)?)
 }
 
 /// The user of a domain at place `p`, ascending. The users stand together.
-pub(crate) fn user_at(cells: &BTreeMap<Cell, Value>, domain: Name, p: usize) -> Option<Name>
-    requires { IsWellFormed (state_of cells.now) }
+pub fn user_at(cells: &BTreeMap<Cell, Value>, domain: Name, p: usize) -> Option<Name>
+    requires { AreNamed (state_of cells.now) }
     ensures { result ≡ slice_get (users (state_of cells.now) domain) p }
 {
     let (cell, _) = cells.range(first(&Pattern::Uses(domain))..).nth(p)?;
@@ -94,7 +95,8 @@ pub(crate) fn domain_at(cells: &BTreeMap<Cell, Value>, domain: Name) -> Option<A
     }
 }
 
-fn ranges_at(cells: &BTreeMap<Cell, Value>, domain: Name) -> Option<AnyRect>
+/// The ranges of a rectangular domain.
+pub(crate) fn ranges_at(cells: &BTreeMap<Cell, Value>, domain: Name) -> Option<AnyRect>
     ensures { result ≡ ranges_in (map.get (state_of cells.now) (Shape domain)) }
 {
     match look(cells, Cell::Shape(domain))? {
@@ -109,7 +111,7 @@ fn ranges_at(cells: &BTreeMap<Cell, Value>, domain: Name) -> Option<AnyRect>
 }
 
 /// How many indices a domain has.
-pub(crate) fn size_at(cells: &BTreeMap<Cell, Value>, domain: Name) -> Option<usize>
+pub fn size_at(cells: &BTreeMap<Cell, Value>, domain: Name) -> Option<usize>
     ensures { result ≡ size_at (state_of cells.now) domain }
 {
     let kind = domain_at(cells, domain)?;
@@ -121,7 +123,7 @@ pub(crate) fn size_at(cells: &BTreeMap<Cell, Value>, domain: Name) -> Option<usi
 }
 
 /// The index of a domain at place `p`, in the domain's order.
-pub(crate) fn index_at(cells: &BTreeMap<Cell, Value>, domain: Name, p: usize) -> Option<AnyIndex>
+pub fn index_at(cells: &BTreeMap<Cell, Value>, domain: Name, p: usize) -> Option<AnyIndex>
     ensures { result ≡ index_at (state_of cells.now) domain p }
 {
     let kind = domain_at(cells, domain)?;

@@ -1,3 +1,5 @@
+//! Changes of a map of cells.
+
 ghost use Rattle.std.specs.Prelude.{◌≡◌, ℕ, ◌+◌, List, [], ◌∷◌, Some, None, false, IfOk, OnOk, OnErr, IsSome, length};
 ghost use Rattle.std.specs.FinMap as map;
 ghost use Rattle.std.specs.Ordering.{eq_by_cmp};
@@ -35,7 +37,7 @@ fn clear_cell(cells: &mut BTreeMap<Cell, Value>, cell: Cell)
 }
 
 /// The changes that set the cells to what they are now.
-fn values_before(
+pub fn values_before(
     alloc: Global,
     cells: &BTreeMap<Cell, Value>,
     delta: &[CellChange],
@@ -60,7 +62,7 @@ fn set_one(cells: &mut BTreeMap<Cell, Value>, change: &CellChange) -> Result<(),
 }
 
 /// Sets the cells that the changes give a value. It may stop midway.
-fn set_present(cells: &mut BTreeMap<Cell, Value>, delta: &[CellChange]) -> Result<(), NoMemory>
+pub fn set_present(cells: &mut BTreeMap<Cell, Value>, delta: &[CellChange]) -> Result<(), NoMemory>
     ensures ok { OnOk result (state_of cells.new ≡ apply (sets delta.now) (state_of cells.old)) }
     ensures others { (c : Cell) → changes cell_cmp delta.now c ≡ false → map.get (state_of cells.new) c ≡ map.get (state_of cells.old) c }
     ensures stays { (c : Cell) → IsSome (map.get (state_of cells.old) c) → IsSome (map.get (state_of cells.new) c) }
@@ -72,7 +74,7 @@ fn set_present(cells: &mut BTreeMap<Cell, Value>, delta: &[CellChange]) -> Resul
 }
 
 /// Clears the cells that the changes give no value.
-fn clear_absent(cells: &mut BTreeMap<Cell, Value>, delta: &[CellChange])
+pub fn clear_absent(cells: &mut BTreeMap<Cell, Value>, delta: &[CellChange])
     ensures { state_of cells.new ≡ apply (clears delta.now) (state_of cells.old) }
 {
     for x in delta {
@@ -104,7 +106,7 @@ fn put_back_one(cells: &mut BTreeMap<Cell, Value>, change: &CellChange)
 }
 
 /// Makes changes for which there is room, which takes no memory.
-fn put_back(cells: &mut BTreeMap<Cell, Value>, before: &[CellChange])
+pub fn put_back(cells: &mut BTreeMap<Cell, Value>, before: &[CellChange])
     requires once { AllOnce cell_cmp before.now }
     requires room { HasRoom before.now (state_of cells.old) }
     ensures { state_of cells.new ≡ apply before.now (state_of cells.old) }

@@ -72,7 +72,7 @@ fn counted_one(change: &CellChange) -> usize
 }
 
 /// How many of the changes are to other cells than `In`.
-pub(crate) fn counted(changes: &[CellChange]) -> usize
+pub fn counted(changes: &[CellChange]) -> usize
     ensures { result ≡ count_of changes.now }
 {
     let mut count = 0;

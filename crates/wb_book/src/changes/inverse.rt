@@ -27,7 +27,8 @@ impl Model for Inverse {
 }
 
 impl Inverse {
-    pub(crate) fn new(before: Vec<CellChange>) -> Inverse
+    /// What the cells were, each cell once.
+    pub fn new(before: Vec<CellChange>) -> Inverse
         requires { AllOnce cell_cmp before.items }
         ensures { result ≡ before.items }
     {

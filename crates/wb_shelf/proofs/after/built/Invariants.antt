@@ -6,4 +6,6 @@ use Rattle.wb_shelf.specs.Kept.{Pieced}
 use Rattle.wb_shelf.proofs.after.built.Given as goal
 
 abbrev pub invariant-loop-name : goal.invariant-loop-name
-invariant-loop-name g l = (ys : List (Name × Pieced)) → AreAfter l.delta (lies_at (stored_in l.cells.entries)) l.name-iterator ys → AreAfter l.delta (lies_at (stored_in l.cells.entries)) l.arrays.entries (l.built.items ++ ys)
+invariant-loop-name g l =
+    (ys : List (Name × Pieced)) → AreAfter (lies_at (stored_in l.cells.entries)) l.arrays.entries l.name-iterator ys →
+    AreAfter (lies_at (stored_in l.cells.entries)) l.arrays.entries l.groups.entries (l.built.items ++ ys)

@@ -1,4 +1,4 @@
-use Rattle.std.proofs.Common.{◌≡◌, ◌&&◌, not, None, Option, cond, ap, ◌∙◌}
+use Rattle.std.proofs.Common.{◌&&◌, not, None, Option, cond, ap, ◌∙◌}
 use Rattle.selective_undo.specs.Changes.{changes}
 use Rattle.wb_book.specs.declared.cells.cell.Cell.TheVariants.{Object}
 use Rattle.wb_book.specs.Cells.{cell_cmp}
@@ -10,4 +10,5 @@ use Rattle.wb_shelf.proofs.change.finish.Goals as goal
 pub returns-clause-arrays : goal.returns-clause-arrays
 returns-clause-arrays c = λ b.
     c.drop_gone.ensures.arrays b
-    ∙ ap (λ (o : Option Pieced). cond (changes cell_cmp c.args.stored.now (Object b) && not (is_array (stored_in c.clear_absent.new.cells.entries (Object b)))) None o) (c.put_in.ensures.arrays b)
+    ∙ ap (λ (o : Option Pieced). cond (changes cell_cmp c.args.stored.now (Object b) && not
+    (is_array (stored_in c.clear_absent.new.cells.entries (Object b)))) None o) (c.put_in.ensures.arrays b)

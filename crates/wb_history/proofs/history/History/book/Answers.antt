@@ -1,7 +1,7 @@
 use Rattle.std.proofs.Common.{ap, ◌∙◌, subst}
 use Rattle.selective_undo.specs.History.{replay, IsLegal}
-use Rattle.wb_history.specs.Past.{meant}
-use Rattle.wb_history.proofs.Entries.{history-log}
+use Rattle.wb_log.specs.Past.{meant}
+use Rattle.wb_log.proofs.Entries.{history-log}
 use Rattle.wb_history.proofs.history.History.book.Goals as goal
 
 pub returns-clause-cells : goal.returns-clause-cells

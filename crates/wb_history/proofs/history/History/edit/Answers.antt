@@ -1,5 +1,9 @@
-use Rattle.wb_history.proofs.Valid.{keeps_valid_more}
-use Rattle.wb_history.proofs.Entered.{still_indexed}
+use Rattle.std.proofs.Common.{subst}
+use Rattle.wb_edit.specs.Commands.{meaning}
+use Rattle.wb_log.specs.Past.{meant}
+use Rattle.wb_log.specs.Replies.{EditReply}
+use Rattle.wb_log.proofs.Valid.{keeps_valid_more}
+use Rattle.wb_log.proofs.Entered.{still_indexed}
 use Rattle.wb_history.proofs.history.History.edit.Goals as goal
 
 pub invariant_of-self : goal.invariant_of-self
@@ -8,3 +12,6 @@ invariant_of-self c = record {
   indexed = still_indexed c.self.inside.index c.self.inside.entries.items c.add.new.entries.items c.add.result c.self.invariant.indexed c.add.ensures.appended c.add.ensures.entries_stay;
   valid = keeps_valid_more c.self.inside.entries.items c.add.new.entries.items c.args.edit c.add.result c.self.invariant.valid c.validity.ensures c.add.ensures.entries c.add.ensures.entries_stay;
 }
+
+pub returns-clause-reply : goal.returns-clause-reply
+returns-clause-reply c = subst (λ p. EditReply (meant p.entries) (meaning c.args.edit) c.add.result) c.self.view_is c.add.ensures.reply

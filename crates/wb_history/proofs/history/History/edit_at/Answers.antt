@@ -1,7 +1,7 @@
 use Rattle.std.proofs.Common.{◌<◌, ◌-◌, suc, ◌≡◌, arith, ap, ◌∙◌, Some, slice_index_or, is_some, length}
 use Rattle.std.proofs.lemmas.Option.{slice_get-get_or}
 use Rattle.wb_history.specs.Restored.{one_of, numbered_at}
-use Rattle.wb_history.specs.Kept.{numbers}
+use Rattle.wb_log.specs.Kept.{numbers}
 use Rattle.wb_history.proofs.Restored.{entry_of_number}
 use Rattle.wb_history.proofs.history.History.edit_at.Goals as goal
 

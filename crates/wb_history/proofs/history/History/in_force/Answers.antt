@@ -1,7 +1,7 @@
 use Rattle.std.proofs.Common.{◌<◌, ◌-◌, arith, ap, ◌∙◌, Some, slice_index_or, is_some, length}
 use Rattle.std.proofs.lemmas.Option.{slice_get-get_or}
-use Rattle.wb_history.specs.Past.{force_of}
-use Rattle.wb_history.proofs.Redone.{force_is}
+use Rattle.wb_log.specs.Past.{force_of}
+use Rattle.wb_log.proofs.Redone.{force_is}
 use Rattle.wb_history.proofs.history.History.in_force.Goals as goal
 
 pub returns : goal.returns

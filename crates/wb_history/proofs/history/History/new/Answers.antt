@@ -1,5 +1,5 @@
 use Rattle.std.proofs.Common.{rules, [], refl}
-use Rattle.wb_history.specs.Kept.{by_number}
+use Rattle.wb_log.specs.Kept.{by_number}
 use Rattle.wb_history.proofs.history.History.new.Goals as goal
 
 pub invariant_of-result : goal.invariant_of-result

@@ -1,12 +1,12 @@
-use Rattle.wb_history.proofs.Valid.{keeps_valid, whole_slice}
-use Rattle.wb_history.specs.Past.{AreValid}
-use Rattle.wb_history.specs.Kept.{numbers}
-use Rattle.wb_history.specs.Indexed.{Keeps}
+use Rattle.wb_log.proofs.Valid.{keeps_valid, whole_slice}
+use Rattle.wb_log.specs.Past.{AreValid}
+use Rattle.wb_log.specs.Kept.{numbers}
+use Rattle.wb_log.specs.Indexed.{Keeps}
 use Rattle.std.proofs.Common.{length, drop, sym, true, ◌<◌, ◌-◌, arith, ◌∙◌, subst}
-use Rattle.wb_history.specs.Past.{meant}
-use Rattle.wb_history.specs.Replies.{RedoReply, ByNumber}
-use Rattle.wb_history.specs.Kept.{entries_meant}
-use Rattle.wb_history.proofs.Redone.{by_number}
+use Rattle.wb_log.specs.Past.{meant}
+use Rattle.wb_log.specs.Replies.{RedoReply, ByNumber}
+use Rattle.wb_log.specs.Kept.{entries_meant}
+use Rattle.wb_log.proofs.Redone.{by_number}
 use Rattle.wb_history.proofs.history.History.redo.Goals as goal
 
 pub returns-clause-reply : goal.returns-clause-reply

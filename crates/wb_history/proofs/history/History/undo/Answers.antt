@@ -1,8 +1,10 @@
-use Rattle.std.proofs.Common.{◌-◌, length, drop, subst, sym, ◌∙◌, false}
-use Rattle.wb_history.proofs.Valid.{keeps_valid, whole_slice}
-use Rattle.wb_history.specs.Past.{AreValid}
-use Rattle.wb_history.specs.Kept.{numbers}
-use Rattle.wb_history.specs.Indexed.{Keeps}
+use Rattle.std.proofs.Common.{◌<◌, ◌-◌, length, drop, subst, sym, ◌∙◌, false, arith}
+use Rattle.wb_log.proofs.Valid.{keeps_valid, whole_slice}
+use Rattle.wb_log.specs.Past.{AreValid, meant}
+use Rattle.wb_log.specs.Replies.{UndoReply, ByNumber}
+use Rattle.wb_log.specs.Kept.{numbers, entries_meant}
+use Rattle.wb_log.proofs.Redone.{by_number}
+use Rattle.wb_log.specs.Indexed.{Keeps}
 use Rattle.wb_history.proofs.history.History.undo.Goals as goal
 
 pub invariant_of-self : goal.invariant_of-self
@@ -16,3 +18,10 @@ invariant_of-self c =
       indexed = c.undo_at.ensures.indexed;
       valid = keeps_valid false (c.args.number - 1) es fs c.undo_at.result valid c.undo_at.ensures.entries c.undo_at.ensures.entries_stay;
     })
+
+pub returns-clause-reply : goal.returns-clause-reply
+returns-clause-reply c =
+    let some : 0 < c.args.number = omega arith in
+    let v = c.deref_mut.ensures.value in
+    subst (λ p. ByNumber (UndoReply (meant p.entries)) c.args.number c.undo_at.result) c.self.view_is
+    (by_number (UndoReply (entries_meant c.self.inside.entries.items)) c.args.number c.undo_at.result some (subst (λ es. UndoReply (entries_meant es) (c.args.number - 1) c.undo_at.result) v c.undo_at.ensures.reply))

@@ -1,8 +1,9 @@
 use Rattle.std.proofs.Common.{length, drop, subst, sym, ◌∙◌}
-use Rattle.wb_history.proofs.Valid.{keeps_valid_last, whole_slice}
-use Rattle.wb_history.specs.Past.{AreValid}
-use Rattle.wb_history.specs.Kept.{numbers}
-use Rattle.wb_history.specs.Indexed.{Keeps}
+use Rattle.wb_log.proofs.Valid.{keeps_valid_last, whole_slice}
+use Rattle.wb_log.specs.Past.{AreValid, meant}
+use Rattle.wb_log.specs.Replies.{LastReply}
+use Rattle.wb_log.specs.Kept.{numbers, entries_meant}
+use Rattle.wb_log.specs.Indexed.{Keeps}
 use Rattle.wb_history.proofs.history.History.undo_last.Goals as goal
 
 pub invariant_of-self : goal.invariant_of-self
@@ -16,3 +17,8 @@ invariant_of-self c =
       indexed = c.undo_latest.ensures.indexed;
       valid = keeps_valid_last es fs c.undo_latest.result valid c.undo_latest.ensures.entries c.undo_latest.ensures.entries_stay;
     })
+
+pub returns-clause-reply : goal.returns-clause-reply
+returns-clause-reply c =
+    subst (λ p. LastReply (meant p.entries) c.undo_latest.result) c.self.view_is
+    (subst (λ es. LastReply (entries_meant es) c.undo_latest.result) c.deref_mut.ensures.value c.undo_latest.ensures.reply)

@@ -1,8 +1,0 @@
-use Rattle.std.proofs.Common.{ap, ◌∙◌}
-use Rattle.wb_history.specs.Kept.{redo_blocker}
-use Rattle.wb_history.proofs.steps.redo.plan_blocker.Goals as goal
-
-pub returns-clause-first : goal.returns-clause-first
-returns-clause-first c =
-    let es = c.args.entries.now in
-    c.first_to_block_redo.ensures.first ∙ ap (λ rs. redo_blocker es c.args.at rs c.changes.result.now) c.reads.ensures ∙ ap (redo_blocker es c.args.at c.args.foot.now) c.changes.ensures.same

@@ -1,5 +1,0 @@
-//! What the history does to its book and its entries: each step keeps that the book is the replay.
-
-pub mod edit;
-pub mod redo;
-pub mod undo;

@@ -1,0 +1,150 @@
+-- A redo over the entries of the code.
+use Rattle.std.proofs.Common.{if◌then◌else◌, ◌≡◌, ℕ, zero, suc, ◌+◌, ◌-◌, ◌<◌, Bool, true, false, List, [], ◌∷◌, map, length, drop, refl, sym, ap, ◌∙◌, subst, Option, Some, None, is_some, option_map, Result, Ok, Err, slice_get, slice_set, arith, add-one}
+use Rattle.std.specs.FinMap.{get}
+use Rattle.std.specs.List.{filter}
+use Rattle.selective_undo.specs.Changes.{apply, inverse}
+use Rattle.selective_undo.specs.Edit.{outcome, reads, written, trace}
+use Rattle.selective_undo.specs.History.{Entry, undone, traces, replay, CanRedo}
+use Rattle.selective_undo.specs.Log.{IsKept, Least, history, foot_of, feet, planned, blocks_redo, first_from, BlocksRedo}
+use Rattle.selective_undo.proofs.Log.{get-map, set-map, kept_redo, redo_can, redo_free, redo_least, first_planned}
+use Rattle.wb_log.proofs.Entries.{history-log, kept-log, log_at}
+use Rattle.wb_book.specs.declared.cells.pattern.Pattern.{Pattern}
+use Rattle.wb_book.specs.Cells.{Cells, Changes, count_of, is_counted}
+use Rattle.wb_edit.specs.Schema.{workbook}
+use Rattle.wb_edit.specs.Commands.{meaning}
+use Rattle.wb_edit.specs.Plans.{IsPlan}
+use Rattle.wb_edit.specs.declared.refusal.Refusal as command_refusal
+use Rattle.wb_edit.specs.declared.planning.PlanErr.{PlanErr}
+use Rattle.wb_edit.specs.declared.planning.PlanErr.TheVariants.{Refused as PlanRefused, NoMemory as PlanNoMemory}
+use Rattle.wb_log.specs.declared.entry.Entry as kept
+use Rattle.wb_log.specs.declared.entry.Kept.{Kept}
+use Rattle.wb_log.specs.declared.refusal.Refusal.{Refusal}
+use Rattle.wb_log.specs.declared.refusal.Refusal.TheVariants.{InForce, Blocked, RefusedInPlace, NoMemory}
+use Rattle.wb_log.specs.Past.{entry_at, into_force, force_of}
+use Rattle.wb_log.specs.Replies.{RedoReply, ByNumber}
+use Rattle.wb_log.specs.Kept.{foot, kept_all, logged, log, Shows, numbered, numbers, entries_meant, redo_blocker, in_place, stopped_refusal, PlansAgain}
+
+abbrev counted : Changes → Changes
+counted xs = filter (λ x. is_counted x.cell) xs
+
+-- as many cells are set back as were set
+count_inverse : (xs : Changes) (s : Cells) → count_of (inverse xs s) ≡ count_of xs
+count_inverse [] s = refl
+count_inverse (x ∷ xs) s =
+    elim (is_counted x.cell) as (λ b. length (if b then record { cell = x.cell; value = get s x.cell } ∷ counted (inverse xs s) else counted (inverse xs s)) ≡ length (if b then x ∷ counted xs else counted xs)) [
+      | true ↦ ap suc (count_inverse xs s)
+      | false ↦ count_inverse xs s
+    ]
+
+in_numbers : (es : List kept.Entry) (k : ℕ) (x : kept.Entry) (q : Kept) → slice_get es k ≡ Some x → numbers (slice_set es k (record { edit = x.edit; kept = Some q })) ≡ into_force k (numbers es)
+in_numbers [] k x q is = refl
+in_numbers (z ∷ es) zero x q is = let h : z ≡ x = cc in ap (λ y. record { edit = y.edit; in_force = true } ∷ numbers es) (sym h)
+in_numbers (z ∷ es) (suc k) x q is = ap (λ ns. numbered z ∷ ns) (in_numbers es k x q is)
+
+module _ (s : Cells) (es : List kept.Entry) (k : ℕ) (x : kept.Entry) (shows : Shows es s) (is : slice_get es k ≡ Some x) where
+  meant_at : slice_get (entries_meant es) k ≡ Some (entry_at x.edit (is_some x.kept))
+  meant_at = get-map (λ y. entry_at y.edit y.in_force) (numbers es) k ∙ ap (option_map (λ y. entry_at y.edit y.in_force)) (get-map numbered es k ∙ ap (option_map numbered) is)
+
+  pub in_force_reply : is_some x.kept ≡ true → RedoReply (entries_meant es) k (Err InForce)
+  in_force_reply on = (meaning x.edit, meant_at ∙ ap (λ b. Some (entry_at x.edit b)) on)
+
+  module _ (off : x.kept ≡ None) where
+    out_at : slice_get (entries_meant es) k ≡ Some (undone (meaning x.edit))
+    out_at = meant_at ∙ ap (λ o. Some (entry_at x.edit (is_some o))) off
+
+    -- memory may run out
+    pub memory_reply : RedoReply (entries_meant es) k (Err NoMemory)
+    memory_reply = (meaning x.edit, out_at)
+
+    log_out : slice_get (log es) k ≡ Some (record { edit = meaning x.edit; kept = None })
+    log_out = log_at es k x is ∙ ap (λ o. Some (record { edit = meaning x.edit; kept = option_map (λ k. foot k.foot k.inverse) o })) off
+
+    -- the first that a plan meets, among the traces
+    first_is : (o : Option ℕ) → redo_blocker es k (reads (meaning x.edit) s) (written (outcome (meaning x.edit) s)) ≡ o
+        → first_from (blocks_redo (foot_of (trace (meaning x.edit) s))) (k + 2) (drop (suc k) (feet (traces (history (log es))))) ≡ o
+    first_is o found =
+        let e = meaning x.edit in
+        let same : feet (traces (history (log es))) ≡ kept_all es = sym shows.feet ∙ kept-log es in
+        let planned_first : first_from (blocks_redo (planned e s)) (k + 2) (drop (suc k) (kept_all es)) ≡ o = rw (← add-one k) found in
+        ap (λ fs. first_from (blocks_redo (foot_of (trace e s))) (k + 2) (drop (suc k) fs)) same ∙ sym (first_planned e s (k + 2) (drop (suc k) (kept_all es))) ∙ planned_first
+
+    pub met_reply : (m : ℕ) → redo_blocker es k (reads (meaning x.edit) s) (written (outcome (meaning x.edit) s)) ≡ Some m → RedoReply (entries_meant es) k (Err (Blocked m))
+    met_reply m found =
+        let least = redo_least (traces (history (log es))) k (k + 2) m (trace (meaning x.edit) s) (first_is (Some m) found) in
+        let P : List (Entry workbook) → Type 0 = λ h. Least (BlocksRedo (traces h) k (trace (meaning x.edit) (replay h))) least.0 in
+        (meaning x.edit, out_at, (least.0, omega (arith, least.1), subst P (history-log es) (subst (λ u. Least (BlocksRedo (traces (history (log es))) k (trace (meaning x.edit) u)) least.0) shows.shown least.2)))
+
+    pub in_place_reply : (why : command_refusal.Refusal) → outcome (meaning x.edit) s ≡ Err why → redo_blocker es k (reads (meaning x.edit) s) (written (outcome (meaning x.edit) s)) ≡ None → RedoReply (entries_meant es) k (Err (RefusedInPlace why))
+    in_place_reply why refused none =
+        let free = redo_free (traces (history (log es))) k (k + 2) (trace (meaning x.edit) s) (first_is None none) in
+        let P : List (Entry workbook) → Type 0 = λ h. (j : ℕ) → BlocksRedo (traces h) k (trace (meaning x.edit) (replay h)) j → ⊥ in (
+          meaning x.edit,
+          out_at,
+          ap (outcome (meaning x.edit)) (sym (shows.shown ∙ ap replay (history-log es))) ∙ refused,
+          subst P (history-log es) (subst (λ u. (j : ℕ) → BlocksRedo (traces (history (log es))) k (trace (meaning x.edit) u) j → ⊥) shows.shown free),
+        )
+
+    pub stopped_reply : (stop : PlanErr) → IsPlan (meaning x.edit) s (Err stop) → RedoReply (entries_meant es) k (Err (stopped_refusal es k stop))
+    stopped_reply PlanNoMemory plan = memory_reply
+    stopped_reply (PlanRefused why rs) plan =
+        let same : redo_blocker es k (reads (meaning x.edit) s) (written (outcome (meaning x.edit) s)) ≡ redo_blocker es k rs [] =
+        ap (λ o. redo_blocker es k (reads (meaning x.edit) s) (written o)) plan.0 ∙ ap (λ ps. redo_blocker es k ps []) (sym plan.1) in
+        elim (redo_blocker es k rs []) as (λ o. redo_blocker es k rs [] ≡ o → RedoReply (entries_meant es) k (Err (in_place o why))) [
+          | Some m ↦ λ found. met_reply m (same ∙ found)
+          | None ↦ λ none. in_place_reply why plan.0 (same ∙ none)
+        ] refl
+
+    pub blocked_plan : (xs : Changes) (rs : List Pattern) (m : ℕ) → outcome (meaning x.edit) s ≡ Ok xs → rs ≡ reads (meaning x.edit) s → Some m ≡ redo_blocker es k rs xs → RedoReply (entries_meant es) k (Err (Blocked m))
+    blocked_plan xs rs m accepted read found =
+        met_reply m (ap (λ o. redo_blocker es k (reads (meaning x.edit) s) (written o)) accepted ∙ ap (λ ps. redo_blocker es k ps xs) (sym read) ∙ sym found)
+
+    -- ---- the edit is put in
+
+    none_now : (xs : Changes) (rs : List Pattern) → outcome (meaning x.edit) s ≡ Ok xs → rs ≡ reads (meaning x.edit) s → redo_blocker es k rs xs ≡ None
+        → first_from (blocks_redo (planned (meaning x.edit) s)) (k + 2) (drop (suc k) (map (λ x. x.kept) (log es))) ≡ None
+    none_now xs rs accepted read none = rw (kept-log es, ← add-one k) (ap (λ o. redo_blocker es k (reads (meaning x.edit) s) (written o)) accepted ∙ ap (λ ps. redo_blocker es k ps xs) (sym read) ∙ none)
+
+    pub put_kept : (xs : Changes) (rs : List Pattern) → outcome (meaning x.edit) s ≡ Ok xs → rs ≡ reads (meaning x.edit) s → redo_blocker es k rs xs ≡ None
+        → Shows (slice_set es k (record { edit = x.edit; kept = Some (record { foot = rs; inverse = inverse xs s }) })) (apply xs s)
+    put_kept xs rs accepted read none =
+        let after = kept_redo s (log es) k (k + 2) (meaning x.edit) xs shows log_out accepted (none_now xs rs accepted read none) in
+        let q : Kept = record { foot = rs; inverse = inverse xs s } in
+        let new : slice_set (log es) k (record { edit = meaning x.edit; kept = Some (foot (reads (meaning x.edit) s) (inverse xs s)) }) ≡ log (slice_set es k (record { edit = x.edit; kept = Some q })) =
+        ap (λ ps. slice_set (log es) k (record { edit = meaning x.edit; kept = Some (foot ps (inverse xs s)) })) (sym read) ∙ sym (set-map logged es k (record { edit = x.edit; kept = Some q })) in
+        subst (λ l. IsKept {w = workbook} (apply xs s) l) new after
+
+    pub put_reply : (xs : Changes) (rs : List Pattern) (n : ℕ) → outcome (meaning x.edit) s ≡ Ok xs → rs ≡ reads (meaning x.edit) s → n ≡ count_of xs → redo_blocker es k rs xs ≡ None → RedoReply (entries_meant es) k (Ok n)
+    put_reply xs rs n accepted read count none =
+        let can = redo_can s (log es) k (k + 2) (meaning x.edit) xs shows log_out accepted (none_now xs rs accepted read none) in
+        (trace (meaning x.edit) s, subst (λ h. CanRedo h k (trace (meaning x.edit) s)) (history-log es) can, count ∙ sym (ap (λ o. count_of (inverse (written o) s)) accepted ∙ count_inverse xs s))
+
+pub off_by : (o : Option Kept) (b : Bool) → b ≡ is_some o → b ≡ false → o ≡ None
+off_by None b e f = refl
+off_by (Some q) b e f = cc
+
+module _ (s : Cells) (es : List kept.Entry) (k : ℕ) (z : kept.Entry) (shows : Shows es s) (is : slice_get es k ≡ Some z) (xs : Changes) (rs : List Pattern) (n : ℕ) (plan : PlansAgain es k s xs rs n) where
+  pub redone_kept : (y : kept.Entry) (t : Cells) → y ≡ record { edit = z.edit; kept = Some (record { foot = rs; inverse = inverse xs s }) } → t ≡ apply xs s → Shows (slice_set es k y) t
+  redone_kept y t entry cells =
+      let same : plan.0 ≡ z = cc (plan.1, is) in
+      let new : y ≡ record { edit = plan.0.edit; kept = Some (record { foot = rs; inverse = inverse xs s }) } = entry ∙ ap (λ u. record { edit = u.edit; kept = Some (record { foot = rs; inverse = inverse xs s }) }) (sym same) in
+      rw (cells, new) (put_kept s es k plan.0 shows plan.1 plan.2 xs rs plan.3 plan.4 plan.6)
+
+  pub redone_reply : RedoReply (entries_meant es) k (Ok n)
+  redone_reply = put_reply s es k plan.0 shows plan.1 plan.2 xs rs n plan.3 plan.4 plan.5 plan.6
+
+  pub redone_memory : RedoReply (entries_meant es) k (Err NoMemory)
+  redone_memory = memory_reply s es k plan.0 shows plan.1 plan.2
+
+  pub redone_numbers : (y : kept.Entry) → y ≡ record { edit = z.edit; kept = Some (record { foot = rs; inverse = inverse xs s }) } → numbers (slice_set es k y) ≡ into_force k (numbers es)
+  redone_numbers y entry = rw entry (in_numbers es k z (record { foot = rs; inverse = inverse xs s }) is)
+
+pub by_number : (Reply : ℕ → Result ℕ Refusal → Type 0) (n : ℕ) (r : Result ℕ Refusal) → 0 < n → Reply (n - 1) r → ByNumber Reply n r
+by_number Reply zero r some reply = absurd (omega (arith, some))
+by_number Reply (suc k) r some reply = let e : suc k - 1 ≡ k = omega arith in subst (λ m. Reply m r) e reply
+
+pub force_is : (es : List kept.Entry) (n : ℕ) (x : kept.Entry) → 0 < n → slice_get es (n - 1) ≡ Some x → Some (is_some x.kept) ≡ force_of (numbers es) n
+force_is es zero x some is = absurd (omega (arith, some))
+force_is es (suc k) x some is =
+    let e : suc k - 1 ≡ k = omega arith in
+    let at : slice_get es k ≡ Some x = subst (λ m. slice_get es m ≡ Some x) e is in
+    sym (ap (option_map (λ y. y.in_force)) (get-map numbered es k ∙ ap (option_map numbered) at))

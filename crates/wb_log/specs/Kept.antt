@@ -1,0 +1,111 @@
+-- What the code keeps of a history, in the terms of its definitions.
+use Rattle.std.specs.Prelude.{◌≡◌, ℕ, zero, suc, ◌+◌, ◌≤◌, List, [], ◌∷◌, map, Option, Some, None, is_some, option_map, Ok, slice_get, drop}
+use Rattle.selective_undo.specs.Changes.{apply}
+use Rattle.selective_undo.specs.Edit.{outcome, reads}
+use Rattle.selective_undo.specs.History as h
+use Rattle.selective_undo.specs.Log.{Foot, Logged, IsKept, blocks_undo, blocks_redo, first_from}
+use Rattle.wb_book.specs.declared.cells.pattern.Pattern.{Pattern}
+use Rattle.wb_book.specs.Cells.{Cells, Changes, Contents, count_of, written_more}
+use Rattle.wb_book.specs.WellFormed.{IsWellFormed}
+use Rattle.wb_edit.specs.declared.planning.PlanErr.{PlanErr}
+use Rattle.wb_edit.specs.declared.planning.PlanErr.TheVariants.{Refused as PlanRefused, NoMemory as PlanNoMemory}
+use Rattle.wb_edit.specs.declared.refusal.Refusal as command_refusal
+use Rattle.wb_edit.specs.Schema.{workbook}
+use Rattle.wb_edit.specs.Commands.{meaning}
+use Rattle.wb_foot.specs.Feet.{Feet}
+use Rattle.wb_log.specs.declared.entry.Entry as kept
+use Rattle.wb_log.specs.declared.entry.Kept.{Kept}
+use Rattle.wb_log.specs.declared.refusal.Refusal.{Refusal}
+use Rattle.wb_log.specs.declared.refusal.Refusal.TheVariants.{Refused, NotInForce, Blocked, RefusedInPlace, NoMemory}
+use Rattle.wb_log.specs.Past.{Numbered, meant}
+
+abbrev pub foot : List Pattern → Changes → Foot workbook
+foot reads before = record { reads = reads; before = before }
+
+-- what an entry keeps
+abbrev pub kept_in : kept.Entry → Option (Foot workbook)
+kept_in x = option_map (λ k. foot k.foot k.inverse) x.kept
+
+abbrev pub kept_all : List kept.Entry → List (Option (Foot workbook))
+kept_all es = map kept_in es
+
+-- the foot kept at a number, if one is
+abbrev pub feet_of : {F : Type 0} → List (Option F) → ℕ → Option F
+feet_of [] n = None
+feet_of (x ∷ xs) zero = x
+feet_of (x ∷ xs) (suc n) = feet_of xs n
+
+-- what is kept of the edits by their numbers, from 1
+abbrev pub by_number : List kept.Entry → Feet
+by_number es = feet_of (None ∷ kept_all es)
+
+abbrev pub logged : kept.Entry → Logged workbook
+logged x = record { edit = meaning x.edit; kept = kept_in x }
+
+abbrev pub log : List kept.Entry → List (Logged workbook)
+log es = map logged es
+
+-- The entries show the cells: they are legal, the cells are their replay, and what is kept of each edit in force is what
+-- it read and wrote in the state that the edits in force before it give.
+abbrev pub Shows : List kept.Entry → Cells → Type 0
+Shows es s = IsKept {w = workbook} s (log es)
+
+-- the entries show some cells
+abbrev pub IsShown : List kept.Entry → Type 0
+IsShown es = (s : Cells) × Shows es s
+
+abbrev pub numbered : kept.Entry → Numbered
+numbered x = record { edit = x.edit; in_force = is_some x.kept }
+
+abbrev pub numbers : List kept.Entry → List Numbered
+numbers es = map numbered es
+
+abbrev pub entries_meant : List kept.Entry → List (h.Entry workbook)
+entries_meant es = meant (numbers es)
+
+-- the least later edit, in force, that needs edit k
+abbrev pub undo_blocker : List kept.Entry → ℕ → Option (Foot workbook) → Option Refusal
+undo_blocker es k None = Some NotInForce
+undo_blocker es k (Some f) = option_map Blocked (first_from (blocks_undo f.before) (k + 2) (drop (k + 1) (kept_all es)))
+
+abbrev pub MayUndo : List kept.Entry → ℕ → Option Refusal → Type 0
+MayUndo es k r = (x : kept.Entry) × (slice_get es k ≡ Some x) × (r ≡ undo_blocker es k (kept_in x))
+
+-- an entry's edit is taken back, with n cells
+abbrev pub TakenBack : kept.Entry → ℕ → kept.Entry → Contents → Contents → Type 0
+TakenBack x n y b d = (k : Kept) × (x.kept ≡ Some k) × (n ≡ count_of k.inverse) × (y ≡ record { edit = x.edit; kept = None }) × (d.cells ≡ apply k.inverse b.cells) × (d.writes ≡ written_more b.writes n)
+
+-- to take an entry's edit back leaves a well-formed workbook
+abbrev pub LeavesWellFormed : kept.Entry → Cells → Type 0
+LeavesWellFormed x s = (k : Kept) → x.kept ≡ Some k → IsWellFormed (apply k.inverse s)
+
+abbrev pub refusal_of : kept.Entry → Refusal
+refusal_of x = elim x.kept [ None ↦ NotInForce | Some k ↦ NoMemory ]
+
+-- why there is no plan, as a refusal
+abbrev pub plan_refusal : PlanErr → Refusal
+plan_refusal (PlanRefused why foot) = Refused why
+plan_refusal PlanNoMemory = NoMemory
+
+-- the number of the least later edit, in force, that a plan in the place of edit k meets
+abbrev pub redo_blocker : List kept.Entry → ℕ → List Pattern → Changes → Option ℕ
+redo_blocker es k rs xs = first_from (blocks_redo (foot rs xs)) (k + 2) (drop (k + 1) (kept_all es))
+
+abbrev pub in_place : Option ℕ → command_refusal.Refusal → Refusal
+in_place (Some by) why = Blocked by
+in_place None why = RefusedInPlace why
+
+abbrev pub stopped_refusal : List kept.Entry → ℕ → PlanErr → Refusal
+stopped_refusal es k (PlanRefused why rs) = in_place (redo_blocker es k rs []) why
+stopped_refusal es k PlanNoMemory = NoMemory
+
+-- Edit k is out of force, its plan is this, and nothing is in its way.
+abbrev pub PlansAgain : List kept.Entry → ℕ → Cells → Changes → List Pattern → ℕ → Type 0
+PlansAgain es k s xs rs n =
+    (x : kept.Entry) × (slice_get es k ≡ Some x) × (x.kept ≡ None) × (outcome (meaning x.edit) s ≡ Ok xs) × (rs ≡ reads (meaning x.edit) s) × (n ≡ count_of xs)
+    × (redo_blocker es k rs xs ≡ None)
+
+-- the place of the latest entry that keeps something, or none does
+abbrev pub IsLatest : List (Option (Foot workbook)) → Option ℕ → Type 0
+IsLatest ks (Some p) = (f : Foot workbook) × (slice_get ks p ≡ Some (Some f)) × ((q : ℕ) (g : Foot workbook) → slice_get ks q ≡ Some (Some g) → q ≤ p)
+IsLatest ks None = (q : ℕ) (g : Foot workbook) → slice_get ks q ≡ Some (Some g) → ⊥

@@ -1,0 +1,156 @@
+//! The first edit in the way of an undo or a redo.
+
+ghost use Rattle.std.specs.Prelude.{◌≡◌, ℕ, ◌+◌, ◌^◌, ◌<◌, length, drop, Some, None, OnOk, OnErr, IfOk};
+ghost use Rattle.selective_undo.specs.Log.{blocks_undo, blocks_redo, first_from};
+ghost use Rattle.wb_foot.specs.Feet.{Feet, foot, with_foot};
+ghost use Rattle.wb_log.specs.Indexed.{AreFootprints};
+ghost use Rattle.wb_log.specs.Kept.{by_number, kept_in, kept_all};
+ghost use Rattle.wb_log.specs.Needed.{AreFromFeet};
+
+use crate::blockers;
+use crate::entry::Entry;
+use crate::sweep::needing;
+use std::alloc::Global;
+use wb_book::{CellChange, Pattern};
+use wb_foot::FootIndex;
+use wb_range::NoMemory;
+
+/// An index of the footprints of the first `entered` edits.
+#[derive(Drop)]
+pub struct Footprints {
+    alloc: Global,
+    index: FootIndex,
+    entered: usize,
+}
+
+impl Footprints {
+    /// No edit has entered.
+    pub fn new(alloc: Global) -> Footprints
+        ensures { (count : ℕ) (feet : Feet) → feet 0 ≡ None → AreFootprints result count feet }
+    {
+        Footprints {
+            alloc,
+            index: FootIndex::new(alloc),
+            entered: 0,
+        }
+    }
+
+    /// The next edit enters, or none where no memory is left.
+    fn enter(&mut self, entry: &Entry) -> Result<(), NoMemory>
+        requires { self.old.entered < 2 ^ 63 }
+        ensures ok { OnOk result ((count : ℕ) (feet : Feet) → AreFootprints self.old count feet → self.old.entered < count → feet (self.old.entered + 1) ≡ kept_in entry.now → AreFootprints self.new count feet) }
+        ensures next { OnOk result (self.new.entered ≡ self.old.entered + 1) }
+        ensures err { OnErr result ((count : ℕ) (feet : Feet) → AreFootprints self.old count feet → AreFootprints self.new count feet) }
+    {
+        if let Some(kept) = &entry.kept {
+            let number = self.entered as u64 + 1;
+            self.index
+                .add(number, kept.foot.reads(), kept.inverse.before())?;
+        }
+        self.entered += 1;
+        Ok(())
+    }
+
+    /// Edits enter up to the last, or as far as memory goes.
+    fn fill(&mut self, entries: &[Entry])
+        requires few { length entries.now < 2 ^ 63 }
+        requires indexed { AreFootprints self.old (length entries.now) (by_number entries.now) }
+        ensures indexed { AreFootprints self.new (length entries.now) (by_number entries.now) }
+    {
+        while self.entered < entries.len() {
+            let next = &entries[self.entered];
+            match self.enter(next) {
+                Ok(()) => {}
+                Err(_) => return,
+            }
+        }
+    }
+
+    /// The number of the first edit after a place that needs one that wrote the cells.
+    pub fn first_to_block_undo(
+        &mut self,
+        entries: &[Entry],
+        at: usize,
+        before: &[CellChange],
+    ) -> Option<u64>
+        requires in_log { at < length entries.now }
+        requires few { length entries.now < 2 ^ 63 }
+        requires indexed { AreFootprints self.old (length entries.now) (by_number entries.now) }
+        ensures first { result ≡ first_from (blocks_undo before.now) (at + 2) (drop (at + 1) (kept_all entries.now)) }
+        ensures indexed { AreFootprints self.new (length entries.now) (by_number entries.now) }
+    {
+        self.fill(entries);
+        if self.entered < entries.len() {
+            let later = later_than(entries, at);
+            return blockers::first_to_block_undo(later, at as u64 + 2, before);
+        }
+        self.index.first_to_block_undo(before, at as u64 + 1)
+    }
+
+    /// The number of the first edit after a place that needs, or is needed by, one with these reads and changes.
+    pub fn first_to_block_redo(
+        &mut self,
+        entries: &[Entry],
+        at: usize,
+        reads: &[Pattern],
+        delta: &[CellChange],
+    ) -> Option<u64>
+        requires in_log { at < length entries.now }
+        requires few { length entries.now < 2 ^ 63 }
+        requires indexed { AreFootprints self.old (length entries.now) (by_number entries.now) }
+        ensures first { result ≡ first_from (blocks_redo (foot reads.now delta.now)) (at + 2) (drop (at + 1) (kept_all entries.now)) }
+        ensures indexed { AreFootprints self.new (length entries.now) (by_number entries.now) }
+    {
+        self.fill(entries);
+        if self.entered < entries.len() {
+            let later = later_than(entries, at);
+            return blockers::first_to_block_redo(later, at as u64 + 2, reads, delta);
+        }
+        self.index.first_to_block_redo(reads, delta, at as u64 + 1)
+    }
+
+    /// The numbers of the edits that have to be undone with the one at a place, from the greatest down.
+    pub fn needing(&mut self, entries: &[Entry], at: usize) -> Result<Vec<u64>, NoMemory>
+        requires in_log { at < length entries.now }
+        requires few { length entries.now < 2 ^ 63 }
+        requires indexed { AreFootprints self.old (length entries.now) (by_number entries.now) }
+        ensures found { IfOk result (λ v. AreFromFeet (by_number entries.now) (at + 1) v.items) }
+        ensures indexed { AreFootprints self.new (length entries.now) (by_number entries.now) }
+    {
+        self.fill(entries);
+        if self.entered < entries.len() {
+            return Err(NoMemory);
+        }
+        needing(self.alloc, &self.index, entries, at as u64 + 1)
+    }
+
+    /// The edit at a place is out of force.
+    pub fn take(&mut self, at: usize, reads: &[Pattern], before: &[CellChange])
+        requires { at < 2 ^ 63 }
+        ensures { (count : ℕ) (feet : Feet) → AreFootprints self.old count feet → feet (at + 1) ≡ Some (foot reads.now before.now) → AreFootprints self.new count (with_foot feet (at + 1) None) }
+    {
+        if at < self.entered {
+            self.index.take(at as u64 + 1, reads, before);
+        }
+    }
+
+    /// The edit at a place is in force again. Where no memory is left for it, none has entered.
+    pub fn put(&mut self, at: usize, reads: &[Pattern], before: &[CellChange])
+        requires { at < 2 ^ 63 }
+        ensures { (count : ℕ) (feet : Feet) → AreFootprints self.old count feet → feet (at + 1) ≡ None → AreFootprints self.new count (with_foot feet (at + 1) (Some (foot reads.now before.now))) }
+    {
+        if at >= self.entered {
+            return;
+        }
+        if self.index.add(at as u64 + 1, reads, before).is_err() {
+            *self = Footprints::new(self.alloc);
+        }
+    }
+}
+
+fn later_than(entries: &[Entry], at: usize) -> &[Entry]
+    requires { at < length entries.now }
+    ensures { result.now ≡ drop (at + 1) entries.now }
+{
+    &entries[at + 1..]
+}

@@ -1,0 +1,117 @@
+//! The latest edit in force.
+
+ghost use Rattle.std.specs.Prelude.{◌≡◌, ℕ, ◌+◌, ◌^◌, ◌<◌, length, Some, None, OnOk, OnErr};
+ghost use Rattle.selective_undo.specs.Log.{Foot};
+ghost use Rattle.wb_edit.specs.Schema.{workbook};
+ghost use Rattle.wb_foot.specs.Feet.{Feet, with_foot};
+ghost use Rattle.wb_log.specs.Indexed.{AreInForce};
+ghost use Rattle.wb_log.specs.Kept.{IsLatest, by_number, kept_in, kept_all};
+
+use crate::entry::Entry;
+use std::alloc::Global;
+use wb_foot::Numbers;
+use wb_range::NoMemory;
+
+/// Which of the first `entered` edits are in force.
+#[derive(Drop)]
+pub struct InForce {
+    alloc: Global,
+    numbers: Numbers,
+    entered: usize,
+}
+
+impl InForce {
+    /// No edit has entered.
+    pub fn new(alloc: Global) -> InForce
+        ensures { (count : ℕ) (feet : Feet) → feet 0 ≡ None → AreInForce result count feet }
+    {
+        InForce {
+            alloc,
+            numbers: Numbers::new(alloc),
+            entered: 0,
+        }
+    }
+
+    /// The next edit enters, or none where no memory is left.
+    fn enter(&mut self, entry: &Entry) -> Result<(), NoMemory>
+        requires { self.old.entered < 2 ^ 63 }
+        ensures ok { OnOk result ((count : ℕ) (feet : Feet) → AreInForce self.old count feet → self.old.entered < count → feet (self.old.entered + 1) ≡ kept_in entry.now → AreInForce self.new count feet) }
+        ensures next { OnOk result (self.new.entered ≡ self.old.entered + 1) }
+        ensures err { OnErr result ((count : ℕ) (feet : Feet) → AreInForce self.old count feet → AreInForce self.new count feet) }
+    {
+        if entry.kept.is_some() {
+            self.numbers.add(self.entered as u64 + 1)?;
+        }
+        self.entered += 1;
+        Ok(())
+    }
+
+    /// Edits enter up to the last, or as far as memory goes.
+    fn fill(&mut self, entries: &[Entry])
+        requires few { length entries.now < 2 ^ 63 }
+        requires indexed { AreInForce self.old (length entries.now) (by_number entries.now) }
+        ensures indexed { AreInForce self.new (length entries.now) (by_number entries.now) }
+    {
+        while self.entered < entries.len() {
+            let next = &entries[self.entered];
+            match self.enter(next) {
+                Ok(()) => {}
+                Err(_) => return,
+            }
+        }
+    }
+
+    /// The place of the latest edit in force.
+    pub fn latest(&mut self, entries: &[Entry]) -> Option<usize>
+        requires few { length entries.now < 2 ^ 63 }
+        requires indexed { AreInForce self.old (length entries.now) (by_number entries.now) }
+        ensures latest { IsLatest (kept_all entries.now) result }
+        ensures indexed { AreInForce self.new (length entries.now) (by_number entries.now) }
+    {
+        self.fill(entries);
+        if self.entered < entries.len() {
+            return latest_from_the_end(entries);
+        }
+        match self.numbers.greatest() {
+            None => None,
+            Some(number) => Some((number - 1) as usize),
+        }
+    }
+
+    /// The edit at a place is out of force.
+    pub fn take(&mut self, at: usize)
+        requires { at < 2 ^ 63 }
+        ensures { (count : ℕ) (feet : Feet) → AreInForce self.old count feet → AreInForce self.new count (with_foot feet (at + 1) None) }
+    {
+        if at < self.entered {
+            self.numbers.take(at as u64 + 1);
+        }
+    }
+
+    /// The edit at a place is in force again. Where no memory is left for it, none has entered.
+    pub fn put(&mut self, at: usize)
+        requires { at < 2 ^ 63 }
+        ensures { (count : ℕ) (feet : Feet) (f : Foot workbook) → AreInForce self.old count feet → AreInForce self.new count (with_foot feet (at + 1) (Some f)) }
+    {
+        if at >= self.entered {
+            return;
+        }
+        if self.numbers.add(at as u64 + 1).is_err() {
+            *self = InForce::new(self.alloc);
+        }
+    }
+}
+
+/// The same, found from the end.
+fn latest_from_the_end(entries: &[Entry]) -> Option<usize>
+    ensures { IsLatest (kept_all entries.now) result }
+{
+    let mut at = entries.len();
+    while at > 0 {
+        at -= 1;
+        if entries[at].kept.is_some() {
+            return Some(at);
+        }
+    }
+    None
+}

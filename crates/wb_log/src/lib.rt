@@ -1,0 +1,16 @@
+//! The entries of a history, with what is kept of each edit in force; the index over them; and the steps of a history: an
+//! edit at the end, an undo or a redo at a place.
+//!
+//! Its tests are in the crate `wb_session_tests`.
+#![tactic(auto)]
+
+mod blockers;
+mod entry;
+mod index;
+mod refusal;
+pub mod steps;
+mod sweep;
+
+pub use crate::entry::{Entry, Kept};
+pub use crate::index::Index;
+pub use crate::refusal::Refusal;

@@ -1,0 +1,89 @@
+ghost use Rattle.std.specs.Prelude.{◌≡◌, ℕ, ◌+◌, length, [], ◌∷◌, ◌++◌, OnOk, OnErr, IfOk, Ok, true};
+ghost use Rattle.selective_undo.specs.Changes.{apply};
+ghost use Rattle.selective_undo.specs.Edit.{outcome, reads};
+ghost use Rattle.wb_book.specs.Cells.{written_more, count_of};
+ghost use Rattle.wb_book.specs.WellFormed.{IsWellFormed};
+ghost use Rattle.wb_edit.specs.Commands.{meaning};
+ghost use Rattle.wb_edit.specs.Valid.{IsValid};
+ghost use Rattle.wb_log.specs.declared.entry.Entry.{Entry};
+ghost use Rattle.wb_log.specs.Kept.{Shows, entries_meant, numbers, plan_refusal};
+ghost use Rattle.wb_log.specs.Past.{AreValid};
+ghost use Rattle.wb_log.specs.Replies.{EditReply};
+
+use crate::entry::{Entry, Kept};
+use crate::refusal::Refusal;
+use std::alloc::Global;
+use wb_book::{Book, Delta};
+use wb_edit::{Edit, Foot, PlanErr, plan};
+use wb_range::NoMemory;
+
+/// Makes an edit, and keeps it as the last.
+pub fn add(
+    alloc: Global,
+    book: &mut Book,
+    entries: &mut Vec<Entry>,
+    edit: Edit,
+) -> Result<(u64, usize), Refusal>
+    requires kept { Shows entries.old.items book.old.cells }
+    requires valid { AreValid (numbers entries.old.items) }
+    requires valid_edit { IsValid edit }
+    ensures kept { Shows entries.new.items book.new.cells }
+    ensures reply { EditReply (entries_meant entries.old.items) (meaning edit) result }
+    ensures entries { OnOk result (numbers entries.new.items ≡ numbers entries.old.items ++ record { edit = edit; in_force = true } ∷ []) }
+    ensures appended { OnOk result ((x : Entry) × (entries.new.items ≡ entries.old.items ++ x ∷ [])) }
+    ensures writes { IfOk result (λ r. book.new.writes ≡ written_more book.old.writes r.1) }
+    ensures entries_stay { OnErr result (entries.new.items ≡ entries.old.items) }
+    ensures book_stays { OnErr result (book.new ≡ book.old) }
+{
+    match plan(alloc, book, &edit) {
+        Err(stop) => Err(plan_refusal(stop)),
+        Ok((delta, foot, count)) => match keep_new(book, entries, edit, delta, foot) {
+            Ok(number) => Ok((number, count)),
+            Err(_) => Err(Refusal::NoMemory),
+        },
+    }
+}
+
+fn plan_refusal(stop: PlanErr) -> Refusal
+    ensures { result ≡ plan_refusal stop }
+{
+    match stop {
+        PlanErr::Refused(why, _) => Refusal::Refused(why),
+        PlanErr::NoMemory => Refusal::NoMemory,
+    }
+}
+
+/// Makes the changes of a planned edit, and keeps it as the last: its number.
+fn keep_new(
+    book: &mut Book,
+    entries: &mut Vec<Entry>,
+    edit: Edit,
+    delta: Delta,
+    foot: Foot,
+) -> Result<u64, NoMemory>
+    requires kept { Shows entries.old.items book.old.cells }
+    requires outcome { outcome (meaning edit) book.old.cells ≡ Ok delta }
+    requires reads { foot ≡ reads (meaning edit) book.old.cells }
+    requires well_formed { IsWellFormed (apply delta book.old.cells) }
+    ensures kept { Shows entries.new.items book.new.cells }
+    ensures number { IfOk result (λ k. k ≡ length entries.old.items + 1) }
+    ensures entries { OnOk result (numbers entries.new.items ≡ numbers entries.old.items ++ record { edit = edit; in_force = true } ∷ []) }
+    ensures appended { OnOk result ((x : Entry) × (entries.new.items ≡ entries.old.items ++ x ∷ [])) }
+    ensures writes { OnOk result (book.new.writes ≡ written_more book.old.writes (count_of delta)) }
+    ensures entries_stay { OnErr result (entries.new.items ≡ entries.old.items) }
+    ensures book_stays { OnErr result (book.new ≡ book.old) }
+{
+    if entries.reserve(1).is_err() {
+        return Err(NoMemory);
+    }
+    match book.apply(delta) {
+        Err(_) => Err(NoMemory),
+        Ok(inverse) => {
+            let kept = Some(Kept { foot, inverse });
+            match entries.push(Entry { edit, kept }) {
+                Ok(()) => Ok(entries.len() as u64),
+                Err(_) => unreachable!(),
+            }
+        }
+    }
+}

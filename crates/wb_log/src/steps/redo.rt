@@ -1,0 +1,155 @@
+ghost use Rattle.std.specs.Prelude.{◌≡◌, ℕ, ◌+◌, ◌^◌, ◌<◌, length, [], None, Some, Err, OnOk, OnErr, IfOk, IfErr};
+ghost use Rattle.selective_undo.specs.Changes.{apply, inverse};
+ghost use Rattle.wb_book.specs.Cells.{written_more, count_of};
+ghost use Rattle.wb_book.specs.WellFormed.{IsWellFormed};
+ghost use Rattle.wb_foot.specs.Feet.{Feet, with_foot};
+ghost use Rattle.wb_log.specs.Indexed.{Indexes, IsIndexed};
+ghost use Rattle.wb_log.specs.Kept.{kept_in, Shows, PlansAgain, redo_blocker, stopped_refusal, entries_meant, numbers};
+ghost use Rattle.wb_log.specs.Past.{into_force, AreValid};
+ghost use Rattle.wb_log.specs.Replies.{RedoReply, RedoesInPlace};
+
+use crate::entry::{Entry, Kept};
+use crate::index::Index;
+use crate::refusal::Refusal;
+use std::alloc::Global;
+use wb_book::{Book, Delta};
+use wb_edit::{Foot, PlanErr, plan};
+use wb_range::NoMemory;
+
+/// Plans an edit out of force again, unless a later one is in its way.
+fn plan_again(
+    alloc: Global,
+    book: &Book,
+    entries: &[Entry],
+    index: &mut Index,
+    at: usize,
+) -> Result<(Delta, Foot, usize), Refusal>
+    requires in_log { at < length entries.now }
+    requires few { length entries.now < 2 ^ 63 }
+    requires indexed { IsIndexed index.old entries.now }
+    requires kept { Shows entries.now book.now.cells }
+    ensures ok { IfOk result (λ p. PlansAgain entries.now at book.now.cells p.0 p.1 p.2) }
+    ensures err { IfErr result (λ why. RedoReply (entries_meant entries.now) at (Err why)) }
+    ensures indexed { IsIndexed index.new entries.now }
+{
+    let entry = &entries[at];
+    if entry.kept.is_some() {
+        return Err(Refusal::InForce);
+    }
+    match plan(alloc, book, &entry.edit) {
+        Err(stop) => Err(refusal_in_place(entries, index, at, stop)),
+        Ok((delta, foot, count)) => match plan_blocker(entries, index, at, &foot, &delta) {
+            Some(by) => Err(Refusal::Blocked(by)),
+            None => Ok((delta, foot, count)),
+        },
+    }
+}
+
+/// The number of the first later edit that a plan meets.
+fn plan_blocker(
+    entries: &[Entry],
+    index: &mut Index,
+    at: usize,
+    foot: &Foot,
+    delta: &Delta,
+) -> Option<u64>
+    requires in_log { at < length entries.now }
+    requires few { length entries.now < 2 ^ 63 }
+    requires indexed { IsIndexed index.old entries.now }
+    ensures first { result ≡ redo_blocker entries.now at foot.now delta.now }
+    ensures indexed { IsIndexed index.new entries.now }
+{
+    index
+        .footprints
+        .first_to_block_redo(entries, at, foot.reads(), delta.changes())
+}
+
+/// The same of a plan that is refused.
+fn refused_blocker(entries: &[Entry], index: &mut Index, at: usize, foot: &Foot) -> Option<u64>
+    requires in_log { at < length entries.now }
+    requires few { length entries.now < 2 ^ 63 }
+    requires indexed { IsIndexed index.old entries.now }
+    ensures first { result ≡ redo_blocker entries.now at foot.now [] }
+    ensures indexed { IsIndexed index.new entries.now }
+{
+    index
+        .footprints
+        .first_to_block_redo(entries, at, foot.reads(), &[])
+}
+
+/// Why an edit whose plan stopped is not redone.
+fn refusal_in_place(entries: &[Entry], index: &mut Index, at: usize, stop: PlanErr) -> Refusal
+    requires in_log { at < length entries.now }
+    requires few { length entries.now < 2 ^ 63 }
+    requires indexed { IsIndexed index.old entries.now }
+    ensures why { result ≡ stopped_refusal entries.now at stop }
+    ensures indexed { IsIndexed index.new entries.now }
+{
+    match stop {
+        PlanErr::NoMemory => Refusal::NoMemory,
+        PlanErr::Refused(why, foot) => match refused_blocker(entries, index, at, &foot) {
+            Some(by) => Refusal::Blocked(by),
+            None => Refusal::RefusedInPlace(why),
+        },
+    }
+}
+
+/// Makes the changes of the edit at a place again.
+fn put_in(
+    book: &mut Book,
+    entry: &mut Entry,
+    index: &mut Index,
+    at: usize,
+    delta: Delta,
+    foot: Foot,
+) -> Result<(), NoMemory>
+    requires few { at < 2 ^ 63 }
+    requires well_formed { IsWellFormed (apply delta book.old.cells) }
+    ensures entry { OnOk result (entry.new ≡ record { edit = entry.old.edit; kept = Some (record { foot = foot; inverse = inverse delta book.old.cells }) }) }
+    ensures cells { OnOk result (book.new.cells ≡ apply delta book.old.cells) }
+    ensures writes { OnOk result (book.new.writes ≡ written_more book.old.writes (count_of delta)) }
+    ensures put { OnOk result ((count : ℕ) (feet : Feet) → Indexes index.old count feet → feet (at + 1) ≡ None → Indexes index.new count (with_foot feet (at + 1) (kept_in entry.new))) }
+    ensures entry_stays { OnErr result (entry.new ≡ entry.old) }
+    ensures book_stays { OnErr result (book.new ≡ book.old) }
+    ensures index_stays { OnErr result (index.new ≡ index.old) }
+{
+    match book.apply(delta) {
+        Err(_) => Err(NoMemory),
+        Ok(inverse) => {
+            index.put(at, foot.reads(), inverse.before());
+            entry.kept = Some(Kept { foot, inverse });
+            Ok(())
+        }
+    }
+}
+
+/// Redoes the edit at a place.
+pub fn redo_at(
+    alloc: Global,
+    book: &mut Book,
+    entries: &mut [Entry],
+    index: &mut Index,
+    at: usize,
+) -> Result<usize, Refusal>
+    requires in_log { at < length entries.old }
+    requires few { length entries.old < 2 ^ 63 }
+    requires kept { Shows entries.old book.old.cells }
+    requires indexed { IsIndexed index.old entries.old }
+    requires valid { AreValid (numbers entries.old) }
+    ensures kept { Shows entries.new book.new.cells }
+    ensures indexed { IsIndexed index.new entries.new }
+    ensures reply { RedoReply (entries_meant entries.old) at result }
+    ensures entries { OnOk result (numbers entries.new ≡ into_force at (numbers entries.old)) }
+    ensures in_place { OnOk result (RedoesInPlace (entries_meant entries.old) at (entries_meant entries.new)) }
+    ensures writes { IfOk result (λ n. book.new.writes ≡ written_more book.old.writes n) }
+    ensures entries_stay { OnErr result (numbers entries.new ≡ numbers entries.old) }
+    ensures book_stays { OnErr result (book.new ≡ book.old) }
+{
+    match plan_again(alloc, book, entries, index, at) {
+        Err(why) => Err(why),
+        Ok((delta, foot, count)) => match put_in(book, &mut entries[at], index, at, delta, foot) {
+            Ok(()) => Ok(count),
+            Err(_) => Err(Refusal::NoMemory),
+        },
+    }
+}

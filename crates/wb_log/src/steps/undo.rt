@@ -1,0 +1,146 @@
+ghost use Rattle.std.specs.Prelude.{◌≡◌, ℕ, ◌+◌, ◌-◌, ◌^◌, ◌<◌, length, None, OnOk, OnErr, IfOk, IfErr};
+ghost use Rattle.wb_book.specs.Cells.{written_more};
+ghost use Rattle.wb_foot.specs.Feet.{Feet, with_foot};
+ghost use Rattle.wb_log.specs.Indexed.{Indexes, IsIndexed};
+ghost use Rattle.wb_log.specs.Kept.{kept_in, Shows, MayUndo, TakenBack, LeavesWellFormed, refusal_of, entries_meant, numbers};
+ghost use Rattle.wb_log.specs.Past.{out_of_force, AreValid};
+ghost use Rattle.wb_log.specs.Replies.{UndoReply, LastReply, SetsBack, LeavesOthers, Restores};
+
+use crate::entry::{Entry, Kept};
+use crate::index::Index;
+use crate::refusal::Refusal;
+use wb_book::Book;
+
+/// Whether an edit may not be undone.
+fn undo_refusal(entries: &[Entry], index: &mut Index, at: usize) -> Option<Refusal>
+    requires in_log { at < length entries.now }
+    requires few { length entries.now < 2 ^ 63 }
+    requires indexed { IsIndexed index.old entries.now }
+    ensures refusal { MayUndo entries.now at result }
+    ensures indexed { IsIndexed index.new entries.now }
+{
+    match &entries[at].kept {
+        None => Some(Refusal::NotInForce),
+        Some(kept) => {
+            let before = kept.inverse.before();
+            match index.footprints.first_to_block_undo(entries, at, before) {
+                Some(by) => Some(Refusal::Blocked(by)),
+                None => None,
+            }
+        }
+    }
+}
+
+/// Sets back what the edit at a place, which is in force, wrote.
+fn take_back(
+    book: &mut Book,
+    entry: &mut Entry,
+    index: &mut Index,
+    at: usize,
+) -> Result<usize, Refusal>
+    requires few { at < 2 ^ 63 }
+    requires well_formed { LeavesWellFormed entry.old book.old.cells }
+    ensures ok { IfOk result (λ n. TakenBack entry.old n entry.new book.old book.new) }
+    ensures why { IfErr result (λ e. e ≡ refusal_of entry.old) }
+    ensures taken { OnOk result ((count : ℕ) (feet : Feet) → Indexes index.old count feet → feet (at + 1) ≡ kept_in entry.old → Indexes index.new count (with_foot feet (at + 1) None)) }
+    ensures entry_stays { OnErr result (entry.new ≡ entry.old) }
+    ensures book_stays { OnErr result (book.new ≡ book.old) }
+    ensures index_stays { OnErr result (index.new ≡ index.old) }
+{
+    match entry.kept.take() {
+        None => Err(Refusal::NotInForce),
+        Some(Kept { foot, inverse }) => match book.revert(inverse.before()) {
+            Ok(()) => {
+                index.take(at, foot.reads(), inverse.before());
+                Ok(inverse.count())
+            }
+            Err(_) => {
+                entry.kept = Some(Kept { foot, inverse });
+                Err(Refusal::NoMemory)
+            }
+        },
+    }
+}
+
+/// Undoes the edit at a place, which may be undone.
+fn undo_free(
+    book: &mut Book,
+    entries: &mut [Entry],
+    index: &mut Index,
+    at: usize,
+) -> Result<usize, Refusal>
+    requires in_log { at < length entries.old }
+    requires few { length entries.old < 2 ^ 63 }
+    requires kept { Shows entries.old book.old.cells }
+    requires indexed { IsIndexed index.old entries.old }
+    requires valid { AreValid (numbers entries.old) }
+    requires free { MayUndo entries.old at None }
+    ensures kept { Shows entries.new book.new.cells }
+    ensures indexed { IsIndexed index.new entries.new }
+    ensures reply { UndoReply (entries_meant entries.old) at result }
+    ensures entries { OnOk result (numbers entries.new ≡ out_of_force at (numbers entries.old)) }
+    ensures set_back { OnOk result (SetsBack (entries_meant entries.old) at (entries_meant entries.new)) }
+    ensures others { OnOk result (LeavesOthers (entries_meant entries.old) at (entries_meant entries.new)) }
+    ensures writes { IfOk result (λ n. book.new.writes ≡ written_more book.old.writes n) }
+    ensures entries_stay { OnErr result (numbers entries.new ≡ numbers entries.old) }
+    ensures book_stays { OnErr result (book.new ≡ book.old) }
+{
+    take_back(book, &mut entries[at], index, at)
+}
+
+/// Undoes the edit at a place.
+pub fn undo_at(
+    book: &mut Book,
+    entries: &mut [Entry],
+    index: &mut Index,
+    at: usize,
+) -> Result<usize, Refusal>
+    requires in_log { at < length entries.old }
+    requires few { length entries.old < 2 ^ 63 }
+    requires kept { Shows entries.old book.old.cells }
+    requires indexed { IsIndexed index.old entries.old }
+    requires valid { AreValid (numbers entries.old) }
+    ensures kept { Shows entries.new book.new.cells }
+    ensures indexed { IsIndexed index.new entries.new }
+    ensures reply { UndoReply (entries_meant entries.old) at result }
+    ensures entries { OnOk result (numbers entries.new ≡ out_of_force at (numbers entries.old)) }
+    ensures set_back { OnOk result (SetsBack (entries_meant entries.old) at (entries_meant entries.new)) }
+    ensures others { OnOk result (LeavesOthers (entries_meant entries.old) at (entries_meant entries.new)) }
+    ensures writes { IfOk result (λ n. book.new.writes ≡ written_more book.old.writes n) }
+    ensures entries_stay { OnErr result (numbers entries.new ≡ numbers entries.old) }
+    ensures book_stays { OnErr result (book.new ≡ book.old) }
+{
+    match undo_refusal(entries, index, at) {
+        Some(why) => Err(why),
+        None => undo_free(book, entries, index, at),
+    }
+}
+
+/// Undoes the latest edit in force, which nothing can block: its number, and how many cells it sets back.
+pub fn undo_latest(
+    book: &mut Book,
+    entries: &mut [Entry],
+    index: &mut Index,
+) -> Result<(u64, usize), Refusal>
+    requires few { length entries.old < 2 ^ 63 }
+    requires kept { Shows entries.old book.old.cells }
+    requires indexed { IsIndexed index.old entries.old }
+    requires valid { AreValid (numbers entries.old) }
+    ensures kept { Shows entries.new book.new.cells }
+    ensures indexed { IsIndexed index.new entries.new }
+    ensures reply { LastReply (entries_meant entries.old) result }
+    ensures entries { IfOk result (λ r. numbers entries.new ≡ out_of_force (r.0 - 1) (numbers entries.old)) }
+    ensures restored { IfOk result (λ r. Restores (entries_meant entries.old) (r.0 - 1) (entries_meant entries.new)) }
+    ensures others { IfOk result (λ r. LeavesOthers (entries_meant entries.old) (r.0 - 1) (entries_meant entries.new)) }
+    ensures writes { IfOk result (λ r. book.new.writes ≡ written_more book.old.writes r.1) }
+    ensures entries_stay { OnErr result (numbers entries.new ≡ numbers entries.old) }
+    ensures book_stays { OnErr result (book.new ≡ book.old) }
+{
+    match index.in_force.latest(entries) {
+        None => Err(Refusal::NoSuchEdit),
+        Some(at) => match undo_free(book, entries, index, at) {
+            Ok(count) => Ok((at as u64 + 1, count)),
+            Err(why) => Err(why),
+        },
+    }
+}

@@ -1,0 +1,111 @@
+//! What a workbook answers about its objects, its domains, and where their indices lie.
+
+ghost use Rattle.std.specs.Prelude.{◌≡◌, is_some, length, option_map, slice_get};
+ghost use Rattle.wb_book.specs.Locales.{locale_by, is_index_at, locale_at, locale_count_at};
+ghost use Rattle.wb_book.specs.Readers.{objects, users, size_at, index_at};
+ghost use Rattle.wb_book.specs.WellFormed.{IsWellFormed, domain_at};
+ghost use Rattle.wb_elements.specs.Lent.{lent};
+ghost use Rattle.wb_shelf.specs.Shelf.{piece_at};
+
+use crate::looks;
+use crate::shelf::Shelf;
+use wb_book::{
+    AnyIndex, Name, index_at, locale_at, locale_by, locale_count_at, object_at, object_count,
+    size_at, user_at,
+};
+use wb_elements::Pairs;
+
+impl Shelf {
+    /// How many objects there are: domains and arrays.
+    pub fn objects(&self) -> usize
+        ensures { result ≡ length (objects self.now.cells) }
+    {
+        let _ = &self.arrays;
+        object_count(&self.cells)
+    }
+
+    /// The name of the object at place `p`, counted from 0; the names ascend.
+    pub fn object(&self, p: usize) -> Option<Name>
+        ensures { result ≡ slice_get (objects self.now.cells) p }
+    {
+        let _ = &self.arrays;
+        object_at(&self.cells, p)
+    }
+
+    /// The name at place `p` of what is bound to the domain of a name, counted from 0; the names ascend.
+    pub fn user(&self, name: &Name, p: usize) -> Option<Name>
+        ensures { result ≡ slice_get (users self.now.cells name.now) p }
+    {
+        let _ = &self.arrays;
+        user_at(&self.cells, *name, p)
+    }
+
+    /// How many indices the domain of a name has, whatever its kind, and `None` exactly where there is no such domain
+    /// (Chapel Language Specification, Domains).
+    pub fn size(&self, name: &Name) -> Option<usize>
+        ensures value { result ≡ size_at self.now.cells name.now }
+        ensures there { is_some result ≡ is_some (domain_at self.now.cells name.now) }
+    {
+        let _ = &self.arrays;
+        size_at(&self.cells, *name)
+    }
+
+    /// The index at place `p` of the domain of a name, counted from 0 in the domain's order: row by row in a rectangular
+    /// domain, ascending in another one (Chapel Language Specification, Domains).
+    pub fn index(&self, name: &Name, p: usize) -> Option<AnyIndex>
+        ensures { result ≡ index_at self.now.cells name.now p }
+    {
+        let _ = &self.arrays;
+        index_at(&self.cells, *name, p)
+    }
+
+    /// On which locale an index of the domain of a name lies, and `None` exactly where there is no such domain or it
+    /// doesn't have the index. A rectangular domain goes by its mapping, a sparse one by its parent's, and an associative
+    /// one has all on locale 0 (Chapel Language Specification, Domain Maps).
+    pub fn locale_of(&self, domain: &Name, index: &AnyIndex) -> Option<usize>
+        ensures value { result ≡ locale_at self.now.cells domain.now index.now }
+        ensures there { is_some result ≡ is_index_at self.now.cells domain.now index.now }
+    {
+        let _ = &self.arrays;
+        locale_at(&self.cells, *domain, index)
+    }
+
+    /// On which locale an index lies by the mapping of the rectangular domain of a name, whether the domain has the index
+    /// or not; `None` where there is no such rectangular domain, and for an index of another rank (Chapel Language
+    /// Specification, Domain Maps).
+    pub fn locale_by(&self, domain: &Name, index: &AnyIndex) -> Option<usize>
+        ensures { result ≡ locale_by self.now.cells domain.now index.now }
+    {
+        let _ = &self.arrays;
+        locale_by(&self.cells, *domain, index)
+    }
+
+    /// How many locales the mapping of the domain of a name has; `None` where there is no such rectangular domain
+    /// (Chapel Language Specification, Domain Maps).
+    pub fn locale_count(&self, domain: &Name) -> Option<usize>
+        ensures { result ≡ locale_count_at self.now.cells domain.now }
+    {
+        let _ = &self.arrays;
+        locale_count_at(&self.cells, *domain)
+    }
+
+    /// The elements of the array of a name on a locale, each after its index, ascending, lent. They are those that lie there by
+    /// the mapping of the array's domain: a sparse domain goes by its parent's, and an associative one has all on locale 0.
+    /// `None` where there is no such array or no such locale (Chapel Language Specification, Domain Maps).
+    pub fn piece(&self, array: &Name, locale: usize) -> Option<Pairs<'_>>
+        ensures { option_map lent result ≡ piece_at self.now.cells array.now locale }
+    {
+        let _ = &self.cells;
+        looks::piece(&self.arrays, array, locale)
+    }
+
+    /// How many cells were set so far by `apply` and `revert`, up to the type's greatest value; the cells `In` are not
+    /// counted. A book is well formed.
+    pub fn writes(&self) -> u128
+        ensures value { result ≡ self.now.writes }
+        ensures kept { IsWellFormed self.now.cells }
+    {
+        let _ = &self.arrays;
+        self.writes
+    }
+}
