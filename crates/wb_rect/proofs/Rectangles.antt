@@ -1,6 +1,6 @@
 -- slices and shifts of rectangles are rectangles
-use Rattle.std.proofs.Common.{◌≡◌, ◌↔◌, inl, inr, ℕ, zero, suc, ◌*◌, ◌<◌, ◌≤◌, ℤ, pos, ◌+ℤ◌, Bool, List, [], ◌∷◌, length, get_or, refl, sym, ap₂, subst, ◌∙◌, arith}
-use Rattle.std.specs.List.{All, Contains}
+use Rattle.std.proofs.Common.{◌≡◌, inl, inr, ℕ, suc, ◌*◌, ◌<◌, ◌≤◌, ℤ, pos, ◌+ℤ◌, Bool, List, [], ◌∷◌, length, get_or, refl, sym, ap₂, subst, ◌∙◌, arith}
+use Rattle.std.specs.List.{All}
 use Rattle.std.proofs.Math.Nat.{mul-le-mul}
 use Rattle.std.proofs.lemmas.Int.{ints}
 use Rattle.std.proofs.lemmas.List.Elements.{All-nil, All-cons, All-head, All-tail}
@@ -11,7 +11,6 @@ use Rattle.wb_range.proofs.Spelling.{is_range}
 use Rattle.wb_rect.specs.Offsets.{shifted, low_by, IsWithin, EachWithin, CanShift, each_shifted}
 use Rattle.wb_rect.specs.Product.{product, IsRectangle}
 use Rattle.wb_rect.specs.Slices.{IsCommon, common, sliced}
-use Rattle.wb_rect.proofs.Common.{common_product}
 use Rattle.wb_rect.proofs.Kept.{canonical_none, kept}
 use Rattle.wb_rect.proofs.Product.{length-rows, IsListedOnce-rows, IsListedOnce-none}
 use Rattle.wb_rect.proofs.Shifts.{empty-sequence}
