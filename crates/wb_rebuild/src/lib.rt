@@ -3,7 +3,7 @@
 //! `specs/Told.antt` has the cells that lines tell of, and `specs/Rebuilt.antt` the law that a well-formed workbook
 //! comes back from what its lines say.
 //!
-//! Its tests are in the crate `wb_reading`.
+//! Its tests are in the crate `wb_session_tests`.
 #![tactic(auto)]
 
 mod finding;
