@@ -195,6 +195,19 @@ class Edges(Logs):
             self.compare(["a"], [caller])
             self.assertEqual([bad.stop(), good.stop()], [0, 0])
 
+    def test_a_connection_that_breaks(self):
+        """The worker begins anew, from the log."""
+        worker = self.worker("one", "--lease", "0.6")
+        (before,) = self.callers(["a"], 1)
+        self.ask(before, 20)
+        self.compare(["a"], [before])
+        self.redis.call("CLIENT", "KILL", "TYPE", "normal", "SKIPME", "yes")
+        (after,) = self.callers(["a"], 1)
+        after.caller = "another"
+        self.ask(after, 20)
+        self.compare(["a"], [after])
+        self.assertEqual(worker.stop(), 0)
+
     def test_two_lines_in_a_request(self):
         worker = self.worker("one")
         (caller,) = self.callers(["a"], 1)

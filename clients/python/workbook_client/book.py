@@ -165,6 +165,10 @@ class Workbook:
         """The text of the workbook: one text for one workbook, byte by byte."""
         return self.ask(requests.print_text()).text("text")
 
+    def history_text(self) -> str:
+        """The text of the whole history, from which `--resume` goes on."""
+        return self.ask(requests.history_text()).text("text")
+
     def snapshot(self) -> Snapshot:
         """Every domain and array at one moment, whoever else is editing."""
         return Snapshot.read(self.print_text())

@@ -17,12 +17,13 @@ const SERVE_EXAMPLE: &str = "Example:\n  workbook serve --port 7000 --seats 2";
 /// What the words of a command line ask for.
 #[derive(Clone, Copy, Debug, PartialEq, Eq)]
 pub enum Asked {
-    /// A session from standard input to standard output, on an empty workbook.
-    Run,
-    /// Whether standard input is the text of a workbook.
+    /// A session from standard input to standard output, on an empty workbook, or on the history whose text comes first.
+    Run { resume: bool },
+    /// Whether standard input is the text of a workbook or of a history.
     Check,
-    /// A desk of 1 to 16 seats on a port, or on any port where that is 0.
-    Serve { port: u16, seats: u8 },
+    /// A desk of 1 to 16 seats on a port, or on any port where that is 0; perhaps on the history whose text is standard
+    /// input.
+    Serve { port: u16, seats: u8, resume: bool },
 }
 
 /// Why the words of a command line ask for nothing.
@@ -52,10 +53,11 @@ pub fn command_of(alloc: Global, words: &[&str]) -> Result<Asked, CommandErr> {
 fn parsed(alloc: Global, words: &[&str]) -> Result<Option<Asked>, clap::Error> {
     let run = Command::new(alloc, "run")
         .about("Answers each request line of standard input on standard output")
-        .after_help(RUN_EXAMPLE);
+        .after_help(RUN_EXAMPLE)
+        .arg(resume_flag(alloc))?;
     let check = Command::new(alloc, "check")
         .about(
-            "Tells whether standard input is the text of a workbook, and how many objects it has",
+            "Tells whether standard input is the text of a workbook or of a history, and how much it has",
         )
         .after_help(CHECK_EXAMPLE);
     let command = Command::new(alloc, "workbook")
@@ -67,11 +69,20 @@ fn parsed(alloc: Global, words: &[&str]) -> Result<Option<Asked>, clap::Error> {
         .subcommand(serve_command(alloc)?)?;
     let matches = command.try_get_matches_from(words)?;
     match matches.subcommand() {
-        Some(("run", _)) => Ok(Some(Asked::Run)),
+        Some(("run", inner)) => Ok(Some(Asked::Run {
+            resume: inner.get_flag("resume"),
+        })),
         Some(("check", _)) => Ok(Some(Asked::Check)),
         Some(("serve", inner)) => Ok(serve_of(inner)),
         _ => Ok(None),
     }
+}
+
+// Whether the text of a history comes first.
+fn resume_flag<'a>(alloc: Global) -> Arg<'a> {
+    Arg::new(alloc, "resume")
+        .long("resume")
+        .action(ArgAction::SetTrue)
 }
 
 // The command `serve` with its options.
@@ -90,12 +101,18 @@ fn serve_command<'a>(alloc: Global) -> Result<Command<'a>, AllocError> {
         .about("Answers the request lines of each seat on a connection of its own")
         .after_help(SERVE_EXAMPLE)
         .arg(port)?
-        .arg(seats)
+        .arg(seats)?
+        .arg(resume_flag(alloc))
 }
 
-// The port and the number of seats.
+// The port, the number of seats, and whether the text of a history comes first.
 fn serve_of(matches: &ArgMatches) -> Option<Asked> {
     let port = matches.get_one::<u16>("port")?;
     let seats = matches.get_one::<u8>("seats")?;
-    Some(Asked::Serve { port, seats })
+    let resume = matches.get_flag("resume");
+    Some(Asked::Serve {
+        port,
+        seats,
+        resume,
+    })
 }

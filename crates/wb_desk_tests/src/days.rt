@@ -14,6 +14,8 @@ use wb_shared::{Cause, Desk, DeskErr, Opening, Pass, settle};
 
 pub const NEW_SET: &str = "{\"op\":\"assoc\",\"d\":\"N\",\"of\":\"int\"}";
 
+const FIRST_EDIT: &str = "{\"edit\":1,\"n\":1}";
+
 const NEW_RECTANGLE: &str = "{\"op\":\"domain\",\"d\":\"D\",\"is\":\"{1..2}\"}";
 
 const SIZE_OF_RECTANGLE: &str = "{\"op\":\"size\",\"d\":\"D\"}";
@@ -182,110 +184,51 @@ pub const fn asked(place: usize, line: &'static str, told: &'static str) -> Move
     }
 }
 
+// What is done with the pass at a place.
+const fn changed(place: usize, act: Act) -> Move {
+    Move { place, act }
+}
+
+// A day with nothing after the work.
+fn plain_day(seats: usize, before: &[Move], work: Work, handed_in: usize) -> Day<'_> {
+    Day {
+        seats,
+        before,
+        work,
+        after: &[],
+        handed_in,
+    }
+}
+
 // Two seats with a domain, an array and 48 sets each, also with the pass of the second one withheld; an entry of a pass that
 // is replaced; a pass that is renumbered to another seat, and to none; and numbers of seats that no desk can have.
 #[test]
 fn desk_of_two_seats(rt: HostRuntime) -> Result<(), Fail> {
-    let replaced = [
-        asked(0, NEW_SET, "{\"edit\":1,\"n\":1}"),
-        Move {
-            place: 0,
-            act: Act::Replace,
-        },
-    ];
+    let replaced = [asked(0, NEW_SET, FIRST_EDIT), changed(0, Act::Replace)];
     let renumbered = [
-        asked(0, NEW_SET, "{\"edit\":1,\"n\":1}"),
-        Move {
-            place: 1,
-            act: Act::Renumber(0),
-        },
+        asked(0, NEW_SET, FIRST_EDIT),
+        changed(1, Act::Renumber(0)),
         asked(1, SIZE_OF_SET, STRANGE),
-        Move {
-            place: 1,
-            act: Act::Renumber(2),
-        },
+        changed(1, Act::Renumber(2)),
         asked(1, SIZE_OF_SET, STRANGE),
-        Move {
-            place: 1,
-            act: Act::Renumber(1),
-        },
+        changed(1, Act::Renumber(1)),
         asked(1, SIZE_OF_SET, "{\"size\":0}"),
     ];
+    let missing = Cause::MissingPass { seat: 1 };
+    let differs = Cause::Differs { seat: 0, place: 0 };
+    let no_desk = Early::NoDesk(DeskErr::BadSeats);
     let days = [
-        (
-            Day {
-                seats: 2,
-                before: &[],
-                work: Work::Sets,
-                after: &[],
-                handed_in: 2,
-            },
-            Ok(Ok(102)),
-        ),
-        (
-            Day {
-                seats: 2,
-                before: &[],
-                work: Work::Sets,
-                after: &[],
-                handed_in: 1,
-            },
-            Ok(Err(Cause::MissingPass { seat: 1 })),
-        ),
-        (
-            Day {
-                seats: 1,
-                before: &replaced,
-                work: Work::Nothing,
-                after: &[],
-                handed_in: 1,
-            },
-            Ok(Err(Cause::Differs { seat: 0, place: 0 })),
-        ),
-        (
-            Day {
-                seats: 2,
-                before: &renumbered,
-                work: Work::Nothing,
-                after: &[],
-                handed_in: 2,
-            },
-            Ok(Ok(2)),
-        ),
-        (
-            Day {
-                seats: 0,
-                before: &[],
-                work: Work::Nothing,
-                after: &[],
-                handed_in: 0,
-            },
-            Err(Early::NoDesk(DeskErr::BadSeats)),
-        ),
-        (
-            Day {
-                seats: 17,
-                before: &[],
-                work: Work::Nothing,
-                after: &[],
-                handed_in: 17,
-            },
-            Err(Early::NoDesk(DeskErr::BadSeats)),
-        ),
-        (
-            Day {
-                seats: 16,
-                before: &[],
-                work: Work::Nothing,
-                after: &[],
-                handed_in: 16,
-            },
-            Ok(Ok(0)),
-        ),
+        (plain_day(2, &[], Work::Sets, 2), Ok(Ok(102))),
+        (plain_day(2, &[], Work::Sets, 1), Ok(Err(missing))),
+        (plain_day(1, &replaced, Work::Nothing, 1), Ok(Err(differs))),
+        (plain_day(2, &renumbered, Work::Nothing, 2), Ok(Ok(2))),
+        (plain_day(0, &[], Work::Nothing, 0), Err(no_desk)),
+        (plain_day(17, &[], Work::Nothing, 17), Err(no_desk)),
+        (plain_day(16, &[], Work::Nothing, 16), Ok(Ok(0))),
     ];
-    for (day, end) in &days {
+    for (one, end) in &days {
         assert_eq!(rt;
-            day_of::<Brand, HostRuntime>(&rt, rt.alloc(), Blank::new(16), day),
+            day_of::<Brand, HostRuntime>(&rt, rt.alloc(), Blank::new(16), one),
             *end
         );
     }
@@ -315,7 +258,7 @@ fn cross_read(rt: HostRuntime) -> Result<(), Fail> {
 // Four seats add a hundred numbers each to one set, and undo their own add of each number that 10 divides.
 #[test]
 fn mixed_load(rt: HostRuntime) -> Result<(), Fail> {
-    let before = [asked(0, NEW_SET, "{\"edit\":1,\"n\":1}")];
+    let before = [asked(0, NEW_SET, FIRST_EDIT)];
     let after = [asked(0, SIZE_OF_SET, "{\"size\":360}")];
     let day = Day {
         seats: 4,

@@ -1,4 +1,4 @@
-ghost use Rattle.std.specs.Prelude.{◌≡◌, ◌≤◌, true, Err, IfOk};
+ghost use Rattle.std.specs.Prelude.{◌≡◌, ◌≤◌, true, length, option_map, Err, IfOk, IfSome};
 ghost use Rattle.wb_book.specs.Layouts.{is_of_rank};
 ghost use Rattle.std.specs.List.Sorted.{IsStrictlySortedBy};
 ghost use Rattle.std.specs.Map.{set_value, keys_of};
@@ -6,11 +6,13 @@ ghost use Rattle.std.specs.BTreeMap.{is_at};
 ghost use Rattle.wb_array.specs.Elements.{value_at};
 ghost use Rattle.wb_book.specs.Cells.{index_cmp};
 ghost use Rattle.wb_elements.specs.Changed.{changed_at};
+ghost use Rattle.wb_elements.specs.Lent.{lent, piece_in};
 ghost use Rattle.wb_elements.specs.Indexed.{indexed, AllOf};
 ghost use Rattle.wb_book.specs.declared.values.index.Index.{Index as any_index};
 
 use crate::key::AsIndex;
 use crate::made::made;
+use crate::piece::{Pairs, points_on, texts_on};
 use std::alloc::Global;
 use std::collections::BTreeMap;
 use std::marker::Model;
@@ -206,6 +208,43 @@ impl Elements {
         }
     }
 
+    /// How many elements there are. They stand in the order of their indices.
+    pub fn len(&self) -> usize
+        ensures count { result ≡ length self.now.0 }
+        ensures ascending { IsStrictlySortedBy index_cmp (keys_of self.now.0) }
+    {
+        match &self.form {
+            Form::Line(pieces) => len_of(pieces),
+            Form::Plane(pieces) => len_of(pieces),
+            Form::Solid(pieces) => len_of(pieces),
+            Form::Text(pieces) => len_of(pieces),
+        }
+    }
+
+    /// The elements on a locale, lent; `None` where the mapping has no such locale.
+    pub fn piece(&self, locale: usize) -> Option<Pairs<'_>>
+        ensures { option_map lent result ≡ piece_in self.now.1.0 self.now.0 locale }
+    {
+        match &self.form {
+            Form::Line(pieces) => match points_on(pieces, locale) {
+                Some(pairs) => Some(Pairs::Line(pairs)),
+                None => None,
+            },
+            Form::Plane(pieces) => match points_on(pieces, locale) {
+                Some(pairs) => Some(Pairs::Plane(pairs)),
+                None => None,
+            },
+            Form::Solid(pieces) => match points_on(pieces, locale) {
+                Some(pairs) => Some(Pairs::Solid(pairs)),
+                None => None,
+            },
+            Form::Text(pieces) => match texts_on(pieces, locale) {
+                Some(pairs) => Some(Pairs::Text(pairs)),
+                None => None,
+            },
+        }
+    }
+
     /// The elements, each after its index, in the order of the indices.
     pub fn pairs(&self, alloc: Global) -> Result<Vec<(AnyIndex, i64)>, NoMemory>
         ensures pairs { IfOk result (λ v. v.items ≡ self.now.0) }
@@ -297,6 +336,15 @@ where
     }
 }
 
+fn len_of<D: Domain, M: Mapping<Index = D::Index>>(pieces: &Pieces<D, M>) -> usize
+where
+    D::Index: AsIndex,
+    ensures count { result ≡ length (indexed D.Index.as_index pieces.now.0) }
+    ensures ascending { IsStrictlySortedBy index_cmp (keys_of (indexed D.Index.as_index pieces.now.0)) }
+{
+    pieces.len()
+}
+
 fn pairs_of<D: Domain, M: Mapping<Index = D::Index>>(
     alloc: Global,
     pieces: &Pieces<D, M>,
@@ -306,8 +354,37 @@ where
     ensures pairs { IfOk result (λ v. v.items ≡ indexed D.Index.as_index pieces.now.0) }
     ensures ascending { IfOk result (λ v. IsStrictlySortedBy index_cmp (keys_of v.items)) }
 {
+    let _ = len_of(pieces);
+    if let Some(all) = only_piece(pieces) {
+        let pairs = pairs_on(alloc, all)?;
+        return Ok(pairs);
+    }
     let whole = pieces.gather()?;
     pairs_in(alloc, whole.as_map())
+}
+
+// All pairs, where one locale has them.
+fn only_piece<D: Domain, M: Mapping<Index = D::Index>>(
+    pieces: &Pieces<D, M>,
+) -> Option<&[(D::Index, i64)]>
+    ensures { IfSome result (λ s. s.now ≡ pieces.now.0) }
+{
+    if pieces.mapping().locales() != 1 {
+        return None;
+    }
+    pieces.pairs(0)
+}
+
+fn pairs_on<I: AsIndex>(alloc: Global, pairs: &[(I, i64)]) -> Result<Vec<(AnyIndex, i64)>, NoMemory>
+    ensures { IfOk result (λ v. v.items ≡ indexed I.as_index pairs.now) }
+{
+    let mut found = Vec::new(alloc);
+    for (index, value) in pairs {
+        if found.push((index.any(), *value)).is_err() {
+            return Err(NoMemory);
+        }
+    }
+    Ok(found)
 }
 
 fn pairs_in<I: AsIndex>(

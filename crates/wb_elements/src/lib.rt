@@ -4,6 +4,8 @@
 mod elements;
 mod key;
 mod made;
+mod piece;
 
 pub use crate::elements::{Elements, Form};
 pub use crate::key::AsIndex;
+pub use crate::piece::Pairs;

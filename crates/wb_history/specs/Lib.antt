@@ -1,5 +1,6 @@
 pub use Rattle.wb_log.specs.Past
 pub use Rattle.wb_log.specs.Replies
+pub use Rattle.wb_log.specs.Cascades
 pub mod ReplyLaws
 pub mod Locales
 pub mod Pieces

@@ -1,7 +1,8 @@
-ghost use Rattle.std.specs.Prelude.{◌≡◌, ℕ, ◌+◌, ◌-◌, length, [], ◌∷◌, ◌++◌, OnOk, OnErr, IfOk, true, false, option_map};
+ghost use Rattle.std.specs.Prelude.{◌≡◌, ℕ, ◌+◌, ◌-◌, length, [], ◌∷◌, ◌++◌, OnOk, OnErr, IfOk, IfErr, Ok, Err, true, false, option_map};
 ghost use Rattle.selective_undo.specs.History.{replay, IsLegal};
 ghost use Rattle.wb_book.specs.Cells.{written_more};
 ghost use Rattle.wb_edit.specs.Commands.{meaning};
+ghost use Rattle.wb_log.specs.Cascades.{DependentsReply, CascadeReply, OfNumber, all_out_of_force, places, set_back};
 ghost use Rattle.wb_log.specs.Past.{meant, out_of_force, into_force, force_of};
 ghost use Rattle.wb_log.specs.Replies.{EditReply, UndoReply, LastReply, RedoReply, ByNumber, SetsBack, LeavesOthers, Restores, RedoesInPlace};
 ghost use Rattle.wb_history.specs.Queries.{QueryReply};
@@ -109,6 +110,41 @@ impl History {
         ensures err { OnErr result (self.new ≡ self.old) }
     {
         steps::undo::undo_latest(&mut self.book, &mut self.entries, &mut self.index)
+    }
+
+    /// The numbers of the edits that have to be undone with the edit of a number, from the greatest down.
+    pub fn dependents(&mut self, number: u64) -> Result<Vec<u64>, Refusal>
+        ensures reply { IfOk result (λ v. OfNumber (DependentsReply (meant self.old.entries)) number (Ok v.items)) }
+        ensures why { IfErr result (λ e. OfNumber (DependentsReply (meant self.old.entries)) number (Err e)) }
+        ensures stays { self.new ≡ self.old }
+    {
+        if number == 0 {
+            return Err(Refusal::NoSuchEdit);
+        }
+        let at = (number - 1) as usize;
+        if at >= self.entries.len() {
+            return Err(Refusal::NoSuchEdit);
+        }
+        steps::cascade::dependents_at(&self.entries, &mut self.index, at)
+    }
+
+    /// Undoes the edit of a number with all that need it, from the greatest down, each by an undo that is granted on its
+    /// own: their numbers, and how many cells are set back. Where memory runs out after some, these are the answer.
+    pub fn cascade(&mut self, number: u64) -> Result<(Vec<u64>, usize), Refusal>
+        ensures reply { IfOk result (λ r. OfNumber (CascadeReply (meant self.old.entries)) number (Ok (r.0.items, r.1))) }
+        ensures why { IfErr result (λ e. OfNumber (CascadeReply (meant self.old.entries)) number (Err e)) }
+        ensures entries { IfOk result (λ r. self.new.entries ≡ all_out_of_force r.0.items self.old.entries) }
+        ensures writes { IfOk result (λ r. self.new.writes ≡ written_more self.old.writes (set_back (meant self.old.entries) (places r.0.items))) }
+        ensures err { OnErr result (self.new ≡ self.old) }
+    {
+        if number == 0 {
+            return Err(Refusal::NoSuchEdit);
+        }
+        let at = (number - 1) as usize;
+        if at >= self.entries.len() {
+            return Err(Refusal::NoSuchEdit);
+        }
+        steps::cascade::cascade_at(&mut self.book, &mut self.entries, &mut self.index, at)
     }
 
     /// Redoes the edit of a number in its own place, where no later edit in force is in its way.

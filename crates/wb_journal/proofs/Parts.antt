@@ -68,9 +68,6 @@ differs_past xs own k is within =
     let past : slice_get xs k ≡ None = slice_get_past xs k (omega arith) in
     (start ∙ is, λ h. there own k within (sym h ∙ past))
 
-pub all_same : (xs own : List Entry) (k : ℕ) → xs ≡ take k own → k ≤ length own → length own ≤ k → xs ≡ own
-all_same xs own k is low high = let e : k ≡ length own = omega arith in is ∙ ap (λ n. take n own) e ∙ whole own
-
 pub whole_take : {X : Type 0} (xs : List X) (i : ℕ) → length xs ≤ i → take i xs ≡ xs
 whole_take [] zero h = refl
 whole_take [] (suc i) h = refl

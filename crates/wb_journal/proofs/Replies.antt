@@ -7,7 +7,7 @@ use Rattle.wb_proto.specs.Machine.{Step}
 use Rattle.wb_proto.specs.declared.replies.reply.Reply.{Reply}
 use Rattle.wb_proto.specs.declared.replies.reply.Reply.TheVariants.{Edited, Undone, Redone, Answered, Printed, Refused}
 use Rattle.wb_proto.specs.declared.requests.request.Request.{Request}
-use Rattle.wb_proto.specs.declared.requests.request.Request.TheVariants.{Change, Undo, Redo, Ask, Print}
+use Rattle.wb_proto.specs.declared.requests.request.Request.TheVariants.{Change, Undo, Redo, Ask, Print, History}
 use Rattle.wb_journal.specs.Entries.{is_entered, is_long, leaves_all}
 use Rattle.wb_journal.specs.Courses.{Course}
 use Rattle.wb_journal.specs.Serving.{Enters, AnswersCourse}
@@ -19,6 +19,7 @@ refused_leaves p (Undo None) why q s = s.1
 refused_leaves p (Redo k) why q s = s.1
 refused_leaves p (Ask a) why q s = s.1
 refused_leaves p Print why q s = s.1
+refused_leaves p History why q s = s.1
 
 answered_leaves : (p : Past) (asked : Request) (a : Answer) (q : Past) → Step p asked (Answered a) q → q ≡ p
 answered_leaves p (Change e) a q s = absurd s
@@ -27,6 +28,7 @@ answered_leaves p (Undo None) a q s = absurd s
 answered_leaves p (Redo k) a q s = absurd s
 answered_leaves p (Ask asked) a q s = s.1
 answered_leaves p Print a q s = absurd s
+answered_leaves p History a q s = absurd s
 
 printed_leaves : (p : Past) (asked : Request) (t : _) (q : Past) → Step p asked (Printed t) q → q ≡ p
 printed_leaves p (Change e) t q s = absurd s
@@ -35,6 +37,7 @@ printed_leaves p (Undo None) t q s = absurd s
 printed_leaves p (Redo k) t q s = absurd s
 printed_leaves p (Ask asked) t q s = absurd s
 printed_leaves p Print t q s = s.1
+printed_leaves p History t q s = s.1
 
 pub unentered_leaves : (p : Past) (asked : Request) (r : Reply) (q : Past) → Step p asked r q → is_entered r ≡ false → q ≡ p
 unentered_leaves p asked (Edited k n) q s e = cc

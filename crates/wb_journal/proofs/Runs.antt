@@ -67,7 +67,3 @@ entries_more c seat asked r d answers = by_entered (is_entered r) refl answers
     by_entered : (b : Bool) → is_entered r ≡ b → MatchBool b (Enters c seat asked r d) (d ≡ c) → length d.entries ≡ share_after (length c.entries) r
     by_entered true is enters = rw (share_after, is) (ap length enters.entries ∙ length-append c.entries (entry seat asked r ∷ []))
     by_entered false is same = rw (share_after, is) (ap (λ (x : Course). length x.entries) same)
-
--- An empty journal is a course from the history that it begins with.
-pub course_opens : (opening : Past) (seats : ℕ) → IsCourse opening (record { seats = seats; entries = []; history = opening })
-course_opens opening seats = record { run = refl; seated = All-nil (λ (x : Entry). x.seat < seats) }

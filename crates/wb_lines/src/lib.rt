@@ -17,4 +17,4 @@ pub use sending::{WriteFault, send};
 pub use session::serve_lines;
 pub use sink::{Output, Sink};
 pub use source::{Input, ReadErr, Source};
-pub use whole::read_all;
+pub use whole::{read_all, read_more};

@@ -10,8 +10,8 @@ use std::alloc::Global;
 // One read asks for so many bytes.
 const BLOCK_SIZE: usize = 8192;
 
-// Reads once more, onto the bytes. Says whether there may be more; a read that a signal interrupted gives nothing.
-fn read_more<R: Source>(reader: &mut R, bytes: &mut Vec<u8>) -> Result<bool, LineFault>
+/// Reads once more, onto the bytes. Says whether there may be more; a read that a signal interrupted gives nothing.
+pub fn read_more<R: Source>(reader: &mut R, bytes: &mut Vec<u8>) -> Result<bool, LineFault>
     ensures read { (got : List ℕ) × Consumes (R.remaining reader.old) (R.remaining reader.new) got
         × OnOk result (bytes.new.items ≡ bytes.old.items ++ got) }
     ensures end { IfOk result (λ more. more ≡ false → IsAtEnd (R.remaining reader.new)) }

@@ -45,7 +45,7 @@ past [] k h = refl
 past (x ∷ xs) zero h = absurd (omega (arith, h))
 past (x ∷ xs) (suc k) h = past xs k (omega (arith, h))
 
-none_past : (es : List kept.Entry) (k : ℕ) → length es < k → by_number es k ≡ None
+pub none_past : (es : List kept.Entry) (k : ℕ) → length es < k → by_number es k ≡ None
 none_past es zero h = absurd (omega (arith, h))
 none_past es (suc k) h = past (kept_all es) k (omega (arith, h, kept_length es))
 

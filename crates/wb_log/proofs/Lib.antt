@@ -6,3 +6,6 @@ pub mod Firsts
 pub mod Lists
 pub mod Entered
 pub mod Granted
+pub mod Sweeps
+pub mod Depending
+pub mod Undoings

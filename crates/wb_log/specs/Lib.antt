@@ -1,4 +1,6 @@
 pub mod Past
 pub mod Replies
+pub mod Cascades
 pub mod Kept
+pub mod Needed
 pub mod Indexed

@@ -9,6 +9,7 @@ mod entry;
 mod index;
 mod refusal;
 pub mod steps;
+mod sweep;
 
 pub use crate::entry::{Entry, Kept};
 pub use crate::index::Index;

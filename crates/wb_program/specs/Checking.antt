@@ -1,13 +1,17 @@
--- Whether bytes are the text of a workbook, what is printed of it, and the exit status.
+-- Whether bytes are the text of a workbook or of a history, what is printed of it, and the exit status.
 use Rattle.std.specs.Prelude.{◌≡◌, ◌⊎◌, ℕ, List, [], ◌++◌, codes, decimal, length, take}
 use Rattle.std.specs.Str.{IsUtf8}
+use Rattle.selective_undo.specs.History.{replay, IsLegal}
 use Rattle.wb_book.specs.Cells.{Cells}
 use Rattle.wb_book.specs.Readers.{objects}
 use Rattle.wb_book.specs.WellFormed.{IsWellFormed}
+use Rattle.wb_encode.specs.Text.{history_text}
+use Rattle.wb_history.specs.Past.{Numbered, meant}
 use Rattle.wb_reading.specs.Reading.{IsNoBook}
+use Rattle.wb_record.specs.Text.{IsNoHistory}
 use Rattle.wb_text.specs.Lines.{book_text}
 use Rattle.wb_program.specs.declared.checking.Verdict.{Verdict}
-use Rattle.wb_program.specs.declared.checking.Verdict.TheVariants.{Workbook, Refused}
+use Rattle.wb_program.specs.declared.checking.Verdict.TheVariants.{Workbook, History, Refused}
 
 -- the text of a well-formed workbook with so many objects
 pub record IsTextOf (bytes : List ℕ) (count : ℕ) : Type 0 where
@@ -16,19 +20,34 @@ pub record IsTextOf (bytes : List ℕ) (count : ℕ) : Type 0 where
   pub same : bytes ≡ book_text cells
   pub counted : count ≡ length (objects cells)
 
--- the bytes are the text of a workbook with so many objects; or they are no UTF-8, or the text of no workbook
+-- the text of a legal history of so many edits, whose workbook has so many objects
+pub record IsTextOfHistory (bytes : List ℕ) (count edits : ℕ) : Type 0 where
+  pub entries : List Numbered
+  pub legal : IsLegal (meant entries)
+  pub same : bytes ≡ history_text entries
+  pub counted : count ≡ length (objects (replay (meant entries)))
+  pub numbered : edits ≡ length entries
+
+-- the text of no history, or no UTF-8 at all
+abbrev pub IsNoRecord : List ℕ → Type 0
+IsNoRecord bytes = ¬ IsUtf8 bytes ⊎ IsNoHistory bytes
+
+-- the bytes are the text of a workbook, or of a history; or they are no UTF-8, or the text of no workbook and of no history
 abbrev pub IsVerdict : List ℕ → Verdict → Type 0
 IsVerdict bytes (Workbook count) = IsTextOf bytes count
-IsVerdict bytes Refused = ¬ IsUtf8 bytes ⊎ IsNoBook bytes
+IsVerdict bytes (History count edits) = IsTextOfHistory bytes count edits
+IsVerdict bytes Refused = ¬ IsUtf8 bytes ⊎ (IsNoBook bytes × IsNoHistory bytes)
 
 -- what is printed
 abbrev pub verdict_text : Verdict → List ℕ
 verdict_text (Workbook count) = codes "ok " ++ (decimal count ++ codes "\n")
+verdict_text (History count edits) = codes "ok " ++ (decimal count ++ (codes " " ++ (decimal edits ++ codes "\n")))
 verdict_text Refused = codes "refused\n"
 
--- 0 for a workbook, 1 where there is none
+-- 0 for a workbook or a history, 1 where there is none
 abbrev pub status_of_verdict : Verdict → ℕ
 status_of_verdict (Workbook count) = 0
+status_of_verdict (History count edits) = 0
 status_of_verdict Refused = 1
 
 -- input or output failed, or a growth was refused

@@ -1,7 +1,7 @@
 -- What a connection at a desk is written, and what the program prints once a desk is settled.
-use Rattle.std.specs.Prelude.{◌≡◌, ◌⊎◌, ℕ, List, [], ◌++◌, codes, decimal, length, take, Result, Ok, Err}
+use Rattle.std.specs.Prelude.{◌≡◌, ◌⊎◌, ℕ, Bool, true, false, List, [], ◌++◌, codes, decimal, length, take, Result, Ok, Err}
 use Rattle.selective_undo.specs.History.{replay}
-use Rattle.wb_history.specs.Past.{Past, meant}
+use Rattle.wb_history.specs.Past.{Past, Numbered, meant}
 use Rattle.wb_log.specs.declared.refusal.Refusal.{Refusal}
 use Rattle.wb_log.specs.declared.refusal.Refusal.TheVariants.{NoMemory}
 use Rattle.wb_proto.specs.Replies.{reply_of}
@@ -13,6 +13,7 @@ use Rattle.wb_journal.specs.Courses.{Course, IsCourse}
 use Rattle.wb_shared.specs.Seats.{IsNumberOfSeats}
 use Rattle.wb_journal.specs.Serving.{Held, own_after, share_after, AnswersSome}
 use Rattle.wb_text.specs.Lines.{book_text}
+use Rattle.wb_encode.specs.Text.{history_text}
 use Rattle.wb_program.specs.Checking.{IsFault}
 
 -- a pass after a reply to its request
@@ -34,19 +35,24 @@ pub record AnswersSeat (opening : Past) (h : Held) (line text : List ℕ) (k : H
   pub is_reply : RepliesIfRead opening h (request line) reply k ⊎ NothingAsked h reply k
   pub is_text : text ≡ reply_of reply
 
--- what is printed of a desk that is settled: the number of entries, and the text of the workbook
-abbrev pub settled_text : Course → List ℕ
-settled_text c = codes "settled " ++ (decimal (length c.entries) ++ (codes "\n" ++ book_text (replay (meant c.history.entries))))
+-- the text of the workbook, or of the whole history
+abbrev pub shown : Bool → List Numbered → List ℕ
+shown false es = book_text (replay (meant es))
+shown true es = history_text es
+
+-- what is printed of a desk that is settled: the number of entries, and that text
+abbrev pub settled_text : Bool → Course → List ℕ
+settled_text whole c = codes "settled " ++ (decimal (length c.entries) ++ (codes "\n" ++ shown whole c.history.entries))
 
 -- That was printed of a course, with status 0; or a front of it, at a fault.
-abbrev pub PrintsSettled : Course → ℕ → List ℕ → Type 0
-PrintsSettled c status text = ((status ≡ 0) × (text ≡ settled_text c))
-    ⊎ (IsFault status × ((count : ℕ) × (text ≡ take count (settled_text c))))
+abbrev pub PrintsSettled : Bool → Course → ℕ → List ℕ → Type 0
+PrintsSettled whole c status text = ((status ≡ 0) × (text ≡ settled_text whole c))
+    ⊎ (IsFault status × ((count : ℕ) × (text ≡ take count (settled_text whole c))))
 
 -- No desk was opened or settled, and nothing was printed: there can be no desk of so many seats, or there was a fault.
 abbrev pub NeverSettles : ℕ → ℕ → List ℕ → Type 0
 NeverSettles seats status text = (text ≡ []) × (((status ≡ 2) × ¬ IsNumberOfSeats seats) ⊎ IsFault status)
 
 -- A day of a desk from this opening ends: its course was printed, or a front of that; or it never settled.
-abbrev pub EndsDay : Past → ℕ → ℕ → List ℕ → Type 0
-EndsDay opening seats status text = ((c : Course) × IsCourse opening c × PrintsSettled c status text) ⊎ NeverSettles seats status text
+abbrev pub EndsDay : Bool → Past → ℕ → ℕ → List ℕ → Type 0
+EndsDay whole opening seats status text = ((c : Course) × IsCourse opening c × PrintsSettled whole c status text) ⊎ NeverSettles seats status text

@@ -1,7 +1,8 @@
-//! Whether an input is the text of a workbook.
+//! Whether an input is the text of a workbook or of a history.
 
 ghost use Rattle.std.specs.Prelude.{◌≡◌, ℕ, List, true, IfOk, string_bytes};
 ghost use Rattle.std.specs.Io.KnownBytes.{Appends, Consumes, IsAtEnd};
+ghost use Rattle.wb_reading.specs.Reading.{IsNoBook};
 ghost use Rattle.wb_program.specs.Checking.{IsVerdict, verdict_text, status_of_verdict, Says, Judges, IsAnswered};
 ghost use Rattle.wb_program.specs.Running.{HasFailed};
 
@@ -11,8 +12,9 @@ use std::str::from_utf8;
 use wb_lines::{LineFault, Sink, Source, read_all, send};
 use wb_range::NoMemory;
 use wb_reading::{BookErr, read_book};
+use wb_record::{HistoryErr, read_history};
 
-/// The exit status of `check` where the input is no text of a workbook.
+/// The exit status where the input is no text that is wanted.
 pub const REFUSED: u8 = 1;
 
 /// What `check` finds.
@@ -20,11 +22,27 @@ pub const REFUSED: u8 = 1;
 pub enum Verdict {
     /// The text of a workbook with so many objects.
     Workbook(usize),
-    /// No UTF-8, or the text of no workbook.
+    /// The text of a history: how many objects its workbook has, and how many edits there are.
+    History(usize, u64),
+    /// No UTF-8, or the text of no workbook and of no history.
     Refused,
 }
 
-// Whether a text is that of a workbook.
+// Whether a text that no workbook has is that of a history.
+fn verdict_on_history(alloc: Global, text: &str) -> Result<Verdict, NoMemory>
+    ensures { IfOk result (λ v. IsNoBook text.now → IsVerdict text.now v) }
+{
+    match read_history(alloc, text) {
+        Ok(history) => {
+            let book = history.book();
+            Ok(Verdict::History(book.objects(), history.len()))
+        }
+        Err(HistoryErr::Bad) => Ok(Verdict::Refused),
+        Err(HistoryErr::NoMemory) => Err(NoMemory),
+    }
+}
+
+// Whether a text is that of a workbook or of a history.
 fn verdict_on_text(alloc: Global, text: &str) -> Result<Verdict, NoMemory>
     ensures { IfOk result (λ v. IsVerdict text.now v) }
 {
@@ -33,12 +51,12 @@ fn verdict_on_text(alloc: Global, text: &str) -> Result<Verdict, NoMemory>
             let _well_formed = book.writes();
             Ok(Verdict::Workbook(book.objects()))
         }
-        Err(BookErr::Bad) => Ok(Verdict::Refused),
+        Err(BookErr::Bad) => verdict_on_history(alloc, text),
         Err(BookErr::NoMemory) => Err(NoMemory),
     }
 }
 
-/// Whether bytes are the text of a workbook, and how many objects it has.
+/// Whether bytes are the text of a workbook or of a history, and how many objects and edits there are.
 pub fn verdict_on(alloc: Global, bytes: &[u8]) -> Result<Verdict, NoMemory>
     ensures { IfOk result (λ v. IsVerdict bytes.now v) }
 {
@@ -53,6 +71,7 @@ fn verdict_text(alloc: Global, verdict: Verdict) -> Result<String, AllocError>
 {
     match verdict {
         Verdict::Workbook(count) => format!(in alloc; "ok {count}\n"),
+        Verdict::History(count, edits) => format!(in alloc; "ok {count} {edits}\n"),
         Verdict::Refused => String::from_str(alloc, "refused\n"),
     }
 }
@@ -62,13 +81,13 @@ pub fn status_of_verdict(verdict: Verdict) -> u8
     ensures { result ≡ status_of_verdict verdict }
 {
     match verdict {
-        Verdict::Workbook(_) => DONE,
+        Verdict::Workbook(_) | Verdict::History(_, _) => DONE,
         Verdict::Refused => REFUSED,
     }
 }
 
-// Prints a verdict: the exit status.
-fn say<W: Sink>(alloc: Global, verdict: Verdict, writer: &mut W) -> u8
+/// Prints a verdict: the exit status.
+pub(crate) fn say<W: Sink>(alloc: Global, verdict: Verdict, writer: &mut W) -> u8
     ensures says { (text : List ℕ) × Appends (W.contents writer.old) (W.contents writer.new) text × Says verdict result text }
     ensures flushed { IsAnswered result → W.flushed writer.new ≡ true }
     ensures failed { result ≡ 3 → W.failed writer.new ≡ true }
@@ -86,8 +105,8 @@ fn say<W: Sink>(alloc: Global, verdict: Verdict, writer: &mut W) -> u8
     status_of_verdict(verdict)
 }
 
-/// Reads the reader to its end and prints whether that is the text of a workbook: `ok` and the number of its objects,
-/// with exit status 0, or `refused` with status 1; 3 only where the latest read, write or flush failed, or all reads that
+/// Reads the reader to its end and prints whether that is the text of a workbook or of a history: `ok` and the number of
+/// its objects, for a history then that of its edits, with exit status 0; or `refused` with status 1; 3 only where the latest read, write or flush failed, or all reads that
 /// are allowed were made, and 4 where a growth was refused.
 pub fn check_with<R: Source, W: Sink>(alloc: Global, reader: &mut R, writer: &mut W) -> u8
     ensures judged { (read : List ℕ) × Consumes (R.remaining reader.old) (R.remaining reader.new) read

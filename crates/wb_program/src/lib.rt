@@ -1,15 +1,19 @@
-//! What the program does: a session on an empty workbook, the judging of a text, and a desk on connections, each over a
-//! reader and a writer, each with the exit status that comes of it.
+//! What the program does: a session on an empty workbook or from the text of a history, the judging of a text, and a desk on
+//! connections, each over a reader and a writer, each with the exit status that comes of it.
 #![tactic(auto)]
 
 mod checking;
+mod put_back;
+mod resuming;
 mod running;
 mod seat;
 mod serving;
 
 pub use crate::checking::{REFUSED, Verdict, check_with, status_of_verdict, verdict_on};
+pub use crate::put_back::PutBack;
+pub use crate::resuming::{history_from, resume_with};
 pub use crate::running::{
     BAD_COMMAND_LINE, DONE, INPUT_OR_OUTPUT_FAILED, NO_MEMORY, run_with, status_of,
 };
 pub use crate::seat::serve_seat;
-pub use crate::serving::serve_on;
+pub use crate::serving::{serve_history, serve_on};

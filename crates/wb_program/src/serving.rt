@@ -1,9 +1,9 @@
 //! A desk on connections: each seat's lines come on a connection of its own, in a thread of its own.
-ghost use Rattle.std.specs.Prelude.{◌≡◌, ℕ, List, IfOk, IfErr, string_bytes, true};
+ghost use Rattle.std.specs.Prelude.{◌≡◌, ℕ, List, IfOk, IfErr, string_bytes, true, false};
 ghost use Rattle.std.specs.Io.KnownBytes.{Appends};
 ghost use Rattle.wb_shared.specs.Openings.{nothing_done};
 ghost use Rattle.wb_program.specs.Checking.{IsFault};
-ghost use Rattle.wb_program.specs.Serving.{settled_text, PrintsSettled, EndsDay};
+ghost use Rattle.wb_program.specs.Serving.{shown, settled_text, PrintsSettled, EndsDay};
 
 use crate::running::{BAD_COMMAND_LINE, DONE, INPUT_OR_OUTPUT_FAILED, NO_MEMORY};
 use crate::seat::serve_seat;
@@ -15,6 +15,8 @@ use std::sync::Wait;
 use std::sync::ledger::Blank;
 use std::thread;
 use std::thread::Threads;
+use wb_encode::print_history;
+use wb_history::History;
 use wb_lines::{Input, Output, Sink, send};
 use wb_range::NoMemory;
 use wb_shared::{Desk, DeskErr, Opening, Pass, Shared, settle};
@@ -84,24 +86,44 @@ fn serve_all<L: Opening + Send + Sync, R: Threads + Wait + Sync>(
     )
 }
 
-// The number of entries, and the text of the workbook.
-fn settled_text<L: Opening>(alloc: Global, shared: &Shared<L>) -> Result<String, NoMemory>
-    ensures { IfOk result (λ t. string_bytes t ≡ settled_text shared.now.course) }
+// The text of the workbook, or of the whole history.
+fn shown(alloc: Global, history: &History, whole: bool) -> Result<String, NoMemory>
+    ensures { IfOk result (λ t. string_bytes t ≡ shown whole history.now.entries) }
+{
+    if whole {
+        print_history(alloc, history)
+    } else {
+        print_book(alloc, history.book())
+    }
+}
+
+// The number of entries, and that text.
+fn settled_text<L: Opening>(
+    alloc: Global,
+    shared: &Shared<L>,
+    whole: bool,
+) -> Result<String, NoMemory>
+    ensures { IfOk result (λ t. string_bytes t ≡ settled_text whole shared.now.course) }
 {
     let count = shared.entries();
-    let book = print_book(alloc, shared.history().book())?;
-    match format!(in alloc; "settled {count}\n{book}") {
+    let text = shown(alloc, shared.history(), whole)?;
+    match format!(in alloc; "settled {count}\n{text}") {
         Ok(text) => Ok(text),
         Err(_) => Err(NoMemory),
     }
 }
 
-// Prints how many entries there are, and the workbook: the exit status.
-fn print_settled<L: Opening, W: Sink>(alloc: Global, shared: &Shared<L>, writer: &mut W) -> u8
-    ensures prints { (text : List ℕ) × Appends (W.contents writer.old) (W.contents writer.new) text × PrintsSettled shared.now.course result text }
+// Prints how many entries there are, and the workbook or the history: the exit status.
+fn print_settled<L: Opening, W: Sink>(
+    alloc: Global,
+    shared: &Shared<L>,
+    whole: bool,
+    writer: &mut W,
+) -> u8
+    ensures prints { (text : List ℕ) × Appends (W.contents writer.old) (W.contents writer.new) text × PrintsSettled whole shared.now.course result text }
     ensures flushed { result ≡ 0 → W.flushed writer.new ≡ true }
 {
-    let text = match settled_text(alloc, shared) {
+    let text = match settled_text(alloc, shared, whole) {
         Ok(text) => text,
         Err(NoMemory) => return NO_MEMORY,
     };
@@ -121,26 +143,28 @@ fn serve_day<L: Opening + Send + Sync, R: Threads + Wait + Sync, W: Sink>(
     blank: Blank,
     listener: &TcpListener,
     seats: usize,
+    history: History,
+    whole: bool,
     writer: &mut W,
 ) -> u8
     requires name { blank.name ≡ L.name }
     requires parts { blank.parts ≡ L.parts }
     requires sixteen { blank.parts ≡ 16 }
-    requires opening { L.opening ≡ nothing_done }
-    ensures prints { (text : List ℕ) × Appends (W.contents writer.old) (W.contents writer.new) text × EndsDay L.opening seats result text }
+    requires opening { L.opening ≡ history }
+    ensures prints { (text : List ℕ) × Appends (W.contents writer.old) (W.contents writer.new) text × EndsDay whole L.opening seats result text }
     ensures flushed { result ≡ 0 → W.flushed writer.new ≡ true }
 {
-    let (desk, passes) = match Desk::<L>::new(alloc, blank, seats) {
+    let (desk, passes) = match Desk::<L>::open_at(alloc, blank, seats, history) {
         Ok(made) => made,
-        Err(DeskErr::BadSeats) => return BAD_COMMAND_LINE,
-        Err(DeskErr::NoMemory) => return NO_MEMORY,
+        Err((_, DeskErr::BadSeats)) => return BAD_COMMAND_LINE,
+        Err((_, DeskErr::NoMemory)) => return NO_MEMORY,
     };
     let passes = match serve_all(rt, alloc, listener, &desk, passes) {
         Ok(passes) => passes,
         Err(status) => return status,
     };
     match settle(desk, passes) {
-        Ok(shared) => print_settled(alloc, &shared, writer),
+        Ok(shared) => print_settled(alloc, &shared, whole, writer),
         Err(_) => INPUT_OR_OUTPUT_FAILED,
     }
 }
@@ -156,8 +180,43 @@ pub fn serve_on<R: Threads + Wait + Sync, W: Sink>(
     seats: usize,
     writer: &mut W,
 ) -> u8
-    ensures prints { (text : List ℕ) × Appends (W.contents writer.old) (W.contents writer.new) text × EndsDay nothing_done seats result text }
+    ensures prints { (text : List ℕ) × Appends (W.contents writer.old) (W.contents writer.new) text × EndsDay false nothing_done seats result text }
     ensures flushed { result ≡ 0 → W.flushed writer.new ≡ true }
 {
-    serve_day::<Brand, R, W>(rt, alloc, Blank::new(16), listener, seats, writer)
+    let history = History::new(alloc);
+    serve_day::<Brand, R, W>(
+        rt,
+        alloc,
+        Blank::new(16),
+        listener,
+        seats,
+        history,
+        false,
+        writer,
+    )
+}
+
+/// The same on the workbook of a history: the journal runs from that history, and the text of the whole history is printed in
+/// the place of the workbook's.
+pub fn serve_history<R: Threads + Wait + Sync, W: Sink>(
+    rt: &R,
+    alloc: Global,
+    listener: &TcpListener,
+    seats: usize,
+    history: History,
+    writer: &mut W,
+) -> u8
+    ensures prints { (text : List ℕ) × Appends (W.contents writer.old) (W.contents writer.new) text × EndsDay true history seats result text }
+    ensures flushed { result ≡ 0 → W.flushed writer.new ≡ true }
+{
+    serve_day::<Brand, R, W>(
+        rt,
+        alloc,
+        Blank::new(16),
+        listener,
+        seats,
+        history,
+        true,
+        writer,
+    )
 }

@@ -7,6 +7,8 @@
 #[cfg(test)]
 mod connections;
 #[cfg(test)]
+mod records;
+#[cfg(test)]
 mod runs;
 #[cfg(test)]
 mod texts;

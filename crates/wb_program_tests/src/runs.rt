@@ -29,7 +29,11 @@ fn command_line_statuses(rt: HostRuntime) -> Result<(), Fail> {
     let alloc = rt.alloc();
     assert_eq!(rt;
         command_of(alloc, &["workbook", "run"]).ok(),
-        Some(Asked::Run)
+        Some(Asked::Run { resume: false })
+    );
+    assert_eq!(rt;
+        command_of(alloc, &["workbook", "run", "--resume"]).ok(),
+        Some(Asked::Run { resume: true })
     );
     assert_eq!(rt;
         command_of(alloc, &["workbook", "check"]).ok(),
@@ -95,13 +99,18 @@ fn words_of_serve(rt: HostRuntime) -> Result<(), Fail> {
     let alloc = rt.alloc();
     assert_eq!(rt;
         serving(alloc, &["--port", "0", "--seats", "1"]),
-        Some(Asked::Serve { port: 0, seats: 1 })
+        Some(Asked::Serve {
+            port: 0,
+            seats: 1,
+            resume: false
+        })
     );
     assert_eq!(rt;
-        serving(alloc, &["--seats", "16", "--port", "65535"]),
+        serving(alloc, &["--seats", "16", "--resume", "--port", "65535"]),
         Some(Asked::Serve {
             port: 65_535,
-            seats: 16
+            seats: 16,
+            resume: true
         })
     );
     for words in &NO_DESK {

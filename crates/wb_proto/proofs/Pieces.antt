@@ -8,7 +8,8 @@ use Rattle.serde_json.specs.View.{items_of}
 use Rattle.serde_json.specs.Written.{compact_text, items_text}
 use Rattle.wb_book.specs.declared.values.index.Index.{Index}
 use Rattle.wb_book.specs.declared.values.index.Index.TheVariants.{Point, Text}
-use Rattle.wb_proto.specs.Pieces.{integer_data, point_data, index_data, pair_data, piece_data, further, bracketed, point_text, index_text, pair_text, piece_text}
+use Rattle.wb_encode.specs.Values.{integer_data, point_data, index_data}
+use Rattle.wb_proto.specs.Pieces.{pair_data, piece_data, further, bracketed, point_text, index_text, pair_text, piece_text}
 
 integer_is : (z : ℤ) → signed_decimal z ≡ compact_text (integer_data z)
 integer_is (pos n) = refl

@@ -1,5 +1,5 @@
 -- The machine of requests and replies over a history: what is replied to a request, and what the history is next. A refusal,
--- a query and a print leave it as it was.
+-- a query and a print, of the workbook or of the history, leave it as it was.
 use Rattle.std.specs.Prelude.{◌≡◌, ◌-◌, ◌⊎◌, ℕ, List, [], ◌∷◌, ◌++◌, true, Some, None, Result, Ok, Err}
 use Rattle.selective_undo.specs.History.{replay}
 use Rattle.wb_book.specs.Cells.{written_more}
@@ -12,12 +12,13 @@ use Rattle.wb_history.specs.declared.query.Query.{Query}
 use Rattle.wb_log.specs.declared.refusal.Refusal.{Refusal}
 use Rattle.wb_log.specs.declared.refusal.Refusal.TheVariants.{NoMemory}
 use Rattle.wb_text.specs.Lines.{book_text}
+use Rattle.wb_encode.specs.Text.{history_text}
 use Rattle.wb_proto.specs.Replies.{reply_of}
 use Rattle.wb_proto.specs.Requests.{request}
 use Rattle.wb_proto.specs.declared.replies.reply.Reply.{Reply}
 use Rattle.wb_proto.specs.declared.replies.reply.Reply.TheVariants.{Edited, Undone, Redone, Answered, Printed, Refused}
 use Rattle.wb_proto.specs.declared.requests.request.Request.{Request}
-use Rattle.wb_proto.specs.declared.requests.request.Request.TheVariants.{Change, Undo, Redo, Ask, Print}
+use Rattle.wb_proto.specs.declared.requests.request.Request.TheVariants.{Change, Undo, Redo, Ask, Print, History}
 
 -- An edit comes last, in force; n cells were set.
 pub record Appends (e : Edit) (n : ℕ) (old new : Past) : Type 0 where
@@ -70,6 +71,12 @@ Prints p (Printed t) q = (t ≡ book_text (replay (meant p.entries))) × (q ≡ 
 Prints p (Refused why) q = (why ≡ NoMemory) × (q ≡ p)
 Prints p _ q = ⊥
 
+-- the text of the history, unless memory ran out
+abbrev pub PrintsHistory : Past → Reply → Past → Type 0
+PrintsHistory p (Printed t) q = (t ≡ history_text p.entries) × (q ≡ p)
+PrintsHistory p (Refused why) q = (why ≡ NoMemory) × (q ≡ p)
+PrintsHistory p _ q = ⊥
+
 -- One step: from a history, by a request, to a reply and the next history.
 abbrev pub Step : Past → Request → Reply → Past → Type 0
 Step p (Change e) r q = Changes p e r q
@@ -78,6 +85,7 @@ Step p (Undo None) r q = UndoesLatest p r q
 Step p (Redo k) r q = Redoes p k r q
 Step p (Ask asked) r q = Answers p asked r q
 Step p Print r q = Prints p r q
+Step p History r q = PrintsHistory p r q
 
 -- What was read is answered by a step, or by why it is no request.
 abbrev pub StepIfRead : Past → Result Request Refusal → Reply → Past → Type 0

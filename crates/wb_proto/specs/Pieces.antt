@@ -2,28 +2,14 @@
 use Rattle.std.specs.Prelude.{ℕ, ℤ, List, [], ◌∷◌, ◌++◌, map, codes}
 use Rattle.std.specs.Fmt.{signed_decimal}
 use Rattle.std.specs.List.{join_by}
-use Rattle.serde_json.specs.Data.{Data, number, string, array, object, no_items, item, member, no_members}
-use Rattle.serde_json.specs.Find.{of_integer}
+use Rattle.serde_json.specs.Data.{Data, string, array, object, no_items, item, member, no_members}
 use Rattle.serde_json.specs.View.{items_of}
 use Rattle.serde_json.specs.Written.{compact_text}
 use Rattle.wb_book.specs.declared.values.index.Index.{Index}
 use Rattle.wb_book.specs.declared.values.index.Index.TheVariants.{Point, Text}
+use Rattle.wb_encode.specs.Values.{integer_data, index_data}
 
 -- ---- as JSON values
-
-abbrev pub integer_data : ℤ → Data
-integer_data z = number (of_integer z)
-
--- an integer stands alone, two or three of them in an array
-unfoldable pub point_data : List ℤ → Data
-point_data [] = array no_items
-point_data (i ∷ []) = integer_data i
-point_data (i ∷ (j ∷ is)) = array (items_of (map integer_data (i ∷ (j ∷ is))))
-
--- an index, as requests have it
-abbrev pub index_data : Index → Data
-index_data (Point is) = point_data is
-index_data (Text t) = string t
 
 -- an element after its index
 abbrev pub pair_data : Index × ℤ → Data

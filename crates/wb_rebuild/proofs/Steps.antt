@@ -55,7 +55,7 @@ twice l ls e = ap (λ b. cond b false (are_distinct ls)) e
 pub once : (l : Line) (ls : List Line) → is_some (line_in (name_of l) ls) ≡ false → are_distinct ls ≡ true → are_distinct (l ∷ ls) ≡ true
 once l ls e d = ap (λ b. cond b false (are_distinct ls)) e ∙ d
 
-turned : (n m : Name) → is_same_name n m ≡ is_same_name m n
+pub turned : (n m : Name) → is_same_name n m ≡ is_same_name m n
 turned n m = (eq_by_cmp_equiv nat_list_cmp_total).symm n m
 
 chosen : (b : Bool) (lines : List Line) (p : ℕ) (o : Option ℕ) (l : Line) (r : Option Line) → slice_get lines p ≡ Some l → option_and_then (slice_get lines) o ≡ r → option_and_then (slice_get lines) (cond b (Some p) o) ≡ cond b (Some l) r
@@ -79,7 +79,7 @@ found_more lines ls l m n p there found is = record {
 
 -- ---- one more line, from the last one back
 
-drop_at : (xs : List ObjectLine) (k j : ℕ) (x : ObjectLine) → k < length xs → j ≡ suc k → x ≡ get_or xs k x → drop k xs ≡ x ∷ drop j xs
+pub drop_at : (xs : List ObjectLine) (k j : ℕ) (x : ObjectLine) → k < length xs → j ≡ suc k → x ≡ get_or xs k x → drop k xs ≡ x ∷ drop j xs
 drop_at xs k j x low next this = drop-cons xs k x low ∙ ap (λ y. y ∷ drop (suc k) xs) (sym this) ∙ ap (λ i. x ∷ drop i xs) (sym next)
 
 place_line : (xs : List ObjectLine) (k : ℕ) (x : ObjectLine) → k < length xs → x ≡ get_or xs k x → slice_get (map line_of xs) k ≡ Some (line_of x)

@@ -1,17 +1,17 @@
 -- The lines of edits below the heading.
-use Rattle.std.proofs.Common.{◌≡◌, ◌≢◌, ℕ, zero, suc, ◌+◌, Bool, true, false, List, [], ◌∷◌, ◌++◌, length, take, decimal, codes, Option, None, slice_get, refl, sym, ap, ◌∙◌, subst, Some, ◌⊎◌, inl, inr, arith}
+use Rattle.std.proofs.Common.{◌≡◌, ℕ, ◌+◌, Bool, true, false, List, [], ◌∷◌, ◌++◌, length, decimal, codes, refl, sym, ap, ◌∙◌, Some, ◌⊎◌, inl, inr, arith}
 use Rattle.std.specs.List.{flat_map}
 use Rattle.std.proofs.lemmas.Grind.{flat_map-append}
 use Rattle.std.proofs.lemmas.List.{append-nil, append_assoc}
 use Rattle.std.proofs.lemmas.List.Concat.{flat_map-cons}
 use Rattle.selective_undo.specs.History.{replay}
 use Rattle.wb_history.specs.Past.{Numbered, meant}
-use Rattle.wb_history.specs.Restored.{numbered_at}
 use Rattle.wb_lines.specs.Lines.{IsUnbroken}
 use Rattle.wb_lines.proofs.Progress.{unbroken-append}
 use Rattle.wb_proto.specs.declared.requests.request.Request.TheVariants.{Change}
 use Rattle.wb_wire.specs.Encoded.{request_data, request_line}
-use Rattle.wb_wire.specs.Proper.{IsProperRequest}
+use Rattle.wb_wire.proofs.Written.{reads_back}
+use Rattle.wb_encode.specs.Text.{AreJson}
 use Rattle.wb_record.specs.Text.{mark, said, edit_line, objects_text, history_text, AreSaid, IsSaid, AreProper}
 use Rattle.wb_record.specs.Lines.{marked_at, heading, below}
 use Rattle.wb_record.proofs.Heading.{count_line}
@@ -68,30 +68,8 @@ text_is es =
     ap (λ t. codes "chapel-workbook 2\n" ++ (objects_text s ++ t)) (sym (append_assoc (codes "history ") (decimal (length es)) (codes "\n" ++ (flat_map edit_line es ++ codes "end\n"))) ∙ ap (λ t. count_line es ++ t) (lines_end es))
     ∙ regroup (codes "chapel-workbook 2\n") (objects_text s) (count_line es) (below es) (codes "\nend\n")
 
--- ---- the lines that are printed so far
+-- ---- what is printed is read
 
-take_next : (es : List Numbered) (k : ℕ) (x : Numbered) → Some x ≡ slice_get es k → take (suc k) es ≡ take k es ++ x ∷ []
-take_next [] k x e = cc
-take_next (y ∷ es) zero x e = let h : x ≡ y = cc in ap (λ z. z ∷ []) (sym h)
-take_next (y ∷ es) (suc k) x e = ap (λ zs. y ∷ zs) (take_next es k x e)
-
-pub lines_more : (es : List Numbered) (k : ℕ) (x : Numbered) → Some x ≡ numbered_at es (k + 1) → flat_map edit_line (take (k + 1) es) ≡ flat_map edit_line (take k es) ++ edit_line x
-lines_more es k x e =
-    let next : k + 1 ≡ suc k = omega arith in
-    ap (λ n. flat_map edit_line (take n es)) next ∙ ap (flat_map edit_line) (take_next es k x (e ∙ ap (numbered_at es) next))
-    ∙ flat_map-append edit_line (take k es) (x ∷ []) ∙ ap (λ t. flat_map edit_line (take k es) ++ t) (flat_map-cons edit_line x [] ∙ append-nil (edit_line x))
-
-said_with : (es : List Numbered) (x : Numbered) → AreSaid es → IsSaid x.edit → AreSaid (es ++ x ∷ [])
-said_with [] x h s = (s, tt)
-said_with (y ∷ es) x h s = (h.0, said_with es x h.1 s)
-
-proper_at : (es : List Numbered) (k : ℕ) (x : Numbered) → AreProper es → Some x ≡ slice_get es k → IsProperRequest (Change x.edit)
-proper_at [] k x h e = cc
-proper_at (y ∷ es) zero x h e = let f : y ≡ x = cc in subst (λ z. IsProperRequest (Change z.edit)) f h.0
-proper_at (y ∷ es) (suc k) x h e = proper_at es k x h.1 e
-
-pub said_more : (es : List Numbered) (k : ℕ) (x : Numbered) → Some x ≡ numbered_at es (k + 1) → (AreProper es → AreSaid (take k es)) → (IsProperRequest (Change x.edit) → IsSaid x.edit) → AreProper es → AreSaid (take (k + 1) es)
-said_more es k x e before one proper =
-    let next : k + 1 ≡ suc k = omega arith in
-    let at = e ∙ ap (numbered_at es) next in
-    subst AreSaid (sym (ap (λ n. take n es) next ∙ take_next es k x at)) (said_with (take k es) x (before proper) (one (proper_at es k x proper at)))
+pub all_said : (es : List Numbered) → AreJson es → AreProper es → AreSaid es
+all_said [] j p = tt
+all_said (x ∷ es) j p = (reads_back (Change x.edit) _ j.0 p.0, all_said es j.1 p.1)

@@ -48,7 +48,13 @@ fn edit_of(alloc: Global, line: &[u8]) -> Result<Option<Edit>, NoMemory>
 {
     match read_request(alloc, line) {
         Ok(Request::Change(edit)) => Ok(Some(edit)),
-        Ok(Request::Undo(_) | Request::Redo(_) | Request::Ask(_) | Request::Print) => Ok(None),
+        Ok(
+            Request::Undo(_)
+            | Request::Redo(_)
+            | Request::Ask(_)
+            | Request::Print
+            | Request::History,
+        ) => Ok(None),
         Err(Refusal::NoMemory) => Err(NoMemory),
         Err(
             Refusal::BadRequest

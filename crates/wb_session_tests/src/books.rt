@@ -24,31 +24,39 @@ fn book_of(alloc: Global, text: &str) -> Result<Book, BookErr> {
     }
 }
 
+// Each domain with its place, its size, and its first and its last index.
+const KINDS: [(&str, usize, usize, i64, i64); 3] = [
+    ("D", 1, 4, 3, 6),
+    ("K", 2, 2, -2, 9),
+    ("S", 3, 2, 3, 6),
+];
+
+// Names with integers and the locales that these lie on.
+const LOCALES: [(&str, i64, Option<usize>); 8] = [
+    ("D", 4, Some(0)),
+    ("D", 5, Some(1)),
+    ("D", 7, None),
+    ("S", 3, Some(1)),
+    ("S", 4, None),
+    ("K", 9, Some(0)),
+    ("K", 3, None),
+    ("A", 3, None),
+];
+
 #[test]
 fn domains_of_every_kind(rt: HostRuntime) -> Result<(), Fail> {
     let book = book_of(rt.alloc(), DOMAINS)?;
-    for (place, name, size, first, last) in [
-        (1, "D", 4, 3, 6),
-        (2, "K", 2, -2, 9),
-        (3, "S", 2, 3, 6),
-    ] {
-        let name = Name::new(name)?;
-        assert_eq!(rt; book.object(place), Some(name));
-        assert_eq!(rt; book.size(&name), Some(size));
-        assert_eq!(rt; book.index(&name, 0), Some(at(first)));
-        assert_eq!(rt; book.index(&name, size - 1), Some(at(last)));
+    for (text, place, size, first, last) in &KINDS {
+        let name = Name::new(text)?;
+        let end = size.saturating_sub(1);
+        assert!(rt; book.object(*place) == Some(name), "{text}");
+        assert!(rt; book.size(&name) == Some(*size), "{text}");
+        assert!(rt; book.index(&name, 0) == Some(at(*first)), "{text}");
+        assert!(rt; book.index(&name, end) == Some(at(*last)), "{text}");
     }
-    for (name, i, locale) in [
-        ("D", 4, Some(0)),
-        ("D", 5, Some(1)),
-        ("D", 7, None),
-        ("S", 3, Some(1)),
-        ("S", 4, None),
-        ("K", 9, Some(0)),
-        ("K", 3, None),
-        ("A", 3, None),
-    ] {
-        assert_eq!(rt; book.locale_of(&Name::new(name)?, &at(i)), locale);
+    for (text, i, locale) in &LOCALES {
+        let found = book.locale_of(&Name::new(text)?, &at(*i));
+        assert!(rt; found == *locale, "{text} {i}");
     }
     Ok(())
 }
@@ -61,7 +69,7 @@ fn elements_of_an_array(rt: HostRuntime) -> Result<(), Fail> {
         Ok(elements) => elements,
         Err(_) => book.elements(&array)?,
     };
-    assert_eq!(rt; elements.as_slice(), [(at(3), 7), (at(6), 10)].as_slice());
+    assert!(rt; elements.as_slice() == [(at(3), 7), (at(6), 10)].as_slice());
     Ok(())
 }
 

@@ -24,10 +24,8 @@ fn add(
     if index.add(number, reads, before).is_ok() {
         return Ok(());
     }
-    assert_eq!(rt;
-        index.first_to_block_undo(before, number.saturating_sub(1)),
-        None
-    );
+    let blocker = index.first_to_block_undo(before, number.saturating_sub(1));
+    assert!(rt; blocker.is_none());
     index.add(number, reads, before)?;
     Ok(())
 }
@@ -47,11 +45,12 @@ fn footprint_index_of_a_copy(rt: HostRuntime) -> Result<(), Fail> {
     add(&rt, &mut index, 3, &reads_of_set, &set)?;
     add(&rt, &mut index, 4, &reads_of_copy, &copied)?;
     let elements = [Pattern::Elements(array)];
-    assert_eq!(rt; index.first_to_block_undo(&set, 2), Some(3));
-    assert_eq!(rt; index.first_to_block_undo(&set, 3), Some(4));
-    assert_eq!(rt; index.first_to_block_redo(&elements, &[], 3), Some(4));
+    assert!(rt; index.first_to_block_undo(&set, 2) == Some(3));
+    assert!(rt; index.first_to_block_undo(&set, 3) == Some(4));
+    assert!(rt; index.blockers(rt.alloc(), &set, 3)?.as_slice() == [4].as_slice());
+    assert!(rt; index.first_to_block_redo(&elements, &[], 3) == Some(4));
     index.take(4, &reads_of_copy, &copied);
-    assert_eq!(rt; index.first_to_block_undo(&set, 3), None);
-    assert_eq!(rt; index.first_to_block_redo(&elements, &[], 3), None);
+    assert!(rt; index.first_to_block_undo(&set, 3).is_none());
+    assert!(rt; index.first_to_block_redo(&elements, &[], 3).is_none());
     Ok(())
 }

@@ -1,5 +1,5 @@
 //! Tests of the crates from `wb_book` to `wb_record`: the calls of a book, the index of footprints, literals, texts of
-//! workbooks, worked histories as request lines with their replies, sessions over devices that fail, and the canonical lines
+//! workbooks, worked histories as request lines with their replies, undo with dependents, sessions over devices that fail, and the canonical lines
 //! of requests.
 //!
 //! A crate with tests is proved twice, so these crates have none of their own.
@@ -9,6 +9,8 @@
 mod book_texts;
 #[cfg(test)]
 mod books;
+#[cfg(test)]
+mod cascades;
 #[cfg(test)]
 mod devices;
 #[cfg(test)]

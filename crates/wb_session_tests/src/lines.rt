@@ -1,15 +1,14 @@
 //! Lines and sessions over devices that give or take a byte a call, fail, or hold bytes back.
 
 use crate::devices::{Narrow, OneByOne};
+use crate::scripts::ended;
 use std::alloc::Global;
 use std::io::BufWriter;
 use std::process::Abort;
 use std::test::Fail;
-use wb_history::History;
 use wb_lines::{
     Input, Line, LineBuffer, LineFault, Output, SessionEnd, WriteFault, next_line, read_all, send,
 };
-use wb_proto::session;
 
 const LINES: &[u8] =
     b"{\"op\":\"domain\",\"d\":\"D\",\"is\":\"{1..4}\"}\n{\"op\":\"array\",\"a\":\"A\",\"d\":\"D\"}\n{\"op\":\"set\",\"a\":\"A\",\"i\":4,\"v\":9}\n{\"op\":\"undo\"}\n{\"op\":\"get\",\"a\":\"A\",\"i\":4}\n";
@@ -51,16 +50,10 @@ fn ends_so(
     sent: usize,
     answered: u64,
 ) {
-    let mut history = History::new(alloc);
-    let end = session(
-        alloc,
-        &mut history,
-        &mut Input::new(OneByOne::new(LINES, failing)),
-        &mut Output::new(&mut *output),
-    );
+    let (end, edits) = ended(alloc, OneByOne::new(LINES, failing), output);
     assert!(rt; end == wanted);
     assert!(rt; REPLIES.get(..sent) == Some(output.taken.as_slice()));
-    assert!(rt; history.len() == answered.min(3));
+    assert!(rt; edits == answered.min(3));
 }
 
 // A reader that fails at each of its bytes, and devices that never fail.
@@ -97,28 +90,15 @@ fn failing_writes(rt: HostRuntime) {
 #[test]
 fn flushes_before_it_waits(rt: HostRuntime) -> Result<(), Fail> {
     let alloc = rt.alloc();
-    let mut history = History::new(alloc);
-    let mut output = BufWriter::new(alloc, Vec::new(alloc))?;
-    let end = session(
-        alloc,
-        &mut history,
-        &mut Input::new(OneByOne::new(LINES, Some(79))),
-        &mut Output::new(&mut output),
-    );
-    assert_eq!(rt; end, SessionEnd::ReadFault(2));
-    assert_eq!(rt;
-        output.get_ref().as_slice(),
-        b"{\"edit\":1,\"n\":3}\n{\"edit\":2,\"n\":7}\n".as_slice()
-    );
-    let mut history = History::new(alloc);
-    let mut output = BufWriter::new(alloc, Narrow::new(alloc, 5, true))?;
-    let end = session(
-        alloc,
-        &mut history,
-        &mut Input::new(OneByOne::new(LINES, None)),
-        &mut Output::new(&mut output),
-    );
-    assert_eq!(rt; end, SessionEnd::WriteFault(1));
+    for (failing, limit, wanted, sent) in [
+        (Some(79), REPLIES.len(), SessionEnd::ReadFault(2), 34),
+        (None, 5, SessionEnd::WriteFault(1), 5),
+    ] {
+        let mut output = BufWriter::new(alloc, Narrow::new(alloc, limit, true))?;
+        let (end, _) = ended(alloc, OneByOne::new(LINES, failing), &mut output);
+        assert!(rt; end == wanted);
+        assert!(rt; REPLIES.get(..sent) == Some(output.get_ref().taken.as_slice()));
+    }
     Ok(())
 }
 

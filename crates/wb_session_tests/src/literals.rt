@@ -1,104 +1,69 @@
 //! Literals as the grammar spells them.
 
+use std::alloc::Global;
+use std::process::Abort;
 use std::test::Fail;
-use wb_literal::{
-    DomainLiteral, GridLiteral, IndexLiteral, MappingLiteral, RangeLiteral, RectangleLiteral,
-    SetLiteral, Stride, Upper, read_domain, read_mapping, read_rectangle, read_set,
-};
+use wb_literal::{DomainLiteral, SetLiteral, read_domain, read_mapping, read_rectangle, read_set};
 
-fn plain(low: i64, high: i64) -> RangeLiteral {
-    RangeLiteral {
-        low,
-        upper: Upper::To(high),
-        stride: None,
-    }
-}
-
-#[test]
-fn ranges_and_rectangles(rt: HostRuntime) {
-    let aligned = RangeLiteral {
-        low: -5,
-        upper: Upper::Below(5),
-        stride: Some(Stride {
-            stride: 4,
-            align: Some(1),
-        }),
-    };
-    let counted = RangeLiteral {
-        low: 5,
-        upper: Upper::Count(0),
-        stride: None,
-    };
-    let solid = RectangleLiteral::Solid(plain(1, 2), plain(3, 4), plain(5, 6));
-    for (text, wanted) in [
-        ("{-5 .. 007}", Some(RectangleLiteral::Line(plain(-5, 7)))),
-        (
-            "{-5..<5 by 4 align  1}",
-            Some(RectangleLiteral::Line(aligned)),
-        ),
-        ("{5..#0}", Some(RectangleLiteral::Line(counted))),
-        (
-            "{-9223372036854775808..1}",
-            Some(RectangleLiteral::Line(plain(i64::MIN, 1))),
-        ),
-        ("{ 1..2 ,3..4, 5..6 }", Some(solid)),
-        ("{1..2by 3}", None),
-        ("{1..2 by 0}", None),
-        ("{5..#-1}", None),
-        ("{1..9223372036854775808}", None),
-        ("{1..2 align 1}", None),
-        ("{1.. <2}", None),
-        ("{}", None),
-        ("{1..2,}", None),
-        ("{1..2 3..4}", None),
-        ("{1..2, 1..2, 1..2, 1..2}", None),
-        (" {1..2}", None),
-        ("{1..2} ", None),
-        ("{1..2", None),
-    ] {
-        assert_eq!(rt; read_rectangle(text), wanted, "{text}");
-    }
-}
-
-#[test]
-fn mappings(rt: HostRuntime) {
-    let square = RectangleLiteral::Plane(plain(1, 4), plain(1, 4));
-    let (one, two, triple) = (
-        IndexLiteral::Integer(1),
-        IndexLiteral::Integer(2),
-        IndexLiteral::Triple(1, -2, 3),
-    );
-    let grid = GridLiteral::Plane(2, 2);
-    let three = GridLiteral::Line(3);
-    for (text, wanted) in [
-        ("none", Some(MappingLiteral::Whole)),
-        (
-            "blockDist( {1..4, 1..4} ,[ 2 , 2 ] )",
-            Some(MappingLiteral::Block(square, grid)),
-        ),
-        (
-            "cyclicDist((1, -02 ,3 ), [3])",
-            Some(MappingLiteral::Cyclic(triple, three)),
-        ),
-        (
-            "blockCycDist(1, 2, [3])",
-            Some(MappingLiteral::BlockCyclic(one, two, three)),
-        ),
-        ("none ", None),
-        ("blockDist ({1..10}, [4])", None),
-        ("blockDist({1..10}, [4]", None),
-        ("blockDist({1..10} [4])", None),
-        ("blockDist({1..10}, [])", None),
-        ("blockDist({}, [4])", None),
-        ("cyclicDist(1, 3)", None),
-        ("cyclicDist((1), [3])", None),
-        ("cyclicDist((1 2), [3])", None),
-        ("cyclicDist(+1, [3])", None),
-        ("blockCycDist(1, [3])", None),
-    ] {
-        assert_eq!(rt; read_mapping(text), wanted, "{text}");
-    }
-}
+// What is read, as what, and what it is: an item's parts, how many items a set has and of which kind, whether a domain is a
+// set. Blanks count, also before the arrow.
+const ROWS: &str =
+    r#"rectangle {-5 .. 007} -> Some(Line(RangeLiteral { low: -5, upper: To(7), stride: None }))
+rectangle {-5..<5 by 4 align  1} -> Some(Line(RangeLiteral { low: -5, upper: Below(5), stride: Some(Stride { stride: 4, align: Some(1) }) }))
+rectangle {5..#0} -> Some(Line(RangeLiteral { low: 5, upper: Count(0), stride: None }))
+rectangle {-9223372036854775808..1} -> Some(Line(RangeLiteral { low: -9223372036854775808, upper: To(1), stride: None }))
+rectangle { 1..2 ,3..4, 5..6 } -> Some(Solid(RangeLiteral { low: 1, upper: To(2), stride: None }, RangeLiteral { low: 3, upper: To(4), stride: None }, RangeLiteral { low: 5, upper: To(6), stride: None }))
+rectangle {1..2by 3} -> None
+rectangle {1..2 by 0} -> None
+rectangle {5..#-1} -> None
+rectangle {1..9223372036854775808} -> None
+rectangle {1..2 align 1} -> None
+rectangle {1.. <2} -> None
+rectangle {} -> None
+rectangle {1..2,} -> None
+rectangle {1..2 3..4} -> None
+rectangle {1..2, 1..2, 1..2, 1..2} -> None
+rectangle  {1..2} -> None
+rectangle {1..2}  -> None
+rectangle {1..2 -> None
+mapping none -> Some(Whole)
+mapping blockDist( {1..4, 1..4} ,[ 2 , 2 ] ) -> Some(Block(Plane(RangeLiteral { low: 1, upper: To(4), stride: None }, RangeLiteral { low: 1, upper: To(4), stride: None }), Plane(2, 2)))
+mapping cyclicDist((1, -02 ,3 ), [3]) -> Some(Cyclic(Triple(1, -2, 3), Line(3)))
+mapping blockCycDist(1, 2, [3]) -> Some(BlockCyclic(Integer(1), Integer(2), Line(3)))
+mapping none  -> None
+mapping blockDist ({1..10}, [4]) -> None
+mapping blockDist({1..10}, [4] -> None
+mapping blockDist({1..10} [4]) -> None
+mapping blockDist({1..10}, []) -> None
+mapping blockDist({}, [4]) -> None
+mapping cyclicDist(1, 3) -> None
+mapping cyclicDist((1), [3]) -> None
+mapping cyclicDist((1 2), [3]) -> None
+mapping cyclicDist(+1, [3]) -> None
+mapping blockCycDist(1, [3]) -> None
+set {  } -> Some((0, "nothing"))
+set {5, 1 ,5,-03 } -> Some((4, "integers"))
+set {(1, 2), (3,4)} -> Some((2, "pairs"))
+set {(1, 2, 3)} -> Some((1, "triples"))
+set {"b, }", ""} -> Some((2, "texts"))
+set  -> None
+set {1 -> None
+set {1,} -> None
+set {,} -> None
+set  {1} -> None
+set {1}  -> None
+set {1, (1, 2)} -> None
+set {(1, 2), (1, 2, 3)} -> None
+set {1, "a"} -> None
+set {"a", 1} -> None
+set {"a} -> None
+set {"a\"} -> None
+set {"0123456789012345678901234567890123456789012345678901234567890123 "} -> None
+set {9223372036854775808} -> None
+domain {} -> Some(true)
+domain {1..0, 1..5} -> Some(false)
+domain D -> None
+"#;
 
 // How many items the set has that a text spells, and of which kind they are.
 fn counted(set: &SetLiteral) -> (usize, &'static str) {
@@ -111,45 +76,38 @@ fn counted(set: &SetLiteral) -> (usize, &'static str) {
     }
 }
 
-#[test]
-fn sets_and_domains(rt: HostRuntime) -> Result<(), Fail> {
-    let alloc = rt.alloc();
-    for (text, wanted) in [
-        ("{  }", (0, "nothing")),
-        ("{5, 1 ,5,-03 }", (4, "integers")),
-        ("{(1, 2), (3,4)}", (2, "pairs")),
-        ("{(1, 2, 3)}", (1, "triples")),
-        ("{\"b, }\", \"\"}", (2, "texts")),
-    ] {
-        let set = read_set(alloc, text)?.unwrap_or(SetLiteral::Empty);
-        assert_eq!(rt; counted(&set), wanted, "{text}");
+// What a text is read as.
+fn read(alloc: Global, kind: &str, text: &str) -> Result<String, Fail> {
+    if kind == "rectangle" {
+        return Ok(format!(in alloc; "{:?}", read_rectangle(text))?);
     }
-    for text in [
-        "",
-        "{1",
-        "{1,}",
-        "{,}",
-        " {1}",
-        "{1} ",
-        "{1, (1, 2)}",
-        "{(1, 2), (1, 2, 3)}",
-        "{1, \"a\"}",
-        "{\"a\", 1}",
-        "{\"a}",
-        "{\"a\\\"}",
-        "{\"0123456789012345678901234567890123456789012345678901234567890123 \"}",
-        "{9223372036854775808}",
-    ] {
-        assert!(rt; read_set(alloc, text)?.is_none(), "{text}");
+    if kind == "mapping" {
+        return Ok(format!(in alloc; "{:?}", read_mapping(text))?);
     }
-    for (text, is_set) in [("{}", true), ("{1..0, 1..5}", false)] {
-        let domain = read_domain(alloc, text)?;
-        assert_eq!(rt;
-            matches!(domain, Some(DomainLiteral::Set(_))),
-            is_set,
-            "{text}"
-        );
+    if kind == "set" {
+        let set = read_set(alloc, text)?;
+        return Ok(format!(in alloc; "{:?}", set.as_ref().map(counted))?);
     }
-    assert!(rt; read_domain(alloc, "D")?.is_none());
+    let is_set = match read_domain(alloc, text)? {
+        Some(DomainLiteral::Set(_)) => Some(true),
+        Some(DomainLiteral::Rectangle(_)) => Some(false),
+        None => None,
+    };
+    Ok(format!(in alloc; "{is_set:?}")?)
+}
+
+// That each row's literal is read so.
+fn are_read(rt: &impl Abort, alloc: Global, rows: &str) -> Result<(), Fail> {
+    for row in rows.lines() {
+        let (literal, wanted) = row.split_once(" -> ").ok_or("an arrow")?;
+        let (kind, text) = literal.split_once(' ').ok_or("a kind")?;
+        let found = read(alloc, kind, text)?;
+        assert!(rt; found.as_str() == wanted, "{row}");
+    }
     Ok(())
+}
+
+#[test]
+fn rows_of_literals(rt: HostRuntime) -> Result<(), Fail> {
+    are_read(&rt, rt.alloc(), ROWS)
 }

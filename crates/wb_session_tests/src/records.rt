@@ -1,6 +1,8 @@
 //! A worked history's text, printed and read back, and histories made again from lists of edits.
 
+use crate::scripts::play;
 use std::alloc::Global;
+use std::process::Abort;
 use std::test::Fail;
 use wb_edit::Edit;
 use wb_history::{History, RestoreErr};
@@ -8,121 +10,124 @@ use wb_proto::{Request, read_request};
 use wb_range::NoMemory;
 use wb_record::{HistoryErr, print_history, read_history};
 
-const OBJECTS: &str = "array A over D [0, 0, 0, 0]\nrect D {1..4} none\n";
+const MADE: &str = r#"
+{"op":"domain","d":"D","is":"{1..4}"} -> {"edit":1,"n":3}
+{"op":"array","a":"A","d":"D"} -> {"edit":2,"n":7}
+{"op":"set","a":"A","i":4,"v":9} -> {"edit":3,"n":1}
+{"op":"undo"} -> {"n":1,"undone":3}
+"#;
 
-const DOMAIN: &str = "{\"d\":\"D\",\"is\":\"{1..4}\",\"map\":\"none\",\"op\":\"domain\"}";
+const TEXT: &str = r#"chapel-workbook 2
+array A over D [0, 0, 0, 0]
+rect D {1..4} none
+history 3
++ {"d":"D","is":"{1..4}","map":"none","op":"domain"}
++ {"a":"A","d":"D","op":"array"}
+- {"a":"A","i":4,"op":"set","v":9}
+end
+"#;
 
-const ARRAY: &str = "{\"a\":\"A\",\"d\":\"D\",\"op\":\"array\"}";
-
-const SET: &str = "{\"a\":\"A\",\"i\":4,\"op\":\"set\",\"v\":9}";
-
-// Texts by their objects, their count, the mark and the request of the third edit, and their end; each is the text of no
-// history.
-const DAMAGED: [(&str, &str, &str, &str, &str); 14] = [
-    (OBJECTS, "3", "+", SET, "end\n"),
-    (OBJECTS, "3", "*", SET, "end\n"),
-    (OBJECTS, "3", "- ", SET, "end\n"),
-    (OBJECTS, "2", "-", SET, "end\n"),
-    (OBJECTS, "03", "-", SET, "end\n"),
-    ("rect D {1..4} none\n", "3", "-", SET, "end\n"),
+// Parts of that text, and what stands in their place in texts of no history.
+const DAMAGED: [(&str, &str); 14] = [
+    ("- ", "+ "),
+    ("- ", "* "),
+    ("- ", "-  "),
+    ("history 3", "history 2"),
+    ("history 3", "history 03"),
+    ("array A over D [0, 0, 0, 0]\n", ""),
+    ("0]", "9]"),
+    ("4} none", "4 } none"),
+    ("\"v\":9", "\"v\": 9"),
     (
-        "array A over D [0, 0, 0, 9]\nrect D {1..4} none\n",
-        "3",
-        "-",
-        SET,
-        "end\n",
-    ),
-    (
-        "array A over D [0, 0, 0, 0]\nrect D {1..4 } none\n",
-        "3",
-        "-",
-        SET,
-        "end\n",
-    ),
-    (
-        OBJECTS,
-        "3",
-        "-",
-        "{\"a\":\"A\",\"i\":4,\"op\":\"set\",\"v\": 9}",
-        "end\n",
-    ),
-    (
-        OBJECTS,
-        "3",
-        "-",
+        "{\"a\":\"A\",\"i\":4,\"op\":\"set\",\"v\":9}",
         "{\"op\":\"set\",\"a\":\"A\",\"i\":4,\"v\":9}",
-        "end\n",
     ),
-    (OBJECTS, "3", "-", "{\"op\":\"undo\"}", "end\n"),
     (
-        OBJECTS,
-        "3",
-        "+",
-        "{\"a\":\"Z\",\"op\":\"drop_array\"}",
-        "end\n",
+        "{\"a\":\"A\",\"i\":4,\"op\":\"set\",\"v\":9}",
+        "{\"op\":\"undo\"}",
     ),
-    (OBJECTS, "3", "-", SET, "end"),
-    (OBJECTS, "3", "-", SET, "end\n\n"),
+    (
+        "- {\"a\":\"A\",\"i\":4,\"op\":\"set\",\"v\":9}",
+        "+ {\"a\":\"Z\",\"op\":\"drop_array\"}",
+    ),
+    ("end\n", "end"),
+    ("end\n", "end\n\n"),
 ];
 
-fn text_of(
-    alloc: Global,
-    objects: &str,
-    count: &str,
-    mark: &str,
-    last: &str,
-    end: &str,
-) -> Result<String, Fail> {
-    Ok(format!(in alloc;
-        "chapel-workbook 2\n{objects}history {count}\n+ {DOMAIN}\n+ {ARRAY}\n{mark} {last}\n{end}"
-    )?)
-}
-
-fn edit_of(alloc: Global, line: &str) -> Result<Edit, Fail> {
-    let edit = match read_request(alloc, line.as_bytes())? {
-        Request::Change(edit) => Some(edit),
-        Request::Undo(_) | Request::Redo(_) | Request::Ask(_) | Request::Print => None,
-    };
-    Ok(edit.ok_or("an edit")?)
-}
-
-fn is_bad(alloc: Global, text: &str) -> bool {
-    match read_history(alloc, text) {
-        Ok(_) => false,
-        Err(HistoryErr::Bad) => true,
-        Err(HistoryErr::NoMemory) => false,
+// Whether a text is that of no history where another part stands in the place of one.
+fn is_bad(alloc: Global, text: &str, part: &str, other: &str) -> Result<bool, Fail> {
+    let (front, end) = text.split_once(part).ok_or("a part")?;
+    let damaged = format!(in alloc; "{front}{other}{end}")?;
+    match read_history(alloc, damaged.as_str()) {
+        Ok(_) => Ok(false),
+        Err(error) => Ok(error == HistoryErr::Bad),
     }
+}
+
+// The text of the history that these lines make.
+fn text_of(rt: &impl Abort, alloc: Global, rows: &str) -> Result<String, Fail> {
+    let mut history = History::new(alloc);
+    play(rt, alloc, &mut history, rows)?;
+    Ok(print_history(alloc, &history)?)
+}
+
+// How many edits a text tells of and how many cells they set, where the history goes on with these lines.
+fn read_back(rt: &impl Abort, alloc: Global, text: &str, rows: &str) -> Result<(u64, u128), Fail> {
+    let mut history = read_history(alloc, text)?;
+    let counts = (history.len(), history.book().writes());
+    play(rt, alloc, &mut history, rows)?;
+    Ok(counts)
+}
+
+// That each of these texts is bad.
+fn are_bad(
+    rt: &impl Abort,
+    alloc: Global,
+    text: &str,
+    damaged: &[(&str, &str)],
+) -> Result<(), Fail> {
+    for (part, other) in damaged {
+        assert!(rt; is_bad(alloc, text, part, other)?, "{part} {other}");
+    }
+    Ok(())
 }
 
 #[test]
 fn history_text(rt: HostRuntime) -> Result<(), Fail> {
     let alloc = rt.alloc();
-    let mut history = History::new(alloc);
-    for line in [DOMAIN, ARRAY, SET] {
-        history.edit(edit_of(alloc, line)?)?;
-    }
-    assert_eq!(rt; history.undo_last()?, (3, 1));
-    let text = text_of(alloc, OBJECTS, "3", "-", SET, "end\n")?;
-    assert_eq!(rt; print_history(alloc, &history)?.as_str(), text.as_str());
-    let mut back = read_history(alloc, text.as_str())?;
-    assert_eq!(rt; back.len(), 3);
-    assert_eq!(rt; back.book().writes(), 10);
-    assert_eq!(rt; back.redo(3)?, 1);
-    for row in &DAMAGED {
-        let damaged = text_of(alloc, row.0, row.1, row.2, row.3, row.4)?;
-        assert!(rt; is_bad(alloc, damaged.as_str()));
-    }
+    let made = text_of(&rt, alloc, MADE)?;
+    let redo = "{\"op\":\"redo\",\"k\":3} -> {\"n\":1,\"redone\":3}";
+    assert!(rt; read_back(&rt, alloc, made.as_str(), redo)? == (3, 10));
+    are_bad(&rt, alloc, made.as_str(), &DAMAGED)?;
+    assert!(rt; made.as_str() == TEXT);
     Ok(())
 }
 
-// The history of one edit, with its mark.
-fn restored(alloc: Global, line: &str, in_force: bool) -> Result<Option<History>, Fail> {
+pub(crate) fn edit_of(alloc: Global, line: &str) -> Result<Edit, Fail> {
+    match read_request(alloc, line.as_bytes())? {
+        Request::Change(edit) => Ok(edit),
+        Request::Undo(_)
+        | Request::Redo(_)
+        | Request::Ask(_)
+        | Request::Print
+        | Request::History => Err(Fail::new("no edit")),
+    }
+}
+
+// Of the history of an array over a domain that is not there, where it may be: whether its edit is in force, is there, and
+// is followed by another.
+fn restored(alloc: Global, in_force: bool) -> Result<Option<(Option<bool>, bool, bool)>, Fail> {
     let mut edits = Vec::new(alloc);
-    if edits.push((edit_of(alloc, line)?, in_force)).is_err() {
+    let edit = edit_of(alloc, "{\"op\":\"array\",\"a\":\"A\",\"d\":\"D\"}")?;
+    if edits.push((edit, in_force)).is_err() {
         return Err(NoMemory)?;
     }
     match History::restore(alloc, edits) {
-        Ok(history) => Ok(Some(history)),
+        Ok(history) => Ok(Some((
+            history.in_force(1),
+            history.edit_at(1).is_some(),
+            history.edit_at(2).is_some(),
+        ))),
         Err(RestoreErr::NotLegal) => Ok(None),
         Err(RestoreErr::NoMemory) => Err(NoMemory)?,
     }
@@ -130,11 +135,7 @@ fn restored(alloc: Global, line: &str, in_force: bool) -> Result<Option<History>
 
 #[test]
 fn restored_from_a_list(rt: HostRuntime) -> Result<(), Fail> {
-    let alloc = rt.alloc();
-    assert!(rt; restored(alloc, ARRAY, true)?.is_none());
-    let history = restored(alloc, ARRAY, false)?.ok_or("a history")?;
-    assert_eq!(rt; history.in_force(1), Some(false));
-    assert!(rt; history.edit_at(1).is_some());
-    assert!(rt; history.edit_at(2).is_none());
+    assert!(rt; restored(rt.alloc(), true)?.is_none());
+    assert!(rt; restored(rt.alloc(), false)? == Some((Some(false), true, false)));
     Ok(())
 }

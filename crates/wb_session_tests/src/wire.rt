@@ -1,6 +1,7 @@
 //! Lines of requests as the format spells them, read and written again.
 
 use std::alloc::Global;
+use std::process::Abort;
 use std::test::Fail;
 use wb_proto::{Request, read_request};
 use wb_wire::{edit_text, request_text};
@@ -62,13 +63,21 @@ fn line_of(alloc: Global, request: &Request) -> Result<String, Fail> {
     }
 }
 
-#[test]
-fn canonical_lines(rt: HostRuntime) -> Result<(), Fail> {
-    let alloc = rt.alloc();
-    for row in &LINES {
+// That each line's request has the canonical line beside it.
+fn are_canonical(rt: &impl Abort, alloc: Global, lines: &[(&str, &str)]) -> Result<(), Fail> {
+    for row in lines {
         let request = read_request(alloc, row.0.as_bytes())?;
-        assert_eq!(rt; line_of(alloc, &request)?.as_str(), row.1);
-        assert_eq!(rt; request_text(alloc, &request)?.as_str(), row.1);
+        assert!(rt; line_of(alloc, &request)?.as_str() == row.1, "{}", row.1);
+        assert!(rt;
+            request_text(alloc, &request)?.as_str() == row.1,
+            "{}",
+            row.1
+        );
     }
     Ok(())
+}
+
+#[test]
+fn canonical_lines(rt: HostRuntime) -> Result<(), Fail> {
+    are_canonical(&rt, rt.alloc(), &LINES)
 }

@@ -10,9 +10,11 @@ use Rattle.wb_join.proofs.Stored.{kept_are_stored, stored_named}
 use Rattle.wb_shelf.specs.Shelf.{Pieced, cells_of, IsShelf}
 
 pub stored_are : (cells : BTreeMap Cell Value) (arrays : BTreeMap Name Pieced) → IsShelf cells arrays → state_of cells ≡ stored_cells (cells_of cells arrays)
-stored_are cells arrays kept = kept_are_stored cells.entries arrays.entries (record { stored = kept.stored; ascending = kept.ascending; by_name = kept.by_name })
+stored_are cells arrays kept = kept_are_stored cells.entries arrays.entries
+    (record { stored = kept.stored; ascending = kept.ascending; by_name = kept.by_name })
 
-pub answered : {A : Type 0} (f : Cells → A) → ((s : Cells) → f (stored_cells s) ≡ f s) → (cells : BTreeMap Cell Value) (arrays : BTreeMap Name Pieced) → IsShelf cells arrays → f (state_of cells) ≡ f (cells_of cells arrays)
+pub answered : {A : Type 0} (f : Cells → A) → ((s : Cells) → f (stored_cells s) ≡ f s) → (cells : BTreeMap Cell Value) (arrays : BTreeMap Name Pieced) →
+    IsShelf cells arrays → f (state_of cells) ≡ f (cells_of cells arrays)
 answered f same cells arrays kept = ap f (stored_are cells arrays kept) ∙ same (cells_of cells arrays)
 
 pub are_named : (cells : BTreeMap Cell Value) (arrays : BTreeMap Name Pieced) → IsShelf cells arrays → AreNamed (state_of cells)

@@ -38,15 +38,20 @@ use Rattle.wb_shelf.proofs.Written.{one_cell as equal_cells}
 -- ---- the stored cells
 
 -- the changes of stored cells change stored cells as all changes do
-pub stored_only : (xs : Changes) (s t : Cells) (c : Cell) → is_stored c ≡ true → get t c ≡ get s c → get (apply (filter (λ x. is_stored x.cell) xs) t) c ≡ get (apply xs s) c
+pub stored_only : (xs : Changes) (s t : Cells) (c : Cell) → is_stored c ≡ true → get t c ≡ get s c →
+    get (apply (filter (λ x. is_stored x.cell) xs) t) c ≡ get (apply xs s) c
 stored_only [] s t c st same = same
 stored_only (x ∷ xs) s t c st same = by (is_stored x.cell) refl (λ u v e. stored_only xs u v c st e)
   where
-    by : (b : Bool) → is_stored x.cell ≡ b → ((u v : Cells) → get v c ≡ get u c → get (apply (filter (λ y. is_stored y.cell) xs) v) c ≡ get (apply xs u) c) → get (apply (cond b (x ∷ filter (λ y. is_stored y.cell) xs) (filter (λ y. is_stored y.cell) xs)) t) c ≡ get (apply xs (put x s)) c
+    by : (b : Bool) → is_stored x.cell ≡ b →
+        ((u v : Cells) → get v c ≡ get u c → get (apply (filter (λ y. is_stored y.cell) xs) v) c ≡ get (apply xs u) c) →
+        get (apply (cond b (x ∷ filter (λ y. is_stored y.cell) xs) (filter (λ y. is_stored y.cell) xs)) t) c ≡ get (apply xs (put x s)) c
     by true e rest = rest (put x s) (put x t) (get-put cell_order x t c ∙ ap (cond (eq_by_cmp cell_cmp c x.cell) x.value) same ∙ sym (get-put cell_order x s c))
     by false e rest = rest (put x s) t (same ∙ ap (λ (b : Bool). cond b x.value (get s c)) (sym (stored_apart c x.cell st e)) ∙ sym (get-put cell_order x s c))
 
-pub stored_after : (cells after : BTreeMap Cell Value) (arrays : BTreeMap Name Pieced) (delta : Changes) → IsShelf cells arrays → state_of after ≡ apply (filter (λ x. is_stored x.cell) delta) (state_of cells) → (c : Cell) → is_stored c ≡ true → stored_in after.entries c ≡ get (apply delta (cells_of cells arrays)) c
+pub stored_after : (cells after : BTreeMap Cell Value) (arrays : BTreeMap Name Pieced) (delta : Changes) → IsShelf cells arrays →
+    state_of after ≡ apply (filter (λ x. is_stored x.cell) delta) (state_of cells) → (c : Cell) → is_stored c ≡ true →
+    stored_in after.entries c ≡ get (apply delta (cells_of cells arrays)) c
 stored_after cells after arrays delta kept is c st =
     sym (get-state_of after c) ∙ ap (λ (t : Cells). get t c) is
     ∙ stored_only delta (cells_of cells arrays) (state_of cells) c st (get-state_of cells c ∙ stored_there cells arrays kept c st)
@@ -75,7 +80,8 @@ no_change (x ∷ xs) k apart = by (is_stored x.cell) refl (no_change xs k apart)
     turned false e st = refl
     turned true e st = differ (is_stored x.cell) (is_stored k) st apart (ap is_stored (sym (equal_cells k x.cell e))) true
 
-    by : (b : Bool) → is_stored x.cell ≡ b → changes cell_cmp (filter (λ y. is_stored y.cell) xs) k ≡ false → changes cell_cmp (cond b (x ∷ filter (λ y. is_stored y.cell) xs) (filter (λ y. is_stored y.cell) xs)) k ≡ false
+    by : (b : Bool) → is_stored x.cell ≡ b → changes cell_cmp (filter (λ y. is_stored y.cell) xs) k ≡ false →
+        changes cell_cmp (cond b (x ∷ filter (λ y. is_stored y.cell) xs) (filter (λ y. is_stored y.cell) xs)) k ≡ false
     by true e rest = rw (turned (eq_by_cmp cell_cmp k x.cell) refl e) rest
     by false e rest = rest
 
@@ -87,7 +93,8 @@ none_stored (e ∷ es) k apart all = rw (by (eq_by_cmp cell_cmp k e.0) refl) (no
     by false f = f
     by true f = f ∙ differ (is_stored e.0) (is_stored k) all.0 apart (ap is_stored (sym (equal_cells k e.0 f))) true
 
-pub all_stored_after : (cells after : BTreeMap Cell Value) (delta : Changes) → AllStored cells.entries → state_of after ≡ apply (filter (λ x. is_stored x.cell) delta) (state_of cells) → AllStored after.entries
+pub all_stored_after : (cells after : BTreeMap Cell Value) (delta : Changes) → AllStored cells.entries →
+    state_of after ≡ apply (filter (λ x. is_stored x.cell) delta) (state_of cells) → AllStored after.entries
 all_stored_after cells after delta all is =
     all_stored_by after.entries (λ k apart.
     sym (get-state_of after k) ∙ ap (λ (t : Cells). get t k) is
@@ -114,18 +121,22 @@ object_same s (Some (Bound k)) = refl
 object_same s (Some (Number z)) = refl
 
 -- stored cells that agree with well-formed ones where these are present tell how its arrays lie
-module _ (stored : Cell → Option Value) (t : Cells) (formed : IsWellFormed t) (agree : (c : Cell) → is_stored c ≡ true → IsSome (get t c) → stored c ≡ get t c) where
+module _ (stored : Cell → Option Value) (t : Cells) (formed : IsWellFormed t) (agree : (c : Cell) → is_stored c ≡ true → IsSome (get t c) →
+    stored c ≡ get t c) where
   some_mapping : (d : Name) (rank : ℕ) → domain_at t d ≡ Some (Rectangular rank) → stored (Mapping d) ≡ get t (Mapping d)
   some_mapping d rank is =
       let mapped = subst (λ (k : Option DomainKind). HasMapping k (get t (Mapping d))) is (formed.mappings d) in
       agree (Mapping d) refl (ap is_some mapped.1)
 
-  kind_there : (d : Name) (k : Option DomainKind) → domain_at t d ≡ k → ((v : Value) → get t (Object d) ≡ Some v → IsObject t v) → kind_lies stored d k ≡ kind_lies (get t) d k
+  kind_there : (d : Name) (k : Option DomainKind) → domain_at t d ≡ k → ((v : Value) → get t (Object d) ≡ Some v → IsObject t v) →
+      kind_lies stored d k ≡ kind_lies (get t) d k
   kind_there d None is objects = refl
   kind_there d (Some (Rectangular rank)) is objects = ap (λ (v : Option Value). option_map (λ m. (m, rank)) (mapping_in v)) (some_mapping d rank is)
   kind_there d (Some (Associative Int)) is objects = refl
   kind_there d (Some (Associative Text)) is objects = refl
-  kind_there d (Some (Sparse parent rank)) is objects = ap (λ (v : Option Value). option_map (λ m. (m, rank)) (mapping_in v)) (some_mapping parent rank (objects (Domain (Sparse parent rank)) (domain_object (get t (Object d)) is)))
+  kind_there d (Some (Sparse parent rank)) is objects =
+      ap (λ (v : Option Value). option_map (λ m. (m, rank)) (mapping_in v))
+      (some_mapping parent rank (objects (Domain (Sparse parent rank)) (domain_object (get t (Object d)) is)))
     where
       domain_object : (o : Option Value) → domain_in o ≡ Some (Sparse parent rank) → o ≡ Some (Domain (Sparse parent rank))
       domain_object None e = cc
@@ -158,7 +169,8 @@ module _ (stored : Cell → Option Value) (t : Cells) (formed : IsWellFormed t) 
   object_there (Some (Number z)) objects = refl
 
   pub lies_there : (a : Name) → IsSome (get t (Object a)) → lies_at stored a ≡ lies_by t (array_at t a)
-  lies_there a present = ap (object_lies stored) (agree (Object a) refl present) ∙ object_there (get t (Object a)) (formed.objects a) ∙ object_same t (get t (Object a))
+  lies_there a present = ap (object_lies stored) (agree (Object a) refl present) ∙ object_there (get t (Object a)) (formed.objects a)
+      ∙ object_same t (get t (Object a))
 
 -- ---- the arrays are right
 
@@ -173,13 +185,16 @@ right_none t b formed none = record {
   elements = λ i. sym (subst (λ (o : Option (Name × Kind)). IsElement (is_index_of_array t o i) (get t (Element b i))) none (formed.elements b i));
 }
 
-pub right_after : (s : Cells) (es : List (Name × Pieced)) (delta : Changes) (b : Name) (p : Pieced) (o : Option Pieced) (l : LayoutMap × ℕ) (xs : Group) → LeadTo delta b xs →
-    Agree es s → array_in es b ≡ Some p → Some l ≡ lies_by (apply delta s) (array_at (apply delta s) b) → IsAfter xs l p o → IsRight (apply delta s) b (put_over (Some p) o)
+pub right_after : (s : Cells) (es : List (Name × Pieced)) (delta : Changes) (b : Name) (p : Pieced) (o : Option Pieced) (l : LayoutMap × ℕ) (xs : Group) →
+    LeadTo delta b xs →
+    Agree es s → array_in es b ≡ Some p → Some l ≡ lies_by (apply delta s) (array_at (apply delta s) b) → IsAfter xs l p o →
+    IsRight (apply delta s) b (put_over (Some p) o)
 right_after s es delta b p None l xs lead agree found lies after = record {
   lies = ap (λ z. Some z) after.0 ∙ lies;
   elements = λ i.
       let was = ap (λ (z : Option Pieced). option_map Number (option_and_then (λ x. lookup (is_at (index_cmp i)) x.0) z)) (sym found) ∙ agree b i in
-      ap (λ (ys : Group). option_map Number (changed_at ys (lookup (is_at (index_cmp i)) p.0) i)) (sym after.1) ∙ lead s (lookup (is_at (index_cmp i)) p.0) i was;
+      ap (λ (ys : Group). option_map Number (changed_at ys (lookup (is_at (index_cmp i)) p.0) i)) (sym after.1)
+      ∙ lead s (lookup (is_at (index_cmp i)) p.0) i was;
 }
 right_after s es delta b p (Some q) l xs lead agree found lies after = record {
   lies = ap (λ z. Some z) after.0 ∙ lies;
@@ -189,9 +204,13 @@ right_after s es delta b p (Some q) l xs lead agree found lies after = record {
 }
 
 -- what is kept after the changes is the workbook after them
-pub shelf_after : (after : BTreeMap Cell Value) (fresh : BTreeMap Name Pieced) (t : Cells) → IsWellFormed t → ((c : Cell) → is_stored c ≡ true → stored_in after.entries c ≡ get t c) → AllStored after.entries → IsStrictlySortedBy cell_cmp (keys_of after.entries) → IsStrictlySortedBy (slice_cmp nat_cmp) (keys_of fresh.entries) → ((b : Name) → IsRight t b (array_in fresh.entries b)) → (cells_of after fresh ≡ t) × IsShelf after fresh
+pub shelf_after : (after : BTreeMap Cell Value) (fresh : BTreeMap Name Pieced) (t : Cells) → IsWellFormed t →
+    ((c : Cell) → is_stored c ≡ true → stored_in after.entries c ≡ get t c) → AllStored after.entries →
+    IsStrictlySortedBy cell_cmp (keys_of after.entries) → IsStrictlySortedBy (slice_cmp nat_cmp) (keys_of fresh.entries) →
+    ((b : Name) → IsRight t b (array_in fresh.entries b)) → (cells_of after fresh ≡ t) × IsShelf after fresh
 shelf_after after fresh t formed stored all ascending by_name right =
-    let is : cells_of after fresh ≡ t = same_cells after fresh t (record { stored = all; ascending = ascending; by_name = by_name }) formed stored (λ b i. let r = right b in r.elements i) in (
+    let is : cells_of after fresh ≡ t = same_cells after fresh t (record { stored = all; ascending = ascending; by_name = by_name }) formed stored
+    (λ b i. let r = right b in r.elements i) in (
       is,
       record {
         well_formed = subst IsWellFormed (sym is) formed;

@@ -27,11 +27,13 @@ unfolding IsStrictlySortedBy
 sorted_with n None ys built is all s = subst (λ (zs : List (Name × Pieced)). Ascends zs) (sym is) s
 sorted_with n (Some q) ys built is all s = subst (λ (zs : List (Name × Pieced)). Ascends zs) (sym is) (all, s)
 
-first_of : (n b : Name) (o : Option Pieced) (ys built : List (Name × Pieced)) → built ≡ with_array n o ys → is_same_name b n ≡ true → AllAbove n ys → array_in built b ≡ o
+first_of : (n b : Name) (o : Option Pieced) (ys built : List (Name × Pieced)) → built ≡ with_array n o ys → is_same_name b n ≡ true → AllAbove n ys →
+    array_in built b ≡ o
 first_of n b None ys built is same all = ap (λ zs. array_in zs b) is ∙ ap (array_in ys) (one_name b n same) ∙ none_above n ys all
 first_of n b (Some q) ys built is same all = ap (λ zs. array_in zs b) is ∙ rw same refl
 
-later_of : (n b : Name) (o : Option Pieced) (ys built : List (Name × Pieced)) → built ≡ with_array n o ys → is_same_name b n ≡ false → array_in built b ≡ array_in ys b
+later_of : (n b : Name) (o : Option Pieced) (ys built : List (Name × Pieced)) → built ≡ with_array n o ys → is_same_name b n ≡ false →
+    array_in built b ≡ array_in ys b
 later_of n b None ys built is other = ap (λ zs. array_in zs b) is
 later_of n b (Some q) ys built is other = ap (λ zs. array_in zs b) is ∙ rw other refl
 
@@ -56,7 +58,8 @@ module _ (lies : Name → Option (LayoutMap × ℕ)) (arrays : List (Name × Pie
   walk_passes gs rest n xs built after ahead ys later = ahead ys (None, ys, refl, after, later)
 
   -- what was built ascends
-  above_with : (n m : Name) (o : Option Pieced) (ys built : List (Name × Pieced)) → built ≡ with_array m o ys → slice_cmp nat_cmp n m ≡ Less → AllAbove n ys → AllAbove n built
+  above_with : (n m : Name) (o : Option Pieced) (ys built : List (Name × Pieced)) → built ≡ with_array m o ys → slice_cmp nat_cmp n m ≡ Less →
+      AllAbove n ys → AllAbove n built
   above_with n m None ys built is low all = subst (λ (zs : List (Name × Pieced)). AllAbove n zs) (sym is) all
   above_with n m (Some q) ys built is low all = subst (λ (zs : List (Name × Pieced)). AllAbove n zs) (sym is) (low, all)
 
@@ -83,14 +86,16 @@ module _ (lies : Name → Option (LayoutMap × ℕ)) (arrays : List (Name × Pie
       (subst (λ (ys : Group). IsAfter ys l p a.0) is (a.3 p l (ap (array_in arrays) (sym name) ∙ found) (ap lies (sym name) ∙ lying)))
 
   after_in : (gs : List (Name × Group)) (built : List (Name × Pieced)) → AreAfter lies arrays gs built → Ascends gs →
-      (b : Name) (xs : Group) (p : Pieced) (l : LayoutMap × ℕ) → group_in gs b ≡ Some xs → array_in arrays b ≡ Some p → lies b ≡ Some l → IsAfter xs l p (array_in built b)
+      (b : Name) (xs : Group) (p : Pieced) (l : LayoutMap × ℕ) → group_in gs b ≡ Some xs → array_in arrays b ≡ Some p → lies b ≡ Some l →
+      IsAfter xs l p (array_in built b)
   unfolding IsStrictlySortedBy
   after_in [] built a s b xs p l named found lying = cc
   after_in (g ∷ gs) built a s b xs p l named found lying =
       after_front g gs built a (all_above g.0 gs a.1 a.4 s.0) b xs p l (is_same_name b g.0) refl named found lying
       (λ later. after_in gs a.1 a.4 s.1 b xs p l later found lying)
 
-  none_in : (gs : List (Name × Group)) (built : List (Name × Pieced)) → AreAfter lies arrays gs built → (b : Name) → group_in gs b ≡ None → array_in built b ≡ None
+  none_in : (gs : List (Name × Group)) (built : List (Name × Pieced)) → AreAfter lies arrays gs built → (b : Name) → group_in gs b ≡ None →
+      array_in built b ≡ None
   none_in [] built a b none = ap (λ zs. array_in zs b) a
   none_in (g ∷ gs) built a b none =
       let parts = not_first (is_same_name b g.0) g.1 (group_in gs b) none in

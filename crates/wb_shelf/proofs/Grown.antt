@@ -1,5 +1,6 @@
 -- Arrays that were put or dropped by the changes of their objects.
-use Rattle.std.proofs.Common.{◌≡◌, ℕ, ◌+◌, ◌<◌, suc, add-one, Bool, true, false, not, cond, ◌||◌, ◌&&◌, List, ◌∷◌, length, drop, drop-cons, get_or, Option, Some, None, is_some, refl, sym, ap, ◌∙◌}
+use Rattle.std.proofs.Common.{◌≡◌, ℕ, ◌+◌, ◌<◌, suc, add-one, Bool, true, false, not, cond, ◌||◌, ◌&&◌, List, ◌∷◌, length, drop, drop-cons, get_or, Option}
+use Rattle.std.proofs.Common.{Some, None, is_some, refl, sym, ap, ◌∙◌}
 use Rattle.std.specs.BTreeMap.{is_at}
 use Rattle.std.specs.Cmp.{eq_by_cmp_equiv}
 use Rattle.std.specs.Cmp.Lexicographic.{nat_list_cmp_total}
@@ -27,14 +28,16 @@ pub none_there : (o : Option Pieced) → is_some o ≡ false → o ≡ None
 none_there None e = refl
 none_there (Some p) e = cc
 
-pub kept_one : (stored : Cell → Option Value) (c : Cell) (n b : Name) (o : Option Pieced) → c ≡ Object n → is_array (stored (Object n)) ≡ true → o ≡ cond (eq_by_cmp cell_cmp (Object b) c && not (is_array (stored (Object b)))) None o
+pub kept_one : (stored : Cell → Option Value) (c : Cell) (n b : Name) (o : Option Pieced) → c ≡ Object n → is_array (stored (Object n)) ≡ true →
+    o ≡ cond (eq_by_cmp cell_cmp (Object b) c && not (is_array (stored (Object b)))) None o
 kept_one stored c n b o is there = by (eq_by_cmp cell_cmp (Object b) c) refl
   where
     by : (t : Bool) → eq_by_cmp cell_cmp (Object b) c ≡ t → o ≡ cond (t && not (is_array (stored (Object b)))) None o
     by false e = refl
     by true e = let same : Object b ≡ Object n = equal_cells (Object b) c e ∙ is in rw (ap (λ (k : Cell). is_array (stored k)) same ∙ there) refl
 
-pub dropped_one : (stored : Cell → Option Value) (c : Cell) (n b : Name) (o q : Option Pieced) → c ≡ Object n → is_array (stored (Object n)) ≡ false → q ≡ cond (is_same_name n b) None o → q ≡ cond (eq_by_cmp cell_cmp (Object b) c && not (is_array (stored (Object b)))) None o
+pub dropped_one : (stored : Cell → Option Value) (c : Cell) (n b : Name) (o q : Option Pieced) → c ≡ Object n → is_array (stored (Object n)) ≡ false →
+    q ≡ cond (is_same_name n b) None o → q ≡ cond (eq_by_cmp cell_cmp (Object b) c && not (is_array (stored (Object b)))) None o
 dropped_one stored c n b o q is gone made = made ∙ by (is_same_name n b) refl
   where
     by : (t : Bool) → is_same_name n b ≡ t → cond t None o ≡ cond (eq_by_cmp cell_cmp (Object b) c && not (is_array (stored (Object b)))) None o
@@ -53,14 +56,18 @@ dropped false true false o q r is h = is ∙ h
 dropped false false true o q r is h = is ∙ h
 dropped false false false o q r is h = is ∙ h
 
-pub dropped_more : (xs : Changes) (k : ℕ) (x : Change Cell Value) (b : Name) (a : Bool) (o q r : Option Pieced) → k < length xs → x ≡ get_or xs k x → q ≡ cond (eq_by_cmp cell_cmp (Object b) x.cell && a) None o → cond (changes cell_cmp (drop k xs) (Object b) && a) None o ≡ r → cond (changes cell_cmp (drop (k + 1) xs) (Object b) && a) None q ≡ r
+pub dropped_more : (xs : Changes) (k : ℕ) (x : Change Cell Value) (b : Name) (a : Bool) (o q r : Option Pieced) → k < length xs → x ≡ get_or xs k x →
+    q ≡ cond (eq_by_cmp cell_cmp (Object b) x.cell && a) None o → cond (changes cell_cmp (drop k xs) (Object b) && a) None o ≡ r →
+    cond (changes cell_cmp (drop (k + 1) xs) (Object b) && a) None q ≡ r
 dropped_more xs k x b a o q r low is made h =
     let rest : drop k xs ≡ x ∷ drop (suc k) xs = drop-cons xs k x low ∙ ap (λ (y : Change Cell Value). y ∷ drop (suc k) xs) (sym is) in
-    rw (add-one) (dropped (eq_by_cmp cell_cmp (Object b) x.cell) (changes cell_cmp (drop (suc k) xs) (Object b)) a o q r made (ap (λ (ys : Changes). cond (changes cell_cmp ys (Object b) && a) None o) (sym rest) ∙ h))
+    rw (add-one) (dropped (eq_by_cmp cell_cmp (Object b) x.cell) (changes cell_cmp (drop (suc k) xs) (Object b)) a o q r made
+    (ap (λ (ys : Changes). cond (changes cell_cmp ys (Object b) && a) None o) (sym rest) ∙ h))
 
 -- ---- an array without elements was put where there was none
 
-module _ (es fs : List (Name × Pieced)) (n : Name) (p : Pieced) (absent : array_in es n ≡ None) (put : (b : Name) → array_in fs b ≡ cond (is_same_name n b) (Some p) (array_in es b)) where
+module _ (es fs : List (Name × Pieced)) (n : Name) (p : Pieced) (absent : array_in es n ≡ None)
+    (put : (b : Name) → array_in fs b ≡ cond (is_same_name n b) (Some p) (array_in es b)) where
   none_of : (b : Name) → is_same_name n b ≡ true → array_in es b ≡ None
   none_of b e = ap (array_in es) (sym (one_name n b e)) ∙ absent
 

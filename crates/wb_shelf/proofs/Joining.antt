@@ -1,5 +1,5 @@
 -- What is kept is the workbook whose parts it is made of.
-use Rattle.std.proofs.Common.{◌≡◌, Bool, true, false, cond, List, [], ◌∷◌, Option, map, None, IsSome, refl, sym, ap, subst, ◌∙◌}
+use Rattle.std.proofs.Common.{◌≡◌, Bool, true, false, cond, List, [], ◌∷◌, Option, None, IsSome, refl, sym, ap, subst, ◌∙◌}
 use Rattle.std.specs.BTreeMap.{BTreeMap, IsOrdered, ContainsKey, keys}
 use Rattle.std.specs.Cmp.Lexicographic.{slice_cmp}
 use Rattle.std.specs.FinMap.{get}
@@ -40,9 +40,11 @@ module _ (cells : BTreeMap Cell Value) (s : Cells) (is : state_of cells ≡ stor
   each_stored (x ∷ xs) there = (stored_there x (subst (λ (o : Option Value). IsSome o) (sym (get-state_of cells x)) there.0), each_stored xs there.1)
 
   all_stored : IsOrdered cell_cmp cells → AllStored cells.entries
-  all_stored ordered = by_keys cells.entries (each_stored (keys cells) (recursion_from_All (ContainsKey cell_cmp cells) (keys cells) (All-keys_found cell_order.total cells ordered)))
+  all_stored ordered = by_keys cells.entries
+      (each_stored (keys cells) (recursion_from_All (ContainsKey cell_cmp cells) (keys cells) (All-keys_found cell_order.total cells ordered)))
 
-module _ (cells : BTreeMap Cell Value) (arrays : BTreeMap Name Pieced) (s : Cells) (ordered : IsOrdered cell_cmp cells) (by_name : IsStrictlySortedBy (slice_cmp nat_cmp) (keys_of arrays.entries)) (parts : AreParts cells arrays s) where
+module _ (cells : BTreeMap Cell Value) (arrays : BTreeMap Name Pieced) (s : Cells) (ordered : IsOrdered cell_cmp cells)
+    (by_name : IsStrictlySortedBy (slice_cmp nat_cmp) (keys_of arrays.entries)) (parts : AreParts cells arrays s) where
   pub parts_are : cells_of cells arrays ≡ s
   parts_are =
       same_cells cells arrays s (record { stored = all_stored cells s parts.stored ordered; ascending = ordered; by_name = by_name }) parts.well_formed

@@ -18,22 +18,27 @@ pub none_above : (n : Name) (es : List (Name × Pieced)) → AllByRecursion (λ 
 none_above n [] all = refl
 none_above n (e ∷ es) all = rw all.0 (none_above n es all.1)
 
-pub sorted_rest : (n : Name) (p : Pieced) (es : List (Name × Pieced)) → IsStrictlySortedBy (slice_cmp nat_cmp) (keys_of ((n, p) ∷ es)) → IsStrictlySortedBy (slice_cmp nat_cmp) (keys_of es)
+pub sorted_rest : (n : Name) (p : Pieced) (es : List (Name × Pieced)) → IsStrictlySortedBy (slice_cmp nat_cmp) (keys_of ((n, p) ∷ es)) →
+    IsStrictlySortedBy (slice_cmp nat_cmp) (keys_of es)
 unfolding IsStrictlySortedBy
 sorted_rest n p es s = s.1
 
-pub later_none : (n b : Name) (p : Pieced) (es : List (Name × Pieced)) → IsStrictlySortedBy (slice_cmp nat_cmp) (keys_of ((n, p) ∷ es)) → is_same_name n b ≡ true → array_in es b ≡ None
+pub later_none : (n b : Name) (p : Pieced) (es : List (Name × Pieced)) → IsStrictlySortedBy (slice_cmp nat_cmp) (keys_of ((n, p) ∷ es)) →
+    is_same_name n b ≡ true → array_in es b ≡ None
 unfolding IsStrictlySortedBy
 later_none n b p es s same = ap (array_in es) (sym (one_name n b same)) ∙ none_above n es s.0
 
 -- one more is put in
-pub over_more : (x y : Option Pieced) (n b : Name) (p : Pieced) (es : List (Name × Pieced)) → IsStrictlySortedBy (slice_cmp nat_cmp) (keys_of ((n, p) ∷ es)) → y ≡ put_over x (only n p b) → put_over y (array_in es b) ≡ put_over x (array_in ((n, p) ∷ es) b)
+pub over_more : (x y : Option Pieced) (n b : Name) (p : Pieced) (es : List (Name × Pieced)) →
+    IsStrictlySortedBy (slice_cmp nat_cmp) (keys_of ((n, p) ∷ es)) → y ≡ put_over x (only n p b) →
+    put_over y (array_in es b) ≡ put_over x (array_in ((n, p) ∷ es) b)
 over_more x y n b p es s is =
     ap (λ (o : Option Pieced). put_over o (array_in es b)) is
     ∙ by x (is_same_name n b) refl
     ∙ ap (λ (t : Bool). put_over x (cond t (Some p) (array_in es b))) ((eq_by_cmp_equiv nat_list_cmp_total).symm n b)
   where
-    by : (x : Option Pieced) (t : Bool) → is_same_name n b ≡ t → put_over (put_over x (cond t (Some p) None)) (array_in es b) ≡ put_over x (cond t (Some p) (array_in es b))
+    by : (x : Option Pieced) (t : Bool) → is_same_name n b ≡ t →
+        put_over (put_over x (cond t (Some p) None)) (array_in es b) ≡ put_over x (cond t (Some p) (array_in es b))
     by None t e = refl
     by (Some q) false e = refl
     by (Some q) true e = rw (later_none n b p es s e) refl
@@ -45,9 +50,11 @@ over_none (Some p) = refl
 is_there : {X : Type 0} (o : Option X) (p : X) → o ≡ Some p → IsSome o
 is_there o p e = ap is_some e
 
-pub replaced : (es : List (Name × Pieced)) (a b : Name) (w p : Pieced) → array_in es a ≡ Some p → array_in (set_value (is_at (slice_cmp nat_cmp a)) es w) b ≡ put_over (array_in es b) (only a w b)
+pub replaced : (es : List (Name × Pieced)) (a b : Name) (w p : Pieced) → array_in es a ≡ Some p →
+    array_in (set_value (is_at (slice_cmp nat_cmp a)) es w) b ≡ put_over (array_in es b) (only a w b)
 replaced es a b w p found =
-    lookup-set_value (eq_by_cmp_equiv nat_list_cmp_total) (is_same_name a) (λ x y e. ap (λ (n : Name). is_same_name n y) (one_name a x e)) b w es (is_there _ p found)
+    lookup-set_value (eq_by_cmp_equiv nat_list_cmp_total) (is_same_name a) (λ x y e. ap (λ (n : Name). is_same_name n y) (one_name a x e)) b w es
+    (is_there _ p found)
     ∙ by (is_same_name a b) refl
   where
     by : (t : Bool) → is_same_name a b ≡ t → cond t (Some w) (array_in es b) ≡ put_over (array_in es b) (cond t (Some w) None)

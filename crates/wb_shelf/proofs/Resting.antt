@@ -49,7 +49,8 @@ never : (v o : Option Value) → v ≡ None → IsSome v → v ≡ o
 never v o none there = cc
 
 -- what is there before and after is the same
-pub left_alone : (stored : Cell → Option Value) (c : Cell) → is_lay c ≡ true → IsSome (stored c) → (xs : Changes) (u : Cells) → list_all (leaves stored) xs ≡ true →
+pub left_alone : (stored : Cell → Option Value) (c : Cell) → is_lay c ≡ true → IsSome (stored c) → (xs : Changes) (u : Cells) →
+    list_all (leaves stored) xs ≡ true →
     IsSome (get (apply xs u) c) → get (apply xs u) c ≡ get u c
 left_alone stored c lay here [] u left there = refl
 left_alone stored c lay here (x ∷ xs) u left there =

@@ -1,5 +1,6 @@
 -- What is kept are the cells that it agrees with.
-use Rattle.std.proofs.Common.{◌≡◌, ℕ, ◌+◌, ◌<◌, ℤ, Bool, true, false, cond, ◌&&◌, List, [], ◌∷◌, ◌++◌, length, take, get_or, Option, Some, None, is_some, IsSome, refl, sym, ap, subst, ◌∙◌}
+use Rattle.std.proofs.Common.{◌≡◌, ℕ, ◌+◌, ◌<◌, ℤ, Bool, true, false, cond, ◌&&◌, List, [], ◌∷◌, ◌++◌, length, take, get_or, Option, Some, None, is_some}
+use Rattle.std.proofs.Common.{IsSome, refl, sym, ap, subst, ◌∙◌}
 use Rattle.std.specs.declared.cmp.Ordering.{Ordering}
 use Rattle.std.specs.declared.cmp.Ordering.TheVariants.{Less, Equal, Greater}
 use Rattle.std.specs.BTreeMap.{BTreeMap}
@@ -27,7 +28,8 @@ use Rattle.std.proofs.lemmas.List.{take_more}
 use Rattle.wb_shelf.proofs.Written.{element_in-written, one_name, one_index}
 
 -- the stored cells and the elements are those of well-formed cells: then what is kept are these cells
-pub same_cells : (cells : BTreeMap Cell Value) (arrays : BTreeMap Name Pieced) (s : Cells) → IsKept cells.entries arrays.entries → IsWellFormed s → ((c : Cell) → is_stored c ≡ true → stored_in cells.entries c ≡ get s c) → Agree arrays.entries s → cells_of cells arrays ≡ s
+pub same_cells : (cells : BTreeMap Cell Value) (arrays : BTreeMap Name Pieced) (s : Cells) → IsKept cells.entries arrays.entries → IsWellFormed s →
+    ((c : Cell) → is_stored c ≡ true → stored_in cells.entries c ≡ get s c) → Agree arrays.entries s → cells_of cells arrays ≡ s
 same_cells cells arrays s kept formed stored agree = same_states cell_order _ _ λ c. get-joined cells.entries arrays.entries kept c ∙ by c
   where
     by : (c : Cell) → answer (stored_in cells.entries) (element_in arrays.entries) c ≡ get s c
@@ -51,7 +53,9 @@ mapped : (b : Bool) (v : ℤ) (o : Option ℤ) (p : Option Value) → option_map
 mapped true v o p e = refl
 mapped false v o p e = e
 
-pub agree_step : (es fs : List (Name × Pieced)) (s : Cells) (a : Name) (i : Index) (v : ℤ) → IsSome (element_in es a i) → ((b : Name) → array_in fs b ≡ cond (is_same_name a b) (with_element (array_in es b) i v) (array_in es b)) → Agree es s → Agree fs (put (record { cell = Element a i; value = Some (Number v) }) s)
+pub agree_step : (es fs : List (Name × Pieced)) (s : Cells) (a : Name) (i : Index) (v : ℤ) → IsSome (element_in es a i) →
+    ((b : Name) → array_in fs b ≡ cond (is_same_name a b) (with_element (array_in es b) i v) (array_in es b)) → Agree es s →
+    Agree fs (put (record { cell = Element a i; value = Some (Number v) }) s)
 agree_step es fs s a i v there is agree b j =
     ap (option_map Number) (element_in-written es fs a b i j v there (is b))
     ∙ mapped (is_same_name a b && is_same_index i j) v (element_in es b j) (get s (Element b j)) (agree b j)
@@ -69,13 +73,15 @@ apply_more xs k x s low is =
     let more : take (k + 1) xs ≡ take k xs ++ x ∷ [] = take_more xs k x low ∙ ap (λ (y : Change Cell Value). take k xs ++ y ∷ []) (sym is) in
     ap (λ ys. apply ys s) more ∙ apply-last (take k xs) x s
 
-pub there_more : (es fs : List (Name × Pieced)) (a b : Name) (i j : Index) (v : ℤ) → IsSome (element_in es a i) → array_in fs b ≡ cond (is_same_name a b) (with_element (array_in es b) i v) (array_in es b) → is_some (element_in fs b j) ≡ is_some (element_in es b j)
+pub there_more : (es fs : List (Name × Pieced)) (a b : Name) (i j : Index) (v : ℤ) → IsSome (element_in es a i) →
+    array_in fs b ≡ cond (is_same_name a b) (with_element (array_in es b) i v) (array_in es b) → is_some (element_in fs b j) ≡ is_some (element_in es b j)
 there_more es fs a b i j v there is = ap is_some (element_in-written es fs a b i j v there is) ∙ by (is_same_name a b) (is_same_index i j) refl refl
   where
     by : (t u : Bool) → is_same_name a b ≡ t → is_same_index i j ≡ u → is_some (cond (t && u) (Some v) (element_in es b j)) ≡ is_some (element_in es b j)
     by false u e f = refl
     by true false e f = refl
-    by true true e f = sym (subst (λ (k : Index). IsSome (element_in es b k)) (one_index i j f) (subst (λ (n : Name). IsSome (element_in es n i)) (one_name a b e) there))
+    by true true e f = sym (subst (λ (k : Index). IsSome (element_in es b k)) (one_index i j f)
+        (subst (λ (n : Name). IsSome (element_in es n i)) (one_name a b e) there))
 
 pub lie_more : (o p : Option Pieced) (t : Bool) (i : Index) (v : ℤ) → p ≡ cond t (with_element o i v) o → option_map (λ x. x.1) p ≡ option_map (λ x. x.1) o
 lie_more o p false i v e = ap (option_map (λ x. x.1)) e

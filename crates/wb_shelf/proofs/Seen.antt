@@ -29,7 +29,8 @@ use Rattle.wb_shelf.proofs.Kept.{get-cells_of}
 use Rattle.wb_shelf.proofs.Written.{one_name, one_cell as equal_cells}
 
 -- cells in their order that are those which the pattern names
-pub seen_is : (s : Cells) (p : Pattern) (es : List (Cell × Value)) → IsStrictlySortedBy cell_cmp (keys_of es) → ((c : Cell) → stored_in es c ≡ cond (matches p c) (get s c) None) → seen s p ≡ es
+pub seen_is : (s : Cells) (p : Pattern) (es : List (Cell × Value)) → IsStrictlySortedBy cell_cmp (keys_of es) →
+    ((c : Cell) → stored_in es c ≡ cond (matches p c) (get s c) None) → seen s p ≡ es
 seen_is s p es sorted is =
     ap entries (same_states cell_order (retain_keys s (matches p)) (from_entries es) (λ c.
     get-retain_keys s (matches p) c (λ x tie. ap (matches p) (sym (cell_order.strict c x tie)))
@@ -38,7 +39,8 @@ seen_is s p es sorted is =
 
 -- ---- the elements of an array
 
-element_at : (a b : Name) (i : Index) (es : List (Index × ℤ)) → stored_in (element_cells a es) (Element b i) ≡ cond (is_same_name a b) (option_map Number (lookup (is_at (index_cmp i)) es)) None
+element_at : (a b : Name) (i : Index) (es : List (Index × ℤ)) →
+    stored_in (element_cells a es) (Element b i) ≡ cond (is_same_name a b) (option_map Number (lookup (is_at (index_cmp i)) es)) None
 element_at a b i es =
     by (is_same_name b a) refl
     ∙ ap (λ (t : Bool). cond t (option_map Number (lookup (is_at (index_cmp i)) es)) None) ((eq_by_cmp_equiv nat_list_cmp_total).symm b a)
@@ -66,7 +68,8 @@ module _ (s : Cells) (a : Name) (es : List (Index × ℤ)) (agree : (i : Index) 
       by true e = agree i ∙ ap (λ (n : Name). get s (Element n i)) (one_name a b e)
       by false e = refl
 
-below_cells : (a : Name) (k : Index) (es : List (Index × ℤ)) → AllByRecursion (λ y. index_cmp k y ≡ Less) (keys_of es) → AllByRecursion (λ y. cell_cmp (Element a k) y ≡ Less) (keys_of (element_cells a es))
+below_cells : (a : Name) (k : Index) (es : List (Index × ℤ)) → AllByRecursion (λ y. index_cmp k y ≡ Less) (keys_of es) →
+    AllByRecursion (λ y. cell_cmp (Element a k) y ≡ Less) (keys_of (element_cells a es))
 below_cells a k [] all = tt
 below_cells a k (e ∷ es) all = (ap (λ o. ordering_then o (index_cmp k e.0)) (tied_itself nat_list_cmp_total a) ∙ all.0, below_cells a k es all.1)
 
@@ -79,18 +82,21 @@ pub pairs_agree : (o : Option Pieced) (i : Index) → option_and_then (λ x. loo
 pairs_agree None i = refl
 pairs_agree (Some p) i = refl
 
-pub seen_elements : (cells : BTreeMap Cell Value) (arrays : BTreeMap Name Pieced) (a : Name) (es : List (Index × ℤ)) → IsShelf cells arrays → es ≡ pairs_of (array_in arrays.entries a) → IsStrictlySortedBy index_cmp (keys_of es) → seen (cells_of cells arrays) (Elements a) ≡ element_cells a es
+pub seen_elements : (cells : BTreeMap Cell Value) (arrays : BTreeMap Name Pieced) (a : Name) (es : List (Index × ℤ)) → IsShelf cells arrays →
+    es ≡ pairs_of (array_in arrays.entries a) → IsStrictlySortedBy index_cmp (keys_of es) → seen (cells_of cells arrays) (Elements a) ≡ element_cells a es
 seen_elements cells arrays a es kept is sorted =
     let s : Cells = cells_of cells arrays in
     let agree : (i : Index) → option_map Number (lookup (is_at (index_cmp i)) es) ≡ get s (Element a i) =
-    λ i. ap (λ xs. option_map Number (lookup (is_at (index_cmp i)) xs)) is ∙ ap (option_map Number) (sym (pairs_agree (array_in arrays.entries a) i)) ∙ sym (get-cells_of cells arrays kept (Element a i)) in
+    λ i. ap (λ xs. option_map Number (lookup (is_at (index_cmp i)) xs)) is ∙ ap (option_map Number) (sym (pairs_agree (array_in arrays.entries a) i))
+    ∙ sym (get-cells_of cells arrays kept (Element a i)) in
     seen_is s (Elements a) (element_cells a es) (sorted_cells a es sorted) (those_named s a es agree)
 
 told : (a : Name) (es : List (Index × ℤ)) → filter_map told_by (element_cells a es) ≡ es
 told a [] = refl
 told a (e ∷ es) = ap (λ xs. e ∷ xs) (told a es)
 
-pub elements_are : (cells : BTreeMap Cell Value) (arrays : BTreeMap Name Pieced) (a : Name) (es : List (Index × ℤ)) → IsShelf cells arrays → es ≡ pairs_of (array_in arrays.entries a) → IsStrictlySortedBy index_cmp (keys_of es) → es ≡ elements (cells_of cells arrays) a
+pub elements_are : (cells : BTreeMap Cell Value) (arrays : BTreeMap Name Pieced) (a : Name) (es : List (Index × ℤ)) → IsShelf cells arrays →
+    es ≡ pairs_of (array_in arrays.entries a) → IsStrictlySortedBy index_cmp (keys_of es) → es ≡ elements (cells_of cells arrays) a
 elements_are cells arrays a es kept is sorted = sym (ap (filter_map told_by) (seen_elements cells arrays a es kept is sorted) ∙ told a es)
 
 -- ---- one cell
@@ -103,7 +109,8 @@ sorted_one c (Some w) = (tt, tt)
 pub seen_one : (s : Cells) (c : Cell) (v : Option Value) → v ≡ get s c → seen s (One c) ≡ one_cell c v
 seen_one s c v is = seen_is s (One c) (one_cell c v) (sorted_one c v) (λ x. one_there v is x)
   where
-    same_one : (w : Value) (x : Cell) (t u : Bool) → eq_by_cmp cell_cmp x c ≡ t → eq_by_cmp cell_cmp c x ≡ u → t ≡ u → Some w ≡ get s c → cond t (Some w) None ≡ cond u (get s x) None
+    same_one : (w : Value) (x : Cell) (t u : Bool) → eq_by_cmp cell_cmp x c ≡ t → eq_by_cmp cell_cmp c x ≡ u → t ≡ u → Some w ≡ get s c →
+        cond t (Some w) None ≡ cond u (get s x) None
     same_one w x true true e f g is = is ∙ ap (get s) (equal_cells c x f)
     same_one w x false false e f g is = refl
     same_one w x true false e f g is = cc

@@ -1,5 +1,6 @@
 -- Changes that were made whole, or taken back.
-use Rattle.std.proofs.Common.{◌≡◌, ℕ, Bool, true, false, true≢false, not, cond, ◌&&◌, List, [], ◌∷◌, filter, map, Option, Some, None, is_some, IsSome, refl, sym, ap, subst, ◌∙◌}
+use Rattle.std.proofs.Common.{◌≡◌, ℕ, Bool, true, false, true≢false, not, cond, ◌&&◌, List, [], ◌∷◌, filter, map, Option, Some, None, is_some, IsSome, refl}
+use Rattle.std.proofs.Common.{sym, ap, subst, ◌∙◌}
 use Rattle.std.specs.BTreeMap.{BTreeMap}
 use Rattle.std.specs.Cmp.Lexicographic.{slice_cmp}
 use Rattle.std.specs.FinMap.{get}
@@ -34,7 +35,8 @@ use Rattle.wb_shelf.specs.Groups.{Group, group_in, changes_in, LeadTo, leaves}
 use Rattle.wb_shelf.specs.Kept.{Pieced, array_in, Agree}
 use Rattle.wb_shelf.specs.Moved.{put_over}
 use Rattle.wb_shelf.specs.Shelf.{cells_of, IsShelf, lies_by, mapping_of}
-use Rattle.wb_shelf.proofs.Applied.{IsRight, stored_only, stored_after, all_stored_after, all_stored_by, none_stored, lies_there, right_none, right_after, shelf_after}
+use Rattle.wb_shelf.proofs.Applied.{IsRight, stored_only, stored_after, all_stored_after, all_stored_by, none_stored, lies_there, right_none, right_after}
+use Rattle.wb_shelf.proofs.Applied.{shelf_after}
 use Rattle.wb_shelf.proofs.Built.{after_all}
 use Rattle.wb_shelf.proofs.Present.{domain_object, array_object}
 use Rattle.wb_shelf.proofs.Resting.{is_lay, left_alone, same_lies}
@@ -49,7 +51,8 @@ none_filtered (x ∷ xs) c e =
     let parts = or_neither (eq_by_cmp cell_cmp c x.cell) (changes cell_cmp xs c) e in
     by (is_stored x.cell) parts.0 (none_filtered xs c parts.1)
   where
-    by : (t : Bool) → eq_by_cmp cell_cmp c x.cell ≡ false → changes cell_cmp (filter (λ y. is_stored y.cell) xs) c ≡ false → changes cell_cmp (cond t (x ∷ filter (λ y. is_stored y.cell) xs) (filter (λ y. is_stored y.cell) xs)) c ≡ false
+    by : (t : Bool) → eq_by_cmp cell_cmp c x.cell ≡ false → changes cell_cmp (filter (λ y. is_stored y.cell) xs) c ≡ false →
+        changes cell_cmp (cond t (x ∷ filter (λ y. is_stored y.cell) xs) (filter (λ y. is_stored y.cell) xs)) c ≡ false
     by true other rest = rw other rest
     by false other rest = rest
 
@@ -57,7 +60,8 @@ pub once_stored : (xs : Changes) → AllOnce cell_cmp xs → AllOnce cell_cmp (f
 once_stored [] once = tt
 once_stored (x ∷ xs) once = by (is_stored x.cell) (none_filtered xs x.cell once.0) (once_stored xs once.1)
   where
-    by : (t : Bool) → changes cell_cmp (filter (λ y. is_stored y.cell) xs) x.cell ≡ false → AllOnce cell_cmp (filter (λ y. is_stored y.cell) xs) → AllOnce cell_cmp (cond t (x ∷ filter (λ y. is_stored y.cell) xs) (filter (λ y. is_stored y.cell) xs))
+    by : (t : Bool) → changes cell_cmp (filter (λ y. is_stored y.cell) xs) x.cell ≡ false → AllOnce cell_cmp (filter (λ y. is_stored y.cell) xs) →
+        AllOnce cell_cmp (cond t (x ∷ filter (λ y. is_stored y.cell) xs) (filter (λ y. is_stored y.cell) xs))
     by true new rest = (new, rest)
     by false new rest = rest
 
@@ -69,11 +73,13 @@ not_cleared false o there = refl
 clears_there : (xs : Changes) (u : Cells) (c : Cell) → IsSome (get (apply (clears xs) u) c) → get (apply (clears xs) u) c ≡ get u c
 clears_there [] u c there = refl
 clears_there (x ∷ xs) u c there =
-    elim x.value as (λ v. let y : Change Cell Value = record x { value = v } in IsSome (get (apply (clears (y ∷ xs)) u) c) → get (apply (clears (y ∷ xs)) u) c ≡ get u c) [
+    elim x.value as (λ v. let y : Change Cell Value = record x { value = v } in IsSome (get (apply (clears (y ∷ xs)) u) c) →
+    get (apply (clears (y ∷ xs)) u) c ≡ get u c) [
       | Some v ↦ λ h. clears_there xs u c h
       | None ↦ λ h.
           let y : Change Cell Value = record x { value = None } in
-          let rest : get (apply (clears xs) (put y u)) c ≡ cond (eq_by_cmp cell_cmp c x.cell) None (get u c) = clears_there xs (put y u) c h ∙ get-put cell_order y u c in
+          let rest : get (apply (clears xs) (put y u)) c ≡ cond (eq_by_cmp cell_cmp c x.cell) None (get u c) = clears_there xs (put y u) c h
+          ∙ get-put cell_order y u c in
           rest ∙ not_cleared (eq_by_cmp cell_cmp c x.cell) (get u c) (subst (λ (o : Option Value). IsSome o) rest h)
     ] there
 
@@ -97,10 +103,12 @@ has_mapping t formed d r is =
     let mapped = subst (λ (k : Option DomainKind). HasMapping k (get t (Mapping d))) is (formed.mappings d) in
     ap (λ (v : Option Value). is_some (lies_of r v)) mapped.1
 
-kind_lies_some : (t : Cells) → IsWellFormed t → (d : Name) (k : Option DomainKind) (kind : Kind) → domain_at t d ≡ k → option_map kind_of k ≡ Some kind → IsSome (mapping_of t d k)
+kind_lies_some : (t : Cells) → IsWellFormed t → (d : Name) (k : Option DomainKind) (kind : Kind) → domain_at t d ≡ k → option_map kind_of k ≡ Some kind →
+    IsSome (mapping_of t d k)
 kind_lies_some t formed d None kind is e = cc
 kind_lies_some t formed d (Some (Rectangular r)) kind is e = has_mapping t formed d r is
-kind_lies_some t formed d (Some (Sparse parent r)) kind is e = has_mapping t formed parent r (formed.objects d (Domain (Sparse parent r)) (domain_object (get t (Object d)) (Sparse parent r) is))
+kind_lies_some t formed d (Some (Sparse parent r)) kind is e =
+    has_mapping t formed parent r (formed.objects d (Domain (Sparse parent r)) (domain_object (get t (Object d)) (Sparse parent r) is))
 kind_lies_some t formed d (Some (Associative Int)) kind is e = refl
 kind_lies_some t formed d (Some (Associative Text)) kind is e = refl
 
@@ -147,14 +155,16 @@ lay_stored (Use d n) lay = refl
 lay_stored (Implicit a) lay = refl
 lay_stored (Element a i) lay = cc
 
-module _ (cells : BTreeMap Cell Value) (arrays : BTreeMap Name Pieced) (delta : Changes) (kept : IsShelf cells arrays) (xs : Changes) (only : xs ≡ filter (λ x. is_stored x.cell) delta) where
+module _ (cells : BTreeMap Cell Value) (arrays : BTreeMap Name Pieced) (delta : Changes) (kept : IsShelf cells arrays) (xs : Changes)
+    (only : xs ≡ filter (λ x. is_stored x.cell) delta) where
   by_stored : (c : Cell) → is_stored c ≡ true → get (apply delta (cells_of cells arrays)) c ≡ get (apply xs (state_of cells)) c
   by_stored c st =
       sym (stored_only delta (cells_of cells arrays) (state_of cells) c st (get-state_of cells c ∙ stored_there cells arrays kept c st))
       ∙ ap (λ (ys : Changes). get (apply ys (state_of cells)) c) (sym only)
 
   -- an object that is not changed
-  same_object : (b : Name) → changes cell_cmp xs (Object b) ≡ false → get (apply delta (cells_of cells arrays)) (Object b) ≡ get (cells_of cells arrays) (Object b)
+  same_object : (b : Name) → changes cell_cmp xs (Object b) ≡ false →
+      get (apply delta (cells_of cells arrays)) (Object b) ≡ get (cells_of cells arrays) (Object b)
   same_object b e =
       by_stored (Object b) refl
       ∙ apply_keeps cell_order xs (state_of cells) (Object b) e
@@ -164,14 +174,16 @@ module _ (cells : BTreeMap Cell Value) (arrays : BTreeMap Name Pieced) (delta : 
   no_array b none = lying_none (array_in arrays.entries b) (kept.lie b ∙ ap (lies_by (cells_of cells arrays)) none)
 
   an_array : (b d : Name) (k : Kind) → array_at (cells_of cells arrays) b ≡ Some (d, k) → IsSome (array_in arrays.entries b)
-  an_array b d k is = lying_there (array_in arrays.entries b) (subst (λ (o : Option (LayoutMap × ℕ)). IsSome o) (sym (kept.lie b)) (lies_some (cells_of cells arrays) kept.well_formed b d k is))
+  an_array b d k is = lying_there (array_in arrays.entries b)
+      (subst (λ (o : Option (LayoutMap × ℕ)). IsSome o) (sym (kept.lie b)) (lies_some (cells_of cells arrays) kept.well_formed b d k is))
 
   agree_now : Agree arrays.entries (cells_of cells arrays)
   agree_now b i = sym (get-cells_of cells arrays kept (Element b i))
 
   -- ---- the changes were made
 
-  module _ (once : AllOnce cell_cmp delta) (formed : IsWellFormed (apply delta (cells_of cells arrays))) (ready after : BTreeMap Cell Value) (grown fresh : List (Name × Pieced)) (built : List (Name × Pieced))
+  module _ (once : AllOnce cell_cmp delta) (formed : IsWellFormed (apply delta (cells_of cells arrays))) (ready after : BTreeMap Cell Value)
+      (grown fresh : List (Name × Pieced)) (built : List (Name × Pieced))
       (set : state_of ready ≡ apply (sets xs) (state_of cells))
       (cleared : state_of after ≡ apply (clears xs) (state_of ready))
       (others : (b : Name) → changes cell_cmp xs (Object b) ≡ false → array_in grown b ≡ array_in arrays.entries b)
@@ -183,14 +195,16 @@ module _ (cells : BTreeMap Cell Value) (arrays : BTreeMap Name Pieced) (delta : 
       (left : (b : Name) → IsSome (array_in arrays.entries b) → group_in gs b ≡ None → list_all (leaves (stored_in cells.entries)) delta ≡ true)
       (ascending : IsStrictlySortedBy (slice_cmp nat_cmp) (keys_of gs))
       (walked : AreAfter (lies_at (stored_in ready.entries)) grown gs built)
-      (last : (b : Name) → array_in fresh b ≡ cond (changes cell_cmp xs (Object b) && not (is_array (stored_in after.entries (Object b)))) None (put_over (array_in grown b) (array_in built b))) where
+      (last : (b : Name) → array_in fresh b ≡ cond (changes cell_cmp xs (Object b) && not (is_array (stored_in after.entries (Object b)))) None
+      (put_over (array_in grown b) (array_in built b))) where
     once_xs : AllOnce cell_cmp xs
     once_xs = subst (λ (ys : Changes). AllOnce cell_cmp ys) (sym only) (once_stored delta once)
 
     after_is : state_of after ≡ apply (filter (λ x. is_stored x.cell) delta) (state_of cells)
     after_is = cleared ∙ ap (apply (clears xs)) set ∙ sets_clears cell_order xs (state_of cells) once_xs ∙ ap (λ (ys : Changes). apply ys (state_of cells)) only
 
-    ready_is : (c : Cell) → is_stored c ≡ true → IsSome (get (apply delta (cells_of cells arrays)) c) → stored_in ready.entries c ≡ get (apply delta (cells_of cells arrays)) c
+    ready_is : (c : Cell) → is_stored c ≡ true → IsSome (get (apply delta (cells_of cells arrays)) c) →
+        stored_in ready.entries c ≡ get (apply delta (cells_of cells arrays)) c
     ready_is c st present =
         let whole : get (apply delta (cells_of cells arrays)) c ≡ get (apply (clears xs) (apply (sets xs) (state_of cells))) c =
         by_stored c st ∙ ap (λ (u : Cells). get u c) (sym (sets_clears cell_order xs (state_of cells) once_xs)) in
@@ -199,38 +213,48 @@ module _ (cells : BTreeMap Cell Value) (arrays : BTreeMap Name Pieced) (delta : 
 
     no_longer : (b : Name) → array_at (apply delta (cells_of cells arrays)) b ≡ None → (u : Bool) → changes cell_cmp xs (Object b) ≡ u → array_in fresh b ≡ None
     no_longer b none true e =
-        last b ∙ gone_now _ (is_array (stored_in after.entries (Object b))) _ e (ap is_array (stored_after cells after arrays delta kept after_is (Object b) refl) ∙ ap is_some none)
+        last b ∙ gone_now _ (is_array (stored_in after.entries (Object b))) _ e
+        (ap is_array (stored_after cells after arrays delta kept after_is (Object b) refl) ∙ ap is_some none)
     no_longer b none false e =
         last b ∙ not_changed _ (is_array (stored_in after.entries (Object b))) _ e
         ∙ over_nothing (array_in grown b) (array_in built b) (others b e ∙ no_array b (sym (ap object_in (same_object b e)) ∙ none))
 
-    was_there : (b d : Name) (k : Kind) → array_at (apply delta (cells_of cells arrays)) b ≡ Some (d, k) → (u : Bool) → changes cell_cmp xs (Object b) ≡ u → IsSome (array_in grown b)
+    was_there : (b d : Name) (k : Kind) → array_at (apply delta (cells_of cells arrays)) b ≡ Some (d, k) → (u : Bool) →
+        changes cell_cmp xs (Object b) ≡ u → IsSome (array_in grown b)
     was_there b d k is true e =
-        there b e (ap is_array (ready_is (Object b) refl (ap is_some (array_object (get (apply delta (cells_of cells arrays)) (Object b)) d k is))) ∙ ap is_some is)
+        there b e (ap is_array (ready_is (Object b) refl (ap is_some (array_object (get (apply delta (cells_of cells arrays)) (Object b)) d k is)))
+        ∙ ap is_some is)
     was_there b d k is false e = subst (λ (o : Option Pieced). IsSome o) (sym (others b e)) (an_array b d k (sym (ap object_in (same_object b e)) ∙ is))
 
     not_named : (b : Name) → group_in gs b ≡ None → changes cell_cmp delta (Object b) ≡ false
     not_named b none = not_true (changes cell_cmp delta (Object b)) (λ e. absurd (true≢false (sym (objects b e) ∙ ap is_some none)))
 
     left_there : (b : Name) → IsSome (array_in arrays.entries b) → group_in gs b ≡ None → (c : Cell) → is_lay c ≡ true →
-        IsSome (get (cells_of cells arrays) c) → IsSome (get (apply delta (cells_of cells arrays)) c) → get (apply delta (cells_of cells arrays)) c ≡ get (cells_of cells arrays) c
+        IsSome (get (cells_of cells arrays) c) → IsSome (get (apply delta (cells_of cells arrays)) c) →
+        get (apply delta (cells_of cells arrays)) c ≡ get (cells_of cells arrays) c
     left_there b there none c lay here present =
-        left_alone (stored_in cells.entries) c lay (ap is_some (stored_there cells arrays kept c (lay_stored c lay)) ∙ here) delta (cells_of cells arrays) (left b there none) present
+        left_alone (stored_in cells.entries) c lay (ap is_some (stored_there cells arrays kept c (lay_stored c lay)) ∙ here) delta (cells_of cells arrays)
+        (left b there none) present
 
     -- an array that is not named lies as before
-    rests : (b d : Name) (k : Kind) (p : Pieced) (l : LayoutMap × ℕ) → array_at (apply delta (cells_of cells arrays)) b ≡ Some (d, k) → array_in grown b ≡ Some p →
+    rests : (b d : Name) (k : Kind) (p : Pieced) (l : LayoutMap × ℕ) → array_at (apply delta (cells_of cells arrays)) b ≡ Some (d, k) →
+        array_in grown b ≡ Some p →
         lies_by (apply delta (cells_of cells arrays)) (array_at (apply delta (cells_of cells arrays)) b) ≡ Some l → group_in gs b ≡ None → p.1 ≡ l
     rests b d k p l is found lie none =
         let s : Cells = cells_of cells arrays in
         let t : Cells = apply delta s in
-        let unchanged : changes cell_cmp xs (Object b) ≡ false = ap (λ (ys : Changes). changes cell_cmp ys (Object b)) only ∙ none_filtered delta (Object b) (not_named b none) in
+        let unchanged : changes cell_cmp xs (Object b) ≡ false = ap (λ (ys : Changes). changes cell_cmp ys (Object b)) only
+        ∙ none_filtered delta (Object b) (not_named b none) in
         let was_found : array_in arrays.entries b ≡ Some p = sym (others b unchanged) ∙ found in
         let was : array_at s b ≡ Some (d, k) = sym (ap object_in (same_object b unchanged)) ∙ is in
-        let same : lies_by t (array_at t b) ≡ lies_by s (array_at s b) = same_lies s t kept.well_formed formed (left_there b (ap is_some was_found) none) b d k was is in
+        let same : lies_by t (array_at t b) ≡ lies_by s (array_at s b) =
+        same_lies s t kept.well_formed formed (left_there b (ap is_some was_found) none) b d k was is in
         one_lies p l (ap (option_map (λ x. x.1)) (sym was_found) ∙ kept.lie b ∙ sym same ∙ lie)
 
-    right_now : (b : Name) (x : Option (Name × Kind)) → array_at (apply delta (cells_of cells arrays)) b ≡ x → IsRight (apply delta (cells_of cells arrays)) b (array_in fresh b)
-    right_now b None none = subst (λ (o : Option Pieced). IsRight (apply delta (cells_of cells arrays)) b o) (sym (no_longer b none _ refl)) (right_none (apply delta (cells_of cells arrays)) b formed none)
+    right_now : (b : Name) (x : Option (Name × Kind)) → array_at (apply delta (cells_of cells arrays)) b ≡ x →
+        IsRight (apply delta (cells_of cells arrays)) b (array_in fresh b)
+    right_now b None none = subst (λ (o : Option Pieced). IsRight (apply delta (cells_of cells arrays)) b o) (sym (no_longer b none _ refl))
+        (right_none (apply delta (cells_of cells arrays)) b formed none)
     right_now b (Some (d, k)) is =
         let t : Cells = apply delta (cells_of cells arrays) in
         let present : IsSome (get t (Object b)) = ap is_some (array_object (get t (Object b)) d k is) in
@@ -238,16 +262,19 @@ module _ (cells : BTreeMap Cell Value) (arrays : BTreeMap Name Pieced) (delta : 
         let lie = the_one (lies_by t (array_at t b)) (lies_some t formed b d k is) in
         let lying : lies_at (stored_in ready.entries) b ≡ Some lie.0 = lies_there (stored_in ready.entries) t formed ready_is b present ∙ lie.1 in
         let step : IsAfter (changes_in gs b) lie.0 found.0 (array_in built b) =
-        after_all (lies_at (stored_in ready.entries)) grown gs built walked ascending b found.0 lie.0 found.1 lying (rests b d k found.0 lie.0 is found.1 lie.1) (group_in gs b) refl in
+        after_all (lies_at (stored_in ready.entries)) grown gs built walked ascending b found.0 lie.0 found.1 lying
+        (rests b d k found.0 lie.0 is found.1 lie.1) (group_in gs b) refl in
         let agree : Agree grown (cells_of cells arrays) = λ a i. ap (option_map Number) (elements a i) ∙ agree_now a i in
         let kept_one : array_in fresh b ≡ put_over (Some found.0) (array_in built b) =
         last b
         ∙ not_gone (changes cell_cmp xs (Object b)) (is_array (stored_in after.entries (Object b))) (put_over (array_in grown b) (array_in built b))
         (ap is_array (stored_after cells after arrays delta kept after_is (Object b) refl) ∙ ap is_some is)
         ∙ ap (λ (o : Option Pieced). put_over o (array_in built b)) found.1 in
-        subst (λ (o : Option Pieced). IsRight t b o) (sym kept_one) (right_after (cells_of cells arrays) grown delta b found.0 (array_in built b) lie.0 (changes_in gs b) (lead b) agree found.1 (sym lie.1) step)
+        subst (λ (o : Option Pieced). IsRight t b o) (sym kept_one)
+        (right_after (cells_of cells arrays) grown delta b found.0 (array_in built b) lie.0 (changes_in gs b) (lead b) agree found.1 (sym lie.1) step)
 
-    pub made_whole : (now : BTreeMap Name Pieced) → now.entries ≡ fresh → IsStrictlySortedBy cell_cmp (keys_of after.entries) → IsStrictlySortedBy (slice_cmp nat_cmp) (keys_of fresh) → (cells_of after now ≡ apply delta (cells_of cells arrays)) × IsShelf after now
+    pub made_whole : (now : BTreeMap Name Pieced) → now.entries ≡ fresh → IsStrictlySortedBy cell_cmp (keys_of after.entries) →
+        IsStrictlySortedBy (slice_cmp nat_cmp) (keys_of fresh) → (cells_of after now ≡ apply delta (cells_of cells arrays)) × IsShelf after now
     made_whole now is sorted by_name =
         shelf_after after now (apply delta (cells_of cells arrays)) formed
         (stored_after cells after arrays delta kept after_is)
@@ -262,16 +289,19 @@ module _ (cells : BTreeMap Cell Value) (arrays : BTreeMap Name Pieced) (delta : 
       (back : state_of after ≡ state_of cells)
       (others : (b : Name) → changes cell_cmp xs (Object b) ≡ false → array_in grown b ≡ array_in arrays.entries b)
       (stays : (b : Name) (p : Pieced) → array_in arrays.entries b ≡ Some p → array_in grown b ≡ Some p)
-      (last : (b : Name) → array_in fresh b ≡ cond (changes cell_cmp xs (Object b) && not (is_array (stored_in after.entries (Object b)))) None (array_in grown b)) where
+      (last : (b : Name) → array_in fresh b ≡ cond (changes cell_cmp xs (Object b) && not (is_array (stored_in after.entries (Object b)))) None
+      (array_in grown b)) where
     stored_back : (c : Cell) → is_stored c ≡ true → stored_in after.entries c ≡ get (cells_of cells arrays) c
     stored_back c st = sym (get-state_of after c) ∙ ap (λ (u : Cells). get u c) back ∙ get-state_of cells c ∙ stored_there cells arrays kept c st
 
     never_there : (b : Name) → array_at (cells_of cells arrays) b ≡ None → (u : Bool) → changes cell_cmp xs (Object b) ≡ u → array_in fresh b ≡ None
-    never_there b none true e = last b ∙ gone_now _ (is_array (stored_in after.entries (Object b))) _ e (ap is_array (stored_back (Object b) refl) ∙ ap is_some none)
+    never_there b none true e = last b ∙ gone_now _ (is_array (stored_in after.entries (Object b))) _ e (ap is_array (stored_back (Object b) refl)
+        ∙ ap is_some none)
     never_there b none false e = last b ∙ not_changed _ (is_array (stored_in after.entries (Object b))) _ e ∙ others b e ∙ no_array b none
 
     right_then : (b : Name) (x : Option (Name × Kind)) → array_at (cells_of cells arrays) b ≡ x → IsRight (cells_of cells arrays) b (array_in fresh b)
-    right_then b None none = subst (λ (o : Option Pieced). IsRight (cells_of cells arrays) b o) (sym (never_there b none _ refl)) (right_none (cells_of cells arrays) b kept.well_formed none)
+    right_then b None none = subst (λ (o : Option Pieced). IsRight (cells_of cells arrays) b o) (sym (never_there b none _ refl))
+        (right_none (cells_of cells arrays) b kept.well_formed none)
     right_then b (Some (d, k)) is =
         let s : Cells = cells_of cells arrays in
         let found = the_one (array_in arrays.entries b) (an_array b d k is) in
@@ -282,10 +312,12 @@ module _ (cells : BTreeMap Cell Value) (arrays : BTreeMap Name Pieced) (delta : 
         ∙ stays b found.0 found.1 ∙ sym found.1 in
         subst (λ (o : Option Pieced). IsRight s b o) (sym same) (record { lies = kept.lie b; elements = λ i. agree_now b i })
 
-    pub taken_back : (now : BTreeMap Name Pieced) → now.entries ≡ fresh → IsStrictlySortedBy cell_cmp (keys_of after.entries) → IsStrictlySortedBy (slice_cmp nat_cmp) (keys_of fresh) → (cells_of after now ≡ cells_of cells arrays) × IsShelf after now
+    pub taken_back : (now : BTreeMap Name Pieced) → now.entries ≡ fresh → IsStrictlySortedBy cell_cmp (keys_of after.entries) →
+        IsStrictlySortedBy (slice_cmp nat_cmp) (keys_of fresh) → (cells_of after now ≡ cells_of cells arrays) × IsShelf after now
     taken_back now is sorted by_name =
         shelf_after after now (cells_of cells arrays) kept.well_formed stored_back
-        (all_stored_by after.entries (λ c apart. sym (get-state_of after c) ∙ ap (λ (u : Cells). get u c) back ∙ get-state_of cells c ∙ none_stored cells.entries c apart kept.stored))
+        (all_stored_by after.entries (λ c apart. sym (get-state_of after c) ∙ ap (λ (u : Cells). get u c) back ∙ get-state_of cells c
+        ∙ none_stored cells.entries c apart kept.stored))
         sorted
         (subst (λ (es : List (Name × Pieced)). IsStrictlySortedBy (slice_cmp nat_cmp) (keys_of es)) (sym is) by_name)
         (λ b. subst (λ (es : List (Name × Pieced)). IsRight (cells_of cells arrays) b (array_in es b)) (sym is) (right_then b _ refl))

@@ -33,7 +33,8 @@ changes_in groups a = changes_of (group_in groups a)
 -- from the elements of an array before the changes these changes of elements lead to those after them
 abbrev pub LeadTo : Changes → Name → Group → Type 0
 LeadTo delta a xs =
-    (s : Cells) (o : Option ℤ) (i : Index) → option_map Number o ≡ get s (Element a i) → option_map Number (changed_at xs o i) ≡ get (apply delta s) (Element a i)
+    (s : Cells) (o : Option ℤ) (i : Index) → option_map Number o ≡ get s (Element a i) →
+    option_map Number (changed_at xs o i) ≡ get (apply delta s) (Element a i)
 
 abbrev pub leaves_at : (Cell → Option Value) → Cell → Option Value → Bool
 leaves_at stored (Object n) v = not (is_some v && is_some (stored (Object n)))

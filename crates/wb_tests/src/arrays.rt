@@ -1,142 +1,174 @@
 //! Arrays: kept whole and in pieces, over every kind of domain, and what a change of domain does to them.
+ghost use Rattle.std.specs.Prelude.{IfOk};
 ghost use Rattle.wb_array.specs.Elements.{HoldsExactly};
 
+use crate::mappings::layout;
+use crate::rectangles::rectangle;
+use crate::rows::{Subject, Words, play, shown};
+use crate::sets::{integers, sparse};
 use std::alloc::Global;
+use std::fmt::Debug;
 use std::test::Fail;
-use wb_array::{Bound, OutOfDomain, Store};
-use wb_assoc::Assoc;
-use wb_dist::{Block, Cyclic, Distribution, Home, Layout, PieceErr};
+use wb_array::{Bound, Store};
+use wb_dist::{Cyclic, Home, Layout};
 use wb_pieces::Pieces;
-use wb_range::{Domain, Mapping, NoMemory, Range};
+use wb_range::{Domain, Key, Mapping, NoMemory};
 use wb_rect::Rect;
-use wb_sparse::Sparse;
 
-fn line(low: i64, high: i64) -> Result<Rect<1>, Fail> {
-    Ok(Rect::new([Range::new(low, high, 1, None)?])?)
+// The moves take an array from a domain to another and back: the first element and that of new indices, the mapping, the
+// domains, an index outside the old one, and those to look at. The answer is what setting a 9 outside gave, the elements
+// over the new domain, the pairs that were lost, the elements over the old domain again, and how many there are. `piece`
+// is the pairs of a locale, whose elements count up from 1.
+const ROWS: &str = r"
+move 1 0 block 2 5 1 _ 2 1 4 1 _ 3 6 1 _ 5 6 1 2 3 4 5 7 -> Err(OutOfDomain) [None, None, Some(3), Some(4), Some(0), None] [([1], 1), ([2], 2)] [Some(1), Some(2), Some(3), Some(4), None, None] 4
+move_sparse 7 5 1 1 2 2 1 4 1 _ 1 4 1 _ 2 1 1 2 3 1 4 1 _ 1 4 1 _ 2 2 3 4 4 4 4 2 1 1 4 4 -> Err(OutOfDomain) [None, Some(5)] [([1, 1], 7)] [Some(7), None] 2
+move_integers 7 5 2 1 2 2 2 3 3 2 1 3 -> Err(OutOfDomain) [None, Some(5)] [(1, 7)] [Some(7), None] 2
+piece 1 0 cyclic 1 4 1 10 1 _ 1 -> Ok([([2], 2), ([6], 6), ([10], 10)])
+piece 1 0 cyclic 1 4 1 10 1 _ 3 -> Ok([([4], 4), ([8], 8)])
+piece 1 0 cyclic 1 4 1 10 1 _ 4 -> Err(NoLocale)
+piece 1 0 block 1 10 1 _ 4 1 10 1 _ 1 -> Ok([([4], 4), ([5], 5)])
+piece 1 0 block 1 10 1 _ 4 1 10 1 _ 3 -> Ok([([9], 9), ([10], 10)])
+piece 1 0 block 1 10 1 _ 4 1 10 1 _ 4 -> Err(NoLocale)
+";
+
+// The elements count up from the first, in the order of the domain.
+fn numbered<D: Domain>(alloc: Global, domain: &D, first: i64) -> Result<Bound<D>, Fail>
+    ensures { IfOk result (λ b. HoldsExactly D.Index.cmp b (D.indices domain.now)) }
+{
+    let mut whole = Bound::new(alloc, domain)?;
+    let mut element = first;
+    for p in 0..domain.size() {
+        if let Some(i) = domain.nth(p) {
+            if whole.set(i, element) != Ok(0) {
+                return Err(Fail::new("an element is not 0 at first"));
+            }
+            element = element.wrapping_add(1);
+        }
+    }
+    Ok(whole)
 }
 
-fn blocks(low: i64, high: i64, count: i64) -> Result<Layout<1>, Fail> {
-    let block = Block::new(line(low, high)?, [count])?;
-    Ok(Layout::new(Distribution::Block(block)))
+// The elements at these indices.
+fn elements<S: Store>(alloc: Global, array: &S, indices: &[S::Index]) -> Result<String, Fail> {
+    let mut elements = Vec::new(alloc);
+    for i in indices {
+        elements.push(array.get(*i))?;
+    }
+    shown(alloc, &elements.as_slice())
 }
 
-// An array of 1 2 3 4 in two pieces loses two of them, gets two zeros and is brought back.
-#[test]
-fn reallocation_of_four(rt: HostRuntime) -> Result<(), Fail> {
-    let (old, new) = (line(1, 4)?, line(3, 6)?);
-    let mut whole = Bound::new(rt.alloc(), &old)?;
-    for i in 1i64..5 {
-        assert_eq!(rt; whole.set([i], i), Ok(0));
-    }
-    assert_eq!(rt; whole.set([5], 9), Err(OutOfDomain));
-    let mut array = Pieces::split(rt.alloc(), &blocks(2, 5, 2)?, &whole)?;
-    let dropped = array.reshape(&old, &new, 0)?;
-    for (i, element) in [
-        (2, None),
-        (3, Some(3)),
-        (4, Some(4)),
-        (5, Some(0)),
-        (7, None),
-    ] {
-        assert_eq!(rt; array.get([i]), element, "at {i}");
-    }
-    assert_eq!(rt; dropped.pairs(), [([1], 1), ([2], 2)].as_slice());
-    assert!(rt; array.unreshape(&old, &new, dropped).is_ok());
-    for i in 1i64..5 {
-        assert_eq!(rt; array.get([i]), Some(i), "back at {i}");
-    }
-    assert_eq!(rt; array.len(), 4);
-    Ok(())
-}
-
-// The indices of a piece.
-fn indices_on(
+// What becomes of an array over `old` that goes to `new` and back, at these indices.
+fn there_and_back<I: Key + Debug, S: Store<Index = I>>(
     alloc: Global,
-    array: &Pieces<Rect<1>, Layout<1>>,
-    locale: usize,
-) -> Result<Vec<i64>, Fail> {
-    let mut indices = Vec::new(alloc);
-    for (index, _) in &array.piece(locale)? {
-        indices.push(index[0])?;
-    }
-    Ok(indices)
-}
-
-// Whether an array over 1 to 10 has these indices on the locales 1 and 3 of four.
-fn lies_on(alloc: Global, layout: &Layout<1>, second: &[i64], last: &[i64]) -> Result<bool, Fail> {
-    let whole = Bound::new(alloc, &line(1, 10)?)?;
-    let array = Pieces::split(alloc, layout, &whole)?;
-    if array.piece(4).err() != Some(PieceErr::NoLocale) {
-        return Ok(false);
-    }
-    Ok(
-        indices_on(alloc, &array, 1)?.as_slice() == second
-            && indices_on(alloc, &array, 3)?.as_slice() == last,
-    )
-}
-
-#[test]
-fn pieces_of_ten(rt: HostRuntime) -> Result<(), Fail> {
-    let in_turn = Layout::new(Distribution::Cyclic(Cyclic::new([1], [4])?));
-    assert!(rt; lies_on(rt.alloc(), &in_turn, &[2, 6, 10], &[4, 8])?);
-    assert!(rt; lies_on(rt.alloc(), &blocks(1, 10, 4)?, &[4, 5], &[9, 10])?);
-    Ok(())
-}
-
-// Takes an array over `old` with 7 at `left` to the domain `new`, whose new elements are 5, and back. Gives the elements
-// at `left` and `come` in between, and at `left` in the end.
-fn there_and_back<S: Store>(
     array: &mut S,
     old: &S::Dom,
     new: &S::Dom,
-    left: S::Index,
-    come: S::Index,
-) -> Result<[Option<i64>; 3], Fail>
-    requires { HoldsExactly S.Index.cmp (S.contents array.old) (S.Dom.indices old.now) }
+    default: i64,
+    indices: &[I],
+) -> Result<String, Fail>
+    requires { HoldsExactly I.cmp (S.contents array.old) (S.Dom.indices old.now) }
 {
-    array.set(left, 7)?;
-    let dropped = array.reshape(old, new, 5)?;
-    let gone = array.get(left);
-    let fresh = array.get(come);
+    let dropped = array.reshape(old, new, default)?;
+    let between = elements(alloc, array, indices)?;
+    let lost = shown(alloc, &dropped.pairs())?;
     if array.unreshape(old, new, dropped).is_err() {
         return Err(NoMemory)?;
     }
-    Ok([gone, fresh, array.get(left)])
+    let back = elements(alloc, array, indices)?;
+    let count = array.len();
+    Ok(format!(in alloc; "{between} {lost} {back} {count}")?)
 }
 
-// The same by an array in pieces.
-fn in_pieces<D: Domain, M: Mapping<Index = D::Index>>(
+// The same by an array in pieces, whose first element and element of new indices are given.
+fn in_pieces<I: Key + Debug, D: Domain<Index = I>, M: Mapping<Index = I>>(
     alloc: Global,
+    given: (i64, i64),
     mapping: &M,
-    old: &D,
-    new: &D,
-    left: D::Index,
-    come: D::Index,
-) -> Result<[Option<i64>; 3], Fail> {
-    let whole = Bound::new(alloc, old)?;
+    (old, new): (&D, &D),
+    outside: I,
+    indices: &[I],
+) -> Result<String, Fail> {
+    let mut whole = numbered(alloc, old, given.0)?;
+    let refused = whole.set(outside, 9);
     let mut pieces = Pieces::split(alloc, mapping, &whole)?;
-    there_and_back(&mut pieces, old, new, left, come)
+    let moved = there_and_back(alloc, &mut pieces, old, new, given.1, indices)?;
+    Ok(format!(in alloc; "{refused:?} {moved}")?)
 }
 
-fn by_sparse_sets(alloc: Global) -> Result<[Option<i64>; 3], Fail> {
-    let edge = Range::new(1, 4, 1, None)?;
-    let parent = Rect::new([edge, edge])?;
-    let old = Sparse::from_slice(alloc, parent, &[[1, 1], [2, 3]])?;
-    let new = Sparse::from_slice(alloc, parent, &[[2, 3], [4, 4]])?;
-    let cyclic = Cyclic::new([1, 1], [2, 2])?;
-    in_pieces(alloc, &cyclic, &old, &new, [1, 1], [4, 4])
+fn by_rectangles(alloc: Global, given: (i64, i64), words: &mut Words<'_>) -> Result<String, Fail> {
+    let blocks: Layout<1> = layout(words)?;
+    let (old, new): (Rect<1>, Rect<1>) = (rectangle(words)?, rectangle(words)?);
+    let outside = words.index();
+    let looks = words.indices(alloc)?;
+    in_pieces(
+        alloc,
+        given,
+        &blocks,
+        (&old, &new),
+        outside,
+        looks.as_slice(),
+    )
 }
 
-fn by_integer_sets(alloc: Global) -> Result<[Option<i64>; 3], Fail> {
-    let old = Assoc::from_slice(alloc, &[1, 2])?;
-    let new = Assoc::from_slice(alloc, &[2, 3])?;
-    in_pieces(alloc, &Home::new(), &old, &new, 1, 3)
+fn by_sparse_sets(alloc: Global, given: (i64, i64), words: &mut Words<'_>) -> Result<String, Fail> {
+    let cyclic: Cyclic<2> = Cyclic::new(words.index(), words.index())?;
+    let old = sparse(alloc, words)?;
+    let new = sparse(alloc, words)?;
+    let outside = words.index();
+    let looks = words.indices(alloc)?;
+    in_pieces(
+        alloc,
+        given,
+        &cyclic,
+        (&old, &new),
+        outside,
+        looks.as_slice(),
+    )
+}
+
+fn by_integer_sets(
+    alloc: Global,
+    given: (i64, i64),
+    words: &mut Words<'_>,
+) -> Result<String, Fail> {
+    let old = integers(alloc, words)?;
+    let new = integers(alloc, words)?;
+    let outside = words.number();
+    let looks = integers(alloc, words)?;
+    in_pieces(
+        alloc,
+        given,
+        &Home::new(),
+        (&old, &new),
+        outside,
+        looks.as_slice(),
+    )
+}
+
+// The pairs of a locale.
+fn piece(alloc: Global, first: i64, words: &mut Words<'_>) -> Result<String, Fail> {
+    let layout: Layout<1> = layout(words)?;
+    let domain: Rect<1> = rectangle(words)?;
+    let array = Pieces::split(alloc, &layout, &numbered(alloc, &domain, first)?)?;
+    shown(alloc, &array.piece(words.number()))
+}
+
+#[derive(Drop)]
+struct Arrays;
+
+impl Subject for Arrays {
+    fn answer(&mut self, alloc: Global, call: &str, words: &mut Words<'_>) -> Result<String, Fail> {
+        let given = (words.number(), words.number());
+        match call {
+            "move" => by_rectangles(alloc, given, words),
+            "move_sparse" => by_sparse_sets(alloc, given, words),
+            "move_integers" => by_integer_sets(alloc, given, words),
+            _ => piece(alloc, given.0, words),
+        }
+    }
 }
 
 #[test]
-fn every_kind_of_domain(rt: HostRuntime) -> Result<(), Fail> {
-    let wanted = [None, Some(5), Some(7)];
-    assert_eq!(rt; by_sparse_sets(rt.alloc())?, wanted);
-    assert_eq!(rt; by_integer_sets(rt.alloc())?, wanted);
-    Ok(())
+fn rows_of_arrays(rt: HostRuntime) -> Result<(), Fail> {
+    play(&rt, rt.alloc(), &mut Arrays, ROWS)
 }

@@ -15,4 +15,6 @@ mod ranges;
 #[cfg(test)]
 mod rectangles;
 #[cfg(test)]
+mod rows;
+#[cfg(test)]
 mod sets;

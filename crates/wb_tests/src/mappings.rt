@@ -1,104 +1,142 @@
 //! The locales on which mappings put indices.
+ghost use Rattle.std.specs.Prelude.{◌≤◌};
 
+use crate::rectangles::rectangle;
+use crate::rows::{Subject, Words, play, shown, unknown};
+use std::alloc::Global;
 use std::test::Fail;
 use wb_dist::{BadMapping, Block, BlockCyclic, Cyclic, Distribution, Home, Layout};
-use wb_range::{Mapping, Range, RangeErr};
-use wb_rect::Rect;
+use wb_range::Mapping;
 
-// The locale of `i`, by any mapping of rank 1.
-fn locale_of<M: Mapping<Index = [i64; 1]>>(mapping: &M, i: i64) -> usize {
-    mapping.locale_of([i])
+// The locale of an index, and how many locales there are. A box is a range a dimension, which is low, high, stride and
+// alignment, and a mapping is a box and a grid, a start and a grid, or a start, the extents of a block and a grid. The
+// distance from the least integer to the greatest is 2^64 - 1: 5 modulo 10, and 3 whole blocks of 2^62.
+const LINES: &str = r"
+block 1 10 1 _ 4 0 -> (0, 4)
+block 1 10 1 _ 4 1 -> (0, 4)
+block 1 10 1 _ 4 2 -> (0, 4)
+block 1 10 1 _ 4 3 -> (0, 4)
+block 1 10 1 _ 4 4 -> (1, 4)
+block 1 10 1 _ 4 5 -> (1, 4)
+block 1 10 1 _ 4 6 -> (2, 4)
+block 1 10 1 _ 4 7 -> (2, 4)
+block 1 10 1 _ 4 8 -> (2, 4)
+block 1 10 1 _ 4 9 -> (3, 4)
+block 1 10 1 _ 4 10 -> (3, 4)
+block 1 10 1 _ 4 11 -> (3, 4)
+block 1 10 1 _ 4 -9223372036854775808 -> (0, 4)
+block 1 10 1 _ 4 9223372036854775807 -> (3, 4)
+block 1 4 2 _ 2 -> BadMapping
+cyclic 1 3 -1 -> (1, 3)
+cyclic 1 3 0 -> (2, 3)
+cyclic 1 3 1 -> (0, 3)
+cyclic -9223372036854775808 10 9223372036854775807 -> (5, 10)
+cyclic 9223372036854775807 10 -9223372036854775808 -> (5, 10)
+block_cyclic 1 2 3 0 -> (2, 3)
+block_cyclic 1 2 3 7 -> (0, 3)
+block_cyclic -9223372036854775808 4611686018427387904 5 9223372036854775807 -> (3, 5)
+block_cyclic 9223372036854775807 4611686018427387904 5 -9223372036854775808 -> (1, 5)
+block_cyclic 1 0 3 -> BadMapping
+block_cyclic 1 1 0 -> BadMapping
+block_cyclic 1 1 257 -> BadMapping
+block_cyclic 1 1 256 1 -> (0, 256)
+";
+
+// The same at rank 2, also by the layout that a mapping is put into; and whether two layouts are the same.
+const PLANES: &str = r"
+block 1 4 1 _ 1 4 1 _ 2 2 3 2 -> (2, 4)
+block 1 4 1 _ 1 0 1 _ 2 2 -> BadMapping
+cyclic 1 1 16 17 -> BadMapping
+layout block 1 6 1 _ 1 4 1 _ 3 2 6 1 -> (4, 6)
+layout block_cyclic 1 5 2 1 3 2 3 4 -> (3, 6)
+layout cyclic 1 5 3 2 3 4 -> (5, 6)
+layout whole 7 7 -> (0, 1)
+same cyclic 1 5 3 2 cyclic 1 5 3 2 -> true
+same cyclic 1 5 3 2 cyclic 1 5 2 3 -> false
+same cyclic 1 5 3 2 block_cyclic 1 5 2 1 3 2 -> false
+";
+
+fn block<const R: usize>(words: &mut Words<'_>) -> Result<Block<R>, BadMapping>
+    requires low { 1 ≤ R }
+    requires high { R ≤ 3 }
+{
+    match rectangle(words) {
+        Ok(bounds) => Block::new(bounds, words.index()),
+        Err(_) => Err(BadMapping),
+    }
 }
 
-fn range(low: i64, high: i64) -> Result<Range, RangeErr> {
-    Range::new(low, high, 1, None)
+fn cyclic<const R: usize>(words: &mut Words<'_>) -> Result<Cyclic<R>, BadMapping>
+    requires low { 1 ≤ R }
+    requires high { R ≤ 3 }
+{
+    Cyclic::new(words.index(), words.index())
+}
+
+fn block_cyclic<const R: usize>(words: &mut Words<'_>) -> Result<BlockCyclic<R>, BadMapping>
+    requires low { 1 ≤ R }
+    requires high { R ≤ 3 }
+{
+    BlockCyclic::new(words.index(), words.index(), words.index())
+}
+
+/// The layout of the next words, of which the first says its kind.
+pub fn layout<const R: usize>(words: &mut Words<'_>) -> Result<Layout<R>, BadMapping>
+    requires low { 1 ≤ R }
+    requires high { R ≤ 3 }
+{
+    let distribution = match words.word() {
+        "block" => Distribution::Block(block(words)?),
+        "cyclic" => Distribution::Cyclic(cyclic(words)?),
+        "block_cyclic" => Distribution::BlockCyclic(block_cyclic(words)?),
+        _ => Distribution::Whole,
+    };
+    Ok(Layout::new(distribution))
+}
+
+// The locale of the index of the next words, by any mapping, and how many there are; or that there is no such mapping.
+fn locale_of<const R: usize, M: Mapping<Index = [i64; R]>>(
+    alloc: Global,
+    made: &Result<M, BadMapping>,
+    words: &mut Words<'_>,
+) -> Result<String, Fail>
+    requires { R ≤ 3 }
+{
+    match made {
+        Ok(mapping) => shown(
+            alloc,
+            &(mapping.locale_of(words.index()), mapping.locales()),
+        ),
+        Err(error) => shown(alloc, error),
+    }
+}
+
+#[derive(Drop)]
+struct Ranked<const R: usize>;
+
+impl<const R: usize> Subject for Ranked<R> {
+    fn answer(&mut self, alloc: Global, call: &str, words: &mut Words<'_>) -> Result<String, Fail> {
+        if R == 0 || R > 3 {
+            return unknown();
+        }
+        match call {
+            "same" => shown(alloc, &(layout::<R>(words)? == layout::<R>(words)?)),
+            "layout" => locale_of(alloc, &layout::<R>(words), words),
+            "block" => locale_of(alloc, &block::<R>(words), words),
+            "cyclic" => locale_of(alloc, &cyclic::<R>(words), words),
+            "block_cyclic" => locale_of(alloc, &block_cyclic::<R>(words), words),
+            _ => unknown(),
+        }
+    }
 }
 
 #[test]
-fn block_distribution(rt: HostRuntime) -> Result<(), Fail> {
-    let bounds = Rect::new([range(1, 10)?])?;
+fn rows_of_mappings(rt: HostRuntime) -> Result<(), Fail> {
+    play(&rt, rt.alloc(), &mut Ranked::<1>, LINES)?;
+    play(&rt, rt.alloc(), &mut Ranked::<2>, PLANES)?;
+    let bounds = rectangle(&mut Words::of("1 10 1 _"))?;
     let blocks = Block::new(bounds, [4])?;
-    assert_eq!(rt; blocks.locales(), 4);
-    let wanted = [0, 0, 0, 0, 1, 1, 2, 2, 2, 3, 3, 3];
-    for (i, locale) in wanted.iter().enumerate() {
-        assert_eq!(rt; locale_of(&blocks, i as i64), *locale, "at {i}");
-    }
-    assert_eq!(rt; locale_of(&blocks, i64::MIN), 0);
-    assert_eq!(rt; locale_of(&blocks, i64::MAX), 3);
-    assert!(rt; blocks.bounds() == bounds);
-    assert_eq!(rt; blocks.grid(), [4]);
-    let square = Rect::new([range(1, 4)?, range(1, 4)?])?;
-    assert_eq!(rt; Block::new(square, [2, 2])?.locale_of([3, 2]), 2);
-    Ok(())
-}
-
-// The distance from the least integer to the greatest is 2^64 - 1: 5 modulo 10, and 3 whole blocks of 2^62.
-#[test]
-fn cyclic_distributions(rt: HostRuntime) -> Result<(), Fail> {
-    let whole = [
-        (1, 3, -1, 1),
-        (1, 3, 0, 2),
-        (1, 3, 1, 0),
-        (i64::MIN, 10, i64::MAX, 5),
-        (i64::MAX, 10, i64::MIN, 5),
-    ];
-    for (start, count, i, locale) in whole {
-        assert_eq!(rt;
-            locale_of(&Cyclic::new([start], [count])?, i),
-            locale,
-            "at {i}"
-        );
-    }
-    let blocks = [
-        (1, 2, 3, 0, 2),
-        (1, 2, 3, 7, 0),
-        (i64::MIN, 4_611_686_018_427_387_904, 5, i64::MAX, 3),
-        (i64::MAX, 4_611_686_018_427_387_904, 5, i64::MIN, 1),
-    ];
-    for (start, size, count, i, locale) in blocks {
-        let dealt = BlockCyclic::new([start], [size], [count])?;
-        assert_eq!(rt; locale_of(&dealt, i), locale, "at {i}");
-    }
-    Ok(())
-}
-
-#[test]
-fn cyclic_and_grid_limits(rt: HostRuntime) -> Result<(), Fail> {
-    for (size, count, accepted) in [
-        (0, 3, false),
-        (1, 0, false),
-        (1, 257, false),
-        (1, 256, true),
-    ] {
-        let dealt = BlockCyclic::new([1], [size], [count]);
-        assert_eq!(rt; dealt.is_ok(), accepted, "[{count}]");
-    }
-    assert_eq!(rt; Cyclic::new([1, 1], [16, 17]).err(), Some(BadMapping));
-    let empty = Rect::new([range(1, 4)?, range(1, 0)?])?;
-    assert_eq!(rt; Block::new(empty, [2, 2]).err(), Some(BadMapping));
-    let strided = Rect::new([Range::new(1, 4, 2, None)?])?;
-    assert_eq!(rt; Block::new(strided, [2]).err(), Some(BadMapping));
-    Ok(())
-}
-
-#[test]
-fn layouts(rt: HostRuntime) -> Result<(), Fail> {
-    let blocks = Block::new(Rect::new([range(1, 6)?, range(1, 4)?])?, [3, 2])?;
-    let layout = Layout::new(Distribution::Block(blocks));
-    assert_eq!(rt; layout.locale_of([6, 1]), 4);
-    let dealt = BlockCyclic::new([1, 5], [2, 1], [3, 2])?;
-    let layout = Layout::new(Distribution::BlockCyclic(dealt));
-    assert_eq!(rt; layout.locale_of([3, 4]), 3);
-    let cyclic = Cyclic::new([1, 5], [3, 2])?;
-    let other = Cyclic::new([1, 5], [2, 3])?;
-    let in_turn = Layout::new(Distribution::Cyclic(cyclic));
-    assert_eq!(rt; in_turn.locale_of([3, 4]), 5);
-    assert_eq!(rt; in_turn.locales(), 6);
-    assert!(rt; in_turn == Layout::new(Distribution::Cyclic(cyclic)));
-    assert!(rt; in_turn != Layout::new(Distribution::Cyclic(other)));
-    assert!(rt; in_turn != layout);
-    let whole: Layout<2> = Layout::new(Distribution::Whole);
-    assert_eq!(rt; whole.locale_of([7, 7]), 0);
+    assert!(rt; blocks.bounds() == bounds && blocks.grid() == [4]);
     let home: Home<i64> = Home::new();
     assert_eq!(rt; home.locale_of(7), 0);
     Ok(())

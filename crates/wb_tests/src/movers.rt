@@ -1,6 +1,8 @@
 //! Arrays moved to another mapping, by one thread, by several and by none, and what reductions make of them.
 ghost use Rattle.std.specs.Prelude.{⊤};
 
+use crate::mappings::layout;
+use crate::rows::{Words, shown};
 use std::alloc::Global;
 use std::marker::PhantomData;
 use std::process::Abort;
@@ -8,22 +10,13 @@ use std::sync::atomic::{AtomicUsize, Ordering};
 use std::test::Fail;
 use std::thread::Threads;
 use wb_array::{Bound, Store};
-use wb_dist::{Block, Cyclic, Distribution, Layout};
+use wb_dist::{BadMapping, Layout};
 use wb_pieces::Pieces;
 use wb_range::Range;
 use wb_rect::Rect;
 use wb_redist::{
     BadWorkers, Gate, MoveErr, Mover, OneThread, Op, Open, ReduceErr, Way, Workers, reduce,
 };
-
-fn blocks(high: i64, count: i64) -> Result<Layout<1>, Fail> {
-    let block = Block::new(Rect::new([Range::new(1, high, 1, None)?])?, [count])?;
-    Ok(Layout::new(Distribution::Block(block)))
-}
-
-fn in_turn(count: i64) -> Result<Layout<1>, Fail> {
-    Ok(Layout::new(Distribution::Cyclic(Cyclic::new([1], [count])?)))
-}
 
 // The elements at 1, 2 .., in the pieces of the mapping. A refused growth is tried again once.
 fn pieces_of(
@@ -33,18 +26,29 @@ fn pieces_of(
     elements: &[i64],
 ) -> Result<Pieces<Rect<1>, Layout<1>>, Fail> {
     let domain = Rect::new([Range::new(1, elements.len() as i64, 1, None)?])?;
-    let mut whole = Bound::new(alloc, &domain).or_else(|_| Bound::new(alloc, &domain))?;
-    for p in 0..elements.len() {
-        assert_eq!(rt; whole.set([p as i64 + 1], elements[p]), Ok(0));
+    let mut whole = match Bound::new(alloc, &domain) {
+        Ok(whole) => whole,
+        Err(_) => Bound::new(alloc, &domain)?,
+    };
+    for (p, element) in elements.iter().enumerate() {
+        assert!(rt; whole.set([p as i64 + 1], *element) == Ok(0));
     }
-    let split = Pieces::split(alloc, layout, &whole);
-    Ok(split.or_else(|_| Pieces::split(alloc, layout, &whole))?)
+    match Pieces::split(alloc, layout, &whole) {
+        Ok(pieces) => Ok(pieces),
+        Err(_) => Ok(Pieces::split(alloc, layout, &whole)?),
+    }
 }
 
 // The tens 10, 20 .. 100 at 1 to 10, in blocks.
 fn tens(rt: &impl Abort, alloc: Global) -> Result<Pieces<Rect<1>, Layout<1>>, Fail> {
     let elements = [10, 20, 30, 40, 50, 60, 70, 80, 90, 100];
-    pieces_of(rt, alloc, &blocks(10, 4)?, &elements)
+    let blocks = layout(&mut Words::of("block 1 10 1 _ 4"))?;
+    pieces_of(rt, alloc, &blocks, &elements)
+}
+
+// Four locales in turn.
+fn in_turn() -> Result<Layout<1>, BadMapping> {
+    layout(&mut Words::of("cyclic 1 4"))
 }
 
 // The tens moved by the mover. After a refused growth they are as they were, and can be moved again.
@@ -64,20 +68,27 @@ fn moved_at_last<X: Mover>(
     mover.move_pieces(alloc, from, to)
 }
 
+// What lies on each locale.
+const MOVED: [&str; 4] = [
+    "[([1], 10), ([5], 50), ([9], 90)]",
+    "[([2], 20), ([6], 60), ([10], 100)]",
+    "[([3], 30), ([7], 70)]",
+    "[([4], 40), ([8], 80)]",
+];
+
 // Moves the tens by the mover, and looks at each piece and at the whole.
 fn moves_the_tens<X: Mover>(rt: &impl Abort, alloc: Global, mover: &X) -> Result<(), Fail> {
     let from = tens(rt, alloc)?;
-    let moved = moved_at_last(rt, alloc, mover, &from, &in_turn(4)?)?;
-    for (locale, wanted) in [
-        (0, [([1], 10), ([5], 50), ([9], 90)].as_slice()),
-        (1, [([2], 20), ([6], 60), ([10], 100)].as_slice()),
-        (2, [([3], 30), ([7], 70)].as_slice()),
-        (3, [([4], 40), ([8], 80)].as_slice()),
-    ] {
-        assert_eq!(rt; moved.pairs(locale).expect(rt, "a locale"), wanted);
+    let moved = moved_at_last(rt, alloc, mover, &from, &in_turn()?)?;
+    for (locale, wanted) in MOVED.iter().enumerate() {
+        let pairs = shown(alloc, &moved.pairs(locale).expect(rt, "a locale"))?;
+        assert!(rt; pairs.as_str() == *wanted, "{pairs}");
     }
-    let whole = moved.gather().or_else(|_| moved.gather())?;
-    assert_eq!(rt; whole.len(), 10);
+    let whole = match moved.gather() {
+        Ok(whole) => whole,
+        Err(_) => moved.gather()?,
+    };
+    assert!(rt; whole.len() == 10);
     Ok(())
 }
 
@@ -86,12 +97,14 @@ fn moves_the_tens<X: Mover>(rt: &impl Abort, alloc: Global, mover: &X) -> Result
 fn pieces_by_any_workers(rt: HostRuntime) -> Result<(), Fail> {
     let alone: OneThread<&HostRuntime> = OneThread::new();
     moves_the_tens(&rt, rt.alloc(), &alone)?;
-    for count in [1, 3, 64] {
-        let workers = Workers::new(&rt, count, Open)?;
-        moves_the_tens(&rt, rt.alloc(), &workers)?;
-    }
-    for count in [0, 65] {
-        assert!(rt; Workers::new(&rt, count, Open).is_err_and(|e| e == BadWorkers));
+    for count in [0, 1, 3, 64, 65] {
+        match Workers::new(&rt, count, Open) {
+            Ok(workers) => {
+                assert!(rt; 1 <= count && count <= 64);
+                moves_the_tens(&rt, rt.alloc(), &workers)?;
+            }
+            Err(BadWorkers) => assert!(rt; count < 1 || 64 < count),
+        }
     }
     Ok(())
 }
@@ -155,8 +168,8 @@ impl<R: Threads + Sync> Mover for Threadless<R> {
 fn mover_without_threads(rt: HostRuntime) -> Result<(), Fail> {
     let mover: Threadless<&HostRuntime> = Threadless { of: PhantomData };
     let from = tens(&rt, rt.alloc())?;
-    let refused = mover.move_pieces(rt.alloc(), &from, &in_turn(4)?);
-    assert!(rt; refused.is_err_and(|e| e == MoveErr::NoThread));
+    let refused = mover.move_pieces(rt.alloc(), &from, &in_turn()?);
+    assert!(rt; refused.err() == Some(MoveErr::NoThread));
     Ok(())
 }
 
@@ -165,7 +178,7 @@ fn mover_without_threads(rt: HostRuntime) -> Result<(), Fail> {
 #[test]
 fn reductions(rt: HostRuntime) -> Result<(), Fail> {
     let (empty, overflow) = (Err(ReduceErr::Empty), Err(ReduceErr::Overflow));
-    let layout = in_turn(2)?;
+    let layout = layout(&mut Words::of("cyclic 1 2"))?;
     for (elements, wanted) in [
         ([10, 20, 30].as_slice(), [Ok(60), Ok(10), Ok(30)]),
         ([].as_slice(), [Ok(0), empty, empty]),

@@ -1,123 +1,135 @@
 //! Rectangles: their order, their limits, slices and offsets.
 
+use crate::ranges::{range, told};
+use crate::rows::{Subject, Words, place, play, runs, shown, unknown};
+use std::alloc::Global;
 use std::test::Fail;
-use wb_range::{Domain, Range, listed};
+use wb_range::Domain;
 use wb_rect::{Rect, RectErr};
 
-const LIMIT: i64 = 1_000_000_000_000_000_000;
+// A rectangle is a range a dimension. Rectangles of one range.
+const LINES: &str = r"
+rectangle 1 65536 1 _ -> (65536, [((1, 65536), 1, 65536, Some(1))])
+translate 1 4 1 _ 2 -> (4, [((3, 6), 1, 4, Some(3))])
+translate 1 4 1 _ -2 -> (4, [((-1, 2), 1, 4, Some(-1))])
+translate 1 4 1 _ 32766 -> (4, [((32767, 32770), 1, 4, Some(32767))])
+translate 1 4 1 _ 32767 -> (4, [((32768, 32771), 1, 4, Some(32768))])
+translate 1 4 1 _ 1000000000000000000 -> TooLarge
+translate 1 10 2 _ 1 -> Strided
+expand 1 4 1 _ 2 -> (8, [((-1, 6), 1, 8, Some(-1))])
+expand 1 4 1 _ -2 -> (0, [((1, 0), 1, 0, None)])
+expand 1 4 1 _ 32766 -> (65536, [((-32765, 32770), 1, 65536, Some(-32765))])
+expand 1 4 1 _ 32767 -> TooLarge
+expand 1 4 1 _ 1000000000000000000 -> TooLarge
+expand 1 10 2 _ 9223372036854775807 -> Strided
+slice 1 10 2 _ 1 10 3 _ -> (2, [((1, 7), 6, 2, Some(1))])
+";
 
-// The bounds of a range of stride 1 without index.
-const NONE: (i64, i64) = (1, 0);
+// Rectangles of two ranges.
+const PLANES: &str = r"
+rectangle 1 4 2 _ 1 10 -3 _ -> (8, [((1, 3), 2, 2, Some(1)), ((1, 10), -3, 4, Some(10))])
+runs 1 4 2 _ 1 10 -3 _ -> [[1, 10], [1, 7], [1, 4], [1, 1], [3, 10], [3, 7], [3, 4], [3, 1]]
+place 1 4 2 _ 1 10 -3 _ 3 7 -> (Some(5), true)
+place 1 4 2 _ 1 10 -3 _ 2 7 -> (None, false)
+place 1 4 2 _ 1 10 -3 _ 3 1 -> (Some(7), true)
+place 1 4 2 _ 1 10 -3 _ 3 2 -> (None, false)
+rectangle 1 0 1 _ 1 5 1 _ -> (0, [((1, 0), 1, 0, None), ((1, 5), 1, 5, Some(1))])
+runs 1 0 1 _ 1 5 1 _ -> []
+place 1 0 1 _ 1 5 1 _ 1 1 -> (None, false)
+equal 1 0 1 _ 1 5 1 _ 1 5 1 _ 1 0 1 _ -> false
+equal 1 0 1 _ 1 5 1 _ 3 2 1 _ 1 5 1 _ -> true
+translate 1 0 1 _ 1 5 1 _ 9223372036854775807 1 -> (0, [((1, 0), 1, 0, None), ((2, 6), 1, 5, Some(2))])
+expand 1 0 1 _ 1 5 1 _ 0 9223372036854775807 -> TooLarge
+rectangle 1 256 1 _ 1 256 1 _ -> (65536, [((1, 256), 1, 256, Some(1)), ((1, 256), 1, 256, Some(1))])
+expand 1 4 1 _ 1 4 1 _ 126 127 -> TooLarge
+translate 1 4 1 _ 1 4 1 _ 2 -1 -> (16, [((3, 6), 1, 4, Some(3)), ((0, 3), 1, 4, Some(0))])
+slice 1 4 1 _ 1 4 1 _ 3 6 1 _ 0 3 1 _ -> (6, [((3, 4), 1, 2, Some(3)), ((1, 3), 1, 3, Some(1))])
+";
 
-// These make values without their contracts, in which a proof would list every integer between the literals.
-fn by(low: i64, high: i64, stride: i64) -> Result<Rect<1>, Fail> {
-    Ok(Rect::new([Range::new(low, high, stride, None)?])?)
-}
+// Rectangles of three ranges.
+const CUBES: &str = r"
+rectangle 1 0 1 _ 1 0 1 _ 1 0 1 _ -> (0, [((1, 0), 1, 0, None), ((1, 0), 1, 0, None), ((1, 0), 1, 0, None)])
+rectangle 1 40 1 _ 1 40 1 _ 1 40 1 _ -> (64000, [((1, 40), 1, 40, Some(1)), ((1, 40), 1, 40, Some(1)), ((1, 40), 1, 40, Some(1))])
+rectangle 1 41 1 _ 1 41 1 _ 1 41 1 _ -> TooLarge
+rectangle 1 65536 1 _ 1 65536 1 _ 1 65536 1 _ -> TooLarge
+";
 
-fn plane(rows: (i64, i64), columns: (i64, i64)) -> Result<Rect<2>, Fail> {
-    let rows = Range::new(rows.0, rows.1, 1, None)?;
-    let columns = Range::new(columns.0, columns.1, 1, None)?;
-    Ok(Rect::new([rows, columns])?)
-}
-
-// 1 3 by 10 7 4 1.
-fn strided_plane() -> Result<Rect<2>, Fail> {
-    let odd = Range::new(1, 4, 2, None)?;
-    let downward = Range::new(1, 10, -3, None)?;
-    Ok(Rect::new([odd, downward])?)
-}
-
-fn cube(count: i64) -> Result<Result<usize, RectErr>, Fail> {
-    let edge = Range::new(1, count, 1, None)?;
-    Ok(Rect::new([edge; 3]).map(|cube| cube.size()))
-}
-
-#[test]
-fn row_major_order(rt: HostRuntime) -> Result<(), Fail> {
-    let wanted = [
-        [1, 10],
-        [1, 7],
-        [1, 4],
-        [1, 1],
-        [3, 10],
-        [3, 7],
-        [3, 4],
-        [3, 1],
-    ];
-    let plane = strided_plane()?;
-    let all = listed(rt.alloc(), &plane)?;
-    assert_eq!(rt; all.as_slice(), wanted.as_slice());
-    assert_eq!(rt; plane.size(), 8);
-    assert_eq!(rt; plane.rank(), 2);
-    assert_eq!(rt; plane.range(1).and_then(|r| r.first()), Some(10));
-    assert_eq!(rt; plane.place_of([3, 7]), Some(5));
-    assert_eq!(rt; plane.place_of([2, 7]), None);
-    assert!(rt; plane.contains([3, 1]) && !plane.contains([3, 2]));
-    Ok(())
-}
-
-#[test]
-fn empty_rectangles(rt: HostRuntime) -> Result<(), Fail> {
-    let empty = plane(NONE, (1, 5))?;
-    assert_eq!(rt; empty.size(), 0);
-    assert_eq!(rt; empty.nth(0), None);
-    assert!(rt; !empty.contains([1, 1]));
-    assert!(rt; empty != plane((1, 5), NONE)?);
-    assert_eq!(rt; empty, plane((3, 2), (1, 5))?);
-    assert_eq!(rt; empty.translate([i64::MAX, 1])?, plane(NONE, (2, 6))?);
-    assert_eq!(rt; empty.expand([0, i64::MAX]), Err(RectErr::TooLarge));
-    Ok(())
-}
-
-#[test]
-fn limits_of_rectangles(rt: HostRuntime) -> Result<(), Fail> {
-    assert_eq!(rt; by(1, 65_536, 1)?.size(), 65_536);
-    assert_eq!(rt; plane((1, 256), (1, 256))?.size(), 65_536);
-    for (edge, size) in [
-        (0, Ok(0)),
-        (40, Ok(64_000)),
-        (41, Err(RectErr::TooLarge)),
-        (65_536, Err(RectErr::TooLarge)),
-    ] {
-        assert_eq!(rt; cube(edge)?, size, "{edge}");
+/// The rectangle of the next words.
+pub fn rectangle<const R: usize>(words: &mut Words<'_>) -> Result<Rect<R>, RectErr> {
+    let Ok(first) = range(words) else {
+        words.refuse();
+        return Err(RectErr::TooLarge);
+    };
+    let mut ranges = [first; R];
+    for p in 1..R {
+        match range(words) {
+            Ok(range) => ranges[p] = range,
+            Err(_) => words.refuse(),
+        }
     }
-    Ok(())
+    if R == 0 || R > 3 {
+        return Err(RectErr::TooLarge);
+    }
+    Rect::new(ranges)
 }
 
-// The bounds of the only range.
-fn bounds_of(made: Result<Rect<1>, RectErr>) -> Result<(i64, i64), RectErr> {
-    match made?.range(0) {
-        Some(range) => Ok(range.bounds()),
-        None => Ok(NONE),
+// Its size and each of its ranges, as many as its rank.
+fn spelled<const R: usize>(alloc: Global, made: &Result<Rect<R>, RectErr>) -> Result<String, Fail> {
+    let rectangle = match made {
+        Ok(rectangle) => rectangle,
+        Err(error) => return shown(alloc, error),
+    };
+    let mut ranges = Vec::new(alloc);
+    for p in 0..rectangle.rank() {
+        if let Some(range) = rectangle.range(p) {
+            ranges.push(told(&range))?;
+        }
+    }
+    shown(alloc, &(rectangle.size(), ranges.as_slice()))
+}
+
+#[derive(Drop)]
+struct Ranked<const R: usize>;
+
+impl<const R: usize> Ranked<R> {
+    // What a call answers of two rectangles.
+    fn of_two(
+        &self,
+        alloc: Global,
+        call: &str,
+        one: &Rect<R>,
+        other: &Rect<R>,
+    ) -> Result<String, Fail> {
+        match call {
+            "equal" => shown(alloc, &(one == other)),
+            _ => spelled(alloc, &Ok(one.slice(other))),
+        }
+    }
+}
+
+impl<const R: usize> Subject for Ranked<R> {
+    fn answer(&mut self, alloc: Global, call: &str, words: &mut Words<'_>) -> Result<String, Fail> {
+        if R == 0 || R > 3 {
+            return unknown();
+        }
+        let made = rectangle::<R>(words);
+        let Ok(rectangle) = &made else {
+            return spelled(alloc, &made);
+        };
+        match call {
+            "rectangle" => spelled(alloc, &made),
+            "runs" => runs(alloc, rectangle),
+            "place" => place(alloc, rectangle, words.index()),
+            "translate" => spelled(alloc, &rectangle.translate(words.index())),
+            "expand" => spelled(alloc, &rectangle.expand(words.index())),
+            _ => self.of_two(alloc, call, rectangle, &self::rectangle(words)?),
+        }
     }
 }
 
 #[test]
-fn slices_and_offsets(rt: HostRuntime) -> Result<(), Fail> {
-    let large = Err(RectErr::TooLarge);
-    let four = by(1, 4, 1)?;
-    for (offset, translated, expanded) in [
-        (2, Ok((3, 6)), Ok((-1, 6))),
-        (-2, Ok((-1, 2)), Ok(NONE)),
-        (32_766, Ok((32_767, 32_770)), Ok((-32_765, 32_770))),
-        (32_767, Ok((32_768, 32_771)), large),
-        (LIMIT, large, large),
-    ] {
-        assert_eq!(rt; bounds_of(four.translate([offset])), translated, "{offset}");
-        assert_eq!(rt; bounds_of(four.expand([offset])), expanded, "{offset}");
-    }
-    let by_two = by(1, 10, 2)?;
-    assert_eq!(rt; by_two.translate([1]), Err(RectErr::Strided));
-    assert_eq!(rt; by_two.expand([i64::MAX]), Err(RectErr::Strided));
-    assert_eq!(rt; by_two.slice(&by(1, 10, 3)?), by(1, 7, 6)?);
-    Ok(())
-}
-
-#[test]
-fn offsets_of_planes(rt: HostRuntime) -> Result<(), Fail> {
-    let square = plane((1, 4), (1, 4))?;
-    assert_eq!(rt; square.expand([126, 127]), Err(RectErr::TooLarge));
-    let moved = square.translate([2, -1])?;
-    assert_eq!(rt; square.slice(&moved), plane((3, 4), (1, 3))?);
-    Ok(())
+fn rows_of_rectangles(rt: HostRuntime) -> Result<(), Fail> {
+    play(&rt, rt.alloc(), &mut Ranked::<1>, LINES)?;
+    play(&rt, rt.alloc(), &mut Ranked::<2>, PLANES)?;
+    play(&rt, rt.alloc(), &mut Ranked::<3>, CUBES)
 }

@@ -1,37 +1,10 @@
 -- The canonical line of a request: every field is written, keys ascending, literals canonical.
-use Rattle.std.specs.Prelude.{ℕ, pos, List, [], ◌∷◌, codes}
-use Rattle.serde_json.specs.Data.{Data, number as json_number, unsigned, string, object, Members, no_members, member}
+use Rattle.std.specs.Prelude.{ℕ, List}
+use Rattle.serde_json.specs.Data.{Data, object}
 use Rattle.serde_json.specs.Written.{compact_text}
-use Rattle.wb_resize.specs.declared.given.Given.{Given}
-use Rattle.wb_resize.specs.declared.given.Given.TheVariants.{Rectangle, Items, Named}
-use Rattle.wb_text.specs.Literals.{rectangle_text, set_text, mapping_text}
-use Rattle.wb_proto.specs.Pieces.{integer_data, index_data}
 use Rattle.wb_proto.specs.declared.requests.request.Request.{Request}
-use Rattle.wb_wire.specs.Table.{Meaning, word, name, integer, number, index, given, mapping, optional_mapping, some_set, some_mapping, some_integer, Fields, table}
-
--- the canonical literal, or the name
-abbrev pub given_text : Given → List ℕ
-given_text (Rectangle ranges) = rectangle_text ranges
-given_text (Items is) = set_text is
-given_text (Named n) = n
-
--- the canonical value of what is to be spelled
-abbrev pub data_of : Meaning → Data
-data_of (word w) = string w
-data_of (name n) = string n
-data_of (integer z) = integer_data z
-data_of (number k) = json_number (unsigned k)
-data_of (index i) = index_data i
-data_of (given g) = string (given_text g)
-data_of (mapping m) = string (mapping_text m)
-data_of (optional_mapping m) = string (mapping_text m)
-data_of some_set = string (codes "{}")
-data_of some_mapping = string (codes "none")
-data_of some_integer = integer_data (pos 0)
-
-abbrev pub members_of : Fields → Members
-members_of [] = no_members
-members_of (f ∷ fs) = member f.0 (data_of f.1) (members_of fs)
+use Rattle.wb_wire.specs.Table.{table}
+pub use Rattle.wb_encode.specs.Encoded.{given_text, data_of, members_of}
 
 -- the canonical object of a request
 abbrev pub request_data : Request → Data

@@ -85,6 +85,7 @@ forms =
     ∷ (codes "piece", codes "a" ∷ codes "l" ∷ [])
     ∷ (codes "state", codes "k" ∷ [])
     ∷ (codes "print", [])
+    ∷ (codes "history", [])
     ∷ []
 
 -- the members of these keys are there, each once, in any order, and no others

@@ -5,9 +5,7 @@
 #![tactic(auto)]
 
 pub mod laws;
-mod literals;
 mod objects;
 mod requests;
-mod sources;
 
 pub use crate::requests::{edit_text, request_text};

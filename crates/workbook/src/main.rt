@@ -8,17 +8,33 @@ use std::net::{Net, TcpListener, TcpStream};
 use std::process::ExitCode;
 use std::sync::Wait;
 use std::thread::Threads;
+use wb_history::History;
 use wb_command::{Asked, CommandErr, command_of};
 use wb_lines::{Input, Output};
 use wb_program::{
-    BAD_COMMAND_LINE, DONE, INPUT_OR_OUTPUT_FAILED, NO_MEMORY, check_with, run_with, serve_on,
+    BAD_COMMAND_LINE, DONE, INPUT_OR_OUTPUT_FAILED, NO_MEMORY, PutBack, check_with, history_from,
+    resume_with, run_with, serve_history, serve_on,
 };
 
 fn main(rt: HostRuntime) -> io::Result<ExitCode> {
     let done = match asked(&rt) {
-        Ok(Ok(Asked::Run)) => run(&rt),
+        Ok(Ok(Asked::Run { resume: false })) => run(&rt),
+        Ok(Ok(Asked::Run { resume: true })) => resume(&rt),
         Ok(Ok(Asked::Check)) => check(&rt),
-        Ok(Ok(Asked::Serve { port, seats })) => serve(&rt, rt.alloc(), rt.stdout(), port, seats),
+        Ok(Ok(Asked::Serve {
+            port,
+            seats,
+            resume: false,
+        })) => serve(&rt, rt.alloc(), rt.stdout(), port, seats, None),
+        Ok(Ok(Asked::Serve {
+            port,
+            seats,
+            resume: true,
+        })) => match opened(&rt) {
+            Ok(Ok(history)) => serve(&rt, rt.alloc(), rt.stdout(), port, seats, Some(history)),
+            Ok(Err(status)) => Ok(status),
+            Err(error) => Err(error),
+        },
         Ok(Err(status)) => Ok(status),
         Err(error) => Err(error),
     };
@@ -70,7 +86,15 @@ fn run(rt: &HostRuntime) -> io::Result<u8> {
     Ok(run_with(alloc, &mut input, &mut output))
 }
 
-// Whether standard input is the text of a workbook.
+// A session from the history whose text comes first.
+fn resume(rt: &HostRuntime) -> io::Result<u8> {
+    let alloc = rt.alloc();
+    let mut input = PutBack::new(alloc, Input::new(rt.stdin()));
+    let mut output = Output::new(BufWriter::new(alloc, rt.stdout())?);
+    Ok(resume_with(alloc, &mut input, &mut output))
+}
+
+// Whether standard input is the text of a workbook or of a history.
 fn check(rt: &HostRuntime) -> io::Result<u8> {
     let alloc = rt.alloc();
     let mut input = Input::new(rt.stdin());
@@ -78,21 +102,35 @@ fn check(rt: &HostRuntime) -> io::Result<u8> {
     Ok(check_with(alloc, &mut input, &mut output))
 }
 
-// A desk of so many seats on a port of this machine.
+// The history whose text is standard input, or the exit status where there is none.
+fn opened(rt: &HostRuntime) -> io::Result<Result<History, u8>> {
+    let alloc = rt.alloc();
+    let mut input = Input::new(rt.stdin());
+    let mut output = Output::new(BufWriter::new(alloc, rt.stdout())?);
+    Ok(history_from(alloc, &mut input, &mut output))
+}
+
+// A desk of so many seats on a port of this machine, on an empty workbook or from a history.
 fn serve<
     R: Net<Listener = TcpListener, Stream = TcpStream> + Threads + Wait + Sync,
     W: Write + Drop,
->(rt: &R, alloc: Global, output: W, port: u16, seats: u8) -> io::Result<u8> {
+>(
+    rt: &R,
+    alloc: Global,
+    output: W,
+    port: u16,
+    seats: u8,
+    opening: Option<History>,
+) -> io::Result<u8> {
     let listener = TcpListener::bind(rt, ("127.0.0.1", port))?;
     let mut output = BufWriter::new(alloc, output)?;
     let port = listener.local_addr()?.port();
     writeln!(output, "listening on 127.0.0.1:{port}")?;
     output.flush()?;
-    Ok(serve_on(
-        rt,
-        alloc,
-        &listener,
-        seats as usize,
-        &mut Output::new(output),
-    ))
+    let mut output = Output::new(output);
+    let seats = seats as usize;
+    Ok(match opening {
+        Some(history) => serve_history(rt, alloc, &listener, seats, history, &mut output),
+        None => serve_on(rt, alloc, &listener, seats, &mut output),
+    })
 }

@@ -1,13 +1,15 @@
 //! The first edit in the way of an undo or a redo.
 
-ghost use Rattle.std.specs.Prelude.{◌≡◌, ℕ, ◌+◌, ◌^◌, ◌<◌, length, drop, Some, None, OnOk, OnErr};
+ghost use Rattle.std.specs.Prelude.{◌≡◌, ℕ, ◌+◌, ◌^◌, ◌<◌, length, drop, Some, None, OnOk, OnErr, IfOk};
 ghost use Rattle.selective_undo.specs.Log.{blocks_undo, blocks_redo, first_from};
 ghost use Rattle.wb_foot.specs.Feet.{Feet, foot, with_foot};
 ghost use Rattle.wb_log.specs.Indexed.{AreFootprints};
 ghost use Rattle.wb_log.specs.Kept.{by_number, kept_in, kept_all};
+ghost use Rattle.wb_log.specs.Needed.{AreFromFeet};
 
 use crate::blockers;
 use crate::entry::Entry;
+use crate::sweep::needing;
 use std::alloc::Global;
 use wb_book::{CellChange, Pattern};
 use wb_foot::FootIndex;
@@ -105,6 +107,21 @@ impl Footprints {
             return blockers::first_to_block_redo(later, at as u64 + 2, reads, delta);
         }
         self.index.first_to_block_redo(reads, delta, at as u64 + 1)
+    }
+
+    /// The numbers of the edits that have to be undone with the one at a place, from the greatest down.
+    pub fn needing(&mut self, entries: &[Entry], at: usize) -> Result<Vec<u64>, NoMemory>
+        requires in_log { at < length entries.now }
+        requires few { length entries.now < 2 ^ 63 }
+        requires indexed { AreFootprints self.old (length entries.now) (by_number entries.now) }
+        ensures found { IfOk result (λ v. AreFromFeet (by_number entries.now) (at + 1) v.items) }
+        ensures indexed { AreFootprints self.new (length entries.now) (by_number entries.now) }
+    {
+        self.fill(entries);
+        if self.entered < entries.len() {
+            return Err(NoMemory);
+        }
+        needing(self.alloc, &self.index, entries, at as u64 + 1)
     }
 
     /// The edit at a place is out of force.

@@ -1,6 +1,6 @@
 //! What a request is answered.
 
-pub mod book_text;
 pub mod pieces;
+pub mod printed_text;
 pub mod reply;
 pub mod text;

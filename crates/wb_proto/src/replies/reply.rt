@@ -1,7 +1,7 @@
 ghost use Rattle.std.specs.Prelude.{◌≡◌, IfOk};
 ghost use Rattle.std.specs.Bool.{Decides};
 
-use crate::replies::book_text::BookText;
+use crate::replies::printed_text::PrintedText;
 use std::alloc::Global;
 use wb_history::{Answer, Refusal};
 use wb_range::NoMemory;
@@ -17,8 +17,8 @@ pub enum Reply {
     Redone(u64, usize),
     /// The answer of a query.
     Answered(Answer),
-    /// The text of the workbook.
-    Printed(BookText),
+    /// The text of the workbook, or of the history.
+    Printed(PrintedText),
     /// Why nothing was done.
     Refused(Refusal),
 }

@@ -10,7 +10,9 @@ use crate::requests::arrays::{
 };
 use crate::requests::domains::{domain_of, drop_domain_of, remap_of, reshape_of};
 use crate::requests::fields::{field_count, has_fields, text_field, u64_field};
-use crate::requests::queries::{get_of, piece_of, print_of, size_of, state_of, where_of};
+use crate::requests::queries::{
+    get_of, history_of, piece_of, print_of, size_of, state_of, where_of,
+};
 use crate::requests::request::Request;
 use crate::requests::sets::{add_of, assoc_of, remove_of, sparse_of};
 use serde_json::{Category, Error, Value};
@@ -56,6 +58,7 @@ fn by_history_op(op: &str, value: &Value) -> Result<Request, Refusal>
         "piece" => piece_of(value),
         "state" => state_of(value),
         "print" => print_of(value),
+        "history" => history_of(value),
         _ => Err(Refusal::BadRequest),
     }
 }

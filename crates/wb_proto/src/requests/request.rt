@@ -19,6 +19,8 @@ pub enum Request {
     Ask(Query),
     /// The text of the workbook.
     Print,
+    /// The text of the history.
+    History,
 }
 
 impl Request {
@@ -32,6 +34,7 @@ impl Request {
             Request::Redo(number) => Ok(Request::Redo(*number)),
             Request::Ask(query) => Ok(Request::Ask(*query)),
             Request::Print => Ok(Request::Print),
+            Request::History => Ok(Request::History),
         }
     }
 
@@ -45,6 +48,7 @@ impl Request {
             (Request::Redo(number), Request::Redo(by)) => *number == *by,
             (Request::Ask(query), Request::Ask(by)) => query.is_same(by),
             (Request::Print, Request::Print) => true,
+            (Request::History, Request::History) => true,
             _ => false,
         }
     }

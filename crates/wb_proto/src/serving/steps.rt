@@ -1,12 +1,13 @@
 // One request after another, each a step of the history.
 ghost use Rattle.std.specs.Prelude.{◌≡◌, Some, None};
-ghost use Rattle.wb_proto.specs.Machine.{Changes, UndoesNumber, UndoesLatest, Redoes, Answers, Prints, Step};
+ghost use Rattle.wb_proto.specs.Machine.{Changes, UndoesNumber, UndoesLatest, Redoes, Answers, Prints, PrintsHistory, Step};
 
-use crate::replies::book_text::BookText;
+use crate::replies::printed_text::PrintedText;
 use crate::replies::reply::Reply;
 use crate::requests::request::Request;
 use std::alloc::Global;
 use wb_edit::Edit;
+use wb_encode::print_history;
 use wb_history::{History, Query, Refusal};
 use wb_text::print_book;
 
@@ -59,7 +60,16 @@ fn print_workbook(alloc: Global, history: &History) -> Reply
     ensures { Prints history.now result history.now }
 {
     match print_book(alloc, history.book()) {
-        Ok(text) => Reply::Printed(BookText::new(text)),
+        Ok(text) => Reply::Printed(PrintedText::new(text)),
+        Err(_) => Reply::Refused(Refusal::NoMemory),
+    }
+}
+
+fn print_whole_history(alloc: Global, history: &History) -> Reply
+    ensures { PrintsHistory history.now result history.now }
+{
+    match print_history(alloc, history) {
+        Ok(text) => Reply::Printed(PrintedText::new(text)),
         Err(_) => Reply::Refused(Refusal::NoMemory),
     }
 }
@@ -75,5 +85,6 @@ pub fn answer_request(alloc: Global, history: &mut History, request: Request) ->
         Request::Redo(number) => redo_number(history, number),
         Request::Ask(query) => answer_query(history, &query),
         Request::Print => print_workbook(alloc, history),
+        Request::History => print_whole_history(alloc, history),
     }
 }

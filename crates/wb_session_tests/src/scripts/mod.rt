@@ -9,6 +9,7 @@ mod sessions;
 mod texts;
 
 use std::alloc::Global;
+use std::io::{Read, Write};
 use std::process::Abort;
 use std::test::Fail;
 use wb_history::{Answer, History, Refusal};
@@ -21,21 +22,32 @@ const NO_MEMORY: &str = "{\"error\":\"E90\",\"name\":\"no-memory\"}\n";
 // there are then, and how many cells were set.
 type Script = (&'static str, &'static str, u64, u128);
 
-// How a session over these bytes ends, and what it writes.
-fn replies_to(
+/// How a session over a new history ends, and how many edits the history has then.
+pub fn ended<R: Read + Drop, W: Write>(
     alloc: Global,
-    history: &mut History,
-    bytes: &[u8],
-) -> Result<(SessionEnd, String), Fail> {
-    let mut output = Vec::new(alloc);
+    input: R,
+    output: &mut W,
+) -> (SessionEnd, u64) {
+    let mut history = History::new(alloc);
     let end = session(
+        alloc,
+        &mut history,
+        &mut Input::new(input),
+        &mut Output::new(output),
+    );
+    (end, history.len())
+}
+
+// What a session over these bytes writes.
+fn replies_to(alloc: Global, history: &mut History, bytes: &[u8]) -> Result<String, Fail> {
+    let mut output = Vec::new(alloc);
+    session(
         alloc,
         history,
         &mut Input::new(bytes),
         &mut Output::new(&mut output),
     );
-    let text = String::from_str(alloc, std::str::from_utf8(&output)?)?;
-    Ok((end, text))
+    Ok(String::from_str(alloc, std::str::from_utf8(&output)?)?)
 }
 
 // What one line is replied. Where a growth is refused, nothing has changed, and the line is sent again.
@@ -46,53 +58,76 @@ fn answer(
     line: &str,
 ) -> Result<String, Fail> {
     let before = (history.len(), history.book().writes());
-    let (_, reply) = replies_to(alloc, history, line.as_bytes())?;
+    let reply = replies_to(alloc, history, line.as_bytes())?;
     if reply.as_str() != NO_MEMORY {
         return Ok(reply);
     }
-    assert_eq!(rt; (history.len(), history.book().writes()), before);
-    let (_, again) = replies_to(alloc, history, line.as_bytes())?;
-    Ok(again)
+    assert!(rt; before == (history.len(), history.book().writes()));
+    replies_to(alloc, history, line.as_bytes())
 }
 
-// That each line is replied as its row says.
-fn play(rt: &impl Abort, alloc: Global, history: &mut History, rows: &str) -> Result<(), Fail> {
-    for row in rows.lines() {
-        if let Some((line, reply)) = row.split_once(" -> ") {
-            let answer = answer(rt, alloc, history, line)?;
-            assert_eq!(rt;
-                answer.as_str().strip_suffix('\n'),
-                Some(reply),
-                "at {line}"
-            );
-        }
+/// That each line is replied as its row says.
+pub fn play(rt: &impl Abort, alloc: Global, history: &mut History, rows: &str) -> Result<(), Fail> {
+    for row in rows.trim().lines() {
+        let (line, reply) = row.split_once(" -> ").ok_or("an arrow")?;
+        let answer = answer(rt, alloc, history, line)?;
+        assert!(rt;
+            answer.as_str().strip_suffix('\n') == Some(reply),
+            "{line} -> {answer}"
+        );
     }
     Ok(())
 }
 
+// Plays lines over a new history, and counts its edits and the cells that were set.
+fn played(rt: &impl Abort, alloc: Global, opening: &str, rows: &str) -> Result<(u64, u128), Fail> {
+    let mut history = History::new(alloc);
+    play(rt, alloc, &mut history, opening)?;
+    play(rt, alloc, &mut history, rows)?;
+    Ok((history.len(), history.book().writes()))
+}
+
 // That each script, over a history of its own, goes as it says.
 fn play_all(rt: &impl Abort, alloc: Global, scripts: &[Script]) -> Result<(), Fail> {
-    for script in scripts {
-        let mut history = History::new(alloc);
-        play(rt, alloc, &mut history, script.0)?;
-        play(rt, alloc, &mut history, script.1)?;
-        assert_eq!(rt; history.len(), script.2);
-        assert_eq!(rt; history.book().writes(), script.3);
+    for (opening, rows, edits, writes) in scripts {
+        let counts = played(rt, alloc, opening, rows)?;
+        assert!(rt; counts == (*edits, *writes), "{rows}");
     }
     Ok(())
 }
 
 #[test]
 fn worked_histories(rt: HostRuntime) -> Result<(), Fail> {
-    let alloc = rt.alloc();
-    play_all(&rt, alloc, &sessions::SCRIPTS)?;
-    play_all(&rt, alloc, &requests::SCRIPTS)?;
-    play_all(&rt, alloc, &histories::SCRIPTS)?;
-    play_all(&rt, alloc, &members::SCRIPTS)?;
-    play_all(&rt, alloc, &reshapes::SCRIPTS)?;
-    play_all(&rt, alloc, &mappings::SCRIPTS)?;
-    play_all(&rt, alloc, &texts::SCRIPTS)
+    for scripts in [
+        sessions::SCRIPTS.as_slice(),
+        requests::SCRIPTS.as_slice(),
+        histories::SCRIPTS.as_slice(),
+        members::SCRIPTS.as_slice(),
+        reshapes::SCRIPTS.as_slice(),
+        mappings::SCRIPTS.as_slice(),
+        texts::SCRIPTS.as_slice(),
+    ] {
+        play_all(&rt, rt.alloc(), scripts)?;
+    }
+    Ok(())
 }
+
+// That a session over these bytes writes this text, having answered so many lines.
+fn goes_so(rt: &impl Abort, alloc: Global, bytes: &[u8], text: &str, count: u64) {
+    let mut output = Vec::new(alloc);
+    let (end, _) = ended(alloc, bytes, &mut output);
+    assert!(rt; end == SessionEnd::Done(count));
+    assert!(rt; output.as_slice() == text.as_bytes());
+}
+
+const LONG_AMONG_OTHERS: &str =
+    "{\"error\":\"E01\",\"name\":\"bad-request\"}\n{\"error\":\"E91\",\"name\":\"line-too-long\"}\n{\"error\":\"E04\",\"name\":\"no-such-name\"}\n{\"error\":\"E01\",\"name\":\"bad-request\"}\n";
+
+const NO_TEXT: &[u8] =
+    b"\n{\"op\":\"undo\",\"k\":\"\xff\"}\n\xef\xbb\xbf{\"op\":\"undo\"}\n{\"op\":\"undo\"}\r\n";
+
+const NO_TEXT_REPLIES: &str =
+    "{\"error\":\"E01\",\"name\":\"bad-request\"}\n{\"error\":\"E01\",\"name\":\"bad-request\"}\n{\"error\":\"E01\",\"name\":\"bad-request\"}\n{\"error\":\"E11\",\"name\":\"no-such-edit\"}\n";
 
 // Lines that are empty, no text or no JSON, a line that is too long, and a line end of two bytes.
 #[test]
@@ -103,51 +138,61 @@ fn broken_lines(rt: HostRuntime) -> Result<(), Fail> {
         lines.push(b' ')?;
     }
     lines.extend_from_slice(b"\n{\"op\":\"size\",\"d\":\"D\"}\n{\"op\":\"pri")?;
-    for (bytes, text, count) in [
-        (
-            lines.as_slice(),
-            "{\"error\":\"E01\",\"name\":\"bad-request\"}\n{\"error\":\"E91\",\"name\":\"line-too-long\"}\n{\"error\":\"E04\",\"name\":\"no-such-name\"}\n{\"error\":\"E01\",\"name\":\"bad-request\"}\n",
-            4,
-        ),
-        (
-            b"\n{\"op\":\"undo\",\"k\":\"\xff\"}\n\xef\xbb\xbf{\"op\":\"undo\"}\n{\"op\":\"undo\"}\r\n".as_slice(),
-            "{\"error\":\"E01\",\"name\":\"bad-request\"}\n{\"error\":\"E01\",\"name\":\"bad-request\"}\n{\"error\":\"E01\",\"name\":\"bad-request\"}\n{\"error\":\"E11\",\"name\":\"no-such-edit\"}\n",
-            4,
-        ),
-    ] {
-        let (end, replies) = replies_to(alloc, &mut History::new(alloc), bytes)?;
-        assert_eq!(rt; end, SessionEnd::Done(count));
-        assert_eq!(rt; replies.as_str(), text);
-    }
+    goes_so(&rt, alloc, lines.as_slice(), LONG_AMONG_OTHERS, 4);
+    goes_so(&rt, alloc, NO_TEXT, NO_TEXT_REPLIES, 4);
     Ok(())
+}
+
+// That a reply and a copy of it are printed so.
+fn is_printed(rt: &impl Abort, alloc: Global, reply: Reply, text: &str) -> Result<(), Fail> {
+    let printed = reply_text(alloc, &reply)?;
+    let copied = reply.copy(alloc)?;
+    let again = reply_text(alloc, &copied)?;
+    assert!(rt;
+        printed.as_str() == text && again.as_str() == text,
+        "{text}"
+    );
+    Ok(())
+}
+
+// The reply to a copied request.
+fn printed_book(alloc: Global) -> Result<Reply, Fail> {
+    let request = Request::Print.copy(alloc)?;
+    Ok(answer_request(alloc, &mut History::new(alloc), request))
 }
 
 // Copies of requests and replies are answered and printed alike, and replies that no script has.
 #[test]
 fn texts_of_replies(rt: HostRuntime) -> Result<(), Fail> {
     let alloc = rt.alloc();
-    let mut history = History::new(alloc);
-    let request = Request::Print.copy(alloc)?;
-    let printed = answer_request(alloc, &mut history, request);
-    for (reply, text) in [
-        (
-            Reply::Redone(18_446_744_073_709_551_615, 0),
-            "{\"n\":0,\"redone\":18446744073709551615}",
-        ),
-        (Reply::Answered(Answer::Size(65_536)), "{\"size\":65536}"),
-        (
-            Reply::Refused(Refusal::Refused(wb_edit::Refusal::InUse)),
-            "{\"error\":\"E08\",\"name\":\"in-use\"}",
-        ),
-        (
-            Reply::Refused(Refusal::NoMemory),
-            "{\"error\":\"E90\",\"name\":\"no-memory\"}",
-        ),
-        (printed, "{\"text\":\"chapel-workbook 1\\nend\\n\"}"),
-    ] {
-        let copied = reply.copy(alloc)?;
-        assert!(rt; reply_text(alloc, &reply).is_ok_and(|s| s.as_str() == text));
-        assert!(rt; reply_text(alloc, &copied).is_ok_and(|s| s.as_str() == text));
-    }
-    Ok(())
+    let printed = printed_book(alloc)?;
+    is_printed(
+        &rt,
+        alloc,
+        printed,
+        "{\"text\":\"chapel-workbook 1\\nend\\n\"}",
+    )?;
+    let redone = Reply::Redone(18_446_744_073_709_551_615, 0);
+    is_printed(
+        &rt,
+        alloc,
+        redone,
+        "{\"n\":0,\"redone\":18446744073709551615}",
+    )?;
+    let size = Reply::Answered(Answer::Size(65_536));
+    is_printed(&rt, alloc, size, "{\"size\":65536}")?;
+    let in_use = Reply::Refused(Refusal::Refused(wb_edit::Refusal::InUse));
+    is_printed(
+        &rt,
+        alloc,
+        in_use,
+        "{\"error\":\"E08\",\"name\":\"in-use\"}",
+    )?;
+    let no_memory = Reply::Refused(Refusal::NoMemory);
+    is_printed(
+        &rt,
+        alloc,
+        no_memory,
+        "{\"error\":\"E90\",\"name\":\"no-memory\"}",
+    )
 }

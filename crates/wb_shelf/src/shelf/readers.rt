@@ -1,15 +1,19 @@
 //! What a workbook answers about its objects, its domains, and where their indices lie.
 
-ghost use Rattle.std.specs.Prelude.{◌≡◌, is_some, length, slice_get};
+ghost use Rattle.std.specs.Prelude.{◌≡◌, is_some, length, option_map, slice_get};
 ghost use Rattle.wb_book.specs.Locales.{locale_by, is_index_at, locale_at, locale_count_at};
 ghost use Rattle.wb_book.specs.Readers.{objects, users, size_at, index_at};
 ghost use Rattle.wb_book.specs.WellFormed.{IsWellFormed, domain_at};
+ghost use Rattle.wb_elements.specs.Lent.{lent};
+ghost use Rattle.wb_shelf.specs.Shelf.{piece_at};
 
+use crate::looks;
 use crate::shelf::Shelf;
 use wb_book::{
     AnyIndex, Name, index_at, locale_at, locale_by, locale_count_at, object_at, object_count,
     size_at, user_at,
 };
+use wb_elements::Pairs;
 
 impl Shelf {
     /// How many objects there are: domains and arrays.
@@ -83,6 +87,16 @@ impl Shelf {
     {
         let _ = &self.arrays;
         locale_count_at(&self.cells, *domain)
+    }
+
+    /// The elements of the array of a name on a locale, each after its index, ascending, lent. They are those that lie there by
+    /// the mapping of the array's domain: a sparse domain goes by its parent's, and an associative one has all on locale 0.
+    /// `None` where there is no such array or no such locale (Chapel Language Specification, Domain Maps).
+    pub fn piece(&self, array: &Name, locale: usize) -> Option<Pairs<'_>>
+        ensures { option_map lent result ≡ piece_at self.now.cells array.now locale }
+    {
+        let _ = &self.cells;
+        looks::piece(&self.arrays, array, locale)
     }
 
     /// How many cells were set so far by `apply` and `revert`, up to the type's greatest value; the cells `In` are not

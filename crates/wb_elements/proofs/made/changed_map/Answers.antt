@@ -1,7 +1,5 @@
-use Rattle.std.proofs.Common.{◌≡◌, ℤ, List, [], Option, None, refl, sym, ap, ◌∙◌}
-use Rattle.std.specs.Option.{option_or}
+use Rattle.std.proofs.Common.{◌≡◌, ℤ, Option, None, ap, ◌∙◌}
 use Rattle.wb_array.specs.Elements.{value_at}
-use Rattle.wb_book.specs.declared.values.index.Index.{Index}
 use Rattle.wb_book.specs.Cells.{index_cmp}
 use Rattle.wb_elements.specs.Indexed.{indexed}
 use Rattle.wb_elements.specs.Changed.{changed_at, all_set}

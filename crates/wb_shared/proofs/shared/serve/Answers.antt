@@ -1,5 +1,5 @@
 -- A desk's answer is that of what it keeps, and keeps what is locked.
-use Rattle.std.proofs.Common.{◌≡◌, ◌+◌, length, arith, ap}
+use Rattle.std.proofs.Common.{◌≡◌, length, arith, ap}
 use Rattle.wb_shared.specs.Locked.{Locked}
 use Rattle.wb_shared.proofs.shared.serve.Goals as goal
 

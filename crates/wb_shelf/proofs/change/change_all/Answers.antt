@@ -11,44 +11,54 @@ use Rattle.wb_shelf.proofs.change.change_all.Goals as goal
 
 pub returns-then-are_set-clause-ok : goal.returns-then-are_set-clause-ok
 returns-then-are_set-clause-ok g c =
-    (set_whole c.args.cells.now c.args.arrays.now c.set_all.new.arrays c.args.delta.now c.requires.shelf c.requires.formed (sym c.are_set.ensures ∙ c.if-are_set.true)
+    (set_whole c.args.cells.now c.args.arrays.now c.set_all.new.arrays c.args.delta.now c.requires.shelf c.requires.formed
+    (sym c.are_set.ensures ∙ c.if-are_set.true)
     c.set_all.ensures.names c.set_all.ensures.lie c.set_all.ensures.agree).0
 
 pub returns-then-are_set-clause-shelf : goal.returns-then-are_set-clause-shelf
 returns-then-are_set-clause-shelf g c =
-    (set_whole c.args.cells.now c.args.arrays.now c.set_all.new.arrays c.args.delta.now c.requires.shelf c.requires.formed (sym c.are_set.ensures ∙ c.if-are_set.true)
+    (set_whole c.args.cells.now c.args.arrays.now c.set_all.new.arrays c.args.delta.now c.requires.shelf c.requires.formed
+    (sym c.are_set.ensures ∙ c.if-are_set.true)
     c.set_all.ensures.names c.set_all.ensures.lie c.set_all.ensures.agree).1
 
 pub finish-requires : goal.finish-requires
 finish-requires g c =
-    built_ascending (lies_at (stored_in c.prepared.new.cells.entries)) c.prepared.new.arrays.entries c.in-Ok-concerned.groups.entries c.in-Ok-prepared.built.items
+    built_ascending (lies_at (stored_in c.prepared.new.cells.entries)) c.prepared.new.arrays.entries c.in-Ok-concerned.groups.entries
+    c.in-Ok-prepared.built.items
     c.in-Ok-prepared.ensures.built c.in-Ok-concerned.ensures.ascending
 
 pub returns-in-Ok-prepared-clause-ok : goal.returns-in-Ok-prepared-clause-ok
 returns-in-Ok-prepared-clause-ok g c =
-    (made_whole c.args.cells.now c.args.arrays.now c.args.delta.now c.requires.shelf c.as_slice-changed.result.now (c.as_slice-changed.ensures.value ∙ c.in-Ok.ensures) c.requires.once c.requires.formed
+    (made_whole c.args.cells.now c.args.arrays.now c.args.delta.now c.requires.shelf c.as_slice-changed.result.now (c.as_slice-changed.ensures.value
+    ∙ c.in-Ok.ensures) c.requires.once c.requires.formed
     c.prepared.new.cells c.finish.new.cells c.prepared.new.arrays.entries c.finish.new.arrays.entries c.in-Ok-prepared.built.items
     c.in-Ok-prepared.ensures.set c.finish.ensures.cells c.in-Ok-prepared.ensures.others c.in-Ok-prepared.ensures.elements c.in-Ok-prepared.ensures.there
     c.in-Ok-concerned.groups.entries c.in-Ok-concerned.ensures.lead c.in-Ok-concerned.ensures.objects c.in-Ok-concerned.ensures.others
-    c.in-Ok-concerned.ensures.ascending c.in-Ok-prepared.ensures.built c.finish.ensures.arrays c.finish.new.arrays refl c.finish.ensures.ascending_cells c.finish.ensures.ascending).0
+    c.in-Ok-concerned.ensures.ascending c.in-Ok-prepared.ensures.built c.finish.ensures.arrays c.finish.new.arrays refl c.finish.ensures.ascending_cells
+    c.finish.ensures.ascending).0
 
 pub returns-in-Ok-prepared-clause-shelf : goal.returns-in-Ok-prepared-clause-shelf
 returns-in-Ok-prepared-clause-shelf g c =
-    (made_whole c.args.cells.now c.args.arrays.now c.args.delta.now c.requires.shelf c.as_slice-changed.result.now (c.as_slice-changed.ensures.value ∙ c.in-Ok.ensures) c.requires.once c.requires.formed
+    (made_whole c.args.cells.now c.args.arrays.now c.args.delta.now c.requires.shelf c.as_slice-changed.result.now (c.as_slice-changed.ensures.value
+    ∙ c.in-Ok.ensures) c.requires.once c.requires.formed
     c.prepared.new.cells c.finish.new.cells c.prepared.new.arrays.entries c.finish.new.arrays.entries c.in-Ok-prepared.built.items
     c.in-Ok-prepared.ensures.set c.finish.ensures.cells c.in-Ok-prepared.ensures.others c.in-Ok-prepared.ensures.elements c.in-Ok-prepared.ensures.there
     c.in-Ok-concerned.groups.entries c.in-Ok-concerned.ensures.lead c.in-Ok-concerned.ensures.objects c.in-Ok-concerned.ensures.others
-    c.in-Ok-concerned.ensures.ascending c.in-Ok-prepared.ensures.built c.finish.ensures.arrays c.finish.new.arrays refl c.finish.ensures.ascending_cells c.finish.ensures.ascending).1
+    c.in-Ok-concerned.ensures.ascending c.in-Ok-prepared.ensures.built c.finish.ensures.arrays c.finish.new.arrays refl c.finish.ensures.ascending_cells
+    c.finish.ensures.ascending).1
 
 pub take_back-requires-clause-once : goal.take_back-requires-clause-once
 take_back-requires-clause-once g c =
     let xs : Changes = c.as_slice-changed.result.now in
-    let once : AllOnce cell_cmp xs = subst (λ (ys : Changes). AllOnce cell_cmp ys) (sym (c.as_slice-changed.ensures.value ∙ c.in-Ok.ensures)) (once_stored c.args.delta.now c.requires.once) in
-    subst (λ (ys : Changes). AllOnce cell_cmp ys) (sym (c.as_slice-back.ensures.value ∙ c.in-Ok-values_before.ensures)) (once-inverse xs (state_of c.args.cells.now) once)
+    let once : AllOnce cell_cmp xs = subst (λ (ys : Changes). AllOnce cell_cmp ys) (sym (c.as_slice-changed.ensures.value ∙ c.in-Ok.ensures))
+    (once_stored c.args.delta.now c.requires.once) in
+    subst (λ (ys : Changes). AllOnce cell_cmp ys) (sym (c.as_slice-back.ensures.value ∙ c.in-Ok-values_before.ensures))
+    (once-inverse xs (state_of c.args.cells.now) once)
 
 pub take_back-requires-clause-room : goal.take_back-requires-clause-room
 take_back-requires-clause-room g c =
-    rw (c.as_slice-back.ensures.value, c.in-Ok-values_before.ensures) (room-inverse c.as_slice-changed.result.now (state_of c.args.cells.now) (state_of c.prepared.new.cells) c.prepared.ensures.stays_cells)
+    rw (c.as_slice-back.ensures.value, c.in-Ok-values_before.ensures)
+    (room-inverse c.as_slice-changed.result.now (state_of c.args.cells.now) (state_of c.prepared.new.cells) c.prepared.ensures.stays_cells)
 
 pub returns-clause-err : goal.returns-clause-err
 returns-clause-err g c =
@@ -57,7 +67,8 @@ returns-clause-err g c =
     c.take_back.ensures.cells ∙ ap (λ (ys : Changes). apply ys (state_of c.prepared.new.cells)) (c.as_slice-back.ensures.value ∙ c.in-Ok-values_before.ensures)
     ∙ off_cells cell_order xs (state_of c.args.cells.now) (state_of c.prepared.new.cells) c.prepared.ensures.others_cells in
     (taken_back c.args.cells.now c.args.arrays.now c.args.delta.now c.requires.shelf xs (c.as_slice-changed.ensures.value ∙ c.in-Ok.ensures)
-    c.take_back.new.cells c.prepared.new.arrays.entries c.take_back.new.arrays.entries back c.prepared.ensures.others c.prepared.ensures.stays c.take_back.ensures.arrays
+    c.take_back.new.cells c.prepared.new.arrays.entries c.take_back.new.arrays.entries back c.prepared.ensures.others c.prepared.ensures.stays
+    c.take_back.ensures.arrays
     c.take_back.new.arrays refl c.take_back.ensures.ascending_cells c.take_back.ensures.ascending).0
 
 pub returns-clause-shelf : goal.returns-clause-shelf
@@ -67,5 +78,6 @@ returns-clause-shelf g c =
     c.take_back.ensures.cells ∙ ap (λ (ys : Changes). apply ys (state_of c.prepared.new.cells)) (c.as_slice-back.ensures.value ∙ c.in-Ok-values_before.ensures)
     ∙ off_cells cell_order xs (state_of c.args.cells.now) (state_of c.prepared.new.cells) c.prepared.ensures.others_cells in
     (taken_back c.args.cells.now c.args.arrays.now c.args.delta.now c.requires.shelf xs (c.as_slice-changed.ensures.value ∙ c.in-Ok.ensures)
-    c.take_back.new.cells c.prepared.new.arrays.entries c.take_back.new.arrays.entries back c.prepared.ensures.others c.prepared.ensures.stays c.take_back.ensures.arrays
+    c.take_back.new.cells c.prepared.new.arrays.entries c.take_back.new.arrays.entries back c.prepared.ensures.others c.prepared.ensures.stays
+    c.take_back.ensures.arrays
     c.take_back.new.arrays refl c.take_back.ensures.ascending_cells c.take_back.ensures.ascending).1

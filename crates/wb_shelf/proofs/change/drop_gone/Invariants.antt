@@ -9,5 +9,6 @@ use Rattle.wb_shelf.proofs.change.drop_gone.Given as goal
 
 abbrev pub invariant-loop-change : goal.invariant-loop-change
 invariant-loop-change l =
-    (b : List ℕ) → cond (changes cell_cmp (drop l.change-index l.stored) (Object b) && not (is_array (stored_in l.cells.entries (Object b)))) None (array_in l.arrays.entries b)
+    (b : List ℕ) → cond (changes cell_cmp (drop l.change-index l.stored) (Object b) && not (is_array (stored_in l.cells.entries (Object b)))) None
+    (array_in l.arrays.entries b)
     ≡ cond (changes cell_cmp l.stored (Object b) && not (is_array (stored_in l.cells.entries (Object b)))) None (array_in l.fn.arrays.entries b)

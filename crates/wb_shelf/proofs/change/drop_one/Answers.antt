@@ -11,5 +11,6 @@ returns-then-is_array c = λ b.
 
 pub returns-else-is_array : goal.returns-else-is_array
 returns-else-is_array c = λ b.
-    dropped_one (stored_in c.args.cells.now.entries) c.args.change.now.cell c.in-Object.name b (array_in c.args.arrays.now.entries b) (array_in c.drop_array.new.arrays.entries b)
+    dropped_one (stored_in c.args.cells.now.entries) c.args.change.now.cell c.in-Object.name b (array_in c.args.arrays.now.entries b)
+    (array_in c.drop_array.new.arrays.entries b)
     (sym c.cell-cell.ensures ∙ c.in-Object.is) (sym c.is_array.ensures ∙ c.if-is_array.false) (c.drop_array.ensures b)

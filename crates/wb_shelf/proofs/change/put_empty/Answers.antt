@@ -11,17 +11,21 @@ use Rattle.wb_shelf.proofs.Kept.{ascending-nothing}
 use Rattle.wb_shelf.proofs.change.put_empty.Goals as goal
 
 pub made-requires : goal.made-requires
-made-requires c = subst (λ (es : List (Index × ℤ)). IsStrictlySortedBy index_cmp (keys_of es)) (sym (c.as_slice.ensures.value ∙ c.new-pairs.ensures.items)) (ascending-nothing index_cmp)
+made-requires c = subst (λ (es : List (Index × ℤ)). IsStrictlySortedBy index_cmp (keys_of es)) (sym (c.as_slice.ensures.value ∙ c.new-pairs.ensures.items))
+    (ascending-nothing index_cmp)
 
 pub returns-in-Ok-insert-clause-stays : goal.returns-in-Ok-insert-clause-stays
 returns-in-Ok-insert-clause-stays c =
-    let absent : array_in c.args.arrays.now.entries c.args.name.now ≡ None = none_there (array_in c.args.arrays.now.entries c.args.name.now) (sym c.contains_key.ensures ∙ c.if-contains_key.false) in
+    let absent : array_in c.args.arrays.now.entries c.args.name.now ≡ None =
+    none_there (array_in c.args.arrays.now.entries c.args.name.now) (sym c.contains_key.ensures ∙ c.if-contains_key.false) in
     put_stays c.args.arrays.now.entries c.insert.new.self.entries c.args.name.now c.in-Ok.empty absent (λ b. c.in-Ok-insert.ensures.updates.0 b)
 
 pub returns-in-Ok-insert-clause-elements : goal.returns-in-Ok-insert-clause-elements
 returns-in-Ok-insert-clause-elements c =
-    let absent : array_in c.args.arrays.now.entries c.args.name.now ≡ None = none_there (array_in c.args.arrays.now.entries c.args.name.now) (sym c.contains_key.ensures ∙ c.if-contains_key.false) in
+    let absent : array_in c.args.arrays.now.entries c.args.name.now ≡ None =
+    none_there (array_in c.args.arrays.now.entries c.args.name.now) (sym c.contains_key.ensures ∙ c.if-contains_key.false) in
     put_elements c.args.arrays.now.entries c.insert.new.self.entries c.args.name.now c.in-Ok.empty absent (λ b. c.in-Ok-insert.ensures.updates.0 b) λ i.
     c.in-Ok.ensures.elements i
-    ∙ ap (λ (xs : List (Index × Option ℤ)). changed_at xs (value_at index_cmp c.as_slice.result.now i) i) (c.as_slice-2.ensures.value ∙ c.new-changes.ensures.items)
+    ∙ ap (λ (xs : List (Index × Option ℤ)). changed_at xs (value_at index_cmp c.as_slice.result.now i) i) (c.as_slice-2.ensures.value
+    ∙ c.new-changes.ensures.items)
     ∙ ap (λ (es : List (Index × ℤ)). value_at index_cmp es i) (c.as_slice.ensures.value ∙ c.new-pairs.ensures.items)

@@ -13,5 +13,6 @@ invariant-loop-change l = record {
   others : (b : List ℕ) → changes cell_cmp l.stored (Object b) ≡ false → array_in l.arrays.entries b ≡ array_in l.fn.arrays.entries b;
   stays : (b : List ℕ) (p : Pieced) → array_in l.fn.arrays.entries b ≡ Some p → array_in l.arrays.entries b ≡ Some p;
   elements : (b : List ℕ) (i : Index) → element_in l.arrays.entries b i ≡ element_in l.fn.arrays.entries b i;
-  there : (b : List ℕ) → changes cell_cmp (take l.change-index l.stored) (Object b) ≡ true → is_array (stored_in l.cells.entries (Object b)) ≡ true → IsSome (array_in l.arrays.entries b);
+  there : (b : List ℕ) → changes cell_cmp (take l.change-index l.stored) (Object b) ≡ true → is_array (stored_in l.cells.entries (Object b)) ≡ true →
+      IsSome (array_in l.arrays.entries b);
 }

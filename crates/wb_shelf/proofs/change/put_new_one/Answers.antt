@@ -23,5 +23,7 @@ returns-then-is_array-clause-there c =
 
 pub returns-else-is_array-clause-there : goal.returns-else-is_array-clause-there
 returns-else-is_array-clause-there c = λ b e array.
-    let same : c.in-Object.name ≡ b = one_name c.in-Object.name b (sym (at_object c.args.change.now.cell c.in-Object.name b (sym c.cell-cell.ensures ∙ c.in-Object.is)) ∙ e) in
-    absurd (true≢false (sym array ∙ ap (λ (n : Name). is_array (stored_in c.args.cells.now.entries (Object n))) (sym same) ∙ sym c.is_array.ensures ∙ c.if-is_array.false))
+    let same : c.in-Object.name ≡ b = one_name c.in-Object.name b
+    (sym (at_object c.args.change.now.cell c.in-Object.name b (sym c.cell-cell.ensures ∙ c.in-Object.is)) ∙ e) in
+    absurd (true≢false (sym array ∙ ap (λ (n : Name). is_array (stored_in c.args.cells.now.entries (Object n))) (sym same) ∙ sym c.is_array.ensures
+    ∙ c.if-is_array.false))

@@ -10,7 +10,8 @@ returns-clause-lead c = λ b.
     let was : LeadTo c.args.delta.now b (changes_in c.in_ok-groups.groups.entries b) = c.in_ok-groups.ensures.lead b in
     elim c.if-not-are_left.branch [
       | then-not-are_left+in_ok-name_all w ↦
-          subst (λ (ys : Group). LeadTo c.args.delta.now b ys) (sym (ap (λ (m : BTreeMap Name Group). changes_in m.entries b) w.groups-is ∙ w.name_all.ensures.same b)) was
+          subst (λ (ys : Group). LeadTo c.args.delta.now b ys)
+          (sym (ap (λ (m : BTreeMap Name Group). changes_in m.entries b) w.groups-is ∙ w.name_all.ensures.same b)) was
       | else-not-are_left w ↦
           subst (λ (ys : Group). LeadTo c.args.delta.now b ys) (sym (ap (λ (m : BTreeMap Name Group). changes_in m.entries b) w.groups-is)) was
     ]

@@ -12,8 +12,10 @@ loop-change-preserved c =
     let low = c.loop-change-test.true in
     let old = c.loop-change.invariant in
     record {
-      lead = λ b. lead_more xs k x b (changes_in c.add_change.new.groups.entries b) low c.change-item.is (c.in_ok-add_change.ensures.lead (take k xs) old.lead b);
-      objects = λ b. objects_more xs k x b c.loop-change.groups.entries c.add_change.new.groups.entries low c.change-item.is (c.add_change.ensures.stays b) (c.in_ok-add_change.ensures.object b) (old.objects b);
+      lead = λ b. lead_more xs k x b (changes_in c.add_change.new.groups.entries b) low c.change-item.is
+          (c.in_ok-add_change.ensures.lead (take k xs) old.lead b);
+      objects = λ b. objects_more xs k x b c.loop-change.groups.entries c.add_change.new.groups.entries low c.change-item.is (c.add_change.ensures.stays b)
+          (c.in_ok-add_change.ensures.object b) (old.objects b);
     }
 
 pub returns-clause-lead : goal.returns-clause-lead

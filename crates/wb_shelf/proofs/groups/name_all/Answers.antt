@@ -11,10 +11,12 @@ loop-name-preserved c =
     let p : Pieced = c.in-Some.field-0-1.now in
     let old = c.loop-name.invariant in
     let rest : c.loop-name.name-iterator ≡ (n, p) ∷ c.next.new.self = (search rules) in
-    let ahead : (b : Name) → IsSome (array_in c.args.arrays.now.entries b) → IsSome (group_in c.loop-name.groups.entries b) ⊎ IsSome (array_in ((n, p) ∷ c.next.new.self) b) =
+    let ahead : (b : Name) → IsSome (array_in c.args.arrays.now.entries b) →
+    IsSome (group_in c.loop-name.groups.entries b) ⊎ IsSome (array_in ((n, p) ∷ c.next.new.self) b) =
     λ b there. subst (λ (es : List (Name × Pieced)). IsSome (group_in c.loop-name.groups.entries b) ⊎ IsSome (array_in es b)) rest (old.ahead b there) in
     record {
       same = λ b. c.put_group.ensures.same b ∙ old.same b;
       stays = λ b there. c.put_group.ensures.stays b (old.stays b there);
-      ahead = λ b there. name_one n b p c.next.new.self c.loop-name.groups.entries c.put_group.new.groups.entries (c.put_group.ensures.stays b) c.in_ok-put_group.ensures.there (ahead b there);
+      ahead = λ b there. name_one n b p c.next.new.self c.loop-name.groups.entries c.put_group.new.groups.entries (c.put_group.ensures.stays b)
+          c.in_ok-put_group.ensures.there (ahead b there);
     }

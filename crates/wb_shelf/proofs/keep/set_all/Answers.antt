@@ -20,7 +20,8 @@ loop-change-preserved c =
     let old = c.loop-change.invariant in
     let more = λ (s : Cells). apply_more xs k c.change-item.result s c.loop-change-test.true c.change-item.is in
     record {
-      agree = λ s agree. subst (λ (t : Cells). Agree c.set_one.new.arrays.entries t) (sym (more s)) (c.set_one.ensures.agree (apply (take k xs) s) (old.agree s agree));
+      agree = λ s agree. subst (λ (t : Cells). Agree c.set_one.new.arrays.entries t) (sym (more s))
+          (c.set_one.ensures.agree (apply (take k xs) s) (old.agree s agree));
       names = c.set_one.ensures.names ∙ old.names;
       lie = λ b. c.set_one.ensures.lie b ∙ old.lie b;
       there = λ b i. c.set_one.ensures.there b i ∙ old.there b i;

@@ -19,7 +19,8 @@ returns-clause-agree c = λ s agree.
     let cell : x.cell ≡ Element a i = sym c.cell-cell.ensures ∙ c.in-Element.is in
     let number : number_in x.value ≡ Some v = ap number_in (sym c.value.ensures) ∙ sym c.number_in.ensures ∙ c.in-Some.is in
     let made : (b : Name) → array_in c.set_element.new.arrays.entries b ≡ cond (is_same_name a b) (with_element (array_in es b) i v) (array_in es b) =
-    λ b. c.set_element.ensures.arrays b ∙ ap (λ (w : ℤ). cond (is_same_name a b) (with_element (array_in es b) i w) (array_in es b)) (to_z-of_z w64 v (search rules)) in
+    λ b. c.set_element.ensures.arrays b ∙ ap (λ (w : ℤ). cond (is_same_name a b) (with_element (array_in es b) i w) (array_in es b))
+    (to_z-of_z w64 v (search rules)) in
     agree_set es c.set_element.new.arrays.entries s x a i v cell number (element_set (element_in es) x a i cell c.requires).1 made agree
 
 pub returns-clause-there : goal.returns-clause-there
@@ -31,5 +32,6 @@ returns-clause-there c = λ b j.
     let v : ℤ = c.in-Some.number in
     let cell : x.cell ≡ Element a i = sym c.cell-cell.ensures ∙ c.in-Element.is in
     let made : array_in c.set_element.new.arrays.entries b ≡ cond (is_same_name a b) (with_element (array_in es b) i v) (array_in es b) =
-    c.set_element.ensures.arrays b ∙ ap (λ (w : ℤ). cond (is_same_name a b) (with_element (array_in es b) i w) (array_in es b)) (to_z-of_z w64 v (search rules)) in
+    c.set_element.ensures.arrays b ∙ ap (λ (w : ℤ). cond (is_same_name a b) (with_element (array_in es b) i w) (array_in es b))
+    (to_z-of_z w64 v (search rules)) in
     there_more es c.set_element.new.arrays.entries a b i j v (element_set (element_in es) x a i cell c.requires).1 made

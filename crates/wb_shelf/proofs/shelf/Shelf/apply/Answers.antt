@@ -15,12 +15,15 @@ new-requires g c =
     let answers : Cell → Option Value = answer (stored_in c.self.inside.cells.entries) (element_in c.self.inside.arrays.entries) in
     let is : c.in-Ok.before.items ≡ inverse c.args.delta (cells_of c.self.inside.cells c.self.inside.arrays) =
     c.in-Ok.ensures ∙ ap (map (with_answer answers)) c.changes.ensures.same
-    ∙ inverse_is answers (cells_of c.self.inside.cells c.self.inside.arrays) (λ k. sym (get-cells_of c.self.inside.cells c.self.inside.arrays c.self.invariant k)) c.args.delta in
-    subst (λ (ys : Changes). AllOnce cell_cmp ys) (sym is) (once-inverse c.args.delta (cells_of c.self.inside.cells c.self.inside.arrays) c.changes.ensures.once)
+    ∙ inverse_is answers (cells_of c.self.inside.cells c.self.inside.arrays)
+    (λ k. sym (get-cells_of c.self.inside.cells c.self.inside.arrays c.self.invariant k)) c.args.delta in
+    subst (λ (ys : Changes). AllOnce cell_cmp ys) (sym is)
+    (once-inverse c.args.delta (cells_of c.self.inside.cells c.self.inside.arrays) c.changes.ensures.once)
 
 pub returns-in-Ok-change-clause-inverse : goal.returns-in-Ok-change-clause-inverse
 returns-in-Ok-change-clause-inverse g c =
     let answers : Cell → Option Value = answer (stored_in c.self.inside.cells.entries) (element_in c.self.inside.arrays.entries) in
     c.new.ensures ∙ c.in-Ok.ensures ∙ ap (map (with_answer answers)) c.changes.ensures.same
-    ∙ inverse_is answers (cells_of c.self.inside.cells c.self.inside.arrays) (λ k. sym (get-cells_of c.self.inside.cells c.self.inside.arrays c.self.invariant k)) c.args.delta
+    ∙ inverse_is answers (cells_of c.self.inside.cells c.self.inside.arrays)
+    (λ k. sym (get-cells_of c.self.inside.cells c.self.inside.arrays c.self.invariant k)) c.args.delta
     ∙ ap (λ (s : Contents). inverse c.args.delta s.cells) c.self.view_is

@@ -5,4 +5,6 @@ use Rattle.wb_shelf.proofs.Answered.{answered}
 use Rattle.wb_shelf.proofs.shelf.Shelf.locale_count.Goals as goal
 
 pub returns : goal.returns
-returns c = rw (← c.self.view_is) (c.locale_count_at.ensures ∙ answered (λ s. locale_count_at s c.args.domain.now) (λ s. locale_count-stored s c.args.domain.now) c.self.inside.cells c.self.inside.arrays c.self.invariant)
+returns c = rw (← c.self.view_is) (c.locale_count_at.ensures
+    ∙ answered (λ s. locale_count_at s c.args.domain.now) (λ s. locale_count-stored s c.args.domain.now) c.self.inside.cells c.self.inside.arrays
+    c.self.invariant)

@@ -5,4 +5,6 @@ use Rattle.wb_shelf.proofs.Answered.{answered}
 use Rattle.wb_shelf.proofs.shelf.Shelf.object.Goals as goal
 
 pub returns : goal.returns
-returns c = rw (← c.self.view_is) (c.object_at.ensures ∙ answered (λ s. slice_get (objects s) c.args.p) (λ s. ap (λ ns. slice_get ns c.args.p) (objects-stored s)) c.self.inside.cells c.self.inside.arrays c.self.invariant)
+returns c = rw (← c.self.view_is) (c.object_at.ensures
+    ∙ answered (λ s. slice_get (objects s) c.args.p) (λ s. ap (λ ns. slice_get ns c.args.p) (objects-stored s)) c.self.inside.cells c.self.inside.arrays
+    c.self.invariant)

@@ -5,4 +5,5 @@ use Rattle.wb_shelf.proofs.Answered.{answered}
 use Rattle.wb_shelf.proofs.shelf.Shelf.objects.Goals as goal
 
 pub returns : goal.returns
-returns c = rw (← c.self.view_is) (c.object_count.ensures ∙ answered (λ s. length (objects s)) (λ s. ap (λ ns. length ns) (objects-stored s)) c.self.inside.cells c.self.inside.arrays c.self.invariant)
+returns c = rw (← c.self.view_is) (c.object_count.ensures
+    ∙ answered (λ s. length (objects s)) (λ s. ap (λ ns. length ns) (objects-stored s)) c.self.inside.cells c.self.inside.arrays c.self.invariant)

@@ -10,4 +10,6 @@ user_at-requires c = are_named c.self.inside.cells c.self.inside.arrays c.self.i
 pub returns : goal.returns
 returns c =
     let d = c.args.name.now in
-    rw (← c.self.view_is) (c.user_at.ensures ∙ answered (λ s. slice_get (users s d) c.args.p) (λ s. ap (λ ns. slice_get ns c.args.p) (users-stored s d)) c.self.inside.cells c.self.inside.arrays c.self.invariant)
+    rw (← c.self.view_is) (c.user_at.ensures
+    ∙ answered (λ s. slice_get (users s d) c.args.p) (λ s. ap (λ ns. slice_get ns c.args.p) (users-stored s d)) c.self.inside.cells c.self.inside.arrays
+    c.self.invariant)

@@ -1,0 +1,21 @@
+use Rattle.std.proofs.Common.{◌≡◌, ℕ, ◌-◌, ◌<◌, ◌≤◌, ◌^◌, length, take}
+use Rattle.wb_log.specs.Cascades.{AreUndone}
+use Rattle.wb_log.specs.Indexed.{IsIndexed}
+use Rattle.wb_log.specs.Kept.{Shows, numbers}
+use Rattle.wb_log.specs.Past.{AreValid}
+use Rattle.wb_log.proofs.steps.cascade.undo_each.Given as goal
+
+-- the numbers up to here are undone
+abbrev pub invariant-loop-done : goal.invariant-loop-done
+invariant-loop-done l = record {
+  within : l.done ≤ length l.undone;
+  few : length l.entries < 2 ^ 63;
+  kept : Shows l.entries l.book.cells;
+  indexed : IsIndexed l.index l.entries;
+  valid : AreValid (numbers l.entries);
+  undone : AreUndone (numbers l.initial.entries) l.initial.book.writes (take l.done l.undone) (numbers l.entries) l.count l.book.writes;
+  none : l.done ≡ 0 → l.book ≡ l.initial.book;
+}
+
+abbrev pub decreases-loop-done : goal.decreases-loop-done
+decreases-loop-done l = length l.undone - l.done

@@ -1,0 +1,28 @@
+use Rattle.std.proofs.Common.{◌≡◌, List, ℕ, [], ◌∷◌, length, reverse, ap, sym, subst, ◌∙◌}
+use Rattle.std.proofs.lemmas.List.{reverse-append}
+use Rattle.wb_log.specs.Kept.{by_number}
+use Rattle.wb_log.specs.Needed.{AreFromFeet}
+use Rattle.wb_log.proofs.Sweeps.{Swept, first_swept, next_swept, all_swept, within_log}
+use Rattle.wb_log.proofs.sweep.needing.Goals as goal
+
+pub loop-next-init : goal.loop-next-init
+loop-next-init c =
+    let es = c.args.entries.now in
+    let first = first_swept (by_number es) c.args.number (length es) c.new-waiting.result c.add.new.self c.requires.positive c.requires.in_log c.new-waiting.ensures c.in-Ok.ensures.ok in
+    rw c.new-found.ensures.items first
+
+pub loop-next-preserved : goal.loop-next-preserved
+loop-next-preserved c =
+    let es = c.args.entries.now in
+    let next = c.in-Some.next in
+    let old = c.loop-next.found.items in
+    let now : reverse c.push.new.self.items ≡ next ∷ reverse old = ap reverse c.in-Ok-push.ensures.items ∙ reverse-append old (next ∷ []) in
+    let step = next_swept (by_number es) c.args.number (length es) (reverse old) c.loop-next.last next c.loop-next.waiting c.take_least.new.self c.wait_for_those.new.waiting
+    c.loop-next.invariant c.in-Some.ensures.least c.in-Some.ensures.taken c.in-Ok-wait_for_those.ensures (λ n need. within_log es n next need) in
+    subst (λ (ns : List ℕ). Swept (by_number es) c.args.number (length es) ns next c.wait_for_those.new.waiting) (sym now) step
+
+pub returns : goal.returns
+returns c =
+    let es = c.args.entries.now in
+    let found = all_swept (by_number es) c.args.number (length es) (reverse c.loop-next.found.items) c.loop-next.last c.loop-next.waiting c.loop-next.invariant c.in_default.ensures.least in
+    subst (λ (ns : List ℕ). AreFromFeet (by_number es) c.args.number ns) (sym c.reverse.ensures.items) found

@@ -1,0 +1,86 @@
+//! Which edits have to be undone with one, found by one sweep over the index: from each that is found to those that need it.
+
+ghost use Rattle.std.specs.Prelude.{◌≡◌, ℕ, ◌<◌, ◌≤◌, ◌^◌, length, OnOk, IfOk};
+ghost use Rattle.selective_undo.specs.Log.{blocks_undo};
+ghost use Rattle.wb_foot.specs.Feet.{Feet, IsIndexOf};
+ghost use Rattle.wb_log.specs.Kept.{by_number};
+ghost use Rattle.wb_log.specs.Needed.{AreFromFeet, Joined, JoinedAfter};
+
+use crate::entry::Entry;
+use std::alloc::Global;
+use wb_book::CellChange;
+use wb_foot::{FootIndex, Numbers};
+use wb_range::NoMemory;
+
+/// The later edits wait that need one that wrote the cells.
+fn wait_for_blockers(
+    index: &FootIndex,
+    before: &[CellChange],
+    after: u64,
+    waiting: &mut Numbers,
+) -> Result<(), NoMemory>
+    ensures { OnOk result ((feet : Feet) → IsIndexOf index.now feet → JoinedAfter waiting.old waiting.new (λ n. blocks_undo before.now (feet n)) after) }
+{
+    let mut from = after;
+    while let Some(number) = index.first_to_block_undo(before, from) {
+        match waiting.add(number) {
+            Ok(()) => {}
+            Err(_) => return Err(NoMemory),
+        }
+        from = number;
+    }
+    Ok(())
+}
+
+/// The edits wait that need the one of a number.
+fn wait_for_those(
+    index: &FootIndex,
+    entries: &[Entry],
+    number: u64,
+    waiting: &mut Numbers,
+) -> Result<(), NoMemory>
+    requires positive { 0 < number }
+    requires in_log { number ≤ length entries.now }
+    requires indexed { IsIndexOf index.now (by_number entries.now) }
+    ensures { OnOk result (Joined waiting.old waiting.new (by_number entries.now) number) }
+{
+    match &entries[(number - 1) as usize].kept {
+        None => Ok(()),
+        Some(kept) => wait_for_blockers(index, kept.inverse.before(), number, waiting),
+    }
+}
+
+/// The numbers of the edits that have to be undone with the one of a number, from the greatest down.
+pub(crate) fn needing(
+    alloc: Global,
+    index: &FootIndex,
+    entries: &[Entry],
+    number: u64,
+) -> Result<Vec<u64>, NoMemory>
+    requires positive { 0 < number }
+    requires in_log { number ≤ length entries.now }
+    requires few { length entries.now < 2 ^ 63 }
+    requires indexed { IsIndexOf index.now (by_number entries.now) }
+    ensures { IfOk result (λ v. AreFromFeet (by_number entries.now) number v.items) }
+{
+    let mut waiting = Numbers::new(alloc);
+    match waiting.add(number) {
+        Ok(()) => {}
+        Err(_) => return Err(NoMemory),
+    }
+    let mut found = Vec::new(alloc);
+    let mut last = 0;
+    while let Some(next) = waiting.take_least() {
+        match found.push(next) {
+            Ok(()) => {}
+            Err(_) => return Err(NoMemory),
+        }
+        match wait_for_those(index, entries, next, &mut waiting) {
+            Ok(()) => {}
+            Err(_) => return Err(NoMemory),
+        }
+        last = next;
+    }
+    found.reverse();
+    Ok(found)
+}

@@ -1,0 +1,6 @@
+use Rattle.wb_record.proofs.Below.{all_said}
+use Rattle.wb_record.proofs.printed.print_history.Goals as goal
+use Rattle.std.proofs.lemmas.Result.{on_ok_weaker}
+
+pub returns-clause-said : goal.returns-clause-said
+returns-clause-said c = on_ok_weaker c.print_history.result (all_said c.args.history.now.entries) c.print_history.ensures.json

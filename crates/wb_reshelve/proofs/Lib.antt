@@ -1,0 +1,4 @@
+pub mod Storing
+pub mod Columnwise
+pub mod Linewise
+pub mod Agreeing
