@@ -13,6 +13,7 @@ pub struct Printer {
 }
 
 impl Printer {
+    /// The machine; what it answers takes memory there.
     pub fn new(alloc: Global) -> Printer
         ensures { result ≡ record { alloc = alloc } }
     {

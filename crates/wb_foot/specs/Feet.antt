@@ -1,4 +1,5 @@
--- An index is of feet, one for some of the numbers: it has a mark at each place where a foot read or touched something.
+-- An index is of footprints, one for some of the numbers: it has a mark at each place where one of them read or touched
+-- something.
 use Rattle.std.specs.Prelude.{◌≡◌, ℕ, Bool, false, ◌||◌, ◌==◌, List, Option, Some, None, if◌then◌else◌}
 use Rattle.std.specs.List.{list_any}
 use Rattle.selective_undo.specs.Log.{Foot}
@@ -12,7 +13,7 @@ use Rattle.wb_foot.specs.declared.place.Place.{Place}
 use Rattle.wb_foot.specs.declared.foot_index.FootIndex.{FootIndex}
 use Rattle.wb_foot.specs.Places.{own, family, place_of, is_same_place, place_marked}
 
--- what edits read and touched, by their numbers; some numbers have no foot
+-- what edits read and touched, by their numbers; some numbers have no footprint
 abbrev pub Feet : Type 0
 Feet = ℕ → Option (Foot workbook)
 
@@ -28,7 +29,7 @@ touched_at xs q = list_any (λ x. at_cell x.cell q) xs
 abbrev pub read_at : List Pattern → Place → Bool
 read_at rs q = list_any (λ r. is_same_place (place_of r) q) rs
 
--- whether a foot, where there is one, touched a place
+-- whether a footprint, where there is one, touched a place
 abbrev pub touched_by : Option (Foot workbook) → Place → Bool
 touched_by None q = false
 touched_by (Some f) q = touched_at f.before q
@@ -38,7 +39,7 @@ abbrev pub read_by : Option (Foot workbook) → Place → Bool
 read_by None q = false
 read_by (Some f) q = read_at f.reads q
 
--- A number is marked at the places that its foot touched, and at those that it read, and at no others.
+-- A number is marked at the places that its footprint touched, and at those that it read, and at no others.
 pub record IsIndexOf (index : FootIndex) (feet : Feet) : Type 0 where
   pub touched : (q : Place) (n : ℕ) → place_marked index.touched q n ≡ touched_by (feet n) q
   pub read : (q : Place) (n : ℕ) → place_marked index.read q n ≡ read_by (feet n) q
@@ -47,11 +48,11 @@ pub record IsIndexOf (index : FootIndex) (feet : Feet) : Type 0 where
 abbrev pub foot : List Pattern → Changes → Foot workbook
 foot reads before = record { reads = reads; before = before }
 
--- the same feet, with another one, or none, at a number
+-- the same footprints, with another one, or none, at a number
 abbrev pub with_foot : Feet → ℕ → Option (Foot workbook) → Feet
 with_foot feet number f n = if number == n then f else feet n
 
--- whether a foot, where there is one, read or touched a cell
+-- whether a footprint, where there is one, read or touched a cell
 abbrev pub met_by : Option (Foot workbook) → Cell → Bool
 met_by None c = false
 met_by (Some f) c = changes cell_cmp f.before c || covers workbook f.reads c

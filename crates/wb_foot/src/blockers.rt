@@ -11,7 +11,7 @@ use wb_book::CellChange;
 use wb_range::NoMemory;
 
 impl FootIndex {
-    /// All numbers above `after` whose feet need one that wrote the cells, ascending.
+    /// All numbers above `after` whose footprints need one that wrote the cells, ascending.
     pub fn blockers(
         &self,
         alloc: Global,

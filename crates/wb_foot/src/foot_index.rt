@@ -1,4 +1,4 @@
-//! The index itself: feet come and go by their numbers.
+//! The index itself: footprints come and go by their numbers.
 
 ghost use Rattle.std.specs.Prelude.{◌≡◌, Some, None, OnOk, OnErr};
 ghost use Rattle.wb_foot.specs.Feet.{Feet, IsIndexOf, foot, with_foot};
@@ -9,7 +9,8 @@ use std::alloc::Global;
 use wb_book::{CellChange, Pattern};
 use wb_range::NoMemory;
 
-/// An index of feet by the cells that they read and touched. It owns no foot: its contracts speak of the feet that it is of.
+/// An index of footprints by the cells that they read and touched. It owns none: its contracts speak of those that it
+/// is of.
 #[derive(Drop)]
 pub struct FootIndex {
     pub(crate) touched: PlaceMarks,
@@ -17,7 +18,7 @@ pub struct FootIndex {
 }
 
 impl FootIndex {
-    /// The index without feet.
+    /// The index without footprints.
     pub fn new(alloc: Global) -> FootIndex
         ensures { IsIndexOf result (λ n. None) }
     {
@@ -27,7 +28,7 @@ impl FootIndex {
         }
     }
 
-    /// Adds a foot at a number that has none, or nothing where no memory is left.
+    /// Adds a footprint at a number that has none, or nothing where no memory is left.
     pub fn add(
         &mut self,
         number: u64,
@@ -49,7 +50,7 @@ impl FootIndex {
         Ok(())
     }
 
-    /// Takes away the foot at a number. It takes no memory.
+    /// Takes away the footprint at a number. It takes no memory.
     pub fn take(&mut self, number: u64, reads: &[Pattern], before: &[CellChange])
         ensures { (feet : Feet) → IsIndexOf self.old feet → feet number ≡ Some (foot reads.now before.now) → IsIndexOf self.new (with_foot feet number None) }
     {

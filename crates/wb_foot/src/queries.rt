@@ -12,7 +12,7 @@ use crate::place::{family, own, place_of};
 use wb_book::{Cell, CellChange, Pattern};
 
 impl FootIndex {
-    /// The least number above `after` whose foot read or touched the cell.
+    /// The least number above `after` whose footprint read or touched the cell.
     fn met_after(&self, cell: &Cell, after: u64) -> Option<u64>
         ensures least { (feet : Feet) → IsIndexOf self.now feet → IsLeastAfter (λ n. met_by (feet n) cell.now) after result }
         ensures above { IfSome result (λ j. after < j) }
@@ -26,14 +26,14 @@ impl FootIndex {
         }
     }
 
-    /// The least number above `after` whose foot touched a cell that the pattern names.
+    /// The least number above `after` whose footprint touched a cell that the pattern names.
     fn touched_after(&self, pattern: &Pattern, after: u64) -> Option<u64>
         ensures { (feet : Feet) → IsIndexOf self.now feet → IsLeastAfter (λ n. touched_by (feet n) (place_of pattern.now)) after result }
     {
         self.touched.least_after(&place_of(pattern), after)
     }
 
-    /// The least number above `after` whose foot needs one that wrote the cells.
+    /// The least number above `after` whose footprint needs one that wrote the cells.
     pub fn first_to_block_undo(&self, before: &[CellChange], after: u64) -> Option<u64>
         ensures least { (feet : Feet) → IsIndexOf self.now feet → IsLeastAfter (λ n. blocks_undo before.now (feet n)) after result }
         ensures above { IfSome result (λ j. after < j) }
@@ -45,7 +45,7 @@ impl FootIndex {
         first
     }
 
-    /// The least number above `after` whose foot touched a cell that one of the patterns names.
+    /// The least number above `after` whose footprint touched a cell that one of the patterns names.
     fn first_to_touch(&self, reads: &[Pattern], after: u64) -> Option<u64>
         ensures { (feet : Feet) → IsIndexOf self.now feet → IsLeastAfter (λ n. touched_under (feet n) reads.now) after result }
     {
@@ -56,8 +56,8 @@ impl FootIndex {
         first
     }
 
-    /// The least number above `after` whose foot needs, or is needed by, one with these reads and changes. With no changes
-    /// it is the least whose foot touched a cell that one of the patterns names.
+    /// The least number above `after` whose footprint needs, or is needed by, one with these reads and changes. With no
+    /// changes it is the least whose footprint touched a cell that one of the patterns names.
     pub fn first_to_block_redo(
         &self,
         reads: &[Pattern],

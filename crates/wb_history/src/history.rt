@@ -42,6 +42,7 @@ impl Model for History {
 }
 
 impl History {
+    /// The history without edits, of an empty workbook.
     pub fn new(alloc: Global) -> History
         ensures { result ≡ record { entries = []; writes = 0 } }
     {

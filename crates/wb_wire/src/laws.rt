@@ -18,7 +18,7 @@ pub fn one_request()
     ensures { OneRequest }
 {}
 
-/// The canonical object of a request is that request: what is written is what is meant.
+/// The canonical object of a request is that request, if it is one that a line can say: what is written is what is meant.
 pub fn encodes_requests()
     ensures { EncodesRequests }
 {}

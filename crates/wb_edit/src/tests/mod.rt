@@ -1,4 +1,4 @@
-//! The tests that commands are made of: each looks at cells, keeps that it did, and goes on or stops.
+//! The tests that commands are made of, no unit tests: each looks at cells, keeps that it did, and goes on or stops.
 
 pub mod elements;
 pub mod implicit;
