@@ -1,5 +1,5 @@
 -- The text of a history that a session or a desk goes on from.
-use Rattle.std.specs.Prelude.{◌≡◌, ◌⊎◌, ◌+◌, ℕ, List, [], ◌++◌, codes, length, Option, None, Some, option_map, Result, Ok, Err}
+use Rattle.std.specs.Prelude.{◌≡◌, ◌⊎◌, ◌+◌, ℕ, Bool, List, [], ◌++◌, codes, length, Option, None, Some, option_map, Result, Ok, Err}
 use Rattle.memchr.specs.Find.{FindsNeedle}
 use Rattle.selective_undo.specs.History.{IsLegal}
 use Rattle.wb_encode.specs.Text.{history_text}
@@ -16,6 +16,13 @@ use Rattle.wb_program.specs.declared.put_back.PutBack.{PutBack}
 -- the bytes that were put back, and then those of the reader, where they are known
 abbrev pub left_in : {R : Type 0} → (R → Option (List ℕ)) → PutBack R → Option (List ℕ)
 left_in left s = option_map (λ t. s.ahead.items ++ t) (left s.reader)
+
+-- whether the latest read failed, and how many were made
+abbrev pub failed_in : {R : Type 0} → PutBack R → Bool
+failed_in s = s.has_failed
+
+abbrev pub reads_in : {R : Type 0} → PutBack R → ℕ
+reads_in s = s.read_count
 
 -- the text of this history, each of whose edits in force was made once
 pub record IsRecord (bytes : List ℕ) (p : Past) : Type 0 where

@@ -1,8 +1,10 @@
 //! Sessions and desks that go on from the text of a history.
-ghost use Rattle.std.specs.Prelude.{◌≡◌, ◌++◌, ◌⊎◌, ℕ, List, true, IfOk, IfSome, IfNone, OnErr, option_map};
+ghost use Rattle.std.specs.Prelude.{◌≡◌, ◌++◌, ◌⊎◌, ℕ, List, true, IfOk, IfErr, IfSome, IfNone, OnErr, option_map};
 ghost use Rattle.std.specs.Io.KnownBytes.{Appends, Consumes, IsAtEnd};
+ghost use Rattle.wb_lines.specs.Causes.{StopsReading};
 ghost use Rattle.wb_program.specs.Checking.{IsNoRecord, IsFault};
-ghost use Rattle.wb_program.specs.Resuming.{left_in, IsRecord, IsUpToEnd, HasNoEnd, IsServed, IsResumed, IsOpening};
+ghost use Rattle.wb_program.specs.Running.{HasFailed};
+ghost use Rattle.wb_program.specs.Resuming.{left_in, failed_in, reads_in, IsRecord, IsUpToEnd, HasNoEnd, IsServed, IsResumed, IsOpening};
 
 use crate::checking::{Verdict, say};
 use crate::put_back::PutBack;
@@ -37,16 +39,6 @@ fn history_of(alloc: Global, bytes: &[u8]) -> Result<Option<History>, NoMemory>
     }
 }
 
-// The exit status where no more is read.
-fn status_of_fault(fault: LineFault) -> u8
-    ensures { IsFault result }
-{
-    match fault {
-        LineFault::NoMemory => NO_MEMORY,
-        LineFault::ReadFault | LineFault::TooManyReads => INPUT_OR_OUTPUT_FAILED,
-    }
-}
-
 /// Reads the reader to its end: the history of that text, or the exit status after `refused` was printed, where it is the
 /// text of no history, or after a fault.
 pub fn history_from<R: Source, W: Sink>(
@@ -58,10 +50,14 @@ pub fn history_from<R: Source, W: Sink>(
         × ((text : List ℕ) × Appends (W.contents writer.old) (W.contents writer.new) text
         × IsOpening result read text) }
     ensures ended { IfOk result (λ _. IsAtEnd (R.remaining reader.new)) }
+    ensures failed { IfErr result (λ status. status ≡ 3
+        → HasFailed (R.failed reader.new) (R.reads reader.old) (R.reads reader.new) (W.failed writer.new)) }
 {
     let bytes = match read_all(alloc, reader) {
         Ok(bytes) => bytes,
-        Err(fault) => return Err(status_of_fault(fault)),
+        Err(LineFault::NoMemory) => return Err(NO_MEMORY),
+        Err(LineFault::ReadFault) => return Err(INPUT_OR_OUTPUT_FAILED),
+        Err(LineFault::TooManyReads) => return Err(INPUT_OR_OUTPUT_FAILED),
     };
     match history_of(alloc, &bytes) {
         Ok(Some(history)) => Ok(history),
@@ -86,6 +82,7 @@ fn read_opening<R: Source>(alloc: Global, reader: &mut R) -> Result<Vec<u8>, Lin
     ensures ok { IfOk result (λ bytes. Consumes (R.remaining reader.old) (R.remaining reader.new) bytes.items
         × (HasNoEnd bytes.items → IsAtEnd (R.remaining reader.new))) }
     ensures err { OnErr result ((got : List ℕ) × Consumes (R.remaining reader.old) (R.remaining reader.new) got) }
+    ensures cause { IfErr result (λ fault. StopsReading fault (R.failed reader.new) (R.reads reader.old) (R.reads reader.new)) }
 {
     let mut bytes = Vec::new(alloc);
     for _ in 0..READ_LIMIT {
@@ -127,6 +124,8 @@ fn go_on<R: Source, W: Sink>(
         × IsServed history result asked text))
         ⊎ ((left_in R.remaining reader.new ≡ left_in R.remaining reader.old) × (W.contents writer.new ≡ W.contents writer.old) × IsFault result) }
     ensures done { result ≡ 0 → IsAtEnd (left_in R.remaining reader.new) × (W.flushed writer.new ≡ true) }
+    ensures failed { result ≡ 3
+        → (since : ℕ) × HasFailed (failed_in reader.new) since (reads_in reader.new) (W.failed writer.new) }
 {
     if reader.put_back(ahead).is_err() {
         return NO_MEMORY;
@@ -137,16 +136,21 @@ fn go_on<R: Source, W: Sink>(
 
 /// Reads the text of a history up to its line `end`, and then answers each line behind it on that history: the exit status.
 /// What was read and written is a session from the history, a run of the machine over its lines. Where there is no such
-/// text it prints `refused`, with status 1; 3 where input or output failed, 4 where a growth was refused.
+/// text it prints `refused`, with status 1; 3 only where the latest read, write or flush failed, or all reads that are allowed
+/// were made, and 4 where a growth was refused.
 pub fn resume_with<R: Source, W: Sink>(alloc: Global, reader: &mut PutBack<R>, writer: &mut W) -> u8
     ensures resumes { (read : List ℕ) × Consumes (left_in R.remaining reader.old) (left_in R.remaining reader.new) read
         × ((text : List ℕ) × Appends (W.contents writer.old) (W.contents writer.new) text
         × IsResumed result read text) }
     ensures done { result ≡ 0 → IsAtEnd (left_in R.remaining reader.new) × (W.flushed writer.new ≡ true) }
+    ensures failed { result ≡ 3
+        → (since : ℕ) × HasFailed (failed_in reader.new) since (reads_in reader.new) (W.failed writer.new) }
 {
     let bytes = match read_opening(alloc, reader) {
         Ok(bytes) => bytes,
-        Err(fault) => return status_of_fault(fault),
+        Err(LineFault::NoMemory) => return NO_MEMORY,
+        Err(LineFault::ReadFault) => return INPUT_OR_OUTPUT_FAILED,
+        Err(LineFault::TooManyReads) => return INPUT_OR_OUTPUT_FAILED,
     };
     match parts(&bytes) {
         Some((front, behind)) => match history_of(alloc, front) {

@@ -1,4 +1,4 @@
-use Rattle.std.proofs.Common.{◌++◌, sym, subst}
+use Rattle.std.proofs.Common.{◌++◌, sym, subst, rules}
 use Rattle.std.proofs.KnownBytes.{Consumes-trans}
 use Rattle.std.specs.Io.KnownBytes.{Consumes}
 use Rattle.wb_program.specs.Resuming.{HasNoEnd}
@@ -8,17 +8,19 @@ pub returns-then-has_end-clause-ok : goal.returns-then-has_end-clause-ok
 returns-then-has_end-clause-ok g c =
     let got = c.in-Ok-true.ensures.read in
     let left = g.R.Source.remaining in (
-      subst (Consumes (left c.args.reader.now) (left c.read_more.new.reader)) (sym got.2) (Consumes-trans _ _ _ c.loop.bytes.items got.0 c.loop.invariant got.1),
+      subst (Consumes (left c.args.reader.now) (left c.read_more.new.reader)) (sym got.2) (Consumes-trans _ _ _ c.loop.bytes.items got.0 c.loop.invariant.0 got.1),
       λ none. absurd (c.has_end.ensures c.if-has_end.true (subst HasNoEnd (sym c.deref.ensures.value) none)),
     )
 
 pub returns-in-Err-clause-err : goal.returns-in-Err-clause-err
 returns-in-Err-clause-err g c =
     let got = c.read_more.ensures.read in
-    (c.loop.bytes.items ++ got.0, Consumes-trans _ _ _ c.loop.bytes.items got.0 c.loop.invariant got.1)
+    (c.loop.bytes.items ++ got.0, Consumes-trans _ _ _ c.loop.bytes.items got.0 c.loop.invariant.0 got.1)
 
 pub loop-preserved : goal.loop-preserved
 loop-preserved g c =
     let got = c.in-Ok-true.ensures.read in
-    let left = g.R.Source.remaining in
-    subst (Consumes (left c.args.reader.now) (left c.read_more.new.reader)) (sym got.2) (Consumes-trans _ _ _ c.loop.bytes.items got.0 c.loop.invariant got.1)
+    let left = g.R.Source.remaining in (
+      subst (Consumes (left c.args.reader.now) (left c.read_more.new.reader)) (sym got.2) (Consumes-trans _ _ _ c.loop.bytes.items got.0 c.loop.invariant.0 got.1),
+      search rules,
+    )
