@@ -8,8 +8,8 @@ use std::net::{Net, TcpListener, TcpStream};
 use std::process::ExitCode;
 use std::sync::Wait;
 use std::thread::Threads;
-use wb_history::History;
 use wb_command::{Asked, CommandErr, command_of};
+use wb_history::History;
 use wb_lines::{Input, Output};
 use wb_program::{
     BAD_COMMAND_LINE, DONE, INPUT_OR_OUTPUT_FAILED, NO_MEMORY, PutBack, check_with, history_from,
@@ -21,16 +21,24 @@ fn main(rt: HostRuntime) -> io::Result<ExitCode> {
         Ok(Ok(Asked::Run { resume: false })) => run(&rt),
         Ok(Ok(Asked::Run { resume: true })) => resume(&rt),
         Ok(Ok(Asked::Check)) => check(&rt),
-        Ok(Ok(Asked::Serve {
-            port,
-            seats,
-            resume: false,
-        })) => serve(&rt, rt.alloc(), rt.stdout(), port, seats, None),
-        Ok(Ok(Asked::Serve {
-            port,
-            seats,
-            resume: true,
-        })) => match opened(&rt) {
+        Ok(
+            Ok(
+                Asked::Serve {
+                    port,
+                    seats,
+                    resume: false,
+                },
+            ),
+        ) => serve(&rt, rt.alloc(), rt.stdout(), port, seats, None),
+        Ok(
+            Ok(
+                Asked::Serve {
+                    port,
+                    seats,
+                    resume: true,
+                },
+            ),
+        ) => match opened(&rt) {
             Ok(Ok(history)) => serve(&rt, rt.alloc(), rt.stdout(), port, seats, Some(history)),
             Ok(Err(status)) => Ok(status),
             Err(error) => Err(error),
