@@ -26,20 +26,11 @@ fn main(rt: HostRuntime) -> io::Result<ExitCode> {
                 Asked::Serve {
                     port,
                     seats,
-                    resume: false,
+                    resume,
                 },
             ),
-        ) => serve(&rt, rt.alloc(), rt.stdout(), port, seats, None),
-        Ok(
-            Ok(
-                Asked::Serve {
-                    port,
-                    seats,
-                    resume: true,
-                },
-            ),
-        ) => match opened(&rt) {
-            Ok(Ok(history)) => serve(&rt, rt.alloc(), rt.stdout(), port, seats, Some(history)),
+        ) => match opening(&rt, resume) {
+            Ok(Ok(history)) => serve(&rt, rt.alloc(), rt.stdout(), port, seats, history),
             Ok(Err(status)) => Ok(status),
             Err(error) => Err(error),
         },
@@ -110,12 +101,18 @@ fn check(rt: &HostRuntime) -> io::Result<u8> {
     Ok(check_with(alloc, &mut input, &mut output))
 }
 
-// The history whose text is standard input, or the exit status where there is none.
-fn opened(rt: &HostRuntime) -> io::Result<Result<History, u8>> {
+// The history that a desk opens with: none, or the one whose text is standard input; or the exit status where that is none's.
+fn opening(rt: &HostRuntime, resume: bool) -> io::Result<Result<Option<History>, u8>> {
+    if !resume {
+        return Ok(Ok(None));
+    }
     let alloc = rt.alloc();
     let mut input = Input::new(rt.stdin());
     let mut output = Output::new(BufWriter::new(alloc, rt.stdout())?);
-    Ok(history_from(alloc, &mut input, &mut output))
+    match history_from(alloc, &mut input, &mut output) {
+        Ok(history) => Ok(Ok(Some(history))),
+        Err(status) => Ok(Err(status)),
+    }
 }
 
 // A desk of so many seats on a port of this machine, on an empty workbook or from a history.
