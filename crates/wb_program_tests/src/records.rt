@@ -141,7 +141,8 @@ fn resumed(
     status: u8,
     written: &[u8],
 ) -> Result<(), Fail> {
-    let (one, two) = all.split_at(place);
+    let one = all.get(..place).ok_or("a place")?;
+    let two = all.get(place..).ok_or("a place")?;
     let mut input = PutBack::new(alloc, Input::new(one.chain(two)));
     let mut output = Vec::new(alloc);
     assert_eq!(rt;
