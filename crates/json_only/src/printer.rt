@@ -1,5 +1,6 @@
 // JSON lines, printed again.
-ghost use Rattle.std.specs.Prelude.{◌≡◌, ◌⊎◌, IfOk, OnErr};
+ghost use Rattle.std.specs.Prelude.{◌⊎◌, IfOk};
+ghost use Rattle.wb_lines.specs.Session.{Answered};
 ghost use Rattle.json_only.specs.Printing.{PrintsAgain, IsJson, IsOther};
 
 use serde_json::{Category, Value};
@@ -39,10 +40,13 @@ fn printed(alloc: Global, line: &[u8]) -> Result<Vec<u8>, AllocError>
     }
 }
 
-impl Machine for Printer {
+impl Machine<Printer> for Printer {
     ghost answers = { PrintsAgain };
+}
 
-    fn answer(&mut self, line: &[u8]) -> Result<Vec<u8>, AllocError> {
-        printed(self.alloc, line)
-    }
+/// What the machine answers to a line.
+pub fn answer(printer: &mut Printer, line: &[u8]) -> Result<Vec<u8>, AllocError>
+    ensures { Answered PrintsAgain printer.old line.now result printer.new }
+{
+    printed(printer.alloc, line)
 }

@@ -14,16 +14,24 @@ const CHECK_EXAMPLE: &str =
 
 const SERVE_EXAMPLE: &str = "Example:\n  workbook serve --port 7000 --seats 2";
 
-/// What the words of a command line ask for.
+/// What the words of a command line ask for. Arrays are moved by 1 to 64 workers; 1 is the program's own thread.
 #[derive(Clone, Copy, Debug, PartialEq, Eq)]
 pub enum Asked {
     /// A session from standard input to standard output, on an empty workbook, or on the history whose text comes first.
-    Run { resume: bool },
+    Run {
+        resume: bool,
+        workers: u8,
+    },
     /// Whether standard input is the text of a workbook or of a history.
     Check,
     /// A desk of 1 to 16 seats on a port, or on any port where that is 0; perhaps on the history whose text is standard
     /// input.
-    Serve { port: u16, seats: u8, resume: bool },
+    Serve {
+        port: u16,
+        seats: u8,
+        resume: bool,
+        workers: u8,
+    },
 }
 
 /// Why the words of a command line ask for nothing.
@@ -54,7 +62,8 @@ fn parsed(alloc: Global, words: &[&str]) -> Result<Option<Asked>, clap::Error> {
     let run = Command::new(alloc, "run")
         .about("Answers each request line of standard input on standard output")
         .after_help(RUN_EXAMPLE)
-        .arg(resume_flag(alloc))?;
+        .arg(resume_flag(alloc))?
+        .arg(workers_option(alloc))?;
     let check = Command::new(alloc, "check")
         .about(
             "Tells whether standard input is the text of a workbook or of a history, and how much it has",
@@ -71,6 +80,7 @@ fn parsed(alloc: Global, words: &[&str]) -> Result<Option<Asked>, clap::Error> {
     match matches.subcommand() {
         Some(("run", inner)) => Ok(Some(Asked::Run {
             resume: inner.get_flag("resume"),
+            workers: workers_of(inner),
         })),
         Some(("check", _)) => Ok(Some(Asked::Check)),
         Some(("serve", inner)) => Ok(serve_of(inner)),
@@ -83,6 +93,19 @@ fn resume_flag<'a>(alloc: Global) -> Arg<'a> {
     Arg::new(alloc, "resume")
         .long("resume")
         .action(ArgAction::SetTrue)
+}
+
+// How many workers move arrays.
+fn workers_option<'a>(alloc: Global) -> Arg<'a> {
+    Arg::new(alloc, "workers")
+        .long("workers")
+        .action(ArgAction::Set)
+        .value_parser(clap::value_parser!(u8).range(1..=64))
+}
+
+// The number of workers; 1 where it is not told.
+fn workers_of(matches: &ArgMatches) -> u8 {
+    matches.get_one::<u8>("workers").unwrap_or(1)
 }
 
 // The command `serve` with its options.
@@ -102,10 +125,11 @@ fn serve_command<'a>(alloc: Global) -> Result<Command<'a>, AllocError> {
         .after_help(SERVE_EXAMPLE)
         .arg(port)?
         .arg(seats)?
-        .arg(resume_flag(alloc))
+        .arg(resume_flag(alloc))?
+        .arg(workers_option(alloc))
 }
 
-// The port, the number of seats, and whether the text of a history comes first.
+// The port, the numbers of seats and of workers, and whether the text of a history comes first.
 fn serve_of(matches: &ArgMatches) -> Option<Asked> {
     let port = matches.get_one::<u16>("port")?;
     let seats = matches.get_one::<u8>("seats")?;
@@ -114,5 +138,6 @@ fn serve_of(matches: &ArgMatches) -> Option<Asked> {
         port,
         seats,
         resume,
+        workers: workers_of(matches),
     })
 }

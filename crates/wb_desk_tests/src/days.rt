@@ -10,6 +10,7 @@ use std::sync::ledger::Blank;
 use std::test::Fail;
 use std::thread::Threads;
 use wb_proto::{Reply, Request, read_request, reply_text};
+use wb_redist::{Mover, OneThread};
 use wb_shared::{Cause, Desk, DeskErr, Opening, Pass, settle};
 
 pub const NEW_SET: &str = "{\"op\":\"assoc\",\"d\":\"N\",\"of\":\"int\"}";
@@ -59,29 +60,31 @@ struct Day<'a> {
 }
 
 // Asks one line at a desk: the reply.
-pub fn ask<L: Opening, R: Wait>(
+pub fn ask<L: Opening, R: Wait, M: Mover>(
     rt: &R,
     alloc: Global,
     desk: &Desk<L>,
     pass: &mut Pass<L>,
     line: &str,
+    mover: &M,
 ) -> Reply {
     match read_request(alloc, line.as_bytes()) {
-        Ok(request) => desk.call(rt, pass, request),
+        Ok(request) => desk.call(rt, pass, request, mover),
         Err(why) => Reply::Refused(why),
     }
 }
 
 // Whether a line that is asked has this reply.
-fn is_told<L: Opening, R: Wait>(
+fn is_told<L: Opening, R: Wait, M: Mover>(
     rt: &R,
     alloc: Global,
     desk: &Desk<L>,
     pass: &mut Pass<L>,
     line: &str,
     told: &str,
+    mover: &M,
 ) -> bool {
-    let reply = ask(rt, alloc, desk, pass, line);
+    let reply = ask(rt, alloc, desk, pass, line, mover);
     match reply_text(alloc, &reply) {
         Ok(text) => text.as_str() == told,
         Err(_) => false,
@@ -104,17 +107,18 @@ fn replaced<L: Opening>(pass: Pass<L>) -> Pass<L> {
 }
 
 // Does one thing with a pass: the pass then, or nothing where a reply was another one.
-fn done<L: Opening, R: Wait>(
+fn done<L: Opening, R: Wait, M: Mover>(
     rt: &R,
     alloc: Global,
     desk: &Desk<L>,
     pass: Pass<L>,
     act: &Act,
+    mover: &M,
 ) -> Option<Pass<L>> {
     match act {
         Act::Ask(line, told) => {
             let mut pass = pass;
-            if is_told(rt, alloc, desk, &mut pass, line, told) {
+            if is_told(rt, alloc, desk, &mut pass, line, told, mover) {
                 Some(pass)
             } else {
                 None
@@ -126,19 +130,20 @@ fn done<L: Opening, R: Wait>(
 }
 
 // Does each of these, in order.
-pub fn all_done<L: Opening, R: Wait>(
+pub fn all_done<L: Opening, R: Wait, M: Mover>(
     rt: &R,
     alloc: Global,
     desk: &Desk<L>,
     passes: &mut Vec<Pass<L>>,
     moves: &[Move],
+    mover: &M,
 ) -> Result<(), Early> {
     for step in moves {
         if step.place >= passes.len() {
             return Err(Early::NoPass);
         }
         let pass = passes.remove(step.place);
-        let Some(pass) = done(rt, alloc, desk, pass, &step.act) else {
+        let Some(pass) = done(rt, alloc, desk, pass, &step.act, mover) else {
             return Err(Early::OtherReply);
         };
         if passes.insert(step.place, pass).is_err() {
@@ -149,11 +154,12 @@ pub fn all_done<L: Opening, R: Wait>(
 }
 
 // A day from its opening to its settling: how many entries there are, or why it is not settled.
-fn day_of<L: Opening + Send + Sync, R: Threads + Wait + Sync>(
+fn day_of<L: Opening + Send + Sync, R: Threads + Wait + Sync, M: Mover + Sync>(
     rt: &R,
     alloc: Global,
     blank: Blank,
     day: &Day,
+    mover: &M,
 ) -> Result<Result<usize, Cause>, Early>
     requires name { blank.name ≡ L.name }
     requires parts { blank.parts ≡ L.parts }
@@ -164,12 +170,12 @@ fn day_of<L: Opening + Send + Sync, R: Threads + Wait + Sync>(
         Ok(made) => made,
         Err(why) => return Err(Early::NoDesk(why)),
     };
-    all_done(rt, alloc, &desk, &mut passes, day.before)?;
-    let mut passes = match all_at_once(rt, alloc, &desk, passes, day.work) {
+    all_done(rt, alloc, &desk, &mut passes, day.before, mover)?;
+    let mut passes = match all_at_once(rt, alloc, &desk, passes, day.work, mover) {
         Some(passes) => passes,
         None => return Err(Early::NoPass),
     };
-    all_done(rt, alloc, &desk, &mut passes, day.after)?;
+    all_done(rt, alloc, &desk, &mut passes, day.after, mover)?;
     passes.truncate(day.handed_in);
     match settle(desk, passes) {
         Ok(shared) => Ok(Ok(shared.entries())),
@@ -204,6 +210,7 @@ fn plain_day(seats: usize, before: &[Move], work: Work, handed_in: usize) -> Day
 // is replaced; a pass that is renumbered to another seat, and to none; and numbers of seats that no desk can have.
 #[test]
 fn desk_of_two_seats(rt: HostRuntime) -> Result<(), Fail> {
+    let alone: OneThread<&HostRuntime> = OneThread::new();
     let replaced = [asked(0, NEW_SET, FIRST_EDIT), changed(0, Act::Replace)];
     let renumbered = [
         asked(0, NEW_SET, FIRST_EDIT),
@@ -228,7 +235,13 @@ fn desk_of_two_seats(rt: HostRuntime) -> Result<(), Fail> {
     ];
     for (one, end) in &days {
         assert_eq!(rt;
-            day_of::<Brand, HostRuntime>(&rt, rt.alloc(), Blank::new(16), one),
+            day_of::<Brand, HostRuntime, OneThread<&HostRuntime>>(
+                &rt,
+                rt.alloc(),
+                Blank::new(16),
+                one,
+                &alone,
+            ),
             *end
         );
     }
@@ -237,6 +250,7 @@ fn desk_of_two_seats(rt: HostRuntime) -> Result<(), Fail> {
 
 #[test]
 fn cross_read(rt: HostRuntime) -> Result<(), Fail> {
+    let alone: OneThread<&HostRuntime> = OneThread::new();
     let moves = [
         asked(0, NEW_RECTANGLE, "{\"edit\":1,\"n\":3}"),
         asked(1, SIZE_OF_RECTANGLE, "{\"size\":2}"),
@@ -249,8 +263,72 @@ fn cross_read(rt: HostRuntime) -> Result<(), Fail> {
         handed_in: 2,
     };
     assert_eq!(rt;
-        day_of::<Brand, HostRuntime>(&rt, rt.alloc(), Blank::new(16), &day),
+        day_of::<Brand, HostRuntime, OneThread<&HostRuntime>>(
+            &rt,
+            rt.alloc(),
+            Blank::new(16),
+            &day,
+            &alone,
+        ),
         Ok(Ok(2))
+    );
+    Ok(())
+}
+
+// One seat takes back what another set, with the copy that a third made of it.
+#[test]
+fn cascade_by_another_seat(rt: HostRuntime) -> Result<(), Fail> {
+    let alone: OneThread<&HostRuntime> = OneThread::new();
+    let moves = [
+        asked(0, NEW_RECTANGLE, "{\"edit\":1,\"n\":3}"),
+        asked(
+            0,
+            "{\"op\":\"array\",\"a\":\"A\",\"d\":\"D\"}",
+            "{\"edit\":2,\"n\":5}",
+        ),
+        asked(
+            0,
+            "{\"op\":\"set\",\"a\":\"A\",\"i\":1,\"v\":5}",
+            "{\"edit\":3,\"n\":1}",
+        ),
+        asked(
+            1,
+            "{\"op\":\"copy\",\"a\":\"A\",\"i\":2,\"b\":\"A\",\"j\":1,\"c\":1}",
+            "{\"edit\":4,\"n\":1}",
+        ),
+        asked(
+            2,
+            "{\"op\":\"dependents\",\"k\":3}",
+            "{\"dependents\":[4,3]}",
+        ),
+        asked(
+            2,
+            "{\"op\":\"cascade\",\"k\":3}",
+            "{\"n\":2,\"undone\":[4,3]}",
+        ),
+        asked(
+            2,
+            "{\"op\":\"cascade\",\"k\":3}",
+            "{\"error\":\"E12\",\"name\":\"not-in-force\"}",
+        ),
+        asked(1, "{\"op\":\"get\",\"a\":\"A\",\"i\":2}", "{\"value\":0}"),
+    ];
+    let day = Day {
+        seats: 3,
+        before: &moves,
+        work: Work::Nothing,
+        after: &[],
+        handed_in: 3,
+    };
+    assert_eq!(rt;
+        day_of::<Brand, HostRuntime, OneThread<&HostRuntime>>(
+            &rt,
+            rt.alloc(),
+            Blank::new(16),
+            &day,
+            &alone,
+        ),
+        Ok(Ok(8))
     );
     Ok(())
 }
@@ -258,6 +336,7 @@ fn cross_read(rt: HostRuntime) -> Result<(), Fail> {
 // Four seats add a hundred numbers each to one set, and undo their own add of each number that 10 divides.
 #[test]
 fn mixed_load(rt: HostRuntime) -> Result<(), Fail> {
+    let alone: OneThread<&HostRuntime> = OneThread::new();
     let before = [asked(0, NEW_SET, FIRST_EDIT)];
     let after = [asked(0, SIZE_OF_SET, "{\"size\":360}")];
     let day = Day {
@@ -268,7 +347,13 @@ fn mixed_load(rt: HostRuntime) -> Result<(), Fail> {
         handed_in: 4,
     };
     assert_eq!(rt;
-        day_of::<Brand, HostRuntime>(&rt, rt.alloc(), Blank::new(16), &day),
+        day_of::<Brand, HostRuntime, OneThread<&HostRuntime>>(
+            &rt,
+            rt.alloc(),
+            Blank::new(16),
+            &day,
+            &alone,
+        ),
         Ok(Ok(442))
     );
     Ok(())

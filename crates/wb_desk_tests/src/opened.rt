@@ -9,23 +9,25 @@ use std::sync::ledger::Blank;
 use std::test::Fail;
 use wb_history::History;
 use wb_proto::{answer_request, read_request};
+use wb_redist::{Mover, OneThread};
 use wb_shared::{Desk, Opening, settle};
 
 // A history of one edit, the set N.
-fn with_set(alloc: Global) -> Option<History> {
+fn with_set<M: Mover>(alloc: Global, mover: &M) -> Option<History> {
     let mut history = History::new(alloc);
     let request = read_request(alloc, NEW_SET.as_bytes()).ok()?;
-    let _ = answer_request(alloc, &mut history, request);
+    let _ = answer_request(alloc, &mut history, request, mover);
     Some(history)
 }
 
 // A desk of one seat at the history, whose one edit is undone there: how many entries the journal has, and how many edits
 // the history.
-fn undone<L: Opening, R: Wait>(
+fn undone<L: Opening, R: Wait, M: Mover>(
     rt: &R,
     alloc: Global,
     blank: Blank,
     history: History,
+    mover: &M,
 ) -> Result<(usize, u64), Early>
     requires name { blank.name ≡ L.name }
     requires parts { blank.parts ≡ L.parts }
@@ -40,7 +42,7 @@ fn undone<L: Opening, R: Wait>(
         asked(0, SIZE_OF_SET, "{\"size\":0}"),
         asked(0, "{\"op\":\"undo\"}", "{\"n\":1,\"undone\":1}"),
     ];
-    all_done(rt, alloc, &desk, &mut passes, &moves)?;
+    all_done(rt, alloc, &desk, &mut passes, &moves, mover)?;
     match settle(desk, passes) {
         Ok(shared) => Ok((shared.entries(), shared.history().len())),
         Err(_) => Err(Early::NoPass),
@@ -50,9 +52,16 @@ fn undone<L: Opening, R: Wait>(
 #[test]
 fn opened_at_a_history(rt: HostRuntime) -> Result<(), Fail> {
     let alloc = rt.alloc();
-    let history = with_set(alloc).ok_or("history")?;
+    let alone: OneThread<&HostRuntime> = OneThread::new();
+    let history = with_set(alloc, &alone).ok_or("history")?;
     assert_eq!(rt;
-        undone::<Brand, HostRuntime>(&rt, alloc, Blank::new(16), history),
+        undone::<Brand, HostRuntime, OneThread<&HostRuntime>>(
+            &rt,
+            alloc,
+            Blank::new(16),
+            history,
+            &alone,
+        ),
         Ok((2, 1))
     );
     Ok(())

@@ -7,6 +7,7 @@ use std::thread;
 use std::thread::Threads;
 use wb_history::Answer;
 use wb_proto::Reply;
+use wb_redist::Mover;
 use wb_shared::{Desk, Opening, Pass};
 
 /// What each seat does.
@@ -49,22 +50,24 @@ fn line_of(alloc: Global, work: Work, seat: usize, round: u32) -> Option<String>
 }
 
 // Does the work of one seat. Its pass, or nothing where a reply was another one.
-fn worked<L: Opening, R: Wait>(
+fn worked<L: Opening, R: Wait, M: Mover>(
     rt: &R,
     alloc: Global,
     desk: &Desk<L>,
     pass: Pass<L>,
     work: Work,
+    mover: &M,
 ) -> Option<Pass<L>> {
     let mut pass = pass;
     for round in 0..100u32 {
         let Some(line) = line_of(alloc, work, pass.seat(), round) else {
             return Some(pass);
         };
-        match ask(rt, alloc, desk, &mut pass, line.as_str()) {
+        match ask(rt, alloc, desk, &mut pass, line.as_str(), mover) {
             Reply::Edited(number, _) if work == Work::Adds && round % 10 == 0 => {
                 let undo = format!(in alloc; "{{\"op\":\"undo\",\"k\":{number}}}").ok()?;
-                let Reply::Undone(_, _) = ask(rt, alloc, desk, &mut pass, undo.as_str()) else {
+                let reply = ask(rt, alloc, desk, &mut pass, undo.as_str(), mover);
+                let Reply::Undone(_, _) = reply else {
                     return None;
                 };
             }
@@ -77,18 +80,19 @@ fn worked<L: Opening, R: Wait>(
 }
 
 /// Does the work of every seat, each in a thread of its own: the passes, or nothing where one of them did not end well.
-pub(crate) fn all_at_once<L: Opening + Send + Sync, R: Threads + Wait + Sync>(
+pub(crate) fn all_at_once<L: Opening + Send + Sync, R: Threads + Wait + Sync, M: Mover + Sync>(
     rt: &R,
     alloc: Global,
     desk: &Desk<L>,
     passes: Vec<Pass<L>>,
     work: Work,
+    mover: &M,
 ) -> Option<Vec<Pass<L>>> {
     thread::scope(thread::scope_env(), rt, |scope| -> Option<Vec<Pass<L>>> {
         let mut handles = Vec::new(alloc);
         for pass in passes {
             let handle = scope
-                .spawn(move || worked(rt, alloc, desk, pass, work))
+                .spawn(move || worked(rt, alloc, desk, pass, work, mover))
                 .ok()?;
             handles.push(handle).ok()?;
         }

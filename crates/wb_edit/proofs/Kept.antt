@@ -19,8 +19,9 @@ pub mod OfSets
 pub mod Reshaped
 pub mod Exchanged
 pub mod NewValue
+pub mod Loaded
 use Rattle.wb_edit.specs.Laws.{KeepsWellFormed}
-use Rattle.wb_edit.specs.declared.edit.Edit.TheVariants.{Domain, Remap, Sparse, Assoc, Array, Set, Irv, Copy, Fill, FillAll, DropArray, All, Add, Remove, DropDomain, Reshape, DomainOfSet, FillOfSet}
+use Rattle.wb_edit.specs.declared.edit.Edit.TheVariants.{Domain, Remap, Sparse, Assoc, Array, Set, Irv, Copy, Fill, FillAll, DropArray, All, Add, Remove, DropDomain, Reshape, DomainOfSet, FillOfSet, Load}
 use Rattle.wb_edit.proofs.Kept.NewDomain.{domain_kept}
 use Rattle.wb_edit.proofs.Kept.NewSet.{sparse_kept, assoc_kept}
 use Rattle.wb_edit.proofs.Kept.Remapped.{remap_kept}
@@ -36,6 +37,7 @@ use Rattle.wb_edit.proofs.Kept.DroppedDomain.{drop_domain_kept}
 use Rattle.wb_edit.proofs.Kept.OfSets.{domain_of_set_kept, fill_of_set_kept}
 use Rattle.wb_edit.proofs.Kept.Resized.{add_kept, remove_kept}
 use Rattle.wb_edit.proofs.Kept.NewValue.{reshape_kept}
+use Rattle.wb_edit.proofs.Kept.Loaded.{load_kept}
 
 pub keeps_well_formed : KeepsWellFormed
 keeps_well_formed (Domain d rs m) s valid h = domain_kept s d rs m valid h
@@ -56,3 +58,4 @@ keeps_well_formed (DropDomain d) s valid h = drop_domain_kept s d h
 keeps_well_formed (DomainOfSet d) s valid h = domain_of_set_kept s d h
 keeps_well_formed (FillOfSet a) s valid h = fill_of_set_kept s a h
 keeps_well_formed (Reshape d source) s valid h = reshape_kept s d source valid h
+keeps_well_formed (Load text) s valid h = load_kept s text valid h

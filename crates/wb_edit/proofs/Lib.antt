@@ -13,5 +13,6 @@ pub mod Exchanges
 pub mod Fills
 pub mod Memberships
 pub mod Sets
+pub mod Loading
 pub mod Kept
 pub mod Once

@@ -3,11 +3,11 @@ pub mod Columns
 pub mod Looks
 pub mod Sources
 use Rattle.std.proofs.Common.{◌≡◌, ℕ, zero, suc, false, ℤ, pos, ◌+ℤ◌, List, [], ◌∷◌, map, length, Option, Some, None, refl, subst}
-use Rattle.std.specs.FinMap.{get}
+use Rattle.std.specs.FinMap.{get, entries, entries_sorted}
 use Rattle.std.specs.Map.{keys_of}
 use Rattle.std.specs.Ordering.{eq_by_cmp}
 use Rattle.selective_undo.specs.Changes.{changes, AllOnce}
-use Rattle.selective_undo.specs.Edit.{refuse, write}
+use Rattle.selective_undo.specs.Edit.{seen, refuse, write}
 use Rattle.wb_range.specs.Domain.{IsListedOnce}
 use Rattle.wb_dist.specs.Maps.{LayoutMap}
 use Rattle.wb_book.specs.declared.cells.cell.Cell.{Cell}
@@ -17,6 +17,7 @@ use Rattle.wb_book.specs.declared.cells.kind.DomainKind.TheVariants.{Rectangular
 use Rattle.wb_book.specs.declared.cells.kind.KeyType.{KeyType}
 use Rattle.wb_book.specs.declared.cells.kind.Kind.{Kind}
 use Rattle.wb_book.specs.declared.cells.value.Binding.TheVariants.{Sparse}
+use Rattle.wb_book.specs.declared.cells.pattern.Pattern.TheVariants.{Objects}
 use Rattle.wb_book.specs.declared.cells.value.Value.{Value}
 use Rattle.wb_book.specs.declared.cells.value.Value.TheVariants.{Domain, Mapping, Present, Bound, Number}
 use Rattle.wb_book.specs.declared.values.index.Index.{Index}
@@ -29,30 +30,34 @@ use Rattle.wb_resize.specs.Dropped.{ended_cells}
 use Rattle.wb_resize.proofs.Fills.{arrays, zeros_once}
 use Rattle.wb_resize.proofs.Users.{users}
 use Rattle.wb_edit.specs.declared.commands.seen.Becomes.TheVariants.{Same, Absent}
-use Rattle.wb_edit.specs.declared.edit.Edit.TheVariants.{Domain, Remap, Sparse, Assoc, Array, Set, Irv, Copy, Fill, FillAll, DropArray, All, Add, Remove, DropDomain, Reshape, DomainOfSet, FillOfSet}
+use Rattle.wb_edit.specs.declared.edit.Edit.TheVariants.{Domain, Remap, Sparse, Assoc, Array, Set, Irv, Copy, Fill, FillAll, DropArray, All, Add, Remove, DropDomain, Reshape, DomainOfSet, FillOfSet, Load}
 use Rattle.wb_edit.specs.declared.operation.Operation.{Operation}
 use Rattle.wb_edit.specs.declared.refusal.Refusal.TheVariants.{WrongKind}
 use Rattle.wb_edit.specs.Changed.{set_all, value_of}
-use Rattle.wb_edit.specs.Commands.{domain_cells, domain, remap, sparse, assoc, array_cells, array, set, irv, copy, fill, fill_all, dropped_cells, drop_array, number_cells, combined, all, drop_domain, add_unless, remove_if}
+use Rattle.wb_edit.specs.Commands.{domain_cells, domain, remap, sparse, assoc, array_cells, array, set, irv, copy, fill, fill_all, dropped_cells, drop_array, number_cells, combined, all, drop_domain, add_unless, remove_if, book_cells, load}
 use Rattle.wb_edit.specs.Elements.{elements, same_domain, results, all_within, over_one_domain}
 use Rattle.wb_edit.specs.Implicit.{has_implicit, parent_in, implicit_value, implicit_inside, implicit_at, or_implicit, element_or_implicit}
 use Rattle.wb_edit.specs.Kinds.{rank_of, is_sparse, rectangular, over_sparse}
 use Rattle.wb_edit.specs.Laws.{EachCellOnce}
 use Rattle.wb_edit.specs.Layouts.{for_rank, mapped}
 use Rattle.wb_edit.specs.Looks.{Tree, read, judged}
+use Rattle.wb_edit.specs.Objects.{is_empty}
 use Rattle.wb_edit.specs.Numbers.{number_in, within, sum}
 use Rattle.wb_edit.specs.Rectangles.{of_rank, all_there, over_rectangle, all_elements}
 use Rattle.wb_edit.specs.Resizing.{has_members, with_members, zeros}
+use Rattle.wb_edit.specs.Schema.{workbook}
 use Rattle.wb_edit.specs.Tests.{is_free, domain_kind, array_kind, is_there, fits, dom, arr, key, element, idx}
 use Rattle.wb_edit.specs.Users.{is_unused, unused}
 use Rattle.wb_edit.specs.Writes.{put, put_all, clear_all}
 use Rattle.wb_edit.proofs.Becoming.{same_all, all_absent}
 use Rattle.wb_edit.proofs.Columns.{elsewhere}
 use Rattle.wb_edit.proofs.Elements.{elements_ascend}
+use Rattle.wb_edit.proofs.Loading.{puts_once}
 use Rattle.wb_edit.proofs.SideBySide.{kept_ascend}
 use Rattle.wb_edit.proofs.Once.Columns.{once_column, once_resized, once_ended, once_seen}
 use Rattle.wb_edit.proofs.Once.Looks.{Once, once_read, once_judged, once_test, once_all, once_idx, rectangle_once, none_once, none_apart}
 use Rattle.wb_edit.proofs.Once.Sources.{resized_once, reshape_once}
+use Rattle.wb_told.specs.Books.{cells_in}
 
 domain_once : (d : Name) (rs : List Range) (m : LayoutMap) → IsListedOnce (indices rs) → AllOnce cell_cmp (domain_cells d rs m)
 domain_once d rs m once =
@@ -210,6 +215,11 @@ drop_domain_once s d h =
     once_judged s (is_unused (users s d)) (λ x. idx d kind (last kind)) (λ x _.
     once_idx s h d kind (last kind) (λ is listed. once_ended d kind is listed)))
 
+load_once : (s : Cells) (text : List ℕ) → Once (load text) s
+load_once s text =
+    once_judged s (is_empty (seen workbook Objects s)) (λ x. write (book_cells (cells_in text))) (λ x ok.
+    puts_once (entries (cells_in text)) (entries_sorted (cells_in text)))
+
 pub each_cell_once : EachCellOnce
 each_cell_once (Domain d rs m) s valid once h = new_domain_once s d rs m (rectangle_once (length rs) rs valid.1)
 each_cell_once (Remap d m) s valid once h = remap_once s d m
@@ -229,3 +239,4 @@ each_cell_once (DropDomain d) s valid once h = drop_domain_once s d h
 each_cell_once (DomainOfSet d) s valid once h = once_test s (Object d) is_free (λ x. refuse WrongKind) (λ x _. tt)
 each_cell_once (FillOfSet a) s valid once h = once_test s (Object a) array_kind (λ over. refuse WrongKind) (λ over _. tt)
 each_cell_once (Reshape d source) s valid once h = reshape_once s d source valid once h
+each_cell_once (Load text) s valid once h = load_once s text

@@ -1,6 +1,7 @@
 -- The commands. Each is its tests in their order, and then the cells that it writes with their new values.
 -- A test that refuses ends the command: it has read what the tests so far looked at, that one's own looks too, and writes nothing.
-use Rattle.std.specs.Prelude.{ℤ, pos, List, [], ◌∷◌, map, length, Option, Some, None}
+use Rattle.std.specs.Prelude.{ℕ, ℤ, pos, List, [], ◌∷◌, map, length, Option, Some, None}
+use Rattle.std.specs.FinMap.{entries}
 use Rattle.std.specs.Map.{keys_of}
 use Rattle.selective_undo.specs.Edit.{refuse, write}
 use Rattle.wb_dist.specs.Maps.{LayoutMap}
@@ -13,11 +14,11 @@ use Rattle.wb_book.specs.declared.cells.kind.Kind.{Kind}
 use Rattle.wb_book.specs.declared.cells.value.Value.{Value}
 use Rattle.wb_book.specs.declared.cells.value.Value.TheVariants.{Domain, Array, Ranges, Mapping, Present, Bound, Number}
 use Rattle.wb_book.specs.declared.values.index.Index.{Index}
-use Rattle.wb_book.specs.Cells.{Name, Changes}
+use Rattle.wb_book.specs.Cells.{Name, Cells, Changes}
 use Rattle.wb_book.specs.Kinds.{kind_of}
 use Rattle.wb_book.specs.Shapes.{Range, indices}
 use Rattle.wb_edit.specs.declared.edit.Edit.{Edit as Command}
-use Rattle.wb_edit.specs.declared.edit.Edit.TheVariants.{Domain, Remap, Sparse, Assoc, Array, Set, Irv, Copy, Fill, FillAll, DropArray, All, Add, Remove, DropDomain, Reshape, DomainOfSet, FillOfSet}
+use Rattle.wb_edit.specs.declared.edit.Edit.TheVariants.{Domain, Remap, Sparse, Assoc, Array, Set, Irv, Copy, Fill, FillAll, DropArray, All, Add, Remove, DropDomain, Reshape, DomainOfSet, FillOfSet, Load}
 use Rattle.wb_edit.specs.declared.operation.Operation.{Operation}
 use Rattle.wb_edit.specs.declared.refusal.Refusal.TheVariants.{WrongKind}
 use Rattle.wb_edit.specs.Looks.{Tree, ◌>>=◌, read}
@@ -28,13 +29,15 @@ use Rattle.wb_edit.specs.Implicit.{element_or_implicit}
 use Rattle.wb_edit.specs.Elements.{elements, over_one_domain, results_within}
 use Rattle.wb_edit.specs.Layouts.{mapped}
 use Rattle.wb_edit.specs.Rectangles.{over_rectangle, all_elements}
+use Rattle.wb_edit.specs.Objects.{no_object}
 use Rattle.wb_edit.specs.Users.{bound, uses, unused}
 use Rattle.wb_edit.specs.Resizing.{zeros, with_members}
 pub use Rattle.wb_edit.specs.Resizing.{resized}
 pub use Rattle.wb_edit.specs.Sources.{reshape}
 pub use Rattle.wb_resize.specs.Dropped.{own_cells, ended_cells}
 use Rattle.wb_resize.specs.Resized.{resized_cells}
-use Rattle.wb_edit.specs.Writes.{put, put_all, clear, clear_all}
+use Rattle.wb_edit.specs.Writes.{put, put_all, put_each, clear, clear_all}
+use Rattle.wb_told.specs.Books.{cells_in}
 
 -- what a new rectangular domain writes: the domain with its rank, its ranges, its mapping, and that each of its indices
 -- is in it (Chapel Language Specification, Domains and Domain Maps)
@@ -230,6 +233,18 @@ fill_of_set a = do
   (d, kind) ← arr a
   refuse WrongKind
 
+-- ---- a workbook in the place of an empty one
+
+-- what a loaded workbook writes: each of its cells
+abbrev pub book_cells : Cells → Changes
+book_cells w = put_each (entries w)
+
+-- the workbook of a text: there is no object yet
+abbrev pub load : List ℕ → Tree
+load text = do
+  unit ← no_object
+  write (book_cells (cells_in text))
+
 -- what a command means
 abbrev pub meaning : Command → Tree
 meaning (Domain d rs m) = domain d rs m
@@ -250,3 +265,4 @@ meaning (DropDomain d) = drop_domain d
 meaning (Reshape d source) = reshape d source
 meaning (DomainOfSet d) = domain_of_set d
 meaning (FillOfSet a) = fill_of_set a
+meaning (Load text) = load text

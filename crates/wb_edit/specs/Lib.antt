@@ -8,6 +8,7 @@ pub mod Rectangles
 pub mod Elements
 pub mod Layouts
 pub mod Users
+pub mod Objects
 pub mod Resizing
 pub mod Writes
 pub mod Reshape

@@ -9,7 +9,8 @@ use Rattle.wb_book.specs.Shapes.{indices}
 use Rattle.wb_book.specs.WellFormed.{IsRectangle}
 use Rattle.wb_edit.specs.declared.edit.Edit.{Edit as Command}
 use Rattle.wb_edit.specs.ValidSources.{IsSource, IsSourceOnce}
-use Rattle.wb_edit.specs.declared.edit.Edit.TheVariants.{Domain, Remap, Sparse, Assoc, Array, Set, Irv, Copy, Fill, FillAll, DropArray, All, Add, Remove, DropDomain, Reshape, DomainOfSet, FillOfSet}
+use Rattle.wb_told.specs.Books.{IsBookText}
+use Rattle.wb_edit.specs.declared.edit.Edit.TheVariants.{Domain, Remap, Sparse, Assoc, Array, Set, Irv, Copy, Fill, FillAll, DropArray, All, Add, Remove, DropDomain, Reshape, DomainOfSet, FillOfSet, Load}
 
 -- what a command has to be so that it keeps a workbook well formed; every value of the type `Edit` is
 abbrev pub IsValid : Command → Type 0
@@ -49,6 +50,8 @@ IsValid (Reshape d source) = IsSource source
 IsValid (DomainOfSet d) = ⊤
 -- nothing is asked
 IsValid (FillOfSet a) = ⊤
+-- the text is a workbook's
+IsValid (Load text) = IsBookText text
 
 -- The indices that a command carries are listed once each; those of every value of the type `Edit` are.
 abbrev pub ListsOnce : Command → Type 0

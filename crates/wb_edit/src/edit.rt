@@ -10,6 +10,7 @@ use std::alloc::Global;
 use wb_book::{AnyIndex, AnyLayout, AnyRect, Index, KeyType, Name};
 use wb_range::{Domain, NoMemory};
 use wb_resize::{Given, Source};
+use wb_told::BookText;
 
 /// A command that changes a workbook, as it is asked for.
 ///
@@ -58,10 +59,12 @@ pub enum Edit {
     DomainOfSet(Name),
     /// One number as the elements of an array, asked for with a set in place of a rectangle: it is always refused.
     FillOfSet(Name),
+    /// The workbook of a text, where there is no object yet.
+    Load(BookText),
 }
 
 impl Edit {
-    /// An equal edit, or `NoMemory` where none is left for a set of indices in it. All else is of a fixed size and takes none.
+    /// An equal edit, or `NoMemory` where none is left for a set of indices or a text in it. All else is of a fixed size and takes none.
     pub fn copy(&self, alloc: Global) -> Result<Edit, NoMemory>
         ensures { IfOk result (λ e. e ≡ self.now) }
     {
@@ -88,11 +91,12 @@ impl Edit {
             Edit::Reshape(domain, source) => Ok(Edit::Reshape(*domain, source.copy(alloc)?)),
             Edit::DomainOfSet(domain) => Ok(Edit::DomainOfSet(*domain)),
             Edit::FillOfSet(array) => Ok(Edit::FillOfSet(*array)),
+            Edit::Load(text) => Ok(Edit::Load(text.copy(alloc)?)),
         }
     }
 
     /// Computes nothing. Callers learn what every edit is: its new name is a name, its ranges and mapping are within the limits,
-    /// its number is one of 64 bits, and its indices are made of such numbers or of texts of labels.
+    /// its number is one of 64 bits, its indices are made of such numbers or of texts of labels, and its text is a workbook's.
     pub fn validity(&self)
         ensures { IsValid self.now }
     {
@@ -137,6 +141,9 @@ impl Edit {
             Edit::DomainOfSet(_) => {}
             Edit::FillOfSet(_) => {}
             Edit::Reshape(_, source) => source_validity(source),
+            Edit::Load(text) => {
+                let _text = text.as_str();
+            }
         }
     }
 
@@ -165,6 +172,7 @@ impl Edit {
             Edit::DropDomain(_) => {}
             Edit::DomainOfSet(_) => {}
             Edit::FillOfSet(_) => {}
+            Edit::Load(_) => {}
         }
     }
 }

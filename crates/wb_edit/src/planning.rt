@@ -4,14 +4,15 @@ ghost use Rattle.wb_edit.specs.Plans.{Attempts, IsPlan};
 
 use crate::commands::{
     added, array, combined, copied, domain, dropped_array, dropped_domain, element, filled,
-    filled_array, implicit, of_sets, remapped, removed, reshape, sets,
+    filled_array, implicit, loaded, of_sets, remapped, removed, reshape, sets,
 };
 use crate::edit::Edit;
 use crate::foot::Foot;
 use crate::refusal::Refusal;
 use crate::tests::stop::Stop;
 use std::alloc::Global;
-use wb_book::{Book, Delta};
+use wb_book::Delta;
+use wb_shelf::Book;
 
 /// Why there is no plan.
 #[derive(Drop)]
@@ -71,6 +72,7 @@ fn attempt(alloc: Global, book: &Book, foot: &mut Foot, edit: &Edit) -> Result<D
         Edit::DropDomain(domain) => dropped_domain::plan_drop_domain(alloc, book, foot, *domain),
         Edit::DomainOfSet(domain) => of_sets::plan_domain_of_set(book, foot, *domain),
         Edit::FillOfSet(array) => of_sets::plan_fill_of_set(book, foot, *array),
+        Edit::Load(text) => loaded::plan_load(alloc, book, foot, text),
         Edit::Reshape(domain, source) => {
             reshape::any::plan_reshape(alloc, book, foot, *domain, source)
         }

@@ -33,6 +33,12 @@ pub enum Refusal {
     /// E15: a mapping for domains of another rank.
     #[error("bad-mapping")]
     BadMapping,
+    /// E17: a workbook that has to be empty has an object.
+    #[error("not-empty")]
+    NotEmpty,
+    /// E18: the least or the greatest of no elements. Given by the query for a reduction alone.
+    #[error("empty")]
+    Empty,
 }
 
 impl Refusal {
@@ -50,6 +56,8 @@ impl Refusal {
             (Refusal::TooLarge, Refusal::TooLarge) => true,
             (Refusal::Overflow, Refusal::Overflow) => true,
             (Refusal::BadMapping, Refusal::BadMapping) => true,
+            (Refusal::NotEmpty, Refusal::NotEmpty) => true,
+            (Refusal::Empty, Refusal::Empty) => true,
             _ => false,
         }
     }

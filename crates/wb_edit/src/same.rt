@@ -109,6 +109,7 @@ impl Edit {
             }
             (Edit::DomainOfSet(a), Edit::DomainOfSet(x)) => a.is_same(x),
             (Edit::FillOfSet(a), Edit::FillOfSet(x)) => a.is_same(x),
+            (Edit::Load(a), Edit::Load(x)) => a.is_same(x),
             _ => false,
         }
     }

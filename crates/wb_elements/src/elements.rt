@@ -8,6 +8,7 @@ ghost use Rattle.wb_book.specs.Cells.{index_cmp};
 ghost use Rattle.wb_elements.specs.Changed.{changed_at};
 ghost use Rattle.wb_elements.specs.Lent.{lent, piece_in};
 ghost use Rattle.wb_elements.specs.Indexed.{indexed, AllOf};
+ghost use Rattle.wb_redist.specs.Reductions.{IsReduced};
 ghost use Rattle.wb_book.specs.declared.values.index.Index.{Index as any_index};
 
 use crate::key::AsIndex;
@@ -23,7 +24,7 @@ use wb_dist::{Distribution, Home, Layout};
 use wb_pieces::Pieces;
 use wb_range::{Domain, Mapping, NoMemory};
 use wb_rect::Rect;
-use wb_redist::{MoveErr, Mover};
+use wb_redist::{MoveErr, Mover, Op, ReduceErr, reduce};
 
 /// The elements of an array, by the form of its indices.
 #[derive(Drop)]
@@ -245,6 +246,21 @@ impl Elements {
         }
     }
 
+    /// The sum, the least or the greatest of the elements, the same by every mover: `Empty` exactly where there is no
+    /// least or greatest one, `Overflow` exactly where the whole sum is no i64 (Chapel Language Specification, Reductions
+    /// and Scans).
+    pub fn reduce<V: Mover>(&self, op: Op, mover: &V) -> Result<i64, ReduceErr>
+        ensures answer { IsReduced op self.now.0 result }
+        ensures overflow { result ≡ Err ReduceErr.Overflow → op ≡ Op.Sum }
+    {
+        match &self.form {
+            Form::Line(pieces) => reduction_of(pieces, op, mover),
+            Form::Plane(pieces) => reduction_of(pieces, op, mover),
+            Form::Solid(pieces) => reduction_of(pieces, op, mover),
+            Form::Text(pieces) => reduction_of(pieces, op, mover),
+        }
+    }
+
     /// The elements, each after its index, in the order of the indices.
     pub fn pairs(&self, alloc: Global) -> Result<Vec<(AnyIndex, i64)>, NoMemory>
         ensures pairs { IfOk result (λ v. v.items ≡ self.now.0) }
@@ -343,6 +359,19 @@ where
     ensures ascending { IsStrictlySortedBy index_cmp (keys_of (indexed D.Index.as_index pieces.now.0)) }
 {
     pieces.len()
+}
+
+fn reduction_of<V: Mover, D: Domain, M: Mapping<Index = D::Index>>(
+    pieces: &Pieces<D, M>,
+    op: Op,
+    mover: &V,
+) -> Result<i64, ReduceErr>
+where
+    D::Index: AsIndex + Send + Sync,
+    ensures answer { IsReduced op (indexed D.Index.as_index pieces.now.0) result }
+    ensures overflow { result ≡ Err ReduceErr.Overflow → op ≡ Op.Sum }
+{
+    reduce(mover, op, pieces)
 }
 
 fn pairs_of<D: Domain, M: Mapping<Index = D::Index>>(

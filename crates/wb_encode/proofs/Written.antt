@@ -8,7 +8,7 @@ use Rattle.serde_json.specs.Written.{compact_text, has_float, items_have_float, 
 use Rattle.serde_json.specs.declared.value.Value.{Value}
 use Rattle.wb_book.specs.declared.values.index.Index.TheVariants.{Point, Text}
 use Rattle.wb_encode.specs.Values.{integer_data, point_data}
-use Rattle.wb_encode.specs.Table.{Meaning, word, name, integer, number, index, given, mapping, optional_mapping, some_set, some_mapping, some_integer, Fields}
+use Rattle.wb_encode.specs.Table.{Meaning, word, name, integer, number, index, given, mapping, optional_mapping, book, some_set, some_mapping, some_integer, Fields}
 use Rattle.wb_encode.specs.Encoded.{data_of, members_of}
 
 -- ---- no number in it is a float
@@ -37,6 +37,7 @@ whole_data (index (Text t)) = refl
 whole_data (given g) = refl
 whole_data (mapping m) = refl
 whole_data (optional_mapping m) = refl
+whole_data (book text) = refl
 whole_data some_set = refl
 whole_data some_mapping = refl
 whole_data some_integer = refl
@@ -71,6 +72,7 @@ flat_data (index (Text t)) = omega arith
 flat_data (given g) = omega arith
 flat_data (mapping m) = omega arith
 flat_data (optional_mapping m) = omega arith
+flat_data (book text) = omega arith
 flat_data some_set = omega arith
 flat_data some_mapping = omega arith
 flat_data some_integer = omega arith

@@ -7,7 +7,7 @@ use Rattle.wb_resize.specs.declared.given.Given.{Given}
 use Rattle.wb_resize.specs.declared.given.Given.TheVariants.{Rectangle, Items, Named}
 use Rattle.wb_text.specs.Literals.{rectangle_text, set_text, mapping_text}
 use Rattle.wb_encode.specs.Values.{integer_data, index_data}
-use Rattle.wb_encode.specs.Table.{Meaning, word, name, integer, number, index, given, mapping, optional_mapping, some_set, some_mapping, some_integer, Fields, edit_table}
+use Rattle.wb_encode.specs.Table.{Meaning, word, name, integer, number, index, given, mapping, optional_mapping, book, some_set, some_mapping, some_integer, Fields, edit_table}
 
 -- the canonical literal, or the name
 abbrev pub given_text : Given → List ℕ
@@ -25,6 +25,7 @@ data_of (index i) = index_data i
 data_of (given g) = string (given_text g)
 data_of (mapping m) = string (mapping_text m)
 data_of (optional_mapping m) = string (mapping_text m)
+data_of (book text) = string text
 data_of some_set = string (codes "{}")
 data_of some_mapping = string (codes "none")
 data_of some_integer = integer_data (pos 0)

@@ -10,8 +10,8 @@ ghost use Rattle.wb_encode.specs.Encoded.{edit_data, edit_text};
 
 use crate::literals::{mapping_text, operation_word, rectangle_text, type_word};
 use crate::objects::{
-    array_with, combined, copied, domain_of, filled, index_of_domain, new_array, new_domain,
-    new_element, of_array, of_domain, remapped,
+    array_with, combined, copied, domain_of, filled, index_of_domain, loaded, new_array,
+    new_domain, new_element, of_array, of_domain, remapped,
 };
 use crate::sources::reshaped;
 use serde_json::Value;
@@ -65,6 +65,7 @@ pub fn edit_value(alloc: Global, edit: &Edit) -> Result<Value, AllocError>
         Edit::Irv(a, v) => array_with(alloc, "irv", a, *v),
         Edit::Copy(a, i, b, j, c) => copied(alloc, a, i, b, j, *c),
         Edit::All(a, how, b) => combined(alloc, a, operation_word(*how), b),
+        Edit::Load(text) => loaded(alloc, text.as_str()),
     }
 }
 

@@ -109,6 +109,13 @@ pub(crate) fn combined(alloc: Global, a: &Name, how: &str, b: &Name) -> Result<V
     json!(in alloc; {"a": a.as_str(), "b": b.as_str(), "how": how, "op": "all"})
 }
 
+/// `text`.
+pub(crate) fn loaded(alloc: Global, text: &str) -> Result<Value, AllocError>
+    ensures { IfOk result (λ v. view v ≡ object (member (codes "op") (string (codes "load")) (member (codes "text") (string text.now) no_members))) }
+{
+    json!(in alloc; {"op": "load", "text": text})
+}
+
 /// `d`, `or`.
 pub(crate) fn united(alloc: Global, d: &Name, other: &str) -> Result<Value, AllocError>
     ensures { IfOk result (λ v. view v ≡ object (member (codes "d") (string d.now) (member (codes "op") (string (codes "reshape")) (member (codes "or") (string other.now) no_members)))) }

@@ -13,7 +13,7 @@ use Rattle.wb_log.specs.declared.refusal.Refusal.TheVariants.{BadRequest, BadLit
 use Rattle.wb_log.specs.Replies.{EditReply, UndoReply, LastReply, RedoReply}
 use Rattle.wb_history.specs.ReplyLaws.{EditAnswerLaw, UndoAnswerLaw, LastAnswerLaw, RedoAnswerLaw}
 
-none_some : {A : Type 0} {o : Option A} {a : A} → o ≡ None → o ≡ Some a → ⊥
+pub none_some : {A : Type 0} {o : Option A} {a : A} → o ≡ None → o ≡ Some a → ⊥
 none_some n s = cc
 
 ok_err : {A B : Type 0} {r : Result A B} {b : B} → IsOk r → r ≡ Err b → ⊥
@@ -64,10 +64,10 @@ module _ (es : List (Entry workbook)) (k : ℕ) where
   on_at : (t : Trace workbook) → InForce (traces es) k t → (e : Edit workbook) × (slice_get es k ≡ Some (done e))
   on_at t there = let made = edit_at es empty k t there in (made.0, made.1)
 
-  granted_missing : (t : Trace workbook) → InForce (traces es) k t → slice_get es k ≡ None → ⊥
+  pub granted_missing : (t : Trace workbook) → InForce (traces es) k t → slice_get es k ≡ None → ⊥
   granted_missing t there none = none_some none (on_at t there).1
 
-  granted_out : (t : Trace workbook) → InForce (traces es) k t → (e : Edit workbook) → slice_get es k ≡ Some (undone e) → ⊥
+  pub granted_out : (t : Trace workbook) → InForce (traces es) k t → (e : Edit workbook) → slice_get es k ≡ Some (undone e) → ⊥
   granted_out t there e off = let on = on_at t there in done_undone on.0 e on.1 off
 
   undo_same : (c d : UndoCause) → undo_answer c ≡ undo_answer d

@@ -1,5 +1,5 @@
 -- A history is made again edit by edit.
-use Rattle.std.proofs.Common.{◌≡◌, ℕ, zero, suc, ◌+◌, ◌≤◌, Bool, true, false, List, [], ◌∷◌, ◌++◌, map, length, refl, sym, ap, ◌∙◌, subst, Option, Some, None, is_some, option_map, Result, Ok, Err, IsOk, OnOk, OnErr, slice_get, arith, ◌⊎◌, inl, inr}
+use Rattle.std.proofs.Common.{◌≡◌, ℕ, suc, ◌+◌, Bool, true, false, List, [], ◌∷◌, ◌++◌, length, refl, sym, ap, ◌∙◌, subst, Option, Some, None, is_some, option_map, Result, Ok, Err, IsOk, OnOk, OnErr, slice_get, arith, inl, inr}
 use Rattle.std.specs.Prelude.{min, ◌-◌, ◌^◌}
 use Rattle.std.proofs.Math.Nat.{sub-add-min_cancel}
 use Rattle.selective_undo.specs.Edit.{Schema, State, Change, Edit, Trace, outcome, written, trace, step}
@@ -7,7 +7,7 @@ use Rattle.selective_undo.specs.History.{Entry, done, undone, replay_from, trace
 use Rattle.selective_undo.specs.Log.{Logged, IsKept, history, entry_of, feet, foot_of}
 use Rattle.selective_undo.proofs.Log.{append-map, last_or, get-map}
 use Rattle.std.specs.FinMap.{empty}
-use Rattle.wb_book.specs.Cells.{Cells, Changes, count_of, written_more}
+use Rattle.wb_book.specs.Cells.{Cells, count_of, written_more}
 use Rattle.wb_edit.specs.declared.edit.Edit as command
 use Rattle.wb_edit.specs.Schema.{workbook}
 use Rattle.wb_edit.specs.Commands.{meaning}

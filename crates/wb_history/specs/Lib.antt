@@ -4,5 +4,6 @@ pub use Rattle.wb_log.specs.Cascades
 pub mod ReplyLaws
 pub mod Locales
 pub mod Pieces
+pub mod Reductions
 pub mod Queries
 pub mod Restored

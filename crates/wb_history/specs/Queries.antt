@@ -15,11 +15,12 @@ use Rattle.wb_edit.specs.Tests.{domain_kind, array_kind, is_there, fits}
 use Rattle.wb_history.specs.declared.query.Answer.{Answer}
 use Rattle.wb_history.specs.declared.query.Answer.TheVariants.{Value as ValueIs, Size as SizeIs, InForce}
 use Rattle.wb_history.specs.declared.query.Query.{Query}
-use Rattle.wb_history.specs.declared.query.Query.TheVariants.{Get, Size, Where, Piece, State}
+use Rattle.wb_history.specs.declared.query.Query.TheVariants.{Get, Size, Where, Piece, Reduce, State}
 use Rattle.wb_log.specs.declared.refusal.Refusal.{Refusal}
 use Rattle.wb_log.specs.declared.refusal.Refusal.TheVariants.{Refused, NoSuchEdit}
 use Rattle.wb_history.specs.Locales.{where_answer, locale_answer}
 use Rattle.wb_history.specs.Pieces.{piece_of, piece_answer, OrNoMemory}
+use Rattle.wb_history.specs.Reductions.{reduce_answer}
 use Rattle.wb_log.specs.Past.{Numbered, force_of}
 
 -- the implicit value of an array
@@ -81,6 +82,7 @@ answer s es (Get a i) = value_answer (get_answer s a i)
 answer s es (Size d) = count_answer (size_answer s d)
 answer s es (Where d i) = locale_answer (where_answer s d i)
 answer s es (Piece a l) = piece_answer (piece_of s a l)
+answer s es (Reduce a op) = value_answer (reduce_answer s a op)
 answer s es (State k) = force_answer (force_of es k)
 
 -- A query is answered so; memory may run out where the answer is a list, and nowhere else.
@@ -89,4 +91,5 @@ QueryReply s es (Get a i) r = r ≡ answer s es (Get a i)
 QueryReply s es (Size d) r = r ≡ answer s es (Size d)
 QueryReply s es (Where d i) r = r ≡ answer s es (Where d i)
 QueryReply s es (Piece a l) r = OrNoMemory (answer s es (Piece a l)) r
+QueryReply s es (Reduce a op) r = r ≡ answer s es (Reduce a op)
 QueryReply s es (State k) r = r ≡ answer s es (State k)

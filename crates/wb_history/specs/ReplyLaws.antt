@@ -1,10 +1,11 @@
--- What holds of the answers to edits, undos and redos (`Replies`): at most one kind of answer fits a history and a request,
+-- What holds of the answers to edits, undos and redos (`Replies`, `Cascades`): at most one kind of answer fits a history and a request,
 -- so that each refusal comes exactly when its cause is there; and undo and redo are inverse.
 use Rattle.std.specs.Prelude.{◌≡◌, ◌≢◌, ℕ, ◌-◌, List, Result, Ok, Err}
 use Rattle.selective_undo.specs.Edit.{Edit}
 use Rattle.selective_undo.specs.History as h
 use Rattle.selective_undo.specs.History.{IsLegal}
 use Rattle.wb_edit.specs.Schema.{workbook}
+use Rattle.wb_log.specs.Cascades.{DependentsReply, OfNumber}
 use Rattle.wb_log.specs.Past.{Numbered, meant, out_of_force, into_force}
 use Rattle.wb_log.specs.Replies.{EditReply, UndoReply, LastReply, RedoReply, ByNumber}
 use Rattle.wb_log.specs.declared.refusal.Refusal.{Refusal}
@@ -25,6 +26,9 @@ LastAnswerLaw = (es : List (h.Entry workbook)) → OneAnswer (LastReply es)
 
 abbrev pub RedoAnswerLaw : Type 0
 RedoAnswerLaw = (es : List (h.Entry workbook)) (number : ℕ) → OneAnswer (ByNumber (RedoReply es) number)
+
+abbrev pub DependentsAnswerLaw : Type 0
+DependentsAnswerLaw = (es : List (h.Entry workbook)) (number : ℕ) → OneAnswer (OfNumber (DependentsReply es) number)
 
 -- ---- one directly after the other
 

@@ -1,5 +1,5 @@
 -- A history made again from the list of its edits, each with its mark.
-use Rattle.std.specs.Prelude.{◌≡◌, ℕ, zero, suc, ◌+◌, Bool, true, List, [], ◌∷◌, ◌++◌, map, Option, Some, None, Result, Ok, Err, slice_get, ⊤}
+use Rattle.std.specs.Prelude.{◌≡◌, ℕ, zero, suc, ◌+◌, Bool, List, [], ◌∷◌, ◌++◌, map, Option, Some, None, Result, Ok, Err, slice_get, ⊤}
 use Rattle.selective_undo.specs.Edit.{Trace, written}
 use Rattle.selective_undo.specs.History.{traces, IsLegal}
 use Rattle.wb_book.specs.Cells.{count_of, written_more}

@@ -1,8 +1,8 @@
-ghost use Rattle.std.specs.Prelude.{◌≡◌, ℕ, ◌+◌, ◌-◌, length, [], ◌∷◌, ◌++◌, OnOk, OnErr, IfOk, IfErr, Ok, Err, true, false, option_map};
+ghost use Rattle.std.specs.Prelude.{◌≡◌, ℕ, ◌+◌, ◌-◌, ◌≤◌, length, take, [], ◌∷◌, ◌++◌, OnOk, OnErr, IfOk, IfErr, Ok, Err, true, false, option_map};
 ghost use Rattle.selective_undo.specs.History.{replay, IsLegal};
 ghost use Rattle.wb_book.specs.Cells.{written_more};
 ghost use Rattle.wb_edit.specs.Commands.{meaning};
-ghost use Rattle.wb_log.specs.Cascades.{DependentsReply, CascadeReply, OfNumber, all_out_of_force, places, set_back};
+ghost use Rattle.wb_log.specs.Cascades.{DependentsReply, CascadeReply, OfNumber, NoShorter, all_out_of_force, places, set_back};
 ghost use Rattle.wb_log.specs.Past.{meant, out_of_force, into_force, force_of};
 ghost use Rattle.wb_log.specs.Replies.{EditReply, UndoReply, LastReply, RedoReply, ByNumber, SetsBack, LeavesOthers, Restores, RedoesInPlace};
 ghost use Rattle.wb_history.specs.Queries.{QueryReply};
@@ -11,12 +11,14 @@ ghost use Rattle.wb_history.specs.Restored.{one_of, numbered_at};
 use crate::locale::{locale_answer, locale_of};
 use crate::piece::piece_answer;
 use crate::query::{Answer, Query, count_answer, element_of, force_answer, size_of, value_answer};
+use crate::reduction::reduce_answer;
 use std::alloc::Global;
 use std::marker::Model;
-use wb_book::Book;
 use wb_edit::Edit;
 use wb_log::{Entry, Index, Refusal, steps};
 use wb_range::NoMemory;
+use wb_redist::Mover;
+use wb_shelf::Book;
 
 /// A workbook, and the edits that made it, each in force or out of force.
 #[derive(Drop)]
@@ -71,18 +73,18 @@ impl History {
     }
 
     /// Makes an edit: its number, from 1, and how many cells it changes.
-    pub fn edit(&mut self, edit: Edit) -> Result<(u64, usize), Refusal>
+    pub fn edit<M: Mover>(&mut self, edit: Edit, mover: &M) -> Result<(u64, usize), Refusal>
         ensures reply { EditReply (meant self.old.entries) (meaning edit) result }
         ensures entries { OnOk result (self.new.entries ≡ self.old.entries ++ record { edit = edit; in_force = true } ∷ []) }
         ensures writes { IfOk result (λ r. self.new.writes ≡ written_more self.old.writes r.1) }
         ensures err { OnErr result (self.new ≡ self.old) }
     {
         edit.validity();
-        steps::edit::add(self.alloc, &mut self.book, &mut self.entries, edit)
+        steps::edit::add(self.alloc, &mut self.book, &mut self.entries, edit, mover)
     }
 
     /// Undoes the edit of a number, where no later edit in force needs it.
-    pub fn undo(&mut self, number: u64) -> Result<usize, Refusal>
+    pub fn undo<M: Mover>(&mut self, number: u64, mover: &M) -> Result<usize, Refusal>
         ensures reply { ByNumber (UndoReply (meant self.old.entries)) number result }
         ensures entries { OnOk result (self.new.entries ≡ out_of_force (number - 1) self.old.entries) }
         ensures set_back { OnOk result (SetsBack (meant self.old.entries) (number - 1) (meant self.new.entries)) }
@@ -97,11 +99,17 @@ impl History {
         if at >= self.entries.len() {
             return Err(Refusal::NoSuchEdit);
         }
-        steps::undo::undo_at(&mut self.book, &mut self.entries, &mut self.index, at)
+        steps::undo::undo_at(
+            &mut self.book,
+            &mut self.entries,
+            &mut self.index,
+            at,
+            mover,
+        )
     }
 
     /// Undoes the latest edit in force: its number, and how many cells it sets back.
-    pub fn undo_last(&mut self) -> Result<(u64, usize), Refusal>
+    pub fn undo_last<M: Mover>(&mut self, mover: &M) -> Result<(u64, usize), Refusal>
         ensures reply { LastReply (meant self.old.entries) result }
         ensures entries { IfOk result (λ r. self.new.entries ≡ out_of_force (r.0 - 1) self.old.entries) }
         ensures restored { IfOk result (λ r. Restores (meant self.old.entries) (r.0 - 1) (meant self.new.entries)) }
@@ -109,7 +117,7 @@ impl History {
         ensures writes { IfOk result (λ r. self.new.writes ≡ written_more self.old.writes r.1) }
         ensures err { OnErr result (self.new ≡ self.old) }
     {
-        steps::undo::undo_latest(&mut self.book, &mut self.entries, &mut self.index)
+        steps::undo::undo_latest(&mut self.book, &mut self.entries, &mut self.index, mover)
     }
 
     /// The numbers of the edits that have to be undone with the edit of a number, from the greatest down.
@@ -129,10 +137,16 @@ impl History {
     }
 
     /// Undoes the edit of a number with all that need it, from the greatest down, each by an undo that is granted on its
-    /// own: their numbers, and how many cells are set back. Where memory runs out after some, these are the answer.
-    pub fn cascade(&mut self, number: u64) -> Result<(Vec<u64>, usize), Refusal>
+    /// own: their numbers, and how many cells are set back. Where memory runs out after some, or the mover has no thread,
+    /// these are the answer.
+    pub fn cascade<M: Mover>(
+        &mut self,
+        number: u64,
+        mover: &M,
+    ) -> Result<(Vec<u64>, usize), Refusal>
         ensures reply { IfOk result (λ r. OfNumber (CascadeReply (meant self.old.entries)) number (Ok (r.0.items, r.1))) }
         ensures why { IfErr result (λ e. OfNumber (CascadeReply (meant self.old.entries)) number (Err e)) }
+        ensures shortest { IfOk result (λ r. NoShorter (meant self.old.entries) (number - 1) r.0.items) }
         ensures entries { IfOk result (λ r. self.new.entries ≡ all_out_of_force r.0.items self.old.entries) }
         ensures writes { IfOk result (λ r. self.new.writes ≡ written_more self.old.writes (set_back (meant self.old.entries) (places r.0.items))) }
         ensures err { OnErr result (self.new ≡ self.old) }
@@ -144,11 +158,42 @@ impl History {
         if at >= self.entries.len() {
             return Err(Refusal::NoSuchEdit);
         }
-        steps::cascade::cascade_at(&mut self.book, &mut self.entries, &mut self.index, at)
+        steps::cascade::cascade_at(
+            &mut self.book,
+            &mut self.entries,
+            &mut self.index,
+            at,
+            mover,
+        )
+    }
+
+    /// What `cascade` does, where `dependents` answered these numbers: how many of them are undone, from the first, and how
+    /// many cells are set back. So a caller can have room for what it keeps of them before anything is undone.
+    pub fn cascade_listed<M: Mover>(
+        &mut self,
+        number: u64,
+        listed: &[u64],
+        mover: &M,
+    ) -> Result<(usize, usize), NoMemory>
+        requires { OfNumber (DependentsReply (meant self.old.entries)) number (Ok listed.now) }
+        ensures within { IfOk result (λ r. r.0 ≤ length listed.now) }
+        ensures reply { IfOk result (λ r. OfNumber (CascadeReply (meant self.old.entries)) number (Ok (take r.0 listed.now, r.1))) }
+        ensures entries { IfOk result (λ r. self.new.entries ≡ all_out_of_force (take r.0 listed.now) self.old.entries) }
+        ensures writes { IfOk result (λ r. self.new.writes ≡ written_more self.old.writes (set_back (meant self.old.entries) (places (take r.0 listed.now)))) }
+        ensures err { OnErr result (self.new ≡ self.old) }
+    {
+        steps::cascade::undo_listed(
+            &mut self.book,
+            &mut self.entries,
+            &mut self.index,
+            (number - 1) as usize,
+            listed,
+            mover,
+        )
     }
 
     /// Redoes the edit of a number in its own place, where no later edit in force is in its way.
-    pub fn redo(&mut self, number: u64) -> Result<usize, Refusal>
+    pub fn redo<M: Mover>(&mut self, number: u64, mover: &M) -> Result<usize, Refusal>
         ensures reply { ByNumber (RedoReply (meant self.old.entries)) number result }
         ensures entries { OnOk result (self.new.entries ≡ into_force (number - 1) self.old.entries) }
         ensures in_place { OnOk result (RedoesInPlace (meant self.old.entries) (number - 1) (meant self.new.entries)) }
@@ -168,6 +213,7 @@ impl History {
             &mut self.entries,
             &mut self.index,
             at,
+            mover,
         )
     }
 
@@ -210,8 +256,9 @@ impl History {
         steps::aside::keep_aside(&mut self.entries, aside)
     }
 
-    /// What a query is answered, from the workbook as it is; `NoMemory` may stand for a piece, and for nothing else.
-    pub fn query(&self, query: &Query) -> Result<Answer, Refusal>
+    /// What a query is answered, from the workbook as it is; `NoMemory` may stand for a piece, and for nothing else. A
+    /// reduction is made by the threads of the mover, where that pays.
+    pub fn query<M: Mover>(&self, query: &Query, mover: &M) -> Result<Answer, Refusal>
         ensures { QueryReply (replay (meant self.now.entries)) self.now.entries query.now result }
     {
         match query {
@@ -220,7 +267,8 @@ impl History {
             Query::Where(domain, index) => {
                 locale_answer(locale_of(self.book(), *domain, *index))
             }
-            Query::Piece(array, locale) => piece_answer(self.book(), *array, *locale),
+            Query::Piece(array, locale) => piece_answer(self.alloc, self.book(), *array, *locale),
+            Query::Reduce(array, op) => reduce_answer(self.book(), *array, *op, mover),
             Query::State(number) => force_answer(self.in_force(*number)),
         }
     }

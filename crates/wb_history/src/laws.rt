@@ -3,7 +3,7 @@
 
 ghost use Rattle.selective_undo.specs.Laws.{AppendLaw, UndoLaw, SetBackLaw, LastLaw, RedoLaw, UndoAfterRedoLaw, RedoAfterUndoLaw, RedoBackLaw, DependentsLaw, NoShorterLaw, RecordLaw, RunLaw};
 ghost use Rattle.wb_edit.specs.Schema.{workbook};
-ghost use Rattle.wb_history.specs.ReplyLaws.{EditAnswerLaw, UndoAnswerLaw, LastAnswerLaw, RedoAnswerLaw, UndoAfterRedoAnswerLaw, RedoAfterLastAnswerLaw, RedoBackAnswerLaw};
+ghost use Rattle.wb_history.specs.ReplyLaws.{EditAnswerLaw, UndoAnswerLaw, LastAnswerLaw, RedoAnswerLaw, DependentsAnswerLaw, UndoAfterRedoAnswerLaw, RedoAfterLastAnswerLaw, RedoBackAnswerLaw};
 
 /// A new edit does at the end of a history what it does in the workbook as it is, and all edits before it stay.
 pub fn append()
@@ -94,6 +94,11 @@ pub fn one_answer_to_undo_of_last()
 /// there.
 pub fn one_answer_to_redo()
     ensures { RedoAnswerLaw }
+{}
+
+/// At most one answer to the question for the dependents of an edit fits a history, but that memory may run out.
+pub fn one_answer_to_dependents()
+    ensures { DependentsAnswerLaw }
 {}
 
 /// The undo of an edit directly after its redo is refused for want of memory alone, and gives back the edits.

@@ -8,6 +8,7 @@ pub mod laws;
 mod locale;
 mod piece;
 mod query;
+mod reduction;
 mod restore;
 
 pub use crate::history::History;

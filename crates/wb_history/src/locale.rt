@@ -4,9 +4,10 @@ ghost use Rattle.std.specs.Prelude.{◌≡◌};
 ghost use Rattle.wb_history.specs.Locales.{where_answer, locale_answer};
 
 use crate::query::Answer;
-use wb_book::{AnyIndex, Book, Cell, Name};
+use wb_book::{AnyIndex, Cell, Name};
 use wb_edit::judgements;
 use wb_log::Refusal;
+use wb_shelf::Book;
 
 /// The locale of an index of a domain, or why it lies on none.
 pub(crate) fn locale_of(

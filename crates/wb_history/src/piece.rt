@@ -2,15 +2,19 @@
 
 ghost use Rattle.std.specs.Prelude.{◌≡◌, IfOk};
 ghost use Rattle.std.specs.Bool.{Decides};
-ghost use Rattle.wb_history.specs.Pieces.{mapped_by, mapped_at, locales_of, lies_on, piece_on, piece_of, piece_answer, OrNoMemory};
+ghost use Rattle.wb_elements.specs.Indexed.{indexed};
+ghost use Rattle.wb_elements.specs.Lent.{lent};
+ghost use Rattle.wb_history.specs.Pieces.{piece_of, piece_answer, OrNoMemory};
 
 use crate::query::Answer;
 use std::alloc::Global;
 use std::marker::Model;
-use wb_book::{AnyDomain, AnyIndex, Book, Cell, DomainKind, Name};
+use wb_book::{AnyIndex, Cell, Name};
 use wb_edit::judgements;
+use wb_elements::{AsIndex, Pairs};
 use wb_log::Refusal;
 use wb_range::NoMemory;
+use wb_shelf::Book;
 
 /// The elements of an array on one locale, each after its index, ascending by index. Contracts see the list of them.
 #[derive(Debug, Drop)]
@@ -83,69 +87,52 @@ fn are_same(pairs: &[(AnyIndex, i64)], others: &[(AnyIndex, i64)]) -> bool
     true
 }
 
-// The domain by whose mapping the indices of a domain lie: a sparse one goes by its parent's.
-fn mapped_by(domain: Name, kind: &AnyDomain) -> Name
-    ensures { result ≡ mapped_by domain kind.now }
+// Elements that are lent, each after its index.
+fn listed<K: AsIndex>(alloc: Global, pairs: &[(K, i64)]) -> Result<Vec<(AnyIndex, i64)>, NoMemory>
+    ensures { IfOk result (λ v. v.items ≡ indexed K.as_index pairs.now) }
 {
-    match kind.domain_kind() {
-        DomainKind::Rectangular(_) => domain,
-        DomainKind::Sparse(parent, _) => parent,
-        DomainKind::Associative(_) => domain,
+    let mut found = Vec::new(alloc);
+    for (key, value) in pairs {
+        if found.push((key.any(), *value)).is_err() {
+            return Err(NoMemory);
+        }
     }
+    Ok(found)
 }
 
-// The same, by what the domain is.
-fn mapped_at(book: &Book, domain: Name) -> Name
-    ensures { result ≡ mapped_at book.now.cells domain }
+// The same, whatever the form of the indices.
+fn piece_of(alloc: Global, pairs: Pairs<'_>) -> Result<Piece, NoMemory>
+    ensures { IfOk result (λ p. p ≡ lent pairs.entry) }
 {
-    match judgements::domain_kind(book.get(&Cell::Object(domain))) {
-        Ok(kind) => mapped_by(domain, &kind),
-        Err(_) => domain,
-    }
-}
-
-// How many locales there are by the mapping of a domain, 1 where that has none.
-fn locales_of(book: &Book, mapped: Name) -> usize
-    ensures { result ≡ locales_of book.now.cells mapped }
-{
-    book.locale_count(&mapped).unwrap_or(1)
-}
-
-// Whether an element after its index lies on a locale by the mapping of a domain.
-fn lies_on(book: &Book, mapped: Name, locale: u64, element: &(AnyIndex, i64)) -> bool
-    ensures { result ≡ lies_on book.now.cells mapped locale element.now }
-{
-    book.locale_by(&mapped, &element.0).unwrap_or(0) as u64 == locale
-}
-
-// The elements of an array on a locale, by the mapping of a domain.
-fn piece_on(book: &Book, array: Name, mapped: Name, locale: u64) -> Result<Piece, NoMemory>
-    ensures { IfOk result (λ p. p ≡ piece_on book.now.cells array mapped locale) }
-{
-    let mut pairs = book.elements(&array)?;
-    pairs.retain(
-        |x: &(AnyIndex, i64)| -> bool
-            ensures { result ≡ lies_on book.entry.now.cells mapped locale x.entry.now }
-        { lies_on(book, mapped, locale, x) },
-    );
+    let pairs = match pairs {
+        Pairs::Line(pairs) => listed(alloc, pairs)?,
+        Pairs::Plane(pairs) => listed(alloc, pairs)?,
+        Pairs::Solid(pairs) => listed(alloc, pairs)?,
+        Pairs::Text(pairs) => listed(alloc, pairs)?,
+    };
     Ok(Piece::new(pairs))
 }
 
-/// The piece of an array on a locale as an answer, or why there is none, or that memory ran out.
-pub(crate) fn piece_answer(book: &Book, array: Name, locale: u64) -> Result<Answer, Refusal>
+/// The piece of an array on a locale as an answer, or why there is none, or that memory ran out. No element of another
+/// locale is looked at.
+pub(crate) fn piece_answer(
+    alloc: Global,
+    book: &Book,
+    array: Name,
+    locale: u64,
+) -> Result<Answer, Refusal>
     ensures { OrNoMemory (piece_answer (piece_of book.now.cells array locale)) result }
 {
-    let domain = match judgements::array_kind(book.get(&Cell::Object(array))) {
-        Ok((domain, _)) => domain,
+    let _formed = book.writes();
+    match judgements::array_kind(book.get(&Cell::Object(array))) {
+        Ok(_) => {}
         Err(why) => return Err(Refusal::Refused(why)),
-    };
-    let mapped = mapped_at(book, domain);
-    if locale < locales_of(book, mapped) as u64 {
-        match piece_on(book, array, mapped, locale) {
+    }
+    match book.piece(&array, locale as usize) {
+        None => Err(Refusal::Refused(wb_edit::Refusal::OutOfDomain)),
+        Some(pairs) => match piece_of(alloc, pairs) {
             Ok(piece) => Ok(Answer::Piece(piece)),
             Err(_) => Err(Refusal::NoMemory),
-        }
-    } else {
-        Err(Refusal::Refused(wb_edit::Refusal::OutOfDomain))
+        },
     }
 }

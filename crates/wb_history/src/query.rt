@@ -4,10 +4,12 @@ ghost use Rattle.wb_history.specs.Queries.{element_or_implicit, get_answer, valu
 
 use crate::piece::Piece;
 use std::alloc::Global;
-use wb_book::{AnyIndex, Book, Cell, Kind, Name};
+use wb_book::{AnyIndex, Cell, Kind, Name};
 use wb_edit::{has_implicit, judgements, number_in, parent_in};
 use wb_log::Refusal;
 use wb_range::NoMemory;
+use wb_redist::Op;
+use wb_shelf::Book;
 
 /// A question about the workbook or its history.
 #[derive(Clone, Copy, Debug)]
@@ -20,6 +22,8 @@ pub enum Query {
     Where(Name, AnyIndex),
     /// The elements of an array on a locale, numbered from 0.
     Piece(Name, u64),
+    /// The sum, the least or the greatest of the elements of an array.
+    Reduce(Name, Op),
     /// Whether the edit of a number is in force.
     State(u64),
 }
@@ -50,6 +54,12 @@ impl Query {
                 }
                 *locale == *number
             }
+            (Query::Reduce(array, op), Query::Reduce(by, other)) => {
+                if !array.is_same(by) {
+                    return false;
+                }
+                *op == *other
+            }
             (Query::State(number), Query::State(by)) => *number == *by,
             _ => false,
         }
@@ -59,7 +69,7 @@ impl Query {
 /// What a query is answered.
 #[derive(Debug, Drop)]
 pub enum Answer {
-    /// An element.
+    /// An element, or a reduction.
     Value(i64),
     /// How many indices there are.
     Size(usize),

@@ -7,6 +7,7 @@ use std::alloc::Global;
 use thiserror::Error;
 use wb_edit::Edit;
 use wb_log::Refusal;
+use wb_redist::Mover;
 
 /// Why a list of edits gives no history.
 #[derive(Clone, Copy, Debug, PartialEq, Eq, Error)]
@@ -14,7 +15,7 @@ pub enum RestoreErr {
     /// An edit in force is not accepted in its place.
     #[error("an edit in force is not accepted in its place")]
     NotLegal,
-    /// A growth was refused.
+    /// A growth was refused, or a mover had no thread.
     #[error("no memory")]
     NoMemory,
 }
@@ -38,13 +39,18 @@ fn stopped(why: Refusal) -> RestoreErr
 }
 
 // Puts an edit in as the last one, by its mark.
-fn put_in(history: &mut History, edit: Edit, in_force: bool) -> Result<(), RestoreErr>
+fn put_in<M: Mover>(
+    history: &mut History,
+    edit: Edit,
+    in_force: bool,
+    mover: &M,
+) -> Result<(), RestoreErr>
     ensures entries { OnOk result (history.new.entries ≡ history.old.entries ++ one_of edit in_force ∷ []) }
     ensures counted { OnOk result (IsCounted history.old → IsCounted history.new) }
     ensures refused { IfErr result (λ why. why ≡ RestoreErr.NotLegal → BeginsNone (history.old.entries ++ one_of edit in_force ∷ [])) }
 {
     if in_force {
-        match history.edit(edit) {
+        match history.edit(edit, mover) {
             Ok(_) => Ok(()),
             Err(why) => Err(stopped(why)),
         }
@@ -59,12 +65,16 @@ fn put_in(history: &mut History, edit: Edit, in_force: bool) -> Result<(), Resto
 impl History {
     /// The history of the edits of a list, each with whether it is in force. Each edit in force is made once, in its
     /// place; one out of force is not tried.
-    pub fn restore(alloc: Global, edits: Vec<(Edit, bool)>) -> Result<History, RestoreErr>
+    pub fn restore<M: Mover>(
+        alloc: Global,
+        edits: Vec<(Edit, bool)>,
+        mover: &M,
+    ) -> Result<History, RestoreErr>
         ensures { RestoreReply (marked edits.items) result }
     {
         let mut history = History::new(alloc);
         for (edit, in_force) in edits {
-            if let Err(why) = put_in(&mut history, edit, in_force) {
+            if let Err(why) = put_in(&mut history, edit, in_force, mover) {
                 return Err(why);
             }
         }

@@ -1,14 +1,16 @@
 -- Which replies leave the history.
-use Rattle.std.proofs.Common.{◌≡◌, ℕ, Bool, true, false, Some, None, MatchBool, ap}
+use Rattle.std.proofs.Common.{◌≡◌, ℕ, zero, suc, List, Bool, true, false, Option, Some, None, Ok, Err, MatchBool, Result, ap}
 use Rattle.wb_history.specs.Past.{Past}
 use Rattle.wb_history.specs.declared.query.Answer.{Answer}
 use Rattle.wb_log.specs.declared.refusal.Refusal.{Refusal}
+use Rattle.wb_log.specs.declared.refusal.Refusal.TheVariants.{NoSuchEdit}
+use Rattle.wb_log.specs.Cascades.{DependentsReply, CascadeReply, OfNumber}
 use Rattle.wb_proto.specs.Machine.{Step}
 use Rattle.wb_proto.specs.declared.replies.reply.Reply.{Reply}
-use Rattle.wb_proto.specs.declared.replies.reply.Reply.TheVariants.{Edited, Undone, Redone, Answered, Printed, Refused}
+use Rattle.wb_proto.specs.declared.replies.reply.Reply.TheVariants.{Edited, Undone, Cascaded, Redone, Listed, Answered, Printed, Refused}
 use Rattle.wb_proto.specs.declared.requests.request.Request.{Request}
-use Rattle.wb_proto.specs.declared.requests.request.Request.TheVariants.{Change, Undo, Redo, Ask, Print, History}
-use Rattle.wb_journal.specs.Entries.{is_entered, is_long, leaves_all}
+use Rattle.wb_proto.specs.declared.requests.request.Request.TheVariants.{Change, Undo, Redo, Cascade, Dependents, Ask, Print, History}
+use Rattle.wb_journal.specs.Entries.{is_entered, is_long, leaves_all, cascade_in}
 use Rattle.wb_journal.specs.Courses.{Course}
 use Rattle.wb_journal.specs.Serving.{Enters, AnswersCourse}
 
@@ -17,6 +19,8 @@ refused_leaves p (Change e) why q s = s.1
 refused_leaves p (Undo (Some k)) why q s = s.1
 refused_leaves p (Undo None) why q s = s.1
 refused_leaves p (Redo k) why q s = s.1
+refused_leaves p (Cascade k) why q s = s.1
+refused_leaves p (Dependents k) why q s = s.1
 refused_leaves p (Ask a) why q s = s.1
 refused_leaves p Print why q s = s.1
 refused_leaves p History why q s = s.1
@@ -26,6 +30,8 @@ answered_leaves p (Change e) a q s = absurd s
 answered_leaves p (Undo (Some k)) a q s = absurd s
 answered_leaves p (Undo None) a q s = absurd s
 answered_leaves p (Redo k) a q s = absurd s
+answered_leaves p (Cascade k) a q s = absurd s
+answered_leaves p (Dependents k) a q s = absurd s
 answered_leaves p (Ask asked) a q s = s.1
 answered_leaves p Print a q s = absurd s
 answered_leaves p History a q s = absurd s
@@ -35,30 +41,79 @@ printed_leaves p (Change e) t q s = absurd s
 printed_leaves p (Undo (Some k)) t q s = absurd s
 printed_leaves p (Undo None) t q s = absurd s
 printed_leaves p (Redo k) t q s = absurd s
+printed_leaves p (Cascade k) t q s = absurd s
+printed_leaves p (Dependents k) t q s = absurd s
 printed_leaves p (Ask asked) t q s = absurd s
 printed_leaves p Print t q s = s.1
 printed_leaves p History t q s = s.1
 
+listed_leaves : (p : Past) (asked : Request) (ks : List ℕ) (q : Past) → Step p asked (Listed ks) q → q ≡ p
+listed_leaves p (Change e) ks q s = absurd s
+listed_leaves p (Undo (Some k)) ks q s = absurd s
+listed_leaves p (Undo None) ks q s = absurd s
+listed_leaves p (Redo k) ks q s = absurd s
+listed_leaves p (Cascade k) ks q s = absurd s
+listed_leaves p (Dependents k) ks q s = s.1
+listed_leaves p (Ask asked) ks q s = absurd s
+listed_leaves p Print ks q s = absurd s
+listed_leaves p History ks q s = absurd s
+
+-- Only an undo with dependents is replied by what it undid.
+cascaded_leaves : (p : Past) (asked : Request) (ks : List ℕ) (n : ℕ) (q : Past) → cascade_in asked ≡ None → Step p asked (Cascaded ks n) q → q ≡ p
+cascaded_leaves p (Change e) ks n q none s = absurd s
+cascaded_leaves p (Undo (Some k)) ks n q none s = absurd s
+cascaded_leaves p (Undo None) ks n q none s = absurd s
+cascaded_leaves p (Redo k) ks n q none s = absurd s
+cascaded_leaves p (Cascade k) ks n q none s = cc
+cascaded_leaves p (Dependents k) ks n q none s = absurd s
+cascaded_leaves p (Ask asked) ks n q none s = absurd s
+cascaded_leaves p Print ks n q none s = absurd s
+cascaded_leaves p History ks n q none s = absurd s
+
+pub is_cascade : (asked : Request) (k : ℕ) → cascade_in asked ≡ Some k → asked ≡ Cascade k
+is_cascade (Cascade j) k is = cc
+is_cascade (Change e) k is = cc
+is_cascade (Undo j) k is = cc
+is_cascade (Redo j) k is = cc
+is_cascade (Dependents j) k is = cc
+is_cascade (Ask asked) k is = cc
+is_cascade Print k is = cc
+is_cascade History k is = cc
+
+err_same : {X Y : Type 0} (v w : Refusal) → ◌≡◌ {A = Result X Refusal} (Err v) (Err w) → ◌≡◌ {A = Result Y Refusal} (Err v) (Err w)
+err_same v w e = let same : v ≡ w = cc in ap Err same
+
+-- An undo with dependents is refused as the question for them is.
+pub refused_alike : (es : _) (number : ℕ) (why : Refusal) → OfNumber (DependentsReply es) number (Err why) → OfNumber (CascadeReply es) number (Err why)
+refused_alike es zero why reply = err_same why NoSuchEdit reply
+refused_alike es (suc k) why reply = reply
+
 pub unentered_leaves : (p : Past) (asked : Request) (r : Reply) (q : Past) → Step p asked r q → is_entered r ≡ false → q ≡ p
 unentered_leaves p asked (Edited k n) q s e = cc
 unentered_leaves p asked (Undone k n) q s e = cc
+unentered_leaves p asked (Cascaded ks n) q s e = cc
 unentered_leaves p asked (Redone k n) q s e = cc
+unentered_leaves p asked (Listed ks) q s e = cc
 unentered_leaves p asked (Answered a) q s e = cc
 unentered_leaves p asked (Printed t) q s e = cc
 unentered_leaves p asked (Refused why) q s e = refused_leaves p asked why q s
 
-pub long_leaves : (p : Past) (asked : Request) (r : Reply) (q : Past) → Step p asked r q → is_long r ≡ true → q ≡ p
-long_leaves p asked (Edited k n) q s e = cc
-long_leaves p asked (Undone k n) q s e = cc
-long_leaves p asked (Redone k n) q s e = cc
-long_leaves p asked (Answered a) q s e = answered_leaves p asked a q s
-long_leaves p asked (Printed t) q s e = printed_leaves p asked t q s
-long_leaves p asked (Refused why) q s e = cc
+pub long_leaves : (p : Past) (asked : Request) (r : Reply) (q : Past) → cascade_in asked ≡ None → Step p asked r q → is_long r ≡ true → q ≡ p
+long_leaves p asked (Edited k n) q none s e = cc
+long_leaves p asked (Undone k n) q none s e = cc
+long_leaves p asked (Cascaded ks n) q none s e = cascaded_leaves p asked ks n q none s
+long_leaves p asked (Redone k n) q none s e = cc
+long_leaves p asked (Listed ks) q none s e = listed_leaves p asked ks q s
+long_leaves p asked (Answered a) q none s e = answered_leaves p asked a q s
+long_leaves p asked (Printed t) q none s e = printed_leaves p asked t q s
+long_leaves p asked (Refused why) q none s e = cc
 
 pub left : (p : Past) (asked : Request) (r : Reply) (q : Past) → Step p asked r q → leaves_all r ≡ true → q ≡ p
 left p asked (Edited k n) q s e = cc
 left p asked (Undone k n) q s e = cc
+left p asked (Cascaded ks n) q s e = cc
 left p asked (Redone k n) q s e = cc
+left p asked (Listed ks) q s e = listed_leaves p asked ks q s
 left p asked (Answered a) q s e = answered_leaves p asked a q s
 left p asked (Printed t) q s e = printed_leaves p asked t q s
 left p asked (Refused why) q s e = refused_leaves p asked why q s

@@ -12,6 +12,7 @@ use crate::replying::is_entered;
 use std::alloc::Global;
 use std::sync::ledger::{Book, Ledger};
 use wb_proto::{Reply, Request};
+use wb_redist::Mover;
 
 /// A journal, and the book of a ledger.
 #[derive(Drop)]
@@ -23,7 +24,13 @@ pub struct Counted<L: Ledger> {
 impl<L: Ledger> Counted<L> {
     /// Answers a request of a pass: the reply is entered in the journal and in the pass, and counted in the total and in the share of
     /// the pass. A course goes on as a course.
-    pub fn answer(&mut self, alloc: Global, pass: &mut Pass<L>, request: Request) -> Reply
+    pub fn answer<M: Mover>(
+        &mut self,
+        alloc: Global,
+        pass: &mut Pass<L>,
+        request: Request,
+        mover: &M,
+    ) -> Reply
         ensures course { (opening : Past) → IsCourse opening self.old.journal → IsCourse opening self.new.journal }
         ensures strange { IsStrange self.old.journal pass.old.seat pass.old.own result }
         ensures answers { AnswersCourse self.old.journal pass.old.seat request result self.new.journal }
@@ -37,7 +44,7 @@ impl<L: Ledger> Counted<L> {
     {
         let reply = self
             .journal
-            .answer(alloc, pass.seat, &mut pass.own, request);
+            .answer(alloc, pass.seat, &mut pass.own, request, mover);
         if is_entered(&reply) {
             self.calls.add(&mut pass.share, 1);
         }

@@ -15,6 +15,7 @@ use std::sync::ledger::Ledger;
 use wb_history::{History, Refusal};
 use wb_proto::{Reply, Request};
 use wb_range::NoMemory;
+use wb_redist::Mover;
 
 /// A history, and the journal of all that was asked of it and replied since the opening. Contracts see it as a course.
 #[derive(Drop)]
@@ -101,12 +102,13 @@ impl Journal {
     }
 
     // Answers a pass that is known.
-    fn answer_known(
+    fn answer_known<M: Mover>(
         &mut self,
         alloc: Global,
         seat: usize,
         own: &mut Vec<Entry>,
         request: Request,
+        mover: &M,
     ) -> Result<Reply, NoMemory>
         requires { Knows self.old seat own.old.items }
         ensures ok { IfOk result (λ r. (is_entered r ≡ true) × Enters self.old seat request r self.new × (own.new.items ≡ own.old.items ++ entry seat request r ∷ [])) }
@@ -120,7 +122,7 @@ impl Journal {
         }
         let asked = request.copy(alloc)?;
         let told = request.copy(alloc)?;
-        let (reply, first, second) = replied(alloc, &mut self.history, request)?;
+        let (reply, first, second) = replied(alloc, &mut self.history, request, mover)?;
         self.entries.push_reserved(Entry {
             seat,
             request: asked,
@@ -136,12 +138,13 @@ impl Journal {
     }
 
     /// Answers a request of a seat, whose own entries these are, and enters the reply in the journal and among them.
-    pub(crate) fn answer(
+    pub(crate) fn answer<M: Mover>(
         &mut self,
         alloc: Global,
         seat: usize,
         own: &mut Vec<Entry>,
         request: Request,
+        mover: &M,
     ) -> Reply
         ensures strange { IsStrange self.old seat own.old.items result }
         ensures answers { AnswersCourse self.old seat request result self.new }
@@ -150,7 +153,7 @@ impl Journal {
         if !self.knows(seat, own.as_slice()) {
             return Reply::Refused(Refusal::StrangePass);
         }
-        match self.answer_known(alloc, seat, own, request) {
+        match self.answer_known(alloc, seat, own, request, mover) {
             Ok(reply) => reply,
             Err(NoMemory) => Reply::Refused(Refusal::NoMemory),
         }

@@ -1,12 +1,16 @@
 // One request answered by a history, with copies of the reply for the journal and the pass.
-ghost use Rattle.std.specs.Prelude.{◌≡◌, Bool, true, false, IfOk, OnErr};
+ghost use Rattle.std.specs.Prelude.{◌≡◌, Bool, true, false, None, Ok, IfOk, OnErr};
+ghost use Rattle.wb_history.specs.Cascades.{DependentsReply, OfNumber};
+ghost use Rattle.wb_history.specs.Past.{meant};
 ghost use Rattle.wb_proto.specs.Machine.{Step};
-ghost use Rattle.wb_journal.specs.Entries.{is_told, is_entered, is_long};
+ghost use Rattle.wb_proto.specs.declared.requests.request.Request.TheVariants.{Cascade};
+ghost use Rattle.wb_journal.specs.Entries.{is_told, is_entered, is_long, cascade_in};
 
 use std::alloc::Global;
 use wb_history::{History, Refusal};
-use wb_proto::{Reply, Request, answer_request};
+use wb_proto::{EditNumbers, Reply, Request, answer_request};
 use wb_range::NoMemory;
+use wb_redist::Mover;
 
 fn is_told(refusal: Refusal) -> bool
     ensures { result ≡ is_told refusal }
@@ -32,14 +36,16 @@ pub(crate) fn is_entered(reply: &Reply) -> bool
     match reply {
         Reply::Edited(_, _) => true,
         Reply::Undone(_, _) => true,
+        Reply::Cascaded(_, _) => true,
         Reply::Redone(_, _) => true,
+        Reply::Listed(_) => true,
         Reply::Answered(_) => true,
         Reply::Printed(_) => true,
         Reply::Refused(why) => is_told(*why),
     }
 }
 
-// An equal reply. Only an answer or a text may find no memory.
+// An equal reply. Only an answer, a list or a text may find no memory.
 fn copied(alloc: Global, reply: &Reply) -> Result<Reply, NoMemory>
     ensures ok { IfOk result (λ r. r ≡ reply.now) }
     ensures err { OnErr result (is_long reply.now ≡ true) }
@@ -47,28 +53,111 @@ fn copied(alloc: Global, reply: &Reply) -> Result<Reply, NoMemory>
     match reply {
         Reply::Edited(edit, count) => Ok(Reply::Edited(*edit, *count)),
         Reply::Undone(edit, count) => Ok(Reply::Undone(*edit, *count)),
+        Reply::Cascaded(edits, count) => Ok(Reply::Cascaded(edits.copy(alloc)?, *count)),
         Reply::Redone(edit, count) => Ok(Reply::Redone(*edit, *count)),
+        Reply::Listed(edits) => Ok(Reply::Listed(edits.copy(alloc)?)),
         Reply::Answered(answer) => Ok(Reply::Answered(answer.copy(alloc)?)),
         Reply::Printed(text) => Ok(Reply::Printed(text.copy(alloc)?)),
         Reply::Refused(why) => Ok(Reply::Refused(*why)),
     }
 }
 
-/// Answers a request: the reply, and two equal ones. Where no memory is left, nothing is changed.
+// The number of the edit that a request undoes with all that need it.
+fn cascade_in(request: &Request) -> Option<u64>
+    ensures { result ≡ cascade_in request.now }
+{
+    match request {
+        Request::Cascade(number) => Some(*number),
+        Request::Change(_)
+        | Request::Undo(_)
+        | Request::Redo(_)
+        | Request::Dependents(_)
+        | Request::Ask(_)
+        | Request::Print
+        | Request::History => None,
+    }
+}
+
+// Undo with dependents, which are these: the copies of the list are made before anything is undone.
+fn cascade_listed<M: Mover>(
+    alloc: Global,
+    history: &mut History,
+    number: u64,
+    listed: EditNumbers,
+    mover: &M,
+) -> Result<(Reply, Reply, Reply), NoMemory>
+    requires { OfNumber (DependentsReply (meant history.old.entries)) number (Ok listed) }
+    ensures ok { IfOk result (λ r. (is_entered r.0 ≡ true) × Step history.old (Cascade number) r.0 history.new × (r.1 ≡ r.0) × (r.2 ≡ r.0)) }
+    ensures err { OnErr result (history.new ≡ history.old) }
+{
+    let first = listed.copy(alloc)?;
+    let second = listed.copy(alloc)?;
+    let (done, count) = history.cascade_listed(number, listed.as_slice(), mover)?;
+    Ok((
+        Reply::Cascaded(listed.first(done), count),
+        Reply::Cascaded(first.first(done), count),
+        Reply::Cascaded(second.first(done), count),
+    ))
+}
+
+// Undo with dependents: the reply, and two equal ones.
+fn replied_to_cascade<M: Mover>(
+    alloc: Global,
+    history: &mut History,
+    number: u64,
+    mover: &M,
+) -> Result<(Reply, Reply, Reply), NoMemory>
+    ensures ok { IfOk result (λ r. (is_entered r.0 ≡ true) × Step history.old (Cascade number) r.0 history.new × (r.1 ≡ r.0) × (r.2 ≡ r.0)) }
+    ensures err { OnErr result (history.new ≡ history.old) }
+{
+    match history.dependents(number) {
+        Ok(listed) => cascade_listed(alloc, history, number, EditNumbers::new(listed), mover),
+        Err(why) => {
+            if !is_told(why) {
+                return Err(NoMemory);
+            }
+            Ok((
+                Reply::Refused(why),
+                Reply::Refused(why),
+                Reply::Refused(why),
+            ))
+        }
+    }
+}
+
+// The reply to any other request, and two equal ones.
 #[tactic(auto, using(crate::proofs::Replies::unentered_leaves, crate::proofs::Replies::long_leaves))]
-pub(crate) fn replied(
+fn replied_to_other<M: Mover>(
     alloc: Global,
     history: &mut History,
     request: Request,
+    mover: &M,
 ) -> Result<(Reply, Reply, Reply), NoMemory>
+    requires { cascade_in request ≡ None }
     ensures ok { IfOk result (λ r. (is_entered r.0 ≡ true) × Step history.old request r.0 history.new × (r.1 ≡ r.0) × (r.2 ≡ r.0)) }
     ensures err { OnErr result (history.new ≡ history.old) }
 {
-    let reply = answer_request(alloc, history, request);
+    let reply = answer_request(alloc, history, request, mover);
     if !is_entered(&reply) {
         return Err(NoMemory);
     }
     let first = copied(alloc, &reply)?;
     let second = copied(alloc, &reply)?;
     Ok((reply, first, second))
+}
+
+/// Answers a request: the reply, and two equal ones. Where no memory is left, nothing is changed.
+pub(crate) fn replied<M: Mover>(
+    alloc: Global,
+    history: &mut History,
+    request: Request,
+    mover: &M,
+) -> Result<(Reply, Reply, Reply), NoMemory>
+    ensures ok { IfOk result (λ r. (is_entered r.0 ≡ true) × Step history.old request r.0 history.new × (r.1 ≡ r.0) × (r.2 ≡ r.0)) }
+    ensures err { OnErr result (history.new ≡ history.old) }
+{
+    match cascade_in(&request) {
+        Some(number) => replied_to_cascade(alloc, history, number, mover),
+        None => replied_to_other(alloc, history, request, mover),
+    }
 }

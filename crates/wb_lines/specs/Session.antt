@@ -1,5 +1,8 @@
 -- What a session does, up to its end.
-use Rattle.std.specs.Prelude.{◌≡◌, ◌⊎◌, ◌<◌, ℕ, List, [], ◌∷◌, ◌++◌, length, take, nat_lt, codes, MatchBool}
+use Rattle.std.specs.Prelude.{◌≡◌, ◌⊎◌, ◌<◌, ℕ, List, [], ◌∷◌, ◌++◌, length, take, nat_lt, codes, Result, Ok, Err, MatchBool}
+use Rattle.std.specs.Fn.{Shared}
+use Rattle.std.specs.declared.vec.Vec.{Vec}
+use denote.Ref.{Bor, MutBor}
 use Rattle.wb_lines.specs.Lines.{ended, lines, whole_lines}
 use Rattle.wb_lines.specs.Reading.{line_limit}
 use Rattle.wb_lines.specs.Replies.{Replies}
@@ -17,6 +20,17 @@ AnswersLine answers m line reply n = MatchBool (nat_lt line_limit (length line))
 -- The machine may have stood still, or have answered with nobody told.
 abbrev pub MayAnswer : {M : Type 0} → (M → List ℕ → List ℕ → M → Type 0) → M → List ℕ → M → Type 0
 MayAnswer answers m line n = (n ≡ m) ⊎ ((reply : List ℕ) × answers m line reply n)
+
+-- What answers a line gives a reply of the machine, or has no memory for it.
+abbrev pub Answered : {M Z E : Type 0} → (M → List ℕ → List ℕ → M → Type 0) → M → List ℕ → Result (Vec ℕ Z) E → M → Type 0
+Answered answers m line (Ok reply) n = answers m line reply.items n
+Answered answers m line (Err e) n = MayAnswer answers m line n
+
+-- so does f, called at any state and any line
+abbrev pub AnswersBy : {F M Z E : Type 0} → Shared F (MutBor M × (Bor (List ℕ) × Unit {0})) (Result (Vec ℕ Z) E × (MutBor M × Unit {0})) → F
+    → (M → List ℕ → List ℕ → M → Type 0) → Type 0
+AnswersBy {F} {M} {Z} {E} g f answers = (m : MutBor M) (line : Bor (List ℕ)) (r : Result (Vec ℕ Z) E) (n : MutBor M)
+    → g.post f (m, (line, tt)) (r, (n, tt)) → Answered answers m.now line.now r n.now
 
 -- each of these lines was answered, and so many they are
 abbrev pub AnswersAll : {M : Type 0} → (M → List ℕ → List ℕ → M → Type 0) → M → List (List ℕ) → List ℕ → ℕ → M → Type 0

@@ -1,6 +1,4 @@
-ghost use Rattle.std.specs.Prelude.{◌≡◌, ℕ, List, IfOk, OnErr};
-
-use std::alloc::AllocError;
+ghost use Rattle.std.specs.Prelude.{ℕ, List};
 
 /// How a session ended, each with the number of lines that were answered whole.
 #[derive(Clone, Copy, Debug, PartialEq, Eq)]
@@ -17,15 +15,8 @@ pub enum SessionEnd {
     NoMemory(u64),
 }
 
-/// What answers lines: a state, and what may be answered in it.
-pub trait Machine {
-    ghost use Rattle.wb_lines.specs.Session.{MayAnswer};
-
+/// What may be answered to lines in states. It has no code: who serves lines hands in a function that answers so.
+pub trait Machine<S> {
     // From a state a line may get a reply, which leads to a state.
-    ghost answers: { Self → List ℕ → List ℕ → Self → Type 0 };
-
-    /// The reply to a line, without a line end.
-    fn answer(&mut self, line: &[u8]) -> Result<Vec<u8>, AllocError>
-        ensures ok { IfOk result (λ reply. answers self.old line.now reply.items self.new) }
-        ensures err { OnErr result (MayAnswer answers self.old line.now self.new) };
+    ghost answers: { S → List ℕ → List ℕ → S → Type 0 };
 }

@@ -3,7 +3,7 @@ ghost use Rattle.std.specs.Io.KnownBytes.{Appends, Consumes, IsAtEnd, Keeps};
 ghost use Rattle.wb_lines.specs.Causes.{ReadsUntil, WritesUntil};
 ghost use Rattle.wb_lines.specs.Lines.{BeginsWithLine, ended};
 ghost use Rattle.wb_lines.specs.Reading.{IsText};
-ghost use Rattle.wb_lines.specs.Session.{AnswersLine, MayAnswer, Serves};
+ghost use Rattle.wb_lines.specs.Session.{AnswersLine, AnswersBy, MayAnswer, Serves};
 ghost use Rattle.wb_lines.specs.declared.machine.SessionEnd.{SessionEnd};
 
 use crate::buffer::{Line, LineBuffer, LineFault, next_line};
@@ -23,44 +23,50 @@ enum Stop {
 }
 
 // The reply to a line that is no end.
-fn reply_to<M: Machine>(
+fn reply_to<M: Machine<S>, S, F: Fn(&mut S, &[u8]) -> Result<Vec<u8>, AllocError>>(
     alloc: Global,
-    machine: &mut M,
+    state: &mut S,
+    answer: &F,
     line: Line,
     bytes: &[u8],
 ) -> Result<Vec<u8>, AllocError>
-    requires { line ≢ Line.End }
+    requires some { line ≢ Line.End }
+    requires callable { F.IsAlwaysCallable answer.now }
+    requires answers { AnswersBy F.Fn answer.now M.answers }
     ensures ok { IfOk result (λ reply. (text : List ℕ) → IsText line bytes.now text
-        → AnswersLine M.answers machine.old text reply.items machine.new) }
+        → AnswersLine M.answers state.old text reply.items state.new) }
     ensures err { OnErr result ((text : List ℕ) → IsText line bytes.now text
-        → MayAnswer (AnswersLine M.answers) machine.old text machine.new) }
+        → MayAnswer (AnswersLine M.answers) state.old text state.new) }
 {
     match line {
         Line::TooLong => Vec::from_slice(alloc, TOO_LONG),
-        _ => machine.answer(bytes),
+        _ => answer(state, bytes),
     }
 }
 
 // Answers a line: the reply and a line end.
-fn answer_line<M: Machine, W: Sink>(
+fn answer_line<M: Machine<S>, S, F: Fn(&mut S, &[u8]) -> Result<Vec<u8>, AllocError>, W: Sink>(
     alloc: Global,
-    machine: &mut M,
+    state: &mut S,
+    answer: &F,
     writer: &mut W,
     line: Line,
     bytes: &[u8],
 ) -> Result<(), Stop>
-    requires { line ≢ Line.End }
+    requires some { line ≢ Line.End }
+    requires callable { F.IsAlwaysCallable answer.now }
+    requires answers { AnswersBy F.Fn answer.now M.answers }
     ensures ok { OnOk result ((text : List ℕ) → IsText line bytes.now text → (reply : List ℕ)
-        × AnswersLine M.answers machine.old text reply machine.new
+        × AnswersLine M.answers state.old text reply state.new
         × Appends (W.contents writer.old) (W.contents writer.new) (ended reply)) }
     ensures err { OnErr result ((text : List ℕ) → IsText line bytes.now text
-        → ((machine.new ≡ machine.old) × Appends (W.contents writer.old) (W.contents writer.new) [])
-        ⊎ ((reply : List ℕ) × AnswersLine M.answers machine.old text reply machine.new
+        → ((state.new ≡ state.old) × Appends (W.contents writer.old) (W.contents writer.new) [])
+        ⊎ ((reply : List ℕ) × AnswersLine M.answers state.old text reply state.new
         × ((k : ℕ) × (k < length (ended reply))
         × Appends (W.contents writer.old) (W.contents writer.new) (take k (ended reply))))) }
     ensures failed { IsErrOf result Stop.WriteFault → W.failed writer.new ≡ true }
 {
-    let mut reply = match reply_to(alloc, machine, line, bytes) {
+    let mut reply = match reply_to::<M, S, F>(alloc, state, answer, line, bytes) {
         Ok(reply) => reply,
         Err(_) => return Err(Stop::NoMemory),
     };
@@ -96,17 +102,20 @@ fn flush_at_fault<W: Sink>(writer: &mut W)
 }
 
 /// Answers each line that is read, in order, until the end of input or a fault. A line that is too
-/// long is answered E91, and the machine stays. A writer that holds bytes back is flushed before
+/// long is answered E91, and the state stays. A writer that holds bytes back is flushed before
 /// each read and at the end.
-pub fn serve_lines<M: Machine, R: Source, W: Sink>(
-    alloc: Global,
-    machine: &mut M,
-    reader: &mut R,
-    writer: &mut W,
-) -> SessionEnd
+pub fn serve_lines<
+    M: Machine<S>,
+    S,
+    F: Fn(&mut S, &[u8]) -> Result<Vec<u8>, AllocError>,
+    R: Source,
+    W: Sink,
+>(alloc: Global, state: &mut S, answer: &F, reader: &mut R, writer: &mut W) -> SessionEnd
+    requires callable { F.IsAlwaysCallable answer.now }
+    requires answers { AnswersBy F.Fn answer.now M.answers }
     ensures serves { (read : List ℕ) × Consumes (R.remaining reader.old) (R.remaining reader.new) read
         × ((text : List ℕ) × Appends (W.contents writer.old) (W.contents writer.new) text
-        × Serves M.answers result machine.old read text machine.new) }
+        × Serves M.answers result state.old read text state.new) }
     ensures read { ReadsUntil result (R.remaining reader.new) (R.failed reader.new) (R.reads reader.old) (R.reads reader.new) }
     ensures written { WritesUntil result (W.flushed writer.new) (W.failed writer.new) }
 {
@@ -118,14 +127,16 @@ pub fn serve_lines<M: Machine, R: Source, W: Sink>(
         }
         match next_line(reader, &mut buffer) {
             Ok(Line::End) => return SessionEnd::Done(answered),
-            Ok(line) => match answer_line(alloc, machine, writer, line, buffer.line()) {
-                Ok(()) => answered += 1,
-                Err(Stop::WriteFault) => return SessionEnd::WriteFault(answered),
-                Err(Stop::NoMemory) => {
-                    flush_at_fault(writer);
-                    return SessionEnd::NoMemory(answered);
+            Ok(line) => {
+                match answer_line::<M, S, F, W>(alloc, state, answer, writer, line, buffer.line()) {
+                    Ok(()) => answered += 1,
+                    Err(Stop::WriteFault) => return SessionEnd::WriteFault(answered),
+                    Err(Stop::NoMemory) => {
+                        flush_at_fault(writer);
+                        return SessionEnd::NoMemory(answered);
+                    }
                 }
-            },
+            }
             Err(LineFault::ReadFault) => return SessionEnd::ReadFault(answered),
             Err(LineFault::TooManyReads) => return SessionEnd::TooManyReads(answered),
             Err(LineFault::NoMemory) => {

@@ -9,3 +9,4 @@ pub mod Granted
 pub mod Sweeps
 pub mod Depending
 pub mod Undoings
+pub mod Shortest

@@ -1,5 +1,5 @@
 -- Undo with dependents: which edits go, in which order, and what each answer says.
-use Rattle.std.specs.Prelude.{◌≡◌, ◌≢◌, ℕ, zero, suc, ◌+◌, ◌-◌, ◌^◌, min, List, [], ◌∷◌, ◌++◌, map, Option, Some, None, Result, Ok, Err, slice_get, ◌↔◌}
+use Rattle.std.specs.Prelude.{◌≡◌, ◌≢◌, ℕ, zero, suc, ◌+◌, ◌-◌, ◌^◌, ◌≤◌, min, length, List, [], ◌∷◌, ◌++◌, map, Option, Some, None, Result, Ok, Err, slice_get, ◌↔◌}
 use Rattle.selective_undo.specs.Edit.{Edit, Trace}
 use Rattle.selective_undo.specs.History as h
 use Rattle.selective_undo.specs.History.{undone, undo, traces, InForce, Dependent, CanUndoAll, Has, Falls}
@@ -54,6 +54,11 @@ abbrev pub CascadeReply : List (h.Entry workbook) → ℕ → Result (List ℕ �
 CascadeReply es k (Ok (ns, n)) =
     (ns ≢ []) × ((left : List ℕ) × DependentsReply es k (Ok (ns ++ left))) × CanUndoAll es (places ns) × (n ≡ min (set_back es (places ns)) (2 ^ 64 - 1))
 CascadeReply es k (Err why) = DependentsReply es k (Err why)
+
+-- Whoever undoes edit k, from 0, by undos that are granted one after another, undoes the edits of these numbers too, and so
+-- as many at least.
+abbrev pub NoShorter : List (h.Entry workbook) → ℕ → List ℕ → Type 0
+NoShorter es k ns = (ks : List ℕ) → CanUndoAll es ks → Has ks k → ((n : ℕ) → Has ns n → Has ks (n - 1)) × (length ns ≤ length ks)
 
 -- the edits of numbers, from 1, out of force
 abbrev pub all_out_of_force : List ℕ → List Numbered → List Numbered

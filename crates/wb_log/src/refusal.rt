@@ -12,7 +12,7 @@ pub enum Refusal {
     /// E02: a literal outside its grammar, or stride 0. Given by the reading of a request alone.
     #[error("bad-literal")]
     BadLiteral,
-    /// E03 to E10 and E15: the edit or the query is refused.
+    /// E03 to E10, E15 and E18: the edit or the query is refused.
     #[error("{0}")]
     Refused(wb_edit::Refusal),
     /// E11: no edit of that number, or nothing in force for undo of the latest.
@@ -30,7 +30,7 @@ pub enum Refusal {
     /// E16: redo of an edit that would be refused now.
     #[error("refused-in-place")]
     RefusedInPlace(wb_edit::Refusal),
-    /// E90: a growth was refused.
+    /// E90: a growth was refused, or a mover had no thread.
     #[error("no-memory")]
     NoMemory,
     /// E92: a pass that a desk does not know. Given by a desk alone.

@@ -23,7 +23,8 @@ fn book_of(alloc: Global, bytes: &[u8]) -> Result<Option<Vec<ObjectLine>>, Alloc
 /// The lines of the text of every workbook are read. Other texts may be read too, as where spaces stand in a literal: to
 /// know whether a text is a workbook's, print the workbook that the lines tell of, and compare.
 pub fn read_lines(alloc: Global, text: &str) -> Result<Option<Vec<ObjectLine>>, AllocError>
-    ensures { IfOk result (λ r. ReadsLines text.now (option_map (λ v. map line_of v.items) r)) }
+    ensures whole { IfOk result (λ r. ReadsLines text.now (option_map (λ v. map line_of v.items) r)) }
+    ensures lines { IfOk result (λ r. option_map (λ v. map line_of v.items) r ≡ book_of text.now) }
 {
     book_of(alloc, text.as_bytes())
 }

@@ -1,8 +1,12 @@
 -- The text up to the first line `end`, and bytes that are put back.
-use Rattle.std.proofs.Common.{◌≡◌, ◌∙◌, ◌+◌, ◌≤◌, ℕ, List, [], ◌++◌, length, take, Option, Some, None, option_map, is_some, true, IfNone, IfSome, sym, ap, subst, arith}
+use Rattle.std.proofs.Common.{◌≡◌, ◌∙◌, ◌+◌, ◌≤◌, inl, inr, ℕ, Bool, List, [], ◌++◌, length, take}
+use Rattle.std.proofs.Common.{Option, Some, None, option_map, is_some, true, IfNone, IfSome, sym, ap, subst, arith}
 use Rattle.std.proofs.lemmas.List.{append-nil, append_assoc, get_or-take, length-take-le}
 use Rattle.std.specs.Io.KnownBytes.{Appends, Consumes}
 use Rattle.memchr.specs.Find.{OccursAt, FindsNeedle}
+use Rattle.wb_lines.specs.Causes.{RisesBy}
+use Rattle.wb_lines.specs.Reading.{read_limit}
+use Rattle.wb_program.specs.Running.{HasFailed, HasFailedByNow}
 use Rattle.wb_program.specs.Resuming.{last_line, IsUpToEnd, HasNoEnd}
 
 -- ---- the first line `end`
@@ -62,3 +66,16 @@ of_none (Some x) P e h = cc
 pub of_some : {X : Type 0} (o : Option X) (P : X → Type 0) (x : X) → o ≡ Some x → IfSome o P → P x
 of_some None P x e h = cc
 of_some (Some y) P x e h = let f : y ≡ x = cc in subst P f h
+
+-- ---- how often a reader was read
+
+pub failed_at_once : (f : Bool) (a c : ℕ) (w : Bool) → HasFailed f a c w → HasFailedByNow f a c w
+failed_at_once f a c w (inl h) = inl h
+failed_at_once f a c w (inr (inl h)) = inr (inl (read_limit, omega arith, h))
+failed_at_once f a c w (inr (inr h)) = inr (inr h)
+
+-- after so many reads before
+pub failed_later : (m : ℕ) (f : Bool) (a b c : ℕ) (w : Bool) → RisesBy m a b → HasFailed f b c w → HasFailedByNow f a c w
+failed_later m f a b c w p (inl h) = inl h
+failed_later m f a b c w p (inr (inl h)) = inr (inl (m + read_limit, omega arith, omega (arith, p, h)))
+failed_later m f a b c w p (inr (inr h)) = inr (inr h)

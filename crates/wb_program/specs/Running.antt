@@ -1,5 +1,5 @@
 -- Sessions of the program, and the exit status after each.
-use Rattle.std.specs.Prelude.{◌≡◌, ◌⊎◌, ℕ, List, [], Bool, true}
+use Rattle.std.specs.Prelude.{◌≡◌, ◌⊎◌, ℕ, ◌≤◌, List, [], Bool, true}
 use Rattle.wb_history.specs.Past.{Past}
 use Rattle.wb_lines.specs.Causes.{RisesBy}
 use Rattle.wb_lines.specs.Reading.{read_limit}
@@ -19,6 +19,11 @@ status_of (NoMemory n) = 4
 -- the latest read failed, or all reads that are allowed were made, or the latest write or flush failed
 abbrev pub HasFailed : (read_failed : Bool) → (before after : ℕ) → (write_failed : Bool) → Type 0
 HasFailed read_failed before after write_failed = (read_failed ≡ true) ⊎ (RisesBy read_limit before after ⊎ (write_failed ≡ true))
+
+-- the same, but that as many reads as are allowed were made, or more
+abbrev pub HasFailedByNow : (read_failed : Bool) → (before after : ℕ) → (write_failed : Bool) → Type 0
+HasFailedByNow read_failed before after write_failed =
+    (read_failed ≡ true) ⊎ (((made : ℕ) × (read_limit ≤ made) × RisesBy made before after) ⊎ (write_failed ≡ true))
 
 -- no edits yet
 abbrev pub opening : Past

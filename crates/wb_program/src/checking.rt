@@ -13,6 +13,7 @@ use wb_lines::{LineFault, Sink, Source, read_all, send};
 use wb_range::NoMemory;
 use wb_reading::{BookErr, read_book};
 use wb_record::{HistoryErr, read_history};
+use wb_redist::Mover;
 
 /// The exit status where the input is no text that is wanted.
 pub const REFUSED: u8 = 1;
@@ -29,10 +30,10 @@ pub enum Verdict {
 }
 
 // Whether a text that no workbook has is that of a history.
-fn verdict_on_history(alloc: Global, text: &str) -> Result<Verdict, NoMemory>
+fn verdict_on_history<M: Mover>(alloc: Global, text: &str, mover: &M) -> Result<Verdict, NoMemory>
     ensures { IfOk result (λ v. IsNoBook text.now → IsVerdict text.now v) }
 {
-    match read_history(alloc, text) {
+    match read_history(alloc, text, mover) {
         Ok(history) => {
             let book = history.book();
             Ok(Verdict::History(book.objects(), history.len()))
@@ -43,7 +44,7 @@ fn verdict_on_history(alloc: Global, text: &str) -> Result<Verdict, NoMemory>
 }
 
 // Whether a text is that of a workbook or of a history.
-fn verdict_on_text(alloc: Global, text: &str) -> Result<Verdict, NoMemory>
+fn verdict_on_text<M: Mover>(alloc: Global, text: &str, mover: &M) -> Result<Verdict, NoMemory>
     ensures { IfOk result (λ v. IsVerdict text.now v) }
 {
     match read_book(alloc, text) {
@@ -51,17 +52,17 @@ fn verdict_on_text(alloc: Global, text: &str) -> Result<Verdict, NoMemory>
             let _well_formed = book.writes();
             Ok(Verdict::Workbook(book.objects()))
         }
-        Err(BookErr::Bad) => verdict_on_history(alloc, text),
+        Err(BookErr::Bad) => verdict_on_history(alloc, text, mover),
         Err(BookErr::NoMemory) => Err(NoMemory),
     }
 }
 
 /// Whether bytes are the text of a workbook or of a history, and how many objects and edits there are.
-pub fn verdict_on(alloc: Global, bytes: &[u8]) -> Result<Verdict, NoMemory>
+pub fn verdict_on<M: Mover>(alloc: Global, bytes: &[u8], mover: &M) -> Result<Verdict, NoMemory>
     ensures { IfOk result (λ v. IsVerdict bytes.now v) }
 {
     match from_utf8(bytes) {
-        Ok(text) => verdict_on_text(alloc, text),
+        Ok(text) => verdict_on_text(alloc, text, mover),
         Err(_) => Ok(Verdict::Refused),
     }
 }
@@ -106,9 +107,14 @@ pub(crate) fn say<W: Sink>(alloc: Global, verdict: Verdict, writer: &mut W) -> u
 }
 
 /// Reads the reader to its end and prints whether that is the text of a workbook or of a history: `ok` and the number of
-/// its objects, for a history then that of its edits, with exit status 0; or `refused` with status 1; 3 only where the latest read, write or flush failed, or all reads that
-/// are allowed were made, and 4 where a growth was refused.
-pub fn check_with<R: Source, W: Sink>(alloc: Global, reader: &mut R, writer: &mut W) -> u8
+/// its objects, for a history then that of its edits, with exit status 0; or `refused` with status 1; 3 only where the latest
+/// read, write or flush failed, or all reads that are allowed were made, and 4 where a growth was refused.
+pub fn check_with<R: Source, W: Sink, M: Mover>(
+    alloc: Global,
+    reader: &mut R,
+    writer: &mut W,
+    mover: &M,
+) -> u8
     ensures judged { (read : List ℕ) × Consumes (R.remaining reader.old) (R.remaining reader.new) read
         × ((text : List ℕ) × Appends (W.contents writer.old) (W.contents writer.new) text
         × Judges read result text) }
@@ -122,7 +128,7 @@ pub fn check_with<R: Source, W: Sink>(alloc: Global, reader: &mut R, writer: &mu
         Err(LineFault::ReadFault) => return INPUT_OR_OUTPUT_FAILED,
         Err(LineFault::TooManyReads) => return INPUT_OR_OUTPUT_FAILED,
     };
-    match verdict_on(alloc, &bytes) {
+    match verdict_on(alloc, &bytes, mover) {
         Ok(verdict) => say(alloc, verdict, writer),
         Err(NoMemory) => NO_MEMORY,
     }

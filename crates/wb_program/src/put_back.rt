@@ -1,6 +1,6 @@
 //! A source that takes bytes back.
 ghost use Rattle.std.specs.Prelude.{◌≡◌, ◌++◌, OnOk, OnErr, option_map};
-ghost use Rattle.wb_program.specs.Resuming.{left_in};
+ghost use Rattle.wb_program.specs.Resuming.{left_in, reads_in};
 
 use std::alloc::{AllocError, Global};
 use std::collections::VecDeque;
@@ -35,6 +35,7 @@ impl<R: Source> PutBack<R> {
     pub fn put_back(&mut self, bytes: &[u8]) -> Result<(), AllocError>
         ensures ok { OnOk result (left_in R.remaining self.new ≡ option_map (λ t. bytes.now ++ t) (left_in R.remaining self.old)) }
         ensures err { OnErr result (self.new ≡ self.old) }
+        ensures reads { reads_in self.new ≡ reads_in self.old }
     {
         let mut all = Vec::from_slice(self.alloc, bytes)?;
         let (first, second) = self.ahead.as_slices();

@@ -1,9 +1,9 @@
 //! Sessions and desks that go on from the text of a history.
-ghost use Rattle.std.specs.Prelude.{◌≡◌, ◌++◌, ◌⊎◌, ℕ, List, true, IfOk, IfErr, IfSome, IfNone, OnErr, option_map};
+ghost use Rattle.std.specs.Prelude.{◌≡◌, ◌++◌, ◌⊎◌, ℕ, List, true, IfOk, IfErr, IfSome, IfNone, OnOk, OnErr, option_map};
 ghost use Rattle.std.specs.Io.KnownBytes.{Appends, Consumes, IsAtEnd};
-ghost use Rattle.wb_lines.specs.Causes.{StopsReading};
+ghost use Rattle.wb_lines.specs.Causes.{RisesBy, StopsReading};
 ghost use Rattle.wb_program.specs.Checking.{IsNoRecord, IsFault};
-ghost use Rattle.wb_program.specs.Running.{HasFailed};
+ghost use Rattle.wb_program.specs.Running.{HasFailed, HasFailedByNow};
 ghost use Rattle.wb_program.specs.Resuming.{left_in, failed_in, reads_in, IsRecord, IsUpToEnd, HasNoEnd, IsServed, IsResumed, IsOpening};
 
 use crate::checking::{Verdict, say};
@@ -17,19 +17,20 @@ use wb_lines::{LineFault, READ_LIMIT, Sink, Source, read_all, read_more};
 use wb_proto::session;
 use wb_range::NoMemory;
 use wb_record::{HistoryErr, read_history};
+use wb_redist::Mover;
 
 // The last line of the text of a history, with the line end before it.
 const LAST_LINE: &[u8] = b"\nend\n";
 
 // The history of these bytes, if they are the text of one.
-fn history_of(alloc: Global, bytes: &[u8]) -> Result<Option<History>, NoMemory>
+fn history_of<M: Mover>(alloc: Global, bytes: &[u8], mover: &M) -> Result<Option<History>, NoMemory>
     ensures some { IfOk result (λ r. IfSome r (λ h. IsRecord bytes.now h)) }
     ensures none { IfOk result (λ r. IfNone r (IsNoRecord bytes.now)) }
 {
     let Ok(text) = from_utf8(bytes) else {
         return Ok(None);
     };
-    match read_history(alloc, text) {
+    match read_history(alloc, text, mover) {
         Ok(history) => {
             let _legal = history.book();
             Ok(Some(history))
@@ -41,10 +42,11 @@ fn history_of(alloc: Global, bytes: &[u8]) -> Result<Option<History>, NoMemory>
 
 /// Reads the reader to its end: the history of that text, or the exit status after `refused` was printed, where it is the
 /// text of no history, or after a fault.
-pub fn history_from<R: Source, W: Sink>(
+pub fn history_from<R: Source, W: Sink, M: Mover>(
     alloc: Global,
     reader: &mut R,
     writer: &mut W,
+    mover: &M,
 ) -> Result<History, u8>
     ensures opens { (read : List ℕ) × Consumes (R.remaining reader.old) (R.remaining reader.new) read
         × ((text : List ℕ) × Appends (W.contents writer.old) (W.contents writer.new) text
@@ -59,7 +61,7 @@ pub fn history_from<R: Source, W: Sink>(
         Err(LineFault::ReadFault) => return Err(INPUT_OR_OUTPUT_FAILED),
         Err(LineFault::TooManyReads) => return Err(INPUT_OR_OUTPUT_FAILED),
     };
-    match history_of(alloc, &bytes) {
+    match history_of(alloc, &bytes, mover) {
         Ok(Some(history)) => Ok(history),
         Ok(None) => Err(say(alloc, Verdict::Refused, writer)),
         Err(NoMemory) => Err(NO_MEMORY),
@@ -83,6 +85,7 @@ fn read_opening<R: Source>(alloc: Global, reader: &mut R) -> Result<Vec<u8>, Lin
         × (HasNoEnd bytes.items → IsAtEnd (R.remaining reader.new))) }
     ensures err { OnErr result ((got : List ℕ) × Consumes (R.remaining reader.old) (R.remaining reader.new) got) }
     ensures cause { IfErr result (λ fault. StopsReading fault (R.failed reader.new) (R.reads reader.old) (R.reads reader.new)) }
+    ensures counted { OnOk result ((made : ℕ) × RisesBy made (R.reads reader.old) (R.reads reader.new)) }
 {
     let mut bytes = Vec::new(alloc);
     for _ in 0..READ_LIMIT {
@@ -112,12 +115,13 @@ fn parts(bytes: &[u8]) -> Option<(&[u8], &[u8])>
 }
 
 // A session from a history, over bytes that were read already and those that come.
-fn go_on<R: Source, W: Sink>(
+fn go_on<R: Source, W: Sink, M: Mover>(
     alloc: Global,
     history: History,
     ahead: &[u8],
     reader: &mut PutBack<R>,
     writer: &mut W,
+    mover: &M,
 ) -> u8
     ensures serves { ((asked : List ℕ) × Consumes (option_map (λ t. ahead.now ++ t) (left_in R.remaining reader.old)) (left_in R.remaining reader.new) asked
         × ((text : List ℕ) × Appends (W.contents writer.old) (W.contents writer.new) text
@@ -125,26 +129,31 @@ fn go_on<R: Source, W: Sink>(
         ⊎ ((left_in R.remaining reader.new ≡ left_in R.remaining reader.old) × (W.contents writer.new ≡ W.contents writer.old) × IsFault result) }
     ensures done { result ≡ 0 → IsAtEnd (left_in R.remaining reader.new) × (W.flushed writer.new ≡ true) }
     ensures failed { result ≡ 3
-        → (since : ℕ) × HasFailed (failed_in reader.new) since (reads_in reader.new) (W.failed writer.new) }
+        → HasFailed (failed_in reader.new) (reads_in reader.old) (reads_in reader.new) (W.failed writer.new) }
 {
     if reader.put_back(ahead).is_err() {
         return NO_MEMORY;
     }
     let mut history = history;
-    status_of(session(alloc, &mut history, reader, writer))
+    status_of(session(alloc, &mut history, mover, reader, writer))
 }
 
 /// Reads the text of a history up to its line `end`, and then answers each line behind it on that history: the exit status.
 /// What was read and written is a session from the history, a run of the machine over its lines. Where there is no such
-/// text it prints `refused`, with status 1; 3 only where the latest read, write or flush failed, or all reads that are allowed
-/// were made, and 4 where a growth was refused.
-pub fn resume_with<R: Source, W: Sink>(alloc: Global, reader: &mut PutBack<R>, writer: &mut W) -> u8
+/// text it prints `refused`, with status 1; 3 only where the latest read, write or flush failed, or as many reads as are allowed
+/// were made in the call, or more, and 4 where a growth was refused.
+pub fn resume_with<R: Source, W: Sink, M: Mover>(
+    alloc: Global,
+    reader: &mut PutBack<R>,
+    writer: &mut W,
+    mover: &M,
+) -> u8
     ensures resumes { (read : List ℕ) × Consumes (left_in R.remaining reader.old) (left_in R.remaining reader.new) read
         × ((text : List ℕ) × Appends (W.contents writer.old) (W.contents writer.new) text
         × IsResumed result read text) }
     ensures done { result ≡ 0 → IsAtEnd (left_in R.remaining reader.new) × (W.flushed writer.new ≡ true) }
     ensures failed { result ≡ 3
-        → (since : ℕ) × HasFailed (failed_in reader.new) since (reads_in reader.new) (W.failed writer.new) }
+        → HasFailedByNow (failed_in reader.new) (reads_in reader.old) (reads_in reader.new) (W.failed writer.new) }
 {
     let bytes = match read_opening(alloc, reader) {
         Ok(bytes) => bytes,
@@ -153,8 +162,8 @@ pub fn resume_with<R: Source, W: Sink>(alloc: Global, reader: &mut PutBack<R>, w
         Err(LineFault::TooManyReads) => return INPUT_OR_OUTPUT_FAILED,
     };
     match parts(&bytes) {
-        Some((front, behind)) => match history_of(alloc, front) {
-            Ok(Some(history)) => go_on(alloc, history, behind, reader, writer),
+        Some((front, behind)) => match history_of(alloc, front, mover) {
+            Ok(Some(history)) => go_on(alloc, history, behind, reader, writer, mover),
             Ok(None) => say(alloc, Verdict::Refused, writer),
             Err(NoMemory) => NO_MEMORY,
         },

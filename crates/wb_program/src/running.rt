@@ -10,6 +10,7 @@ use std::alloc::Global;
 use wb_history::History;
 use wb_lines::{SessionEnd, Sink, Source};
 use wb_proto::session;
+use wb_redist::Mover;
 
 /// The exit status of a session that was answered to its end.
 pub const DONE: u8 = 0;
@@ -24,7 +25,12 @@ pub const NO_MEMORY: u8 = 4;
 /// the empty history, a run of the machine over its lines. Status 0 comes only at the end of input, with every line
 /// answered and the writer flushed; 3 only where the latest read, write or flush failed, or all reads that are allowed were
 /// made; 4 where a growth was refused.
-pub fn run_with<R: Source, W: Sink>(alloc: Global, reader: &mut R, writer: &mut W) -> u8
+pub fn run_with<R: Source, W: Sink, M: Mover>(
+    alloc: Global,
+    reader: &mut R,
+    writer: &mut W,
+    mover: &M,
+) -> u8
     ensures serves { (end : SessionEnd) × (result ≡ status_of end)
         × ReadsUntil end (R.remaining reader.new) (R.failed reader.new) (R.reads reader.old) (R.reads reader.new)
         × WritesUntil end (W.flushed writer.new) (W.failed writer.new)
@@ -36,7 +42,7 @@ pub fn run_with<R: Source, W: Sink>(alloc: Global, reader: &mut R, writer: &mut 
         → HasFailed (R.failed reader.new) (R.reads reader.old) (R.reads reader.new) (W.failed writer.new) }
 {
     let mut history = History::new(alloc);
-    status_of(session(alloc, &mut history, reader, writer))
+    status_of(session(alloc, &mut history, mover, reader, writer))
 }
 
 /// The exit status after a session.

@@ -1,75 +1,75 @@
 //! A seat at a desk as what answers lines.
-ghost use Rattle.std.specs.Prelude.{◌≡◌, ◌⊎◌, ℕ, List};
+ghost use Rattle.std.specs.Prelude.{◌≡◌, ◌⊎◌, ℕ, List, IfOk, OnErr};
 ghost use Rattle.std.specs.Io.KnownBytes.{Appends, Consumes};
 ghost use Rattle.wb_lines.specs.Causes.{ReadsUntil, WritesUntil};
-ghost use Rattle.wb_lines.specs.Session.{Serves};
+ghost use Rattle.wb_lines.specs.Session.{MayAnswer, Serves};
 ghost use Rattle.wb_lines.specs.declared.machine.SessionEnd.{SessionEnd};
 ghost use Rattle.wb_proto.specs.Requests.{request};
 ghost use Rattle.wb_program.specs.Serving.{RepliesIfRead, NothingAsked, AnswersSeat};
 
 use std::alloc::{AllocError, Global};
-use std::marker::Model;
+use std::marker::PhantomData;
 use std::sync::Wait;
 use wb_lines::{Machine, Sink, Source, serve_lines};
 use wb_proto::{Reply, read_request, reply_text};
+use wb_redist::Mover;
 use wb_shared::{Desk, Opening, Pass};
 
-/// A seat at a desk that answers lines. Contracts see it as its pass.
-#[derive(Drop)]
-struct Seat<'a, L: Opening, R: Wait> {
-    rt: &'a R,
-    alloc: Global,
-    desk: &'a Desk<L>,
-    pass: Pass<L>,
+// What a seat at a desk of this name may answer.
+struct Seat<L> {
+    of: PhantomData<L>,
 }
 
-impl<'a, L: Opening, R: Wait> Model for Seat<'a, L, R> {
-    ghost use Rattle.wb_journal.specs.Serving.{Held, held_code};
-
-    ghost Value = { Held };
-
-    ghost coded = { held_code };
-
-    ghost view = { λ a. a.pass };
+impl<L: Opening> Machine<Pass<L>> for Seat<L> {
+    ghost answers = { AnswersSeat L.opening };
 }
 
 // The reply to a line: that of the desk to its request, or why it is none.
-fn reply_to<L: Opening, R: Wait>(
+fn reply_to<L: Opening, R: Wait, M: Mover>(
     rt: &R,
     alloc: Global,
     desk: &Desk<L>,
     pass: &mut Pass<L>,
     line: &[u8],
+    mover: &M,
 ) -> Reply
     ensures { RepliesIfRead L.opening pass.old (request line.now) result pass.new ⊎ NothingAsked pass.old result pass.new }
 {
     match read_request(alloc, line) {
-        Ok(request) => desk.call(rt, pass, request),
+        Ok(request) => desk.call(rt, pass, request, mover),
         Err(why) => Reply::Refused(why),
     }
 }
 
-impl<'a, L: Opening, R: Wait> Machine for Seat<'a, L, R> {
-    ghost answers = { AnswersSeat L.opening };
-
-    fn answer(&mut self, line: &[u8]) -> Result<Vec<u8>, AllocError> {
-        let reply = reply_to(self.rt, self.alloc, self.desk, &mut self.pass, line);
-        match reply_text(self.alloc, &reply) {
-            Ok(text) => Ok(text.into_bytes()),
-            Err(_) => Err(AllocError),
-        }
+// The text of the reply to a line.
+fn answer_line<L: Opening, R: Wait, M: Mover>(
+    rt: &R,
+    alloc: Global,
+    desk: &Desk<L>,
+    pass: &mut Pass<L>,
+    line: &[u8],
+    mover: &M,
+) -> Result<Vec<u8>, AllocError>
+    ensures ok { IfOk result (λ reply. AnswersSeat L.opening pass.old line.now reply.items pass.new) }
+    ensures err { OnErr result (MayAnswer (AnswersSeat L.opening) pass.old line.now pass.new) }
+{
+    let reply = reply_to(rt, alloc, desk, pass, line, mover);
+    match reply_text(alloc, &reply) {
+        Ok(text) => Ok(text.into_bytes()),
+        Err(_) => Err(AllocError),
     }
 }
 
 /// Answers each line that is read at a seat of a desk, in order, until the end of input or a fault, and gives the pass
 /// back: it writes exactly the texts of the replies, each with a line end, and each the desk's to the pass as it was then.
-pub fn serve_seat<L: Opening, R: Wait, I: Source, O: Sink>(
+pub fn serve_seat<L: Opening, R: Wait, I: Source, O: Sink, M: Mover>(
     rt: &R,
     alloc: Global,
     desk: &Desk<L>,
     pass: Pass<L>,
     reader: &mut I,
     writer: &mut O,
+    mover: &M,
 ) -> Pass<L>
     ensures { (end : SessionEnd)
         × ReadsUntil end (I.remaining reader.new) (I.failed reader.new) (I.reads reader.old) (I.reads reader.new)
@@ -78,12 +78,11 @@ pub fn serve_seat<L: Opening, R: Wait, I: Source, O: Sink>(
         × ((text : List ℕ) × Appends (O.contents writer.old) (O.contents writer.new) text
         × Serves (AnswersSeat L.opening) end pass read text result)) }
 {
-    let mut seat = Seat {
-        rt,
-        alloc,
-        desk,
-        pass,
-    };
-    let _ = serve_lines(alloc, &mut seat, reader, writer);
-    seat.pass
+    let mut pass = pass;
+    let answer = |pass: &mut Pass<L>, line: &[u8]| -> Result<Vec<u8>, AllocError>
+        ensures ok { IfOk result (λ reply. AnswersSeat L.opening pass.old line.now reply.items pass.new) }
+        ensures err { OnErr result (MayAnswer (AnswersSeat L.opening) pass.old line.now pass.new) }
+    { answer_line(rt, alloc, desk, pass, line, mover) };
+    let _ = serve_lines::<Seat<L>, Pass<L>, _, I, O>(alloc, &mut pass, &answer, reader, writer);
+    pass
 }

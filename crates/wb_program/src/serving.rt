@@ -19,17 +19,19 @@ use wb_encode::print_history;
 use wb_history::History;
 use wb_lines::{Input, Output, Sink, send};
 use wb_range::NoMemory;
+use wb_redist::Mover;
 use wb_shared::{Desk, DeskErr, Opening, Pass, Shared, settle};
 use wb_text::print_book;
 
 // Answers the lines of a connection at a seat until its end or a fault, and gives the pass back. Replies are gathered while
 // more lines lie ahead.
-fn serve_connection<L: Opening, R: Wait>(
+fn serve_connection<L: Opening, R: Wait, M: Mover>(
     rt: &R,
     alloc: Global,
     desk: &Desk<L>,
     pass: Pass<L>,
     stream: TcpStream,
+    mover: &M,
 ) -> Pass<L> {
     let _ = stream.set_nodelay(true);
     let Ok(writer) = BufWriter::new(alloc, &stream) else {
@@ -42,16 +44,18 @@ fn serve_connection<L: Opening, R: Wait>(
         pass,
         &mut Input::new(&stream),
         &mut Output::new(writer),
+        mover,
     )
 }
 
 // Accepts a connection for each pass, and joins them all: the passes, or the exit status that is left.
-fn serve_all<L: Opening + Send + Sync, R: Threads + Wait + Sync>(
+fn serve_all<L: Opening + Send + Sync, R: Threads + Wait + Sync, M: Mover + Sync>(
     rt: &R,
     alloc: Global,
     listener: &TcpListener,
     desk: &Desk<L>,
     passes: Vec<Pass<L>>,
+    mover: &M,
 ) -> Result<Vec<Pass<L>>, u8>
     ensures { IfErr result (λ status. IsFault status) }
 {
@@ -67,7 +71,7 @@ fn serve_all<L: Opening + Send + Sync, R: Threads + Wait + Sync>(
                     return Err(INPUT_OR_OUTPUT_FAILED);
                 };
                 let Ok(handle) = scope.spawn(move || serve_connection(
-                    rt, alloc, desk, pass, stream,
+                    rt, alloc, desk, pass, stream, mover,
                 )) else {
                     return Err(INPUT_OR_OUTPUT_FAILED);
                 };
@@ -137,7 +141,7 @@ fn print_settled<L: Opening, W: Sink>(
 }
 
 // A day of a desk: opened, served and settled. The exit status.
-fn serve_day<L: Opening + Send + Sync, R: Threads + Wait + Sync, W: Sink>(
+fn serve_day<L: Opening + Send + Sync, R: Threads + Wait + Sync, W: Sink, M: Mover + Sync>(
     rt: &R,
     alloc: Global,
     blank: Blank,
@@ -146,6 +150,7 @@ fn serve_day<L: Opening + Send + Sync, R: Threads + Wait + Sync, W: Sink>(
     history: History,
     whole: bool,
     writer: &mut W,
+    mover: &M,
 ) -> u8
     requires name { blank.name ≡ L.name }
     requires parts { blank.parts ≡ L.parts }
@@ -159,7 +164,7 @@ fn serve_day<L: Opening + Send + Sync, R: Threads + Wait + Sync, W: Sink>(
         Err((_, DeskErr::BadSeats)) => return BAD_COMMAND_LINE,
         Err((_, DeskErr::NoMemory)) => return NO_MEMORY,
     };
-    let passes = match serve_all(rt, alloc, listener, &desk, passes) {
+    let passes = match serve_all(rt, alloc, listener, &desk, passes, mover) {
         Ok(passes) => passes,
         Err(status) => return status,
     };
@@ -173,18 +178,19 @@ fn serve_day<L: Opening + Send + Sync, R: Threads + Wait + Sync, W: Sink>(
 /// number of entries and the workbook. The exit status: 0, and what is printed is the length of a journal that runs from the
 /// empty workbook and the text of the workbook that it makes, flushed; 2 for a number of seats that no desk can have; 3 where a
 /// connection or a thread could not be had, the desk did not settle or output failed; 4 where a growth was refused.
-pub fn serve_on<R: Threads + Wait + Sync, W: Sink>(
+pub fn serve_on<R: Threads + Wait + Sync, W: Sink, M: Mover + Sync>(
     rt: &R,
     alloc: Global,
     listener: &TcpListener,
     seats: usize,
     writer: &mut W,
+    mover: &M,
 ) -> u8
     ensures prints { (text : List ℕ) × Appends (W.contents writer.old) (W.contents writer.new) text × EndsDay false nothing_done seats result text }
     ensures flushed { result ≡ 0 → W.flushed writer.new ≡ true }
 {
     let history = History::new(alloc);
-    serve_day::<Brand, R, W>(
+    serve_day::<Brand, R, W, M>(
         rt,
         alloc,
         Blank::new(16),
@@ -193,23 +199,25 @@ pub fn serve_on<R: Threads + Wait + Sync, W: Sink>(
         history,
         false,
         writer,
+        mover,
     )
 }
 
 /// The same on the workbook of a history: the journal runs from that history, and the text of the whole history is printed in
 /// the place of the workbook's.
-pub fn serve_history<R: Threads + Wait + Sync, W: Sink>(
+pub fn serve_history<R: Threads + Wait + Sync, W: Sink, M: Mover + Sync>(
     rt: &R,
     alloc: Global,
     listener: &TcpListener,
     seats: usize,
     history: History,
     writer: &mut W,
+    mover: &M,
 ) -> u8
     ensures prints { (text : List ℕ) × Appends (W.contents writer.old) (W.contents writer.new) text × EndsDay true history seats result text }
     ensures flushed { result ≡ 0 → W.flushed writer.new ≡ true }
 {
-    serve_day::<Brand, R, W>(
+    serve_day::<Brand, R, W, M>(
         rt,
         alloc,
         Blank::new(16),
@@ -218,5 +226,6 @@ pub fn serve_history<R: Threads + Wait + Sync, W: Sink>(
         history,
         true,
         writer,
+        mover,
     )
 }

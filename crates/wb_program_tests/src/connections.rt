@@ -9,6 +9,7 @@ use std::thread;
 use std::thread::Threads;
 use wb_lines::{Input, Line, LineBuffer, Output, next_line};
 use wb_program::serve_on;
+use wb_redist::{Open, Workers};
 
 const MAKE_X: &[u8] = b"{\"op\":\"domain\",\"d\":\"X\",\"is\":\"{1..1}\"}\n";
 
@@ -125,6 +126,9 @@ fn ends_well<R: Net<Listener = TcpListener, Stream = TcpStream> + Threads + Wait
     alloc: Global,
     first: First,
 ) -> io::Result<bool> {
+    let Ok(workers) = Workers::new(rt, 2, Open) else {
+        return Ok(false);
+    };
     let listener = TcpListener::bind(rt, "127.0.0.1:0")?;
     let port = listener.local_addr()?.port();
     let mut output = Vec::new(alloc);
@@ -132,7 +136,14 @@ fn ends_well<R: Net<Listener = TcpListener, Stream = TcpStream> + Threads + Wait
     let two = TcpStream::connect(rt, ("127.0.0.1", port))?;
     let (status, came) = thread::join(
         rt,
-        || serve_on(rt, alloc, &listener, 2, &mut Output::new(&mut output)),
+        || serve_on(
+            rt,
+            alloc,
+            &listener,
+            2,
+            &mut Output::new(&mut output),
+            &workers,
+        ),
         || both_seats(rt, alloc, first, one, two),
     );
     let printed = output.as_slice();

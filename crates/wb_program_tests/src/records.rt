@@ -7,6 +7,7 @@ use std::process::Abort;
 use std::test::Fail;
 use wb_lines::{Input, Output};
 use wb_program::{PutBack, check_with, history_from, resume_with, run_with, serve_history};
+use wb_redist::{Mover, OneThread};
 
 const LINES: &[u8] =
     b"{\"op\":\"domain\",\"d\":\"D\",\"is\":\"{1..4}\"}\n{\"op\":\"array\",\"a\":\"A\",\"d\":\"D\"}\n{\"op\":\"set\",\"a\":\"A\",\"i\":4,\"v\":9}\n{\"op\":\"undo\"}\n{\"op\":\"history\"}\n";
@@ -86,17 +87,18 @@ fn damaged(alloc: Global, old: &str, new: &str) -> Result<String, Fail> {
 }
 
 // Checks a text, and compares what is printed of it and the exit status.
-fn judge(
+fn judge<M: Mover>(
     rt: &impl Abort,
     alloc: Global,
     text: &str,
     status: u8,
     printed: &[u8],
+    mover: &M,
 ) -> Result<(), Fail> {
     let mut input = Input::new(text.as_bytes());
     let mut output = Vec::new(alloc);
     assert_eq!(rt;
-        check_with(alloc, &mut input, &mut Output::new(&mut output)),
+        check_with(alloc, &mut input, &mut Output::new(&mut output), mover),
         status
     );
     assert_eq!(rt; output.as_slice(), printed);
@@ -106,47 +108,54 @@ fn judge(
 #[test]
 fn history_text(rt: HostRuntime) -> Result<(), Fail> {
     let alloc = rt.alloc();
+    let alone: OneThread<&HostRuntime> = OneThread::new();
     let mut output = Vec::new(alloc);
-    assert_eq!(rt;
-        run_with(alloc, &mut Input::new(LINES), &mut Output::new(&mut output)),
-        0
+    let status = run_with(
+        alloc,
+        &mut Input::new(LINES),
+        &mut Output::new(&mut output),
+        &alone,
     );
+    assert_eq!(rt; status, 0);
     assert!(rt; output.as_slice().ends_with(TOLD));
-    judge(&rt, alloc, TEXT, 0, b"ok 2 3\n")?;
-    judge(&rt, alloc, REDONE, 0, b"ok 2 3\n")?;
+    judge(&rt, alloc, TEXT, 0, b"ok 2 3\n", &alone)?;
+    judge(&rt, alloc, REDONE, 0, b"ok 2 3\n", &alone)?;
     judge(
         &rt,
         alloc,
         "chapel-workbook 2\nhistory 0\nend\n",
         0,
         b"ok 0 0\n",
+        &alone,
     )
 }
 
 #[test]
 fn damaged_history_texts(rt: HostRuntime) -> Result<(), Fail> {
+    let alone: OneThread<&HostRuntime> = OneThread::new();
     for (old, new) in &DAMAGES {
         let text = damaged(rt.alloc(), old, new)?;
-        judge(&rt, rt.alloc(), text.as_str(), 1, REFUSED)?;
+        judge(&rt, rt.alloc(), text.as_str(), 1, REFUSED, &alone)?;
     }
     Ok(())
 }
 
 // A session from the text in front of the lines, read in two pieces: the exit status, and what it wrote.
-fn resumed(
+fn resumed<M: Mover>(
     rt: &impl Abort,
     alloc: Global,
     all: &[u8],
     place: usize,
     status: u8,
     written: &[u8],
+    mover: &M,
 ) -> Result<(), Fail> {
     let one = all.get(..place).ok_or("a place")?;
     let two = all.get(place..).ok_or("a place")?;
     let mut input = PutBack::new(alloc, Input::new(one.chain(two)));
     let mut output = Vec::new(alloc);
     assert_eq!(rt;
-        resume_with(alloc, &mut input, &mut Output::new(&mut output)),
+        resume_with(alloc, &mut input, &mut Output::new(&mut output), mover),
         status
     );
     assert_eq!(rt; output.as_slice(), written);
@@ -156,26 +165,28 @@ fn resumed(
 #[test]
 fn resumed_sessions(rt: HostRuntime) -> Result<(), Fail> {
     let alloc = rt.alloc();
+    let alone: OneThread<&HostRuntime> = OneThread::new();
     let all = format!(in alloc; "{TEXT}{MORE}")?;
     for place in 0..all.len() {
-        resumed(&rt, alloc, all.as_bytes(), place, 0, MORE_REPLIES)?;
+        resumed(&rt, alloc, all.as_bytes(), place, 0, MORE_REPLIES, &alone)?;
     }
-    resumed(&rt, alloc, TEXT.as_bytes(), 0, 0, b"")?;
+    resumed(&rt, alloc, TEXT.as_bytes(), 0, 0, b"", &alone)?;
     for (old, new) in [
         ("\nend\n", "\nend"),
         ("- {", "+ {"),
         ("\nend\n", "\n\nend\n"),
     ] {
         let text = damaged(alloc, old, new)?;
-        resumed(&rt, alloc, text.as_bytes(), 0, 1, REFUSED)?;
+        resumed(&rt, alloc, text.as_bytes(), 0, 1, REFUSED, &alone)?;
     }
-    resumed(&rt, alloc, LINES, 0, 1, REFUSED)
+    resumed(&rt, alloc, LINES, 0, 1, REFUSED, &alone)
 }
 
 // A desk of one seat from the text: whether it ended with status 0 and printed the text of the history with the edit redone.
 #[test]
 fn resumed_desk(rt: HostRuntime) -> Result<(), Fail> {
     let alloc = rt.alloc();
+    let alone: OneThread<&HostRuntime> = OneThread::new();
     let mut output = Vec::new(alloc);
     let listener = TcpListener::bind(&rt, "127.0.0.1:0")?;
     let port = listener.local_addr()?.port();
@@ -183,13 +194,12 @@ fn resumed_desk(rt: HostRuntime) -> Result<(), Fail> {
     stream.write_all(MORE.as_bytes())?;
     stream.shutdown(Shutdown::Write)?;
     let mut writer = Output::new(&mut output);
-    let Ok(history) = history_from(alloc, &mut Input::new(TEXT.as_bytes()), &mut writer) else {
+    let mut input = Input::new(TEXT.as_bytes());
+    let Ok(history) = history_from(alloc, &mut input, &mut writer, &alone) else {
         return Err("a history")?;
     };
-    assert_eq!(rt;
-        serve_history(&rt, alloc, &listener, 1, history, &mut writer),
-        0
-    );
+    let status = serve_history(&rt, alloc, &listener, 1, history, &mut writer, &alone);
+    assert_eq!(rt; status, 0);
     let mut replies = Vec::new(alloc);
     stream.read_to_end(&mut replies)?;
     assert_eq!(rt; replies.as_slice(), MORE_REPLIES);
@@ -200,6 +210,7 @@ fn resumed_desk(rt: HostRuntime) -> Result<(), Fail> {
         alloc,
         &mut Input::new(LINES),
         &mut Output::new(&mut refused),
+        &alone,
     );
     assert!(rt; matches!(other, Err(1)));
     assert_eq!(rt; refused.as_slice(), REFUSED);

@@ -24,7 +24,7 @@ module _ {X : Type 0} (seen : X → Data) (text : X → List ℕ) (same : (x : X
       ∙ ap (λ t. (44 ∷ text x) ++ t) (rest_is xs)
       ∙ ap (λ t. (44 ∷ t) ++ items_text true (items_of (map seen xs))) (same x)
 
-  items_are : (xs : List X) → bracketed text xs ≡ compact_text (array (items_of (map seen xs)))
+  pub items_are : (xs : List X) → bracketed text xs ≡ compact_text (array (items_of (map seen xs)))
   items_are [] = refl
   items_are (x ∷ xs) =
       ap (λ t. 91 ∷ t) (append_assoc (text x) (flat_map (further text) xs) (codes "]"))

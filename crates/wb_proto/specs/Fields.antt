@@ -13,6 +13,8 @@ use Rattle.wb_book.specs.declared.cells.kind.KeyType.{KeyType}
 use Rattle.wb_book.specs.declared.cells.kind.KeyType.TheVariants.{Int, Text as TextKeys}
 use Rattle.wb_edit.specs.declared.operation.Operation.{Operation}
 use Rattle.wb_edit.specs.declared.operation.Operation.TheVariants.{Assign, Sum, Difference, Product}
+use Rattle.wb_redist.specs.declared.reduction.Op.{Op}
+use Rattle.wb_redist.specs.declared.reduction.Op.TheVariants as reductions
 use Rattle.wb_log.specs.declared.refusal.Refusal.{Refusal}
 use Rattle.wb_log.specs.declared.refusal.Refusal.TheVariants.{BadRequest}
 
@@ -138,3 +140,17 @@ abbrev pub operation_field : List ℕ → Data → Result Operation Refusal
 operation_field key d = do
   text ← text_field key d
   operation_of text
+
+-- what a reduction makes of all elements of an array
+abbrev pub reduction_of : List ℕ → Result Op Refusal
+reduction_of text =
+    if bytes_eq text (codes "+") then Ok reductions.Sum else
+    if bytes_eq text (codes "min") then Ok reductions.Min else
+    if bytes_eq text (codes "max") then Ok reductions.Max else
+    Err BadRequest
+
+-- a field that is such a reduction
+abbrev pub reduction_field : List ℕ → Data → Result Op Refusal
+reduction_field key d = do
+  text ← text_field key d
+  reduction_of text

@@ -1,6 +1,6 @@
 -- The literals that requests take: what they spell, and then, within the limits, what that stands for (Chapel Language
 -- Specification, Ranges, Domains and Domain Maps).
-use Rattle.std.specs.Prelude.{ℕ, List, Option, Some, None, Result, Ok, Err}
+use Rattle.std.specs.Prelude.{ℕ, List, Option, Some, None, Result, Ok, Err, if◌then◌else◌}
 use Rattle.std.specs.Option.{ok_or}
 use Rattle.wb_dist.specs.Maps.{LayoutMap}
 use Rattle.wb_book.specs.Shapes.{Range}
@@ -16,6 +16,7 @@ use Rattle.wb_literal.specs.Mapping.{mapping_of}
 use Rattle.wb_literal.specs.declared.mapping.MappingLiteral.{MappingLiteral}
 use Rattle.wb_literal.specs.declared.mapping.MappingLiteral.TheVariants.{Whole}
 use Rattle.wb_literal.specs.declared.rectangle.RectangleLiteral.{RectangleLiteral}
+use Rattle.wb_told.specs.Books.{is_book_text}
 
 -- ---- what is spelled
 
@@ -31,6 +32,10 @@ literal_mapping text = ok_or (mapping_of text) BadLiteral
 abbrev pub optional_mapping : Option (List ℕ) → Result MappingLiteral Refusal
 optional_mapping None = Ok Whole
 optional_mapping (Some text) = literal_mapping text
+
+-- the text, where it is a workbook's, whatever is wrong in it
+abbrev pub text_of_book : List ℕ → Result (List ℕ) Refusal
+text_of_book text = if is_book_text text then Ok text else Err BadLiteral
 
 -- ---- what it stands for
 

@@ -1,5 +1,5 @@
 -- The machine of requests and replies over a history: what is replied to a request, and what the history is next. A refusal,
--- a query and a print, of the workbook or of the history, leave it as it was.
+-- a query, a list of dependents and a print, of the workbook or of the history, leave it as it was.
 use Rattle.std.specs.Prelude.{◌≡◌, ◌-◌, ◌⊎◌, ℕ, List, [], ◌∷◌, ◌++◌, true, Some, None, Result, Ok, Err}
 use Rattle.selective_undo.specs.History.{replay}
 use Rattle.wb_book.specs.Cells.{written_more}
@@ -8,6 +8,7 @@ use Rattle.wb_edit.specs.declared.edit.Edit.{Edit}
 use Rattle.wb_history.specs.Past.{Past, meant, out_of_force, into_force}
 use Rattle.wb_history.specs.Queries.{QueryReply}
 use Rattle.wb_history.specs.Replies.{EditReply, UndoReply, LastReply, RedoReply, ByNumber}
+use Rattle.wb_history.specs.Cascades.{DependentsReply, CascadeReply, OfNumber, all_out_of_force, places, set_back}
 use Rattle.wb_history.specs.declared.query.Query.{Query}
 use Rattle.wb_log.specs.declared.refusal.Refusal.{Refusal}
 use Rattle.wb_log.specs.declared.refusal.Refusal.TheVariants.{NoMemory}
@@ -16,9 +17,9 @@ use Rattle.wb_encode.specs.Text.{history_text}
 use Rattle.wb_proto.specs.Replies.{reply_of}
 use Rattle.wb_proto.specs.Requests.{request}
 use Rattle.wb_proto.specs.declared.replies.reply.Reply.{Reply}
-use Rattle.wb_proto.specs.declared.replies.reply.Reply.TheVariants.{Edited, Undone, Redone, Answered, Printed, Refused}
+use Rattle.wb_proto.specs.declared.replies.reply.Reply.TheVariants.{Edited, Undone, Cascaded, Redone, Listed, Answered, Printed, Refused}
 use Rattle.wb_proto.specs.declared.requests.request.Request.{Request}
-use Rattle.wb_proto.specs.declared.requests.request.Request.TheVariants.{Change, Undo, Redo, Ask, Print, History}
+use Rattle.wb_proto.specs.declared.requests.request.Request.TheVariants.{Change, Undo, Redo, Cascade, Dependents, Ask, Print, History}
 
 -- An edit comes last, in force; n cells were set.
 pub record Appends (e : Edit) (n : ℕ) (old new : Past) : Type 0 where
@@ -29,6 +30,11 @@ pub record Appends (e : Edit) (n : ℕ) (old new : Past) : Type 0 where
 pub record TakesOut (k n : ℕ) (old new : Past) : Type 0 where
   pub entries : new.entries ≡ out_of_force (k - 1) old.entries
   pub writes : new.writes ≡ written_more old.writes n
+
+-- The edits of these numbers, from 1, go out of force, one after another; the cells of all are set back.
+pub record TakesAllOut (ns : List ℕ) (old new : Past) : Type 0 where
+  pub entries : new.entries ≡ all_out_of_force ns old.entries
+  pub writes : new.writes ≡ written_more old.writes (set_back (meant old.entries) (places ns))
 
 -- Edit k, from 1, comes into force in its own place; n cells were set.
 pub record PutsIn (k n : ℕ) (old new : Past) : Type 0 where
@@ -53,11 +59,24 @@ UndoesLatest p (Undone k n) q = LastReply (meant p.entries) (Ok (k, n)) × Takes
 UndoesLatest p (Refused why) q = LastReply (meant p.entries) (Err why) × (q ≡ p)
 UndoesLatest p _ q = ⊥
 
+-- Undo of the edit of a number with its dependents: their numbers, from the greatest down, and how many cells are set back,
+-- or why it is refused. It is one step; where memory runs out after some of the undos, it is those.
+abbrev pub Cascades : Past → ℕ → Reply → Past → Type 0
+Cascades p k (Cascaded ns n) q = OfNumber (CascadeReply (meant p.entries)) k (Ok (ns, n)) × TakesAllOut ns p q
+Cascades p k (Refused why) q = OfNumber (CascadeReply (meant p.entries)) k (Err why) × (q ≡ p)
+Cascades p k _ q = ⊥
+
 -- redo of the edit of a number: how many cells it changes now, or why it is refused
 abbrev pub Redoes : Past → ℕ → Reply → Past → Type 0
 Redoes p k (Redone j n) q = (j ≡ k) × ByNumber (RedoReply (meant p.entries)) k (Ok n) × PutsIn k n p q
 Redoes p k (Refused why) q = ByNumber (RedoReply (meant p.entries)) k (Err why) × (q ≡ p)
 Redoes p k _ q = ⊥
+
+-- the dependents of the edit of a number, from the greatest down, or why there are none
+abbrev pub ListsDependents : Past → ℕ → Reply → Past → Type 0
+ListsDependents p k (Listed ns) q = OfNumber (DependentsReply (meant p.entries)) k (Ok ns) × (q ≡ p)
+ListsDependents p k (Refused why) q = OfNumber (DependentsReply (meant p.entries)) k (Err why) × (q ≡ p)
+ListsDependents p k _ q = ⊥
 
 -- a query: what the workbook and the history say
 abbrev pub Answers : Past → Query → Reply → Past → Type 0
@@ -83,6 +102,8 @@ Step p (Change e) r q = Changes p e r q
 Step p (Undo (Some k)) r q = UndoesNumber p k r q
 Step p (Undo None) r q = UndoesLatest p r q
 Step p (Redo k) r q = Redoes p k r q
+Step p (Cascade k) r q = Cascades p k r q
+Step p (Dependents k) r q = ListsDependents p k r q
 Step p (Ask asked) r q = Answers p asked r q
 Step p Print r q = Prints p r q
 Step p History r q = PrintsHistory p r q

@@ -1,10 +1,19 @@
 -- The parts of replies that are written straight, with no JSON value of them in between.
 use Rattle.std.specs.Prelude.{ℕ, ℤ, Bool, true, false, List, ◌++◌, codes, decimal}
 use Rattle.std.specs.Fmt.{signed_decimal}
+use Rattle.std.specs.List.{join_by}
 
 -- two numbers under their keys
 abbrev pub numbers_text : List ℕ → ℕ → List ℕ → ℕ → List ℕ
 numbers_text first a second b = codes "{\"" ++ (first ++ (codes "\":" ++ (decimal a ++ (codes ",\"" ++ (second ++ (codes "\":" ++ (decimal b ++ codes "}")))))))
+
+-- how many cells were set back, and the numbers of the edits that were undone
+abbrev pub undone_text : ℕ → List ℕ → List ℕ
+undone_text n ks = codes "{\"n\":" ++ (decimal n ++ (codes ",\"undone\":[" ++ (join_by decimal (codes ",") ks ++ codes "]}")))
+
+-- the numbers of the dependents of an edit
+abbrev pub dependents_text : List ℕ → List ℕ
+dependents_text ks = codes "{\"dependents\":[" ++ (join_by decimal (codes ",") ks ++ codes "]}")
 
 -- an element
 abbrev pub value_text : ℤ → List ℕ

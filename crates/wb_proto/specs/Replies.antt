@@ -1,17 +1,18 @@
 -- Replies as JSON values, their keys in ascending order, and their texts.
-use Rattle.std.specs.Prelude.{ℕ, List, codes}
-use Rattle.serde_json.specs.Data.{Data, boolean, number, unsigned, string, object, Members, member, no_members}
+use Rattle.std.specs.Prelude.{ℕ, List, map, codes}
+use Rattle.serde_json.specs.Data.{Data, boolean, number, unsigned, string, array, object, Members, member, no_members}
 use Rattle.serde_json.specs.Find.{of_integer}
+use Rattle.serde_json.specs.View.{items_of}
 use Rattle.serde_json.specs.Written.{compact_text}
 use Rattle.wb_edit.specs.declared.refusal.Refusal as why
-use Rattle.wb_edit.specs.declared.refusal.Refusal.TheVariants.{NameTaken, NoSuchName, WrongKind, OutOfDomain, OutOfParent, InUse, TooLarge, Overflow, BadMapping}
+use Rattle.wb_edit.specs.declared.refusal.Refusal.TheVariants.{NameTaken, NoSuchName, WrongKind, OutOfDomain, OutOfParent, InUse, TooLarge, Overflow, BadMapping, NotEmpty, Empty}
 use Rattle.wb_history.specs.declared.query.Answer.{Answer}
 use Rattle.wb_history.specs.declared.query.Answer.TheVariants.{Value, Size, Locale, Piece, InForce as InForceIs}
 use Rattle.wb_log.specs.declared.refusal.Refusal.{Refusal}
 use Rattle.wb_log.specs.declared.refusal.Refusal.TheVariants.{BadRequest, BadLiteral, Refused, NoSuchEdit, NotInForce, InForce, Blocked, RefusedInPlace, NoMemory, StrangePass}
 use Rattle.wb_proto.specs.Pieces.{piece_data}
 use Rattle.wb_proto.specs.declared.replies.reply.Reply.{Reply}
-use Rattle.wb_proto.specs.declared.replies.reply.Reply.TheVariants.{Edited, Undone, Redone, Answered, Printed, Refused as Refusing}
+use Rattle.wb_proto.specs.declared.replies.reply.Reply.TheVariants.{Edited, Undone, Cascaded, Redone, Listed, Answered, Printed, Refused as Refusing}
 
 -- ---- the code and the name of each refusal
 
@@ -25,6 +26,8 @@ edit_code InUse = codes "E08"
 edit_code TooLarge = codes "E09"
 edit_code Overflow = codes "E10"
 edit_code BadMapping = codes "E15"
+edit_code NotEmpty = codes "E17"
+edit_code Empty = codes "E18"
 
 abbrev pub edit_name : why.Refusal → List ℕ
 edit_name NameTaken = codes "name-taken"
@@ -36,6 +39,8 @@ edit_name InUse = codes "in-use"
 edit_name TooLarge = codes "too-large"
 edit_name Overflow = codes "overflow"
 edit_name BadMapping = codes "bad-mapping"
+edit_name NotEmpty = codes "not-empty"
+edit_name Empty = codes "empty"
 
 abbrev pub code_of : Refusal → List ℕ
 code_of BadRequest = codes "E01"
@@ -87,9 +92,15 @@ answer_data (Locale l) = object (member (codes "locale") (number (unsigned l)) n
 answer_data (Piece xs) = piece_data xs
 answer_data (InForceIs b) = object (member (codes "in_force") (boolean b) no_members)
 
+-- the numbers of edits
+abbrev pub numbers_data : List ℕ → Data
+numbers_data ks = array (items_of (map (λ k. number (unsigned k)) ks))
+
 abbrev pub reply_data : Reply → Data
 reply_data (Edited k n) = object (member (codes "edit") (number (unsigned k)) (member (codes "n") (number (unsigned n)) no_members))
 reply_data (Undone k n) = object (member (codes "n") (number (unsigned n)) (member (codes "undone") (number (unsigned k)) no_members))
+reply_data (Cascaded ks n) = object (member (codes "n") (number (unsigned n)) (member (codes "undone") (numbers_data ks) no_members))
+reply_data (Listed ks) = object (member (codes "dependents") (numbers_data ks) no_members)
 reply_data (Redone k n) = object (member (codes "n") (number (unsigned n)) (member (codes "redone") (number (unsigned k)) no_members))
 reply_data (Answered a) = answer_data a
 reply_data (Printed t) = object (member (codes "text") (string t) no_members)

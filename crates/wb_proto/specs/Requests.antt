@@ -5,17 +5,17 @@ use Rattle.std.specs.Str.{is_utf8}
 use Rattle.serde_json.specs.Data.{Data}
 use Rattle.serde_json.specs.Read.{read}
 use Rattle.wb_book.specs.Cells.{Name}
-use Rattle.wb_edit.specs.declared.edit.Edit.TheVariants.{Domain as NewDomain, DomainOfSet, Remap, Reshape, Sparse, Assoc, DropDomain, Add, Remove, Array, Set, Irv, Copy, Fill, FillOfSet, FillAll, DropArray, All}
-use Rattle.wb_history.specs.declared.query.Query.TheVariants.{Get, Size, Where, Piece, State}
+use Rattle.wb_edit.specs.declared.edit.Edit.TheVariants.{Domain as NewDomain, DomainOfSet, Remap, Reshape, Sparse, Assoc, DropDomain, Add, Remove, Array, Set, Irv, Copy, Fill, FillOfSet, FillAll, DropArray, All, Load}
+use Rattle.wb_history.specs.declared.query.Query.TheVariants.{Get, Size, Where, Piece, Reduce, State}
 use Rattle.wb_log.specs.declared.refusal.Refusal.{Refusal}
 use Rattle.wb_log.specs.declared.refusal.Refusal.TheVariants.{BadRequest}
 use Rattle.wb_literal.specs.Domain.{Domain, rectangle, set}
 use Rattle.wb_literal.specs.declared.mapping.MappingLiteral.{MappingLiteral}
-use Rattle.wb_proto.specs.Fields.{◌>>=◌, field_count, has_fields, has_fields_and, text_field, optional_text, i64_field, u64_field, name_field, index_field, key_type_field, operation_field}
-use Rattle.wb_proto.specs.Literals.{literal_domain, literal_mapping, optional_mapping, domain_within, mapping_within}
+use Rattle.wb_proto.specs.Fields.{◌>>=◌, field_count, has_fields, has_fields_and, text_field, optional_text, i64_field, u64_field, name_field, index_field, key_type_field, operation_field, reduction_field}
+use Rattle.wb_proto.specs.Literals.{literal_domain, literal_mapping, optional_mapping, text_of_book, domain_within, mapping_within}
 use Rattle.wb_proto.specs.Sources.{source_of}
 use Rattle.wb_proto.specs.declared.requests.request.Request.{Request}
-use Rattle.wb_proto.specs.declared.requests.request.Request.TheVariants.{Change, Undo, Redo, Ask, Print, History}
+use Rattle.wb_proto.specs.declared.requests.request.Request.TheVariants.{Change, Undo, Redo, Cascade, Dependents, Ask, Print, History}
 
 -- a new domain of what a literal spells, with a mapping: a set is no rectangle, which is for the workbook to refuse
 abbrev pub domain_with : Name → Domain → MappingLiteral → Result Request Refusal
@@ -182,6 +182,14 @@ copy_of d = do
   more ← i64_field (codes "c") d
   Ok (Change (Copy name index source place more))
 
+-- {"op":"load","text":TEXT}
+abbrev pub load_of : Data → Result Request Refusal
+load_of d = do
+  unit ← has_fields 2 d
+  text ← text_field (codes "text") d
+  book ← text_of_book text
+  Ok (Change (Load book))
+
 -- {"op":"undo","k":NUMBER}
 abbrev pub undo_by_number : Data → Result Request Refusal
 undo_by_number d = do
@@ -199,6 +207,20 @@ redo_of d = do
   unit ← has_fields 2 d
   number ← u64_field (codes "k") d
   Ok (Redo number)
+
+-- {"op":"cascade","k":NUMBER}
+abbrev pub cascade_of : Data → Result Request Refusal
+cascade_of d = do
+  unit ← has_fields 2 d
+  number ← u64_field (codes "k") d
+  Ok (Cascade number)
+
+-- {"op":"dependents","k":NUMBER}
+abbrev pub dependents_of : Data → Result Request Refusal
+dependents_of d = do
+  unit ← has_fields 2 d
+  number ← u64_field (codes "k") d
+  Ok (Dependents number)
 
 -- {"op":"get","a":NAME,"i":INDEX}
 abbrev pub get_of : Data → Result Request Refusal
@@ -231,6 +253,14 @@ piece_of d = do
   locale ← u64_field (codes "l") d
   Ok (Ask (Piece name locale))
 
+-- {"op":"reduce","a":NAME,"how":REDUCTION}
+abbrev pub reduce_of : Data → Result Request Refusal
+reduce_of d = do
+  unit ← has_fields 3 d
+  name ← name_field (codes "a") d
+  how ← reduction_field (codes "how") d
+  Ok (Ask (Reduce name how))
+
 -- {"op":"state","k":NUMBER}
 abbrev pub state_of : Data → Result Request Refusal
 state_of d = do
@@ -255,10 +285,13 @@ abbrev pub by_history_op : List ℕ → Data → Result Request Refusal
 by_history_op op d =
     if bytes_eq op (codes "undo") then undo_of d else
     if bytes_eq op (codes "redo") then redo_of d else
+    if bytes_eq op (codes "cascade") then cascade_of d else
+    if bytes_eq op (codes "dependents") then dependents_of d else
     if bytes_eq op (codes "get") then get_of d else
     if bytes_eq op (codes "where") then where_of d else
     if bytes_eq op (codes "size") then size_of d else
     if bytes_eq op (codes "piece") then piece_of d else
+    if bytes_eq op (codes "reduce") then reduce_of d else
     if bytes_eq op (codes "state") then state_of d else
     if bytes_eq op (codes "print") then print_of d else
     if bytes_eq op (codes "history") then history_of d else
@@ -277,7 +310,7 @@ by_array_op op d =
     if bytes_eq op (codes "all") then all_of d else
     by_history_op op d
 
--- by its op, which is one of these, or that of a change to a domain
+-- by its op, which is one of these, or that of a change to a domain, or of a workbook that is loaded
 abbrev pub by_op : List ℕ → Data → Result Request Refusal
 by_op op d =
     if bytes_eq op (codes "domain") then domain_of d else
@@ -288,6 +321,7 @@ by_op op d =
     if bytes_eq op (codes "reshape") then reshape_of d else
     if bytes_eq op (codes "add") then add_of d else
     if bytes_eq op (codes "remove") then remove_of d else
+    if bytes_eq op (codes "load") then load_of d else
     by_array_op op d
 
 -- the request that a JSON value is

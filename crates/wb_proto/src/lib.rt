@@ -7,6 +7,7 @@ mod replies;
 mod requests;
 mod serving;
 
+pub use crate::replies::edit_numbers::EditNumbers;
 pub use crate::replies::printed_text::PrintedText;
 pub use crate::replies::reply::Reply;
 pub use crate::replies::text::reply_text;

@@ -1,23 +1,23 @@
-//! A workbook from its text.
+//! A workbook from its text, and the text of a workbook as such.
 //!
 //! The lines of the text are read, the workbook that they tell of is made, and its own text is compared with the one
 //! that was given. So a text is read just where it is the text of a workbook.
 #![tactic(auto)]
 
-ghost use Rattle.std.specs.Prelude.{◌≡◌, ◌≢◌, IfOk, IfErr, IfSome, IfNone, map};
-ghost use Rattle.wb_book.specs.Cells.{Cells};
-ghost use Rattle.wb_book.specs.WellFormed.{IsWellFormed};
+ghost use Rattle.std.specs.Prelude.{◌≡◌, ◌≢◌, true, false, Some, None, IfOk, IfErr, IfSome, IfNone, map, option_map};
 ghost use Rattle.wb_reading.specs.Reading.{IsNoBook};
 ghost use Rattle.wb_text.specs.Lines.{book_text};
-ghost use Rattle.wb_text.specs.Said.{said, line_of};
+ghost use Rattle.wb_text.specs.Said.{line_of};
+ghost use Rattle.wb_told.specs.Books.{told_by, book_in, is_book_text};
 
 use std::alloc::Global;
 use thiserror::Error;
-use wb_book::Book;
 use wb_parse::read_lines;
 use wb_range::NoMemory;
 use wb_rebuild::rebuild;
+use wb_shelf::Book;
 use wb_text::{ObjectLine, print_book};
+use wb_told::BookText;
 
 /// Why a text is not read.
 #[derive(Clone, Copy, Debug, PartialEq, Eq, Error)]
@@ -47,7 +47,7 @@ fn same_text(alloc: Global, book: Book, text: &str) -> Result<Option<Book>, NoMe
 // The workbook of these lines, if this is its text.
 fn book_of_lines(alloc: Global, lines: &[ObjectLine], text: &str) -> Result<Option<Book>, NoMemory>
     ensures some { IfOk result (λ r. IfSome r (λ b. text.now ≡ book_text b.cells)) }
-    ensures none { IfOk result (λ r. IfNone r ((w : Cells) → IsWellFormed w → said w ≡ map line_of lines.now → text.now ≢ book_text w)) }
+    ensures told { IfOk result (λ r. option_map (λ b. b.cells) r ≡ told_by text.now (map line_of lines.now)) }
 {
     match rebuild(alloc, lines)? {
         Some(book) => same_text(alloc, book, text),
@@ -58,7 +58,7 @@ fn book_of_lines(alloc: Global, lines: &[ObjectLine], text: &str) -> Result<Opti
 // The workbook of this text, if there is one.
 fn book_of(alloc: Global, text: &str) -> Result<Option<Book>, NoMemory>
     ensures some { IfOk result (λ r. IfSome r (λ b. text.now ≡ book_text b.cells)) }
-    ensures none { IfOk result (λ r. IfNone r (IsNoBook text.now)) }
+    ensures told { IfOk result (λ r. option_map (λ b. b.cells) r ≡ book_in text.now) }
 {
     match read_lines(alloc, text) {
         Ok(Some(lines)) => book_of_lines(alloc, &lines, text),
@@ -71,11 +71,28 @@ fn book_of(alloc: Global, text: &str) -> Result<Option<Book>, NoMemory>
 /// the only one. Nothing is said of `writes()` of a workbook that was read.
 pub fn read_book(alloc: Global, text: &str) -> Result<Book, BookErr>
     ensures ok { IfOk result (λ b. text.now ≡ book_text b.cells) }
+    ensures told { IfOk result (λ b. book_in text.now ≡ Some b.cells) }
     ensures bad { IfErr result (λ why. why ≡ BookErr.Bad → IsNoBook text.now) }
+    ensures none { IfErr result (λ why. why ≡ BookErr.Bad → book_in text.now ≡ None) }
 {
     match book_of(alloc, text) {
         Ok(Some(book)) => Ok(book),
         Ok(None) => Err(BookErr::Bad),
         Err(NoMemory) => Err(BookErr::NoMemory),
+    }
+}
+
+/// The text as that of a workbook, or `Bad` just where it is no workbook's.
+pub fn read_text(alloc: Global, text: &str) -> Result<BookText, BookErr>
+    ensures ok { IfOk result (λ t. t ≡ text.now) }
+    ensures book { IfOk result (λ t. is_book_text text.now ≡ true) }
+    ensures bad { IfErr result (λ why. why ≡ BookErr.Bad → is_book_text text.now ≡ false) }
+    ensures none { IfErr result (λ why. why ≡ BookErr.Bad → IsNoBook text.now) }
+{
+    let book = read_book(alloc, text)?;
+    let _well_formed = book.writes();
+    match String::from_str(alloc, text) {
+        Ok(copy) => Ok(BookText::new(copy)),
+        Err(_) => Err(BookErr::NoMemory),
     }
 }

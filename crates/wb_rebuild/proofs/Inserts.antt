@@ -1,5 +1,5 @@
 -- What stands at a key after pairs were put into a map.
-use Rattle.std.proofs.Common.{◌≡◌, ℕ, suc, ◌<◌, ◌+◌, Bool, true, false, cond, ◌||◌, List, [], ◌∷◌, map, drop, length, get_or, Option, Some, None, option_map, refl, sym, ap, ◌∙◌, Ordering, add-one, drop-cons}
+use Rattle.std.proofs.Common.{◌≡◌, Bool, true, false, cond, ◌||◌, List, [], ◌∷◌, map, Option, Some, None, option_map, refl, sym, ap, ◌∙◌, Ordering}
 use Rattle.std.specs.FinMap.{FinMap, get, insert, get-insert}
 use Rattle.std.specs.List.{list_any}
 use Rattle.std.specs.Ordering.{eq_by_cmp}
@@ -59,11 +59,3 @@ module _ {K V : Type 0} {order : K → K → Ordering} where
       get-inserted ordered es (insert s e.0 e.1) c
       ∙ ap (or_else (last_of order es c)) (get-insert ordered.total s e.0 e.1 c)
       ∙ one_more (last_of order es c) (eq_by_cmp order c e.0) e.1 (get s c)
-
-  -- one more of the pairs that a loop puts in
-  pub put_more : {I : Type 0} (g : I → K × V) (is : List I) (p : ℕ) (i : I) (s t r : FinMap order V) → p < length is → i ≡ get_or is p i → t ≡ insert s (g i).0 (g i).1
-      → inserted (map g (drop p is)) s ≡ r → inserted (map g (drop (p + 1) is)) t ≡ r
-  put_more g is p i s t r low this made ahead =
-      rw (add-one)
-      (ap (λ m. inserted (map g (drop (suc p) is)) m) (made ∙ ap (λ j. insert s (g j).0 (g j).1) this)
-      ∙ ap (λ js. inserted (map g js) s) (sym (drop-cons is p i low)) ∙ ahead)

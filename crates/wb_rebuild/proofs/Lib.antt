@@ -6,3 +6,7 @@ pub mod Returned
 pub mod SoundSaid
 pub mod Steps
 pub mod ComingBack
+pub mod Storing
+pub mod Columnwise
+pub mod Linewise
+pub mod Agreeing

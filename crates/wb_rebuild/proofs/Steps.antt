@@ -6,7 +6,7 @@ use Rattle.std.specs.BTreeMap.{BTreeMap, Updates}
 use Rattle.std.specs.BTreeMap as tree
 use Rattle.std.specs.Cmp.{eq_by_cmp_equiv}
 use Rattle.std.specs.Cmp.Lexicographic.{slice_cmp, nat_list_cmp_total}
-use Rattle.std.specs.List.{AllByRecursion, list_all, zip}
+use Rattle.std.specs.List.{AllByRecursion, list_all}
 use Rattle.std.specs.Ordering.{nat_cmp}
 use Rattle.wb_book.specs.Cells.{Name, is_same_name}
 use Rattle.wb_text.specs.Said.{Line, name_of, line_in, line_of}
@@ -116,11 +116,3 @@ name_again xs k j p x q m h old =
     not_distinct (map line_of xs) k
     (ap are_distinct (drop-map line_of k xs) ∙ ap (λ (ys : List ObjectLine). are_distinct (map line_of ys)) (drop_at xs k j x h.low h.next h.this)
     ∙ twice (line_of x) (map line_of (drop j xs)) (there_is xs k j x q m h ∙ ap is_some old))
-
--- ---- elements at indices
-
-pub pair_at : {I W : Type 0} (is : List I) (xs : List W) (p : ℕ) (i : I) (d x : W) → p < length is → length is ≡ length xs → i ≡ get_or is p i → x ≡ get_or xs p d → (i, x) ≡ get_or (zip is xs) p (i, x)
-pair_at [] xs p i d x low e f g = absurd (omega arith)
-pair_at (j ∷ is) [] p i d x low e f g = absurd (omega (arith, e))
-pair_at (j ∷ is) (y ∷ xs) zero i d x low e f g = cc
-pair_at (j ∷ is) (y ∷ xs) (suc p) i d x low e f g = pair_at is xs p i d x (omega arith) (omega (arith, e)) f g

@@ -1,5 +1,6 @@
 -- The cells that the lines of a workbook tell of.
-use Rattle.std.specs.Prelude.{ℕ, ◌==◌, Bool, true, false, ◌&&◌, cond, ℤ, pos, List, [], ◌∷◌, map, length, Option, Some, None, is_some, option_map, unwrap_or}
+use Rattle.std.specs.Prelude.{ℕ, ◌==◌, Bool, true, false, ◌&&◌, cond, ℤ, pos, List, [], ◌∷◌, ◌++◌, map, length, Option, Some, None, is_some, option_map, unwrap_or}
+use Rattle.std.specs.FinMap.{empty}
 use Rattle.std.specs.List.{list_all, zip}
 use Rattle.wb_dist.specs.Maps.{LayoutMap}
 use Rattle.wb_book.specs.declared.cells.cell.Cell.{Cell}
@@ -88,31 +89,29 @@ presents make is = map (λ i. (make i, values.Present)) is
 abbrev pub numbers : Name → List (Index × ℤ) → List (Cell × Value)
 numbers a ps = map (λ (p : Index × ℤ). (Element a p.0, values.Number p.1)) ps
 
--- a rectangular domain: what it is, its ranges, its mapping, and which indices are in it
-abbrev pub rectangular_cells : Name → List Range → LayoutMap → List (Cell × Value)
-rectangular_cells d rs m =
-    (Object d, values.Domain (domains.Rectangular (length rs))) ∷ (Shape d, values.Ranges rs) ∷ (Mapping d, values.Mapping m) ∷ presents (In d) (indices rs)
-
--- a sparse domain: what it is, that it is bound to its parent, and its indices
-abbrev pub sparse_cells : Name → Name → ℕ → List Index → List (Cell × Value)
-sparse_cells d parent rank is = (Object d, values.Domain (domains.Sparse parent rank)) ∷ (Use parent d, values.Bound bindings.Sparse) ∷ presents (Member d) is
-
--- an associative domain: what it is, and its indices
-abbrev pub associative_cells : Name → KeyType → List Index → List (Cell × Value)
-associative_cells d type is = (Object d, values.Domain (domains.Associative type)) ∷ presents (Member d) is
-
--- an array: what it is, that it is bound to its domain, its implicit value, and its elements
-abbrev pub array_cells : Name → Name → Kind → List Index → List ℤ → Option ℤ → List (Cell × Value)
-array_cells a d kind is xs irv =
-    (Object a, values.Array d kind) ∷ (Use d a, values.Bound bindings.Array) ∷ (Implicit a, values.Number (implicit_told kind irv)) ∷ numbers a (zip is xs)
-
--- of those of a rectangular domain and of an array, the ones that are stored: which indices are in the domain follows from
--- its ranges, and elements lie in the array
+-- what is stored of a rectangular domain: what it is, its ranges, and its mapping
 abbrev pub rectangular_stored : Name → List Range → LayoutMap → List (Cell × Value)
 rectangular_stored d rs m = (Object d, values.Domain (domains.Rectangular (length rs))) ∷ (Shape d, values.Ranges rs) ∷ (Mapping d, values.Mapping m) ∷ []
 
+-- all its cells: also which indices are in it
+abbrev pub rectangular_cells : Name → List Range → LayoutMap → List (Cell × Value)
+rectangular_cells d rs m = rectangular_stored d rs m ++ presents (In d) (indices rs)
+
+-- a sparse domain, all of it stored: what it is, that it is bound to its parent, and its indices
+abbrev pub sparse_cells : Name → Name → ℕ → List Index → List (Cell × Value)
+sparse_cells d parent rank is = (Object d, values.Domain (domains.Sparse parent rank)) ∷ (Use parent d, values.Bound bindings.Sparse) ∷ presents (Member d) is
+
+-- an associative domain, all of it stored: what it is, and its indices
+abbrev pub associative_cells : Name → KeyType → List Index → List (Cell × Value)
+associative_cells d type is = (Object d, values.Domain (domains.Associative type)) ∷ presents (Member d) is
+
+-- what is stored of an array: what it is, that it is bound to its domain, and its implicit value
 abbrev pub array_stored : Name → Name → Kind → Option ℤ → List (Cell × Value)
 array_stored a d kind irv = (Object a, values.Array d kind) ∷ (Use d a, values.Bound bindings.Array) ∷ (Implicit a, values.Number (implicit_told kind irv)) ∷ []
+
+-- all its cells: also its elements
+abbrev pub array_cells : Name → Name → Kind → List Index → List ℤ → Option ℤ → List (Cell × Value)
+array_cells a d kind is xs irv = array_stored a d kind irv ++ numbers a (zip is xs)
 
 -- the stored cells that a line tells of, among all lines
 abbrev pub stored_told : List Line → Line → List (Cell × Value)
@@ -121,7 +120,7 @@ stored_told ls (sparse d parent is) = sparse_cells d parent (rank_told (line_in 
 stored_told ls (associative d type is) = associative_cells d type is
 stored_told ls (array a d xs irv) = array_stored a d (kind_told ls (line_in d ls)) irv
 
--- and the others
+-- and the others: which indices are in a domain follows from its ranges, and elements lie in the array
 abbrev pub derived_told : List Line → Line → List (Cell × Value)
 derived_told ls (rectangular d rs m) = presents (In d) (indices rs)
 derived_told ls (array a d xs irv) = numbers a (zip (indices_told (line_in d ls)) xs)
@@ -134,10 +133,23 @@ cells_of ls (sparse d parent is) = sparse_cells d parent (rank_told (line_in par
 cells_of ls (associative d type is) = associative_cells d type is
 cells_of ls (array a d xs irv) = array_cells a d (kind_told ls (line_in d ls)) (indices_told (line_in d ls)) xs irv
 
--- the cells of lines among all of them, put in line by line
+-- the stored cells of lines among all of them, put in line by line
+abbrev pub stored_put : List Line → List Line → Cells → Cells
+stored_put ls [] s = s
+stored_put ls (l ∷ more) s = stored_put ls more (inserted (stored_told ls l) s)
+
+-- and all their cells
 abbrev pub cells_put : List Line → List Line → Cells → Cells
 cells_put ls [] s = s
 cells_put ls (l ∷ more) s = cells_put ls more (inserted (cells_of ls l) s)
+
+-- the cells that lines tell of
+abbrev pub cells_told : List Line → Cells
+cells_told ls = cells_put ls ls empty
+
+-- no two lines are of one name, and each is sound
+abbrev pub are_sound : List Line → Bool
+are_sound ls = are_distinct ls && list_all (is_sound ls) ls
 
 -- ---- what stands in a cell, by the lines
 

@@ -44,7 +44,7 @@ pub fn places_of(
 }
 
 /// The line of a name.
-pub fn find<'a>(
+pub(crate) fn find<'a>(
     lines: &'a [ObjectLine],
     places: &BTreeMap<Name, usize>,
     name: &Name,

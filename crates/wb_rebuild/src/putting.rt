@@ -1,12 +1,11 @@
 //! Cells put into a map.
-ghost use Rattle.std.specs.Prelude.{◌≡◌, length, IfOk, OnOk};
+ghost use Rattle.std.specs.Prelude.{◌≡◌, IfOk, OnOk};
 ghost use Rattle.std.specs.FinMap as map;
-ghost use Rattle.std.specs.List.{zip};
 ghost use Rattle.wb_book.specs.Cells.{state_of};
 ghost use Rattle.wb_book.specs.Shapes.{indices as product_indices};
 ghost use Rattle.wb_book.specs.WellFormed.{index_cell};
 ghost use Rattle.wb_rebuild.specs.Inserted.{inserted};
-ghost use Rattle.wb_rebuild.specs.Told.{presents, numbers};
+ghost use Rattle.wb_rebuild.specs.Told.{presents};
 
 use std::alloc::{AllocError, Global};
 use std::collections::BTreeMap;
@@ -14,11 +13,7 @@ use wb_book::{AnyIndex, AnyRect, Cell, Kind, Name, Value};
 use wb_range::NoMemory;
 
 /// Sets a cell.
-pub(crate) fn put(
-    cells: &mut BTreeMap<Cell, Value>,
-    cell: Cell,
-    value: Value,
-) -> Result<(), NoMemory>
+pub fn put(cells: &mut BTreeMap<Cell, Value>, cell: Cell, value: Value) -> Result<(), NoMemory>
     ensures { OnOk result (state_of cells.new ≡ map.insert (state_of cells.old) cell value) }
 {
     match cells.insert(cell, value) {
@@ -28,7 +23,7 @@ pub(crate) fn put(
 }
 
 /// Sets the cells that say that the indices are in a domain of the kind.
-pub(crate) fn put_presents(
+pub fn put_presents(
     cells: &mut BTreeMap<Cell, Value>,
     kind: Kind,
     domain: Name,
@@ -42,28 +37,8 @@ pub(crate) fn put_presents(
     Ok(())
 }
 
-/// Sets the elements of an array at the indices.
-pub(crate) fn put_numbers(
-    cells: &mut BTreeMap<Cell, Value>,
-    array: Name,
-    indices: &[AnyIndex],
-    elements: &[i64],
-) -> Result<(), NoMemory>
-    requires { length indices.now ≡ length elements.now }
-    ensures { OnOk result (state_of cells.new ≡ inserted (numbers array (zip indices.now elements.now)) (state_of cells.old)) }
-{
-    for p in 0..indices.len() {
-        put(
-            cells,
-            Cell::Element(array, indices[p]),
-            Value::Number(elements[p]),
-        )?;
-    }
-    Ok(())
-}
-
 /// The indices of a rectangle, row by row.
-pub(crate) fn points_of(alloc: Global, ranges: &AnyRect) -> Result<Vec<AnyIndex>, AllocError>
+pub fn points_of(alloc: Global, ranges: &AnyRect) -> Result<Vec<AnyIndex>, AllocError>
     ensures { IfOk result (λ v. v.items ≡ product_indices ranges.now) }
 {
     let mut points = Vec::new(alloc);

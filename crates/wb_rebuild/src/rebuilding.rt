@@ -6,20 +6,22 @@ ghost use Rattle.wb_book.specs.Cells.{state_of};
 ghost use Rattle.wb_text.specs.Said.{line_of};
 ghost use Rattle.wb_rebuild.specs.Found.{Finds};
 ghost use Rattle.wb_rebuild.specs.Made.{IsMade};
-ghost use Rattle.wb_rebuild.specs.Told.{is_sound, cells_put};
+ghost use Rattle.wb_rebuild.specs.Told.{is_sound, are_sound, stored_put, cells_told};
 ghost use Rattle.wb_rebuild.specs.Rebuilt.{ComesBack};
 
+use crate::arrays::arrays_told;
 use crate::finding::places_of;
 use crate::making::line_validity;
-use crate::told::put_line;
+use crate::told::put_stored;
 use std::alloc::Global;
 use std::collections::BTreeMap;
-use wb_book::{Book, Cell, Name, Value};
+use wb_book::{Cell, Name, Value};
 use wb_range::NoMemory;
+use wb_shelf::Book;
 use wb_text::ObjectLine;
 
-/// Computes nothing. Callers learn what the lines are made of.
-pub fn lines_validity(lines: &[ObjectLine])
+// Computes nothing. Callers learn what the lines are made of.
+fn lines_validity(lines: &[ObjectLine])
     ensures { AllByRecursion IsMade (map line_of lines.now) }
 {
     for line in lines {
@@ -27,8 +29,8 @@ pub fn lines_validity(lines: &[ObjectLine])
     }
 }
 
-// The cells that the lines tell of, and `None` where one of them is not sound.
-fn cells_told(
+// The stored cells that the lines tell of, and `None` where one of them is not sound.
+fn stored_told(
     alloc: Global,
     lines: &[ObjectLine],
     places: &BTreeMap<Name, usize>,
@@ -36,11 +38,11 @@ fn cells_told(
     requires { Finds places.now (map line_of lines.now) (map line_of lines.now) }
     ensures sound { IfOk result (λ r. is_some r ≡ list_all (is_sound (map line_of lines.now)) (map line_of lines.now)) }
     ensures cells { IfOk result (λ r. IfSome r (λ m.
-        state_of m ≡ cells_put (map line_of lines.now) (map line_of lines.now) maps.empty)) }
+        state_of m ≡ stored_put (map line_of lines.now) (map line_of lines.now) maps.empty)) }
 {
     let mut cells = BTreeMap::new(alloc);
     for line in lines {
-        if !put_line(alloc, &mut cells, lines, places, line)? {
+        if !put_stored(&mut cells, lines, places, line)? {
             return Ok(None);
         }
     }
@@ -49,18 +51,22 @@ fn cells_told(
 
 /// The workbook that the lines tell of: a well-formed workbook comes back from what its lines say.
 ///
-/// Lines that no workbook says give `None` or some other workbook: only what a workbook needs is tested, so a caller that
-/// takes lines from elsewhere compares them with what the made workbook says. It takes time in proportion to the cells,
-/// by how deep their map is; `NoMemory` where none is left.
+/// Lines that no workbook says may give some other workbook: only what a workbook needs is tested (`are_sound`), so a caller
+/// that takes lines from elsewhere compares them with what the made workbook says. Each array is made at once by the mapping of
+/// its domain, so no element is ever a cell: beside the lines it takes the memory of the workbook and of one array more;
+/// `NoMemory` where none is left.
 pub fn rebuild(alloc: Global, lines: &[ObjectLine]) -> Result<Option<Book>, NoMemory>
-    ensures { IfOk result (λ r. ComesBack lines.now r) }
+    ensures back { IfOk result (λ r. ComesBack lines.now r) }
+    ensures sound { IfOk result (λ r. is_some r ≡ are_sound (map line_of lines.now)) }
+    ensures cells { IfOk result (λ r. IfSome r (λ b. b.cells ≡ cells_told (map line_of lines.now))) }
 {
     lines_validity(lines);
     let Some(places) = places_of(alloc, lines)? else {
         return Ok(None);
     };
-    match cells_told(alloc, lines, &places)? {
-        Some(cells) => Ok(Some(Book::of_cells(alloc, cells))),
-        None => Ok(None),
-    }
+    let Some(cells) = stored_told(alloc, lines, &places)? else {
+        return Ok(None);
+    };
+    let arrays = arrays_told(alloc, lines, &places)?;
+    Ok(Some(Book::of_parts(alloc, cells, arrays)))
 }

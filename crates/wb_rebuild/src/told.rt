@@ -1,5 +1,5 @@
-//! The cells that a line tells of.
-ghost use Rattle.std.specs.Prelude.{◌≡◌, ◌==◌, [], Some, unwrap_or, length, map, is_some, true, IfOk, OnOk, IfSome};
+//! The stored cells that a line tells of.
+ghost use Rattle.std.specs.Prelude.{◌≡◌, ◌==◌, [], Some, unwrap_or, length, map, is_some, true, IfOk, IfSome};
 ghost use Rattle.std.specs.List.{list_all};
 ghost use Rattle.wb_book.specs.Cells.{state_of};
 ghost use Rattle.wb_book.specs.Kinds.{is_key};
@@ -8,10 +8,10 @@ ghost use Rattle.wb_book.specs.declared.cells.kind.Kind.TheVariants.{Associative
 ghost use Rattle.wb_text.specs.Said.{line_in, line_of};
 ghost use Rattle.wb_rebuild.specs.Found.{Finds};
 ghost use Rattle.wb_rebuild.specs.Inserted.{inserted};
-ghost use Rattle.wb_rebuild.specs.Told.{ranges_told, rank_told, kind_told, indices_told, implicit_told, is_domain, are_within, is_sound, rectangular_stored, sparse_cells, associative_cells, array_stored, stored_told, derived_told, cells_of};
+ghost use Rattle.wb_rebuild.specs.Told.{ranges_told, rank_told, kind_told, indices_told, implicit_told, is_domain, are_within, is_sound, rectangular_stored, sparse_cells, associative_cells, array_stored, stored_told};
 
 use crate::finding::find;
-use crate::putting::{points_of, put, put_numbers, put_presents};
+use crate::putting::{points_of, put, put_presents};
 use std::alloc::{AllocError, Global};
 use std::collections::BTreeMap;
 use wb_book::{
@@ -272,54 +272,4 @@ pub fn put_stored(
             put_array(cells, *array, *domain, kind, count, elements, *implicit)
         }
     }
-}
-
-// Puts in the other cells that a sound line tells of.
-fn put_derived(
-    alloc: Global,
-    cells: &mut BTreeMap<Cell, Value>,
-    lines: &[ObjectLine],
-    places: &BTreeMap<Name, usize>,
-    line: &ObjectLine,
-) -> Result<(), NoMemory>
-    requires finds { Finds places.now (map line_of lines.now) (map line_of lines.now) }
-    requires sound { is_sound (map line_of lines.now) (line_of line.now) ≡ true }
-    ensures { OnOk result (state_of cells.new ≡ inserted (derived_told (map line_of lines.now) (line_of line.now)) (state_of cells.old)) }
-{
-    match line {
-        ObjectLine::Rectangular(domain, ranges, _) => {
-            let Ok(points) = points_of(alloc, ranges) else {
-                return Err(NoMemory);
-            };
-            put_presents(cells, Kind::Rectangular(ranges.rank()), *domain, &points)
-        }
-        ObjectLine::Sparse(_, _, _) => Ok(()),
-        ObjectLine::Associative(_, _, _) => Ok(()),
-        ObjectLine::Array(array, domain, elements, _) => {
-            let Ok(indices) = indices_of(alloc, lines, places, domain) else {
-                return Err(NoMemory);
-            };
-            put_numbers(cells, *array, &indices, elements)
-        }
-    }
-}
-
-/// Puts in the cells that a line tells of. `false` where it is not sound, and then the cells are of no use.
-pub(crate) fn put_line(
-    alloc: Global,
-    cells: &mut BTreeMap<Cell, Value>,
-    lines: &[ObjectLine],
-    places: &BTreeMap<Name, usize>,
-    line: &ObjectLine,
-) -> Result<bool, NoMemory>
-    requires { Finds places.now (map line_of lines.now) (map line_of lines.now) }
-    ensures sound { IfOk result (λ b. b ≡ is_sound (map line_of lines.now) (line_of line.now)) }
-    ensures cells { IfOk result (λ b. b ≡ true →
-        state_of cells.new ≡ inserted (cells_of (map line_of lines.now) (line_of line.now)) (state_of cells.old)) }
-{
-    if !put_stored(cells, lines, places, line)? {
-        return Ok(false);
-    }
-    put_derived(alloc, cells, lines, places, line)?;
-    Ok(true)
 }

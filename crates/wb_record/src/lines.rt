@@ -51,6 +51,8 @@ fn edit_of(alloc: Global, line: &[u8]) -> Result<Option<Edit>, NoMemory>
         Ok(
             Request::Undo(_)
             | Request::Redo(_)
+            | Request::Cascade(_)
+            | Request::Dependents(_)
             | Request::Ask(_)
             | Request::Print
             | Request::History,

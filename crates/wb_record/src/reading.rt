@@ -11,6 +11,7 @@ use thiserror::Error;
 use wb_edit::Edit;
 use wb_history::{History, RestoreErr};
 use wb_range::NoMemory;
+use wb_redist::Mover;
 
 /// Why a text is not read.
 #[derive(Clone, Copy, Debug, PartialEq, Eq, Error)]
@@ -38,15 +39,16 @@ fn same_text(alloc: Global, history: History, text: &str) -> Result<Option<Histo
 }
 
 // The history of these edits, if this is its text.
-fn history_of_edits(
+fn history_of_edits<M: Mover>(
     alloc: Global,
     edits: Vec<(Edit, bool)>,
     text: &str,
+    mover: &M,
 ) -> Result<Option<History>, NoMemory>
     ensures some { IfOk result (λ r. IfSome r (λ h. (text.now ≡ history_text h.entries) × IsCounted h)) }
     ensures none { IfOk result (λ r. IfNone r (IsHistory (marked edits.items) → text.now ≡ history_text (marked edits.items) → ⊥)) }
 {
-    match History::restore(alloc, edits) {
+    match History::restore(alloc, edits, mover) {
         Ok(history) => same_text(alloc, history, text),
         Err(RestoreErr::NotLegal) => Ok(None),
         Err(RestoreErr::NoMemory) => Err(NoMemory),
@@ -54,24 +56,24 @@ fn history_of_edits(
 }
 
 // The history of this text, if there is one.
-fn history_of(alloc: Global, text: &str) -> Result<Option<History>, NoMemory>
+fn history_of<M: Mover>(alloc: Global, text: &str, mover: &M) -> Result<Option<History>, NoMemory>
     ensures some { IfOk result (λ r. IfSome r (λ h. (text.now ≡ history_text h.entries) × IsCounted h)) }
     ensures none { IfOk result (λ r. IfNone r (IsNoHistory text.now)) }
 {
     match read_edits(alloc, text)? {
-        Some(edits) => history_of_edits(alloc, edits, text),
+        Some(edits) => history_of_edits(alloc, edits, text, mover),
         None => Ok(None),
     }
 }
 
 /// The history of this text, or `Bad` just where no history has it. No two histories share a text, so it is the only one.
 /// Each edit in force is made once, and nothing else is counted in `writes`.
-pub fn read_history(alloc: Global, text: &str) -> Result<History, HistoryErr>
+pub fn read_history<M: Mover>(alloc: Global, text: &str, mover: &M) -> Result<History, HistoryErr>
     ensures ok { IfOk result (λ h. text.now ≡ history_text h.entries) }
     ensures counted { IfOk result (λ h. IsCounted h) }
     ensures bad { IfErr result (λ why. why ≡ HistoryErr.Bad → IsNoHistory text.now) }
 {
-    match history_of(alloc, text) {
+    match history_of(alloc, text, mover) {
         Ok(Some(history)) => Ok(history),
         Ok(None) => Err(HistoryErr::Bad),
         Err(NoMemory) => Err(HistoryErr::NoMemory),

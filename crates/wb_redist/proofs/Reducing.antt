@@ -1,11 +1,13 @@
 -- What is made of the pieces, joined, is what is made of the whole; and no sum wraps.
-use Rattle.std.proofs.Common.{◌≡◌, ℕ, zero, suc, ◌+◌, ◌*◌, ◌<◌, ◌≤◌, ℤ, pos, ◌+ℤ◌, ◌≤ℤ◌, Bool, true, false, cond, eqb, List, [], ◌∷◌, map, length, Option, Some, None, fold, refl, sym, ap, subst, ◌∙◌, ⊎_elim, eq-eqb, eqb-true, arith}
-use Rattle.std.specs.Prelude.{FitsSigned, Result, Err, IfNone, IfSome, IfErr, OkIff, MatchOption}
+use Rattle.std.proofs.Common.{◌≡◌, ℕ, zero, suc, ◌+◌, ◌*◌, ◌<◌, ◌≤◌, ℤ, pos, ◌+ℤ◌, ◌≤ℤ◌, Bool, true, false, cond, eqb, List, [], ◌∷◌, ◌++◌, map, length, take, get_or, Option, Some, None, fold, refl, sym, ap, subst, ◌∙◌, ⊎_elim, eq-eqb, eqb-true, arith}
+use Rattle.std.specs.Prelude.{FitsSigned, Result, Err, IfNone, IfSome, IfErr, OkIff}
 use Rattle.std.specs.List.{reduce, All, AllZip}
 use Rattle.std.specs.Option.{option_map}
 use Rattle.std.specs.Int.{w64, w128, int_wrap, int_min, int_max}
 use Rattle.std.proofs.lemmas.Bool.{cases_lt, eqb-false}
 use Rattle.std.proofs.lemmas.Int.{ints, clamps, int_wrap-add_left, int_wrap-add_right, int_wrap_fits}
+use Rattle.std.proofs.lemmas.Grind.{fold-append}
+use Rattle.std.proofs.lemmas.List.{map-append, take_more}
 use Rattle.std.proofs.lemmas.List.Elements.{All-nil, All-cons}
 use Rattle.rayon.specs.Lists.{ReducesWith, ActsAsSemigroup}
 use Rattle.rayon.proofs.Reducing.{ReducesWith-reduce}
@@ -13,8 +15,8 @@ use Rattle.wb_pieces.specs.Pieces.{piece_of, LieBelow}
 use Rattle.wb_redist.specs.declared.reduction.Op.{Op}
 use Rattle.wb_redist.specs.declared.reduction.Op.TheVariants.{Sum, Min, Max}
 use Rattle.wb_redist.specs.declared.reduction.ReduceErr.{ReduceErr}
-use Rattle.wb_redist.specs.declared.reduction.ReduceErr.TheVariants.{Empty, Overflow}
-use Rattle.wb_redist.specs.Reductions.{elements_of, op_of, reduction, of_nothing, op_in_128, joined_in_128, of_locales_in_128, AreSmall}
+use Rattle.wb_redist.specs.declared.reduction.ReduceErr.TheVariants.{Overflow}
+use Rattle.wb_redist.specs.Reductions.{elements_of, op_of, reduction, of_nothing, op_in_128, joined_in_128, of_locales_in_128, AreSmall, IsReduced}
 
 pub op-associative : (op : Op) (a b c : ℤ) → op_in_128 op (op_in_128 op a b) c ≡ op_in_128 op a (op_in_128 op b c)
 op-associative Sum a b c = int_wrap-add_left w128 (a +ℤ b) c ∙ ap (int_wrap w128) (omega (arith, ints)) ∙ sym (int_wrap-add_right w128 a (b +ℤ c))
@@ -166,6 +168,30 @@ all_of_any : (xs : List ℤ) → All (λ x. Unit {0}) xs
 all_of_any [] = All-nil (λ x. Unit {0})
 all_of_any (x ∷ xs) = All-cons (λ x. Unit {0}) x xs tt (all_of_any xs)
 
+-- one element more
+pub reduce-more : (op : Op) (xs : List ℤ) (x : ℤ) → reduce (op_in_128 op) (xs ++ x ∷ []) ≡ joined_in_128 op (reduce (op_in_128 op) xs) (Some x)
+reduce-more op [] x = refl
+reduce-more op (a ∷ xs) x = ap Some (fold-append (op_in_128 op) a xs (x ∷ []))
+
+module _ {I : Type 0} (es : List (I × ℤ)) (k : ℕ) (x : I × ℤ) (low : k < length es) (is : x ≡ get_or es k x) where
+  taken : take (k + 1) es ≡ take k es ++ x ∷ []
+  taken = take_more es k x low ∙ ap (λ (y : I × ℤ). take k es ++ y ∷ []) (sym is)
+
+  pub reduced_more : (op : Op) (before : Option ℤ) → before ≡ reduce (op_in_128 op) (elements_of (take k es)) →
+      joined_in_128 op before (Some x.1) ≡ reduce (op_in_128 op) (elements_of (take (k + 1) es))
+  reduced_more op before h =
+      ap (λ o. joined_in_128 op o (Some x.1)) h
+      ∙ sym (reduce-more op (elements_of (take k es)) x.1)
+      ∙ ap (reduce (op_in_128 op)) (sym (map-append (λ (e : I × ℤ). e.1) (take k es) (x ∷ [])))
+      ∙ ap (λ (ys : List (I × ℤ)). reduce (op_in_128 op) (elements_of ys)) (sym taken)
+
+  small-last : (ys : List (I × ℤ)) → AreSmall ys → FitsSigned w64 x.1 → AreSmall (ys ++ x ∷ [])
+  small-last [] all fits = (fits, tt)
+  small-last (y ∷ ys) all fits = (all.0, small-last ys all.1 fits)
+
+  pub small_more : AreSmall (take k es) → FitsSigned w64 x.1 → AreSmall (take (k + 1) es)
+  small_more all fits = subst (λ (ys : List (I × ℤ)). AreSmall ys) (sym taken) (small-last (take k es) all fits)
+
 -- what several threads make of the elements is what one makes of them in their order
 pub reduced : (op : Op) (xs : List ℤ) (r : Option ℤ) → ReducesWith (λ a b c. c ≡ op_in_128 op a b) xs r → r ≡ reduce (op_in_128 op) xs
 reduced op xs r h =
@@ -180,7 +206,7 @@ module _ {I : Type 0} where
   reduction-some Sum (e ∷ es) s h = let first : pos 0 +ℤ e.1 ≡ e.1 = omega (arith, ints) in ap (λ z. Some (fold ◌+ℤ◌ z (elements_of es))) first ∙ sym h
 
   -- the answer is that of the reduction
-  pub answered : (op : Op) (es : List (I × ℤ)) (w : Option ℤ) (r : Result ℤ ReduceErr) → w ≡ reduce (op_of op) (elements_of es) → IfNone w (r ≡ of_nothing op) → IfSome w (λ s. OkIff r (FitsSigned w64 s) s) → IfSome w (λ s. IfErr r (λ e. e ≡ Overflow)) → MatchOption (reduction op es) (r ≡ Err Empty) (λ s. OkIff r (FitsSigned w64 s) s × IfErr r (λ e. e ≡ Overflow))
+  pub answered : (op : Op) (es : List (I × ℤ)) (w : Option ℤ) (r : Result ℤ ReduceErr) → w ≡ reduce (op_of op) (elements_of es) → IfNone w (r ≡ of_nothing op) → IfSome w (λ s. OkIff r (FitsSigned w64 s) s) → IfSome w (λ s. IfErr r (λ e. e ≡ Overflow)) → IsReduced op es r
   answered op es (Some s) r h n v o = rw (reduction-some op es s h) (v, o)
   answered Min [] None r h n v o = n
   answered Max [] None r h n v o = n
@@ -196,7 +222,7 @@ module _ {I : Type 0} where
   greatest-fits a (e ∷ es) f h = greatest-fits (int_max a e.1) es (let g = h.0 in omega (arith, ints, clamps)) h.1
 
   -- only a sum overflows: the least and the greatest are elements
-  pub only_sums_overflow : (op : Op) (es : List (I × ℤ)) (r : Result ℤ ReduceErr) → AreSmall es → MatchOption (reduction op es) (r ≡ Err Empty) (λ s. OkIff r (FitsSigned w64 s) s × IfErr r (λ e. e ≡ Overflow)) → r ≡ Err Overflow → op ≡ Sum
+  pub only_sums_overflow : (op : Op) (es : List (I × ℤ)) (r : Result ℤ ReduceErr) → AreSmall es → IsReduced op es r → r ≡ Err Overflow → op ≡ Sum
   only_sums_overflow Sum es r h m e = refl
   only_sums_overflow Min [] r h m e = absurd (cc)
   only_sums_overflow Max [] r h m e = absurd (cc)

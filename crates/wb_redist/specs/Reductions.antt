@@ -1,12 +1,12 @@
 -- Reductions of the elements of an array.
-use Rattle.std.specs.Prelude.{ℕ, zero, suc, ℤ, pos, ◌+ℤ◌, List, [], ◌∷◌, map, Option, Some, None, Result, Ok, Err, FitsSigned}
+use Rattle.std.specs.Prelude.{◌≡◌, ℕ, zero, suc, ℤ, pos, ◌+ℤ◌, List, [], ◌∷◌, map, Option, Some, None, Result, Ok, Err, OkIff, IfErr, MatchOption, FitsSigned}
 use Rattle.std.specs.List.{fold, reduce}
 use Rattle.std.specs.Int.{w64, w128, int_wrap, int_min, int_max}
 use Rattle.wb_pieces.specs.Pieces.{piece_of}
 use Rattle.wb_redist.specs.declared.reduction.Op.{Op}
 use Rattle.wb_redist.specs.declared.reduction.Op.TheVariants.{Sum, Min, Max}
 use Rattle.wb_redist.specs.declared.reduction.ReduceErr.{ReduceErr}
-use Rattle.wb_redist.specs.declared.reduction.ReduceErr.TheVariants.{Empty}
+use Rattle.wb_redist.specs.declared.reduction.ReduceErr.TheVariants.{Empty, Overflow}
 
 -- the elements of pairs of index and element
 abbrev pub elements_of : {I : Type 0} → List (I × ℤ) → List ℤ
@@ -18,11 +18,15 @@ op_of Sum a b = a +ℤ b
 op_of Min a b = int_min a b
 op_of Max a b = int_max a b
 
--- the reduction of all elements: the sum of none is 0, and none have no least and no greatest one (Chapel Language Specification, "Data Parallelism")
+-- the reduction of all elements: the sum of none is 0, and none have no least and no greatest one (Chapel Language Specification, Reductions and Scans)
 abbrev pub reduction : {I : Type 0} → Op → List (I × ℤ) → Option ℤ
 reduction Sum es = Some (fold ◌+ℤ◌ (pos 0) (elements_of es))
 reduction Min es = reduce int_min (elements_of es)
 reduction Max es = reduce int_max (elements_of es)
+
+-- The answer to a reduction: its value where that is an integer of 64 bits. A sum is judged once, as a whole.
+abbrev pub IsReduced : {I : Type 0} → Op → List (I × ℤ) → Result ℤ ReduceErr → Type 0
+IsReduced op es r = MatchOption (reduction op es) (r ≡ Err Empty) (λ s. OkIff r (FitsSigned w64 s) s × IfErr r (λ e. e ≡ Overflow))
 
 -- the answer where there is no element
 abbrev pub of_nothing : Op → Result ℤ ReduceErr

@@ -3,8 +3,9 @@
 use std::alloc::Global;
 use std::process::Abort;
 use std::test::Fail;
-use wb_book::{AnyIndex, Binding, Book, Cell, Index, Kind, Name, Point, Value};
+use wb_book::{AnyIndex, Binding, Cell, Index, Kind, Name, Point, Value};
 use wb_reading::{BookErr, read_book};
+use wb_shelf::Book;
 use wb_text::print_book;
 
 const EACH_KIND: &str =

@@ -3,12 +3,13 @@
 
 use std::alloc::Global;
 use std::test::Fail;
-use wb_book::{AnyIndex, Book, Index, Name, Point};
+use wb_book::{AnyIndex, Index, Name, Point};
 use wb_reading::{BookErr, read_book};
 use wb_resize::set_operations::set_of;
 use wb_resize::{Given, SetOperation, Source};
+use wb_shelf::Book;
 
-fn at(i: i64) -> AnyIndex {
+pub(crate) fn at(i: i64) -> AnyIndex {
     AnyIndex::new(Index::Point(Point::single(i)))
 }
 
@@ -17,7 +18,7 @@ fn at(i: i64) -> AnyIndex {
 const DOMAINS: &str =
     "chapel-workbook 1\narray A over S [7, 10] irv 0\nrect D {3..6} cyclicDist(0, [2])\nassoc K of int {-2, 9}\nsparse S of D {3, 6}\nend\n";
 
-fn book_of(alloc: Global, text: &str) -> Result<Book, BookErr> {
+pub(crate) fn book_of(alloc: Global, text: &str) -> Result<Book, BookErr> {
     match read_book(alloc, text) {
         Err(BookErr::NoMemory) => read_book(alloc, text),
         other => other,

@@ -1,6 +1,6 @@
-//! Tests of the crates from `wb_book` to `wb_record`: the calls of a book, the index of footprints, literals, texts of
-//! workbooks, worked histories as request lines with their replies, undo with dependents, sessions over devices that fail, and the canonical lines
-//! of requests.
+//! Tests of the crates from `wb_book` to `wb_record`: the calls of a book, arrays moved by one thread and by several, the index
+//! of footprints, literals, texts of workbooks, worked histories as request lines with their replies, undo with dependents,
+//! sessions over devices that fail, and the canonical lines of requests.
 //!
 //! A crate with tests is proved twice, so these crates have none of their own.
 #![tactic(auto)]
@@ -19,6 +19,8 @@ mod footprints;
 mod lines;
 #[cfg(test)]
 mod literals;
+#[cfg(test)]
+mod movers;
 #[cfg(test)]
 mod records;
 #[cfg(test)]

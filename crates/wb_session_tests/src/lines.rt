@@ -9,6 +9,7 @@ use std::test::Fail;
 use wb_lines::{
     Input, Line, LineBuffer, LineFault, Output, SessionEnd, WriteFault, next_line, read_all, send,
 };
+use wb_redist::{Mover, OneThread};
 
 const LINES: &[u8] =
     b"{\"op\":\"domain\",\"d\":\"D\",\"is\":\"{1..4}\"}\n{\"op\":\"array\",\"a\":\"A\",\"d\":\"D\"}\n{\"op\":\"set\",\"a\":\"A\",\"i\":4,\"v\":9}\n{\"op\":\"undo\"}\n{\"op\":\"get\",\"a\":\"A\",\"i\":4}\n";
@@ -41,7 +42,7 @@ fn reply_length(lines: u64) -> usize {
 
 // That a session which reads up to a fault, if there is one, and writes so many bytes, ends so, when so many were sent,
 // with so many lines answered, sent or not. The first three are edits.
-fn ends_so(
+fn ends_so<M: Mover>(
     rt: &impl Abort,
     alloc: Global,
     failing: Option<usize>,
@@ -49,8 +50,9 @@ fn ends_so(
     wanted: SessionEnd,
     sent: usize,
     answered: u64,
+    mover: &M,
 ) {
-    let (end, edits) = ended(alloc, OneByOne::new(LINES, failing), output);
+    let (end, edits) = ended(alloc, OneByOne::new(LINES, failing), output, mover);
     assert!(rt; end == wanted);
     assert!(rt; REPLIES.get(..sent) == Some(output.taken.as_slice()));
     assert!(rt; edits == answered.min(3));
@@ -60,28 +62,31 @@ fn ends_so(
 #[test]
 fn failing_reads(rt: HostRuntime) {
     let alloc = rt.alloc();
+    let alone: OneThread<&HostRuntime> = OneThread::new();
     for at in 0..LINES.len() {
         let whole = line_ends(&LINES[..at]);
         let mut output = Narrow::new(alloc, REPLIES.len(), true);
         let end = SessionEnd::ReadFault(whole);
         let sent = reply_length(whole);
-        ends_so(&rt, alloc, Some(at), &mut output, end, sent, whole);
+        ends_so(&rt, alloc, Some(at), &mut output, end, sent, whole, &alone);
     }
     let mut output = Narrow::new(alloc, REPLIES.len(), true);
-    ends_so(&rt, alloc, None, &mut output, SessionEnd::Done(5), 82, 5);
+    let end = SessionEnd::Done(5);
+    ends_so(&rt, alloc, None, &mut output, end, 82, 5, &alone);
 }
 
 // A writer that fails or takes nothing after each of its bytes: the line is done then, though its reply is not sent whole.
 #[test]
 fn failing_writes(rt: HostRuntime) {
     let alloc = rt.alloc();
+    let alone: OneThread<&HostRuntime> = OneThread::new();
     for limit in 0..REPLIES.len() {
         let whole = line_ends(&REPLIES[..limit]);
         for fails in [true, false] {
             let mut output = Narrow::new(alloc, limit, fails);
             let end = SessionEnd::WriteFault(whole);
             let answered = whole.wrapping_add(1);
-            ends_so(&rt, alloc, None, &mut output, end, limit, answered);
+            ends_so(&rt, alloc, None, &mut output, end, limit, answered, &alone);
         }
     }
 }
@@ -90,12 +95,14 @@ fn failing_writes(rt: HostRuntime) {
 #[test]
 fn flushes_before_it_waits(rt: HostRuntime) -> Result<(), Fail> {
     let alloc = rt.alloc();
+    let alone: OneThread<&HostRuntime> = OneThread::new();
     for (failing, limit, wanted, sent) in [
         (Some(79), REPLIES.len(), SessionEnd::ReadFault(2), 34),
         (None, 5, SessionEnd::WriteFault(1), 5),
     ] {
         let mut output = BufWriter::new(alloc, Narrow::new(alloc, limit, true))?;
-        let (end, _) = ended(alloc, OneByOne::new(LINES, failing), &mut output);
+        let input = OneByOne::new(LINES, failing);
+        let (end, _) = ended(alloc, input, &mut output, &alone);
         assert!(rt; end == wanted);
         assert!(rt; REPLIES.get(..sent) == Some(output.get_ref().taken.as_slice()));
     }

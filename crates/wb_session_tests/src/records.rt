@@ -9,6 +9,7 @@ use wb_history::{History, RestoreErr};
 use wb_proto::{Request, read_request};
 use wb_range::NoMemory;
 use wb_record::{HistoryErr, print_history, read_history};
+use wb_redist::{Mover, OneThread};
 
 const MADE: &str = r#"
 {"op":"domain","d":"D","is":"{1..4}"} -> {"edit":1,"n":3}
@@ -55,39 +56,58 @@ const DAMAGED: [(&str, &str); 14] = [
 ];
 
 // Whether a text is that of no history where another part stands in the place of one.
-fn is_bad(alloc: Global, text: &str, part: &str, other: &str) -> Result<bool, Fail> {
+fn is_bad<M: Mover>(
+    alloc: Global,
+    text: &str,
+    part: &str,
+    other: &str,
+    mover: &M,
+) -> Result<bool, Fail> {
     let (front, end) = text.split_once(part).ok_or("a part")?;
     let damaged = format!(in alloc; "{front}{other}{end}")?;
-    match read_history(alloc, damaged.as_str()) {
+    match read_history(alloc, damaged.as_str(), mover) {
         Ok(_) => Ok(false),
         Err(error) => Ok(error == HistoryErr::Bad),
     }
 }
 
 // The text of the history that these lines make.
-fn text_of(rt: &impl Abort, alloc: Global, rows: &str) -> Result<String, Fail> {
+fn text_of<M: Mover>(
+    rt: &impl Abort,
+    alloc: Global,
+    rows: &str,
+    mover: &M,
+) -> Result<String, Fail> {
     let mut history = History::new(alloc);
-    play(rt, alloc, &mut history, rows)?;
+    play(rt, alloc, &mut history, rows, mover)?;
     Ok(print_history(alloc, &history)?)
 }
 
 // How many edits a text tells of and how many cells they set, where the history goes on with these lines.
-fn read_back(rt: &impl Abort, alloc: Global, text: &str, rows: &str) -> Result<(u64, u128), Fail> {
-    let mut history = read_history(alloc, text)?;
+fn read_back<M: Mover>(
+    rt: &impl Abort,
+    alloc: Global,
+    text: &str,
+    rows: &str,
+    mover: &M,
+) -> Result<(u64, u128), Fail> {
+    let mut history = read_history(alloc, text, mover)?;
     let counts = (history.len(), history.book().writes());
-    play(rt, alloc, &mut history, rows)?;
+    play(rt, alloc, &mut history, rows, mover)?;
     Ok(counts)
 }
 
 // That each of these texts is bad.
-fn are_bad(
+fn are_bad<M: Mover>(
     rt: &impl Abort,
     alloc: Global,
     text: &str,
     damaged: &[(&str, &str)],
+    mover: &M,
 ) -> Result<(), Fail> {
     for (part, other) in damaged {
-        assert!(rt; is_bad(alloc, text, part, other)?, "{part} {other}");
+        let bad = is_bad(alloc, text, part, other, mover)?;
+        assert!(rt; bad, "{part} {other}");
     }
     Ok(())
 }
@@ -95,10 +115,12 @@ fn are_bad(
 #[test]
 fn history_text(rt: HostRuntime) -> Result<(), Fail> {
     let alloc = rt.alloc();
-    let made = text_of(&rt, alloc, MADE)?;
+    let alone: OneThread<&HostRuntime> = OneThread::new();
+    let made = text_of(&rt, alloc, MADE, &alone)?;
     let redo = "{\"op\":\"redo\",\"k\":3} -> {\"n\":1,\"redone\":3}";
-    assert!(rt; read_back(&rt, alloc, made.as_str(), redo)? == (3, 10));
-    are_bad(&rt, alloc, made.as_str(), &DAMAGED)?;
+    let counts = read_back(&rt, alloc, made.as_str(), redo, &alone)?;
+    assert!(rt; counts == (3, 10));
+    are_bad(&rt, alloc, made.as_str(), &DAMAGED, &alone)?;
     assert!(rt; made.as_str() == TEXT);
     Ok(())
 }
@@ -106,20 +128,29 @@ fn history_text(rt: HostRuntime) -> Result<(), Fail> {
 pub(crate) fn edit_of(alloc: Global, line: &str) -> Result<Edit, Fail> {
     match read_request(alloc, line.as_bytes())? {
         Request::Change(edit) => Ok(edit),
-        Request::Undo(_) | Request::Redo(_) | Request::Ask(_) | Request::Print | Request::History =>
-            Err(Fail::new("no edit")),
+        Request::Undo(_)
+        | Request::Redo(_)
+        | Request::Cascade(_)
+        | Request::Dependents(_)
+        | Request::Ask(_)
+        | Request::Print
+        | Request::History => Err(Fail::new("no edit")),
     }
 }
 
 // Of the history of an array over a domain that is not there, where it may be: whether its edit is in force, is there, and
 // is followed by another.
-fn restored(alloc: Global, in_force: bool) -> Result<Option<(Option<bool>, bool, bool)>, Fail> {
+fn restored<M: Mover>(
+    alloc: Global,
+    in_force: bool,
+    mover: &M,
+) -> Result<Option<(Option<bool>, bool, bool)>, Fail> {
     let mut edits = Vec::new(alloc);
     let edit = edit_of(alloc, "{\"op\":\"array\",\"a\":\"A\",\"d\":\"D\"}")?;
     if edits.push((edit, in_force)).is_err() {
         return Err(NoMemory)?;
     }
-    match History::restore(alloc, edits) {
+    match History::restore(alloc, edits, mover) {
         Ok(history) => Ok(Some((
             history.in_force(1),
             history.edit_at(1).is_some(),
@@ -132,7 +163,9 @@ fn restored(alloc: Global, in_force: bool) -> Result<Option<(Option<bool>, bool,
 
 #[test]
 fn restored_from_a_list(rt: HostRuntime) -> Result<(), Fail> {
-    assert!(rt; restored(rt.alloc(), true)?.is_none());
-    assert!(rt; restored(rt.alloc(), false)? == Some((Some(false), true, false)));
+    let alone: OneThread<&HostRuntime> = OneThread::new();
+    assert!(rt; restored(rt.alloc(), true, &alone)?.is_none());
+    let out_of_force = restored(rt.alloc(), false, &alone)?;
+    assert!(rt; out_of_force == Some((Some(false), true, false)));
     Ok(())
 }

@@ -7,7 +7,7 @@ use wb_proto::{Request, read_request};
 use wb_wire::{edit_text, request_text};
 
 // Lines, each with the canonical line of its request.
-const LINES: [(&str, &str); 12] = [
+const LINES: [(&str, &str); 16] = [
     (
         "{\"op\":\"domain\",\"d\":\"D\",\"is\":\"{1..4}\"}",
         "{\"d\":\"D\",\"is\":\"{1..4}\",\"map\":\"none\",\"op\":\"domain\"}",
@@ -44,14 +44,30 @@ const LINES: [(&str, &str); 12] = [
         "{\"op\":\"all\",\"a\":\"A\",\"how\":\"*\",\"b\":\"B\"}",
         "{\"a\":\"A\",\"b\":\"B\",\"how\":\"*\",\"op\":\"all\"}",
     ),
+    (
+        "{\"text\":\"chapel-workbook 1\\u000aassoc T of text {\\\"é\\\"}\\nend\\n\",\"op\":\"load\"}",
+        "{\"op\":\"load\",\"text\":\"chapel-workbook 1\\nassoc T of text {\\\"é\\\"}\\nend\\n\"}",
+    ),
     ("{\"op\":\"undo\"}", "{\"op\":\"undo\"}"),
     (
         "{\"op\":\"redo\",\"k\":18446744073709551615}",
         "{\"k\":18446744073709551615,\"op\":\"redo\"}",
     ),
     (
+        "{\"op\":\"cascade\",\"k\":3}",
+        "{\"k\":3,\"op\":\"cascade\"}",
+    ),
+    (
+        "{\"op\":\"dependents\",\"k\":0}",
+        "{\"k\":0,\"op\":\"dependents\"}",
+    ),
+    (
         "{\"op\":\"piece\",\"l\":0,\"a\":\"A\"}",
         "{\"a\":\"A\",\"l\":0,\"op\":\"piece\"}",
+    ),
+    (
+        "{\"op\":\"reduce\",\"how\":\"min\",\"a\":\"A\"}",
+        "{\"a\":\"A\",\"how\":\"min\",\"op\":\"reduce\"}",
     ),
 ];
 

@@ -18,6 +18,7 @@ use wb_history::History;
 use wb_journal::{Cause, Counted, Journal, Pass};
 use wb_proto::{Reply, Request};
 use wb_range::NoMemory;
+use wb_redist::Mover;
 
 /// Why there is no desk.
 #[derive(Clone, Copy, Debug, PartialEq, Eq, Error)]
@@ -129,14 +130,20 @@ impl<L: Opening> Desk<L> {
     }
 
     /// Takes the lock, and answers one request of a pass.
-    pub fn call(&self, rt: &impl Wait, pass: &mut Pass<L>, request: Request) -> Reply
+    pub fn call<M: Mover>(
+        &self,
+        rt: &impl Wait,
+        pass: &mut Pass<L>,
+        request: Request,
+        mover: &M,
+    ) -> Reply
         ensures reply { AnswersSome L.opening pass.old.seat pass.old.own request result }
         ensures seat { pass.new.seat ≡ pass.old.seat }
         ensures own { pass.new.own ≡ own_after pass.old.seat pass.old.own request result }
         ensures share { pass.new.share ≡ share_after pass.old.share result }
     {
         let mut guard = self.taken(rt);
-        serve(&mut guard, pass, request)
+        serve(&mut guard, pass, request, mover)
     }
 }
 

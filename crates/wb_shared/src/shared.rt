@@ -13,6 +13,7 @@ use std::sync::ledger::Share;
 use wb_history::History;
 use wb_journal::{Cause, Counted, Pass};
 use wb_proto::{Reply, Request};
+use wb_redist::Mover;
 
 /// The locked value of a desk: the history, the journal, each seat's number of entries, and the ledger's book.
 #[derive(Drop)]
@@ -63,7 +64,12 @@ impl<L: Opening> Shared<L> {
 }
 
 /// Answers one request of a pass.
-pub fn serve<L: Opening>(shared: &mut Shared<L>, pass: &mut Pass<L>, request: Request) -> Reply
+pub fn serve<L: Opening, M: Mover>(
+    shared: &mut Shared<L>,
+    pass: &mut Pass<L>,
+    request: Request,
+    mover: &M,
+) -> Reply
     ensures course { IsCourse L.opening shared.old.course }
     ensures strange { IsStrange shared.old.course pass.old.seat pass.old.own result }
     ensures answers { AnswersCourse shared.old.course pass.old.seat request result shared.new.course }
@@ -73,5 +79,5 @@ pub fn serve<L: Opening>(shared: &mut Shared<L>, pass: &mut Pass<L>, request: Re
     ensures own { pass.new.own ≡ own_after pass.old.seat pass.old.own request result }
     ensures share { pass.new.share ≡ share_after pass.old.share result }
 {
-    shared.kept.answer(shared.alloc, pass, request)
+    shared.kept.answer(shared.alloc, pass, request, mover)
 }

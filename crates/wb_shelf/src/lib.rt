@@ -9,4 +9,4 @@ mod looks;
 mod moving;
 mod shelf;
 
-pub use crate::shelf::Shelf;
+pub use crate::shelf::Book;

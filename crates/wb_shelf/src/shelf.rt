@@ -20,14 +20,14 @@ use wb_redist::{MoveErr, Mover};
 
 /// A workbook: its cells, well formed, and how many were set so far.
 #[derive(Drop)]
-pub struct Shelf {
+pub struct Book {
     alloc: Global,
     cells: BTreeMap<Cell, Value>,
     arrays: BTreeMap<Name, Elements>,
     writes: u128,
 }
 
-impl Model for Shelf {
+impl Model for Book {
     ghost use Rattle.wb_book.specs.Cells.{Contents, contents_code};
 
     ghost Value = { Contents };
@@ -41,12 +41,12 @@ impl Model for Shelf {
     ghost invariant = { λ a. IsShelf a.cells a.arrays };
 }
 
-impl Shelf {
+impl Book {
     /// The empty workbook.
-    pub fn new(alloc: Global) -> Shelf
+    pub fn new(alloc: Global) -> Book
         ensures { result ≡ record { cells = map.empty; writes = 0 } }
     {
-        Shelf {
+        Book {
             alloc,
             cells: BTreeMap::new(alloc),
             arrays: BTreeMap::new(alloc),

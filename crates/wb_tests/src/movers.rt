@@ -173,12 +173,30 @@ fn mover_without_threads(rt: HostRuntime) -> Result<(), Fail> {
     Ok(())
 }
 
-// The sum, the least and the greatest of elements dealt out in turn. Only the whole sum has to be an i64: where locale 0
-// has the greatest i64 and 1, locale 1 may bring the sum back.
+// The sum, the least and the greatest of elements, dealt out in turn, by a mover.
+fn reductions_by<X: Mover>(
+    rt: &impl Abort,
+    alloc: Global,
+    mover: &X,
+    elements: &[i64],
+) -> Result<[Result<i64, ReduceErr>; 3], Fail> {
+    let layout = layout(&mut Words::of("cyclic 1 2"))?;
+    let pieces = pieces_of(rt, alloc, &layout, elements)?;
+    Ok([
+        reduce(mover, Op::Sum, &pieces),
+        reduce(mover, Op::Min, &pieces),
+        reduce(mover, Op::Max, &pieces),
+    ])
+}
+
+// Only the whole sum has to be an i64: where locale 0 has the greatest i64 and 1, locale 1 may bring the sum back. All
+// movers give the same, one that has no thread too.
 #[test]
 fn reductions(rt: HostRuntime) -> Result<(), Fail> {
     let (empty, overflow) = (Err(ReduceErr::Empty), Err(ReduceErr::Overflow));
-    let layout = layout(&mut Words::of("cyclic 1 2"))?;
+    let alone: OneThread<&HostRuntime> = OneThread::new();
+    let four = Workers::new(&rt, 4, Open)?;
+    let none: Threadless<&HostRuntime> = Threadless { of: PhantomData };
     for (elements, wanted) in [
         ([10, 20, 30].as_slice(), [Ok(60), Ok(10), Ok(30)]),
         ([].as_slice(), [Ok(0), empty, empty]),
@@ -189,13 +207,9 @@ fn reductions(rt: HostRuntime) -> Result<(), Fail> {
         ),
         ([i64::MIN, -1].as_slice(), [overflow, Ok(i64::MIN), Ok(-1)]),
     ] {
-        let pieces = pieces_of(&rt, rt.alloc(), &layout, elements)?;
-        let found = [
-            reduce(&rt, Op::Sum, &pieces),
-            reduce(&rt, Op::Min, &pieces),
-            reduce(&rt, Op::Max, &pieces),
-        ];
-        assert_eq!(rt; found, wanted);
+        assert_eq!(rt; reductions_by(&rt, rt.alloc(), &alone, elements)?, wanted);
+        assert_eq!(rt; reductions_by(&rt, rt.alloc(), &four, elements)?, wanted);
+        assert_eq!(rt; reductions_by(&rt, rt.alloc(), &none, elements)?, wanted);
     }
     Ok(())
 }

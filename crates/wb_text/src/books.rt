@@ -10,8 +10,9 @@ ghost use Rattle.wb_book.specs.declared.cells.cell.Cell.TheVariants.{Shape, Mapp
 ghost use Rattle.wb_text.specs.Lines.{member_in, members, indices_in, number_in, element_at, elements_at, implicit_in};
 
 use std::alloc::{AllocError, Global};
-use wb_book::{AnyIndex, AnyLayout, AnyRect, Book, Cell, Kind, Name, Pattern, Value};
+use wb_book::{AnyIndex, AnyLayout, AnyRect, Cell, Kind, Name, Pattern, Value};
 use wb_range::NoMemory;
+use wb_shelf::Book;
 
 // The object that a cell tells of.
 fn object_in(shown: &(Cell, Value)) -> Option<Name>

@@ -8,8 +8,9 @@ use crate::lines::{
     push_array_line, push_associative_line, push_rectangular_line, push_sparse_line,
 };
 use std::alloc::Global;
-use wb_book::{AnyLayout, Book, Cell, DomainKind, KeyType, Kind, Name, Value};
+use wb_book::{AnyLayout, Cell, DomainKind, KeyType, Kind, Name, Value};
 use wb_range::NoMemory;
+use wb_shelf::Book;
 
 // The line of a rectangular domain of the book.
 fn push_rectangular(

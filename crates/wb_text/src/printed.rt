@@ -6,8 +6,9 @@ ghost use Rattle.wb_text.specs.Lines.{object_line, book_text};
 use crate::books::objects;
 use crate::objects::push_object;
 use std::alloc::Global;
-use wb_book::{Book, Name};
+use wb_book::Name;
 use wb_range::NoMemory;
+use wb_shelf::Book;
 
 // The lines of the objects of these names.
 fn push_objects(

@@ -25,7 +25,7 @@ use Rattle.wb_parse.proofs.Back.Ranges.{literal_of_all, rectangle_spelled, domai
 use Rattle.wb_parse.proofs.Back.Sets as sets
 use Rattle.wb_encode.specs.Values.{integer_data, point_data, index_data}
 use Rattle.wb_proto.specs.declared.requests.request.Request.{Request}
-use Rattle.wb_wire.specs.Table.{Meaning, word, name, integer, number, index, given, mapping, optional_mapping, some_set, some_mapping, some_integer, Fields, table}
+use Rattle.wb_wire.specs.Table.{Meaning, word, name, integer, number, index, given, mapping, optional_mapping, book, some_set, some_mapping, some_integer, Fields, table}
 use Rattle.wb_wire.specs.Spelled.{IsInteger, IsIndex, IsGiven, IsMapping, Spells, Says, without, HasFields, IsRequest}
 use Rattle.wb_wire.specs.Encoded.{given_text, data_of, members_of, request_data}
 use Rattle.wb_wire.specs.Proper.{AllWithin, ArePoints, AreTexts, AreAlike, IsProperGiven, IsProper, AreProper, IsProperRequest}
@@ -111,6 +111,7 @@ spelled (index i) h = index_spelled i h
 spelled (given g) h = given_spelled g h
 spelled (mapping m) h = mapping_given m h
 spelled (optional_mapping m) h = mapping_given m h
+spelled (book text) h = (refl, h)
 spelled some_set h = (codes "{}", nothing, refl, ([], tt, refl))
 spelled some_mapping h = (whole, mapping_given whole tt)
 spelled some_integer h = (pos 0, integer_spelled (pos 0) (omega arith))

@@ -11,6 +11,8 @@ use Rattle.wb_book.specs.declared.cells.kind.KeyType.{KeyType}
 use Rattle.wb_book.specs.declared.cells.kind.KeyType.TheVariants as types
 use Rattle.wb_edit.specs.declared.operation.Operation.{Operation}
 use Rattle.wb_edit.specs.declared.operation.Operation.TheVariants as operations
+use Rattle.wb_redist.specs.declared.reduction.Op.{Op}
+use Rattle.wb_redist.specs.declared.reduction.Op.TheVariants as reductions
 use Rattle.wb_log.specs.declared.refusal.Refusal.{Refusal}
 use Rattle.wb_log.specs.declared.refusal.Refusal.TheVariants.{BadRequest, BadLiteral}
 use Rattle.wb_literal.specs.Domain.{Domain, rectangle, set, domain_of}
@@ -26,12 +28,13 @@ use Rattle.wb_limits.specs.declared.limit.LimitErr.{LimitErr}
 use Rattle.wb_limits.specs.declared.limit.LimitErr.TheVariants.{TooLarge, BadMapping}
 use Rattle.wb_resize.specs.declared.given.Given.{Given}
 use Rattle.wb_resize.specs.declared.given.Given.TheVariants.{Named}
-use Rattle.wb_proto.specs.Fields.{◌>>=◌, name_of, key_type_of, operation_of, index_of}
-use Rattle.wb_proto.specs.Literals.{literal_domain, literal_mapping, refusal_of_limit, within, domain_within, mapping_within}
+use Rattle.wb_proto.specs.Fields.{◌>>=◌, name_of, key_type_of, operation_of, reduction_of, index_of}
+use Rattle.wb_proto.specs.Literals.{literal_domain, literal_mapping, text_of_book, refusal_of_limit, within, domain_within, mapping_within}
 use Rattle.wb_proto.specs.Sources.{is_braced, given_within, given_literal, given_name, given_text, given_by, point_in, offsets_by}
+use Rattle.wb_told.specs.Books.{is_book_text}
 use Rattle.wb_wire.specs.Faults.{Fault, bad_request, bad_literal, too_large, bad_mapping, refusal_of, Plain, Kind, plain, IsBraced, IsBad, Fails}
 use Rattle.wb_wire.specs.Faults as kinds
-use Rattle.wb_wire.proofs.Values.{no_ok, some_of_ok, text_in, text_read, str_found, name_found, name_read, type_found, type_read, operation_found, operation_read, integer_in, integer_found, integer_read, number_in, natural_found, natural_read, index_in, index_found, index_read}
+use Rattle.wb_wire.proofs.Values.{no_ok, some_of_ok, text_in, text_read, str_found, name_found, name_read, type_found, type_read, operation_found, operation_read, reduction_found, reduction_read, integer_in, integer_found, integer_read, number_in, natural_found, natural_read, index_in, index_found, index_read}
 use Rattle.wb_wire.proofs.Spellings.{domain_found, domain_read, literal_read, offsets_found, offsets_read}
 use Rattle.wb_wire.proofs.TooLarge.{domain_large}
 
@@ -92,6 +95,9 @@ key_type_in o = text_in o >>= key_type_of
 abbrev pub operation_in : Option Data → Result Operation Refusal
 operation_in o = text_in o >>= operation_of
 
+abbrev pub reduction_in : Option Data → Result Op Refusal
+reduction_in o = text_in o >>= reduction_of
+
 abbrev pub offsets_in : Option Data → Result (List ℤ) Refusal
 offsets_in None = Err BadRequest
 offsets_in (Some v) = offsets_by v
@@ -116,6 +122,13 @@ operation_only t why e =
     if_only (bytes_eq t (codes "*")) operations.Product _ why e (λ e.
     sym (err_same BadRequest why e)))))
 
+reduction_only : (t : List ℕ) (why : Refusal) → reduction_of t ≡ Err why → why ≡ BadRequest
+reduction_only t why e =
+    if_only (bytes_eq t (codes "+")) reductions.Sum _ why e (λ e.
+    if_only (bytes_eq t (codes "min")) reductions.Min _ why e (λ e.
+    if_only (bytes_eq t (codes "max")) reductions.Max _ why e (λ e.
+    sym (err_same BadRequest why e))))
+
 pub name_reader : IsReader (plain kinds.name) name_in
 name_reader = plain_reader kinds.name name_in refl (λ v why e. then_only (text_in (Some v)) name_of why e (text_only v why) (λ t. name_only t why))
     (λ v n e bad. bad n (name_found (Some v) n e)) (λ v e n s. no_ok BadRequest n (sym e ∙ name_read (Some v) n s))
@@ -127,6 +140,10 @@ key_type_reader = plain_reader kinds.key_type key_type_in refl (λ v why e. then
 pub operation_reader : IsReader (plain kinds.operation) operation_in
 operation_reader = plain_reader kinds.operation operation_in refl (λ v why e. then_only (text_in (Some v)) operation_of why e (text_only v why) (λ t. operation_only t why))
     (λ v n e bad. bad n (operation_found (Some v) n e)) (λ v e n s. no_ok BadRequest n (sym e ∙ operation_read (Some v) n s))
+
+pub reduction_reader : IsReader (plain kinds.reduction) reduction_in
+reduction_reader = plain_reader kinds.reduction reduction_in refl (λ v why e. then_only (text_in (Some v)) reduction_of why e (text_only v why) (λ t. reduction_only t why))
+    (λ v n e bad. bad n (reduction_found (Some v) n e)) (λ v e n s. no_ok BadRequest n (sym e ∙ reduction_read (Some v) n s))
 
 pub integer_reader : IsReader (plain kinds.integer) integer_in
 integer_reader = plain_reader kinds.integer integer_in refl (λ v why e. or_only (option_and_then as_i64 (as_number v)) BadRequest why e)
@@ -235,6 +252,29 @@ mapping_failing v bad_mapping h = rw (h.2, literal_read h.0 h.1 h.3, h.4) refl
 
 pub mapping_reader : IsReader kinds.mapping mapping_in
 mapping_reader = record { none = refl; bad = mapping_bad; failing = mapping_failing }
+
+-- ---- the text of a workbook
+
+abbrev pub workbook_in : Option Data → Result (List ℕ) Refusal
+workbook_in o = text_in o >>= text_of_book
+
+no_book : (b : Bool) (t : List ℕ) (why : Refusal) → (if b then Ok t else Err BadLiteral) ≡ Err why → (b ≡ false) × (why ≡ BadLiteral)
+no_book true t why e = no_err e
+no_book false t why e = (refl, sym (err_same BadLiteral why e))
+
+workbook_bad : (v : Data) (why : Refusal) → workbook_in (Some v) ≡ Err why → (f : Fault) × (why ≡ refusal_of f) × Fails kinds.workbook v f
+workbook_bad v why e = step_err (text_in (Some v)) text_of_book why e
+    (λ q. let b = text_bad v why q in (bad_request, b.0, b.1))
+    (λ t q e. let n = no_book (is_book_text t) t why e in (bad_literal, n.1, (t, text_is v t q, n.0)))
+
+workbook_failing : (v : Data) (f : Fault) → Fails kinds.workbook v f → workbook_in (Some v) ≡ Err (refusal_of f)
+workbook_failing v bad_request h = rw (text_none v h) refl
+workbook_failing v bad_literal h = rw (h.1, h.2) refl
+workbook_failing v too_large h = absurd h
+workbook_failing v bad_mapping h = absurd h
+
+pub workbook_reader : IsReader kinds.workbook workbook_in
+workbook_reader = record { none = refl; bad = workbook_bad; failing = workbook_failing }
 
 -- ---- a source
 

@@ -7,8 +7,8 @@ use Rattle.serde_json.specs.Data.{Data, null, boolean, number as json_number, st
 use Rattle.serde_json.specs.Find.{get_member}
 use Rattle.wb_book.specs.Cells.{Name}
 use Rattle.wb_book.specs.declared.values.index.Index.TheVariants.{Point}
-use Rattle.wb_edit.specs.declared.edit.Edit.TheVariants.{Domain, DomainOfSet, Remap, Reshape, Sparse, Assoc, DropDomain, Add, Remove, Array, Set, Irv, Copy, Fill, FillOfSet, FillAll, DropArray, All}
-use Rattle.wb_history.specs.declared.query.Query.TheVariants.{Get, Size, Where, Piece, State}
+use Rattle.wb_edit.specs.declared.edit.Edit.TheVariants.{Domain, DomainOfSet, Remap, Reshape, Sparse, Assoc, DropDomain, Add, Remove, Array, Set, Irv, Copy, Fill, FillOfSet, FillAll, DropArray, All, Load}
+use Rattle.wb_history.specs.declared.query.Query.TheVariants.{Get, Size, Where, Piece, Reduce, State}
 use Rattle.wb_log.specs.declared.refusal.Refusal.{Refusal}
 use Rattle.wb_log.specs.declared.refusal.Refusal.TheVariants.{BadRequest}
 use Rattle.wb_literal.specs.Domain as literals
@@ -22,17 +22,17 @@ use Rattle.wb_resize.specs.declared.source.SetOperation.{SetOperation}
 use Rattle.wb_resize.specs.declared.source.SetOperation.TheVariants.{Union, Intersection, Difference, SymmetricDifference}
 use Rattle.wb_resize.specs.declared.source.Source.{Source}
 use Rattle.wb_resize.specs.declared.source.Source.TheVariants.{To, Slice, Displace, Combine}
-use Rattle.wb_proto.specs.Fields.{◌>>=◌, member_count, has_fields, has_fields_and, text_field, optional_text, text_if_there, name_field, index_field, i64_field, u64_field, key_type_field, operation_field}
-use Rattle.wb_proto.specs.Literals.{literal_domain, literal_mapping, optional_mapping as mapping_if_there, domain_within, mapping_within}
+use Rattle.wb_proto.specs.Fields.{◌>>=◌, member_count, has_fields, has_fields_and, text_field, optional_text, text_if_there, name_field, index_field, i64_field, u64_field, key_type_field, operation_field, reduction_field}
+use Rattle.wb_proto.specs.Literals.{literal_domain, literal_mapping, optional_mapping as mapping_if_there, text_of_book, domain_within, mapping_within}
 use Rattle.wb_proto.specs.Sources.{given_by, offsets_by, to_by, slice_by, displace_by, combine_by, combination_of, source_of}
-use Rattle.wb_proto.specs.Requests.{domain_with, domain_by, domain_of, remap_of, reshape_of, fill_over, fill_of, undo_by_number, undo_of, print_of, history_of, by_op, request_of, array_of, drop_array_of, set_of, fill_all_of, copy_of, irv_of, all_of, sparse_of, assoc_of, add_of, remove_of, drop_domain_of, redo_of, get_of, where_of, size_of, piece_of, state_of}
+use Rattle.wb_proto.specs.Requests.{domain_with, domain_by, domain_of, remap_of, reshape_of, fill_over, fill_of, load_of, undo_by_number, undo_of, print_of, history_of, by_op, request_of, array_of, drop_array_of, set_of, fill_all_of, copy_of, irv_of, all_of, sparse_of, assoc_of, add_of, remove_of, drop_domain_of, redo_of, cascade_of, dependents_of, get_of, where_of, size_of, piece_of, reduce_of, state_of}
 use Rattle.wb_proto.specs.declared.requests.request.Request.{Request}
-use Rattle.wb_proto.specs.declared.requests.request.Request.TheVariants.{Change, Undo, Redo, Ask, Print, History}
-use Rattle.wb_wire.specs.Table.{Meaning, word, name, integer, index, given, mapping, optional_mapping, some_set, some_mapping, Fields, op, table}
+use Rattle.wb_proto.specs.declared.requests.request.Request.TheVariants.{Change, Undo, Redo, Cascade, Dependents, Ask, Print, History}
+use Rattle.wb_wire.specs.Table.{Meaning, word, name, integer, index, given, mapping, optional_mapping, book, some_set, some_mapping, Fields, op, table}
 use Rattle.wb_wire.specs.Spelled.{IsIndex, IsGiven, Says, HasFields, IsRequest}
 use Rattle.wb_wire.proofs.Members.{are_apart, is_needed, are_needed, AllSay, there, is_there, exactly, has_fields as has_fields_of}
-use Rattle.wb_wire.proofs.Values.{step, ok_same, no_ok, text_found, says_text, valued, word_found, name_found, index_found, integer_found, natural_found, type_found, operation_found}
-use Rattle.wb_wire.proofs.Spellings.{count_found, domain_found, rectangle_found, given_found, offsets_found, mapping_found, optional_found, optional_count, some_value, some_optional}
+use Rattle.wb_wire.proofs.Values.{step, ok_same, no_ok, text_found, says_text, valued, word_found, name_found, index_found, integer_found, natural_found, type_found, operation_found, reduction_found}
+use Rattle.wb_wire.proofs.Spellings.{count_found, domain_found, rectangle_found, given_found, offsets_found, mapping_found, book_found, optional_found, optional_count, some_value, some_optional}
 use Rattle.wb_wire.proofs.Steps.{one, two, two_of, three, five}
 
 -- what a reader reads of an object that names the op
@@ -108,6 +108,16 @@ redo_found ms r s e =
     let x = one (has_fields 2 (object ms)) (u64_field (codes "k") (object ms)) (λ k. Ok (Redo k)) r e in
     as_table ms (Redo x.0) r x.3 refl refl (count_found ms 2 tt x.1) (natural_found (get_member (codes "k") ms) x.0 x.2, (s, tt))
 
+cascade_found : IsFound (codes "cascade") cascade_of
+cascade_found ms r s e =
+    let x = one (has_fields 2 (object ms)) (u64_field (codes "k") (object ms)) (λ k. Ok (Cascade k)) r e in
+    as_table ms (Cascade x.0) r x.3 refl refl (count_found ms 2 tt x.1) (natural_found (get_member (codes "k") ms) x.0 x.2, (s, tt))
+
+dependents_found : IsFound (codes "dependents") dependents_of
+dependents_found ms r s e =
+    let x = one (has_fields 2 (object ms)) (u64_field (codes "k") (object ms)) (λ k. Ok (Dependents k)) r e in
+    as_table ms (Dependents x.0) r x.3 refl refl (count_found ms 2 tt x.1) (natural_found (get_member (codes "k") ms) x.0 x.2, (s, tt))
+
 get_found : IsFound (codes "get") get_of
 get_found ms r s e =
     let x = two (has_fields 3 (object ms)) (name_field (codes "a") (object ms)) (index_field (codes "i") (object ms)) (λ a i. Ok (Ask (Get a i))) r e in
@@ -127,6 +137,11 @@ piece_found : IsFound (codes "piece") piece_of
 piece_found ms r s e =
     let x = two (has_fields 3 (object ms)) (name_field (codes "a") (object ms)) (u64_field (codes "l") (object ms)) (λ a l. Ok (Ask (Piece a l))) r e in
     as_table ms (Ask (Piece x.0 x.1)) r x.5 refl refl (count_found ms 3 tt x.2) (name_found (get_member (codes "a") ms) x.0 x.3, (natural_found (get_member (codes "l") ms) x.1 x.4, (s, tt)))
+
+reduce_found : IsFound (codes "reduce") reduce_of
+reduce_found ms r s e =
+    let x = two (has_fields 3 (object ms)) (name_field (codes "a") (object ms)) (reduction_field (codes "how") (object ms)) (λ a how. Ok (Ask (Reduce a how))) r e in
+    as_table ms (Ask (Reduce x.0 x.1)) r x.5 refl refl (count_found ms 3 tt x.2) (name_found (get_member (codes "a") ms) x.0 x.3, (reduction_found (get_member (codes "how") ms) x.1 x.4, (s, tt)))
 
 state_found : IsFound (codes "state") state_of
 state_found ms r s e =
@@ -156,6 +171,12 @@ fill_found ms r s e =
     let x = three (has_fields 4 (object ms)) (name_field (codes "a") (object ms)) (text_field (codes "on") (object ms)) (i64_field (codes "v") (object ms)) (λ a text v. literal_domain text >>= (λ l. fill_over a l v)) r e in
     let l = step (literal_domain x.1) (λ l. fill_over x.0 l x.2) r x.7 in
     fill_over_found ms x.0 x.1 x.2 l.0 r s (count_found ms 4 tt x.3) (name_found (get_member (codes "a") ms) x.0 x.4) (text_found (get_member (codes "on") ms) x.1 x.5) (integer_found (get_member (codes "v") ms) x.2 x.6) (domain_found x.1 l.0 l.1) l.2
+
+load_found : IsFound (codes "load") load_of
+load_found ms r s e =
+    let x = one (has_fields 2 (object ms)) (text_field (codes "text") (object ms)) (λ text. text_of_book text >>= (λ t. Ok (Change (Load t)))) r e in
+    let t = step (text_of_book x.0) (λ t. Ok (Change (Load t))) r x.3 in
+    as_table ms (Change (Load t.0)) r t.2 refl refl (count_found ms 2 tt x.1) (s, (says_text (get_member (codes "text") ms) (book t.0) x.0 (text_found (get_member (codes "text") ms) x.0 x.2) (book_found x.0 t.0 t.1), tt))
 
 -- ---- domains, whose mapping may be missing
 
@@ -284,54 +305,12 @@ first_found (x ∷ xs) h ms op r s e = elim (bytes_eq op x.0) as (λ b. bytes_eq
 
 abbrev pub readers : List Reader
 readers = (codes "domain", domain_of) ∷ (codes "remap", remap_of) ∷ (codes "sparse", sparse_of) ∷ (codes "assoc", assoc_of) ∷ (codes "drop_domain", drop_domain_of) ∷ (codes "reshape", reshape_of) ∷ (codes "add", add_of)
-    ∷ (codes "remove", remove_of) ∷ (codes "array", array_of) ∷ (codes "drop_array", drop_array_of) ∷ (codes "set", set_of) ∷ (codes "fill", fill_of) ∷ (codes "fill_all", fill_all_of) ∷ (codes "irv", irv_of)
-    ∷ (codes "copy", copy_of) ∷ (codes "all", all_of) ∷ (codes "undo", undo_of) ∷ (codes "redo", redo_of) ∷ (codes "get", get_of) ∷ (codes "where", where_of) ∷ (codes "size", size_of) ∷ (codes "piece", piece_of)
-    ∷ (codes "state", state_of) ∷ (codes "print", print_of) ∷ (codes "history", history_of) ∷ []
+    ∷ (codes "remove", remove_of) ∷ (codes "load", load_of) ∷ (codes "array", array_of) ∷ (codes "drop_array", drop_array_of) ∷ (codes "set", set_of) ∷ (codes "fill", fill_of) ∷ (codes "fill_all", fill_all_of) ∷ (codes "irv", irv_of)
+    ∷ (codes "copy", copy_of) ∷ (codes "all", all_of) ∷ (codes "undo", undo_of) ∷ (codes "redo", redo_of) ∷ (codes "cascade", cascade_of) ∷ (codes "dependents", dependents_of) ∷ (codes "get", get_of) ∷ (codes "where", where_of) ∷ (codes "size", size_of) ∷ (codes "piece", piece_of)
+    ∷ (codes "reduce", reduce_of) ∷ (codes "state", state_of) ∷ (codes "print", print_of) ∷ (codes "history", history_of) ∷ []
 
 all_found : AllFound readers
-all_found = (
-  domain_found_of,
-  (
-    remap_found,
-    (
-      sparse_found,
-      (
-        assoc_found,
-        (
-          drop_domain_found,
-          (
-            reshape_found,
-            (
-              add_found,
-              (
-                remove_found,
-                (
-                  array_found,
-                  (
-                    drop_array_found,
-                    (
-                      set_found,
-                      (
-                        fill_found,
-                        (
-                          fill_all_found,
-                          (
-                            irv_found,
-                            (copy_found, (all_found_of, (undo_found, (redo_found, (get_found, (where_found, (size_found, (piece_found, (state_found, (print_found, (history_found, tt))))))))))),
-                          ),
-                        ),
-                      ),
-                    ),
-                  ),
-                ),
-              ),
-            ),
-          ),
-        ),
-      ),
-    ),
-  ),
-)
+all_found = (domain_found_of, (remap_found, (sparse_found, (assoc_found, (drop_domain_found, (reshape_found, (add_found, (remove_found, (load_found, (array_found, (drop_array_found, (set_found, (fill_found, (fill_all_found, (irv_found, (copy_found, (all_found_of, (undo_found, (redo_found, (cascade_found, (dependents_found, (get_found, (where_found, (size_found, (piece_found, (reduce_found, (state_found, (print_found, (history_found, tt)))))))))))))))))))))))))))))
 
 by_object : (ms : Members) (r : Request) → request_of (object ms) ≡ Ok r → HasFields ms (table r)
 by_object ms r e =

@@ -10,7 +10,7 @@ use Rattle.std.proofs.lemmas.Slice.Eq.{bytes_eq-Decides}
 use Rattle.serde_json.specs.Data.{Data, Members, no_members, member}
 use Rattle.serde_json.specs.Find.{get_member}
 use Rattle.wb_proto.specs.Fields.{member_count}
-use Rattle.wb_wire.specs.Table.{Meaning, word, name, integer, number, index, given, mapping, optional_mapping, some_set, some_mapping, some_integer, Fields}
+use Rattle.wb_wire.specs.Table.{Meaning, word, name, integer, number, index, given, mapping, optional_mapping, book, some_set, some_mapping, some_integer, Fields}
 use Rattle.wb_wire.specs.Spelled.{Says, without, HasFields}
 
 pub true_false : {X : Type 0} → true ≡ false → X
@@ -160,6 +160,7 @@ is_needed (number k) = true
 is_needed (index i) = true
 is_needed (given g) = true
 is_needed (mapping m) = true
+is_needed (book text) = true
 is_needed some_set = true
 is_needed some_integer = true
 
@@ -178,6 +179,7 @@ is_there None (number k) h s = absurd s
 is_there None (index i) h s = absurd s
 is_there None (given g) h s = absurd s
 is_there None (mapping m) h s = absurd s
+is_there None (book text) h s = absurd s
 is_there None some_set h s = absurd s
 is_there None some_integer h s = absurd s
 

@@ -9,10 +9,11 @@ use Rattle.wb_book.specs.declared.values.index.Index.{Index}
 use Rattle.wb_book.specs.declared.values.index.Index.TheVariants.{Point}
 use Rattle.wb_book.specs.declared.cells.kind.KeyType.{KeyType}
 use Rattle.wb_edit.specs.declared.operation.Operation.{Operation}
+use Rattle.wb_redist.specs.declared.reduction.Op.{Op}
 use Rattle.wb_edit.specs.declared.edit.Edit.{Edit}
-use Rattle.wb_edit.specs.declared.edit.Edit.TheVariants.{Domain, DomainOfSet, Remap, Reshape, Sparse, Assoc, DropDomain, Add, Remove, Array, Set, Irv, Copy, Fill, FillOfSet, FillAll, DropArray, All}
+use Rattle.wb_edit.specs.declared.edit.Edit.TheVariants.{Domain, DomainOfSet, Remap, Reshape, Sparse, Assoc, DropDomain, Add, Remove, Array, Set, Irv, Copy, Fill, FillOfSet, FillAll, DropArray, All, Load}
 use Rattle.wb_history.specs.declared.query.Query.{Query}
-use Rattle.wb_history.specs.declared.query.Query.TheVariants.{Get, Size, Where, Piece, State}
+use Rattle.wb_history.specs.declared.query.Query.TheVariants.{Get, Size, Where, Piece, Reduce, State}
 use Rattle.wb_log.specs.declared.refusal.Refusal.{Refusal}
 use Rattle.wb_literal.specs.Domain as literals
 use Rattle.wb_literal.specs.Grammar as grammar
@@ -22,16 +23,16 @@ use Rattle.wb_resize.specs.declared.source.Displacement.TheVariants.{Translate, 
 use Rattle.wb_resize.specs.declared.source.SetOperation.TheVariants.{Union, Intersection, Difference, SymmetricDifference}
 use Rattle.wb_resize.specs.declared.source.Source.{Source}
 use Rattle.wb_resize.specs.declared.source.Source.TheVariants.{To, Slice, Displace, Combine}
-use Rattle.wb_proto.specs.Fields.{◌>>=◌, member_count, has_fields, has_fields_and, text_field, optional_text, name_field, index_field, i64_field, u64_field, key_type_field, operation_field}
-use Rattle.wb_proto.specs.Literals.{literal_domain, literal_mapping, optional_mapping as mapping_if_there, mapping_within}
+use Rattle.wb_proto.specs.Fields.{◌>>=◌, member_count, has_fields, has_fields_and, text_field, optional_text, name_field, index_field, i64_field, u64_field, key_type_field, operation_field, reduction_field}
+use Rattle.wb_proto.specs.Literals.{literal_domain, literal_mapping, optional_mapping as mapping_if_there, text_of_book, mapping_within}
 use Rattle.wb_proto.specs.Sources.{source_of}
 use Rattle.wb_proto.specs.Requests.{domain_with, domain_by, fill_over, by_op, request_of}
 use Rattle.wb_proto.specs.declared.requests.request.Request.{Request}
-use Rattle.wb_proto.specs.declared.requests.request.Request.TheVariants.{Change, Undo, Redo, Ask, Print, History}
-use Rattle.wb_wire.specs.Table.{Meaning, word, name, integer, index, given, mapping, optional_mapping, some_set, some_mapping, some_integer, Fields, op, table}
+use Rattle.wb_proto.specs.declared.requests.request.Request.TheVariants.{Change, Undo, Redo, Cascade, Dependents, Ask, Print, History}
+use Rattle.wb_wire.specs.Table.{Meaning, word, name, integer, index, given, mapping, optional_mapping, book, some_set, some_mapping, some_integer, Fields, op, table}
 use Rattle.wb_wire.specs.Spelled.{Spells, Says, HasFields, IsRequest}
 use Rattle.wb_wire.proofs.Members.{is_free, is_needed, is_there, there, all_say, all_counted, counted, no_other}
-use Rattle.wb_wire.proofs.Values.{text_read, valued, word_read, name_read, index_read, integer_read, natural_read, type_read, operation_read}
+use Rattle.wb_wire.proofs.Values.{text_read, valued, word_read, name_read, index_read, integer_read, natural_read, type_read, operation_read, reduction_read}
 use Rattle.wb_wire.proofs.Spellings.{count_read, domain_read, rectangle_read, given_read, offsets_read, literal_read, mapping_read, optional_read}
 use Rattle.wb_wire.proofs.Steps.{one_read, two_of, two_read, three_read, five_read}
 
@@ -108,6 +109,16 @@ redo_read ms k h =
     let s = all_say (table (Redo k)) ms refl h in
     op_read ms (codes "redo") (Redo k) s.1.0 (one_read (has_fields 2 (object ms)) (u64_field (codes "k") (object ms)) (λ k. Ok (Redo k)) k (Redo k) (count_read ms 2 (counted (table (Redo k)) ms refl refl h)) (natural_read (get_member (codes "k") ms) k s.0) refl)
 
+cascade_read : (ms : Members) (k : ℕ) → HasFields ms (table (Cascade k)) → request_of (object ms) ≡ Ok (Cascade k)
+cascade_read ms k h =
+    let s = all_say (table (Cascade k)) ms refl h in
+    op_read ms (codes "cascade") (Cascade k) s.1.0 (one_read (has_fields 2 (object ms)) (u64_field (codes "k") (object ms)) (λ k. Ok (Cascade k)) k (Cascade k) (count_read ms 2 (counted (table (Cascade k)) ms refl refl h)) (natural_read (get_member (codes "k") ms) k s.0) refl)
+
+dependents_read : (ms : Members) (k : ℕ) → HasFields ms (table (Dependents k)) → request_of (object ms) ≡ Ok (Dependents k)
+dependents_read ms k h =
+    let s = all_say (table (Dependents k)) ms refl h in
+    op_read ms (codes "dependents") (Dependents k) s.1.0 (one_read (has_fields 2 (object ms)) (u64_field (codes "k") (object ms)) (λ k. Ok (Dependents k)) k (Dependents k) (count_read ms 2 (counted (table (Dependents k)) ms refl refl h)) (natural_read (get_member (codes "k") ms) k s.0) refl)
+
 get_read : (ms : Members) (a : Name) (i : Index) → HasFields ms (table (Ask (Get a i))) → request_of (object ms) ≡ Ok (Ask (Get a i))
 get_read ms a i h =
     let s = all_say (table (Ask (Get a i))) ms refl h in
@@ -127,6 +138,12 @@ piece_read : (ms : Members) (a : Name) (l : ℕ) → HasFields ms (table (Ask (P
 piece_read ms a l h =
     let s = all_say (table (Ask (Piece a l))) ms refl h in
     op_read ms (codes "piece") (Ask (Piece a l)) s.1.1.0 (two_read (has_fields 3 (object ms)) (name_field (codes "a") (object ms)) (u64_field (codes "l") (object ms)) (λ a l. Ok (Ask (Piece a l))) a l (Ask (Piece a l)) (count_read ms 3 (counted (table (Ask (Piece a l))) ms refl refl h)) (name_read (get_member (codes "a") ms) a s.0) (natural_read (get_member (codes "l") ms) l s.1.0) refl)
+
+reduce_read : (ms : Members) (a : Name) (how : Op) → HasFields ms (table (Ask (Reduce a how))) → request_of (object ms) ≡ Ok (Ask (Reduce a how))
+reduce_read ms a how h =
+    let s = all_say (table (Ask (Reduce a how))) ms refl h in
+    op_read ms (codes "reduce") (Ask (Reduce a how)) s.1.1.0 (two_read (has_fields 3 (object ms)) (name_field (codes "a") (object ms)) (reduction_field (codes "how") (object ms)) (λ a how. Ok (Ask (Reduce a how))) a how (Ask (Reduce a how))
+    (count_read ms 3 (counted (table (Ask (Reduce a how))) ms refl refl h)) (name_read (get_member (codes "a") ms) a s.0) (reduction_read (get_member (codes "how") ms) how s.1.0) refl)
 
 state_read : (ms : Members) (k : ℕ) → HasFields ms (table (Ask (State k))) → request_of (object ms) ≡ Ok (Ask (State k))
 state_read ms k h =
@@ -167,6 +184,13 @@ fill_of_set_read ms a h =
     let x = said (get_member (codes "on") ms) some_set refl s.1.0 in
     let v = said (get_member (codes "v") ms) some_integer refl s.1.1.1.0 in
     fill_by ms a x.2.0 v.2.0 (literals.set x.2.1) (Change (FillOfSet a)) (counted (table (Change (FillOfSet a))) ms refl refl h) s.1.1.0 s.0 (x.1 ∙ ap Some x.2.2) (valued (get_member (codes "v") ms) v.0 (integer v.2.0) v.1 v.2.1) x.2.3 refl
+
+load_read : (ms : Members) (text : List ℕ) → HasFields ms (table (Change (Load text))) → request_of (object ms) ≡ Ok (Change (Load text))
+load_read ms text h =
+    let s = all_say (table (Change (Load text))) ms refl h in
+    let v = said (get_member (codes "text") ms) (book text) refl s.1.0 in
+    op_read ms (codes "load") (Change (Load text)) s.0 (one_read (has_fields 2 (object ms)) (text_field (codes "text") (object ms)) (λ text. text_of_book text >>= (λ t. Ok (Change (Load t)))) text (Change (Load text))
+    (count_read ms 2 (counted (table (Change (Load text))) ms refl refl h)) (text_read (get_member (codes "text") ms) text (v.1 ∙ ap Some v.2.0)) (rw v.2.1 refl))
 
 -- ---- domains
 
@@ -309,18 +333,22 @@ edit_read ms (FillAll a v) h = fill_all_read ms a v h
 edit_read ms (Irv a v) h = irv_read ms a v h
 edit_read ms (Copy a i b j c) h = copy_read ms a i b j c h
 edit_read ms (All a how b) h = all_read ms a how b h
+edit_read ms (Load text) h = load_read ms text h
 
 query_read : (ms : Members) (q : Query) → HasFields ms (table (Ask q)) → request_of (object ms) ≡ Ok (Ask q)
 query_read ms (Get a i) h = get_read ms a i h
 query_read ms (Where d i) h = where_read ms d i h
 query_read ms (Size d) h = size_read ms d h
 query_read ms (Piece a l) h = piece_read ms a l h
+query_read ms (Reduce a how) h = reduce_read ms a how h
 query_read ms (State k) h = state_read ms k h
 
 members_read : (ms : Members) (r : Request) → HasFields ms (table r) → request_of (object ms) ≡ Ok r
 members_read ms (Change e) h = edit_read ms e h
 members_read ms (Undo k) h = undo_read ms k h
 members_read ms (Redo k) h = redo_read ms k h
+members_read ms (Cascade k) h = cascade_read ms k h
+members_read ms (Dependents k) h = dependents_read ms k h
 members_read ms (Ask q) h = query_read ms q h
 members_read ms Print h = print_read ms h
 members_read ms History h = history_read ms h

@@ -9,8 +9,8 @@ use Rattle.serde_json.specs.Find.{get_member, as_str}
 use Rattle.wb_dist.specs.Maps.{LayoutMap, whole}
 use Rattle.wb_book.specs.Cells.{Name}
 use Rattle.wb_book.specs.Shapes.{Range}
-use Rattle.wb_edit.specs.declared.edit.Edit.TheVariants.{Domain as NewDomain, DomainOfSet, Remap, Reshape, Sparse, Assoc, DropDomain, Add, Remove, Array, Set, Irv, Copy, Fill, FillAll, DropArray, All}
-use Rattle.wb_history.specs.declared.query.Query.TheVariants.{Get, Size, Where, Piece, State}
+use Rattle.wb_edit.specs.declared.edit.Edit.TheVariants.{Domain as NewDomain, DomainOfSet, Remap, Reshape, Sparse, Assoc, DropDomain, Add, Remove, Array, Set, Irv, Copy, Fill, FillAll, DropArray, All, Load}
+use Rattle.wb_history.specs.declared.query.Query.TheVariants.{Get, Size, Where, Piece, Reduce, State}
 use Rattle.wb_log.specs.declared.refusal.Refusal.{Refusal}
 use Rattle.wb_log.specs.declared.refusal.Refusal.TheVariants.{BadRequest, BadLiteral}
 use Rattle.wb_literal.specs.Domain.{Domain, rectangle, set, domain_of as domain_of_text}
@@ -24,12 +24,12 @@ use Rattle.wb_resize.specs.declared.source.Displacement.TheVariants.{Translate, 
 use Rattle.wb_resize.specs.declared.source.SetOperation.TheVariants.{Union, Intersection, Difference, SymmetricDifference}
 use Rattle.wb_resize.specs.declared.source.Source.{Source}
 use Rattle.wb_resize.specs.declared.source.Source.TheVariants.{To, Slice, Displace, Combine}
-use Rattle.wb_proto.specs.Fields.{◌>>=◌, member_count, has_fields, has_fields_and, text_field, optional_text, text_if_there, name_field, index_field, i64_field, u64_field, key_type_field, operation_field}
-use Rattle.wb_proto.specs.Literals.{literal_domain, literal_mapping, domain_within, mapping_within}
+use Rattle.wb_proto.specs.Fields.{◌>>=◌, member_count, has_fields, has_fields_and, text_field, optional_text, text_if_there, name_field, index_field, i64_field, u64_field, key_type_field, operation_field, reduction_field}
+use Rattle.wb_proto.specs.Literals.{literal_domain, literal_mapping, text_of_book, domain_within, mapping_within}
 use Rattle.wb_proto.specs.Sources.{to_by, slice_by, displace_by, combine_by, source_of}
-use Rattle.wb_proto.specs.Requests.{domain_with, domain_by, domain_of, remap_of, reshape_of, fill_over, fill_of, undo_by_number, undo_of, print_of, history_of, by_op, request_of, array_of, drop_array_of, set_of, fill_all_of, copy_of, irv_of, all_of, sparse_of, assoc_of, add_of, remove_of, drop_domain_of, redo_of, get_of, where_of, size_of, piece_of, state_of}
+use Rattle.wb_proto.specs.Requests.{domain_with, domain_by, domain_of, remap_of, reshape_of, fill_over, fill_of, load_of, undo_by_number, undo_of, print_of, history_of, by_op, request_of, array_of, drop_array_of, set_of, fill_all_of, copy_of, irv_of, all_of, sparse_of, assoc_of, add_of, remove_of, drop_domain_of, redo_of, cascade_of, dependents_of, get_of, where_of, size_of, piece_of, reduce_of, state_of}
 use Rattle.wb_proto.specs.declared.requests.request.Request.{Request}
-use Rattle.wb_proto.specs.declared.requests.request.Request.TheVariants.{Change, Undo, Redo, Ask, Print, History}
+use Rattle.wb_proto.specs.declared.requests.request.Request.TheVariants.{Change, Undo, Redo, Cascade, Dependents, Ask, Print, History}
 use Rattle.wb_wire.specs.Faults.{Fault, bad_request, bad_literal, too_large, bad_mapping, code, refusal_of, forms, HasKeys, NamesOp, IsWhole, Kind, kind_of, Fails, not_whole}
 use Rattle.wb_wire.specs.Faults as kinds
 use Rattle.wb_wire.proofs.Members.{true_false, equal_key}
@@ -38,7 +38,7 @@ use Rattle.wb_wire.proofs.Spellings.{count_found, domain_found, domain_read, lit
 use Rattle.wb_wire.proofs.Steps.{two_of}
 use Rattle.wb_wire.proofs.Found.{Reader, by_first, readers}
 use Rattle.wb_wire.proofs.Keys.{has, apart, AllKeys, keys_counted, no_more, of_form, form_at, members_same, not_whole_by, key_there, passes, lacks, FailsAt}
-use Rattle.wb_wire.proofs.Failing.{err_same, no_err, or_only, IsReader, name_in, name_reader, key_type_reader, operation_reader, integer_reader, number_reader, index_reader, offsets_reader, text_bad, unspelled_domain, unspelled_mapping, rectangle_err, domain_judged, domain_in, domain_reader, mapping_in, mapping_reader, string_same, source_reader}
+use Rattle.wb_wire.proofs.Failing.{err_same, no_err, or_only, IsReader, name_in, name_reader, key_type_reader, operation_reader, reduction_reader, integer_reader, number_reader, index_reader, offsets_reader, text_bad, unspelled_domain, unspelled_mapping, rectangle_err, domain_judged, domain_in, domain_reader, mapping_in, mapping_reader, workbook_in, workbook_reader, string_same, source_reader}
 use Rattle.wb_wire.proofs.Judged.{refusal_same, NoFault, Refused, Judges, Judged, IsJudged, first, bind_judged, one_judged, two_judged, three_judged, five_judged, fails_there, member_fault, Fine, fine, field_bad, field_bad_by, uncounted, count_bad, whole_fine, all_fine, IsAbove, fine_above, least_of, value_bad}
 use Rattle.std.specs.List.{list_all}
 
@@ -122,6 +122,18 @@ redo_judged ms s =
     one_judged (Judged ms) (has_fields 2 (object ms)) (u64_field (codes "k") (object ms)) (λ k. Ok (Redo k)) (λ why. count_bad ms o 1 s refl why) (λ why. field_bad ms o (codes "k") s number_reader refl refl why)
     (λ a n p. all_fine ms o (codes "k" ∷ []) s (form_at 26 (o, codes "k" ∷ []) refl refl) refl (count_found ms 2 tt n) (fine ms o (codes "k") number_reader refl a p, tt))
 
+cascade_judged : IsJudged (codes "cascade") cascade_of
+cascade_judged ms s =
+    let o = codes "cascade" in
+    one_judged (Judged ms) (has_fields 2 (object ms)) (u64_field (codes "k") (object ms)) (λ k. Ok (Cascade k)) (λ why. count_bad ms o 1 s refl why) (λ why. field_bad ms o (codes "k") s number_reader refl refl why)
+    (λ a n p. all_fine ms o (codes "k" ∷ []) s (form_at 36 (o, codes "k" ∷ []) refl refl) refl (count_found ms 2 tt n) (fine ms o (codes "k") number_reader refl a p, tt))
+
+dependents_judged : IsJudged (codes "dependents") dependents_of
+dependents_judged ms s =
+    let o = codes "dependents" in
+    one_judged (Judged ms) (has_fields 2 (object ms)) (u64_field (codes "k") (object ms)) (λ k. Ok (Dependents k)) (λ why. count_bad ms o 1 s refl why) (λ why. field_bad ms o (codes "k") s number_reader refl refl why)
+    (λ a n p. all_fine ms o (codes "k" ∷ []) s (form_at 37 (o, codes "k" ∷ []) refl refl) refl (count_found ms 2 tt n) (fine ms o (codes "k") number_reader refl a p, tt))
+
 get_judged : IsJudged (codes "get") get_of
 get_judged ms s =
     let o = codes "get" in
@@ -145,6 +157,14 @@ piece_judged ms s =
     let o = codes "piece" in
     two_judged (Judged ms) (has_fields 3 (object ms)) (name_field (codes "a") (object ms)) (u64_field (codes "l") (object ms)) (λ a l. Ok (Ask (Piece a l))) (λ why. count_bad ms o 2 s refl why) (λ why. field_bad ms o (codes "a") s name_reader refl refl why) (λ why. field_bad ms o (codes "l") s number_reader refl refl why)
     (λ a b n p q. all_fine ms o (codes "a" ∷ codes "l" ∷ []) s (form_at 30 (o, codes "a" ∷ codes "l" ∷ []) refl refl) refl (count_found ms 3 tt n) (fine ms o (codes "a") name_reader refl a p, (fine ms o (codes "l") number_reader refl b q, tt)))
+
+reduce_judged : IsJudged (codes "reduce") reduce_of
+reduce_judged ms s =
+    let o = codes "reduce" in
+    two_judged (Judged ms) (has_fields 3 (object ms)) (name_field (codes "a") (object ms)) (reduction_field (codes "how") (object ms)) (λ a how. Ok (Ask (Reduce a how)))
+    (λ why. count_bad ms o 2 s refl why) (λ why. field_bad ms o (codes "a") s name_reader refl refl why) (λ why. field_bad ms o (codes "how") s reduction_reader refl refl why)
+    (λ a b n p q. all_fine ms o (codes "a" ∷ codes "how" ∷ []) s (form_at 34 (o, codes "a" ∷ codes "how" ∷ []) refl refl) refl (count_found ms 3 tt n)
+    (fine ms o (codes "a") name_reader refl a p, (fine ms o (codes "how") reduction_reader refl b q, tt)))
 
 state_judged : IsJudged (codes "state") state_of
 state_judged ms s =
@@ -186,6 +206,21 @@ remap_judged ms s =
         spelled_judged (Judged ms) (literal_mapping text) mapping_within (λ m. Change (Remap d m))
         (λ why e. value_bad ms o ks s c (whole_fine ms o ks s refl (count_found ms 3 tt n) (named.0, ((string text, at), tt))) (codes "map") mapping_reader refl (string text) at why e (λ f same. (fine_above ms o (codes "d") f named, (same, tt))))
         (λ m e. all_fine ms o ks s c refl (count_found ms 3 tt n) (named, (fine ms o (codes "map") mapping_reader refl m (ap mapping_in at ∙ e), tt)))
+
+load_judged : IsJudged (codes "load") load_of
+load_judged ms s =
+    let o = codes "load" in
+    one_judged (Judged ms) (has_fields 2 (object ms)) (text_field (codes "text") (object ms)) (λ text. text_of_book text >>= (λ t. Ok (Change (Load t))))
+    (λ why. count_bad ms o 1 s refl why) (λ why e. text_field_bad ms o (codes "text") kinds.workbook s (λ v h. h) refl refl why (get_member (codes "text") ms) refl e)
+    (λ text n q. with_text text n (text_found (get_member (codes "text") ms) text q))
+  where
+    with_text : (text : List ℕ) → has_fields 2 (object ms) ≡ Ok tt → get_member (codes "text") ms ≡ Some (string text) → Judged ms (text_of_book text >>= (λ t. Ok (Change (Load t))))
+    with_text text n at =
+        let o = codes "load" in let ks = codes "text" ∷ [] in
+        let c : Contains forms (o, ks) = form_at 35 (o, ks) refl refl in
+        bind_judged (Judged ms) (text_of_book text) (λ t. Ok (Change (Load t)))
+        (λ why e. value_bad ms o ks s c (whole_fine ms o ks s refl (count_found ms 2 tt n) ((string text, at), tt)) (codes "text") workbook_reader refl (string text) at why e (λ f same. (same, tt)))
+        (λ t e. all_fine ms o ks s c refl (count_found ms 2 tt n) (fine ms o (codes "text") workbook_reader refl t (ap workbook_in at ∙ e), tt))
 
 -- by what a literal spells
 by_domain : {X : Type 0} (J : Result X Refusal → Type 0) (l : Result Domain Refusal) (K : Domain → Result X Refusal) → ((why : Refusal) → l ≡ Err why → J (Err why)) → ((r : RectangleLiteral) → l ≡ Ok (rectangle r) → J (K (rectangle r)))
@@ -482,7 +517,7 @@ first_judged (x ∷ xs) h ms op s k = elim (bytes_eq op x.0) as (λ b. bytes_eq 
 ] refl
 
 every_judged : AllJudged readers
-every_judged = (domain_judged_of, (remap_judged, (sparse_judged, (assoc_judged, (drop_domain_judged, (reshape_judged, (add_judged, (remove_judged, (array_judged, (drop_array_judged, (set_judged, (fill_judged, (fill_all_judged, (irv_judged, (copy_judged, (all_judged, (undo_judged, (redo_judged, (get_judged, (where_judged, (size_judged, (piece_judged, (state_judged, (print_judged, (history_judged, tt)))))))))))))))))))))))))
+every_judged = (domain_judged_of, (remap_judged, (sparse_judged, (assoc_judged, (drop_domain_judged, (reshape_judged, (add_judged, (remove_judged, (load_judged, (array_judged, (drop_array_judged, (set_judged, (fill_judged, (fill_all_judged, (irv_judged, (copy_judged, (all_judged, (undo_judged, (redo_judged, (cascade_judged, (dependents_judged, (get_judged, (where_judged, (size_judged, (piece_judged, (reduce_judged, (state_judged, (print_judged, (history_judged, tt)))))))))))))))))))))))))))))
 
 -- the op of each form has a reader
 is_read : (ms : Members) (op : List ℕ) → NamesOp ms op → IsWhole (object ms) → has op (names readers) ≡ true

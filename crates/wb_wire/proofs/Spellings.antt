@@ -26,12 +26,13 @@ use Rattle.wb_resize.specs.Sources.{ascending}
 use Rattle.wb_resize.specs.declared.given.Given.{Given}
 use Rattle.wb_resize.specs.declared.given.Given.TheVariants.{Rectangle, Items, Named}
 use Rattle.wb_proto.specs.Fields.{member_count, has_fields, has_fields_and, text_if_there, name_of, index_of}
-use Rattle.wb_proto.specs.Literals.{literal_domain, literal_mapping, optional_mapping as mapping_if_there, within, domain_within, mapping_within}
+use Rattle.wb_proto.specs.Literals.{literal_domain, literal_mapping, optional_mapping as mapping_if_there, text_of_book, within, domain_within, mapping_within}
 use Rattle.wb_proto.specs.Sources.{is_braced, given_within, given_literal, given_name, given_text, given_by, point_in, offsets_by}
+use Rattle.wb_told.specs.Books.{is_book_text}
 use Rattle.wb_wire.specs.Table.{integer, optional_mapping, some_mapping, some_integer}
 use Rattle.wb_wire.specs.Spelled.{IsIndex, IsGiven, IsMapping, Says}
 use Rattle.wb_wire.proofs.Members.{there}
-use Rattle.wb_wire.proofs.Values.{step, ok_same, some_same, no_some, some_of_ok, some_step, str_found, chosen, mapped, index_found_of, index_read_of}
+use Rattle.wb_wire.proofs.Values.{step, ok_same, no_ok, some_same, no_some, some_of_ok, some_step, str_found, chosen, mapped, index_found_of, index_read_of}
 
 -- ---- how many members
 
@@ -120,6 +121,15 @@ literal_read text l h = rw ((mapping_exact text l).1 h) refl
 
 pub mapping_read : (l : MappingLiteral) (m : LayoutMap) → mapping_limits.mapping_within l ≡ Ok m → mapping_within l ≡ Ok m
 mapping_read l m e = rw e refl
+
+-- ---- the text of a workbook
+
+book_chosen : (b : Bool) (x y : List ℕ) → (if b then Ok x else Err BadLiteral) ≡ Ok y → (b ≡ true) × (x ≡ y)
+book_chosen true x y e = (refl, ok_same x y e)
+book_chosen false x y e = no_ok BadLiteral y e
+
+pub book_found : (text t : List ℕ) → text_of_book text ≡ Ok t → (◌≡◌ {A = Data} (string text) (string t)) × (is_book_text t ≡ true)
+book_found text t e = let k = book_chosen (is_book_text text) text t e in (ap string k.1, ap is_book_text (sym k.1) ∙ k.0)
 
 -- ---- a member that may be missing
 

@@ -16,8 +16,10 @@ use Rattle.wb_edit.specs.declared.operation.Operation.{Operation}
 use Rattle.wb_edit.specs.declared.operation.Operation.TheVariants as operations
 use Rattle.wb_log.specs.declared.refusal.Refusal.{Refusal}
 use Rattle.wb_log.specs.declared.refusal.Refusal.TheVariants.{BadRequest}
-use Rattle.wb_proto.specs.Fields.{◌>>=◌, name_of, integer_of, pair_of, triple_of, tuple_of, index_of, key_type_of, operation_of}
-use Rattle.wb_wire.specs.Table.{Meaning, word, name, integer, number, index, type_word, operation_word}
+use Rattle.wb_redist.specs.declared.reduction.Op.{Op}
+use Rattle.wb_redist.specs.declared.reduction.Op.TheVariants as reductions
+use Rattle.wb_proto.specs.Fields.{◌>>=◌, name_of, integer_of, pair_of, triple_of, tuple_of, index_of, key_type_of, operation_of, reduction_of}
+use Rattle.wb_wire.specs.Table.{Meaning, word, name, integer, number, index, type_word, operation_word, reduction_word}
 use Rattle.wb_wire.specs.Spelled.{IsInteger, IsIndex, Spells, Says}
 
 -- ---- steps
@@ -142,6 +144,26 @@ operation_of_word operations.Product = refl
 
 pub operation_read : (o : Option Data) (how : Operation) → Says o (word (operation_word how)) → (text_in o >>= operation_of) ≡ Ok how
 operation_read o how s = ap (λ r. r >>= operation_of) (word_read o (operation_word how) s) ∙ operation_of_word how
+
+reduction_word_of : (text : List ℕ) (how : Op) → reduction_of text ≡ Ok how → text ≡ reduction_word how
+reduction_word_of text how e =
+    tested text (codes "+") reductions.Sum how _ (text ≡ reduction_word how) e (λ t h. t ∙ ap reduction_word h) (λ e.
+    tested text (codes "min") reductions.Min how _ (text ≡ reduction_word how) e (λ t h. t ∙ ap reduction_word h) (λ e.
+    tested text (codes "max") reductions.Max how _ (text ≡ reduction_word how) e (λ t h. t ∙ ap reduction_word h) (λ e.
+    no_ok BadRequest how e)))
+
+pub reduction_found : (o : Option Data) (how : Op) → (text_in o >>= reduction_of) ≡ Ok how → Says o (word (reduction_word how))
+reduction_found o how e =
+    let s = step (text_in o) reduction_of how e in
+    rw (text_found o s.0 s.1) (ap string (reduction_word_of s.0 how s.2))
+
+reduction_of_word : (how : Op) → reduction_of (reduction_word how) ≡ Ok how
+reduction_of_word reductions.Sum = refl
+reduction_of_word reductions.Min = refl
+reduction_of_word reductions.Max = refl
+
+pub reduction_read : (o : Option Data) (how : Op) → Says o (word (reduction_word how)) → (text_in o >>= reduction_of) ≡ Ok how
+reduction_read o how s = ap (λ r. r >>= reduction_of) (word_read o (reduction_word how) s) ∙ reduction_of_word how
 
 -- ---- numbers
 

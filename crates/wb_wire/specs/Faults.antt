@@ -1,6 +1,6 @@
 -- Why a JSON value is no request, apart from the order in which it is read: what is wrong with each member, and with the
 -- object itself. The least code among all that is wrong is the answer.
-use Rattle.std.specs.Prelude.{◌≡◌, ◌≤◌, ◌⊎◌, ℕ, ℤ, List, [], ◌∷◌, ◌++◌, codes, bytes_eq, if◌then◌else◌, true, Option, Some, None, Err, Contains}
+use Rattle.std.specs.Prelude.{◌≡◌, ◌≤◌, ◌⊎◌, ℕ, ℤ, List, [], ◌∷◌, ◌++◌, codes, bytes_eq, if◌then◌else◌, true, false, Option, Some, None, Err, Contains}
 use Rattle.serde_json.specs.Data.{Data, string, object, Members, no_members}
 use Rattle.serde_json.specs.Find.{get_member}
 use Rattle.wb_book.specs.Cells.{Name}
@@ -10,6 +10,7 @@ use Rattle.wb_book.specs.declared.values.index.Index.TheVariants.{Point}
 use Rattle.wb_book.specs.declared.cells.kind.KeyType.{KeyType}
 use Rattle.wb_edit.specs.declared.operation.Operation.{Operation}
 use Rattle.wb_edit.specs.declared.refusal.Refusal.TheVariants as edits
+use Rattle.wb_redist.specs.declared.reduction.Op.{Op}
 use Rattle.wb_log.specs.declared.refusal.Refusal.{Refusal}
 use Rattle.wb_log.specs.declared.refusal.Refusal.TheVariants.{BadRequest, BadLiteral, Refused}
 use Rattle.wb_literal.specs.Domain.{Domain}
@@ -19,6 +20,7 @@ use Rattle.wb_literal.specs.declared.rectangle.RectangleLiteral.{RectangleLitera
 use Rattle.wb_limits.specs.Literals.{domain_within}
 use Rattle.wb_limits.specs.Mappings.{mapping_within}
 use Rattle.wb_limits.specs.declared.limit.LimitErr.TheVariants as limits
+use Rattle.wb_told.specs.Books.{is_book_text}
 use Rattle.wb_wire.specs.Table as table
 use Rattle.wb_wire.specs.Spelled.{Spells, without}
 
@@ -86,6 +88,10 @@ forms =
     ∷ (codes "state", codes "k" ∷ [])
     ∷ (codes "print", [])
     ∷ (codes "history", [])
+    ∷ (codes "reduce", codes "a" ∷ codes "how" ∷ [])
+    ∷ (codes "load", codes "text" ∷ [])
+    ∷ (codes "cascade", codes "k" ∷ [])
+    ∷ (codes "dependents", codes "k" ∷ [])
     ∷ []
 
 -- the members of these keys are there, each once, in any order, and no others
@@ -111,9 +117,10 @@ pub data Plain : Type 0 where
   index : Plain
   -- an integer for each dimension
   offsets : Plain
-  -- the type of an associative domain's indices, and what becomes of each element of an array
+  -- the type of an associative domain's indices, what becomes of each element of an array, and what of all of them
   key_type : Plain
   operation : Plain
+  reduction : Plain
 
 pub data Kind : Type 0 where
   plain : Plain → Kind
@@ -121,8 +128,10 @@ pub data Kind : Type 0 where
   domain : Kind
   mapping : Kind
   source : Kind
+  -- the text of a workbook
+  workbook : Kind
 
--- what a key's value is to spell, in each op that has the key; `of` is a type or a name
+-- what a key's value is to spell, in each op that has the key; but for `of` and `how`
 abbrev pub kinds : List (List ℕ × Kind)
 kinds =
     (codes "a", plain name)
@@ -131,7 +140,6 @@ kinds =
     ∷ (codes "c", plain integer)
     ∷ (codes "d", plain name)
     ∷ (codes "expand", plain offsets)
-    ∷ (codes "how", plain operation)
     ∷ (codes "i", plain index)
     ∷ (codes "is", domain)
     ∷ (codes "j", plain index)
@@ -142,6 +150,7 @@ kinds =
     ∷ (codes "on", domain)
     ∷ (codes "or", source)
     ∷ (codes "slice", source)
+    ∷ (codes "text", workbook)
     ∷ (codes "to", source)
     ∷ (codes "translate", plain offsets)
     ∷ (codes "v", plain integer)
@@ -152,9 +161,13 @@ abbrev pub kind_in : List (List ℕ × Kind) → List ℕ → Option Kind
 kind_in [] key = None
 kind_in (x ∷ xs) key = if bytes_eq key x.0 then Some x.1 else kind_in xs key
 
--- what the value of a key is to spell, in a request of an op; no request has a member of another key, but for the op
+-- What the value of a key is to spell, in a request of an op: `of` is a type or a name, and `how` an operation or a reduction.
+-- No request has a member of another key, but for the op.
 abbrev pub kind_of : List ℕ → List ℕ → Option Kind
-kind_of op key = if bytes_eq key (codes "of") then Some (if bytes_eq op (codes "assoc") then plain key_type else plain name) else kind_in kinds key
+kind_of op key =
+    if bytes_eq key (codes "of") then Some (if bytes_eq op (codes "assoc") then plain key_type else plain name) else
+    if bytes_eq key (codes "how") then Some (if bytes_eq op (codes "reduce") then plain reduction else plain operation) else
+    kind_in kinds key
 
 -- ---- what is wrong with a value
 
@@ -171,15 +184,18 @@ IsBad (plain index) d = (i : Index) → Spells d (table.index i) → ⊥
 IsBad (plain offsets) d = (is : List ℤ) → Spells d (table.index (Point is)) → ⊥
 IsBad (plain key_type) d = (t : KeyType) → Spells d (table.word (table.type_word t)) → ⊥
 IsBad (plain operation) d = (how : Operation) → Spells d (table.word (table.operation_word how)) → ⊥
+IsBad (plain reduction) d = (how : Op) → Spells d (table.word (table.reduction_word how)) → ⊥
 IsBad domain d = (text : List ℕ) → d ≡ string text → ⊥
 IsBad mapping d = (text : List ℕ) → d ≡ string text → ⊥
+IsBad workbook d = (text : List ℕ) → d ≡ string text → ⊥
 IsBad source d = (text : List ℕ) → d ≡ string text → IsBraced text ⊎ (is_name text ≡ true) → ⊥
 
--- E02: a text, but not in the grammar of the literal
+-- E02: a text, but not in the grammar of the literal, or no workbook's text
 abbrev pub IsMisspelled : Kind → Data → Type 0
 IsMisspelled domain d = (text : List ℕ) × (d ≡ string text) × ((literal : Domain) → grammar.IsDomain text literal → ⊥)
 IsMisspelled mapping d = (text : List ℕ) × (d ≡ string text) × ((literal : MappingLiteral) → grammar.IsMapping text literal → ⊥)
 IsMisspelled source d = (text : List ℕ) × (d ≡ string text) × IsBraced text × ((literal : Domain) → grammar.IsDomain text literal → ⊥)
+IsMisspelled workbook d = (text : List ℕ) × (d ≡ string text) × (is_book_text text ≡ false)
 IsMisspelled (plain p) d = ⊥
 
 -- E09: the literal of a rectangle, or of a mapping, that is beyond a limit
@@ -188,6 +204,7 @@ IsTooLarge domain d = (text : List ℕ) × (literal : RectangleLiteral) × (d �
 IsTooLarge source d = (text : List ℕ) × (literal : RectangleLiteral) × (d ≡ string text) × grammar.IsRectangle text literal × (domain_within literal ≡ Err limits.TooLarge)
 IsTooLarge mapping d = (text : List ℕ) × (literal : MappingLiteral) × (d ≡ string text) × grammar.IsMapping text literal × (mapping_within literal ≡ Err limits.TooLarge)
 IsTooLarge (plain p) d = ⊥
+IsTooLarge workbook d = ⊥
 
 -- E15: the literal of a mapping whose parts don't fit one another
 abbrev pub DoesNotFit : Kind → Data → Type 0
@@ -195,6 +212,7 @@ DoesNotFit mapping d = (text : List ℕ) × (literal : MappingLiteral) × (d ≡
 DoesNotFit (plain p) d = ⊥
 DoesNotFit domain d = ⊥
 DoesNotFit source d = ⊥
+DoesNotFit workbook d = ⊥
 
 -- A value has this fault. (It has one at most.)
 abbrev pub Fails : Kind → Data → Fault → Type 0

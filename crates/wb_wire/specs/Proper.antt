@@ -11,8 +11,9 @@ use Rattle.wb_literal.specs.Integer.{IsWithin}
 use Rattle.wb_resize.specs.Sources.{ascending}
 use Rattle.wb_resize.specs.declared.given.Given.{Given}
 use Rattle.wb_resize.specs.declared.given.Given.TheVariants.{Rectangle, Items, Named}
+use Rattle.wb_told.specs.Books.{is_book_text}
 use Rattle.wb_proto.specs.declared.requests.request.Request.{Request}
-use Rattle.wb_wire.specs.Table.{Meaning, word, name, integer, number, index, given, mapping, optional_mapping, some_set, some_mapping, some_integer, Fields, table}
+use Rattle.wb_wire.specs.Table.{Meaning, word, name, integer, number, index, given, mapping, optional_mapping, book, some_set, some_mapping, some_integer, Fields, table}
 
 abbrev pub AllWithin : List ℤ → Type 0
 AllWithin [] = Unit {0}
@@ -53,6 +54,7 @@ IsProper (index i) = AreAlike (i ∷ [])
 IsProper (given g) = IsProperGiven g
 IsProper (mapping m) = IsLayout m
 IsProper (optional_mapping m) = IsLayout m
+IsProper (book text) = is_book_text text ≡ true
 IsProper some_set = Unit {0}
 IsProper some_mapping = Unit {0}
 IsProper some_integer = Unit {0}

@@ -17,8 +17,9 @@ use Rattle.wb_limits.specs.Mappings.{mapping_within}
 use Rattle.wb_resize.specs.Sources.{ascending}
 use Rattle.wb_resize.specs.declared.given.Given.{Given}
 use Rattle.wb_resize.specs.declared.given.Given.TheVariants.{Rectangle, Items, Named}
+use Rattle.wb_told.specs.Books.{is_book_text}
 use Rattle.wb_proto.specs.declared.requests.request.Request.{Request}
-use Rattle.wb_wire.specs.Table.{Meaning, word, name, integer, number, index, given, mapping, optional_mapping, some_set, some_mapping, some_integer, Fields, table}
+use Rattle.wb_wire.specs.Table.{Meaning, word, name, integer, number, index, given, mapping, optional_mapping, book, some_set, some_mapping, some_integer, Fields, table}
 
 -- ---- what one value spells
 
@@ -59,6 +60,7 @@ Spells d (index i) = IsIndex d i
 Spells d (given g) = IsGiven d g
 Spells d (mapping m) = IsMapping d m
 Spells d (optional_mapping m) = IsMapping d m
+Spells d (book text) = (d ≡ string text) × (is_book_text text ≡ true)
 Spells d some_set = (text : List ℕ) × (listed : Listed) × (d ≡ string text) × grammar.IsSet text listed
 Spells d some_mapping = (m : LayoutMap) × IsMapping d m
 Spells d some_integer = (z : ℤ) × IsInteger d z
@@ -74,6 +76,7 @@ MayLack (number k) = ⊥
 MayLack (index i) = ⊥
 MayLack (given g) = ⊥
 MayLack (mapping m) = ⊥
+MayLack (book text) = ⊥
 MayLack some_set = ⊥
 MayLack some_integer = ⊥
 

@@ -31,6 +31,13 @@ pub(crate) fn piece(alloc: Global, a: &Name, l: u64) -> Result<Value, AllocError
     json!(in alloc; {"a": a.as_str(), "l": l, "op": "piece"})
 }
 
+/// `a`, `how`.
+pub(crate) fn reduction(alloc: Global, a: &Name, how: &str) -> Result<Value, AllocError>
+    ensures { IfOk result (λ v. view v ≡ object (member (codes "a") (string a.now) (member (codes "how") (string how.now) (member (codes "op") (string (codes "reduce")) no_members)))) }
+{
+    json!(in alloc; {"a": a.as_str(), "how": how, "op": "reduce"})
+}
+
 /// No member but the op.
 pub(crate) fn plain(alloc: Global, op: &str) -> Result<Value, AllocError>
     ensures { IfOk result (λ v. view v ≡ object (member (codes "op") (string op.now) no_members)) }

@@ -5,8 +5,9 @@ ghost use Rattle.wb_proto.specs.Requests.{request};
 ghost use Rattle.wb_proto.specs.declared.requests.request.Request.TheVariants.{Change, Ask};
 ghost use Rattle.wb_wire.specs.Encoded.{request_data, request_line};
 ghost use Rattle.wb_wire.specs.Proper.{IsProperRequest};
+ghost use Rattle.wb_wire.specs.Table.{reduction_word};
 
-use crate::objects::{by_number, element, piece, plain};
+use crate::objects::{by_number, element, piece, plain, reduction};
 use serde_json::Value;
 use std::alloc::{AllocError, Global};
 use wb_edit::Edit;
@@ -14,6 +15,18 @@ use wb_encode::{edit_value, index_of_domain, line_of, of_domain};
 use wb_history::Query;
 use wb_proto::Request;
 use wb_range::NoMemory;
+use wb_redist::Op;
+
+// The word for a reduction.
+fn reduction_word(how: Op) -> &'static str
+    ensures { result.now ≡ reduction_word how }
+{
+    match how {
+        Op::Sum => "+",
+        Op::Min => "min",
+        Op::Max => "max",
+    }
+}
 
 fn query_value(alloc: Global, query: &Query) -> Result<Value, AllocError>
     ensures { IfOk result (λ v. view v ≡ request_data (Ask query.now)) }
@@ -23,6 +36,7 @@ fn query_value(alloc: Global, query: &Query) -> Result<Value, AllocError>
         Query::Where(d, i) => index_of_domain(alloc, "where", d, i),
         Query::Size(d) => of_domain(alloc, "size", d),
         Query::Piece(a, l) => piece(alloc, a, *l),
+        Query::Reduce(a, how) => reduction(alloc, a, reduction_word(*how)),
         Query::State(k) => by_number(alloc, "state", *k),
     }
 }
@@ -35,6 +49,8 @@ fn request_value(alloc: Global, request: &Request) -> Result<Value, AllocError>
         Request::Undo(Some(k)) => by_number(alloc, "undo", *k),
         Request::Undo(None) => plain(alloc, "undo"),
         Request::Redo(k) => by_number(alloc, "redo", *k),
+        Request::Cascade(k) => by_number(alloc, "cascade", *k),
+        Request::Dependents(k) => by_number(alloc, "dependents", *k),
         Request::Ask(query) => query_value(alloc, query),
         Request::Print => plain(alloc, "print"),
         Request::History => plain(alloc, "history"),

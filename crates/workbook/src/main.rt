@@ -15,24 +15,19 @@ use wb_program::{
     BAD_COMMAND_LINE, DONE, INPUT_OR_OUTPUT_FAILED, NO_MEMORY, PutBack, check_with, history_from,
     resume_with, run_with, serve_history, serve_on,
 };
+use wb_redist::{Mover, OneThread, Open, Workers};
 
 fn main(rt: HostRuntime) -> io::Result<ExitCode> {
     let done = match asked(&rt) {
-        Ok(Ok(Asked::Run { resume: false })) => run(&rt),
-        Ok(Ok(Asked::Run { resume: true })) => resume(&rt),
-        Ok(Ok(Asked::Check)) => check(&rt),
-        Ok(
-            Ok(
-                Asked::Serve {
-                    port,
-                    seats,
-                    resume,
-                },
-            ),
-        ) => match opening(&rt, resume) {
-            Ok(Ok(history)) => serve(&rt, rt.alloc(), rt.stdout(), port, seats, history),
-            Ok(Err(status)) => Ok(status),
-            Err(error) => Err(error),
+        Ok(Ok(asked)) => match workers_of(&asked) {
+            1 => {
+                let alone: OneThread<&HostRuntime> = OneThread::new();
+                do_asked(&rt, &rt, asked, &alone)
+            }
+            count => match Workers::new(&rt, count, Open) {
+                Ok(workers) => do_asked(&rt, &rt, asked, &workers),
+                Err(_) => Ok(BAD_COMMAND_LINE),
+            },
         },
         Ok(Err(status)) => Ok(status),
         Err(error) => Err(error),
@@ -77,39 +72,73 @@ fn asked(rt: &HostRuntime) -> io::Result<Result<Asked, u8>> {
     }
 }
 
+// How many workers move arrays.
+fn workers_of(asked: &Asked) -> usize {
+    match asked {
+        Asked::Run { workers, .. } => *workers as usize,
+        Asked::Check => 1,
+        Asked::Serve { workers, .. } => *workers as usize,
+    }
+}
+
+// Does what is asked for, with arrays moved by the mover: the exit status.
+fn do_asked<
+    R: Net<Listener = TcpListener, Stream = TcpStream> + Threads + Wait + Sync,
+    M: Mover + Sync,
+>(rt: &HostRuntime, net: &R, asked: Asked, mover: &M) -> io::Result<u8> {
+    match asked {
+        Asked::Run { resume: false, .. } => run(rt, mover),
+        Asked::Run { resume: true, .. } => resume(rt, mover),
+        Asked::Check => check(rt, mover),
+        Asked::Serve {
+            port,
+            seats,
+            resume,
+            ..
+        } => match opening(rt, resume, mover)? {
+            Ok(history) => serve(net, rt.alloc(), rt.stdout(), port, seats, history, mover),
+            Err(status) => Ok(status),
+        },
+    }
+}
+
 // A session from standard input to standard output.
-fn run(rt: &HostRuntime) -> io::Result<u8> {
+fn run<M: Mover>(rt: &HostRuntime, mover: &M) -> io::Result<u8> {
     let alloc = rt.alloc();
     let mut input = Input::new(rt.stdin());
     let mut output = Output::new(BufWriter::new(alloc, rt.stdout())?);
-    Ok(run_with(alloc, &mut input, &mut output))
+    Ok(run_with(alloc, &mut input, &mut output, mover))
 }
 
 // A session from the history whose text comes first.
-fn resume(rt: &HostRuntime) -> io::Result<u8> {
+fn resume<M: Mover>(rt: &HostRuntime, mover: &M) -> io::Result<u8> {
     let alloc = rt.alloc();
     let mut input = PutBack::new(alloc, Input::new(rt.stdin()));
     let mut output = Output::new(BufWriter::new(alloc, rt.stdout())?);
-    Ok(resume_with(alloc, &mut input, &mut output))
+    Ok(resume_with(alloc, &mut input, &mut output, mover))
 }
 
 // Whether standard input is the text of a workbook or of a history.
-fn check(rt: &HostRuntime) -> io::Result<u8> {
+fn check<M: Mover>(rt: &HostRuntime, mover: &M) -> io::Result<u8> {
     let alloc = rt.alloc();
     let mut input = Input::new(rt.stdin());
     let mut output = Output::new(BufWriter::new(alloc, rt.stdout())?);
-    Ok(check_with(alloc, &mut input, &mut output))
+    Ok(check_with(alloc, &mut input, &mut output, mover))
 }
 
 // The history that a desk opens with: none, or the one whose text is standard input; or the exit status where that is none's.
-fn opening(rt: &HostRuntime, resume: bool) -> io::Result<Result<Option<History>, u8>> {
+fn opening<M: Mover>(
+    rt: &HostRuntime,
+    resume: bool,
+    mover: &M,
+) -> io::Result<Result<Option<History>, u8>> {
     if !resume {
         return Ok(Ok(None));
     }
     let alloc = rt.alloc();
     let mut input = Input::new(rt.stdin());
     let mut output = Output::new(BufWriter::new(alloc, rt.stdout())?);
-    match history_from(alloc, &mut input, &mut output) {
+    match history_from(alloc, &mut input, &mut output, mover) {
         Ok(history) => Ok(Ok(Some(history))),
         Err(status) => Ok(Err(status)),
     }
@@ -119,6 +148,7 @@ fn opening(rt: &HostRuntime, resume: bool) -> io::Result<Result<Option<History>,
 fn serve<
     R: Net<Listener = TcpListener, Stream = TcpStream> + Threads + Wait + Sync,
     W: Write + Drop,
+    M: Mover + Sync,
 >(
     rt: &R,
     alloc: Global,
@@ -126,6 +156,7 @@ fn serve<
     port: u16,
     seats: u8,
     opening: Option<History>,
+    mover: &M,
 ) -> io::Result<u8> {
     let listener = TcpListener::bind(rt, ("127.0.0.1", port))?;
     let mut output = BufWriter::new(alloc, output)?;
@@ -135,7 +166,7 @@ fn serve<
     let mut output = Output::new(output);
     let seats = seats as usize;
     Ok(match opening {
-        Some(history) => serve_history(rt, alloc, &listener, seats, history, &mut output),
-        None => serve_on(rt, alloc, &listener, seats, &mut output),
+        Some(history) => serve_history(rt, alloc, &listener, seats, history, &mut output, mover),
+        None => serve_on(rt, alloc, &listener, seats, &mut output, mover),
     })
 }

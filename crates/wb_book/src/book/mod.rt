@@ -1,9 +1,6 @@
-//! The book: a map of its cells, and how many were set so far.
+//! What is read of a map of cells, and how such a map is changed.
 
-mod contents;
 pub(crate) mod families;
 pub(crate) mod locales;
 pub(crate) mod readers;
 pub mod store;
-
-pub use crate::book::contents::Book;

@@ -115,30 +115,3 @@ pub fn put_back(cells: &mut BTreeMap<Cell, Value>, before: &[CellChange])
         put_back_one(cells, x);
     }
 }
-
-/// Makes all the changes, or none where memory ran out, and gives what the cells were before.
-pub(crate) fn change_all(
-    alloc: Global,
-    cells: &mut BTreeMap<Cell, Value>,
-    delta: &[CellChange],
-) -> Result<Vec<CellChange>, NoMemory>
-    requires { AllOnce cell_cmp delta.now }
-    ensures before { IfOk result (λ v. v.items ≡ inverse delta.now (state_of cells.old)) }
-    ensures once { IfOk result (λ v. AllOnce cell_cmp v.items) }
-    ensures ok { OnOk result (state_of cells.new ≡ apply delta.now (state_of cells.old)) }
-    ensures err { OnErr result (state_of cells.new ≡ state_of cells.old) }
-{
-    let Ok(before) = values_before(alloc, cells, delta) else {
-        return Err(NoMemory);
-    };
-    match set_present(cells, delta) {
-        Ok(()) => {
-            clear_absent(cells, delta);
-            Ok(before)
-        }
-        Err(why) => {
-            put_back(cells, &before);
-            Err(why)
-        }
-    }
-}

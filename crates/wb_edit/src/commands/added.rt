@@ -8,7 +8,8 @@ use crate::tests::resizing::has_members;
 use crate::tests::stop::{Stop, stopped};
 use crate::tests::{judgements, looks};
 use std::alloc::Global;
-use wb_book::{AnyDomain, AnyIndex, Book, Cell, Delta, Name, Value};
+use wb_book::{AnyDomain, AnyIndex, Cell, Delta, Name, Value};
+use wb_shelf::Book;
 
 /// A new index of a sparse or associative domain.
 pub(crate) fn plan_add(

@@ -10,7 +10,8 @@ use crate::tests::indices::{Indices, idx};
 use crate::tests::looks;
 use crate::tests::stop::Stop;
 use std::alloc::Global;
-use wb_book::{Binding, Book, Cell, Delta, Kind, Name, Value};
+use wb_book::{Binding, Cell, Delta, Kind, Name, Value};
+use wb_shelf::Book;
 
 /// A new array over a domain.
 pub(crate) fn plan_array(

@@ -16,7 +16,8 @@ use crate::refusal::Refusal;
 use crate::tests::stop::{Stop, stopped};
 use crate::tests::{elements, looks, numbers};
 use std::alloc::Global;
-use wb_book::{AnyIndex, Book, Delta, Name};
+use wb_book::{AnyIndex, Delta, Name};
+use wb_shelf::Book;
 
 /// Each element of an array becomes what it and another array's element at the same index make.
 pub(crate) fn plan_all(

@@ -8,7 +8,8 @@ use crate::tests::implicit::{Source, element_or_implicit};
 use crate::tests::stop::{Stop, stopped};
 use crate::tests::{judgements, looks, numbers};
 use std::alloc::Global;
-use wb_book::{AnyIndex, Book, Delta, Name};
+use wb_book::{AnyIndex, Delta, Name};
+use wb_shelf::Book;
 
 /// An element that is another one and a number more.
 pub(crate) fn plan_copy(

@@ -8,7 +8,8 @@ use crate::foot::Foot;
 use crate::tests::stop::Stop;
 use crate::tests::{layouts, looks};
 use std::alloc::Global;
-use wb_book::{AnyDomain, AnyLayout, AnyRect, Book, Cell, Delta, DomainKind, Name, Value};
+use wb_book::{AnyDomain, AnyLayout, AnyRect, Cell, Delta, DomainKind, Name, Value};
+use wb_shelf::Book;
 
 /// A new rectangular domain.
 pub(crate) fn plan_domain(

@@ -11,7 +11,8 @@ use crate::foot::Foot;
 use crate::tests::stop::Stop;
 use crate::tests::{elements, looks};
 use std::alloc::Global;
-use wb_book::{AnyIndex, Book, Cell, Delta, Name};
+use wb_book::{AnyIndex, Cell, Delta, Name};
+use wb_shelf::Book;
 
 /// The end of an array.
 pub(crate) fn plan_drop_array(

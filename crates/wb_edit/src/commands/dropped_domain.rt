@@ -13,7 +13,8 @@ use crate::tests::looks;
 use crate::tests::stop::Stop;
 use crate::tests::users::unused;
 use std::alloc::Global;
-use wb_book::{AnyDomain, Book, Cell, Delta, DomainKind, Name};
+use wb_book::{AnyDomain, Cell, Delta, DomainKind, Name};
+use wb_shelf::Book;
 
 /// The end of a domain.
 pub(crate) fn plan_drop_domain(

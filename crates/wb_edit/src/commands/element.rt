@@ -10,7 +10,8 @@ use crate::foot::Foot;
 use crate::tests::stop::{Stop, stopped};
 use crate::tests::{judgements, looks};
 use std::alloc::Global;
-use wb_book::{AnyIndex, Book, Cell, Delta, Name, Value};
+use wb_book::{AnyIndex, Cell, Delta, Name, Value};
+use wb_shelf::Book;
 
 /// A new element.
 pub(crate) fn plan_set(

@@ -12,7 +12,8 @@ use crate::foot::Foot;
 use crate::tests::stop::Stop;
 use crate::tests::{looks, rectangles};
 use std::alloc::Global;
-use wb_book::{AnyRect, Book, Delta, Name, Value};
+use wb_book::{AnyRect, Delta, Name, Value};
+use wb_shelf::Book;
 
 /// One number at the indices of a rectangle.
 pub(crate) fn plan_fill(

@@ -13,7 +13,8 @@ use crate::foot::Foot;
 use crate::tests::stop::Stop;
 use crate::tests::{elements, looks};
 use std::alloc::Global;
-use wb_book::{AnyIndex, Book, Delta, Name};
+use wb_book::{AnyIndex, Delta, Name};
+use wb_shelf::Book;
 
 /// One number as every element of an array.
 pub(crate) fn plan_fill_all(

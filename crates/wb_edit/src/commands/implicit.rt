@@ -10,7 +10,8 @@ use crate::foot::Foot;
 use crate::tests::stop::{Stop, stopped};
 use crate::tests::{kinds, looks};
 use std::alloc::Global;
-use wb_book::{Book, Cell, Delta, Name, Value};
+use wb_book::{Cell, Delta, Name, Value};
+use wb_shelf::Book;
 
 /// A new implicit value.
 pub(crate) fn plan_irv(

@@ -11,6 +11,7 @@ pub mod element;
 pub mod filled;
 pub mod filled_array;
 pub mod implicit;
+pub mod loaded;
 pub mod of_sets;
 pub mod remapped;
 pub mod removed;

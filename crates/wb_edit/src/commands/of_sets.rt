@@ -7,7 +7,8 @@ use crate::foot::Foot;
 use crate::refusal::Refusal;
 use crate::tests::looks::{arr, free};
 use crate::tests::stop::Stop;
-use wb_book::{Book, Delta, Name};
+use wb_book::{Delta, Name};
+use wb_shelf::Book;
 
 /// A new rectangular domain; its name is tested first.
 pub(crate) fn plan_domain_of_set(book: &Book, foot: &mut Foot, domain: Name) -> Result<Delta, Stop>

@@ -10,7 +10,8 @@ use crate::foot::Foot;
 use crate::tests::stop::{Stop, stopped};
 use crate::tests::{kinds, layouts, looks};
 use std::alloc::Global;
-use wb_book::{AnyLayout, Book, Cell, Delta, Name, Value};
+use wb_book::{AnyLayout, Cell, Delta, Name, Value};
+use wb_shelf::Book;
 
 /// A new mapping of a rectangular domain.
 pub(crate) fn plan_remap(

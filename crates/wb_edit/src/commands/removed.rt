@@ -9,7 +9,8 @@ use crate::tests::stop::{Stop, stopped};
 use crate::tests::users::{arrays, uses};
 use crate::tests::{judgements, looks};
 use std::alloc::Global;
-use wb_book::{AnyDomain, AnyIndex, Book, Cell, Delta, Name, Value};
+use wb_book::{AnyDomain, AnyIndex, Cell, Delta, Name, Value};
+use wb_shelf::Book;
 
 /// The end of an index of a sparse or associative domain.
 pub(crate) fn plan_remove(

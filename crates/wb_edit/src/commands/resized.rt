@@ -14,7 +14,8 @@ use crate::foot::Foot;
 use crate::tests::resizing::{fills, inside};
 use crate::tests::stop::Stop;
 use std::alloc::Global;
-use wb_book::{AnyDomain, AnyIndex, Book, Delta, Name};
+use wb_book::{AnyDomain, AnyIndex, Delta, Name};
+use wb_shelf::Book;
 
 /// Indices leave a sparse or associative domain and others come to it.
 pub(crate) fn plan_resized(

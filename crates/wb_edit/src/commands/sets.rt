@@ -14,7 +14,8 @@ use crate::foot::Foot;
 use crate::tests::stop::{Stop, stopped};
 use crate::tests::{kinds, looks};
 use std::alloc::Global;
-use wb_book::{AnyDomain, Binding, Book, Cell, Delta, DomainKind, KeyType, Name, Value};
+use wb_book::{AnyDomain, Binding, Cell, Delta, DomainKind, KeyType, Name, Value};
+use wb_shelf::Book;
 
 /// A new sparse domain in a rectangular one.
 pub(crate) fn plan_sparse(

@@ -9,7 +9,8 @@ ghost use Rattle.wb_edit.specs.Plans.{Looks};
 use crate::foot::Foot;
 use crate::refusal::Refusal;
 use crate::tests::stop::Stop;
-use wb_book::{AnyIndex, Book, Name, Pattern};
+use wb_book::{AnyIndex, Name, Pattern};
+use wb_shelf::Book;
 
 /// The elements of an array, each after its index, in the order of the indices.
 pub(crate) fn elements(

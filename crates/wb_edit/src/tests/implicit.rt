@@ -10,7 +10,8 @@ use crate::tests::judgements::is_there;
 use crate::tests::looks::read;
 use crate::tests::numbers::number_in;
 use crate::tests::stop::{Stop, stopped};
-use wb_book::{AnyIndex, Book, Cell, DomainKind, Kind, Name, Value};
+use wb_book::{AnyIndex, Cell, DomainKind, Kind, Name, Value};
+use wb_shelf::Book;
 
 /// That an array over a domain of this kind has an implicit value of its own; `OutOfDomain` where it has none.
 pub fn has_implicit(kind: &Kind) -> Result<(), Refusal>

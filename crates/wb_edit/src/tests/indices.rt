@@ -11,7 +11,8 @@ use crate::tests::judgements;
 use crate::tests::looks::read;
 use crate::tests::stop::Stop;
 use std::alloc::{AllocError, Global};
-use wb_book::{AnyDomain, AnyIndex, AnyRect, Book, Cell, DomainKind, Name, Pattern, Value};
+use wb_book::{AnyDomain, AnyIndex, AnyRect, Cell, DomainKind, Name, Pattern, Value};
+use wb_shelf::Book;
 
 /// The indices of a domain, in its order.
 #[derive(Drop)]

@@ -9,7 +9,8 @@ ghost use Rattle.wb_edit.specs.Plans.{Looks};
 use crate::foot::Foot;
 use crate::tests::judgements;
 use crate::tests::stop::{Stop, stopped};
-use wb_book::{AnyCell, AnyDomain, AnyIndex, Book, Cell, Kind, Name, Pattern, Value};
+use wb_book::{AnyCell, AnyDomain, AnyIndex, Cell, Kind, Name, Pattern, Value};
+use wb_shelf::Book;
 
 /// What a cell holds.
 pub(crate) fn read(book: &Book, foot: &mut Foot, cell: &Cell) -> Result<Option<Value>, Stop>

@@ -8,6 +8,7 @@ pub mod kinds;
 pub mod layouts;
 pub mod looks;
 pub mod numbers;
+pub mod objects;
 pub mod rectangles;
 pub mod reshaping;
 pub mod resizing;

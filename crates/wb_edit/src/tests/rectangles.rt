@@ -12,7 +12,8 @@ ghost use Rattle.wb_edit.specs.declared.tests.stop.Stop.TheVariants.{NoMemory};
 use crate::foot::Foot;
 use crate::refusal::Refusal;
 use crate::tests::stop::{Stop, stopped};
-use wb_book::{AnyCell, AnyRect, Book, Cell, Kind, Name, Pattern};
+use wb_book::{AnyCell, AnyRect, Cell, Kind, Name, Pattern};
+use wb_shelf::Book;
 
 fn is_rectangular_of(rank: u8, kind: Kind) -> bool
     ensures { result ≡ is_rectangular_of rank kind }

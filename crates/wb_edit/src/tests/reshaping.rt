@@ -13,7 +13,8 @@ use crate::refusal::Refusal;
 use crate::tests::looks::read;
 use crate::tests::rectangles::is_present;
 use crate::tests::stop::{Stop, stopped};
-use wb_book::{AnyIndex, AnyRect, Book, Cell, Name, Value};
+use wb_book::{AnyIndex, AnyRect, Cell, Name, Value};
+use wb_shelf::Book;
 
 /// The ranges that a cell holds; `WrongKind` where it holds none.
 pub fn shape_in(shape: Option<Value>) -> Result<AnyRect, Refusal>

@@ -18,7 +18,8 @@ use crate::tests::rectangles::{both, is_present};
 use crate::tests::stop::{Stop, stopped};
 use crate::tests::users::{arrays, uses};
 use std::alloc::{AllocError, Global};
-use wb_book::{AnyCell, AnyDomain, AnyIndex, Book, Cell, DomainKind, Name, Pattern, Value};
+use wb_book::{AnyCell, AnyDomain, AnyIndex, Cell, DomainKind, Name, Pattern, Value};
+use wb_shelf::Book;
 
 /// That a domain is sparse or associative; `WrongKind` where it is rectangular.
 pub fn has_members(kind: &AnyDomain) -> Result<(), Refusal>

@@ -17,11 +17,12 @@ use crate::tests::reshaping::shape;
 use crate::tests::stop::{Stop, stopped};
 use std::alloc::Global;
 use wb_assoc::Assoc;
-use wb_book::{AnyIndex, AnyRect, Book, KeyType, Kind, Name, Point};
+use wb_book::{AnyIndex, AnyRect, KeyType, Kind, Name, Point};
 use wb_range::Domain;
 use wb_rect::RectErr;
 use wb_resize::new_rectangles::displaced;
 use wb_resize::{Displacement, Given};
+use wb_shelf::Book;
 
 /// That there are so many dimensions as a domain of the rank has; `WrongKind` where there are not.
 pub fn same_rank(rank: usize, dimensions: usize) -> Result<(), Refusal>

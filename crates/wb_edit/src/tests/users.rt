@@ -14,7 +14,8 @@ use crate::foot::Foot;
 use crate::refusal::Refusal;
 use crate::tests::stop::{Stop, stopped};
 use std::alloc::{AllocError, Global};
-use wb_book::{Binding, Book, Cell, Name, Pattern, Value};
+use wb_book::{Binding, Cell, Name, Pattern, Value};
+use wb_shelf::Book;
 
 // How a value says that an object is bound, if it does.
 fn binding_in(value: &Value) -> Option<Binding>

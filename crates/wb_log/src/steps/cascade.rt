@@ -12,7 +12,9 @@ use crate::entry::Entry;
 use crate::index::Index;
 use crate::refusal::Refusal;
 use crate::steps::undo::undo_at;
-use wb_book::Book;
+use wb_range::NoMemory;
+use wb_redist::Mover;
+use wb_shelf::Book;
 
 /// The numbers of the edits that have to be undone with the one at a place, from the greatest down.
 pub fn dependents_at(entries: &[Entry], index: &mut Index, at: usize) -> Result<Vec<u64>, Refusal>
@@ -35,11 +37,12 @@ pub fn dependents_at(entries: &[Entry], index: &mut Index, at: usize) -> Result<
 }
 
 /// Undoes the edit of a number.
-fn undo_number(
+fn undo_number<M: Mover>(
     book: &mut Book,
     entries: &mut [Entry],
     index: &mut Index,
     number: u64,
+    mover: &M,
 ) -> Result<usize, Refusal>
     requires few { length entries.old < 2 ^ 63 }
     requires kept { Shows entries.old book.old.cells }
@@ -60,15 +63,16 @@ fn undo_number(
     if at >= entries.len() {
         return Err(Refusal::NoSuchEdit);
     }
-    undo_at(book, entries, index, at)
+    undo_at(book, entries, index, at, mover)
 }
 
 /// Undoes edits one after another, up to the first whose undo is refused: how many, and how many cells are set back.
-fn undo_each(
+fn undo_each<M: Mover>(
     book: &mut Book,
     entries: &mut [Entry],
     index: &mut Index,
     undone: &[u64],
+    mover: &M,
 ) -> (usize, usize)
     requires few { length entries.old < 2 ^ 63 }
     requires kept { Shows entries.old book.old.cells }
@@ -84,7 +88,7 @@ fn undo_each(
     let mut done = 0;
     let mut count: usize = 0;
     while done < undone.len() {
-        match undo_number(book, entries, index, undone[done]) {
+        match undo_number(book, entries, index, undone[done], mover) {
             Ok(more) => count = count.saturating_add(more),
             Err(_) => return (done, count),
         }
@@ -93,13 +97,46 @@ fn undo_each(
     (done, count)
 }
 
-/// Undoes the edit at a place with all that need it, from the greatest down, as far as memory goes: the numbers of those
-/// that are undone, and how many cells are set back.
-pub fn cascade_at(
+/// Undoes the edit at a place with all that need it, whose numbers these are, from the greatest down, as far as memory
+/// and threads go: how many are undone, and how many cells are set back.
+pub fn undo_listed<M: Mover>(
     book: &mut Book,
     entries: &mut [Entry],
     index: &mut Index,
     at: usize,
+    listed: &[u64],
+    mover: &M,
+) -> Result<(usize, usize), NoMemory>
+    requires few { length entries.old < 2 ^ 63 }
+    requires kept { Shows entries.old book.old.cells }
+    requires indexed { IsIndexed index.old entries.old }
+    requires valid { AreValid (numbers entries.old) }
+    requires listed { DependentsReply (entries_meant entries.old) at (Ok listed.now) }
+    ensures kept { Shows entries.new book.new.cells }
+    ensures indexed { IsIndexed index.new entries.new }
+    ensures valid { AreValid (numbers entries.new) }
+    ensures within { IfOk result (λ r. r.0 ≤ length listed.now) }
+    ensures reply { IfOk result (λ r. CascadeReply (entries_meant entries.old) at (Ok (take r.0 listed.now, r.1))) }
+    ensures entries { IfOk result (λ r. numbers entries.new ≡ all_out_of_force (take r.0 listed.now) (numbers entries.old)) }
+    ensures writes { IfOk result (λ r. book.new.writes ≡ written_more book.old.writes (set_back (entries_meant entries.old) (places (take r.0 listed.now)))) }
+    ensures entries_stay { OnErr result (numbers entries.new ≡ numbers entries.old) }
+    ensures book_stays { OnErr result (book.new ≡ book.old) }
+{
+    let (done, count) = undo_each(book, entries, index, listed, mover);
+    if done == 0 {
+        return Err(NoMemory);
+    }
+    Ok((done, count))
+}
+
+/// Undoes the edit at a place with all that need it, from the greatest down, as far as memory and threads go: the numbers
+/// of those that are undone, and how many cells are set back.
+pub fn cascade_at<M: Mover>(
+    book: &mut Book,
+    entries: &mut [Entry],
+    index: &mut Index,
+    at: usize,
+    mover: &M,
 ) -> Result<(Vec<u64>, usize), Refusal>
     requires in_log { at < length entries.old }
     requires few { length entries.old < 2 ^ 63 }
@@ -118,13 +155,12 @@ pub fn cascade_at(
 {
     match dependents_at(entries, index, at) {
         Err(why) => Err(why),
-        Ok(mut found) => {
-            let (done, count) = undo_each(book, entries, index, &found);
-            if done == 0 {
-                return Err(Refusal::NoMemory);
+        Ok(mut found) => match undo_listed(book, entries, index, at, &found, mover) {
+            Err(NoMemory) => Err(Refusal::NoMemory),
+            Ok((done, count)) => {
+                found.truncate(done);
+                Ok((found, count))
             }
-            found.truncate(done);
-            Ok((found, count))
-        }
+        },
     }
 }

@@ -13,16 +13,19 @@ ghost use Rattle.wb_log.specs.Replies.{EditReply};
 use crate::entry::{Entry, Kept};
 use crate::refusal::Refusal;
 use std::alloc::Global;
-use wb_book::{Book, Delta};
+use wb_book::Delta;
 use wb_edit::{Edit, Foot, PlanErr, plan};
 use wb_range::NoMemory;
+use wb_redist::Mover;
+use wb_shelf::Book;
 
 /// Makes an edit, and keeps it as the last.
-pub fn add(
+pub fn add<M: Mover>(
     alloc: Global,
     book: &mut Book,
     entries: &mut Vec<Entry>,
     edit: Edit,
+    mover: &M,
 ) -> Result<(u64, usize), Refusal>
     requires kept { Shows entries.old.items book.old.cells }
     requires valid { AreValid (numbers entries.old.items) }
@@ -37,7 +40,7 @@ pub fn add(
 {
     match plan(alloc, book, &edit) {
         Err(stop) => Err(plan_refusal(stop)),
-        Ok((delta, foot, count)) => match keep_new(book, entries, edit, delta, foot) {
+        Ok((delta, foot, count)) => match keep_new(book, entries, edit, delta, foot, mover) {
             Ok(number) => Ok((number, count)),
             Err(_) => Err(Refusal::NoMemory),
         },
@@ -53,13 +56,14 @@ fn plan_refusal(stop: PlanErr) -> Refusal
     }
 }
 
-/// Makes the changes of a planned edit, and keeps it as the last: its number.
-fn keep_new(
+/// Makes the changes of a planned edit, and keeps it as the last: its number. Want of threads is answered as want of memory.
+fn keep_new<M: Mover>(
     book: &mut Book,
     entries: &mut Vec<Entry>,
     edit: Edit,
     delta: Delta,
     foot: Foot,
+    mover: &M,
 ) -> Result<u64, NoMemory>
     requires kept { Shows entries.old.items book.old.cells }
     requires outcome { outcome (meaning edit) book.old.cells ≡ Ok delta }
@@ -76,7 +80,7 @@ fn keep_new(
     if entries.reserve(1).is_err() {
         return Err(NoMemory);
     }
-    match book.apply(delta) {
+    match book.apply(delta, mover) {
         Err(_) => Err(NoMemory),
         Ok(inverse) => {
             let kept = Some(Kept { foot, inverse });

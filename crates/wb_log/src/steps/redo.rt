@@ -12,9 +12,11 @@ use crate::entry::{Entry, Kept};
 use crate::index::Index;
 use crate::refusal::Refusal;
 use std::alloc::Global;
-use wb_book::{Book, Delta};
+use wb_book::Delta;
 use wb_edit::{Foot, PlanErr, plan};
 use wb_range::NoMemory;
+use wb_redist::Mover;
+use wb_shelf::Book;
 
 /// Plans an edit out of force again, unless a later one is in its way.
 fn plan_again(
@@ -94,14 +96,15 @@ fn refusal_in_place(entries: &[Entry], index: &mut Index, at: usize, stop: PlanE
     }
 }
 
-/// Makes the changes of the edit at a place again.
-fn put_in(
+/// Makes the changes of the edit at a place again. Want of threads is answered as want of memory.
+fn put_in<M: Mover>(
     book: &mut Book,
     entry: &mut Entry,
     index: &mut Index,
     at: usize,
     delta: Delta,
     foot: Foot,
+    mover: &M,
 ) -> Result<(), NoMemory>
     requires few { at < 2 ^ 63 }
     requires well_formed { IsWellFormed (apply delta book.old.cells) }
@@ -113,7 +116,7 @@ fn put_in(
     ensures book_stays { OnErr result (book.new ≡ book.old) }
     ensures index_stays { OnErr result (index.new ≡ index.old) }
 {
-    match book.apply(delta) {
+    match book.apply(delta, mover) {
         Err(_) => Err(NoMemory),
         Ok(inverse) => {
             index.put(at, foot.reads(), inverse.before());
@@ -124,12 +127,13 @@ fn put_in(
 }
 
 /// Redoes the edit at a place.
-pub fn redo_at(
+pub fn redo_at<M: Mover>(
     alloc: Global,
     book: &mut Book,
     entries: &mut [Entry],
     index: &mut Index,
     at: usize,
+    mover: &M,
 ) -> Result<usize, Refusal>
     requires in_log { at < length entries.old }
     requires few { length entries.old < 2 ^ 63 }
@@ -147,9 +151,11 @@ pub fn redo_at(
 {
     match plan_again(alloc, book, entries, index, at) {
         Err(why) => Err(why),
-        Ok((delta, foot, count)) => match put_in(book, &mut entries[at], index, at, delta, foot) {
-            Ok(()) => Ok(count),
-            Err(_) => Err(Refusal::NoMemory),
-        },
+        Ok((delta, foot, count)) => {
+            match put_in(book, &mut entries[at], index, at, delta, foot, mover) {
+                Ok(()) => Ok(count),
+                Err(_) => Err(Refusal::NoMemory),
+            }
+        }
     }
 }

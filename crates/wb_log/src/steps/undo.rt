@@ -9,7 +9,8 @@ ghost use Rattle.wb_log.specs.Replies.{UndoReply, LastReply, SetsBack, LeavesOth
 use crate::entry::{Entry, Kept};
 use crate::index::Index;
 use crate::refusal::Refusal;
-use wb_book::Book;
+use wb_redist::Mover;
+use wb_shelf::Book;
 
 /// Whether an edit may not be undone.
 fn undo_refusal(entries: &[Entry], index: &mut Index, at: usize) -> Option<Refusal>
@@ -31,12 +32,13 @@ fn undo_refusal(entries: &[Entry], index: &mut Index, at: usize) -> Option<Refus
     }
 }
 
-/// Sets back what the edit at a place, which is in force, wrote.
-fn take_back(
+/// Sets back what the edit at a place, which is in force, wrote. Want of threads is answered as want of memory.
+fn take_back<M: Mover>(
     book: &mut Book,
     entry: &mut Entry,
     index: &mut Index,
     at: usize,
+    mover: &M,
 ) -> Result<usize, Refusal>
     requires few { at < 2 ^ 63 }
     requires well_formed { LeavesWellFormed entry.old book.old.cells }
@@ -49,7 +51,7 @@ fn take_back(
 {
     match entry.kept.take() {
         None => Err(Refusal::NotInForce),
-        Some(Kept { foot, inverse }) => match book.revert(inverse.before()) {
+        Some(Kept { foot, inverse }) => match book.revert(inverse.before(), mover) {
             Ok(()) => {
                 index.take(at, foot.reads(), inverse.before());
                 Ok(inverse.count())
@@ -63,11 +65,12 @@ fn take_back(
 }
 
 /// Undoes the edit at a place, which may be undone.
-fn undo_free(
+fn undo_free<M: Mover>(
     book: &mut Book,
     entries: &mut [Entry],
     index: &mut Index,
     at: usize,
+    mover: &M,
 ) -> Result<usize, Refusal>
     requires in_log { at < length entries.old }
     requires few { length entries.old < 2 ^ 63 }
@@ -85,15 +88,16 @@ fn undo_free(
     ensures entries_stay { OnErr result (numbers entries.new ≡ numbers entries.old) }
     ensures book_stays { OnErr result (book.new ≡ book.old) }
 {
-    take_back(book, &mut entries[at], index, at)
+    take_back(book, &mut entries[at], index, at, mover)
 }
 
 /// Undoes the edit at a place.
-pub fn undo_at(
+pub fn undo_at<M: Mover>(
     book: &mut Book,
     entries: &mut [Entry],
     index: &mut Index,
     at: usize,
+    mover: &M,
 ) -> Result<usize, Refusal>
     requires in_log { at < length entries.old }
     requires few { length entries.old < 2 ^ 63 }
@@ -112,15 +116,16 @@ pub fn undo_at(
 {
     match undo_refusal(entries, index, at) {
         Some(why) => Err(why),
-        None => undo_free(book, entries, index, at),
+        None => undo_free(book, entries, index, at, mover),
     }
 }
 
 /// Undoes the latest edit in force, which nothing can block: its number, and how many cells it sets back.
-pub fn undo_latest(
+pub fn undo_latest<M: Mover>(
     book: &mut Book,
     entries: &mut [Entry],
     index: &mut Index,
+    mover: &M,
 ) -> Result<(u64, usize), Refusal>
     requires few { length entries.old < 2 ^ 63 }
     requires kept { Shows entries.old book.old.cells }
@@ -138,7 +143,7 @@ pub fn undo_latest(
 {
     match index.in_force.latest(entries) {
         None => Err(Refusal::NoSuchEdit),
-        Some(at) => match undo_free(book, entries, index, at) {
+        Some(at) => match undo_free(book, entries, index, at, mover) {
             Ok(count) => Ok((at as u64 + 1, count)),
             Err(why) => Err(why),
         },

@@ -1,5 +1,7 @@
 //! What a request is answered.
 
+pub mod edit_numbers;
+pub mod numbers_text;
 pub mod pieces;
 pub mod printed_text;
 pub mod reply;

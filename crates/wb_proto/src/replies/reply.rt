@@ -1,6 +1,7 @@
 ghost use Rattle.std.specs.Prelude.{◌≡◌, IfOk};
 ghost use Rattle.std.specs.Bool.{Decides};
 
+use crate::replies::edit_numbers::EditNumbers;
 use crate::replies::printed_text::PrintedText;
 use std::alloc::Global;
 use wb_history::{Answer, Refusal};
@@ -13,8 +14,13 @@ pub enum Reply {
     Edited(u64, usize),
     /// The number of the edit that was undone, and how many cells were set back.
     Undone(u64, usize),
+    /// The numbers of the edits that were undone with their dependents, from the greatest down, and how many cells were set
+    /// back.
+    Cascaded(EditNumbers, usize),
     /// The number of the edit that was redone, and how many cells it changed.
     Redone(u64, usize),
+    /// The numbers of the dependents of an edit, from the greatest down.
+    Listed(EditNumbers),
     /// The answer of a query.
     Answered(Answer),
     /// The text of the workbook, or of the history.
@@ -31,7 +37,9 @@ impl Reply {
         match self {
             Reply::Edited(edit, n) => Ok(Reply::Edited(*edit, *n)),
             Reply::Undone(edit, n) => Ok(Reply::Undone(*edit, *n)),
+            Reply::Cascaded(edits, n) => Ok(Reply::Cascaded(edits.copy(alloc)?, *n)),
             Reply::Redone(edit, n) => Ok(Reply::Redone(*edit, *n)),
+            Reply::Listed(edits) => Ok(Reply::Listed(edits.copy(alloc)?)),
             Reply::Answered(answer) => Ok(Reply::Answered(answer.copy(alloc)?)),
             Reply::Printed(text) => Ok(Reply::Printed(text.copy(alloc)?)),
             Reply::Refused(why) => Ok(Reply::Refused(*why)),
@@ -45,7 +53,14 @@ impl Reply {
         match (self, other) {
             (Reply::Edited(edit, n), Reply::Edited(by, m)) => are_same(*edit, *n, *by, *m),
             (Reply::Undone(edit, n), Reply::Undone(by, m)) => are_same(*edit, *n, *by, *m),
+            (Reply::Cascaded(edits, n), Reply::Cascaded(by, m)) => {
+                if !edits.is_same(by) {
+                    return false;
+                }
+                *n == *m
+            }
             (Reply::Redone(edit, n), Reply::Redone(by, m)) => are_same(*edit, *n, *by, *m),
+            (Reply::Listed(edits), Reply::Listed(by)) => edits.is_same(by),
             (Reply::Answered(answer), Reply::Answered(by)) => answer.is_same(by),
             (Reply::Printed(text), Reply::Printed(by)) => text.as_str() == by.as_str(),
             (Reply::Refused(why), Reply::Refused(by)) => why.is_same(*by),

@@ -8,6 +8,7 @@ ghost use Rattle.wb_proto.specs.Printed.{numbers_text, value_text, size_text, lo
 ghost use Rattle.wb_proto.specs.Replies.{edit_code, edit_name, code_of, name_of, refusal_data, answer_data, reply_data, reply_of};
 ghost use Rattle.wb_proto.specs.declared.replies.reply.Reply.TheVariants.{Printed};
 
+use crate::replies::numbers_text::{dependents_text, undone_text};
 use crate::replies::pieces::piece_text;
 use crate::replies::reply::Reply;
 use serde_json::{Value, json};
@@ -28,6 +29,8 @@ fn edit_code(refusal: wb_edit::Refusal) -> &'static str
         wb_edit::Refusal::TooLarge => "E09",
         wb_edit::Refusal::Overflow => "E10",
         wb_edit::Refusal::BadMapping => "E15",
+        wb_edit::Refusal::NotEmpty => "E17",
+        wb_edit::Refusal::Empty => "E18",
     }
 }
 
@@ -44,6 +47,8 @@ fn edit_name(refusal: wb_edit::Refusal) -> &'static str
         wb_edit::Refusal::TooLarge => "too-large",
         wb_edit::Refusal::Overflow => "overflow",
         wb_edit::Refusal::BadMapping => "bad-mapping",
+        wb_edit::Refusal::NotEmpty => "not-empty",
+        wb_edit::Refusal::Empty => "empty",
     }
 }
 
@@ -196,14 +201,16 @@ fn printed_text(alloc: Global, text: &str) -> Result<String, AllocError>
     value.to_string(alloc)
 }
 
-#[tactic(auto, using(crate::proofs::Texts::edited_is, crate::proofs::Texts::undone_is, crate::proofs::Texts::redone_is))]
+#[tactic(auto, using(crate::proofs::Texts::edited_is, crate::proofs::Texts::undone_is, crate::proofs::Texts::cascaded_is, crate::proofs::Texts::redone_is, crate::proofs::Texts::listed_is))]
 fn text_of(alloc: Global, reply: &Reply) -> Result<String, AllocError>
     ensures { IfOk result (λ s. string_bytes s ≡ reply_of reply.now) }
 {
     match reply {
         Reply::Edited(edit, n) => numbers_text(alloc, "edit", *edit, "n", *n as u64),
         Reply::Undone(edit, n) => numbers_text(alloc, "n", *n as u64, "undone", *edit),
+        Reply::Cascaded(edits, n) => undone_text(alloc, *n as u64, edits),
         Reply::Redone(edit, n) => numbers_text(alloc, "n", *n as u64, "redone", *edit),
+        Reply::Listed(edits) => dependents_text(alloc, edits),
         Reply::Answered(answer) => answer_text(alloc, answer),
         Reply::Printed(text) => printed_text(alloc, text.as_str()),
         Reply::Refused(refusal) => refusal_text(alloc, *refusal),

@@ -2,13 +2,14 @@
 ghost use Rattle.std.specs.Prelude.{◌≡◌, ◌<◌, ◌^◌, ℕ, List, codes, option_map};
 ghost use Rattle.std.specs.Result.{result_map_both};
 ghost use Rattle.serde_json.specs.View.{view, items_view};
-ghost use Rattle.wb_proto.specs.Fields.{field_count, has_fields, has_fields_and, text_field, optional_text, i64_field, u64_field, name_of, name_field, integer_of, pair_of, triple_of, tuple_of, label_of, index_of, index_field, key_type_of, key_type_field, operation_of, operation_field};
+ghost use Rattle.wb_proto.specs.Fields.{field_count, has_fields, has_fields_and, text_field, optional_text, i64_field, u64_field, name_of, name_field, integer_of, pair_of, triple_of, tuple_of, label_of, index_of, index_field, key_type_of, key_type_field, operation_of, operation_field, reduction_of, reduction_field};
 
 use serde_json::Value;
 use wb_assoc::Label;
 use wb_book::{AnyIndex, Index, KeyType, Name, Point};
 use wb_edit::Operation;
 use wb_history::Refusal;
+use wb_redist::Op;
 
 /// How many fields an object has.
 pub(crate) fn field_count(value: &Value) -> usize
@@ -212,4 +213,23 @@ pub(crate) fn operation_field(value: &Value, key: &str) -> Result<Operation, Ref
 {
     let text = text_field(value, key)?;
     operation_of(text)
+}
+
+fn reduction_of(text: &str) -> Result<Op, Refusal>
+    ensures { result ≡ reduction_of text.now }
+{
+    match text {
+        "+" => Ok(Op::Sum),
+        "min" => Ok(Op::Min),
+        "max" => Ok(Op::Max),
+        _ => Err(Refusal::BadRequest),
+    }
+}
+
+/// A field that is a reduction of an array.
+pub(crate) fn reduction_field(value: &Value, key: &str) -> Result<Op, Refusal>
+    ensures { result ≡ reduction_field key.now (view value.now) }
+{
+    let text = text_field(value, key)?;
+    reduction_of(text)
 }

@@ -1,6 +1,7 @@
 //! What a line asks for.
 
 pub mod arrays;
+pub mod books;
 pub mod domains;
 pub mod fields;
 pub mod literals;

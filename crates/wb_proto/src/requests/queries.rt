@@ -1,9 +1,9 @@
 // Requests for what the workbook and its history say.
 ghost use Rattle.std.specs.Prelude.{◌≡◌, codes};
 ghost use Rattle.serde_json.specs.View.{view};
-ghost use Rattle.wb_proto.specs.Requests.{get_of, where_of, size_of, piece_of, state_of, print_of, history_of};
+ghost use Rattle.wb_proto.specs.Requests.{get_of, where_of, size_of, piece_of, reduce_of, state_of, print_of, history_of};
 
-use crate::requests::fields::{has_fields, index_field, name_field, u64_field};
+use crate::requests::fields::{has_fields, index_field, name_field, reduction_field, u64_field};
 use crate::requests::request::Request;
 use serde_json::Value;
 use wb_history::{Query, Refusal};
@@ -35,6 +35,16 @@ pub(crate) fn piece_of(value: &Value) -> Result<Request, Refusal>
     let array = name_field(value, "a")?;
     let locale = u64_field(value, "l")?;
     Ok(Request::Ask(Query::Piece(array, locale)))
+}
+
+/// The sum, the least or the greatest of the elements.
+pub(crate) fn reduce_of(value: &Value) -> Result<Request, Refusal>
+    ensures { result ≡ reduce_of (view value.now) }
+{
+    has_fields(value, 3)?;
+    let array = name_field(value, "a")?;
+    let how = reduction_field(value, "how")?;
+    Ok(Request::Ask(Query::Reduce(array, how)))
 }
 
 /// Whether an edit is in force.

@@ -3,15 +3,16 @@ ghost use Rattle.std.specs.Prelude.{◌≡◌, ◌≢◌, codes, IfOk, IfErr, Ok
 ghost use Rattle.serde_json.specs.Errors.{IsMemory};
 ghost use Rattle.serde_json.specs.View.{view};
 ghost use Rattle.wb_proto.specs.Answers.{IsAnswer};
-ghost use Rattle.wb_proto.specs.Requests.{undo_by_number, undo_of, redo_of, by_history_op, by_array_op, by_op, request_of, request};
+ghost use Rattle.wb_proto.specs.Requests.{undo_by_number, undo_of, redo_of, cascade_of, dependents_of, by_history_op, by_array_op, by_op, request_of, request};
 
 use crate::requests::arrays::{
     all_of, array_of, copy_of, drop_array_of, fill_all_of, fill_of, irv_of, set_of,
 };
+use crate::requests::books::load_of;
 use crate::requests::domains::{domain_of, drop_domain_of, remap_of, reshape_of};
 use crate::requests::fields::{field_count, has_fields, text_field, u64_field};
 use crate::requests::queries::{
-    get_of, history_of, piece_of, print_of, size_of, state_of, where_of,
+    get_of, history_of, piece_of, print_of, reduce_of, size_of, state_of, where_of,
 };
 use crate::requests::request::Request;
 use crate::requests::sets::{add_of, assoc_of, remove_of, sparse_of};
@@ -45,6 +46,22 @@ fn redo_of(value: &Value) -> Result<Request, Refusal>
     Ok(Request::Redo(number))
 }
 
+fn cascade_of(value: &Value) -> Result<Request, Refusal>
+    ensures { result ≡ cascade_of (view value.now) }
+{
+    has_fields(value, 2)?;
+    let number = u64_field(value, "k")?;
+    Ok(Request::Cascade(number))
+}
+
+fn dependents_of(value: &Value) -> Result<Request, Refusal>
+    ensures { result ≡ dependents_of (view value.now) }
+{
+    has_fields(value, 2)?;
+    let number = u64_field(value, "k")?;
+    Ok(Request::Dependents(number))
+}
+
 // What is asked of a history.
 fn by_history_op(op: &str, value: &Value) -> Result<Request, Refusal>
     ensures { result ≡ by_history_op op.now (view value.now) }
@@ -52,10 +69,13 @@ fn by_history_op(op: &str, value: &Value) -> Result<Request, Refusal>
     match op {
         "undo" => undo_of(value),
         "redo" => redo_of(value),
+        "cascade" => cascade_of(value),
+        "dependents" => dependents_of(value),
         "get" => get_of(value),
         "where" => where_of(value),
         "size" => size_of(value),
         "piece" => piece_of(value),
+        "reduce" => reduce_of(value),
         "state" => state_of(value),
         "print" => print_of(value),
         "history" => history_of(value),
@@ -81,7 +101,7 @@ fn by_array_op(alloc: Global, op: &str, value: &Value) -> Result<Request, Refusa
     }
 }
 
-// The same, or a change to a domain.
+// The same, or a change to a domain, or a workbook that is loaded.
 #[tactic(auto, using(crate::proofs::Lines::as_answer))]
 fn by_op(alloc: Global, op: &str, value: &Value) -> Result<Request, Refusal>
     ensures { IsAnswer (by_op op.now (view value.now)) result }
@@ -95,6 +115,7 @@ fn by_op(alloc: Global, op: &str, value: &Value) -> Result<Request, Refusal>
         "reshape" => reshape_of(alloc, value),
         "add" => add_of(value),
         "remove" => remove_of(value),
+        "load" => load_of(alloc, value),
         _ => by_array_op(alloc, op, value),
     }
 }

@@ -15,6 +15,10 @@ pub enum Request {
     Undo(Option<u64>),
     /// Redo of the edit of a number.
     Redo(u64),
+    /// Undo of the edit of a number with all that need it.
+    Cascade(u64),
+    /// Which edits have to be undone with the edit of a number.
+    Dependents(u64),
     /// A question.
     Ask(Query),
     /// The text of the workbook.
@@ -32,6 +36,8 @@ impl Request {
             Request::Change(edit) => Ok(Request::Change(edit.copy(alloc)?)),
             Request::Undo(number) => Ok(Request::Undo(*number)),
             Request::Redo(number) => Ok(Request::Redo(*number)),
+            Request::Cascade(number) => Ok(Request::Cascade(*number)),
+            Request::Dependents(number) => Ok(Request::Dependents(*number)),
             Request::Ask(query) => Ok(Request::Ask(*query)),
             Request::Print => Ok(Request::Print),
             Request::History => Ok(Request::History),
@@ -46,6 +52,8 @@ impl Request {
             (Request::Change(edit), Request::Change(by)) => edit.is_same(by),
             (Request::Undo(number), Request::Undo(by)) => is_same_number(*number, *by),
             (Request::Redo(number), Request::Redo(by)) => *number == *by,
+            (Request::Cascade(number), Request::Cascade(by)) => *number == *by,
+            (Request::Dependents(number), Request::Dependents(by)) => *number == *by,
             (Request::Ask(query), Request::Ask(by)) => query.is_same(by),
             (Request::Print, Request::Print) => true,
             (Request::History, Request::History) => true,

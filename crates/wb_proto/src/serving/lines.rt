@@ -1,24 +1,25 @@
 // Sessions over any reader and writer.
-ghost use Rattle.std.specs.Prelude.{ℕ, List};
+ghost use Rattle.std.specs.Prelude.{ℕ, List, IfOk, OnErr};
 ghost use Rattle.std.specs.Io.KnownBytes.{Appends, Consumes};
 ghost use Rattle.wb_lines.specs.Causes.{ReadsUntil, WritesUntil};
-ghost use Rattle.wb_lines.specs.Session.{Serves};
+ghost use Rattle.wb_lines.specs.Session.{MayAnswer, Serves};
 ghost use Rattle.wb_proto.specs.Machine.{AnswersText};
 
-use crate::serving::machine::HistoryMachine;
-use std::alloc::Global;
-use std::mem;
+use crate::serving::machine::{HistoryMachine, answer_line};
+use std::alloc::{AllocError, Global};
 use wb_history::History;
 use wb_lines::{SessionEnd, Sink, Source, serve_lines};
+use wb_redist::Mover;
 
 /// Answers each line that is read, in order, until the end of input or a fault: it writes exactly the texts of the
 /// replies, each with a line end, which are a run of the machine from the history as it was. Done comes only at the end
 /// of input, with the writer flushed; ReadFault only where the latest read failed, TooManyReads only after all reads that
 /// are allowed, and WriteFault only where the latest write or flush failed. At a fault a front of those texts was written,
 /// and the history is that after the lines answered whole, or after one more, whose reply was not sent whole.
-pub fn session<R: Source, W: Sink>(
+pub fn session<M: Mover, R: Source, W: Sink>(
     alloc: Global,
     history: &mut History,
+    mover: &M,
     reader: &mut R,
     writer: &mut W,
 ) -> SessionEnd
@@ -28,8 +29,9 @@ pub fn session<R: Source, W: Sink>(
     ensures read { ReadsUntil result (R.remaining reader.new) (R.failed reader.new) (R.reads reader.old) (R.reads reader.new) }
     ensures written { WritesUntil result (W.flushed writer.new) (W.failed writer.new) }
 {
-    let mut machine = HistoryMachine::new(alloc, mem::replace(history, History::new(alloc)));
-    let end = serve_lines(alloc, &mut machine, reader, writer);
-    *history = machine.into_history();
-    end
+    let answer = |history: &mut History, line: &[u8]| -> Result<Vec<u8>, AllocError>
+        ensures ok { IfOk result (λ reply. AnswersText history.old line.now reply.items history.new) }
+        ensures err { OnErr result (MayAnswer AnswersText history.old line.now history.new) }
+    { answer_line(alloc, history, line, mover) };
+    serve_lines::<HistoryMachine, History, _, R, W>(alloc, history, &answer, reader, writer)
 }

@@ -1,7 +1,8 @@
 // One request after another, each a step of the history.
 ghost use Rattle.std.specs.Prelude.{◌≡◌, Some, None};
-ghost use Rattle.wb_proto.specs.Machine.{Changes, UndoesNumber, UndoesLatest, Redoes, Answers, Prints, PrintsHistory, Step};
+ghost use Rattle.wb_proto.specs.Machine.{Changes, UndoesNumber, UndoesLatest, Redoes, Cascades, ListsDependents, Answers, Prints, PrintsHistory, Step};
 
+use crate::replies::edit_numbers::EditNumbers;
 use crate::replies::printed_text::PrintedText;
 use crate::replies::reply::Reply;
 use crate::requests::request::Request;
@@ -9,48 +10,67 @@ use std::alloc::Global;
 use wb_edit::Edit;
 use wb_encode::print_history;
 use wb_history::{History, Query, Refusal};
+use wb_redist::Mover;
 use wb_text::print_book;
 
-fn make_edit(history: &mut History, edit: Edit) -> Reply
+fn make_edit<M: Mover>(history: &mut History, edit: Edit, mover: &M) -> Reply
     ensures { Changes history.old edit result history.new }
 {
-    match history.edit(edit) {
+    match history.edit(edit, mover) {
         Ok((number, count)) => Reply::Edited(number, count),
         Err(why) => Reply::Refused(why),
     }
 }
 
-fn undo_number(history: &mut History, number: u64) -> Reply
+fn undo_number<M: Mover>(history: &mut History, number: u64, mover: &M) -> Reply
     ensures { UndoesNumber history.old number result history.new }
 {
-    match history.undo(number) {
+    match history.undo(number, mover) {
         Ok(count) => Reply::Undone(number, count),
         Err(why) => Reply::Refused(why),
     }
 }
 
-fn undo_latest(history: &mut History) -> Reply
+fn undo_latest<M: Mover>(history: &mut History, mover: &M) -> Reply
     ensures { UndoesLatest history.old result history.new }
 {
-    match history.undo_last() {
+    match history.undo_last(mover) {
         Ok((number, count)) => Reply::Undone(number, count),
         Err(why) => Reply::Refused(why),
     }
 }
 
-fn redo_number(history: &mut History, number: u64) -> Reply
+fn redo_number<M: Mover>(history: &mut History, number: u64, mover: &M) -> Reply
     ensures { Redoes history.old number result history.new }
 {
-    match history.redo(number) {
+    match history.redo(number, mover) {
         Ok(count) => Reply::Redone(number, count),
         Err(why) => Reply::Refused(why),
     }
 }
 
-fn answer_query(history: &History, query: &Query) -> Reply
+fn cascade_number<M: Mover>(history: &mut History, number: u64, mover: &M) -> Reply
+    ensures { Cascades history.old number result history.new }
+{
+    match history.cascade(number, mover) {
+        Ok((undone, count)) => Reply::Cascaded(EditNumbers::new(undone), count),
+        Err(why) => Reply::Refused(why),
+    }
+}
+
+fn list_dependents(history: &mut History, number: u64) -> Reply
+    ensures { ListsDependents history.old number result history.new }
+{
+    match history.dependents(number) {
+        Ok(listed) => Reply::Listed(EditNumbers::new(listed)),
+        Err(why) => Reply::Refused(why),
+    }
+}
+
+fn answer_query<M: Mover>(history: &History, query: &Query, mover: &M) -> Reply
     ensures { Answers history.now query.now result history.now }
 {
-    match history.query(query) {
+    match history.query(query, mover) {
         Ok(answer) => Reply::Answered(answer),
         Err(why) => Reply::Refused(why),
     }
@@ -74,16 +94,24 @@ fn print_whole_history(alloc: Global, history: &History) -> Reply
     }
 }
 
-/// Answers a request: an edit, an undo or a redo changes the history, a refusal, a query and a print leave it.
-pub fn answer_request(alloc: Global, history: &mut History, request: Request) -> Reply
+/// Answers a request: an edit, an undo, alone or with dependents, or a redo changes the history; a refusal, a query, a
+/// list of dependents and a print leave it. Pieces that have to move are moved by the mover, which also makes reductions.
+pub fn answer_request<M: Mover>(
+    alloc: Global,
+    history: &mut History,
+    request: Request,
+    mover: &M,
+) -> Reply
     ensures { Step history.old request result history.new }
 {
     match request {
-        Request::Change(edit) => make_edit(history, edit),
-        Request::Undo(Some(number)) => undo_number(history, number),
-        Request::Undo(None) => undo_latest(history),
-        Request::Redo(number) => redo_number(history, number),
-        Request::Ask(query) => answer_query(history, &query),
+        Request::Change(edit) => make_edit(history, edit, mover),
+        Request::Undo(Some(number)) => undo_number(history, number, mover),
+        Request::Undo(None) => undo_latest(history, mover),
+        Request::Redo(number) => redo_number(history, number, mover),
+        Request::Cascade(number) => cascade_number(history, number, mover),
+        Request::Dependents(number) => list_dependents(history, number),
+        Request::Ask(query) => answer_query(history, &query, mover),
         Request::Print => print_workbook(alloc, history),
         Request::History => print_whole_history(alloc, history),
     }

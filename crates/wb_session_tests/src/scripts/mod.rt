@@ -1,8 +1,11 @@
 //! Worked histories, line by line, and what becomes of lines that are broken.
 
+mod cascades;
 mod histories;
+mod loads;
 mod mappings;
 mod members;
+mod reductions;
 mod requests;
 mod reshapes;
 mod sessions;
@@ -15,6 +18,7 @@ use std::test::Fail;
 use wb_history::{Answer, History, Refusal};
 use wb_lines::{Input, Output, SessionEnd};
 use wb_proto::{Reply, Request, answer_request, reply_text, session};
+use wb_redist::{Mover, OneThread, Open, Workers};
 
 const NO_MEMORY: &str = "{\"error\":\"E90\",\"name\":\"no-memory\"}\n";
 
@@ -23,15 +27,17 @@ const NO_MEMORY: &str = "{\"error\":\"E90\",\"name\":\"no-memory\"}\n";
 type Script = (&'static str, &'static str, u64, u128);
 
 /// How a session over a new history ends, and how many edits the history has then.
-pub fn ended<R: Read + Drop, W: Write>(
+pub fn ended<R: Read + Drop, W: Write, M: Mover>(
     alloc: Global,
     input: R,
     output: &mut W,
+    mover: &M,
 ) -> (SessionEnd, u64) {
     let mut history = History::new(alloc);
     let end = session(
         alloc,
         &mut history,
+        mover,
         &mut Input::new(input),
         &mut Output::new(output),
     );
@@ -39,11 +45,17 @@ pub fn ended<R: Read + Drop, W: Write>(
 }
 
 // What a session over these bytes writes.
-fn replies_to(alloc: Global, history: &mut History, bytes: &[u8]) -> Result<String, Fail> {
+fn replies_to<M: Mover>(
+    alloc: Global,
+    history: &mut History,
+    bytes: &[u8],
+    mover: &M,
+) -> Result<String, Fail> {
     let mut output = Vec::new(alloc);
     session(
         alloc,
         history,
+        mover,
         &mut Input::new(bytes),
         &mut Output::new(&mut output),
     );
@@ -51,26 +63,33 @@ fn replies_to(alloc: Global, history: &mut History, bytes: &[u8]) -> Result<Stri
 }
 
 // What one line is replied. Where a growth is refused, nothing has changed, and the line is sent again.
-fn answer(
+fn answer<M: Mover>(
     rt: &impl Abort,
     alloc: Global,
     history: &mut History,
     line: &str,
+    mover: &M,
 ) -> Result<String, Fail> {
     let before = (history.len(), history.book().writes());
-    let reply = replies_to(alloc, history, line.as_bytes())?;
+    let reply = replies_to(alloc, history, line.as_bytes(), mover)?;
     if reply.as_str() != NO_MEMORY {
         return Ok(reply);
     }
     assert!(rt; before == (history.len(), history.book().writes()));
-    replies_to(alloc, history, line.as_bytes())
+    replies_to(alloc, history, line.as_bytes(), mover)
 }
 
 /// That each line is replied as its row says.
-pub fn play(rt: &impl Abort, alloc: Global, history: &mut History, rows: &str) -> Result<(), Fail> {
+pub fn play<M: Mover>(
+    rt: &impl Abort,
+    alloc: Global,
+    history: &mut History,
+    rows: &str,
+    mover: &M,
+) -> Result<(), Fail> {
     for row in rows.trim().lines() {
         let (line, reply) = row.split_once(" -> ").ok_or("an arrow")?;
-        let answer = answer(rt, alloc, history, line)?;
+        let answer = answer(rt, alloc, history, line, mover)?;
         assert!(rt;
             answer.as_str().strip_suffix('\n') == Some(reply),
             "{line} -> {answer}"
@@ -80,42 +99,71 @@ pub fn play(rt: &impl Abort, alloc: Global, history: &mut History, rows: &str) -
 }
 
 // Plays lines over a new history, and counts its edits and the cells that were set.
-fn played(rt: &impl Abort, alloc: Global, opening: &str, rows: &str) -> Result<(u64, u128), Fail> {
+fn played<M: Mover>(
+    rt: &impl Abort,
+    alloc: Global,
+    opening: &str,
+    rows: &str,
+    mover: &M,
+) -> Result<(u64, u128), Fail> {
     let mut history = History::new(alloc);
-    play(rt, alloc, &mut history, opening)?;
-    play(rt, alloc, &mut history, rows)?;
+    play(rt, alloc, &mut history, opening, mover)?;
+    play(rt, alloc, &mut history, rows, mover)?;
     Ok((history.len(), history.book().writes()))
 }
 
 // That each script, over a history of its own, goes as it says.
-fn play_all(rt: &impl Abort, alloc: Global, scripts: &[Script]) -> Result<(), Fail> {
+fn play_all<M: Mover>(
+    rt: &impl Abort,
+    alloc: Global,
+    scripts: &[Script],
+    mover: &M,
+) -> Result<(), Fail> {
     for (opening, rows, edits, writes) in scripts {
-        let counts = played(rt, alloc, opening, rows)?;
+        let counts = played(rt, alloc, opening, rows, mover)?;
         assert!(rt; counts == (*edits, *writes), "{rows}");
     }
     Ok(())
 }
 
-#[test]
-fn worked_histories(rt: HostRuntime) -> Result<(), Fail> {
+// That every script goes as it says.
+fn play_each<M: Mover>(rt: &impl Abort, alloc: Global, mover: &M) -> Result<(), Fail> {
     for scripts in [
         sessions::SCRIPTS.as_slice(),
         requests::SCRIPTS.as_slice(),
         histories::SCRIPTS.as_slice(),
+        cascades::SCRIPTS.as_slice(),
         members::SCRIPTS.as_slice(),
         reshapes::SCRIPTS.as_slice(),
         mappings::SCRIPTS.as_slice(),
+        reductions::SCRIPTS.as_slice(),
         texts::SCRIPTS.as_slice(),
+        loads::SCRIPTS.as_slice(),
     ] {
-        play_all(&rt, rt.alloc(), scripts)?;
+        play_all(rt, alloc, scripts, mover)?;
     }
     Ok(())
 }
 
+// By one thread and by four workers alike.
+#[test]
+fn worked_histories(rt: HostRuntime) -> Result<(), Fail> {
+    let alone: OneThread<&HostRuntime> = OneThread::new();
+    play_each(&rt, rt.alloc(), &alone)?;
+    play_each(&rt, rt.alloc(), &Workers::new(&rt, 4, Open)?)
+}
+
 // That a session over these bytes writes this text, having answered so many lines.
-fn goes_so(rt: &impl Abort, alloc: Global, bytes: &[u8], text: &str, count: u64) {
+fn goes_so<M: Mover>(
+    rt: &impl Abort,
+    alloc: Global,
+    bytes: &[u8],
+    text: &str,
+    count: u64,
+    mover: &M,
+) {
     let mut output = Vec::new(alloc);
-    let (end, _) = ended(alloc, bytes, &mut output);
+    let (end, _) = ended(alloc, bytes, &mut output, mover);
     assert!(rt; end == SessionEnd::Done(count));
     assert!(rt; output.as_slice() == text.as_bytes());
 }
@@ -138,8 +186,9 @@ fn broken_lines(rt: HostRuntime) -> Result<(), Fail> {
         lines.push(b' ')?;
     }
     lines.extend_from_slice(b"\n{\"op\":\"size\",\"d\":\"D\"}\n{\"op\":\"pri")?;
-    goes_so(&rt, alloc, lines.as_slice(), LONG_AMONG_OTHERS, 4);
-    goes_so(&rt, alloc, NO_TEXT, NO_TEXT_REPLIES, 4);
+    let alone: OneThread<&HostRuntime> = OneThread::new();
+    goes_so(&rt, alloc, lines.as_slice(), LONG_AMONG_OTHERS, 4, &alone);
+    goes_so(&rt, alloc, NO_TEXT, NO_TEXT_REPLIES, 4, &alone);
     Ok(())
 }
 
@@ -156,16 +205,17 @@ fn is_printed(rt: &impl Abort, alloc: Global, reply: Reply, text: &str) -> Resul
 }
 
 // The reply to a copied request.
-fn printed_book(alloc: Global) -> Result<Reply, Fail> {
+fn printed_book<M: Mover>(alloc: Global, mover: &M) -> Result<Reply, Fail> {
     let request = Request::Print.copy(alloc)?;
-    Ok(answer_request(alloc, &mut History::new(alloc), request))
+    Ok(answer_request(alloc, &mut History::new(alloc), request, mover))
 }
 
 // Copies of requests and replies are answered and printed alike, and replies that no script has.
 #[test]
 fn texts_of_replies(rt: HostRuntime) -> Result<(), Fail> {
     let alloc = rt.alloc();
-    let printed = printed_book(alloc)?;
+    let alone: OneThread<&HostRuntime> = OneThread::new();
+    let printed = printed_book(alloc, &alone)?;
     is_printed(
         &rt,
         alloc,

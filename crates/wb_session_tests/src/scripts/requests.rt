@@ -41,6 +41,10 @@ const FIELDS_OF_THEIR_TYPES: &str = r#"
 {"op":"assoc","d":"K","of":""} -> {"error":"E01","name":"bad-request"}
 {"op":"assoc","d":"K","of":1} -> {"error":"E01","name":"bad-request"}
 {"op":"assoc","d":"K","of":"int","v":1} -> {"error":"E01","name":"bad-request"}
+{"op":"reduce","a":"A"} -> {"error":"E01","name":"bad-request"}
+{"op":"reduce","a":"A","how":"*"} -> {"error":"E01","name":"bad-request"}
+{"op":"reduce","a":"A","how":1} -> {"error":"E01","name":"bad-request"}
+{"op":"reduce","a":"A","how":"min","v":1} -> {"error":"E01","name":"bad-request"}
 {"op":"irv","a":"B"} -> {"error":"E01","name":"bad-request"}
 {"op":"irv","a":"B","v":0.5} -> {"error":"E01","name":"bad-request"}
 {"op":"irv","a":"B","v":1,"i":1} -> {"error":"E01","name":"bad-request"}

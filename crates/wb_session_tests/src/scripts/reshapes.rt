@@ -248,7 +248,11 @@ const REFUSED_FILLS_AND_OVERFLOW: &str = r#"
 {"op":"set","a":"B","i":1,"v":1} -> {"edit":5,"n":1}
 {"op":"all","a":"A","how":"+","b":"B"} -> {"error":"E10","name":"overflow"}
 {"op":"get","a":"A","i":1} -> {"value":9223372036854775807}
+{"op":"reduce","a":"A","how":"+"} -> {"error":"E10","name":"overflow"}
+{"op":"reduce","a":"A","how":"max"} -> {"value":9223372036854775807}
 {"op":"reshape","d":"D","to":"{1..0}"} -> {"edit":6,"n":5}
+{"op":"reduce","a":"A","how":"min"} -> {"error":"E18","name":"empty"}
+{"op":"reduce","a":"A","how":"+"} -> {"value":0}
 {"op":"size","d":"D"} -> {"size":0}
 "#;
 

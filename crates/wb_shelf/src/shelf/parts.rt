@@ -4,26 +4,26 @@ ghost use Rattle.std.specs.Prelude.{◌≡◌};
 ghost use Rattle.wb_book.specs.Cells.{Cells};
 ghost use Rattle.wb_shelf.specs.Parts.{AreParts};
 
-use crate::shelf::Shelf;
+use crate::shelf::Book;
 use std::alloc::Global;
 use std::collections::BTreeMap;
 use wb_book::{Cell, Name, Value};
 use wb_elements::Elements;
 
-impl Shelf {
+impl Book {
     /// The workbook of these stored cells and arrays, which were set by no change. Who reads a workbook's text makes each
     /// array at once, so that no element is ever a cell.
     pub fn of_parts(
         alloc: Global,
         cells: BTreeMap<Cell, Value>,
         arrays: BTreeMap<Name, Elements>,
-    ) -> Shelf
+    ) -> Book
         requires { (s : Cells) × AreParts cells arrays s }
         ensures { (s : Cells) → AreParts cells arrays s → result ≡ record { cells = s; writes = 0 } }
     {
         let _cells = cells.keys();
         let _arrays = arrays.keys();
-        Shelf {
+        Book {
             alloc,
             cells,
             arrays,

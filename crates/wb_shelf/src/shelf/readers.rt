@@ -1,21 +1,23 @@
 //! What a workbook answers about its objects, its domains, and where their indices lie.
 
-ghost use Rattle.std.specs.Prelude.{◌≡◌, is_some, length, option_map, slice_get};
+ghost use Rattle.std.specs.Prelude.{◌≡◌, is_some, length, option_map, slice_get, Err};
 ghost use Rattle.wb_book.specs.Locales.{locale_by, is_index_at, locale_at, locale_count_at};
-ghost use Rattle.wb_book.specs.Readers.{objects, users, size_at, index_at};
+ghost use Rattle.wb_book.specs.Readers.{objects, users, size_at, index_at, elements};
 ghost use Rattle.wb_book.specs.WellFormed.{IsWellFormed, domain_at};
 ghost use Rattle.wb_elements.specs.Lent.{lent};
+ghost use Rattle.wb_redist.specs.Reductions.{IsReduced};
 ghost use Rattle.wb_shelf.specs.Shelf.{piece_at};
 
 use crate::looks;
-use crate::shelf::Shelf;
+use crate::shelf::Book;
 use wb_book::{
     AnyIndex, Name, index_at, locale_at, locale_by, locale_count_at, object_at, object_count,
     size_at, user_at,
 };
 use wb_elements::Pairs;
+use wb_redist::{Mover, Op, ReduceErr};
 
-impl Shelf {
+impl Book {
     /// How many objects there are: domains and arrays.
     pub fn objects(&self) -> usize
         ensures { result ≡ length (objects self.now.cells) }
@@ -97,6 +99,17 @@ impl Shelf {
     {
         let _ = &self.cells;
         looks::piece(&self.arrays, array, locale)
+    }
+
+    /// The sum, the least or the greatest of the elements of the array of a name, the same by every mover: `Empty` exactly
+    /// where there is no least or greatest one, `Overflow` exactly where the whole sum is no i64. There are no elements
+    /// where there is no such array (Chapel Language Specification, Reductions and Scans).
+    pub fn reduce<V: Mover>(&self, array: &Name, op: Op, mover: &V) -> Result<i64, ReduceErr>
+        ensures answer { IsReduced op (elements self.now.cells array.now) result }
+        ensures overflow { result ≡ Err ReduceErr.Overflow → op ≡ Op.Sum }
+    {
+        let _ = &self.cells;
+        looks::reduce(&self.arrays, array, op, mover)
     }
 
     /// How many cells were set so far by `apply` and `revert`, up to the type's greatest value; the cells `In` are not

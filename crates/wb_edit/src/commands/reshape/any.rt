@@ -9,8 +9,9 @@ use crate::foot::Foot;
 use crate::tests::looks::dom;
 use crate::tests::stop::Stop;
 use std::alloc::Global;
-use wb_book::{AnyDomain, Book, Delta, DomainKind, Name};
+use wb_book::{AnyDomain, Delta, DomainKind, Name};
 use wb_resize::Source;
+use wb_shelf::Book;
 
 fn plan_reshape_kind(
     alloc: Global,

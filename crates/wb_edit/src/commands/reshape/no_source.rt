@@ -7,8 +7,9 @@ use crate::foot::Foot;
 use crate::refusal::Refusal;
 use crate::tests::looks::dom;
 use crate::tests::stop::Stop;
-use wb_book::{Book, Delta};
+use wb_book::Delta;
 use wb_resize::Given;
+use wb_shelf::Book;
 
 /// There is no such source for the domain; a name that is given is tested first.
 pub(crate) fn plan_no_source(book: &Book, foot: &mut Foot, given: &Given) -> Result<Delta, Stop>

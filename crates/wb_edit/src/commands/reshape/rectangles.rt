@@ -11,9 +11,10 @@ use crate::tests::reshaping::shape;
 use crate::tests::sources::{displacement_of, gives_rectangle, ranges_given, same_rank, slice_of};
 use crate::tests::stop::{Stop, stopped};
 use std::alloc::Global;
-use wb_book::{AnyRect, Book, Delta, Name, Point};
+use wb_book::{AnyRect, Delta, Name, Point};
 use wb_resize::new_rectangles::left_out;
 use wb_resize::{Displacement, Given, Source};
+use wb_shelf::Book;
 
 // A rectangular domain with some ranges gets new ones.
 fn plan_reshaped(

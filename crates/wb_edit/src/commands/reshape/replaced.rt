@@ -13,7 +13,8 @@ use crate::tests::resizing::zeros;
 use crate::tests::stop::Stop;
 use crate::tests::users::{arrays, sparse_domains, uses};
 use std::alloc::Global;
-use wb_book::{AnyIndex, AnyRect, Book, Cell, Delta, Kind, Name, Value};
+use wb_book::{AnyIndex, AnyRect, Cell, Delta, Kind, Name, Value};
+use wb_shelf::Book;
 
 /// A rectangular domain gets new ranges, so that indices leave it and others come to it.
 pub(crate) fn plan_replaced(

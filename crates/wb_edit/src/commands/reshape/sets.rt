@@ -12,9 +12,10 @@ use crate::tests::indices::members;
 use crate::tests::sources::{gives_set, indices_given};
 use crate::tests::stop::Stop;
 use std::alloc::Global;
-use wb_book::{AnyDomain, AnyIndex, Book, Delta, Name};
+use wb_book::{AnyDomain, AnyIndex, Delta, Name};
 use wb_resize::set_operations::{combined, without};
 use wb_resize::{Given, SetOperation, Source};
+use wb_shelf::Book;
 
 // A domain with some indices gets others.
 fn plan_exchanged(

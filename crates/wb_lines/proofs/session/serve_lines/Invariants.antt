@@ -8,7 +8,7 @@ use Rattle.wb_lines.proofs.session.serve_lines.Given as goal
 abbrev pub invariant-lines : goal.invariant-lines
 invariant-lines g l = ((read text : List ℕ) × Consumes (g.R.Source.remaining l.fn.reader) (g.R.Source.remaining l.reader) read
     × Appends (g.W.Sink.contents l.fn.writer) (g.W.Sink.contents l.writer) text
-    × Running g.M.Machine.answers l.fn.machine l.machine read text l.answered l.buffer)
+    × Running g.M.Machine.answers l.fn.state l.state read text l.answered l.buffer)
     × KnowsEnd l.buffer (g.R.Source.remaining l.reader)
     × CountsReads unread l.buffer (g.R.Source.reads l.fn.reader) (g.R.Source.reads l.reader)
 

@@ -11,5 +11,8 @@ if_ok : {T E : Type 0} (P Q : T → Type 0) (r : Result T E) → ((x : T) → P 
 if_ok P Q (Ok x) f h = f x h
 if_ok P Q (Err e) f h = h
 
-pub returns : goal.returns
-returns c = if_ok _ _ c.book_of.result (λ r h. reads c.args.text.now c.as_bytes.result.now _ c.as_bytes.ensures.value h) c.book_of.ensures
+pub returns-clause-whole : goal.returns-clause-whole
+returns-clause-whole c = if_ok _ _ c.book_of.result (λ r h. reads c.args.text.now c.as_bytes.result.now _ c.as_bytes.ensures.value h) c.book_of.ensures
+
+pub returns-clause-lines : goal.returns-clause-lines
+returns-clause-lines c = if_ok _ _ c.book_of.result (λ r h. h ∙ ap book_of c.as_bytes.ensures.value) c.book_of.ensures

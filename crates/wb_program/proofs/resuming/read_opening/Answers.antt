@@ -1,4 +1,4 @@
-use Rattle.std.proofs.Common.{◌++◌, sym, subst, rules}
+use Rattle.std.proofs.Common.{◌+◌, ◌++◌, arith, sym, subst, rules}
 use Rattle.std.proofs.KnownBytes.{Consumes-trans}
 use Rattle.std.specs.Io.KnownBytes.{Consumes}
 use Rattle.wb_program.specs.Resuming.{HasNoEnd}
@@ -24,3 +24,9 @@ loop-preserved g c =
       subst (Consumes (left c.args.reader.now) (left c.read_more.new.reader)) (sym got.2) (Consumes-trans _ _ _ c.loop.bytes.items got.0 c.loop.invariant.0 got.1),
       search rules,
     )
+
+pub returns-then-has_end-clause-counted : goal.returns-then-has_end-clause-counted
+returns-then-has_end-clause-counted g c = (c.loop.counter + 1, omega (arith, c.loop.invariant.1, c.read_more.ensures.counted))
+
+pub returns-in-Ok-false-clause-counted : goal.returns-in-Ok-false-clause-counted
+returns-in-Ok-false-clause-counted g c = (c.loop.counter + 1, omega (arith, c.loop.invariant.1, c.read_more.ensures.counted))

@@ -2,7 +2,7 @@ use Rattle.std.proofs.Common.{◌++◌, ◌∙◌, [], inl, inr, refl, sym, subs
 use Rattle.std.specs.Io.KnownBytes.{Appends, Consumes}
 use Rattle.wb_program.specs.Checking.{IsNoRecord}
 use Rattle.wb_program.specs.Resuming.{left_in, HasNoEnd, IsRecord}
-use Rattle.wb_program.proofs.Opening.{nothing_more, of_none, of_some, reads_on}
+use Rattle.wb_program.proofs.Opening.{nothing_more, of_none, of_some, reads_on, failed_later}
 use Rattle.wb_program.proofs.resuming.resume_with.Goals as goal
 
 pub returns-clause-resumes : goal.returns-clause-resumes
@@ -40,3 +40,8 @@ returns-in-Ok-Some-clause-resumes g c =
         ([], subst (λ new. Appends (g.W.Sink.contents c.args.writer.now) new []) (sym s.1) (nothing_more _), inr (inr (s.2, refl))),
       )
     ]
+
+pub returns-in-Ok-Some-clause-failed : goal.returns-in-Ok-Some-clause-failed
+returns-in-Ok-Some-clause-failed g c h =
+    let before = c.in-Ok.ensures.counted in
+    failed_later before.0 _ _ _ _ _ before.1 (c.go_on.ensures.failed h)

@@ -10,7 +10,7 @@ use Rattle.wb_log.proofs.Redone.{by_number}
 use Rattle.wb_history.proofs.history.History.redo.Goals as goal
 
 pub returns-clause-reply : goal.returns-clause-reply
-returns-clause-reply c =
+returns-clause-reply g c =
     let some : 0 < c.args.number = omega arith in
     let h = c.redo_at.ensures.reply in
     let v = c.deref_mut.ensures.value in
@@ -18,7 +18,7 @@ returns-clause-reply c =
     (by_number (RedoReply (entries_meant c.self.inside.entries.items)) c.args.number c.redo_at.result some (subst (λ es. RedoReply (entries_meant es) (c.args.number - 1) c.redo_at.result) v h))
 
 pub invariant_of-self : goal.invariant_of-self
-invariant_of-self c =
+invariant_of-self g c =
     let es = c.deref_mut.result.now in
     let fs = c.redo_at.new.entries in
     let valid : AreValid (numbers es) = subst (λ gs. AreValid (numbers gs)) (sym c.deref_mut.ensures.value) c.self.invariant.valid in

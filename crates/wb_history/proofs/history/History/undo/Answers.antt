@@ -8,7 +8,7 @@ use Rattle.wb_log.specs.Indexed.{Keeps}
 use Rattle.wb_history.proofs.history.History.undo.Goals as goal
 
 pub invariant_of-self : goal.invariant_of-self
-invariant_of-self c =
+invariant_of-self g c =
     let es = c.deref_mut.result.now in
     let fs = c.undo_at.new.entries in
     let valid : AreValid (numbers es) = subst (λ gs. AreValid (numbers gs)) (sym c.deref_mut.ensures.value) c.self.invariant.valid in
@@ -20,7 +20,7 @@ invariant_of-self c =
     })
 
 pub returns-clause-reply : goal.returns-clause-reply
-returns-clause-reply c =
+returns-clause-reply g c =
     let some : 0 < c.args.number = omega arith in
     let v = c.deref_mut.ensures.value in
     subst (λ p. ByNumber (UndoReply (meant p.entries)) c.args.number c.undo_at.result) c.self.view_is

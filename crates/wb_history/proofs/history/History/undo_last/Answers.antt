@@ -7,7 +7,7 @@ use Rattle.wb_log.specs.Indexed.{Keeps}
 use Rattle.wb_history.proofs.history.History.undo_last.Goals as goal
 
 pub invariant_of-self : goal.invariant_of-self
-invariant_of-self c =
+invariant_of-self g c =
     let es = c.deref_mut.result.now in
     let fs = c.undo_latest.new.entries in
     let valid : AreValid (numbers es) = subst (λ gs. AreValid (numbers gs)) (sym c.deref_mut.ensures.value) c.self.invariant.valid in
@@ -19,6 +19,6 @@ invariant_of-self c =
     })
 
 pub returns-clause-reply : goal.returns-clause-reply
-returns-clause-reply c =
+returns-clause-reply g c =
     subst (λ p. LastReply (meant p.entries) c.undo_latest.result) c.self.view_is
     (subst (λ es. LastReply (entries_meant es) c.undo_latest.result) c.deref_mut.ensures.value c.undo_latest.ensures.reply)

@@ -6,7 +6,7 @@ use Rattle.wb_journal.proofs.Runs.{counts_more}
 use Rattle.wb_journal.proofs.journal.Journal.answer_known.Goals as goal
 
 pub invariant_of-self-2 : goal.invariant_of-self-2
-invariant_of-self-2 c =
+invariant_of-self-2 g c =
     let before = c.self.inside in
     let knows = rw (← c.self.view_is) at c.requires in
     let e = entry c.args.seat c.args.request c.in_ok-reply.reply in

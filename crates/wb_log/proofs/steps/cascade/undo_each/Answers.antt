@@ -6,7 +6,7 @@ use Rattle.wb_log.proofs.Undoings.{none_undone, one_undone, take_more, valid_out
 use Rattle.wb_log.proofs.steps.cascade.undo_each.Goals as goal
 
 pub loop-done-init : goal.loop-done-init
-loop-done-init c = record {
+loop-done-init g c = record {
   within = omega arith;
   few = c.requires.few;
   kept = c.requires.kept;
@@ -17,7 +17,7 @@ loop-done-init c = record {
 }
 
 pub loop-done-preserved : goal.loop-done-preserved
-loop-done-preserved c =
+loop-done-preserved g c =
     let all = c.args.undone.now in
     let i = c.loop-done.done in
     let number = get_or all i 0 in

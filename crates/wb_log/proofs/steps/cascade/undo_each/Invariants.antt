@@ -7,7 +7,7 @@ use Rattle.wb_log.proofs.steps.cascade.undo_each.Given as goal
 
 -- the numbers up to here are undone
 abbrev pub invariant-loop-done : goal.invariant-loop-done
-invariant-loop-done l = record {
+invariant-loop-done g l = record {
   within : l.done ≤ length l.undone;
   few : length l.entries < 2 ^ 63;
   kept : Shows l.entries l.book.cells;
@@ -18,4 +18,4 @@ invariant-loop-done l = record {
 }
 
 abbrev pub decreases-loop-done : goal.decreases-loop-done
-decreases-loop-done l = length l.undone - l.done
+decreases-loop-done g l = length l.undone - l.done

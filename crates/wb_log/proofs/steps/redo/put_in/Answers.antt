@@ -4,7 +4,7 @@ use Rattle.wb_log.specs.Indexed.{Indexes}
 use Rattle.wb_log.proofs.steps.redo.put_in.Goals as goal
 
 pub returns-in-Ok-clause-put : goal.returns-in-Ok-clause-put
-returns-in-Ok-clause-put c = λ count feet h none.
+returns-in-Ok-clause-put g c = λ count feet h none.
     let now = c.put.new.self in
     let n = c.args.at + 1 in
     let read = subst (λ rs. Indexes now count (with_foot feet n (Some (foot rs c.before-in-Ok.result.now)))) c.reads.ensures (c.put.ensures count feet h none) in

@@ -7,35 +7,35 @@ use Rattle.wb_log.proofs.Entered.{undone_indexed}
 use Rattle.wb_log.proofs.steps.undo.undo_free.Goals as goal
 
 pub returns-clause-kept : goal.returns-clause-kept
-returns-clause-kept c =
+returns-clause-kept g c =
     let es = c.args.entries.now in
     let x = slice_index_or es c.args.at c.index-entries-at.result in
     let is = slice_get-get_or es c.args.at c.index-entries-at.result c.requires.in_log in
     undone_kept es c.args.at x is c.take_back.result c.take_back.new.entry c.args.book.now c.take_back.new.book c.requires.kept c.requires.free c.take_back.ensures.ok c.take_back.ensures.entry_stays c.take_back.ensures.book_stays
 
 pub returns-clause-reply : goal.returns-clause-reply
-returns-clause-reply c =
+returns-clause-reply g c =
     let es = c.args.entries.now in
     let x = slice_index_or es c.args.at c.index-entries-at.result in
     let is = slice_get-get_or es c.args.at c.index-entries-at.result c.requires.in_log in
     undone_reply es c.args.at x is c.take_back.result c.take_back.new.entry c.args.book.now c.take_back.new.book c.requires.kept c.requires.free c.take_back.ensures.ok c.take_back.ensures.why
 
 pub returns-clause-entries : goal.returns-clause-entries
-returns-clause-entries c =
+returns-clause-entries g c =
     let es = c.args.entries.now in
     let x = slice_index_or es c.args.at c.index-entries-at.result in
     let is = slice_get-get_or es c.args.at c.index-entries-at.result c.requires.in_log in
     undone_numbers es c.args.at x is c.take_back.result c.take_back.new.entry c.args.book.now c.take_back.new.book c.take_back.ensures.ok
 
 pub take_back-requires-clause-well_formed : goal.take_back-requires-clause-well_formed
-take_back-requires-clause-well_formed c =
+take_back-requires-clause-well_formed g c = λ _ _.
     let es = c.args.entries.now in
     let x = slice_index_or es c.args.at c.index-entries-at.result in
     let is = slice_get-get_or es c.args.at c.index-entries-at.result c.requires.in_log in
     undone_well_formed es c.args.book.now.cells c.args.at x c.requires.kept c.requires.valid is c.requires.free
 
 pub returns-clause-set_back : goal.returns-clause-set_back
-returns-clause-set_back c =
+returns-clause-set_back g c =
     let es = c.args.entries.now in
     let x = slice_index_or es c.args.at c.index-entries-at.result in
     let is = slice_get-get_or es c.args.at c.index-entries-at.result c.requires.in_log in
@@ -44,7 +44,7 @@ returns-clause-set_back c =
     sets_back c.args.book.now.cells es (slice_set es c.args.at c.take_back.new.entry) c.requires.kept c.args.at c.take_back.result reply now
 
 pub returns-clause-others : goal.returns-clause-others
-returns-clause-others c =
+returns-clause-others g c =
     let es = c.args.entries.now in
     let x = slice_index_or es c.args.at c.index-entries-at.result in
     let is = slice_get-get_or es c.args.at c.index-entries-at.result c.requires.in_log in
@@ -53,7 +53,7 @@ returns-clause-others c =
     leaves_others c.args.book.now.cells es (slice_set es c.args.at c.take_back.new.entry) c.requires.kept c.args.at c.take_back.result reply now
 
 pub returns-clause-indexed : goal.returns-clause-indexed
-returns-clause-indexed c =
+returns-clause-indexed g c =
     let es = c.args.entries.now in
     let x = slice_index_or es c.args.at c.index-entries-at.result in
     let is = slice_get-get_or es c.args.at c.index-entries-at.result c.requires.in_log in

@@ -1,4 +1,0 @@
-pub mod Storing
-pub mod Columnwise
-pub mod Linewise
-pub mod Agreeing
