@@ -4,7 +4,7 @@ import threading
 import unittest
 
 from tests.browser import CHROMIUM, Browser
-from tests.support import PROGRAM, Server, serves
+from tests.support import PROGRAM, Server, knows, serves
 from workbook_client import Workbook
 from workbook_client.page import serve
 
@@ -57,7 +57,14 @@ class InABrowser(unittest.TestCase):
         browser.until("document.querySelector('.edits li[data-k=\"3\"]').innerText.includes('blocked by 4')")
         self.assertEqual(browser.text(".edits li[data-k='3'] button:not(.link)"), "cascade")
         browser.click(".edits li[data-k='3'] button:not(.link)")
-        browser.until("document.getElementById('said').innerText.includes('edits 4, 3 taken back')")
+        browser.until("document.querySelector('.edits li[data-k=\"3\"] .look')?.innerText.includes('takes back 4 and 3')")
+        self.assertEqual(browser.js("[...document.querySelectorAll('.edits li.lit')].map(x => x.dataset.k).join()"), "4,3")
+        browser.key("Escape")  # it was only looked at
+        browser.until("document.querySelectorAll('.edits .look').length === 0")
+        browser.click(".edits li[data-k='3'] button:not(.link)")
+        browser.until("document.activeElement.innerText === 'take back 2 edits'")
+        browser.key("Enter")
+        browser.until("document.getElementById('said').innerText.includes('edits 4 and 3 taken back')")
         browser.until("document.querySelector('.edits li[data-k=\"4\"]').innerText.includes('taken back')")
         browser.click(".edits li[data-k='3'] button")
         browser.until(f'document.querySelector("{CELL.format("1, 1")}").innerText === "5"')
@@ -71,6 +78,32 @@ class InABrowser(unittest.TestCase):
         self.assertIn("expected ']'", browser.text("#said"))
         self.assertEqual(browser.faults, [])
 
+    @knows("cascade", "dependents")
+    @unittest.skipUnless(serves(), "this program has no `serve`")
+    def test_who_blocks_whom_at_a_desk_is_asked_where_the_pointer_rests(self):
+        server = Server(seats=2)
+        self.addCleanup(server.close)
+        browser = self.open(server.connect())
+        other = server.connect()
+        self.line(browser, "D = {1..4}", "A over D", "A[1] = 5")
+        A = other["A"]
+        A.copy(2, A, 1, plus=1)
+        A.copy(3, A, 2, plus=1)
+        browser.until("document.querySelectorAll('.edits li').length === 5")
+        self.assertEqual(browser.js("document.querySelectorAll('.edits .many').length"), 0)
+        browser.hover(".edits li[data-k='3'] .what")
+        browser.until("document.querySelector('.edits li[data-k=\"3\"]').innerText.includes('blocked by 4')")
+        browser.click(".edits li[data-k='3'] button:not(.link)")
+        browser.until("document.querySelector('.edits .look')?.innerText.includes('takes back 5, 4 and 3')")
+        A.copy(4, A, 1)  # meanwhile: the page hears of it, and shows who goes now
+        browser.until("document.querySelectorAll('.edits li').length === 6")
+        browser.click(".edits li[data-k='3'] > button:not(.link)")
+        browser.until("document.querySelector('.edits .look')?.innerText.includes('takes back 6, 5, 4 and 3')")
+        browser.click(".edits .look .many")
+        browser.until("document.getElementById('said').innerText.includes('edits 6, 5, 4 and 3 taken back')")
+        self.assertEqual(list(A), [0, 0, 0, 0])
+        self.assertEqual(browser.faults, [])
+
     @unittest.skipUnless(serves(), "this program has no `serve`")
     def test_what_others_do_appears(self):
         server = Server(seats=2)
@@ -80,7 +113,8 @@ class InABrowser(unittest.TestCase):
         self.line(browser, "D = {1..4}", "A over D", "A[1] = 5")
         other["A"][1] = 6
         browser.until(f'document.querySelector("{CELL.format("1")}").innerText === "6"')
-        self.assertIn("by another seat", browser.text(".edits li[data-k='4']"))
+        self.assertIn("A[1] = 6", browser.text(".edits li[data-k='4']"))
+        self.assertIn("another", browser.text(".edits li[data-k='4'] .meta"))
         browser.click(".edits li[data-k='3'] button")
         browser.until("document.getElementById('said').innerText.includes('Blocked by edit 4')")
         other.undo(4)

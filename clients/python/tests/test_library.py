@@ -2,10 +2,11 @@
 
 import unittest
 
-from tests.support import PROGRAM, Told
+from tests.support import PROGRAM, Told, knows
+from workbook_client import hearing, requests
 from workbook_client import (
     Array, BadLiteral, BadMapping, BadRequest, Blocked, Cascade, Empty, InForce, InUse, LineTooLong,
-    NameTaken, NoSuchEdit, NoSuchName, NotInForce, OutOfDomain,
+    NameTaken, NoSuchEdit, NoSuchName, NotEmpty, NotInForce, NotResumed, OutOfDomain,
     OutOfParent, Overflow, Refusal, RefusedInPlace, Snapshot, TooLarge, Workbook,
     WrongKind, block, block_cyclic, cyclic,
 )
@@ -478,6 +479,56 @@ class Texts(Case):
             with self.assertRaises(ValueError):
                 Snapshot.read(text)
 
+    @knows("load")
+    def test_a_load_is_one_edit(self):
+        self.everything()
+        text = self.wb.print_text()
+        with self.assertRaises(NotEmpty):
+            self.wb.load(text)
+        with Workbook.run(PROGRAM) as other:
+            (edit,) = other.load(text)
+            self.assertEqual((edit.number, edit.what, other.print_text()), (1, "load a text", text))
+            with self.assertRaises(BadLiteral):
+                other.ask({"op": "load", "text": text + "\n"})
+            edit.undo()
+            self.assertEqual(other.print_text(), "chapel-workbook 1\nend\n")
+            edit.redo()
+            self.assertEqual(other.print_text(), text)
+
+    def test_a_long_text_wants_an_empty_workbook_too(self):
+        self.wb.domain("D", range(1, 5))
+        text = f"chapel-workbook 1\narray A over D [{', '.join(['1000000000'] * 20000)}]\nrect D {{1..20000}} none\nend\n"
+        with self.assertRaises(NotEmpty):
+            self.wb.load(text)
+
+    def test_the_text_of_a_history(self):
+        self.everything()
+        self.wb.undo()
+        past = hearing.read(self.wb.history_text())
+        self.assertEqual(past.snapshot.text, self.wb.print_text())
+        self.assertEqual([on for on, _ in past.edits.values()].count(False), 1)
+        self.assertEqual([requests.in_words(r) for _, r in past.edits.values()][2:6],
+                         ["S = {(1, 2), (3, 8)}", "B over S", "B.irv = -7", "B[1, 2] = 4"])
+        for text in ("", "chapel-workbook 1\nend\n", "chapel-workbook 2\nhistory 1\n+ {}\n"):
+            with self.assertRaises(ValueError):
+                hearing.read(text)
+
+    def test_going_on_from_a_history(self):
+        self.everything()
+        edit = self.wb.undo()
+        text = self.wb.history_text()
+        with Workbook.run(PROGRAM, resume=text) as other:
+            self.assertEqual((other.print_text(), other.history_text()), (self.wb.print_text(), text))
+            told = [(e.number, e.what, e.who, e.was_in_force) for e in other.history()]
+            self.assertEqual(told, [(e.number, e.what, "before", e.was_in_force) for e in self.wb.history()])
+            other.redo(edit.number)
+            other.domain("X", range(1, 3))
+            self.assertEqual(other.last_edit.number, len(told) + 1)
+        damaged = text.replace("+ {", "- {", 1)
+        for wrong, kind in ((damaged, NotResumed), (self.wb.print_text(), ValueError)):
+            with self.assertRaises(kind):
+                Workbook.run(PROGRAM, resume=wrong)
+
     def test_a_large_set_is_rebuilt_in_parts(self):
         N = self.wb.assoc("N", "int")
         with self.wb.pipeline():
@@ -489,8 +540,8 @@ class Texts(Case):
             self.assertEqual(other.print_text(), text)
 
 
-class Later(unittest.TestCase):
-    """Ops that the program lacks, as it may answer them once it has them."""
+class Replies(unittest.TestCase):
+    """What is sent, and what is made of each reply, also of those that seldom come."""
 
     def book(self, *replies):
         channel = Told(*replies)
@@ -518,7 +569,14 @@ class Later(unittest.TestCase):
         self.assertEqual((edit.number, edit.cells), (1, 10))
         self.assertEqual(channel.sent, [{"op": "load", "text": "chapel-workbook 1\nend\n"}])
 
-    def test_the_stand_in_for_reduce_refuses_as_the_program_does(self):
+    def test_dependents(self):
+        channel, wb = self.book({"dependents": [5, 4, 3]}, {"dependents": [3]}, {"error": "E12", "name": "not-in-force"})
+        self.assertEqual((wb.dependents(3), wb.blocker(3)), ([4, 5], None))
+        with self.assertRaises(NotInForce):
+            wb.dependents(3)
+        self.assertEqual(channel.sent, [{"op": "dependents", "k": 3}] * 3)
+
+    def test_refused_reductions(self):
         with Workbook.run(PROGRAM) as wb:
             D = wb.domain("D", range(1, 3))
             A = wb.array("A", D)

@@ -6,7 +6,7 @@ import socket
 import threading
 import unittest
 
-from tests.support import PROGRAM, Server, serves
+from tests.support import LACKING, PROGRAM, Server, knows, serves
 from workbook_client import Workbook, view
 from workbook_client.page import serve
 
@@ -48,14 +48,20 @@ class Page(unittest.TestCase):
         (array,) = state["arrays"]
         self.assertEqual(array["values"], [[["1"], "1", "9223372036854775807"], [["2"], "2", "9223372036854775806"]])
         self.assertEqual(array["locales"], [0, 1])
-        self.assertEqual([(e["k"], e["on"], e["by"]) for e in state["edits"]], [(1, True, 2), (2, True, 3), (3, True, 4), (4, True, None)])
+        told = [(e["k"], e["on"], e["needs"]) for e in state["edits"]]
+        self.assertEqual(told, [(1, True, [4, 3, 2, 1]), (2, True, [4, 3, 2]), (3, True, [4, 3]), (4, True, [4])])
+        self.assertEqual(self.ask("/needs?k=2")[1], {"ok": True, "k": 2, "needs": [4, 3, 2]})
+        self.assertIn("E11", self.ask("/needs?k=5")[1]["say"])
+        self.assertEqual(self.ask("/needs?k=x")[0], 400)
         self.assertEqual(self.ask("/state?seen=" + state["version"]), (204, ""))
         told = self.ask("/do", {"op": "undo", "k": 3})[1]
         self.assertEqual((told["ok"], told["code"], told["by"]), (False, "E14", 4))
         self.assertIn("cascade 3 takes back 4 and 3", told["say"])
         self.assertTrue(self.ask("/do", {"op": "cascade", "k": 3})[1]["ok"])
+        self.assertEqual([e["needs"] for e in self.ask("/state")[1]["edits"]], [[2, 1], [2], None, None])
         self.assertNotEqual(self.ask("/state?seen=" + state["version"])[0], 204)
         self.assertIn("array A over D [0, 0]", self.ask("/text")[1])
+        self.assertIn("\nhistory 4\n+ {", self.ask("/history")[1])
 
     def test_wrong_lines_and_files(self):
         self.open(Workbook.run(PROGRAM))
@@ -84,10 +90,43 @@ class Page(unittest.TestCase):
         other["A"][1] = 6
         _, later = self.ask("/state?seen=" + state["version"])
         self.assertEqual([(e["k"], e["who"]) for e in later["edits"]], [(1, "me"), (2, "me"), (3, "me"), (4, "another")])
+        self.assertEqual([e["what"] for e in later["edits"]][2:], ["A[1] = 5", "A[1] = 6"])
         self.assertEqual(self.ask("/do", {"op": "undo", "k": 3})[1]["by"], 4)
-        self.assertEqual(self.ask("/state")[1]["edits"][2]["by"], 4)
+        self.assertEqual(self.ask("/state")[1]["edits"][2]["needs"], [4, 3])
         other.undo()
-        self.assertIsNone(self.ask("/state")[1]["edits"][2]["by"])
+        self.assertIsNone(self.ask("/state")[1]["edits"][2]["needs"])
+
+    @knows("dependents", "cascade")
+    @unittest.skipUnless(serves(), "this program has no `serve`")
+    def test_a_look_before_a_cascade_at_a_desk(self):
+        """One question, and the answer holds until something changes."""
+        server = Server(seats=2)
+        self.addCleanup(server.close)
+        view.APART, before = 0.0, view.APART
+        self.addCleanup(setattr, view, "APART", before)
+        self.open(server.connect())
+        other = server.connect()
+        self.lines("D = {1..3}", "A over D", "A[1] = 5")
+        other["A"].copy(2, other["A"], 1)
+        self.assertEqual(self.ask("/needs?k=3")[1]["needs"], [4, 3])
+        edits = self.ask("/state")[1]["edits"]
+        self.assertEqual([e["needs"] for e in edits], [None, None, [4, 3], None])
+        self.assertIn("edits 4 and 3 taken back", self.ask("/do", {"op": "cascade", "k": 3})[1]["say"])
+        self.assertIn("array A over D [0, 0, 0]", self.ask("/text")[1])
+
+    @unittest.skipUnless(serves(), "this program has no `serve`")
+    def test_of_a_long_history_others_edits_have_no_words(self):
+        server = Server(seats=2)
+        self.addCleanup(server.close)
+        for name, value in (("APART", 0.0), ("MANY", 2)):
+            self.addCleanup(setattr, view, name, getattr(view, name))
+            setattr(view, name, value)
+        self.open(server.connect())
+        other = server.connect()
+        self.lines("D = {1..2}", "A over D")
+        other["A"][1] = 6
+        edits = self.ask("/state")[1]["edits"]
+        self.assertEqual([(e["what"], e["on"]) for e in edits][1:], [("A over D", True), ("", True)])
 
     @unittest.skipUnless(serves(), "this program has no `serve`")
     def test_what_looking_costs_a_desk(self):
@@ -107,7 +146,11 @@ class Page(unittest.TestCase):
         view.APART = 60.0
         for _ in range(10):
             shown.state()  # nothing: another page has just looked
-        self.assertEqual(server.settled()[0], 5 + 6 + 10 * 5)
+        asked = "dependents" not in LACKING
+        if asked:
+            self.assertEqual(shown.needs(3)["needs"], [3])
+            self.assertEqual(shown.state()["edits"][2]["needs"], [3])  # the question alone
+        self.assertEqual(server.settled()[0], 5 + 6 + 10 * 5 + asked)
 
     def test_bodies_of_no_length_or_of_too_much(self):
         self.open(Workbook.run(PROGRAM))

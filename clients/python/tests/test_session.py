@@ -73,7 +73,15 @@ class Talk(unittest.TestCase):
         self.assertIn("Blocked by edit 4 (A[2] = A[1] + 1)", told)
         self.assertIn("next: undo 4 first, or cascade 3 takes back 4 and 3", told)
         self.assertTrue(self.session.failed)
-        self.assertIn("edits 4, 3 taken back, 2 cells", self.say("cascade 3"))
+        self.assertIn("edits 4 and 3 taken back, 2 cells", self.say("cascade 3"))
+        self.assertIn("E12", self.say("dependents 3"))
+        self.assertIn("nobody needs edit 2", self.say("dependents 2"))
+
+    def test_many_dependents(self):
+        self.say("D = {1..4}", "A over D", *["A[1] += 1"] * 60)
+        told = self.say("dependents 2").splitlines()
+        self.assertEqual((told[0], told[39]), ("  edit 3: A[1] = A[1] + 1", "  edit 42: A[1] = A[1] + 1"))
+        self.assertEqual(told[40:], ["  and 20 more", "  cascade 2 takes back 62, 61, 60, 59, 58, 57, 56, 55, .. and 2, 61 edits"])
 
     def test_a_blocked_redo(self):
         told = self.say("D = {1..4}", "A over D", "A[1] = 5", "undo 3", "A[1] = 6", "redo 3")
@@ -156,8 +164,8 @@ class Talk(unittest.TestCase):
         self.say("D = {1..4}", "A over D", "A[1] = 5")
         other["A"][1] = 6
         told = self.say("undo 3")
-        self.assertIn("Blocked by edit 4, made by another seat: it is later", told)
-        self.assertIn("│ 4    │ another │ ?", self.say("history"))
+        self.assertIn("Blocked by edit 4 of another seat (A[1] = 6): it is later", told)
+        self.assertIn("│ 4    │ another │ A[1] = 6   │       │ in force │", self.say("history"))
 
 
 class Whole(unittest.TestCase):
@@ -179,6 +187,21 @@ class Whole(unittest.TestCase):
         )
         self.assertEqual(gone.returncode, 3)
         self.assertIn("there is no program", gone.stderr)
+
+    def test_a_session_that_is_kept_and_gone_on_with(self):
+        with tempfile.TemporaryDirectory() as place:
+            path = os.path.join(place, "plan")
+            kept = self.run_with(f"D = {{1..4}}\nA over D\nA[1] = 5\nundo\nkeep {path}\n")
+            self.assertIn("3 edits, 2 in force", " ".join(kept.stdout.split()))
+            told = self.run_with("redo 3\nA[1]\nhistory\n", "--resume", path)
+            self.assertEqual(told.returncode, 0)
+            self.assertIn("\n  5\n", told.stdout)
+            self.assertIn("│ 3    │ before │ A[1] = 5", told.stdout)
+            with open(path, "a", encoding="utf-8") as file:
+                file.write("more\n")
+            for words, why in (([path], "no text of a history"), ([path + ".gone"], "No such file"), ([path, "--connect", ":1"], "seats")):
+                gone = subprocess.run([sys.executable, "-m", "workbook_client", "--resume", *words], capture_output=True, text=True, cwd=PACKAGE)
+                self.assertEqual((gone.returncode, why in gone.stderr), (3, True), gone.stderr)
 
     def test_at_a_terminal(self):
         """A prompt, completion by Tab, Ctrl-C, and the mark under the typed line."""

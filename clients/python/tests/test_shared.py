@@ -3,10 +3,10 @@
 import threading
 import unittest
 
-from tests.support import Server, serves
+from tests.support import Server, knows, lacks, serves
 from workbook_client import (
-    Array, BadLiteral, Blocked, LineTooLong, NoSeat, NoServer, NoSuchName, NotTakenBack, Refusal, SessionEnded,
-    Workbook,
+    Array, BadLiteral, Blocked, Cascade, LineTooLong, NoSeat, NoServer, NoSuchEdit, NoSuchName, NotInForce, NotTakenBack, Refusal,
+    SessionEnded, Workbook,
 )
 
 
@@ -28,16 +28,36 @@ class Shared(unittest.TestCase):
         self.assertIn("another's", str(no.exception))
         told = [(e.number, e.who, e.was_in_force) for e in self.one.history()]
         self.assertEqual(told, [(1, "me", True), (2, "me", True), (3, "me", True), (4, "another", True)])
+        self.assertEqual([e.what for e in self.two.history()], ["D = {1..4}", "A over D", "A[1] = 5", "A[1] = 6"])
         self.two.undo()
         self.assertEqual(self.one.undo(3).number, 3)
         self.assertEqual([e.was_in_force for e in self.two.history()], [True, True, False, False])
 
+    @knows("cascade", "dependents")
+    def test_dependents_and_cascade(self):
+        """Who needs an edit is a question like others, and a cascade is one step of the desk."""
+        A = self.one.array("A", self.one.domain("D", range(1, 5)))
+        first = A.set(1, 5)
+        B = self.two["A"]
+        B.copy(2, B, 1, plus=1)
+        B.copy(3, B, 2, plus=1)
+        B[4] = 8
+        self.assertEqual((first.dependents(), self.one.blocker(3), self.one.blocker(6)), ([4, 5], 4, None))
+        self.assertEqual(first.cascade(), Cascade([5, 4, 3], 3))
+        self.assertEqual(list(A), [0, 0, 0, 8])
+        for act in (first.cascade, first.dependents):
+            with self.assertRaises(NotInForce):
+                act()
+        with self.assertRaises(NoSuchEdit):
+            self.two.dependents(7)
+        # 4 edits of two seats and a size of each name; three questions, a cascade, a print, three refusals
+        self.assertEqual(self.server.settled()[0], 6 + 1 + 3 + 1 + 1 + 3)
+
+    @lacks("dependents")
     def test_what_is_tried_and_put_back_is_for_a_session_alone(self):
         self.one.domain("D", range(1, 5))
-        with self.assertRaisesRegex(RuntimeError, "trying"):
+        with self.assertRaisesRegex(RuntimeError, "others in a shared workbook could see"):
             self.one.dependents(1)
-        with self.assertRaisesRegex(RuntimeError, "trying"):
-            self.one.blocker(1)
 
     def test_what_cannot_be_taken_back(self):
         D = self.one.domain("D", range(1, 5))
@@ -111,7 +131,7 @@ class Shared(unittest.TestCase):
         with self.assertRaises(NoSuchName):
             self.two.undo() and self.one.array("A", "X")
         with self.assertRaises(Refusal):
-            self.one.cascade(9)  # its op isn't there, which is no entry; then an undo, which is one
+            self.one.cascade(9)  # an entry; where the op isn't there, which is none, then an undo
         with self.assertRaises(BadLiteral):
             self.one.domain("E", "{1..")
         self.assertEqual(self.server.settled(), (6, "chapel-workbook 1\nend\n"))

@@ -17,6 +17,7 @@ from .errors import (
     NoProgram,
     NoSeat,
     NoServer,
+    NotResumed,
     NotTakenBack,
     SessionEnded,
     StrangeReply,
@@ -54,7 +55,7 @@ from .snapshot import Snapshot
 __all__ = [
     "Array", "BadLiteral", "BadMapping", "BadRequest", "Blocked", "Cascade", "Domain", "Edit",
     "Empty", "InForce", "InUse", "LineTooLong", "NameTaken", "NoAnswer", "NoMemory", "NoProgram",
-    "NoSeat", "NoServer", "NoSuchEdit", "NoSuchName", "NotEmpty", "NotInForce", "NotTakenBack",
+    "NoSeat", "NoServer", "NoSuchEdit", "NoSuchName", "NotEmpty", "NotInForce", "NotResumed", "NotTakenBack",
     "OutOfDomain", "OutOfParent", "Overflow", "Pipeline", "Reading", "Refusal", "RefusedInPlace",
     "SessionEnded", "Snapshot", "StrangePass", "StrangeReply", "TooLarge", "Workbook",
     "WorkbookError", "WrongKind", "block", "block_cyclic", "cyclic",

@@ -3,14 +3,15 @@
 from contextlib import contextmanager
 from typing import Any, Dict, Iterator, List, Optional, Sequence, Union
 
-from . import requests, standins, turning
-from .channel import Channel, ProgramChannel, SocketChannel
+from . import hearing, requests, standins, turning
+from .channel import Channel, ProgramChannel, SocketChannel, command
 from .edits import Cascade, Edit, Pipeline
-from .errors import NoAnswer, NoSeat, SessionEnded, StrangeReply
+from .errors import NoAnswer, NoSeat, NotResumed, SessionEnded, StrangeReply
 from .exchange import Exchange, Reading, Reply, first_refusal
 from .literals import Ranges
 from .objects import Array, Domain, ours
-from .refusals import NoSuchName, WrongKind
+from .rebuilding import rebuild
+from .refusals import LineTooLong, NoSuchName, NotEmpty, WrongKind
 from .requests import Request
 from .snapshot import Snapshot
 from .streams import StreamChannel
@@ -41,17 +42,35 @@ class Workbook:
 
     @classmethod
     def run(
-        cls, program: Optional[Union[str, Sequence[str]]] = None, timeout: Optional[float] = None
+        cls, program: Optional[Union[str, Sequence[str]]] = None, timeout: Optional[float] = None,
+        resume: Optional[str] = None,
     ) -> "Workbook":
-        """Starts a program of our own with an empty workbook, which ends with the session.
+        """Starts a program of our own, which ends with the session. Its workbook is empty, or goes
+        on from the text of a history, `history_text()` of an earlier session.
 
         The program is what WORKBOOK_PROGRAM names, `workbook` on the path, or the one that the
         repository has built; a list of words is started as it is. After `timeout` seconds without
         a byte of a reply, `NoAnswer`.
         """
-        channel = ProgramChannel(program)
+        if resume is None:
+            channel = ProgramChannel(program)
+            channel.timeout = timeout
+            return cls(channel, "me", alone=True)
+        past = hearing.read(resume)
+        channel = ProgramChannel([*command(program), "--resume"])
         channel.timeout = timeout
-        return cls(channel, "me", alone=True)
+        book = cls(channel, "me", alone=True)
+        try:
+            channel.send(resume.encode())
+            book.exchange.knock()
+        except StrangeReply as no:
+            book.close()
+            raise NotResumed("the program refused the text: it is no history's") from no
+        except BaseException:
+            book.close()
+            raise
+        hearing.note(book, past, "before")
+        return book
 
     @classmethod
     def connect(
@@ -186,13 +205,9 @@ class Workbook:
         return self.steps.done("redo", reply.number("redone"), reply.number("n"))
 
     def cascade(self, k: int) -> Cascade:
-        """Takes back edit k with its dependents: the later edits that read or touched its cells.
-
-        A program without the op is sent single undos instead; then others may edit in between.
-        """
-        reply = standins.ask_if_there(self, requests.cascade(k))
-        if reply is None:
-            return standins.cascade(self, k)
+        """Takes back edit k with its dependents, the least set of edits without which it can go.
+        `dependents` tells before who that is."""
+        reply = self.ask(requests.cascade(k))
         undone = reply.listed("undone")
         for number in undone:
             self.steps.done("undo", number, None)
@@ -203,32 +218,35 @@ class Workbook:
         return self.ask(requests.state(k)).truth("in_force")
 
     def blocker(self, k: int) -> Optional[int]:
-        """The edit that stands in the way of undoing k, or None.
-
-        The program has no question for it, so the undo is tried and put back. In a shared
-        workbook others could see that, so this is for a session that is alone.
-        """
-        return standins.blocker(self, k)
+        """The first edit that stands in the way of undoing k, or None."""
+        return min(self.dependents(k), default=None)
 
     def dependents(self, k: int) -> List[int]:
-        """The edits that `cascade(k)` would take back beside k, ascending. Tried and put back, as
-        `blocker` is."""
-        return standins.dependents(self, k)
+        """The edits that `cascade(k)` would take back beside k, ascending. Nothing is changed."""
+        told = self.ask(requests.dependents(k)).listed("dependents")
+        return sorted(number for number in told if number != k)
 
     def history(self) -> List[Edit]:
-        """Every edit, by number. Of those of others the program tells only whether they are in
-        force; `who` is "another" and `what` is empty. In a shared workbook a question for each
-        edit is asked."""
+        """Every edit, by number. `who` of those of others is "another", and `cells` of theirs is
+        -1. In a shared workbook the text of the whole history is asked for."""
         if not self.alone:
-            standins.hear_of_others(self)
+            hearing.hear_all(self)
         return [self.edits[number] for number in sorted(self.edits)]
 
     def load(self, text: str) -> List[Edit]:
-        """Makes the objects of a workbook's text, all or none: meant for an empty workbook.
+        """Makes the objects of a workbook's text in an empty workbook, all or none.
 
-        One edit where the program has the op and the text fits in a line, else one for each step.
+        That is one edit. A text that is too long for a line, of more than about 60,000 bytes,
+        is made again step by step.
         """
-        return standins.load(self, text)
+        wanted = Snapshot.read(text)  # what is no text is told before
+        request = requests.load(text)
+        try:
+            return [self.made(request, self.ask(request))]
+        except LineTooLong:
+            if self.names():
+                raise NotEmpty(request) from None
+            return rebuild(self, wanted)
 
     # --- blocks
 
@@ -274,6 +292,8 @@ class Workbook:
 
     def ask(self, request: Request) -> Reply:
         """Sends a request and waits for its reply. A refusal is raised."""
+        if request.get("op") in standins.OPS:
+            return standins.ask(self, request)
         return self.exchange.ask(request)
 
     def change(self, request: Request) -> Edit:

@@ -23,6 +23,10 @@ class NoSeat(SessionEnded):
     """A server took the connection and answers nothing: its seats are taken."""
 
 
+class NotResumed(SessionEnded):
+    """A program did not go on from a text, which is no history's."""
+
+
 class StrangeReply(SessionEnded):
     """What came is no reply of a workbook. The session ends, since nothing could be told apart."""
 

@@ -12,7 +12,7 @@ from . import requests
 from .requests import Request
 
 COMMANDS = (
-    "cascade", "colours", "dependents", "drop", "help", "history", "load", "max", "min", "names",
+    "cascade", "colours", "dependents", "drop", "help", "history", "keep", "load", "max", "min", "names",
     "piece", "quit", "redo", "save", "size", "text", "undo", "where",
 )
 WORDS = COMMANDS + ("by", "align", "dmapped", "over", "sparse", "reduce", "int", "text", "irv")
@@ -66,7 +66,7 @@ def tokens(line: str) -> List[Token]:
 
 def parse(line: str, kind_of: Callable[[str], Optional[str]]) -> Union[Request, Command, None]:
     """The meaning of a line, None for an empty one. `kind_of` says "array", "domain" or None."""
-    file = re.match(r"\s*(save|load)\b(?!\s*[=\[.]|\s+(?:over|sparse|dmapped)\b)\s*(.*?)\s*$", line)
+    file = re.match(r"\s*(save|load|keep)\b(?!\s*[=\[.]|\s+(?:over|sparse|dmapped)\b)\s*(.*?)\s*$", line)
     if file:  # the rest of the line is a path, whatever its characters
         if not file[2]:
             raise LanguageError(f"expected a file's name after {file[1]}", file.end())

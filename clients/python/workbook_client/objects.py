@@ -2,7 +2,7 @@
 
 from typing import TYPE_CHECKING, Any, Dict, Iterator, List, Mapping, Tuple, Union
 
-from . import bulk, requests, standins
+from . import bulk, requests
 from .literals import Index, Indices, Ranges, index_back
 from .literals import index as as_index
 from .refusals import OutOfDomain
@@ -235,9 +235,7 @@ class Array(_Named):
 
     def reduce(self, how: str) -> int:
         """The sum (`+`), the least (`min`) or the greatest (`max`) of all elements."""
-        request = requests.reduce(self, how)
-        reply = standins.ask_if_there(self.book, request)
-        return standins.reduce(request, list(self)) if reply is None else reply.number("value")
+        return self.book.ask(requests.reduce(self, how)).number("value")
 
     def _shot(self) -> Snapshot:
         shot = self.book.snapshot()

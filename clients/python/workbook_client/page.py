@@ -42,7 +42,7 @@ def policy(page: str) -> str:
 
 
 class Handler(BaseHTTPRequestHandler):
-    """Four addresses: / the page, /state, /text, and /do for what the page does."""
+    """Six addresses: / the page, /state, /needs, /text, /history, and /do for what the page does."""
 
     view: View
     page: bytes
@@ -51,7 +51,7 @@ class Handler(BaseHTTPRequestHandler):
     timeout = 60  # a connection that says nothing for so long is closed
 
     def do_GET(self) -> None:
-        """The page, its state, or the text of the workbook."""
+        """The page, its state, who needs an edit, or the text of the workbook or of its history."""
         if not self.is_ours():
             return
         url = urlparse(self.path)
@@ -59,8 +59,10 @@ class Handler(BaseHTTPRequestHandler):
             self.answer(200, self.page, "text/html; charset=utf-8")
         elif url.path == "/state":
             self.guarded(lambda: self.state(parse_qs(url.query).get("seen", [""])[0]))
-        elif url.path == "/text":
-            self.guarded(self.text)
+        elif url.path == "/needs":
+            self.guarded(lambda: self.needs(parse_qs(url.query).get("k", [""])[0]))
+        elif url.path in ("/text", "/history"):
+            self.guarded(lambda: self.text(self.view.text if url.path == "/text" else self.view.history))
         else:
             self.tell(404, {"say": "there is nothing here"})
 
@@ -98,9 +100,16 @@ class Handler(BaseHTTPRequestHandler):
         else:
             self.tell(200, state)
 
-    def text(self) -> None:
-        """The text of the workbook."""
-        self.answer(200, self.view.text().encode(), "text/plain; charset=utf-8")
+    def needs(self, k: str) -> None:
+        """Who would go in a cascade of an edit."""
+        if re.fullmatch("[0-9]{1,20}", k):
+            self.tell(200, self.view.needs(int(k)))
+        else:
+            self.tell(400, {"say": "that is no edit's number"})
+
+    def text(self, told: Callable[[], str]) -> None:
+        """A text of the workbook."""
+        self.answer(200, told().encode(), "text/plain; charset=utf-8")
 
     def guarded(self, answer: Callable[[], None]) -> None:
         """Tells the page of what went wrong; the server goes on."""

@@ -7,7 +7,7 @@ import sys
 import textwrap
 from typing import Any, Dict, List, Optional, TextIO
 
-from . import hints
+from . import hearing, hints
 from . import literals as lit
 from .book import Workbook
 from .edits import Cascade
@@ -43,13 +43,17 @@ Edits          history                       every edit: who, what, whether in f
                undo    undo 3    redo 3      one edit alone, the latest if none is named
                dependents 3    cascade 3     who needs edit 3; takes it back with those
 Files          save FILE    load FILE        the text of the workbook
+               keep FILE                     the whole history, for --resume FILE
 End            quit, or Ctrl-D               // starts a remark"""
 
 
 _OBEYED = re.compile("[\x80-\x9f\u200e\u200f\u202a-\u202e\u2066-\u2069]")
 
 FEW = 500
-"""With more edits, a refusal doesn't try who would go along in a cascade; `dependents 3` does."""
+"""With more edits, a refusal doesn't ask the text of the history for what another's edit did."""
+
+SHOWN = 40
+"""So many edits are listed at once."""
 
 
 class Session:
@@ -137,8 +141,8 @@ class Session:
         self.say(f"  edit {edit.number} is {how}, {_cells(edit.cells)}{what}")
 
     def cascaded(self, done: Cascade) -> None:
-        numbers = ", ".join(map(str, done.undone))
-        self.say(f"  {'edits' if len(done.undone) > 1 else 'edit'} {numbers} taken back, {_cells(done.cells)}")
+        many = "edits" if len(done.undone) > 1 else "edit"
+        self.wrapped(f"{many} {numbered(done.undone)} taken back, {_cells(done.cells)}")
         if not done.whole:
             self.wrapped("the program's memory ran out before the edit itself; the same line again goes on")
 
@@ -184,11 +188,11 @@ class Session:
         rows = [
             [str(e.number), e.who, e.what or "?", "" if e.cells < 0 else str(e.cells),
              "in force" if e.was_in_force else "taken back"]
-            for e in edits[-40:]
+            for e in edits[-SHOWN:]
         ]
         self.say(self.table(["edit", "who", "what", "cells", "now"], rows))
-        if len(edits) > 40:
-            self.wrapped(f"and {len(edits) - 40} before these")
+        if len(edits) > SHOWN:
+            self.wrapped(f"and {len(edits) - SHOWN:,} before these")
 
     def table(self, head: List[str], rows: List[List[str]]) -> str:
         taken = sum(max(len(row[c]) for row in [head, *rows]) + 3 for c in range(len(head)) if c != 2)
@@ -201,9 +205,22 @@ class Session:
         if not found:
             self.say(f"  nobody needs edit {k}: undo {k} takes it back alone")
             return
-        for number in found:
-            self.say(f"  edit {number}: {self.book.edits[number].what}")
-        self.say(f"  cascade {k}{_takes_back(found, k)}")
+        self.hear_of(found)
+        for number in found[:SHOWN]:
+            self.say(f"  edit {number}: {self.what(number) or 'made by another seat'}")
+        if len(found) > SHOWN:
+            self.wrapped(f"and {len(found) - SHOWN:,} more")
+        self.wrapped(f"cascade {k}{_takes_back(found, k)}")
+
+    def what(self, number: int) -> str:
+        """What an edit did, as far as this session heard."""
+        edit = self.book.edits.get(number)
+        return edit.what if edit else ""
+
+    def hear_of(self, numbers: List[int]) -> None:
+        """Asks what others' edits among these did, where the history isn't long."""
+        if hearing.unheard(self.book, numbers) and max(self.book.edits, default=0) <= FEW and not self.book.alone:
+            hearing.hear_all(self.book)
 
     def do_text(self) -> None:
         self.say(self.book.print_text().rstrip("\n"))
@@ -216,6 +233,13 @@ class Session:
         text = self.book.print_text()
         _write(os.path.realpath(os.path.expanduser(path)), text)
         self.say(f"  {path}: {text.count(chr(10)) - 2} objects, {len(text.encode()):,} bytes")
+
+    def do_keep(self, path: str) -> None:
+        text = self.book.history_text()
+        _write(os.path.realpath(os.path.expanduser(path)), text)
+        past = hearing.read(text)
+        on = sum(in_force for in_force, _ in past.edits.values())
+        self.wrapped(f"{path}: {len(past.edits):,} edits, {on:,} in force; --resume {path} goes on from it")
 
     def do_load(self, path: str) -> None:
         with open(os.path.expanduser(path), encoding="utf-8", newline="") as file:
@@ -245,8 +269,10 @@ class Session:
 
     def blocked(self, no: Blocked) -> None:
         k, redo = no.request["k"], no.request["op"] == "redo"
+        self.hear_of([no.by])
         by = self.book.edits.get(no.by)
-        what = f" ({by.what})" if by and by.what else ", made by another seat"
+        whose = "" if by and by.who == self.book.who else " of another seat"
+        what = whose + (f" ({by.what})" if by and by.what else "")
         self.wrapped(
             f"Blocked by edit {no.by}{what}: it is later, in force, and read or touched "
             f"{'cells of' if redo else 'what'} edit {k}{'' if redo else ' wrote'}."
@@ -254,12 +280,14 @@ class Session:
         if redo:
             self.say(f"  next: undo {no.by} first; then redo {k}, and redo {no.by}")
             return
-        self.say(f"  next: undo {no.by} first, or cascade {k}{self.with_whom(k)}")
+        self.wrapped(f"next: undo {no.by} first, or cascade {k}{self.with_whom(k)}")
 
     def with_whom(self, k: int) -> str:
-        if not self.book.alone or len(self.book.edits) > FEW:
+        """Who would go along in a cascade. Others may have moved since the refusal."""
+        try:
+            return _takes_back(self.book.dependents(k), k)
+        except (Refusal, RuntimeError):  # RuntimeError: the program lacks the op
             return " takes back all that stand in the way"
-        return _takes_back(self.book.dependents(k), k)
 
 
 def _write(path: str, text: str) -> None:
@@ -284,7 +312,15 @@ def _write(path: str, text: str) -> None:
 
 
 def _takes_back(dependents: List[int], k: int) -> str:
-    return f" takes back {', '.join(map(str, reversed(dependents)))} and {k}"
+    return f" takes back {numbered([*reversed(dependents), k])}"
+
+
+def numbered(numbers: List[int]) -> str:
+    """`5`, `5 and 4`, `5, 4 and 3`; of many the first few, the last, and how many there are."""
+    if len(numbers) > 12:
+        return f"{', '.join(map(str, numbers[:8]))}, .. and {numbers[-1]}, {len(numbers):,} edits"
+    *first, last = map(str, numbers)
+    return f"{', '.join(first)} and {last}" if first else last
 
 
 def _cells(number: int) -> str:

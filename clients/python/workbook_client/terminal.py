@@ -7,7 +7,7 @@ import sys
 from typing import Any, List, Optional, TextIO, Tuple
 
 from .book import Workbook
-from .errors import NoProgram, SessionEnded
+from .errors import NoProgram, NotResumed, SessionEnded
 from .language import WORDS
 from .refusals import Refusal
 from .session import Session
@@ -110,12 +110,24 @@ def arguments(description: str) -> argparse.ArgumentParser:
     where.add_argument(
         "--connect", metavar="HOST:PORT", type=address, help="a workbook that `workbook serve` shares"
     )
+    parser.add_argument("--resume", metavar="FILE", help="go on from a history that `keep FILE` has written")
     return parser
 
 
 def open_book(args: argparse.Namespace) -> Workbook:
-    """The workbook of --program or --connect."""
-    return Workbook.connect(*args.connect) if args.connect else Workbook.run(args.program)
+    """The workbook of --program, --resume or --connect."""
+    if args.connect and args.resume:
+        raise NoProgram("a shared workbook goes on by `workbook serve --resume`, not by its seats")
+    if args.connect:
+        return Workbook.connect(*args.connect)
+    if not args.resume:
+        return Workbook.run(args.program)
+    with open(args.resume, encoding="utf-8", newline="") as file:
+        text = file.read()
+    try:
+        return Workbook.run(args.program, resume=text)
+    except ValueError as wrong:
+        raise NotResumed(f"{args.resume}: {wrong}") from wrong
 
 
 def main(words: Optional[List[str]] = None) -> int:

@@ -7,12 +7,12 @@ import threading
 import time
 from typing import Any, Callable, Dict, List, Optional, Tuple
 
-from . import requests, standins
+from . import hearing, requests
 from .book import Workbook
 from .edits import Edit
 from .literals import Index, index_text
 from .objects import Array
-from .refusals import NotInForce, Refusal
+from .refusals import Refusal
 from .session import Session
 from .snapshot import RectDomain, Snapshot, SparseDomain
 
@@ -20,13 +20,15 @@ MOST = 4096
 """So many elements of an array are shown."""
 LATEST = 300
 """So many of the latest edits are shown."""
-TRIED = 60
-"""So many of the latest edits are tried for who stands in their way, where that may be tried."""
+ASKED = 60
+"""Of so many of the latest edits a session of its own asks who needs them, whenever something changed."""
+MANY = 2000
+"""With more edits, what others' edits did isn't asked: the text of the history would be long."""
 IN_TURN = 4
 """So many of the edits shown are asked about in each look at a shared workbook, one after another."""
 APART = 1.5
 """So many seconds lie between two looks at a shared workbook, however many pages are open."""
-TERMINAL_ALONE = ("save", "load")
+TERMINAL_ALONE = ("save", "load", "keep")
 
 Json = Dict[str, Any]
 
@@ -41,8 +43,12 @@ class View:
     def __init__(self, book: Workbook):
         self.book = book
         self._lock = threading.Lock()
-        self._told: Tuple[Any, Json] = (None, {})
-        self._held: Dict[int, int] = {}  # who stood in the way of whom, where that can't be tried
+        self._told: Tuple[int, Json] = (-1, {})
+        self._now: List[bool] = []  # whether each edit is in force, as it was last told
+        self._version = 0  # rises where something that is shown changed
+        self._needs: Dict[int, List[int]] = {}  # of some edits in force: who would go in a cascade, from the greatest down
+        self._shot: Optional[Snapshot] = None  # the workbook, where it was just heard
+        self._objects: Optional[Json] = None  # its domains and arrays as the page has them, until an edit comes or goes
         self._looked = float("-inf")  # when a shared workbook was last looked at
         self._turn = 0
 
@@ -53,35 +59,73 @@ class View:
                 self._look()
             # The edits in force make the workbook, so what they are tells whether it changed.
             edits = [self.book.edits[number] for number in sorted(self.book.edits)]
-            now = ([edit.was_in_force for edit in edits], dict(self._held))
-            if self._told[0] != now:
-                self._told = (now, self._state(edits))
+            now = [edit.was_in_force for edit in edits]
+            if self._now != now:
+                self._now, self._objects = now, None
+                self._needs = {k: needs for k, needs in self._needs.items() if self._still(needs)}
+                self._version += 1
+            if self._told[0] != self._version:
+                self._told = (self._version, self._state(edits))
             return self._told[1]
+
+    def _still(self, numbers: List[int]) -> bool:
+        """Whether the edits in the way are still in the way, after a change; others may have joined
+        them. A session of its own asks again."""
+        edits = self.book.edits
+        stand = all(k in edits and edits[k].was_in_force for k in numbers)
+        return not self.book.alone and len(numbers) > 1 and stand
+
+    def needs(self, k: int) -> Json:
+        """Edit k and those that need it, from the greatest down: who would go in a cascade now."""
+        with self._lock:
+            try:
+                self._ask_needs(k)
+            except Refusal as no:
+                self._looked = float("-inf")
+                return {"ok": False, "say": str(no)}
+            except RuntimeError:  # the program lacks the op
+                return {"ok": True, "k": k, "needs": None}
+            return {"ok": True, "k": k, "needs": self._needs[k]}
+
+    def _ask_needs(self, k: int) -> None:
+        found = [*reversed(self.book.dependents(k)), k]
+        if self._needs.get(k) != found:
+            self._needs[k] = found
+            self._version += 1
 
     def _look(self) -> None:
         """Whether others changed a shared workbook, by as few questions as can be: whether there
         is a new edit, and whether a few of those shown are in force, in turn. Each question stays
-        at the desk as an entry. Where something changed, all that are shown are asked about."""
+        at the desk as an entry. Where something changed, the text of the history is asked for, or
+        of a long one whether all that are shown are in force."""
         if time.monotonic() < self._looked + APART:
             return
-        changed = standins.find_new(self.book)
+        changed = hearing.find_new(self.book)
         shown = sorted(self.book.edits)[-LATEST:]
         turn = [shown[(self._turn + n) % len(shown)] for n in range(min(IN_TURN, len(shown)))]
         self._turn += IN_TURN
-        if standins.learn(self.book, turn) or changed:
-            standins.learn(self.book, shown)
+        if hearing.learn(self.book, turn) or changed:
+            if len(self.book.edits) <= MANY:
+                self._shot = hearing.hear_all(self.book)
+            else:
+                hearing.learn(self.book, shown)
         self._looked = time.monotonic()
 
     def _state(self, edits: List[Edit]) -> Json:
-        shot = self.book.snapshot()
-        first = edits[-TRIED:][0].number if edits else 0  # from here on it is tried
+        if self._objects is None:
+            shot, self._shot = self._shot or self.book.snapshot(), None
+            self._objects = {
+                "domains": [
+                    {"name": name, "words": shot.domains[name].in_words()} for name in sorted(shot.domains)
+                ],
+                "arrays": [self._array(shot, name) for name in sorted(shot.arrays)],
+            }
+        if self.book.alone:
+            self._ask_all(edits)
         state: Json = {
             "alone": self.book.alone,
-            "domains": [
-                {"name": name, "words": shot.domains[name].in_words()} for name in sorted(shot.domains)
-            ],
-            "arrays": [self._array(shot, name) for name in sorted(shot.arrays)],
-            "edits": [self._edit(edit, edit.number >= first) for edit in edits[-LATEST:]],
+            **self._objects,
+            "edits": [self._edit(edit) for edit in edits[-LATEST:]],
             "earlier": max(len(edits) - LATEST, 0),
         }
         state["version"] = hashlib.sha256(json.dumps(state).encode()).hexdigest()[:16]
@@ -112,31 +156,23 @@ class View:
         at = {i: locale for locale, piece in enumerate(pieces) for i in piece}
         return [at.get(i, 0) for i, _ in values]
 
-    def _edit(self, edit: Edit, tried: bool) -> Json:
-        by = self._blocker(edit.number, tried) if edit.was_in_force else None
+    def _ask_all(self, edits: List[Edit]) -> None:
+        """Who needs the latest edits in force. In a session of its own nothing is kept of that."""
+        for edit in edits[-ASKED:]:
+            if edit.was_in_force and edit.number not in self._needs:
+                self._needs[edit.number] = [*reversed(self.book.dependents(edit.number)), edit.number]
+
+    def _edit(self, edit: Edit) -> Json:
         return {
             "k": edit.number, "what": edit.what, "who": edit.who, "cells": edit.cells,
-            "on": edit.was_in_force, "by": by,
+            "on": edit.was_in_force, "needs": self._needs.get(edit.number) if edit.was_in_force else None,
         }
-
-    def _blocker(self, k: int, tried: bool) -> Optional[int]:
-        if self.book.alone and tried:
-            try:
-                return self.book.blocker(k)
-            except NotInForce:
-                return None
-        by = self._held.get(k)  # told by a refusal; others may have moved since
-        other = self.book.edits.get(by) if by is not None else None
-        if other is None or not other.was_in_force:
-            self._held.pop(k, None)
-            return None
-        return by
 
     def do(self, asked: Json) -> Json:
         """A line of the short language (`line`), or an undo, redo or cascade (`op` and `k`)."""
         line = str(asked.get("line", ""))
         if line.split(" ")[0] in TERMINAL_ALONE:
-            return {"ok": False, "say": "Files are for the terminal; the link `text` gives the text."}
+            return {"ok": False, "say": "Files are for the terminal; the links above give the texts."}
         make = WAYS.get(str(asked.get("op")))
         with self._lock:
             self._looked = float("-inf")
@@ -162,13 +198,26 @@ class View:
             by, k = refused.reply.get("by"), refused.request.get("k")
             told.update(ok=False, code=refused.code, name=refused.name, by=by)
             if by is not None and k is not None and refused.request["op"] == "undo":
-                self._held[k] = by
+                self._hold(k, by)
         return told
+
+    def _hold(self, k: int, by: int) -> None:
+        """After a refused undo the page shows who is in the way."""
+        try:
+            self._ask_needs(k)
+        except (Refusal, RuntimeError):  # others have moved since, or the program lacks the op
+            self._needs[k] = [by, k]
+            self._version += 1
 
     def text(self) -> str:
         """The text of the workbook."""
         with self._lock:
             return self.book.print_text()
+
+    def history(self) -> str:
+        """The text of the whole history."""
+        with self._lock:
+            return self.book.history_text()
 
 
 def _parts(index: Index) -> List[str]:

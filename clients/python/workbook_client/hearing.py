@@ -1,0 +1,97 @@
+"""What others do in a shared workbook, as far as this session asks for it.
+
+The text of the history tells all, and grows with it; whether an edit is in force is a question for
+each. A question for the number of edits alone isn't there: whether the next number is an edit
+tells whether there is a new one.
+"""
+
+import json
+from typing import TYPE_CHECKING, Dict, Iterable, List, NamedTuple
+
+from . import requests
+from .edits import Edit
+from .refusals import NoSuchEdit
+from .requests import Request
+from .snapshot import Snapshot
+
+if TYPE_CHECKING:
+    from .book import Workbook
+
+AT_ONCE = 64
+"""So many numbers that may have no edit are asked for at once."""
+
+
+class Past(NamedTuple):
+    """The text of a history, read."""
+
+    snapshot: Snapshot
+    """The workbook."""
+    edits: Dict[int, "tuple[bool, Request]"]
+    """Each edit by its number: whether it is in force, and its request."""
+
+
+def read(text: str) -> Past:
+    """What the text of a history tells."""
+    objects, mark, rest = text.partition("\nhistory ")
+    lines = rest.split("\n")
+    if not mark or not objects.startswith("chapel-workbook 2") or lines[-2:] != ["end", ""]:
+        raise ValueError("this is no text of a history: that starts with `chapel-workbook 2` and ends with `end`")
+    edits = {number: (line[0] == "+", json.loads(line[2:])) for number, line in enumerate(lines[1:-2], start=1)}
+    return Past(Snapshot.read(objects.replace("workbook 2", "workbook 1", 1) + "\nend\n"), edits)
+
+
+def hear_all(book: "Workbook") -> Snapshot:
+    """Hears of every edit, by one question whose answer grows with the history; gives the workbook."""
+    past = read(book.history_text())
+    note(book, past, "another")
+    return past.snapshot
+
+
+def note(book: "Workbook", past: Past, who: str) -> None:
+    """Notes what a history tells; edits that were unheard of are someone's."""
+    for number, (in_force, request) in past.edits.items():
+        edit = _known(book, number, in_force, who)
+        edit.what = edit.what or requests.in_words(request)
+
+
+def learn(book: "Workbook", numbers: Iterable[int]) -> bool:
+    """Asks whether these known edits are in force. Says whether one was heard of otherwise."""
+    changed = False
+    for reading in [book.exchange.post(requests.state(number)) for number in numbers]:
+        edit = book.edits[reading.request["k"]]
+        changed |= edit.was_in_force != reading.value
+        edit.was_in_force = reading.value
+    return changed
+
+
+def find_new(book: "Workbook") -> bool:
+    """Asks for the edits that this session hasn't heard of. Says whether there are any.
+
+    Where there is none, that is one question: whether the number after the last known one is an
+    edit. Numbers below it that are unknown are edits of others.
+    """
+    last = max(book.edits, default=0)
+    missing = [number for number in range(1, last) if number not in book.edits]
+    for reading in [book.exchange.post(requests.state(number)) for number in missing]:
+        _known(book, reading.request["k"], reading.value)
+    number, many = last + 1, 1
+    while True:
+        asked = [book.exchange.post(requests.state(k)) for k in range(number, number + many)]
+        try:
+            for reading in asked:
+                _known(book, reading.request["k"], reading.value)
+        except NoSuchEdit:
+            book.exchange.read_all()
+            return bool(missing) or max(book.edits, default=0) > last
+        number, many = number + many, min(2 * many, AT_ONCE)
+
+
+def _known(book: "Workbook", number: int, in_force: bool, who: str = "another") -> Edit:
+    edit = book.edits.setdefault(number, Edit(book, "", who, number))
+    edit.was_in_force = in_force
+    return edit
+
+
+def unheard(book: "Workbook", numbers: Iterable[int]) -> List[int]:
+    """Those of these edits of which this session doesn't know what they do."""
+    return [number for number in numbers if number not in book.edits or not book.edits[number].what]
