@@ -1,91 +1,16 @@
-"""A workbook as its cells, and what each change reads and touches, by docs/PROTOCOL.md.
+"""What each change reads and touches, by docs/PROTOCOL.md.
 
 A cell is a tuple: ("Object", n), ("Shape", d), ("Mapping", d), ("In", d, i), ("Member", d, i), ("Use", d, n),
 ("Implicit", a), ("Element", a, i). Its first two members stand for its family: `("Element", a)` among the reads is
-every element of a. The cells `In` follow from the shapes, so a book doesn't keep them.
+every element of a; `("Object",)` is every object. The cells `In` follow from the shapes, so a book doesn't keep them.
 """
 
-from itertools import product
-
 from . import literals as lit
+from .cells import Book, indices_of
 from .literals import HIGH, LOW, Refused
+from .texts import read_book
 
-
-def indices_of(ranges):
-    """The indices of a rectangle, in its order."""
-    return list(ranges[0]) if len(ranges) == 1 else list(product(*ranges))
-
-
-def is_in(ranges, index):
-    parts = lit.as_tuple(index)
-    return len(parts) == len(ranges) and all(i in part for i, part in zip(parts, ranges))
-
-
-class Book:
-    """The cells by kind and name, those of families in a dict by index or user."""
-
-    def __init__(self):
-        self.objects, self.shapes, self.mappings, self.implicit = {}, {}, {}, {}
-        self.members, self.uses, self.elements = {}, {}, {}
-        self.single = {"Object": self.objects, "Shape": self.shapes, "Mapping": self.mappings, "Implicit": self.implicit}
-        self.families = {"Member": self.members, "Use": self.uses, "Element": self.elements}
-
-    def get(self, cell):
-        """What a cell holds, or None. The mapping `none` is held as a tuple of its own."""
-        if cell[0] == "In":
-            return True if is_in(self.shapes.get(cell[1], ()), cell[2]) and cell[1] in self.shapes else None
-        if len(cell) == 2:
-            return self.single[cell[0]].get(cell[1])
-        return self.families[cell[0]].get(cell[1], {}).get(cell[2])
-
-    def put(self, cell, value):
-        if cell[0] == "In":
-            return
-        if len(cell) == 2:
-            held, key = self.single[cell[0]], cell[1]
-        else:
-            held, key = self.families[cell[0]].setdefault(cell[1], {}), cell[2]
-        if value is None:
-            held.pop(key, None)
-        else:
-            held[key] = value
-
-    def set_all(self, cells):
-        """Sets cells, and gives what they held before."""
-        before = {cell: self.get(cell) for cell in cells}
-        for cell, value in cells.items():
-            self.put(cell, value)
-        return before
-
-    def indices(self, name):
-        """The indices of a domain, in its order."""
-        kind = self.objects[name]
-        return indices_of(self.shapes[name]) if kind[0] == "rect" else sorted(self.members.get(name, ()))
-
-    def mapping(self, name):
-        """The mapping by which a domain lies."""
-        kind = self.objects[name]
-        if kind[0] == "assoc":
-            return None
-        held = self.mappings[kind[1] if kind[0] == "sparse" else name]
-        return None if held == ("none",) else held
-
-    def text(self):
-        lines = ["chapel-workbook 1"]
-        for name in sorted(self.objects):
-            kind = self.objects[name]
-            if kind[0] == "rect":
-                lines.append("rect %s %s %s" % (name, lit.rectangle_text(self.shapes[name]), lit.mapping_text(self.mapping(name))))
-            elif kind[0] == "sparse":
-                lines.append("sparse %s of %s %s" % (name, kind[1], lit.set_text(self.members.get(name, ()))))
-            elif kind[0] == "assoc":
-                lines.append("assoc %s of %s %s" % (name, kind[1], lit.set_text(self.members.get(name, ()))))
-            else:
-                held = self.elements.get(name, {})
-                row = ", ".join(str(held[i]) for i in self.indices(kind[1]))
-                irv = " irv %d" % self.implicit[name] if self.objects[kind[1]][0] == "sparse" else ""
-                lines.append("array %s over %s [%s]%s" % (name, kind[1], row, irv))
-        return "\n".join([*lines, "end", ""])
+__all__ = ["Book", "Look", "counted", "plan"]
 
 
 class Look:
@@ -381,10 +306,16 @@ def all_of(look, r):
     return {("Element", r["a"], i): value for i, value in made.items()}
 
 
+def load(look, r):
+    look.reads.add(("Object",))
+    look.demand(not look.book.objects, "E17")
+    return read_book(r["text"]).cells()
+
+
 CHANGES = {
     "domain": domain, "remap": remap, "sparse": sparse, "assoc": assoc, "drop_domain": drop_domain, "reshape": reshape,
     "add": add, "remove": remove, "array": array, "drop_array": drop_array, "set": set_one, "fill": fill,
-    "fill_all": fill_all, "irv": irv, "copy": copy, "all": all_of,
+    "fill_all": fill_all, "irv": irv, "copy": copy, "all": all_of, "load": load,
 }
 
 

@@ -11,7 +11,7 @@ NAMES = {
     "E01": "bad-request", "E02": "bad-literal", "E03": "name-taken", "E04": "no-such-name", "E05": "wrong-kind",
     "E06": "out-of-domain", "E07": "out-of-parent", "E08": "in-use", "E09": "too-large", "E10": "overflow",
     "E11": "no-such-edit", "E12": "not-in-force", "E13": "in-force", "E14": "blocked", "E15": "bad-mapping",
-    "E16": "refused-in-place", "E90": "no-memory", "E91": "line-too-long", "E92": "strange-pass",
+    "E16": "refused-in-place", "E17": "not-empty", "E18": "empty", "E90": "no-memory", "E91": "line-too-long", "E92": "strange-pass",
 }
 
 
@@ -22,11 +22,16 @@ class Edit:
         self.request, self.reads, self.before = request, frozenset(), None
 
     def touches_what(self, reads):
-        return any(cell in reads or cell[:2] in reads for cell in self.before)
+        return any(is_among(cell, reads) for cell in self.before)
 
     def meets(self, cells):
         """Whether it touched or read one of the cells."""
-        return any(cell in self.before or cell in self.reads or cell[:2] in self.reads for cell in cells)
+        return any(cell in self.before or is_among(cell, self.reads) for cell in cells)
+
+
+def is_among(cell, reads):
+    """Whether reads name a cell: itself, its family, or all of its kind."""
+    return cell in reads or cell[:2] in reads or cell[:1] in reads
 
 
 def text_of(reply):
@@ -59,6 +64,8 @@ class Machine:
                 return QUESTION[op](self, request)
             if op == "undo":
                 return self.undo(request.get("k"))
+            if op == "cascade":
+                return self.cascade(request["k"])
             return self.redo(request["k"]) if op == "redo" else self.edit(request)
         except Refused as why:
             return refusal(why)
@@ -91,6 +98,22 @@ class Machine:
         self.book.set_all(edit.before)
         n, edit.before = counted(edit.before), None
         return {"n": n, "undone": k}
+
+    def dependents(self, k):
+        """Edit k and each later edit in force that touched or read what one of these touched, from the greatest down."""
+        edit = self.numbered(k)
+        if edit.before is None:
+            raise Refused("E12")
+        found, cells = [k], dict.fromkeys(edit.before)
+        for j, other in self.later(k):
+            if other.meets(cells):
+                found.append(j)
+                cells.update(dict.fromkeys(other.before))
+        return found[::-1]
+
+    def cascade(self, k):
+        undone = self.dependents(k)
+        return {"n": sum(self.undo(j)["n"] for j in undone), "undone": undone}
 
     def redo(self, k):
         edit = self.numbered(k)
@@ -154,6 +177,20 @@ def state(machine, r):
     return {"in_force": machine.numbered(r["k"]).before is not None}
 
 
+def dependents(machine, r):
+    return {"dependents": machine.dependents(r["k"])}
+
+
+def reduce(machine, r):
+    look = Look(machine.book)
+    look.array(r["a"])
+    values = machine.book.elements.get(r["a"], {}).values()
+    look.demand(values or r["how"] == "+", "E18")
+    value = {"+": sum, "min": min, "max": max}[r["how"]](values)
+    look.demand(lit.LOW <= value <= lit.HIGH, "E10")
+    return {"value": value}
+
+
 def print_text(machine, r):
     return {"text": machine.book.text()}
 
@@ -182,4 +219,7 @@ def history(machine, r):
     return {"text": "\n".join(["chapel-workbook 2", *objects, "history %d" % len(edits), *edits, "end", ""])}
 
 
-QUESTION = {"history": history, "get": get, "where": where, "size": size, "piece": piece, "state": state, "print": print_text}
+QUESTION = {
+    "history": history, "get": get, "where": where, "size": size, "piece": piece, "state": state, "print": print_text,
+    "dependents": dependents, "reduce": reduce,
+}

@@ -4,6 +4,7 @@ import json
 import re
 
 from .literals import HIGH, LOW, Refused, domain_literal, is_text_index, mapping_literal
+from .texts import read_book
 
 LONGEST_LINE = 65_536
 NAME = re.compile(r"[A-Za-z][A-Za-z0-9_]{0,31}")
@@ -101,6 +102,12 @@ def source(value):
     return ("name", name(value))
 
 
+def book_text(value):
+    """The text of a workbook: E02 where it is a text and no workbook's."""
+    text(read_book)(value)
+    return value
+
+
 domain, mapping = text(domain_literal), text(mapping_literal)
 
 # The fields of each op. One that may be missing stands after a question mark.
@@ -129,8 +136,16 @@ FIELDS = {
     "state": {"k": count},
     "print": {},
     "history": {},
+    "load": {"text": book_text},
+    "cascade": {"k": count},
+    "dependents": {"k": count},
+    "reduce": {"a": name, "how": word("+", "min", "max")},
 }
-QUESTIONS = {"history", "get", "where", "size", "piece", "state", "print"}
+QUESTIONS = {"history", "get", "where", "size", "piece", "state", "print", "dependents", "reduce"}
+PLANNED = {
+    "load": {"text": "chapel-workbook 1\nend\n"}, "cascade": {"k": 1}, "dependents": {"k": 1}, "reduce": {"a": "A", "how": "+"},
+}
+"""Ops that a program may lack, each with fields that it would read."""
 SOURCES = {**{how: offset for how in OFFSETS}, **{how: source for how in LITERALS}}
 
 
@@ -163,6 +178,11 @@ def request_of(members):
     if faults:
         raise Refused(min(faults))
     return found
+
+
+def lacks(op):
+    """From now on this op is read as one that there isn't: for a program that hasn't got it yet."""
+    FIELDS.pop(op, None)
 
 
 def read(line):

@@ -1,9 +1,27 @@
 """Requests by chance, over a few names, so that they meet each other: most are possible, some are refused."""
 
+from .reading import FIELDS
+
 TEXTS = ["", "a", "b", "z", "a b", "é", "0", "x" * 64]
 NAMES = {"D": 1, "M": 2, "C": 3, "S": 1, "R": 2, "N": 1, "T": "text"}
 OVER = {"A": "D", "B": "D", "E": "M", "F": "C", "G": "S", "H": "N", "K": "T", "L": "R", "P": "D"}
 WIDTH = {1: 12, 2: 4, 3: 3}
+BOOK = """\
+chapel-workbook 1
+array A over D [1, 2, 3, 4, 5, 6, 7, 8, 9, 9223372036854775807]
+array B over D [0, 0, 0, 0, 0, 0, 0, 0, 0, 0]
+array F over C [0, 0, 0, 0]
+array G over S [4, -7] irv 7
+array K over T [1, 2]
+rect C {0..1, 0..1, 0..0} cyclicDist((0, 0, 0), [2, 1, 2])
+rect D {1..10} blockDist({1..10}, [4])
+assoc N of int {}
+sparse S of D {2, 9}
+assoc T of text {"", "é"}
+end
+"""
+BOOKS = [BOOK, "chapel-workbook 1\nend\n", "chapel-workbook 1\nassoc N of int {1, 5}\nend\n", "", BOOK + "\n", BOOK.replace("}", " }"), BOOK[:-1],
+         BOOK.replace("{2, 9}", "{2, 11}"), BOOK.replace("[1, 2]", "[1]"), BOOK.replace("irv 7", "irv 07"), BOOK.replace("over C", "over Q")]
 INTEGERS = [0, 1, -1, 7, 2**31, 2**63 - 1, -(2**63), 10**18]
 BEGINNING = [
     {"op": "domain", "d": "D", "is": "{1..10}", "map": "blockDist({1..10}, [4])"},
@@ -22,6 +40,8 @@ class Requests:
 
     def __init__(self, chance):
         self.chance, self.latest = chance, 0
+        self.ops = [op for op in SHARES if op == "reshape" or op in FIELDS]
+        self.shares = [SHARES[op] for op in self.ops]
 
     def pick(self, choices):
         return self.chance.choice(choices)
@@ -85,7 +105,7 @@ class Requests:
 
     def request(self):
         """Any request."""
-        op = self.chance.choices(OPS, WEIGHTS)[0]
+        op = self.chance.choices(self.ops, self.shares)[0]
         return {"op": op, **getattr(self, "make_" + op)()}
 
     def make_domain(self):
@@ -181,11 +201,18 @@ class Requests:
     def make_print(self):
         return {}
 
+    make_cascade = make_dependents = make_redo
+
+    def make_reduce(self):
+        return {"a": self.array_name(), "how": self.pick(["+", "min", "max"])}
+
+    def make_load(self):
+        return {"text": self.pick(BOOKS)}
+
 
 # How often each op is asked for.
 SHARES = {
     "domain": 4, "sparse": 2, "assoc": 2, "drop_domain": 2, "reshape": 8, "add": 8, "remove": 4, "remap": 3, "array": 4,
     "drop_array": 2, "set": 16, "fill": 5, "fill_all": 2, "irv": 2, "copy": 8, "all": 4, "undo": 22, "redo": 18, "get": 4,
-    "where": 2, "size": 2, "piece": 2, "state": 3, "print": 1,
+    "where": 2, "size": 2, "piece": 2, "state": 3, "print": 1, "cascade": 2, "dependents": 4, "reduce": 4, "load": 1,
 }
-OPS, WEIGHTS = list(SHARES), list(SHARES.values())
