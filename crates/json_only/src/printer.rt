@@ -1,5 +1,5 @@
 // JSON lines, printed again.
-ghost use Rattle.std.specs.Prelude.{◌⊎◌, IfOk};
+ghost use Rattle.std.specs.Prelude.{◌≡◌, ◌⊎◌, IfOk};
 ghost use Rattle.wb_lines.specs.Session.{Answered};
 ghost use Rattle.json_only.specs.Printing.{PrintsAgain, IsJson, IsOther};
 
