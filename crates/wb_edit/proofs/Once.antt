@@ -57,7 +57,7 @@ use Rattle.wb_edit.proofs.SideBySide.{kept_ascend}
 use Rattle.wb_edit.proofs.Once.Columns.{once_column, once_resized, once_ended, once_seen}
 use Rattle.wb_edit.proofs.Once.Looks.{Once, once_read, once_judged, once_test, once_all, once_idx, rectangle_once, none_once, none_apart}
 use Rattle.wb_edit.proofs.Once.Sources.{resized_once, reshape_once}
-use Rattle.wb_told.specs.Books.{cells_in}
+use Rattle.wb_reading.specs.Texts.Books.{cells_in}
 
 domain_once : (d : Name) (rs : List Range) (m : LayoutMap) → IsListedOnce (indices rs) → AllOnce cell_cmp (domain_cells d rs m)
 domain_once d rs m once =

@@ -37,7 +37,7 @@ pub use Rattle.wb_edit.specs.Sources.{reshape}
 pub use Rattle.wb_resize.specs.Dropped.{own_cells, ended_cells}
 use Rattle.wb_resize.specs.Resized.{resized_cells}
 use Rattle.wb_edit.specs.Writes.{put, put_all, put_each, clear, clear_all}
-use Rattle.wb_told.specs.Books.{cells_in}
+use Rattle.wb_reading.specs.Texts.Books.{cells_in}
 
 -- what a new rectangular domain writes: the domain with its rank, its ranges, its mapping, and that each of its indices
 -- is in it (Chapel Language Specification, Domains and Domain Maps)

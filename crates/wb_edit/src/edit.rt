@@ -9,8 +9,8 @@ use crate::operation::Operation;
 use std::alloc::Global;
 use wb_book::{AnyIndex, AnyLayout, AnyRect, Index, KeyType, Name};
 use wb_range::{Domain, NoMemory};
+use wb_reading::BookText;
 use wb_resize::{Given, Source};
-use wb_told::BookText;
 
 /// A command that changes a workbook, as it is asked for.
 ///

@@ -4,20 +4,20 @@
 //! that was given. So a text is read just where it is the text of a workbook.
 #![tactic(auto)]
 
+mod text;
+
 ghost use Rattle.std.specs.Prelude.{◌≡◌, ◌≢◌, true, false, Some, None, IfOk, IfErr, IfSome, IfNone, map, option_map};
 ghost use Rattle.wb_reading.specs.Reading.{IsNoBook};
 ghost use Rattle.wb_text.specs.Lines.{book_text};
 ghost use Rattle.wb_text.specs.Said.{line_of};
-ghost use Rattle.wb_told.specs.Books.{told_by, book_in, is_book_text};
+ghost use Rattle.wb_reading.specs.Texts.Books.{told_by, book_in, is_book_text};
 
+pub use crate::text::{BookText, laws};
 use std::alloc::Global;
 use thiserror::Error;
-use wb_parse::read_lines;
 use wb_range::NoMemory;
-use wb_rebuild::rebuild;
 use wb_shelf::Book;
-use wb_text::{ObjectLine, print_book};
-use wb_told::BookText;
+use wb_text::{ObjectLine, print_book, read_lines, rebuild};
 
 /// Why a text is not read.
 #[derive(Clone, Copy, Debug, PartialEq, Eq, Error)]

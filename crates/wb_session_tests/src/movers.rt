@@ -12,9 +12,8 @@ use std::thread::Threads;
 use wb_book::{Inverse, Name};
 use wb_edit::laws::keeps_well_formed;
 use wb_edit::{Edit, plan};
-use wb_elements::Pairs;
 use wb_redist::{Gate, MoveErr, Mover, OneThread, Open, Way, Workers};
-use wb_shelf::Book;
+use wb_shelf::{Book, Pairs};
 
 // A domain in two blocks, an array over it, and one over a part of it.
 const MAPPED: &str =

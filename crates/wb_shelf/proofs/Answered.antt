@@ -5,8 +5,8 @@ use Rattle.wb_book.specs.declared.cells.cell.Cell.{Cell}
 use Rattle.wb_book.specs.declared.cells.value.Value.{Value}
 use Rattle.wb_book.specs.Cells.{Name, Cells, state_of}
 use Rattle.wb_book.specs.Families.{AreNamed}
-use Rattle.wb_join.specs.Stored.{stored_cells}
-use Rattle.wb_join.proofs.Stored.{kept_are_stored, stored_named}
+use Rattle.wb_shelf.specs.Stored.{stored_cells}
+use Rattle.wb_shelf.proofs.Stored.{kept_are_stored, stored_named}
 use Rattle.wb_shelf.specs.Shelf.{Pieced, cells_of, IsShelf}
 
 pub stored_are : (cells : BTreeMap Cell Value) (arrays : BTreeMap Name Pieced) → IsShelf cells arrays → state_of cells ≡ stored_cells (cells_of cells arrays)

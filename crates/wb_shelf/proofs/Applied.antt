@@ -24,14 +24,14 @@ use Rattle.wb_book.specs.Kinds.{kind_of}
 use Rattle.wb_book.specs.Locales.{mapping_in}
 use Rattle.wb_book.specs.WellFormed.{IsWellFormed, IsElement, IsObject, HasMapping, is_index_of_array, domain_at, domain_in, array_at, array_in as object_in}
 use Rattle.wb_book.proofs.Shown.{get-state_of}
-use Rattle.wb_elements.specs.Changed.{changed_at}
-use Rattle.wb_join.specs.Joined.{is_stored, stored_in, AllStored}
+use Rattle.wb_shelf.specs.Piecewise.Changed.{changed_at}
+use Rattle.wb_shelf.specs.Joined.{is_stored, stored_in, AllStored}
 use Rattle.wb_shelf.specs.Kept.{Pieced, array_in, Agree}
 use Rattle.wb_shelf.specs.After.{kind_lies, object_lies, lies_at, IsAfter}
 use Rattle.wb_shelf.specs.Groups.{Group, LeadTo}
 use Rattle.wb_shelf.specs.Moved.{put_over}
 use Rattle.wb_shelf.specs.Shelf.{cells_of, IsShelf, lies_by, mapping_of}
-use Rattle.wb_shelf.proofs.Elements.{stored_there, differ, stored_apart}
+use Rattle.wb_shelf.proofs.ElementsSet.{stored_there, differ, stored_apart}
 use Rattle.wb_shelf.proofs.Same.{same_cells}
 use Rattle.wb_shelf.proofs.Written.{one_cell as equal_cells}
 

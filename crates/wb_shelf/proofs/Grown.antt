@@ -14,7 +14,7 @@ use Rattle.wb_book.specs.declared.cells.cell.Cell.TheVariants.{Object}
 use Rattle.wb_book.specs.declared.cells.value.Value.{Value}
 use Rattle.wb_book.specs.declared.values.index.Index.{Index}
 use Rattle.wb_book.specs.Cells.{Name, Changes, cell_cmp, index_cmp, is_same_name}
-use Rattle.wb_join.specs.Joined.{element_in}
+use Rattle.wb_shelf.specs.Joined.{element_in}
 use Rattle.wb_shelf.specs.After.{is_array}
 use Rattle.wb_shelf.specs.Kept.{Pieced, array_in}
 use Rattle.wb_shelf.proofs.Written.{one_name, one_cell as equal_cells}

@@ -15,9 +15,9 @@ use Rattle.wb_book.specs.declared.cells.value.Value.{Value}
 use Rattle.wb_book.specs.Cells.{Name, Cells, cell_cmp, cell_order, state_of}
 use Rattle.wb_book.specs.WellFormed.{IsWellFormed, array_at}
 use Rattle.wb_book.proofs.Shown.{get-state_of}
-use Rattle.wb_join.specs.Joined.{is_stored, AllStored}
-use Rattle.wb_join.specs.Stored.{stored_cells}
-use Rattle.wb_join.proofs.Stored.{get-stored_cells, get-stored}
+use Rattle.wb_shelf.specs.Joined.{is_stored, AllStored}
+use Rattle.wb_shelf.specs.Stored.{stored_cells}
+use Rattle.wb_shelf.proofs.Stored.{get-stored_cells, get-stored}
 use Rattle.wb_shelf.specs.Kept.{Pieced, array_in}
 use Rattle.wb_shelf.specs.Parts.{AreParts}
 use Rattle.wb_shelf.specs.Shelf.{cells_of, IsShelf, lies_by}

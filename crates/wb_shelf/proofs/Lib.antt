@@ -1,7 +1,11 @@
+pub mod Piecewise
+pub mod JoinedGroups
+pub mod Joined
+pub mod Stored
 pub mod Kept
 pub mod Written
 pub mod Same
-pub mod Elements
+pub mod ElementsSet
 pub mod Moved
 pub mod Seen
 pub mod Leads

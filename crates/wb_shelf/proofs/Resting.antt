@@ -20,7 +20,7 @@ use Rattle.wb_book.specs.Locales.{mapping_in}
 use Rattle.wb_book.specs.WellFormed.{IsWellFormed, HasMapping, domain_at, domain_in, array_at}
 use Rattle.wb_shelf.specs.Groups.{leaves_at, leaves}
 use Rattle.wb_shelf.specs.Shelf.{lies_by, mapping_of}
-use Rattle.wb_shelf.proofs.Elements.{both_true}
+use Rattle.wb_shelf.proofs.ElementsSet.{both_true}
 use Rattle.wb_shelf.proofs.Present.{domain_object, array_object}
 use Rattle.wb_shelf.proofs.Written.{one_cell as equal_cells}
 

@@ -20,8 +20,8 @@ use Rattle.wb_book.specs.declared.values.index.Index.{Index}
 use Rattle.wb_book.specs.contracts.values.index.IndexOrd.TheImpl.Laws as index_laws
 use Rattle.wb_book.specs.Cells.{Name, Cells, Changes, cell_order, index_cmp, is_same_name, is_same_index}
 use Rattle.wb_book.specs.WellFormed.{IsWellFormed, inside_of, ranges_in}
-use Rattle.wb_join.specs.Joined.{is_stored, stored_in, element_in, answer}
-use Rattle.wb_join.proofs.Joined.{IsKept, get-joined}
+use Rattle.wb_shelf.specs.Joined.{is_stored, stored_in, element_in, answer}
+use Rattle.wb_shelf.proofs.Joined.{IsKept, get-joined}
 use Rattle.wb_shelf.specs.Kept.{Pieced, array_in, with_element, Agree}
 use Rattle.wb_shelf.specs.Shelf.{cells_of}
 use Rattle.std.proofs.lemmas.List.{take_more}

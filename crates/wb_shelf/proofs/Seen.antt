@@ -21,8 +21,8 @@ use Rattle.wb_book.specs.declared.values.index.Index.{Index}
 use Rattle.wb_book.specs.Cells.{Name, Cells, cell_cmp, cell_order, index_cmp, is_same_name, matches}
 use Rattle.wb_book.specs.Readers.{seen, elements, element_in as told_by}
 use Rattle.wb_book.proofs.Order.{entries_ascending}
-use Rattle.wb_join.specs.Joined.{stored_in}
-use Rattle.wb_join.proofs.Joined.{find-lookup, array_is_group}
+use Rattle.wb_shelf.specs.Joined.{stored_in}
+use Rattle.wb_shelf.proofs.Joined.{find-lookup, array_is_group}
 use Rattle.wb_shelf.specs.Kept.{Pieced, array_in, pairs_of, element_cells, one_cell}
 use Rattle.wb_shelf.specs.Shelf.{cells_of, IsShelf}
 use Rattle.wb_shelf.proofs.Kept.{get-cells_of}

@@ -29,7 +29,7 @@ use Rattle.wb_book.specs.Kinds.{kind_of}
 use Rattle.wb_book.specs.Locales.{mapping_in}
 use Rattle.wb_book.specs.WellFormed.{IsWellFormed, HasMapping, domain_at, array_at, array_in as object_in}
 use Rattle.wb_book.proofs.Shown.{get-state_of}
-use Rattle.wb_join.specs.Joined.{is_stored, stored_in, element_in}
+use Rattle.wb_shelf.specs.Joined.{is_stored, stored_in, element_in}
 use Rattle.wb_shelf.specs.After.{lies_at, IsAfter, AreAfter, is_array}
 use Rattle.wb_shelf.specs.Groups.{Group, group_in, changes_in, LeadTo, leaves}
 use Rattle.wb_shelf.specs.Kept.{Pieced, array_in, Agree}
@@ -40,7 +40,7 @@ use Rattle.wb_shelf.proofs.Applied.{shelf_after}
 use Rattle.wb_shelf.proofs.Built.{after_all}
 use Rattle.wb_shelf.proofs.Present.{domain_object, array_object}
 use Rattle.wb_shelf.proofs.Resting.{is_lay, left_alone, same_lies}
-use Rattle.wb_shelf.proofs.Elements.{stored_there}
+use Rattle.wb_shelf.proofs.ElementsSet.{stored_there}
 use Rattle.wb_shelf.proofs.Kept.{get-cells_of}
 
 -- ---- the changes of stored cells

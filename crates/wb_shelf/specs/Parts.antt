@@ -5,7 +5,7 @@ use Rattle.wb_book.specs.declared.cells.cell.Cell.{Cell}
 use Rattle.wb_book.specs.declared.cells.value.Value.{Value}
 use Rattle.wb_book.specs.Cells.{Name, Cells, state_of}
 use Rattle.wb_book.specs.WellFormed.{IsWellFormed, array_at}
-use Rattle.wb_join.specs.Stored.{stored_cells}
+use Rattle.wb_shelf.specs.Stored.{stored_cells}
 use Rattle.wb_shelf.specs.Kept.{Pieced, array_in, Agree}
 use Rattle.wb_shelf.specs.Shelf.{lies_by}
 

@@ -4,16 +4,16 @@ ghost use Rattle.std.specs.Prelude.{◌≡◌, ℕ, filter, map, Some, option_ma
 ghost use Rattle.wb_book.specs.declared.cells.cell.Cell.TheVariants.{Mapping as mapping_cell};
 ghost use Rattle.wb_dist.specs.Maps.{LayoutMap};
 ghost use Rattle.wb_book.specs.Locales.{mapping_in};
-ghost use Rattle.wb_join.specs.Joined.{answer, stored_in, element_in, is_stored};
+ghost use Rattle.wb_shelf.specs.Joined.{answer, stored_in, element_in, is_stored};
 ghost use Rattle.wb_shelf.specs.Kept.{Pieced, array_in};
 ghost use Rattle.wb_shelf.specs.After.{kind_lies, domain_lies, lies_at, IsAfter, AreAfter};
 
+use crate::arrays::Elements;
 use crate::groups::Group;
 use crate::keep;
 use std::alloc::{AllocError, Global};
 use std::collections::BTreeMap;
 use wb_book::{AnyIndex, AnyLayout, Cell, CellChange, DomainKind, KeyType, Name, Value};
-use wb_elements::Elements;
 use wb_range::NoMemory;
 use wb_redist::{MoveErr, Mover};
 

@@ -12,18 +12,18 @@ ghost use Rattle.wb_book.specs.declared.cells.cell.Cell.TheVariants.{Object};
 ghost use Rattle.wb_book.specs.declared.values.index.Index.{Index};
 ghost use Rattle.wb_book.specs.Cells.{cell_cmp, state_of, is_same_name};
 ghost use Rattle.wb_book.specs.WellFormed.{IsWellFormed};
-ghost use Rattle.wb_join.specs.Joined.{stored_in, element_in, is_stored};
+ghost use Rattle.wb_shelf.specs.Joined.{stored_in, element_in, is_stored};
 ghost use Rattle.wb_shelf.specs.After.{lies_at, AreAfter, is_array};
 ghost use Rattle.wb_shelf.specs.Kept.{Pieced, array_in};
 ghost use Rattle.wb_shelf.specs.Moved.{put_over};
 ghost use Rattle.wb_shelf.specs.Shelf.{cells_of, IsShelf};
 
+use crate::arrays::Elements;
 use crate::groups::Group;
 use crate::{after, groups, keep, moving};
 use std::alloc::Global;
 use std::collections::BTreeMap;
 use wb_book::{AnyIndex, AnyLayout, Cell, CellChange, Name, Value, store};
-use wb_elements::Elements;
 use wb_range::NoMemory;
 use wb_redist::{MoveErr, Mover};
 

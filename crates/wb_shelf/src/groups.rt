@@ -13,15 +13,15 @@ ghost use Rattle.wb_book.specs.declared.cells.cell.Cell.TheVariants.{Object};
 ghost use Rattle.wb_book.specs.declared.cells.value.Value.{Value as value_type};
 ghost use Rattle.wb_book.specs.declared.cells.value.Value.TheVariants.{Number as number_value};
 ghost use Rattle.wb_book.specs.Cells.{cell_cmp, is_same_name};
-ghost use Rattle.wb_join.specs.Joined.{stored_in};
+ghost use Rattle.wb_shelf.specs.Joined.{stored_in};
 ghost use Rattle.wb_shelf.specs.Groups.{group_in, changes_in, LeadTo, leaves};
 ghost use Rattle.wb_shelf.specs.Kept.{array_in};
 
+use crate::arrays::Elements;
 use std::alloc::Global;
 use std::collections::BTreeMap;
 use std::marker::Model;
 use wb_book::{AnyIndex, Cell, CellChange, Name, Value};
-use wb_elements::Elements;
 use wb_range::NoMemory;
 
 /// Changes of the elements of an array: to a number, or to absent.

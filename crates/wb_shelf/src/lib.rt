@@ -2,6 +2,7 @@
 #![tactic(auto)]
 
 mod after;
+mod arrays;
 mod change;
 mod groups;
 mod keep;
@@ -9,4 +10,5 @@ mod looks;
 mod moving;
 mod shelf;
 
+pub use crate::arrays::{AsIndex, Elements, Form, Pairs};
 pub use crate::shelf::Book;

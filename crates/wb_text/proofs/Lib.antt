@@ -17,3 +17,5 @@ pub mod SameObjects
 pub mod SameMembers
 pub mod SameCells
 pub mod NamesAscend
+pub mod Parsed
+pub mod FromLines

@@ -2,3 +2,5 @@ pub mod Literals
 pub mod Lines
 pub mod Said
 pub mod Laws
+pub mod Parsed
+pub mod FromLines

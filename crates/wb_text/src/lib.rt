@@ -13,10 +13,16 @@ mod lists;
 mod literals;
 mod mappings;
 mod objects;
+mod parsing;
 mod printed;
 mod said;
+mod workbook;
 
 pub use crate::literals::push_set;
 pub use crate::mappings::{push_any_layout, push_any_rect};
+pub use crate::parsing::read_lines;
 pub use crate::printed::print_book;
 pub use crate::said::ObjectLine;
+pub use crate::workbook::{
+    indices_of, places_of, points_of, put, put_presents, put_stored, rebuild,
+};

@@ -31,7 +31,7 @@ use Rattle.wb_resize.specs.declared.given.Given.TheVariants.{Named}
 use Rattle.wb_proto.specs.Fields.{◌>>=◌, name_of, key_type_of, operation_of, reduction_of, index_of}
 use Rattle.wb_proto.specs.Literals.{literal_domain, literal_mapping, text_of_book, refusal_of_limit, within, domain_within, mapping_within}
 use Rattle.wb_proto.specs.Sources.{is_braced, given_within, given_literal, given_name, given_text, given_by, point_in, offsets_by}
-use Rattle.wb_told.specs.Books.{is_book_text}
+use Rattle.wb_reading.specs.Texts.Books.{is_book_text}
 use Rattle.wb_wire.specs.Faults.{Fault, bad_request, bad_literal, too_large, bad_mapping, refusal_of, Plain, Kind, plain, IsBraced, IsBad, Fails}
 use Rattle.wb_wire.specs.Faults as kinds
 use Rattle.wb_wire.proofs.Values.{no_ok, some_of_ok, text_in, text_read, str_found, name_found, name_read, type_found, type_read, operation_found, operation_read, reduction_found, reduction_read, integer_in, integer_found, integer_read, number_in, natural_found, natural_read, index_in, index_found, index_read}

@@ -28,7 +28,7 @@ use Rattle.wb_resize.specs.declared.given.Given.TheVariants.{Rectangle, Items, N
 use Rattle.wb_proto.specs.Fields.{member_count, has_fields, has_fields_and, text_if_there, name_of, index_of}
 use Rattle.wb_proto.specs.Literals.{literal_domain, literal_mapping, optional_mapping as mapping_if_there, text_of_book, within, domain_within, mapping_within}
 use Rattle.wb_proto.specs.Sources.{is_braced, given_within, given_literal, given_name, given_text, given_by, point_in, offsets_by}
-use Rattle.wb_told.specs.Books.{is_book_text}
+use Rattle.wb_reading.specs.Texts.Books.{is_book_text}
 use Rattle.wb_wire.specs.Table.{integer, optional_mapping, some_mapping, some_integer}
 use Rattle.wb_wire.specs.Spelled.{IsIndex, IsGiven, IsMapping, Says}
 use Rattle.wb_wire.proofs.Members.{there}

@@ -20,7 +20,7 @@ use Rattle.wb_literal.specs.declared.rectangle.RectangleLiteral.{RectangleLitera
 use Rattle.wb_limits.specs.Literals.{domain_within}
 use Rattle.wb_limits.specs.Mappings.{mapping_within}
 use Rattle.wb_limits.specs.declared.limit.LimitErr.TheVariants as limits
-use Rattle.wb_told.specs.Books.{is_book_text}
+use Rattle.wb_reading.specs.Texts.Books.{is_book_text}
 use Rattle.wb_wire.specs.Table as table
 use Rattle.wb_wire.specs.Spelled.{Spells, without}
 

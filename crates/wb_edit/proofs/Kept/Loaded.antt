@@ -9,8 +9,8 @@ use Rattle.wb_edit.specs.Objects.{is_empty}
 use Rattle.wb_edit.specs.Schema.{workbook}
 use Rattle.wb_edit.proofs.Kept.Steps.{Keeps, keeps_judged}
 use Rattle.wb_edit.proofs.Loading.{becomes, no_objects, nothing_there}
-use Rattle.wb_told.specs.Books.{IsBookText, cells_in}
-use Rattle.wb_told.proofs.Back.{cells_back}
+use Rattle.wb_reading.specs.Texts.Books.{IsBookText, cells_in}
+use Rattle.wb_reading.proofs.Texts.Back.{cells_back}
 
 pub load_kept : (s : Cells) (text : List ℕ) → IsBookText text → IsWellFormed s → Keeps (load text) s
 load_kept s text valid h =

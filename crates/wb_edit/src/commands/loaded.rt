@@ -2,7 +2,7 @@ ghost use Rattle.std.specs.Prelude.{◌≡◌};
 ghost use Rattle.wb_book.specs.Cells.{state_of};
 ghost use Rattle.wb_edit.specs.Commands.{book_cells, load};
 ghost use Rattle.wb_edit.specs.Plans.{Attempts, Makes};
-ghost use Rattle.wb_told.specs.Books.{cells_in};
+ghost use Rattle.wb_reading.specs.Texts.Books.{cells_in};
 
 use crate::commands::writes::put;
 use crate::foot::Foot;
@@ -11,8 +11,8 @@ use crate::tests::stop::Stop;
 use std::alloc::Global;
 use std::collections::BTreeMap;
 use wb_book::{Cell, Delta, Value};
+use wb_reading::BookText;
 use wb_shelf::Book;
-use wb_told::BookText;
 
 /// The workbook of a text.
 pub(crate) fn plan_load(

@@ -1,9 +1,9 @@
 use Rattle.std.proofs.Common.{◌≡◌, List, map, Option, option_map, option_and_then, Result, Ok, Err, IfOk, sym, ap, ◌∙◌}
 use Rattle.std.specs.Global.{Vec}
-use Rattle.wb_parse.specs.Lines as lines
+use Rattle.wb_text.specs.Parsed.Lines as lines
 use Rattle.wb_text.specs.Said.{Line, line_of}
 use Rattle.wb_text.specs.declared.said.ObjectLine.{ObjectLine}
-use Rattle.wb_told.specs.Books.{told_by, book_in}
+use Rattle.wb_reading.specs.Texts.Books.{told_by, book_in}
 use Rattle.wb_reading.proofs.book_of.Goals as goal
 
 same_if : {T E X : Type 0} (f : T → X) (x y : X) (r : Result T E) → x ≡ y → IfOk r (λ t. f t ≡ x) → IfOk r (λ t. f t ≡ y)

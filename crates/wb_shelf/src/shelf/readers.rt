@@ -4,17 +4,17 @@ ghost use Rattle.std.specs.Prelude.{◌≡◌, is_some, length, option_map, slic
 ghost use Rattle.wb_book.specs.Locales.{locale_by, is_index_at, locale_at, locale_count_at};
 ghost use Rattle.wb_book.specs.Readers.{objects, users, size_at, index_at, elements};
 ghost use Rattle.wb_book.specs.WellFormed.{IsWellFormed, domain_at};
-ghost use Rattle.wb_elements.specs.Lent.{lent};
+ghost use Rattle.wb_shelf.specs.Piecewise.Lent.{lent};
 ghost use Rattle.wb_redist.specs.Reductions.{IsReduced};
 ghost use Rattle.wb_shelf.specs.Shelf.{piece_at};
 
+use crate::arrays::Pairs;
 use crate::looks;
 use crate::shelf::Book;
 use wb_book::{
     AnyIndex, Name, index_at, locale_at, locale_by, locale_count_at, object_at, object_count,
     size_at, user_at,
 };
-use wb_elements::Pairs;
 use wb_redist::{Mover, Op, ReduceErr};
 
 impl Book {

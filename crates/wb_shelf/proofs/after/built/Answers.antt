@@ -2,7 +2,7 @@ use Rattle.std.proofs.Common.{rules, ◌≡◌, List, [], ◌∷◌, ◌++◌, O
 use Rattle.std.proofs.lemmas.List.{append-nil}
 use Rattle.wb_dist.specs.Maps.{LayoutMap}
 use Rattle.wb_book.specs.Cells.{Name}
-use Rattle.wb_join.specs.Joined.{stored_in}
+use Rattle.wb_shelf.specs.Joined.{stored_in}
 use Rattle.wb_shelf.specs.After.{lies_at, IsAfter, AreAfter}
 use Rattle.wb_shelf.specs.Groups.{Group}
 use Rattle.wb_shelf.specs.Kept.{Pieced, array_in}

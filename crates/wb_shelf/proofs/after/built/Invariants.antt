@@ -1,6 +1,6 @@
 use Rattle.std.proofs.Common.{List, ◌++◌}
 use Rattle.wb_book.specs.Cells.{Name}
-use Rattle.wb_join.specs.Joined.{stored_in}
+use Rattle.wb_shelf.specs.Joined.{stored_in}
 use Rattle.wb_shelf.specs.After.{lies_at, AreAfter}
 use Rattle.wb_shelf.specs.Kept.{Pieced}
 use Rattle.wb_shelf.proofs.after.built.Given as goal

@@ -2,10 +2,10 @@ use Rattle.std.proofs.Common.{◌≡◌, refl, sym, ap, subst, ◌∙◌}
 use Rattle.selective_undo.specs.Changes.{apply, AllOnce}
 use Rattle.selective_undo.proofs.AllOrNothing.{once-inverse, room-inverse, off_cells}
 use Rattle.wb_book.specs.Cells.{Changes, cell_cmp, cell_order, state_of}
-use Rattle.wb_join.specs.Joined.{stored_in}
+use Rattle.wb_shelf.specs.Joined.{stored_in}
 use Rattle.wb_shelf.specs.After.{lies_at}
 use Rattle.wb_shelf.proofs.Built.{built_ascending}
-use Rattle.wb_shelf.proofs.Elements.{set_whole}
+use Rattle.wb_shelf.proofs.ElementsSet.{set_whole}
 use Rattle.wb_shelf.proofs.Whole.{once_stored, made_whole, taken_back}
 use Rattle.wb_shelf.proofs.change.change_all.Goals as goal
 

@@ -2,7 +2,7 @@ use Rattle.std.proofs.Common.{◌≡◌, ℕ, List, ◌&&◌, not, None, cond, d
 use Rattle.selective_undo.specs.Changes.{changes}
 use Rattle.wb_book.specs.declared.cells.cell.Cell.TheVariants.{Object}
 use Rattle.wb_book.specs.Cells.{cell_cmp}
-use Rattle.wb_join.specs.Joined.{stored_in}
+use Rattle.wb_shelf.specs.Joined.{stored_in}
 use Rattle.wb_shelf.specs.After.{is_array}
 use Rattle.wb_shelf.specs.Kept.{array_in}
 use Rattle.wb_shelf.proofs.change.drop_gone.Given as goal

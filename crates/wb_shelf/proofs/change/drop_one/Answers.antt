@@ -1,5 +1,5 @@
 use Rattle.std.proofs.Common.{sym, ◌∙◌}
-use Rattle.wb_join.specs.Joined.{stored_in}
+use Rattle.wb_shelf.specs.Joined.{stored_in}
 use Rattle.wb_shelf.specs.Kept.{array_in}
 use Rattle.wb_shelf.proofs.Grown.{kept_one, dropped_one}
 use Rattle.wb_shelf.proofs.change.drop_one.Goals as goal

@@ -4,7 +4,7 @@ use Rattle.std.specs.Map.{keys_of}
 use Rattle.wb_array.specs.Elements.{value_at}
 use Rattle.wb_book.specs.declared.values.index.Index.{Index}
 use Rattle.wb_book.specs.Cells.{index_cmp}
-use Rattle.wb_elements.specs.Changed.{changed_at}
+use Rattle.wb_shelf.specs.Piecewise.Changed.{changed_at}
 use Rattle.wb_shelf.specs.Kept.{array_in}
 use Rattle.wb_shelf.proofs.Grown.{none_there, put_stays, put_elements}
 use Rattle.wb_shelf.proofs.Kept.{ascending-nothing}

@@ -3,7 +3,7 @@ use Rattle.selective_undo.specs.Changes.{changes}
 use Rattle.wb_book.specs.declared.cells.cell.Cell.TheVariants.{Object}
 use Rattle.wb_book.specs.declared.values.index.Index.{Index}
 use Rattle.wb_book.specs.Cells.{cell_cmp}
-use Rattle.wb_join.specs.Joined.{stored_in, element_in}
+use Rattle.wb_shelf.specs.Joined.{stored_in, element_in}
 use Rattle.wb_shelf.specs.After.{is_array}
 use Rattle.wb_shelf.specs.Kept.{Pieced, array_in}
 use Rattle.wb_shelf.proofs.change.put_new.Given as goal

@@ -2,7 +2,7 @@ use Rattle.std.proofs.Common.{◌≡◌, true≢false, IsSome, sym, ap, subst, �
 use Rattle.std.proofs.lemmas.Result.{on_ok_weaker}
 use Rattle.wb_book.specs.declared.cells.cell.Cell.TheVariants.{Object}
 use Rattle.wb_book.specs.Cells.{Name}
-use Rattle.wb_join.specs.Joined.{stored_in}
+use Rattle.wb_shelf.specs.Joined.{stored_in}
 use Rattle.wb_shelf.specs.After.{is_array}
 use Rattle.wb_shelf.specs.Kept.{array_in}
 use Rattle.wb_shelf.proofs.Grown.{at_object}

@@ -1,9 +1,9 @@
 use Rattle.std.proofs.Common.{take, sym, subst, ◌∙◌}
 use Rattle.selective_undo.specs.Changes.{apply}
 use Rattle.wb_book.specs.Cells.{Cells}
-use Rattle.wb_join.specs.Joined.{element_in}
+use Rattle.wb_shelf.specs.Joined.{element_in}
 use Rattle.wb_shelf.specs.Kept.{Agree}
-use Rattle.wb_shelf.proofs.Elements.{set_there}
+use Rattle.wb_shelf.proofs.ElementsSet.{set_there}
 use Rattle.wb_shelf.proofs.Same.{apply_more}
 use Rattle.wb_shelf.proofs.keep.set_all.Goals as goal
 

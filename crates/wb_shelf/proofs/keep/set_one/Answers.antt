@@ -3,9 +3,9 @@ use Rattle.std.proofs.lemmas.Int.{to_z-of_z}
 use Rattle.wb_book.specs.declared.cells.cell.Cell.TheVariants.{Element}
 use Rattle.wb_book.specs.declared.values.index.Index.{Index}
 use Rattle.wb_book.specs.Cells.{Name, is_same_name}
-use Rattle.wb_join.specs.Joined.{element_in}
+use Rattle.wb_shelf.specs.Joined.{element_in}
 use Rattle.wb_shelf.specs.Kept.{array_in, with_element, number_in}
-use Rattle.wb_shelf.proofs.Elements.{element_set, agree_set}
+use Rattle.wb_shelf.proofs.ElementsSet.{element_set, agree_set}
 use Rattle.wb_shelf.proofs.Same.{there_more}
 use Rattle.wb_shelf.proofs.keep.set_one.Goals as goal
 

@@ -4,7 +4,7 @@ use Rattle.selective_undo.proofs.AllOrNothing.{once-inverse}
 use Rattle.wb_book.specs.declared.cells.cell.Cell.{Cell}
 use Rattle.wb_book.specs.declared.cells.value.Value.{Value}
 use Rattle.wb_book.specs.Cells.{Changes, Contents, cell_cmp}
-use Rattle.wb_join.specs.Joined.{answer, stored_in, element_in}
+use Rattle.wb_shelf.specs.Joined.{answer, stored_in, element_in}
 use Rattle.wb_shelf.specs.Shelf.{cells_of}
 use Rattle.wb_shelf.proofs.Kept.{get-cells_of}
 use Rattle.wb_shelf.proofs.Whole.{with_answer, inverse_is}

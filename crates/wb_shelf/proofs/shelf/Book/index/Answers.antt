@@ -1,6 +1,6 @@
 use Rattle.std.proofs.Common.{◌∙◌}
 use Rattle.wb_book.specs.Readers.{index_at}
-use Rattle.wb_join.proofs.Stored.{index-stored}
+use Rattle.wb_shelf.proofs.Stored.{index-stored}
 use Rattle.wb_shelf.proofs.Answered.{answered}
 use Rattle.wb_shelf.proofs.shelf.Book.index.Goals as goal
 

@@ -1,6 +1,6 @@
 use Rattle.std.proofs.Common.{◌∙◌}
 use Rattle.wb_book.specs.Locales.{locale_count_at}
-use Rattle.wb_join.proofs.Stored.{locale_count-stored}
+use Rattle.wb_shelf.proofs.Stored.{locale_count-stored}
 use Rattle.wb_shelf.proofs.Answered.{answered}
 use Rattle.wb_shelf.proofs.shelf.Book.locale_count.Goals as goal
 

@@ -1,7 +1,7 @@
 use Rattle.std.proofs.Common.{is_some, ap, ◌∙◌}
 use Rattle.wb_book.specs.Locales.{locale_held}
 use Rattle.wb_book.proofs.Lying.{locale_there, held_there}
-use Rattle.wb_join.proofs.Stored.{locale-stored}
+use Rattle.wb_shelf.proofs.Stored.{locale-stored}
 use Rattle.wb_shelf.specs.Shelf.{cells_of}
 use Rattle.wb_shelf.proofs.Answered.{answered}
 use Rattle.wb_shelf.proofs.shelf.Book.locale_of.Goals as goal

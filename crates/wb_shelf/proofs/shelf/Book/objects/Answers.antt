@@ -1,6 +1,6 @@
 use Rattle.std.proofs.Common.{length, ap, ◌∙◌}
 use Rattle.wb_book.specs.Readers.{objects}
-use Rattle.wb_join.proofs.Stored.{objects-stored}
+use Rattle.wb_shelf.proofs.Stored.{objects-stored}
 use Rattle.wb_shelf.proofs.Answered.{answered}
 use Rattle.wb_shelf.proofs.shelf.Book.objects.Goals as goal
 

@@ -5,7 +5,7 @@ use Rattle.wb_book.specs.Cells.{Contents}
 use Rattle.wb_book.specs.Readers.{seen}
 use Rattle.wb_shelf.specs.Kept.{element_cells}
 use Rattle.wb_shelf.proofs.Kept.{get-cells_of}
-use Rattle.wb_join.proofs.Stored.{NamesStored, seen-stored, objects_stored, members_stored, uses_stored}
+use Rattle.wb_shelf.proofs.Stored.{NamesStored, seen-stored, objects_stored, members_stored, uses_stored}
 use Rattle.wb_shelf.proofs.Answered.{answered, are_named}
 use Rattle.wb_shelf.proofs.Seen.{seen_elements, seen_one, one_ok}
 use Rattle.wb_shelf.proofs.shelf.Book.seen.Goals as goal

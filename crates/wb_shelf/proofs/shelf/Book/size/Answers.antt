@@ -1,7 +1,7 @@
 use Rattle.std.proofs.Common.{is_some, ap, ◌∙◌}
 use Rattle.wb_book.specs.Readers.{size_at}
 use Rattle.wb_book.proofs.Lying.{size_there}
-use Rattle.wb_join.proofs.Stored.{size-stored}
+use Rattle.wb_shelf.proofs.Stored.{size-stored}
 use Rattle.wb_shelf.specs.Shelf.{cells_of}
 use Rattle.wb_shelf.proofs.Answered.{answered}
 use Rattle.wb_shelf.proofs.shelf.Book.size.Goals as goal

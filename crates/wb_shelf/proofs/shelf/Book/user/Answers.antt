@@ -1,6 +1,6 @@
 use Rattle.std.proofs.Common.{slice_get, ap, ◌∙◌}
 use Rattle.wb_book.specs.Readers.{users}
-use Rattle.wb_join.proofs.Stored.{users-stored}
+use Rattle.wb_shelf.proofs.Stored.{users-stored}
 use Rattle.wb_shelf.proofs.Answered.{answered, are_named}
 use Rattle.wb_shelf.proofs.shelf.Book.user.Goals as goal
 

@@ -1,0 +1,89 @@
+//! The elements of one array.
+
+ghost use Rattle.std.specs.Prelude.{◌≡◌, map, IfOk};
+ghost use Rattle.std.specs.List.{zip};
+ghost use Rattle.wb_shelf.specs.Piecewise.Changed.{all_set};
+ghost use Rattle.wb_text.specs.FromLines.Found.{Finds};
+ghost use Rattle.wb_text.specs.FromLines.Laid.{rectangle_lies, lies_told, IsColumn};
+ghost use Rattle.wb_text.specs.Said.{line_in, line_of};
+
+use crate::ObjectLine;
+use crate::workbook::finding::find;
+use crate::workbook::told::indices_of;
+use std::alloc::Global;
+use std::collections::BTreeMap;
+use wb_book::{AnyIndex, AnyLayout, KeyType, Name};
+use wb_range::NoMemory;
+use wb_shelf::Elements;
+
+// The mapping of a rectangular domain, and its rank.
+fn rectangle_lies(
+    lines: &[ObjectLine],
+    places: &BTreeMap<Name, usize>,
+    name: &Name,
+) -> (AnyLayout, u8)
+    requires { Finds places.now (map line_of lines.now) (map line_of lines.now) }
+    ensures { result ≡ rectangle_lies (line_in name.now (map line_of lines.now)) }
+{
+    match find(lines, places, name) {
+        Some(ObjectLine::Rectangular(_, ranges, mapping)) => (*mapping, ranges.rank()),
+        Some(ObjectLine::Sparse(_, _, _)) => (AnyLayout::whole(), 1),
+        Some(ObjectLine::Associative(_, _, _)) => (AnyLayout::whole(), 1),
+        Some(ObjectLine::Array(_, _, _, _)) => (AnyLayout::whole(), 1),
+        None => (AnyLayout::whole(), 1),
+    }
+}
+
+// How the arrays over a domain lie.
+fn lies(lines: &[ObjectLine], places: &BTreeMap<Name, usize>, name: &Name) -> (AnyLayout, u8)
+    requires { Finds places.now (map line_of lines.now) (map line_of lines.now) }
+    ensures { result ≡ lies_told (map line_of lines.now) (line_in name.now (map line_of lines.now)) }
+{
+    match find(lines, places, name) {
+        Some(ObjectLine::Rectangular(_, ranges, mapping)) => (*mapping, ranges.rank()),
+        Some(ObjectLine::Sparse(_, parent, _)) => rectangle_lies(lines, places, parent),
+        Some(ObjectLine::Associative(_, KeyType::Int, _)) => (AnyLayout::whole(), 1),
+        Some(ObjectLine::Associative(_, KeyType::Text, _)) => (AnyLayout::whole(), 0),
+        Some(ObjectLine::Array(_, _, _, _)) => (AnyLayout::whole(), 1),
+        None => (AnyLayout::whole(), 1),
+    }
+}
+
+// The changes that set the numbers at the indices.
+fn changes_of(
+    alloc: Global,
+    indices: &[AnyIndex],
+    numbers: &[i64],
+) -> Result<Vec<(AnyIndex, Option<i64>)>, NoMemory>
+    ensures { IfOk result (λ v. v.items ≡ all_set (zip indices.now numbers.now)) }
+{
+    let found = indices
+        .iter()
+        .zip(numbers.iter())
+        .map(|x| (*x.0, Some(*x.1)))
+        .collect(alloc);
+    match found {
+        Ok(changes) => Ok(changes),
+        Err(_) => Err(NoMemory),
+    }
+}
+
+/// The array over the domain of a name that has these elements, in the order of the domain's indices.
+pub(crate) fn column(
+    alloc: Global,
+    lines: &[ObjectLine],
+    places: &BTreeMap<Name, usize>,
+    domain: &Name,
+    numbers: &[i64],
+) -> Result<Elements, NoMemory>
+    requires { Finds places.now (map line_of lines.now) (map line_of lines.now) }
+    ensures { IfOk result (λ e. IsColumn (map line_of lines.now) domain.now numbers.now e) }
+{
+    let Ok(indices) = indices_of(alloc, lines, places, domain) else {
+        return Err(NoMemory);
+    };
+    let changes = changes_of(alloc, &indices, numbers)?;
+    let (layout, rank) = lies(lines, places, domain);
+    let none: Vec<(AnyIndex, i64)> = Vec::new(alloc);
+    Elements::made(alloc, none.as_slice(), changes.as_slice(), &layout, rank)
+}

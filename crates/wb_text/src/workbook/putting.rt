@@ -1,0 +1,51 @@
+//! Cells put into a map.
+ghost use Rattle.std.specs.Prelude.{◌≡◌, IfOk, OnOk};
+ghost use Rattle.std.specs.FinMap as map;
+ghost use Rattle.wb_book.specs.Cells.{state_of};
+ghost use Rattle.wb_book.specs.Shapes.{indices as product_indices};
+ghost use Rattle.wb_book.specs.WellFormed.{index_cell};
+ghost use Rattle.wb_text.specs.FromLines.Inserted.{inserted};
+ghost use Rattle.wb_text.specs.FromLines.Told.{presents};
+
+use std::alloc::{AllocError, Global};
+use std::collections::BTreeMap;
+use wb_book::{AnyIndex, AnyRect, Cell, Kind, Name, Value};
+use wb_range::NoMemory;
+
+/// Sets a cell.
+pub fn put(cells: &mut BTreeMap<Cell, Value>, cell: Cell, value: Value) -> Result<(), NoMemory>
+    ensures { OnOk result (state_of cells.new ≡ map.insert (state_of cells.old) cell value) }
+{
+    match cells.insert(cell, value) {
+        Ok(_) => Ok(()),
+        Err(_) => Err(NoMemory),
+    }
+}
+
+/// Sets the cells that say that the indices are in a domain of the kind.
+pub fn put_presents(
+    cells: &mut BTreeMap<Cell, Value>,
+    kind: Kind,
+    domain: Name,
+    indices: &[AnyIndex],
+) -> Result<(), NoMemory>
+    ensures { OnOk result (state_of cells.new ≡ inserted (presents (index_cell kind domain) indices.now) (state_of cells.old)) }
+{
+    for index in indices {
+        put(cells, kind.index_cell(domain, *index), Value::Present)?;
+    }
+    Ok(())
+}
+
+/// The indices of a rectangle, row by row.
+pub fn points_of(alloc: Global, ranges: &AnyRect) -> Result<Vec<AnyIndex>, AllocError>
+    ensures { IfOk result (λ v. v.items ≡ product_indices ranges.now) }
+{
+    let mut points = Vec::new(alloc);
+    for p in 0..ranges.size() {
+        if let Some(index) = ranges.nth(p) {
+            points.push(index)?;
+        }
+    }
+    Ok(points)
+}
