@@ -2,7 +2,7 @@
 
 import unittest
 
-from tests.support import PROGRAM, Told, knows
+from tests.support import PROGRAM, Told
 from workbook_client import hearing, requests
 from workbook_client import (
     Array, BadLiteral, BadMapping, BadRequest, Blocked, Cascade, Empty, InForce, InUse, LineTooLong,
@@ -479,7 +479,6 @@ class Texts(Case):
             with self.assertRaises(ValueError):
                 Snapshot.read(text)
 
-    @knows("load")
     def test_a_load_is_one_edit(self):
         self.everything()
         text = self.wb.print_text()

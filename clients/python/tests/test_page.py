@@ -6,7 +6,7 @@ import socket
 import threading
 import unittest
 
-from tests.support import LACKING, PROGRAM, Server, knows, serves
+from tests.support import PROGRAM, Server
 from workbook_client import Workbook, view
 from workbook_client.page import serve
 
@@ -77,7 +77,6 @@ class Page(unittest.TestCase):
         self.assertEqual(self.ask("/do", {"line": "D = {1..4}"}, Origin="http://evil.example")[0], 403)
         self.assertEqual(self.ask("/do", {"line": "D = {1..4}"}, Origin=f"http://127.0.0.1:{self.port}")[0], 200)
 
-    @unittest.skipUnless(serves(), "this program has no `serve`")
     def test_a_shared_workbook(self):
         server = Server(seats=2)
         self.addCleanup(server.close)
@@ -96,8 +95,6 @@ class Page(unittest.TestCase):
         other.undo()
         self.assertIsNone(self.ask("/state")[1]["edits"][2]["needs"])
 
-    @knows("dependents", "cascade")
-    @unittest.skipUnless(serves(), "this program has no `serve`")
     def test_a_look_before_a_cascade_at_a_desk(self):
         """One question, and the answer holds until something changes."""
         server = Server(seats=2)
@@ -114,7 +111,6 @@ class Page(unittest.TestCase):
         self.assertIn("edits 4 and 3 taken back", self.ask("/do", {"op": "cascade", "k": 3})[1]["say"])
         self.assertIn("array A over D [0, 0, 0]", self.ask("/text")[1])
 
-    @unittest.skipUnless(serves(), "this program has no `serve`")
     def test_of_a_long_history_others_edits_have_no_words(self):
         server = Server(seats=2)
         self.addCleanup(server.close)
@@ -128,7 +124,6 @@ class Page(unittest.TestCase):
         edits = self.ask("/state")[1]["edits"]
         self.assertEqual([(e["what"], e["on"]) for e in edits][1:], [("A over D", True), ("", True)])
 
-    @unittest.skipUnless(serves(), "this program has no `serve`")
     def test_what_looking_costs_a_desk(self):
         server = Server(seats=1)
         self.addCleanup(server.close)
@@ -146,11 +141,9 @@ class Page(unittest.TestCase):
         view.APART = 60.0
         for _ in range(10):
             shown.state()  # nothing: another page has just looked
-        asked = "dependents" not in LACKING
-        if asked:
-            self.assertEqual(shown.needs(3)["needs"], [3])
-            self.assertEqual(shown.state()["edits"][2]["needs"], [3])  # the question alone
-        self.assertEqual(server.settled()[0], 5 + 6 + 10 * 5 + asked)
+        self.assertEqual(shown.needs(3)["needs"], [3])
+        self.assertEqual(shown.state()["edits"][2]["needs"], [3])  # the question alone
+        self.assertEqual(server.settled()[0], 5 + 6 + 10 * 5 + 1)
 
     def test_bodies_of_no_length_or_of_too_much(self):
         self.open(Workbook.run(PROGRAM))

@@ -9,7 +9,7 @@ import sys
 import tempfile
 import unittest
 
-from tests.support import HERE, PROGRAM, Server, serves
+from tests.support import HERE, PROGRAM, Server
 from workbook_client import Workbook
 from workbook_client.session import Session
 from workbook_client.tables import Cell, columns, elements_table, grid, plain
@@ -156,7 +156,6 @@ class Talk(unittest.TestCase):
                 self.assertEqual(other.print_text(), text)
             self.assertIn("No such file", self.say(f"load {path}.gone"))
 
-    @unittest.skipUnless(serves(), "this program has no `serve`")
     def test_a_shared_workbook(self):
         server = Server(seats=2)
         self.addCleanup(server.close)

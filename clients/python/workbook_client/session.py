@@ -97,7 +97,7 @@ class Session:
             self.refused(no)
         except SessionEnded:
             raise
-        except (WorkbookError, ValueError, TypeError, OSError, RuntimeError) as wrong:
+        except (WorkbookError, ValueError, TypeError, OSError) as wrong:
             self.failed = True
             self.wrapped(str(wrong))
         return True
@@ -286,7 +286,7 @@ class Session:
         """Who would go along in a cascade. Others may have moved since the refusal."""
         try:
             return _takes_back(self.book.dependents(k), k)
-        except (Refusal, RuntimeError):  # RuntimeError: the program lacks the op
+        except Refusal:
             return " takes back all that stand in the way"
 
 

@@ -83,8 +83,6 @@ class View:
             except Refusal as no:
                 self._looked = float("-inf")
                 return {"ok": False, "say": str(no)}
-            except RuntimeError:  # the program lacks the op
-                return {"ok": True, "k": k, "needs": None}
             return {"ok": True, "k": k, "needs": self._needs[k]}
 
     def _ask_needs(self, k: int) -> None:
@@ -205,7 +203,7 @@ class View:
         """After a refused undo the page shows who is in the way."""
         try:
             self._ask_needs(k)
-        except (Refusal, RuntimeError):  # others have moved since, or the program lacks the op
+        except Refusal:  # others have moved since
             self._needs[k] = [by, k]
             self._version += 1
 
