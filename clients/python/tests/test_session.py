@@ -187,6 +187,18 @@ class Whole(unittest.TestCase):
         self.assertEqual(gone.returncode, 3)
         self.assertIn("there is no program", gone.stderr)
 
+    def test_a_server_whose_seats_are_taken(self):
+        server = Server(seats=1)
+        self.addCleanup(server.close)
+        server.connect()
+        for module in ("workbook_client", "workbook_client.page"):
+            gone = subprocess.run(
+                [sys.executable, "-m", module, "--connect", f"127.0.0.1:{server.port}"],
+                input="", capture_output=True, text=True, cwd=PACKAGE, timeout=30,
+            )
+            self.assertEqual((gone.returncode, gone.stdout), (3, ""))
+            self.assertIn("all its seats are taken", gone.stderr)
+
     def test_a_session_that_is_kept_and_gone_on_with(self):
         with tempfile.TemporaryDirectory() as place:
             path = os.path.join(place, "plan")
