@@ -95,6 +95,38 @@ class Page(unittest.TestCase):
         other.undo()
         self.assertIsNone(self.ask("/state")[1]["edits"][2]["needs"])
 
+    def test_others_undos_are_seen_at_the_next_look(self):
+        """Of an old edit too: the array has another sum. Where none has, the latest edit in force tells, or its turn."""
+        server = Server(seats=2)
+        self.addCleanup(server.close)
+        view.APART, before = 0.0, view.APART
+        self.addCleanup(setattr, view, "APART", before)
+        book, other = server.connect(), server.connect()
+        shown = view.View(book)
+        A = book.array("A", book.domain("D", range(1, 101)))
+        B = book.array("B", "D")
+        with book.pipeline():
+            B.fill(range(1, 3), 2**63 - 1)  # their sum has more than 64 bits
+            for i in range(1, 101):
+                A[i] = i
+        first = shown.state()
+        self.assertEqual(first["version"], shown.state()["version"])
+        other.undo(7)
+        state = shown.state()
+        self.assertEqual([e["k"] for e in state["edits"] if not e["on"]], [7])
+        self.assertEqual(state["arrays"][0]["values"][2], [["3"], "3", "0"])
+        other.redo(7)
+        self.assertEqual(shown.state()["version"], first["version"])
+        D = book["D"]
+        D.remap("cyclicDist(1, [2])")
+        shown.state()
+        other.undo()  # which no sum tells
+        self.assertEqual(shown.state()["domains"], [{"name": "D", "words": "{1..100}"}])
+        other.undo(4)
+        self.assertEqual(shown.state()["arrays"][1]["values"][0], [["1"], "1", "0"])
+        other.undo(3)
+        self.assertEqual([a["name"] for a in shown.state()["arrays"]], ["A"])
+
     def test_a_look_before_a_cascade_at_a_desk(self):
         """One question, and the answer holds until something changes."""
         server = Server(seats=2)
@@ -135,15 +167,15 @@ class Page(unittest.TestCase):
             for i in range(1, 4):
                 A[i] = i
         shown = view.View(book)
-        shown.state()  # 5 entries so far; a question for edit 6, one for each of four edits, a print
+        shown.state()  # 5 entries so far; a question for edit 6, one for each of three edits, a print
         for _ in range(10):
-            shown.state()  # a question for edit 6, and one for each of four edits
+            shown.state()  # a question for edit 6, the sum of A, and a question for each of three edits
         view.APART = 60.0
         for _ in range(10):
             shown.state()  # nothing: another page has just looked
         self.assertEqual(shown.needs(3)["needs"], [3])
         self.assertEqual(shown.state()["edits"][2]["needs"], [3])  # the question alone
-        self.assertEqual(server.settled()[0], 5 + 6 + 10 * 5 + 1)
+        self.assertEqual(server.settled()[0], 5 + 5 + 10 * 5 + 1)
 
     def test_bodies_of_no_length_or_of_too_much(self):
         self.open(Workbook.run(PROGRAM))

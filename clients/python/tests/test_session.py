@@ -165,6 +165,17 @@ class Talk(unittest.TestCase):
         told = self.say("undo 3")
         self.assertIn("Blocked by edit 4 of another seat (A[1] = 6): it is later", told)
         self.assertIn("│ 4    │ another │ A[1] = 6   │       │ in force │", self.say("history"))
+        other["A"].update({2: 8, 3: 9})
+        told = self.say("A[1] = 7").splitlines()
+        self.assertEqual(told, ["  edit 7, 1 cell", "  before it came edits 5 and 6 of other seats; history shows what everybody did"])
+        self.assertEqual(self.say("A[1] = 8"), "  edit 8, 1 cell\n")
+        other["A"][4] = 1
+        self.assertEqual(self.say("undo"), "  edit 9 of another seat is taken back, 1 cell: A[4] = 1\n")
+        self.assertIn("│ 6    │ another │ A[3] = 9   │       │ in force   │", self.say("history"))
+        with other.pipeline():
+            for i in range(12):
+                other["A"][4] = i
+        self.assertIn("before it came 12 edits of other seats", self.say("A[1] = 9"))
 
 
 class Whole(unittest.TestCase):
