@@ -111,11 +111,11 @@ class Page(unittest.TestCase):
                 A[i] = i
         first = shown.state()
         self.assertEqual(first["version"], shown.state()["version"])
-        other.undo(7)
+        other.undo(60)
         state = shown.state()
-        self.assertEqual([e["k"] for e in state["edits"] if not e["on"]], [7])
-        self.assertEqual(state["arrays"][0]["values"][2], [["3"], "3", "0"])
-        other.redo(7)
+        self.assertEqual([e["k"] for e in state["edits"] if not e["on"]], [60])
+        self.assertEqual(state["arrays"][0]["values"][55], [["56"], "56", "0"])
+        other.redo(60)
         self.assertEqual(shown.state()["version"], first["version"])
         D = book["D"]
         D.remap("cyclicDist(1, [2])")
