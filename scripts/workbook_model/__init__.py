@@ -4,9 +4,8 @@ It is slow and small: cells in dicts, and a walk over the later edits for each u
 """
 
 from . import memory
-from .asked import ops_of
 from .book import Book
 from .machine import Machine, text_of
 from .reading import read
 
-__all__ = ["Book", "Machine", "memory", "ops_of", "read", "text_of"]
+__all__ = ["Book", "Machine", "memory", "read", "text_of"]

@@ -142,10 +142,6 @@ FIELDS = {
     "reduce": {"a": name, "how": word("+", "min", "max")},
 }
 QUESTIONS = {"history", "get", "where", "size", "piece", "state", "print", "dependents", "reduce"}
-PLANNED = {
-    "load": {"text": "chapel-workbook 1\nend\n"}, "cascade": {"k": 1}, "dependents": {"k": 1}, "reduce": {"a": "A", "how": "+"},
-}
-"""Ops that a program may lack, each with fields that it would read."""
 SOURCES = {**{how: offset for how in OFFSETS}, **{how: source for how in LITERALS}}
 
 
@@ -178,11 +174,6 @@ def request_of(members):
     if faults:
         raise Refused(min(faults))
     return found
-
-
-def lacks(op):
-    """From now on this op is read as one that there isn't: for a program that hasn't got it yet."""
-    FIELDS.pop(op, None)
 
 
 def read(line):

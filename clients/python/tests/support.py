@@ -4,9 +4,8 @@ import json
 import os
 import subprocess
 import sys
-import unittest
 from pathlib import Path
-from typing import Any, Callable, Dict, List
+from typing import Any, Dict, List
 
 HERE = Path(__file__).resolve()
 sys.path.insert(0, str(HERE.parents[1]))  # the package beside the tests, installed or not
@@ -24,45 +23,6 @@ def program() -> str:
 
 
 PROGRAM = program()
-
-
-OPS = {
-    "cascade": {"k": 1}, "dependents": {"k": 1}, "reduce": {"a": "A", "how": "+"}, "load": {"text": "chapel-workbook 1\nend\n"},
-}
-"""Ops that came late, each with fields that a program which has it reads."""
-
-
-def lacking() -> "set[str]":
-    """Those of them that the program answers as no requests."""
-    lines = "".join(json.dumps({"op": op, **fields}) + "\n" for op, fields in OPS.items())
-    try:
-        told = subprocess.run([PROGRAM, "run"], input=lines.encode(), stdout=subprocess.PIPE).stdout.splitlines()
-    except OSError:  # there is none, which each test then tells
-        return set()
-    return {op for op, reply in zip(OPS, told) if b'"E01"' in reply}
-
-
-LACKING = lacking()
-
-
-def knows(*ops: str) -> Callable[[Any], Any]:
-    """Skips a test, and says so, where the program lacks one of the ops."""
-    missing = sorted(LACKING & {*ops})
-    return unittest.skipIf(missing, f"this program has no op {', '.join(missing)}")
-
-
-def lacks(op: str) -> Callable[[Any], Any]:
-    """Skips the test of a stand-in where the program has the op."""
-    return unittest.skipIf(op not in LACKING, f"this program has the op {op}")
-
-
-def serves() -> bool:
-    """Whether the program shares a workbook: it did not always."""
-    try:
-        told = subprocess.run([PROGRAM, "--help"], stdout=subprocess.PIPE, stderr=subprocess.DEVNULL)
-    except OSError:  # there is none, which each test then tells
-        return False
-    return b"serve" in told.stdout
 
 
 class Server:
@@ -107,7 +67,7 @@ class Server:
 
 
 class Told(Channel):
-    """A channel that keeps what is sent and answers what it was told to: for ops to come."""
+    """A channel that keeps what is sent and answers what it was told to."""
 
     def __init__(self, *replies: Dict[str, Any]):
         self.replies = [json.dumps(reply).encode() + b"\n" for reply in replies]

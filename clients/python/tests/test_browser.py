@@ -4,7 +4,7 @@ import threading
 import unittest
 
 from tests.browser import CHROMIUM, Browser
-from tests.support import PROGRAM, Server, knows, serves
+from tests.support import PROGRAM, Server
 from workbook_client import Workbook
 from workbook_client.page import serve
 
@@ -78,8 +78,6 @@ class InABrowser(unittest.TestCase):
         self.assertIn("expected ']'", browser.text("#said"))
         self.assertEqual(browser.faults, [])
 
-    @knows("cascade", "dependents")
-    @unittest.skipUnless(serves(), "this program has no `serve`")
     def test_who_blocks_whom_at_a_desk_is_asked_where_the_pointer_rests(self):
         server = Server(seats=2)
         self.addCleanup(server.close)
@@ -104,7 +102,6 @@ class InABrowser(unittest.TestCase):
         self.assertEqual(list(A), [0, 0, 0, 0])
         self.assertEqual(browser.faults, [])
 
-    @unittest.skipUnless(serves(), "this program has no `serve`")
     def test_what_others_do_appears(self):
         server = Server(seats=2)
         self.addCleanup(server.close)

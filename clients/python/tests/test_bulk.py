@@ -3,7 +3,7 @@
 import unittest
 
 from tests.support import PROGRAM
-from workbook_client import OutOfDomain, Overflow, Workbook
+from workbook_client import OutOfDomain, Overflow, Workbook, WrongKind
 
 try:
     import numpy
@@ -55,6 +55,29 @@ class Bulk(unittest.TestCase):
         P = self.wb.array("P", T)
         P[:] = [8, 8]
         self.assertEqual(P.to_dict(), {"a": 8, "b": 8})
+
+    def test_a_part(self):
+        """The elements go where the ranges list them; what is outside stays."""
+        A = self.wb.array("A", self.wb.domain("D", range(1, 8)))
+        A[range(2, 5)] = [5, 6, 6]
+        self.assertEqual(list(A), [0, 5, 6, 6, 0, 0, 0])
+        self.assertEqual([e.what for e in A.put([1, 1, 2], "{1..5 by -2}")], ["A[3..5 by -2] = 1", "A[1] = 2"])
+        self.assertEqual(list(A), [2, 5, 1, 6, 1, 0, 0])
+        A[range(6, 8)] = (9, 9)
+        self.assertEqual((self.wb.last_edit.what, list(A)), ("A[6..7] = 9", [2, 5, 1, 6, 1, 9, 9]))
+        B = self.wb.array("B", self.wb.domain("M", "{1..3, 1..4}"))
+        B[range(2, 4), range(1, 3)] = [[1, 2], [3, 4]]
+        self.assertEqual(list(B), [0, 0, 0, 0, 1, 2, 0, 0, 3, 4, 0, 0])
+        self.assertEqual(B.put([[], []], (range(1, 3), range(0))), [])
+        before = list(A)
+        for wrong, on in (([1, 2], range(1, 4)), ([[1, 2]], range(1, 3)), ([1, 2.5], range(1, 3)), ([1], "{1..}"), ([1], 1)):
+            with self.subTest(on), self.assertRaises((TypeError, ValueError)):
+                A.put(wrong, on)
+        with self.assertRaises(OutOfDomain):
+            A[range(6, 9)] = [1, 2, 3]
+        with self.assertRaises(WrongKind):
+            B[range(1, 3)] = [1, 2]
+        self.assertEqual(list(A), before)
 
     def test_empty(self):
         A = self.wb.array("A", self.wb.domain("D", "{1..0}"))
@@ -112,6 +135,20 @@ class Bulk(unittest.TestCase):
             with self.subTest(wrong), self.assertRaises((TypeError, ValueError)):
                 A.put(wrong)
         self.assertEqual(list(A), [4, 5, 6, 1, 2, 3])
+
+    @unittest.skipUnless(numpy, "numpy isn't there")
+    def test_a_part_from_numpy(self):
+        A = self.wb.array("A", self.wb.domain("M", "{1..3, 1..3}"))
+        A[range(1, 3), range(2, 4)] = numpy.array([[1, 2], [3, 4]])
+        self.assertEqual(A.to_numpy().tolist(), [[0, 1, 2], [0, 3, 4], [0, 0, 0]])
+        A[range(1, 4), range(1, 2)] = A.to_numpy()[:, 2:]
+        self.assertEqual(A.to_numpy()[:, 0].tolist(), [2, 4, 0])
+        with self.assertRaises(ValueError):
+            A[range(1, 3), range(2, 4)] = numpy.array([1, 2])
+        for wrong in (numpy.array([1, 2, 3]), numpy.int64(3)):  # in place an array takes an array of the workbook
+            with self.subTest(wrong), self.assertRaises(TypeError):
+                A += wrong
+        self.assertEqual(list(A), [2, 1, 2, 4, 3, 4, 0, 0, 0])
 
     @unittest.skipUnless(numpy, "numpy isn't there")
     def test_numpy_over_any_domain(self):

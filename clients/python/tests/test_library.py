@@ -1,9 +1,11 @@
 """The library, against the program."""
 
+import re
 import unittest
 
-from tests.support import PROGRAM, Told, knows
-from workbook_client import hearing, requests
+import workbook_client
+from tests.support import HERE, PROGRAM, Told
+from workbook_client import hearing, refusals, requests
 from workbook_client import (
     Array, BadLiteral, BadMapping, BadRequest, Blocked, Cascade, Empty, InForce, InUse, LineTooLong,
     NameTaken, NoSuchEdit, NoSuchName, NotEmpty, NotInForce, NotResumed, OutOfDomain,
@@ -243,6 +245,23 @@ class Refusals(Case):
         with self.assertRaises(NotInForce):
             wb.undo(4)
 
+    def test_every_refusal_of_the_protocol_has_a_class_of_its_own(self):
+        text = (HERE.parents[3] / "docs" / "PROTOCOL.md").read_text(encoding="utf-8")
+        names = dict(re.findall(r"^\| (E\d\d) \| ([a-z-]+) \|", text, re.M))
+        self.assertGreater(len(names), 20)
+        told = {}
+        for code, name in names.items():
+            wb = Workbook(Told({"error": code, "name": name, "by": 1, "code": "E06"}), "me", alone=True)
+            with self.assertRaises(Refusal) as no:
+                wb.redo(1)
+            told[code] = type(no.exception)
+            self.assertEqual((told[code].code, told[code].name), (code, name))
+            self.assertIn(f"{code}, {name}", str(no.exception))
+            self.assertIs(getattr(workbook_client, told[code].__name__), told[code])
+            self.assertIn(told[code].__name__, workbook_client.__all__)
+        self.assertEqual(len(set(told.values())), len(names))
+        self.assertEqual({*refusals.BY_CODE}, {*names})
+
     def test_blocked_says_by_whom_and_what_that_was(self):
         _, A = self.line()
         first = A.set(1, 5)
@@ -479,7 +498,6 @@ class Texts(Case):
             with self.assertRaises(ValueError):
                 Snapshot.read(text)
 
-    @knows("load")
     def test_a_load_is_one_edit(self):
         self.everything()
         text = self.wb.print_text()

@@ -6,7 +6,7 @@ import socket
 import threading
 import unittest
 
-from tests.support import LACKING, PROGRAM, Server, knows, serves
+from tests.support import PROGRAM, Server
 from workbook_client import Workbook, view
 from workbook_client.page import serve
 
@@ -77,7 +77,6 @@ class Page(unittest.TestCase):
         self.assertEqual(self.ask("/do", {"line": "D = {1..4}"}, Origin="http://evil.example")[0], 403)
         self.assertEqual(self.ask("/do", {"line": "D = {1..4}"}, Origin=f"http://127.0.0.1:{self.port}")[0], 200)
 
-    @unittest.skipUnless(serves(), "this program has no `serve`")
     def test_a_shared_workbook(self):
         server = Server(seats=2)
         self.addCleanup(server.close)
@@ -96,8 +95,38 @@ class Page(unittest.TestCase):
         other.undo()
         self.assertIsNone(self.ask("/state")[1]["edits"][2]["needs"])
 
-    @knows("dependents", "cascade")
-    @unittest.skipUnless(serves(), "this program has no `serve`")
+    def test_others_undos_are_seen_at_the_next_look(self):
+        """Of an old edit too: the array has another sum. Where none has, the latest edit in force tells, or its turn."""
+        server = Server(seats=2)
+        self.addCleanup(server.close)
+        view.APART, before = 0.0, view.APART
+        self.addCleanup(setattr, view, "APART", before)
+        book, other = server.connect(), server.connect()
+        shown = view.View(book)
+        A = book.array("A", book.domain("D", range(1, 101)))
+        B = book.array("B", "D")
+        with book.pipeline():
+            B.fill(range(1, 3), 2**63 - 1)  # their sum has more than 64 bits
+            for i in range(1, 101):
+                A[i] = i
+        first = shown.state()
+        self.assertEqual(first["version"], shown.state()["version"])
+        other.undo(60)
+        state = shown.state()
+        self.assertEqual([e["k"] for e in state["edits"] if not e["on"]], [60])
+        self.assertEqual(state["arrays"][0]["values"][55], [["56"], "56", "0"])
+        other.redo(60)
+        self.assertEqual(shown.state()["version"], first["version"])
+        D = book["D"]
+        D.remap("cyclicDist(1, [2])")
+        shown.state()
+        other.undo()  # which no sum tells
+        self.assertEqual(shown.state()["domains"], [{"name": "D", "words": "{1..100}"}])
+        other.undo(4)
+        self.assertEqual(shown.state()["arrays"][1]["values"][0], [["1"], "1", "0"])
+        other.undo(3)
+        self.assertEqual([a["name"] for a in shown.state()["arrays"]], ["A"])
+
     def test_a_look_before_a_cascade_at_a_desk(self):
         """One question, and the answer holds until something changes."""
         server = Server(seats=2)
@@ -114,7 +143,6 @@ class Page(unittest.TestCase):
         self.assertIn("edits 4 and 3 taken back", self.ask("/do", {"op": "cascade", "k": 3})[1]["say"])
         self.assertIn("array A over D [0, 0, 0]", self.ask("/text")[1])
 
-    @unittest.skipUnless(serves(), "this program has no `serve`")
     def test_of_a_long_history_others_edits_have_no_words(self):
         server = Server(seats=2)
         self.addCleanup(server.close)
@@ -128,7 +156,6 @@ class Page(unittest.TestCase):
         edits = self.ask("/state")[1]["edits"]
         self.assertEqual([(e["what"], e["on"]) for e in edits][1:], [("A over D", True), ("", True)])
 
-    @unittest.skipUnless(serves(), "this program has no `serve`")
     def test_what_looking_costs_a_desk(self):
         server = Server(seats=1)
         self.addCleanup(server.close)
@@ -140,17 +167,15 @@ class Page(unittest.TestCase):
             for i in range(1, 4):
                 A[i] = i
         shown = view.View(book)
-        shown.state()  # 5 entries so far; a question for edit 6, one for each of four edits, a print
+        shown.state()  # 5 entries so far; a question for edit 6, one for each of three edits, a print
         for _ in range(10):
-            shown.state()  # a question for edit 6, and one for each of four edits
+            shown.state()  # a question for edit 6, the sum of A, and a question for each of three edits
         view.APART = 60.0
         for _ in range(10):
             shown.state()  # nothing: another page has just looked
-        asked = "dependents" not in LACKING
-        if asked:
-            self.assertEqual(shown.needs(3)["needs"], [3])
-            self.assertEqual(shown.state()["edits"][2]["needs"], [3])  # the question alone
-        self.assertEqual(server.settled()[0], 5 + 6 + 10 * 5 + asked)
+        self.assertEqual(shown.needs(3)["needs"], [3])
+        self.assertEqual(shown.state()["edits"][2]["needs"], [3])  # the question alone
+        self.assertEqual(server.settled()[0], 5 + 5 + 10 * 5 + 1)
 
     def test_bodies_of_no_length_or_of_too_much(self):
         self.open(Workbook.run(PROGRAM))

@@ -9,7 +9,7 @@ import sys
 import tempfile
 import unittest
 
-from tests.support import HERE, PROGRAM, Server, serves
+from tests.support import HERE, PROGRAM, Server
 from workbook_client import Workbook
 from workbook_client.session import Session
 from workbook_client.tables import Cell, columns, elements_table, grid, plain
@@ -156,7 +156,6 @@ class Talk(unittest.TestCase):
                 self.assertEqual(other.print_text(), text)
             self.assertIn("No such file", self.say(f"load {path}.gone"))
 
-    @unittest.skipUnless(serves(), "this program has no `serve`")
     def test_a_shared_workbook(self):
         server = Server(seats=2)
         self.addCleanup(server.close)
@@ -166,6 +165,17 @@ class Talk(unittest.TestCase):
         told = self.say("undo 3")
         self.assertIn("Blocked by edit 4 of another seat (A[1] = 6): it is later", told)
         self.assertIn("│ 4    │ another │ A[1] = 6   │       │ in force │", self.say("history"))
+        other["A"].update({2: 8, 3: 9})
+        told = self.say("A[1] = 7").splitlines()
+        self.assertEqual(told, ["  edit 7, 1 cell", "  before it came edits 5 and 6 of other seats; history shows what everybody did"])
+        self.assertEqual(self.say("A[1] = 8"), "  edit 8, 1 cell\n")
+        other["A"][4] = 1
+        self.assertEqual(self.say("undo"), "  edit 9 of another seat is taken back, 1 cell: A[4] = 1\n")
+        self.assertIn("│ 6    │ another │ A[3] = 9   │       │ in force   │", self.say("history"))
+        with other.pipeline():
+            for i in range(12):
+                other["A"][4] = i
+        self.assertIn("before it came 12 edits of other seats", self.say("A[1] = 9"))
 
 
 class Whole(unittest.TestCase):
@@ -187,6 +197,18 @@ class Whole(unittest.TestCase):
         )
         self.assertEqual(gone.returncode, 3)
         self.assertIn("there is no program", gone.stderr)
+
+    def test_a_server_whose_seats_are_taken(self):
+        server = Server(seats=1)
+        self.addCleanup(server.close)
+        server.connect()
+        for module in ("workbook_client", "workbook_client.page"):
+            gone = subprocess.run(
+                [sys.executable, "-m", module, "--connect", f"127.0.0.1:{server.port}"],
+                input="", capture_output=True, text=True, cwd=PACKAGE, timeout=30,
+            )
+            self.assertEqual((gone.returncode, gone.stdout), (3, ""))
+            self.assertIn("all its seats are taken", gone.stderr)
 
     def test_a_session_that_is_kept_and_gone_on_with(self):
         with tempfile.TemporaryDirectory() as place:

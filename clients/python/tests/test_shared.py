@@ -3,14 +3,13 @@
 import threading
 import unittest
 
-from tests.support import Server, knows, lacks, serves
+from tests.support import Server
 from workbook_client import (
     Array, BadLiteral, Blocked, Cascade, LineTooLong, NoSeat, NoServer, NoSuchEdit, NoSuchName, NotInForce, NotTakenBack, Refusal,
     SessionEnded, Workbook,
 )
 
 
-@unittest.skipUnless(serves(), "this program has no `serve`")
 class Shared(unittest.TestCase):
     def setUp(self) -> None:
         self.server = Server(seats=2)
@@ -33,7 +32,6 @@ class Shared(unittest.TestCase):
         self.assertEqual(self.one.undo(3).number, 3)
         self.assertEqual([e.was_in_force for e in self.two.history()], [True, True, False, False])
 
-    @knows("cascade", "dependents")
     def test_dependents_and_cascade(self):
         """Who needs an edit is a question like others, and a cascade is one step of the desk."""
         A = self.one.array("A", self.one.domain("D", range(1, 5)))
@@ -52,12 +50,6 @@ class Shared(unittest.TestCase):
             self.two.dependents(7)
         # 4 edits of two seats and a size of each name; three questions, a cascade, a print, three refusals
         self.assertEqual(self.server.settled()[0], 6 + 1 + 3 + 1 + 1 + 3)
-
-    @lacks("dependents")
-    def test_what_is_tried_and_put_back_is_for_a_session_alone(self):
-        self.one.domain("D", range(1, 5))
-        with self.assertRaisesRegex(RuntimeError, "others in a shared workbook could see"):
-            self.one.dependents(1)
 
     def test_what_cannot_be_taken_back(self):
         D = self.one.domain("D", range(1, 5))
@@ -131,7 +123,7 @@ class Shared(unittest.TestCase):
         with self.assertRaises(NoSuchName):
             self.two.undo() and self.one.array("A", "X")
         with self.assertRaises(Refusal):
-            self.one.cascade(9)  # an entry; where the op isn't there, which is none, then an undo
+            self.one.cascade(9)
         with self.assertRaises(BadLiteral):
             self.one.domain("E", "{1..")
         self.assertEqual(self.server.settled(), (6, "chapel-workbook 1\nend\n"))

@@ -225,7 +225,6 @@ class Edges(Logs):
         self.assertEqual(len(caller.wait()), 1)
         self.assertEqual(worker.stop(), 0)
 
-    @unittest.skipIf(isinstance(keeping.of([PROGRAM, "run"]), keeping.WholeLog), "this program has no `history` yet")
     def test_a_log_cut_behind_its_snapshot(self):
         words = ("--lease", "0.6", "--every", "10", "--trim")
         (caller,) = self.callers(["a"], 1)

@@ -3,7 +3,7 @@
 from contextlib import contextmanager
 from typing import Any, Dict, Iterator, List, Optional, Sequence, Union
 
-from . import hearing, requests, standins, turning
+from . import hearing, requests, turning
 from .channel import Channel, ProgramChannel, SocketChannel, command
 from .edits import Cascade, Edit, Pipeline
 from .errors import NoAnswer, NoSeat, NotResumed, SessionEnded, StrangeReply
@@ -34,8 +34,6 @@ class Workbook:
         self.last_edit: Optional[Edit] = None
         """The latest edit of this session: of `A[4] = 9` or `A += B`, which are no expressions."""
         self.steps = turning.Steps(self)
-        self.lacking: "set[str]" = set()
-        """The ops that the program turned out not to have. See `standins`."""
         self._pipeline: Optional[Pipeline] = None
 
     # --- the session
@@ -292,8 +290,6 @@ class Workbook:
 
     def ask(self, request: Request) -> Reply:
         """Sends a request and waits for its reply. A refusal is raised."""
-        if request.get("op") in standins.OPS:
-            return standins.ask(self, request)
         return self.exchange.ask(request)
 
     def change(self, request: Request) -> Edit:

@@ -1,4 +1,4 @@
-"""Every element of an array at once, from lists or from an array of numpy's."""
+"""Many elements of an array at once, from lists or from an array of numpy's."""
 
 import itertools
 from typing import Any, Iterator, List, Sequence, Tuple
@@ -23,6 +23,14 @@ def changes(array: str, domain: AnyDomain, values: Any) -> Iterator[Request]:
         return iter([requests.fill_all(array, elements[0])])
     if not ranges:
         return (requests.set(array, index, value) for index, value in zip(indices, elements))
+    return _runs(array, ranges, elements)
+
+
+def part(array: str, ranges: Tuple[range, ...], values: Any) -> Iterator[Request]:
+    """The changes that give a part of an array these elements, in the order of the ranges: as `changes`."""
+    elements = flat(values, [len(each) for each in ranges])
+    if len(elements) > 1 and len(set(elements)) == 1:
+        return iter([requests.fill(array, ranges, elements[0])])
     return _runs(array, ranges, elements)
 
 

@@ -114,6 +114,14 @@ def rectangle(value: Ranges) -> str:
     raise TypeError(f"a rectangle is '{{1..4}}', range(1, 5) or a tuple of ranges, not {value!r}")
 
 
+def ranges_of(value: Ranges) -> Tuple[range, ...]:
+    """The ranges of a rectangle."""
+    if isinstance(value, str):
+        return spelled_ranges(value)
+    rectangle(value)  # what is none is told there
+    return (value,) if isinstance(value, range) else tuple(value)
+
+
 def source(value: Any) -> str:
     """What a domain is given: a literal, a range, ranges, a set of indices, or another domain."""
     if isinstance(value, str):

@@ -1,9 +1,9 @@
 """Domains and arrays: names in a workbook, with what can be asked of them and done to them."""
 
-from typing import TYPE_CHECKING, Any, Dict, Iterator, List, Mapping, Tuple, Union
+from typing import TYPE_CHECKING, Any, Dict, Iterator, List, Mapping, Optional, Tuple, Union
 
 from . import bulk, requests
-from .literals import Index, Indices, Ranges, index_back
+from .literals import Index, Indices, Ranges, index_back, ranges_of
 from .literals import index as as_index
 from .refusals import OutOfDomain
 from .snapshot import RectDomain, Snapshot
@@ -121,6 +121,11 @@ class Domain(_Named):
         return iter(self.indices())
 
 
+def _are_many(value: Any) -> bool:
+    """Whether it is a list, or an array of numpy's of rank 1 or more."""
+    return isinstance(value, (list, tuple)) or bool(getattr(value, "shape", None))
+
+
 class Array(_Named):
     """An element, a whole number of 64 bits, at each index of its domain."""
 
@@ -130,8 +135,8 @@ class Array(_Named):
         return self.book.ask(requests.get(self, index)).number("value")
 
     def __setitem__(self, index: Any, value: Any) -> None:
-        """`A[4] = 9`; with ranges a fill, `A[range(1, 3)] = 7`; with `:` all of it, `A[:] = 0`,
-        `A[:] = B`, or `A[:] = [5, 6, 7, 8]`, as `put`. The edit is `wb.last_edit`.
+        """`A[4] = 9`; with ranges a fill, `A[range(1, 3)] = 7`, or `A[range(1, 3)] = [5, 6]`, as `put`;
+        with `:` all of it, `A[:] = 0`, `A[:] = B`, or `A[:] = [5, 6, 7, 8]`. The edit is `wb.last_edit`.
 
         `A[4] += 3` asks for the element and then sets it: two requests, between which others may
         come, and an edit that read nothing. `A.copy(4, A, 4, plus=3)` is one edit that reads."""
@@ -142,14 +147,17 @@ class Array(_Named):
         elif isinstance(index, range) or (
             isinstance(index, tuple) and index and all(isinstance(part, range) for part in index)
         ):
-            self.fill(index, value)
+            if _are_many(value):
+                self.put(value, index)
+            else:
+                self.fill(index, value)
         else:
             self.set(index, value)
 
     def _set_all(self, value: Any) -> None:
         if isinstance(value, Array):
             self.assign(value)
-        elif isinstance(value, (list, tuple)) or getattr(value, "shape", None):
+        elif _are_many(value):
             self.put(value)
         else:
             self.fill_all(value)
@@ -167,18 +175,21 @@ class Array(_Named):
         with self.book.trying(), self.book.pipeline():
             return [self.set(index, value) for index, value in values.items()]
 
-    def put(self, values: Any) -> "List[Edit]":
+    def put(self, values: Any, on: Optional[Ranges] = None) -> "List[Edit]":
         """Every element, in the domain's order, all or none: from a list, from lists of lists of
         the domain's shape, or from an array of numpy's of that shape. Over a sparse or an
-        associative domain it is one list.
+        associative domain it is one list. With `on` the elements of a rectangle, in its order.
 
-        A run of one number goes as one fill, so there are as many edits as there are runs. The
-        domain is read first, from the workbook's text.
+        A run of one number goes as one fill, so there are as many edits as there are runs. Without
+        `on` the domain is read first, from the workbook's text.
         """
-        shot = self._shot()
-        domain = shot.domains[shot.arrays[self.name].over]
+        if on is None:
+            shot = self._shot()
+            made = bulk.changes(self.name, shot.domains[shot.arrays[self.name].over], values)
+        else:
+            made = bulk.part(self.name, ranges_of(on), values)
         with self.book.trying(), self.book.pipeline():
-            return [self.book.change(request) for request in bulk.changes(self.name, domain, values)]
+            return [self.book.change(request) for request in made]
 
     def fill(self, on: Ranges, value: int) -> "Edit":
         """One number at each index of a rectangle: `A.fill("{1..2}", 7)`."""

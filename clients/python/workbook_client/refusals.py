@@ -52,7 +52,7 @@ class Refusal(WorkbookError):
 
 class BadRequest(Refusal):
     code, name = "E01", "bad-request"
-    advice = "the program doesn't read this request; it may be older than the client and lack the op."
+    advice = "the program doesn't read this request: its op, a field, or what stands in a field is none."
 
 
 class BadLiteral(Refusal):

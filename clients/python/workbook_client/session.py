@@ -5,12 +5,12 @@ import re
 import shutil
 import sys
 import textwrap
-from typing import Any, Dict, List, Optional, TextIO
+from typing import Dict, List, Optional, TextIO
 
 from . import hearing, hints
 from . import literals as lit
 from .book import Workbook
-from .edits import Cascade
+from .edits import Cascade, Edit
 from .errors import SessionEnded, WorkbookError
 from .language import Command, LanguageError, parse
 from .literals import Index
@@ -97,7 +97,7 @@ class Session:
             self.refused(no)
         except SessionEnded:
             raise
-        except (WorkbookError, ValueError, TypeError, OSError, RuntimeError) as wrong:
+        except (WorkbookError, ValueError, TypeError, OSError) as wrong:
             self.failed = True
             self.wrapped(str(wrong))
         return True
@@ -133,12 +133,23 @@ class Session:
             (value,) = self.book.ask(request).values()
             self.say(f"  {value}")
         else:
+            last = max(self.book.edits, default=0)
             edit = self.book.change(request)
             self.say(f"  edit {edit.number}, {_cells(edit.cells)}")
+            self.between(last, edit.number)
 
-    def moved(self, how: str, edit: Any) -> None:
+    def between(self, last: int, number: int) -> None:
+        """Tells of the edits of others between two of which this session heard: their numbers say it."""
+        others = list(range(last + 1, number))
+        if others:
+            these = f"edit{'s' * (len(others) > 1)} {numbered(others)}" if len(others) < 10 else f"{len(others):,} edits"
+            self.wrapped(f"before it came {these} of other seats; history shows what everybody did")
+
+    def moved(self, how: str, edit: Edit) -> None:
+        self.hear_of([edit.number])
+        whose = " of another seat" if edit.who == "another" else ""
         what = f": {edit.what}" if edit.what else ""
-        self.say(f"  edit {edit.number} is {how}, {_cells(edit.cells)}{what}")
+        self.say(f"  edit {edit.number}{whose} is {how}, {_cells(edit.cells)}{what}")
 
     def cascaded(self, done: Cascade) -> None:
         many = "edits" if len(done.undone) > 1 else "edit"
@@ -286,7 +297,7 @@ class Session:
         """Who would go along in a cascade. Others may have moved since the refusal."""
         try:
             return _takes_back(self.book.dependents(k), k)
-        except (Refusal, RuntimeError):  # RuntimeError: the program lacks the op
+        except Refusal:
             return " takes back all that stand in the way"
 
 

@@ -51,14 +51,14 @@ class Settings:
 class Held:
     """A workbook that this worker has: its lease, its program, and how far it went."""
 
-    def __init__(self, lease: log.Lease, settings: Settings, way: "keeping.HistoryText | keeping.WholeLog"):
-        self.lease, self._settings, self._way = lease, settings, way
+    def __init__(self, lease: log.Lease, settings: Settings):
+        self.lease, self._settings = lease, settings
         self.id, text, self._answered = lease.kept()
         """The last request that the program has done."""
         self._saved = self.id
         self._since = 0
         self._saved_at = self.active_at = time.monotonic()
-        self._channel: Channel = way.begin(settings.program, text)
+        self._channel: Channel = keeping.begin(settings.program, text)
 
     def send(self, entries: log.Entries) -> List[Tuple[str, str, bytes, bool]]:
         """Gives requests to the program: of each, its id, caller and number, and whether the program got it."""
@@ -95,7 +95,7 @@ class Held:
         """Stores a snapshot where it is time for one."""
         settings = self._settings
         due = self._since >= settings.every or time.monotonic() - self._saved_at >= settings.seconds
-        if not (now or due) or self.id == self._saved or not self._way.snapshots:
+        if not (now or due) or self.id == self._saved:
             return
         self._channel.send(keeping.QUESTION)
         reply = keeping.answer(self._channel)
@@ -115,7 +115,6 @@ class Worker:
 
     def __init__(self, settings: Settings):
         self._settings = settings
-        self._way = keeping.of(settings.program)
         self._held: Dict[str, Held] = {}
         self._broken: Dict[str, float] = {}  # until when a workbook is left to others
         self._redis: Optional[Redis] = None
@@ -249,7 +248,7 @@ class Worker:
         if not lease.take():
             return
         try:
-            self._held[name] = Held(lease, self._settings, self._way)
+            self._held[name] = Held(lease, self._settings)
         except (SessionEnded, keeping.Unresumed) as fault:
             if isinstance(fault, RedisGone):
                 raise
