@@ -1,7 +1,7 @@
 //! The command line of the program.
 #![tactic(auto)]
 
-ghost use Rattle.std.specs.Prelude.{◌≡◌, ℕ, false, IfErr, IfOk, MatchOption, codes};
+ghost use Rattle.std.specs.Prelude.{◌≡◌, ℕ, false, IfErr, IfOk, MatchOption, MatchResult, codes};
 ghost use Rattle.clap.specs.Walk.{texts};
 ghost use Rattle.clap.specs.Words.{app_of, found_of, rows_of, rule_of, shape_of, subcommand_rows_of};
 ghost use Rattle.clap.specs.declared.builder.command.Command.TheViews.{out-Command as fields_of};
@@ -56,6 +56,8 @@ pub enum CommandErr {
 pub fn command_of(alloc: Global, words: &[&str]) -> Result<Asked, CommandErr>
     ensures asked { IfOk result (Asks (texts words.now)) }
     ensures refused { IfErr result (Refuses (texts words.now)) }
+    ensures only { (asked : Asked) → Asks (texts words.now) asked
+        → MatchResult result (λ given. given ≡ asked) (λ cause. cause ≡ CommandErr.NoMemory) }
 {
     let command = program(alloc).map_err(|_| CommandErr::NoMemory)?;
     match command.try_get_matches_from(words) {

@@ -6,6 +6,7 @@ use Rattle.clap.specs.declared.error.Error.{Error}
 use Rattle.clap.specs.declared.parser.matches.ArgMatches.{ArgMatches}
 use Rattle.wb_command.specs.Asks.{program}
 use Rattle.wb_command.specs.declared.CommandErr.{CommandErr}
+use Rattle.wb_command.proofs.Only.{only_answer}
 use Rattle.wb_command.proofs.Parsed.{answer_asked, answer_refused, answer_told, faults_of, found_by, passed_on}
 use Rattle.wb_command.proofs.command_of.Goals as goal
 
@@ -35,3 +36,9 @@ returns-in-Err-clause-refused c =
     let failed : Result ArgMatches Error = Err c.in-Err.error in
     let kind = faults_of command built words failed c.in-Err.ensures.kinds in
     answer_told words c.in-Err.error c.told.result kind c.told.ensures
+
+pub returns-in-Ok-clause-only : goal.returns-in-Ok-clause-only
+returns-in-Ok-clause-only c = only_answer (texts c.args.words.now) c.ok_or.result (returns-in-Ok-clause-asked c) (returns-in-Ok-clause-refused c)
+
+pub returns-in-Err-clause-only : goal.returns-in-Err-clause-only
+returns-in-Err-clause-only c = only_answer (texts c.args.words.now) (Err c.told.result) tt (returns-in-Err-clause-refused c)
