@@ -1,6 +1,13 @@
 //! The command line of the program.
 #![tactic(auto)]
 
+ghost use Rattle.std.specs.Prelude.{◌≡◌, ℕ, false, IfErr, IfOk, MatchOption, MatchResult, codes};
+ghost use Rattle.clap.specs.Walk.{texts};
+ghost use Rattle.clap.specs.Words.{app_of, found_of, rows_of, rule_of, shape_of, subcommand_rows_of};
+ghost use Rattle.clap.specs.declared.builder.command.Command.TheViews.{out-Command as fields_of};
+ghost use Rattle.wb_command.specs.Asks.{Asks, HasNumber, HasWorkers, IsMeant, Means, Refuses, Tells, is_set};
+ghost use Rattle.wb_command.specs.Asks as spec;
+
 use clap::error::ErrorKind;
 use clap::{Arg, ArgAction, ArgMatches, Command};
 use std::alloc::{AllocError, Global};
@@ -46,98 +53,201 @@ pub enum CommandErr {
 }
 
 /// What the words ask for, the program's own name first.
-pub fn command_of(alloc: Global, words: &[&str]) -> Result<Asked, CommandErr> {
-    match parsed(alloc, words) {
-        Ok(Some(asked)) => Ok(asked),
-        Ok(None) => Err(CommandErr::BadCommandLine),
-        Err(error) => match error.kind() {
-            ErrorKind::DisplayHelp | ErrorKind::DisplayVersion => Err(CommandErr::Help(error)),
-            ErrorKind::OutOfMemory => Err(CommandErr::NoMemory),
-            _ => Err(CommandErr::BadCommandLine),
-        },
+pub fn command_of(alloc: Global, words: &[&str]) -> Result<Asked, CommandErr>
+    ensures asked { IfOk result (Asks (texts words.now)) }
+    ensures refused { IfErr result (Refuses (texts words.now)) }
+    ensures only { (asked : Asked) → Asks (texts words.now) asked
+        → MatchResult result (λ given. given ≡ asked) (λ cause. cause ≡ CommandErr.NoMemory) }
+{
+    let command = program(alloc).map_err(|_| CommandErr::NoMemory)?;
+    match command.try_get_matches_from(words) {
+        Ok(matches) => read_off(&matches).ok_or(CommandErr::BadCommandLine),
+        Err(error) => Err(told(error)),
     }
 }
 
-fn parsed(alloc: Global, words: &[&str]) -> Result<Option<Asked>, clap::Error> {
-    let run = Command::new(alloc, "run")
-        .about("Answers each request line of standard input on standard output")
-        .after_help(RUN_EXAMPLE)
-        .arg(resume_flag(alloc))?
-        .arg(workers_option(alloc))?;
+// An error of clap's, as the program tells it.
+fn told(error: clap::Error) -> CommandErr
+    ensures { Tells error result }
+{
+    match error.kind() {
+        ErrorKind::DisplayHelp | ErrorKind::DisplayVersion => CommandErr::Help(error),
+        ErrorKind::OutOfMemory => CommandErr::NoMemory,
+        _ => CommandErr::BadCommandLine,
+    }
+}
+
+// The program's commands and their options.
+fn program<'a>(alloc: Global) -> Result<Command<'a>, AllocError>
+    ensures { IfOk result (λ command. app_of command ≡ spec.program) }
+{
     let check = Command::new(alloc, "check")
         .about(
             "Tells whether standard input is the text of a workbook or of a history, and how much it has",
         )
         .after_help(CHECK_EXAMPLE);
-    let command = Command::new(alloc, "workbook")
+    Command::new(alloc, "workbook")
         .about("A shared workbook of whole-number arrays with selective undo")
         .version(VERSION)
         .subcommand_required(true)
-        .subcommand(run)?
+        .subcommand(run_command(alloc)?)?
         .subcommand(check)?
-        .subcommand(serve_command(alloc)?)?;
-    let matches = command.try_get_matches_from(words)?;
-    match matches.subcommand() {
-        Some(("run", inner)) => Ok(Some(Asked::Run {
-            resume: inner.get_flag("resume"),
-            workers: workers_of(inner),
-        })),
-        Some(("check", _)) => Ok(Some(Asked::Check)),
-        Some(("serve", inner)) => Ok(serve_of(inner)),
-        _ => Ok(None),
-    }
+        .subcommand(serve_command(alloc)?)
+}
+
+// The command `run` with its options.
+fn run_command<'a>(alloc: Global) -> Result<Command<'a>, AllocError>
+    ensures { IfOk result (λ command. (shape_of command ≡ spec.run_command)
+        × ((fields_of command).has_globals ≡ false)) }
+{
+    Command::new(alloc, "run")
+        .about("Answers each request line of standard input on standard output")
+        .after_help(RUN_EXAMPLE)
+        .arg(resume_flag(alloc))?
+        .arg(workers_option(alloc))
+}
+
+// The command `serve` with its options.
+fn serve_command<'a>(alloc: Global) -> Result<Command<'a>, AllocError>
+    ensures { IfOk result (λ command. (shape_of command ≡ spec.serve_command)
+        × ((fields_of command).has_globals ≡ false)) }
+{
+    Command::new(alloc, "serve")
+        .about("Answers the request lines of each seat on a connection of its own")
+        .after_help(SERVE_EXAMPLE)
+        .arg(port_option(alloc))?
+        .arg(seats_option(alloc))?
+        .arg(resume_flag(alloc))?
+        .arg(workers_option(alloc))
 }
 
 // Whether the text of a history comes first.
-fn resume_flag<'a>(alloc: Global) -> Arg<'a> {
+fn resume_flag<'a>(alloc: Global) -> Arg<'a>
+    ensures { (rule_of result ≡ spec.resume_option) × (result.global ≡ false) }
+{
     Arg::new(alloc, "resume")
         .long("resume")
         .action(ArgAction::SetTrue)
 }
 
 // How many workers move arrays.
-fn workers_option<'a>(alloc: Global) -> Arg<'a> {
+fn workers_option<'a>(alloc: Global) -> Arg<'a>
+    ensures { (rule_of result ≡ spec.workers_option) × (result.global ≡ false) }
+{
     Arg::new(alloc, "workers")
         .long("workers")
         .action(ArgAction::Set)
         .value_parser(clap::value_parser!(u8).range(1..=64))
 }
 
-// The number of workers; 1 where it is not told.
-fn workers_of(matches: &ArgMatches) -> u8 {
-    matches.get_one::<u8>("workers").unwrap_or(1)
-}
-
-// The command `serve` with its options.
-fn serve_command<'a>(alloc: Global) -> Result<Command<'a>, AllocError> {
-    let port = Arg::new(alloc, "port")
+// The port to listen on.
+fn port_option<'a>(alloc: Global) -> Arg<'a>
+    ensures { (rule_of result ≡ spec.port_option) × (result.global ≡ false) }
+{
+    Arg::new(alloc, "port")
         .long("port")
         .required(true)
         .action(ArgAction::Set)
-        .value_parser(clap::value_parser!(u16));
-    let seats = Arg::new(alloc, "seats")
+        .value_parser(clap::value_parser!(u16))
+}
+
+// How many connections are accepted.
+fn seats_option<'a>(alloc: Global) -> Arg<'a>
+    ensures { (rule_of result ≡ spec.seats_option) × (result.global ≡ false) }
+{
+    Arg::new(alloc, "seats")
         .long("seats")
         .required(true)
         .action(ArgAction::Set)
-        .value_parser(clap::value_parser!(u8).range(1..=16));
-    Command::new(alloc, "serve")
-        .about("Answers the request lines of each seat on a connection of its own")
-        .after_help(SERVE_EXAMPLE)
-        .arg(port)?
-        .arg(seats)?
-        .arg(resume_flag(alloc))?
-        .arg(workers_option(alloc))
+        .value_parser(clap::value_parser!(u8).range(1..=16))
 }
 
-// The port, the numbers of seats and of workers, and whether the text of a history comes first.
-fn serve_of(matches: &ArgMatches) -> Option<Asked> {
-    let port = matches.get_one::<u16>("port")?;
-    let seats = matches.get_one::<u8>("seats")?;
-    let resume = matches.get_flag("resume");
+// What the matched words ask for.
+fn read_off(matches: &ArgMatches) -> Option<Asked>
+    ensures { MatchOption result
+        ((asked : Asked) → IsMeant (subcommand_rows_of matches.now) asked → ⊥)
+        (IsMeant (subcommand_rows_of matches.now)) }
+{
+    let (name, found) = matches.subcommand()?;
+    meant(name, found)
+}
+
+// What the command of this name asks for by what was found for its options.
+fn meant(name: &str, found: &ArgMatches) -> Option<Asked>
+    ensures { MatchOption result
+        ((asked : Asked) → Means name.now (rows_of (found_of found.now)) asked → ⊥)
+        (Means name.now (rows_of (found_of found.now))) }
+{
+    match name {
+        "run" => run_of(found),
+        "check" => Some(Asked::Check),
+        "serve" => serve_of(found),
+        _ => None,
+    }
+}
+
+// What `run` asks for.
+fn run_of(found: &ArgMatches) -> Option<Asked>
+    ensures { MatchOption result
+        ((asked : Asked) → Means (codes "run") (rows_of (found_of found.now)) asked → ⊥)
+        (Means (codes "run") (rows_of (found_of found.now))) }
+{
+    let resume = is_resumed(found);
+    let workers = workers_of(found)?;
+    Some(Asked::Run { resume, workers })
+}
+
+// What `serve` asks for.
+fn serve_of(found: &ArgMatches) -> Option<Asked>
+    ensures { MatchOption result
+        ((asked : Asked) → Means (codes "serve") (rows_of (found_of found.now)) asked → ⊥)
+        (Means (codes "serve") (rows_of (found_of found.now))) }
+{
+    let port = port_of(found)?;
+    let seats = seats_of(found)?;
+    let resume = is_resumed(found);
+    let workers = workers_of(found)?;
     Some(Asked::Serve {
         port,
         seats,
         resume,
-        workers: workers_of(matches),
+        workers,
     })
+}
+
+// The port.
+fn port_of(found: &ArgMatches) -> Option<u16>
+    ensures { MatchOption result
+        ((n : ℕ) → HasNumber 16 (codes "port") (rows_of (found_of found.now)) n → ⊥)
+        (HasNumber 16 (codes "port") (rows_of (found_of found.now))) }
+{
+    found.get_one::<u16>("port")
+}
+
+// The number of seats.
+fn seats_of(found: &ArgMatches) -> Option<u8>
+    ensures { MatchOption result
+        ((n : ℕ) → HasNumber 8 (codes "seats") (rows_of (found_of found.now)) n → ⊥)
+        (HasNumber 8 (codes "seats") (rows_of (found_of found.now))) }
+{
+    found.get_one::<u8>("seats")
+}
+
+// Whether the text of a history comes first.
+fn is_resumed(found: &ArgMatches) -> bool
+    ensures { result ≡ is_set (codes "resume") (rows_of (found_of found.now)) }
+{
+    found.get_one::<bool>("resume").unwrap_or(false)
+}
+
+// The number of workers; 1 where it is not told.
+fn workers_of(found: &ArgMatches) -> Option<u8>
+    ensures { MatchOption result
+        ((n : ℕ) → HasWorkers (rows_of (found_of found.now)) n → ⊥)
+        (HasWorkers (rows_of (found_of found.now))) }
+{
+    match found.try_get_one::<u8>("workers") {
+        Ok(workers) => Some(workers.unwrap_or(1)),
+        Err(_) => None,
+    }
 }

@@ -1,0 +1,4 @@
+pub mod Built
+pub mod Getters
+pub mod Only
+pub mod Parsed

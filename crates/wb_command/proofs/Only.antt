@@ -1,0 +1,59 @@
+-- Words ask for one thing at most.
+use Rattle.std.proofs.Common.{◌≡◌, ◌∙◌, ℕ, Bool, true, false, List, [], Option, Some, None, ap, ap₂, refl, sym, subst, inl, inr, true≢false}
+use Rattle.std.specs.Prelude.{Result, Ok, Err, IfOk, IfErr, MatchResult, IsSomeAnd, codes, bytes_eq, is_some}
+use Rattle.clap.specs.Words.{IsAmong, Row, Text, one_of, subcommand_of}
+use Rattle.wb_command.specs.Asks.{Asks, HasNumber, HasWorkers, IsMeant, Means, Refuses, Writes, program}
+use Rattle.wb_command.specs.declared.Asked.{Asked}
+use Rattle.wb_command.specs.declared.Asked.TheVariants.{Run, Check, Serve}
+use Rattle.wb_command.specs.declared.CommandErr.{CommandErr}
+use Rattle.wb_command.specs.declared.CommandErr.TheVariants.{Help, BadCommandLine, NoMemory}
+
+one_number_in : (bits : ℕ) (o : Option Text) (m n : ℕ) → IsSomeAnd o (λ text. Writes bits text m) → IsSomeAnd o (λ text. Writes bits text n) → m ≡ n
+one_number_in bits None m n h k = absurd h
+one_number_in bits (Some text) m n h k = h.2 ∙ sym k.2
+
+one_number : (bits : ℕ) (name : Text) (found : List Row) (m n : ℕ) → HasNumber bits name found m → HasNumber bits name found n → m ≡ n
+one_number bits name found m n h k = one_number_in bits (one_of name found) m n h k
+
+missing : (o : Option Text) (n : ℕ) → o ≡ None → IsSomeAnd o (λ text. Writes 8 text n) → ⊥
+missing None n none h = h
+missing (Some text) n none h = true≢false (ap is_some none)
+
+one_workers : (found : List Row) (m n : ℕ) → HasWorkers found m → HasWorkers found n → m ≡ n
+one_workers found m n (inl h) (inl k) = h.1 ∙ sym k.1
+one_workers found m n (inl h) (inr k) = absurd (missing (one_of (codes "workers") found) n h.0 k)
+one_workers found m n (inr h) (inl k) = absurd (missing (one_of (codes "workers") found) m k.0 h)
+one_workers found m n (inr h) (inr k) = one_number 8 (codes "workers") found m n h k
+
+-- two names that a test of bytes tells apart
+apart : (a b : Text) (name : Text) → bytes_eq a b ≡ false → bytes_eq a a ≡ true → name ≡ a → name ≡ b → ⊥
+apart a b name differ same is_a is_b = true≢false (sym same ∙ ap (bytes_eq a) (sym is_a ∙ is_b) ∙ differ)
+
+one_meaning : (name : Text) (found : List Row) (a b : Asked) → Means name found a → Means name found b → a ≡ b
+one_meaning name found (Run r w) (Run s v) m n = ap₂ Run (m.1 ∙ sym n.1) (one_workers found w v m.2 n.2)
+one_meaning name found (Run r w) Check m n = absurd (apart (codes "run") (codes "check") name refl refl m.0 n)
+one_meaning name found (Run r w) (Serve p t s v) m n = absurd (apart (codes "run") (codes "serve") name refl refl m.0 n.0)
+one_meaning name found Check (Run s v) m n = absurd (apart (codes "check") (codes "run") name refl refl m n.0)
+one_meaning name found Check Check m n = refl
+one_meaning name found Check (Serve p t s v) m n = absurd (apart (codes "check") (codes "serve") name refl refl m n.0)
+one_meaning name found (Serve p t r w) (Run s v) m n = absurd (apart (codes "serve") (codes "run") name refl refl m.0 n.0)
+one_meaning name found (Serve p t r w) Check m n = absurd (apart (codes "serve") (codes "check") name refl refl m.0 n)
+one_meaning name found (Serve p t r w) (Serve q u s v) m n =
+    ap₂ (λ port seats. Serve port seats r w) (one_number 16 (codes "port") found p q m.1 n.1) (one_number 8 (codes "seats") found t u m.2 n.2)
+    ∙ ap₂ (Serve q u) (m.3 ∙ sym n.3) (one_workers found w v m.4 n.4)
+
+one_meant : (named : Option (Text × List Row)) (a b : Asked) → IsMeant named a → IsMeant named b → a ≡ b
+one_meant None a b m n = absurd m
+one_meant (Some p) a b m n = one_meaning p.0 p.1 a b m n
+
+no_refusal : (words : List Text) (asked : Asked) (e : CommandErr) → Asks words asked → Refuses words e → e ≡ NoMemory
+no_refusal words asked (Help shown) asks h = absurd (subst (IsAmong _) asks.0 h.0)
+no_refusal words asked BadCommandLine asks (inl h) = absurd (subst (IsAmong h.0) asks.0 h.1)
+no_refusal words asked BadCommandLine asks (inr h) = absurd (h.1 asked asks.1)
+no_refusal words asked NoMemory asks h = refl
+
+-- an answer that meets the other clauses is the only one
+pub only_answer : (words : List Text) (r : Result Asked CommandErr) → IfOk r (Asks words) → IfErr r (Refuses words)
+    → (asked : Asked) → Asks words asked → MatchResult r (λ given. given ≡ asked) (λ e. e ≡ NoMemory)
+only_answer words (Ok given) ok err asked asks = one_meant (subcommand_of program words) given asked ok.1 asks.1
+only_answer words (Err e) ok err asked asks = no_refusal words asked e asks err

@@ -1,0 +1,131 @@
+-- What the words of a command line ask for. How words are read is clap's: `--workers 4` or `--workers=4`, options in any
+-- order, what is said twice, `--`. clap's `fault_of` lists what it refuses of the words for a command that is written out
+-- as here, and `subcommand_of` gives the subcommand that they name with what was found for its options.
+use Rattle.std.specs.Prelude.{◌≡◌, ◌≢◌, ◌⊎◌, ◌<◌, ◌^◌, ℕ, Bool, true, false, List, [], ◌∷◌, Option, Some, None, IsSomeAnd, ⊤, pos, codes, bytes_eq}
+use Rattle.std.specs.Option.{option_map_or}
+use Rattle.std.specs.Str.Parse.{IsNumeral, digits_value, without_leading_plus}
+use Rattle.clap.specs.Words.{App, Row, Rule, Shape, Text, IsAmong, fault_of, kind_of, new_rule, one_of, subcommand_of}
+use Rattle.clap.specs.Simple.{new_shape}
+use Rattle.clap.specs.declared.builder.action.ArgAction.TheVariants.{Set, SetTrue}
+use Rattle.clap.specs.declared.builder.value_parser.ValueParser.TheVariants.{Signed}
+use Rattle.clap.specs.declared.error.Error.{Error}
+use Rattle.clap.specs.declared.error.kind.ErrorKind.{ErrorKind}
+use Rattle.clap.specs.declared.error.kind.ErrorKind.TheVariants.{DisplayHelp, DisplayVersion, OutOfMemory}
+use Rattle.wb_command.specs.declared.Asked.{Asked}
+use Rattle.wb_command.specs.declared.Asked.TheVariants.{Run, Check, Serve}
+use Rattle.wb_command.specs.declared.CommandErr.{CommandErr}
+use Rattle.wb_command.specs.declared.CommandErr.TheVariants.{Help, BadCommandLine, NoMemory}
+
+-- ---- the commands of the program
+
+-- an option without a value: `--name`
+abbrev pub flag : Text → Rule
+flag name = record (new_rule name) { long = Some name; action = Some SetTrue }
+
+-- an option with a whole number from the least to the greatest: `--name N`
+abbrev pub number : Text → ℕ → ℕ → Rule
+number name least greatest =
+    record (new_rule name) { long = Some name; action = Some Set; parser = Some (Signed (pos least) (pos greatest)) }
+
+-- the same, which has to be given
+abbrev pub needed : Rule → Rule
+needed option = record option { required = true }
+
+abbrev pub resume_option : Rule
+resume_option = flag (codes "resume")
+
+abbrev pub workers_option : Rule
+workers_option = number (codes "workers") 1 64
+
+abbrev pub port_option : Rule
+port_option = needed (number (codes "port") 0 65535)
+
+abbrev pub seats_option : Rule
+seats_option = needed (number (codes "seats") 1 16)
+
+-- a command of the program, with its options
+abbrev pub command : Text → List Rule → Shape
+command name options = record (new_shape name) { rules = options }
+
+abbrev pub run_command : Shape
+run_command = command (codes "run") (resume_option ∷ workers_option ∷ [])
+
+abbrev pub check_command : Shape
+check_command = command (codes "check") []
+
+abbrev pub serve_command : Shape
+serve_command = command (codes "serve") (port_option ∷ seats_option ∷ resume_option ∷ workers_option ∷ [])
+
+-- the commands of the program: one more is a line here and a line of `Means`
+abbrev pub commands : List Shape
+commands = run_command ∷ check_command ∷ serve_command ∷ []
+
+-- the program: it has a version, and one of its commands has to be named
+abbrev pub program : App
+program = record {
+  top = record (new_shape (codes "workbook")) { is_leaf = false; has_version = true; subcommand_required = true };
+  subs = commands;
+}
+
+-- ---- what a command asks for
+
+-- the text writes the number in decimal digits, and the number has at most so many bits
+abbrev pub Writes : ℕ → Text → ℕ → Type 0
+Writes bits text n = IsNumeral 10 (without_leading_plus text)
+    × (digits_value 10 (without_leading_plus text) < 2 ^ bits) × (n ≡ digits_value 10 (without_leading_plus text))
+
+-- the number is what was found for the option
+abbrev pub HasNumber : ℕ → Text → List Row → ℕ → Type 0
+HasNumber bits name found n = IsSomeAnd (one_of name found) (λ text. Writes bits text n)
+
+-- the same of the number of workers, which is 1 where none was found
+abbrev pub HasWorkers : List Row → ℕ → Type 0
+HasWorkers found n = ((one_of (codes "workers") found ≡ None) × (n ≡ 1)) ⊎ HasNumber 8 (codes "workers") found n
+
+-- the flag was found, and set
+abbrev pub is_set : Text → List Row → Bool
+is_set name found = option_map_or (λ text. bytes_eq text (codes "true")) (one_of name found) false
+
+-- what the command of this name asks for, where this was found for its options
+abbrev pub Means : Text → List Row → Asked → Type 0
+Means name found (Run resume workers) =
+    (name ≡ codes "run") × (resume ≡ is_set (codes "resume") found) × HasWorkers found workers
+Means name found Check = name ≡ codes "check"
+Means name found (Serve port seats resume workers) = (name ≡ codes "serve") × HasNumber 16 (codes "port") found port
+    × HasNumber 8 (codes "seats") found seats × (resume ≡ is_set (codes "resume") found) × HasWorkers found workers
+
+-- the same of the command that the words name, if they name one
+abbrev pub IsMeant : Option (Text × List Row) → Asked → Type 0
+IsMeant named asked = IsSomeAnd named (λ p. Means p.0 p.1 asked)
+
+-- the words, the program's own name first, ask for this: clap refuses nothing of them, and the command that they name
+-- means it
+abbrev pub Asks : List Text → Asked → Type 0
+Asks words asked = (fault_of program words ≡ []) × IsMeant (subcommand_of program words) asked
+
+-- ---- what asks for nothing
+
+-- a call for help or for the version
+abbrev pub IsRequest : ErrorKind → Type 0
+IsRequest kind = (kind ≡ DisplayHelp) ⊎ (kind ≡ DisplayVersion)
+
+-- clap finds a fault of this kind in the words
+abbrev pub HasFault : List Text → ErrorKind → Type 0
+HasFault words kind = IsAmong kind (fault_of program words)
+
+-- clap finds a fault in the words that is no call for help, or it finds none and they ask for nothing
+abbrev pub IsBad : List Text → Type 0
+IsBad words = ((kind : ErrorKind) × HasFault words kind × (IsRequest kind → ⊥))
+    ⊎ ((fault_of program words ≡ []) × ((asked : Asked) → IsMeant (subcommand_of program words) asked → ⊥))
+
+-- why the words ask for nothing; want of memory has no cause
+abbrev pub Refuses : List Text → CommandErr → Type 0
+Refuses words (Help shown) = HasFault words (kind_of shown) × IsRequest (kind_of shown)
+Refuses words BadCommandLine = IsBad words
+Refuses words NoMemory = ⊤
+
+-- an error of clap's, as the program tells it
+abbrev pub Tells : Error → CommandErr → Type 0
+Tells error (Help shown) = (shown ≡ error) × IsRequest (kind_of error)
+Tells error BadCommandLine = (IsRequest (kind_of error) → ⊥) × (kind_of error ≢ OutOfMemory)
+Tells error NoMemory = kind_of error ≡ OutOfMemory
