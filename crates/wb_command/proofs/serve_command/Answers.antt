@@ -2,7 +2,7 @@ use Rattle.std.proofs.Common.{rules, codes}
 use Rattle.std.proofs.lemmas.Result.{IfOk-weaker}
 use Rattle.clap.specs.Simple.{new_shape}
 use Rattle.wb_command.specs.Asks.{port_option, seats_option, resume_option, workers_option}
-use Rattle.wb_command.proofs.Built.{IsAs, option_added, with_option}
+use Rattle.wb_command.proofs.Built.{IsAs, option_added}
 use Rattle.wb_command.proofs.serve_command.Goals as goal
 
 pub returns : goal.returns
