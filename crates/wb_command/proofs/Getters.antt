@@ -1,10 +1,10 @@
 -- What clap's typed getters read is what was found for an option.
-use Rattle.std.proofs.Common.{◌≡◌, ◌∙◌, ◌⊎◌, ℕ, Bool, true, false, List, [], Option, Some, None, refl, sym, ap, inl, inr, true≢false}
-use Rattle.std.specs.Prelude.{◌≢◌, Result, Ok, Err, MatchOption, MatchBool, IsSomeAnd, MatchResult, codes, is_some, bytes_eq, unwrap_or}
+use Rattle.std.proofs.Common.{◌≡◌, ◌∙◌, ◌⊎◌, ℕ, Bool, true, false, List, Option, Some, None, refl, sym, ap, inl, inr, true≢false}
+use Rattle.std.specs.Prelude.{◌≢◌, Result, Ok, Err, MatchOption, IsSomeAnd, MatchResult, codes, is_some, bytes_eq, unwrap_or}
 use Rattle.std.specs.Option.{option_map_or}
-use Rattle.std.specs.Str.Parse.{ParsesUnsigned, ParsesBool, true_text, false_text}
+use Rattle.std.specs.Str.Parse.{ParsesUnsigned, ParsesBool, true_text}
 use Rattle.std.proofs.lemmas.Slice.Eq.{bytes_eq-Decides}
-use Rattle.clap.specs.Words.{ReadsOne, Row, Text, TriesOne, found_of, one_of, one_text, rows_of}
+use Rattle.clap.specs.Words.{ReadsOne, Row, Text, TriesOne, one_of, one_text, rows_of}
 use Rattle.clap.specs.declared.parser.matches.Found.{Found}
 use Rattle.clap.proofs.WalkLemmas.{one_text-rows}
 use Rattle.wb_command.specs.Asks.{HasNumber, HasWorkers, Means, Writes, is_set}

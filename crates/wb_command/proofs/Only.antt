@@ -1,5 +1,5 @@
 -- Words ask for one thing at most.
-use Rattle.std.proofs.Common.{◌≡◌, ◌∙◌, ℕ, Bool, true, false, List, [], Option, Some, None, ap, ap₂, refl, sym, subst, inl, inr, true≢false}
+use Rattle.std.proofs.Common.{◌≡◌, ◌∙◌, ℕ, true, false, List, Option, Some, None, ap, ap₂, refl, sym, subst, inl, inr, true≢false}
 use Rattle.std.specs.Prelude.{Result, Ok, Err, IfOk, IfErr, MatchResult, IsSomeAnd, codes, bytes_eq, is_some}
 use Rattle.clap.specs.Words.{IsAmong, Row, Text, one_of, subcommand_of}
 use Rattle.wb_command.specs.Asks.{Asks, HasNumber, HasWorkers, IsMeant, Means, Refuses, Writes, program}

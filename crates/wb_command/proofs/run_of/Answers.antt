@@ -1,4 +1,3 @@
-use Rattle.std.proofs.Common.{rules}
 use Rattle.clap.specs.Words.{found_of, rows_of}
 use Rattle.wb_command.proofs.Getters.{run_alone}
 use Rattle.wb_command.proofs.run_of.Goals as goal
