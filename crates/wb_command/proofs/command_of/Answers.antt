@@ -14,7 +14,8 @@ pub returns-in-Ok-clause-asked : goal.returns-in-Ok-clause-asked
 returns-in-Ok-clause-asked c =
     let words = texts c.args.words.now in
     let command = c.in_ok-command.command in
-    let built : app_of command ≡ program = passed_on CommandErr c.program.result command (λ k. app_of k ≡ program) c.program.ensures c.in_ok-command.ensures.cases in
+    let built : app_of command ≡ program =
+    passed_on CommandErr c.program.result command (λ k. app_of k ≡ program) c.program.ensures c.in_ok-command.ensures.cases in
     let none = faults_of command built words (Ok c.in-Ok.matches) c.in-Ok.ensures.kinds in
     let found = found_by command built words c.in-Ok.matches c.in-Ok.ensures.matches in
     rw c.ok_or.ensures.value (answer_asked words c.read_off.result c.in-Ok.matches none found c.read_off.ensures)
@@ -23,7 +24,8 @@ pub returns-in-Ok-clause-refused : goal.returns-in-Ok-clause-refused
 returns-in-Ok-clause-refused c =
     let words = texts c.args.words.now in
     let command = c.in_ok-command.command in
-    let built : app_of command ≡ program = passed_on CommandErr c.program.result command (λ k. app_of k ≡ program) c.program.ensures c.in_ok-command.ensures.cases in
+    let built : app_of command ≡ program =
+    passed_on CommandErr c.program.result command (λ k. app_of k ≡ program) c.program.ensures c.in_ok-command.ensures.cases in
     let none = faults_of command built words (Ok c.in-Ok.matches) c.in-Ok.ensures.kinds in
     let found = found_by command built words c.in-Ok.matches c.in-Ok.ensures.matches in
     rw c.ok_or.ensures.value (answer_refused words c.read_off.result c.in-Ok.matches none found c.read_off.ensures)
@@ -32,7 +34,8 @@ pub returns-in-Err-clause-refused : goal.returns-in-Err-clause-refused
 returns-in-Err-clause-refused c =
     let words = texts c.args.words.now in
     let command = c.in_ok-command.command in
-    let built : app_of command ≡ program = passed_on CommandErr c.program.result command (λ k. app_of k ≡ program) c.program.ensures c.in_ok-command.ensures.cases in
+    let built : app_of command ≡ program =
+    passed_on CommandErr c.program.result command (λ k. app_of k ≡ program) c.program.ensures c.in_ok-command.ensures.cases in
     let failed : Result ArgMatches Error = Err c.in-Err.error in
     let kind = faults_of command built words failed c.in-Err.ensures.kinds in
     answer_told words c.in-Err.error c.told.result kind c.told.ensures

@@ -9,7 +9,8 @@ use Rattle.wb_command.proofs.program.Goals as goal
 pub returns : goal.returns
 returns c =
     let check_is : IsAs c.after_help-check.result spec.check_command = (search rules, search rules) in
-    let none : app_of c.subcommand_required.result ≡ record { top = record (new_shape (codes "workbook")) { has_version = true; subcommand_required = true }; subs = [] } = search rules in
+    let none : app_of c.subcommand_required.result
+    ≡ record { top = record (new_shape (codes "workbook")) { has_version = true; subcommand_required = true }; subs = [] } = search rules in
     let one = command_added c.subcommand_required.result c.in_ok-run_command.field-0 c.in_ok-subcommand.field-0 _ spec.run_command
     c.in_ok-subcommand.ensures none c.in_ok-run_command.ensures in
     let two = command_added c.in_ok-subcommand.field-0 c.after_help-check.result c.in_ok-subcommand-2.field-0 _ spec.check_command

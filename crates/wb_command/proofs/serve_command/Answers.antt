@@ -11,4 +11,5 @@ returns c =
     let one = option_added c.after_help.result c.in_ok-arg.field-0 c.port_option.result _ port_option c.in_ok-arg.ensures none c.port_option.ensures in
     let two = option_added c.in_ok-arg.field-0 c.in_ok-arg-2.field-0 c.seats_option.result _ seats_option c.in_ok-arg-2.ensures one c.seats_option.ensures in
     let three = option_added c.in_ok-arg-2.field-0 c.in_ok-arg-3.field-0 c.resume_flag.result _ resume_option c.in_ok-arg-3.ensures two c.resume_flag.ensures in
-    IfOk-weaker c.arg-4.result _ _ (λ r added. option_added c.in_ok-arg-3.field-0 r c.workers_option.result _ workers_option added three c.workers_option.ensures) c.arg-4.ensures
+    IfOk-weaker c.arg-4.result _ _
+    (λ r added. option_added c.in_ok-arg-3.field-0 r c.workers_option.result _ workers_option added three c.workers_option.ensures) c.arg-4.ensures
