@@ -238,6 +238,7 @@ class Whole(unittest.TestCase):
             [sys.executable, "-m", "workbook_client", "--program", PROGRAM],
             stdin=child, stdout=child, stderr=child, cwd=PACKAGE, env={**os.environ, "TERM": "dumb", "WORKBOOK_HISTORY": os.devnull},
             start_new_session=True,
+            preexec_fn=lambda: signal.signal(signal.SIGINT, signal.SIG_DFL),  # a shell's background job has it ignored
         )
         os.close(child)
         seen = ""
@@ -263,7 +264,7 @@ class Whole(unittest.TestCase):
             os.write(parent, b"A[4 = 9\n")
             self.assertIn("\n" + " " * 14 + "^", until("expected").replace("\r", ""))
             until("workbook> ")
-            while True:  # as Ctrl-C: the line goes, the workbook stays
+            for _ in range(20):  # as Ctrl-C: the line goes, the workbook stays
                 process.send_signal(signal.SIGINT)
                 if select.select([parent], [], [], 0.5)[0]:  # else it came before it was waited for
                     break
