@@ -77,13 +77,17 @@ class Page(unittest.TestCase):
         self.assertEqual(self.ask("/do", {"line": "D = {1..4}"}, Origin="http://evil.example")[0], 403)
         self.assertEqual(self.ask("/do", {"line": "D = {1..4}"}, Origin=f"http://127.0.0.1:{self.port}")[0], 200)
 
-    def test_a_shared_workbook(self):
+    def at_a_desk(self) -> Workbook:
+        """Opens the page at one of a desk's two seats, where each look asks anew: the workbook of the other seat."""
         server = Server(seats=2)
         self.addCleanup(server.close)
         view.APART, before = 0.0, view.APART
         self.addCleanup(setattr, view, "APART", before)
         self.open(server.connect())
-        other = server.connect()
+        return server.connect()
+
+    def test_a_shared_workbook(self):
+        other = self.at_a_desk()
         self.lines("D = {1..2}", "A over D", "A[1] = 5")
         _, state = self.ask("/state")
         other["A"][1] = 6
@@ -129,12 +133,7 @@ class Page(unittest.TestCase):
 
     def test_a_look_before_a_cascade_at_a_desk(self):
         """One question, and the answer holds until something changes."""
-        server = Server(seats=2)
-        self.addCleanup(server.close)
-        view.APART, before = 0.0, view.APART
-        self.addCleanup(setattr, view, "APART", before)
-        self.open(server.connect())
-        other = server.connect()
+        other = self.at_a_desk()
         self.lines("D = {1..3}", "A over D", "A[1] = 5")
         other["A"].copy(2, other["A"], 1)
         self.assertEqual(self.ask("/needs?k=3")[1]["needs"], [4, 3])
