@@ -46,7 +46,7 @@ class Machine:
     """A workbook with its edits. `answer` gives a line's reply, `do` a request's."""
 
     def __init__(self):
-        self.book, self.edits = Book(), []
+        self.book, self.edits, self.writes = Book(), [], 0
 
     def answer(self, line):
         """The text of the reply to a line, and whether reading let it through to the workbook."""
@@ -75,7 +75,13 @@ class Machine:
         edit.reads, cells = plan(self.book, request)
         edit.before = self.book.set_all(cells)
         self.edits.append(edit)
-        return {"edit": len(self.edits), "n": counted(cells)}
+        return {"edit": len(self.edits), "n": self.written(cells)}
+
+    def written(self, cells):
+        """How many cells were set, which is added to those so far."""
+        n = counted(cells)
+        self.writes += n
+        return n
 
     def numbered(self, k):
         if not 1 <= k <= len(self.edits):
@@ -96,7 +102,7 @@ class Machine:
             if other.meets(edit.before):
                 raise Refused("E14", more={"by": j})
         self.book.set_all(edit.before)
-        n, edit.before = counted(edit.before), None
+        n, edit.before = self.written(edit.before), None
         return {"n": n, "undone": k}
 
     def dependents(self, k):
@@ -130,7 +136,7 @@ class Machine:
         if why is not None:
             raise Refused("E16", more={"code": why.code})
         edit.reads, edit.before = reads, self.book.set_all(cells)
-        return {"n": counted(cells), "redone": k}
+        return {"n": self.written(cells), "redone": k}
 
     def replay(self):
         """The workbook that the edits in force make from empty, one after another."""
@@ -219,7 +225,11 @@ def history(machine, r):
     return {"text": "\n".join(["chapel-workbook 2", *objects, "history %d" % len(edits), *edits, "end", ""])}
 
 
+def edits(machine, r):
+    return {"edits": len(machine.edits), "writes": machine.writes}
+
+
 QUESTION = {
-    "history": history, "get": get, "where": where, "size": size, "piece": piece, "state": state, "print": print_text,
+    "history": history, "edits": edits, "get": get, "where": where, "size": size, "piece": piece, "state": state, "print": print_text,
     "dependents": dependents, "reduce": reduce,
 }

@@ -136,12 +136,13 @@ FIELDS = {
     "state": {"k": count},
     "print": {},
     "history": {},
+    "edits": {},
     "load": {"text": book_text},
     "cascade": {"k": count},
     "dependents": {"k": count},
     "reduce": {"a": name, "how": word("+", "min", "max")},
 }
-QUESTIONS = {"history", "get", "where", "size", "piece", "state", "print", "dependents", "reduce"}
+QUESTIONS = {"history", "edits", "get", "where", "size", "piece", "state", "print", "dependents", "reduce"}
 SOURCES = {**{how: offset for how in OFFSETS}, **{how: source for how in LITERALS}}
 
 

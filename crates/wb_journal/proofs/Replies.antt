@@ -7,9 +7,9 @@ use Rattle.wb_log.specs.declared.refusal.Refusal.TheVariants.{NoSuchEdit}
 use Rattle.wb_log.specs.Cascades.{DependentsReply, CascadeReply, OfNumber}
 use Rattle.wb_proto.specs.Machine.{Step}
 use Rattle.wb_proto.specs.declared.replies.reply.Reply.{Reply}
-use Rattle.wb_proto.specs.declared.replies.reply.Reply.TheVariants.{Edited, Undone, Cascaded, Redone, Listed, Answered, Printed, Refused}
+use Rattle.wb_proto.specs.declared.replies.reply.Reply.TheVariants.{Edited, Undone, Cascaded, Redone, Listed, Answered, Printed, Counted, Refused}
 use Rattle.wb_proto.specs.declared.requests.request.Request.{Request}
-use Rattle.wb_proto.specs.declared.requests.request.Request.TheVariants.{Change, Undo, Redo, Cascade, Dependents, Ask, Print, History}
+use Rattle.wb_proto.specs.declared.requests.request.Request.TheVariants.{Change, Undo, Redo, Cascade, Dependents, Ask, Print, History, Edits}
 use Rattle.wb_journal.specs.Entries.{is_entered, is_long, leaves_all, cascade_in}
 use Rattle.wb_journal.specs.Courses.{Course}
 use Rattle.wb_journal.specs.Serving.{Enters, AnswersCourse}
@@ -24,6 +24,7 @@ refused_leaves p (Dependents k) why q s = s.1
 refused_leaves p (Ask a) why q s = s.1
 refused_leaves p Print why q s = s.1
 refused_leaves p History why q s = s.1
+refused_leaves p Edits why q s = absurd s
 
 answered_leaves : (p : Past) (asked : Request) (a : Answer) (q : Past) → Step p asked (Answered a) q → q ≡ p
 answered_leaves p (Change e) a q s = absurd s
@@ -35,6 +36,7 @@ answered_leaves p (Dependents k) a q s = absurd s
 answered_leaves p (Ask asked) a q s = s.1
 answered_leaves p Print a q s = absurd s
 answered_leaves p History a q s = absurd s
+answered_leaves p Edits a q s = absurd s
 
 printed_leaves : (p : Past) (asked : Request) (t : _) (q : Past) → Step p asked (Printed t) q → q ≡ p
 printed_leaves p (Change e) t q s = absurd s
@@ -46,6 +48,7 @@ printed_leaves p (Dependents k) t q s = absurd s
 printed_leaves p (Ask asked) t q s = absurd s
 printed_leaves p Print t q s = s.1
 printed_leaves p History t q s = s.1
+printed_leaves p Edits t q s = absurd s
 
 listed_leaves : (p : Past) (asked : Request) (ks : List ℕ) (q : Past) → Step p asked (Listed ks) q → q ≡ p
 listed_leaves p (Change e) ks q s = absurd s
@@ -57,6 +60,19 @@ listed_leaves p (Dependents k) ks q s = s.1
 listed_leaves p (Ask asked) ks q s = absurd s
 listed_leaves p Print ks q s = absurd s
 listed_leaves p History ks q s = absurd s
+listed_leaves p Edits ks q s = absurd s
+
+counted_leaves : (p : Past) (asked : Request) (n w : ℕ) (q : Past) → Step p asked (Counted n w) q → q ≡ p
+counted_leaves p (Change e) n w q s = absurd s
+counted_leaves p (Undo (Some k)) n w q s = absurd s
+counted_leaves p (Undo None) n w q s = absurd s
+counted_leaves p (Redo k) n w q s = absurd s
+counted_leaves p (Cascade k) n w q s = absurd s
+counted_leaves p (Dependents k) n w q s = absurd s
+counted_leaves p (Ask asked) n w q s = absurd s
+counted_leaves p Print n w q s = absurd s
+counted_leaves p History n w q s = absurd s
+counted_leaves p Edits n w q s = s.2.1
 
 -- Only an undo with dependents is replied by what it undid.
 cascaded_leaves : (p : Past) (asked : Request) (ks : List ℕ) (n : ℕ) (q : Past) → cascade_in asked ≡ None → Step p asked (Cascaded ks n) q → q ≡ p
@@ -69,6 +85,7 @@ cascaded_leaves p (Dependents k) ks n q none s = absurd s
 cascaded_leaves p (Ask asked) ks n q none s = absurd s
 cascaded_leaves p Print ks n q none s = absurd s
 cascaded_leaves p History ks n q none s = absurd s
+cascaded_leaves p Edits ks n q none s = absurd s
 
 pub is_cascade : (asked : Request) (k : ℕ) → cascade_in asked ≡ Some k → asked ≡ Cascade k
 is_cascade (Cascade j) k is = cc
@@ -79,6 +96,7 @@ is_cascade (Dependents j) k is = cc
 is_cascade (Ask asked) k is = cc
 is_cascade Print k is = cc
 is_cascade History k is = cc
+is_cascade Edits k is = cc
 
 err_same : {X Y : Type 0} (v w : Refusal) → ◌≡◌ {A = Result X Refusal} (Err v) (Err w) → ◌≡◌ {A = Result Y Refusal} (Err v) (Err w)
 err_same v w e = let same : v ≡ w = cc in ap Err same
@@ -96,6 +114,7 @@ unentered_leaves p asked (Redone k n) q s e = cc
 unentered_leaves p asked (Listed ks) q s e = cc
 unentered_leaves p asked (Answered a) q s e = cc
 unentered_leaves p asked (Printed t) q s e = cc
+unentered_leaves p asked (Counted n w) q s e = cc
 unentered_leaves p asked (Refused why) q s e = refused_leaves p asked why q s
 
 pub long_leaves : (p : Past) (asked : Request) (r : Reply) (q : Past) → cascade_in asked ≡ None → Step p asked r q → is_long r ≡ true → q ≡ p
@@ -106,6 +125,7 @@ long_leaves p asked (Redone k n) q none s e = cc
 long_leaves p asked (Listed ks) q none s e = listed_leaves p asked ks q s
 long_leaves p asked (Answered a) q none s e = answered_leaves p asked a q s
 long_leaves p asked (Printed t) q none s e = printed_leaves p asked t q s
+long_leaves p asked (Counted n w) q none s e = cc
 long_leaves p asked (Refused why) q none s e = cc
 
 pub left : (p : Past) (asked : Request) (r : Reply) (q : Past) → Step p asked r q → leaves_all r ≡ true → q ≡ p
@@ -116,6 +136,7 @@ left p asked (Redone k n) q s e = cc
 left p asked (Listed ks) q s e = listed_leaves p asked ks q s
 left p asked (Answered a) q s e = answered_leaves p asked a q s
 left p asked (Printed t) q s e = printed_leaves p asked t q s
+left p asked (Counted n w) q s e = counted_leaves p asked n w q s
 left p asked (Refused why) q s e = refused_leaves p asked why q s
 
 pub course_left : (c : Course) (k : ℕ) (asked : Request) (r : Reply) (d : Course) → AnswersCourse c k asked r d → leaves_all r ≡ true → d.history ≡ c.history

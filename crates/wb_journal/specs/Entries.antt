@@ -3,9 +3,9 @@ use Rattle.std.specs.Prelude.{ℕ, Bool, true, false, ◌==◌, List, filter, Op
 use Rattle.wb_log.specs.declared.refusal.Refusal.{Refusal}
 use Rattle.wb_log.specs.declared.refusal.Refusal.TheVariants.{BadRequest, BadLiteral, Refused as EditRefused, NoSuchEdit, NotInForce, InForce, Blocked, RefusedInPlace, NoMemory, StrangePass}
 use Rattle.wb_proto.specs.declared.replies.reply.Reply.{Reply}
-use Rattle.wb_proto.specs.declared.replies.reply.Reply.TheVariants.{Edited, Undone, Cascaded, Redone, Listed, Answered, Printed, Refused}
+use Rattle.wb_proto.specs.declared.replies.reply.Reply.TheVariants.{Edited, Undone, Cascaded, Redone, Listed, Answered, Printed, Counted, Refused}
 use Rattle.wb_proto.specs.declared.requests.request.Request.{Request}
-use Rattle.wb_proto.specs.declared.requests.request.Request.TheVariants.{Change, Undo, Redo, Cascade, Dependents, Ask, Print, History}
+use Rattle.wb_proto.specs.declared.requests.request.Request.TheVariants.{Change, Undo, Redo, Cascade, Dependents, Ask, Print, History, Edits}
 use Rattle.wb_journal.specs.declared.entry.Entry.{Entry}
 
 -- the entries of a seat, in order
@@ -33,6 +33,7 @@ is_entered (Redone k n) = true
 is_entered (Listed ks) = true
 is_entered (Answered a) = true
 is_entered (Printed t) = true
+is_entered (Counted n w) = true
 is_entered (Refused why) = is_told why
 
 -- whether a reply is an answer, a list or a text, whose copies take memory
@@ -44,9 +45,10 @@ is_long (Redone k n) = false
 is_long (Listed ks) = true
 is_long (Answered a) = true
 is_long (Printed t) = true
+is_long (Counted n w) = false
 is_long (Refused why) = false
 
--- whether a reply says that nothing was changed: a refusal, an answer, dependents or a text
+-- whether a reply says that nothing was changed: a refusal, an answer, dependents, a text or a count
 abbrev pub leaves_all : Reply → Bool
 leaves_all (Edited k n) = false
 leaves_all (Undone k n) = false
@@ -55,6 +57,7 @@ leaves_all (Redone k n) = false
 leaves_all (Listed ks) = true
 leaves_all (Answered a) = true
 leaves_all (Printed t) = true
+leaves_all (Counted n w) = true
 leaves_all (Refused why) = true
 
 -- the number of the edit that a request undoes with all that need it
@@ -67,3 +70,4 @@ cascade_in (Dependents k) = None
 cascade_in (Ask asked) = None
 cascade_in Print = None
 cascade_in History = None
+cascade_in Edits = None

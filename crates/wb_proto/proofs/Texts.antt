@@ -10,7 +10,7 @@ use Rattle.wb_history.specs.declared.query.Answer.TheVariants.{Value, Size, Loca
 use Rattle.wb_proto.specs.Printed.{numbers_text, undone_text, dependents_text, value_text, size_text, locale_text, in_force_text}
 use Rattle.wb_proto.specs.Pieces.{bracketed}
 use Rattle.wb_proto.specs.Replies.{answer_data, numbers_data, reply_of}
-use Rattle.wb_proto.specs.declared.replies.reply.Reply.TheVariants.{Edited, Undone, Cascaded, Redone, Listed}
+use Rattle.wb_proto.specs.declared.replies.reply.Reply.TheVariants.{Edited, Undone, Cascaded, Redone, Listed, Counted}
 use Rattle.wb_proto.proofs.Pieces.{items_are}
 
 pub edited_is : (k n : ℕ) → numbers_text (codes "edit") k (codes "n") n ≡ reply_of (Edited k n)
@@ -24,6 +24,10 @@ undone_is k n = refl
 pub redone_is : (k n : ℕ) → numbers_text (codes "n") n (codes "redone") k ≡ reply_of (Redone k n)
 unfolding serde_json_on_literals
 redone_is k n = refl
+
+pub counted_is : (n w : ℕ) → numbers_text (codes "edits") n (codes "writes") w ≡ reply_of (Counted n w)
+unfolding serde_json_on_literals
+counted_is n w = refl
 
 -- the parts of the text of what was undone, as they are written
 pub undone_parts : (d js : List ℕ) → (codes "{\"n\":" ++ (d ++ codes ",\"undone\":[")) ++ (js ++ codes "]}") ≡ codes "{\"n\":" ++ (d ++ (codes ",\"undone\":[" ++ (js ++ codes "]}")))

@@ -1,6 +1,6 @@
 -- The machine of requests and replies over a history: what is replied to a request, and what the history is next. A refusal,
 -- a query, a list of dependents and a print, of the workbook or of the history, leave it as it was.
-use Rattle.std.specs.Prelude.{◌≡◌, ◌-◌, ◌⊎◌, ℕ, List, [], ◌∷◌, ◌++◌, true, Some, None, Result, Ok, Err}
+use Rattle.std.specs.Prelude.{◌≡◌, ◌-◌, ◌⊎◌, ℕ, List, [], ◌∷◌, ◌++◌, true, Some, None, Result, Ok, Err, length}
 use Rattle.selective_undo.specs.History.{replay}
 use Rattle.wb_book.specs.Cells.{written_more}
 use Rattle.wb_edit.specs.Commands.{meaning}
@@ -17,9 +17,9 @@ use Rattle.wb_encode.specs.Text.{history_text}
 use Rattle.wb_proto.specs.Replies.{reply_of}
 use Rattle.wb_proto.specs.Requests.{request}
 use Rattle.wb_proto.specs.declared.replies.reply.Reply.{Reply}
-use Rattle.wb_proto.specs.declared.replies.reply.Reply.TheVariants.{Edited, Undone, Cascaded, Redone, Listed, Answered, Printed, Refused}
+use Rattle.wb_proto.specs.declared.replies.reply.Reply.TheVariants.{Edited, Undone, Cascaded, Redone, Listed, Answered, Printed, Counted, Refused}
 use Rattle.wb_proto.specs.declared.requests.request.Request.{Request}
-use Rattle.wb_proto.specs.declared.requests.request.Request.TheVariants.{Change, Undo, Redo, Cascade, Dependents, Ask, Print, History}
+use Rattle.wb_proto.specs.declared.requests.request.Request.TheVariants.{Change, Undo, Redo, Cascade, Dependents, Ask, Print, History, Edits}
 
 -- An edit comes last, in force; n cells were set.
 pub record Appends (e : Edit) (n : ℕ) (old new : Past) : Type 0 where
@@ -96,6 +96,11 @@ PrintsHistory p (Printed t) q = (t ≡ history_text p.entries) × (q ≡ p)
 PrintsHistory p (Refused why) q = (why ≡ NoMemory) × (q ≡ p)
 PrintsHistory p _ q = ⊥
 
+-- how many edits there are, in force or not, and how many cells were set
+abbrev pub Counts : Past → Reply → Past → Type 0
+Counts p (Counted n w) q = (n ≡ length p.entries) × (w ≡ p.writes) × (q ≡ p)
+Counts p _ q = ⊥
+
 -- One step: from a history, by a request, to a reply and the next history.
 abbrev pub Step : Past → Request → Reply → Past → Type 0
 Step p (Change e) r q = Changes p e r q
@@ -107,6 +112,7 @@ Step p (Dependents k) r q = ListsDependents p k r q
 Step p (Ask asked) r q = Answers p asked r q
 Step p Print r q = Prints p r q
 Step p History r q = PrintsHistory p r q
+Step p Edits r q = Counts p r q
 
 -- What was read is answered by a step, or by why it is no request.
 abbrev pub StepIfRead : Past → Result Request Refusal → Reply → Past → Type 0

@@ -15,7 +15,7 @@ use Rattle.wb_proto.specs.Fields.{◌>>=◌, field_count, has_fields, has_fields
 use Rattle.wb_proto.specs.Literals.{literal_domain, literal_mapping, optional_mapping, text_of_book, domain_within, mapping_within}
 use Rattle.wb_proto.specs.Sources.{source_of}
 use Rattle.wb_proto.specs.declared.requests.request.Request.{Request}
-use Rattle.wb_proto.specs.declared.requests.request.Request.TheVariants.{Change, Undo, Redo, Cascade, Dependents, Ask, Print, History}
+use Rattle.wb_proto.specs.declared.requests.request.Request.TheVariants.{Change, Undo, Redo, Cascade, Dependents, Ask, Print, History, Edits}
 
 -- a new domain of what a literal spells, with a mapping: a set is no rectangle, which is for the workbook to refuse
 abbrev pub domain_with : Name → Domain → MappingLiteral → Result Request Refusal
@@ -280,6 +280,12 @@ history_of d = do
   unit ← has_fields 1 d
   Ok History
 
+-- {"op":"edits"}
+abbrev pub edits_of : Data → Result Request Refusal
+edits_of d = do
+  unit ← has_fields 1 d
+  Ok Edits
+
 -- what is asked of a history, by its op
 abbrev pub by_history_op : List ℕ → Data → Result Request Refusal
 by_history_op op d =
@@ -295,6 +301,7 @@ by_history_op op d =
     if bytes_eq op (codes "state") then state_of d else
     if bytes_eq op (codes "print") then print_of d else
     if bytes_eq op (codes "history") then history_of d else
+    if bytes_eq op (codes "edits") then edits_of d else
     Err BadRequest
 
 -- the same, or a change to an array

@@ -55,7 +55,8 @@ fn edit_of(alloc: Global, line: &[u8]) -> Result<Option<Edit>, NoMemory>
             | Request::Dependents(_)
             | Request::Ask(_)
             | Request::Print
-            | Request::History,
+            | Request::History
+            | Request::Edits,
         ) => Ok(None),
         Err(Refusal::NoMemory) => Err(NoMemory),
         Err(

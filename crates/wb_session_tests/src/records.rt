@@ -134,7 +134,8 @@ pub(crate) fn edit_of(alloc: Global, line: &str) -> Result<Edit, Fail> {
         | Request::Dependents(_)
         | Request::Ask(_)
         | Request::Print
-        | Request::History => Err(Fail::new("no edit")),
+        | Request::History
+        | Request::Edits => Err(Fail::new("no edit")),
     }
 }
 

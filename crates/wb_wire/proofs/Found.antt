@@ -25,9 +25,9 @@ use Rattle.wb_resize.specs.declared.source.Source.TheVariants.{To, Slice, Displa
 use Rattle.wb_proto.specs.Fields.{◌>>=◌, member_count, has_fields, has_fields_and, text_field, optional_text, text_if_there, name_field, index_field, i64_field, u64_field, key_type_field, operation_field, reduction_field}
 use Rattle.wb_proto.specs.Literals.{literal_domain, literal_mapping, optional_mapping as mapping_if_there, text_of_book, domain_within, mapping_within}
 use Rattle.wb_proto.specs.Sources.{given_by, offsets_by, to_by, slice_by, displace_by, combine_by, combination_of, source_of}
-use Rattle.wb_proto.specs.Requests.{domain_with, domain_by, domain_of, remap_of, reshape_of, fill_over, fill_of, load_of, undo_by_number, undo_of, print_of, history_of, by_op, request_of, array_of, drop_array_of, set_of, fill_all_of, copy_of, irv_of, all_of, sparse_of, assoc_of, add_of, remove_of, drop_domain_of, redo_of, cascade_of, dependents_of, get_of, where_of, size_of, piece_of, reduce_of, state_of}
+use Rattle.wb_proto.specs.Requests.{domain_with, domain_by, domain_of, remap_of, reshape_of, fill_over, fill_of, load_of, undo_by_number, undo_of, print_of, history_of, edits_of, by_op, request_of, array_of, drop_array_of, set_of, fill_all_of, copy_of, irv_of, all_of, sparse_of, assoc_of, add_of, remove_of, drop_domain_of, redo_of, cascade_of, dependents_of, get_of, where_of, size_of, piece_of, reduce_of, state_of}
 use Rattle.wb_proto.specs.declared.requests.request.Request.{Request}
-use Rattle.wb_proto.specs.declared.requests.request.Request.TheVariants.{Change, Undo, Redo, Cascade, Dependents, Ask, Print, History}
+use Rattle.wb_proto.specs.declared.requests.request.Request.TheVariants.{Change, Undo, Redo, Cascade, Dependents, Ask, Print, History, Edits}
 use Rattle.wb_wire.specs.Table.{Meaning, word, name, integer, index, given, mapping, optional_mapping, book, some_set, some_mapping, Fields, op, table}
 use Rattle.wb_wire.specs.Spelled.{IsIndex, IsGiven, Says, HasFields, IsRequest}
 use Rattle.wb_wire.proofs.Members.{are_apart, is_needed, are_needed, AllSay, there, is_there, exactly, has_fields as has_fields_of}
@@ -273,6 +273,11 @@ history_found ms r s e =
     let x = step (has_fields 1 (object ms)) (λ u. Ok History) r e in
     as_table ms History r x.2 refl refl (count_found ms 1 tt x.1) (s, tt)
 
+edits_found : IsFound (codes "edits") edits_of
+edits_found ms r s e =
+    let x = step (has_fields 1 (object ms)) (λ u. Ok Edits) r e in
+    as_table ms Edits r x.2 refl refl (count_found ms 1 tt x.1) (s, tt)
+
 undo_found : IsFound (codes "undo") undo_of
 undo_found ms r s e = elim (nat_eq (member_count ms) 1) as (λ b. nat_eq (member_count ms) 1 ≡ b → (if b then Ok (Undo None) else undo_by_number (object ms)) ≡ Ok r → HasFields ms (table r)) [
   | true ↦ λ h f. as_table ms (Undo None) r f refl refl (eqb-true (member_count ms) 1 h) (s, tt)
@@ -307,10 +312,10 @@ abbrev pub readers : List Reader
 readers = (codes "domain", domain_of) ∷ (codes "remap", remap_of) ∷ (codes "sparse", sparse_of) ∷ (codes "assoc", assoc_of) ∷ (codes "drop_domain", drop_domain_of) ∷ (codes "reshape", reshape_of) ∷ (codes "add", add_of)
     ∷ (codes "remove", remove_of) ∷ (codes "load", load_of) ∷ (codes "array", array_of) ∷ (codes "drop_array", drop_array_of) ∷ (codes "set", set_of) ∷ (codes "fill", fill_of) ∷ (codes "fill_all", fill_all_of) ∷ (codes "irv", irv_of)
     ∷ (codes "copy", copy_of) ∷ (codes "all", all_of) ∷ (codes "undo", undo_of) ∷ (codes "redo", redo_of) ∷ (codes "cascade", cascade_of) ∷ (codes "dependents", dependents_of) ∷ (codes "get", get_of) ∷ (codes "where", where_of) ∷ (codes "size", size_of) ∷ (codes "piece", piece_of)
-    ∷ (codes "reduce", reduce_of) ∷ (codes "state", state_of) ∷ (codes "print", print_of) ∷ (codes "history", history_of) ∷ []
+    ∷ (codes "reduce", reduce_of) ∷ (codes "state", state_of) ∷ (codes "print", print_of) ∷ (codes "history", history_of) ∷ (codes "edits", edits_of) ∷ []
 
 all_found : AllFound readers
-all_found = (domain_found_of, (remap_found, (sparse_found, (assoc_found, (drop_domain_found, (reshape_found, (add_found, (remove_found, (load_found, (array_found, (drop_array_found, (set_found, (fill_found, (fill_all_found, (irv_found, (copy_found, (all_found_of, (undo_found, (redo_found, (cascade_found, (dependents_found, (get_found, (where_found, (size_found, (piece_found, (reduce_found, (state_found, (print_found, (history_found, tt)))))))))))))))))))))))))))))
+all_found = (domain_found_of, (remap_found, (sparse_found, (assoc_found, (drop_domain_found, (reshape_found, (add_found, (remove_found, (load_found, (array_found, (drop_array_found, (set_found, (fill_found, (fill_all_found, (irv_found, (copy_found, (all_found_of, (undo_found, (redo_found, (cascade_found, (dependents_found, (get_found, (where_found, (size_found, (piece_found, (reduce_found, (state_found, (print_found, (history_found, (edits_found, tt))))))))))))))))))))))))))))))
 
 by_object : (ms : Members) (r : Request) → request_of (object ms) ≡ Ok r → HasFields ms (table r)
 by_object ms r e =

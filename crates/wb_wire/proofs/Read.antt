@@ -28,7 +28,7 @@ use Rattle.wb_proto.specs.Literals.{literal_domain, literal_mapping, optional_ma
 use Rattle.wb_proto.specs.Sources.{source_of}
 use Rattle.wb_proto.specs.Requests.{domain_with, domain_by, fill_over, by_op, request_of}
 use Rattle.wb_proto.specs.declared.requests.request.Request.{Request}
-use Rattle.wb_proto.specs.declared.requests.request.Request.TheVariants.{Change, Undo, Redo, Cascade, Dependents, Ask, Print, History}
+use Rattle.wb_proto.specs.declared.requests.request.Request.TheVariants.{Change, Undo, Redo, Cascade, Dependents, Ask, Print, History, Edits}
 use Rattle.wb_wire.specs.Table.{Meaning, word, name, integer, index, given, mapping, optional_mapping, book, some_set, some_mapping, some_integer, Fields, op, table}
 use Rattle.wb_wire.specs.Spelled.{Spells, Says, HasFields, IsRequest}
 use Rattle.wb_wire.proofs.Members.{is_free, is_needed, is_there, there, all_say, all_counted, counted, no_other}
@@ -303,6 +303,11 @@ history_read ms h =
     let s = all_say (table History) ms refl h in
     op_read ms (codes "history") History s.0 (rw (count_read ms 1 (counted (table History) ms refl refl h)) refl)
 
+edits_read : (ms : Members) → HasFields ms (table Edits) → request_of (object ms) ≡ Ok Edits
+edits_read ms h =
+    let s = all_say (table Edits) ms refl h in
+    op_read ms (codes "edits") Edits s.0 (rw (count_read ms 1 (counted (table Edits) ms refl refl h)) refl)
+
 undo_read : (ms : Members) (k : Option ℕ) → HasFields ms (table (Undo k)) → request_of (object ms) ≡ Ok (Undo k)
 undo_read ms None h =
     let s = all_say (table (Undo None)) ms refl h in
@@ -352,6 +357,7 @@ members_read ms (Dependents k) h = dependents_read ms k h
 members_read ms (Ask q) h = query_read ms q h
 members_read ms Print h = print_read ms h
 members_read ms History h = history_read ms h
+members_read ms Edits h = edits_read ms h
 
 pub request_read : (d : Data) (r : Request) → IsRequest d r → request_of d ≡ Ok r
 request_read d r h = ap request_of h.1 ∙ members_read h.0 r h.2

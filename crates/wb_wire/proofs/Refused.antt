@@ -27,9 +27,9 @@ use Rattle.wb_resize.specs.declared.source.Source.TheVariants.{To, Slice, Displa
 use Rattle.wb_proto.specs.Fields.{◌>>=◌, member_count, has_fields, has_fields_and, text_field, optional_text, text_if_there, name_field, index_field, i64_field, u64_field, key_type_field, operation_field, reduction_field}
 use Rattle.wb_proto.specs.Literals.{literal_domain, literal_mapping, text_of_book, domain_within, mapping_within}
 use Rattle.wb_proto.specs.Sources.{to_by, slice_by, displace_by, combine_by, source_of}
-use Rattle.wb_proto.specs.Requests.{domain_with, domain_by, domain_of, remap_of, reshape_of, fill_over, fill_of, load_of, undo_by_number, undo_of, print_of, history_of, by_op, request_of, array_of, drop_array_of, set_of, fill_all_of, copy_of, irv_of, all_of, sparse_of, assoc_of, add_of, remove_of, drop_domain_of, redo_of, cascade_of, dependents_of, get_of, where_of, size_of, piece_of, reduce_of, state_of}
+use Rattle.wb_proto.specs.Requests.{domain_with, domain_by, domain_of, remap_of, reshape_of, fill_over, fill_of, load_of, undo_by_number, undo_of, print_of, history_of, edits_of, by_op, request_of, array_of, drop_array_of, set_of, fill_all_of, copy_of, irv_of, all_of, sparse_of, assoc_of, add_of, remove_of, drop_domain_of, redo_of, cascade_of, dependents_of, get_of, where_of, size_of, piece_of, reduce_of, state_of}
 use Rattle.wb_proto.specs.declared.requests.request.Request.{Request}
-use Rattle.wb_proto.specs.declared.requests.request.Request.TheVariants.{Change, Undo, Redo, Cascade, Dependents, Ask, Print, History}
+use Rattle.wb_proto.specs.declared.requests.request.Request.TheVariants.{Change, Undo, Redo, Cascade, Dependents, Ask, Print, History, Edits}
 use Rattle.wb_wire.specs.Faults.{Fault, bad_request, bad_literal, too_large, bad_mapping, code, refusal_of, forms, HasKeys, NamesOp, IsWhole, Kind, kind_of, Fails, not_whole}
 use Rattle.wb_wire.specs.Faults as kinds
 use Rattle.wb_wire.proofs.Members.{true_false, equal_key}
@@ -469,6 +469,11 @@ history_judged ms s =
     bind_judged (Judged ms) (has_fields 1 (object ms)) (λ u. Ok History) (λ why. count_bad ms (codes "history") 0 s refl why)
     (λ u n. all_fine ms (codes "history") [] s (form_at 33 (codes "history", []) refl refl) refl (count_found ms 1 u n) tt)
 
+edits_judged : IsJudged (codes "edits") edits_of
+edits_judged ms s =
+    bind_judged (Judged ms) (has_fields 1 (object ms)) (λ u. Ok Edits) (λ why. count_bad ms (codes "edits") 0 s refl why)
+    (λ u n. all_fine ms (codes "edits") [] s (form_at 38 (codes "edits", []) refl refl) refl (count_found ms 1 u n) tt)
+
 undo_whole : (ms : Members) → NamesOp ms (codes "undo") → (member_count ms ≡ 1 → ⊥) → (member_count ms ≡ 2 → ⊥) → IsWhole (object ms) → ⊥
 undo_whole ms s one two = not_whole_by ms (codes "undo") s (λ ks c h.
     let n = keys_counted (codes "op" ∷ ks) ms h in
@@ -517,7 +522,7 @@ first_judged (x ∷ xs) h ms op s k = elim (bytes_eq op x.0) as (λ b. bytes_eq 
 ] refl
 
 every_judged : AllJudged readers
-every_judged = (domain_judged_of, (remap_judged, (sparse_judged, (assoc_judged, (drop_domain_judged, (reshape_judged, (add_judged, (remove_judged, (load_judged, (array_judged, (drop_array_judged, (set_judged, (fill_judged, (fill_all_judged, (irv_judged, (copy_judged, (all_judged, (undo_judged, (redo_judged, (cascade_judged, (dependents_judged, (get_judged, (where_judged, (size_judged, (piece_judged, (reduce_judged, (state_judged, (print_judged, (history_judged, tt)))))))))))))))))))))))))))))
+every_judged = (domain_judged_of, (remap_judged, (sparse_judged, (assoc_judged, (drop_domain_judged, (reshape_judged, (add_judged, (remove_judged, (load_judged, (array_judged, (drop_array_judged, (set_judged, (fill_judged, (fill_all_judged, (irv_judged, (copy_judged, (all_judged, (undo_judged, (redo_judged, (cascade_judged, (dependents_judged, (get_judged, (where_judged, (size_judged, (piece_judged, (reduce_judged, (state_judged, (print_judged, (history_judged, (edits_judged, tt))))))))))))))))))))))))))))))
 
 -- the op of each form has a reader
 is_read : (ms : Members) (op : List ℕ) → NamesOp ms op → IsWhole (object ms) → has op (names readers) ≡ true

@@ -92,6 +92,7 @@ forms =
     ∷ (codes "load", codes "text" ∷ [])
     ∷ (codes "cascade", codes "k" ∷ [])
     ∷ (codes "dependents", codes "k" ∷ [])
+    ∷ (codes "edits", [])
     ∷ []
 
 -- the members of these keys are there, each once, in any order, and no others

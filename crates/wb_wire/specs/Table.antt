@@ -6,7 +6,7 @@ use Rattle.wb_history.specs.declared.query.Query.TheVariants.{Get, Size, Where, 
 use Rattle.wb_redist.specs.declared.reduction.Op.{Op}
 use Rattle.wb_redist.specs.declared.reduction.Op.TheVariants as reductions
 use Rattle.wb_proto.specs.declared.requests.request.Request.{Request}
-use Rattle.wb_proto.specs.declared.requests.request.Request.TheVariants.{Change, Undo, Redo, Cascade, Dependents, Ask, Print, History}
+use Rattle.wb_proto.specs.declared.requests.request.Request.TheVariants.{Change, Undo, Redo, Cascade, Dependents, Ask, Print, History, Edits}
 pub use Rattle.wb_encode.specs.Table.{Meaning, word, name, integer, number, index, given, mapping, optional_mapping, book, some_set, some_mapping, some_integer, Fields, op, type_word, operation_word}
 
 abbrev pub reduction_word : Op → List ℕ
@@ -30,3 +30,4 @@ table (Ask (Reduce a how)) = (codes "a", name a) ∷ (codes "how", word (reducti
 table (Ask (State k)) = (codes "k", number k) ∷ op (codes "state") ∷ []
 table Print = op (codes "print") ∷ []
 table History = op (codes "history") ∷ []
+table Edits = op (codes "edits") ∷ []

@@ -54,6 +54,7 @@ fn request_value(alloc: Global, request: &Request) -> Result<Value, AllocError>
         Request::Ask(query) => query_value(alloc, query),
         Request::Print => plain(alloc, "print"),
         Request::History => plain(alloc, "history"),
+        Request::Edits => plain(alloc, "edits"),
     }
 }
 

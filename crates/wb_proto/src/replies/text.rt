@@ -144,6 +144,13 @@ fn numbers_text(
     format!(in alloc; "{{\"{first}\":{a},\"{second}\":{b}}}")
 }
 
+// The object of how many edits there are and how many cells were set.
+fn counts_text(alloc: Global, edits: u64, writes: u128) -> Result<String, AllocError>
+    ensures { IfOk result (λ s. string_bytes s ≡ numbers_text (codes "edits") edits (codes "writes") writes) }
+{
+    format!(in alloc; "{{\"edits\":{edits},\"writes\":{writes}}}")
+}
+
 // The object of an element, written in the same way.
 fn value_text(alloc: Global, value: i64) -> Result<String, AllocError>
     ensures { IfOk result (λ s. string_bytes s ≡ value_text value) }
@@ -201,7 +208,7 @@ fn printed_text(alloc: Global, text: &str) -> Result<String, AllocError>
     value.to_string(alloc)
 }
 
-#[tactic(auto, using(crate::proofs::Texts::edited_is, crate::proofs::Texts::undone_is, crate::proofs::Texts::cascaded_is, crate::proofs::Texts::redone_is, crate::proofs::Texts::listed_is))]
+#[tactic(auto, using(crate::proofs::Texts::edited_is, crate::proofs::Texts::undone_is, crate::proofs::Texts::cascaded_is, crate::proofs::Texts::redone_is, crate::proofs::Texts::listed_is, crate::proofs::Texts::counted_is))]
 fn text_of(alloc: Global, reply: &Reply) -> Result<String, AllocError>
     ensures { IfOk result (λ s. string_bytes s ≡ reply_of reply.now) }
 {
@@ -213,6 +220,7 @@ fn text_of(alloc: Global, reply: &Reply) -> Result<String, AllocError>
         Reply::Listed(edits) => dependents_text(alloc, edits),
         Reply::Answered(answer) => answer_text(alloc, answer),
         Reply::Printed(text) => printed_text(alloc, text.as_str()),
+        Reply::Counted(edits, writes) => counts_text(alloc, *edits, *writes),
         Reply::Refused(refusal) => refusal_text(alloc, *refusal),
     }
 }

@@ -1,7 +1,7 @@
 // Requests for what the workbook and its history say.
 ghost use Rattle.std.specs.Prelude.{◌≡◌, codes};
 ghost use Rattle.serde_json.specs.View.{view};
-ghost use Rattle.wb_proto.specs.Requests.{get_of, where_of, size_of, piece_of, reduce_of, state_of, print_of, history_of};
+ghost use Rattle.wb_proto.specs.Requests.{get_of, where_of, size_of, piece_of, reduce_of, state_of, print_of, history_of, edits_of};
 
 use crate::requests::fields::{has_fields, index_field, name_field, reduction_field, u64_field};
 use crate::requests::request::Request;
@@ -80,4 +80,12 @@ pub(crate) fn history_of(value: &Value) -> Result<Request, Refusal>
 {
     has_fields(value, 1)?;
     Ok(Request::History)
+}
+
+/// How many edits there are, and how many cells were set.
+pub(crate) fn edits_of(value: &Value) -> Result<Request, Refusal>
+    ensures { result ≡ edits_of (view value.now) }
+{
+    has_fields(value, 1)?;
+    Ok(Request::Edits)
 }

@@ -12,7 +12,7 @@ use crate::requests::books::load_of;
 use crate::requests::domains::{domain_of, drop_domain_of, remap_of, reshape_of};
 use crate::requests::fields::{field_count, has_fields, text_field, u64_field};
 use crate::requests::queries::{
-    get_of, history_of, piece_of, print_of, reduce_of, size_of, state_of, where_of,
+    edits_of, get_of, history_of, piece_of, print_of, reduce_of, size_of, state_of, where_of,
 };
 use crate::requests::request::Request;
 use crate::requests::sets::{add_of, assoc_of, remove_of, sparse_of};
@@ -79,6 +79,7 @@ fn by_history_op(op: &str, value: &Value) -> Result<Request, Refusal>
         "state" => state_of(value),
         "print" => print_of(value),
         "history" => history_of(value),
+        "edits" => edits_of(value),
         _ => Err(Refusal::BadRequest),
     }
 }

@@ -25,6 +25,8 @@ pub enum Request {
     Print,
     /// The text of the history.
     History,
+    /// How many edits there are, and how many cells were set.
+    Edits,
 }
 
 impl Request {
@@ -41,6 +43,7 @@ impl Request {
             Request::Ask(query) => Ok(Request::Ask(*query)),
             Request::Print => Ok(Request::Print),
             Request::History => Ok(Request::History),
+            Request::Edits => Ok(Request::Edits),
         }
     }
 
@@ -57,6 +60,7 @@ impl Request {
             (Request::Ask(query), Request::Ask(by)) => query.is_same(by),
             (Request::Print, Request::Print) => true,
             (Request::History, Request::History) => true,
+            (Request::Edits, Request::Edits) => true,
             _ => false,
         }
     }

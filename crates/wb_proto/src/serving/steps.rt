@@ -1,6 +1,6 @@
 // One request after another, each a step of the history.
 ghost use Rattle.std.specs.Prelude.{◌≡◌, Some, None};
-ghost use Rattle.wb_proto.specs.Machine.{Changes, UndoesNumber, UndoesLatest, Redoes, Cascades, ListsDependents, Answers, Prints, PrintsHistory, Step};
+ghost use Rattle.wb_proto.specs.Machine.{Changes, UndoesNumber, UndoesLatest, Redoes, Cascades, ListsDependents, Answers, Prints, PrintsHistory, Counts, Step};
 
 use crate::replies::edit_numbers::EditNumbers;
 use crate::replies::printed_text::PrintedText;
@@ -94,6 +94,12 @@ fn print_whole_history(alloc: Global, history: &History) -> Reply
     }
 }
 
+fn count_edits(history: &History) -> Reply
+    ensures { Counts history.now result history.now }
+{
+    Reply::Counted(history.len(), history.book().writes())
+}
+
 /// Answers a request: an edit, an undo, alone or with dependents, or a redo changes the history; a refusal, a query, a
 /// list of dependents and a print leave it. Pieces that have to move are moved by the mover, which also makes reductions.
 pub fn answer_request<M: Mover>(
@@ -114,5 +120,6 @@ pub fn answer_request<M: Mover>(
         Request::Ask(query) => answer_query(history, &query, mover),
         Request::Print => print_workbook(alloc, history),
         Request::History => print_whole_history(alloc, history),
+        Request::Edits => count_edits(history),
     }
 }
