@@ -594,6 +594,17 @@ class Replies(unittest.TestCase):
             wb.dependents(3)
         self.assertEqual(channel.sent, [{"op": "dependents", "k": 3}] * 3)
 
+    def test_counts(self):
+        channel, wb = self.book({"edits": 3, "writes": 2**64})
+        self.assertEqual(wb.counts(), (3, 2**64))
+        self.assertEqual(channel.sent, [{"op": "edits"}])
+        with Workbook.run(PROGRAM) as wb:
+            self.assertEqual(wb.counts(), (0, 0))
+            wb.array("A", wb.domain("D", range(1, 5)))[4] = 9
+            self.assertEqual(wb.counts(), (3, 11))
+            wb.undo()
+            self.assertEqual(wb.counts(), (3, 12))
+
     def test_refused_reductions(self):
         with Workbook.run(PROGRAM) as wb:
             D = wb.domain("D", range(1, 3))

@@ -100,7 +100,7 @@ class Page(unittest.TestCase):
         self.assertIsNone(self.ask("/state")[1]["edits"][2]["needs"])
 
     def test_others_undos_are_seen_at_the_next_look(self):
-        """Of an old edit too: the array has another sum. Where none has, the latest edit in force tells, or its turn."""
+        """Of an old edit too, and where no sum of an array tells it."""
         server = Server(seats=2)
         self.addCleanup(server.close)
         view.APART, before = 0.0, view.APART
@@ -166,15 +166,15 @@ class Page(unittest.TestCase):
             for i in range(1, 4):
                 A[i] = i
         shown = view.View(book)
-        shown.state()  # 5 entries so far; a question for edit 6, one for each of three edits, a print
+        shown.state()  # 5 entries so far; whether anything changed, and the text of the history
         for _ in range(10):
-            shown.state()  # a question for edit 6, the sum of A, and a question for each of three edits
+            shown.state()  # whether anything changed
         view.APART = 60.0
         for _ in range(10):
             shown.state()  # nothing: another page has just looked
         self.assertEqual(shown.needs(3)["needs"], [3])
         self.assertEqual(shown.state()["edits"][2]["needs"], [3])  # the question alone
-        self.assertEqual(server.settled()[0], 5 + 5 + 10 * 5 + 1)
+        self.assertEqual(server.settled()[0], 5 + 2 + 10 + 1)
 
     def test_bodies_of_no_length_or_of_too_much(self):
         self.open(Workbook.run(PROGRAM))

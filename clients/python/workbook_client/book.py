@@ -1,7 +1,7 @@
 """A workbook: its session, its edits, and what is done to it as a whole."""
 
 from contextlib import contextmanager
-from typing import Any, Dict, Iterator, List, Optional, Sequence, Union
+from typing import Any, Dict, Iterator, List, Optional, Sequence, Tuple, Union
 
 from . import hearing, requests, turning
 from .channel import Channel, ProgramChannel, SocketChannel, command
@@ -223,6 +223,13 @@ class Workbook:
         """The edits that `cascade(k)` would take back beside k, ascending. Nothing is changed."""
         told = self.ask(requests.dependents(k)).listed("dependents")
         return sorted(number for number in told if number != k)
+
+    def counts(self) -> Tuple[int, int]:
+        """How many edits there are, in force or not, and how many cells were set since the
+        beginning. Where both are as before, nothing changed, but for an undo or a redo of an edit
+        that set nothing: a question that costs the same however long the history is."""
+        told = self.ask(requests.edits())
+        return told.number("edits"), told.number("writes")
 
     def history(self) -> List[Edit]:
         """Every edit, by number. `who` of those of others is "another", and `cells` of theirs is

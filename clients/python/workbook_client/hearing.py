@@ -1,8 +1,7 @@
 """What others do in a shared workbook, as far as this session asks for it.
 
 The text of the history tells all, and grows with it; whether an edit is in force is a question for
-each. A question for the number of edits alone isn't there: whether the next number is an edit
-tells whether there is a new one.
+each. Whether anything changed at all is one short question (`Workbook.counts`).
 """
 
 import json

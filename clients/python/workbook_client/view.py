@@ -10,10 +10,9 @@ from typing import Any, Callable, Dict, List, Optional, Tuple
 from . import hearing, requests
 from .book import Workbook
 from .edits import Edit
-from .exchange import Reading
 from .literals import Index, index_text
 from .objects import Array
-from .refusals import Overflow, Refusal
+from .refusals import Refusal
 from .session import Session
 from .snapshot import RectDomain, Snapshot, SparseDomain
 
@@ -25,10 +24,6 @@ ASKED = 60
 """Of so many of the latest edits a session of its own asks who needs them, whenever something changed."""
 MANY = 2000
 """With more edits, what others' edits did isn't asked: the text of the history would be long."""
-SUMS = 2
-"""So many arrays are summed in each look at a shared workbook, one after another."""
-IN_TURN = 2
-"""So many of the edits shown are asked about in each look, one after another, beside the latest in force."""
 APART = 1.5
 """So many seconds lie between two looks at a shared workbook, however many pages are open."""
 TERMINAL_ALONE = ("save", "load", "keep")
@@ -52,9 +47,8 @@ class View:
         self._needs: Dict[int, List[int]] = {}  # of some edits in force: who would go in a cascade, from the greatest down
         self._shot: Optional[Snapshot] = None  # the workbook, where it was just heard
         self._objects: Optional[Json] = None  # its domains and arrays as the page has them, until an edit comes or goes
-        self._sums: Dict[str, Optional[int]] = {}  # of each array as it is shown
-        self._looked = float("-inf")  # when a shared workbook was last looked at
-        self._turn = 0
+        self._heard: Optional[Tuple[int, int]] = None  # how much a shared workbook had when all of it was last heard
+        self._looked = float("-inf")  # when it was last looked at
 
     def state(self) -> Json:
         """All that the page shows. `version` changes exactly where something else does."""
@@ -100,47 +94,30 @@ class View:
             self._version += 1
 
     def _look(self) -> None:
-        """Whether others changed a shared workbook, by as few questions as can be, since each stays
-        at the desk as an entry: whether there is a new edit, whether the arrays have the sums of
-        what is shown, and whether the latest edit in force still is, and others in turn. Where
-        something changed, the text of the history is asked for, or of a long one whether all that
-        are shown are in force."""
+        """Whether anything changed in a shared workbook, by one short question, since each stays at
+        the desk as an entry. Where something did, the text of the history is asked for, or of a
+        long one whether the latest edits are in force. What an edit that set nothing became is
+        heard with the next change."""
         if time.monotonic() < self._looked + APART:
             return
-        book, self._turn = self.book, self._turn + 1
-        if hearing.find_new(book) or self._sums_differ() or hearing.learn(book, self._asked_about()):
-            if len(book.edits) <= MANY:
-                self._shot = hearing.hear_all(book)
-            else:
-                hearing.learn(book, sorted(book.edits)[-LATEST:])
-            self._objects = None
+        counts = self.book.counts()
+        if counts != self._heard:
+            self._hear(counts[0])
+            self._heard, self._objects = counts, None
             self._version += 1
         self._looked = time.monotonic()
 
-    def _sums_differ(self) -> bool:
-        """Whether an array has another sum than what is shown of it: others' undos and redos that
-        change a number seldom leave it. After an edit of one's own all is read anew without this."""
-        if self._now != self._in_force():
-            return False
-        names = self._in_turn(sorted(self._sums), SUMS)
-        asked = [self.book.exchange.post(requests.reduce(name, "+")) for name in names]
-        return any([_has_other_sum(reading, self._sums[reading.request["a"]]) for reading in asked])
-
-    def _asked_about(self) -> List[int]:
-        """The latest edit in force, which an undo without a number takes, and others in turn."""
-        shown = sorted(self.book.edits)[-LATEST:]
-        latest = [k for k in shown if self.book.edits[k].was_in_force][-1:]
-        return latest + self._in_turn([k for k in shown if k not in latest], IN_TURN)
-
-    def _in_turn(self, all_of_them: List[Any], many: int) -> List[Any]:
-        """So many of these, in each look the next ones."""
-        many = min(many, len(all_of_them))
-        return [all_of_them[(self._turn * many + n) % len(all_of_them)] for n in range(many)]
+    def _hear(self, edits: int) -> None:
+        """What others did, of so many edits."""
+        if edits <= MANY:
+            self._shot = hearing.hear_all(self.book)
+        else:
+            hearing.find_new(self.book)
+            hearing.learn(self.book, sorted(self.book.edits)[-LATEST:])
 
     def _state(self, edits: List[Edit]) -> Json:
         if self._objects is None:
             shot, self._shot = self._shot or self.book.snapshot(), None
-            self._sums = {name: _sum(array.elements) for name, array in shot.arrays.items()}
             self._objects = {
                 "domains": [
                     {"name": name, "words": shot.domains[name].in_words()} for name in sorted(shot.domains)
@@ -245,22 +222,6 @@ class View:
         """The text of the whole history."""
         with self._lock:
             return self.book.history_text()
-
-
-def _sum(elements: List[int]) -> Optional[int]:
-    """The sum, or None where it has more than 64 bits."""
-    value = sum(elements)
-    return value if -(2**63) <= value < 2**63 else None
-
-
-def _has_other_sum(reading: Reading, shown: Optional[int]) -> bool:
-    """Whether an array that was asked for its sum has another one, or is gone."""
-    try:
-        return bool(reading.value != shown)
-    except Overflow:
-        return shown is not None
-    except Refusal:
-        return True
 
 
 def _parts(index: Index) -> List[str]:
