@@ -7,7 +7,7 @@ use wb_proto::{Request, read_request};
 use wb_wire::{edit_text, request_text};
 
 // Lines, each with the canonical line of its request.
-const LINES: [(&str, &str); 16] = [
+const LINES: [(&str, &str); 17] = [
     (
         "{\"op\":\"domain\",\"d\":\"D\",\"is\":\"{1..4}\"}",
         "{\"d\":\"D\",\"is\":\"{1..4}\",\"map\":\"none\",\"op\":\"domain\"}",
@@ -69,6 +69,7 @@ const LINES: [(&str, &str); 16] = [
         "{\"op\":\"reduce\",\"how\":\"min\",\"a\":\"A\"}",
         "{\"a\":\"A\",\"how\":\"min\",\"op\":\"reduce\"}",
     ),
+    ("{ \"op\":\"edits\" }", "{\"op\":\"edits\"}"),
 ];
 
 // The line of a request, or of its edit.

@@ -23,13 +23,17 @@ const REFUSED: &str = r#"
 {"op":"drop_array","a":"D"} -> {"error":"E05","name":"wrong-kind"}
 "#;
 
-// Sizes of domains.
+// Sizes of domains, and how much there is.
 const SIZES: &str = r#"
 {"op":"domain","d":"E","is":"{1..0}"} -> {"edit":3,"n":3}
 {"op":"size","d":"D"} -> {"size":4}
 {"op":"size","d":"E"} -> {"size":0}
 {"op":"size","d":"A"} -> {"error":"E05","name":"wrong-kind"}
 {"op":"size","d":"F"} -> {"error":"E04","name":"no-such-name"}
+{"op":"edits"} -> {"edits":3,"writes":13}
+{"op":"undo"} -> {"n":3,"undone":3}
+{"op":"edits"} -> {"edits":3,"writes":16}
+{"op":"edits","k":3} -> {"error":"E01","name":"bad-request"}
 "#;
 
 // Refusals of undo and redo.
