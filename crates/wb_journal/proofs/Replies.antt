@@ -72,7 +72,7 @@ counted_leaves p (Dependents k) n w q s = absurd s
 counted_leaves p (Ask asked) n w q s = absurd s
 counted_leaves p Print n w q s = absurd s
 counted_leaves p History n w q s = absurd s
-counted_leaves p Edits n w q s = s.2.1
+counted_leaves p Edits n w q s = s.2
 
 -- Only an undo with dependents is replied by what it undid.
 cascaded_leaves : (p : Past) (asked : Request) (ks : List ℕ) (n : ℕ) (q : Past) → cascade_in asked ≡ None → Step p asked (Cascaded ks n) q → q ≡ p
