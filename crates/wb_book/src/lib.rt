@@ -7,7 +7,7 @@ mod changes;
 mod values;
 
 pub use crate::book::families::seen;
-pub use crate::book::locales::{locale_at, locale_by, locale_count_at};
+pub use crate::book::locales::locale_at;
 pub use crate::book::readers::{index_at, object_at, object_count, size_at, user_at};
 pub use crate::book::store;
 pub use crate::cells::cell::{AnyCell, Cell};

@@ -32,6 +32,7 @@ use Rattle.wb_shelf.specs.Groups.{Group, LeadTo}
 use Rattle.wb_shelf.specs.Moved.{put_over}
 use Rattle.wb_shelf.specs.Shelf.{cells_of, IsShelf, lies_by, mapping_of}
 use Rattle.wb_shelf.proofs.ElementsSet.{stored_there, differ, stored_apart}
+use Rattle.wb_shelf.proofs.Built.{HasElements}
 use Rattle.wb_shelf.proofs.Same.{same_cells}
 use Rattle.wb_shelf.proofs.Written.{one_cell as equal_cells}
 
@@ -174,49 +175,46 @@ module _ (stored : Cell → Option Value) (t : Cells) (formed : IsWellFormed t) 
 
 -- ---- the arrays are right
 
--- an array is as well-formed cells say
-pub record IsRight (t : Cells) (b : Name) (o : Option Pieced) : Type 0 where
-  pub lies : option_map (λ p. p.1) o ≡ lies_by t (array_at t b)
-  pub elements : (i : Index) → option_map Number (option_and_then (λ x. lookup (is_at (index_cmp i)) x.0) o) ≡ get t (Element b i)
+pub none_elements : (t : Cells) (b : Name) → IsWellFormed t → array_at t b ≡ None → (i : Index) → get t (Element b i) ≡ None
+none_elements t b formed none i =
+    subst (λ (o : Option (Name × Kind)). IsElement (is_index_of_array t o i) (get t (Element b i))) none (formed.elements b i)
 
-pub right_none : (t : Cells) (b : Name) → IsWellFormed t → array_at t b ≡ None → IsRight t b None
-right_none t b formed none = record {
-  lies = sym (ap (lies_by t) none);
-  elements = λ i. sym (subst (λ (o : Option (Name × Kind)). IsElement (is_index_of_array t o i) (get t (Element b i))) none (formed.elements b i));
-}
+-- the elements of an array after the changes are those of the cells after them
+pub right_elements : (s : Cells) (es : List (Name × Pieced)) (delta : Changes) (b : Name) (p : Pieced) (o : Option Pieced) (xs : Group) →
+    LeadTo delta b xs → Agree es s → array_in es b ≡ Some p → HasElements xs p o →
+    (i : Index) →
+    option_map Number (option_and_then (λ x. lookup (is_at (index_cmp i)) x.0) (put_over (Some p) o)) ≡ get (apply delta s) (Element b i)
+right_elements s es delta b p None xs lead agree found after i =
+    let was = ap (λ (z : Option Pieced). option_map Number (option_and_then (λ x. lookup (is_at (index_cmp i)) x.0) z)) (sym found) ∙ agree b i in
+    ap (λ (ys : Group). option_map Number (changed_at ys (lookup (is_at (index_cmp i)) p.0) i)) (sym after)
+    ∙ lead s (lookup (is_at (index_cmp i)) p.0) i was
+right_elements s es delta b p (Some q) xs lead agree found after i =
+    let was = ap (λ (z : Option Pieced). option_map Number (option_and_then (λ x. lookup (is_at (index_cmp i)) x.0) z)) (sym found) ∙ agree b i in
+    ap (option_map Number) (after i) ∙ lead s (lookup (is_at (index_cmp i)) p.0) i was
 
-pub right_after : (s : Cells) (es : List (Name × Pieced)) (delta : Changes) (b : Name) (p : Pieced) (o : Option Pieced) (l : LayoutMap × ℕ) (xs : Group) →
-    LeadTo delta b xs →
-    Agree es s → array_in es b ≡ Some p → Some l ≡ lies_by (apply delta s) (array_at (apply delta s) b) → IsAfter xs l p o →
-    IsRight (apply delta s) b (put_over (Some p) o)
-right_after s es delta b p None l xs lead agree found lies after = record {
-  lies = ap (λ z. Some z) after.0 ∙ lies;
-  elements = λ i.
-      let was = ap (λ (z : Option Pieced). option_map Number (option_and_then (λ x. lookup (is_at (index_cmp i)) x.0) z)) (sym found) ∙ agree b i in
-      ap (λ (ys : Group). option_map Number (changed_at ys (lookup (is_at (index_cmp i)) p.0) i)) (sym after.1)
-      ∙ lead s (lookup (is_at (index_cmp i)) p.0) i was;
-}
-right_after s es delta b p (Some q) l xs lead agree found lies after = record {
-  lies = ap (λ z. Some z) after.0 ∙ lies;
-  elements = λ i.
-      let was = ap (λ (z : Option Pieced). option_map Number (option_and_then (λ x. lookup (is_at (index_cmp i)) x.0) z)) (sym found) ∙ agree b i in
-      ap (option_map Number) (after.1 i) ∙ lead s (lookup (is_at (index_cmp i)) p.0) i was;
-}
+-- and they lie as these say
+pub right_lies : (p : Pieced) (o : Option Pieced) (l : LayoutMap × ℕ) (xs : Group) (lie : Option (LayoutMap × ℕ)) → Some l ≡ lie → IsAfter xs l p o →
+    option_map (λ z. z.1) (put_over (Some p) o) ≡ lie
+right_lies p None l xs lie lies after = ap (λ z. Some z) after.0 ∙ lies
+right_lies p (Some q) l xs lie lies after = ap (λ z. Some z) after.0 ∙ lies
 
--- what is kept after the changes is the workbook after them
-pub shelf_after : (after : BTreeMap Cell Value) (fresh : BTreeMap Name Pieced) (t : Cells) → IsWellFormed t →
+-- what is kept after the changes has the cells after them
+pub cells_after : (after : BTreeMap Cell Value) (fresh : BTreeMap Name Pieced) (t : Cells) → IsWellFormed t →
     ((c : Cell) → is_stored c ≡ true → stored_in after.entries c ≡ get t c) → AllStored after.entries →
     IsStrictlySortedBy cell_cmp (keys_of after.entries) → IsStrictlySortedBy (slice_cmp nat_cmp) (keys_of fresh.entries) →
-    ((b : Name) → IsRight t b (array_in fresh.entries b)) → (cells_of after fresh ≡ t) × IsShelf after fresh
-shelf_after after fresh t formed stored all ascending by_name right =
-    let is : cells_of after fresh ≡ t = same_cells after fresh t (record { stored = all; ascending = ascending; by_name = by_name }) formed stored
-    (λ b i. let r = right b in r.elements i) in (
-      is,
-      record {
-        well_formed = subst IsWellFormed (sym is) formed;
-        stored = all;
-        ascending = ascending;
-        by_name = by_name;
-        lie = λ a. let r = right a in r.lies ∙ ap (λ (s : Cells). lies_by s (array_at s a)) (sym is);
-      },
-    )
+    Agree fresh.entries t → cells_of after fresh ≡ t
+cells_after after fresh t formed stored all ascending by_name agree =
+    same_cells after fresh t (record { stored = all; ascending = ascending; by_name = by_name }) formed stored agree
+
+-- what is kept after the changes is the workbook after them
+pub shelf_after : (after : BTreeMap Cell Value) (fresh : BTreeMap Name Pieced) (t : Cells) → IsWellFormed t → cells_of after fresh ≡ t →
+    AllStored after.entries →
+    IsStrictlySortedBy cell_cmp (keys_of after.entries) → IsStrictlySortedBy (slice_cmp nat_cmp) (keys_of fresh.entries) →
+    ((b : Name) → option_map (λ p. p.1) (array_in fresh.entries b) ≡ lies_by t (array_at t b)) → IsShelf after fresh
+shelf_after after fresh t formed is all ascending by_name lie = record {
+  well_formed = subst IsWellFormed (sym is) formed;
+  stored = all;
+  ascending = ascending;
+  by_name = by_name;
+  lie = λ a. lie a ∙ ap (λ (s : Cells). lies_by s (array_at s a)) (sym is);
+}

@@ -1,17 +1,20 @@
 -- The arrays after changes, by a walk over those that are named.
 use Rattle.std.proofs.Common.{◌≡◌, Bool, true, false, cond, List, [], ◌∷◌, ◌++◌, Option, Some, None, refl, sym, ap, subst, ◌∙◌, ℕ}
+use Rattle.std.specs.BTreeMap.{is_at}
 use Rattle.std.specs.declared.cmp.Ordering.TheVariants.{Less}
 use Rattle.std.specs.Cmp.Lexicographic.{slice_cmp}
 use Rattle.std.specs.List.{AllByRecursion}
 use Rattle.std.specs.List.Sorted.{IsStrictlySortedBy}
-use Rattle.std.specs.Map.{keys_of}
+use Rattle.std.specs.Map.{keys_of, lookup}
 use Rattle.std.specs.Ordering.{nat_cmp}
 use Rattle.std.proofs.lemmas.List.{append_assoc}
 use Rattle.wb_dist.specs.Maps.{LayoutMap}
-use Rattle.wb_book.specs.Cells.{Name, is_same_name}
+use Rattle.wb_book.specs.declared.values.index.Index.{Index}
+use Rattle.wb_book.specs.Cells.{Name, index_cmp, is_same_name}
 use Rattle.wb_shelf.specs.After.{IsAfter, AreAfter, with_array}
 use Rattle.wb_shelf.specs.Groups.{Group, group_in, changes_of}
 use Rattle.wb_shelf.specs.Kept.{Pieced, array_in}
+use Rattle.wb_shelf.specs.Piecewise.Changed.{changed_at}
 use Rattle.wb_shelf.proofs.Moved.{none_above}
 use Rattle.wb_shelf.proofs.Written.{one_name}
 
@@ -40,6 +43,15 @@ later_of n b (Some q) ys built is other = ap (λ zs. array_in zs b) is ∙ rw ot
 not_first : (t : Bool) (x : Group) (o : Option Group) → cond t (Some x) o ≡ None → (t ≡ false) × (o ≡ None)
 not_first true x o e = cc
 not_first false x o e = (refl, e)
+
+-- the elements after changes of them, however they lie
+abbrev pub HasElements : Group → Pieced → Option Pieced → Type 0
+HasElements xs p None = xs ≡ []
+HasElements xs p (Some q) = (i : Index) → lookup (is_at (index_cmp i)) q.0 ≡ changed_at xs (lookup (is_at (index_cmp i)) p.0) i
+
+elements_after : (xs : Group) (l : LayoutMap × ℕ) (p : Pieced) (o : Option Pieced) → IsAfter xs l p o → HasElements xs p o
+elements_after xs l p None after = after.1
+elements_after xs l p (Some q) after = after.1
 
 module _ (lies : Name → Option (LayoutMap × ℕ)) (arrays : List (Name × Pieced)) where
   -- one more of the walk, which is another afterwards or stays
@@ -107,3 +119,11 @@ module _ (lies : Name → Option (LayoutMap × ℕ)) (arrays : List (Name × Pie
       (o : Option Group) → group_in gs b ≡ o → IsAfter (changes_of o) l p (array_in built b)
   after_all gs built a s b p l found lying rests (Some xs) named = after_in gs built a s b xs p l named found lying
   after_all gs built a s b p l found lying rests None none = subst (λ o. IsAfter [] l p o) (sym (none_in gs built a b none)) (rests none, refl)
+
+  -- the same of the elements, also where an array that is not named should lie otherwise
+  pub elements_all : (gs : List (Name × Group)) (built : List (Name × Pieced)) → AreAfter lies arrays gs built → Ascends gs →
+      (b : Name) (p : Pieced) (l : LayoutMap × ℕ) → array_in arrays b ≡ Some p → lies b ≡ Some l →
+      (o : Option Group) → group_in gs b ≡ o → HasElements (changes_of o) p (array_in built b)
+  elements_all gs built a s b p l found lying (Some xs) named =
+      elements_after xs l p (array_in built b) (after_in gs built a s b xs p l named found lying)
+  elements_all gs built a s b p l found lying None none = subst (λ o. HasElements [] p o) (sym (none_in gs built a b none)) refl

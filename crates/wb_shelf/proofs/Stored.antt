@@ -17,7 +17,7 @@ use Rattle.wb_book.specs.declared.cells.value.Value.{Value}
 use Rattle.wb_book.specs.declared.values.index.Index.{Index}
 use Rattle.wb_book.specs.Cells.{Name, Cells, cell_cmp, cell_order, matches}
 use Rattle.wb_book.specs.Families.{AreNamed}
-use Rattle.wb_book.specs.Locales.{locale_by, locale_count_at, locale_held_by, locale_held}
+use Rattle.wb_book.specs.Locales.{locale_held_by, locale_held}
 use Rattle.wb_book.specs.Readers.{seen, object_of, objects, user_of, users, member_in, indices_of, listed_at, size_at, index_at}
 use Rattle.wb_book.specs.Shapes.{indices}
 use Rattle.wb_book.specs.WellFormed.{IsWellFormed, domain_at, domain_in, ranges_in}
@@ -176,12 +176,6 @@ size-stored s d = rw (listed-stored s d) refl
 
 pub index-stored : (s : Cells) (d : Name) (p : ℕ) → index_at (stored_cells s) d p ≡ index_at s d p
 index-stored s d p = rw (listed-stored s d) refl
-
-pub locale_by-stored : (s : Cells) (d : Name) (i : Index) → locale_by (stored_cells s) d i ≡ locale_by s d i
-locale_by-stored s d i = rw (get-stored s (Mapping d) refl) refl
-
-pub locale_count-stored : (s : Cells) (d : Name) → locale_count_at (stored_cells s) d ≡ locale_count_at s d
-locale_count-stored s d = rw (get-stored s (Mapping d) refl) refl
 
 held-stored : (s : Cells) (d : Name) (i : Index) (kind : DomainKind) → locale_held_by (stored_cells s) d i kind ≡ locale_held_by s d i kind
 held-stored s d i (Rectangular rank) = rw (get-stored s (Shape d) refl, get-stored s (Mapping d) refl) refl

@@ -1,12 +1,12 @@
 -- Changes that were made whole, or taken back.
-use Rattle.std.proofs.Common.{◌≡◌, ℕ, Bool, true, false, true≢false, not, cond, ◌&&◌, List, [], ◌∷◌, filter, map, Option, Some, None, is_some, IsSome, refl}
+use Rattle.std.proofs.Common.{◌≡◌, ℕ, Bool, true, false, true≢false, not, cond, ◌&&◌, ◌||◌, List, [], ◌∷◌, filter, map, Option, Some, None, is_some, IsSome, refl}
 use Rattle.std.proofs.Common.{sym, ap, subst, ◌∙◌}
-use Rattle.std.specs.BTreeMap.{BTreeMap}
+use Rattle.std.specs.BTreeMap.{BTreeMap, is_at}
 use Rattle.std.specs.Cmp.Lexicographic.{slice_cmp}
 use Rattle.std.specs.FinMap.{get}
 use Rattle.std.specs.List.Sorted.{IsStrictlySortedBy}
-use Rattle.std.specs.Map.{keys_of}
-use Rattle.std.specs.Option.{option_map}
+use Rattle.std.specs.Map.{keys_of, lookup}
+use Rattle.std.specs.Option.{option_map, option_and_then}
 use Rattle.std.specs.Ordering.{nat_cmp, eq_by_cmp}
 use Rattle.selective_undo.specs.declared.Change.{Change}
 use Rattle.selective_undo.specs.Changes.{put, apply, inverse, changes, AllOnce, sets, clears}
@@ -24,7 +24,7 @@ use Rattle.wb_book.specs.declared.cells.kind.Kind.{Kind}
 use Rattle.wb_book.specs.declared.cells.value.Value.{Value}
 use Rattle.wb_book.specs.declared.cells.value.Value.TheVariants.{Domain, Array, Number}
 use Rattle.wb_book.specs.declared.values.index.Index.{Index}
-use Rattle.wb_book.specs.Cells.{Name, Cells, Changes, cell_cmp, cell_order, state_of}
+use Rattle.wb_book.specs.Cells.{Name, Cells, Changes, cell_cmp, cell_order, index_cmp, state_of}
 use Rattle.wb_book.specs.Kinds.{kind_of}
 use Rattle.wb_book.specs.Locales.{mapping_in}
 use Rattle.wb_book.specs.WellFormed.{IsWellFormed, HasMapping, domain_at, array_at, array_in as object_in}
@@ -35,9 +35,9 @@ use Rattle.wb_shelf.specs.Groups.{Group, group_in, changes_in, LeadTo, leaves}
 use Rattle.wb_shelf.specs.Kept.{Pieced, array_in, Agree}
 use Rattle.wb_shelf.specs.Moved.{put_over}
 use Rattle.wb_shelf.specs.Shelf.{cells_of, IsShelf, lies_by, mapping_of}
-use Rattle.wb_shelf.proofs.Applied.{IsRight, stored_only, stored_after, all_stored_after, all_stored_by, none_stored, lies_there, right_none, right_after}
-use Rattle.wb_shelf.proofs.Applied.{shelf_after}
-use Rattle.wb_shelf.proofs.Built.{after_all}
+use Rattle.wb_shelf.proofs.Applied.{stored_only, stored_after, all_stored_after, all_stored_by, none_stored, lies_there, none_elements, right_elements}
+use Rattle.wb_shelf.proofs.Applied.{right_lies, cells_after, shelf_after}
+use Rattle.wb_shelf.proofs.Built.{HasElements, after_all, elements_all}
 use Rattle.wb_shelf.proofs.Present.{domain_object, array_object}
 use Rattle.wb_shelf.proofs.Resting.{is_lay, left_alone, same_lies}
 use Rattle.wb_shelf.proofs.ElementsSet.{stored_there}
@@ -86,6 +86,18 @@ clears_there (x ∷ xs) u c there =
 -- a cell with what it was
 abbrev pub with_answer : (Cell → Option Value) → Change Cell Value → Change Cell Value
 with_answer answers x = record { cell = x.cell; value = answers x.cell }
+
+-- changes of the same cells to other values
+abbrev pub told_by : (Change Cell Value → Option Value) → Change Cell Value → Change Cell Value
+told_by told x = record { cell = x.cell; value = told x }
+
+changes-told : (told : Change Cell Value → Option Value) (xs : Changes) (c : Cell) → changes cell_cmp (map (told_by told) xs) c ≡ changes cell_cmp xs c
+changes-told told [] c = refl
+changes-told told (x ∷ xs) c = ap (λ (t : Bool). eq_by_cmp cell_cmp c x.cell || t) (changes-told told xs c)
+
+pub once_told : (told : Change Cell Value → Option Value) (xs : Changes) → AllOnce cell_cmp xs → AllOnce cell_cmp (map (told_by told) xs)
+once_told told [] once = tt
+once_told told (x ∷ xs) once = (changes-told told xs x.cell ∙ once.0, once_told told xs once.1)
 
 pub inverse_is : (answers : Cell → Option Value) (s : Cells) → ((c : Cell) → answers c ≡ get s c) → (xs : Changes) → map (with_answer answers) xs ≡ inverse xs s
 inverse_is answers s same [] = refl
@@ -192,7 +204,6 @@ module _ (cells : BTreeMap Cell Value) (arrays : BTreeMap Name Pieced) (delta : 
       (gs : List (Name × Group))
       (lead : (b : Name) → LeadTo delta b (changes_in gs b))
       (objects : (b : Name) → changes cell_cmp delta (Object b) ≡ true → IsSome (group_in gs b))
-      (left : (b : Name) → IsSome (array_in arrays.entries b) → group_in gs b ≡ None → list_all (leaves (stored_in cells.entries)) delta ≡ true)
       (ascending : IsStrictlySortedBy (slice_cmp nat_cmp) (keys_of gs))
       (walked : AreAfter (lies_at (stored_in ready.entries)) grown gs built)
       (last : (b : Name) → array_in fresh b ≡ cond (changes cell_cmp xs (Object b) && not (is_array (stored_in after.entries (Object b)))) None
@@ -229,59 +240,100 @@ module _ (cells : BTreeMap Cell Value) (arrays : BTreeMap Name Pieced) (delta : 
     not_named : (b : Name) → group_in gs b ≡ None → changes cell_cmp delta (Object b) ≡ false
     not_named b none = not_true (changes cell_cmp delta (Object b)) (λ e. absurd (true≢false (sym (objects b e) ∙ ap is_some none)))
 
-    left_there : (b : Name) → IsSome (array_in arrays.entries b) → group_in gs b ≡ None → (c : Cell) → is_lay c ≡ true →
-        IsSome (get (cells_of cells arrays) c) → IsSome (get (apply delta (cells_of cells arrays)) c) →
-        get (apply delta (cells_of cells arrays)) c ≡ get (cells_of cells arrays) c
-    left_there b there none c lay here present =
-        left_alone (stored_in cells.entries) c lay (ap is_some (stored_there cells arrays kept c (lay_stored c lay)) ∙ here) delta (cells_of cells arrays)
-        (left b there none) present
-
-    -- an array that is not named lies as before
-    rests : (b d : Name) (k : Kind) (p : Pieced) (l : LayoutMap × ℕ) → array_at (apply delta (cells_of cells arrays)) b ≡ Some (d, k) →
-        array_in grown b ≡ Some p →
-        lies_by (apply delta (cells_of cells arrays)) (array_at (apply delta (cells_of cells arrays)) b) ≡ Some l → group_in gs b ≡ None → p.1 ≡ l
-    rests b d k p l is found lie none =
-        let s : Cells = cells_of cells arrays in
-        let t : Cells = apply delta s in
-        let unchanged : changes cell_cmp xs (Object b) ≡ false = ap (λ (ys : Changes). changes cell_cmp ys (Object b)) only
-        ∙ none_filtered delta (Object b) (not_named b none) in
-        let was_found : array_in arrays.entries b ≡ Some p = sym (others b unchanged) ∙ found in
-        let was : array_at s b ≡ Some (d, k) = sym (ap object_in (same_object b unchanged)) ∙ is in
-        let same : lies_by t (array_at t b) ≡ lies_by s (array_at s b) =
-        same_lies s t kept.well_formed formed (left_there b (ap is_some was_found) none) b d k was is in
-        one_lies p l (ap (option_map (λ x. x.1)) (sym was_found) ∙ kept.lie b ∙ sym same ∙ lie)
-
-    right_now : (b : Name) (x : Option (Name × Kind)) → array_at (apply delta (cells_of cells arrays)) b ≡ x →
-        IsRight (apply delta (cells_of cells arrays)) b (array_in fresh b)
-    right_now b None none = subst (λ (o : Option Pieced). IsRight (apply delta (cells_of cells arrays)) b o) (sym (no_longer b none _ refl))
-        (right_none (apply delta (cells_of cells arrays)) b formed none)
-    right_now b (Some (d, k)) is =
-        let t : Cells = apply delta (cells_of cells arrays) in
-        let present : IsSome (get t (Object b)) = ap is_some (array_object (get t (Object b)) d k is) in
+    -- an array that is there afterwards
+    kept_one : (b d : Name) (k : Kind) → array_at (apply delta (cells_of cells arrays)) b ≡ Some (d, k) →
+        (p : Pieced) × (array_in grown b ≡ Some p) × (array_in fresh b ≡ put_over (Some p) (array_in built b))
+    kept_one b d k is =
         let found = the_one (array_in grown b) (was_there b d k is _ refl) in
-        let lie = the_one (lies_by t (array_at t b)) (lies_some t formed b d k is) in
-        let lying : lies_at (stored_in ready.entries) b ≡ Some lie.0 = lies_there (stored_in ready.entries) t formed ready_is b present ∙ lie.1 in
-        let step : IsAfter (changes_in gs b) lie.0 found.0 (array_in built b) =
-        after_all (lies_at (stored_in ready.entries)) grown gs built walked ascending b found.0 lie.0 found.1 lying
-        (rests b d k found.0 lie.0 is found.1 lie.1) (group_in gs b) refl in
-        let agree : Agree grown (cells_of cells arrays) = λ a i. ap (option_map Number) (elements a i) ∙ agree_now a i in
-        let kept_one : array_in fresh b ≡ put_over (Some found.0) (array_in built b) =
+        let kept_over : array_in fresh b ≡ put_over (Some found.0) (array_in built b) =
         last b
         ∙ not_gone (changes cell_cmp xs (Object b)) (is_array (stored_in after.entries (Object b))) (put_over (array_in grown b) (array_in built b))
         (ap is_array (stored_after cells after arrays delta kept after_is (Object b) refl) ∙ ap is_some is)
         ∙ ap (λ (o : Option Pieced). put_over o (array_in built b)) found.1 in
-        subst (λ (o : Option Pieced). IsRight t b o) (sym kept_one)
-        (right_after (cells_of cells arrays) grown delta b found.0 (array_in built b) lie.0 (changes_in gs b) (lead b) agree found.1 (sym lie.1) step)
+        (found.0, found.1, kept_over)
 
-    pub made_whole : (now : BTreeMap Name Pieced) → now.entries ≡ fresh → IsStrictlySortedBy cell_cmp (keys_of after.entries) →
-        IsStrictlySortedBy (slice_cmp nat_cmp) (keys_of fresh) → (cells_of after now ≡ apply delta (cells_of cells arrays)) × IsShelf after now
-    made_whole now is sorted by_name =
-        shelf_after after now (apply delta (cells_of cells arrays)) formed
+    -- how it should lie then
+    lying_now : (b d : Name) (k : Kind) → array_at (apply delta (cells_of cells arrays)) b ≡ Some (d, k) →
+        (l : LayoutMap × ℕ) × (lies_by (apply delta (cells_of cells arrays)) (array_at (apply delta (cells_of cells arrays)) b) ≡ Some l)
+        × (lies_at (stored_in ready.entries) b ≡ Some l)
+    lying_now b d k is =
+        let t : Cells = apply delta (cells_of cells arrays) in
+        let present : IsSome (get t (Object b)) = ap is_some (array_object (get t (Object b)) d k is) in
+        let lie = the_one (lies_by t (array_at t b)) (lies_some t formed b d k is) in
+        (lie.0, lie.1, lies_there (stored_in ready.entries) t formed ready_is b present ∙ lie.1)
+
+    elements_now : (b : Name) (x : Option (Name × Kind)) → array_at (apply delta (cells_of cells arrays)) b ≡ x → (i : Index) →
+        option_map Number (element_in fresh b i) ≡ get (apply delta (cells_of cells arrays)) (Element b i)
+    elements_now b None none i =
+        ap (λ (o : Option Pieced). option_map Number (option_and_then (λ x. lookup (is_at (index_cmp i)) x.0) o)) (no_longer b none _ refl)
+        ∙ sym (none_elements (apply delta (cells_of cells arrays)) b formed none i)
+    elements_now b (Some (d, k)) is i =
+        let one = kept_one b d k is in
+        let lying = lying_now b d k is in
+        let step : HasElements (changes_in gs b) one.0 (array_in built b) =
+        elements_all (lies_at (stored_in ready.entries)) grown gs built walked ascending b one.0 lying.0 one.1 lying.2 (group_in gs b) refl in
+        let agree : Agree grown (cells_of cells arrays) = λ a j. ap (option_map Number) (elements a j) ∙ agree_now a j in
+        ap (λ (o : Option Pieced). option_map Number (option_and_then (λ x. lookup (is_at (index_cmp i)) x.0) o)) one.2
+        ∙ right_elements (cells_of cells arrays) grown delta b one.0 (array_in built b) (changes_in gs b) (lead b) agree one.1 step i
+
+    -- the cells are those after the changes, however the arrays lie
+    pub made_cells : (now : BTreeMap Name Pieced) → now.entries ≡ fresh → IsStrictlySortedBy cell_cmp (keys_of after.entries) →
+        IsStrictlySortedBy (slice_cmp nat_cmp) (keys_of fresh) → cells_of after now ≡ apply delta (cells_of cells arrays)
+    made_cells now is sorted by_name =
+        cells_after after now (apply delta (cells_of cells arrays)) formed
         (stored_after cells after arrays delta kept after_is)
         (all_stored_after cells after delta kept.stored after_is)
         sorted
         (subst (λ (es : List (Name × Pieced)). IsStrictlySortedBy (slice_cmp nat_cmp) (keys_of es)) (sym is) by_name)
-        (λ b. subst (λ (es : List (Name × Pieced)). IsRight (apply delta (cells_of cells arrays)) b (array_in es b)) (sym is) (right_now b _ refl))
+        (λ b i. subst (λ (es : List (Name × Pieced)). option_map Number (element_in es b i) ≡ get (apply delta (cells_of cells arrays)) (Element b i)) (sym is)
+        (elements_now b _ refl i))
+
+    -- an array that is not named rests where no object and no mapping that is there changes
+    module _ (left : (b : Name) → IsSome (array_in arrays.entries b) → group_in gs b ≡ None → list_all (leaves (stored_in cells.entries)) delta ≡ true) where
+      left_there : (b : Name) → IsSome (array_in arrays.entries b) → group_in gs b ≡ None → (c : Cell) → is_lay c ≡ true →
+          IsSome (get (cells_of cells arrays) c) → IsSome (get (apply delta (cells_of cells arrays)) c) →
+          get (apply delta (cells_of cells arrays)) c ≡ get (cells_of cells arrays) c
+      left_there b there none c lay here present =
+          left_alone (stored_in cells.entries) c lay (ap is_some (stored_there cells arrays kept c (lay_stored c lay)) ∙ here) delta (cells_of cells arrays)
+          (left b there none) present
+
+      -- an array that is not named lies as before
+      rests : (b d : Name) (k : Kind) (p : Pieced) (l : LayoutMap × ℕ) → array_at (apply delta (cells_of cells arrays)) b ≡ Some (d, k) →
+          array_in grown b ≡ Some p →
+          lies_by (apply delta (cells_of cells arrays)) (array_at (apply delta (cells_of cells arrays)) b) ≡ Some l → group_in gs b ≡ None → p.1 ≡ l
+      rests b d k p l is found lie none =
+          let s : Cells = cells_of cells arrays in
+          let t : Cells = apply delta s in
+          let unchanged : changes cell_cmp xs (Object b) ≡ false = ap (λ (ys : Changes). changes cell_cmp ys (Object b)) only
+          ∙ none_filtered delta (Object b) (not_named b none) in
+          let was_found : array_in arrays.entries b ≡ Some p = sym (others b unchanged) ∙ found in
+          let was : array_at s b ≡ Some (d, k) = sym (ap object_in (same_object b unchanged)) ∙ is in
+          let same : lies_by t (array_at t b) ≡ lies_by s (array_at s b) =
+          same_lies s t kept.well_formed formed (left_there b (ap is_some was_found) none) b d k was is in
+          one_lies p l (ap (option_map (λ x. x.1)) (sym was_found) ∙ kept.lie b ∙ sym same ∙ lie)
+
+      lies_now : (b : Name) (x : Option (Name × Kind)) → array_at (apply delta (cells_of cells arrays)) b ≡ x →
+          option_map (λ p. p.1) (array_in fresh b) ≡ lies_by (apply delta (cells_of cells arrays)) (array_at (apply delta (cells_of cells arrays)) b)
+      lies_now b None none =
+          ap (λ (o : Option Pieced). option_map (λ p. p.1) o) (no_longer b none _ refl) ∙ sym (ap (lies_by (apply delta (cells_of cells arrays))) none)
+      lies_now b (Some (d, k)) is =
+          let t : Cells = apply delta (cells_of cells arrays) in
+          let one = kept_one b d k is in
+          let lying = lying_now b d k is in
+          let step : IsAfter (changes_in gs b) lying.0 one.0 (array_in built b) =
+          after_all (lies_at (stored_in ready.entries)) grown gs built walked ascending b one.0 lying.0 one.1 lying.2
+          (rests b d k one.0 lying.0 is one.1 lying.1) (group_in gs b) refl in
+          ap (λ (o : Option Pieced). option_map (λ p. p.1) o) one.2
+          ∙ right_lies one.0 (array_in built b) lying.0 (changes_in gs b) (lies_by t (array_at t b)) (sym lying.1) step
+
+      -- and each array lies by the mapping of its domain
+      pub made_shelf : (now : BTreeMap Name Pieced) → now.entries ≡ fresh → IsStrictlySortedBy cell_cmp (keys_of after.entries) →
+          IsStrictlySortedBy (slice_cmp nat_cmp) (keys_of fresh) → IsShelf after now
+      made_shelf now is sorted by_name =
+          let t : Cells = apply delta (cells_of cells arrays) in
+          shelf_after after now t formed (made_cells now is sorted by_name) (all_stored_after cells after delta kept.stored after_is) sorted
+          (subst (λ (es : List (Name × Pieced)). IsStrictlySortedBy (slice_cmp nat_cmp) (keys_of es)) (sym is) by_name)
+          (λ b. subst (λ (es : List (Name × Pieced)). option_map (λ p. p.1) (array_in es b) ≡ lies_by t (array_at t b)) (sym is) (lies_now b _ refl))
 
   -- ---- they were taken back
 
@@ -299,25 +351,27 @@ module _ (cells : BTreeMap Cell Value) (arrays : BTreeMap Name Pieced) (delta : 
         ∙ ap is_some none)
     never_there b none false e = last b ∙ not_changed _ (is_array (stored_in after.entries (Object b))) _ e ∙ others b e ∙ no_array b none
 
-    right_then : (b : Name) (x : Option (Name × Kind)) → array_at (cells_of cells arrays) b ≡ x → IsRight (cells_of cells arrays) b (array_in fresh b)
-    right_then b None none = subst (λ (o : Option Pieced). IsRight (cells_of cells arrays) b o) (sym (never_there b none _ refl))
-        (right_none (cells_of cells arrays) b kept.well_formed none)
-    right_then b (Some (d, k)) is =
-        let s : Cells = cells_of cells arrays in
+    same_then : (b : Name) (x : Option (Name × Kind)) → array_at (cells_of cells arrays) b ≡ x → array_in fresh b ≡ array_in arrays.entries b
+    same_then b None none = never_there b none _ refl ∙ sym (no_array b none)
+    same_then b (Some (d, k)) is =
         let found = the_one (array_in arrays.entries b) (an_array b d k is) in
-        let same : array_in fresh b ≡ array_in arrays.entries b =
         last b
         ∙ not_gone (changes cell_cmp xs (Object b)) (is_array (stored_in after.entries (Object b))) (array_in grown b)
         (ap is_array (stored_back (Object b) refl) ∙ ap is_some is)
-        ∙ stays b found.0 found.1 ∙ sym found.1 in
-        subst (λ (o : Option Pieced). IsRight s b o) (sym same) (record { lies = kept.lie b; elements = λ i. agree_now b i })
+        ∙ stays b found.0 found.1 ∙ sym found.1
 
     pub taken_back : (now : BTreeMap Name Pieced) → now.entries ≡ fresh → IsStrictlySortedBy cell_cmp (keys_of after.entries) →
         IsStrictlySortedBy (slice_cmp nat_cmp) (keys_of fresh) → (cells_of after now ≡ cells_of cells arrays) × IsShelf after now
     taken_back now is sorted by_name =
-        shelf_after after now (cells_of cells arrays) kept.well_formed stored_back
-        (all_stored_by after.entries (λ c apart. sym (get-state_of after c) ∙ ap (λ (u : Cells). get u c) back ∙ get-state_of cells c
-        ∙ none_stored cells.entries c apart kept.stored))
-        sorted
-        (subst (λ (es : List (Name × Pieced)). IsStrictlySortedBy (slice_cmp nat_cmp) (keys_of es)) (sym is) by_name)
-        (λ b. subst (λ (es : List (Name × Pieced)). IsRight (cells_of cells arrays) b (array_in es b)) (sym is) (right_then b _ refl))
+        let s : Cells = cells_of cells arrays in
+        let all = all_stored_by after.entries (λ c apart. sym (get-state_of after c) ∙ ap (λ (u : Cells). get u c) back ∙ get-state_of cells c
+        ∙ none_stored cells.entries c apart kept.stored) in
+        let ascending = subst (λ (es : List (Name × Pieced)). IsStrictlySortedBy (slice_cmp nat_cmp) (keys_of es)) (sym is) by_name in
+        let same : (b : Name) → array_in now.entries b ≡ array_in arrays.entries b =
+        λ b. ap (λ (es : List (Name × Pieced)). array_in es b) is ∙ same_then b _ refl in
+        let cells_same : cells_of after now ≡ s = cells_after after now s kept.well_formed stored_back all sorted ascending
+        (λ b i. ap (λ (o : Option Pieced). option_map Number (option_and_then (λ x. lookup (is_at (index_cmp i)) x.0) o)) (same b) ∙ agree_now b i) in (
+          cells_same,
+          shelf_after after now s kept.well_formed cells_same all sorted ascending
+          (λ b. ap (λ (o : Option Pieced). option_map (λ p. p.1) o) (same b) ∙ kept.lie b),
+        )

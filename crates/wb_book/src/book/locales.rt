@@ -3,7 +3,7 @@
 ghost use Rattle.std.specs.Prelude.{◌≡◌};
 ghost use Rattle.std.specs.FinMap as map;
 ghost use Rattle.wb_book.specs.Cells.{state_of};
-ghost use Rattle.wb_book.specs.Locales.{mapping_in, locale_by, is_held, locale_held, locale_count_at};
+ghost use Rattle.wb_book.specs.Locales.{mapping_in, locale_by, is_held, locale_held};
 ghost use Rattle.wb_book.specs.declared.cells.cell.Cell.TheVariants.{Mapping};
 
 use crate::book::readers::{domain_at, ranges_at};
@@ -30,8 +30,8 @@ fn mapping_at(cells: &BTreeMap<Cell, Value>, domain: Name) -> Option<AnyLayout>
     }
 }
 
-/// The locale of an index by the mapping of a rectangular domain, whether the domain has the index or not.
-pub fn locale_by(cells: &BTreeMap<Cell, Value>, domain: Name, index: &AnyIndex) -> Option<usize>
+// The locale of an index by the mapping of a rectangular domain, whether the domain has the index or not.
+fn locale_by(cells: &BTreeMap<Cell, Value>, domain: Name, index: &AnyIndex) -> Option<usize>
     ensures { result ≡ locale_by (state_of cells.now) domain index.now }
 {
     let mapping = mapping_at(cells, domain)?;
@@ -65,12 +65,4 @@ pub fn locale_at(cells: &BTreeMap<Cell, Value>, domain: Name, index: &AnyIndex) 
         DomainKind::Sparse(parent, _) => locale_by(cells, parent, index),
         DomainKind::Associative(_) => Some(0),
     }
-}
-
-/// How many locales the mapping of the domain of a name has.
-pub fn locale_count_at(cells: &BTreeMap<Cell, Value>, domain: Name) -> Option<usize>
-    ensures { result ≡ locale_count_at (state_of cells.now) domain }
-{
-    let mapping = mapping_at(cells, domain)?;
-    Some(mapping.locale_count())
 }

@@ -1,8 +1,8 @@
-ghost use Rattle.std.specs.Prelude.{◌≡◌, ◌≤◌, ◌<◌, true, false, FitsSigned};
+ghost use Rattle.std.specs.Prelude.{◌≡◌, ◌≤◌, true, false, FitsSigned};
 ghost use Rattle.std.specs.Bool.{Decides};
 ghost use Rattle.std.specs.Int.{w64};
 ghost use Rattle.std.specs.List.{All};
-ghost use Rattle.wb_dist.specs.Maps.{whole, locale_count_of};
+ghost use Rattle.wb_dist.specs.Maps.{whole};
 ghost use Rattle.wb_book.specs.Layouts.{map_of, is_of_rank, IsLayout, IsDealt, locale_in};
 ghost use Rattle.wb_book.specs.declared.values.index.Index.TheVariants.{Point as point_index};
 
@@ -112,20 +112,6 @@ impl AnyLayout {
         ensures { map_of result ≡ self.now }
     {
         self.laid
-    }
-
-    /// How many locales there are: the product of the grid, from 1 to 256, and 1 where all is on one locale (Chapel
-    /// Language Specification, Domain Maps).
-    pub fn locale_count(&self) -> usize
-        ensures count { result ≡ locale_count_of self.now }
-        ensures some { 0 < result }
-    {
-        match &self.laid {
-            Laid::Whole => 1,
-            Laid::Line(layout) => layout.locales(),
-            Laid::Plane(layout) => layout.locales(),
-            Laid::Solid(layout) => layout.locales(),
-        }
     }
 
     /// The locale of an index; `None` for a text and for an index of another rank.

@@ -1,7 +1,7 @@
 //! What a workbook answers about its objects, its domains, and where their indices lie.
 
 ghost use Rattle.std.specs.Prelude.{◌≡◌, is_some, length, option_map, slice_get, Err};
-ghost use Rattle.wb_book.specs.Locales.{locale_by, is_index_at, locale_at, locale_count_at};
+ghost use Rattle.wb_book.specs.Locales.{is_index_at, locale_at};
 ghost use Rattle.wb_book.specs.Readers.{objects, users, size_at, index_at, elements};
 ghost use Rattle.wb_book.specs.WellFormed.{IsWellFormed, domain_at};
 ghost use Rattle.wb_shelf.specs.Piecewise.Lent.{lent};
@@ -12,8 +12,7 @@ use crate::arrays::Pairs;
 use crate::looks;
 use crate::shelf::Book;
 use wb_book::{
-    AnyIndex, Name, index_at, locale_at, locale_by, locale_count_at, object_at, object_count,
-    size_at, user_at,
+    AnyIndex, Name, index_at, locale_at, object_at, object_count, size_at, user_at,
 };
 use wb_redist::{Mover, Op, ReduceErr};
 
@@ -70,25 +69,6 @@ impl Book {
     {
         let _ = &self.arrays;
         locale_at(&self.cells, *domain, index)
-    }
-
-    /// On which locale an index lies by the mapping of the rectangular domain of a name, whether the domain has the index
-    /// or not; `None` where there is no such rectangular domain, and for an index of another rank (Chapel Language
-    /// Specification, Domain Maps).
-    pub fn locale_by(&self, domain: &Name, index: &AnyIndex) -> Option<usize>
-        ensures { result ≡ locale_by self.now.cells domain.now index.now }
-    {
-        let _ = &self.arrays;
-        locale_by(&self.cells, *domain, index)
-    }
-
-    /// How many locales the mapping of the domain of a name has; `None` where there is no such rectangular domain
-    /// (Chapel Language Specification, Domain Maps).
-    pub fn locale_count(&self, domain: &Name) -> Option<usize>
-        ensures { result ≡ locale_count_at self.now.cells domain.now }
-    {
-        let _ = &self.arrays;
-        locale_count_at(&self.cells, *domain)
     }
 
     /// The elements of the array of a name on a locale, each after its index, ascending, lent. They are those that lie there by

@@ -6,7 +6,7 @@ use Rattle.wb_shelf.specs.Joined.{stored_in}
 use Rattle.wb_shelf.specs.After.{lies_at}
 use Rattle.wb_shelf.proofs.Built.{built_ascending}
 use Rattle.wb_shelf.proofs.ElementsSet.{set_whole}
-use Rattle.wb_shelf.proofs.Whole.{once_stored, made_whole, taken_back}
+use Rattle.wb_shelf.proofs.Whole.{once_stored, made_cells, made_shelf, taken_back}
 use Rattle.wb_shelf.proofs.change.change_all.Goals as goal
 
 pub returns-then-are_set-clause-ok : goal.returns-then-are_set-clause-ok
@@ -29,23 +29,24 @@ finish-requires g c =
 
 pub returns-in-Ok-prepared-clause-ok : goal.returns-in-Ok-prepared-clause-ok
 returns-in-Ok-prepared-clause-ok g c =
-    (made_whole c.args.cells.now c.args.arrays.now c.args.delta.now c.requires.shelf c.as_slice-changed.result.now (c.as_slice-changed.ensures.value
+    made_cells c.args.cells.now c.args.arrays.now c.args.delta.now c.requires.shelf c.as_slice-changed.result.now (c.as_slice-changed.ensures.value
     ∙ c.in-Ok.ensures) c.requires.once c.requires.formed
     c.prepared.new.cells c.finish.new.cells c.prepared.new.arrays.entries c.finish.new.arrays.entries c.in-Ok-prepared.built.items
     c.in-Ok-prepared.ensures.set c.finish.ensures.cells c.in-Ok-prepared.ensures.others c.in-Ok-prepared.ensures.elements c.in-Ok-prepared.ensures.there
-    c.in-Ok-concerned.groups.entries c.in-Ok-concerned.ensures.lead c.in-Ok-concerned.ensures.objects c.in-Ok-concerned.ensures.others
-    c.in-Ok-concerned.ensures.ascending c.in-Ok-prepared.ensures.built c.finish.ensures.arrays c.finish.new.arrays refl c.finish.ensures.ascending_cells
-    c.finish.ensures.ascending).0
+    c.in-Ok-concerned.groups.entries c.in-Ok-concerned.ensures.lead c.in-Ok-concerned.ensures.objects
+    c.in-Ok-concerned.ensures.ascending c.in-Ok-prepared.ensures.built c.finish.ensures.arrays
+    c.finish.new.arrays refl c.finish.ensures.ascending_cells c.finish.ensures.ascending
 
 pub returns-in-Ok-prepared-clause-shelf : goal.returns-in-Ok-prepared-clause-shelf
 returns-in-Ok-prepared-clause-shelf g c =
-    (made_whole c.args.cells.now c.args.arrays.now c.args.delta.now c.requires.shelf c.as_slice-changed.result.now (c.as_slice-changed.ensures.value
+    made_shelf c.args.cells.now c.args.arrays.now c.args.delta.now c.requires.shelf c.as_slice-changed.result.now (c.as_slice-changed.ensures.value
     ∙ c.in-Ok.ensures) c.requires.once c.requires.formed
     c.prepared.new.cells c.finish.new.cells c.prepared.new.arrays.entries c.finish.new.arrays.entries c.in-Ok-prepared.built.items
     c.in-Ok-prepared.ensures.set c.finish.ensures.cells c.in-Ok-prepared.ensures.others c.in-Ok-prepared.ensures.elements c.in-Ok-prepared.ensures.there
-    c.in-Ok-concerned.groups.entries c.in-Ok-concerned.ensures.lead c.in-Ok-concerned.ensures.objects c.in-Ok-concerned.ensures.others
-    c.in-Ok-concerned.ensures.ascending c.in-Ok-prepared.ensures.built c.finish.ensures.arrays c.finish.new.arrays refl c.finish.ensures.ascending_cells
-    c.finish.ensures.ascending).1
+    c.in-Ok-concerned.groups.entries c.in-Ok-concerned.ensures.lead c.in-Ok-concerned.ensures.objects
+    c.in-Ok-concerned.ensures.ascending c.in-Ok-prepared.ensures.built c.finish.ensures.arrays
+    c.in-Ok-concerned.ensures.others
+    c.finish.new.arrays refl c.finish.ensures.ascending_cells c.finish.ensures.ascending
 
 pub take_back-requires-clause-once : goal.take_back-requires-clause-once
 take_back-requires-clause-once g c =
