@@ -1,5 +1,5 @@
 -- Edits that were asked for by lines.
-use Rattle.std.proofs.Common.{◌≡◌, ℕ, List, [], ◌∷◌, ◌++◌, reverse, sym, subst}
+use Rattle.std.proofs.Common.{List, [], ◌∷◌, ◌++◌, reverse, sym, subst}
 use Rattle.std.proofs.lemmas.List.{reverse-append}
 use Rattle.wb_history.specs.Past.{Numbered}
 use Rattle.wb_proto.specs.declared.requests.request.Request.TheVariants.{Change}
