@@ -36,7 +36,7 @@ loop-before-preserved c =
     let is = subst (λ r. IfSome r (λ e. request line ≡ Ok (Change e))) c.in-Some-2.is c.in_ok-edit.ensures.asked in
     record {
       left = subst (λ xs. Left c.args.bytes.now c.in-Some.before.now xs) (sym more)
-      (left_next c.args.bytes.now c.loop-before.rest.now c.in-Some.before.now c.in-Some.line.now line (marked items) c.in-Some-marked_at.in_force c.in-Some-2.edit
-      c.loop-before.invariant.left c.in-Some.ensures (sym c.in-Some-marked_at.ensures) (λ e h. sym c.in-Some-2.is ∙ c.in_ok-edit.ensures.read e h));
+          (left_next c.args.bytes.now c.loop-before.rest.now c.in-Some.before.now c.in-Some.line.now line (marked items) c.in-Some-marked_at.in_force c.in-Some-2.edit
+          c.loop-before.invariant.left c.in-Some.ensures (sym c.in-Some-marked_at.ensures) (λ e h. sym c.in-Some-2.is ∙ c.in_ok-edit.ensures.read e h));
       asked = subst AreAsked (sym more) (asked_with (marked items) (pair_back one) c.loop-before.invariant.asked (line, is));
     }
