@@ -29,9 +29,14 @@ index_is d (Point (i ∷ j ∷ [])) f h =
     let g = subst IsFit h.2 f in
     (omega arith, omega arith, (integer_within h.0 h.3.0 i g.0 h.3.1 h.3.2, (integer_within h.1 h.4.0 j g.1.0 h.4.1 h.4.2, tt)))
 index_is d (Point (i ∷ j ∷ k ∷ [])) f h =
-    let g = subst IsFit h.3 f in
-    (omega arith, omega arith, (integer_within h.0 h.4.0 i g.0 h.4.1 h.4.2,
-    (integer_within h.1 h.5.0 j g.1.0 h.5.1 h.5.2, (integer_within h.2 h.6.0 k g.1.1.0 h.6.1 h.6.2, tt))))
+    let g = subst IsFit h.3 f in (
+      omega arith,
+      omega arith,
+      (
+        integer_within h.0 h.4.0 i g.0 h.4.1 h.4.2,
+        (integer_within h.1 h.5.0 j g.1.0 h.5.1 h.5.2, (integer_within h.2 h.6.0 k g.1.1.0 h.6.1 h.6.2, tt)),
+      ),
+    )
 index_is d (Point (i ∷ j ∷ k ∷ l ∷ is)) f h = absurd h
 index_is d (Text t) f h = h.1
 
