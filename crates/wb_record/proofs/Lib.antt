@@ -4,3 +4,5 @@ pub mod Heading
 pub mod Below
 pub mod Steps
 pub mod Same
+pub mod Asked
+pub mod KeptAsked

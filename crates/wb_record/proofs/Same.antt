@@ -1,5 +1,5 @@
 -- No two histories share a text.
-use Rattle.std.proofs.Common.{◌≡◌, ◌⊎◌, inl, inr, ℕ, zero, suc, ◌<◌, arith, List, [], ◌∷◌, ◌++◌, length, codes, refl, sym, ap, ◌∙◌, subst, Some, None, Ok}
+use Rattle.std.proofs.Common.{◌≡◌, inl, inr, ℕ, zero, suc, ◌<◌, arith, List, [], ◌∷◌, ◌++◌, length, codes, sym, ap, ◌∙◌, subst, Ok}
 use Rattle.std.proofs.lemmas.List.{append-nil, append_assoc, length-append}
 use Rattle.wb_edit.specs.declared.edit.Edit.{Edit}
 use Rattle.wb_history.specs.Past.{Numbered}
@@ -8,8 +8,7 @@ use Rattle.wb_proto.specs.declared.requests.request.Request.TheVariants.{Change}
 use Rattle.wb_wire.specs.Encoded.{request_line}
 use Rattle.wb_record.specs.Laws.{OneTextOneHistory}
 use Rattle.wb_history.specs.Restored.{one_of}
-use Rattle.wb_lines.specs.Lines.{IsUnbroken}
-use Rattle.wb_record.specs.Text.{said, history_text, AreSaid, IsSaid}
+use Rattle.wb_record.specs.Text.{said, AreSaid, IsSaid}
 use Rattle.wb_record.specs.Lines.{marked_at, heading, below}
 use Rattle.wb_record.proofs.LastLine.{same_last}
 use Rattle.wb_record.proofs.Heading.{count_line, heading_last, count_unbroken, count_unmarked}

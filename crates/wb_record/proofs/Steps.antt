@@ -8,7 +8,7 @@ use Rattle.wb_lines.specs.Lines.{IsUnbroken}
 use Rattle.wb_proto.specs.Requests.{request}
 use Rattle.wb_proto.specs.declared.requests.request.Request.TheVariants.{Change}
 use Rattle.wb_wire.specs.Encoded.{request_line}
-use Rattle.wb_record.specs.Text.{said, history_text, AreSaid, IsSaid}
+use Rattle.wb_record.specs.Text.{said, AreSaid, IsSaid}
 use Rattle.wb_record.specs.Lines.{IsLastLine, marked_at, heading, below, ReadsEdits, ReadsHistory}
 use Rattle.wb_record.proofs.LastLine.{last_is, broken}
 use Rattle.wb_record.proofs.Heading.{count_line, heading_last, count_unbroken, count_unmarked}

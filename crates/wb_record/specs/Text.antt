@@ -23,6 +23,15 @@ abbrev pub AreProper : List Numbered → Type 0
 AreProper [] = ⊤
 AreProper (x ∷ es) = IsProperRequest (Change x.edit) × AreProper es
 
+-- a line was read as the edit's request
+abbrev pub IsAsked : Edit → Type 0
+IsAsked e = (line : List ℕ) × (request line ≡ Ok (Change e))
+
+-- each edit was asked for by a line
+abbrev pub AreAsked : List Numbered → Type 0
+AreAsked [] = ⊤
+AreAsked (x ∷ es) = IsAsked x.edit × AreAsked es
+
 -- each edit in force is accepted in its place
 abbrev pub IsHistory : List Numbered → Type 0
 IsHistory es = IsLegal (meant es) × AreSaid es

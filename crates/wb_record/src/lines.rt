@@ -1,9 +1,10 @@
 //! The edits of a history's text, read from its last line up.
-ghost use Rattle.std.specs.Prelude.{◌≡◌, ℕ, ◌+◌, ◌<◌, List, [], ◌∷◌, ◌++◌, length, drop, reverse, IfOk, OnOk, Some, Ok, option_map, codes};
+ghost use Rattle.std.specs.Prelude.{◌≡◌, ℕ, ◌+◌, ◌<◌, List, [], ◌∷◌, ◌++◌, length, drop, reverse, IfOk, IfSome, OnOk, Some, Ok, option_map, codes};
 ghost use Rattle.wb_edit.specs.declared.edit.Edit as command;
 ghost use Rattle.wb_history.specs.Restored.{marked};
 ghost use Rattle.wb_proto.specs.Requests.{request};
 ghost use Rattle.wb_proto.specs.declared.requests.request.Request.TheVariants.{Change};
+ghost use Rattle.wb_record.specs.Text.{AreAsked};
 ghost use Rattle.wb_record.specs.Lines.{IsLastLine, marked_at, ReadsEdits, ReadsHistory};
 
 use memchr::memrchr;
@@ -44,7 +45,8 @@ fn marked_at(line: &[u8]) -> Option<(bool, &[u8])>
 
 // The edit that a line asks for.
 fn edit_of(alloc: Global, line: &[u8]) -> Result<Option<Edit>, NoMemory>
-    ensures { IfOk result (λ r. (e : command.Edit) → request line.now ≡ Ok (Change e) → r ≡ Some e) }
+    ensures read { IfOk result (λ r. (e : command.Edit) → request line.now ≡ Ok (Change e) → r ≡ Some e) }
+    ensures asked { IfOk result (λ r. IfSome r (λ e. request line.now ≡ Ok (Change e))) }
 {
     match read_request(alloc, line) {
         Ok(Request::Change(edit)) => Ok(Some(edit)),
@@ -91,7 +93,8 @@ fn keep(edits: &mut Vec<(Edit, bool)>, edit: Edit, in_force: bool) -> Result<(),
 
 // The edits of the last lines, up to one without a mark.
 fn edits_below(alloc: Global, bytes: &[u8]) -> Result<Option<Vec<(Edit, bool)>>, NoMemory>
-    ensures { IfOk result (λ r. ReadsEdits bytes.now (option_map (λ v. marked v.items) r)) }
+    ensures read { IfOk result (λ r. ReadsEdits bytes.now (option_map (λ v. marked v.items) r)) }
+    ensures asked { IfOk result (λ r. IfSome r (λ v. AreAsked (marked v.items))) }
 {
     let mut edits = Vec::new(alloc);
     let mut rest = bytes;
@@ -123,10 +126,11 @@ fn without_end(bytes: &[u8]) -> Option<&[u8]>
 
 /// The edits of the text of a history, each with its mark.
 ///
-/// Those of the text of every history are read. Other texts may be read too: to know whether a text is a history's, print
-/// the history that the edits make, and compare.
+/// Those of the text of every history are read, and each that is read was asked for by its line. Other texts may be read
+/// too: to know whether a text is a history's, print the history that the edits make, and compare.
 pub(crate) fn read_edits(alloc: Global, text: &str) -> Result<Option<Vec<(Edit, bool)>>, NoMemory>
-    ensures { IfOk result (λ r. ReadsHistory text.now (option_map (λ v. marked v.items) r)) }
+    ensures read { IfOk result (λ r. ReadsHistory text.now (option_map (λ v. marked v.items) r)) }
+    ensures asked { IfOk result (λ r. IfSome r (λ v. AreAsked (marked v.items))) }
 {
     match without_end(text.as_bytes()) {
         Some(bytes) => edits_below(alloc, bytes),

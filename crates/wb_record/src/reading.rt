@@ -2,7 +2,7 @@
 ghost use Rattle.std.specs.Prelude.{◌≡◌, List, IfOk, IfErr, IfSome, IfNone};
 ghost use Rattle.wb_history.specs.Past.{Numbered};
 ghost use Rattle.wb_history.specs.Restored.{IsCounted, marked};
-ghost use Rattle.wb_record.specs.Text.{history_text, IsHistory, IsNoHistory};
+ghost use Rattle.wb_record.specs.Text.{history_text, AreAsked, IsHistory, IsNoHistory};
 
 use crate::lines::read_edits;
 use crate::printed::print_history;
@@ -29,6 +29,7 @@ fn same_text(alloc: Global, history: History, text: &str) -> Result<Option<Histo
     ensures same { IfOk result (λ r. IfSome r (λ h. text.now ≡ history_text h.entries)) }
     ensures other { IfOk result (λ r. IfNone r (text.now ≡ history_text history.entries → ⊥)) }
     ensures kept { IfOk result (λ r. IfSome r (λ h. h ≡ history)) }
+    ensures asked { IfOk result (λ r. IfSome r (λ h. AreAsked history.entries → IsHistory history.entries)) }
 {
     let printed = print_history(alloc, &history)?;
     if printed.as_str() == text {
@@ -45,7 +46,9 @@ fn history_of_edits<M: Mover>(
     text: &str,
     mover: &M,
 ) -> Result<Option<History>, NoMemory>
+    requires { AreAsked (marked edits.items) }
     ensures some { IfOk result (λ r. IfSome r (λ h. (text.now ≡ history_text h.entries) × IsCounted h)) }
+    ensures asked { IfOk result (λ r. IfSome r (λ h. IsHistory h.entries)) }
     ensures none { IfOk result (λ r. IfNone r (IsHistory (marked edits.items) → text.now ≡ history_text (marked edits.items) → ⊥)) }
 {
     match History::restore(alloc, edits, mover) {
@@ -58,6 +61,7 @@ fn history_of_edits<M: Mover>(
 // The history of this text, if there is one.
 fn history_of<M: Mover>(alloc: Global, text: &str, mover: &M) -> Result<Option<History>, NoMemory>
     ensures some { IfOk result (λ r. IfSome r (λ h. (text.now ≡ history_text h.entries) × IsCounted h)) }
+    ensures asked { IfOk result (λ r. IfSome r (λ h. IsHistory h.entries)) }
     ensures none { IfOk result (λ r. IfNone r (IsNoHistory text.now)) }
 {
     match read_edits(alloc, text)? {
@@ -70,6 +74,7 @@ fn history_of<M: Mover>(alloc: Global, text: &str, mover: &M) -> Result<Option<H
 /// Each edit in force is made once, and nothing else is counted in `writes`.
 pub fn read_history<M: Mover>(alloc: Global, text: &str, mover: &M) -> Result<History, HistoryErr>
     ensures ok { IfOk result (λ h. text.now ≡ history_text h.entries) }
+    ensures history { IfOk result (λ h. IsHistory h.entries) }
     ensures counted { IfOk result (λ h. IsCounted h) }
     ensures bad { IfErr result (λ why. why ≡ HistoryErr.Bad → IsNoHistory text.now) }
 {

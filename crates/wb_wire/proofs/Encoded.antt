@@ -1,5 +1,5 @@
 -- The canonical object of a request is that request.
-use Rattle.std.proofs.Common.{◌≡◌, ◌∙◌, ◌≤◌, ◌^◌, ℕ, ℤ, pos, negsuc, List, [], ◌∷◌, codes, length, Option, Some, None, inl, inr, nat_eq, refl, sym, ap, subst, append-nil, if◌then◌else◌, arith, lt-ltb}
+use Rattle.std.proofs.Common.{◌≡◌, ◌∙◌, ◌^◌, ℕ, ℤ, pos, negsuc, List, [], ◌∷◌, codes, length, Option, Some, None, inl, inr, nat_eq, refl, sym, ap, subst, append-nil, if◌then◌else◌, arith, lt-ltb}
 use Rattle.std.proofs.lemmas.List.Elements.{recursion_from_All}
 use Rattle.serde_json.specs.Data.{unsigned, string}
 use Rattle.serde_json.specs.Find.{get_member, of_integer}
@@ -28,7 +28,7 @@ use Rattle.wb_proto.specs.declared.requests.request.Request.{Request}
 use Rattle.wb_wire.specs.Table.{Meaning, word, name, integer, number, index, given, mapping, optional_mapping, book, some_set, some_mapping, some_integer, Fields, table}
 use Rattle.wb_wire.specs.Spelled.{IsInteger, IsIndex, IsGiven, IsMapping, Spells, Says, without, HasFields, IsRequest}
 use Rattle.wb_wire.specs.Encoded.{given_text, data_of, members_of, request_data}
-use Rattle.wb_wire.specs.Proper.{AllWithin, ArePoints, AreTexts, AreAlike, IsProperGiven, IsProper, AreProper, IsProperRequest}
+use Rattle.wb_wire.specs.Proper.{AllWithin, ArePoints, AreTexts, AreAlike, IsProperIndex, IsProperGiven, IsProper, AreProper, IsProperRequest}
 use Rattle.wb_wire.proofs.Members.{found_by, same_key}
 
 -- ---- numbers and indices
@@ -37,19 +37,15 @@ integer_spelled : (z : ℤ) → IsWithin z → IsInteger (integer_data z) z
 integer_spelled (pos n) h = (unsigned n, refl, rw (lt-ltb n (2 ^ 63) h) refl)
 integer_spelled (negsuc n) h = (of_integer (negsuc n), refl, refl)
 
-point_spelled : (rank : ℕ) (is : List ℤ) → 1 ≤ rank → rank ≤ 3 → length is ≡ rank → AllWithin is → IsIndex (index_data (Point is)) (Point is)
+index_spelled : (i : Index) → IsProperIndex i → IsIndex (index_data i) i
 unfolding point_data
-point_spelled rank [] low high e h = absurd (omega (arith, e, low))
-point_spelled rank (i ∷ []) low high e h = integer_spelled i h.0
-point_spelled rank (i ∷ j ∷ []) low high e h = (integer_data i, integer_data j, refl, integer_spelled i h.0, integer_spelled j h.1.0)
-point_spelled rank (i ∷ j ∷ k ∷ []) low high e h = (integer_data i, integer_data j, integer_data k, refl, integer_spelled i h.0, integer_spelled j h.1.0, integer_spelled k h.1.1.0)
-point_spelled rank (i ∷ j ∷ k ∷ l ∷ is) low high e h = absurd (omega (arith, e, high))
-
-index_spelled : (i : Index) → AreAlike (i ∷ []) → IsIndex (index_data i) i
-index_spelled (Point is) (inl h) = point_spelled h.0 is h.1 h.2 h.3.0.0 h.3.0.1
-index_spelled (Point is) (inr h) = absurd h.0
-index_spelled (Text t) (inl h) = absurd h.3.0
-index_spelled (Text t) (inr h) = (refl, h.0.accepted)
+index_spelled (Point []) (low, high, h) = absurd (omega (arith, low))
+index_spelled (Point (i ∷ [])) (low, high, h) = integer_spelled i h.0
+index_spelled (Point (i ∷ j ∷ [])) (low, high, h) = (integer_data i, integer_data j, refl, integer_spelled i h.0, integer_spelled j h.1.0)
+index_spelled (Point (i ∷ j ∷ k ∷ [])) (low, high, h) =
+    (integer_data i, integer_data j, integer_data k, refl, integer_spelled i h.0, integer_spelled j h.1.0, integer_spelled k h.1.1.0)
+index_spelled (Point (i ∷ j ∷ k ∷ l ∷ is)) (low, high, h) = absurd (omega (arith, high))
+index_spelled (Text t) h = (refl, h)
 
 -- ---- literals
 

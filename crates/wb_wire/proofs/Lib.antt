@@ -12,3 +12,10 @@ pub mod TooLarge
 pub mod Failing
 pub mod Judged
 pub mod Refused
+pub mod Listed
+pub mod Ranges
+pub mod Rectangles
+pub mod Mappings
+pub mod Sets
+pub mod Readable
+pub mod ReadProper

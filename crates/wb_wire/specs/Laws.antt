@@ -27,6 +27,10 @@ OneRequest = (d : Data) (r s : Request) → IsRequest d r → IsRequest d s → 
 abbrev pub EncodesRequests : Type 0
 EncodesRequests = (r : Request) → IsProperRequest r → IsRequest (request_data r) r
 
+-- A request that was read of a line is one that a line can say.
+abbrev pub ReadsProper : Type 0
+ReadsProper = (line : List ℕ) (r : Request) → request line ≡ Ok r → IsProperRequest r
+
 -- A JSON value that isn't read is answered with the least code of all that is wrong with it.
 abbrev pub RefusesByTheLeast : Type 0
 RefusesByTheLeast = (d : Data) (why : Refusal) → (request_of d ≡ Err why) ↔ ((fault : Fault) × (why ≡ refusal_of fault) × IsLeastFault d fault)

@@ -1,7 +1,7 @@
 -- Requests that a line can say: their names are names, their numbers are of 64 bits, their indices are points or labels, their
 -- ranges and mappings are within the limits, and a set lists indices of one kind, ascending and each once.
 use Rattle.std.specs.Prelude.{◌≡◌, ◌≤◌, ◌⊎◌, ℕ, ℤ, List, [], ◌∷◌, length, true}
-use Rattle.wb_assoc.specs.Labels.{IsLabel}
+use Rattle.wb_assoc.specs.Labels.{IsLabel, is_label}
 use Rattle.wb_rect.specs.Product.{IsRectangle}
 use Rattle.wb_book.specs.Layouts.{IsLayout}
 use Rattle.wb_book.specs.Names.{is_name}
@@ -40,6 +40,11 @@ AreTexts (i ∷ is) = IsText i × AreTexts is
 abbrev pub AreAlike : List Index → Type 0
 AreAlike is = ((rank : ℕ) × (1 ≤ rank) × (rank ≤ 3) × ArePoints rank is) ⊎ AreTexts is
 
+-- one to three coordinates, each of 64 bits, or a text that is a label
+abbrev pub IsProperIndex : Index → Type 0
+IsProperIndex (Point is) = (1 ≤ length is) × (length is ≤ 3) × AllWithin is
+IsProperIndex (Text t) = is_label t ≡ true
+
 abbrev pub IsProperGiven : Given → Type 0
 IsProperGiven (Rectangle ranges) = IsRectangle (length ranges) ranges
 IsProperGiven (Items is) = AreAlike is × (ascending is ≡ is)
@@ -50,7 +55,7 @@ IsProper (word w) = Unit {0}
 IsProper (name n) = is_name n ≡ true
 IsProper (integer z) = IsWithin z
 IsProper (number k) = Unit {0}
-IsProper (index i) = AreAlike (i ∷ [])
+IsProper (index i) = IsProperIndex i
 IsProper (given g) = IsProperGiven g
 IsProper (mapping m) = IsLayout m
 IsProper (optional_mapping m) = IsLayout m

@@ -1,6 +1,6 @@
 //! What holds of the lines of requests: each law is the contract of a function that does nothing.
 
-ghost use Rattle.wb_wire.specs.Laws.{ReadsExactly, ReadsLinesExactly, OneRequest, EncodesRequests, RefusesByTheLeast, ReadsTheFaultless};
+ghost use Rattle.wb_wire.specs.Laws.{ReadsExactly, ReadsLinesExactly, OneRequest, EncodesRequests, ReadsProper, RefusesByTheLeast, ReadsTheFaultless};
 
 /// A JSON value is read as a request exactly where it is that request: an object with the members of the table, each
 /// once, in any order, and no others, whose values spell what the table says.
@@ -21,6 +21,12 @@ pub fn one_request()
 /// The canonical object of a request is that request, if it is one that a line can say: what is written is what is meant.
 pub fn encodes_requests()
     ensures { EncodesRequests }
+{}
+
+/// A request that was read of a line is one that a line can say. So its canonical line is read back as it: what was asked
+/// for in any spelling is kept as it was meant.
+pub fn reads_proper()
+    ensures { ReadsProper }
 {}
 
 /// A JSON value that isn't read as a request is answered with the least code of all that is wrong with it: its members

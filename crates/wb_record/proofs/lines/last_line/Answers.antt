@@ -1,4 +1,4 @@
-use Rattle.std.proofs.Common.{◌≡◌, ap, subst, sym, Some, None, take, drop, ◌+◌}
+use Rattle.std.proofs.Common.{subst, sym, Some, None, take}
 use Rattle.wb_record.specs.Lines.{IsLastLine}
 use Rattle.wb_record.proofs.LastLine.{last_found}
 use Rattle.wb_record.proofs.lines.last_line.Goals as goal
