@@ -373,5 +373,5 @@ module _ (cells : BTreeMap Cell Value) (arrays : BTreeMap Name Pieced) (delta : 
         (λ b i. ap (λ (o : Option Pieced). option_map Number (option_and_then (λ x. lookup (is_at (index_cmp i)) x.0) o)) (same b) ∙ agree_now b i) in (
           cells_same,
           shelf_after after now s kept.well_formed cells_same all sorted ascending
-          (λ b. ap (λ (o : Option Pieced). option_map (λ p. p.1) o) (same b) ∙ kept.lie b),
+              (λ b. ap (λ (o : Option Pieced). option_map (λ p. p.1) o) (same b) ∙ kept.lie b),
         )
