@@ -252,7 +252,7 @@ const UNDONE_AND_REDONE: &str = r#"
 pub const SCRIPTS: [Script; 16] = [
     ("", UNDONE_AND_REDONE, 6, 44),
     (OPENING, REFUSED, 2, 10),
-    (OPENING, SIZES, 3, 13),
+    (OPENING, SIZES, 3, 16),
     (OPENING, REFUSALS_OF_UNDO_AND_REDO, 3, 19),
     (OPENING, UNDER_ARRAYS, 3, 24),
     (OPENING, EARLIER_SET, 5, 14),
