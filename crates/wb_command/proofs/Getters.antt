@@ -9,7 +9,7 @@ use Rattle.clap.specs.declared.parser.matches.Found.{Found}
 use Rattle.clap.proofs.WalkLemmas.{one_text-rows}
 use Rattle.wb_command.specs.Asks.{HasNumber, HasWorkers, Means, Writes, is_set}
 use Rattle.wb_command.specs.declared.Asked.{Asked}
-use Rattle.wb_command.specs.declared.Asked.TheVariants.{Run, Check, Serve}
+use Rattle.wb_command.specs.declared.Asked.TheVariants.{Run, Check, Upgrade, Serve}
 
 some≢none : {X : Type 0} (x : X) → Some x ≡ None → ⊥
 some≢none x e = true≢false (ap is_some e)
@@ -105,6 +105,7 @@ module _ (E : Type 0) where
 pub run_alone : (found : List Row) → ((n : ℕ) → HasWorkers found n → ⊥) → (asked : Asked) → Means (codes "run") found asked → ⊥
 run_alone found none (Run resume workers) m = none workers m.2
 run_alone found none Check m = absurd (true≢false (ap (bytes_eq (codes "run")) m))
+run_alone found none Upgrade m = absurd (true≢false (ap (bytes_eq (codes "run")) m))
 run_alone found none (Serve port seats resume workers) m = absurd (true≢false (ap (bytes_eq (codes "run")) m.0))
 
 -- `serve` means nothing where one of its numbers was not found
@@ -113,4 +114,5 @@ pub serve_alone : (found : List Row) → ((port seats workers : ℕ) → HasNumb
     → (asked : Asked) → Means (codes "serve") found asked → ⊥
 serve_alone found none (Run resume workers) m = absurd (true≢false (ap (bytes_eq (codes "serve")) m.0))
 serve_alone found none Check m = absurd (true≢false (ap (bytes_eq (codes "serve")) m))
+serve_alone found none Upgrade m = absurd (true≢false (ap (bytes_eq (codes "serve")) m))
 serve_alone found none (Serve port seats resume workers) m = none port seats workers m.1 m.2 m.4

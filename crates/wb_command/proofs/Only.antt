@@ -4,7 +4,7 @@ use Rattle.std.specs.Prelude.{Result, Ok, Err, IfOk, IfErr, MatchResult, IsSomeA
 use Rattle.clap.specs.Words.{IsAmong, Row, Text, one_of, subcommand_of}
 use Rattle.wb_command.specs.Asks.{Asks, HasNumber, HasWorkers, IsMeant, Means, Refuses, Writes, program}
 use Rattle.wb_command.specs.declared.Asked.{Asked}
-use Rattle.wb_command.specs.declared.Asked.TheVariants.{Run, Check, Serve}
+use Rattle.wb_command.specs.declared.Asked.TheVariants.{Run, Check, Upgrade, Serve}
 use Rattle.wb_command.specs.declared.CommandErr.{CommandErr}
 use Rattle.wb_command.specs.declared.CommandErr.TheVariants.{Help, BadCommandLine, NoMemory}
 
@@ -32,12 +32,19 @@ apart a b name differ same is_a is_b = true≢false (sym same ∙ ap (bytes_eq a
 one_meaning : (name : Text) (found : List Row) (a b : Asked) → Means name found a → Means name found b → a ≡ b
 one_meaning name found (Run r w) (Run s v) m n = ap₂ Run (m.1 ∙ sym n.1) (one_workers found w v m.2 n.2)
 one_meaning name found (Run r w) Check m n = absurd (apart (codes "run") (codes "check") name refl refl m.0 n)
+one_meaning name found (Run r w) Upgrade m n = absurd (apart (codes "run") (codes "upgrade") name refl refl m.0 n)
 one_meaning name found (Run r w) (Serve p t s v) m n = absurd (apart (codes "run") (codes "serve") name refl refl m.0 n.0)
 one_meaning name found Check (Run s v) m n = absurd (apart (codes "check") (codes "run") name refl refl m n.0)
 one_meaning name found Check Check m n = refl
+one_meaning name found Check Upgrade m n = absurd (apart (codes "check") (codes "upgrade") name refl refl m n)
 one_meaning name found Check (Serve p t s v) m n = absurd (apart (codes "check") (codes "serve") name refl refl m n.0)
+one_meaning name found Upgrade (Run s v) m n = absurd (apart (codes "upgrade") (codes "run") name refl refl m n.0)
+one_meaning name found Upgrade Check m n = absurd (apart (codes "upgrade") (codes "check") name refl refl m n)
+one_meaning name found Upgrade Upgrade m n = refl
+one_meaning name found Upgrade (Serve p t s v) m n = absurd (apart (codes "upgrade") (codes "serve") name refl refl m n.0)
 one_meaning name found (Serve p t r w) (Run s v) m n = absurd (apart (codes "serve") (codes "run") name refl refl m.0 n.0)
 one_meaning name found (Serve p t r w) Check m n = absurd (apart (codes "serve") (codes "check") name refl refl m.0 n)
+one_meaning name found (Serve p t r w) Upgrade m n = absurd (apart (codes "serve") (codes "upgrade") name refl refl m.0 n)
 one_meaning name found (Serve p t r w) (Serve q u s v) m n =
     ap₂ (λ port seats. Serve port seats r w) (one_number 16 (codes "port") found p q m.1 n.1) (one_number 8 (codes "seats") found t u m.2 n.2)
     ∙ ap₂ (Serve q u) (m.3 ∙ sym n.3) (one_workers found w v m.4 n.4)

@@ -12,7 +12,7 @@ use Rattle.clap.specs.declared.error.Error.{Error}
 use Rattle.clap.specs.declared.error.kind.ErrorKind.{ErrorKind}
 use Rattle.clap.specs.declared.error.kind.ErrorKind.TheVariants.{DisplayHelp, DisplayVersion, OutOfMemory}
 use Rattle.wb_command.specs.declared.Asked.{Asked}
-use Rattle.wb_command.specs.declared.Asked.TheVariants.{Run, Check, Serve}
+use Rattle.wb_command.specs.declared.Asked.TheVariants.{Run, Check, Upgrade, Serve}
 use Rattle.wb_command.specs.declared.CommandErr.{CommandErr}
 use Rattle.wb_command.specs.declared.CommandErr.TheVariants.{Help, BadCommandLine, NoMemory}
 
@@ -53,12 +53,15 @@ run_command = command (codes "run") (resume_option ∷ workers_option ∷ [])
 abbrev pub check_command : Shape
 check_command = command (codes "check") []
 
+abbrev pub upgrade_command : Shape
+upgrade_command = command (codes "upgrade") []
+
 abbrev pub serve_command : Shape
 serve_command = command (codes "serve") (port_option ∷ seats_option ∷ resume_option ∷ workers_option ∷ [])
 
 -- the commands of the program: one more is a line here and a line of `Means`
 abbrev pub commands : List Shape
-commands = run_command ∷ check_command ∷ serve_command ∷ []
+commands = run_command ∷ check_command ∷ upgrade_command ∷ serve_command ∷ []
 
 -- the program: it has a version, and one of its commands has to be named
 abbrev pub program : App
@@ -91,6 +94,7 @@ abbrev pub Means : Text → List Row → Asked → Type 0
 Means name found (Run resume workers) =
     (name ≡ codes "run") × (resume ≡ is_set (codes "resume") found) × HasWorkers found workers
 Means name found Check = name ≡ codes "check"
+Means name found Upgrade = name ≡ codes "upgrade"
 Means name found (Serve port seats resume workers) = (name ≡ codes "serve") × HasNumber 16 (codes "port") found port
     × HasNumber 8 (codes "seats") found seats × (resume ≡ is_set (codes "resume") found) × HasWorkers found workers
 

@@ -19,6 +19,9 @@ const RUN_EXAMPLE: &str = "Example:\n  workbook run < examples/first_run.jsonl";
 const CHECK_EXAMPLE: &str =
     "Example:\n  printf 'chapel-workbook 1\\nrect D {1..4} none\\nend\\n' | workbook check";
 
+const UPGRADE_EXAMPLE: &str =
+    "Example:\n  printf 'chapel-workbook 1\\nrect D {1..4} none\\nend\\n' | workbook upgrade";
+
 const SERVE_EXAMPLE: &str = "Example:\n  workbook serve --port 7000 --seats 2";
 
 /// What the words of a command line ask for. Arrays are moved by 1 to 64 workers; 1 is the program's own thread.
@@ -31,6 +34,8 @@ pub enum Asked {
     },
     /// Whether standard input is the text of a workbook or of a history.
     Check,
+    /// The text of the history whose one edit is the load of the workbook text on standard input.
+    Upgrade,
     /// A desk of 1 to 16 seats on a port, or on any port where that is 0; perhaps on the history whose text is standard
     /// input.
     Serve {
@@ -81,17 +86,13 @@ fn told(error: clap::Error) -> CommandErr
 fn program<'a>(alloc: Global) -> Result<Command<'a>, AllocError>
     ensures { IfOk result (λ command. app_of command ≡ spec.program) }
 {
-    let check = Command::new(alloc, "check")
-        .about(
-            "Tells whether standard input is the text of a workbook or of a history, and how much it has",
-        )
-        .after_help(CHECK_EXAMPLE);
     Command::new(alloc, "workbook")
         .about("A shared workbook of whole-number arrays with selective undo")
         .version(VERSION)
         .subcommand_required(true)
         .subcommand(run_command(alloc)?)?
-        .subcommand(check)?
+        .subcommand(check_command(alloc))?
+        .subcommand(upgrade_command(alloc))?
         .subcommand(serve_command(alloc)?)
 }
 
@@ -105,6 +106,26 @@ fn run_command<'a>(alloc: Global) -> Result<Command<'a>, AllocError>
         .after_help(RUN_EXAMPLE)
         .arg(resume_flag(alloc))?
         .arg(workers_option(alloc))
+}
+
+// The command `check`.
+fn check_command<'a>(alloc: Global) -> Command<'a>
+    ensures { (shape_of result ≡ spec.check_command) × ((fields_of result).has_globals ≡ false) }
+{
+    Command::new(alloc, "check")
+        .about(
+            "Tells whether standard input is the text of a workbook or of a history, and how much it has",
+        )
+        .after_help(CHECK_EXAMPLE)
+}
+
+// The command `upgrade`.
+fn upgrade_command<'a>(alloc: Global) -> Command<'a>
+    ensures { (shape_of result ≡ spec.upgrade_command) × ((fields_of result).has_globals ≡ false) }
+{
+    Command::new(alloc, "upgrade")
+        .about("Makes the text of a workbook the text of a history, whose one edit loads it")
+        .after_help(UPGRADE_EXAMPLE)
 }
 
 // The command `serve` with its options.
@@ -181,6 +202,7 @@ fn meant(name: &str, found: &ArgMatches) -> Option<Asked>
     match name {
         "run" => run_of(found),
         "check" => Some(Asked::Check),
+        "upgrade" => Some(Asked::Upgrade),
         "serve" => serve_of(found),
         _ => None,
     }

@@ -10,7 +10,7 @@ use std::test::Fail;
 use wb_history::History;
 use wb_proto::{answer_request, read_request};
 use wb_redist::{Mover, OneThread};
-use wb_shared::{Desk, Opening, settle};
+use wb_shared::{Desk, DeskErr, Opening, settle};
 
 // A history of one edit, the set N.
 fn with_set<M: Mover>(alloc: Global, mover: &M) -> Option<History> {
@@ -49,6 +49,19 @@ fn undone<L: Opening, R: Wait, M: Mover>(
     }
 }
 
+// How many edits the history has that comes back from a desk of 17 seats, and why there is none.
+fn of_17_seats<L: Opening>(alloc: Global, blank: Blank, history: History) -> Option<(u64, DeskErr)>
+    requires name { blank.name ≡ L.name }
+    requires parts { blank.parts ≡ L.parts }
+    requires sixteen { blank.parts ≡ 16 }
+    requires opening { L.opening ≡ history }
+{
+    match Desk::<L>::open_at(alloc, blank, 17, history) {
+        Ok(_) => None,
+        Err((back, why)) => Some((back.len(), why)),
+    }
+}
+
 #[test]
 fn opened_at_a_history(rt: HostRuntime) -> Result<(), Fail> {
     let alloc = rt.alloc();
@@ -63,6 +76,18 @@ fn opened_at_a_history(rt: HostRuntime) -> Result<(), Fail> {
             &alone,
         ),
         Ok((2, 1))
+    );
+    Ok(())
+}
+
+#[test]
+fn no_desk_of_17_seats(rt: HostRuntime) -> Result<(), Fail> {
+    let alloc = rt.alloc();
+    let alone: OneThread<&HostRuntime> = OneThread::new();
+    let history = with_set(alloc, &alone).ok_or("history")?;
+    assert_eq!(rt;
+        of_17_seats::<Brand>(alloc, Blank::new(16), history),
+        Some((1, DeskErr::BadSeats))
     );
     Ok(())
 }

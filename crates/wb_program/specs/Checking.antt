@@ -54,6 +54,10 @@ status_of_verdict Refused = 1
 abbrev pub IsFault : ℕ → Type 0
 IsFault status = (status ≡ 3) ⊎ (status ≡ 4)
 
+-- a text was printed, with status 0; or a front of it, at a fault
+abbrev pub IsPrinted : List ℕ → ℕ → List ℕ → Type 0
+IsPrinted whole status text = ((status ≡ 0) × (text ≡ whole)) ⊎ (IsFault status × ((count : ℕ) × (text ≡ take count whole)))
+
 -- a verdict was printed, with its status; or a front of it, at a fault
 abbrev pub Says : Verdict → ℕ → List ℕ → Type 0
 Says verdict status text = ((status ≡ status_of_verdict verdict) × (text ≡ verdict_text verdict))

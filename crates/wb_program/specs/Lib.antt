@@ -1,4 +1,5 @@
 pub mod Running
 pub mod Checking
 pub mod Resuming
+pub mod Upgrading
 pub mod Serving

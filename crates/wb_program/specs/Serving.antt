@@ -1,5 +1,5 @@
 -- What a connection at a desk is written, and what the program prints once a desk is settled.
-use Rattle.std.specs.Prelude.{◌≡◌, ◌⊎◌, ℕ, Bool, true, false, List, [], ◌++◌, codes, decimal, length, take, Result, Ok, Err}
+use Rattle.std.specs.Prelude.{◌≡◌, ◌⊎◌, ℕ, Bool, true, false, List, [], ◌++◌, codes, decimal, length, Result, Ok, Err}
 use Rattle.selective_undo.specs.History.{replay}
 use Rattle.wb_history.specs.Past.{Past, Numbered, meant}
 use Rattle.wb_log.specs.declared.refusal.Refusal.{Refusal}
@@ -14,7 +14,7 @@ use Rattle.wb_shared.specs.Seats.{IsNumberOfSeats}
 use Rattle.wb_journal.specs.Serving.{Held, own_after, share_after, AnswersSome}
 use Rattle.wb_text.specs.Lines.{book_text}
 use Rattle.wb_encode.specs.Text.{history_text}
-use Rattle.wb_program.specs.Checking.{IsFault}
+use Rattle.wb_program.specs.Checking.{IsFault, IsPrinted}
 
 -- a pass after a reply to its request
 abbrev pub held_after : Held → Request → Reply → Held
@@ -46,8 +46,7 @@ settled_text whole c = codes "settled " ++ (decimal (length c.entries) ++ (codes
 
 -- That was printed of a course, with status 0; or a front of it, at a fault.
 abbrev pub PrintsSettled : Bool → Course → ℕ → List ℕ → Type 0
-PrintsSettled whole c status text = ((status ≡ 0) × (text ≡ settled_text whole c))
-    ⊎ (IsFault status × ((count : ℕ) × (text ≡ take count (settled_text whole c))))
+PrintsSettled whole c status text = IsPrinted (settled_text whole c) status text
 
 -- No desk was opened or settled, and nothing was printed: there can be no desk of so many seats, or there was a fault.
 abbrev pub NeverSettles : ℕ → ℕ → List ℕ → Type 0

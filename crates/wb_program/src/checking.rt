@@ -3,7 +3,7 @@
 ghost use Rattle.std.specs.Prelude.{◌≡◌, ℕ, List, true, IfOk, string_bytes};
 ghost use Rattle.std.specs.Io.KnownBytes.{Appends, Consumes, IsAtEnd};
 ghost use Rattle.wb_reading.specs.Reading.{IsNoBook};
-ghost use Rattle.wb_program.specs.Checking.{IsVerdict, verdict_text, status_of_verdict, Says, Judges, IsAnswered};
+ghost use Rattle.wb_program.specs.Checking.{IsVerdict, verdict_text, status_of_verdict, IsPrinted, Says, Judges, IsAnswered};
 ghost use Rattle.wb_program.specs.Running.{HasFailed};
 
 use crate::running::{DONE, INPUT_OR_OUTPUT_FAILED, NO_MEMORY};
@@ -85,6 +85,21 @@ pub fn status_of_verdict(verdict: Verdict) -> u8
         Verdict::Workbook(_) | Verdict::History(_, _) => DONE,
         Verdict::Refused => REFUSED,
     }
+}
+
+/// Prints a text: the exit status.
+pub(crate) fn tell<W: Sink>(whole: &str, writer: &mut W) -> u8
+    ensures told { (text : List ℕ) × Appends (W.contents writer.old) (W.contents writer.new) text × IsPrinted whole.now result text }
+    ensures flushed { result ≡ 0 → W.flushed writer.new ≡ true }
+    ensures failed { result ≡ 3 → W.failed writer.new ≡ true }
+{
+    if send(writer, whole.as_bytes()).is_err() {
+        return INPUT_OR_OUTPUT_FAILED;
+    }
+    if writer.flush().is_err() {
+        return INPUT_OR_OUTPUT_FAILED;
+    }
+    DONE
 }
 
 /// Prints a verdict: the exit status.

@@ -1,5 +1,6 @@
-//! What the program does: a session on an empty workbook or from the text of a history, the judging of a text, and a desk on
-//! connections, each over a reader and a writer, each with the exit status that comes of it.
+//! What the program does: a session on an empty workbook or from the text of a history, the judging of a text, the
+//! text of a workbook made that of a history, and a desk on connections, each over a reader and a writer, each with the exit
+//! status that comes of it.
 #![tactic(auto)]
 
 mod checking;
@@ -8,6 +9,7 @@ mod resuming;
 mod running;
 mod seat;
 mod serving;
+mod upgrading;
 
 pub use crate::checking::{REFUSED, Verdict, check_with, status_of_verdict, verdict_on};
 pub use crate::put_back::PutBack;
@@ -17,3 +19,4 @@ pub use crate::running::{
 };
 pub use crate::seat::serve_seat;
 pub use crate::serving::{serve_history, serve_on};
+pub use crate::upgrading::upgrade_with;

@@ -5,7 +5,8 @@ ghost use Rattle.wb_shared.specs.Openings.{nothing_done};
 ghost use Rattle.wb_program.specs.Checking.{IsFault};
 ghost use Rattle.wb_program.specs.Serving.{shown, settled_text, PrintsSettled, EndsDay};
 
-use crate::running::{BAD_COMMAND_LINE, DONE, INPUT_OR_OUTPUT_FAILED, NO_MEMORY};
+use crate::checking::tell;
+use crate::running::{BAD_COMMAND_LINE, INPUT_OR_OUTPUT_FAILED, NO_MEMORY};
 use crate::seat::serve_seat;
 use std::alloc::Global;
 use std::io::BufWriter;
@@ -17,7 +18,7 @@ use std::thread;
 use std::thread::Threads;
 use wb_encode::print_history;
 use wb_history::History;
-use wb_lines::{Input, Output, Sink, send};
+use wb_lines::{Input, Output, Sink};
 use wb_range::NoMemory;
 use wb_redist::Mover;
 use wb_shared::{Desk, DeskErr, Opening, Pass, Shared, settle};
@@ -131,13 +132,7 @@ fn print_settled<L: Opening, W: Sink>(
         Ok(text) => text,
         Err(NoMemory) => return NO_MEMORY,
     };
-    if send(writer, text.as_bytes()).is_err() {
-        return INPUT_OR_OUTPUT_FAILED;
-    }
-    if writer.flush().is_err() {
-        return INPUT_OR_OUTPUT_FAILED;
-    }
-    DONE
+    tell(text.as_str(), writer)
 }
 
 // A day of a desk: opened, served and settled. The exit status.

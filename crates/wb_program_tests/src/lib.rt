@@ -1,4 +1,5 @@
-//! Runs of the program, as tests: its command line, a session, texts of workbooks and of none, and seats on connections.
+//! Runs of the program, as tests: its command line, a session, texts of workbooks and of none, texts made those of histories, and
+//! seats on connections.
 //!
 //! They are the tests of `wb_command` and `wb_program`. A crate with tests is proved twice, so these crates have none of
 //! their own.
@@ -12,3 +13,5 @@ mod records;
 mod runs;
 #[cfg(test)]
 mod texts;
+#[cfg(test)]
+mod upgrades;

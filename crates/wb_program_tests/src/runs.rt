@@ -40,6 +40,9 @@ workbook run --workers 65 -> bad command line
 workbook run --workers -> bad command line
 workbook check --workers 2 -> bad command line
 workbook check -> Check
+workbook upgrade -> Upgrade
+workbook upgrade --resume -> bad command line
+workbook upgrade saved -> bad command line
 workbook -> bad command line
 workbook walk -> bad command line
 workbook run --fast -> bad command line

@@ -29,16 +29,48 @@ end
 "#;
 
 // Parts of that text, and what stands in their place in texts of no history.
-const DAMAGED: [(&str, &str); 14] = [
+const DAMAGED: [(&str, &str); 43] = [
+    ("chapel-workbook 2", "chapel-workbook 1"),
+    ("chapel-workbook 2", "chapel-workbook 3"),
+    ("chapel-workbook 2", " chapel-workbook 2"),
+    ("chapel-workbook 2\n", ""),
+    ("2\n", "2\r\n"),
+    ("2\n", "2\n\n"),
+    ("array A over D [0, 0, 0, 0]\n", ""),
+    ("0]", "9]"),
+    ("rect D {1..4} none\n", ""),
+    (
+        "rect D {1..4} none\n",
+        "rect D {1..4} none\nrect D {1..4} none\n",
+    ),
+    (
+        "array A over D [0, 0, 0, 0]\nrect D {1..4} none\n",
+        "rect D {1..4} none\narray A over D [0, 0, 0, 0]\n",
+    ),
+    ("4} none", "4 } none"),
+    ("history 3", "history 2"),
+    ("history 3", "history 03"),
+    ("history 3", "history 4"),
+    ("history 3", "history -3"),
+    ("history 3", "History 3"),
+    ("history 3\n", ""),
     ("- ", "+ "),
     ("- ", "* "),
     ("- ", "-  "),
-    ("history 3", "history 2"),
-    ("history 3", "history 03"),
-    ("array A over D [0, 0, 0, 0]\n", ""),
-    ("0]", "9]"),
-    ("4} none", "4 } none"),
+    ("- ", "-"),
+    ("- ", ""),
+    ("+ {\"d\"", "- {\"d\""),
+    (",\"map\":\"none\"", ""),
+    ("\"{1..4}\"", "\"{ 1..4}\""),
+    ("\"{1..4}\"", "\"{1..#4}\""),
+    ("\"i\":4", "\"i\":04"),
+    ("\"i\":4", "\"i\":[4]"),
     ("\"v\":9", "\"v\": 9"),
+    ("\"v\":9", "\"v\":9.0"),
+    ("\"v\":9", "\"v\":9,\"v\":9"),
+    ("\"v\":9", "\"v\":9,\"w\":9"),
+    ("\"set\"", "\"sets\""),
+    ("\"set\"", "\"s\\u0065t\""),
     (
         "{\"a\":\"A\",\"i\":4,\"op\":\"set\",\"v\":9}",
         "{\"op\":\"set\",\"a\":\"A\",\"i\":4,\"v\":9}",
@@ -51,8 +83,11 @@ const DAMAGED: [(&str, &str); 14] = [
         "- {\"a\":\"A\",\"i\":4,\"op\":\"set\",\"v\":9}",
         "+ {\"a\":\"Z\",\"op\":\"drop_array\"}",
     ),
+    ("- {\"a\":\"A\",\"i\":4,\"op\":\"set\",\"v\":9}\n", ""),
     ("end\n", "end"),
     ("end\n", "end\n\n"),
+    ("end\n", "End\n"),
+    ("end\n", ""),
 ];
 
 // Whether a text is that of no history where another part stands in the place of one.

@@ -13,7 +13,7 @@ use wb_history::History;
 use wb_lines::{Input, Output};
 use wb_program::{
     BAD_COMMAND_LINE, DONE, INPUT_OR_OUTPUT_FAILED, NO_MEMORY, PutBack, check_with, history_from,
-    resume_with, run_with, serve_history, serve_on,
+    resume_with, run_with, serve_history, serve_on, upgrade_with,
 };
 use wb_redist::{Mover, OneThread, Open, Workers};
 
@@ -77,6 +77,7 @@ fn workers_of(asked: &Asked) -> usize {
     match asked {
         Asked::Run { workers, .. } => *workers as usize,
         Asked::Check => 1,
+        Asked::Upgrade => 1,
         Asked::Serve { workers, .. } => *workers as usize,
     }
 }
@@ -90,6 +91,7 @@ fn do_asked<
         Asked::Run { resume: false, .. } => run(rt, mover),
         Asked::Run { resume: true, .. } => resume(rt, mover),
         Asked::Check => check(rt, mover),
+        Asked::Upgrade => upgrade(rt, mover),
         Asked::Serve {
             port,
             seats,
@@ -124,6 +126,14 @@ fn check<M: Mover>(rt: &HostRuntime, mover: &M) -> io::Result<u8> {
     let mut input = Input::new(rt.stdin());
     let mut output = Output::new(BufWriter::new(alloc, rt.stdout())?);
     Ok(check_with(alloc, &mut input, &mut output, mover))
+}
+
+// The text of a history of the workbook whose text is standard input.
+fn upgrade<M: Mover>(rt: &HostRuntime, mover: &M) -> io::Result<u8> {
+    let alloc = rt.alloc();
+    let mut input = Input::new(rt.stdin());
+    let mut output = Output::new(BufWriter::new(alloc, rt.stdout())?);
+    Ok(upgrade_with(alloc, &mut input, &mut output, mover))
 }
 
 // The history that a desk opens with: none, or the one whose text is standard input; or the exit status where that is none's.
