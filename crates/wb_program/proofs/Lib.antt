@@ -1,3 +1,4 @@
 pub mod Statuses
 pub mod Opening
 pub mod Loading
+pub mod Sent

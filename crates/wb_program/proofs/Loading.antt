@@ -1,5 +1,5 @@
 -- The load of a workbook's text is accepted where there is nothing yet, and makes that workbook.
-use Rattle.std.proofs.Common.{◌≡◌, ℕ, zero, suc, true, List, [], ◌∷◌, Some, is_some, Ok, IsOk, slice_get, refl, sym, ap, subst, ◌∙◌}
+use Rattle.std.proofs.Common.{◌≡◌, ℕ, zero, suc, Bool, true, List, [], ◌∷◌, Some, is_some, Result, Ok, Err, IsOk, OnOk, slice_get, refl, sym, ap, subst, ◌∙◌}
 use Rattle.std.specs.FinMap.{empty, get-empty}
 use Rattle.std.specs.FinMap.Entries.{where_key}
 use Rattle.selective_undo.specs.Edit.{Trace, outcome, seen, trace, write, written}
@@ -12,12 +12,18 @@ use Rattle.wb_edit.specs.Commands.{book_cells, load}
 use Rattle.wb_edit.specs.Looks.{judged}
 use Rattle.wb_edit.specs.Objects.{is_empty}
 use Rattle.wb_edit.specs.Schema.{workbook}
+use Rattle.wb_edit.specs.declared.edit.Edit.{Edit}
+use Rattle.wb_edit.specs.declared.edit.Edit.TheVariants.{Load}
 use Rattle.wb_edit.proofs.Loading.{becomes}
-use Rattle.wb_history.specs.Past.{meant}
-use Rattle.wb_record.specs.Text.{AreProper, AreSaid}
+use Rattle.wb_history.specs.Past.{Numbered, meant}
+use Rattle.wb_history.specs.Restored.{RestoreReply, marked}
+use Rattle.wb_history.specs.declared.restore.RestoreErr.{RestoreErr}
+use Rattle.wb_history.specs.declared.restore.RestoreErr.TheVariants.{NotLegal}
+use Rattle.wb_record.specs.Text.{AreProper, AreSaid, history_text}
 use Rattle.wb_reading.specs.Texts.Books.{IsBookText, book_in, cells_in, is_book_text}
 use Rattle.wb_reading.proofs.Texts.Back.{book_back, cells_back}
-use Rattle.wb_program.specs.Upgrading.{loaded, IsUpgraded}
+use Rattle.wb_program.specs.Checking.{IsPrinted}
+use Rattle.wb_program.specs.Upgrading.{loaded, IsUpgraded, Prints}
 
 -- ---- in the empty workbook
 
@@ -52,3 +58,22 @@ is_upgraded text h said = record {
   is_history = (load_legal text, said ((tt, (is_text text h, tt)), tt));
   same_workbook = made text ∙ cells_back text h;
 }
+
+-- where the text of the history of the load was printed
+pub when_printed : {A E : Type 0} (text : List ℕ) (es : List Numbered) (r : Result A E) → IsBookText text → es ≡ loaded text
+    → OnOk r (AreProper es → AreSaid es) → OnOk r (IsUpgraded text)
+when_printed text es (Ok a) h same said = is_upgraded text h (subst (λ es. AreProper es → AreSaid es) same said)
+when_printed text es (Err e) h same said = tt
+
+-- the list of that edit alone has a history
+pub no_other : (text : List ℕ) (es : List (Edit × Bool)) (why : RestoreErr) → es ≡ (Load text, true) ∷ [] → why ≡ NotLegal
+    → RestoreReply (marked es) (Err why) → ⊥
+no_other text es why same is reply =
+    let told : IsLegal (meant (marked es)) → ⊥ = subst (λ w. RestoreReply (marked es) (Err w)) is reply in
+    told (subst (λ l. IsLegal (meant (marked l))) (sym same) (load_legal text))
+
+-- what was printed is the text of the history of the load of what was read
+pub prints : (read bytes whole told text : List ℕ) (status : ℕ) → bytes ≡ read → whole ≡ history_text (loaded bytes) → told ≡ whole
+    → IsPrinted told status text → Prints read status text
+prints read bytes whole told text status same is told_is h =
+    subst (λ w. IsPrinted w status text) (told_is ∙ is ∙ ap (λ b. history_text (loaded b)) same) h
