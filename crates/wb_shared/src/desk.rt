@@ -34,20 +34,10 @@ pub enum DeskErr {
 // How often a thread looks for the lock before it sleeps.
 const LOOKS: u32 = 1_000;
 
-// How many turns it waits at the most between two looks. Each look takes the lock's cache line from the thread that works.
-const LONGEST_PAUSE: u32 = 32;
-
 /// A workbook that several seats share.
 #[derive(Drop)]
 pub struct Desk<L: Opening> {
     shared: Mutex<Shared<L>>,
-}
-
-// Waits so many turns.
-fn pause(turns: u32) {
-    for _ in 0..turns {
-        spin_loop();
-    }
 }
 
 // A pass for each of so many seats, each with a part of a share.
@@ -130,15 +120,11 @@ impl<L: Opening> Desk<L> {
 
     // Takes the lock. One request is answered sooner than a thread that sleeps is woken, so it looks a while before it sleeps.
     fn taken<R: Wait>(&self, rt: &R) -> MutexGuard<'_, Shared<L>> {
-        let mut turns = 1u32;
         for _ in 0..LOOKS {
             if let Some(guard) = self.shared.try_lock() {
                 return guard;
             }
-            pause(turns);
-            if turns < LONGEST_PAUSE {
-                turns = turns.saturating_mul(2);
-            }
+            spin_loop();
         }
         self.shared.lock(rt)
     }
