@@ -62,7 +62,7 @@ fn push_edits(alloc: Global, out: &mut String, history: &History) -> Result<(), 
 {
     for before in 0..history.len() {
         match history.edit_at(before + 1) {
-            Some((edit, in_force)) => push_edit(alloc, out, edit, in_force)?,
+            Some((edit, in_force)) => push_edit(alloc, out, edit.as_edit(), in_force)?,
             None => unreachable!(),
         }
     }

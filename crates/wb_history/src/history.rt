@@ -4,6 +4,7 @@ ghost use Rattle.wb_book.specs.Cells.{written_more};
 ghost use Rattle.wb_edit.specs.Commands.{meaning};
 ghost use Rattle.wb_log.specs.Cascades.{DependentsReply, CascadeReply, OfNumber, NoShorter, all_out_of_force, places, set_back};
 ghost use Rattle.wb_log.specs.Past.{meant, out_of_force, into_force, force_of};
+ghost use Rattle.wb_log.specs.Records.{lent_edit};
 ghost use Rattle.wb_log.specs.Replies.{EditReply, UndoReply, LastReply, RedoReply, ByNumber, SetsBack, LeavesOthers, Restores, RedoesInPlace};
 ghost use Rattle.wb_history.specs.Queries.{QueryReply};
 ghost use Rattle.wb_history.specs.Restored.{one_of, numbered_at};
@@ -15,7 +16,7 @@ use crate::reduction::reduce_answer;
 use std::alloc::Global;
 use std::marker::Model;
 use wb_edit::Edit;
-use wb_log::{Entry, Index, Refusal, steps};
+use wb_log::{Index, LentEdit, Record, Refusal, steps};
 use wb_range::NoMemory;
 use wb_redist::Mover;
 use wb_shelf::Book;
@@ -25,7 +26,7 @@ use wb_shelf::Book;
 pub struct History {
     alloc: Global,
     book: Book,
-    entries: Vec<Entry>,
+    entries: Vec<Record>,
     index: Index,
 }
 
@@ -228,12 +229,12 @@ impl History {
         if at >= self.entries.len() {
             return None;
         }
-        Some(self.entries[at].kept.is_some())
+        Some(self.entries[at].is_in_force())
     }
 
     /// The edit of a number, and whether it is in force; none where no edit has the number.
-    pub fn edit_at(&self, number: u64) -> Option<(&Edit, bool)>
-        ensures { option_map (λ x. one_of x.0.now x.1) result ≡ numbered_at self.now.entries number }
+    pub fn edit_at(&self, number: u64) -> Option<(LentEdit<'_>, bool)>
+        ensures { option_map (λ x. one_of (lent_edit x.0) x.1) result ≡ numbered_at self.now.entries number }
     {
         if number == 0 {
             return None;
@@ -243,7 +244,7 @@ impl History {
             return None;
         }
         let entry = &self.entries[at];
-        Some((&entry.edit, entry.kept.is_some()))
+        Some((entry.edit(), entry.is_in_force()))
     }
 
     /// Takes an edit in as the last one, out of force: nothing is tried or made.
@@ -253,7 +254,7 @@ impl History {
         ensures err { OnErr result (self.new ≡ self.old) }
     {
         aside.validity();
-        steps::aside::keep_aside(&mut self.entries, aside)
+        steps::aside::keep_aside(self.alloc, &mut self.entries, aside)
     }
 
     /// What a query is answered, from the workbook as it is; `NoMemory` may stand for a piece, and for nothing else. A

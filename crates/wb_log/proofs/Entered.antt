@@ -33,9 +33,6 @@ kept_here es k x is = rw add-one (there es k x is)
 pub no_kept : (es : List kept.Entry) (k : ℕ) (x : kept.Entry) → slice_get es k ≡ Some x → x.kept ≡ None → by_number es (k + 1) ≡ None
 no_kept es k x is off = kept_here es k x is ∙ ap (λ o. kept_in (record { edit = x.edit; kept = o })) off
 
-pub kept_with : (x : kept.Entry) (o : Option Kept) (k : Kept) (rs : List Pattern) (bs : Changes) → o ≡ x.kept → o ≡ Some k → rs ≡ k.foot → bs ≡ k.inverse → kept_in x ≡ Some (foot rs bs)
-kept_with x o k rs bs same is reads before = ap (option_map (λ k. foot k.foot k.inverse)) (sym same ∙ is) ∙ sym (ap (λ qs. Some (foot qs bs)) reads ∙ ap (λ cs. Some (foot k.foot cs)) before)
-
 kept_length : (es : List kept.Entry) → length (kept_all es) ≡ length es
 kept_length [] = refl
 kept_length (x ∷ es) = ap (λ (n : ℕ). suc n) (kept_length es)

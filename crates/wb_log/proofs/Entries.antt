@@ -39,11 +39,11 @@ kept-log (x ∷ es) = ap (λ os. kept_in x ∷ os) (kept-log es)
 pub log_at : (es : List kept.Entry) (k : ℕ) (x : kept.Entry) → slice_get es k ≡ Some x → slice_get (log es) k ≡ Some (logged x)
 log_at es k x is = get-map logged es k ∙ ap (option_map logged) is
 
-pub refusal_is : (es : List kept.Entry) (at : ℕ) (x : kept.Entry) (k : Kept) (bs : Changes) (o : Option ℕ) → x.kept ≡ Some k → bs ≡ k.inverse
+pub refusal_is : (es : List kept.Entry) (at : ℕ) (x : kept.Entry) (f : Foot workbook) (bs : Changes) (o : Option ℕ) → kept_in x ≡ Some f → bs ≡ f.before
     → o ≡ first_from (blocks_undo bs) (at + 2) (drop (at + 1) (kept_all es)) → option_map Blocked o ≡ undo_blocker es at (kept_in x)
-refusal_is es at x k bs o has same is =
+refusal_is es at x f bs o has same is =
     ap (option_map Blocked) (is ∙ ap (λ cs. first_from (blocks_undo cs) (at + 2) (drop (at + 1) (kept_all es))) same)
-    ∙ sym (ap (λ o. undo_blocker es at (option_map (λ k. foot k.foot k.inverse) o)) has)
+    ∙ sym (ap (undo_blocker es at) has)
 
 none_of : (o : Option ℕ) → None ≡ option_map Blocked o → o ≡ None
 none_of None e = refl

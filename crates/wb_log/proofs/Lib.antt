@@ -1,4 +1,5 @@
 pub mod Entries
+pub mod Elements
 pub mod Redone
 pub mod Latest
 pub mod Valid

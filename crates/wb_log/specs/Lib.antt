@@ -2,5 +2,6 @@ pub mod Past
 pub mod Replies
 pub mod Cascades
 pub mod Kept
+pub mod Records
 pub mod Needed
 pub mod Indexed

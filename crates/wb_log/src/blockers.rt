@@ -9,7 +9,7 @@ ghost use Rattle.wb_book.specs.Cells.{cell_cmp};
 ghost use Rattle.wb_edit.specs.Schema.{workbook};
 ghost use Rattle.wb_log.specs.Kept.{foot, kept_in, kept_all};
 
-use crate::entry::Entry;
+use crate::entry::Record;
 use wb_book::{Cell, CellChange, Pattern};
 
 fn is_changed(wrote: &[CellChange], cell: &Cell) -> bool
@@ -37,31 +37,31 @@ fn meets_any(reads: &[Pattern], wrote: &[CellChange], cells: &[CellChange]) -> b
     cells.iter().any(|x| meets(reads, wrote, &x.cell()))
 }
 
-fn blocks_undo(x: &Entry, before: &[CellChange]) -> bool
+fn blocks_undo(x: &Record, before: &[CellChange]) -> bool
     ensures { result ≡ blocks_undo before.now (kept_in x.now) }
 {
-    match &x.kept {
+    match x.kept() {
         None => false,
-        Some(kept) => meets_any(kept.foot.reads(), kept.inverse.before(), before),
+        Some(kept) => meets_any(kept.reads(), kept.before(), before),
     }
 }
 
-fn blocks_redo(x: &Entry, reads: &[Pattern], delta: &[CellChange]) -> bool
+fn blocks_redo(x: &Record, reads: &[Pattern], delta: &[CellChange]) -> bool
     ensures { result ≡ blocks_redo (foot reads.now delta.now) (kept_in x.now) }
 {
-    match &x.kept {
+    match x.kept() {
         None => false,
         Some(kept) => {
-            if meets_any(kept.foot.reads(), kept.inverse.before(), delta) {
+            if meets_any(kept.reads(), kept.before(), delta) {
                 return true;
             }
-            meets_any(reads, delta, kept.inverse.before())
+            meets_any(reads, delta, kept.before())
         }
     }
 }
 
 /// The number of the first edit in force that needs one that wrote the cells.
-pub(crate) fn first_to_block_undo(later: &[Entry], from: u64, before: &[CellChange]) -> Option<u64>
+pub(crate) fn first_to_block_undo(later: &[Record], from: u64, before: &[CellChange]) -> Option<u64>
     requires { from + length later.now < 2 ^ 64 }
     ensures { result ≡ first_from (blocks_undo before.now) from (kept_all later.now) }
 {
@@ -77,7 +77,7 @@ pub(crate) fn first_to_block_undo(later: &[Entry], from: u64, before: &[CellChan
 
 /// The number of the first edit in force that needs, or is needed by, one with these reads and changes.
 pub(crate) fn first_to_block_redo(
-    later: &[Entry],
+    later: &[Record],
     from: u64,
     reads: &[Pattern],
     delta: &[CellChange],

@@ -6,7 +6,7 @@ ghost use Rattle.wb_foot.specs.Feet.{Feet, IsIndexOf};
 ghost use Rattle.wb_log.specs.Kept.{by_number};
 ghost use Rattle.wb_log.specs.Needed.{AreFromFeet, Joined, JoinedAfter};
 
-use crate::entry::Entry;
+use crate::entry::Record;
 use std::alloc::Global;
 use wb_book::CellChange;
 use wb_foot::{FootIndex, Numbers};
@@ -35,7 +35,7 @@ fn wait_for_blockers(
 /// The edits wait that need the one of a number.
 fn wait_for_those(
     index: &FootIndex,
-    entries: &[Entry],
+    entries: &[Record],
     number: u64,
     waiting: &mut Numbers,
 ) -> Result<(), NoMemory>
@@ -44,9 +44,9 @@ fn wait_for_those(
     requires indexed { IsIndexOf index.now (by_number entries.now) }
     ensures { OnOk result (Joined waiting.old waiting.new (by_number entries.now) number) }
 {
-    match &entries[(number - 1) as usize].kept {
+    match entries[(number - 1) as usize].kept() {
         None => Ok(()),
-        Some(kept) => wait_for_blockers(index, kept.inverse.before(), number, waiting),
+        Some(kept) => wait_for_blockers(index, kept.before(), number, waiting),
     }
 }
 
@@ -54,7 +54,7 @@ fn wait_for_those(
 pub(crate) fn needing(
     alloc: Global,
     index: &FootIndex,
-    entries: &[Entry],
+    entries: &[Record],
     number: u64,
 ) -> Result<Vec<u64>, NoMemory>
     requires positive { 0 < number }

@@ -8,7 +8,7 @@ ghost use Rattle.wb_log.specs.Kept.{by_number, kept_in, kept_all};
 ghost use Rattle.wb_log.specs.Needed.{AreFromFeet};
 
 use crate::blockers;
-use crate::entry::Entry;
+use crate::entry::Record;
 use crate::sweep::needing;
 use std::alloc::Global;
 use wb_book::{CellChange, Pattern};
@@ -36,23 +36,22 @@ impl Footprints {
     }
 
     /// The next edit enters, or none where no memory is left.
-    fn enter(&mut self, entry: &Entry) -> Result<(), NoMemory>
+    fn enter(&mut self, entry: &Record) -> Result<(), NoMemory>
         requires { self.old.entered < 2 ^ 63 }
         ensures ok { OnOk result ((count : ℕ) (feet : Feet) → AreFootprints self.old count feet → self.old.entered < count → feet (self.old.entered + 1) ≡ kept_in entry.now → AreFootprints self.new count feet) }
         ensures next { OnOk result (self.new.entered ≡ self.old.entered + 1) }
         ensures err { OnErr result ((count : ℕ) (feet : Feet) → AreFootprints self.old count feet → AreFootprints self.new count feet) }
     {
-        if let Some(kept) = &entry.kept {
+        if let Some(kept) = entry.kept() {
             let number = self.entered as u64 + 1;
-            self.index
-                .add(number, kept.foot.reads(), kept.inverse.before())?;
+            self.index.add(number, kept.reads(), kept.before())?;
         }
         self.entered += 1;
         Ok(())
     }
 
     /// Edits enter up to the last, or as far as memory goes.
-    fn fill(&mut self, entries: &[Entry])
+    fn fill(&mut self, entries: &[Record])
         requires few { length entries.now < 2 ^ 63 }
         requires indexed { AreFootprints self.old (length entries.now) (by_number entries.now) }
         ensures indexed { AreFootprints self.new (length entries.now) (by_number entries.now) }
@@ -69,7 +68,7 @@ impl Footprints {
     /// The number of the first edit after a place that needs one that wrote the cells.
     pub fn first_to_block_undo(
         &mut self,
-        entries: &[Entry],
+        entries: &[Record],
         at: usize,
         before: &[CellChange],
     ) -> Option<u64>
@@ -90,7 +89,7 @@ impl Footprints {
     /// The number of the first edit after a place that needs, or is needed by, one with these reads and changes.
     pub fn first_to_block_redo(
         &mut self,
-        entries: &[Entry],
+        entries: &[Record],
         at: usize,
         reads: &[Pattern],
         delta: &[CellChange],
@@ -110,7 +109,7 @@ impl Footprints {
     }
 
     /// The numbers of the edits that have to be undone with the one at a place, from the greatest down.
-    pub fn needing(&mut self, entries: &[Entry], at: usize) -> Result<Vec<u64>, NoMemory>
+    pub fn needing(&mut self, entries: &[Record], at: usize) -> Result<Vec<u64>, NoMemory>
         requires in_log { at < length entries.now }
         requires few { length entries.now < 2 ^ 63 }
         requires indexed { AreFootprints self.old (length entries.now) (by_number entries.now) }
@@ -148,7 +147,7 @@ impl Footprints {
     }
 }
 
-fn later_than(entries: &[Entry], at: usize) -> &[Entry]
+fn later_than(entries: &[Record], at: usize) -> &[Record]
     requires { at < length entries.now }
     ensures { result.now ≡ drop (at + 1) entries.now }
 {

@@ -7,7 +7,7 @@ ghost use Rattle.wb_foot.specs.Feet.{Feet, with_foot};
 ghost use Rattle.wb_log.specs.Indexed.{AreInForce};
 ghost use Rattle.wb_log.specs.Kept.{IsLatest, by_number, kept_in, kept_all};
 
-use crate::entry::Entry;
+use crate::entry::Record;
 use std::alloc::Global;
 use wb_foot::Numbers;
 use wb_range::NoMemory;
@@ -33,13 +33,13 @@ impl InForce {
     }
 
     /// The next edit enters, or none where no memory is left.
-    fn enter(&mut self, entry: &Entry) -> Result<(), NoMemory>
+    fn enter(&mut self, entry: &Record) -> Result<(), NoMemory>
         requires { self.old.entered < 2 ^ 63 }
         ensures ok { OnOk result ((count : ℕ) (feet : Feet) → AreInForce self.old count feet → self.old.entered < count → feet (self.old.entered + 1) ≡ kept_in entry.now → AreInForce self.new count feet) }
         ensures next { OnOk result (self.new.entered ≡ self.old.entered + 1) }
         ensures err { OnErr result ((count : ℕ) (feet : Feet) → AreInForce self.old count feet → AreInForce self.new count feet) }
     {
-        if entry.kept.is_some() {
+        if entry.is_in_force() {
             self.numbers.add(self.entered as u64 + 1)?;
         }
         self.entered += 1;
@@ -47,7 +47,7 @@ impl InForce {
     }
 
     /// Edits enter up to the last, or as far as memory goes.
-    fn fill(&mut self, entries: &[Entry])
+    fn fill(&mut self, entries: &[Record])
         requires few { length entries.now < 2 ^ 63 }
         requires indexed { AreInForce self.old (length entries.now) (by_number entries.now) }
         ensures indexed { AreInForce self.new (length entries.now) (by_number entries.now) }
@@ -62,7 +62,7 @@ impl InForce {
     }
 
     /// The place of the latest edit in force.
-    pub fn latest(&mut self, entries: &[Entry]) -> Option<usize>
+    pub fn latest(&mut self, entries: &[Record]) -> Option<usize>
         requires few { length entries.now < 2 ^ 63 }
         requires indexed { AreInForce self.old (length entries.now) (by_number entries.now) }
         ensures latest { IsLatest (kept_all entries.now) result }
@@ -103,13 +103,13 @@ impl InForce {
 }
 
 /// The same, found from the end.
-fn latest_from_the_end(entries: &[Entry]) -> Option<usize>
+fn latest_from_the_end(entries: &[Record]) -> Option<usize>
     ensures { IsLatest (kept_all entries.now) result }
 {
     let mut at = entries.len();
     while at > 0 {
         at -= 1;
-        if entries[at].kept.is_some() {
+        if entries[at].is_in_force() {
             return Some(at);
         }
     }

@@ -8,7 +8,7 @@ ghost use Rattle.wb_log.specs.Kept.{Shows, IsShown, entries_meant, numbers};
 ghost use Rattle.wb_log.specs.Past.{AreValid, out_of_force};
 ghost use Rattle.wb_log.specs.Replies.{UndoReply, ByNumber};
 
-use crate::entry::Entry;
+use crate::entry::Record;
 use crate::index::Index;
 use crate::refusal::Refusal;
 use crate::steps::undo::undo_at;
@@ -17,7 +17,7 @@ use wb_redist::Mover;
 use wb_shelf::Book;
 
 /// The numbers of the edits that have to be undone with the one at a place, from the greatest down.
-pub fn dependents_at(entries: &[Entry], index: &mut Index, at: usize) -> Result<Vec<u64>, Refusal>
+pub fn dependents_at(entries: &[Record], index: &mut Index, at: usize) -> Result<Vec<u64>, Refusal>
     requires in_log { at < length entries.now }
     requires few { length entries.now < 2 ^ 63 }
     requires kept { IsShown entries.now }
@@ -27,7 +27,7 @@ pub fn dependents_at(entries: &[Entry], index: &mut Index, at: usize) -> Result<
     ensures indexed { IsIndexed index.new entries.now }
 {
     let entry = &entries[at];
-    if entry.kept.is_none() {
+    if !entry.is_in_force() {
         return Err(Refusal::NotInForce);
     }
     match index.footprints.needing(entries, at) {
@@ -39,7 +39,7 @@ pub fn dependents_at(entries: &[Entry], index: &mut Index, at: usize) -> Result<
 /// Undoes the edit of a number.
 fn undo_number<M: Mover>(
     book: &mut Book,
-    entries: &mut [Entry],
+    entries: &mut [Record],
     index: &mut Index,
     number: u64,
     mover: &M,
@@ -69,7 +69,7 @@ fn undo_number<M: Mover>(
 /// Undoes edits one after another, up to the first whose undo is refused: how many, and how many cells are set back.
 fn undo_each<M: Mover>(
     book: &mut Book,
-    entries: &mut [Entry],
+    entries: &mut [Record],
     index: &mut Index,
     undone: &[u64],
     mover: &M,
@@ -101,7 +101,7 @@ fn undo_each<M: Mover>(
 /// and threads go: how many are undone, and how many cells are set back.
 pub fn undo_listed<M: Mover>(
     book: &mut Book,
-    entries: &mut [Entry],
+    entries: &mut [Record],
     index: &mut Index,
     at: usize,
     listed: &[u64],
@@ -133,7 +133,7 @@ pub fn undo_listed<M: Mover>(
 /// of those that are undone, and how many cells are set back.
 pub fn cascade_at<M: Mover>(
     book: &mut Book,
-    entries: &mut [Entry],
+    entries: &mut [Record],
     index: &mut Index,
     at: usize,
     mover: &M,

@@ -10,8 +10,9 @@ ghost use Rattle.wb_log.specs.Kept.{Shows, entries_meant, numbers, plan_refusal}
 ghost use Rattle.wb_log.specs.Past.{AreValid};
 ghost use Rattle.wb_log.specs.Replies.{EditReply};
 
-use crate::entry::{Entry, Kept};
+use crate::entry::Record;
 use crate::refusal::Refusal;
+use crate::steps::making::make;
 use std::alloc::Global;
 use wb_book::Delta;
 use wb_edit::{Edit, Foot, PlanErr, plan};
@@ -23,7 +24,7 @@ use wb_shelf::Book;
 pub fn add<M: Mover>(
     alloc: Global,
     book: &mut Book,
-    entries: &mut Vec<Entry>,
+    entries: &mut Vec<Record>,
     edit: Edit,
     mover: &M,
 ) -> Result<(u64, usize), Refusal>
@@ -40,7 +41,7 @@ pub fn add<M: Mover>(
 {
     match plan(alloc, book, &edit) {
         Err(stop) => Err(plan_refusal(stop)),
-        Ok((delta, foot, count)) => match keep_new(book, entries, edit, delta, foot, mover) {
+        Ok((delta, foot, count)) => match keep_new(alloc, book, entries, edit, delta, foot, mover) {
             Ok(number) => Ok((number, count)),
             Err(_) => Err(Refusal::NoMemory),
         },
@@ -58,8 +59,9 @@ fn plan_refusal(stop: PlanErr) -> Refusal
 
 /// Makes the changes of a planned edit, and keeps it as the last: its number. Want of threads is answered as want of memory.
 fn keep_new<M: Mover>(
+    alloc: Global,
     book: &mut Book,
-    entries: &mut Vec<Entry>,
+    entries: &mut Vec<Record>,
     edit: Edit,
     delta: Delta,
     foot: Foot,
@@ -80,14 +82,14 @@ fn keep_new<M: Mover>(
     if entries.reserve(1).is_err() {
         return Err(NoMemory);
     }
-    match book.apply(delta, mover) {
-        Err(_) => Err(NoMemory),
-        Ok(inverse) => {
-            let kept = Some(Kept { foot, inverse });
-            match entries.push(Entry { edit, kept }) {
+    match Record::aside(alloc, edit) {
+        Err(why) => Err(why),
+        Ok(mut entry) => match make(alloc, book, &mut entry, delta, foot, mover) {
+            Err(why) => Err(why),
+            Ok(()) => match entries.push(entry) {
                 Ok(()) => Ok(entries.len() as u64),
                 Err(_) => unreachable!(),
-            }
-        }
+            },
+        },
     }
 }

@@ -3,5 +3,6 @@
 pub mod aside;
 pub mod cascade;
 pub mod edit;
+pub mod making;
 pub mod redo;
 pub mod undo;

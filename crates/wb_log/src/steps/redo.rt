@@ -2,15 +2,18 @@ ghost use Rattle.std.specs.Prelude.{◌≡◌, ℕ, ◌+◌, ◌^◌, ◌<◌, l
 ghost use Rattle.selective_undo.specs.Changes.{apply, inverse};
 ghost use Rattle.wb_book.specs.Cells.{written_more, count_of};
 ghost use Rattle.wb_book.specs.WellFormed.{IsWellFormed};
+ghost use Rattle.wb_edit.specs.Commands.{meaning};
+ghost use Rattle.wb_edit.specs.Plans.{IsPlan};
 ghost use Rattle.wb_foot.specs.Feet.{Feet, with_foot};
 ghost use Rattle.wb_log.specs.Indexed.{Indexes, IsIndexed};
 ghost use Rattle.wb_log.specs.Kept.{kept_in, Shows, PlansAgain, redo_blocker, stopped_refusal, entries_meant, numbers};
 ghost use Rattle.wb_log.specs.Past.{into_force, AreValid};
 ghost use Rattle.wb_log.specs.Replies.{RedoReply, RedoesInPlace};
 
-use crate::entry::{Entry, Kept};
+use crate::entry::Record;
 use crate::index::Index;
 use crate::refusal::Refusal;
+use crate::steps::making::make;
 use std::alloc::Global;
 use wb_book::Delta;
 use wb_edit::{Foot, PlanErr, plan};
@@ -18,11 +21,23 @@ use wb_range::NoMemory;
 use wb_redist::Mover;
 use wb_shelf::Book;
 
+/// What an entry's edit would change in a workbook.
+fn plan_of(
+    alloc: Global,
+    book: &Book,
+    entry: &Record,
+) -> Result<(Delta, Foot, usize), PlanErr>
+    ensures { IsPlan (meaning entry.now.edit) book.now.cells result }
+{
+    let edit = entry.edit();
+    plan(alloc, book, edit.as_edit())
+}
+
 /// Plans an edit out of force again, unless a later one is in its way.
 fn plan_again(
     alloc: Global,
     book: &Book,
-    entries: &[Entry],
+    entries: &[Record],
     index: &mut Index,
     at: usize,
 ) -> Result<(Delta, Foot, usize), Refusal>
@@ -35,10 +50,10 @@ fn plan_again(
     ensures indexed { IsIndexed index.new entries.now }
 {
     let entry = &entries[at];
-    if entry.kept.is_some() {
+    if entry.is_in_force() {
         return Err(Refusal::InForce);
     }
-    match plan(alloc, book, &entry.edit) {
+    match plan_of(alloc, book, entry) {
         Err(stop) => Err(refusal_in_place(entries, index, at, stop)),
         Ok((delta, foot, count)) => match plan_blocker(entries, index, at, &foot, &delta) {
             Some(by) => Err(Refusal::Blocked(by)),
@@ -49,7 +64,7 @@ fn plan_again(
 
 /// The number of the first later edit that a plan meets.
 fn plan_blocker(
-    entries: &[Entry],
+    entries: &[Record],
     index: &mut Index,
     at: usize,
     foot: &Foot,
@@ -67,7 +82,7 @@ fn plan_blocker(
 }
 
 /// The same of a plan that is refused.
-fn refused_blocker(entries: &[Entry], index: &mut Index, at: usize, foot: &Foot) -> Option<u64>
+fn refused_blocker(entries: &[Record], index: &mut Index, at: usize, foot: &Foot) -> Option<u64>
     requires in_log { at < length entries.now }
     requires few { length entries.now < 2 ^ 63 }
     requires indexed { IsIndexed index.old entries.now }
@@ -80,7 +95,7 @@ fn refused_blocker(entries: &[Entry], index: &mut Index, at: usize, foot: &Foot)
 }
 
 /// Why an edit whose plan stopped is not redone.
-fn refusal_in_place(entries: &[Entry], index: &mut Index, at: usize, stop: PlanErr) -> Refusal
+fn refusal_in_place(entries: &[Record], index: &mut Index, at: usize, stop: PlanErr) -> Refusal
     requires in_log { at < length entries.now }
     requires few { length entries.now < 2 ^ 63 }
     requires indexed { IsIndexed index.old entries.now }
@@ -98,8 +113,9 @@ fn refusal_in_place(entries: &[Entry], index: &mut Index, at: usize, stop: PlanE
 
 /// Makes the changes of the edit at a place again. Want of threads is answered as want of memory.
 fn put_in<M: Mover>(
+    alloc: Global,
     book: &mut Book,
-    entry: &mut Entry,
+    entry: &mut Record,
     index: &mut Index,
     at: usize,
     delta: Delta,
@@ -116,13 +132,15 @@ fn put_in<M: Mover>(
     ensures book_stays { OnErr result (book.new ≡ book.old) }
     ensures index_stays { OnErr result (index.new ≡ index.old) }
 {
-    match book.apply(delta, mover) {
-        Err(_) => Err(NoMemory),
-        Ok(inverse) => {
-            index.put(at, foot.reads(), inverse.before());
-            entry.kept = Some(Kept { foot, inverse });
-            Ok(())
-        }
+    match make(alloc, book, entry, delta, foot, mover) {
+        Err(why) => Err(why),
+        Ok(()) => match entry.kept() {
+            Some(kept) => {
+                index.put(at, kept.reads(), kept.before());
+                Ok(())
+            }
+            None => unreachable!(),
+        },
     }
 }
 
@@ -130,7 +148,7 @@ fn put_in<M: Mover>(
 pub fn redo_at<M: Mover>(
     alloc: Global,
     book: &mut Book,
-    entries: &mut [Entry],
+    entries: &mut [Record],
     index: &mut Index,
     at: usize,
     mover: &M,
@@ -152,7 +170,7 @@ pub fn redo_at<M: Mover>(
     match plan_again(alloc, book, entries, index, at) {
         Err(why) => Err(why),
         Ok((delta, foot, count)) => {
-            match put_in(book, &mut entries[at], index, at, delta, foot, mover) {
+            match put_in(alloc, book, &mut entries[at], index, at, delta, foot, mover) {
                 Ok(()) => Ok(count),
                 Err(_) => Err(Refusal::NoMemory),
             }

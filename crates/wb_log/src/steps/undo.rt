@@ -6,36 +6,34 @@ ghost use Rattle.wb_log.specs.Kept.{kept_in, Shows, MayUndo, TakenBack, LeavesWe
 ghost use Rattle.wb_log.specs.Past.{out_of_force, AreValid};
 ghost use Rattle.wb_log.specs.Replies.{UndoReply, LastReply, SetsBack, LeavesOthers, Restores};
 
-use crate::entry::{Entry, Kept};
+use crate::entry::Record;
 use crate::index::Index;
 use crate::refusal::Refusal;
+use wb_book::counted;
 use wb_redist::Mover;
 use wb_shelf::Book;
 
 /// Whether an edit may not be undone.
-fn undo_refusal(entries: &[Entry], index: &mut Index, at: usize) -> Option<Refusal>
+fn undo_refusal(entries: &[Record], index: &mut Index, at: usize) -> Option<Refusal>
     requires in_log { at < length entries.now }
     requires few { length entries.now < 2 ^ 63 }
     requires indexed { IsIndexed index.old entries.now }
     ensures refusal { MayUndo entries.now at result }
     ensures indexed { IsIndexed index.new entries.now }
 {
-    match &entries[at].kept {
+    match entries[at].kept() {
         None => Some(Refusal::NotInForce),
-        Some(kept) => {
-            let before = kept.inverse.before();
-            match index.footprints.first_to_block_undo(entries, at, before) {
-                Some(by) => Some(Refusal::Blocked(by)),
-                None => None,
-            }
-        }
+        Some(kept) => match index.footprints.first_to_block_undo(entries, at, kept.before()) {
+            Some(by) => Some(Refusal::Blocked(by)),
+            None => None,
+        },
     }
 }
 
 /// Sets back what the edit at a place, which is in force, wrote. Want of threads is answered as want of memory.
 fn take_back<M: Mover>(
     book: &mut Book,
-    entry: &mut Entry,
+    entry: &mut Record,
     index: &mut Index,
     at: usize,
     mover: &M,
@@ -49,25 +47,24 @@ fn take_back<M: Mover>(
     ensures book_stays { OnErr result (book.new ≡ book.old) }
     ensures index_stays { OnErr result (index.new ≡ index.old) }
 {
-    match entry.kept.take() {
-        None => Err(Refusal::NotInForce),
-        Some(Kept { foot, inverse }) => match book.revert(inverse.before(), mover) {
+    let count = match entry.kept() {
+        None => return Err(Refusal::NotInForce),
+        Some(kept) => match book.revert(kept.before(), mover) {
+            Err(_) => return Err(Refusal::NoMemory),
             Ok(()) => {
-                index.take(at, foot.reads(), inverse.before());
-                Ok(inverse.count())
-            }
-            Err(_) => {
-                entry.kept = Some(Kept { foot, inverse });
-                Err(Refusal::NoMemory)
+                index.take(at, kept.reads(), kept.before());
+                counted(kept.before())
             }
         },
-    }
+    };
+    entry.end();
+    Ok(count)
 }
 
 /// Undoes the edit at a place, which may be undone.
 fn undo_free<M: Mover>(
     book: &mut Book,
-    entries: &mut [Entry],
+    entries: &mut [Record],
     index: &mut Index,
     at: usize,
     mover: &M,
@@ -94,7 +91,7 @@ fn undo_free<M: Mover>(
 /// Undoes the edit at a place.
 pub fn undo_at<M: Mover>(
     book: &mut Book,
-    entries: &mut [Entry],
+    entries: &mut [Record],
     index: &mut Index,
     at: usize,
     mover: &M,
@@ -123,7 +120,7 @@ pub fn undo_at<M: Mover>(
 /// Undoes the latest edit in force, which nothing can block: its number, and how many cells it sets back.
 pub fn undo_latest<M: Mover>(
     book: &mut Book,
-    entries: &mut [Entry],
+    entries: &mut [Record],
     index: &mut Index,
     mover: &M,
 ) -> Result<(u64, usize), Refusal>

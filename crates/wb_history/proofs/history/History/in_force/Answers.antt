@@ -12,4 +12,4 @@ returns c =
     let low : n - 1 < length es = omega (arith, c.len.ensures, c.if-at-len.false) in
     let x = slice_index_or es (n - 1) c.index.result.now in
     let is = slice_get-get_or es (n - 1) c.index.result.now low in
-    ap Some (c.is_some.ensures ∙ ap (λ y. is_some y.kept) c.index.ensures) ∙ force_is es n x some is ∙ ap (λ p. force_of p.entries n) c.self.view_is
+    ap Some (c.is_in_force.ensures ∙ ap (λ y. is_some y.kept) c.index.ensures) ∙ force_is es n x some is ∙ ap (λ p. force_of p.entries n) c.self.view_is

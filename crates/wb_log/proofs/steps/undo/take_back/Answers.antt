@@ -1,7 +1,10 @@
-use Rattle.std.proofs.Common.{◌∙◌}
-use Rattle.wb_log.proofs.Entered.{kept_with}
+use Rattle.std.proofs.Common.{Some, option_map, sym, ap, ◌∙◌}
+use Rattle.wb_foot.specs.Feet.{foot}
+use Rattle.wb_log.specs.Records.{lent_foot}
 use Rattle.wb_log.proofs.steps.undo.take_back.Goals as goal
 
-pub returns-in-Ok-clause-taken : goal.returns-in-Ok-clause-taken
-returns-in-Ok-clause-taken g c = λ count feet h is.
-    c.take-in-Ok.ensures count feet h (is ∙ kept_with c.args.entry.now c.take.result c.in-Some.field-0 c.reads.result.now c.before-in-Ok.result.now c.take.ensures.value c.in-Some.is c.reads.ensures c.before-in-Ok.ensures.same)
+pub returns-clause-taken : goal.returns-clause-taken
+returns-clause-taken g c = λ count feet h is.
+    let k = lent_foot c.in-Some.kept in
+    let told = ap (λ rs. Some (foot rs c.before-in-Ok.result.now)) c.reads.ensures ∙ ap (λ bs. Some (foot k.reads bs)) c.before-in-Ok.ensures.same in
+    c.take.ensures count feet h (is ∙ sym c.kept.ensures ∙ ap (option_map lent_foot) c.in-Some.is ∙ sym told)
