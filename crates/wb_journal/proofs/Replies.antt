@@ -11,6 +11,7 @@ use Rattle.wb_proto.specs.declared.replies.reply.Reply.TheVariants.{Edited, Undo
 use Rattle.wb_proto.specs.declared.requests.request.Request.{Request}
 use Rattle.wb_proto.specs.declared.requests.request.Request.TheVariants.{Change, Undo, Redo, Cascade, Dependents, Ask, Print, History, Edits}
 use Rattle.wb_journal.specs.Entries.{is_entered, is_long, leaves_all, cascade_in}
+use Rattle.wb_journal.specs.Records.{is_set, sets_or_asks, sets_element}
 use Rattle.wb_journal.specs.Courses.{Course}
 use Rattle.wb_journal.specs.Serving.{Enters, AnswersCourse}
 
@@ -145,3 +146,37 @@ course_left c k asked r d a e = by_entered (is_entered r) a
     by_entered : (b : Bool) → MatchBool b (Enters c k asked r d) (d ≡ c) → d.history ≡ c.history
     by_entered true enters = left c.history asked r d.history enters.reply e
     by_entered false same = ap (λ (x : Course). x.history) same
+
+-- What was asked of an element leaves the history, but for a new value that was accepted.
+change_leaves : (p : Past) (e : _) (r : Reply) (q : Past) → is_set e ≡ true → Step p (Change e) r q → sets_element (Change e) r ≡ false → q ≡ p
+change_leaves p e (Edited k n) q set s off = cc (set, off)
+change_leaves p e (Undone k n) q set s off = absurd s
+change_leaves p e (Cascaded ks n) q set s off = absurd s
+change_leaves p e (Redone k n) q set s off = absurd s
+change_leaves p e (Listed ks) q set s off = absurd s
+change_leaves p e (Answered a) q set s off = absurd s
+change_leaves p e (Printed t) q set s off = absurd s
+change_leaves p e (Counted n w) q set s off = absurd s
+change_leaves p e (Refused why) q set s off = refused_leaves p (Change e) why q s
+
+ask_leaves : (p : Past) (a : _) (r : Reply) (q : Past) → Step p (Ask a) r q → q ≡ p
+ask_leaves p a (Edited k n) q s = absurd s
+ask_leaves p a (Undone k n) q s = absurd s
+ask_leaves p a (Cascaded ks n) q s = absurd s
+ask_leaves p a (Redone k n) q s = absurd s
+ask_leaves p a (Listed ks) q s = absurd s
+ask_leaves p a (Answered v) q s = answered_leaves p (Ask a) v q s
+ask_leaves p a (Printed t) q s = absurd s
+ask_leaves p a (Counted n w) q s = absurd s
+ask_leaves p a (Refused why) q s = refused_leaves p (Ask a) why q s
+
+pub element_leaves : (p : Past) (asked : Request) (r : Reply) (q : Past) → sets_or_asks asked ≡ true → Step p asked r q → sets_element asked r ≡ false → q ≡ p
+element_leaves p (Change e) r q small s off = change_leaves p e r q small s off
+element_leaves p (Ask a) r q small s off = ask_leaves p a r q s
+element_leaves p (Undo k) r q small s off = cc
+element_leaves p (Redo k) r q small s off = cc
+element_leaves p (Cascade k) r q small s off = cc
+element_leaves p (Dependents k) r q small s off = cc
+element_leaves p Print r q small s off = cc
+element_leaves p History r q small s off = cc
+element_leaves p Edits r q small s off = cc

@@ -1,4 +1,5 @@
 pub mod Entries
+pub mod Records
 pub mod Courses
 pub mod Serving
 pub mod Settling

@@ -1,8 +1,18 @@
-//! The entries of a journal.
-ghost use Rattle.std.specs.Prelude.{◌≡◌};
-ghost use Rattle.std.specs.Bool.{Decides};
+//! The entries of a journal, and the records in which they are kept.
 
+ghost use Rattle.std.specs.Prelude.{◌≡◌, None, true, false, IfOk, IfSome};
+ghost use Rattle.std.specs.Bool.{Decides};
+ghost use Rattle.wb_proto.specs.declared.requests.request.Request.TheVariants as asked;
+ghost use Rattle.wb_journal.specs.Records.{lent_entry, is_set, is_edited, sets_or_asks, sets_element};
+ghost use Rattle.wb_journal.specs.Serving.{entry};
+
+use std::alloc::Global;
+use std::marker::Model;
+use wb_book::{AnyIndex, Name};
+use wb_edit::Edit;
+use wb_history::{Answer, Query};
 use wb_proto::{Reply, Request};
+use wb_range::NoMemory;
 
 /// What a seat asked, and what it was replied.
 #[derive(Drop)]
@@ -24,5 +34,227 @@ impl Entry {
             return false;
         }
         self.reply.is_same(&other.reply)
+    }
+}
+
+/// A new value of an element, which was accepted.
+#[derive(Drop)]
+pub struct NewElement {
+    seat: usize,
+    array: Name,
+    place: AnyIndex,
+    value: i64,
+    number: u64,
+    count: usize,
+}
+
+/// A question for an element, and its value.
+#[derive(Drop)]
+pub struct ReadElement {
+    seat: usize,
+    array: Name,
+    place: AnyIndex,
+    value: i64,
+}
+
+/// How an entry is kept.
+#[derive(Drop)]
+pub enum Form {
+    /// A new value of an element, which was accepted.
+    Set(NewElement),
+    /// A question for an element, and its value.
+    Get(ReadElement),
+    /// Any entry.
+    Whole(Box<Entry>),
+}
+
+/// An entry, kept in the form that takes the least room. Contracts see the entry.
+#[derive(Drop)]
+pub struct Record {
+    form: Form,
+}
+
+impl Model for Record {
+    ghost use Rattle.wb_journal.specs.declared.entry.Entry.{Entry};
+    ghost use Rattle.wb_journal.specs.Records.{shown};
+
+    ghost Value = { Entry };
+
+    ghost view = { λ a. shown a.form };
+}
+
+/// An entry, lent, or made for the moment.
+#[derive(Drop)]
+pub enum LentEntry<'a> {
+    Own(Entry),
+    Lent(&'a Entry),
+}
+
+impl<'a> LentEntry<'a> {
+    /// The entry.
+    pub fn as_entry(&self) -> &Entry
+        ensures { result.now ≡ lent_entry self.now }
+    {
+        match self {
+            LentEntry::Own(entry) => entry,
+            LentEntry::Lent(entry) => entry,
+        }
+    }
+}
+
+impl Record {
+    /// Any entry, or `NoMemory` where none is left for it.
+    pub fn whole(alloc: Global, entry: Entry) -> Result<Record, NoMemory>
+        ensures { IfOk result (λ x. x ≡ entry) }
+    {
+        match Box::new(alloc, entry) {
+            Ok(entry) => Ok(Record {
+                form: Form::Whole(entry),
+            }),
+            Err(_) => Err(NoMemory),
+        }
+    }
+
+    // The entry in a box.
+    pub(crate) fn of_box(entry: Box<Entry>) -> Record
+        ensures { result ≡ entry.value }
+    {
+        Record {
+            form: Form::Whole(entry),
+        }
+    }
+
+    /// The entry.
+    pub fn entry(&self) -> LentEntry<'_>
+        ensures { lent_entry result ≡ self.now }
+    {
+        match &self.form {
+            Form::Set(x) => LentEntry::Own(Entry {
+                seat: x.seat,
+                request: Request::Change(Edit::Set(x.array, x.place, x.value)),
+                reply: Reply::Edited(x.number, x.count),
+            }),
+            Form::Get(x) => LentEntry::Own(Entry {
+                seat: x.seat,
+                request: Request::Ask(Query::Get(x.array, x.place)),
+                reply: Reply::Answered(Answer::Value(x.value)),
+            }),
+            Form::Whole(entry) => LentEntry::Lent(entry),
+        }
+    }
+
+    /// Whose entry it is.
+    pub fn seat(&self) -> usize
+        ensures { result ≡ self.now.seat }
+    {
+        match &self.form {
+            Form::Set(x) => x.seat,
+            Form::Get(x) => x.seat,
+            Form::Whole(entry) => entry.seat,
+        }
+    }
+
+    /// Whether the entries are equal.
+    pub fn is_same(&self, other: &Record) -> bool
+        ensures { Decides result (self.now ≡ other.now) }
+    {
+        let own = self.entry();
+        let by = other.entry();
+        own.as_entry().is_same(by.as_entry())
+    }
+}
+
+fn is_set(edit: &Edit) -> bool
+    ensures { result ≡ is_set edit.now }
+{
+    match edit {
+        Edit::Set(_, _, _) => true,
+        _ => false,
+    }
+}
+
+fn is_get(query: &Query) -> bool {
+    match query {
+        Query::Get(_, _) => true,
+        _ => false,
+    }
+}
+
+/// Whether a request asks for an element, or for a new value of one: the records of those take no memory of their own,
+/// where they are accepted.
+pub(crate) fn is_of_element(request: &Request) -> bool
+    ensures { result ≡ true → sets_or_asks request.now ≡ true }
+{
+    match request {
+        Request::Change(edit) => is_set(edit),
+        Request::Ask(query) => is_get(query),
+        Request::Undo(_)
+        | Request::Redo(_)
+        | Request::Cascade(_)
+        | Request::Dependents(_)
+        | Request::Print
+        | Request::History
+        | Request::Edits => false,
+    }
+}
+
+// The record of an edit that sets an element, and was accepted.
+fn set_record(seat: usize, edit: &Edit, reply: &Reply) -> Option<Record>
+    ensures some { IfSome result (λ x. x ≡ entry seat (asked.Change edit.now) reply.now) }
+    ensures none { result ≡ None → is_set edit.now ≡ true → is_edited reply.now ≡ false }
+{
+    match edit {
+        Edit::Set(array, place, value) => match reply {
+            Reply::Edited(number, count) => Some(Record {
+                form: Form::Set(NewElement {
+                    seat,
+                    array: *array,
+                    place: *place,
+                    value: *value,
+                    number: *number,
+                    count: *count,
+                }),
+            }),
+            _ => None,
+        },
+        _ => None,
+    }
+}
+
+// The record of a question for an element that was answered.
+fn get_record(seat: usize, query: &Query, reply: &Reply) -> Option<Record>
+    ensures { IfSome result (λ x. x ≡ entry seat (asked.Ask query.now) reply.now) }
+{
+    match query {
+        Query::Get(array, place) => match reply {
+            Reply::Answered(Answer::Value(value)) => Some(Record {
+                form: Form::Get(ReadElement {
+                    seat,
+                    array: *array,
+                    place: *place,
+                    value: *value,
+                }),
+            }),
+            _ => None,
+        },
+        _ => None,
+    }
+}
+
+/// The record of an element that was set or read, without memory of its own.
+pub(crate) fn element_record(seat: usize, request: &Request, reply: &Reply) -> Option<Record>
+    ensures some { IfSome result (λ x. x ≡ entry seat request.now reply.now) }
+    ensures none { result ≡ None → sets_element request.now reply.now ≡ false }
+{
+    match request {
+        Request::Change(edit) => set_record(seat, edit, reply),
+        Request::Ask(query) => get_record(seat, query, reply),
+        Request::Undo(_)
+        | Request::Redo(_)
+        | Request::Cascade(_)
+        | Request::Dependents(_)
+        | Request::Print
+        | Request::History
+        | Request::Edits => None,
     }
 }

@@ -5,9 +5,9 @@ ghost use Rattle.wb_journal.specs.Entries.{is_entered};
 ghost use Rattle.wb_journal.specs.Settling.{IsSettled, IsCause};
 ghost use Rattle.wb_journal.specs.Serving.{Knows, IsStrange, Enters, entry, own_after, AnswersCourse};
 
-use crate::entry::Entry;
+use crate::entry::Record;
 use crate::pass::Pass;
-use crate::replying::replied;
+use crate::replying::recorded;
 use crate::settling::{Cause, first_cause};
 use std::alloc::Global;
 use std::marker::Model;
@@ -21,7 +21,7 @@ use wb_redist::Mover;
 #[derive(Drop)]
 pub struct Journal {
     history: History,
-    entries: Vec<Entry>,
+    entries: Vec<Record>,
     counts: Vec<usize>,
 }
 
@@ -64,7 +64,7 @@ impl Journal {
     }
 
     // The entries.
-    fn entries(&self) -> &[Entry]
+    fn entries(&self) -> &[Record]
         ensures { result.now ≡ self.now.entries }
     {
         self.entries.as_slice()
@@ -92,7 +92,7 @@ impl Journal {
     }
 
     // Whether a seat is one of the desk's, and has so many entries.
-    fn knows(&self, seat: usize, own: &[Entry]) -> bool
+    fn knows(&self, seat: usize, own: &[Record]) -> bool
         ensures { MatchBool result (Knows self.now seat own.now) (¬ Knows self.now seat own.now) }
     {
         if seat >= self.counts.len() {
@@ -106,7 +106,7 @@ impl Journal {
         &mut self,
         alloc: Global,
         seat: usize,
-        own: &mut Vec<Entry>,
+        own: &mut Vec<Record>,
         request: Request,
         mover: &M,
     ) -> Result<Reply, NoMemory>
@@ -120,19 +120,9 @@ impl Journal {
         if own.reserve(1).is_err() {
             return Err(NoMemory);
         }
-        let asked = request.copy(alloc)?;
-        let told = request.copy(alloc)?;
-        let (reply, first, second) = replied(alloc, &mut self.history, request, mover)?;
-        self.entries.push_reserved(Entry {
-            seat,
-            request: asked,
-            reply: first,
-        });
-        own.push_reserved(Entry {
-            seat,
-            request: told,
-            reply: second,
-        });
+        let (reply, first, second) = recorded(alloc, &mut self.history, seat, request, mover)?;
+        self.entries.push_reserved(first);
+        own.push_reserved(second);
         self.counts[seat] = own.len();
         Ok(reply)
     }
@@ -142,7 +132,7 @@ impl Journal {
         &mut self,
         alloc: Global,
         seat: usize,
-        own: &mut Vec<Entry>,
+        own: &mut Vec<Record>,
         request: Request,
         mover: &M,
     ) -> Reply

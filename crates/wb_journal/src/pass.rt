@@ -2,7 +2,7 @@
 
 ghost use Rattle.std.specs.Prelude.{◌≡◌, length};
 
-use crate::entry::Entry;
+use crate::entry::Record;
 use std::marker::Model;
 use std::sync::ledger::{Ledger, Share};
 
@@ -10,7 +10,7 @@ use std::sync::ledger::{Ledger, Share};
 #[derive(Drop)]
 pub struct Pass<L: Ledger> {
     pub(crate) seat: usize,
-    pub(crate) own: Vec<Entry>,
+    pub(crate) own: Vec<Record>,
     pub(crate) share: Share<L>,
 }
 
@@ -29,7 +29,7 @@ impl<L: Ledger> Model for Pass<L> {
 
 impl<L: Ledger> Pass<L> {
     /// A pass of its parts. A desk answers a pass that isn't one of its own, as it stands, that it is strange.
-    pub fn of_parts(seat: usize, own: Vec<Entry>, share: Share<L>) -> Pass<L>
+    pub fn of_parts(seat: usize, own: Vec<Record>, share: Share<L>) -> Pass<L>
         requires amount { share.amount ≡ length own.items }
         requires parts { share.parts ≡ 1 }
         ensures { result ≡ record { seat = seat; own = own.items; share = share.amount } }
@@ -38,7 +38,7 @@ impl<L: Ledger> Pass<L> {
     }
 
     /// The seat, the entries and the share of a pass that is given up.
-    pub fn into_parts(self) -> (usize, Vec<Entry>, Share<L>)
+    pub fn into_parts(self) -> (usize, Vec<Record>, Share<L>)
         ensures seat { result.0 ≡ self.seat }
         ensures own { result.1.items ≡ self.own }
         ensures share { (result.2.amount ≡ self.share) × (result.2.amount ≡ length self.own) × (result.2.parts ≡ 1) }
@@ -54,7 +54,7 @@ impl<L: Ledger> Pass<L> {
     }
 
     /// The entries of the seat's own requests, in order.
-    pub fn own(&self) -> &[Entry]
+    pub fn own(&self) -> &[Record]
         ensures own { result.now ≡ self.now.own }
         ensures share { self.now.share ≡ length self.now.own }
     {

@@ -1,11 +1,14 @@
-// One request answered by a history, with copies of the reply for the journal and the pass.
+// One request answered by a history, with a record of it for the journal and another one for the pass.
 ghost use Rattle.std.specs.Prelude.{◌≡◌, Bool, true, false, None, Ok, IfOk, OnErr};
 ghost use Rattle.wb_history.specs.Cascades.{DependentsReply, OfNumber};
 ghost use Rattle.wb_history.specs.Past.{meant};
 ghost use Rattle.wb_proto.specs.Machine.{Step};
 ghost use Rattle.wb_proto.specs.declared.requests.request.Request.TheVariants.{Cascade};
 ghost use Rattle.wb_journal.specs.Entries.{is_told, is_entered, is_long, cascade_in};
+ghost use Rattle.wb_journal.specs.Records.{sets_or_asks};
+ghost use Rattle.wb_journal.specs.Serving.{entry};
 
+use crate::entry::{Entry, Record, element_record, is_of_element};
 use std::alloc::Global;
 use wb_history::{History, Refusal};
 use wb_proto::{EditNumbers, Reply, Request, answer_request};
@@ -149,8 +152,8 @@ fn replied_to_other<M: Mover>(
     Ok((reply, first, second))
 }
 
-/// Answers a request: the reply, and two equal ones. Where no memory is left, nothing is changed.
-pub(crate) fn replied<M: Mover>(
+// Answers a request: the reply, and two equal ones. Where no memory is left, nothing is changed.
+fn replied<M: Mover>(
     alloc: Global,
     history: &mut History,
     request: Request,
@@ -163,4 +166,111 @@ pub(crate) fn replied<M: Mover>(
         Some(number) => replied_to_cascade(alloc, history, number, mover),
         None => replied_to_other(alloc, history, request, mover),
     }
+}
+
+// An entry without its reply yet.
+fn opened(alloc: Global, seat: usize, request: Request) -> Result<Box<Entry>, NoMemory>
+    ensures { IfOk result (λ b. (b.value.seat ≡ seat) × (b.value.request ≡ request)) }
+{
+    let reply = Reply::Refused(Refusal::NoMemory);
+    match Box::new(
+        alloc,
+        Entry {
+            seat,
+            request,
+            reply,
+        },
+    ) {
+        Ok(made) => Ok(made),
+        Err(_) => Err(NoMemory),
+    }
+}
+
+// The record of a request and its reply.
+fn copied_entry(
+    alloc: Global,
+    seat: usize,
+    request: &Request,
+    reply: &Reply,
+) -> Result<Record, NoMemory>
+    ensures { IfOk result (λ x. x ≡ entry seat request.now reply.now) }
+{
+    let request = request.copy(alloc)?;
+    let reply = reply.copy(alloc)?;
+    Record::whole(
+        alloc,
+        Entry {
+            seat,
+            request,
+            reply,
+        },
+    )
+}
+
+// Answers a request that asks for an element or for a new value of one: the reply, and two records of it.
+fn recorded_element<M: Mover>(
+    alloc: Global,
+    history: &mut History,
+    seat: usize,
+    asked: &Request,
+    request: Request,
+    mover: &M,
+) -> Result<(Reply, Record, Record), NoMemory>
+    requires same { asked.now ≡ request }
+    requires element { sets_or_asks request ≡ true }
+    ensures ok { IfOk result (λ r. (is_entered r.0 ≡ true) × Step history.old request r.0 history.new × (r.1 ≡ entry seat request r.0) × (r.2 ≡ entry seat request r.0)) }
+    ensures err { OnErr result (history.new ≡ history.old) }
+{
+    let reply = answer_request(alloc, history, request, mover);
+    if !is_entered(&reply) {
+        return Err(NoMemory);
+    }
+    if let Some(first) = element_record(seat, asked, &reply) {
+        if let Some(second) = element_record(seat, asked, &reply) {
+            return Ok((reply, first, second));
+        }
+    }
+    let first = copied_entry(alloc, seat, asked, &reply)?;
+    let second = copied_entry(alloc, seat, asked, &reply)?;
+    Ok((reply, first, second))
+}
+
+// Answers any request: room for the two records is made first.
+fn recorded_any<M: Mover>(
+    alloc: Global,
+    history: &mut History,
+    seat: usize,
+    asked: Request,
+    request: Request,
+    mover: &M,
+) -> Result<(Reply, Record, Record), NoMemory>
+    requires same { asked ≡ request }
+    ensures ok { IfOk result (λ r. (is_entered r.0 ≡ true) × Step history.old request r.0 history.new × (r.1 ≡ entry seat request r.0) × (r.2 ≡ entry seat request r.0)) }
+    ensures err { OnErr result (history.new ≡ history.old) }
+{
+    let told = asked.copy(alloc)?;
+    let mut first = opened(alloc, seat, asked)?;
+    let mut second = opened(alloc, seat, told)?;
+    let (reply, one, other) = replied(alloc, history, request, mover)?;
+    first.reply = one;
+    second.reply = other;
+    Ok((reply, Record::of_box(first), Record::of_box(second)))
+}
+
+/// Answers a request of a seat: the reply, and two records of both. Where no memory is left, nothing is changed.
+pub(crate) fn recorded<M: Mover>(
+    alloc: Global,
+    history: &mut History,
+    seat: usize,
+    request: Request,
+    mover: &M,
+) -> Result<(Reply, Record, Record), NoMemory>
+    ensures ok { IfOk result (λ r. (is_entered r.0 ≡ true) × Step history.old request r.0 history.new × (r.1 ≡ entry seat request r.0) × (r.2 ≡ entry seat request r.0)) }
+    ensures err { OnErr result (history.new ≡ history.old) }
+{
+    let asked = request.copy(alloc)?;
+    if is_of_element(&asked) {
+        return recorded_element(alloc, history, seat, &asked, request, mover);
+    }
+    recorded_any(alloc, history, seat, asked, request, mover)
 }

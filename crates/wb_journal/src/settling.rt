@@ -4,7 +4,7 @@ ghost use Rattle.std.specs.Bool.{Decides};
 ghost use Rattle.wb_journal.specs.Entries.{of_seat};
 ghost use Rattle.wb_journal.specs.Settling.{HasOnePass, IsOnly, Agrees, IsSettled, FirstDifference, DiffersAt, IsMissing, IsDifferent, IsCause};
 
-use crate::entry::Entry;
+use crate::entry::Record;
 use crate::pass::Pass;
 use std::sync::ledger::Ledger;
 
@@ -19,7 +19,7 @@ pub enum Cause {
 }
 
 // Whether an entry stands at a place.
-fn stands_at(own: &[Entry], place: usize, entry: &Entry) -> bool
+fn stands_at(own: &[Record], place: usize, entry: &Record) -> bool
     ensures { Decides result (slice_get own.now place ≡ Some entry.now) }
 {
     match own.get(place) {
@@ -29,12 +29,12 @@ fn stands_at(own: &[Entry], place: usize, entry: &Entry) -> bool
 }
 
 // The first place where the entries of a seat are not those of a list.
-fn first_difference(entries: &[Entry], seat: usize, own: &[Entry]) -> Option<usize>
+fn first_difference(entries: &[Record], seat: usize, own: &[Record]) -> Option<usize>
     ensures { MatchOption result (of_seat seat entries.now ≡ own.now) (λ i. FirstDifference (of_seat seat entries.now) own.now i) }
 {
     let mut place = 0;
     for entry in entries {
-        if entry.seat == seat {
+        if entry.seat() == seat {
             if !stands_at(own, place, entry) {
                 return Some(place);
             }
@@ -76,7 +76,7 @@ fn first_missing<L: Ledger>(passes: &[Pass<L>], seats: usize) -> Option<usize>
 }
 
 // The first place where the entries of a seat are not those of its only pass.
-fn difference_of<L: Ledger>(entries: &[Entry], passes: &[Pass<L>], seat: usize) -> Option<usize>
+fn difference_of<L: Ledger>(entries: &[Record], passes: &[Pass<L>], seat: usize) -> Option<usize>
     requires { HasOnePass passes.now seat }
     ensures { MatchOption result (Agrees entries.now passes.now seat) (λ place. DiffersAt entries.now passes.now seat place) }
 {
@@ -88,7 +88,7 @@ fn difference_of<L: Ledger>(entries: &[Entry], passes: &[Pass<L>], seat: usize) 
 
 // The least seat, and the least place, where they differ.
 fn first_different<L: Ledger>(
-    entries: &[Entry],
+    entries: &[Record],
     passes: &[Pass<L>],
     seats: usize,
 ) -> Option<(usize, usize)>
@@ -105,7 +105,7 @@ fn first_different<L: Ledger>(
 
 /// Why passes and a journal do not agree.
 pub(crate) fn first_cause<L: Ledger>(
-    entries: &[Entry],
+    entries: &[Record],
     passes: &[Pass<L>],
     seats: usize,
 ) -> Option<Cause>

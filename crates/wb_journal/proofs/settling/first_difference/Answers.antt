@@ -5,7 +5,7 @@ use Rattle.std.proofs.lemmas.Option.{slice_get_within}
 use Rattle.wb_journal.specs.declared.entry.Entry.{Entry}
 use Rattle.wb_journal.specs.Entries.{of_seat}
 use Rattle.wb_journal.proofs.Parts.{filter_at, filter_no, same_more, differs_within, differs_past, whole_take}
-use Rattle.wb_journal.proofs.settling.first_difference.Goals.{then-entry-seat+else-not-stands_at, else-entry-seat}
+use Rattle.wb_journal.proofs.settling.first_difference.Goals.{then-seat+else-not-stands_at, else-seat}
 use Rattle.wb_journal.proofs.settling.first_difference.Goals as goal
 
 pub returns-then-not-stands_at : goal.returns-then-not-stands_at
@@ -21,15 +21,15 @@ pub loop-entry-preserved : goal.loop-entry-preserved
 loop-entry-preserved c =
     let e = c.entry-item.result in
     let i = c.loop-entry.entry-index in
-    elim c.if-entry-seat.branch [
-      | then-entry-seat+else-not-stands_at w ↦
+    elim c.if-seat.branch [
+      | then-seat+else-not-stands_at w ↦
           (let t : (e.seat == c.args.seat) ≡ true = grind (arith, nat_tests) in
           let next = w.stands_at.ensures.0 w.if-not-stands_at.false in
           record {
             within = let below = slice_get_within c.args.own.now c.loop-entry.place e next in rw w.place-is (omega arith);
             same = rw w.place-is (same_more (λ (x : Entry). x.seat == c.args.seat) c.args.entries.now c.args.own.now i c.loop-entry.place e c.loop-entry-test.true c.entry-item.is t c.loop-entry.invariant.same next);
           })
-      | else-entry-seat w ↦
+      | else-seat w ↦
           (let t : (e.seat == c.args.seat) ≡ false = grind (arith, nat_tests) in
           record {
             within = rw w.place-is c.loop-entry.invariant.within;
