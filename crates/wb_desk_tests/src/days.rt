@@ -11,7 +11,7 @@ use std::test::Fail;
 use std::thread::Threads;
 use wb_proto::{Reply, Request, read_request, reply_text};
 use wb_redist::{Mover, OneThread};
-use wb_shared::{Cause, Desk, DeskErr, Opening, Pass, settle};
+use wb_shared::{Cause, Desk, DeskErr, Entry, Opening, Pass, Record, settle};
 
 pub const NEW_SET: &str = "{\"op\":\"assoc\",\"d\":\"N\",\"of\":\"int\"}";
 
@@ -98,10 +98,17 @@ fn renumbered<L: Opening>(pass: Pass<L>, seat: usize) -> Pass<L> {
 }
 
 // The pass with another first request.
-fn replaced<L: Opening>(pass: Pass<L>) -> Pass<L> {
+fn replaced<L: Opening>(alloc: Global, pass: Pass<L>) -> Pass<L> {
     let (seat, mut own, share) = pass.into_parts();
+    let other = Entry {
+        seat,
+        request: Request::Print,
+        reply: Reply::Edited(1, 1),
+    };
     if let Some(entry) = own.get_mut(0) {
-        entry.request = Request::Print;
+        if let Ok(other) = Record::whole(alloc, other) {
+            *entry = other;
+        }
     }
     Pass::of_parts(seat, own, share)
 }
@@ -125,7 +132,7 @@ fn done<L: Opening, R: Wait, M: Mover>(
             }
         }
         Act::Renumber(seat) => Some(renumbered(pass, *seat)),
-        Act::Replace => Some(replaced(pass)),
+        Act::Replace => Some(replaced(alloc, pass)),
     }
 }
 

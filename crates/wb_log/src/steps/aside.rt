@@ -6,11 +6,7 @@ use wb_edit::Edit;
 use wb_range::NoMemory;
 
 /// Keeps an edit as the last one, out of force.
-pub fn keep_aside(
-    alloc: Global,
-    entries: &mut Vec<Record>,
-    edit: Edit,
-) -> Result<(), NoMemory>
+pub fn keep_aside(alloc: Global, entries: &mut Vec<Record>, edit: Edit) -> Result<(), NoMemory>
     ensures ok { OnOk result (entries.new.items ≡ entries.old.items ++ record { edit = edit; kept = None } ∷ []) }
     ensures err { OnErr result (entries.new.items ≡ entries.old.items) }
 {

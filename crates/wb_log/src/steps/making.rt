@@ -50,10 +50,7 @@ fn changes_element(changes: &[CellChange], array: &Name, place: &AnyIndex) -> bo
     if changes.len() != 1 {
         return false;
     }
-    is_same(
-        &changes[0].cell(),
-        &Cell::Element(*array, *place),
-    )
+    is_same(&changes[0].cell(), &Cell::Element(*array, *place))
 }
 
 // What an element was, where all that a plan does is to set it, and all that it read is the array and the element.

@@ -22,11 +22,7 @@ use wb_redist::Mover;
 use wb_shelf::Book;
 
 /// What an entry's edit would change in a workbook.
-fn plan_of(
-    alloc: Global,
-    book: &Book,
-    entry: &Record,
-) -> Result<(Delta, Foot, usize), PlanErr>
+fn plan_of(alloc: Global, book: &Book, entry: &Record) -> Result<(Delta, Foot, usize), PlanErr>
     ensures { IsPlan (meaning entry.now.edit) book.now.cells result }
 {
     let edit = entry.edit();

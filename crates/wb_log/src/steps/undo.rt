@@ -23,7 +23,10 @@ fn undo_refusal(entries: &[Record], index: &mut Index, at: usize) -> Option<Refu
 {
     match entries[at].kept() {
         None => Some(Refusal::NotInForce),
-        Some(kept) => match index.footprints.first_to_block_undo(entries, at, kept.before()) {
+        Some(kept) => match index
+            .footprints
+            .first_to_block_undo(entries, at, kept.before())
+        {
             Some(by) => Some(Refusal::Blocked(by)),
             None => None,
         },
