@@ -147,7 +147,7 @@ course_left c k asked r d a e = by_entered (is_entered r) a
     by_entered true enters = left c.history asked r d.history enters.reply e
     by_entered false same = ap (λ (x : Course). x.history) same
 
--- What was asked of an element leaves the history, but for a new value that was accepted.
+-- What is kept by its numbers leaves the history, but for a new value that was accepted.
 change_leaves : (p : Past) (e : _) (r : Reply) (q : Past) → is_set e ≡ true → Step p (Change e) r q → sets_element (Change e) r ≡ false → q ≡ p
 change_leaves p e (Edited k n) q set s off = cc (set, off)
 change_leaves p e (Undone k n) q set s off = absurd s
@@ -170,6 +170,17 @@ ask_leaves p a (Printed t) q s = absurd s
 ask_leaves p a (Counted n w) q s = absurd s
 ask_leaves p a (Refused why) q s = refused_leaves p (Ask a) why q s
 
+edits_leaves : (p : Past) (r : Reply) (q : Past) → Step p Edits r q → q ≡ p
+edits_leaves p (Edited k n) q s = absurd s
+edits_leaves p (Undone k n) q s = absurd s
+edits_leaves p (Cascaded ks n) q s = absurd s
+edits_leaves p (Redone k n) q s = absurd s
+edits_leaves p (Listed ks) q s = absurd s
+edits_leaves p (Answered a) q s = absurd s
+edits_leaves p (Printed t) q s = absurd s
+edits_leaves p (Counted n w) q s = s.2
+edits_leaves p (Refused why) q s = absurd s
+
 pub element_leaves : (p : Past) (asked : Request) (r : Reply) (q : Past) → sets_or_asks asked ≡ true → Step p asked r q → sets_element asked r ≡ false → q ≡ p
 element_leaves p (Change e) r q small s off = change_leaves p e r q small s off
 element_leaves p (Ask a) r q small s off = ask_leaves p a r q s
@@ -179,4 +190,4 @@ element_leaves p (Cascade k) r q small s off = cc
 element_leaves p (Dependents k) r q small s off = cc
 element_leaves p Print r q small s off = cc
 element_leaves p History r q small s off = cc
-element_leaves p Edits r q small s off = cc
+element_leaves p Edits r q small s off = edits_leaves p r q s

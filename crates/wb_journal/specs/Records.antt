@@ -5,12 +5,12 @@ use Rattle.wb_edit.specs.declared.edit.Edit.TheVariants.{Set as SetTo}
 use Rattle.wb_history.specs.declared.query.Query.TheVariants.{Get as GetOf}
 use Rattle.wb_history.specs.declared.query.Answer.TheVariants.{Value}
 use Rattle.wb_proto.specs.declared.replies.reply.Reply.{Reply}
-use Rattle.wb_proto.specs.declared.replies.reply.Reply.TheVariants.{Edited, Answered}
+use Rattle.wb_proto.specs.declared.replies.reply.Reply.TheVariants.{Edited, Answered, Counted}
 use Rattle.wb_proto.specs.declared.requests.request.Request.{Request}
-use Rattle.wb_proto.specs.declared.requests.request.Request.TheVariants.{Change, Ask}
+use Rattle.wb_proto.specs.declared.requests.request.Request.TheVariants.{Change, Ask, Edits}
 use Rattle.wb_journal.specs.declared.entry.Entry.{Entry}
 use Rattle.wb_journal.specs.declared.entry.Form.{Form}
-use Rattle.wb_journal.specs.declared.entry.Form.TheVariants.{Set, Get, Whole}
+use Rattle.wb_journal.specs.declared.entry.Form.TheVariants.{Set, Get, Count, Whole}
 use Rattle.wb_journal.specs.declared.entry.LentEntry.{LentEntry}
 use Rattle.wb_journal.specs.declared.entry.LentEntry.TheVariants.{Own, Lent}
 
@@ -18,6 +18,7 @@ use Rattle.wb_journal.specs.declared.entry.LentEntry.TheVariants.{Own, Lent}
 abbrev pub shown : Form → Entry
 shown (Set x) = record { seat = x.seat; request = Change (SetTo x.array x.place x.value); reply = Edited x.number x.count }
 shown (Get x) = record { seat = x.seat; request = Ask (GetOf x.array x.place); reply = Answered (Value x.value) }
+shown (Count x) = record { seat = x.seat; request = Edits; reply = Counted x.edits x.writes }
 shown (Whole w) = w.value
 
 -- the entry that is lent
@@ -35,10 +36,11 @@ abbrev pub is_edited : Reply → Bool
 is_edited (Edited k n) = true
 is_edited _ = false
 
--- whether a request is a new value of an element, or a question
+-- whether a request is a new value of an element, a question, or one for how many edits there are
 abbrev pub sets_or_asks : Request → Bool
 sets_or_asks (Change e) = is_set e
 sets_or_asks (Ask q) = true
+sets_or_asks Edits = true
 sets_or_asks _ = false
 
 -- whether a request is a new value of an element, and was accepted

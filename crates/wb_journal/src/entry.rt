@@ -57,6 +57,14 @@ pub struct ReadElement {
     value: i64,
 }
 
+/// A question how many edits there are, and its answer.
+#[derive(Drop)]
+pub struct CountedEdits {
+    seat: usize,
+    edits: u64,
+    writes: u128,
+}
+
 /// How an entry is kept.
 #[derive(Drop)]
 pub enum Form {
@@ -64,6 +72,8 @@ pub enum Form {
     Set(NewElement),
     /// A question for an element, and its value.
     Get(ReadElement),
+    /// A question how many edits there are, and its answer.
+    Count(CountedEdits),
     /// Any entry.
     Whole(Box<Entry>),
 }
@@ -139,6 +149,11 @@ impl Record {
                 request: Request::Ask(Query::Get(x.array, x.place)),
                 reply: Reply::Answered(Answer::Value(x.value)),
             }),
+            Form::Count(x) => LentEntry::Own(Entry {
+                seat: x.seat,
+                request: Request::Edits,
+                reply: Reply::Counted(x.edits, x.writes),
+            }),
             Form::Whole(entry) => LentEntry::Lent(entry),
         }
     }
@@ -150,6 +165,7 @@ impl Record {
         match &self.form {
             Form::Set(x) => x.seat,
             Form::Get(x) => x.seat,
+            Form::Count(x) => x.seat,
             Form::Whole(entry) => entry.seat,
         }
     }
@@ -180,21 +196,21 @@ fn is_get(query: &Query) -> bool {
     }
 }
 
-/// Whether a request asks for an element, or for a new value of one: the records of those take no memory of their own,
-/// where they are accepted.
-pub(crate) fn is_of_element(request: &Request) -> bool
+/// Whether a request asks for an element, for a new value of one, or how many edits there are: the records of those take
+/// no memory of their own, where they are accepted.
+pub(crate) fn is_of_numbers(request: &Request) -> bool
     ensures { result ≡ true → sets_or_asks request.now ≡ true }
 {
     match request {
         Request::Change(edit) => is_set(edit),
         Request::Ask(query) => is_get(query),
+        Request::Edits => true,
         Request::Undo(_)
         | Request::Redo(_)
         | Request::Cascade(_)
         | Request::Dependents(_)
         | Request::Print
-        | Request::History
-        | Request::Edits => false,
+        | Request::History => false,
     }
 }
 
@@ -241,20 +257,36 @@ fn get_record(seat: usize, query: &Query, reply: &Reply) -> Option<Record>
     }
 }
 
-/// The record of an element that was set or read, without memory of its own.
-pub(crate) fn element_record(seat: usize, request: &Request, reply: &Reply) -> Option<Record>
+// The record of a question how many edits there are.
+fn count_record(seat: usize, reply: &Reply) -> Option<Record>
+    ensures { IfSome result (λ x. x ≡ entry seat asked.Edits reply.now) }
+{
+    match reply {
+        Reply::Counted(edits, writes) => Some(Record {
+            form: Form::Count(CountedEdits {
+                seat,
+                edits: *edits,
+                writes: *writes,
+            }),
+        }),
+        _ => None,
+    }
+}
+
+/// The record of an element that was set or read, or of how many edits there are, without memory of its own.
+pub(crate) fn small_record(seat: usize, request: &Request, reply: &Reply) -> Option<Record>
     ensures some { IfSome result (λ x. x ≡ entry seat request.now reply.now) }
     ensures none { result ≡ None → sets_element request.now reply.now ≡ false }
 {
     match request {
         Request::Change(edit) => set_record(seat, edit, reply),
         Request::Ask(query) => get_record(seat, query, reply),
+        Request::Edits => count_record(seat, reply),
         Request::Undo(_)
         | Request::Redo(_)
         | Request::Cascade(_)
         | Request::Dependents(_)
         | Request::Print
-        | Request::History
-        | Request::Edits => None,
+        | Request::History => None,
     }
 }

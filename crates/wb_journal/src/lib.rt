@@ -9,7 +9,7 @@ mod replying;
 mod settling;
 
 pub use crate::counted::Counted;
-pub use crate::entry::{Entry, Form, LentEntry, NewElement, ReadElement, Record};
+pub use crate::entry::{CountedEdits, Entry, Form, LentEntry, NewElement, ReadElement, Record};
 pub use crate::journal::Journal;
 pub use crate::pass::Pass;
 pub use crate::settling::Cause;

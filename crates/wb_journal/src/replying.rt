@@ -8,7 +8,7 @@ ghost use Rattle.wb_journal.specs.Entries.{is_told, is_entered, is_long, cascade
 ghost use Rattle.wb_journal.specs.Records.{sets_or_asks};
 ghost use Rattle.wb_journal.specs.Serving.{entry};
 
-use crate::entry::{Entry, Record, element_record, is_of_element};
+use crate::entry::{Entry, Record, is_of_numbers, small_record};
 use std::alloc::Global;
 use wb_history::{History, Refusal};
 use wb_proto::{EditNumbers, Reply, Request, answer_request};
@@ -207,8 +207,9 @@ fn copied_entry(
     )
 }
 
-// Answers a request that asks for an element or for a new value of one: the reply, and two records of it.
-fn recorded_element<M: Mover>(
+// Answers a request that asks for an element, for a new value of one, or how many edits there are: the reply, and two
+// records of it.
+fn recorded_small<M: Mover>(
     alloc: Global,
     history: &mut History,
     seat: usize,
@@ -225,8 +226,8 @@ fn recorded_element<M: Mover>(
     if !is_entered(&reply) {
         return Err(NoMemory);
     }
-    if let Some(first) = element_record(seat, asked, &reply) {
-        if let Some(second) = element_record(seat, asked, &reply) {
+    if let Some(first) = small_record(seat, asked, &reply) {
+        if let Some(second) = small_record(seat, asked, &reply) {
             return Ok((reply, first, second));
         }
     }
@@ -269,8 +270,8 @@ pub(crate) fn recorded<M: Mover>(
     ensures err { OnErr result (history.new ≡ history.old) }
 {
     let asked = request.copy(alloc)?;
-    if is_of_element(&asked) {
-        return recorded_element(alloc, history, seat, &asked, request, mover);
+    if is_of_numbers(&asked) {
+        return recorded_small(alloc, history, seat, &asked, request, mover);
     }
     recorded_any(alloc, history, seat, asked, request, mover)
 }
