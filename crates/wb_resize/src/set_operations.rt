@@ -1,22 +1,44 @@
 //! What two sets of indices make.
 
-ghost use Rattle.std.specs.Prelude.{◌≡◌, ◌++◌, not, IfOk, OnOk};
+ghost use Rattle.std.specs.Prelude.{◌≡◌, ◌++◌, true, is_some, IfOk, OnOk};
 ghost use Rattle.wb_book.specs.WellFormed.{has};
 ghost use Rattle.wb_range.specs.Domain.{IsListedOnce};
 ghost use Rattle.wb_resize.specs.Resized.{without};
 ghost use Rattle.wb_resize.specs.Sources.{among, combined, ascending};
 
 use crate::source::SetOperation;
-use std::alloc::{AllocError, Global};
+use std::alloc::Global;
 use wb_assoc::Assoc;
 use wb_book::AnyIndex;
 use wb_range::{Domain, NoMemory};
 
-// Whether an index is one of a set.
-fn is_in(set: &Assoc<AnyIndex>, index: &AnyIndex) -> bool
-    ensures { result ≡ has set.now index.now }
+// Whether an index stands at a place of a set.
+fn stands_at(set: &Assoc<AnyIndex>, index: &AnyIndex, place: usize) -> bool
+    ensures { result ≡ true → has set.now index.now ≡ true }
 {
-    set.contains(*index)
+    match set.nth(place) {
+        Some(there) => there.is_same(index),
+        None => false,
+    }
+}
+
+// The place of an index in a set. It is first looked for where it may be: the search is short where a list that ascends,
+// as the set does, is gone through.
+fn place_near(set: &Assoc<AnyIndex>, index: &AnyIndex, near: usize) -> Option<usize>
+    ensures { is_some result ≡ has set.now index.now }
+{
+    if stands_at(set, index, near) {
+        return Some(near);
+    }
+    set.place_of(*index)
+}
+
+// Where the next index may be, after a search near a place.
+fn after(found: Option<usize>, near: usize) -> usize {
+    match found {
+        Some(place) => place.saturating_add(1),
+        None => near,
+    }
 }
 
 // Those of `listed` that are not in a set.
@@ -24,18 +46,19 @@ fn kept_outside(
     alloc: Global,
     set: &Assoc<AnyIndex>,
     listed: &[AnyIndex],
-) -> Result<Vec<AnyIndex>, AllocError>
+) -> Result<Vec<AnyIndex>, NoMemory>
     ensures { IfOk result (λ v. v.items ≡ without set.now listed.now) }
 {
-    listed
-        .iter()
-        .copied()
-        .filter(
-            |index: &AnyIndex| -> bool
-                ensures { result ≡ not (has set.entry.now index.now) }
-            { !is_in(set, index) },
-        )
-        .collect(alloc)
+    let mut kept = Vec::new(alloc);
+    let mut near = 0;
+    for index in listed {
+        let found = place_near(set, index, near);
+        if found.is_none() && kept.push(*index).is_err() {
+            return Err(NoMemory);
+        }
+        near = after(found, near);
+    }
+    Ok(kept)
 }
 
 // Those of `listed` that are in a set.
@@ -43,23 +66,25 @@ fn kept_inside(
     alloc: Global,
     set: &Assoc<AnyIndex>,
     listed: &[AnyIndex],
-) -> Result<Vec<AnyIndex>, AllocError>
+) -> Result<Vec<AnyIndex>, NoMemory>
     ensures { IfOk result (λ v. v.items ≡ among set.now listed.now) }
 {
-    listed
-        .iter()
-        .copied()
-        .filter(
-            |index: &AnyIndex| -> bool
-                ensures { result ≡ has set.entry.now index.now }
-            { is_in(set, index) },
-        )
-        .collect(alloc)
+    let mut kept = Vec::new(alloc);
+    let mut near = 0;
+    for index in listed {
+        let found = place_near(set, index, near);
+        if found.is_some() && kept.push(*index).is_err() {
+            return Err(NoMemory);
+        }
+        near = after(found, near);
+    }
+    Ok(kept)
 }
 
 /// The indices of `listed` that are not among the others, in their order.
 ///
-/// It takes the time of a sort of the others, and a binary search for each of `listed`.
+/// It takes the time of a sort of the others, and a binary search for each of `listed` that doesn't stand in the set right
+/// behind the one before it.
 pub fn without(
     alloc: Global,
     others: &[AnyIndex],
@@ -75,7 +100,8 @@ pub fn without(
 
 /// The indices of `listed` that are among the others too, in their order.
 ///
-/// It takes the time of a sort of the others, and a binary search for each of `listed`.
+/// It takes the time of a sort of the others, and a binary search for each of `listed` that doesn't stand in the set right
+/// behind the one before it.
 pub fn among(
     alloc: Global,
     others: &[AnyIndex],
