@@ -34,12 +34,12 @@ true-T : (b : Bool) → b ≡ true → T b
 true-T true h = tt
 true-T false h = absurd (true≢false (sym h))
 
-drop_at : {X : Type 0} (xs : List X) (k : ℕ) (x : X) → k < length xs → x ≡ get_or xs k x → drop k xs ≡ x ∷ drop (k + 1) xs
+pub drop_at : {X : Type 0} (xs : List X) (k : ℕ) (x : X) → k < length xs → x ≡ get_or xs k x → drop k xs ≡ x ∷ drop (k + 1) xs
 drop_at [] k x l e = absurd (omega arith)
 drop_at (y ∷ xs) zero x l e = λ i. sym e i ∷ xs
 drop_at (y ∷ xs) (suc k) x l e = let next : suc k + 1 ≡ suc (k + 1) = omega arith in rw next (drop_at xs k x (omega arith) e)
 
-drop_past : {X : Type 0} (xs : List X) (k : ℕ) → length xs ≤ k → drop k xs ≡ []
+pub drop_past : {X : Type 0} (xs : List X) (k : ℕ) → length xs ≤ k → drop k xs ≡ []
 drop_past [] zero l = refl
 drop_past [] (suc k) l = refl
 drop_past (x ∷ xs) zero l = absurd (omega arith)

@@ -5,7 +5,7 @@ ghost use Rattle.std.specs.BTreeMap.{is_at};
 ghost use Rattle.wb_array.specs.Elements.{value_at};
 ghost use Rattle.wb_pieces.specs.Pieces.{piece_of, pieces_of, lists_of, merged, LieBelow};
 
-use crate::part::part_of;
+use crate::part::{dealt, part_of};
 use std::alloc::{AllocError, Global};
 use std::collections::BTreeMap;
 use std::marker::{Model, PhantomData};
@@ -45,6 +45,42 @@ impl<D: Domain, M: Mapping<Index = D::Index>> Pieces<D, M> {
             Err(refusal) => return Err(refusal),
         };
         Ok(Pieces::from_parts(alloc, mapping, whole, pieces))
+    }
+
+    /// The array of these pairs, which ascend, split by the mapping in one pass over them.
+    pub fn of_pairs(
+        alloc: Global,
+        mapping: &M,
+        pairs: &[(D::Index, i64)],
+    ) -> Result<Pieces<D, M>, NoMemory>
+        requires { IsStrictlySortedBy D.Index.cmp (keys_of pairs.now) }
+        ensures { IfOk result (λ p. p ≡ (pairs.now, mapping.now)) }
+    {
+        match dealt(alloc, mapping, pairs) {
+            Ok(pieces) => Ok(Pieces::from_lists(alloc, mapping, pairs, pieces)),
+            Err(_) => Err(NoMemory),
+        }
+    }
+
+    // The pieces of pairs, which ascend, from the vectors that `dealt` made of them.
+    fn from_lists(
+        alloc: Global,
+        mapping: &M,
+        pairs: &[(D::Index, i64)],
+        pieces: Vec<Vec<(D::Index, i64)>>,
+    ) -> Pieces<D, M>
+        requires ascending { IsStrictlySortedBy D.Index.cmp (keys_of pairs.now) }
+        requires are_pieces { lists_of pieces.items ≡ pieces_of (M.locale mapping.now) (M.locale_count mapping.now) pairs.now }
+        requires below { LieBelow (M.locale mapping.now) (M.locale_count mapping.now) pairs.now }
+        ensures { result ≡ (pairs.now, mapping.now) }
+    {
+        Pieces {
+            pieces,
+            size: pairs.len(),
+            mapping: *mapping,
+            alloc,
+            of: PhantomData,
+        }
     }
 
     /// The pieces of an array, from the vectors that `part_of` made of it.

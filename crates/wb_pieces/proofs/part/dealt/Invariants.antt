@@ -1,0 +1,10 @@
+use Rattle.std.proofs.Common.{drop}
+use Rattle.wb_pieces.specs.Pieces.{lists_of}
+use Rattle.wb_pieces.proofs.Parts.{IsUnderway}
+use Rattle.wb_pieces.proofs.part.dealt.Given as goal
+
+abbrev pub invariant-loop-index : goal.invariant-loop-index
+invariant-loop-index g l =
+    let locale = g.M.Mapping.locale l.mapping in
+    let n = g.M.Mapping.locale_count l.mapping in
+    IsUnderway locale n 0 n l.pairs (drop l.index-index l.pairs) (lists_of l.pieces.items)
