@@ -25,7 +25,7 @@ one_index i j e = index_cmp-IsAntisymmetric i j ((Equal-is _).0 e)
 
 module _ {I : Type 0} (cmp : I → I → Ordering) (f : I → Index) (alike : (x y : I) → index_cmp (f x) (f y) ≡ cmp x y) where
   -- where there is an element, the index is that of a key
-  as_key : (es : List (I × ℤ)) (i : Index) → (value_at index_cmp (indexed f es) i ≡ None) ⊎ ((k : I) × (f k ≡ i))
+  pub as_key : (es : List (I × ℤ)) (i : Index) → (value_at index_cmp (indexed f es) i ≡ None) ⊎ ((k : I) × (f k ≡ i))
   as_key [] i = inl refl
   as_key (e ∷ es) i = by (is_same_index i (f e.0)) refl (as_key es i)
     where

@@ -407,7 +407,7 @@ fn only_piece<D: Domain, M: Mapping<Index = D::Index>>(
 fn pairs_on<I: AsIndex>(alloc: Global, pairs: &[(I, i64)]) -> Result<Vec<(AnyIndex, i64)>, NoMemory>
     ensures { IfOk result (λ v. v.items ≡ indexed I.as_index pairs.now) }
 {
-    let mut found = Vec::new(alloc);
+    let mut found = Vec::with_capacity(alloc, pairs.len())?;
     for (index, value) in pairs {
         if found.push((index.any(), *value)).is_err() {
             return Err(NoMemory);
@@ -423,8 +423,7 @@ fn pairs_in<I: AsIndex>(
     ensures pairs { IfOk result (λ v. v.items ≡ indexed I.as_index map.now.entries) }
     ensures ascending { IfOk result (λ v. IsStrictlySortedBy index_cmp (keys_of v.items)) }
 {
-    let _ = map.len();
-    let mut pairs = Vec::new(alloc);
+    let mut pairs = Vec::with_capacity(alloc, map.len())?;
     for (index, value) in map {
         if pairs.push((index.any(), *value)).is_err() {
             return Err(NoMemory);

@@ -1,4 +1,4 @@
-use Rattle.std.proofs.Common.{◌≡◌, Option, map, sym, ap, subst, ◌∙◌}
+use Rattle.std.proofs.Common.{Option, map, sym, ap, subst, ◌∙◌}
 use Rattle.selective_undo.specs.Changes.{inverse, AllOnce}
 use Rattle.selective_undo.specs.declared.Change.{Change}
 use Rattle.wb_book.specs.declared.cells.cell.Cell.{Cell}
