@@ -1,17 +1,15 @@
 -- What has entered the indexes, as edits come, go and enter.
-use Rattle.std.proofs.Common.{if◌then◌else◌, ◌≡◌, ℕ, zero, suc, ◌+◌, ◌-◌, ◌<◌, ◌≤◌, ◌==◌, nat_lt, Bool, true, false, List, [], ◌∷◌, ◌++◌, length, drop, refl, sym, ap, ◌∙◌, subst, Option, Some, None, is_some, option_map, Result, Ok, Err, IfOk, OnOk, OnErr, slice_get, slice_set, arith, add-one}
+use Rattle.std.proofs.Common.{if◌then◌else◌, ◌≡◌, ℕ, zero, suc, ◌+◌, ◌-◌, ◌<◌, ◌≤◌, ◌==◌, nat_lt, Bool, true, false, List, [], ◌∷◌, ◌++◌, length, drop, refl, sym, ap, ◌∙◌, subst, Option, Some, None, is_some, Result, Ok, Err, IfOk, OnOk, OnErr, slice_get, slice_set, arith, add-one}
 use Rattle.std.proofs.lemmas.Bool.Decides.{nat_tests}
 use Rattle.std.proofs.lemmas.List.{length-append}
 use Rattle.selective_undo.specs.Log.{Foot, first_from}
 use Rattle.selective_undo.proofs.Log.{set-map, append-map}
-use Rattle.wb_book.specs.declared.cells.pattern.Pattern.{Pattern}
-use Rattle.wb_book.specs.Cells.{Changes, Contents}
+use Rattle.wb_book.specs.Cells.{Contents}
 use Rattle.wb_edit.specs.Schema.{workbook}
 use Rattle.wb_foot.specs.declared.foot_index.FootIndex.{FootIndex}
-use Rattle.wb_foot.specs.Feet.{Feet, IsIndexOf, foot, with_foot}
+use Rattle.wb_foot.specs.Feet.{Feet, IsIndexOf, with_foot}
 use Rattle.wb_foot.specs.Relation.{IsLeastAfter, IsGreatest}
 use Rattle.wb_log.specs.declared.entry.Entry as kept
-use Rattle.wb_log.specs.declared.entry.Kept.{Kept}
 use Rattle.wb_log.specs.declared.index.Index.{Index}
 use Rattle.wb_log.specs.declared.refusal.Refusal.{Refusal}
 use Rattle.wb_log.specs.Kept.{kept_in, kept_all, feet_of, by_number, IsLatest, TakenBack}

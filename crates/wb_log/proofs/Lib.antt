@@ -1,5 +1,5 @@
 pub mod Entries
-pub mod Elements
+pub mod Numbers
 pub mod Redone
 pub mod Latest
 pub mod Valid

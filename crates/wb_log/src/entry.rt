@@ -2,9 +2,12 @@
 
 ghost use Rattle.std.specs.Prelude.{◌≡◌, [], ◌∷◌, None, IfOk, is_some, option_map};
 ghost use Rattle.selective_undo.specs.Changes.{AllOnce};
+ghost use Rattle.wb_book.specs.declared.cells.cell.Cell.TheVariants as cell;
+ghost use Rattle.wb_book.specs.declared.cells.pattern.Pattern.TheVariants as pattern;
 ghost use Rattle.wb_book.specs.Cells.{cell_cmp};
+ghost use Rattle.wb_edit.specs.declared.edit.Edit.TheVariants as command;
 ghost use Rattle.wb_log.specs.Kept.{kept_in};
-ghost use Rattle.wb_log.specs.Records.{element_reads as reads_of, element_before as before_of, lent_edit, lent_foot};
+ghost use Rattle.wb_log.specs.Records.{element_reads, copy_reads, implicit_reads, number_before as before_of, lent_edit, lent_foot, shown, kept_of};
 
 use std::alloc::Global;
 use std::marker::Model;
@@ -36,11 +39,35 @@ pub struct Element {
     pub(crate) was: Option<i64>,
 }
 
-/// How an entry is kept.
+/// An element that became another one and a number more, and what it was, while the edit is in force.
+#[derive(Drop)]
+pub struct Copied {
+    pub(crate) array: Name,
+    pub(crate) place: AnyIndex,
+    pub(crate) source: Name,
+    pub(crate) from: AnyIndex,
+    pub(crate) more: i64,
+    pub(crate) was: Option<i64>,
+}
+
+/// A new implicit value of an array, and what it was, while the edit is in force.
+#[derive(Drop)]
+pub struct Implicit {
+    pub(crate) array: Name,
+    pub(crate) value: i64,
+    pub(crate) was: Option<i64>,
+}
+
+/// How an entry is kept. Of all forms but the last, what the edit read, and what takes it back, follow from what the number
+/// was that it changed.
 #[derive(Drop)]
 pub enum Form {
-    /// A new value of an element: what it read, and what takes it back, follow from what the element was.
+    /// A new value of an element that was there.
     Set(Element),
+    /// A copy of an element that was there to one that was there.
+    Copy(Box<Copied>),
+    /// A new implicit value.
+    Irv(Implicit),
     /// Any edit.
     Whole(Box<Entry>),
 }
@@ -82,7 +109,9 @@ impl<'a> LentEdit<'a> {
 /// What is kept of an edit in force, lent, or made for the moment.
 #[derive(Drop)]
 pub enum LentFoot<'a> {
-    Element([Pattern; 2], CellChange),
+    Set([Pattern; 2], CellChange),
+    Copy([Pattern; 4], CellChange),
+    Irv([Pattern; 1], CellChange),
     Lent(&'a Kept),
 }
 
@@ -92,7 +121,9 @@ impl<'a> LentFoot<'a> {
         ensures { result.now ≡ (lent_foot self.now).reads }
     {
         match self {
-            LentFoot::Element(reads, _) => reads,
+            LentFoot::Set(reads, _) => reads,
+            LentFoot::Copy(reads, _) => reads,
+            LentFoot::Irv(reads, _) => reads,
             LentFoot::Lent(kept) => kept.foot.reads(),
         }
     }
@@ -103,47 +134,145 @@ impl<'a> LentFoot<'a> {
         ensures once { AllOnce cell_cmp (lent_foot self.now).before }
     {
         match self {
-            LentFoot::Element(_, before) => from_ref(before),
+            LentFoot::Set(_, before) => from_ref(before),
+            LentFoot::Copy(_, before) => from_ref(before),
+            LentFoot::Irv(_, before) => from_ref(before),
             LentFoot::Lent(kept) => kept.inverse.before(),
         }
     }
 }
 
-fn element_reads(array: &Name, place: &AnyIndex) -> [Pattern; 2]
-    ensures { result ≡ reads_of array.now place.now }
+// What sets a cell back that held a number.
+fn number_before(changed: Cell, was: &i64) -> CellChange
+    ensures { result ∷ [] ≡ before_of changed was.now }
 {
-    [
-        Pattern::One(AnyCell::new(Cell::Object(*array))),
-        Pattern::One(AnyCell::new(Cell::Element(*array, *place))),
-    ]
+    CellChange::new(changed, Some(Value::Number(*was)))
 }
 
-fn element_before(array: &Name, place: &AnyIndex, was: &i64) -> CellChange
-    ensures { result ∷ [] ≡ before_of array.now place.now was.now }
+// The pattern of what stands under a name, and that of an element.
+fn object_pattern(name: &Name) -> Pattern
+    ensures { result ≡ pattern.One (cell.Object name.now) }
 {
-    CellChange::new(Cell::Element(*array, *place), Some(Value::Number(*was)))
+    Pattern::One(AnyCell::new(Cell::Object(*name)))
+}
+
+fn element_pattern(array: &Name, place: &AnyIndex) -> Pattern
+    ensures { result ≡ pattern.One (cell.Element array.now place.now) }
+{
+    Pattern::One(AnyCell::new(Cell::Element(*array, *place)))
+}
+
+impl Element {
+    /// The edit.
+    pub(crate) fn edit(&self) -> Edit
+        ensures { result ≡ command.Set self.now.array self.now.place self.now.value }
+    {
+        Edit::Set(self.array, self.place, self.value)
+    }
+
+    /// The cell that it changes.
+    pub(crate) fn cell(&self) -> Cell
+        ensures { result ≡ cell.Element self.now.array self.now.place }
+    {
+        Cell::Element(self.array, self.place)
+    }
+
+    /// What it reads.
+    pub(crate) fn reads(&self) -> [Pattern; 2]
+        ensures { result ≡ element_reads self.now.array self.now.place }
+    {
+        [
+            object_pattern(&self.array),
+            element_pattern(&self.array, &self.place),
+        ]
+    }
+}
+
+impl Copied {
+    /// The edit.
+    pub(crate) fn edit(&self) -> Edit
+        ensures { result ≡ command.Copy self.now.array self.now.place self.now.source self.now.from self.now.more }
+    {
+        Edit::Copy(self.array, self.place, self.source, self.from, self.more)
+    }
+
+    /// The cell that it changes.
+    pub(crate) fn cell(&self) -> Cell
+        ensures { result ≡ cell.Element self.now.array self.now.place }
+    {
+        Cell::Element(self.array, self.place)
+    }
+
+    /// What it reads, where both elements are there.
+    pub(crate) fn reads(&self) -> [Pattern; 4]
+        ensures { result ≡ copy_reads self.now.array self.now.place self.now.source self.now.from }
+    {
+        [
+            object_pattern(&self.array),
+            object_pattern(&self.source),
+            element_pattern(&self.array, &self.place),
+            element_pattern(&self.source, &self.from),
+        ]
+    }
+}
+
+impl Implicit {
+    /// The edit.
+    pub(crate) fn edit(&self) -> Edit
+        ensures { result ≡ command.Irv self.now.array self.now.value }
+    {
+        Edit::Irv(self.array, self.value)
+    }
+
+    /// The cell that it changes.
+    pub(crate) fn cell(&self) -> Cell
+        ensures { result ≡ cell.Implicit self.now.array }
+    {
+        Cell::Implicit(self.array)
+    }
+
+    /// What it reads.
+    pub(crate) fn reads(&self) -> [Pattern; 1]
+        ensures { result ≡ implicit_reads self.now.array }
+    {
+        [object_pattern(&self.array)]
+    }
+}
+
+impl Form {
+    /// Keeps the number that was, or none, where the edit is out of force. One that is kept whole is out of force then.
+    pub(crate) fn keep(&mut self, was: Option<i64>)
+        ensures { shown self.new ≡ record { edit = (shown self.old).edit; kept = kept_of self.old was } }
+    {
+        match self {
+            Form::Set(element) => element.was = was,
+            Form::Copy(copied) => copied.was = was,
+            Form::Irv(implicit) => implicit.was = was,
+            Form::Whole(entry) => entry.kept = None,
+        }
+    }
+
+    /// The edit, as a value of its own; `NoMemory` where none is left for one that is kept whole.
+    pub(crate) fn copy_of_edit(&self, alloc: Global) -> Result<Edit, NoMemory>
+        ensures { IfOk result (λ e. e ≡ (shown self.now).edit) }
+    {
+        match self {
+            Form::Set(element) => Ok(element.edit()),
+            Form::Copy(copied) => Ok(copied.edit()),
+            Form::Irv(implicit) => Ok(implicit.edit()),
+            Form::Whole(entry) => entry.edit.copy(alloc),
+        }
+    }
 }
 
 impl Record {
-    /// An edit out of force; `NoMemory` where none is left for one that isn't a new value of an element.
+    /// An edit out of force; `NoMemory` where none is left for one that isn't a new value of an element or of an array.
     pub fn aside(alloc: Global, edit: Edit) -> Result<Record, NoMemory>
         ensures { IfOk result (λ x. x ≡ record { edit = edit; kept = None }) }
     {
-        match edit {
-            Edit::Set(array, place, value) => Ok(Record {
-                form: Form::Set(Element {
-                    array,
-                    place,
-                    value,
-                    was: None,
-                }),
-            }),
-            edit => match Box::new(alloc, Entry { edit, kept: None }) {
-                Ok(entry) => Ok(Record {
-                    form: Form::Whole(entry),
-                }),
-                Err(_) => Err(NoMemory),
-            },
+        match form_aside(alloc, edit) {
+            Ok(form) => Ok(Record { form }),
+            Err(why) => Err(why),
         }
     }
 
@@ -152,9 +281,9 @@ impl Record {
         ensures { lent_edit result ≡ self.now.edit }
     {
         match &self.form {
-            Form::Set(element) => {
-                LentEdit::Own(Edit::Set(element.array, element.place, element.value))
-            }
+            Form::Set(element) => LentEdit::Own(element.edit()),
+            Form::Copy(copied) => LentEdit::Own(copied.edit()),
+            Form::Irv(implicit) => LentEdit::Own(implicit.edit()),
             Form::Whole(entry) => LentEdit::Lent(&entry.edit),
         }
     }
@@ -165,6 +294,8 @@ impl Record {
     {
         match &self.form {
             Form::Set(element) => element.was.is_some(),
+            Form::Copy(copied) => copied.was.is_some(),
+            Form::Irv(implicit) => implicit.was.is_some(),
             Form::Whole(entry) => entry.kept.is_some(),
         }
     }
@@ -176,9 +307,23 @@ impl Record {
         match &self.form {
             Form::Set(element) => match &element.was {
                 None => None,
-                Some(was) => Some(LentFoot::Element(
-                    element_reads(&element.array, &element.place),
-                    element_before(&element.array, &element.place, was),
+                Some(was) => Some(LentFoot::Set(
+                    element.reads(),
+                    number_before(element.cell(), was),
+                )),
+            },
+            Form::Copy(copied) => match &copied.was {
+                None => None,
+                Some(was) => Some(LentFoot::Copy(
+                    copied.reads(),
+                    number_before(copied.cell(), was),
+                )),
+            },
+            Form::Irv(implicit) => match &implicit.was {
+                None => None,
+                Some(was) => Some(LentFoot::Irv(
+                    implicit.reads(),
+                    number_before(implicit.cell(), was),
                 )),
             },
             Form::Whole(entry) => match &entry.kept {
@@ -189,12 +334,47 @@ impl Record {
     }
 
     /// Nothing is kept any more: the edit is out of force.
+    #[tactic(auto, using(crate::proofs::Numbers::none_kept))]
     pub fn end(&mut self)
         ensures { self.new ≡ record { edit = self.old.edit; kept = None } }
     {
-        match &mut self.form {
-            Form::Set(element) => element.was = None,
-            Form::Whole(entry) => entry.kept = None,
+        self.form.keep(None);
+    }
+}
+
+// The form for an edit, which is out of force.
+fn form_aside(alloc: Global, edit: Edit) -> Result<Form, NoMemory>
+    ensures { IfOk result (λ f. shown f ≡ record { edit = edit; kept = None }) }
+{
+    match edit {
+        Edit::Set(array, place, value) => Ok(Form::Set(Element {
+            array,
+            place,
+            value,
+            was: None,
+        })),
+        Edit::Irv(array, value) => Ok(Form::Irv(Implicit {
+            array,
+            value,
+            was: None,
+        })),
+        Edit::Copy(array, place, source, from, more) => {
+            let copied = Copied {
+                array,
+                place,
+                source,
+                from,
+                more,
+                was: None,
+            };
+            match Box::new(alloc, copied) {
+                Ok(copied) => Ok(Form::Copy(copied)),
+                Err(_) => Err(NoMemory),
+            }
         }
+        edit => match Box::new(alloc, Entry { edit, kept: None }) {
+            Ok(entry) => Ok(Form::Whole(entry)),
+            Err(_) => Err(NoMemory),
+        },
     }
 }

@@ -11,6 +11,6 @@ mod refusal;
 pub mod steps;
 mod sweep;
 
-pub use crate::entry::{Element, Entry, Form, Kept, LentEdit, LentFoot, Record};
+pub use crate::entry::{Copied, Element, Entry, Form, Implicit, Kept, LentEdit, LentFoot, Record};
 pub use crate::index::Index;
 pub use crate::refusal::Refusal;

@@ -4,14 +4,13 @@ ghost use Rattle.std.specs.Prelude.{◌≡◌, [], ◌∷◌, Some, IfOk, IfSome
 ghost use Rattle.std.specs.FinMap.{get};
 ghost use Rattle.std.specs.Ordering.{eq_by_cmp};
 ghost use Rattle.selective_undo.specs.Changes.{apply, inverse};
-ghost use Rattle.wb_book.specs.declared.cells.cell.Cell.TheVariants as cell;
 ghost use Rattle.wb_book.specs.Cells.{Cells, cell_cmp, written_more, count_of};
 ghost use Rattle.wb_book.specs.WellFormed.{IsWellFormed};
-ghost use Rattle.wb_log.specs.Records.{shown, is_one, element_reads as reads_of, element_before as before_of};
+ghost use Rattle.wb_log.specs.Records.{shown, kept_of, number_before};
 
-use crate::entry::{Element, Entry, Form, Kept, Record};
+use crate::entry::{Entry, Form, Kept, Record};
 use std::alloc::Global;
-use wb_book::{AnyIndex, Cell, CellChange, Delta, Name, Pattern, Value};
+use wb_book::{Cell, CellChange, Delta, Pattern, Value};
 use wb_edit::{Edit, Foot};
 use wb_range::NoMemory;
 use wb_redist::Mover;
@@ -23,55 +22,71 @@ fn is_same(a: &Cell, b: &Cell) -> bool
     *a == *b
 }
 
-fn is_one(pattern: &Pattern, cell: &Cell) -> bool
-    ensures { result ≡ is_one pattern.now cell.now }
+// Whether the patterns are equal, and are those of a cell.
+fn is_same_one(pattern: &Pattern, other: &Pattern) -> bool
+    ensures { result ≡ true → pattern.now ≡ other.now }
 {
-    match pattern {
-        Pattern::One(one) => is_same(&one.cell(), cell),
+    match (pattern, other) {
+        (Pattern::One(one), Pattern::One(by)) => is_same(&one.cell(), &by.cell()),
         _ => false,
     }
 }
 
-fn reads_element(reads: &[Pattern], array: &Name, place: &AnyIndex) -> bool
-    ensures { result ≡ true → reads.now ≡ reads_of array.now place.now }
+// Whether the patterns are these, in the same order.
+fn are_same(reads: &[Pattern], others: &[Pattern]) -> bool
+    ensures { result ≡ true → reads.now ≡ others.now }
 {
-    if reads.len() != 2 {
+    if reads.len() != others.len() {
         return false;
     }
-    if !is_one(&reads[0], &Cell::Object(*array)) {
-        return false;
+    for at in 0..reads.len() {
+        if !is_same_one(&reads[at], &others[at]) {
+            return false;
+        }
     }
-    is_one(&reads[1], &Cell::Element(*array, *place))
+    true
 }
 
-fn changes_element(changes: &[CellChange], array: &Name, place: &AnyIndex) -> bool
-    ensures { result ≡ true → (s : Cells) → inverse changes.now s ≡ record { cell = cell.Element array.now place.now; value = get s (cell.Element array.now place.now) } ∷ [] }
+fn changes_one(changes: &[CellChange], target: &Cell) -> bool
+    ensures { result ≡ true → (s : Cells) → inverse changes.now s ≡ record { cell = target.now; value = get s target.now } ∷ [] }
 {
     if changes.len() != 1 {
         return false;
     }
-    is_same(&changes[0].cell(), &Cell::Element(*array, *place))
+    is_same(&changes[0].cell(), target)
 }
 
-// What an element was, where all that a plan does is to set it, and all that it read is the array and the element.
-fn old_element(
+// What number a cell held, where all that a plan does is to change it, and these are all the patterns that it read.
+fn old_number(
     book: &Book,
-    array: &Name,
-    place: &AnyIndex,
+    reads: &[Pattern],
+    target: &Cell,
     delta: &Delta,
     foot: &Foot,
 ) -> Option<i64>
-    ensures { IfSome result (λ was. (foot.now ≡ reads_of array.now place.now) × (inverse delta.now book.now.cells ≡ before_of array.now place.now was)) }
+    ensures { IfSome result (λ was. (foot.now ≡ reads.now) × (inverse delta.now book.now.cells ≡ number_before target.now was)) }
 {
-    if !reads_element(foot.reads(), array, place) {
+    if !are_same(foot.reads(), reads) {
         return None;
     }
-    if !changes_element(delta.changes(), array, place) {
+    if !changes_one(delta.changes(), target) {
         return None;
     }
-    match book.get(&Cell::Element(*array, *place)) {
+    match book.get(target) {
         Some(Value::Number(was)) => Some(was),
         _ => None,
+    }
+}
+
+// What number the edit of a form changed, where what it read, and what takes it back, follow from that.
+fn old_of(book: &Book, form: &Form, delta: &Delta, foot: &Foot) -> Option<i64>
+    ensures { IfSome result (λ was. kept_of form.now (Some was) ≡ Some (record { foot = foot.now; inverse = inverse delta.now book.now.cells })) }
+{
+    match form {
+        Form::Set(element) => old_number(book, &element.reads(), &element.cell(), delta, foot),
+        Form::Copy(copied) => old_number(book, &copied.reads(), &copied.cell(), delta, foot),
+        Form::Irv(implicit) => old_number(book, &implicit.reads(), &implicit.cell(), delta, foot),
+        Form::Whole(_) => None,
     }
 }
 
@@ -123,8 +138,8 @@ fn make_new<M: Mover>(
     }
 }
 
-// Makes the changes, and keeps what takes them back: of a new value of an element what it was, where that is all.
-fn make_form<M: Mover>(
+// The same of a form, which is kept whole then.
+fn make_unlike<M: Mover>(
     alloc: Global,
     book: &mut Book,
     form: &mut Form,
@@ -140,28 +155,45 @@ fn make_form<M: Mover>(
     ensures book_stays { OnErr result (book.new ≡ book.old) }
 {
     match form {
-        Form::Set(element) => {
-            match old_element(book, &element.array, &element.place, &delta, &foot) {
-                Some(was) => match book.apply(delta, mover) {
-                    Err(_) => Err(NoMemory),
-                    Ok(_) => {
-                        element.was = Some(was);
-                        Ok(())
-                    }
-                },
-                None => {
-                    let edit = Edit::Set(element.array, element.place, element.value);
-                    match make_new(alloc, book, edit, delta, foot, mover) {
-                        Err(why) => Err(why),
-                        Ok(made) => {
-                            *form = made;
-                            Ok(())
-                        }
-                    }
-                }
-            }
-        }
         Form::Whole(entry) => make_whole(book, entry, delta, foot, mover),
+        _ => match form.copy_of_edit(alloc) {
+            Err(why) => Err(why),
+            Ok(edit) => match make_new(alloc, book, edit, delta, foot, mover) {
+                Err(why) => Err(why),
+                Ok(made) => {
+                    *form = made;
+                    Ok(())
+                }
+            },
+        },
+    }
+}
+
+// Makes the changes, and keeps what takes them back: the number that was, where all else follows from it.
+fn make_form<M: Mover>(
+    alloc: Global,
+    book: &mut Book,
+    form: &mut Form,
+    delta: Delta,
+    foot: Foot,
+    mover: &M,
+) -> Result<(), NoMemory>
+    requires well_formed { IsWellFormed (apply delta book.old.cells) }
+    ensures form { OnOk result (shown form.new ≡ record { edit = (shown form.old).edit; kept = Some (record { foot = foot; inverse = inverse delta book.old.cells }) }) }
+    ensures cells { OnOk result (book.new.cells ≡ apply delta book.old.cells) }
+    ensures writes { OnOk result (book.new.writes ≡ written_more book.old.writes (count_of delta)) }
+    ensures form_stays { OnErr result (shown form.new ≡ shown form.old) }
+    ensures book_stays { OnErr result (book.new ≡ book.old) }
+{
+    match old_of(book, form, &delta, &foot) {
+        None => make_unlike(alloc, book, form, delta, foot, mover),
+        Some(was) => match book.apply(delta, mover) {
+            Err(_) => Err(NoMemory),
+            Ok(_) => {
+                form.keep(Some(was));
+                Ok(())
+            }
+        },
     }
 }
 

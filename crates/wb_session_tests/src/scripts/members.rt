@@ -108,11 +108,40 @@ const MAPPED_BY_THE_PARENT: &str = r#"
 {"op":"remap","d":"D","map":"cyclicDist((1, 1), [2, 2])"} -> {"error":"E15","name":"bad-mapping"}
 "#;
 
+// A new implicit value, and copies over a sparse domain: of an element, also to itself, and of the implicit value.
+const COPIES_OVER_A_SPARSE_DOMAIN: &str = r#"
+{"op":"domain","d":"D","is":"{1..4}"} -> {"edit":1,"n":3}
+{"op":"sparse","d":"S","of":"D"} -> {"edit":2,"n":2}
+{"op":"add","d":"S","i":1} -> {"edit":3,"n":1}
+{"op":"add","d":"S","i":2} -> {"edit":4,"n":1}
+{"op":"array","a":"A","d":"S"} -> {"edit":5,"n":5}
+{"op":"irv","a":"A","v":7} -> {"edit":6,"n":1}
+{"op":"copy","a":"A","i":1,"b":"A","j":1,"c":5} -> {"edit":7,"n":1}
+{"op":"copy","a":"A","i":2,"b":"A","j":1,"c":1} -> {"edit":8,"n":1}
+{"op":"copy","a":"A","i":1,"b":"A","j":4,"c":1} -> {"edit":9,"n":1}
+{"op":"get","a":"A","i":1} -> {"value":8}
+{"op":"undo","k":6} -> {"by":9,"error":"E14","name":"blocked"}
+{"op":"undo","k":7} -> {"by":8,"error":"E14","name":"blocked"}
+{"op":"undo","k":9} -> {"n":1,"undone":9}
+{"op":"get","a":"A","i":1} -> {"value":5}
+{"op":"undo","k":6} -> {"n":1,"undone":6}
+{"op":"get","a":"A","i":4} -> {"value":0}
+{"op":"redo","k":6} -> {"n":1,"redone":6}
+{"op":"get","a":"A","i":4} -> {"value":7}
+{"op":"undo","k":8} -> {"n":1,"undone":8}
+{"op":"undo","k":7} -> {"n":1,"undone":7}
+{"op":"get","a":"A","i":1} -> {"value":0}
+{"op":"redo","k":7} -> {"n":1,"redone":7}
+{"op":"redo","k":8} -> {"n":1,"redone":8}
+{"op":"get","a":"A","i":2} -> {"value":6}
+"#;
+
 /// Each script, over a history of its own.
-pub const SCRIPTS: [Script; 5] = [
+pub const SCRIPTS: [Script; 6] = [
     ("", ADDING_TWICE, 4, 3),
     ("", SPARSE_WITH_AN_IMPLICIT_VALUE, 7, 25),
     ("", INDEX_REMOVED, 7, 15),
     ("", DOMAINS_DROPPED, 13, 61),
     ("", MAPPED_BY_THE_PARENT, 5, 9),
+    ("", COPIES_OVER_A_SPARSE_DOMAIN, 9, 23),
 ];

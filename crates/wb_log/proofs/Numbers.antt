@@ -1,0 +1,33 @@
+-- Plans that change one cell, and what is kept of them.
+use Rattle.std.proofs.Common.{◌≡◌, true, [], ◌∷◌, length, get_or, None, refl, ap, arith}
+use Rattle.std.specs.FinMap.{get}
+use Rattle.std.specs.Ordering.{eq_by_cmp, is_eq}
+use Rattle.std.specs.declared.cmp.Ordering.{Ordering}
+use Rattle.std.specs.declared.cmp.Ordering.TheVariants.{Less, Equal, Greater}
+use Rattle.selective_undo.specs.Changes.{inverse}
+use Rattle.wb_book.specs.declared.cells.cell.Cell.{Cell}
+use Rattle.wb_book.specs.Cells.{Cells, Changes, cell_cmp, cell_cmp-IsAntisymmetric}
+use Rattle.wb_log.specs.declared.entry.Form.{Form}
+use Rattle.wb_log.specs.declared.entry.Form.TheVariants.{Set, Copy, Irv, Whole}
+use Rattle.wb_log.specs.Records.{kept_of}
+
+equal_from : (p : Ordering) → is_eq p ≡ true → p ≡ Equal
+equal_from Less e = cc
+equal_from Equal e = refl
+equal_from Greater e = cc
+
+pub same_cell : (a b : Cell) → eq_by_cmp cell_cmp a b ≡ true → a ≡ b
+same_cell a b e = cell_cmp-IsAntisymmetric a b (equal_from (cell_cmp a b) e)
+
+-- what takes back a change of one cell
+pub one_change : (xs : Changes) (d : _) (c : Cell) → length xs ≡ 1 → eq_by_cmp cell_cmp (get_or xs 0 d).cell c ≡ true → (s : Cells) → inverse xs s ≡ record { cell = c; value = get s c } ∷ []
+one_change [] d c one e s = absurd (omega (arith, one))
+one_change (x ∷ []) d c one e s = let same = same_cell x.cell c e in ap (λ y. record { cell = y; value = get s y } ∷ []) same
+one_change (x ∷ y ∷ xs) d c one e s = absurd (omega (arith, one))
+
+-- nothing is kept where no number is
+pub none_kept : (f : Form) → kept_of f None ≡ None
+none_kept (Set x) = refl
+none_kept (Copy x) = refl
+none_kept (Irv x) = refl
+none_kept (Whole w) = refl
