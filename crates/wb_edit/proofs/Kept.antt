@@ -1,43 +1,49 @@
 -- Every command keeps a workbook well formed.
 pub mod Steps
 pub mod Indices
-pub mod NewDomain
-pub mod Remapped
-pub mod NewArray
-pub mod NewElement
+pub mod Domain
+pub mod Remap
+pub mod Array
+pub mod Set
 pub mod NewSet
-pub mod NewImplicit
-pub mod CopiedElement
+pub mod Sparse
+pub mod Assoc
+pub mod Irv
+pub mod Copy
 pub mod NewElements
-pub mod Fills
-pub mod FilledArray
-pub mod DroppedArray
-pub mod CombinedArrays
+pub mod Fill
+pub mod FillAll
+pub mod DropArray
+pub mod All
 pub mod Resized
-pub mod DroppedDomain
+pub mod Add
+pub mod Remove
+pub mod DropDomain
 pub mod OfSets
-pub mod Reshaped
-pub mod Exchanged
-pub mod NewValue
-pub mod Loaded
+pub mod ReshapeRectangle
+pub mod ReshapeSet
+pub mod Reshape
+pub mod Load
 use Rattle.wb_edit.specs.Laws.{KeepsWellFormed}
 use Rattle.wb_edit.specs.declared.edit.Edit.TheVariants.{Domain, Remap, Sparse, Assoc, Array, Set, Irv, Copy, Fill, FillAll, DropArray, All, Add, Remove, DropDomain, Reshape, DomainOfSet, FillOfSet, Load}
-use Rattle.wb_edit.proofs.Kept.NewDomain.{domain_kept}
-use Rattle.wb_edit.proofs.Kept.NewSet.{sparse_kept, assoc_kept}
-use Rattle.wb_edit.proofs.Kept.Remapped.{remap_kept}
-use Rattle.wb_edit.proofs.Kept.NewArray.{array_kept}
-use Rattle.wb_edit.proofs.Kept.NewImplicit.{irv_kept}
-use Rattle.wb_edit.proofs.Kept.NewElement.{set_kept}
-use Rattle.wb_edit.proofs.Kept.CopiedElement.{copy_kept}
-use Rattle.wb_edit.proofs.Kept.Fills.{fill_kept}
-use Rattle.wb_edit.proofs.Kept.FilledArray.{fill_all_kept}
-use Rattle.wb_edit.proofs.Kept.DroppedArray.{drop_array_kept}
-use Rattle.wb_edit.proofs.Kept.CombinedArrays.{all_kept}
-use Rattle.wb_edit.proofs.Kept.DroppedDomain.{drop_domain_kept}
+use Rattle.wb_edit.proofs.Kept.Domain.{domain_kept}
+use Rattle.wb_edit.proofs.Kept.Sparse.{sparse_kept}
+use Rattle.wb_edit.proofs.Kept.Assoc.{assoc_kept}
+use Rattle.wb_edit.proofs.Kept.Remap.{remap_kept}
+use Rattle.wb_edit.proofs.Kept.Array.{array_kept}
+use Rattle.wb_edit.proofs.Kept.Irv.{irv_kept}
+use Rattle.wb_edit.proofs.Kept.Set.{set_kept}
+use Rattle.wb_edit.proofs.Kept.Copy.{copy_kept}
+use Rattle.wb_edit.proofs.Kept.Fill.{fill_kept}
+use Rattle.wb_edit.proofs.Kept.FillAll.{fill_all_kept}
+use Rattle.wb_edit.proofs.Kept.DropArray.{drop_array_kept}
+use Rattle.wb_edit.proofs.Kept.All.{all_kept}
+use Rattle.wb_edit.proofs.Kept.DropDomain.{drop_domain_kept}
 use Rattle.wb_edit.proofs.Kept.OfSets.{domain_of_set_kept, fill_of_set_kept}
-use Rattle.wb_edit.proofs.Kept.Resized.{add_kept, remove_kept}
-use Rattle.wb_edit.proofs.Kept.NewValue.{reshape_kept}
-use Rattle.wb_edit.proofs.Kept.Loaded.{load_kept}
+use Rattle.wb_edit.proofs.Kept.Add.{add_kept}
+use Rattle.wb_edit.proofs.Kept.Remove.{remove_kept}
+use Rattle.wb_edit.proofs.Kept.Reshape.{reshape_kept}
+use Rattle.wb_edit.proofs.Kept.Load.{load_kept}
 
 pub keeps_well_formed : KeepsWellFormed
 keeps_well_formed (Domain d rs m) s valid h = domain_kept s d rs m valid h

@@ -21,8 +21,8 @@ use Rattle.wb_edit.specs.declared.edit.Edit.{Edit as Command}
 use Rattle.wb_edit.specs.declared.edit.Edit.TheVariants.{Domain, Remap, Sparse, Assoc, Array, Set, Irv, Copy, Fill, FillAll, DropArray, All, Add, Remove, DropDomain, Reshape, DomainOfSet, FillOfSet, Load}
 use Rattle.wb_edit.specs.declared.operation.Operation.{Operation}
 use Rattle.wb_edit.specs.declared.refusal.Refusal.TheVariants.{WrongKind}
-use Rattle.wb_edit.specs.Looks.{Tree, ◌>>=◌, read}
-use Rattle.wb_edit.specs.Tests.{free, dom, arr, key, element, idx}
+use Rattle.wb_edit.specs.Trees.{Tree, ◌>>=◌, read}
+use Rattle.wb_edit.specs.Looks.{free_name, domain_named, array_named, index_fits, element, domain_indices}
 use Rattle.wb_edit.specs.Kinds.{rectangular, over_sparse}
 use Rattle.wb_edit.specs.Numbers.{sum}
 use Rattle.wb_edit.specs.Implicit.{element_or_implicit}
@@ -41,8 +41,8 @@ use Rattle.wb_reading.specs.Texts.Books.{cells_in}
 
 -- what a new rectangular domain writes: the domain with its rank, its ranges, its mapping, and that each of its indices
 -- is in it (Chapel Language Specification, Domains and Domain Maps)
-abbrev pub domain_cells : Name → List Range → LayoutMap → Changes
-domain_cells d rs m =
+abbrev pub new_domain_changes : Name → List Range → LayoutMap → Changes
+new_domain_changes d rs m =
     put (Object d) (Domain (Rectangular (length rs)))
     ∷ put (Shape d) (Ranges rs)
     ∷ put (Mapping d) (Mapping m)
@@ -51,14 +51,14 @@ domain_cells d rs m =
 -- a new rectangular domain: its name is free, and the mapping is for its rank
 abbrev pub domain : Name → List Range → LayoutMap → Tree
 domain d rs m = do
-  unit ← free d
+  unit ← free_name d
   unit ← mapped (length rs) m
-  write (domain_cells d rs m)
+  write (new_domain_changes d rs m)
 
 -- a new mapping of a domain: the domain is there and rectangular, and the mapping is for its rank
 abbrev pub remap : Name → LayoutMap → Tree
 remap d m = do
-  kind ← dom d
+  kind ← domain_named d
   rank ← rectangular kind
   unit ← mapped rank m
   write (put (Mapping d) (Mapping m) ∷ [])
@@ -67,21 +67,21 @@ remap d m = do
 -- is there and rectangular (Chapel Language Specification, Domains)
 abbrev pub sparse : Name → Name → Tree
 sparse d parent = do
-  unit ← free d
-  kind ← dom parent
+  unit ← free_name d
+  kind ← domain_named parent
   rank ← rectangular kind
   write (put (Object d) (Domain (Sparse parent rank)) ∷ put (Use parent d) (Bound Sparse) ∷ [])
 
 -- a new associative domain, with no index yet: its name is free (Chapel Language Specification, Domains)
 abbrev pub assoc : Name → KeyType → Tree
 assoc d type = do
-  unit ← free d
+  unit ← free_name d
   write (put (Object d) (Domain (Associative type)) ∷ [])
 
 -- what a new array over a domain writes: the array with its domain and that one's kind, that it is bound to the domain,
 -- its implicit value 0, and 0 as its element at each index (Chapel Language Specification, Arrays)
-abbrev pub array_cells : Name → Name → Kind → List Index → Changes
-array_cells a d kind is =
+abbrev pub new_array_changes : Name → Name → Kind → List Index → Changes
+new_array_changes a d kind is =
     put (Object a) (Array d kind)
     ∷ put (Use d a) (Bound Array)
     ∷ put (Implicit a) (Number (pos 0))
@@ -90,16 +90,16 @@ array_cells a d kind is =
 -- a new array: its name is free, the domain is there, and it is seen which indices that has
 abbrev pub array : Name → Name → Tree
 array a d = do
-  unit ← free a
-  kind ← dom d
-  is ← idx d kind
-  write (array_cells a d (kind_of kind) is)
+  unit ← free_name a
+  kind ← domain_named d
+  is ← domain_indices d kind
+  write (new_array_changes a d (kind_of kind) is)
 
 -- a new element: the array is there, the index is of the rank and type of its domain, and there is an element at it
 abbrev pub set : Name → Index → ℤ → Tree
 set a i v = do
-  (d, kind) ← arr a
-  unit ← key kind i
+  (d, kind) ← array_named a
+  unit ← index_fits kind i
   there ← element a i
   write (put (Element a i) (Number v) ∷ [])
 
@@ -107,7 +107,7 @@ set a i v = do
 -- sparse domain (Chapel Language Specification, Arrays)
 abbrev pub irv : Name → ℤ → Tree
 irv a v = do
-  (d, kind) ← arr a
+  (d, kind) ← array_named a
   unit ← over_sparse kind
   write (put (Implicit a) (Number v) ∷ [])
 
@@ -115,10 +115,10 @@ irv a v = do
 -- type of its array's domain, the first element is there and the second or its implicit value, and the sum is within 64 bits
 abbrev pub copy : Name → Index → Name → Index → ℤ → Tree
 copy a i b j c = do
-  (d, kind) ← arr a
-  (e, kind_of_e) ← arr b
-  unit ← key kind i
-  unit ← key kind_of_e j
+  (d, kind) ← array_named a
+  (e, kind_of_e) ← array_named b
+  unit ← index_fits kind i
+  unit ← index_fits kind_of_e j
   there ← element a i
   x ← element_or_implicit b e kind_of_e j
   y ← sum x c
@@ -128,7 +128,7 @@ copy a i b j c = do
 -- has all those indices
 abbrev pub fill : Name → List Range → ℤ → Tree
 fill a on v = do
-  (d, kind) ← arr a
+  (d, kind) ← array_named a
   unit ← over_rectangle (length on) kind
   there ← all_elements a (indices on)
   write (put_all (map (Element a) (indices on)) (Number v))
@@ -136,7 +136,7 @@ fill a on v = do
 -- one number as every element of an array: the array is there, and it is seen which elements that has
 abbrev pub fill_all : Name → ℤ → Tree
 fill_all a v = do
-  (d, kind) ← arr a
+  (d, kind) ← array_named a
   es ← elements a
   write (put_all (map (Element a) (keys_of es)) (Number v))
 
@@ -148,7 +148,7 @@ dropped_cells a d is = clear (Object a) ∷ clear (Use d a) ∷ clear (Implicit 
 -- the end of an array: the array is there, and it is seen which elements that has
 abbrev pub drop_array : Name → Tree
 drop_array a = do
-  (d, kind) ← arr a
+  (d, kind) ← array_named a
   es ← elements a
   write (dropped_cells a d (keys_of es))
 
@@ -158,8 +158,8 @@ number_cells a es = map (λ e. put (Element a e.0) (Number e.1)) es
 
 -- each element of an array becomes what it and the element of another array at the same index make: it is seen which
 -- elements both have, and all results are within 64 bits
-abbrev pub combined : Name → Operation → Name → Tree
-combined a how b = do
+abbrev pub all_results : Name → Operation → Name → Tree
+all_results a how b = do
   xs ← elements a
   ys ← elements b
   zs ← results_within how xs ys
@@ -168,17 +168,17 @@ combined a how b = do
 -- the same, where the arrays are there, over one domain
 abbrev pub all : Name → Operation → Name → Tree
 all a how b = do
-  (d, kind) ← arr a
-  (e, kind_of_e) ← arr b
+  (d, kind) ← array_named a
+  (e, kind_of_e) ← array_named b
   unit ← over_one_domain d e
-  combined a how b
+  all_results a how b
 
 -- the end of a domain: it is there, nothing is bound to it, and it is seen which indices it has
 abbrev pub drop_domain : Name → Tree
 drop_domain d = do
-  kind ← dom d
+  kind ← domain_named d
   unit ← unused d
-  is ← idx d kind
+  is ← domain_indices d kind
   write (ended_cells d kind is)
 
 -- ---- which indices a domain has (Chapel Language Specification, Domains)
@@ -192,9 +192,9 @@ add_unless None d kind i = resized d kind (i ∷ []) [] (i ∷ [])
 -- domain has it
 abbrev pub add : Name → Index → Tree
 add d i = do
-  kind ← dom d
+  kind ← domain_named d
   unit ← with_members kind
-  unit ← key (kind_of kind) i
+  unit ← index_fits (kind_of kind) i
   there ← read (Member d i)
   add_unless there d kind i
 
@@ -213,9 +213,9 @@ remove_if (Some v) d kind i = left d kind i
 -- whether the domain has it
 abbrev pub remove : Name → Index → Tree
 remove d i = do
-  kind ← dom d
+  kind ← domain_named d
   unit ← with_members kind
-  unit ← key (kind_of kind) i
+  unit ← index_fits (kind_of kind) i
   there ← read (Member d i)
   remove_if there d kind i
 
@@ -224,13 +224,13 @@ remove d i = do
 -- a new rectangular domain: the name is free
 abbrev pub domain_of_set : Name → Tree
 domain_of_set d = do
-  unit ← free d
+  unit ← free_name d
   refuse WrongKind
 
 -- a number at each index of a rectangle: the array is there
 abbrev pub fill_of_set : Name → Tree
 fill_of_set a = do
-  (d, kind) ← arr a
+  (d, kind) ← array_named a
   refuse WrongKind
 
 -- ---- a workbook in the place of an empty one

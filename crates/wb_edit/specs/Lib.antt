@@ -1,6 +1,6 @@
 pub mod Schema
+pub mod Trees
 pub mod Looks
-pub mod Tests
 pub mod Kinds
 pub mod Numbers
 pub mod Implicit

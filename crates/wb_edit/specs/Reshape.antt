@@ -14,7 +14,7 @@ use Rattle.wb_book.specs.Shapes.{Range, indices}
 use Rattle.wb_resize.specs.Resized.{without, resized_cells}
 use Rattle.wb_edit.specs.declared.refusal.Refusal.{Refusal}
 use Rattle.wb_edit.specs.declared.refusal.Refusal.TheVariants.{WrongKind, InUse}
-use Rattle.wb_edit.specs.Looks.{Tree, Look, ◌>>=◌, read, judged}
+use Rattle.wb_edit.specs.Trees.{Tree, Look, ◌>>=◌, read, judged}
 use Rattle.wb_edit.specs.Rectangles.{read_all}
 use Rattle.wb_edit.specs.Resizing.{zeros}
 use Rattle.wb_edit.specs.Users.{bound, uses}
@@ -35,7 +35,7 @@ absent_if false = Ok tt
 abbrev pub none_present : List (Option Value) → Result (Unit {0}) Refusal
 none_present vs = absent_if (list_any is_some vs)
 
--- ---- the tests
+-- ---- the looks
 
 -- the ranges of a rectangular domain: looks at them
 abbrev pub shape : Name → Look (List Range)

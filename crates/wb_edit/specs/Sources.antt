@@ -25,11 +25,11 @@ use Rattle.wb_resize.specs.Resized.{without}
 use Rattle.wb_resize.specs.Sources.{combined, displaced, can_displace}
 use Rattle.wb_edit.specs.declared.refusal.Refusal.{Refusal}
 use Rattle.wb_edit.specs.declared.refusal.Refusal.TheVariants.{WrongKind, TooLarge}
-use Rattle.wb_edit.specs.Looks.{Tree, Look, ◌>>=◌, judged}
+use Rattle.wb_edit.specs.Trees.{Tree, Look, ◌>>=◌, judged}
 use Rattle.wb_edit.specs.Rectangles.{of_rank}
 use Rattle.wb_edit.specs.Reshape.{shape, reshaped}
 use Rattle.wb_edit.specs.Resizing.{resized}
-use Rattle.wb_edit.specs.Tests.{dom, members}
+use Rattle.wb_edit.specs.Looks.{domain_named, members}
 
 -- ---- judgements
 
@@ -81,7 +81,7 @@ all_fit kind is = elim (list_all (is_key kind) is) [ true ↦ Ok tt | false ↦ 
 -- a rectangular domain of the rank: looks at its object
 abbrev pub names_rectangle : (rank : ℕ) → Name → Look (Unit {0})
 names_rectangle rank e next = do
-  kind ← dom e
+  kind ← domain_named e
   judged (of_rank rank (kind_of kind)) next
 
 -- a rectangle of the rank is given: a literal, or a rectangular domain, whose object is looked at
@@ -99,7 +99,7 @@ ranges_given (Named e) next = shape e next
 -- a domain like one of the kind: looks at its object
 abbrev pub names_set : Kind → Name → Look (Unit {0})
 names_set kind e next = do
-  other ← dom e
+  other ← domain_named e
   judged (alike kind (kind_of other)) next
 
 -- a set for a domain of the kind is given: a literal of such indices, or a domain like it, whose object is looked at
@@ -119,7 +119,7 @@ abbrev pub no_source : Given → Tree
 no_source (Rectangle rs) = refuse WrongKind
 no_source (Items is) = refuse WrongKind
 no_source (Named e) = do
-  kind ← dom e
+  kind ← domain_named e
   refuse WrongKind
 
 -- ---- rectangular domains
@@ -158,8 +158,8 @@ reshape_rectangle d rank (Combine how given) = no_source given
 -- ---- sparse and associative domains
 
 -- a domain of a kind with some indices gets others
-abbrev pub exchanged : Name → DomainKind → (old new : List Index) → Tree
-exchanged d kind old new = resized d kind new (without new old) (without old new)
+abbrev pub with_indices : Name → DomainKind → (old new : List Index) → Tree
+with_indices d kind old new = resized d kind new (without new old) (without old new)
 
 -- what is given takes the place of the indices: it is a set for such a domain
 abbrev pub to_set : Name → DomainKind → Given → Tree
@@ -167,7 +167,7 @@ to_set d kind given = do
   unit ← gives_set (kind_of kind) given
   old ← members d
   new ← indices_given given
-  exchanged d kind old new
+  with_indices d kind old new
 
 -- the indices become what they and those that are given make: these are a set for such a domain
 abbrev pub combine_set : Name → DomainKind → SetOperation → Given → Tree
@@ -175,7 +175,7 @@ combine_set d kind how given = do
   unit ← gives_set (kind_of kind) given
   old ← members d
   other ← indices_given given
-  exchanged d kind old (combined how other old)
+  with_indices d kind old (combined how other old)
 
 abbrev pub reshape_sparse : Name → DomainKind → Source → Tree
 reshape_sparse d kind (To given) = to_set d kind given
@@ -199,5 +199,5 @@ reshape_kind d (Associative type) source = reshape_associative d (Associative ty
 -- a new value of a domain: the domain is there, and the source is one for its kind
 abbrev pub reshape : Name → Source → Tree
 reshape d source = do
-  kind ← dom d
+  kind ← domain_named d
   reshape_kind d kind source
