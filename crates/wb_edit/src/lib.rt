@@ -18,9 +18,9 @@ mod same;
 
 pub use crate::edit::Edit;
 pub use crate::foot::Foot;
-pub use crate::operation::Operation;
-pub use crate::planning::{PlanErr, plan};
-pub use crate::refusal::Refusal;
 pub use crate::looks::implicit::{has_implicit, parent_in};
 pub use crate::looks::judgements;
 pub use crate::looks::numbers::number_in;
+pub use crate::operation::Operation;
+pub use crate::planning::{PlanErr, plan};
+pub use crate::refusal::Refusal;

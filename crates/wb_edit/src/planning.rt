@@ -2,6 +2,7 @@ ghost use Rattle.std.specs.Prelude.{◌≡◌, []};
 ghost use Rattle.wb_edit.specs.Commands.{meaning};
 ghost use Rattle.wb_edit.specs.Plans.{Attempts, IsPlan};
 
+use crate::attempt_err::AttemptErr;
 use crate::commands::{
     add, all, array, assoc, copy, domain, drop_array, drop_domain, fill, fill_all, irv, load,
     of_sets, remap, remove, reshape, set, sparse,
@@ -9,7 +10,6 @@ use crate::commands::{
 use crate::edit::Edit;
 use crate::foot::Foot;
 use crate::refusal::Refusal;
-use crate::attempt_err::AttemptErr;
 use std::alloc::Global;
 use wb_book::Delta;
 use wb_shelf::Book;
@@ -54,17 +54,13 @@ fn attempt(alloc: Global, book: &Book, foot: &mut Foot, edit: &Edit) -> Result<D
         Edit::Sparse(name, parent) => sparse::plan_sparse(alloc, book, foot, *name, *parent),
         Edit::Assoc(name, key) => assoc::plan_assoc(alloc, book, foot, *name, key),
         Edit::Array(name, over) => array::plan_array(alloc, book, foot, *name, *over),
-        Edit::Set(name, index, value) => {
-            set::plan_set(alloc, book, foot, *name, *index, *value)
-        }
+        Edit::Set(name, index, value) => { set::plan_set(alloc, book, foot, *name, *index, *value) }
         Edit::Irv(name, value) => irv::plan_irv(alloc, book, foot, *name, *value),
         Edit::Copy(name, index, source, place, more) => {
             copy::plan_copy(alloc, book, foot, (*name, *index), (*source, *place), *more)
         }
         Edit::Fill(name, on, value) => fill::plan_fill(alloc, book, foot, *name, on, *value),
-        Edit::FillAll(name, value) => {
-            fill_all::plan_fill_all(alloc, book, foot, *name, *value)
-        }
+        Edit::FillAll(name, value) => { fill_all::plan_fill_all(alloc, book, foot, *name, *value) }
         Edit::DropArray(name) => drop_array::plan_drop_array(alloc, book, foot, *name),
         Edit::All(name, how, other) => { all::plan_all(alloc, book, foot, *name, how, *other) }
         Edit::Add(domain, index) => add::plan_add(alloc, book, foot, *domain, *index),

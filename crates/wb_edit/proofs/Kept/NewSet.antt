@@ -13,18 +13,18 @@ use Rattle.wb_resize.proofs.States.{no_shape, no_member, no_mapping, IsMember-sa
 
 -- The workbook t is s with a domain and no cells of it; how it is bound is said apart.
 pub record HasNewSet (s t : Cells) (d : Name) (kind : DomainKind) : Type 0 where
-  object : (n : Name) → get t (Object n) ≡ cond (is_same_name n d) (Some (Domain kind)) (get s (Object n))
-  shape : (n : Name) → get t (Shape n) ≡ get s (Shape n)
-  inside : (n : Name) (i : Index) → get t (In n i) ≡ get s (In n i)
-  member : (n : Name) (i : Index) → get t (Member n i) ≡ get s (Member n i)
-  mapping : (n : Name) → get t (Mapping n) ≡ get s (Mapping n)
-  implicit : (n : Name) → get t (Implicit n) ≡ get s (Implicit n)
-  element : (n : Name) (i : Index) → get t (Element n i) ≡ get s (Element n i)
+  pub object : (n : Name) → get t (Object n) ≡ cond (is_same_name n d) (Some (Domain kind)) (get s (Object n))
+  pub shape : (n : Name) → get t (Shape n) ≡ get s (Shape n)
+  pub inside : (n : Name) (i : Index) → get t (In n i) ≡ get s (In n i)
+  pub member : (n : Name) (i : Index) → get t (Member n i) ≡ get s (Member n i)
+  pub mapping : (n : Name) → get t (Mapping n) ≡ get s (Mapping n)
+  pub implicit : (n : Name) → get t (Implicit n) ≡ get s (Implicit n)
+  pub element : (n : Name) (i : Index) → get t (Element n i) ≡ get s (Element n i)
 
 -- a kind of domain that has no ranges and no mapping
 pub record IsPlain (kind : DomainKind) : Type 0 where
-  no_ranges : (v : Option Value) → v ≡ None → IsShape (Some kind) v
-  no_layout : (v : Option Value) → v ≡ None → HasMapping (Some kind) v
+  pub no_ranges : (v : Option Value) → v ≡ None → IsShape (Some kind) v
+  pub no_layout : (v : Option Value) → v ≡ None → HasMapping (Some kind) v
 
 -- with a set under a free name a workbook stays well formed, where the set is bound to what its kind says
 pub set_added : (s t : Cells) (d : Name) (kind : DomainKind) → is_name d ≡ true → IsPlain kind → IsWellFormed s → get s (Object d) ≡ None → HasNewSet s t d kind

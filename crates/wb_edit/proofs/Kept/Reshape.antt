@@ -12,7 +12,7 @@ use Rattle.wb_resize.specs.declared.source.Source.{Source}
 use Rattle.wb_resize.specs.declared.source.Source.TheVariants.{To, Slice, Displace, Combine}
 use Rattle.wb_edit.specs.declared.refusal.Refusal.TheVariants.{WrongKind}
 use Rattle.wb_edit.specs.Trees.{Tree, judged}
-use Rattle.wb_edit.specs.Sources.{no_source, reshape_kind, reshape}
+use Rattle.wb_edit.specs.Commands.Reshape.{no_source, reshape_kind, reshape}
 use Rattle.wb_edit.specs.Looks.{domain_kind}
 use Rattle.wb_edit.specs.ValidSources.{IsSource}
 use Rattle.wb_edit.proofs.Kept.ReshapeSet.{to_set_kept, combine_set_kept}

@@ -35,9 +35,10 @@ use Rattle.wb_edit.specs.declared.refusal.Refusal.{Refusal}
 use Rattle.wb_edit.specs.declared.refusal.Refusal.TheVariants.{WrongKind}
 use Rattle.wb_edit.specs.Trees.{Tree, judged}
 use Rattle.wb_edit.specs.Rectangles.{of_rank}
-use Rattle.wb_edit.specs.Reshape.{shape_in, absent_if, none_present, shape, member_cells, none_there, reshaped_cells, reshaped}
+use Rattle.wb_edit.specs.Reshaping.{shape_in, absent_if, none_present, shape, member_cells, none_there, reshaped_cells, reshaped}
 use Rattle.wb_edit.specs.Resizing.{zeros}
-use Rattle.wb_edit.specs.Sources.{same_rank, slice_of, displaced_if, displacement_of, gives_rectangle, ranges_given, to_rectangle, slice_rectangle, displace_rectangle}
+use Rattle.wb_edit.specs.Commands.Reshape.{to_rectangle, slice_rectangle, displace_rectangle}
+use Rattle.wb_edit.specs.Sources.{same_rank, slice_of, displaced_if, displacement_of, gives_rectangle, ranges_given}
 use Rattle.wb_edit.specs.Looks.{domain_kind}
 use Rattle.wb_edit.specs.Users.{bound}
 use Rattle.wb_edit.specs.ValidSources.{IsGiven}

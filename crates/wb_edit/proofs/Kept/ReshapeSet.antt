@@ -29,7 +29,8 @@ use Rattle.wb_resize.specs.Sources.{combined}
 use Rattle.wb_resize.proofs.States.{same_index}
 use Rattle.wb_resize.proofs.Without.{has-without}
 use Rattle.wb_edit.specs.Trees.{Tree, judged}
-use Rattle.wb_edit.specs.Sources.{is_same_type, is_alike, alike, all_fit, gives_set, indices_given, with_indices, to_set, combine_set}
+use Rattle.wb_edit.specs.Commands.Reshape.{with_indices, to_set, combine_set}
+use Rattle.wb_edit.specs.Sources.{is_same_type, is_alike, alike, all_fit, gives_set, indices_given}
 use Rattle.wb_edit.specs.Looks.{domain_kind, member_in, members}
 use Rattle.wb_edit.specs.ValidSources.{IsGiven}
 use Rattle.wb_edit.proofs.Elements.{index_order}

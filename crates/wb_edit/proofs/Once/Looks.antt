@@ -22,7 +22,7 @@ use Rattle.wb_resize.proofs.Fills.{arrays, zeros_once, held_once}
 use Rattle.wb_edit.specs.declared.refusal.Refusal.{Refusal}
 use Rattle.wb_edit.specs.Trees.{Tree, judged, read}
 use Rattle.wb_edit.specs.Rectangles.{read_all}
-use Rattle.wb_edit.specs.Reshape.{shape_in, shape}
+use Rattle.wb_edit.specs.Reshaping.{shape_in, shape}
 use Rattle.wb_edit.specs.Resizing.{all_inside, all_in_parent, number_or_zero, defaults}
 use Rattle.wb_edit.specs.Looks.{indices_of, domain_indices}
 use Rattle.wb_edit.proofs.Members.{members_once}

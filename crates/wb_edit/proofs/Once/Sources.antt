@@ -40,9 +40,10 @@ use Rattle.wb_edit.specs.declared.refusal.Refusal.TheVariants.{WrongKind}
 use Rattle.wb_edit.specs.Changed.{AreApart}
 use Rattle.wb_edit.specs.Trees.{Tree, judged}
 use Rattle.wb_edit.specs.Rectangles.{of_rank}
-use Rattle.wb_edit.specs.Reshape.{none_present, shape, member_cells, reshaped_cells, reshaped}
+use Rattle.wb_edit.specs.Reshaping.{none_present, shape, member_cells, reshaped_cells, reshaped}
 use Rattle.wb_edit.specs.Resizing.{fills, zeros, resized}
-use Rattle.wb_edit.specs.Sources.{same_rank, alike, all_fit, slice_of, displaced_if, displacement_of, gives_rectangle, ranges_given, to_rectangle, slice_rectangle, displace_rectangle, gives_set, indices_given, with_indices, to_set, combine_set, no_source, reshape_kind, reshape}
+use Rattle.wb_edit.specs.Commands.Reshape.{to_rectangle, slice_rectangle, displace_rectangle, with_indices, to_set, combine_set, no_source, reshape_kind, reshape}
+use Rattle.wb_edit.specs.Sources.{same_rank, alike, all_fit, slice_of, displaced_if, displacement_of, gives_rectangle, ranges_given, gives_set, indices_given}
 use Rattle.wb_edit.specs.Looks.{domain_kind, member_in, members}
 use Rattle.wb_edit.specs.Users.{bound}
 use Rattle.wb_edit.specs.ValidSources.{IsGiven, IsSource, IsGivenOnce, IsSourceOnce}

@@ -2,10 +2,10 @@ ghost use Rattle.std.specs.Prelude.{◌≡◌};
 ghost use Rattle.wb_edit.specs.Commands.{add, add_unless};
 ghost use Rattle.wb_edit.specs.Plans.{Attempts};
 
+use crate::attempt_err::{AttemptErr, stopped};
 use crate::commands::resized::plan_resized;
 use crate::foot::Foot;
 use crate::looks::resizing::has_members;
-use crate::attempt_err::{AttemptErr, stopped};
 use crate::looks::{judgements, one_cell};
 use std::alloc::Global;
 use wb_book::{AnyDomain, AnyIndex, Cell, Delta, Name, Value};

@@ -9,12 +9,12 @@ ghost use Rattle.wb_edit.specs.Elements.{result_of, results, all_within};
 ghost use Rattle.wb_edit.specs.Numbers.{fits_integer};
 ghost use Rattle.wb_edit.specs.Plans.{Attempts, Makes, stopped};
 
+use crate::attempt_err::{AttemptErr, stopped};
 use crate::commands::seen::{NewValue, all_become};
 use crate::foot::Foot;
+use crate::looks::{elements, numbers, one_cell};
 use crate::operation::Operation;
 use crate::refusal::Refusal;
-use crate::attempt_err::{AttemptErr, stopped};
-use crate::looks::{elements, numbers, one_cell};
 use std::alloc::Global;
 use wb_book::{AnyIndex, Delta, Name};
 use wb_shelf::Book;
@@ -101,7 +101,11 @@ fn results(
     Ok(made)
 }
 
-fn number_changes(alloc: Global, array: Name, elements: &[(AnyIndex, i64)]) -> Result<Delta, AttemptErr>
+fn number_changes(
+    alloc: Global,
+    array: Name,
+    elements: &[(AnyIndex, i64)],
+) -> Result<Delta, AttemptErr>
     requires { T (is_sorted index_cmp elements.now) }
     ensures { Makes (number_cells array elements.now) result }
 {

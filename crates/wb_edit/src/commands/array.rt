@@ -3,12 +3,12 @@ ghost use Rattle.wb_range.specs.Domain.{IsListedOnce};
 ghost use Rattle.wb_edit.specs.Commands.{array, new_array_changes};
 ghost use Rattle.wb_edit.specs.Plans.{Attempts, Makes, indices_in};
 
-use crate::indexed_cells::IndexedCells;
+use crate::attempt_err::AttemptErr;
 use crate::commands::writes::{put, put_found};
 use crate::foot::Foot;
+use crate::indexed_cells::IndexedCells;
 use crate::looks::indices::{Indices, domain_indices};
 use crate::looks::one_cell;
-use crate::attempt_err::AttemptErr;
 use std::alloc::Global;
 use wb_book::{Binding, Cell, Delta, Kind, Name, Value};
 use wb_shelf::Book;

@@ -2,10 +2,10 @@ ghost use Rattle.std.specs.Prelude.{◌≡◌};
 ghost use Rattle.wb_edit.specs.Commands.{copy};
 ghost use Rattle.wb_edit.specs.Plans.{Attempts};
 
+use crate::attempt_err::{AttemptErr, stopped};
 use crate::commands::set::element_change;
 use crate::foot::Foot;
 use crate::looks::implicit::{ArrayRef, element_or_implicit};
-use crate::attempt_err::{AttemptErr, stopped};
 use crate::looks::{judgements, numbers, one_cell};
 use std::alloc::Global;
 use wb_book::{AnyIndex, Delta, Name};

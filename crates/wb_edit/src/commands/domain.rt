@@ -2,10 +2,10 @@ ghost use Rattle.std.specs.Prelude.{◌≡◌};
 ghost use Rattle.wb_edit.specs.Commands.{domain, new_domain_changes};
 ghost use Rattle.wb_edit.specs.Plans.{Attempts, Makes};
 
-use crate::indexed_cells::IndexedCells;
+use crate::attempt_err::AttemptErr;
 use crate::commands::writes::{put, put_all};
 use crate::foot::Foot;
-use crate::attempt_err::AttemptErr;
+use crate::indexed_cells::IndexedCells;
 use crate::looks::{layouts, one_cell};
 use std::alloc::Global;
 use wb_book::{AnyDomain, AnyLayout, AnyRect, Cell, Delta, DomainKind, Name, Value};
@@ -40,6 +40,11 @@ fn domain_changes(
     put(&mut delta, Cell::Object(name), Value::Domain(kind))?;
     put(&mut delta, Cell::Shape(name), Value::Ranges(*ranges))?;
     put(&mut delta, Cell::Mapping(name), Value::Mapping(*mapping))?;
-    put_all(&mut delta, &IndexedCells::Inside(name), ranges, &Value::Present)?;
+    put_all(
+        &mut delta,
+        &IndexedCells::Inside(name),
+        ranges,
+        &Value::Present,
+    )?;
     Ok(delta)
 }

@@ -5,10 +5,10 @@ ghost use Rattle.wb_book.specs.Cells.{index_cmp};
 ghost use Rattle.wb_edit.specs.Commands.{drop_array, dropped_cells};
 ghost use Rattle.wb_edit.specs.Plans.{Attempts, Makes};
 
+use crate::attempt_err::AttemptErr;
 use crate::commands::seen::{NewValue, all_become};
 use crate::commands::writes::change;
 use crate::foot::Foot;
-use crate::attempt_err::AttemptErr;
 use crate::looks::{elements, one_cell};
 use std::alloc::Global;
 use wb_book::{AnyIndex, Cell, Delta, Name};

@@ -5,12 +5,12 @@ ghost use Rattle.wb_edit.specs.Commands.{drop_domain, ended_cells, own_cells};
 ghost use Rattle.wb_edit.specs.Plans.{Attempts, Makes, indices_in};
 ghost use Rattle.wb_edit.specs.Writes.{clear_all};
 
-use crate::indexed_cells::IndexedCells;
+use crate::attempt_err::AttemptErr;
 use crate::commands::writes::{become_found, change};
 use crate::foot::Foot;
+use crate::indexed_cells::IndexedCells;
 use crate::looks::indices::{Indices, domain_indices};
 use crate::looks::one_cell;
-use crate::attempt_err::AttemptErr;
 use crate::looks::users::unused;
 use std::alloc::Global;
 use wb_book::{AnyDomain, Cell, Delta, DomainKind, Name};

@@ -6,10 +6,10 @@ ghost use Rattle.wb_edit.specs.Commands.{fill};
 ghost use Rattle.wb_edit.specs.Plans.{Attempts, Makes};
 ghost use Rattle.wb_edit.specs.Writes.{put_all};
 
-use crate::indexed_cells::IndexedCells;
+use crate::attempt_err::AttemptErr;
 use crate::commands::writes::put_all;
 use crate::foot::Foot;
-use crate::attempt_err::AttemptErr;
+use crate::indexed_cells::IndexedCells;
 use crate::looks::{one_cell, rectangles};
 use std::alloc::Global;
 use wb_book::{AnyRect, Delta, Name, Value};

@@ -8,9 +8,9 @@ ghost use Rattle.wb_edit.specs.Commands.{fill_all};
 ghost use Rattle.wb_edit.specs.Plans.{Attempts, Makes};
 ghost use Rattle.wb_edit.specs.Writes.{put_all};
 
+use crate::attempt_err::AttemptErr;
 use crate::commands::seen::{NewValue, all_become};
 use crate::foot::Foot;
-use crate::attempt_err::AttemptErr;
 use crate::looks::{elements, one_cell};
 use std::alloc::Global;
 use wb_book::{AnyIndex, Delta, Name};

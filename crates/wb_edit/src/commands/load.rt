@@ -4,10 +4,10 @@ ghost use Rattle.wb_edit.specs.Commands.{book_cells, load};
 ghost use Rattle.wb_edit.specs.Plans.{Attempts, Makes};
 ghost use Rattle.wb_reading.specs.Texts.Books.{cells_in};
 
+use crate::attempt_err::AttemptErr;
 use crate::commands::writes::put;
 use crate::foot::Foot;
 use crate::looks::objects;
-use crate::attempt_err::AttemptErr;
 use std::alloc::Global;
 use std::collections::BTreeMap;
 use wb_book::{Cell, Delta, Value};

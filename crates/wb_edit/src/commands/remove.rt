@@ -2,10 +2,10 @@ ghost use Rattle.std.specs.Prelude.{◌≡◌};
 ghost use Rattle.wb_edit.specs.Commands.{left, remove, remove_if};
 ghost use Rattle.wb_edit.specs.Plans.{Attempts};
 
+use crate::attempt_err::{AttemptErr, stopped};
 use crate::commands::resized::resize_changes;
 use crate::foot::Foot;
 use crate::looks::resizing::{has_members, zeros};
-use crate::attempt_err::{AttemptErr, stopped};
 use crate::looks::users::{arrays, uses};
 use crate::looks::{judgements, one_cell};
 use std::alloc::Global;

@@ -9,10 +9,10 @@ ghost use Rattle.wb_edit.specs.Commands.{resized};
 ghost use Rattle.wb_edit.specs.Plans.{Attempts, Makes};
 ghost use Rattle.wb_resize.specs.Resized.{resized_cells};
 
+use crate::attempt_err::AttemptErr;
 use crate::commands::writes::{NamedDomain, resize};
 use crate::foot::Foot;
-use crate::looks::resizing::{fills, all_in_parent};
-use crate::attempt_err::AttemptErr;
+use crate::looks::resizing::{all_in_parent, fills};
 use std::alloc::Global;
 use wb_book::{AnyDomain, AnyIndex, Delta, Name};
 use wb_shelf::Book;

@@ -9,8 +9,8 @@ ghost use Rattle.wb_book.specs.declared.values.index.Index.{Index};
 ghost use Rattle.wb_edit.specs.Changed.{value_of, all_become};
 ghost use Rattle.wb_edit.specs.declared.attempt_err.AttemptErr.TheVariants.{NoMemory};
 
-use crate::commands::writes::change;
 use crate::attempt_err::AttemptErr;
+use crate::commands::writes::change;
 use wb_book::{AnyIndex, Cell, Delta, Name, Value};
 
 /// What elements become.

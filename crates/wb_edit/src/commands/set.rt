@@ -5,9 +5,9 @@ ghost use Rattle.wb_edit.specs.Commands.{set};
 ghost use Rattle.wb_edit.specs.Plans.{Attempts, Makes};
 ghost use Rattle.wb_edit.specs.Writes.{put};
 
+use crate::attempt_err::{AttemptErr, stopped};
 use crate::commands::writes::put;
 use crate::foot::Foot;
-use crate::attempt_err::{AttemptErr, stopped};
 use crate::looks::{judgements, one_cell};
 use std::alloc::Global;
 use wb_book::{AnyIndex, Cell, Delta, Name, Value};

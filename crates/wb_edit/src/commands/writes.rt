@@ -16,9 +16,9 @@ ghost use Rattle.wb_edit.specs.Writes.{put, put_all};
 ghost use Rattle.wb_resize.specs.Resized.{exchanged, elements_exchanged, resized_cells};
 ghost use Rattle.wb_edit.specs.declared.attempt_err.AttemptErr.TheVariants.{NoMemory};
 
+use crate::attempt_err::AttemptErr;
 use crate::indexed_cells::{IndexedCells, cell_at};
 use crate::looks::indices::Indices;
-use crate::attempt_err::AttemptErr;
 use wb_book::{AnyIndex, AnyRect, Cell, Delta, Kind, Name, Value};
 
 /// Adds that a cell, which is not there yet, becomes a value, or absent.

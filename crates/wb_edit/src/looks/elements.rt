@@ -6,9 +6,9 @@ ghost use Rattle.wb_edit.specs.Changed.{items_of};
 ghost use Rattle.wb_edit.specs.Elements.{elements, same_domain};
 ghost use Rattle.wb_edit.specs.Plans.{Looks};
 
+use crate::attempt_err::AttemptErr;
 use crate::foot::Foot;
 use crate::refusal::Refusal;
-use crate::attempt_err::AttemptErr;
 use wb_book::{AnyIndex, Name, Pattern};
 use wb_shelf::Book;
 

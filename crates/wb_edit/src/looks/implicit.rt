@@ -4,12 +4,12 @@ ghost use Rattle.std.specs.Prelude.{◌≡◌};
 ghost use Rattle.wb_edit.specs.Implicit.{has_implicit, parent_in, parent_of, is_in_domain, implicit_value, implicit_inside, implicit_at, implicit, or_implicit, element_or_implicit};
 ghost use Rattle.wb_edit.specs.Plans.{Looks};
 
-use crate::foot::Foot;
-use crate::refusal::Refusal;
-use crate::looks::judgements::is_there;
-use crate::looks::one_cell::read;
-use crate::looks::numbers::number_in;
 use crate::attempt_err::{AttemptErr, stopped};
+use crate::foot::Foot;
+use crate::looks::judgements::is_there;
+use crate::looks::numbers::number_in;
+use crate::looks::one_cell::read;
+use crate::refusal::Refusal;
 use wb_book::{AnyIndex, Cell, DomainKind, Kind, Name, Value};
 use wb_shelf::Book;
 
@@ -63,7 +63,12 @@ pub(crate) fn parent_of(book: &Book, foot: &mut Foot, domain: Name) -> Result<Na
 }
 
 /// That an index is in a rectangular domain.
-fn is_in_domain(book: &Book, foot: &mut Foot, domain: Name, index: AnyIndex) -> Result<(), AttemptErr>
+fn is_in_domain(
+    book: &Book,
+    foot: &mut Foot,
+    domain: Name,
+    index: AnyIndex,
+) -> Result<(), AttemptErr>
     ensures { Looks (is_in_domain domain index) book.now.cells foot.old result foot.new }
 {
     let present = read(book, foot, &Cell::In(domain, index))?;
@@ -105,7 +110,12 @@ fn implicit_at(
 }
 
 /// The implicit value at an index of the parent.
-fn implicit(book: &Book, foot: &mut Foot, source: &ArrayRef, index: AnyIndex) -> Result<i64, AttemptErr>
+fn implicit(
+    book: &Book,
+    foot: &mut Foot,
+    source: &ArrayRef,
+    index: AnyIndex,
+) -> Result<i64, AttemptErr>
     ensures { Looks (implicit source.now.array source.now.domain source.now.kind index) book.now.cells foot.old result foot.new }
 {
     stopped(has_implicit(&source.kind))?;

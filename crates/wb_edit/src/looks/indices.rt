@@ -6,10 +6,10 @@ ghost use Rattle.wb_edit.specs.Looks.{member_in, members, points, indices_of, do
 ghost use Rattle.wb_edit.specs.Plans.{Looks, found_members, indices_in, shown_indices};
 ghost use Rattle.std.specs.List.{filter_map};
 
+use crate::attempt_err::AttemptErr;
 use crate::foot::Foot;
 use crate::looks::judgements;
 use crate::looks::one_cell::read;
-use crate::attempt_err::AttemptErr;
 use std::alloc::{AllocError, Global};
 use wb_book::{AnyDomain, AnyIndex, AnyRect, Cell, DomainKind, Name, Pattern, Value};
 use wb_shelf::Book;

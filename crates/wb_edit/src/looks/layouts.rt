@@ -4,8 +4,8 @@ ghost use Rattle.std.specs.Prelude.{◌≡◌, length};
 ghost use Rattle.wb_edit.specs.Layouts.{for_rank};
 ghost use Rattle.wb_edit.specs.Plans.{stopped};
 
-use crate::refusal::Refusal;
 use crate::attempt_err::{AttemptErr, stopped};
+use crate::refusal::Refusal;
 use wb_book::{AnyLayout, AnyRect};
 
 /// That the mapping is for domains of the rank; `BadMapping` where it is not.

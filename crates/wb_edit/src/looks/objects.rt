@@ -6,9 +6,9 @@ ghost use Rattle.wb_book.specs.declared.cells.pattern.Pattern.TheVariants.{Objec
 ghost use Rattle.wb_edit.specs.Objects.{is_empty, no_object};
 ghost use Rattle.wb_edit.specs.Plans.{Looks};
 
+use crate::attempt_err::{AttemptErr, stopped};
 use crate::foot::Foot;
 use crate::refusal::Refusal;
-use crate::attempt_err::{AttemptErr, stopped};
 use wb_book::Pattern;
 use wb_shelf::Book;
 

@@ -6,9 +6,9 @@ ghost use Rattle.wb_edit.specs.Trees.{read};
 ghost use Rattle.wb_edit.specs.Looks.{free_name, domain_named, array_named, element};
 ghost use Rattle.wb_edit.specs.Plans.{Looks};
 
+use crate::attempt_err::{AttemptErr, stopped};
 use crate::foot::Foot;
 use crate::looks::judgements;
-use crate::attempt_err::{AttemptErr, stopped};
 use wb_book::{AnyCell, AnyDomain, AnyIndex, Cell, Kind, Name, Pattern, Value};
 use wb_shelf::Book;
 
@@ -31,7 +31,11 @@ pub(crate) fn free_name(book: &Book, foot: &mut Foot, name: Name) -> Result<(), 
 }
 
 /// The name is there, and names a domain: what it is.
-pub(crate) fn domain_named(book: &Book, foot: &mut Foot, domain: Name) -> Result<AnyDomain, AttemptErr>
+pub(crate) fn domain_named(
+    book: &Book,
+    foot: &mut Foot,
+    domain: Name,
+) -> Result<AnyDomain, AttemptErr>
     ensures { Looks (domain_named domain) book.now.cells foot.old result foot.new }
 {
     let object = read(book, foot, &Cell::Object(domain))?;
@@ -39,7 +43,11 @@ pub(crate) fn domain_named(book: &Book, foot: &mut Foot, domain: Name) -> Result
 }
 
 /// The name is there, and names an array: its domain, and that domain's kind.
-pub(crate) fn array_named(book: &Book, foot: &mut Foot, array: Name) -> Result<(Name, Kind), AttemptErr>
+pub(crate) fn array_named(
+    book: &Book,
+    foot: &mut Foot,
+    array: Name,
+) -> Result<(Name, Kind), AttemptErr>
     ensures { Looks (array_named array) book.now.cells foot.old result foot.new }
 {
     let object = read(book, foot, &Cell::Object(array))?;

@@ -9,9 +9,9 @@ ghost use Rattle.wb_edit.specs.Plans.{Looks, one_of, stopped};
 ghost use Rattle.wb_edit.specs.Rectangles.{is_rectangular_of, of_rank, there_if, all_elements};
 ghost use Rattle.wb_edit.specs.declared.attempt_err.AttemptErr.TheVariants.{NoMemory};
 
+use crate::attempt_err::{AttemptErr, stopped};
 use crate::foot::Foot;
 use crate::refusal::Refusal;
-use crate::attempt_err::{AttemptErr, stopped};
 use wb_book::{AnyCell, AnyRect, Cell, Kind, Name, Pattern};
 use wb_shelf::Book;
 

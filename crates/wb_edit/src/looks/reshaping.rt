@@ -5,14 +5,14 @@ ghost use Rattle.std.specs.FinMap.{get};
 ghost use Rattle.std.specs.List.{list_any};
 ghost use Rattle.wb_book.specs.declared.cells.cell.Cell.TheVariants.{Member};
 ghost use Rattle.wb_edit.specs.Plans.{Looks, one_of};
-ghost use Rattle.wb_edit.specs.Reshape.{shape_in, absent_if, shape, member_cells, none_there};
+ghost use Rattle.wb_edit.specs.Reshaping.{shape_in, absent_if, shape, member_cells, none_there};
 ghost use Rattle.wb_edit.specs.declared.attempt_err.AttemptErr.TheVariants.{NoMemory};
 
+use crate::attempt_err::{AttemptErr, stopped};
 use crate::foot::Foot;
-use crate::refusal::Refusal;
 use crate::looks::one_cell::read;
 use crate::looks::rectangles::is_present;
-use crate::attempt_err::{AttemptErr, stopped};
+use crate::refusal::Refusal;
 use wb_book::{AnyIndex, AnyRect, Cell, Name, Value};
 use wb_shelf::Book;
 
@@ -57,7 +57,12 @@ fn either_answer(any: bool, here: bool) -> bool
 }
 
 // Whether a domain has one of some indices; each of them is looked at.
-fn has_some(book: &Book, foot: &mut Foot, domain: Name, listed: &[AnyIndex]) -> Result<bool, AttemptErr>
+fn has_some(
+    book: &Book,
+    foot: &mut Foot,
+    domain: Name,
+    listed: &[AnyIndex],
+) -> Result<bool, AttemptErr>
     ensures read { OnOk result (foot.new ≡ foot.old ++ map one_of (map (Member domain) listed.now)) }
     ensures there { IfOk result (λ b. b ≡ list_any is_some (map (get book.now.cells) (map (Member domain) listed.now))) }
     ensures only { IfErr result (λ e. e ≡ NoMemory) }

@@ -11,12 +11,12 @@ ghost use Rattle.wb_edit.specs.Plans.{Looks, cell_at, one_of};
 ghost use Rattle.wb_edit.specs.Resizing.{has_members, inside_if, number_or_zero, zeros, all_in_domain, all_in_parent, implicits, defaults, fills};
 ghost use Rattle.wb_edit.specs.declared.attempt_err.AttemptErr.TheVariants.{NoMemory};
 
-use crate::indexed_cells::{IndexedCells, cell_at};
-use crate::foot::Foot;
-use crate::refusal::Refusal;
-use crate::looks::rectangles::{both_answers, is_present};
 use crate::attempt_err::{AttemptErr, stopped};
+use crate::foot::Foot;
+use crate::indexed_cells::{IndexedCells, cell_at};
+use crate::looks::rectangles::{both_answers, is_present};
 use crate::looks::users::{arrays, uses};
+use crate::refusal::Refusal;
 use std::alloc::{AllocError, Global};
 use wb_book::{AnyCell, AnyDomain, AnyIndex, Cell, DomainKind, Name, Pattern, Value};
 use wb_shelf::Book;
@@ -63,7 +63,12 @@ pub(crate) fn are_there(
 }
 
 /// All indices are in a rectangular domain.
-fn all_in_domain(book: &Book, foot: &mut Foot, parent: Name, listed: &[AnyIndex]) -> Result<(), AttemptErr>
+fn all_in_domain(
+    book: &Book,
+    foot: &mut Foot,
+    parent: Name,
+    listed: &[AnyIndex],
+) -> Result<(), AttemptErr>
     ensures { Looks (all_in_domain parent listed.now) book.now.cells foot.old result foot.new }
 {
     let all = are_there(book, foot, &IndexedCells::Inside(parent), listed)?;

@@ -8,13 +8,13 @@ ghost use Rattle.wb_edit.specs.Plans.{Looks, found_members};
 ghost use Rattle.wb_edit.specs.declared.attempt_err.AttemptErr.TheVariants.{NoMemory};
 ghost use Rattle.wb_edit.specs.Sources.{same_rank, slice_of, displacement_of, is_same_type, is_alike, alike, all_fit, names_rectangle, gives_rectangle, ranges_given, names_set, gives_set, indices_given};
 
+use crate::attempt_err::{AttemptErr, stopped};
 use crate::foot::Foot;
-use crate::refusal::Refusal;
 use crate::looks::indices::members;
 use crate::looks::one_cell::domain_named;
 use crate::looks::rectangles::{both_answers, of_rank};
 use crate::looks::reshaping::shape;
-use crate::attempt_err::{AttemptErr, stopped};
+use crate::refusal::Refusal;
 use std::alloc::Global;
 use wb_assoc::Assoc;
 use wb_book::{AnyIndex, AnyRect, KeyType, Kind, Name, Point};
@@ -154,7 +154,11 @@ pub(crate) fn gives_rectangle(
 }
 
 /// The ranges that are given.
-pub(crate) fn ranges_given(book: &Book, foot: &mut Foot, given: &Given) -> Result<AnyRect, AttemptErr>
+pub(crate) fn ranges_given(
+    book: &Book,
+    foot: &mut Foot,
+    given: &Given,
+) -> Result<AnyRect, AttemptErr>
     ensures { Looks (ranges_given given.now) book.now.cells foot.old result foot.new }
 {
     match given {
@@ -173,7 +177,12 @@ fn names_set(book: &Book, foot: &mut Foot, kind: Kind, name: Name) -> Result<(),
 }
 
 /// A set for a domain of the kind is given.
-pub(crate) fn gives_set(book: &Book, foot: &mut Foot, kind: Kind, given: &Given) -> Result<(), AttemptErr>
+pub(crate) fn gives_set(
+    book: &Book,
+    foot: &mut Foot,
+    kind: Kind,
+    given: &Given,
+) -> Result<(), AttemptErr>
     ensures { Looks (gives_set kind given.now) book.now.cells foot.old result foot.new }
 {
     match given {

@@ -10,9 +10,9 @@ ghost use Rattle.wb_edit.specs.Plans.{Looks};
 ghost use Rattle.wb_edit.specs.Users.{binding_in, user_in, named, bound, is_unused, uses, unused};
 ghost use Rattle.wb_edit.specs.declared.attempt_err.AttemptErr.TheVariants.{NoMemory};
 
+use crate::attempt_err::{AttemptErr, stopped};
 use crate::foot::Foot;
 use crate::refusal::Refusal;
-use crate::attempt_err::{AttemptErr, stopped};
 use std::alloc::{AllocError, Global};
 use wb_book::{Binding, Cell, Name, Pattern, Value};
 use wb_shelf::Book;
@@ -145,7 +145,10 @@ fn sparse_in(alloc: Global, users: &[(Name, Binding)]) -> Result<Vec<Name>, Allo
 }
 
 /// The names of the users that are sparse domains.
-pub(crate) fn sparse_domains(alloc: Global, users: &[(Name, Binding)]) -> Result<Vec<Name>, AttemptErr>
+pub(crate) fn sparse_domains(
+    alloc: Global,
+    users: &[(Name, Binding)],
+) -> Result<Vec<Name>, AttemptErr>
     ensures same { IfOk result (λ v. v.items ≡ bound Sparse users.now) }
     ensures only { IfErr result (λ e. e ≡ NoMemory) }
 {
@@ -167,7 +170,12 @@ pub fn is_unused(users: &[(Name, Binding)]) -> Result<(), Refusal>
 }
 
 /// Nothing is bound to the domain.
-pub(crate) fn unused(alloc: Global, book: &Book, foot: &mut Foot, domain: Name) -> Result<(), AttemptErr>
+pub(crate) fn unused(
+    alloc: Global,
+    book: &Book,
+    foot: &mut Foot,
+    domain: Name,
+) -> Result<(), AttemptErr>
     ensures { Looks (unused domain) book.now.cells foot.old result foot.new }
 {
     let users = uses(alloc, book, foot, domain)?;

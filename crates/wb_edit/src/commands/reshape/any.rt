@@ -1,13 +1,13 @@
 //! A new value of a domain of any kind.
 
 ghost use Rattle.wb_edit.specs.Plans.{Attempts};
-ghost use Rattle.wb_edit.specs.Sources.{reshape, reshape_kind};
+ghost use Rattle.wb_edit.specs.Commands.Reshape.{reshape, reshape_kind};
 
+use crate::attempt_err::AttemptErr;
 use crate::commands::reshape::rectangles::plan_reshape_rectangle;
 use crate::commands::reshape::sets::{plan_reshape_associative, plan_reshape_sparse};
 use crate::foot::Foot;
 use crate::looks::one_cell::domain_named;
-use crate::attempt_err::AttemptErr;
 use std::alloc::Global;
 use wb_book::{AnyDomain, Delta, DomainKind, Name};
 use wb_resize::Source;

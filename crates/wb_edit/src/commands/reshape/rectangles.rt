@@ -1,15 +1,15 @@
 //! New ranges of a rectangular domain, by their source.
 
 ghost use Rattle.wb_edit.specs.Plans.{Attempts};
-ghost use Rattle.wb_edit.specs.Reshape.{reshaped};
-ghost use Rattle.wb_edit.specs.Sources.{to_rectangle, slice_rectangle, displace_rectangle, reshape_rectangle};
+ghost use Rattle.wb_edit.specs.Reshaping.{reshaped};
+ghost use Rattle.wb_edit.specs.Commands.Reshape.{to_rectangle, slice_rectangle, displace_rectangle, reshape_rectangle};
 
+use crate::attempt_err::{AttemptErr, stopped};
 use crate::commands::reshape::no_source::plan_no_source;
 use crate::commands::reshape::replaced::plan_replaced;
 use crate::foot::Foot;
 use crate::looks::reshaping::shape;
 use crate::looks::sources::{displacement_of, gives_rectangle, ranges_given, same_rank, slice_of};
-use crate::attempt_err::{AttemptErr, stopped};
 use std::alloc::Global;
 use wb_book::{AnyRect, Delta, Name, Point};
 use wb_resize::new_rectangles::left_out;

@@ -4,13 +4,13 @@ ghost use Rattle.std.specs.Prelude.{◌≡◌};
 ghost use Rattle.wb_range.specs.Domain.{IsListedOnce};
 ghost use Rattle.wb_edit.specs.Changed.{AreApart};
 ghost use Rattle.wb_edit.specs.Plans.{Attempts, Makes};
-ghost use Rattle.wb_edit.specs.Reshape.{reshaped_cells, replaced};
+ghost use Rattle.wb_edit.specs.Reshaping.{reshaped_cells, replaced};
 
+use crate::attempt_err::AttemptErr;
 use crate::commands::writes::{NamedDomain, put, resize};
 use crate::foot::Foot;
 use crate::looks::reshaping::none_there;
 use crate::looks::resizing::zeros;
-use crate::attempt_err::AttemptErr;
 use crate::looks::users::{arrays, sparse_domains, uses};
 use std::alloc::Global;
 use wb_book::{AnyIndex, AnyRect, Cell, Delta, Kind, Name, Value};

@@ -2,15 +2,15 @@
 
 ghost use Rattle.wb_range.specs.Domain.{IsListedOnce};
 ghost use Rattle.wb_edit.specs.Plans.{Attempts};
-ghost use Rattle.wb_edit.specs.Sources.{with_indices, to_set, combine_set, reshape_sparse, reshape_associative};
+ghost use Rattle.wb_edit.specs.Commands.Reshape.{with_indices, to_set, combine_set, reshape_sparse, reshape_associative};
 
+use crate::attempt_err::AttemptErr;
 use crate::commands::reshape::no_source::plan_no_source;
 use crate::commands::resized::plan_resized;
 use crate::foot::Foot;
-use crate::refusal::Refusal;
 use crate::looks::indices::members;
 use crate::looks::sources::{gives_set, indices_given};
-use crate::attempt_err::AttemptErr;
+use crate::refusal::Refusal;
 use std::alloc::Global;
 use wb_book::{AnyDomain, AnyIndex, Delta, Name};
 use wb_resize::set_operations::{combined, without};

@@ -2,7 +2,7 @@ use Rattle.std.proofs.Common.{◌≡◌, ◌++◌, map, take, is_some}
 use Rattle.std.specs.FinMap.{get}
 use Rattle.std.specs.List.{list_any}
 use Rattle.wb_edit.specs.Plans.{one_of}
-use Rattle.wb_edit.specs.Reshape.{member_cells}
+use Rattle.wb_edit.specs.Reshaping.{member_cells}
 use Rattle.wb_edit.proofs.looks.reshaping.some_have.Given as goal
 
 -- the cells of the domains so far were looked at

@@ -9,7 +9,8 @@ use Rattle.wb_resize.specs.declared.given.Given.{Given}
 use Rattle.wb_resize.specs.Sources.{combined}
 use Rattle.wb_edit.specs.Trees.{Tree}
 use Rattle.wb_edit.specs.Plans.{Attempts, Looks}
-use Rattle.wb_edit.specs.Sources.{with_indices, gives_set}
+use Rattle.wb_edit.specs.Commands.Reshape.{with_indices}
+use Rattle.wb_edit.specs.Sources.{gives_set}
 use Rattle.wb_edit.proofs.Sets.{stops_at_old, stops_at_given, both_seen}
 use Rattle.wb_edit.proofs.commands.reshape.sets.plan_combine.Goals as goal
 
