@@ -10,8 +10,8 @@ use Rattle.wb_book.specs.declared.cells.pattern.Pattern.{Pattern}
 use Rattle.wb_book.specs.declared.values.index.Index.{Index}
 use Rattle.wb_book.specs.Cells.{Name, Cells}
 use Rattle.wb_edit.specs.Plans.{one_of}
-use Rattle.wb_edit.specs.Reshape.{member_cells}
-use Rattle.wb_edit.proofs.Columns.{map-append}
+use Rattle.wb_edit.specs.Reshaping.{member_cells}
+use Rattle.wb_edit.proofs.IndexedCells.{map-append}
 
 module _ (names : List Name) (is : List Index) (k : ℕ) (e : Name) (low : k < length names) (here : e ≡ get_or names k e) where
   cells_more : member_cells (take (k + 1) names) is ≡ member_cells (take k names) is ++ map (Member e) is

@@ -23,12 +23,12 @@ use Rattle.wb_resize.specs.Resized.{without, exchanged, elements_exchanged}
 use Rattle.wb_resize.specs.Writes.{put_all, clear_all}
 use Rattle.wb_resize.proofs.Gets.{same_key}
 use Rattle.wb_resize.proofs.Without.{without-apart}
-use Rattle.wb_edit.specs.declared.column.Column.{Column}
-use Rattle.wb_edit.specs.declared.column.Column.TheVariants.{Membership}
+use Rattle.wb_edit.specs.declared.indexed_cells.IndexedCells.{IndexedCells}
+use Rattle.wb_edit.specs.declared.indexed_cells.IndexedCells.TheVariants.{Membership}
 use Rattle.wb_edit.specs.Changed.{set_all, AreApart}
 use Rattle.wb_edit.specs.Commands.{own_cells}
 use Rattle.wb_edit.specs.Plans.{cell_at}
-use Rattle.wb_edit.proofs.Columns.{changes-append, other_cells, elsewhere, get-take}
+use Rattle.wb_edit.proofs.IndexedCells.{changes-append, other_cells, elsewhere, get-take}
 use Rattle.wb_edit.proofs.Elements.{index_order}
 
 pub neither : (a b : Bool) → a ≡ false → b ≡ false → (a || b) ≡ false
@@ -36,10 +36,10 @@ neither true b e f = cc
 neither false b e f = f
 
 -- the cell of an index that comes is none of those of the indices that leave
-pub coming_is_new : (column : Column) (old : Changes) (leaving coming : List Index) → ((i : Index) → changes cell_cmp old (cell_at column i) ≡ false) → AreApart leaving coming → (p : ℕ) (i : Index) → slice_get coming p ≡ Some i
-    → changes cell_cmp (old ++ set_all (map (cell_at column) leaving) None) (cell_at column i) ≡ false
-coming_is_new column old leaving coming fresh apart p i here =
-    changes-append old (set_all (map (cell_at column) leaving) None) (cell_at column i) ∙ neither _ _ (fresh i) (other_cells column None i leaving (λ q e. apart q p i e here))
+pub coming_is_new : (indexed : IndexedCells) (old : Changes) (leaving coming : List Index) → ((i : Index) → changes cell_cmp old (cell_at indexed i) ≡ false) → AreApart leaving coming → (p : ℕ) (i : Index) → slice_get coming p ≡ Some i
+    → changes cell_cmp (old ++ set_all (map (cell_at indexed) leaving) None) (cell_at indexed i) ≡ false
+coming_is_new indexed old leaving coming fresh apart p i here =
+    changes-append old (set_all (map (cell_at indexed) leaving) None) (cell_at indexed i) ∙ neither _ _ (fresh i) (other_cells indexed None i leaving (λ q e. apart q p i e here))
 
 keys-take : (fs : List (Name × ℤ)) (k : ℕ) → keys_of (take k fs) ≡ take k (keys_of fs)
 keys-take [] zero = refl

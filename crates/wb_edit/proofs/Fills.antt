@@ -10,13 +10,13 @@ use Rattle.wb_range.specs.Domain.{IsListedOnce}
 use Rattle.wb_book.specs.declared.cells.cell.Cell.TheVariants.{Implicit}
 use Rattle.wb_book.specs.declared.cells.pattern.Pattern.{Pattern}
 use Rattle.wb_book.specs.Cells.{Name, Cells}
-use Rattle.wb_edit.specs.declared.tests.stop.Stop.{Stop}
-use Rattle.wb_edit.specs.declared.tests.stop.Stop.TheVariants.{NoMemory}
+use Rattle.wb_edit.specs.declared.attempt_err.AttemptErr.{AttemptErr}
+use Rattle.wb_edit.specs.declared.attempt_err.AttemptErr.TheVariants.{NoMemory}
 use Rattle.wb_edit.specs.Changed.{items_of}
 use Rattle.wb_edit.specs.Plans.{Gives, Looks, one_of}
 use Rattle.wb_edit.specs.Resizing.{number_or_zero, implicits}
 use Rattle.wb_edit.specs.Rectangles.{read_all}
-use Rattle.wb_edit.proofs.Columns.{map-append}
+use Rattle.wb_edit.proofs.IndexedCells.{map-append}
 use Rattle.wb_edit.proofs.Rectangles.{gives_all}
 use Rattle.wb_edit.proofs.Trees.{then_shown}
 
@@ -51,17 +51,17 @@ gives_implicits s names rs =
 
 -- ---- what the code says of them
 
-pub keys_by_items : (r : Result (Vec (Name × ℤ)) Stop) (fs : List (Name × ℤ)) (ns : List Name) → IfOk r (λ v. v.items ≡ fs) → keys_of fs ≡ ns → IfOk r (λ v. keys_of v.items ≡ ns)
+pub keys_by_items : (r : Result (Vec (Name × ℤ)) AttemptErr) (fs : List (Name × ℤ)) (ns : List Name) → IfOk r (λ v. v.items ≡ fs) → keys_of fs ≡ ns → IfOk r (λ v. keys_of v.items ≡ ns)
 keys_by_items (Ok v) fs ns same keys = ap keys_of same ∙ keys
 keys_by_items (Err why) fs ns same keys = tt
 
-pub once_by_keys : (r : Result (Vec (Name × ℤ)) Stop) (ns : List Name) → IfOk r (λ v. keys_of v.items ≡ ns) → IsListedOnce ns → IfOk r (λ v. IsListedOnce (keys_of v.items))
+pub once_by_keys : (r : Result (Vec (Name × ℤ)) AttemptErr) (ns : List Name) → IfOk r (λ v. keys_of v.items ≡ ns) → IsListedOnce ns → IfOk r (λ v. IsListedOnce (keys_of v.items))
 once_by_keys (Ok v) ns keys once = subst (λ (ks : List Name). IsListedOnce ks) (sym keys) once
 once_by_keys (Err why) ns keys once = tt
 
-pub found_implicits : (s : Cells) (ns : List Name) (rs ss : List Pattern) (r : Result (Vec (Name × ℤ)) Stop) → OnOk r (ss ≡ rs ++ map one_of (map Implicit ns)) → IfOk r (λ v. v.items ≡ map (with_implicit s) ns) → IfErr r (λ e. e ≡ NoMemory)
+pub found_implicits : (s : Cells) (ns : List Name) (rs ss : List Pattern) (r : Result (Vec (Name × ℤ)) AttemptErr) → OnOk r (ss ≡ rs ++ map one_of (map Implicit ns)) → IfOk r (λ v. v.items ≡ map (with_implicit s) ns) → IfErr r (λ e. e ≡ NoMemory)
     → Looks (implicits ns) s rs (items_of r) ss
 found_implicits s ns rs ss (Ok v) read values only =
     subst (λ (fs : List (Name × ℤ)). Gives (implicits ns) s rs fs ss) (sym values) (
     subst (λ (us : List Pattern). Gives (implicits ns) s rs (map (with_implicit s) ns) us) (sym read) (gives_implicits s ns rs))
-found_implicits s ns rs ss (Err why) read values only = subst (λ (w : Stop). Looks (implicits ns) s rs (Err w) ss) (sym only) tt
+found_implicits s ns rs ss (Err why) read values only = subst (λ (w : AttemptErr). Looks (implicits ns) s rs (Err w) ss) (sym only) tt

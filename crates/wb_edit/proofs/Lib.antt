@@ -1,5 +1,5 @@
 pub mod Trees
-pub mod Columns
+pub mod IndexedCells
 pub mod Attempts
 pub mod Sums
 pub mod Rectangles

@@ -30,7 +30,7 @@ use Rattle.wb_edit.specs.Commands.{book_cells}
 use Rattle.wb_edit.specs.Objects.{is_empty}
 use Rattle.wb_edit.specs.Schema.{workbook}
 use Rattle.wb_edit.specs.Writes.{put_each}
-use Rattle.wb_edit.proofs.Columns.{changes-append}
+use Rattle.wb_edit.proofs.IndexedCells.{changes-append}
 use Rattle.wb_resize.proofs.Gets.{after, get-apply, same_key}
 use Rattle.wb_resize.proofs.Sorted.{first, second}
 

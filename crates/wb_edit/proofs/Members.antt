@@ -23,7 +23,7 @@ use Rattle.wb_book.specs.WellFormed.{IsMember, has, present_if}
 use Rattle.wb_resize.proofs.Seen.{AreNamed, seen_named, seen_sorted, find_seen, same_family, second_less, second_tie}
 use Rattle.wb_resize.proofs.Sorted.{first, second}
 use Rattle.wb_resize.proofs.States.{itself}
-use Rattle.wb_edit.specs.Tests.{member_in}
+use Rattle.wb_edit.specs.Looks.{member_in}
 
 -- ---- ascending
 

@@ -1,5 +1,5 @@
 -- What a command writes names each cell once.
-pub mod Columns
+pub mod IndexedCells
 pub mod Looks
 pub mod Sources
 use Rattle.std.proofs.Common.{◌≡◌, ℕ, zero, suc, false, ℤ, pos, ◌+ℤ◌, List, [], ◌∷◌, map, length, Option, Some, None, refl, subst}
@@ -29,49 +29,49 @@ use Rattle.wb_book.specs.WellFormed.{IsWellFormed}
 use Rattle.wb_resize.specs.Dropped.{ended_cells}
 use Rattle.wb_resize.proofs.Fills.{arrays, zeros_once}
 use Rattle.wb_resize.proofs.Users.{users}
-use Rattle.wb_edit.specs.declared.commands.seen.Becomes.TheVariants.{Same, Absent}
+use Rattle.wb_edit.specs.declared.commands.seen.NewValue.TheVariants.{Fill as fill_with, Clear}
 use Rattle.wb_edit.specs.declared.edit.Edit.TheVariants.{Domain, Remap, Sparse, Assoc, Array, Set, Irv, Copy, Fill, FillAll, DropArray, All, Add, Remove, DropDomain, Reshape, DomainOfSet, FillOfSet, Load}
 use Rattle.wb_edit.specs.declared.operation.Operation.{Operation}
 use Rattle.wb_edit.specs.declared.refusal.Refusal.TheVariants.{WrongKind}
 use Rattle.wb_edit.specs.Changed.{set_all, value_of}
-use Rattle.wb_edit.specs.Commands.{domain_cells, domain, remap, sparse, assoc, array_cells, array, set, irv, copy, fill, fill_all, dropped_cells, drop_array, number_cells, combined, all, drop_domain, add_unless, remove_if, book_cells, load}
+use Rattle.wb_edit.specs.Commands.{new_domain_changes, domain, remap, sparse, assoc, new_array_changes, array, set, irv, copy, fill, fill_all, dropped_cells, drop_array, number_cells, all_results, all, drop_domain, add_unless, remove_if, book_cells, load}
 use Rattle.wb_edit.specs.Elements.{elements, same_domain, results, all_within, over_one_domain}
 use Rattle.wb_edit.specs.Implicit.{has_implicit, parent_in, implicit_value, implicit_inside, implicit_at, or_implicit, element_or_implicit}
 use Rattle.wb_edit.specs.Kinds.{rank_of, is_sparse, rectangular, over_sparse}
 use Rattle.wb_edit.specs.Laws.{EachCellOnce}
 use Rattle.wb_edit.specs.Layouts.{for_rank, mapped}
-use Rattle.wb_edit.specs.Looks.{Tree, read, judged}
+use Rattle.wb_edit.specs.Trees.{Tree, read, judged}
 use Rattle.wb_edit.specs.Objects.{is_empty}
-use Rattle.wb_edit.specs.Numbers.{number_in, within, sum}
+use Rattle.wb_edit.specs.Numbers.{number_in, fits_integer, sum}
 use Rattle.wb_edit.specs.Rectangles.{of_rank, all_there, over_rectangle, all_elements}
 use Rattle.wb_edit.specs.Resizing.{has_members, with_members, zeros}
 use Rattle.wb_edit.specs.Schema.{workbook}
-use Rattle.wb_edit.specs.Tests.{is_free, domain_kind, array_kind, is_there, fits, dom, arr, key, element, idx}
+use Rattle.wb_edit.specs.Looks.{is_free, domain_kind, array_kind, is_there, fits, domain_named, array_named, index_fits, element, domain_indices}
 use Rattle.wb_edit.specs.Users.{is_unused, unused}
 use Rattle.wb_edit.specs.Writes.{put, put_all, clear_all}
 use Rattle.wb_edit.proofs.Becoming.{same_all, all_absent}
-use Rattle.wb_edit.proofs.Columns.{elsewhere}
+use Rattle.wb_edit.proofs.IndexedCells.{elsewhere}
 use Rattle.wb_edit.proofs.Elements.{elements_ascend}
 use Rattle.wb_edit.proofs.Loading.{puts_once}
 use Rattle.wb_edit.proofs.SideBySide.{kept_ascend}
-use Rattle.wb_edit.proofs.Once.Columns.{once_column, once_resized, once_ended, once_seen}
-use Rattle.wb_edit.proofs.Once.Looks.{Once, once_read, once_judged, once_test, once_all, once_idx, rectangle_once, none_once, none_apart}
+use Rattle.wb_edit.proofs.Once.IndexedCells.{once_indexed, once_resized, once_ended, once_seen}
+use Rattle.wb_edit.proofs.Once.Looks.{Once, once_read, once_judged, once_test, once_all, once_indices, rectangle_once, none_once, none_apart}
 use Rattle.wb_edit.proofs.Once.Sources.{resized_once, reshape_once}
 use Rattle.wb_reading.specs.Texts.Books.{cells_in}
 
-domain_once : (d : Name) (rs : List Range) (m : LayoutMap) → IsListedOnce (indices rs) → AllOnce cell_cmp (domain_cells d rs m)
+domain_once : (d : Name) (rs : List Range) (m : LayoutMap) → IsListedOnce (indices rs) → AllOnce cell_cmp (new_domain_changes d rs m)
 domain_once d rs m once =
     let apart : (c : Cell) → ((i : Index) → eq_by_cmp cell_cmp c (In d i) ≡ false) → changes cell_cmp (put_all (map (In d) (indices rs)) Present) c ≡ false = λ c other. elsewhere (In d) (Some Present) c (indices rs) other in
-    (apart (Object d) (λ i. refl), (apart (Shape d) (λ i. refl), (apart (Mapping d) (λ i. refl), once_column (In d) (λ i j e. cc) (Some Present) (indices rs) once)))
+    (apart (Object d) (λ i. refl), (apart (Shape d) (λ i. refl), (apart (Mapping d) (λ i. refl), once_indexed (In d) (λ i j e. cc) (Some Present) (indices rs) once)))
 
 -- a cell that is no element of an array
 not_among : (a : Name) (o : Option Value) (is : List Index) (c : Cell) → ((i : Index) → eq_by_cmp cell_cmp c (Element a i) ≡ false) → changes cell_cmp (set_all (map (Element a) is) o) c ≡ false
 not_among a o is c other = elsewhere (Element a) o c is other
 
-array_once : (a d : Name) (kind : Kind) (is : List Index) → IsListedOnce is → AllOnce cell_cmp (array_cells a d kind is)
+array_once : (a d : Name) (kind : Kind) (is : List Index) → IsListedOnce is → AllOnce cell_cmp (new_array_changes a d kind is)
 array_once a d kind is once =
     let apart = not_among a (Some (Number (pos 0))) is in
-    (apart (Object a) (λ i. refl), (apart (Use d a) (λ i. refl), (apart (Implicit a) (λ i. refl), once_column (Element a) (λ i j e. cc) (Some (Number (pos 0))) is once)))
+    (apart (Object a) (λ i. refl), (apart (Use d a) (λ i. refl), (apart (Implicit a) (λ i. refl), once_indexed (Element a) (λ i j e. cc) (Some (Number (pos 0))) is once)))
 
 -- ---- all elements of an array
 
@@ -79,13 +79,13 @@ fill_all_once : (s : Cells) (a : Name) (v : ℤ) → Once (fill_all a v) s
 fill_all_once s a v =
     let es : List (Index × ℤ) = readers.elements s a in
     once_test s (Object a) array_kind (λ array. elements a (λ es. write (put_all (map (Element a) (keys_of es)) (Number v)))) (λ array _.
-    subst (AllOnce cell_cmp) (same_all a v es) (once_seen a (λ e. value_of (Same v) e.1) es (elements_ascend s a)))
+    subst (AllOnce cell_cmp) (same_all a v es) (once_seen a (λ e. value_of (fill_with v) e.1) es (elements_ascend s a)))
 
 drop_array_once : (s : Cells) (a : Name) → Once (drop_array a) s
 drop_array_once s a =
     let es : List (Index × ℤ) = readers.elements s a in
     let apart = not_among a None (keys_of es) in
-    let own : AllOnce cell_cmp (clear_all (map (Element a) (keys_of es))) = subst (AllOnce cell_cmp) (all_absent a es) (once_seen a (λ e. value_of Absent e.1) es (elements_ascend s a)) in
+    let own : AllOnce cell_cmp (clear_all (map (Element a) (keys_of es))) = subst (AllOnce cell_cmp) (all_absent a es) (once_seen a (λ e. value_of Clear e.1) es (elements_ascend s a)) in
     once_test s (Object a) array_kind (λ array. elements a (λ es. write (dropped_cells a array.0 (keys_of es)))) (λ array _.
     (apart (Object a) (λ i. refl), (apart (Use array.0 a) (λ i. refl), (apart (Implicit a) (λ i. refl), own))))
 
@@ -94,10 +94,10 @@ all_once s a how b =
     let xs : List (Index × ℤ) = readers.elements s a in
     let ys : List (Index × ℤ) = readers.elements s b in
     let last : List (Index × ℤ) → Tree = λ zs. write (number_cells a zs) in
-    let one : Name × Kind → Name × Kind → Tree = λ array source. over_one_domain array.0 source.0 (λ x. combined a how b) in
-    once_test s (Object a) array_kind (λ array. arr b (one array)) (λ array _.
+    let one : Name × Kind → Name × Kind → Tree = λ array source. over_one_domain array.0 source.0 (λ x. all_results a how b) in
+    once_test s (Object a) array_kind (λ array. array_named b (one array)) (λ array _.
     once_test s (Object b) array_kind (one array) (λ source _.
-    once_judged s (same_domain array.0 source.0) (λ x. combined a how b) (λ x _.
+    once_judged s (same_domain array.0 source.0) (λ x. all_results a how b) (λ x _.
     once_judged s (all_within (results how xs ys)) last (λ zs ok.
     once_seen a (λ e. Some (Number e.1)) zs (kept_ascend how xs ys zs (elements_ascend s a) ok)))))
 
@@ -119,14 +119,14 @@ copy_once s a i b j c =
     let last : ℤ → Tree = λ y. write (put (Element a i) (Number y) ∷ []) in
     let added : ℤ → Tree = λ x. sum x c last in
     let elements : Name × Kind → Tree = λ source. element a i (λ z. element_or_implicit b source.0 source.1 j added) in
-    let keys : Kind → Name × Kind → Tree = λ kind source. key kind i (λ x. key source.1 j (λ y. elements source)) in
-    once_test s (Object a) array_kind (λ array. arr b (keys array.1)) (λ array _.
+    let keys : Kind → Name × Kind → Tree = λ kind source. index_fits kind i (λ x. index_fits source.1 j (λ y. elements source)) in
+    once_test s (Object a) array_kind (λ array. array_named b (keys array.1)) (λ array _.
     once_test s (Object b) array_kind (keys array.1) (λ source _.
-    once_judged s (fits array.1 i) (λ x. key source.1 j (λ y. elements source)) (λ x _.
+    once_judged s (fits array.1 i) (λ x. index_fits source.1 j (λ y. elements source)) (λ x _.
     once_judged s (fits source.1 j) (λ y. elements source) (λ y _.
     once_test s (Element a i) is_there (λ z. element_or_implicit b source.0 source.1 j added) (λ z _.
     number_once s b source.0 source.1 j added (λ x.
-    once_judged s (within (x +ℤ c)) last (λ y _. (refl, tt))))))))
+    once_judged s (fits_integer (x +ℤ c)) last (λ y _. (refl, tt))))))))
 
 fill_once : (s : Cells) (a : Name) (on : List Range) (v : ℤ) → IsListedOnce (indices on) → Once (fill a on v) s
 fill_once s a on v once =
@@ -135,7 +135,7 @@ fill_once s a on v once =
     once_judged s (of_rank (length on) array.1) (λ x. all_elements a (indices on) (λ y. last)) (λ x _.
     once_all s (map (Element a) (indices on)) (λ vs. judged (all_there vs) (λ y. last)) (
     once_judged s (all_there (map (get s) (map (Element a) (indices on)))) (λ y. last) (λ y _.
-    once_column (Element a) (λ i j e. cc) (Some (Number v)) (indices on) once))))
+    once_indexed (Element a) (λ i j e. cc) (Some (Number v)) (indices on) once))))
 
 -- ---- one index
 
@@ -153,10 +153,10 @@ remove_if_once s None d kind i = tt
 remove_if_once s (Some v) d kind i = once_resized (i ∷ []) [] (single_once i) none_once (λ p q x e f. none_apart q x f) (kind_of kind) d (zeros (arrays s d)) (zeros_once s d)
 
 -- the tests on an index that is added or removed
-member_once : (s : Cells) (d : Name) (i : Index) (next : Option Value → DomainKind → Tree) → ((o : Option Value) (kind : DomainKind) → Once (next o kind) s) → Once (dom d (λ kind. with_members kind (λ x. key (kind_of kind) i (λ y. read (Member d i) (λ there. next there kind))))) s
+member_once : (s : Cells) (d : Name) (i : Index) (next : Option Value → DomainKind → Tree) → ((o : Option Value) (kind : DomainKind) → Once (next o kind) s) → Once (domain_named d (λ kind. with_members kind (λ x. index_fits (kind_of kind) i (λ y. read (Member d i) (λ there. next there kind))))) s
 member_once s d i next once =
     let last : DomainKind → Tree = λ kind. read (Member d i) (λ there. next there kind) in
-    let keyed : DomainKind → Tree = λ kind. key (kind_of kind) i (λ y. last kind) in
+    let keyed : DomainKind → Tree = λ kind. index_fits (kind_of kind) i (λ y. last kind) in
     once_test s (Object d) domain_kind (λ kind. with_members kind (λ x. keyed kind)) (λ kind _.
     once_judged s (has_members kind) (λ x. keyed kind) (λ x _.
     once_judged s (fits (kind_of kind) i) (λ y. last kind) (λ y _.
@@ -166,7 +166,7 @@ member_once s d i next once =
 
 new_domain_once : (s : Cells) (d : Name) (rs : List Range) (m : LayoutMap) → IsListedOnce (indices rs) → Once (domain d rs m) s
 new_domain_once s d rs m once =
-    let last : Tree = write (domain_cells d rs m) in
+    let last : Tree = write (new_domain_changes d rs m) in
     once_test s (Object d) is_free (λ x. mapped (length rs) m (λ y. last)) (λ x _.
     once_judged s (for_rank (length rs) m) (λ y. last) (λ y _. domain_once d rs m once))
 
@@ -181,7 +181,7 @@ remap_once s d m =
 sparse_once : (s : Cells) (d parent : Name) → Once (sparse d parent) s
 sparse_once s d parent =
     let last : ℕ → Tree = λ rank. write (put (Object d) (Domain (Sparse parent rank)) ∷ put (Use parent d) (Bound Sparse) ∷ []) in
-    once_test s (Object d) is_free (λ x. dom parent (λ kind. rectangular kind last)) (λ x _.
+    once_test s (Object d) is_free (λ x. domain_named parent (λ kind. rectangular kind last)) (λ x _.
     once_test s (Object parent) domain_kind (λ kind. rectangular kind last) (λ kind _.
     once_judged s (rank_of kind) last (λ rank _. (refl, (refl, tt)))))
 
@@ -190,15 +190,15 @@ assoc_once s d type = once_test s (Object d) is_free (λ x. write (put (Object d
 
 new_array_once : (s : Cells) (a d : Name) → IsWellFormed s → Once (array a d) s
 new_array_once s a d h =
-    let last : DomainKind → List Index → Tree = λ kind is. write (array_cells a d (kind_of kind) is) in
-    once_test s (Object a) is_free (λ x. dom d (λ kind. idx d kind (last kind))) (λ x _.
-    once_test s (Object d) domain_kind (λ kind. idx d kind (last kind)) (λ kind _.
-    once_idx s h d kind (last kind) (λ is listed. array_once a d (kind_of kind) is listed)))
+    let last : DomainKind → List Index → Tree = λ kind is. write (new_array_changes a d (kind_of kind) is) in
+    once_test s (Object a) is_free (λ x. domain_named d (λ kind. domain_indices d kind (last kind))) (λ x _.
+    once_test s (Object d) domain_kind (λ kind. domain_indices d kind (last kind)) (λ kind _.
+    once_indices s h d kind (last kind) (λ is listed. array_once a d (kind_of kind) is listed)))
 
 set_once : (s : Cells) (a : Name) (i : Index) (v : ℤ) → Once (set a i v) s
 set_once s a i v =
     let last : Tree = write (put (Element a i) (Number v) ∷ []) in
-    once_test s (Object a) array_kind (λ array. key array.1 i (λ x. element a i (λ y. last))) (λ array _.
+    once_test s (Object a) array_kind (λ array. index_fits array.1 i (λ x. element a i (λ y. last))) (λ array _.
     once_judged s (fits array.1 i) (λ x. element a i (λ y. last)) (λ x _.
     once_test s (Element a i) is_there (λ y. last) (λ y _. (refl, tt))))
 
@@ -211,9 +211,9 @@ irv_once s a v =
 drop_domain_once : (s : Cells) (d : Name) → IsWellFormed s → Once (drop_domain d) s
 drop_domain_once s d h =
     let last : DomainKind → List Index → Tree = λ kind is. write (ended_cells d kind is) in
-    once_test s (Object d) domain_kind (λ kind. unused d (λ x. idx d kind (last kind))) (λ kind _.
-    once_judged s (is_unused (users s d)) (λ x. idx d kind (last kind)) (λ x _.
-    once_idx s h d kind (last kind) (λ is listed. once_ended d kind is listed)))
+    once_test s (Object d) domain_kind (λ kind. unused d (λ x. domain_indices d kind (last kind))) (λ kind _.
+    once_judged s (is_unused (users s d)) (λ x. domain_indices d kind (last kind)) (λ x _.
+    once_indices s h d kind (last kind) (λ is listed. once_ended d kind is listed)))
 
 load_once : (s : Cells) (text : List ℕ) → Once (load text) s
 load_once s text =

@@ -11,7 +11,7 @@ use Rattle.wb_book.specs.declared.values.index.Index.{Index}
 use Rattle.wb_book.specs.Cells.{Cells}
 use Rattle.wb_edit.specs.Plans.{Gives, one_of}
 use Rattle.wb_edit.specs.Rectangles.{read_all}
-use Rattle.wb_edit.proofs.Columns.{take_more, map-append}
+use Rattle.wb_edit.proofs.IndexedCells.{take_more, map-append}
 use Rattle.wb_edit.proofs.Trees.{gives_read}
 
 -- all of a list

@@ -24,14 +24,14 @@ use Rattle.wb_book.specs.WellFormed.{IsWellFormed, IsElement, array_in, domain_a
 use Rattle.wb_edit.specs.declared.operation.Operation.{Operation}
 use Rattle.wb_edit.specs.declared.refusal.Refusal.{Refusal}
 use Rattle.wb_edit.specs.declared.refusal.Refusal.TheVariants.{Overflow}
-use Rattle.wb_edit.specs.declared.tests.stop.Stop.{Stop}
-use Rattle.wb_edit.specs.declared.tests.stop.Stop.TheVariants.{Refused}
+use Rattle.wb_edit.specs.declared.attempt_err.AttemptErr.{AttemptErr}
+use Rattle.wb_edit.specs.declared.attempt_err.AttemptErr.TheVariants.{Refused}
 use Rattle.wb_edit.specs.Changed.{Judges}
 use Rattle.wb_edit.specs.Elements.{result_of, value_at, results, all_kept_if, all_within, same_domain}
-use Rattle.wb_edit.specs.Looks.{Tree, judged}
-use Rattle.wb_edit.specs.Numbers.{is_i64, kept_if, within}
+use Rattle.wb_edit.specs.Trees.{Tree, judged}
+use Rattle.wb_edit.specs.Numbers.{is_i64, kept_if, fits_integer}
 use Rattle.wb_edit.specs.Plans.{Gives, stopped}
-use Rattle.wb_edit.specs.Tests.{array_kind, arr}
+use Rattle.wb_edit.specs.Looks.{array_kind, array_named}
 use Rattle.wb_edit.specs.Writes.{put}
 use Rattle.wb_edit.proofs.Elements.{index_order, number_of, elements_ascend, find_element}
 use Rattle.wb_resize.proofs.States.{same_name}
@@ -99,7 +99,7 @@ sees s x (Ok y) e = let shown : Some y ≡ Some x = ap shown_in e in ap Ok (same
 sees s x (Err why) e = let shown : None ≡ Some x = ap shown_in e in absurd (none-some x shown)
 
 -- a look at an array that went on saw it
-pub saw_array : (s : Cells) (a : Name) (rs ss : List Pattern) (x : Name × Kind) → Gives (arr a) s rs x ss → get s (Object a) ≡ Some (Array x.0 x.1)
+pub saw_array : (s : Cells) (a : Name) (rs ss : List Pattern) (x : Name × Kind) → Gives (array_named a) s rs x ss → get s (Object a) ≡ Some (Array x.0 x.1)
 saw_array s a rs ss x g =
     let next : Name × Kind → Tree = λ y. write (put (Object y.0) (Array y.0 y.1) ∷ []) in
     array_is (get s (Object a)) x (sees s x (array_kind (get s (Object a))) (ap (λ v. outcome (judged (array_kind v) next) s) (sym (seen_value s (Object a))) ∙ (g next).0))
@@ -238,11 +238,11 @@ went_with : (b : Bool) (w z : ℤ) → stopped (kept_if b w) ≡ Ok z → (b ≡
 went_with true w z e = let same : w ≡ z = cc in (refl, same)
 went_with false w z e = cc
 
-halted_with : (b : Bool) (w : ℤ) (why : Stop) → stopped (kept_if b w) ≡ Err why → (b ≡ false) × (Refused Overflow ≡ why)
+halted_with : (b : Bool) (w : ℤ) (why : AttemptErr) → stopped (kept_if b w) ≡ Err why → (b ≡ false) × (Refused Overflow ≡ why)
 halted_with true w why e = cc
 halted_with false w why e = let same : Refused Overflow ≡ why = cc in (refl, same)
 
-pub fits_after : (w z : ℤ) → stopped (within w) ≡ Ok z → FitsSigned w64 z
+pub fits_after : (w z : ℤ) → stopped (fits_integer w) ≡ Ok z → FitsSigned w64 z
 fits_after w z e = let kept = went_with (is_i64 w) w z e in subst (λ v. FitsSigned w64 v) kept.1 (is_i64-fits w kept.0)
 
 pub pushed : {X A B : Type 0} (r : Result A B) (xs ys : List X) (x : X) → is_err r ≡ false → ys ≡ (if is_ok r then xs ++ x ∷ [] else xs) → ys ≡ xs ++ x ∷ []
@@ -253,7 +253,7 @@ module _ (how : Operation) (xs ys : List (Index × ℤ)) (alike : keys_of xs ≡
   also_low : p < length ys
   also_low = let same = same_length xs ys alike in omega (arith, low, same)
 
-  pub next_result : (z : ℤ) (made more : List (Index × ℤ)) → stopped (within (result_of how x.1 y.1)) ≡ Ok z → made ≡ take p (side_by_side how xs ys) → list_all (λ z. is_i64 z.1) made ≡ true → more ≡ made ++ (x.0, z) ∷ []
+  pub next_result : (z : ℤ) (made more : List (Index × ℤ)) → stopped (fits_integer (result_of how x.1 y.1)) ≡ Ok z → made ≡ take p (side_by_side how xs ys) → list_all (λ z. is_i64 z.1) made ≡ true → more ≡ made ++ (x.0, z) ∷ []
       → (more ≡ take (p + 1) (side_by_side how xs ys)) × (list_all (λ z. is_i64 z.1) more ≡ true)
   next_result z made more given sofar within_64 is =
       let w : ℤ = result_of how x.1 y.1 in
@@ -266,7 +266,7 @@ module _ (how : Operation) (xs ys : List (Index × ℤ)) (alike : keys_of xs ≡
         ap (list_all (λ z. is_i64 z.1)) same ∙ within_more made (x.0, w) within_64 kept.0,
       )
 
-  pub halted : (why : Stop) → T (is_sorted index_cmp xs) → stopped (within (result_of how x.1 y.1)) ≡ Err why → Judges (all_within (results how xs ys)) (Err why)
+  pub halted : (why : AttemptErr) → T (is_sorted index_cmp xs) → stopped (fits_integer (result_of how x.1 y.1)) ≡ Err why → Judges (all_within (results how xs ys)) (Err why)
   halted why s given =
       let w : ℤ = result_of how x.1 y.1 in
       let out = halted_with (is_i64 w) w why given in
@@ -274,8 +274,8 @@ module _ (how : Operation) (xs ys : List (Index × ℤ)) (alike : keys_of xs ≡
       let none : list_all (λ z. is_i64 z.1) (side_by_side how xs ys) ≡ false = not_within how xs ys p x y low also_low (ap is_i64 value ∙ out.0) in
       subst (λ stop. Judges (all_within (results how xs ys)) (Err stop)) out.1 (ap all_within (results_are how xs ys alike s) ∙ ap (λ b. all_kept_if b (side_by_side how xs ys)) none)
 
-pub all_results : (how : Operation) (xs ys made : List (Index × ℤ)) (p : ℕ) → keys_of xs ≡ keys_of ys → T (is_sorted index_cmp xs) → length xs ≤ p → made ≡ take p (side_by_side how xs ys) → list_all (λ z. is_i64 z.1) made ≡ true → all_within (results how xs ys) ≡ Ok made
-all_results how xs ys made p alike s past is within_64 =
+pub results_made : (how : Operation) (xs ys made : List (Index × ℤ)) (p : ℕ) → keys_of xs ≡ keys_of ys → T (is_sorted index_cmp xs) → length xs ≤ p → made ≡ take p (side_by_side how xs ys) → list_all (λ z. is_i64 z.1) made ≡ true → all_within (results how xs ys) ≡ Ok made
+results_made how xs ys made p alike s past is within_64 =
     let size = length-side how xs ys (same_length xs ys alike) in
     let whole_made : made ≡ side_by_side how xs ys = is ∙ whole (side_by_side how xs ys) p (omega (arith, past, size)) in
     ap all_within (results_are how xs ys alike s ∙ sym whole_made) ∙ ap (λ b. all_kept_if b made) within_64

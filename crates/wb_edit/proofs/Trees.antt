@@ -11,10 +11,10 @@ use Rattle.wb_book.specs.declared.cells.pattern.Pattern.TheVariants.{One}
 use Rattle.wb_book.specs.declared.cells.value.Value.{Value}
 use Rattle.wb_book.specs.Cells.{cell_cmp, cell_order, Cells}
 use Rattle.wb_edit.specs.declared.refusal.Refusal.{Refusal}
-use Rattle.wb_edit.specs.declared.tests.stop.Stop.{Stop}
-use Rattle.wb_edit.specs.declared.tests.stop.Stop.TheVariants.{Refused, NoMemory}
+use Rattle.wb_edit.specs.declared.attempt_err.AttemptErr.{AttemptErr}
+use Rattle.wb_edit.specs.declared.attempt_err.AttemptErr.TheVariants.{Refused, NoMemory}
 use Rattle.wb_edit.specs.Schema.{workbook}
-use Rattle.wb_edit.specs.Looks.{Look, first_value, read, judged}
+use Rattle.wb_edit.specs.Trees.{Look, first_value, read, judged}
 use Rattle.wb_edit.specs.Plans.{Gives, Looks, stopped}
 
 -- ---- a look at one cell
@@ -40,7 +40,7 @@ gives_read s c v rs is next =
 
 module _ {X : Type 0} (t : Look X) (s : Cells) (rs ss : List Pattern) where
   -- a look that stops stops whatever comes next
-  pub halts : {Y : Type 0} (f : X → Look Y) (stop : Stop) → Looks t s rs (Err stop) ss → Looks (λ next. t (λ x. f x next)) s rs (Err stop) ss
+  pub halts : {Y : Type 0} (f : X → Look Y) (stop : AttemptErr) → Looks t s rs (Err stop) ss → Looks (λ next. t (λ x. f x next)) s rs (Err stop) ss
   halts f (Refused why) h = λ next. h (λ x. f x next)
   halts f NoMemory h = tt
 
@@ -53,7 +53,7 @@ module _ {X : Type 0} (t : Look X) (s : Cells) (rs ss : List Pattern) where
       (h.0 ∙ ap (λ r. outcome (judged r next) s) e, sym (h.1 ∙ ap (λ r. ss ++ reads (judged r next) s) e ∙ append-nil ss))
 
   -- a look that goes on, and then another one
-  pub then_looks : {Y : Type 0} (f : X → Look Y) (x : X) (r : Result Y Stop) (us : List Pattern) → Gives t s rs x ss → Looks (f x) s ss r us → Looks (λ next. t (λ x. f x next)) s rs r us
+  pub then_looks : {Y : Type 0} (f : X → Look Y) (x : X) (r : Result Y AttemptErr) (us : List Pattern) → Gives t s rs x ss → Looks (f x) s ss r us → Looks (λ next. t (λ x. f x next)) s rs r us
   then_looks f x (Ok y) us g l = λ next.
       let h = g (λ x. f x next) in
       let k = l next in

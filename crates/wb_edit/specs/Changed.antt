@@ -7,19 +7,19 @@ use Rattle.wb_book.specs.declared.cells.value.Value.{Value}
 use Rattle.wb_book.specs.declared.cells.value.Value.TheVariants.{Number}
 use Rattle.wb_book.specs.declared.values.index.Index.{Index}
 use Rattle.wb_book.specs.Cells.{Name, Changes}
-use Rattle.wb_edit.specs.declared.commands.seen.Becomes.{Becomes}
-use Rattle.wb_edit.specs.declared.commands.seen.Becomes.TheVariants.{Same, Own, Absent}
+use Rattle.wb_edit.specs.declared.commands.seen.NewValue.{NewValue}
+use Rattle.wb_edit.specs.declared.commands.seen.NewValue.TheVariants.{Fill, Listed, Clear}
 use Rattle.wb_edit.specs.declared.refusal.Refusal.{Refusal}
-use Rattle.wb_edit.specs.declared.tests.stop.Stop.{Stop}
-use Rattle.wb_edit.specs.declared.tests.stop.Stop.TheVariants.{Refused, NoMemory}
+use Rattle.wb_edit.specs.declared.attempt_err.AttemptErr.{AttemptErr}
+use Rattle.wb_edit.specs.declared.attempt_err.AttemptErr.TheVariants.{Refused, NoMemory}
 
 -- a vector, as its list
-abbrev pub items_of : {X : Type 0} → Result (Vec X) Stop → Result (List X) Stop
+abbrev pub items_of : {X : Type 0} → Result (Vec X) AttemptErr → Result (List X) AttemptErr
 items_of (Ok v) = Ok v.items
 items_of (Err why) = Err why
 
 -- a judgement comes out so, unless no memory was left
-abbrev pub Judges : {X : Type 0} → Result X Refusal → Result X Stop → Type 0
+abbrev pub Judges : {X : Type 0} → Result X Refusal → Result X AttemptErr → Type 0
 Judges j (Ok x) = j ≡ Ok x
 Judges j (Err (Refused why)) = j ≡ Err why
 Judges j (Err NoMemory) = ⊤
@@ -33,11 +33,11 @@ abbrev pub AreApart : {X : Type 0} → List X → List X → Type 0
 AreApart {X} xs ys = (p q : ℕ) (x : X) → slice_get xs p ≡ Some x → slice_get ys q ≡ Some x → ⊥
 
 -- what an element becomes, with a number beside it
-abbrev pub value_of : Becomes → ℤ → Option Value
-value_of (Same v) x = Some (Number v)
-value_of Own x = Some (Number x)
-value_of Absent x = None
+abbrev pub value_of : NewValue → ℤ → Option Value
+value_of (Fill v) x = Some (Number v)
+value_of Listed x = Some (Number x)
+value_of Clear x = None
 
 -- each of the elements becomes so
-abbrev pub all_become : Name → Becomes → List (Index × ℤ) → Changes
+abbrev pub all_become : Name → NewValue → List (Index × ℤ) → Changes
 all_become a new es = map (λ e. record { cell = Element a e.0; value = value_of new e.1 }) es

@@ -10,7 +10,7 @@ use Rattle.wb_edit.specs.declared.operation.Operation.{Operation}
 use Rattle.wb_edit.specs.declared.operation.Operation.TheVariants.{Assign, Sum, Difference, Product}
 use Rattle.wb_edit.specs.declared.refusal.Refusal.{Refusal}
 use Rattle.wb_edit.specs.declared.refusal.Refusal.TheVariants.{WrongKind, Overflow}
-use Rattle.wb_edit.specs.Looks.{Look, judged}
+use Rattle.wb_edit.specs.Trees.{Look, judged}
 use Rattle.wb_edit.specs.Numbers.{is_i64}
 
 -- the elements of an array, each after its index, in the order of the indices: looks at the family of them, at once

@@ -11,9 +11,9 @@ use Rattle.wb_book.specs.declared.values.index.Index.{Index}
 use Rattle.wb_book.specs.Cells.{Name}
 use Rattle.wb_edit.specs.declared.refusal.Refusal.{Refusal}
 use Rattle.wb_edit.specs.declared.refusal.Refusal.TheVariants.{OutOfDomain}
-use Rattle.wb_edit.specs.Looks.{Look, ◌>>=◌, read, judged}
+use Rattle.wb_edit.specs.Trees.{Look, ◌>>=◌, read, judged}
 use Rattle.wb_edit.specs.Numbers.{number_in}
-use Rattle.wb_edit.specs.Tests.{is_there}
+use Rattle.wb_edit.specs.Looks.{is_there}
 
 -- ---- judgements
 
@@ -28,7 +28,7 @@ abbrev pub parent_in : Option Value → Result Name Refusal
 parent_in (Some (Domain (Sparse parent rank))) = Ok parent
 parent_in _ = Err OutOfDomain
 
--- ---- the tests
+-- ---- the looks
 
 -- the parent of a sparse domain: looks at the domain's object
 abbrev pub parent_of : Name → Look Name
@@ -37,8 +37,8 @@ parent_of d next = do
   judged (parent_in object) next
 
 -- an index of a rectangular domain: looks at whether it is in it
-abbrev pub inside : Name → Index → Look (Unit {0})
-inside d i next = do
+abbrev pub is_in_domain : Name → Index → Look (Unit {0})
+is_in_domain d i next = do
   v ← read (In d i)
   judged (is_there v) next
 
@@ -51,7 +51,7 @@ implicit_value a next = do
 -- the implicit value, at an index of the parent
 abbrev pub implicit_inside : (a parent : Name) → Index → Look ℤ
 implicit_inside a parent i next = do
-  unit ← inside parent i
+  unit ← is_in_domain parent i
   implicit_value a next
 
 -- the implicit value, at an index of the parent of the sparse domain d

@@ -6,7 +6,7 @@ use Rattle.wb_book.specs.declared.cells.kind.Kind.{Kind}
 use Rattle.wb_book.specs.declared.cells.kind.Kind.TheVariants.{Rectangular, Sparse, Associative}
 use Rattle.wb_edit.specs.declared.refusal.Refusal.{Refusal}
 use Rattle.wb_edit.specs.declared.refusal.Refusal.TheVariants.{WrongKind}
-use Rattle.wb_edit.specs.Looks.{Look, judged}
+use Rattle.wb_edit.specs.Trees.{Look, judged}
 
 -- the rank of a rectangular domain; another one is of the wrong kind
 abbrev pub rank_of : DomainKind → Result ℕ Refusal
@@ -20,7 +20,7 @@ is_sparse (Rectangular rank) = Err WrongKind
 is_sparse (Sparse rank) = Ok tt
 is_sparse (Associative type) = Err WrongKind
 
--- ---- the tests
+-- ---- the looks
 
 -- a rectangular domain: its rank
 abbrev pub rectangular : DomainKind → Look ℕ

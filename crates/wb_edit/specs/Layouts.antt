@@ -4,7 +4,7 @@ use Rattle.wb_dist.specs.Maps.{LayoutMap}
 use Rattle.wb_book.specs.Layouts.{is_of_rank}
 use Rattle.wb_edit.specs.declared.refusal.Refusal.{Refusal}
 use Rattle.wb_edit.specs.declared.refusal.Refusal.TheVariants.{BadMapping}
-use Rattle.wb_edit.specs.Looks.{Look, judged}
+use Rattle.wb_edit.specs.Trees.{Look, judged}
 
 -- ---- judgements
 
@@ -12,7 +12,7 @@ use Rattle.wb_edit.specs.Looks.{Look, judged}
 abbrev pub for_rank : ℕ → LayoutMap → Result (Unit {0}) Refusal
 for_rank rank m = elim (is_of_rank rank m) [ true ↦ Ok tt | false ↦ Err BadMapping ]
 
--- ---- the tests
+-- ---- the looks
 
 -- a mapping for domains of the rank: looks at nothing
 abbrev pub mapped : ℕ → LayoutMap → Look (Unit {0})

@@ -1,6 +1,6 @@
 pub mod Schema
+pub mod Trees
 pub mod Looks
-pub mod Tests
 pub mod Kinds
 pub mod Numbers
 pub mod Implicit
@@ -11,7 +11,7 @@ pub mod Users
 pub mod Objects
 pub mod Resizing
 pub mod Writes
-pub mod Reshape
+pub mod Reshaping
 pub mod Sources
 pub mod Commands
 pub mod Plans

@@ -1,41 +1,105 @@
--- Edits as trees, and how they look at cells.
-use Rattle.std.specs.Prelude.{List, [], ◌∷◌, Option, Some, None, Result, Ok, Err}
-use Rattle.selective_undo.specs.Edit.{Edit, refuse, look}
+-- The looks that commands are made of. Each looks at some cells, and then the edit goes on, with what was seen, or is refused.
+-- A test is a look with a judgement: the judgements say what follows from what a cell holds, and look at nothing.
+use Rattle.std.specs.Prelude.{true, false, List, [], Option, Some, None, Result, Ok, Err}
+use Rattle.std.specs.List.{filter_map}
+use Rattle.selective_undo.specs.Edit.{look}
 use Rattle.wb_book.specs.declared.cells.cell.Cell.{Cell}
-use Rattle.wb_book.specs.declared.cells.pattern.Pattern.TheVariants.{One}
+use Rattle.wb_book.specs.declared.cells.cell.Cell.TheVariants.{Object, Shape, Member, Element}
+use Rattle.wb_book.specs.declared.cells.kind.DomainKind.{DomainKind}
+use Rattle.wb_book.specs.declared.cells.kind.DomainKind.TheVariants.{Rectangular, Sparse, Associative}
+use Rattle.wb_book.specs.declared.cells.kind.Kind.{Kind}
+use Rattle.wb_book.specs.declared.cells.pattern.Pattern.TheVariants.{Members}
 use Rattle.wb_book.specs.declared.cells.value.Value.{Value}
+use Rattle.wb_book.specs.declared.cells.value.Value.TheVariants.{Domain, Array}
+use Rattle.wb_book.specs.declared.values.index.Index.{Index}
+use Rattle.wb_book.specs.Cells.{Name}
+use Rattle.wb_book.specs.Kinds.{is_key}
+use Rattle.wb_book.specs.Shapes.{Range, indices}
+pub use Rattle.wb_book.specs.WellFormed.{ranges_in}
 use Rattle.wb_edit.specs.declared.refusal.Refusal.{Refusal}
-use Rattle.wb_edit.specs.Schema.{workbook}
+use Rattle.wb_edit.specs.declared.refusal.Refusal.TheVariants.{NameTaken, NoSuchName, WrongKind, OutOfDomain}
+use Rattle.wb_edit.specs.Trees.{Look, ◌>>=◌, read, judged}
 
--- An edit of a workbook is a tree: `refuse why`, `write changes`, or a look and what follows for each thing that it may show.
-abbrev pub Tree : Type 0
-Tree = Edit workbook
+-- ---- judgements of what a cell holds
 
--- A test, or a look, by whose answer the rest of an edit goes on: it is given the rest, and is the whole edit.
--- `x ← t` says: by t, get x, and go on. `unit ← t` is a test that says no more than that the edit goes on.
-abbrev pub Look : Type 0 → Type 0
-Look X = (X → Tree) → Tree
+-- nothing has the name; else it is taken
+abbrev pub is_free : Option Value → Result (Unit {0}) Refusal
+is_free None = Ok tt
+is_free (Some v) = Err NameTaken
 
--- t, and then the rest by what t gives: what `x ← t` stands for
-infixr 10 ◌>>=◌
-abbrev pub ◌>>=◌ : {X : Type 0} → Look X → (X → Tree) → Tree
-t >>= next = t next
+-- the name is that of a domain: what it is. It is no name where nothing has it, and of the wrong kind where an array has it
+abbrev pub domain_kind : Option Value → Result DomainKind Refusal
+domain_kind None = Err NoSuchName
+domain_kind (Some (Domain kind)) = Ok kind
+domain_kind (Some v) = Err WrongKind
 
--- the same where t gives nothing
-infixr 10 ◌>>◌
-abbrev pub ◌>>◌ : (Tree → Tree) → Tree → Tree
-t >> next = t next
+-- the name is that of an array: its domain, and that domain's kind
+abbrev pub array_kind : Option Value → Result (Name × Kind) Refusal
+array_kind None = Err NoSuchName
+array_kind (Some (Array d kind)) = Ok (d, kind)
+array_kind (Some v) = Err WrongKind
 
--- a look at one cell shows that cell with its value, or nothing
-abbrev pub first_value : List (Cell × Value) → Option Value
-first_value [] = None
-first_value (x ∷ xs) = Some x.1
+-- an element is there; else the index is outside
+abbrev pub is_there : Option Value → Result (Unit {0}) Refusal
+is_there None = Err OutOfDomain
+is_there (Some v) = Ok tt
 
--- what a cell holds
-abbrev pub read : Cell → Look (Option Value)
-read c next = look (One c) (λ seen. next (first_value seen))
+-- the index is of the rank and type of the indices of a domain of this kind; else it is of the wrong kind
+abbrev pub fits : Kind → Index → Result (Unit {0}) Refusal
+fits kind i = elim (is_key kind i) [ true ↦ Ok tt | false ↦ Err WrongKind ]
 
--- go on with what a judgement gives, or be refused by it
-abbrev pub judged : {X : Type 0} → Result X Refusal → Look X
-judged (Ok x) next = next x
-judged (Err why) next = refuse why
+-- the indices of ranges, where there are any
+abbrev pub indices_of : Option (List Range) → List Index
+indices_of (Some rs) = indices rs
+indices_of None = []
+
+-- the index of a domain that a cell tells of
+abbrev pub member_in : Cell × Value → Option Index
+member_in (Member d i, v) = Some i
+member_in (c, v) = None
+
+-- ---- the looks
+
+-- the name is free: looks at its object
+abbrev pub free_name : Name → Look (Unit {0})
+free_name n next = do
+  v ← read (Object n)
+  judged (is_free v) next
+
+-- a domain of the name: looks at its object
+abbrev pub domain_named : Name → Look DomainKind
+domain_named d next = do
+  v ← read (Object d)
+  judged (domain_kind v) next
+
+-- an array of the name: looks at its object
+abbrev pub array_named : Name → Look (Name × Kind)
+array_named a next = do
+  v ← read (Object a)
+  judged (array_kind v) next
+
+-- an index that fits a domain of the kind: looks at nothing
+abbrev pub index_fits : Kind → Index → Look (Unit {0})
+index_fits kind i = judged (fits kind i)
+
+-- an array's element at an index: looks at it
+abbrev pub element : Name → Index → Look (Unit {0})
+element a i next = do
+  v ← read (Element a i)
+  judged (is_there v) next
+
+-- the indices of a sparse or associative domain, ascending: looks at all of them
+abbrev pub members : Name → Look (List Index)
+members d next = look (Members d) (λ seen. next (filter_map member_in seen))
+
+-- the indices of a rectangular domain, row by row: looks at its ranges
+abbrev pub points : Name → Look (List Index)
+points d next = do
+  v ← read (Shape d)
+  next (indices_of (ranges_in v))
+
+-- the indices of a domain, in its order: looks at its ranges, or at all of its members
+abbrev pub domain_indices : Name → DomainKind → Look (List Index)
+domain_indices d (Rectangular rank) next = points d next
+domain_indices d (Sparse parent rank) next = members d next
+domain_indices d (Associative type) next = members d next

@@ -4,7 +4,7 @@ use Rattle.wb_book.specs.declared.cells.value.Value.{Value}
 use Rattle.wb_book.specs.declared.cells.value.Value.TheVariants.{Number}
 use Rattle.wb_edit.specs.declared.refusal.Refusal.{Refusal}
 use Rattle.wb_edit.specs.declared.refusal.Refusal.TheVariants.{OutOfDomain, Overflow}
-use Rattle.wb_edit.specs.Looks.{Look, judged}
+use Rattle.wb_edit.specs.Trees.{Look, judged}
 
 -- ---- judgements
 
@@ -23,11 +23,11 @@ kept_if true z = Ok z
 kept_if false z = Err Overflow
 
 -- an integer, where it is one of 64 bits
-abbrev pub within : ℤ → Result ℤ Refusal
-within z = kept_if (is_i64 z) z
+abbrev pub fits_integer : ℤ → Result ℤ Refusal
+fits_integer z = kept_if (is_i64 z) z
 
--- ---- the tests
+-- ---- the looks
 
 -- a sum within 64 bits: looks at nothing
 abbrev pub sum : ℤ → ℤ → Look ℤ
-sum x y = judged (within (x +ℤ y))
+sum x y = judged (fits_integer (x +ℤ y))

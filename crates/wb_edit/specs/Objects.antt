@@ -6,7 +6,7 @@ use Rattle.wb_book.specs.declared.cells.pattern.Pattern.TheVariants.{Objects}
 use Rattle.wb_book.specs.declared.cells.value.Value.{Value}
 use Rattle.wb_edit.specs.declared.refusal.Refusal.{Refusal}
 use Rattle.wb_edit.specs.declared.refusal.Refusal.TheVariants.{NotEmpty}
-use Rattle.wb_edit.specs.Looks.{Look, judged}
+use Rattle.wb_edit.specs.Trees.{Look, judged}
 
 -- nothing was seen; else the workbook is not empty
 abbrev pub is_empty : List (Cell × Value) → Result (Unit {0}) Refusal

@@ -7,19 +7,19 @@ use Rattle.wb_book.specs.declared.cells.cell.Cell.TheVariants.{In, Element}
 use Rattle.wb_book.specs.declared.cells.pattern.Pattern.{Pattern}
 use Rattle.wb_book.specs.declared.cells.pattern.Pattern.TheVariants.{One}
 use Rattle.wb_book.specs.Cells.{Cells, Changes, count_of}
-use Rattle.wb_edit.specs.declared.column.Column.{Column}
-use Rattle.wb_edit.specs.declared.column.Column.TheVariants.{Inside, Elements, Membership}
+use Rattle.wb_edit.specs.declared.indexed_cells.IndexedCells.{IndexedCells}
+use Rattle.wb_edit.specs.declared.indexed_cells.IndexedCells.TheVariants.{Inside, Elements, Membership}
 use Rattle.wb_edit.specs.declared.planning.PlanErr.{PlanErr}
 use Rattle.wb_edit.specs.declared.planning.PlanErr.TheVariants.{Refused as PlanRefused, NoMemory as PlanNoMemory}
-use Rattle.wb_edit.specs.declared.tests.indices.Indices.{Indices}
-use Rattle.wb_edit.specs.declared.tests.indices.Indices.TheVariants.{Product, Listed}
-use Rattle.wb_edit.specs.declared.tests.stop.Stop.{Stop}
-use Rattle.wb_edit.specs.declared.tests.stop.Stop.TheVariants.{Refused as StopRefused, NoMemory as StopNoMemory}
+use Rattle.wb_edit.specs.declared.looks.indices.Indices.{Indices}
+use Rattle.wb_edit.specs.declared.looks.indices.Indices.TheVariants.{Product, Listed}
+use Rattle.wb_edit.specs.declared.attempt_err.AttemptErr.{AttemptErr}
+use Rattle.wb_edit.specs.declared.attempt_err.AttemptErr.TheVariants.{Refused as AttemptRefused, NoMemory as AttemptNoMemory}
 use Rattle.wb_edit.specs.declared.refusal.Refusal.{Refusal}
 use Rattle.wb_book.specs.declared.values.index.Index.{Index}
 use Rattle.wb_book.specs.Shapes.{indices}
 use Rattle.wb_book.specs.WellFormed.{index_cell}
-use Rattle.wb_edit.specs.Looks.{Tree, Look}
+use Rattle.wb_edit.specs.Trees.{Tree, Look}
 
 -- A plan is what the tree says of the cells: the changes, or the refusal; the reads in their order; and how many cells change,
 -- the cells `In` aside. Nothing is said where no memory was left.
@@ -31,10 +31,10 @@ IsPlan e s (Err PlanNoMemory) = ⊤
 -- ---- a plan in the making, where rs was read before and ss after
 
 -- an attempt comes out as the tree does, and adds what it reads
-abbrev pub Attempts : Tree → Cells → List Pattern → Result Changes Stop → List Pattern → Type 0
+abbrev pub Attempts : Tree → Cells → List Pattern → Result Changes AttemptErr → List Pattern → Type 0
 Attempts e s rs (Ok xs) ss = (outcome e s ≡ Ok xs) × (ss ≡ rs ++ reads e s)
-Attempts e s rs (Err (StopRefused why)) ss = (outcome e s ≡ Err why) × (ss ≡ rs ++ reads e s)
-Attempts e s rs (Err StopNoMemory) ss = ⊤
+Attempts e s rs (Err (AttemptRefused why)) ss = (outcome e s ≡ Err why) × (ss ≡ rs ++ reads e s)
+Attempts e s rs (Err AttemptNoMemory) ss = ⊤
 
 -- whatever comes next, a look goes on with x
 abbrev pub Gives : {X : Type 0} → Look X → Cells → List Pattern → X → List Pattern → Type 0
@@ -45,20 +45,20 @@ abbrev pub Refuses : {X : Type 0} → Look X → Cells → List Pattern → Refu
 Refuses t s rs why ss = (next : _ → Tree) → (outcome (t next) s ≡ Err why) × (ss ≡ rs ++ reads (t next) s)
 
 -- a look comes out as its tree does
-abbrev pub Looks : {X : Type 0} → Look X → Cells → List Pattern → Result X Stop → List Pattern → Type 0
+abbrev pub Looks : {X : Type 0} → Look X → Cells → List Pattern → Result X AttemptErr → List Pattern → Type 0
 Looks t s rs (Ok x) ss = Gives t s rs x ss
-Looks t s rs (Err (StopRefused why)) ss = Refuses t s rs why ss
-Looks t s rs (Err StopNoMemory) ss = ⊤
+Looks t s rs (Err (AttemptRefused why)) ss = Refuses t s rs why ss
+Looks t s rs (Err AttemptNoMemory) ss = ⊤
 
 -- the changes, unless no memory was left
-abbrev pub Makes : Changes → Result Changes Stop → Type 0
+abbrev pub Makes : Changes → Result Changes AttemptErr → Type 0
 Makes xs (Ok ys) = ys ≡ xs
-Makes xs (Err why) = why ≡ StopNoMemory
+Makes xs (Err why) = why ≡ AttemptNoMemory
 
 -- a judgement, where it may stop an attempt
-abbrev pub stopped : {X : Type 0} → Result X Refusal → Result X Stop
+abbrev pub stopped : {X : Type 0} → Result X Refusal → Result X AttemptErr
 stopped (Ok x) = Ok x
-stopped (Err why) = Err (StopRefused why)
+stopped (Err why) = Err (AttemptRefused why)
 
 -- the indices that were found, by ranges or one by one
 abbrev pub indices_in : Indices → List Index
@@ -66,17 +66,17 @@ indices_in (Product rs) = indices rs
 indices_in (Listed is) = is.items
 
 -- the members that a look found
-abbrev pub found_members : {Z : Type 0} → Result (Vec Index Z) Stop → Result (List Index) Stop
+abbrev pub found_members : {Z : Type 0} → Result (Vec Index Z) AttemptErr → Result (List Index) AttemptErr
 found_members (Ok is) = Ok is.items
 found_members (Err why) = Err why
 
 -- what a look at indices found, as the indices that it stands for
-abbrev pub shown_indices : Result Indices Stop → Result (List Index) Stop
+abbrev pub shown_indices : Result Indices AttemptErr → Result (List Index) AttemptErr
 shown_indices (Ok found) = Ok (indices_in found)
 shown_indices (Err why) = Err why
 
--- the cell of a column at an index
-abbrev pub cell_at : Column → Index → Cell
+-- the cell of an index
+abbrev pub cell_at : IndexedCells → Index → Cell
 cell_at (Inside d) i = In d i
 cell_at (Elements a) i = Element a i
 cell_at (Membership kind d) i = index_cell kind d i

@@ -10,7 +10,7 @@ use Rattle.wb_book.specs.declared.values.index.Index.{Index}
 use Rattle.wb_book.specs.Cells.{Name}
 use Rattle.wb_edit.specs.declared.refusal.Refusal.{Refusal}
 use Rattle.wb_edit.specs.declared.refusal.Refusal.TheVariants.{WrongKind, OutOfDomain}
-use Rattle.wb_edit.specs.Looks.{Look, ◌>>=◌, read, judged}
+use Rattle.wb_edit.specs.Trees.{Look, ◌>>=◌, read, judged}
 
 -- ---- judgements
 
@@ -31,7 +31,7 @@ there_if false = Err OutOfDomain
 abbrev pub all_there : List (Option Value) → Result (Unit {0}) Refusal
 all_there vs = there_if (list_all is_some vs)
 
--- ---- the tests
+-- ---- the looks
 
 -- what each of some cells holds: all are looked at, one after another
 abbrev pub read_all : List Cell → Look (List (Option Value))

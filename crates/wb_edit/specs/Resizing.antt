@@ -14,7 +14,7 @@ use Rattle.wb_resize.specs.Resized.{resized_cells}
 pub use Rattle.wb_resize.specs.Fills.{number_or_zero, zeros}
 use Rattle.wb_edit.specs.declared.refusal.Refusal.{Refusal}
 use Rattle.wb_edit.specs.declared.refusal.Refusal.TheVariants.{WrongKind, OutOfParent}
-use Rattle.wb_edit.specs.Looks.{Tree, Look, ◌>>=◌, judged}
+use Rattle.wb_edit.specs.Trees.{Tree, Look, ◌>>=◌, judged}
 use Rattle.wb_edit.specs.Rectangles.{read_all}
 use Rattle.wb_edit.specs.Users.{bound, uses}
 
@@ -34,23 +34,23 @@ inside_if false = Err OutOfParent
 abbrev pub all_inside : List (Option Value) → Result (Unit {0}) Refusal
 all_inside vs = inside_if (list_all is_some vs)
 
--- ---- the tests
+-- ---- the looks
 
 -- a sparse or associative domain: looks at nothing
 abbrev pub with_members : DomainKind → Look (Unit {0})
 with_members kind = judged (has_members kind)
 
 -- indices of a rectangular domain: looks at each of them before it judges
-abbrev pub within : Name → List Index → Look (Unit {0})
-within parent is next = do
+abbrev pub all_in_domain : Name → List Index → Look (Unit {0})
+all_in_domain parent is next = do
   vs ← read_all (map (In parent) is)
   judged (all_inside vs) next
 
 -- indices for a domain: if it is sparse, they are in its parent
-abbrev pub inside : DomainKind → List Index → Look (Unit {0})
-inside (Rectangular rank) is next = next tt
-inside (Sparse parent rank) is next = within parent is next
-inside (Associative type) is next = next tt
+abbrev pub all_in_parent : DomainKind → List Index → Look (Unit {0})
+all_in_parent (Rectangular rank) is next = next tt
+all_in_parent (Sparse parent rank) is next = all_in_domain parent is next
+all_in_parent (Associative type) is next = next tt
 
 -- arrays with their implicit values: looks at each of these
 abbrev pub implicits : List Name → Look (List (Name × ℤ))
@@ -77,6 +77,6 @@ fills d kind next = do
 -- its parent, and it is seen what new indices bring to the arrays over it
 abbrev pub resized : Name → DomainKind → (new leaving coming : List Index) → Tree
 resized d kind new leaving coming = do
-  unit ← inside kind new
+  unit ← all_in_parent kind new
   brought ← fills d kind
   write (resized_cells (kind_of kind) d brought leaving coming)

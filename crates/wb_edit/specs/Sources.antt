@@ -1,12 +1,9 @@
--- A new value of a domain, by its source (Chapel Language Specification, Domains: assignment, slicing, translate, expand, and
--- set operations on associative domains). Each kind of domain has its own sources.
+-- Where the new value of a domain comes from: what a command is given, and whether it is one for the domain.
 use Rattle.std.specs.Prelude.{ℕ, ◌==◌, Bool, true, false, ℤ, List, length, Result, Ok, Err}
 use Rattle.std.specs.List.{list_all}
 use Rattle.selective_undo.specs.Edit.{refuse}
 use Rattle.wb_rect.specs.ShiftTests.{has_unit_strides}
 use Rattle.wb_rect.specs.Slices.{sliced}
-use Rattle.wb_book.specs.declared.cells.kind.DomainKind.{DomainKind}
-use Rattle.wb_book.specs.declared.cells.kind.DomainKind.TheVariants.{Rectangular, Sparse, Associative}
 use Rattle.wb_book.specs.declared.cells.kind.KeyType.{KeyType}
 use Rattle.wb_book.specs.declared.cells.kind.KeyType.TheVariants.{Int, Text}
 use Rattle.wb_book.specs.declared.cells.kind.Kind.{Kind}
@@ -18,18 +15,13 @@ use Rattle.wb_book.specs.Shapes.{Range}
 use Rattle.wb_resize.specs.declared.given.Given.{Given}
 use Rattle.wb_resize.specs.declared.given.Given.TheVariants.{Rectangle, Items, Named}
 use Rattle.wb_resize.specs.declared.source.Displacement.{Displacement}
-use Rattle.wb_resize.specs.declared.source.SetOperation.{SetOperation}
-use Rattle.wb_resize.specs.declared.source.Source.{Source}
-use Rattle.wb_resize.specs.declared.source.Source.TheVariants.{To, Slice, Displace, Combine}
-use Rattle.wb_resize.specs.Resized.{without}
-use Rattle.wb_resize.specs.Sources.{combined, displaced, can_displace}
+use Rattle.wb_resize.specs.Sources.{displaced, can_displace}
 use Rattle.wb_edit.specs.declared.refusal.Refusal.{Refusal}
 use Rattle.wb_edit.specs.declared.refusal.Refusal.TheVariants.{WrongKind, TooLarge}
-use Rattle.wb_edit.specs.Looks.{Tree, Look, ◌>>=◌, judged}
+use Rattle.wb_edit.specs.Trees.{Look, ◌>>=◌, judged}
 use Rattle.wb_edit.specs.Rectangles.{of_rank}
-use Rattle.wb_edit.specs.Reshape.{shape, reshaped}
-use Rattle.wb_edit.specs.Resizing.{resized}
-use Rattle.wb_edit.specs.Tests.{dom, members}
+use Rattle.wb_edit.specs.Reshaping.{shape}
+use Rattle.wb_edit.specs.Looks.{domain_named, members}
 
 -- ---- judgements
 
@@ -76,12 +68,12 @@ alike kind other = elim (is_alike kind other) [ true ↦ Ok tt | false ↦ Err W
 abbrev pub all_fit : Kind → List Index → Result (Unit {0}) Refusal
 all_fit kind is = elim (list_all (is_key kind) is) [ true ↦ Ok tt | false ↦ Err WrongKind ]
 
--- ---- what is given
+-- ---- the looks
 
 -- a rectangular domain of the rank: looks at its object
 abbrev pub names_rectangle : (rank : ℕ) → Name → Look (Unit {0})
 names_rectangle rank e next = do
-  kind ← dom e
+  kind ← domain_named e
   judged (of_rank rank (kind_of kind)) next
 
 -- a rectangle of the rank is given: a literal, or a rectangular domain, whose object is looked at
@@ -99,7 +91,7 @@ ranges_given (Named e) next = shape e next
 -- a domain like one of the kind: looks at its object
 abbrev pub names_set : Kind → Name → Look (Unit {0})
 names_set kind e next = do
-  other ← dom e
+  other ← domain_named e
   judged (alike kind (kind_of other)) next
 
 -- a set for a domain of the kind is given: a literal of such indices, or a domain like it, whose object is looked at
@@ -113,91 +105,3 @@ abbrev pub indices_given : Given → Look (List Index)
 indices_given (Rectangle rs) next = refuse WrongKind
 indices_given (Items is) next = next is
 indices_given (Named e) next = members e next
-
--- no such source for the domain; a name that is given is tested first
-abbrev pub no_source : Given → Tree
-no_source (Rectangle rs) = refuse WrongKind
-no_source (Items is) = refuse WrongKind
-no_source (Named e) = do
-  kind ← dom e
-  refuse WrongKind
-
--- ---- rectangular domains
-
--- what is given takes the place of the ranges: it is a rectangle of the rank
-abbrev pub to_rectangle : Name → (rank : ℕ) → Given → Tree
-to_rectangle d rank given = do
-  unit ← gives_rectangle rank given
-  old ← shape d
-  new ← ranges_given given
-  reshaped d old new
-
--- the ranges become what they have in common with those that are given: these are a rectangle of the rank
-abbrev pub slice_rectangle : Name → (rank : ℕ) → Given → Tree
-slice_rectangle d rank given = do
-  unit ← gives_rectangle rank given
-  old ← shape d
-  by ← ranges_given given
-  new ← judged (slice_of old by)
-  reshaped d old new
-
--- the ranges move by an offset for each dimension
-abbrev pub displace_rectangle : Name → (rank : ℕ) → Displacement → (offsets : List ℤ) → Tree
-displace_rectangle d rank how offsets = do
-  unit ← judged (same_rank rank (length offsets))
-  old ← shape d
-  new ← judged (displacement_of how offsets old)
-  reshaped d old new
-
-abbrev pub reshape_rectangle : Name → (rank : ℕ) → Source → Tree
-reshape_rectangle d rank (To given) = to_rectangle d rank given
-reshape_rectangle d rank (Slice given) = slice_rectangle d rank given
-reshape_rectangle d rank (Displace how offsets) = displace_rectangle d rank how offsets
-reshape_rectangle d rank (Combine how given) = no_source given
-
--- ---- sparse and associative domains
-
--- a domain of a kind with some indices gets others
-abbrev pub exchanged : Name → DomainKind → (old new : List Index) → Tree
-exchanged d kind old new = resized d kind new (without new old) (without old new)
-
--- what is given takes the place of the indices: it is a set for such a domain
-abbrev pub to_set : Name → DomainKind → Given → Tree
-to_set d kind given = do
-  unit ← gives_set (kind_of kind) given
-  old ← members d
-  new ← indices_given given
-  exchanged d kind old new
-
--- the indices become what they and those that are given make: these are a set for such a domain
-abbrev pub combine_set : Name → DomainKind → SetOperation → Given → Tree
-combine_set d kind how given = do
-  unit ← gives_set (kind_of kind) given
-  old ← members d
-  other ← indices_given given
-  exchanged d kind old (combined how other old)
-
-abbrev pub reshape_sparse : Name → DomainKind → Source → Tree
-reshape_sparse d kind (To given) = to_set d kind given
-reshape_sparse d kind (Slice given) = no_source given
-reshape_sparse d kind (Displace how offsets) = refuse WrongKind
-reshape_sparse d kind (Combine how given) = no_source given
-
-abbrev pub reshape_associative : Name → DomainKind → Source → Tree
-reshape_associative d kind (To given) = to_set d kind given
-reshape_associative d kind (Slice given) = no_source given
-reshape_associative d kind (Displace how offsets) = refuse WrongKind
-reshape_associative d kind (Combine how given) = combine_set d kind how given
-
--- ---- any domain
-
-abbrev pub reshape_kind : Name → DomainKind → Source → Tree
-reshape_kind d (Rectangular rank) source = reshape_rectangle d rank source
-reshape_kind d (Sparse parent rank) source = reshape_sparse d (Sparse parent rank) source
-reshape_kind d (Associative type) source = reshape_associative d (Associative type) source
-
--- a new value of a domain: the domain is there, and the source is one for its kind
-abbrev pub reshape : Name → Source → Tree
-reshape d source = do
-  kind ← dom d
-  reshape_kind d kind source

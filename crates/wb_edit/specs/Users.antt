@@ -8,7 +8,7 @@ use Rattle.wb_book.specs.Cells.{Name}
 pub use Rattle.wb_resize.specs.Users.{binding_in, user_in, named, bound}
 use Rattle.wb_edit.specs.declared.refusal.Refusal.{Refusal}
 use Rattle.wb_edit.specs.declared.refusal.Refusal.TheVariants.{InUse}
-use Rattle.wb_edit.specs.Looks.{Look, ◌>>=◌, judged}
+use Rattle.wb_edit.specs.Trees.{Look, ◌>>=◌, judged}
 
 -- ---- judgements of what was seen
 
@@ -17,7 +17,7 @@ abbrev pub is_unused : List (Name × Binding) → Result (Unit {0}) Refusal
 is_unused [] = Ok tt
 is_unused (u ∷ us) = Err InUse
 
--- ---- the tests
+-- ---- the looks
 
 -- what is bound to a domain, and how, by their names: looks at all of that
 abbrev pub uses : Name → Look (List (Name × Binding))

@@ -1,25 +1,26 @@
 //! Edits of a workbook: each is planned by looking at cells, and then it is refused or says what to write.
 //!
-//! What each command means stands in `specs/Commands.antt`, a tree of the tests of `specs/Tests.antt`. [`plan`] is
+//! What each command means stands in `specs/Commands.antt`, a tree of the looks of `specs/Looks.antt`. [`plan`] is
 //! proved to do what the tree says, and [`laws`] what holds of every command.
 #![tactic(auto)]
 
-mod column;
+mod attempt_err;
 mod commands;
 mod edit;
 mod foot;
+mod indexed_cells;
 pub mod laws;
+mod looks;
 mod operation;
 mod planning;
 mod refusal;
 mod same;
-mod tests;
 
 pub use crate::edit::Edit;
 pub use crate::foot::Foot;
+pub use crate::looks::implicit::{has_implicit, parent_in};
+pub use crate::looks::judgements;
+pub use crate::looks::numbers::number_in;
 pub use crate::operation::Operation;
 pub use crate::planning::{PlanErr, plan};
 pub use crate::refusal::Refusal;
-pub use crate::tests::implicit::{has_implicit, parent_in};
-pub use crate::tests::judgements;
-pub use crate::tests::numbers::number_in;

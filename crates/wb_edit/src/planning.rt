@@ -2,14 +2,14 @@ ghost use Rattle.std.specs.Prelude.{◌≡◌, []};
 ghost use Rattle.wb_edit.specs.Commands.{meaning};
 ghost use Rattle.wb_edit.specs.Plans.{Attempts, IsPlan};
 
+use crate::attempt_err::AttemptErr;
 use crate::commands::{
-    added, array, combined, copied, domain, dropped_array, dropped_domain, element, filled,
-    filled_array, implicit, loaded, of_sets, remapped, removed, reshape, sets,
+    add, all, array, assoc, copy, domain, drop_array, drop_domain, fill, fill_all, irv, load,
+    of_sets, remap, remove, reshape, set, sparse,
 };
 use crate::edit::Edit;
 use crate::foot::Foot;
 use crate::refusal::Refusal;
-use crate::tests::stop::Stop;
 use std::alloc::Global;
 use wb_book::Delta;
 use wb_shelf::Book;
@@ -37,42 +37,38 @@ pub fn plan(alloc: Global, book: &Book, edit: &Edit) -> Result<(Delta, Foot, usi
             let count = delta.count();
             Ok((delta, foot, count))
         }
-        Err(Stop::Refused(why)) => Err(PlanErr::Refused(why, foot)),
-        Err(Stop::NoMemory) => Err(PlanErr::NoMemory),
+        Err(AttemptErr::Refused(why)) => Err(PlanErr::Refused(why, foot)),
+        Err(AttemptErr::NoMemory) => Err(PlanErr::NoMemory),
     }
 }
 
 // The changes of the edit; what it reads is added to `foot`.
-fn attempt(alloc: Global, book: &Book, foot: &mut Foot, edit: &Edit) -> Result<Delta, Stop>
+fn attempt(alloc: Global, book: &Book, foot: &mut Foot, edit: &Edit) -> Result<Delta, AttemptErr>
     ensures { Attempts (meaning edit.now) book.now.cells foot.old result foot.new }
 {
     match edit {
         Edit::Domain(name, ranges, mapping) => {
             domain::plan_domain(alloc, book, foot, *name, ranges, mapping)
         }
-        Edit::Remap(domain, mapping) => remapped::plan_remap(alloc, book, foot, *domain, mapping),
-        Edit::Sparse(name, parent) => sets::plan_sparse(alloc, book, foot, *name, *parent),
-        Edit::Assoc(name, key) => sets::plan_assoc(alloc, book, foot, *name, key),
+        Edit::Remap(domain, mapping) => remap::plan_remap(alloc, book, foot, *domain, mapping),
+        Edit::Sparse(name, parent) => sparse::plan_sparse(alloc, book, foot, *name, *parent),
+        Edit::Assoc(name, key) => assoc::plan_assoc(alloc, book, foot, *name, key),
         Edit::Array(name, over) => array::plan_array(alloc, book, foot, *name, *over),
-        Edit::Set(name, index, value) => {
-            element::plan_set(alloc, book, foot, *name, *index, *value)
-        }
-        Edit::Irv(name, value) => implicit::plan_irv(alloc, book, foot, *name, *value),
+        Edit::Set(name, index, value) => { set::plan_set(alloc, book, foot, *name, *index, *value) }
+        Edit::Irv(name, value) => irv::plan_irv(alloc, book, foot, *name, *value),
         Edit::Copy(name, index, source, place, more) => {
-            copied::plan_copy(alloc, book, foot, (*name, *index), (*source, *place), *more)
+            copy::plan_copy(alloc, book, foot, (*name, *index), (*source, *place), *more)
         }
-        Edit::Fill(name, on, value) => filled::plan_fill(alloc, book, foot, *name, on, *value),
-        Edit::FillAll(name, value) => {
-            filled_array::plan_fill_all(alloc, book, foot, *name, *value)
-        }
-        Edit::DropArray(name) => dropped_array::plan_drop_array(alloc, book, foot, *name),
-        Edit::All(name, how, other) => { combined::plan_all(alloc, book, foot, *name, how, *other) }
-        Edit::Add(domain, index) => added::plan_add(alloc, book, foot, *domain, *index),
-        Edit::Remove(domain, index) => removed::plan_remove(alloc, book, foot, *domain, *index),
-        Edit::DropDomain(domain) => dropped_domain::plan_drop_domain(alloc, book, foot, *domain),
+        Edit::Fill(name, on, value) => fill::plan_fill(alloc, book, foot, *name, on, *value),
+        Edit::FillAll(name, value) => { fill_all::plan_fill_all(alloc, book, foot, *name, *value) }
+        Edit::DropArray(name) => drop_array::plan_drop_array(alloc, book, foot, *name),
+        Edit::All(name, how, other) => { all::plan_all(alloc, book, foot, *name, how, *other) }
+        Edit::Add(domain, index) => add::plan_add(alloc, book, foot, *domain, *index),
+        Edit::Remove(domain, index) => remove::plan_remove(alloc, book, foot, *domain, *index),
+        Edit::DropDomain(domain) => drop_domain::plan_drop_domain(alloc, book, foot, *domain),
         Edit::DomainOfSet(domain) => of_sets::plan_domain_of_set(book, foot, *domain),
         Edit::FillOfSet(array) => of_sets::plan_fill_of_set(book, foot, *array),
-        Edit::Load(text) => loaded::plan_load(alloc, book, foot, text),
+        Edit::Load(text) => load::plan_load(alloc, book, foot, text),
         Edit::Reshape(domain, source) => {
             reshape::any::plan_reshape(alloc, book, foot, *domain, source)
         }

@@ -4,7 +4,7 @@ use Rattle.std.specs.Prelude.{FitsSigned, OkIff, IfErr, MatchOption}
 use Rattle.std.specs.Int.{w64}
 use Rattle.std.proofs.lemmas.Bool.{lt-ltb}
 use Rattle.std.proofs.lemmas.Int.{ints}
-use Rattle.wb_edit.specs.Numbers.{is_i64, within}
+use Rattle.wb_edit.specs.Numbers.{is_i64, fits_integer}
 use Rattle.wb_edit.proofs.Sums.{is_i64-fits}
 use Rattle.wb_history.specs.Queries.{value_answer}
 use Rattle.wb_history.specs.Reductions.{reduced, made_answer}
@@ -19,7 +19,7 @@ beyond : (z : ℤ) (b : Bool) → is_i64 z ≡ b → (FitsSigned w64 z → ⊥) 
 beyond z true e apart = absurd (apart (is_i64-fits z e))
 beyond z false e apart = e
 
-whole_answer : (z : ℤ) (r : Result ℤ ReduceErr) → OkIff r (FitsSigned w64 z) z → IfErr r (λ e. e ≡ Overflow) → made_answer r ≡ value_answer (within z)
+whole_answer : (z : ℤ) (r : Result ℤ ReduceErr) → OkIff r (FitsSigned w64 z) z → IfErr r (λ e. e ≡ Overflow) → made_answer r ≡ value_answer (fits_integer z)
 whole_answer z (Ok v) h over = rw (fits-is_i64 z h.0, h.1) refl
 whole_answer z (Err Empty) h over = cc
 whole_answer z (Err Overflow) h over = rw (beyond z (is_i64 z) refl h) refl

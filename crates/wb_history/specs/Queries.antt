@@ -11,7 +11,7 @@ use Rattle.wb_book.specs.Readers.{size_at}
 use Rattle.wb_edit.specs.declared.refusal.Refusal as why
 use Rattle.wb_edit.specs.Implicit.{has_implicit, parent_in}
 use Rattle.wb_edit.specs.Numbers.{number_in}
-use Rattle.wb_edit.specs.Tests.{domain_kind, array_kind, is_there, fits}
+use Rattle.wb_edit.specs.Looks.{domain_kind, array_kind, is_there, fits}
 use Rattle.wb_history.specs.declared.query.Answer.{Answer}
 use Rattle.wb_history.specs.declared.query.Answer.TheVariants.{Value as ValueIs, Size as SizeIs, InForce}
 use Rattle.wb_history.specs.declared.query.Query.{Query}

@@ -8,8 +8,8 @@ use Rattle.wb_book.specs.Cells.{Name, Cells}
 use Rattle.wb_book.specs.Readers.{elements}
 use Rattle.wb_edit.specs.declared.refusal.Refusal as why
 use Rattle.wb_edit.specs.declared.refusal.Refusal.TheVariants as refusals
-use Rattle.wb_edit.specs.Numbers.{within}
-use Rattle.wb_edit.specs.Tests.{array_kind}
+use Rattle.wb_edit.specs.Numbers.{fits_integer}
+use Rattle.wb_edit.specs.Looks.{array_kind}
 use Rattle.wb_history.specs.declared.query.Answer.{Answer}
 use Rattle.wb_history.specs.declared.query.Answer.TheVariants.{Value}
 use Rattle.wb_log.specs.declared.refusal.Refusal.{Refusal}
@@ -21,7 +21,7 @@ use Rattle.wb_redist.specs.declared.reduction.ReduceErr.TheVariants as none
 
 -- a reduction in plain integers, if there is one and it is within 64 bits: a sum is judged once, as a whole
 abbrev pub reduced : Option ℤ → Result ℤ why.Refusal
-reduced (Some z) = within z
+reduced (Some z) = fits_integer z
 reduced None = Err refusals.Empty
 
 abbrev pub reduce_from : Cells → Name → Op → Result (Name × Kind) why.Refusal → Result ℤ why.Refusal

@@ -9,7 +9,7 @@ use Rattle.selective_undo.proofs.Evaluation.{entries-empty, entries-retain_keys}
 use Rattle.wb_book.specs.declared.cells.pattern.Pattern.TheVariants.{Objects}
 use Rattle.wb_book.specs.Cells.{cell_cmp, cell_order, matches}
 use Rattle.wb_edit.specs.Commands.{book_cells, load}
-use Rattle.wb_edit.specs.Looks.{judged}
+use Rattle.wb_edit.specs.Trees.{judged}
 use Rattle.wb_edit.specs.Objects.{is_empty}
 use Rattle.wb_edit.specs.Schema.{workbook}
 use Rattle.wb_edit.specs.declared.edit.Edit.{Edit}

@@ -13,7 +13,7 @@ use Rattle.wb_book.specs.Cells.{Name, Cells, Changes, cell_cmp, cell_order}
 use Rattle.wb_book.specs.WellFormed.{IsWellFormed}
 use Rattle.wb_edit.specs.Writes.{put, put_all}
 use Rattle.wb_resize.proofs.Gets.{get-apply}
-use Rattle.wb_edit.proofs.Kept.NewElement.{element_set}
+use Rattle.wb_edit.proofs.Kept.Set.{element_set}
 
 -- elements of a that are there, with numbers of 64 bits
 abbrev pub AreNumbers : Cells → Name → List (Index × ℤ) → Type 0

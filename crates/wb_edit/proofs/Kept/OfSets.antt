@@ -6,8 +6,8 @@ use Rattle.wb_book.specs.Cells.{Name, Cells}
 use Rattle.wb_book.specs.WellFormed.{IsWellFormed}
 use Rattle.wb_edit.specs.declared.refusal.Refusal.TheVariants.{WrongKind}
 use Rattle.wb_edit.specs.Commands.{domain_of_set, fill_of_set}
-use Rattle.wb_edit.specs.Looks.{Tree, judged}
-use Rattle.wb_edit.specs.Tests.{is_free, array_kind}
+use Rattle.wb_edit.specs.Trees.{Tree, judged}
+use Rattle.wb_edit.specs.Looks.{is_free, array_kind}
 use Rattle.wb_edit.proofs.Kept.Steps.{Keeps, keeps_read, keeps_judged}
 
 pub domain_of_set_kept : (s : Cells) (d : Name) → IsWellFormed s → Keeps (domain_of_set d) s

@@ -1,11 +1,11 @@
--- New and absent indices of sparse and associative domains keep a workbook well formed.
+-- Indices that leave a sparse or associative domain, and others that come to it, keep a workbook well formed.
 use Rattle.std.proofs.Common.{◌≡◌, ℕ, zero, suc, ◌<◌, Bool, true, false, List, [], ◌∷◌, map, length, get_or, Option, Some, None, is_some, Ok, ℤ, refl, sym, ap, subst, ◌∙◌, arith}
 use Rattle.std.proofs.lemmas.Simd.{map-map}
 use Rattle.std.specs.FinMap.{get}
 use Rattle.std.specs.List.{AllByRecursion, Contains, list_all, zip}
 use Rattle.selective_undo.specs.Edit.{write}
 use Rattle.wb_book.specs.declared.cells.cell.Cell.{Cell}
-use Rattle.wb_book.specs.declared.cells.cell.Cell.TheVariants.{Object, Shape, In, Member, Implicit}
+use Rattle.wb_book.specs.declared.cells.cell.Cell.TheVariants.{Shape, In, Implicit}
 use Rattle.wb_book.specs.declared.cells.kind.DomainKind.{DomainKind}
 use Rattle.wb_book.specs.declared.cells.kind.DomainKind.TheVariants.{Rectangular, Sparse, Associative}
 use Rattle.wb_book.specs.declared.cells.kind.Kind.{Kind}
@@ -14,17 +14,17 @@ use Rattle.wb_book.specs.declared.cells.value.Value.TheVariants.{Present}
 use Rattle.wb_book.specs.declared.values.index.Index.{Index}
 use Rattle.wb_book.specs.Cells.{Name, Cells}
 use Rattle.wb_book.specs.Kinds.{kind_of, is_key, IsIndex}
-use Rattle.wb_book.specs.WellFormed.{IsWellFormed, MayHave, domain_in, domain_at, present_if, inside_of, ranges_in}
+use Rattle.wb_book.specs.WellFormed.{IsWellFormed, MayHave, domain_at, present_if, inside_of, ranges_in}
 use Rattle.wb_resize.specs.Laws.{AreFills, HasMembers}
 use Rattle.wb_resize.specs.Resized.{resized_cells}
 use Rattle.wb_resize.proofs.Fills.{arrays, zeros_fill, implicits_fill}
 use Rattle.wb_resize.proofs.Sets.{keeps_sets}
-use Rattle.wb_edit.specs.Commands.{add, add_unless, remove, remove_if, resized}
-use Rattle.wb_edit.specs.Looks.{Tree, judged, read}
-use Rattle.wb_edit.specs.Resizing.{has_members, with_members, inside_if, all_inside, inside, number_or_zero, zeros, defaults, fills}
-use Rattle.wb_edit.specs.Tests.{domain_kind, fits, key}
-use Rattle.wb_edit.proofs.Kept.Fills.{keeps_all, first_and}
-use Rattle.wb_edit.proofs.Kept.Steps.{Keeps, keeps_read, keeps_judged, domain_is, passed_is}
+use Rattle.wb_edit.specs.Commands.{resized}
+use Rattle.wb_edit.specs.Trees.{Tree, judged}
+use Rattle.wb_edit.specs.Resizing.{has_members, inside_if, all_inside, all_in_parent, number_or_zero, defaults, fills}
+use Rattle.wb_edit.specs.Looks.{fits}
+use Rattle.wb_edit.proofs.Kept.Fill.{keeps_all, first_and}
+use Rattle.wb_edit.proofs.Kept.Steps.{Keeps, keeps_judged, passed_is}
 
 -- ---- the arrays over a domain, with numbers
 
@@ -40,7 +40,7 @@ keeps_defaults s d (Sparse parent rank) next h there kept =
 
 -- ---- indices that a domain may have
 
-members_of : (kind : DomainKind) (x : Unit {0}) → has_members kind ≡ Ok x → HasMembers kind
+pub members_of : (kind : DomainKind) (x : Unit {0}) → has_members kind ≡ Ok x → HasMembers kind
 members_of (Rectangular rank) x e = cc
 members_of (Sparse parent rank) x e = tt
 members_of (Associative type) x e = tt
@@ -55,7 +55,7 @@ AreInside s (Rectangular rank) is = Unit {0}
 AreInside s (Sparse parent rank) is = list_all is_some (map (get s) (map (In parent) is)) ≡ true
 AreInside s (Associative type) is = Unit {0}
 
-keeps_inside : (s : Cells) (kind : DomainKind) (is : List Index) (next : Unit {0} → Tree) → IsWellFormed s → ((x : Unit {0}) → AreInside s kind is → Keeps (next x) s) → Keeps (inside kind is next) s
+keeps_inside : (s : Cells) (kind : DomainKind) (is : List Index) (next : Unit {0} → Tree) → IsWellFormed s → ((x : Unit {0}) → AreInside s kind is → Keeps (next x) s) → Keeps (all_in_parent kind is next) s
 keeps_inside s (Rectangular rank) is next h kept = kept tt tt
 keeps_inside s (Associative type) is next h kept = kept tt tt
 keeps_inside s (Sparse parent rank) is next h kept =
@@ -69,7 +69,7 @@ IsKeyOf (Rectangular rank) i = Unit {0}
 IsKeyOf (Sparse parent rank) i = Unit {0}
 IsKeyOf (Associative type) i = (is_key (over_associative type) i ≡ true) × IsIndex i
 
-key_of : (kind : DomainKind) (i : Index) → is_key (kind_of kind) i ≡ true → IsIndex i → IsKeyOf kind i
+pub key_of : (kind : DomainKind) (i : Index) → is_key (kind_of kind) i ≡ true → IsIndex i → IsKeyOf kind i
 key_of (Rectangular rank) i fitting valid = tt
 key_of (Sparse parent rank) i fitting valid = tt
 key_of (Associative type) i fitting valid = (fitting, valid)
@@ -112,40 +112,5 @@ resized_kept s d kind new leaving coming h there set come =
     keeps_defaults s d kind last h there (λ fs are.
     keeps_sets s d kind fs leaving coming h there set are (λ i comes. may_have s kind new i h set within (come i comes).0 (come i comes).1)))
 
-fits_is : (kind : Kind) (i : Index) (x : Unit {0}) → fits kind i ≡ Ok x → is_key kind i ≡ true
+pub fits_is : (kind : Kind) (i : Index) (x : Unit {0}) → fits kind i ≡ Ok x → is_key kind i ≡ true
 fits_is kind i x e = passed_is (is_key kind i) x e
-
--- ---- the commands
-
-pub add_kept : (s : Cells) (d : Name) (i : Index) → IsIndex i → IsWellFormed s → Keeps (add d i) s
-add_kept s d i valid h =
-    let last : DomainKind → Tree = λ kind. read (Member d i) (λ there. add_unless there d kind i) in
-    let keyed : DomainKind → Tree = λ kind. key (kind_of kind) i (λ x. last kind) in
-    keeps_read s (Object d) (λ v. judged (domain_kind v) (λ kind. with_members kind (λ x. keyed kind))) (λ v is.
-    keeps_judged s (domain_kind v) (λ kind. with_members kind (λ x. keyed kind)) h (λ kind found.
-    keeps_judged s (has_members kind) (λ x. keyed kind) h (λ x set.
-    keeps_judged s (fits (kind_of kind) i) (λ x. last kind) h (λ y ok.
-    keeps_read s (Member d i) (λ there. add_unless there d kind i) (λ there _.
-    let over : domain_at s d ≡ Some kind = ap domain_in (is ∙ domain_is v kind found) in
-    elim there as (λ o. Keeps (add_unless o d kind i) s) [
-      | Some w ↦ h
-      | None ↦ resized_kept s d kind (i ∷ []) [] (i ∷ []) h over (members_of kind x set) (λ j comes. (comes, holds_at (IsKeyOf kind) (i ∷ []) j (key_of kind i (fits_is (kind_of kind) i y ok) valid, tt) comes))
-    ])))))
-
-nothing_in : {X : Type 0} (x : X) → Contains [] x → ⊥
-nothing_in x there = let low = there.1 in omega (arith, low)
-
-pub remove_kept : (s : Cells) (d : Name) (i : Index) → IsWellFormed s → Keeps (remove d i) s
-remove_kept s d i h =
-    let last : DomainKind → Tree = λ kind. read (Member d i) (λ there. remove_if there d kind i) in
-    let keyed : DomainKind → Tree = λ kind. key (kind_of kind) i (λ x. last kind) in
-    keeps_read s (Object d) (λ v. judged (domain_kind v) (λ kind. with_members kind (λ x. keyed kind))) (λ v is.
-    keeps_judged s (domain_kind v) (λ kind. with_members kind (λ x. keyed kind)) h (λ kind found.
-    keeps_judged s (has_members kind) (λ x. keyed kind) h (λ x set.
-    keeps_judged s (fits (kind_of kind) i) (λ x. last kind) h (λ y ok.
-    keeps_read s (Member d i) (λ there. remove_if there d kind i) (λ there _.
-    let over : domain_at s d ≡ Some kind = ap domain_in (is ∙ domain_is v kind found) in
-    elim there as (λ o. Keeps (remove_if o d kind i) s) [
-      | None ↦ h
-      | Some w ↦ keeps_sets s d kind (zeros (arrays s d)) (i ∷ []) [] h over (members_of kind x set) (zeros_fill s d) (λ j among. absurd (nothing_in j among))
-    ])))))

@@ -11,8 +11,8 @@ use Rattle.wb_book.specs.Cells.{Name, Cells}
 use Rattle.wb_book.specs.WellFormed.{IsWellFormed}
 use Rattle.wb_edit.specs.declared.refusal.Refusal.{Refusal}
 use Rattle.wb_edit.specs.declared.refusal.Refusal.TheVariants.{WrongKind}
-use Rattle.wb_edit.specs.Looks.{Tree, read, judged}
-use Rattle.wb_edit.specs.Tests.{is_free, domain_kind, array_kind, is_there}
+use Rattle.wb_edit.specs.Trees.{Tree, read, judged}
+use Rattle.wb_edit.specs.Looks.{is_free, domain_kind, array_kind, is_there}
 use Rattle.wb_edit.proofs.Trees.{seen_value}
 
 -- the tree leaves a well-formed workbook

@@ -20,11 +20,11 @@ use Rattle.wb_book.specs.Shapes.{Range, indices}
 use Rattle.wb_book.specs.WellFormed.{IsWellFormed, IsRectangle, IsShape, domain_at, ranges_in}
 use Rattle.wb_resize.proofs.Fills.{arrays, zeros_once, held_once}
 use Rattle.wb_edit.specs.declared.refusal.Refusal.{Refusal}
-use Rattle.wb_edit.specs.Looks.{Tree, judged, read}
+use Rattle.wb_edit.specs.Trees.{Tree, judged, read}
 use Rattle.wb_edit.specs.Rectangles.{read_all}
-use Rattle.wb_edit.specs.Reshape.{shape_in, shape}
-use Rattle.wb_edit.specs.Resizing.{all_inside, inside, number_or_zero, defaults}
-use Rattle.wb_edit.specs.Tests.{indices_of, idx}
+use Rattle.wb_edit.specs.Reshaping.{shape_in, shape}
+use Rattle.wb_edit.specs.Resizing.{all_inside, all_in_parent, number_or_zero, defaults}
+use Rattle.wb_edit.specs.Looks.{indices_of, domain_indices}
 use Rattle.wb_edit.proofs.Members.{members_once}
 use Rattle.wb_edit.proofs.Rectangles.{gives_all}
 use Rattle.wb_edit.proofs.Trees.{seen_value}
@@ -78,10 +78,10 @@ shape_whole (Some (Associative type)) v rs none found = let no : shape_in None �
 shape_whole None v rs none found = let no : shape_in None ≡ Ok rs = ap shape_in (sym none) ∙ found in cc
 
 module _ (s : Cells) (h : IsWellFormed s) where
-  pub once_idx : (d : Name) (kind : DomainKind) (next : List Index → Tree) → ((is : List Index) → IsListedOnce is → Once (next is) s) → Once (idx d kind next) s
-  once_idx d (Rectangular rank) next once = once_read s (Shape d) (λ v. next (indices_of (ranges_in v))) (once _ (shape_once (domain_at s d) (get s (Shape d)) (h.shapes d)))
-  once_idx d (Sparse parent rank) next once = once _ (members_once s d)
-  once_idx d (Associative type) next once = once _ (members_once s d)
+  pub once_indices : (d : Name) (kind : DomainKind) (next : List Index → Tree) → ((is : List Index) → IsListedOnce is → Once (next is) s) → Once (domain_indices d kind next) s
+  once_indices d (Rectangular rank) next once = once_read s (Shape d) (λ v. next (indices_of (ranges_in v))) (once _ (shape_once (domain_at s d) (get s (Shape d)) (h.shapes d)))
+  once_indices d (Sparse parent rank) next once = once _ (members_once s d)
+  once_indices d (Associative type) next once = once _ (members_once s d)
 
   pub once_shape : (d : Name) (next : List Range → Tree) → ((rank : ℕ) (rs : List Range) → IsRectangle rank rs → Once (next rs) s) → Once (shape d next) s
   once_shape d next once =
@@ -91,7 +91,7 @@ module _ (s : Cells) (h : IsWellFormed s) where
 
 -- ---- what new indices bring
 
-pub once_inside : (s : Cells) (kind : DomainKind) (is : List Index) (next : Unit {0} → Tree) → Once (next tt) s → Once (inside kind is next) s
+pub once_inside : (s : Cells) (kind : DomainKind) (is : List Index) (next : Unit {0} → Tree) → Once (next tt) s → Once (all_in_parent kind is next) s
 once_inside s (Rectangular rank) is next once = once
 once_inside s (Associative type) is next once = once
 once_inside s (Sparse parent rank) is next once = once_all s (map (In parent) is) (λ vs. judged (all_inside vs) next) (once_judged s (all_inside (map (get s) (map (In parent) is))) next (λ x ok. once))

@@ -38,19 +38,20 @@ use Rattle.wb_resize.proofs.Without.{IsListedOnce-without}
 use Rattle.wb_edit.specs.declared.refusal.Refusal.{Refusal}
 use Rattle.wb_edit.specs.declared.refusal.Refusal.TheVariants.{WrongKind}
 use Rattle.wb_edit.specs.Changed.{AreApart}
-use Rattle.wb_edit.specs.Looks.{Tree, judged}
+use Rattle.wb_edit.specs.Trees.{Tree, judged}
 use Rattle.wb_edit.specs.Rectangles.{of_rank}
-use Rattle.wb_edit.specs.Reshape.{none_present, shape, member_cells, reshaped_cells, reshaped}
+use Rattle.wb_edit.specs.Reshaping.{none_present, shape, member_cells, reshaped_cells, reshaped}
 use Rattle.wb_edit.specs.Resizing.{fills, zeros, resized}
-use Rattle.wb_edit.specs.Sources.{same_rank, alike, all_fit, slice_of, displaced_if, displacement_of, gives_rectangle, ranges_given, to_rectangle, slice_rectangle, displace_rectangle, gives_set, indices_given, exchanged, to_set, combine_set, no_source, reshape_kind, reshape}
-use Rattle.wb_edit.specs.Tests.{domain_kind, member_in, members}
+use Rattle.wb_edit.specs.Commands.Reshape.{to_rectangle, slice_rectangle, displace_rectangle, with_indices, to_set, combine_set, no_source, reshape_kind, reshape}
+use Rattle.wb_edit.specs.Sources.{same_rank, alike, all_fit, slice_of, displaced_if, displacement_of, gives_rectangle, ranges_given, gives_set, indices_given}
+use Rattle.wb_edit.specs.Looks.{domain_kind, member_in, members}
 use Rattle.wb_edit.specs.Users.{bound}
 use Rattle.wb_edit.specs.ValidSources.{IsGiven, IsSource, IsGivenOnce, IsSourceOnce}
-use Rattle.wb_edit.proofs.Columns.{changes-append}
+use Rattle.wb_edit.proofs.IndexedCells.{changes-append}
 use Rattle.wb_edit.proofs.Exchanges.{neither, none_exchanged, apart_without}
-use Rattle.wb_edit.proofs.Kept.Reshaped.{slice_is, displacement_is, displaced_whole}
+use Rattle.wb_edit.proofs.Kept.ReshapeRectangle.{slice_is, displacement_is, displaced_whole}
 use Rattle.wb_edit.proofs.Members.{members_once}
-use Rattle.wb_edit.proofs.Once.Columns.{none_among, once_resized}
+use Rattle.wb_edit.proofs.Once.IndexedCells.{none_among, once_resized}
 use Rattle.wb_edit.proofs.Once.Looks.{Once, once_judged, once_test, once_all, once_shape, once_inside, once_defaults, rectangle_once}
 
 -- ---- indices of a sparse or associative domain
@@ -62,8 +63,8 @@ resized_once s d kind new leaving coming leave come apart =
     once_defaults s d kind last (λ fs names.
     once_resized leaving coming leave come apart (kind_of kind) d fs names))
 
-exchanged_once : (s : Cells) (d : Name) (kind : DomainKind) (old new : List Index) → IsListedOnce old → IsListedOnce new → Once (exchanged d kind old new) s
-exchanged_once s d kind old new before after =
+with_indices_once : (s : Cells) (d : Name) (kind : DomainKind) (old new : List Index) → IsListedOnce old → IsListedOnce new → Once (with_indices d kind old new) s
+with_indices_once s d kind old new before after =
     resized_once s d kind new (without new old) (without old new) (IsListedOnce-without new old before) (IsListedOnce-without old new after) (apart_without old new)
 
 once_gives_set : (s : Cells) (kind : Kind) (given : Given) (next : Unit {0} → Tree) → Once (next tt) s → Once (gives_set kind given next) s
@@ -83,15 +84,15 @@ module _ (s : Cells) (d : Name) (kind : DomainKind) (given : Given) (valid : IsG
 
   to_set_once : Once (to_set d kind given) s
   to_set_once =
-      once_gives_set s (kind_of kind) given (λ x. members d (λ old. indices_given given (λ new. exchanged d kind old new))) (
-      once_indices_given s given (λ new. exchanged d kind indices_of_d new) valid (λ new once.
-      exchanged_once s d kind indices_of_d new (members_once s d) once))
+      once_gives_set s (kind_of kind) given (λ x. members d (λ old. indices_given given (λ new. with_indices d kind old new))) (
+      once_indices_given s given (λ new. with_indices d kind indices_of_d new) valid (λ new once.
+      with_indices_once s d kind indices_of_d new (members_once s d) once))
 
   combine_set_once : (how : SetOperation) → Once (combine_set d kind how given) s
   combine_set_once how =
-      once_gives_set s (kind_of kind) given (λ x. members d (λ old. indices_given given (λ other. exchanged d kind old (combined how other old)))) (
-      once_indices_given s given (λ other. exchanged d kind indices_of_d (combined how other indices_of_d)) valid (λ other once.
-      exchanged_once s d kind indices_of_d (combined how other indices_of_d) (members_once s d) (IsListedOnce-combined how other indices_of_d once (members_once s d))))
+      once_gives_set s (kind_of kind) given (λ x. members d (λ old. indices_given given (λ other. with_indices d kind old (combined how other old)))) (
+      once_indices_given s given (λ other. with_indices d kind indices_of_d (combined how other indices_of_d)) valid (λ other once.
+      with_indices_once s d kind indices_of_d (combined how other indices_of_d) (members_once s d) (IsListedOnce-combined how other indices_of_d once (members_once s d))))
 
 -- ---- ranges of a rectangular domain
 

@@ -1,14 +1,14 @@
 ghost use Rattle.std.specs.Prelude.{◌≡◌};
 ghost use Rattle.wb_range.specs.Domain.{IsListedOnce};
-ghost use Rattle.wb_edit.specs.Commands.{array, array_cells};
+ghost use Rattle.wb_edit.specs.Commands.{array, new_array_changes};
 ghost use Rattle.wb_edit.specs.Plans.{Attempts, Makes, indices_in};
 
-use crate::column::Column;
+use crate::attempt_err::AttemptErr;
 use crate::commands::writes::{put, put_found};
 use crate::foot::Foot;
-use crate::tests::indices::{Indices, idx};
-use crate::tests::looks;
-use crate::tests::stop::Stop;
+use crate::indexed_cells::IndexedCells;
+use crate::looks::indices::{Indices, domain_indices};
+use crate::looks::one_cell;
 use std::alloc::Global;
 use wb_book::{Binding, Cell, Delta, Kind, Name, Value};
 use wb_shelf::Book;
@@ -20,12 +20,12 @@ pub(crate) fn plan_array(
     foot: &mut Foot,
     name: Name,
     domain: Name,
-) -> Result<Delta, Stop>
+) -> Result<Delta, AttemptErr>
     ensures { Attempts (array name domain) book.now.cells foot.old result foot.new }
 {
-    looks::free(book, foot, name)?;
-    let kind = looks::dom(book, foot, domain)?;
-    let found = idx(alloc, book, foot, domain, &kind)?;
+    one_cell::free_name(book, foot, name)?;
+    let kind = one_cell::domain_named(book, foot, domain)?;
+    let found = domain_indices(alloc, book, foot, domain, &kind)?;
     array_changes(alloc, name, domain, kind.kind(), &found)
 }
 
@@ -35,9 +35,9 @@ fn array_changes(
     domain: Name,
     kind: Kind,
     found: &Indices,
-) -> Result<Delta, Stop>
+) -> Result<Delta, AttemptErr>
     requires { IsListedOnce (indices_in found.now) }
-    ensures { Makes (array_cells name domain kind (indices_in found.now)) result }
+    ensures { Makes (new_array_changes name domain kind (indices_in found.now)) result }
 {
     let mut delta = Delta::new(alloc);
     put(&mut delta, Cell::Object(name), Value::Array(domain, kind))?;
@@ -49,7 +49,7 @@ fn array_changes(
     put(&mut delta, Cell::Implicit(name), Value::Number(0))?;
     put_found(
         &mut delta,
-        &Column::Elements(name),
+        &IndexedCells::Elements(name),
         found,
         &Value::Number(0),
     )?;

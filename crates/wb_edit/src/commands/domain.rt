@@ -1,12 +1,12 @@
 ghost use Rattle.std.specs.Prelude.{◌≡◌};
-ghost use Rattle.wb_edit.specs.Commands.{domain, domain_cells};
+ghost use Rattle.wb_edit.specs.Commands.{domain, new_domain_changes};
 ghost use Rattle.wb_edit.specs.Plans.{Attempts, Makes};
 
-use crate::column::Column;
+use crate::attempt_err::AttemptErr;
 use crate::commands::writes::{put, put_all};
 use crate::foot::Foot;
-use crate::tests::stop::Stop;
-use crate::tests::{layouts, looks};
+use crate::indexed_cells::IndexedCells;
+use crate::looks::{layouts, one_cell};
 use std::alloc::Global;
 use wb_book::{AnyDomain, AnyLayout, AnyRect, Cell, Delta, DomainKind, Name, Value};
 use wb_shelf::Book;
@@ -19,10 +19,10 @@ pub(crate) fn plan_domain(
     name: Name,
     ranges: &AnyRect,
     mapping: &AnyLayout,
-) -> Result<Delta, Stop>
+) -> Result<Delta, AttemptErr>
     ensures { Attempts (domain name ranges.now mapping.now) book.now.cells foot.old result foot.new }
 {
-    looks::free(book, foot, name)?;
+    one_cell::free_name(book, foot, name)?;
     layouts::for_rectangle(ranges, mapping)?;
     domain_changes(alloc, name, ranges, mapping)
 }
@@ -32,14 +32,19 @@ fn domain_changes(
     name: Name,
     ranges: &AnyRect,
     mapping: &AnyLayout,
-) -> Result<Delta, Stop>
-    ensures { Makes (domain_cells name ranges.now mapping.now) result }
+) -> Result<Delta, AttemptErr>
+    ensures { Makes (new_domain_changes name ranges.now mapping.now) result }
 {
     let mut delta = Delta::new(alloc);
     let kind = AnyDomain::new(DomainKind::Rectangular(ranges.rank()));
     put(&mut delta, Cell::Object(name), Value::Domain(kind))?;
     put(&mut delta, Cell::Shape(name), Value::Ranges(*ranges))?;
     put(&mut delta, Cell::Mapping(name), Value::Mapping(*mapping))?;
-    put_all(&mut delta, &Column::Inside(name), ranges, &Value::Present)?;
+    put_all(
+        &mut delta,
+        &IndexedCells::Inside(name),
+        ranges,
+        &Value::Present,
+    )?;
     Ok(delta)
 }

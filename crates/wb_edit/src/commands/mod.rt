@@ -1,22 +1,25 @@
-//! The commands: for each, its tests in their order, and then the changes that it makes.
+//! The commands, each in a file named by its op: its tests in their order, and then the changes that it makes.
+//! `of_sets` has the two ops that are asked for with a set in place of a rectangle; `resized`, `seen` and `writes` are what
+//! several commands write.
 
-pub mod added;
+pub mod add;
+pub mod all;
 pub mod array;
-pub mod combined;
-pub mod copied;
+pub mod assoc;
+pub mod copy;
 pub mod domain;
-pub mod dropped_array;
-pub mod dropped_domain;
-pub mod element;
-pub mod filled;
-pub mod filled_array;
-pub mod implicit;
-pub mod loaded;
+pub mod drop_array;
+pub mod drop_domain;
+pub mod fill;
+pub mod fill_all;
+pub mod irv;
+pub mod load;
 pub mod of_sets;
-pub mod remapped;
-pub mod removed;
+pub mod remap;
+pub mod remove;
 pub mod reshape;
 pub mod resized;
 pub mod seen;
-pub mod sets;
+pub mod set;
+pub mod sparse;
 pub mod writes;

@@ -9,10 +9,10 @@ ghost use Rattle.wb_edit.specs.Commands.{resized};
 ghost use Rattle.wb_edit.specs.Plans.{Attempts, Makes};
 ghost use Rattle.wb_resize.specs.Resized.{resized_cells};
 
-use crate::commands::writes::{Resized, resize};
+use crate::attempt_err::AttemptErr;
+use crate::commands::writes::{NamedDomain, resize};
 use crate::foot::Foot;
-use crate::tests::resizing::{fills, inside};
-use crate::tests::stop::Stop;
+use crate::looks::resizing::{all_in_parent, fills};
 use std::alloc::Global;
 use wb_book::{AnyDomain, AnyIndex, Delta, Name};
 use wb_shelf::Book;
@@ -27,13 +27,13 @@ pub(crate) fn plan_resized(
     new: &[AnyIndex],
     leaving: &[AnyIndex],
     coming: &[AnyIndex],
-) -> Result<Delta, Stop>
+) -> Result<Delta, AttemptErr>
     requires leaving { IsListedOnce leaving.now }
     requires coming { IsListedOnce coming.now }
     requires apart { AreApart leaving.now coming.now }
     ensures { Attempts (resized domain kind.now new.now leaving.now coming.now) book.now.cells foot.old result foot.new }
 {
-    inside(book, foot, kind, new)?;
+    all_in_parent(book, foot, kind, new)?;
     let brought = fills(alloc, book, foot, domain, kind)?;
     resize_changes(alloc, domain, kind, &brought, leaving, coming)
 }
@@ -46,7 +46,7 @@ pub(crate) fn resize_changes(
     brought: &[(Name, i64)],
     leaving: &[AnyIndex],
     coming: &[AnyIndex],
-) -> Result<Delta, Stop>
+) -> Result<Delta, AttemptErr>
     requires once { IsListedOnce (keys_of brought.now) }
     requires leaving { IsListedOnce leaving.now }
     requires coming { IsListedOnce coming.now }
@@ -54,7 +54,7 @@ pub(crate) fn resize_changes(
     ensures { Makes (resized_cells (kind_of kind.now) domain brought.now leaving.now coming.now) result }
 {
     let mut delta = Delta::new(alloc);
-    let over = Resized {
+    let over = NamedDomain {
         name: domain,
         kind: kind.kind(),
     };

@@ -7,30 +7,30 @@ ghost use Rattle.wb_book.specs.Cells.{cell_cmp, index_cmp};
 ghost use Rattle.wb_book.specs.declared.cells.cell.Cell.TheVariants.{Element};
 ghost use Rattle.wb_book.specs.declared.values.index.Index.{Index};
 ghost use Rattle.wb_edit.specs.Changed.{value_of, all_become};
-ghost use Rattle.wb_edit.specs.declared.tests.stop.Stop.TheVariants.{NoMemory};
+ghost use Rattle.wb_edit.specs.declared.attempt_err.AttemptErr.TheVariants.{NoMemory};
 
+use crate::attempt_err::AttemptErr;
 use crate::commands::writes::change;
-use crate::tests::stop::Stop;
 use wb_book::{AnyIndex, Cell, Delta, Name, Value};
 
 /// What elements become.
 #[derive(Clone, Copy)]
-pub(crate) enum Becomes {
+pub(crate) enum NewValue {
     /// All the same number.
-    Same(i64),
-    /// Each the number beside its index.
-    Own,
+    Fill(i64),
+    /// Each the number listed beside its index.
+    Listed,
     /// Absent.
-    Absent,
+    Clear,
 }
 
-fn value_of(new: &Becomes, element: &(AnyIndex, i64)) -> Option<Value>
+fn value_of(new: &NewValue, element: &(AnyIndex, i64)) -> Option<Value>
     ensures { result ≡ value_of new.now element.now.1 }
 {
     match new {
-        Becomes::Same(value) => Some(Value::Number(*value)),
-        Becomes::Own => Some(Value::Number(element.1)),
-        Becomes::Absent => None,
+        NewValue::Fill(value) => Some(Value::Number(*value)),
+        NewValue::Listed => Some(Value::Number(element.1)),
+        NewValue::Clear => None,
     }
 }
 
@@ -39,8 +39,8 @@ pub(crate) fn all_become(
     delta: &mut Delta,
     array: Name,
     elements: &[(AnyIndex, i64)],
-    new: &Becomes,
-) -> Result<(), Stop>
+    new: &NewValue,
+) -> Result<(), AttemptErr>
     requires ascending { T (is_sorted index_cmp elements.now) }
     requires fresh { (i : Index) → changes cell_cmp delta.old (Element array i) ≡ false }
     ensures ok { OnOk result (delta.new ≡ delta.old ++ all_become array new.now elements.now) }

@@ -14,27 +14,27 @@ ghost use Rattle.wb_edit.specs.Plans.{cell_at, indices_in};
 ghost use Rattle.wb_edit.specs.Changed.{set_all, AreApart};
 ghost use Rattle.wb_edit.specs.Writes.{put, put_all};
 ghost use Rattle.wb_resize.specs.Resized.{exchanged, elements_exchanged, resized_cells};
-ghost use Rattle.wb_edit.specs.declared.tests.stop.Stop.TheVariants.{NoMemory};
+ghost use Rattle.wb_edit.specs.declared.attempt_err.AttemptErr.TheVariants.{NoMemory};
 
-use crate::column::{Column, cell_at};
-use crate::tests::indices::Indices;
-use crate::tests::stop::Stop;
+use crate::attempt_err::AttemptErr;
+use crate::indexed_cells::{IndexedCells, cell_at};
+use crate::looks::indices::Indices;
 use wb_book::{AnyIndex, AnyRect, Cell, Delta, Kind, Name, Value};
 
 /// Adds that a cell, which is not there yet, becomes a value, or absent.
-pub(crate) fn change(delta: &mut Delta, cell: Cell, value: Option<Value>) -> Result<(), Stop>
+pub(crate) fn change(delta: &mut Delta, cell: Cell, value: Option<Value>) -> Result<(), AttemptErr>
     requires { changes cell_cmp delta.old cell ≡ false }
     ensures ok { OnOk result (delta.new ≡ delta.old ++ record { cell = cell; value = value } ∷ []) }
     ensures only { IfErr result (λ e. e ≡ NoMemory) }
 {
     match delta.put(cell, value) {
         Ok(()) => Ok(()),
-        Err(_) => Err(Stop::NoMemory),
+        Err(_) => Err(AttemptErr::NoMemory),
     }
 }
 
 /// Adds that a cell, which is not there yet, gets a value.
-pub(crate) fn put(delta: &mut Delta, cell: Cell, value: Value) -> Result<(), Stop>
+pub(crate) fn put(delta: &mut Delta, cell: Cell, value: Value) -> Result<(), AttemptErr>
     requires { changes cell_cmp delta.old cell ≡ false }
     ensures ok { OnOk result (delta.new ≡ delta.old ++ put cell value ∷ []) }
     ensures only { IfErr result (λ e. e ≡ NoMemory) }
@@ -42,21 +42,21 @@ pub(crate) fn put(delta: &mut Delta, cell: Cell, value: Value) -> Result<(), Sto
     change(delta, cell, Some(value))
 }
 
-/// Adds that the column's cell of each index, none of which is there yet, becomes a value, or absent.
+/// Adds that the cell of each index, none of which is there yet, becomes a value, or absent.
 fn become_all(
     delta: &mut Delta,
-    column: &Column,
+    indexed: &IndexedCells,
     ranges: &AnyRect,
     value: &Option<Value>,
-) -> Result<(), Stop>
-    requires { (i : Index) → changes cell_cmp delta.old (cell_at column.now i) ≡ false }
-    ensures ok { OnOk result (delta.new ≡ delta.old ++ set_all (map (cell_at column.now) (indices ranges.now)) value.now) }
+) -> Result<(), AttemptErr>
+    requires { (i : Index) → changes cell_cmp delta.old (cell_at indexed.now i) ≡ false }
+    ensures ok { OnOk result (delta.new ≡ delta.old ++ set_all (map (cell_at indexed.now) (indices ranges.now)) value.now) }
     ensures only { IfErr result (λ e. e ≡ NoMemory) }
 {
     for p in 0..ranges.size() {
         match ranges.nth(p) {
             Some(index) => {
-                change(delta, cell_at(column, index), *value)?;
+                change(delta, cell_at(indexed, index), *value)?;
             }
             None => {}
         }
@@ -64,23 +64,23 @@ fn become_all(
     Ok(())
 }
 
-/// Adds that the column's cell of each index, none of which is there yet, gets a value.
+/// Adds that the cell of each index, none of which is there yet, gets a value.
 pub(crate) fn put_all(
     delta: &mut Delta,
-    column: &Column,
+    indexed: &IndexedCells,
     ranges: &AnyRect,
     value: &Value,
-) -> Result<(), Stop>
-    requires { (i : Index) → changes cell_cmp delta.old (cell_at column.now i) ≡ false }
-    ensures ok { OnOk result (delta.new ≡ delta.old ++ put_all (map (cell_at column.now) (indices ranges.now)) value.now) }
+) -> Result<(), AttemptErr>
+    requires { (i : Index) → changes cell_cmp delta.old (cell_at indexed.now i) ≡ false }
+    ensures ok { OnOk result (delta.new ≡ delta.old ++ put_all (map (cell_at indexed.now) (indices ranges.now)) value.now) }
     ensures only { IfErr result (λ e. e ≡ NoMemory) }
 {
-    become_all(delta, column, ranges, &Some(*value))
+    become_all(delta, indexed, ranges, &Some(*value))
 }
 
 /// The domain of a name, with its kind.
 #[derive(Clone, Copy)]
-pub(crate) struct Resized {
+pub(crate) struct NamedDomain {
     pub name: Name,
     pub kind: Kind,
 }
@@ -91,22 +91,22 @@ fn nth(listed: &[AnyIndex], p: usize) -> Option<AnyIndex>
     listed.get(p).copied()
 }
 
-/// Adds that the column's cell of each of some indices, each of them once and none there yet, becomes a value, or absent.
+/// Adds that the cell of each of some indices, each of them once and none there yet, becomes a value, or absent.
 fn become_listed(
     delta: &mut Delta,
-    column: &Column,
+    indexed: &IndexedCells,
     listed: &[AnyIndex],
     value: &Option<Value>,
-) -> Result<(), Stop>
+) -> Result<(), AttemptErr>
     requires once { IsListedOnce listed.now }
-    requires new { (p : ℕ) (i : Index) → slice_get listed.now p ≡ Some i → changes cell_cmp delta.old (cell_at column.now i) ≡ false }
-    ensures ok { OnOk result (delta.new ≡ delta.old ++ set_all (map (cell_at column.now) listed.now) value.now) }
+    requires new { (p : ℕ) (i : Index) → slice_get listed.now p ≡ Some i → changes cell_cmp delta.old (cell_at indexed.now i) ≡ false }
+    ensures ok { OnOk result (delta.new ≡ delta.old ++ set_all (map (cell_at indexed.now) listed.now) value.now) }
     ensures only { IfErr result (λ e. e ≡ NoMemory) }
 {
     for p in 0..listed.len() {
         match nth(listed, p) {
             Some(index) => {
-                change(delta, cell_at(column, index), *value)?;
+                change(delta, cell_at(indexed, index), *value)?;
             }
             None => {}
         }
@@ -114,39 +114,39 @@ fn become_listed(
     Ok(())
 }
 
-/// Adds that the column's cell of each of some indices, each of them once and none there yet, gets a value.
+/// Adds that the cell of each of some indices, each of them once and none there yet, gets a value.
 fn put_listed(
     delta: &mut Delta,
-    column: &Column,
+    indexed: &IndexedCells,
     listed: &[AnyIndex],
     value: &Value,
-) -> Result<(), Stop>
+) -> Result<(), AttemptErr>
     requires once { IsListedOnce listed.now }
-    requires new { (p : ℕ) (i : Index) → slice_get listed.now p ≡ Some i → changes cell_cmp delta.old (cell_at column.now i) ≡ false }
-    ensures ok { OnOk result (delta.new ≡ delta.old ++ put_all (map (cell_at column.now) listed.now) value.now) }
+    requires new { (p : ℕ) (i : Index) → slice_get listed.now p ≡ Some i → changes cell_cmp delta.old (cell_at indexed.now i) ≡ false }
+    ensures ok { OnOk result (delta.new ≡ delta.old ++ put_all (map (cell_at indexed.now) listed.now) value.now) }
     ensures only { IfErr result (λ e. e ≡ NoMemory) }
 {
-    become_listed(delta, column, listed, &Some(*value))
+    become_listed(delta, indexed, listed, &Some(*value))
 }
 
-/// Adds that of a column's cells, none of which is there yet, those of the indices that leave become absent, and those of the
+/// Adds that of the cells of indices, none of which is there yet, those of the indices that leave become absent, and those of the
 /// indices that come get a value.
 pub(crate) fn exchange(
     delta: &mut Delta,
-    column: &Column,
+    indexed: &IndexedCells,
     leaving: &[AnyIndex],
     coming: &[AnyIndex],
     value: &Value,
-) -> Result<(), Stop>
+) -> Result<(), AttemptErr>
     requires leaving { IsListedOnce leaving.now }
     requires coming { IsListedOnce coming.now }
     requires apart { AreApart leaving.now coming.now }
-    requires new { (i : Index) → changes cell_cmp delta.old (cell_at column.now i) ≡ false }
-    ensures ok { OnOk result (delta.new ≡ delta.old ++ exchanged (cell_at column.now) leaving.now coming.now value.now) }
+    requires new { (i : Index) → changes cell_cmp delta.old (cell_at indexed.now i) ≡ false }
+    ensures ok { OnOk result (delta.new ≡ delta.old ++ exchanged (cell_at indexed.now) leaving.now coming.now value.now) }
     ensures only { IfErr result (λ e. e ≡ NoMemory) }
 {
-    become_listed(delta, column, leaving, &None)?;
-    put_listed(delta, column, coming, value)
+    become_listed(delta, indexed, leaving, &None)?;
+    put_listed(delta, indexed, coming, value)
 }
 
 // The number beside an array.
@@ -163,7 +163,7 @@ fn exchange_elements(
     fills: &[(Name, i64)],
     leaving: &[AnyIndex],
     coming: &[AnyIndex],
-) -> Result<(), Stop>
+) -> Result<(), AttemptErr>
     requires once { IsListedOnce (keys_of fills.now) }
     requires leaving { IsListedOnce leaving.now }
     requires coming { IsListedOnce coming.now }
@@ -175,7 +175,7 @@ fn exchange_elements(
     for fill in fills {
         exchange(
             delta,
-            &Column::Elements(fill.0),
+            &IndexedCells::Elements(fill.0),
             leaving,
             coming,
             &number_of(fill),
@@ -187,11 +187,11 @@ fn exchange_elements(
 /// Adds that indices leave a domain of a kind and others come to it, and so do the elements of the arrays over it.
 pub(crate) fn resize(
     delta: &mut Delta,
-    domain: &Resized,
+    domain: &NamedDomain,
     fills: &[(Name, i64)],
     leaving: &[AnyIndex],
     coming: &[AnyIndex],
-) -> Result<(), Stop>
+) -> Result<(), AttemptErr>
     requires once { IsListedOnce (keys_of fills.now) }
     requires leaving { IsListedOnce leaving.now }
     requires coming { IsListedOnce coming.now }
@@ -203,7 +203,7 @@ pub(crate) fn resize(
 {
     exchange(
         delta,
-        &Column::Membership(domain.kind, domain.name),
+        &IndexedCells::Membership(domain.kind, domain.name),
         leaving,
         coming,
         &Value::Present,
@@ -211,35 +211,35 @@ pub(crate) fn resize(
     exchange_elements(delta, fills, leaving, coming)
 }
 
-/// Adds that the column's cell of each index that was found, none of which is there yet, becomes a value, or absent.
+/// Adds that the cell of each index that was found, none of which is there yet, becomes a value, or absent.
 pub(crate) fn become_found(
     delta: &mut Delta,
-    column: &Column,
+    indexed: &IndexedCells,
     found: &Indices,
     value: &Option<Value>,
-) -> Result<(), Stop>
+) -> Result<(), AttemptErr>
     requires once { IsListedOnce (indices_in found.now) }
-    requires new { (i : Index) → changes cell_cmp delta.old (cell_at column.now i) ≡ false }
-    ensures ok { OnOk result (delta.new ≡ delta.old ++ set_all (map (cell_at column.now) (indices_in found.now)) value.now) }
+    requires new { (i : Index) → changes cell_cmp delta.old (cell_at indexed.now i) ≡ false }
+    ensures ok { OnOk result (delta.new ≡ delta.old ++ set_all (map (cell_at indexed.now) (indices_in found.now)) value.now) }
     ensures only { IfErr result (λ e. e ≡ NoMemory) }
 {
     match found {
-        Indices::Product(ranges) => become_all(delta, column, ranges, value),
-        Indices::Listed(listed) => become_listed(delta, column, listed, value),
+        Indices::Product(ranges) => become_all(delta, indexed, ranges, value),
+        Indices::Listed(listed) => become_listed(delta, indexed, listed, value),
     }
 }
 
-/// Adds that the column's cell of each index that was found, none of which is there yet, gets a value.
+/// Adds that the cell of each index that was found, none of which is there yet, gets a value.
 pub(crate) fn put_found(
     delta: &mut Delta,
-    column: &Column,
+    indexed: &IndexedCells,
     found: &Indices,
     value: &Value,
-) -> Result<(), Stop>
+) -> Result<(), AttemptErr>
     requires once { IsListedOnce (indices_in found.now) }
-    requires new { (i : Index) → changes cell_cmp delta.old (cell_at column.now i) ≡ false }
-    ensures ok { OnOk result (delta.new ≡ delta.old ++ put_all (map (cell_at column.now) (indices_in found.now)) value.now) }
+    requires new { (i : Index) → changes cell_cmp delta.old (cell_at indexed.now i) ≡ false }
+    ensures ok { OnOk result (delta.new ≡ delta.old ++ put_all (map (cell_at indexed.now) (indices_in found.now)) value.now) }
     ensures only { IfErr result (λ e. e ≡ NoMemory) }
 {
-    become_found(delta, column, found, &Some(*value))
+    become_found(delta, indexed, found, &Some(*value))
 }

@@ -1,13 +1,13 @@
 //! A new value of a domain of any kind.
 
 ghost use Rattle.wb_edit.specs.Plans.{Attempts};
-ghost use Rattle.wb_edit.specs.Sources.{reshape, reshape_kind};
+ghost use Rattle.wb_edit.specs.Commands.Reshape.{reshape, reshape_kind};
 
+use crate::attempt_err::AttemptErr;
 use crate::commands::reshape::rectangles::plan_reshape_rectangle;
 use crate::commands::reshape::sets::{plan_reshape_associative, plan_reshape_sparse};
 use crate::foot::Foot;
-use crate::tests::looks::dom;
-use crate::tests::stop::Stop;
+use crate::looks::one_cell::domain_named;
 use std::alloc::Global;
 use wb_book::{AnyDomain, Delta, DomainKind, Name};
 use wb_resize::Source;
@@ -20,7 +20,7 @@ fn plan_reshape_kind(
     domain: Name,
     kind: &AnyDomain,
     source: &Source,
-) -> Result<Delta, Stop>
+) -> Result<Delta, AttemptErr>
     ensures { Attempts (reshape_kind domain kind.now source.now) book.now.cells foot.old result foot.new }
 {
     match kind.domain_kind() {
@@ -41,9 +41,9 @@ pub(crate) fn plan_reshape(
     foot: &mut Foot,
     domain: Name,
     source: &Source,
-) -> Result<Delta, Stop>
+) -> Result<Delta, AttemptErr>
     ensures { Attempts (reshape domain source.now) book.now.cells foot.old result foot.new }
 {
-    let kind = dom(book, foot, domain)?;
+    let kind = domain_named(book, foot, domain)?;
     plan_reshape_kind(alloc, book, foot, domain, &kind, source)
 }

@@ -1,15 +1,15 @@
 //! New ranges of a rectangular domain, by their source.
 
 ghost use Rattle.wb_edit.specs.Plans.{Attempts};
-ghost use Rattle.wb_edit.specs.Reshape.{reshaped};
-ghost use Rattle.wb_edit.specs.Sources.{to_rectangle, slice_rectangle, displace_rectangle, reshape_rectangle};
+ghost use Rattle.wb_edit.specs.Reshaping.{reshaped};
+ghost use Rattle.wb_edit.specs.Commands.Reshape.{to_rectangle, slice_rectangle, displace_rectangle, reshape_rectangle};
 
+use crate::attempt_err::{AttemptErr, stopped};
 use crate::commands::reshape::no_source::plan_no_source;
 use crate::commands::reshape::replaced::plan_replaced;
 use crate::foot::Foot;
-use crate::tests::reshaping::shape;
-use crate::tests::sources::{displacement_of, gives_rectangle, ranges_given, same_rank, slice_of};
-use crate::tests::stop::{Stop, stopped};
+use crate::looks::reshaping::shape;
+use crate::looks::sources::{displacement_of, gives_rectangle, ranges_given, same_rank, slice_of};
 use std::alloc::Global;
 use wb_book::{AnyRect, Delta, Name, Point};
 use wb_resize::new_rectangles::left_out;
@@ -24,14 +24,14 @@ fn plan_reshaped(
     domain: Name,
     old: &AnyRect,
     new: &AnyRect,
-) -> Result<Delta, Stop>
+) -> Result<Delta, AttemptErr>
     ensures { Attempts (reshaped domain old.now new.now) book.now.cells foot.old result foot.new }
 {
     let Ok(leaving) = left_out(alloc, new, old) else {
-        return Err(Stop::NoMemory);
+        return Err(AttemptErr::NoMemory);
     };
     let Ok(coming) = left_out(alloc, old, new) else {
-        return Err(Stop::NoMemory);
+        return Err(AttemptErr::NoMemory);
     };
     plan_replaced(alloc, book, foot, domain, new, &leaving, &coming)
 }
@@ -44,7 +44,7 @@ fn plan_to(
     domain: Name,
     rank: u8,
     given: &Given,
-) -> Result<Delta, Stop>
+) -> Result<Delta, AttemptErr>
     ensures { Attempts (to_rectangle domain rank given.now) book.now.cells foot.old result foot.new }
 {
     gives_rectangle(book, foot, rank, given)?;
@@ -61,7 +61,7 @@ fn plan_slice(
     domain: Name,
     rank: u8,
     given: &Given,
-) -> Result<Delta, Stop>
+) -> Result<Delta, AttemptErr>
     ensures { Attempts (slice_rectangle domain rank given.now) book.now.cells foot.old result foot.new }
 {
     gives_rectangle(book, foot, rank, given)?;
@@ -80,7 +80,7 @@ fn plan_displace(
     rank: u8,
     how: Displacement,
     offsets: &Point,
-) -> Result<Delta, Stop>
+) -> Result<Delta, AttemptErr>
     ensures { Attempts (displace_rectangle domain rank how offsets.now) book.now.cells foot.old result foot.new }
 {
     stopped(same_rank(rank as usize, offsets.coordinates().len()))?;
@@ -97,7 +97,7 @@ pub(crate) fn plan_reshape_rectangle(
     domain: Name,
     rank: u8,
     source: &Source,
-) -> Result<Delta, Stop>
+) -> Result<Delta, AttemptErr>
     ensures { Attempts (reshape_rectangle domain rank source.now) book.now.cells foot.old result foot.new }
 {
     match source {

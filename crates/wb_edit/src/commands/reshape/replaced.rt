@@ -4,14 +4,14 @@ ghost use Rattle.std.specs.Prelude.{◌≡◌};
 ghost use Rattle.wb_range.specs.Domain.{IsListedOnce};
 ghost use Rattle.wb_edit.specs.Changed.{AreApart};
 ghost use Rattle.wb_edit.specs.Plans.{Attempts, Makes};
-ghost use Rattle.wb_edit.specs.Reshape.{reshaped_cells, replaced};
+ghost use Rattle.wb_edit.specs.Reshaping.{reshaped_cells, replaced};
 
-use crate::commands::writes::{Resized, put, resize};
+use crate::attempt_err::AttemptErr;
+use crate::commands::writes::{NamedDomain, put, resize};
 use crate::foot::Foot;
-use crate::tests::reshaping::none_there;
-use crate::tests::resizing::zeros;
-use crate::tests::stop::Stop;
-use crate::tests::users::{arrays, sparse_domains, uses};
+use crate::looks::reshaping::none_there;
+use crate::looks::resizing::zeros;
+use crate::looks::users::{arrays, sparse_domains, uses};
 use std::alloc::Global;
 use wb_book::{AnyIndex, AnyRect, Cell, Delta, Kind, Name, Value};
 use wb_shelf::Book;
@@ -25,7 +25,7 @@ pub(crate) fn plan_replaced(
     new: &AnyRect,
     leaving: &[AnyIndex],
     coming: &[AnyIndex],
-) -> Result<Delta, Stop>
+) -> Result<Delta, AttemptErr>
     requires leaving { IsListedOnce leaving.now }
     requires coming { IsListedOnce coming.now }
     requires apart { AreApart leaving.now coming.now }
@@ -45,7 +45,7 @@ fn replace_changes(
     names: &[Name],
     leaving: &[AnyIndex],
     coming: &[AnyIndex],
-) -> Result<Delta, Stop>
+) -> Result<Delta, AttemptErr>
     requires once { IsListedOnce names.now }
     requires leaving { IsListedOnce leaving.now }
     requires coming { IsListedOnce coming.now }
@@ -55,7 +55,7 @@ fn replace_changes(
     let cleared = zeros(alloc, names)?;
     let mut delta = Delta::new(alloc);
     put(&mut delta, Cell::Shape(domain), Value::Ranges(*new))?;
-    let over = Resized {
+    let over = NamedDomain {
         name: domain,
         kind: Kind::Rectangular(new.rank()),
     };

@@ -2,7 +2,7 @@ use Rattle.std.proofs.Common.{◌≡◌, ◌<◌, length, arith, ◌++◌, ◌�
 use Rattle.wb_book.specs.Shapes.{indices}
 use Rattle.wb_edit.specs.Plans.{cell_at}
 use Rattle.wb_edit.specs.Changed.{set_all}
-use Rattle.wb_edit.proofs.Columns.{next_is_new, grows, nothing_there}
+use Rattle.wb_edit.proofs.IndexedCells.{next_is_new, grows, nothing_there}
 use Rattle.wb_edit.proofs.commands.writes.become_all.Goals.{in-Some+in_ok-change-in-Some, in-None}
 use Rattle.wb_edit.proofs.commands.writes.become_all.Goals as goal
 
@@ -10,12 +10,12 @@ pub change-requires : goal.change-requires
 change-requires c =
     let is = indices c.args.ranges.now in
     let here : slice_get is c.loop-p.p ≡ Some c.in-Some.index = sym c.nth.ensures ∙ c.in-Some.is in
-    rw (c.cell_at.ensures, c.loop-p.invariant) (next_is_new c.args.column.now c.args.value.now c.args.delta.now is c.loop-p.p c.in-Some.index c.size-p-end.ensures.once (c.requires c.in-Some.index) here)
+    rw (c.cell_at.ensures, c.loop-p.invariant) (next_is_new c.args.indexed.now c.args.value.now c.args.delta.now is c.loop-p.p c.in-Some.index c.size-p-end.ensures.once (c.requires c.in-Some.index) here)
 
 pub loop-p-preserved : goal.loop-p-preserved
 loop-p-preserved c =
     let is = indices c.args.ranges.now in
-    let f = cell_at c.args.column.now in
+    let f = cell_at c.args.indexed.now in
     let v = c.args.value.now in
     let old = c.args.delta.now in
     let sofar = set_all (map f (take c.loop-p.p is)) v in
@@ -23,7 +23,7 @@ loop-p-preserved c =
       | in-Some+in_ok-change-in-Some w ↦
           let i = w.in-Some.index in
           let here : slice_get is c.loop-p.p ≡ Some i = sym c.nth.ensures ∙ w.in-Some.is in
-          w.delta-is ∙ w.in_ok-change-in-Some.ensures.ok ∙ rw (w.cell_at.ensures, c.loop-p.invariant) (append_assoc old sofar (record { cell = f i; value = v } ∷ []) ∙ ap (λ xs. old ++ xs) (sym (grows c.args.column.now v is c.loop-p.p i here)))
+          w.delta-is ∙ w.in_ok-change-in-Some.ensures.ok ∙ rw (w.cell_at.ensures, c.loop-p.invariant) (append_assoc old sofar (record { cell = f i; value = v } ∷ []) ∙ ap (λ xs. old ++ xs) (sym (grows c.args.indexed.now v is c.loop-p.p i here)))
       | in-None w ↦
           let low : c.loop-p.p < length is = omega (arith, c.size-p-end.ensures.count) in
           absurd (nothing_there is c.loop-p.p low (sym c.nth.ensures ∙ w.in-None.is))

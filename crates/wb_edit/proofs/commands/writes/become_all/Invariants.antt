@@ -6,4 +6,4 @@ use Rattle.wb_edit.proofs.commands.writes.become_all.Given as goal
 
 -- the cells of the indices so far are there
 abbrev pub invariant-loop-p : goal.invariant-loop-p
-invariant-loop-p l = l.delta ≡ l.fn.delta ++ set_all (map (cell_at l.column) (take l.p (indices l.ranges))) l.value
+invariant-loop-p l = l.delta ≡ l.fn.delta ++ set_all (map (cell_at l.indexed) (take l.p (indices l.ranges))) l.value

@@ -2,9 +2,9 @@ use Rattle.std.proofs.Common.{◌≡◌, List, Ok, sym, ap, ◌∙◌}
 use Rattle.wb_resize.specs.declared.given.Given.{Given}
 use Rattle.wb_book.specs.Cells.{Name}
 use Rattle.wb_book.specs.Shapes.{Range}
-use Rattle.wb_edit.specs.Looks.{Tree, judged}
+use Rattle.wb_edit.specs.Trees.{Tree, judged}
 use Rattle.wb_edit.specs.Plans.{stopped}
-use Rattle.wb_edit.specs.Reshape.{shape, reshaped}
+use Rattle.wb_edit.specs.Reshaping.{shape, reshaped}
 use Rattle.wb_edit.specs.Sources.{gives_rectangle, ranges_given, slice_of}
 use Rattle.wb_edit.proofs.Attempts.{goes_on, passes}
 use Rattle.wb_edit.proofs.commands.reshape.rectangles.plan_slice.Goals as goal

@@ -9,9 +9,9 @@ use Rattle.wb_book.specs.Cells.{Name}
 use Rattle.wb_book.specs.Shapes.{Range}
 use Rattle.wb_resize.proofs.Fills.{arrays}
 use Rattle.wb_resize.proofs.Users.{bound_once}
-use Rattle.wb_edit.specs.Looks.{Tree}
+use Rattle.wb_edit.specs.Trees.{Tree}
 use Rattle.wb_edit.specs.Plans.{Looks, Makes}
-use Rattle.wb_edit.specs.Reshape.{none_there, reshaped_cells}
+use Rattle.wb_edit.specs.Reshaping.{none_there, reshaped_cells}
 use Rattle.wb_edit.specs.Users.{bound, uses}
 use Rattle.wb_edit.proofs.Attempts.{goes_on, stops, ends}
 use Rattle.wb_edit.proofs.commands.reshape.replaced.plan_replaced.Goals as goal

@@ -6,9 +6,10 @@ use Rattle.wb_book.specs.declared.values.index.Index.{Index}
 use Rattle.wb_book.specs.Cells.{Name}
 use Rattle.wb_book.specs.Kinds.{kind_of}
 use Rattle.wb_resize.specs.declared.given.Given.{Given}
-use Rattle.wb_edit.specs.Looks.{Tree}
+use Rattle.wb_edit.specs.Trees.{Tree}
 use Rattle.wb_edit.specs.Plans.{Attempts, Looks}
-use Rattle.wb_edit.specs.Sources.{exchanged, gives_set}
+use Rattle.wb_edit.specs.Commands.Reshape.{with_indices}
+use Rattle.wb_edit.specs.Sources.{gives_set}
 use Rattle.wb_edit.proofs.Sets.{stops_at_old, stops_at_given, both_seen}
 use Rattle.wb_edit.proofs.commands.reshape.sets.plan_to.Goals as goal
 
@@ -21,7 +22,7 @@ returns-in_err-old c =
     let given : Given = c.args.given.now in
     let rs = c.args.foot.now in
     let ss = c.gives_set.new.foot in
-    let next : List Index → List Index → Tree = λ old new. exchanged d kind old new in
+    let next : List Index → List Index → Tree = λ old new. with_indices d kind old new in
     let tested = subst (λ (k : Kind). Looks (gives_set k given) s rs (Ok tt) ss) c.kind.ensures c.in_ok-gives_set.ensures in
     rw (p.1, p.2) (stops_at_old s d (kind_of kind) given next rs ss c.members.new.foot tested c.in_err-old.field-0.0 c.in_err-old.ensures.looks)
 
@@ -34,7 +35,7 @@ returns-in_err-new c =
     let given : Given = c.args.given.now in
     let rs = c.args.foot.now in
     let ss = c.gives_set.new.foot in
-    let next : List Index → List Index → Tree = λ old new. exchanged d kind old new in
+    let next : List Index → List Index → Tree = λ old new. with_indices d kind old new in
     let tested = subst (λ (k : Kind). Looks (gives_set k given) s rs (Ok tt) ss) c.kind.ensures c.in_ok-gives_set.ensures in
     rw (p.1, p.2) (stops_at_given s d (kind_of kind) given next rs ss c.members.new.foot tested c.indices_given.new.foot c.in_ok-old.old.items c.in_ok-old.ensures.looks c.in_err-new.field-0.0 c.in_err-new.ensures.looks)
 
@@ -47,14 +48,14 @@ returns c =
     let rs = c.args.foot.now in
     let ss = c.gives_set.new.foot in
     let vs = c.indices_given.new.foot in
-    let ws = c.plan_exchanged.new.foot in
-    let r = c.plan_exchanged.result in
+    let ws = c.plan_with_indices.new.foot in
+    let r = c.plan_with_indices.result in
     let old : List Index = c.in_ok-old.old.items in
     let other : List Index = c.in_ok-new.new.items in
-    let next : List Index → List Index → Tree = λ old new. exchanged d kind old new in
+    let next : List Index → List Index → Tree = λ old new. with_indices d kind old new in
     let tested = subst (λ (k : Kind). Looks (gives_set k given) s rs (Ok tt) ss) c.kind.ensures c.in_ok-gives_set.ensures in
     let shown_old : c.deref.result.now ≡ old = c.deref.ensures.value in
     let shown_new : c.deref-2.result.now ≡ other = c.deref-2.ensures.value in
     both_seen s d (kind_of kind) given next rs ss c.members.new.foot tested vs old c.in_ok-old.ensures.looks ws other r c.in_ok-new.ensures.looks (
-    subst (λ (is : List Index). Attempts (exchanged d kind old is) s vs r ws) shown_new (
-    subst (λ (is : List Index). Attempts (exchanged d kind is c.deref-2.result.now) s vs r ws) shown_old c.plan_exchanged.ensures))
+    subst (λ (is : List Index). Attempts (with_indices d kind old is) s vs r ws) shown_new (
+    subst (λ (is : List Index). Attempts (with_indices d kind is c.deref-2.result.now) s vs r ws) shown_old c.plan_with_indices.ensures))

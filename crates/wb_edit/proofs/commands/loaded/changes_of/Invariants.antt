@@ -1,7 +1,0 @@
-use Rattle.std.proofs.Common.{◌≡◌, ◌++◌}
-use Rattle.wb_edit.specs.Writes.{put_each}
-use Rattle.wb_edit.proofs.commands.loaded.changes_of.Given as goal
-
--- the changes so far and those of the cells that are left
-abbrev pub invariant-loop-cell : goal.invariant-loop-cell
-invariant-loop-cell l = l.delta ++ put_each l.cell-iterator ≡ put_each l.cells.entries

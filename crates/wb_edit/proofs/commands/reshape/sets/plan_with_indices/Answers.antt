@@ -1,0 +1,13 @@
+use Rattle.std.proofs.Common.{◌≡◌, List, Some, slice_get, subst, ◌∙◌}
+use Rattle.wb_book.specs.declared.values.index.Index.{Index}
+use Rattle.wb_resize.specs.Resized.{without}
+use Rattle.wb_edit.proofs.Exchanges.{apart_without}
+use Rattle.wb_edit.proofs.commands.reshape.sets.plan_with_indices.Goals as goal
+
+pub plan_resized-requires-clause-apart : goal.plan_resized-requires-clause-apart
+plan_resized-requires-clause-apart c = λ p q x e f.
+    let old : List Index = c.args.old.now in
+    let new : List Index = c.args.new.now in
+    let leaving : c.deref.result.now ≡ without new old = c.deref.ensures.value ∙ c.in-Ok.ensures.same in
+    let coming : c.deref-2.result.now ≡ without old new = c.deref-2.ensures.value ∙ c.in-Ok-without.ensures.same in
+    apart_without old new p q x (subst (λ (is : List Index). slice_get is p ≡ Some x) leaving e) (subst (λ (is : List Index). slice_get is q ≡ Some x) coming f)

@@ -1,0 +1,36 @@
+-- A new rectangular domain (Chapel Language Specification, Domains and Domain Maps).
+use Rattle.std.specs.Prelude.{List, ◌∷◌, map, length}
+use Rattle.selective_undo.specs.Edit.{refuse, write}
+use Rattle.wb_dist.specs.Maps.{LayoutMap}
+use Rattle.wb_book.specs.declared.cells.cell.Cell.TheVariants.{Object, Shape, In, Mapping}
+use Rattle.wb_book.specs.declared.cells.kind.DomainKind.TheVariants.{Rectangular}
+use Rattle.wb_book.specs.declared.cells.value.Value.TheVariants.{Domain, Ranges, Mapping, Present}
+use Rattle.wb_book.specs.Cells.{Name, Changes}
+use Rattle.wb_book.specs.Shapes.{Range, indices}
+use Rattle.wb_edit.specs.declared.refusal.Refusal.TheVariants.{WrongKind}
+use Rattle.wb_edit.specs.Trees.{Tree, ◌>>=◌}
+use Rattle.wb_edit.specs.Looks.{free_name}
+use Rattle.wb_edit.specs.Layouts.{mapped}
+use Rattle.wb_edit.specs.Writes.{put, put_all}
+
+-- what a new rectangular domain writes: the domain with its rank, its ranges, its mapping, and that each of its indices
+-- is in it (Chapel Language Specification, Domains and Domain Maps)
+abbrev pub new_domain_changes : Name → List Range → LayoutMap → Changes
+new_domain_changes d rs m =
+    put (Object d) (Domain (Rectangular (length rs)))
+    ∷ put (Shape d) (Ranges rs)
+    ∷ put (Mapping d) (Mapping m)
+    ∷ put_all (map (In d) (indices rs)) Present
+
+-- a new rectangular domain: its name is free, and the mapping is for its rank
+abbrev pub domain : Name → List Range → LayoutMap → Tree
+domain d rs m = do
+  unit ← free_name d
+  unit ← mapped (length rs) m
+  write (new_domain_changes d rs m)
+
+-- a rectangle that is asked for with a set, which is none: the name is free, and then the command is refused
+abbrev pub domain_of_set : Name → Tree
+domain_of_set d = do
+  unit ← free_name d
+  refuse WrongKind

@@ -1,0 +1,21 @@
+-- A new sparse domain (Chapel Language Specification, Domains).
+use Rattle.std.specs.Prelude.{[], ◌∷◌}
+use Rattle.selective_undo.specs.Edit.{write}
+use Rattle.wb_book.specs.declared.cells.cell.Cell.TheVariants.{Object, Use}
+use Rattle.wb_book.specs.declared.cells.value.Binding.TheVariants.{Sparse}
+use Rattle.wb_book.specs.declared.cells.kind.DomainKind.TheVariants.{Sparse}
+use Rattle.wb_book.specs.declared.cells.value.Value.TheVariants.{Domain, Bound}
+use Rattle.wb_book.specs.Cells.{Name}
+use Rattle.wb_edit.specs.Trees.{Tree, ◌>>=◌}
+use Rattle.wb_edit.specs.Looks.{free_name, domain_named}
+use Rattle.wb_edit.specs.Kinds.{rectangular}
+use Rattle.wb_edit.specs.Writes.{put}
+
+-- a new sparse domain, with no index yet, in a rectangular one, to which it is bound: its name is free, and the other domain
+-- is there and rectangular (Chapel Language Specification, Domains)
+abbrev pub sparse : Name → Name → Tree
+sparse d parent = do
+  unit ← free_name d
+  kind ← domain_named parent
+  rank ← rectangular kind
+  write (put (Object d) (Domain (Sparse parent rank)) ∷ put (Use parent d) (Bound Sparse) ∷ [])

@@ -1,0 +1,89 @@
+ghost use Rattle.std.specs.Prelude.{◌≡◌, [], ◌∷◌};
+ghost use Rattle.wb_range.specs.Domain.{IsListedOnce};
+ghost use Rattle.wb_book.specs.declared.cells.cell.Cell.TheVariants.{Object, Shape, Mapping, Use};
+ghost use Rattle.wb_edit.specs.Commands.{drop_domain, ended_cells, own_cells};
+ghost use Rattle.wb_edit.specs.Plans.{Attempts, Makes, indices_in};
+ghost use Rattle.wb_edit.specs.Writes.{clear_all};
+
+use crate::attempt_err::AttemptErr;
+use crate::commands::writes::{become_found, change};
+use crate::foot::Foot;
+use crate::indexed_cells::IndexedCells;
+use crate::looks::indices::{Indices, domain_indices};
+use crate::looks::one_cell;
+use crate::looks::users::unused;
+use std::alloc::Global;
+use wb_book::{AnyDomain, Cell, Delta, DomainKind, Name};
+use wb_shelf::Book;
+
+/// The end of a domain.
+pub(crate) fn plan_drop_domain(
+    alloc: Global,
+    book: &Book,
+    foot: &mut Foot,
+    domain: Name,
+) -> Result<Delta, AttemptErr>
+    ensures { Attempts (drop_domain domain) book.now.cells foot.old result foot.new }
+{
+    let kind = one_cell::domain_named(book, foot, domain)?;
+    unused(alloc, book, foot, domain)?;
+    let found = domain_indices(alloc, book, foot, domain, &kind)?;
+    drop_changes(alloc, domain, &kind, &found)
+}
+
+fn drop_changes(
+    alloc: Global,
+    domain: Name,
+    kind: &AnyDomain,
+    found: &Indices,
+) -> Result<Delta, AttemptErr>
+    requires { IsListedOnce (indices_in found.now) }
+    ensures { Makes (ended_cells domain kind.now (indices_in found.now)) result }
+{
+    let mut delta = own_changes(alloc, domain, kind)?;
+    become_found(
+        &mut delta,
+        &IndexedCells::Membership(kind.kind(), domain),
+        found,
+        &None,
+    )?;
+    Ok(delta)
+}
+
+// What there is of a domain besides its indices becomes absent.
+fn own_changes(alloc: Global, domain: Name, kind: &AnyDomain) -> Result<Delta, AttemptErr>
+    ensures { Makes (clear_all (own_cells domain kind.now)) result }
+{
+    match kind.domain_kind() {
+        DomainKind::Rectangular(_) => rectangle_changes(alloc, domain),
+        DomainKind::Sparse(parent, _) => sparse_changes(alloc, domain, parent),
+        DomainKind::Associative(_) => set_changes(alloc, domain),
+    }
+}
+
+fn rectangle_changes(alloc: Global, domain: Name) -> Result<Delta, AttemptErr>
+    ensures { Makes (clear_all (Object domain ∷ Shape domain ∷ Mapping domain ∷ [])) result }
+{
+    let mut delta = Delta::new(alloc);
+    change(&mut delta, Cell::Object(domain), None)?;
+    change(&mut delta, Cell::Shape(domain), None)?;
+    change(&mut delta, Cell::Mapping(domain), None)?;
+    Ok(delta)
+}
+
+fn sparse_changes(alloc: Global, domain: Name, parent: Name) -> Result<Delta, AttemptErr>
+    ensures { Makes (clear_all (Object domain ∷ Use parent domain ∷ [])) result }
+{
+    let mut delta = Delta::new(alloc);
+    change(&mut delta, Cell::Object(domain), None)?;
+    change(&mut delta, Cell::Use(parent, domain), None)?;
+    Ok(delta)
+}
+
+fn set_changes(alloc: Global, domain: Name) -> Result<Delta, AttemptErr>
+    ensures { Makes (clear_all (Object domain ∷ [])) result }
+{
+    let mut delta = Delta::new(alloc);
+    change(&mut delta, Cell::Object(domain), None)?;
+    Ok(delta)
+}

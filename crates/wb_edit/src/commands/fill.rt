@@ -1,0 +1,46 @@
+ghost use Rattle.std.specs.Prelude.{◌≡◌, map};
+ghost use Rattle.wb_book.specs.Shapes.{indices};
+ghost use Rattle.wb_book.specs.declared.cells.cell.Cell.TheVariants.{Element};
+ghost use Rattle.wb_book.specs.declared.cells.value.Value.TheVariants.{Number};
+ghost use Rattle.wb_edit.specs.Commands.{fill};
+ghost use Rattle.wb_edit.specs.Plans.{Attempts, Makes};
+ghost use Rattle.wb_edit.specs.Writes.{put_all};
+
+use crate::attempt_err::AttemptErr;
+use crate::commands::writes::put_all;
+use crate::foot::Foot;
+use crate::indexed_cells::IndexedCells;
+use crate::looks::{one_cell, rectangles};
+use std::alloc::Global;
+use wb_book::{AnyRect, Delta, Name, Value};
+use wb_shelf::Book;
+
+/// One number at the indices of a rectangle.
+pub(crate) fn plan_fill(
+    alloc: Global,
+    book: &Book,
+    foot: &mut Foot,
+    array: Name,
+    on: &AnyRect,
+    value: i64,
+) -> Result<Delta, AttemptErr>
+    ensures { Attempts (fill array on.now value) book.now.cells foot.old result foot.new }
+{
+    let (_domain, kind) = one_cell::array_named(book, foot, array)?;
+    rectangles::over_rectangle(on, kind)?;
+    rectangles::all_elements(book, foot, array, on)?;
+    fill_changes(alloc, array, on, value)
+}
+
+fn fill_changes(alloc: Global, array: Name, on: &AnyRect, value: i64) -> Result<Delta, AttemptErr>
+    ensures { Makes (put_all (map (Element array) (indices on.now)) (Number value)) result }
+{
+    let mut delta = Delta::new(alloc);
+    put_all(
+        &mut delta,
+        &IndexedCells::Elements(array),
+        on,
+        &Value::Number(value),
+    )?;
+    Ok(delta)
+}

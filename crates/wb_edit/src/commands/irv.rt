@@ -1,0 +1,37 @@
+ghost use Rattle.std.specs.Prelude.{◌≡◌, [], ◌∷◌};
+ghost use Rattle.wb_book.specs.declared.cells.cell.Cell.TheVariants.{Implicit};
+ghost use Rattle.wb_book.specs.declared.cells.value.Value.TheVariants.{Number};
+ghost use Rattle.wb_edit.specs.Commands.{irv};
+ghost use Rattle.wb_edit.specs.Plans.{Attempts, Makes};
+ghost use Rattle.wb_edit.specs.Writes.{put};
+
+use crate::attempt_err::{AttemptErr, stopped};
+use crate::commands::writes::put;
+use crate::foot::Foot;
+use crate::looks::{kinds, one_cell};
+use std::alloc::Global;
+use wb_book::{Cell, Delta, Name, Value};
+use wb_shelf::Book;
+
+/// A new implicit value.
+pub(crate) fn plan_irv(
+    alloc: Global,
+    book: &Book,
+    foot: &mut Foot,
+    array: Name,
+    value: i64,
+) -> Result<Delta, AttemptErr>
+    ensures { Attempts (irv array value) book.now.cells foot.old result foot.new }
+{
+    let (_domain, kind) = one_cell::array_named(book, foot, array)?;
+    stopped(kinds::is_sparse(&kind))?;
+    implicit_change(alloc, array, value)
+}
+
+fn implicit_change(alloc: Global, array: Name, value: i64) -> Result<Delta, AttemptErr>
+    ensures { Makes (put (Implicit array) (Number value) ∷ []) result }
+{
+    let mut delta = Delta::new(alloc);
+    put(&mut delta, Cell::Implicit(array), Value::Number(value))?;
+    Ok(delta)
+}

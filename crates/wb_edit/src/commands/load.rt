@@ -1,0 +1,49 @@
+ghost use Rattle.std.specs.Prelude.{◌≡◌};
+ghost use Rattle.wb_book.specs.Cells.{state_of};
+ghost use Rattle.wb_edit.specs.Commands.{book_cells, load};
+ghost use Rattle.wb_edit.specs.Plans.{Attempts, Makes};
+ghost use Rattle.wb_reading.specs.Texts.Books.{cells_in};
+
+use crate::attempt_err::AttemptErr;
+use crate::commands::writes::put;
+use crate::foot::Foot;
+use crate::looks::objects;
+use std::alloc::Global;
+use std::collections::BTreeMap;
+use wb_book::{Cell, Delta, Value};
+use wb_reading::BookText;
+use wb_shelf::Book;
+
+/// The workbook of a text.
+pub(crate) fn plan_load(
+    alloc: Global,
+    book: &Book,
+    foot: &mut Foot,
+    text: &BookText,
+) -> Result<Delta, AttemptErr>
+    ensures { Attempts (load text.now) book.now.cells foot.old result foot.new }
+{
+    objects::no_object(book, foot)?;
+    load_changes(alloc, text)
+}
+
+fn load_changes(alloc: Global, text: &BookText) -> Result<Delta, AttemptErr>
+    ensures { Makes (book_cells (cells_in text.now)) result }
+{
+    match text.cells(alloc) {
+        Ok(cells) => changes_of(alloc, &cells),
+        Err(_) => Err(AttemptErr::NoMemory),
+    }
+}
+
+// Each cell gets its value.
+fn changes_of(alloc: Global, cells: &BTreeMap<Cell, Value>) -> Result<Delta, AttemptErr>
+    ensures { Makes (book_cells (state_of cells.now)) result }
+{
+    let _count = cells.len();
+    let mut delta = Delta::new(alloc);
+    for (cell, value) in cells {
+        put(&mut delta, *cell, *value)?;
+    }
+    Ok(delta)
+}

@@ -1,0 +1,38 @@
+ghost use Rattle.std.specs.Prelude.{◌≡◌, [], ◌∷◌};
+ghost use Rattle.wb_book.specs.declared.cells.cell.Cell.TheVariants.{Mapping};
+ghost use Rattle.wb_book.specs.declared.cells.value.Value.TheVariants.{Mapping as mapping_value};
+ghost use Rattle.wb_edit.specs.Commands.{remap};
+ghost use Rattle.wb_edit.specs.Plans.{Attempts, Makes};
+ghost use Rattle.wb_edit.specs.Writes.{put};
+
+use crate::attempt_err::{AttemptErr, stopped};
+use crate::commands::writes::put;
+use crate::foot::Foot;
+use crate::looks::{kinds, layouts, one_cell};
+use std::alloc::Global;
+use wb_book::{AnyLayout, Cell, Delta, Name, Value};
+use wb_shelf::Book;
+
+/// A new mapping of a rectangular domain.
+pub(crate) fn plan_remap(
+    alloc: Global,
+    book: &Book,
+    foot: &mut Foot,
+    domain: Name,
+    mapping: &AnyLayout,
+) -> Result<Delta, AttemptErr>
+    ensures { Attempts (remap domain mapping.now) book.now.cells foot.old result foot.new }
+{
+    let kind = one_cell::domain_named(book, foot, domain)?;
+    let rank = stopped(kinds::rank_of(&kind))?;
+    stopped(layouts::for_rank(rank, mapping))?;
+    remap_changes(alloc, domain, mapping)
+}
+
+fn remap_changes(alloc: Global, domain: Name, mapping: &AnyLayout) -> Result<Delta, AttemptErr>
+    ensures { Makes (put (Mapping domain) (mapping_value mapping.now) ∷ []) result }
+{
+    let mut delta = Delta::new(alloc);
+    put(&mut delta, Cell::Mapping(domain), Value::Mapping(*mapping))?;
+    Ok(delta)
+}

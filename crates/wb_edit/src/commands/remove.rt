@@ -1,0 +1,64 @@
+ghost use Rattle.std.specs.Prelude.{◌≡◌};
+ghost use Rattle.wb_edit.specs.Commands.{left, remove, remove_if};
+ghost use Rattle.wb_edit.specs.Plans.{Attempts};
+
+use crate::attempt_err::{AttemptErr, stopped};
+use crate::commands::resized::resize_changes;
+use crate::foot::Foot;
+use crate::looks::resizing::{has_members, zeros};
+use crate::looks::users::{arrays, uses};
+use crate::looks::{judgements, one_cell};
+use std::alloc::Global;
+use wb_book::{AnyDomain, AnyIndex, Cell, Delta, Name, Value};
+use wb_shelf::Book;
+
+/// The end of an index of a sparse or associative domain.
+pub(crate) fn plan_remove(
+    alloc: Global,
+    book: &Book,
+    foot: &mut Foot,
+    domain: Name,
+    index: AnyIndex,
+) -> Result<Delta, AttemptErr>
+    ensures { Attempts (remove domain index) book.now.cells foot.old result foot.new }
+{
+    let kind = one_cell::domain_named(book, foot, domain)?;
+    stopped(has_members(&kind))?;
+    stopped(judgements::fits(kind.kind(), index))?;
+    let there = one_cell::read(book, foot, &Cell::Member(domain, index))?;
+    remove_if(alloc, book, foot, there, domain, &kind, index)
+}
+
+fn remove_if(
+    alloc: Global,
+    book: &Book,
+    foot: &mut Foot,
+    there: Option<Value>,
+    domain: Name,
+    kind: &AnyDomain,
+    index: AnyIndex,
+) -> Result<Delta, AttemptErr>
+    ensures { Attempts (remove_if there domain kind.now index) book.now.cells foot.old result foot.new }
+{
+    match there {
+        None => Ok(Delta::new(alloc)),
+        Some(_) => plan_left(alloc, book, foot, domain, kind, index),
+    }
+}
+
+// The index, which is there, leaves the domain.
+fn plan_left(
+    alloc: Global,
+    book: &Book,
+    foot: &mut Foot,
+    domain: Name,
+    kind: &AnyDomain,
+    index: AnyIndex,
+) -> Result<Delta, AttemptErr>
+    ensures { Attempts (left domain kind.now index) book.now.cells foot.old result foot.new }
+{
+    let users = uses(alloc, book, foot, domain)?;
+    let names = arrays(alloc, &users)?;
+    let cleared = zeros(alloc, &names)?;
+    resize_changes(alloc, domain, kind, &cleared, &[index], &[])
+}

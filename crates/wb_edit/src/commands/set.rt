@@ -1,0 +1,49 @@
+ghost use Rattle.std.specs.Prelude.{◌≡◌, [], ◌∷◌};
+ghost use Rattle.wb_book.specs.declared.cells.cell.Cell.TheVariants.{Element};
+ghost use Rattle.wb_book.specs.declared.cells.value.Value.TheVariants.{Number};
+ghost use Rattle.wb_edit.specs.Commands.{set};
+ghost use Rattle.wb_edit.specs.Plans.{Attempts, Makes};
+ghost use Rattle.wb_edit.specs.Writes.{put};
+
+use crate::attempt_err::{AttemptErr, stopped};
+use crate::commands::writes::put;
+use crate::foot::Foot;
+use crate::looks::{judgements, one_cell};
+use std::alloc::Global;
+use wb_book::{AnyIndex, Cell, Delta, Name, Value};
+use wb_shelf::Book;
+
+/// A new element.
+pub(crate) fn plan_set(
+    alloc: Global,
+    book: &Book,
+    foot: &mut Foot,
+    array: Name,
+    index: AnyIndex,
+    value: i64,
+) -> Result<Delta, AttemptErr>
+    ensures { Attempts (set array index value) book.now.cells foot.old result foot.new }
+{
+    let (_domain, kind) = one_cell::array_named(book, foot, array)?;
+    stopped(judgements::fits(kind, index))?;
+    one_cell::element(book, foot, array, index)?;
+    element_change(alloc, array, index, value)
+}
+
+/// One element gets a value.
+pub(crate) fn element_change(
+    alloc: Global,
+    array: Name,
+    index: AnyIndex,
+    value: i64,
+) -> Result<Delta, AttemptErr>
+    ensures { Makes (put (Element array index) (Number value) ∷ []) result }
+{
+    let mut delta = Delta::new(alloc);
+    put(
+        &mut delta,
+        Cell::Element(array, index),
+        Value::Number(value),
+    )?;
+    Ok(delta)
+}

@@ -1,0 +1,46 @@
+ghost use Rattle.std.specs.Prelude.{◌≡◌, [], ◌∷◌};
+ghost use Rattle.wb_book.specs.declared.cells.cell.Cell.TheVariants.{Object, Use};
+ghost use Rattle.wb_book.specs.declared.cells.kind.DomainKind.TheVariants.{Sparse};
+ghost use Rattle.wb_book.specs.declared.cells.value.Binding.TheVariants.{Sparse as bound_sparse};
+ghost use Rattle.wb_book.specs.declared.cells.value.Value.TheVariants.{Domain, Bound};
+ghost use Rattle.wb_edit.specs.Commands.{sparse};
+ghost use Rattle.wb_edit.specs.Plans.{Attempts, Makes};
+ghost use Rattle.wb_edit.specs.Writes.{put};
+
+use crate::attempt_err::{AttemptErr, stopped};
+use crate::commands::writes::put;
+use crate::foot::Foot;
+use crate::looks::{kinds, one_cell};
+use std::alloc::Global;
+use wb_book::{AnyDomain, Binding, Cell, Delta, DomainKind, Name, Value};
+use wb_shelf::Book;
+
+/// A new sparse domain in a rectangular one.
+pub(crate) fn plan_sparse(
+    alloc: Global,
+    book: &Book,
+    foot: &mut Foot,
+    name: Name,
+    parent: Name,
+) -> Result<Delta, AttemptErr>
+    ensures { Attempts (sparse name parent) book.now.cells foot.old result foot.new }
+{
+    one_cell::free_name(book, foot, name)?;
+    let kind = one_cell::domain_named(book, foot, parent)?;
+    let rank = stopped(kinds::rank_of(&kind))?;
+    sparse_changes(alloc, name, parent, rank)
+}
+
+fn sparse_changes(alloc: Global, name: Name, parent: Name, rank: u8) -> Result<Delta, AttemptErr>
+    ensures { Makes (put (Object name) (Domain (Sparse parent rank)) ∷ put (Use parent name) (Bound bound_sparse) ∷ []) result }
+{
+    let mut delta = Delta::new(alloc);
+    let kind = AnyDomain::new(DomainKind::Sparse(parent, rank));
+    put(&mut delta, Cell::Object(name), Value::Domain(kind))?;
+    put(
+        &mut delta,
+        Cell::Use(parent, name),
+        Value::Bound(Binding::Sparse),
+    )?;
+    Ok(delta)
+}

@@ -1,0 +1,151 @@
+//! The element of an array, or its implicit value.
+
+ghost use Rattle.std.specs.Prelude.{◌≡◌};
+ghost use Rattle.wb_edit.specs.Implicit.{has_implicit, parent_in, parent_of, is_in_domain, implicit_value, implicit_inside, implicit_at, implicit, or_implicit, element_or_implicit};
+ghost use Rattle.wb_edit.specs.Plans.{Looks};
+
+use crate::attempt_err::{AttemptErr, stopped};
+use crate::foot::Foot;
+use crate::looks::judgements::is_there;
+use crate::looks::numbers::number_in;
+use crate::looks::one_cell::read;
+use crate::refusal::Refusal;
+use wb_book::{AnyIndex, Cell, DomainKind, Kind, Name, Value};
+use wb_shelf::Book;
+
+/// That an array over a domain of this kind has an implicit value of its own; `OutOfDomain` where it has none.
+pub fn has_implicit(kind: &Kind) -> Result<(), Refusal>
+    ensures { result ≡ has_implicit kind.now }
+{
+    match kind {
+        Kind::Rectangular(_) => Err(Refusal::OutOfDomain),
+        Kind::Sparse(_) => Ok(()),
+        Kind::Associative(_) => Err(Refusal::OutOfDomain),
+    }
+}
+
+/// The parent of the sparse domain whose object is given; `OutOfDomain` where it is none.
+pub fn parent_in(object: Option<Value>) -> Result<Name, Refusal>
+    ensures { result ≡ parent_in object }
+{
+    match object {
+        None => Err(Refusal::OutOfDomain),
+        Some(value) => match value {
+            Value::Domain(kind) => match kind.domain_kind() {
+                DomainKind::Sparse(parent, _) => Ok(parent),
+                DomainKind::Rectangular(_) => Err(Refusal::OutOfDomain),
+                DomainKind::Associative(_) => Err(Refusal::OutOfDomain),
+            },
+            Value::Array(_, _) => Err(Refusal::OutOfDomain),
+            Value::Ranges(_) => Err(Refusal::OutOfDomain),
+            Value::Mapping(_) => Err(Refusal::OutOfDomain),
+            Value::Present => Err(Refusal::OutOfDomain),
+            Value::Bound(_) => Err(Refusal::OutOfDomain),
+            Value::Number(_) => Err(Refusal::OutOfDomain),
+        },
+    }
+}
+
+// The array of a name over the domain of another one, which is of a kind.
+#[derive(Clone, Copy)]
+pub(crate) struct ArrayRef {
+    pub array: Name,
+    pub domain: Name,
+    pub kind: Kind,
+}
+
+/// The parent of a sparse domain.
+pub(crate) fn parent_of(book: &Book, foot: &mut Foot, domain: Name) -> Result<Name, AttemptErr>
+    ensures { Looks (parent_of domain) book.now.cells foot.old result foot.new }
+{
+    let object = read(book, foot, &Cell::Object(domain))?;
+    stopped(parent_in(object))
+}
+
+/// That an index is in a rectangular domain.
+fn is_in_domain(
+    book: &Book,
+    foot: &mut Foot,
+    domain: Name,
+    index: AnyIndex,
+) -> Result<(), AttemptErr>
+    ensures { Looks (is_in_domain domain index) book.now.cells foot.old result foot.new }
+{
+    let present = read(book, foot, &Cell::In(domain, index))?;
+    stopped(is_there(present))
+}
+
+/// The implicit value of an array.
+fn implicit_value(book: &Book, foot: &mut Foot, array: Name) -> Result<i64, AttemptErr>
+    ensures { Looks (implicit_value array) book.now.cells foot.old result foot.new }
+{
+    let value = read(book, foot, &Cell::Implicit(array))?;
+    stopped(number_in(value))
+}
+
+fn implicit_inside(
+    book: &Book,
+    foot: &mut Foot,
+    array: Name,
+    parent: Name,
+    index: AnyIndex,
+) -> Result<i64, AttemptErr>
+    ensures { Looks (implicit_inside array parent index) book.now.cells foot.old result foot.new }
+{
+    is_in_domain(book, foot, parent, index)?;
+    implicit_value(book, foot, array)
+}
+
+fn implicit_at(
+    book: &Book,
+    foot: &mut Foot,
+    array: Name,
+    domain: Name,
+    index: AnyIndex,
+) -> Result<i64, AttemptErr>
+    ensures { Looks (implicit_at array domain index) book.now.cells foot.old result foot.new }
+{
+    let parent = parent_of(book, foot, domain)?;
+    implicit_inside(book, foot, array, parent, index)
+}
+
+/// The implicit value at an index of the parent.
+fn implicit(
+    book: &Book,
+    foot: &mut Foot,
+    source: &ArrayRef,
+    index: AnyIndex,
+) -> Result<i64, AttemptErr>
+    ensures { Looks (implicit source.now.array source.now.domain source.now.kind index) book.now.cells foot.old result foot.new }
+{
+    stopped(has_implicit(&source.kind))?;
+    implicit_at(book, foot, source.array, source.domain, index)
+}
+
+fn or_implicit(
+    book: &Book,
+    foot: &mut Foot,
+    source: &ArrayRef,
+    index: AnyIndex,
+    element: Option<Value>,
+) -> Result<i64, AttemptErr>
+    ensures { Looks (or_implicit source.now.array source.now.domain source.now.kind index element) book.now.cells foot.old result foot.new }
+{
+    match element {
+        Some(value) => stopped(number_in(Some(value))),
+        None => implicit(book, foot, source, index),
+    }
+}
+
+/// The element at an index, or the implicit value.
+pub(crate) fn element_or_implicit(
+    book: &Book,
+    foot: &mut Foot,
+    source: &ArrayRef,
+    index: AnyIndex,
+) -> Result<i64, AttemptErr>
+    ensures { Looks (element_or_implicit source.now.array source.now.domain source.now.kind index) book.now.cells foot.old result foot.new }
+{
+    let element = read(book, foot, &Cell::Element(source.array, index))?;
+    or_implicit(book, foot, source, index, element)
+}

@@ -1,0 +1,133 @@
+//! Looks at the indices of a domain.
+
+ghost use Rattle.std.specs.Prelude.{◌≡◌, IfOk};
+ghost use Rattle.wb_range.specs.Domain.{IsListedOnce};
+ghost use Rattle.wb_edit.specs.Looks.{member_in, members, points, indices_of, domain_indices};
+ghost use Rattle.wb_edit.specs.Plans.{Looks, found_members, indices_in, shown_indices};
+ghost use Rattle.std.specs.List.{filter_map};
+
+use crate::attempt_err::AttemptErr;
+use crate::foot::Foot;
+use crate::looks::judgements;
+use crate::looks::one_cell::read;
+use std::alloc::{AllocError, Global};
+use wb_book::{AnyDomain, AnyIndex, AnyRect, Cell, DomainKind, Name, Pattern, Value};
+use wb_shelf::Book;
+
+/// The indices of a domain, in its order.
+#[derive(Drop)]
+pub(crate) enum Indices {
+    /// Those of a rectangular domain with these ranges.
+    Product(AnyRect),
+    /// One by one, each once.
+    Listed(Vec<AnyIndex>),
+}
+
+/// The index of a domain that a cell tells of.
+fn member_in(shown: &(Cell, Value)) -> Option<AnyIndex>
+    ensures { result ≡ member_in shown.now }
+{
+    match shown.0 {
+        Cell::Member(_, index) => Some(index),
+        Cell::Object(_)
+        | Cell::Shape(_)
+        | Cell::In(_, _)
+        | Cell::Mapping(_)
+        | Cell::Use(_, _)
+        | Cell::Implicit(_)
+        | Cell::Element(_, _) => None,
+    }
+}
+
+fn members_in(alloc: Global, shown: &[(Cell, Value)]) -> Result<Vec<AnyIndex>, AllocError>
+    ensures { IfOk result (λ v. v.items ≡ filter_map member_in shown.now) }
+{
+    shown
+        .iter()
+        .filter_map(
+            |x: &(Cell, Value)| -> Option<AnyIndex>
+                ensures { result ≡ member_in x.now }
+            { member_in(x) },
+        )
+        .collect(alloc)
+}
+
+/// The indices of a sparse or associative domain.
+pub(crate) fn members(
+    alloc: Global,
+    book: &Book,
+    foot: &mut Foot,
+    domain: Name,
+) -> Result<Vec<AnyIndex>, AttemptErr>
+    ensures looks { Looks (members domain) book.now.cells foot.old (found_members result) foot.new }
+    ensures once { IfOk result (λ v. IsListedOnce v.items) }
+{
+    let pattern = Pattern::Members(domain);
+    let Ok(shown) = book.seen(alloc, &pattern) else {
+        return Err(AttemptErr::NoMemory);
+    };
+    let Ok(found) = members_in(alloc, &shown) else {
+        return Err(AttemptErr::NoMemory);
+    };
+    match foot.keep(pattern) {
+        Ok(()) => Ok(found),
+        Err(_) => Err(AttemptErr::NoMemory),
+    }
+}
+
+/// The indices of a rectangular domain.
+pub(crate) fn points(
+    alloc: Global,
+    book: &Book,
+    foot: &mut Foot,
+    domain: Name,
+) -> Result<Indices, AttemptErr>
+    ensures looks { Looks (points domain) book.now.cells foot.old (shown_indices result) foot.new }
+    ensures once { IfOk result (λ f. IsListedOnce (indices_in f)) }
+{
+    let shape = read(book, foot, &Cell::Shape(domain))?;
+    Ok(indices_of(alloc, judgements::ranges_in(shape)))
+}
+
+// The indices of ranges; none where there are no ranges.
+fn indices_of(alloc: Global, ranges: Option<AnyRect>) -> Indices
+    ensures same { indices_in result ≡ indices_of ranges }
+    ensures once { IsListedOnce (indices_in result) }
+{
+    match ranges {
+        Some(ranges) => {
+            let _once = ranges.size();
+            Indices::Product(ranges)
+        }
+        None => Indices::Listed(Vec::new(alloc)),
+    }
+}
+
+fn listed(found: Result<Vec<AnyIndex>, AttemptErr>) -> Result<Indices, AttemptErr>
+    requires { IfOk found (λ v. IsListedOnce v.items) }
+    ensures same { shown_indices result ≡ found_members found }
+    ensures once { IfOk result (λ f. IsListedOnce (indices_in f)) }
+{
+    match found {
+        Ok(found) => Ok(Indices::Listed(found)),
+        Err(why) => Err(why),
+    }
+}
+
+/// The indices of a domain.
+pub(crate) fn domain_indices(
+    alloc: Global,
+    book: &Book,
+    foot: &mut Foot,
+    domain: Name,
+    kind: &AnyDomain,
+) -> Result<Indices, AttemptErr>
+    ensures looks { Looks (domain_indices domain kind.now) book.now.cells foot.old (shown_indices result) foot.new }
+    ensures once { IfOk result (λ f. IsListedOnce (indices_in f)) }
+{
+    match kind.domain_kind() {
+        DomainKind::Rectangular(_) => points(alloc, book, foot, domain),
+        DomainKind::Sparse(_, _) => listed(members(alloc, book, foot, domain)),
+        DomainKind::Associative(_) => listed(members(alloc, book, foot, domain)),
+    }
+}

@@ -1,0 +1,93 @@
+//! What a cell's value says: tests on what was seen, which look at nothing more.
+
+ghost use Rattle.std.specs.Prelude.{◌≡◌, option_map};
+ghost use Rattle.wb_edit.specs.Looks.{is_free, domain_kind, array_kind, is_there, fits, ranges_in};
+
+use crate::refusal::Refusal;
+use wb_book::{AnyDomain, AnyIndex, AnyRect, Kind, Name, Value};
+
+/// That nothing has the name whose object is given; `NameTaken` where something has.
+pub fn is_free(object: Option<Value>) -> Result<(), Refusal>
+    ensures { result ≡ is_free object }
+{
+    match object {
+        None => Ok(()),
+        Some(_) => Err(Refusal::NameTaken),
+    }
+}
+
+/// What the domain is whose object is given; `NoSuchName` where nothing is there, `WrongKind` where no domain is.
+pub fn domain_kind(object: Option<Value>) -> Result<AnyDomain, Refusal>
+    ensures { result ≡ domain_kind object }
+{
+    match object {
+        None => Err(Refusal::NoSuchName),
+        Some(value) => match value {
+            Value::Domain(kind) => Ok(kind),
+            Value::Array(_, _) => Err(Refusal::WrongKind),
+            Value::Ranges(_) => Err(Refusal::WrongKind),
+            Value::Mapping(_) => Err(Refusal::WrongKind),
+            Value::Present => Err(Refusal::WrongKind),
+            Value::Bound(_) => Err(Refusal::WrongKind),
+            Value::Number(_) => Err(Refusal::WrongKind),
+        },
+    }
+}
+
+/// The domain of the array whose object is given, and that domain's kind; `NoSuchName` where nothing is there,
+/// `WrongKind` where no array is.
+pub fn array_kind(object: Option<Value>) -> Result<(Name, Kind), Refusal>
+    ensures { result ≡ array_kind object }
+{
+    match object {
+        None => Err(Refusal::NoSuchName),
+        Some(value) => match value {
+            Value::Array(domain, kind) => Ok((domain, kind)),
+            Value::Domain(_) => Err(Refusal::WrongKind),
+            Value::Ranges(_) => Err(Refusal::WrongKind),
+            Value::Mapping(_) => Err(Refusal::WrongKind),
+            Value::Present => Err(Refusal::WrongKind),
+            Value::Bound(_) => Err(Refusal::WrongKind),
+            Value::Number(_) => Err(Refusal::WrongKind),
+        },
+    }
+}
+
+/// That the element is there; `OutOfDomain` where it is not.
+pub fn is_there(element: Option<Value>) -> Result<(), Refusal>
+    ensures { result ≡ is_there element }
+{
+    match element {
+        None => Err(Refusal::OutOfDomain),
+        Some(_) => Ok(()),
+    }
+}
+
+/// That the index is of the rank and type of the indices of a domain of this kind; `WrongKind` where it is not.
+pub fn fits(kind: Kind, index: AnyIndex) -> Result<(), Refusal>
+    ensures { result ≡ fits kind index }
+{
+    if kind.is_key(&index.index()) {
+        Ok(())
+    } else {
+        Err(Refusal::WrongKind)
+    }
+}
+
+/// The ranges that a cell holds, if it holds ranges.
+pub fn ranges_in(shape: Option<Value>) -> Option<AnyRect>
+    ensures { result ≡ ranges_in shape }
+{
+    match shape {
+        None => None,
+        Some(value) => match value {
+            Value::Ranges(ranges) => Some(ranges),
+            Value::Domain(_) => None,
+            Value::Array(_, _) => None,
+            Value::Mapping(_) => None,
+            Value::Present => None,
+            Value::Bound(_) => None,
+            Value::Number(_) => None,
+        },
+    }
+}

@@ -1,0 +1,33 @@
+//! Whether a workbook has objects.
+
+ghost use Rattle.std.specs.Prelude.{◌≡◌};
+ghost use Rattle.wb_book.specs.Readers.{seen};
+ghost use Rattle.wb_book.specs.declared.cells.pattern.Pattern.TheVariants.{Objects};
+ghost use Rattle.wb_edit.specs.Objects.{is_empty, no_object};
+ghost use Rattle.wb_edit.specs.Plans.{Looks};
+
+use crate::attempt_err::{AttemptErr, stopped};
+use crate::foot::Foot;
+use crate::refusal::Refusal;
+use wb_book::Pattern;
+use wb_shelf::Book;
+
+// That a look at all objects shows none; `NotEmpty` where it shows one.
+fn is_empty(book: &Book) -> Result<(), Refusal>
+    ensures { result ≡ is_empty (seen book.now.cells Objects) }
+{
+    match book.object(0) {
+        None => Ok(()),
+        Some(_) => Err(Refusal::NotEmpty),
+    }
+}
+
+/// There is no object. However many there are, it takes no memory for them.
+pub(crate) fn no_object(book: &Book, foot: &mut Foot) -> Result<(), AttemptErr>
+    ensures { Looks no_object book.now.cells foot.old result foot.new }
+{
+    match foot.keep(Pattern::Objects) {
+        Ok(()) => stopped(is_empty(book)),
+        Err(_) => Err(AttemptErr::NoMemory),
+    }
+}

@@ -1,0 +1,105 @@
+//! Looks at the indices of a rectangle: whether an array may have them, and whether its elements at all of them are there.
+
+ghost use Rattle.std.specs.Prelude.{◌≡◌, List, [], ◌∷◌, ◌++◌, map, ◌&&◌, is_some, length, OnOk, IfOk, IfErr};
+ghost use Rattle.std.specs.FinMap.{get};
+ghost use Rattle.std.specs.List.{list_all};
+ghost use Rattle.wb_book.specs.Shapes.{indices};
+ghost use Rattle.wb_book.specs.declared.cells.cell.Cell.TheVariants.{Element};
+ghost use Rattle.wb_edit.specs.Plans.{Looks, one_of, stopped};
+ghost use Rattle.wb_edit.specs.Rectangles.{is_rectangular_of, of_rank, there_if, all_elements};
+ghost use Rattle.wb_edit.specs.declared.attempt_err.AttemptErr.TheVariants.{NoMemory};
+
+use crate::attempt_err::{AttemptErr, stopped};
+use crate::foot::Foot;
+use crate::refusal::Refusal;
+use wb_book::{AnyCell, AnyRect, Cell, Kind, Name, Pattern};
+use wb_shelf::Book;
+
+fn is_rectangular_of(rank: u8, kind: Kind) -> bool
+    ensures { result ≡ is_rectangular_of rank kind }
+{
+    match kind {
+        Kind::Rectangular(own) => own == rank,
+        Kind::Sparse(_) => false,
+        Kind::Associative(_) => false,
+    }
+}
+
+/// The array is over a rectangular domain of the rank.
+pub fn of_rank(rank: u8, kind: Kind) -> Result<(), Refusal>
+    ensures { result ≡ of_rank rank kind }
+{
+    if is_rectangular_of(rank, kind) {
+        Ok(())
+    } else {
+        Err(Refusal::WrongKind)
+    }
+}
+
+/// The array is over a rectangular domain of the rank of these ranges.
+pub(crate) fn over_rectangle(on: &AnyRect, kind: Kind) -> Result<(), AttemptErr>
+    ensures { result ≡ stopped (of_rank (length on.now) kind) }
+{
+    stopped(of_rank(on.rank(), kind))
+}
+
+/// All of the elements are there.
+pub fn there_if(all: bool) -> Result<(), Refusal>
+    ensures { result ≡ there_if all }
+{
+    if all {
+        Ok(())
+    } else {
+        Err(Refusal::OutOfDomain)
+    }
+}
+
+/// Whether a cell is there; it is looked at.
+pub(crate) fn is_present(book: &Book, foot: &mut Foot, cell: &Cell) -> Result<bool, AttemptErr>
+    ensures read { OnOk result (foot.new ≡ foot.old ++ one_of cell.now ∷ []) }
+    ensures present { IfOk result (λ b. b ≡ is_some (get book.now.cells cell.now)) }
+    ensures only { IfErr result (λ e. e ≡ NoMemory) }
+{
+    match foot.keep(Pattern::One(AnyCell::new(*cell))) {
+        Ok(()) => Ok(book.get(cell).is_some()),
+        Err(_) => Err(AttemptErr::NoMemory),
+    }
+}
+
+fn are_present(book: &Book, foot: &mut Foot, array: Name, on: &AnyRect) -> Result<bool, AttemptErr>
+    ensures read { OnOk result (foot.new ≡ foot.old ++ map one_of (map (Element array) (indices on.now))) }
+    ensures present { IfOk result (λ b. b ≡ list_all is_some (map (get book.now.cells) (map (Element array) (indices on.now)))) }
+    ensures only { IfErr result (λ e. e ≡ NoMemory) }
+{
+    let mut all = true;
+    for p in 0..on.size() {
+        match on.nth(p) {
+            Some(index) => {
+                let here = is_present(book, foot, &Cell::Element(array, index))?;
+                all = both_answers(all, here);
+            }
+            None => {}
+        }
+    }
+    Ok(all)
+}
+
+/// Both of two answers.
+pub(crate) fn both_answers(all: bool, here: bool) -> bool
+    ensures { result ≡ (all && here) }
+{
+    all && here
+}
+
+/// An array's elements at the indices of a rectangle.
+pub(crate) fn all_elements(
+    book: &Book,
+    foot: &mut Foot,
+    array: Name,
+    on: &AnyRect,
+) -> Result<(), AttemptErr>
+    ensures { Looks (all_elements array (indices on.now)) book.now.cells foot.old result foot.new }
+{
+    let all = are_present(book, foot, array, on)?;
+    stopped(there_if(all))
+}

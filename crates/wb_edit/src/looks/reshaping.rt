@@ -1,0 +1,108 @@
+//! Looks of commands that give a domain a new value.
+
+ghost use Rattle.std.specs.Prelude.{◌≡◌, List, [], ◌∷◌, ◌++◌, map, ◌||◌, is_some, OnOk, IfOk, IfErr};
+ghost use Rattle.std.specs.FinMap.{get};
+ghost use Rattle.std.specs.List.{list_any};
+ghost use Rattle.wb_book.specs.declared.cells.cell.Cell.TheVariants.{Member};
+ghost use Rattle.wb_edit.specs.Plans.{Looks, one_of};
+ghost use Rattle.wb_edit.specs.Reshaping.{shape_in, absent_if, shape, member_cells, none_there};
+ghost use Rattle.wb_edit.specs.declared.attempt_err.AttemptErr.TheVariants.{NoMemory};
+
+use crate::attempt_err::{AttemptErr, stopped};
+use crate::foot::Foot;
+use crate::looks::one_cell::read;
+use crate::looks::rectangles::is_present;
+use crate::refusal::Refusal;
+use wb_book::{AnyIndex, AnyRect, Cell, Name, Value};
+use wb_shelf::Book;
+
+/// The ranges that a cell holds; `WrongKind` where it holds none.
+pub fn shape_in(shape: Option<Value>) -> Result<AnyRect, Refusal>
+    ensures { result ≡ shape_in shape }
+{
+    match shape {
+        None => Err(Refusal::WrongKind),
+        Some(value) => match value {
+            Value::Ranges(ranges) => Ok(ranges),
+            Value::Domain(_) => Err(Refusal::WrongKind),
+            Value::Array(_, _) => Err(Refusal::WrongKind),
+            Value::Mapping(_) => Err(Refusal::WrongKind),
+            Value::Present => Err(Refusal::WrongKind),
+            Value::Bound(_) => Err(Refusal::WrongKind),
+            Value::Number(_) => Err(Refusal::WrongKind),
+        },
+    }
+}
+
+/// The ranges of a rectangular domain.
+pub(crate) fn shape(book: &Book, foot: &mut Foot, domain: Name) -> Result<AnyRect, AttemptErr>
+    ensures { Looks (shape domain) book.now.cells foot.old result foot.new }
+{
+    let ranges = read(book, foot, &Cell::Shape(domain))?;
+    stopped(shape_in(ranges))
+}
+
+/// That none of some cells is there; `InUse` where one is.
+pub fn absent_if(any: bool) -> Result<(), Refusal>
+    ensures { result ≡ absent_if any }
+{
+    if any { Err(Refusal::InUse) } else { Ok(()) }
+}
+
+// One of two answers.
+fn either_answer(any: bool, here: bool) -> bool
+    ensures { result ≡ (any || here) }
+{
+    any || here
+}
+
+// Whether a domain has one of some indices; each of them is looked at.
+fn has_some(
+    book: &Book,
+    foot: &mut Foot,
+    domain: Name,
+    listed: &[AnyIndex],
+) -> Result<bool, AttemptErr>
+    ensures read { OnOk result (foot.new ≡ foot.old ++ map one_of (map (Member domain) listed.now)) }
+    ensures there { IfOk result (λ b. b ≡ list_any is_some (map (get book.now.cells) (map (Member domain) listed.now))) }
+    ensures only { IfErr result (λ e. e ≡ NoMemory) }
+{
+    let mut any = false;
+    for index in listed {
+        let here = is_present(book, foot, &Cell::Member(domain, *index))?;
+        any = either_answer(any, here);
+    }
+    Ok(any)
+}
+
+// Whether one of some domains has one of some indices; each index is looked at in each domain.
+fn some_have(
+    book: &Book,
+    foot: &mut Foot,
+    domains: &[Name],
+    listed: &[AnyIndex],
+) -> Result<bool, AttemptErr>
+    ensures read { OnOk result (foot.new ≡ foot.old ++ map one_of (member_cells domains.now listed.now)) }
+    ensures there { IfOk result (λ b. b ≡ list_any is_some (map (get book.now.cells) (member_cells domains.now listed.now))) }
+    ensures only { IfErr result (λ e. e ≡ NoMemory) }
+{
+    let mut any = false;
+    for domain in domains {
+        let here = has_some(book, foot, *domain, listed)?;
+        any = either_answer(any, here);
+    }
+    Ok(any)
+}
+
+/// None of some indices is in one of the domains.
+pub(crate) fn none_there(
+    book: &Book,
+    foot: &mut Foot,
+    domains: &[Name],
+    listed: &[AnyIndex],
+) -> Result<(), AttemptErr>
+    ensures { Looks (none_there domains.now listed.now) book.now.cells foot.old result foot.new }
+{
+    let any = some_have(book, foot, domains, listed)?;
+    stopped(absent_if(any))
+}

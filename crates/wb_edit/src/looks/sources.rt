@@ -1,0 +1,223 @@
+//! Tests on where the new value of a domain comes from, and looks at what is given.
+
+ghost use Rattle.std.specs.Prelude.{◌≡◌, IfOk, IfErr};
+ghost use Rattle.std.specs.List.{list_all};
+ghost use Rattle.wb_book.specs.Kinds.{is_key};
+ghost use Rattle.wb_range.specs.Domain.{IsListedOnce};
+ghost use Rattle.wb_edit.specs.Plans.{Looks, found_members};
+ghost use Rattle.wb_edit.specs.declared.attempt_err.AttemptErr.TheVariants.{NoMemory};
+ghost use Rattle.wb_edit.specs.Sources.{same_rank, slice_of, displacement_of, is_same_type, is_alike, alike, all_fit, names_rectangle, gives_rectangle, ranges_given, names_set, gives_set, indices_given};
+
+use crate::attempt_err::{AttemptErr, stopped};
+use crate::foot::Foot;
+use crate::looks::indices::members;
+use crate::looks::one_cell::domain_named;
+use crate::looks::rectangles::{both_answers, of_rank};
+use crate::looks::reshaping::shape;
+use crate::refusal::Refusal;
+use std::alloc::Global;
+use wb_assoc::Assoc;
+use wb_book::{AnyIndex, AnyRect, KeyType, Kind, Name, Point};
+use wb_range::Domain;
+use wb_rect::RectErr;
+use wb_resize::new_rectangles::displaced;
+use wb_resize::{Displacement, Given};
+use wb_shelf::Book;
+
+/// That there are so many dimensions as a domain of the rank has; `WrongKind` where there are not.
+pub fn same_rank(rank: usize, dimensions: usize) -> Result<(), Refusal>
+    ensures { result ≡ same_rank rank dimensions }
+{
+    if dimensions == rank {
+        Ok(())
+    } else {
+        Err(Refusal::WrongKind)
+    }
+}
+
+/// What two rectangles have in common; `WrongKind` where they are of different ranks.
+pub fn slice_of(old: &AnyRect, by: &AnyRect) -> Result<AnyRect, Refusal>
+    ensures { result ≡ slice_of old.now by.now }
+{
+    match old.slice(by) {
+        Some(new) => Ok(new),
+        None => Err(Refusal::WrongKind),
+    }
+}
+
+/// A rectangle displaced by an offset for each dimension; `WrongKind` where the offsets are more or fewer or a range has
+/// another stride than 1, `TooLarge` where it would be outside the limits.
+pub fn displacement_of(
+    how: Displacement,
+    offsets: &Point,
+    old: &AnyRect,
+) -> Result<AnyRect, Refusal>
+    ensures { result ≡ displacement_of how offsets.now old.now }
+{
+    if offsets.coordinates().len() != old.rank() as usize {
+        return Err(Refusal::WrongKind);
+    }
+    match displaced(how, offsets, old) {
+        Ok(new) => Ok(new),
+        Err(RectErr::Strided) => Err(Refusal::WrongKind),
+        Err(RectErr::TooLarge) => Err(Refusal::TooLarge),
+    }
+}
+
+fn is_same_type(key: KeyType, other: KeyType) -> bool
+    ensures { result ≡ is_same_type key other }
+{
+    match key {
+        KeyType::Int => match other {
+            KeyType::Int => true,
+            KeyType::Text => false,
+        },
+        KeyType::Text => match other {
+            KeyType::Int => false,
+            KeyType::Text => true,
+        },
+    }
+}
+
+fn is_alike(kind: Kind, other: Kind) -> bool
+    ensures { result ≡ is_alike kind other }
+{
+    match kind {
+        Kind::Rectangular(_) => false,
+        Kind::Sparse(rank) => match other {
+            Kind::Rectangular(_) => false,
+            Kind::Sparse(of_other) => rank == of_other,
+            Kind::Associative(_) => false,
+        },
+        Kind::Associative(key) => match other {
+            Kind::Rectangular(_) => false,
+            Kind::Sparse(_) => false,
+            Kind::Associative(of_other) => is_same_type(key, of_other),
+        },
+    }
+}
+
+/// That two domains are both sparse, of one rank, or both associative, of one type; `WrongKind` where they are not.
+pub fn alike(kind: Kind, other: Kind) -> Result<(), Refusal>
+    ensures { result ≡ alike kind other }
+{
+    if is_alike(kind, other) {
+        Ok(())
+    } else {
+        Err(Refusal::WrongKind)
+    }
+}
+
+fn all_keys(kind: Kind, listed: &[AnyIndex]) -> bool
+    ensures { result ≡ list_all (is_key kind) listed.now }
+{
+    let mut all = true;
+    for index in listed {
+        all = both_answers(all, kind.is_key(&index.index()));
+    }
+    all
+}
+
+/// That all indices are of the rank or type of the indices of a domain of this kind; `WrongKind` where one is not.
+pub fn all_fit(kind: Kind, listed: &[AnyIndex]) -> Result<(), Refusal>
+    ensures { result ≡ all_fit kind listed.now }
+{
+    if all_keys(kind, listed) {
+        Ok(())
+    } else {
+        Err(Refusal::WrongKind)
+    }
+}
+
+// The name is that of a rectangular domain of the rank.
+fn names_rectangle(book: &Book, foot: &mut Foot, rank: u8, name: Name) -> Result<(), AttemptErr>
+    ensures { Looks (names_rectangle rank name) book.now.cells foot.old result foot.new }
+{
+    let kind = domain_named(book, foot, name)?;
+    stopped(of_rank(rank, kind.kind()))
+}
+
+/// A rectangle of the rank is given.
+pub(crate) fn gives_rectangle(
+    book: &Book,
+    foot: &mut Foot,
+    rank: u8,
+    given: &Given,
+) -> Result<(), AttemptErr>
+    ensures { Looks (gives_rectangle rank given.now) book.now.cells foot.old result foot.new }
+{
+    match given {
+        Given::Rectangle(ranges) => stopped(same_rank(rank as usize, ranges.rank() as usize)),
+        Given::Items(_) => Err(AttemptErr::Refused(Refusal::WrongKind)),
+        Given::Named(name) => names_rectangle(book, foot, rank, *name),
+    }
+}
+
+/// The ranges that are given.
+pub(crate) fn ranges_given(
+    book: &Book,
+    foot: &mut Foot,
+    given: &Given,
+) -> Result<AnyRect, AttemptErr>
+    ensures { Looks (ranges_given given.now) book.now.cells foot.old result foot.new }
+{
+    match given {
+        Given::Rectangle(ranges) => Ok(*ranges),
+        Given::Items(_) => Err(AttemptErr::Refused(Refusal::WrongKind)),
+        Given::Named(name) => shape(book, foot, *name),
+    }
+}
+
+// The name is that of a domain like one of the kind.
+fn names_set(book: &Book, foot: &mut Foot, kind: Kind, name: Name) -> Result<(), AttemptErr>
+    ensures { Looks (names_set kind name) book.now.cells foot.old result foot.new }
+{
+    let other = domain_named(book, foot, name)?;
+    stopped(alike(kind, other.kind()))
+}
+
+/// A set for a domain of the kind is given.
+pub(crate) fn gives_set(
+    book: &Book,
+    foot: &mut Foot,
+    kind: Kind,
+    given: &Given,
+) -> Result<(), AttemptErr>
+    ensures { Looks (gives_set kind given.now) book.now.cells foot.old result foot.new }
+{
+    match given {
+        Given::Rectangle(_) => Err(AttemptErr::Refused(Refusal::WrongKind)),
+        Given::Items(listed) => stopped(all_fit(kind, listed.as_slice())),
+        Given::Named(name) => names_set(book, foot, kind, *name),
+    }
+}
+
+// The indices, one by one.
+fn listed(alloc: Global, items: &Assoc<AnyIndex>) -> Result<Vec<AnyIndex>, AttemptErr>
+    ensures same { IfOk result (λ v. v.items ≡ items.now) }
+    ensures once { IfOk result (λ v. IsListedOnce v.items) }
+    ensures only { IfErr result (λ e. e ≡ NoMemory) }
+{
+    let _once = items.size();
+    match Vec::from_slice(alloc, items.as_slice()) {
+        Ok(found) => Ok(found),
+        Err(_) => Err(AttemptErr::NoMemory),
+    }
+}
+
+/// The indices that are given.
+pub(crate) fn indices_given(
+    alloc: Global,
+    book: &Book,
+    foot: &mut Foot,
+    given: &Given,
+) -> Result<Vec<AnyIndex>, AttemptErr>
+    ensures looks { Looks (indices_given given.now) book.now.cells foot.old (found_members result) foot.new }
+    ensures once { IfOk result (λ v. IsListedOnce v.items) }
+{
+    match given {
+        Given::Rectangle(_) => Err(AttemptErr::Refused(Refusal::WrongKind)),
+        Given::Items(items) => listed(alloc, items),
+        Given::Named(name) => members(alloc, book, foot, *name),
+    }
+}
