@@ -6,9 +6,9 @@ mod cells;
 mod changes;
 mod values;
 
-pub use crate::book::families::seen;
+pub use crate::book::families::{members_in, seen};
 pub use crate::book::locales::locale_at;
-pub use crate::book::readers::{index_at, object_at, object_count, size_at, user_at};
+pub use crate::book::readers::{index_at, object_at, object_count, object_of, size_at, user_at};
 pub use crate::book::store;
 pub use crate::cells::cell::{AnyCell, Cell};
 pub use crate::cells::kind::{AnyDomain, DomainKind, KeyType, Kind};
@@ -22,3 +22,4 @@ pub use crate::values::layout::{AnyLayout, Laid};
 pub use crate::values::name::{BadName, Name};
 pub use crate::values::point::Point;
 pub use crate::values::rectangle::{AnyRect, Ranked};
+pub use crate::values::validity::{index_validity, indices_validity, numbers_validity};

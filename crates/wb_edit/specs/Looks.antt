@@ -4,7 +4,7 @@ use Rattle.std.specs.Prelude.{true, false, List, [], Option, Some, None, Result,
 use Rattle.std.specs.List.{filter_map}
 use Rattle.selective_undo.specs.Edit.{look}
 use Rattle.wb_book.specs.declared.cells.cell.Cell.{Cell}
-use Rattle.wb_book.specs.declared.cells.cell.Cell.TheVariants.{Object, Shape, Member, Element}
+use Rattle.wb_book.specs.declared.cells.cell.Cell.TheVariants.{Object, Shape, Element}
 use Rattle.wb_book.specs.declared.cells.kind.DomainKind.{DomainKind}
 use Rattle.wb_book.specs.declared.cells.kind.DomainKind.TheVariants.{Rectangular, Sparse, Associative}
 use Rattle.wb_book.specs.declared.cells.kind.Kind.{Kind}
@@ -14,6 +14,7 @@ use Rattle.wb_book.specs.declared.cells.value.Value.TheVariants.{Domain, Array}
 use Rattle.wb_book.specs.declared.values.index.Index.{Index}
 use Rattle.wb_book.specs.Cells.{Name}
 use Rattle.wb_book.specs.Kinds.{is_key}
+pub use Rattle.wb_book.specs.Readers.{member_in}
 use Rattle.wb_book.specs.Shapes.{Range, indices}
 pub use Rattle.wb_book.specs.WellFormed.{ranges_in}
 use Rattle.wb_edit.specs.declared.refusal.Refusal.{Refusal}
@@ -52,11 +53,6 @@ fits kind i = elim (is_key kind i) [ true ↦ Ok tt | false ↦ Err WrongKind ]
 abbrev pub indices_of : Option (List Range) → List Index
 indices_of (Some rs) = indices rs
 indices_of None = []
-
--- the index of a domain that a cell tells of
-abbrev pub member_in : Cell × Value → Option Index
-member_in (Member d i, v) = Some i
-member_in (c, v) = None
 
 -- ---- the looks
 

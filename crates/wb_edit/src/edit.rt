@@ -1,13 +1,10 @@
-ghost use Rattle.std.specs.Prelude.{◌≡◌, IfOk, FitsSigned};
-ghost use Rattle.std.specs.Int.{w64};
-ghost use Rattle.std.specs.List.{All};
-ghost use Rattle.wb_book.specs.Kinds.{IsIndex};
+ghost use Rattle.std.specs.Prelude.{◌≡◌, IfOk};
 ghost use Rattle.wb_edit.specs.Valid.{IsValid, ListsOnce};
 ghost use Rattle.wb_edit.specs.ValidSources.{IsGiven, IsGivenOnce, IsSource, IsSourceOnce};
 
 use crate::operation::Operation;
 use std::alloc::Global;
-use wb_book::{AnyIndex, AnyLayout, AnyRect, Index, KeyType, Name};
+use wb_book::{AnyIndex, AnyLayout, AnyRect, KeyType, Name, index_validity, indices_validity};
 use wb_range::{Domain, NoMemory};
 use wb_reading::BookText;
 use wb_resize::{Given, Source};
@@ -224,35 +221,5 @@ fn given_validity(given: &Given)
         }
         Given::Items(items) => indices_validity(items.as_slice()),
         Given::Named(_) => {}
-    }
-}
-
-// Computes nothing. Callers learn what the indices are made of.
-fn indices_validity(indices: &[AnyIndex])
-    ensures { All IsIndex indices.now }
-{
-    for index in indices {
-        index_validity(index);
-    }
-}
-
-// Computes nothing. Callers learn what an index is made of.
-fn index_validity(index: &AnyIndex)
-    ensures { IsIndex index.now }
-{
-    match index.index() {
-        Index::Point(point) => coordinates_validity(point.coordinates()),
-        Index::Text(label) => {
-            let _label = label.as_str();
-        }
-    }
-}
-
-// Computes nothing. Callers learn that the integers are of 64 bits.
-fn coordinates_validity(coordinates: &[i64])
-    ensures { All (FitsSigned w64) coordinates.now }
-{
-    for coordinate in coordinates {
-        let _coordinate = *coordinate;
     }
 }

@@ -7,28 +7,14 @@ ghost use Rattle.wb_book.specs.Readers.{indices_at, object_of, objects};
 ghost use Rattle.wb_book.specs.Shapes.{indices};
 ghost use Rattle.wb_book.specs.WellFormed.{ranges_in};
 ghost use Rattle.wb_book.specs.declared.cells.cell.Cell.TheVariants.{Shape, Mapping};
-ghost use Rattle.wb_text.specs.Lines.{member_in, members, indices_in, number_in, element_at, elements_at, implicit_in};
+ghost use Rattle.wb_text.specs.Lines.{members, indices_in, number_in, element_at, elements_at, implicit_in};
 
 use std::alloc::{AllocError, Global};
-use wb_book::{AnyIndex, AnyLayout, AnyRect, Cell, Kind, Name, Pattern, Value};
+use wb_book::{
+    AnyIndex, AnyLayout, AnyRect, Cell, Kind, Name, Pattern, Value, members_in, object_of,
+};
 use wb_range::NoMemory;
 use wb_shelf::Book;
-
-// The object that a cell tells of.
-fn object_in(shown: &(Cell, Value)) -> Option<Name>
-    ensures { result ≡ object_of shown.now.0 }
-{
-    match shown.0 {
-        Cell::Object(name) => Some(name),
-        Cell::Shape(_)
-        | Cell::In(_, _)
-        | Cell::Member(_, _)
-        | Cell::Mapping(_)
-        | Cell::Use(_, _)
-        | Cell::Implicit(_)
-        | Cell::Element(_, _) => None,
-    }
-}
 
 fn objects_in(alloc: Global, shown: &[(Cell, Value)]) -> Result<Vec<Name>, AllocError>
     ensures { IfOk result (λ v. v.items ≡ filter_map (λ x. object_of x.0) shown.now) }
@@ -38,7 +24,7 @@ fn objects_in(alloc: Global, shown: &[(Cell, Value)]) -> Result<Vec<Name>, Alloc
         .filter_map(
             |x: &(Cell, Value)| -> Option<Name>
                 ensures { result ≡ object_of x.now.0 }
-            { object_in(x) },
+            { object_of(&x.0) },
         )
         .collect(alloc)
 }
@@ -53,35 +39,6 @@ pub(crate) fn objects(alloc: Global, book: &Book) -> Result<Vec<Name>, NoMemory>
         Ok(found) => Ok(found),
         Err(_) => Err(NoMemory),
     }
-}
-
-// The index of a domain that a cell tells of.
-fn member_in(shown: &(Cell, Value)) -> Option<AnyIndex>
-    ensures { result ≡ member_in shown.now }
-{
-    match shown.0 {
-        Cell::Member(_, index) => Some(index),
-        Cell::Object(_)
-        | Cell::Shape(_)
-        | Cell::In(_, _)
-        | Cell::Mapping(_)
-        | Cell::Use(_, _)
-        | Cell::Implicit(_)
-        | Cell::Element(_, _) => None,
-    }
-}
-
-fn members_in(alloc: Global, shown: &[(Cell, Value)]) -> Result<Vec<AnyIndex>, AllocError>
-    ensures { IfOk result (λ v. v.items ≡ filter_map member_in shown.now) }
-{
-    shown
-        .iter()
-        .filter_map(
-            |x: &(Cell, Value)| -> Option<AnyIndex>
-                ensures { result ≡ member_in x.now }
-            { member_in(x) },
-        )
-        .collect(alloc)
 }
 
 /// The indices of a sparse or associative domain, ascending.

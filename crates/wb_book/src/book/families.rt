@@ -1,5 +1,6 @@
 //! The cells that a pattern names stand together, so a look at them walks over no others.
 
+ghost use Rattle.std.specs.List.{filter_map};
 ghost use Rattle.std.specs.Prelude.{◌≡◌, length, slice_get, IfOk};
 ghost use Rattle.wb_book.specs.Cells.{matches, state_of};
 ghost use Rattle.wb_book.specs.Families.{Begins, AreNamed};
@@ -10,7 +11,7 @@ use crate::cells::pattern::Pattern;
 use crate::cells::value::Value;
 use crate::values::index::AnyIndex;
 use crate::values::name::Name;
-use std::alloc::Global;
+use std::alloc::{AllocError, Global};
 use std::collections::BTreeMap;
 use wb_range::NoMemory;
 
@@ -58,7 +59,7 @@ pub(crate) fn member_count(cells: &BTreeMap<Cell, Value>, domain: Name) -> usize
         .count()
 }
 
-/// The index that a cell tells of, as a member of a domain.
+// The index that a cell tells of, as a member of a domain.
 fn member_in(cell: &Cell, value: &Value) -> Option<AnyIndex>
     ensures { result ≡ member_in (cell.now, value.now) }
 {
@@ -72,6 +73,20 @@ fn member_in(cell: &Cell, value: &Value) -> Option<AnyIndex>
         | Cell::Implicit(_)
         | Cell::Element(_, _) => None,
     }
+}
+
+/// The indices that cells tell of, as members of a domain, in their order.
+pub fn members_in(alloc: Global, shown: &[(Cell, Value)]) -> Result<Vec<AnyIndex>, AllocError>
+    ensures { IfOk result (λ v. v.items ≡ filter_map member_in shown.now) }
+{
+    shown
+        .iter()
+        .filter_map(
+            |x: &(Cell, Value)| -> Option<AnyIndex>
+                ensures { result ≡ member_in x.now }
+            { member_in(&x.0, &x.1) },
+        )
+        .collect(alloc)
 }
 
 /// The member of a sparse or associative domain at place `p`, ascending.

@@ -20,7 +20,7 @@ use crate::values::rectangle::AnyRect;
 use std::collections::BTreeMap;
 
 /// The object that a cell tells of.
-fn object_of(cell: &Cell) -> Option<Name>
+pub fn object_of(cell: &Cell) -> Option<Name>
     ensures { result ≡ object_of cell.now }
 {
     match *cell {

@@ -9,6 +9,7 @@ ghost use Rattle.wb_book.specs.declared.values.index.Index.TheVariants.{Point as
 use crate::values::index::{AnyIndex, Index};
 use crate::values::point::Point;
 use crate::values::same::{is_laid_line, is_laid_plane, is_laid_solid, is_laid_whole};
+use crate::values::validity::numbers_validity;
 use std::marker::Model;
 use wb_dist::{Distribution, Layout};
 use wb_range::Mapping;
@@ -164,15 +165,6 @@ fn is_whole<const R: usize>(layout: &Layout<R>) -> bool
             numbers_validity(&block_cyclic.size());
             false
         }
-    }
-}
-
-// Computes nothing. Callers learn that the numbers are of 64 bits.
-fn numbers_validity(numbers: &[i64])
-    ensures { All (FitsSigned w64) numbers.now }
-{
-    for number in numbers {
-        let _number = *number;
     }
 }
 

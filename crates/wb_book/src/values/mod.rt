@@ -7,3 +7,4 @@ pub mod name;
 pub mod point;
 pub mod rectangle;
 mod same;
+pub mod validity;

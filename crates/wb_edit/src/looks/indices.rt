@@ -2,16 +2,15 @@
 
 ghost use Rattle.std.specs.Prelude.{◌≡◌, IfOk};
 ghost use Rattle.wb_range.specs.Domain.{IsListedOnce};
-ghost use Rattle.wb_edit.specs.Looks.{member_in, members, points, indices_of, domain_indices};
+ghost use Rattle.wb_edit.specs.Looks.{members, points, indices_of, domain_indices};
 ghost use Rattle.wb_edit.specs.Plans.{Looks, found_members, indices_in, shown_indices};
-ghost use Rattle.std.specs.List.{filter_map};
 
 use crate::attempt_err::AttemptErr;
 use crate::foot::Foot;
 use crate::looks::judgements;
 use crate::looks::one_cell::read;
-use std::alloc::{AllocError, Global};
-use wb_book::{AnyDomain, AnyIndex, AnyRect, Cell, DomainKind, Name, Pattern, Value};
+use std::alloc::Global;
+use wb_book::{AnyDomain, AnyIndex, AnyRect, Cell, DomainKind, Name, Pattern, members_in};
 use wb_shelf::Book;
 
 /// The indices of a domain, in its order.
@@ -21,35 +20,6 @@ pub(crate) enum Indices {
     Product(AnyRect),
     /// One by one, each once.
     Listed(Vec<AnyIndex>),
-}
-
-/// The index of a domain that a cell tells of.
-fn member_in(shown: &(Cell, Value)) -> Option<AnyIndex>
-    ensures { result ≡ member_in shown.now }
-{
-    match shown.0 {
-        Cell::Member(_, index) => Some(index),
-        Cell::Object(_)
-        | Cell::Shape(_)
-        | Cell::In(_, _)
-        | Cell::Mapping(_)
-        | Cell::Use(_, _)
-        | Cell::Implicit(_)
-        | Cell::Element(_, _) => None,
-    }
-}
-
-fn members_in(alloc: Global, shown: &[(Cell, Value)]) -> Result<Vec<AnyIndex>, AllocError>
-    ensures { IfOk result (λ v. v.items ≡ filter_map member_in shown.now) }
-{
-    shown
-        .iter()
-        .filter_map(
-            |x: &(Cell, Value)| -> Option<AnyIndex>
-                ensures { result ≡ member_in x.now }
-            { member_in(x) },
-        )
-        .collect(alloc)
 }
 
 /// The indices of a sparse or associative domain.

@@ -1,8 +1,8 @@
 use Rattle.std.proofs.Common.{refl}
 use Rattle.std.proofs.lemmas.Iterator.{YieldsList-from_slice, items_from_collect}
 use Rattle.std.proofs.lemmas.Iterator.Consumers.{YieldsList-at, YieldsList-from_filter_map}
-use Rattle.wb_text.specs.Lines.{member_in}
-use Rattle.wb_text.proofs.books.members_in.Goals as goal
+use Rattle.wb_book.specs.Readers.{member_in}
+use Rattle.wb_book.proofs.book.families.members_in.Goals as goal
 
 pub returns : goal.returns
 returns c =

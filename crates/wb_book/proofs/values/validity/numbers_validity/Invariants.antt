@@ -2,7 +2,7 @@ use Rattle.std.proofs.Common.{take}
 use Rattle.std.specs.Prelude.{FitsSigned}
 use Rattle.std.specs.Int.{w64}
 use Rattle.std.specs.List.{AllByRecursion}
-use Rattle.wb_book.proofs.values.layout.numbers_validity.Given as goal
+use Rattle.wb_book.proofs.values.validity.numbers_validity.Given as goal
 
 -- the numbers so far are of 64 bits
 abbrev pub invariant-loop-number : goal.invariant-loop-number

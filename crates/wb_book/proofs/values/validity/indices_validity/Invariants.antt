@@ -1,7 +1,7 @@
 use Rattle.std.proofs.Common.{take}
 use Rattle.std.specs.List.{AllByRecursion}
 use Rattle.wb_book.specs.Kinds.{IsIndex}
-use Rattle.wb_text.proofs.workbook.making.indices_validity.Given as goal
+use Rattle.wb_book.proofs.values.validity.indices_validity.Given as goal
 
 -- the indices so far are made so
 abbrev pub invariant-loop-index : goal.invariant-loop-index
