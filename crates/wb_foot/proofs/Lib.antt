@@ -6,3 +6,7 @@ pub mod Setting
 pub mod OfCells
 pub mod Meeting
 pub mod AllFirsts
+pub mod InBlocks
+pub mod Taking
+pub mod Indexed
+pub mod RunPlaces

@@ -1,11 +1,12 @@
 -- What several writes of one number do together.
-use Rattle.std.proofs.Common.{◌≡◌, ℕ, Bool, true, false, ◌&&◌, ◌||◌, ◌==◌, if◌then◌else◌, List, [], ◌∷◌, suc, ◌<◌, length, take, drop, get_or, refl, sym, ap, ◌∙◌}
+use Rattle.std.proofs.Common.{◌≡◌, ℕ, Bool, true, false, ◌&&◌, ◌||◌, ◌==◌, if◌then◌else◌, List, [], ◌∷◌, suc, ◌<◌, length, take, drop, get_or, refl, sym, ap, ◌∙◌, arith}
+use Rattle.std.proofs.lemmas.Bool.Decides.{nat_tests}
 use Rattle.std.proofs.Math.Seq.{take-suc}
 use Rattle.std.proofs.lemmas.List.{take-append-drop}
 use Rattle.std.proofs.lemmas.List.Folds.{list_any-append}
 use Rattle.std.specs.Prelude.{Result, Ok, Err, OnErr}
 use Rattle.std.specs.List.{list_any}
-use Rattle.wb_foot.specs.Relation.{Sets, Stays}
+use Rattle.wb_foot.specs.Relation.{Sets, Stays, Clears}
 
 twice : (h g num b x : Bool) → (if g && num then b else (if h && num then b else x)) ≡ (if (h || g) && num then b else x)
 twice true true true b x = refl
@@ -52,6 +53,49 @@ module _ {A : Type 0} where
 
   pub stays_none : (o n : A → ℕ → Bool) (g : A → Bool) (number : ℕ) → ((a : A) (k : ℕ) → n a k ≡ o a k) → Stays o n g number
   stays_none o n g number e = record { at = λ a k out. e a k }
+
+taken_false : (h num x : Bool) → x ≡ false → (if h && num then false else x) ≡ false
+taken_false true true x e = refl
+taken_false true false x e = e
+taken_false false num x e = e
+
+taken_here : (h num x : Bool) → h ≡ true → num ≡ true → (if h && num then false else x) ≡ false
+taken_here true true x e f = refl
+taken_here true false x e f = cc
+taken_here false num x e f = cc
+
+not_taken : (h num x : Bool) → num ≡ false → (if h && num then false else x) ≡ x
+not_taken true true x e = cc
+not_taken true false x e = refl
+not_taken false num x e = refl
+
+either : (h g : Bool) (P : Type 0) → (h ≡ true → P) → (g ≡ true → P) → h || g ≡ true → P
+either true g P f k e = f refl
+either false g P f k e = k e
+
+pub same_number : (n : ℕ) → (n == n) ≡ true
+same_number n = grind (arith, nat_tests)
+
+module _ {A : Type 0} where
+  pub sets_clears : (o n : A → ℕ → Bool) (h : A → Bool) (number : ℕ) → Sets o n h number false → Clears o n h number
+  sets_clears o n h number p = record {
+    gone = λ a here. p.at a number ∙ taken_here (h a) (number == number) (o a number) here (same_number number);
+    fewer = λ a was. p.at a number ∙ taken_false (h a) (number == number) (o a number) was;
+    others = λ a k other. p.at a k ∙ not_taken (h a) (number == k) (o a k) other;
+  }
+
+  pub then_clears : (o m n : A → ℕ → Bool) (h g : A → Bool) (number : ℕ) → Clears o m h number → Clears m n g number → Clears o n (λ a. h a || g a) number
+  then_clears o m n h g number p q = record {
+    gone = λ a here. either (h a) (g a) (n a number ≡ false) (λ e. q.fewer a (p.gone a e)) (q.gone a) here;
+    fewer = λ a was. q.fewer a (p.fewer a was);
+    others = λ a k other. q.others a k other ∙ p.others a k other;
+  }
+
+  pub clears_like : (o n : A → ℕ → Bool) (h g : A → Bool) (number : ℕ) → ((a : A) → h a ≡ g a) → Clears o n h number → Clears o n g number
+  clears_like o n h g number e p = record { gone = λ a here. p.gone a (e a ∙ here); fewer = p.fewer; others = p.others }
+
+  pub clears_none : (o : A → ℕ → Bool) (number : ℕ) → Clears o o (λ a. false) number
+  clears_none o number = record { gone = λ a here. cc; fewer = λ a was. was; others = λ a k other. refl }
 
 or_false : (a : Bool) → a || false ≡ a
 or_false true = refl

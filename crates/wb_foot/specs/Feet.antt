@@ -7,11 +7,13 @@ use Rattle.wb_book.specs.declared.cells.cell.Cell.{Cell}
 use Rattle.wb_book.specs.declared.cells.pattern.Pattern.{Pattern}
 use Rattle.selective_undo.specs.Changes.{changes}
 use Rattle.selective_undo.specs.Edit.{covers}
-use Rattle.wb_book.specs.Cells.{Changes, cell_cmp}
+use Rattle.wb_book.specs.Cells.{Name, Changes, cell_cmp}
 use Rattle.wb_edit.specs.Schema.{workbook}
 use Rattle.wb_foot.specs.declared.place.Place.{Place}
 use Rattle.wb_foot.specs.declared.foot_index.FootIndex.{FootIndex}
-use Rattle.wb_foot.specs.Places.{own, family, place_of, is_same_place, place_marked}
+use Rattle.wb_foot.specs.declared.part.Kind.{Kind}
+use Rattle.wb_foot.specs.Points.{Coordinates}
+use Rattle.wb_foot.specs.Places.{own, family, place_of, is_same_place, place_marked, cell_at}
 
 -- what edits read and touched, by their numbers; some numbers have no footprint
 abbrev pub Feet : Type 0
@@ -24,6 +26,10 @@ at_cell c q = is_same_place (own c) q || elim (family c) [ Some f ↦ is_same_pl
 -- whether changes touch a place
 abbrev pub touched_at : Changes → Place → Bool
 touched_at xs q = list_any (λ x. at_cell x.cell q) xs
+
+-- whether the cells of one kind of one object at some points have it
+abbrev pub run_touched : Kind → Name → List Coordinates → Place → Bool
+run_touched k d ps q = list_any (λ p. at_cell (cell_at k d p) q) ps
 
 -- whether one of the patterns is that of a place
 abbrev pub read_at : List Pattern → Place → Bool

@@ -1,6 +1,8 @@
 pub mod Relation
 pub mod Marks
 pub mod Numbers
+pub mod Points
+pub mod Blocks
 pub mod Parts
 pub mod Spots
 pub mod Places

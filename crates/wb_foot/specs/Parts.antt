@@ -1,5 +1,6 @@
 -- Which numbers stand at which parts of an object.
-use Rattle.std.specs.Prelude.{ℕ, Bool, false}
+use Rattle.std.specs.Prelude.{ℕ, Bool, false, ◌||◌, List}
+use Rattle.std.specs.List.{list_any}
 use Rattle.std.specs.Cmp.Lexicographic.{slice_cmp}
 use Rattle.std.specs.Ordering.{nat_cmp, int_cmp, eq_by_cmp}
 use Rattle.std.specs.declared.cmp.Ordering.{Ordering}
@@ -8,11 +9,15 @@ use Rattle.wb_book.specs.declared.values.index.Index.TheVariants.{Point, Text}
 use Rattle.wb_book.specs.Cells.{Name, is_same_name, is_same_index}
 use Rattle.wb_foot.specs.contracts.part.SlotOrd.TheImpl as slots
 use Rattle.wb_foot.specs.declared.part.Slot as slot
+use Rattle.wb_foot.specs.declared.part.Kind.{Kind}
+use Rattle.wb_foot.specs.declared.part.Kind.TheVariants.{Inside, Members, Elements}
 use Rattle.wb_foot.specs.declared.part.Part.{Part}
 use Rattle.wb_foot.specs.declared.part.Part.TheVariants.{Slot, In, Member, User, Element}
 use Rattle.wb_foot.specs.declared.index_marks.IndexMarks.{IndexMarks}
 use Rattle.wb_foot.specs.declared.name_marks.NameMarks.{NameMarks}
 use Rattle.wb_foot.specs.Marks.{marked}
+use Rattle.wb_foot.specs.Points.{Coordinates}
+use Rattle.wb_foot.specs.Blocks.{in_blocks}
 
 -- a part of the object of a name
 abbrev pub Spot : Type 0
@@ -22,10 +27,21 @@ Spot = Name × Part
 abbrev pub slot_cmp : slot.Slot → slot.Slot → Ordering
 slot_cmp = (slots.ghosts).cmp
 
--- whether a number stands at an index
+-- whether a number stands at an index: alone, or in a block
 abbrev pub index_marked : IndexMarks → Index → ℕ → Bool
-index_marked m (Point p) n = marked (slice_cmp int_cmp) m.points p n
+index_marked m (Point p) n = marked (slice_cmp int_cmp) m.points p n || in_blocks m.blocks.list.items p n
 index_marked m (Text t) n = marked (slice_cmp nat_cmp) m.texts t n
+
+-- whether an index is one of some points
+abbrev pub in_index : List Coordinates → Index → Bool
+in_index ps i = list_any (λ p. is_same_index (Point p) i) ps
+
+-- whether a part is one of its kind at one of some points
+abbrev pub in_run : Kind → List Coordinates → Part → Bool
+in_run Inside ps (In i) = in_index ps i
+in_run Members ps (Member i) = in_index ps i
+in_run Elements ps (Element i) = in_index ps i
+in_run _ _ _ = false
 
 -- whether two parts are one
 abbrev pub is_same_part : Part → Part → Bool

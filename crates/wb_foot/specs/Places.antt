@@ -1,17 +1,22 @@
 -- Where the marks of a cell and of a pattern stand.
-use Rattle.std.specs.Prelude.{ℕ, Bool, true, false, Option, Some, None}
+use Rattle.std.specs.Prelude.{ℕ, Bool, true, false, Option, Some, None, List}
 use Rattle.std.specs.Ordering.{bool_cmp}
 use Rattle.wb_book.specs.declared.cells.cell.Cell.{Cell}
 use Rattle.wb_book.specs.declared.cells.cell.Cell.TheVariants as c
 use Rattle.wb_book.specs.declared.cells.pattern.Pattern.{Pattern}
 use Rattle.wb_book.specs.declared.cells.pattern.Pattern.TheVariants as p
+use Rattle.wb_book.specs.declared.values.index.Index.TheVariants as i
+use Rattle.wb_book.specs.Cells.{Name}
+use Rattle.wb_foot.specs.declared.part.Kind.{Kind}
+use Rattle.wb_foot.specs.declared.part.Kind.TheVariants as k
 use Rattle.wb_foot.specs.declared.part.Slot.TheVariants as s
 use Rattle.wb_foot.specs.declared.part.Part.TheVariants as part
 use Rattle.wb_foot.specs.declared.place.Place.{Place}
 use Rattle.wb_foot.specs.declared.place.Place.TheVariants.{Objects, Of}
 use Rattle.wb_foot.specs.declared.place_marks.PlaceMarks.{PlaceMarks}
 use Rattle.wb_foot.specs.Marks.{marked}
-use Rattle.wb_foot.specs.Spots.{spot_marked, is_same_spot}
+use Rattle.wb_foot.specs.Points.{Coordinates}
+use Rattle.wb_foot.specs.Spots.{spot_marked, is_same_spot, in_spots}
 
 -- the place of one cell
 abbrev pub own : Cell → Place
@@ -57,3 +62,14 @@ place_marked m (Of d x) n = spot_marked m.spots (d, x) n
 -- whether a place is that of the family of a cell
 abbrev pub is_family : Place → Cell → Bool
 is_family q x = elim (family x) [ Some f ↦ is_same_place q f | None ↦ false ]
+
+-- the cell of its kind, of the object of a name, at a point
+abbrev pub cell_at : Kind → Name → Coordinates → Cell
+cell_at k.Inside d x = c.In d (i.Point x)
+cell_at k.Members d x = c.Member d (i.Point x)
+cell_at k.Elements d x = c.Element d (i.Point x)
+
+-- whether a place is that of such a cell at one of some points
+abbrev pub in_places : Name → Kind → List Coordinates → Place → Bool
+in_places d kind ps Objects = false
+in_places d kind ps (Of e x) = in_spots d kind ps (e, x)

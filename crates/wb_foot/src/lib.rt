@@ -6,6 +6,7 @@
 #![tactic(auto)]
 
 mod blockers;
+mod blocks;
 mod earlier;
 mod foot_index;
 mod index_marks;
@@ -15,7 +16,9 @@ mod numbers;
 mod part;
 mod place;
 mod place_marks;
+mod points;
 mod queries;
+mod runs;
 mod spots;
 mod touching;
 

@@ -1,0 +1,114 @@
+-- A run of cells: their own places, and that of their family.
+use Rattle.std.proofs.Common.{◌≡◌, ℕ, ◌<◌, ◌+◌, Bool, true, false, ◌&&◌, ◌||◌, ◌==◌, if◌then◌else◌, Option, Some, None, List, [], ◌∷◌, ◌++◌, length, take, get_or, refl, sym, ap, ◌∙◌, arith}
+use Rattle.std.specs.List.{list_any}
+use Rattle.std.proofs.lemmas.List.Folds.{list_any_more, list_any-append}
+use Rattle.wb_book.specs.declared.cells.cell.Cell.{Cell}
+use Rattle.wb_book.specs.declared.values.index.Index.TheVariants as i
+use Rattle.wb_book.specs.Cells.{Name, Changes, is_same_name}
+use Rattle.wb_foot.specs.declared.part.Kind.{Kind}
+use Rattle.wb_foot.specs.declared.part.Kind.TheVariants as k
+use Rattle.wb_foot.specs.declared.part.Part.{Part}
+use Rattle.wb_foot.specs.declared.part.Part.TheVariants as part
+use Rattle.wb_foot.specs.declared.place.Place.{Place}
+use Rattle.wb_foot.specs.declared.place.Place.TheVariants.{Objects, Of}
+use Rattle.wb_foot.specs.Relation.{Sets, Stays}
+use Rattle.wb_foot.specs.Points.{Coordinates}
+use Rattle.wb_foot.specs.Parts.{is_same_part, in_run}
+use Rattle.wb_foot.specs.Places.{own, family, is_same_place, cell_at, in_places}
+use Rattle.wb_foot.specs.Feet.{at_cell, touched_at, run_touched}
+use Rattle.wb_foot.proofs.Meeting.{any_or, any_like, any_none}
+use Rattle.wb_foot.proofs.Setting.{then_sets, like, then_stays, stays_none}
+
+or_false : (a : Bool) → a || false ≡ a
+or_false true = refl
+or_false false = refl
+
+pub run_more : (xs : Changes) (j : ℕ) (d : _) → j < length xs → (x : Cell) → x ≡ (get_or xs j d).cell → (kind : Kind) (name : Name) (ps qs : List Coordinates) (p : Coordinates) → x ≡ cell_at kind name p → qs ≡ ps ++ p ∷ [] → ((q : Place) → touched_at (take j xs) q ≡ run_touched kind name ps q) → (q : Place) → touched_at (take (j + 1) xs) q ≡ run_touched kind name qs q
+run_more xs j d below x e kind name ps qs p is more h q =
+    list_any_more (λ y. at_cell y.cell q) xs j d below
+    ∙ ap (λ b. b || at_cell (get_or xs j d).cell q) (h q)
+    ∙ ap (λ y. run_touched kind name ps q || at_cell y q) (sym e ∙ is)
+    ∙ sym (ap (λ l. run_touched kind name l q) more ∙ list_any-append (λ y. at_cell (cell_at kind name y) q) ps (p ∷ []) ∙ ap (λ b. run_touched kind name ps q || b) (or_false (at_cell (cell_at kind name p) q)))
+
+and_each : {X : Type 0} (c : Bool) (f : X → Bool) (xs : List X) → list_any (λ x. c && f x) xs ≡ (c && list_any f xs)
+and_each true f xs = refl
+and_each false f xs = any_none xs
+
+abbrev part_at : Kind → Coordinates → Part
+part_at k.Inside p = part.In (i.Point p)
+part_at k.Members p = part.Member (i.Point p)
+part_at k.Elements p = part.Element (i.Point p)
+
+parts_in : (kind : Kind) (ps : List Coordinates) (x : Part) → list_any (λ p. is_same_part (part_at kind p) x) ps ≡ in_run kind ps x
+parts_in k.Inside ps (part.In j) = refl
+parts_in k.Inside ps (part.Slot s) = any_none ps
+parts_in k.Inside ps (part.Member j) = any_none ps
+parts_in k.Inside ps (part.User u) = any_none ps
+parts_in k.Inside ps (part.Element j) = any_none ps
+parts_in k.Members ps (part.In j) = any_none ps
+parts_in k.Members ps (part.Slot s) = any_none ps
+parts_in k.Members ps (part.Member j) = refl
+parts_in k.Members ps (part.User u) = any_none ps
+parts_in k.Members ps (part.Element j) = any_none ps
+parts_in k.Elements ps (part.In j) = any_none ps
+parts_in k.Elements ps (part.Slot s) = any_none ps
+parts_in k.Elements ps (part.Member j) = any_none ps
+parts_in k.Elements ps (part.User u) = any_none ps
+parts_in k.Elements ps (part.Element j) = refl
+
+own_at : (kind : Kind) (d : Name) (p : Coordinates) → own (cell_at kind d p) ≡ Of d (part_at kind p)
+own_at k.Inside d p = refl
+own_at k.Members d p = refl
+own_at k.Elements d p = refl
+
+places_in : (d : Name) (kind : Kind) (ps : List Coordinates) (q : Place) → list_any (λ p. is_same_place (Of d (part_at kind p)) q) ps ≡ in_places d kind ps q
+places_in d kind ps Objects = any_none ps
+places_in d kind ps (Of e x) = and_each (is_same_name d e) (λ p. is_same_part (part_at kind p) x) ps ∙ ap (λ b. is_same_name d e && b) (parts_in kind ps x)
+
+owns_in : (d : Name) (kind : Kind) (ps : List Coordinates) (q : Place) → list_any (λ p. is_same_place (own (cell_at kind d p)) q) ps ≡ in_places d kind ps q
+owns_in d kind ps q = any_like (λ p. is_same_place (own (cell_at kind d p)) q) (λ p. is_same_place (Of d (part_at kind p)) q) ps (λ p. ap (λ o. is_same_place o q) (own_at kind d p)) ∙ places_in d kind ps q
+
+abbrev at_family : Option Place → Place → Bool
+at_family o q = elim o [ Some f ↦ is_same_place f q | None ↦ false ]
+
+always : {X : Type 0} (b : Bool) (xs : List X) → 0 < length xs → list_any (λ x. b) xs ≡ b
+always b [] l = let no : ⊥ = omega arith in absurd no
+always true (x ∷ xs) l = refl
+always false (x ∷ xs) l = any_none xs
+
+pub run_is : (d : Name) (kind : Kind) (ps : List Coordinates) (o : Option Place) → ((p : Coordinates) → o ≡ family (cell_at kind d p)) → 0 < length ps → (q : Place) → run_touched kind d ps q ≡ (in_places d kind ps q || at_family o q)
+run_is d kind ps o h some q =
+    any_or (λ p. is_same_place (own (cell_at kind d p)) q) (λ p. at_family (family (cell_at kind d p)) q) ps
+    ∙ ap (λ b. b || list_any (λ p. at_family (family (cell_at kind d p)) q) ps) (owns_in d kind ps q)
+    ∙ ap (λ b. in_places d kind ps q || b) (any_like (λ p. at_family (family (cell_at kind d p)) q) (λ p. at_family o q) ps (λ p. ap (λ f. at_family f q) (sym (h p))) ∙ always (at_family o q) ps some)
+
+pub length_push : (ps : List Coordinates) (p : Coordinates) → length (ps ++ p ∷ []) ≡ length ps + 1
+length_push [] p = refl
+length_push (x ∷ ps) p = let rest = length_push ps p in omega arith
+
+-- ---- marks of a run
+
+module _ (o m n : Place → ℕ → Bool) (number : ℕ) where
+  pub same_if_not : (h : Place → Bool) (done : Bool) → done ≡ false → Sets o m (λ q. done && h q) number true → (q : Place) (j : ℕ) → m q j ≡ o q j
+  same_if_not h true e p q j = cc
+  same_if_not h false e p q j = p.at q j
+
+  pub sets_after : (g : Place → Bool) → ((q : Place) (j : ℕ) → m q j ≡ o q j) → Sets m n g number true → Sets o n g number true
+  sets_after g same p = record { at = λ q j. p.at q j ∙ ap (λ b. if g q && (number == j) then true else b) (same q j) }
+
+  pub stays_after : (g : Place → Bool) → ((q : Place) (j : ℕ) → m q j ≡ o q j) → Stays m n g number → Stays o n g number
+  stays_after g same p = record { at = λ q j out. p.at q j out ∙ same q j }
+
+  module _ (d : Name) (kind : Kind) (ps : List Coordinates) (xs : Changes) (some : 0 < length ps) (t : (q : Place) → touched_at xs q ≡ run_touched kind d ps q) (h : Sets o m (in_places d kind ps) number true) where
+    pub row_alone : ((p : Coordinates) → None ≡ family (cell_at kind d p)) → Sets o m (touched_at xs) number true
+    row_alone fam = like o m (in_places d kind ps) (touched_at xs) number true (λ q. sym (t q ∙ run_is d kind ps None fam some q ∙ or_false (in_places d kind ps q))) h
+
+    module _ (f : Place) (fam : (p : Coordinates) → Some f ≡ family (cell_at kind d p)) where
+      whole : (q : Place) → (in_places d kind ps q || is_same_place f q) ≡ touched_at xs q
+      whole q = sym (t q ∙ run_is d kind ps (Some f) fam some q)
+
+      pub row_done : Sets m n (is_same_place f) number true → Sets o n (touched_at xs) number true
+      row_done k = like o n (λ q. in_places d kind ps q || is_same_place f q) (touched_at xs) number true whole (then_sets o m n (in_places d kind ps) (is_same_place f) number true h k)
+
+      pub row_failed : ((q : Place) (j : ℕ) → n q j ≡ m q j) → Stays o n (touched_at xs) number
+      row_failed same = then_stays o m n (in_places d kind ps) (is_same_place f) (touched_at xs) number true h (stays_none m n (is_same_place f) number same) (λ q j out. ap (λ b. b && (number == j)) (whole q) ∙ out)

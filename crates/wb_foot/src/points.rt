@@ -1,0 +1,77 @@
+//! Points in ascending order.
+
+ghost use Rattle.std.specs.Prelude.{◌≡◌, ◌++◌, [], ◌∷◌, IsTrue, if◌then◌else◌};
+ghost use Rattle.std.specs.List.Sorted.{IsStrictlySortedBy};
+ghost use Rattle.wb_foot.specs.Points.{point_cmp, in_points};
+
+use std::marker::Model;
+use wb_book::Point;
+
+/// Points of which each is below the next. Contracts see the list of them.
+#[derive(Drop)]
+pub struct Points {
+    points: Vec<Point>,
+}
+
+impl Model for Points {
+    ghost use Rattle.std.specs.Prelude.{List};
+    ghost use Rattle.std.specs.List.Sorted.{IsStrictlySortedBy};
+    ghost use Rattle.wb_foot.specs.Points.{Coordinates, point_cmp};
+
+    ghost Value = { List Coordinates };
+
+    ghost view = { λ a. a.points.items };
+
+    ghost invariant = { λ a. IsStrictlySortedBy point_cmp a.points.items };
+}
+
+impl Points {
+    /// These points.
+    pub fn new(points: Vec<Point>) -> Points
+        requires { IsStrictlySortedBy point_cmp points.items }
+        ensures { result ≡ points.items }
+    {
+        Points { points }
+    }
+
+    /// Whether the point is one of them, by a binary search.
+    pub fn contains(&self, point: &Point) -> bool
+        ensures { result ≡ in_points self.now point.now }
+    {
+        is_among(self.points.as_slice(), point)
+    }
+}
+
+// Whether the point is one of ascending ones.
+fn is_among(points: &[Point], point: &Point) -> bool
+    requires { IsStrictlySortedBy point_cmp points.now }
+    ensures { result ≡ in_points points.now point.now }
+{
+    points.binary_search(point).is_ok()
+}
+
+// Whether the point is above all of ascending ones.
+fn is_above(points: &[Point], point: &Point) -> bool
+    requires { IsStrictlySortedBy point_cmp points.now }
+    ensures { IsTrue result → IsStrictlySortedBy point_cmp (points.now ++ point.now ∷ []) }
+{
+    if points.is_empty() {
+        return true;
+    }
+    points[points.len() - 1].cmp(point).is_lt()
+}
+
+/// Adds a point above ascending ones, and says whether it did: not where it isn't above them or no memory is left.
+pub(crate) fn push_above(points: &mut Vec<Point>, point: Point) -> bool
+    requires { IsStrictlySortedBy point_cmp points.old.items }
+    ensures ascending { IsStrictlySortedBy point_cmp points.new.items }
+    ensures items { points.new.items ≡ (if result then points.old.items ++ point ∷ [] else points.old.items) }
+{
+    if !is_above(points.as_slice(), &point) {
+        return false;
+    }
+    match points.push(point) {
+        Ok(()) => true,
+        Err(_) => false,
+    }
+}
