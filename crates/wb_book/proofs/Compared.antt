@@ -1,9 +1,9 @@
--- Lists that begin alike compare as what is left of them.
-use Rattle.std.proofs.Common.{◌≡◌, ◌≢◌, ℕ, zero, suc, ◌+◌, ◌<◌, ◌≤◌, Bool, true, false, List, [], ◌∷◌, length, get_or, drop, min, refl, sym, ap, ◌∙◌, arith}
+-- Lists of which one has ended compare by their lengths.
+use Rattle.std.proofs.Common.{◌≡◌, ℕ, zero, suc, ◌<◌, ◌≤◌, List, [], ◌∷◌, length, drop, min, refl, sym, ◌∙◌, arith}
 use Rattle.std.specs.declared.cmp.Ordering.{Ordering}
 use Rattle.std.specs.declared.cmp.Ordering.TheVariants.{Less, Equal, Greater}
 use Rattle.std.specs.Cmp.Lexicographic.{slice_cmp}
-use Rattle.std.specs.Ordering.{nat_cmp, is_ne, ordering_then, MatchOrdering}
+use Rattle.std.specs.Ordering.{nat_cmp, MatchOrdering}
 use Rattle.std.proofs.lemmas.Cmp.{ranked}
 
 -- ---- numbers
@@ -43,34 +43,6 @@ one_more x y = by (nat_cmp x y) (ranked x y (nat_cmp x y) refl)
 -- ---- lists
 
 module _ {X : Type 0} (cmp : X → X → Ordering) where
-  -- the pair at a place decides, and else what stands behind it
-  step : (xs ys : List X) (k : ℕ) (x y : X) → k < length xs → k < length ys → x ≡ get_or xs k x → y ≡ get_or ys k y →
-      slice_cmp cmp (drop k xs) (drop k ys) ≡ ordering_then (cmp x y) (slice_cmp cmp (drop (k + 1) xs) (drop (k + 1) ys))
-  step [] ys k x y l m e f = absurd (omega arith)
-  step (a ∷ xs) [] k x y l m e f = absurd (omega arith)
-  step (a ∷ xs) (b ∷ ys) zero x y l m e f = λ i. ordering_then (cmp (sym e i) (sym f i)) (slice_cmp cmp xs ys)
-  step (a ∷ xs) (b ∷ ys) (suc k) x y l m e f =
-      let next : suc k + 1 ≡ suc (k + 1) = omega arith in
-      rw next (step xs ys k x y (omega arith) (omega arith) e f)
-
-  alike : (o r : Ordering) → is_ne o ≡ false → ordering_then o r ≡ r
-  alike Equal r e = refl
-  alike Less r e = cc
-  alike Greater r e = cc
-
-  apart : (o r : Ordering) → is_ne o ≡ true → ordering_then o r ≡ o
-  apart Equal r e = cc
-  apart Less r e = refl
-  apart Greater r e = refl
-
-  pub passes : (xs ys : List X) (k : ℕ) (x y : X) → k < length xs → k < length ys → x ≡ get_or xs k x → y ≡ get_or ys k y →
-      is_ne (cmp x y) ≡ false → slice_cmp cmp (drop k xs) (drop k ys) ≡ slice_cmp cmp (drop (k + 1) xs) (drop (k + 1) ys)
-  passes xs ys k x y l m e f same = step xs ys k x y l m e f ∙ alike (cmp x y) _ same
-
-  pub decides : (xs ys : List X) (k : ℕ) (x y : X) → k < length xs → k < length ys → x ≡ get_or xs k x → y ≡ get_or ys k y →
-      is_ne (cmp x y) ≡ true → slice_cmp cmp (drop k xs) (drop k ys) ≡ cmp x y
-  decides xs ys k x y l m e f other = step xs ys k x y l m e f ∙ apart (cmp x y) _ other
-
   -- where one ends, the lengths decide
   pub ends : (xs ys : List X) (k : ℕ) → min (length xs) (length ys) ≤ k → k ≤ length xs → k ≤ length ys →
       slice_cmp cmp (drop k xs) (drop k ys) ≡ nat_cmp (length xs) (length ys)

@@ -1,5 +1,5 @@
-use Rattle.std.proofs.Common.{rules, ◌≡◌, ◌≤◌, length, min, arith, sym, ◌∙◌}
-use Rattle.wb_book.proofs.Compared.{ends, passes, decides}
+use Rattle.std.proofs.Common.{◌≤◌, length, min, arith, sym, ◌∙◌}
+use Rattle.wb_book.proofs.Compared.{ends}
 use Rattle.wb_book.proofs.values.compared.compared.Goals as goal
 
 pub returns : goal.returns
