@@ -1,5 +1,6 @@
 pub mod Shown
 pub mod Packing
+pub mod Compared
 pub mod Points
 pub mod Inside
 pub mod ShiftTests

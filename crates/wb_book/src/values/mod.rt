@@ -1,5 +1,6 @@
 //! The fixed-size values that cells are made of.
 
+mod compared;
 pub mod index;
 mod key;
 pub mod layout;

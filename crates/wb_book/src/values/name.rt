@@ -9,6 +9,7 @@ ghost use Rattle.std.specs.Str.{IsUtf8};
 ghost use Rattle.std.proofs.Common.{rules};
 ghost use Rattle.wb_book.specs.Names.{is_letter, is_name_part, is_name};
 
+use crate::values::compared::compared;
 use std::cmp::Ordering;
 use std::marker::Model;
 use thiserror::Error;
@@ -171,6 +172,6 @@ impl Ord for Name {
     ghost matches_eq = { Prim.search (comparing, rules) };
 
     fn cmp(&self, other: &Name) -> Ordering {
-        self.as_bytes().cmp(other.as_bytes())
+        compared(self.as_bytes(), other.as_bytes())
     }
 }

@@ -6,6 +6,7 @@ ghost use Rattle.std.specs.Cmp.{partial_order_from_total, partial_equiv_from_equ
 ghost use Rattle.std.specs.Cmp.Rules.{comparing};
 ghost use Rattle.std.proofs.Common.{rules};
 
+use crate::values::compared::compared;
 use std::cmp::Ordering;
 use std::marker::Model;
 
@@ -137,6 +138,6 @@ impl Ord for Point {
     ghost matches_eq = { Prim.search (comparing, rules) };
 
     fn cmp(&self, other: &Point) -> Ordering {
-        self.coordinates().cmp(other.coordinates())
+        compared(self.coordinates(), other.coordinates())
     }
 }
