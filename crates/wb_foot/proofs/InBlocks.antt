@@ -6,7 +6,7 @@ use Rattle.std.specs.Cmp.{int_cmp_total}
 use Rattle.std.specs.FinMap.{IsAntisymmetric, int_cmp-IsAntisymmetric, slice_cmp-IsAntisymmetric}
 use Rattle.std.specs.List.{list_any, AllByRecursion}
 use Rattle.std.specs.List.Sorted.{IsStrictlySortedBy, IsBinarySearchResult, IsSearchInRange}
-use Rattle.std.specs.Ordering.{is_eq, is_lt, eq_by_cmp}
+use Rattle.std.specs.Ordering.{is_eq, is_lt, eq_by_cmp, ordering_reverse}
 use Rattle.std.specs.declared.cmp.Ordering.{Ordering}
 use Rattle.std.specs.Result.{is_ok}
 use Rattle.std.specs.declared.cmp.Ordering.TheVariants.{Less, Equal, Greater}
@@ -109,6 +109,41 @@ or_in false b e = cc
 or_last : (a b : Bool) → b ≡ true → a || b ≡ true
 or_last true b e = refl
 or_last false b e = e
+
+-- ---- points outside of ascending ones
+
+pub none_in : (xs : List Coordinates) (p : Coordinates) → (length xs == 0) ≡ true → in_points xs p ≡ false
+none_in [] p e = refl
+none_in (x ∷ xs) p e = let no : length (x ∷ xs) ≡ 0 = number_is (length (x ∷ xs)) 0 e in let bad : ⊥ = omega arith in absurd bad
+
+out_of_lower : (xs : List Coordinates) (p : Coordinates) → AllByRecursion (λ y. point_cmp y p ≡ Less) xs → in_points xs p ≡ false
+out_of_lower [] p a = refl
+out_of_lower (x ∷ xs) p a = or_out _ _ (ap is_eq a.0) (out_of_lower xs p a.1)
+
+out_of_higher : (xs : List Coordinates) (p : Coordinates) → AllByRecursion (λ y. point_cmp p y ≡ Less) xs → in_points xs p ≡ false
+out_of_higher [] p a = refl
+out_of_higher (x ∷ xs) p a = or_out _ _ (ap is_eq (points_total.antisymm x p ∙ ap ordering_reverse a.0)) (out_of_higher xs p a.1)
+
+all_after : (xs : List Coordinates) (p x : Coordinates) → point_cmp p x ≡ Less →
+    AllByRecursion (λ y. point_cmp x y ≡ Less) xs → AllByRecursion (λ y. point_cmp p y ≡ Less) xs
+all_after [] p x l a = tt
+all_after (y ∷ ys) p x l a = (points_total.trans p x y l a.0, all_after ys p x l a.1)
+
+pub below_first : (xs : List Coordinates) (p x : Coordinates) → IsStrictlySortedBy point_cmp xs → (length xs == 0) ≡ false →
+    x ≡ get_or xs 0 x → point_cmp p x ≡ Less → in_points xs p ≡ false
+unfolding IsStrictlySortedBy
+below_first [] p x s some is less = cc
+below_first (y ∷ ys) p x s some is less =
+    let first : point_cmp p y ≡ Less = ap (point_cmp p) (sym is) ∙ less in
+    out_of_higher (y ∷ ys) p (first, all_after ys p y first s.0)
+
+pub above_last : (xs : List Coordinates) (p x : Coordinates) → IsStrictlySortedBy point_cmp xs → (length xs == 0) ≡ false →
+    x ≡ get_or xs (length xs - 1) x → point_cmp x p ≡ Less → in_points xs p ≡ false
+above_last xs p x s some is less =
+    let last = ap (λ y. point_cmp y p) (sym is) ∙ less in
+    out_of_lower xs p (all_below xs p x (length xs - 1) s (before_last (length xs) some) last)
+
+-- ---- the least number
 
 module _ (p : ℕ → Bool) (hit : Bool) (number after : ℕ) where
   abbrev more : ℕ → Bool

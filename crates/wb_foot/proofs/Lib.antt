@@ -10,3 +10,4 @@ pub mod InBlocks
 pub mod Taking
 pub mod Indexed
 pub mod RunPlaces
+pub mod InParts

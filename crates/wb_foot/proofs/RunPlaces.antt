@@ -1,8 +1,10 @@
 -- A run of cells: their own places, and that of their family.
-use Rattle.std.proofs.Common.{◌≡◌, ℕ, ◌<◌, ◌+◌, Bool, true, false, ◌&&◌, ◌||◌, ◌==◌, if◌then◌else◌, Option, Some, None, List, [], ◌∷◌, ◌++◌, length, take, get_or, refl, sym, ap, ◌∙◌, arith}
+use Rattle.std.proofs.Common.{◌≡◌, ℕ, ◌<◌, ◌+◌, Bool, true, false, ◌&&◌, ◌||◌, ◌==◌, Option, Some, None, List, [], ◌∷◌, ◌++◌, length, take, get_or, refl, sym, ap, ◌∙◌, arith}
 use Rattle.std.specs.List.{list_any}
 use Rattle.std.proofs.lemmas.List.Folds.{list_any_more, list_any-append}
 use Rattle.wb_book.specs.declared.cells.cell.Cell.{Cell}
+use Rattle.wb_book.specs.declared.cells.pattern.Pattern.{Pattern}
+use Rattle.wb_book.specs.declared.cells.pattern.Pattern.TheVariants.{One}
 use Rattle.wb_book.specs.declared.values.index.Index.TheVariants as i
 use Rattle.wb_book.specs.Cells.{Name, Changes, is_same_name}
 use Rattle.wb_foot.specs.declared.part.Kind.{Kind}
@@ -14,8 +16,8 @@ use Rattle.wb_foot.specs.declared.place.Place.TheVariants.{Objects, Of}
 use Rattle.wb_foot.specs.Relation.{Sets, Stays}
 use Rattle.wb_foot.specs.Points.{Coordinates}
 use Rattle.wb_foot.specs.Parts.{is_same_part, in_run}
-use Rattle.wb_foot.specs.Places.{own, family, is_same_place, cell_at, in_places}
-use Rattle.wb_foot.specs.Feet.{at_cell, touched_at, run_touched}
+use Rattle.wb_foot.specs.Places.{own, family, place_of, is_same_place, cell_at, in_places}
+use Rattle.wb_foot.specs.Feet.{at_cell, touched_at, run_touched, read_at, run_read}
 use Rattle.wb_foot.proofs.Meeting.{any_or, any_like, any_none}
 use Rattle.wb_foot.proofs.Setting.{then_sets, like, then_stays, stays_none}
 
@@ -29,6 +31,18 @@ run_more xs j d below x e kind name ps qs p is more h q =
     ∙ ap (λ b. b || at_cell (get_or xs j d).cell q) (h q)
     ∙ ap (λ y. run_touched kind name ps q || at_cell y q) (sym e ∙ is)
     ∙ sym (ap (λ l. run_touched kind name l q) more ∙ list_any-append (λ y. at_cell (cell_at kind name y) q) ps (p ∷ []) ∙ ap (λ b. run_touched kind name ps q || b) (or_false (at_cell (cell_at kind name p) q)))
+
+-- the same of what patterns read, by the cells' own places
+pub read_run_more : (rs : List Pattern) (j : ℕ) (d : Pattern) → j < length rs → (r : Pattern) → r ≡ get_or rs j d →
+    (kind : Kind) (name : Name) (ps qs : List Coordinates) (p : Coordinates) → r ≡ One (cell_at kind name p) → qs ≡ ps ++ p ∷ [] →
+    ((q : Place) → read_at (take j rs) q ≡ run_read kind name ps q) → (q : Place) → read_at (take (j + 1) rs) q ≡ run_read kind name qs q
+read_run_more rs j d below r e kind name ps qs p is more h q =
+    let last = is_same_place (own (cell_at kind name p)) q in
+    let grown = list_any-append (λ y. is_same_place (own (cell_at kind name y)) q) ps (p ∷ []) in
+    list_any_more (λ y. is_same_place (place_of y) q) rs j d below
+    ∙ ap (λ b. b || is_same_place (place_of (get_or rs j d)) q) (h q)
+    ∙ ap (λ y. run_read kind name ps q || is_same_place (place_of y) q) (sym e ∙ is)
+    ∙ sym (ap (λ l. run_read kind name l q) more ∙ grown ∙ ap (λ b. run_read kind name ps q || b) (or_false last))
 
 and_each : {X : Type 0} (c : Bool) (f : X → Bool) (xs : List X) → list_any (λ x. c && f x) xs ≡ (c && list_any f xs)
 and_each true f xs = refl
@@ -88,17 +102,13 @@ length_push (x ∷ ps) p = let rest = length_push ps p in omega arith
 
 -- ---- marks of a run
 
+module _ (o m : Place → ℕ → Bool) (number : ℕ) (d : Name) (kind : Kind) (ps : List Coordinates) (rs : List Pattern) where
+  pub read_row_done : ((q : Place) → read_at rs q ≡ run_read kind d ps q) → (done : Bool) →
+      Sets o m (λ q. done && in_places d kind ps q) number true → Sets o m (λ q. done && read_at rs q) number true
+  read_row_done t done = like o m (λ q. done && in_places d kind ps q) (λ q. done && read_at rs q) number true
+      (λ q. ap (λ b. done && b) (sym (t q ∙ owns_in d kind ps q)))
+
 module _ (o m n : Place → ℕ → Bool) (number : ℕ) where
-  pub same_if_not : (h : Place → Bool) (done : Bool) → done ≡ false → Sets o m (λ q. done && h q) number true → (q : Place) (j : ℕ) → m q j ≡ o q j
-  same_if_not h true e p q j = cc
-  same_if_not h false e p q j = p.at q j
-
-  pub sets_after : (g : Place → Bool) → ((q : Place) (j : ℕ) → m q j ≡ o q j) → Sets m n g number true → Sets o n g number true
-  sets_after g same p = record { at = λ q j. p.at q j ∙ ap (λ b. if g q && (number == j) then true else b) (same q j) }
-
-  pub stays_after : (g : Place → Bool) → ((q : Place) (j : ℕ) → m q j ≡ o q j) → Stays m n g number → Stays o n g number
-  stays_after g same p = record { at = λ q j out. p.at q j out ∙ same q j }
-
   module _ (d : Name) (kind : Kind) (ps : List Coordinates) (xs : Changes) (some : 0 < length ps) (t : (q : Place) → touched_at xs q ≡ run_touched kind d ps q) (h : Sets o m (in_places d kind ps) number true) where
     pub row_alone : ((p : Coordinates) → None ≡ family (cell_at kind d p)) → Sets o m (touched_at xs) number true
     row_alone fam = like o m (in_places d kind ps) (touched_at xs) number true (λ q. sym (t q ∙ run_is d kind ps None fam some q ∙ or_false (in_places d kind ps q))) h

@@ -23,7 +23,7 @@ outside true g true b x y out e = cc
 outside true g false b x y out e = e
 outside false g num b x y out e = e
 
-part_out : (h g num : Bool) → (h || g) && num ≡ false → (h && num ≡ false) × (g && num ≡ false)
+pub part_out : (h g num : Bool) → (h || g) && num ≡ false → (h && num ≡ false) × (g && num ≡ false)
 part_out true g true out = cc
 part_out true true false out = (refl, refl)
 part_out true false false out = (refl, refl)

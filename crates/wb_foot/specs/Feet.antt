@@ -31,6 +31,10 @@ touched_at xs q = list_any (λ x. at_cell x.cell q) xs
 abbrev pub run_touched : Kind → Name → List Coordinates → Place → Bool
 run_touched k d ps q = list_any (λ p. at_cell (cell_at k d p) q) ps
 
+-- whether it is the own place of one of them
+abbrev pub run_read : Kind → Name → List Coordinates → Place → Bool
+run_read k d ps q = list_any (λ p. is_same_place (own (cell_at k d p)) q) ps
+
 -- whether one of the patterns is that of a place
 abbrev pub read_at : List Pattern → Place → Bool
 read_at rs q = list_any (λ r. is_same_place (place_of r) q) rs

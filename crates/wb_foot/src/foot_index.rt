@@ -4,7 +4,8 @@ ghost use Rattle.std.specs.Prelude.{◌≡◌, Some, None, OnOk, OnErr};
 ghost use Rattle.wb_foot.specs.Feet.{Feet, IsIndexOf, foot, with_foot};
 
 use crate::place_marks::PlaceMarks;
-use crate::touching::{read_all, touch_all, unread_all, untouch_all};
+use crate::reading::{read_all, unread_all};
+use crate::touching::{touch_all, untouch_all};
 use std::alloc::Global;
 use wb_book::{CellChange, Pattern};
 use wb_range::NoMemory;

@@ -8,6 +8,7 @@
 mod blockers;
 mod blocks;
 mod earlier;
+mod ends;
 mod foot_index;
 mod index_marks;
 mod marks;
@@ -18,6 +19,7 @@ mod place;
 mod place_marks;
 mod points;
 mod queries;
+mod reading;
 mod runs;
 mod spots;
 mod touching;

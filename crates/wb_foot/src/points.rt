@@ -1,6 +1,6 @@
 //! Points in ascending order.
 
-ghost use Rattle.std.specs.Prelude.{◌≡◌, ◌++◌, [], ◌∷◌, IsTrue, if◌then◌else◌};
+ghost use Rattle.std.specs.Prelude.{◌≡◌, ◌++◌, [], ◌∷◌, false, IsTrue, if◌then◌else◌};
 ghost use Rattle.std.specs.List.Sorted.{IsStrictlySortedBy};
 ghost use Rattle.wb_foot.specs.Points.{point_cmp, in_points};
 
@@ -34,7 +34,7 @@ impl Points {
         Points { points }
     }
 
-    /// Whether the point is one of them, by a binary search.
+    /// Whether the point is one of them, by a binary search where it lies between the first and the last.
     pub fn contains(&self, point: &Point) -> bool
         ensures { result ≡ in_points self.now point.now }
     {
@@ -47,7 +47,24 @@ fn is_among(points: &[Point], point: &Point) -> bool
     requires { IsStrictlySortedBy point_cmp points.now }
     ensures { result ≡ in_points points.now point.now }
 {
+    if is_outside(points, point) {
+        return false;
+    }
     points.binary_search(point).is_ok()
+}
+
+// Whether the point is below the first of ascending ones or above the last: it is none of them then.
+fn is_outside(points: &[Point], point: &Point) -> bool
+    requires { IsStrictlySortedBy point_cmp points.now }
+    ensures { IsTrue result → in_points points.now point.now ≡ false }
+{
+    if points.is_empty() {
+        return true;
+    }
+    if point.cmp(&points[0]).is_lt() {
+        return true;
+    }
+    points[points.len() - 1].cmp(point).is_lt()
 }
 
 // Whether the point is above all of ascending ones.

@@ -2,16 +2,20 @@
 
 ghost use Rattle.std.specs.Prelude.{◌≡◌, ℕ, IfSome, length};
 ghost use Rattle.wb_book.specs.declared.values.index.Index.TheVariants.{Point as at_point};
+ghost use Rattle.wb_book.specs.declared.cells.pattern.Pattern.TheVariants.{One};
 ghost use Rattle.wb_foot.specs.declared.place.Place.{Place};
 ghost use Rattle.wb_foot.specs.Points.{Coordinates};
 ghost use Rattle.wb_foot.specs.Places.{cell_at, family};
-ghost use Rattle.wb_foot.specs.Feet.{touched_at, run_touched};
+ghost use Rattle.wb_foot.specs.Feet.{touched_at, run_touched, read_at, run_read};
 
 use crate::part::{Kind, Part, Slot};
 use crate::place::Place;
 use crate::points::{Points, push_above};
 use std::alloc::Global;
-use wb_book::{AnyIndex, Cell, CellChange, Index, Name, Point};
+use wb_book::{AnyIndex, Cell, CellChange, Index, Name, Pattern, Point};
+
+/// So many cells at least go into one block.
+pub(crate) const LEAST: usize = 64;
 
 /// The cells of one object that are of one kind.
 #[derive(Clone, Copy)]
@@ -44,6 +48,15 @@ impl Row {
         }
     }
 
+    /// Those of which the one cell is that a pattern names, if it names one that has an index.
+    pub(crate) fn of_read(pattern: &Pattern) -> Option<Row> {
+        match pattern {
+            Pattern::One(cell) => Row::of(&cell.cell()),
+            Pattern::Objects | Pattern::Members(_) | Pattern::Uses(_) | Pattern::Elements(_) =>
+                None,
+        }
+    }
+
     /// The place of their family, where patterns name it.
     pub(crate) fn family(&self) -> Option<Place>
         ensures { (p : Coordinates) → result ≡ family (cell_at self.now.kind self.now.name p) }
@@ -55,8 +68,8 @@ impl Row {
         }
     }
 
-    // The point of the cell, if it is one of these.
-    fn point_of(&self, cell: &Cell) -> Option<Point>
+    /// The point of the cell, if it is one of these.
+    pub(crate) fn point_of(&self, cell: &Cell) -> Option<Point>
         ensures { IfSome result (λ p. cell.now ≡ cell_at self.now.kind self.now.name p) }
     {
         match self.kind {
@@ -72,6 +85,17 @@ impl Row {
                 Cell::Element(name, index) => self.point_in(name, &index),
                 _ => None,
             },
+        }
+    }
+
+    /// The point of the one cell that a pattern names, if it names one of these.
+    pub(crate) fn point_read(&self, pattern: &Pattern) -> Option<Point>
+        ensures { IfSome result (λ p. pattern.now ≡ One (cell_at self.now.kind self.now.name p)) }
+    {
+        match pattern {
+            Pattern::One(cell) => self.point_of(&cell.cell()),
+            Pattern::Objects | Pattern::Members(_) | Pattern::Uses(_) | Pattern::Elements(_) =>
+                None,
         }
     }
 
@@ -96,6 +120,23 @@ impl Row {
         let mut points = Vec::new(alloc);
         for x in changes {
             match self.point_of(&x.cell()) {
+                None => return None,
+                Some(point) => {
+                    if !push_above(&mut points, point) {
+                        return None;
+                    }
+                }
+            }
+        }
+        Some(Points::new(points))
+    }
+    /// The points of the cells that patterns name alone, if all do, all are of these and ascend.
+    pub(crate) fn points_read(&self, alloc: Global, reads: &[Pattern]) -> Option<Points>
+        ensures { IfSome result (λ ps. (q : Place) → read_at reads.now q ≡ run_read self.now.kind self.now.name ps q) }
+    {
+        let mut points = Vec::new(alloc);
+        for x in reads {
+            match self.point_read(x) {
                 None => return None,
                 Some(point) => {
                     if !push_above(&mut points, point) {

@@ -1,5 +1,7 @@
-//! The index of footprints, where an element is set and a copy of it goes to another.
+//! The index of footprints, where an element is set and a copy of it goes to another, and where many elements are copied at
+//! once.
 
+use std::alloc::{AllocError, Global};
 use std::process::Abort;
 use std::test::Fail;
 use wb_book::{AnyCell, AnyIndex, Cell, CellChange, Index, Name, Pattern, Point};
@@ -52,5 +54,74 @@ fn footprint_index_of_a_copy(rt: HostRuntime) -> Result<(), Fail> {
     index.take(4, &reads_of_copy, &copied);
     assert!(rt; index.first_to_block_undo(&set, 3).is_none());
     assert!(rt; index.first_to_block_redo(&elements, &[], 3).is_none());
+    Ok(())
+}
+
+// A change of an array itself and of its elements 1 to 80.
+fn changes_of_many(alloc: Global, array: Name) -> Result<Vec<CellChange>, AllocError> {
+    let mut changes = Vec::new(alloc);
+    changes.push(CellChange::new(Cell::Object(array), None))?;
+    for i in 1..81 {
+        changes.push(CellChange::new(element(array, i), None))?;
+    }
+    Ok(changes)
+}
+
+// Reads of an array itself and of its elements 1 to 80.
+fn reads_of_many(alloc: Global, array: Name) -> Result<Vec<Pattern>, AllocError> {
+    let mut reads = Vec::new(alloc);
+    reads.push(read(Cell::Object(array)))?;
+    for i in 1..81 {
+        reads.push(read(element(array, i)))?;
+    }
+    Ok(reads)
+}
+
+// Whether an undo that sets an element back is blocked by the one number, and a redo that reads it by the other.
+fn is_found(
+    index: &FootIndex,
+    array: Name,
+    i: i64,
+    by_undo: Option<u64>,
+    by_redo: Option<u64>,
+) -> bool {
+    let set = [CellChange::new(element(array, i), None)];
+    let seen = [read(element(array, i))];
+    index.first_to_block_undo(&set, 6) == by_undo
+        && index.first_to_block_redo(&seen, &[], 6) == by_redo
+}
+
+// Whether they are so at the elements 1 to 80, and nothing blocks at those beside them.
+fn is_found_inside(
+    index: &FootIndex,
+    array: Name,
+    by_undo: Option<u64>,
+    by_redo: Option<u64>,
+) -> bool {
+    for i in 1..81 {
+        if !is_found(index, array, i, by_undo, by_redo) {
+            return false;
+        }
+    }
+    is_found(index, array, 0, None, None) && is_found(index, array, 81, None, None)
+}
+
+#[test]
+fn footprint_index_of_blocks(rt: HostRuntime) -> Result<(), Fail> {
+    let source = Name::new("A")?;
+    let target = Name::new("B")?;
+    let reads = reads_of_many(rt.alloc(), source)?;
+    let before = changes_of_many(rt.alloc(), target)?;
+    let inside = [CellChange::new(element(source, 80), None)];
+    let beside = [CellChange::new(element(source, 81), None)];
+    let mut index = FootIndex::new(rt.alloc());
+    add(&rt, &mut index, 7, reads.as_slice(), before.as_slice())?;
+    assert!(rt; is_found_inside(&index, source, Some(7), None));
+    assert!(rt; is_found_inside(&index, target, Some(7), Some(7)));
+    assert!(rt; index.blockers(rt.alloc(), &inside, 6)?.as_slice() == [7].as_slice());
+    assert!(rt; index.blockers(rt.alloc(), &beside, 6)?.is_empty());
+    index.take(7, reads.as_slice(), before.as_slice());
+    assert!(rt; is_found_inside(&index, source, None, None));
+    assert!(rt; is_found_inside(&index, target, None, None));
     Ok(())
 }
