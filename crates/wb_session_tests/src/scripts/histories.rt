@@ -248,8 +248,35 @@ const UNDONE_AND_REDONE: &str = r#"
 {"op":"state","k":6} -> {"in_force":false}
 "#;
 
+// Fills and a reshape of so many cells that the index keeps them as blocks.
+const RUNS_OF_MANY_CELLS: &str = r#"
+{"op":"domain","d":"D","is":"{1..100}"} -> {"edit":1,"n":3}
+{"op":"array","a":"A","d":"D"} -> {"edit":2,"n":103}
+{"op":"fill","a":"A","on":"{10..89}","v":4} -> {"edit":3,"n":80}
+{"op":"set","a":"A","i":9,"v":1} -> {"edit":4,"n":1}
+{"op":"undo","k":3} -> {"n":80,"undone":3}
+{"op":"get","a":"A","i":50} -> {"value":0}
+{"op":"redo","k":3} -> {"n":80,"redone":3}
+{"op":"set","a":"A","i":50,"v":2} -> {"edit":5,"n":1}
+{"op":"undo","k":3} -> {"by":5,"error":"E14","name":"blocked"}
+{"op":"fill","a":"A","on":"{1..80}","v":6} -> {"edit":6,"n":80}
+{"op":"undo","k":4} -> {"by":6,"error":"E14","name":"blocked"}
+{"op":"undo","k":5} -> {"by":6,"error":"E14","name":"blocked"}
+{"op":"undo","k":6} -> {"n":80,"undone":6}
+{"op":"get","a":"A","i":9} -> {"value":1}
+{"op":"get","a":"A","i":50} -> {"value":2}
+{"op":"get","a":"A","i":51} -> {"value":4}
+{"op":"undo","k":1} -> {"by":2,"error":"E14","name":"blocked"}
+{"op":"reshape","d":"D","to":"{1..200}"} -> {"edit":7,"n":101}
+{"op":"array","a":"B","d":"D"} -> {"edit":8,"n":203}
+{"op":"undo","k":7} -> {"by":8,"error":"E14","name":"blocked"}
+{"op":"undo","k":8} -> {"n":203,"undone":8}
+{"op":"undo","k":7} -> {"n":101,"undone":7}
+{"op":"get","a":"A","i":101} -> {"error":"E06","name":"out-of-domain"}
+"#;
+
 /// Each script, over a history of its own.
-pub const SCRIPTS: [Script; 16] = [
+pub const SCRIPTS: [Script; 17] = [
     ("", UNDONE_AND_REDONE, 6, 44),
     (OPENING, REFUSED, 2, 10),
     (OPENING, SIZES, 3, 16),
@@ -266,4 +293,5 @@ pub const SCRIPTS: [Script; 16] = [
     (OPENING, DROPPED, 5, 39),
     (OPENING, COMBINED, 10, 47),
     (OPENING, NOT_COMBINED, 8, 30),
+    ("", RUNS_OF_MANY_CELLS, 8, 1116),
 ];
