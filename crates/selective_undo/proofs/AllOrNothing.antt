@@ -6,7 +6,7 @@ use Rattle.std.specs.FinMap.{FinMap, get}
 use Rattle.selective_undo.specs.declared.Change.{Change}
 use Rattle.selective_undo.specs.Edit.{Schema}
 use Rattle.selective_undo.specs.Laws.{OfEach, ApplyLaw, TakeBackLaw, SetFirstLaw, RoomLaw}
-use Rattle.selective_undo.specs.Changes.{IsOrder, put, apply, inverse, changes, AllOnce, sets, clears, RoomFor, HasRoom}
+use Rattle.selective_undo.specs.Changes.{IsOrder, applied, apply, inverse, changes, AllOnce, sets, clears, RoomFor, HasRoom}
 use Rattle.selective_undo.proofs.Changes.{same_states, get-put, apply_keeps, apply_sets, apply_swap, changes-inverse, apply-inverse, is_itself, not_true}
 use Rattle.selective_undo.proofs.Locality.{or_neither}
 
@@ -53,12 +53,12 @@ module _ {K V : Type 0} {order : K → K → Ordering} (ordered : IsOrder order)
   pub sets_clears : (xs : List (Change K V)) (s : FinMap order V) → AllOnce order xs → apply (clears xs) (apply (sets xs) s) ≡ apply xs s
   sets_clears [] s once = refl
   sets_clears (x ∷ xs) s once =
-      elim x.value as (λ v. let y : Change K V = record x { value = v } in apply (clears (y ∷ xs)) (apply (sets (y ∷ xs)) s) ≡ apply xs (put y s)) [
-        | Some v ↦ sets_clears xs (put (record x { value = Some v }) s) once.1
+      elim x.value as (λ v. let y : Change K V = record x { value = v } in apply (clears (y ∷ xs)) (apply (sets (y ∷ xs)) s) ≡ apply xs (applied y s)) [
+        | Some v ↦ sets_clears xs (applied (record x { value = Some v }) s) once.1
         | None ↦
             let y : Change K V = record x { value = None } in
             ap (apply (clears xs)) (apply_swap ordered (y ∷ []) (sets xs) s (λ c is. none_of_sets order xs c (ap (changes order xs) (only y c is) ∙ once.0)))
-            ∙ sets_clears xs (put y s) once.1
+            ∙ sets_clears xs (applied y s) once.1
       ]
 
   -- changes that come midway over others of the same cells have the last word
@@ -71,7 +71,7 @@ module _ {K V : Type 0} {order : K → K → Ordering} (ordered : IsOrder order)
       ] refl
 
   -- a change of one cell leaves room for changes of others
-  pub room-put : (x : Change K V) (xs : List (Change K V)) (s : FinMap order V) → changes order xs x.cell ≡ false → HasRoom xs s → HasRoom xs (put x s)
+  pub room-put : (x : Change K V) (xs : List (Change K V)) (s : FinMap order V) → changes order xs x.cell ≡ false → HasRoom xs s → HasRoom xs (applied x s)
   room-put x [] s once room = tt
   room-put x (y ∷ xs) s once room =
       let parts = or_neither _ _ once in
@@ -83,8 +83,8 @@ module _ {K V : Type 0} {order : K → K → Ordering} (ordered : IsOrder order)
   set_value [] s x i once low is = absurd (omega (arith, low))
   set_value (y ∷ xs) s x zero once low is =
       let same : y ≡ x = is in
-      apply_keeps ordered xs (put y s) x.cell (rw (← same) once.0) ∙ rw (get-put ordered y s x.cell, same, is_itself ordered x.cell) refl
-  set_value (y ∷ xs) s x (suc i) once low is = set_value xs (put y s) x i once.1 (omega (arith, low)) is
+      apply_keeps ordered xs (applied y s) x.cell (rw (← same) once.0) ∙ rw (get-put ordered y s x.cell, same, is_itself ordered x.cell) refl
+  set_value (y ∷ xs) s x (suc i) once low is = set_value xs (applied y s) x i once.1 (omega (arith, low)) is
 
   -- ---- a loop over the changes
 
@@ -111,14 +111,14 @@ module _ {K V : Type 0} {order : K → K → Ordering} (ordered : IsOrder order)
   set_step xs i d s t r low is ahead =
       rw (add-one) (ap (apply (sets (drop (suc i) xs))) is ∙ sym (sets-cons (get_or xs i d) (drop (suc i) xs) s) ∙ ap (λ ys. apply (sets ys) s) (sym (drop-cons xs i d low)) ∙ ahead)
 
-  pub put_step : (xs : List (Change K V)) (i : ℕ) (d : Change K V) (s t r : FinMap order V) → i < length xs → t ≡ put (get_or xs i d) s → apply (drop i xs) s ≡ r → apply (drop (i + 1) xs) t ≡ r
+  pub put_step : (xs : List (Change K V)) (i : ℕ) (d : Change K V) (s t r : FinMap order V) → i < length xs → t ≡ applied (get_or xs i d) s → apply (drop i xs) s ≡ r → apply (drop (i + 1) xs) t ≡ r
   put_step xs i d s t r low is ahead =
       rw (add-one) (ap (apply (drop (suc i) xs)) is ∙ ap (λ ys. apply ys s) (sym (drop-cons xs i d low)) ∙ ahead)
 
   pub once_step : (xs : List (Change K V)) (i : ℕ) (d : Change K V) → i < length xs → AllOnce order (drop i xs) → AllOnce order (drop (i + 1) xs)
   once_step xs i d low once = rw (add-one) (let h : AllOnce order (get_or xs i d ∷ drop (suc i) xs) = rw (drop-cons xs i d low) at once in h.1)
 
-  pub room_step : (xs : List (Change K V)) (i : ℕ) (d : Change K V) (s t : FinMap order V) → i < length xs → t ≡ put (get_or xs i d) s → AllOnce order (drop i xs) → HasRoom (drop i xs) s → HasRoom (drop (i + 1) xs) t
+  pub room_step : (xs : List (Change K V)) (i : ℕ) (d : Change K V) (s t : FinMap order V) → i < length xs → t ≡ applied (get_or xs i d) s → AllOnce order (drop i xs) → HasRoom (drop i xs) s → HasRoom (drop (i + 1) xs) t
   room_step xs i d s t low is once room =
       let once' : AllOnce order (get_or xs i d ∷ drop (suc i) xs) = rw (drop-cons xs i d low) at once in
       let room' : HasRoom (get_or xs i d ∷ drop (suc i) xs) s = rw (drop-cons xs i d low) at room in

@@ -6,7 +6,7 @@ use Rattle.std.specs.FinMap.{FinMap, get, len-empty, len-entries, entries, entri
 use Rattle.std.specs.FinMap.Entries.{where_key, is_sorted-where_key, find-where_key}
 use Rattle.std.specs.declared.cmp.Ordering.{Ordering}
 use Rattle.selective_undo.specs.declared.Change as declared
-use Rattle.selective_undo.specs.Changes.{IsOrder, put, apply, inverse}
+use Rattle.selective_undo.specs.Changes.{IsOrder, applied, apply, inverse}
 use Rattle.selective_undo.specs.Edit.{Schema, State, Edit, refuse, write, look, written, outcome, reads, trace, step}
 use Rattle.selective_undo.specs.History.{Entry, done, undone, replay, replay_from, traces, traces_from}
 use Rattle.selective_undo.specs.Laws.{EvaluateEditLaw, EvaluateHistoryLaw}
@@ -42,16 +42,16 @@ module _ {K V : Type 0} {order : K → K → Ordering} (ordered : IsOrder order)
       ∙ turned (eq_by_cmp order k c) (get m c) None
       ∙ sym (get-retain_keys m (λ x. not (eq_by_cmp order k x)) c (λ x tie. ap (λ y. not (eq_by_cmp order k y)) (sym (ordered.strict c x tie)))))
 
-  pub entries-put : (x : declared.Change K V) (m : FinMap order V) → entries (put x m) ≡ put_in order x (entries m)
+  pub entries-put : (x : declared.Change K V) (m : FinMap order V) → entries (applied x m) ≡ put_in order x (entries m)
   entries-put x m =
-      elim x.value as (λ v. entries (put (record x { value = v }) m) ≡ put_in order (record x { value = v }) (entries m)) [
+      elim x.value as (λ v. entries (applied (record x { value = v }) m) ≡ put_in order (record x { value = v }) (entries m)) [
         | Some v ↦ entries-insert ordered.total m x.cell v
         | None ↦ ap entries (remove-is m x.cell) ∙ entries-retain_keys m _
       ]
 
   pub entries-apply : (xs : List (declared.Change K V)) (m : FinMap order V) → entries (apply xs m) ≡ apply_in order xs (entries m)
   entries-apply [] m = refl
-  entries-apply (x ∷ xs) m = entries-apply xs (put x m) ∙ ap (apply_in order xs) (entries-put x m)
+  entries-apply (x ∷ xs) m = entries-apply xs (applied x m) ∙ ap (apply_in order xs) (entries-put x m)
 
   pub inverse-entries : (xs : List (declared.Change K V)) (m : FinMap order V) → inverse xs m ≡ inverse_in order xs (entries m)
   inverse-entries [] m = refl

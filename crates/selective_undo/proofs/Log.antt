@@ -4,7 +4,7 @@ use Rattle.selective_undo.specs.Changes.{apply, inverse, changes}
 use Rattle.selective_undo.proofs.Changes.{changes-inverse}
 use Rattle.selective_undo.specs.Edit.{Schema, State, Change, Edit, Trace, covers, outcome, reads, written, trace, needs, Needs}
 use Rattle.selective_undo.specs.History.{Entry, done, undone, replay, traces, undo, redo, InForce, IsLegal, Blocks, CanUndo, CanRedo}
-use Rattle.selective_undo.specs.Log.{Foot, Logged, foot_of, feet, entry_of, history, meets_any, blocks_undo, blocks_redo, planned, first_from, IsKept, Least, BlocksRedo}
+use Rattle.selective_undo.specs.Log.{Footprint, Logged, footprint_of, footprints, entry_of, history, meets_any, blocks_undo, blocks_redo, planned, first_from, IsKept, Least, BlocksRedo}
 use Rattle.selective_undo.proofs.Locality.{needs_true, needs_false, or_neither}
 use Rattle.selective_undo.proofs.Undo.{undo_law, append_law}
 use Rattle.selective_undo.proofs.Redo.{redo_law}
@@ -109,33 +109,33 @@ cases_lt (suc a) (suc b) = elim (cases_lt a b) [ inl low ↦ inl (omega (arith, 
 -- ---- what is kept, and traces
 
 module _ {w : Schema} where
-  pub foot_at : (ts : List (Option (Trace w))) (j : ℕ) (u : Trace w) → InForce ts j u → slice_get (feet ts) j ≡ Some (Some (foot_of u))
-  foot_at ts j u is = get-map (option_map foot_of) ts j ∙ ap (option_map (option_map foot_of)) is
+  pub footprint_there : (ts : List (Option (Trace w))) (j : ℕ) (u : Trace w) → InForce ts j u → slice_get (footprints ts) j ≡ Some (Some (footprint_of u))
+  footprint_there ts j u is = get-map (option_map footprint_of) ts j ∙ ap (option_map (option_map footprint_of)) is
 
-  pub trace_of : (ts : List (Option (Trace w))) (j : ℕ) (f : Foot w) → slice_get (feet ts) j ≡ Some (Some f) → (u : Trace w) × InForce ts j u × (foot_of u ≡ f)
+  pub trace_of : (ts : List (Option (Trace w))) (j : ℕ) (f : Footprint w) → slice_get (footprints ts) j ≡ Some (Some f) → (u : Trace w) × InForce ts j u × (footprint_of u ≡ f)
   trace_of [] j f is = cc
   trace_of (Some u ∷ ts) zero f is = (u, refl, cc)
   trace_of (None ∷ ts) zero f is = cc
   trace_of (t ∷ ts) (suc j) f is = trace_of ts j f is
 
-  pub some_foot : (xs : List (Change w)) (o : Option (Foot w)) → blocks_undo xs o ≡ true → (f : Foot w) × (o ≡ Some f) × (meets_any f xs ≡ true)
-  some_foot xs None e = cc
-  some_foot xs (Some f) e = (f, refl, e)
+  pub some_footprint : (xs : List (Change w)) (o : Option (Footprint w)) → blocks_undo xs o ≡ true → (f : Footprint w) × (o ≡ Some f) × (meets_any f xs ≡ true)
+  some_footprint xs None e = cc
+  some_footprint xs (Some f) e = (f, refl, e)
 
   -- ---- the least edit that blocks an undo
 
   -- the test finds the blockers of edit k
-  pub undo_free : (ts : List (Option (Trace w))) (k i : ℕ) (t : Trace w) → InForce ts k t → first_from (blocks_undo t.before) i (drop (suc k) (feet ts)) ≡ None → (j : ℕ) → Blocks ts j k → ⊥
+  pub undo_free : (ts : List (Option (Trace w))) (k i : ℕ) (t : Trace w) → InForce ts k t → first_from (blocks_undo t.before) i (drop (suc k) (footprints ts)) ≡ None → (j : ℕ) → Blocks ts j k → ⊥
   undo_free ts k i t is none j b =
       let same : b.of_k ≡ t = cc (b.k_in_force, is) in
-      let quiet = none_at (blocks_undo t.before) i (suc k) (feet ts) j (Some (foot_of b.of_j)) none (omega (arith, b.later)) (foot_at ts j b.of_j b.j_in_force) in
+      let quiet = none_at (blocks_undo t.before) i (suc k) (footprints ts) j (Some (footprint_of b.of_j)) none (omega (arith, b.later)) (footprint_there ts j b.of_j b.j_in_force) in
       needs_false b.of_j t quiet (subst (λ u. Needs b.of_j u) same b.needs)
 
-  pub undo_least : (ts : List (Option (Trace w))) (k i m : ℕ) (t : Trace w) → InForce ts k t → first_from (blocks_undo t.before) i (drop (suc k) (feet ts)) ≡ Some m → (j : ℕ) × (m + suc k ≡ i + j) × Least (λ j. Blocks ts j k) j
+  pub undo_least : (ts : List (Option (Trace w))) (k i m : ℕ) (t : Trace w) → InForce ts k t → first_from (blocks_undo t.before) i (drop (suc k) (footprints ts)) ≡ Some m → (j : ℕ) × (m + suc k ≡ i + j) × Least (λ j. Blocks ts j k) j
   undo_least ts k i m t is found =
-      let at = first_at (blocks_undo t.before) i m (suc k) (feet ts) found in
+      let at = first_at (blocks_undo t.before) i m (suc k) (footprints ts) found in
       let first = at.2 in
-      let made = some_foot t.before first.item first.passes in
+      let made = some_footprint t.before first.item first.passes in
       let of_j = trace_of ts at.0 made.0 (first.there ∙ ap Some made.1) in
       let needed : needs of_j.0 t ≡ true = ap (λ f. meets_any f t.before) of_j.2 ∙ made.2 in (
         at.0,
@@ -145,7 +145,7 @@ module _ {w : Schema} where
           least = λ l b. elim (cases_lt l at.0) [
             | inl low ↦
                 let same : b.of_k ≡ t = cc (b.k_in_force, is) in
-                let quiet = first.none_before l (Some (foot_of b.of_j)) (omega (arith, b.later)) low (foot_at ts l b.of_j b.j_in_force) in
+                let quiet = first.none_before l (Some (footprint_of b.of_j)) (omega (arith, b.later)) low (footprint_there ts l b.of_j b.j_in_force) in
                 absurd (needs_false b.of_j t quiet (subst (λ u. Needs b.of_j u) same b.needs))
             | inr up ↦ up
           ];
@@ -154,28 +154,28 @@ module _ {w : Schema} where
 
   -- ---- the least edit that blocks a redo
 
-  pub meets_foot : (g : Foot w) (o : Option (Foot w)) → blocks_redo g o ≡ true → (f : Foot w) × (o ≡ Some f) × ((meets_any f g.before ≡ true) ⊎ (meets_any g f.before ≡ true))
-  meets_foot g None e = cc
-  meets_foot g (Some f) e =
-      elim (meets_any f g.before) as (λ b. meets_any f g.before ≡ b → b || meets_any g f.before ≡ true → (h : Foot w) × (Some f ≡ Some h) × ((meets_any h g.before ≡ true) ⊎ (meets_any g h.before ≡ true))) [
+  pub meets_footprint : (g : Footprint w) (o : Option (Footprint w)) → blocks_redo g o ≡ true → (f : Footprint w) × (o ≡ Some f) × ((meets_any f g.touched ≡ true) ⊎ (meets_any g f.touched ≡ true))
+  meets_footprint g None e = cc
+  meets_footprint g (Some f) e =
+      elim (meets_any f g.touched) as (λ b. meets_any f g.touched ≡ b → b || meets_any g f.touched ≡ true → (h : Footprint w) × (Some f ≡ Some h) × ((meets_any h g.touched ≡ true) ⊎ (meets_any g h.touched ≡ true))) [
         | true ↦ λ is d. (f, refl, inl is)
         | false ↦ λ is d. (f, refl, inr d)
       ] refl e
 
-  no_meeting : (u t : Trace w) → blocks_redo (foot_of t) (Some (foot_of u)) ≡ false → (Needs u t ⊎ Needs t u) → ⊥
+  no_meeting : (u t : Trace w) → blocks_redo (footprint_of t) (Some (footprint_of u)) ≡ false → (Needs u t ⊎ Needs t u) → ⊥
   no_meeting u t e needed =
       let parts = or_neither _ _ e in
       elim needed [ inl n ↦ needs_false u t parts.0 n | inr n ↦ needs_false t u parts.1 n ]
 
-  pub redo_free : (ts : List (Option (Trace w))) (k i : ℕ) (t : Trace w) → first_from (blocks_redo (foot_of t)) i (drop (suc k) (feet ts)) ≡ None → (j : ℕ) → BlocksRedo ts k t j → ⊥
+  pub redo_free : (ts : List (Option (Trace w))) (k i : ℕ) (t : Trace w) → first_from (blocks_redo (footprint_of t)) i (drop (suc k) (footprints ts)) ≡ None → (j : ℕ) → BlocksRedo ts k t j → ⊥
   redo_free ts k i t none j b =
-      no_meeting b.of_j t (none_at (blocks_redo (foot_of t)) i (suc k) (feet ts) j (Some (foot_of b.of_j)) none (omega (arith, b.later)) (foot_at ts j b.of_j b.j_in_force)) b.meets
+      no_meeting b.of_j t (none_at (blocks_redo (footprint_of t)) i (suc k) (footprints ts) j (Some (footprint_of b.of_j)) none (omega (arith, b.later)) (footprint_there ts j b.of_j b.j_in_force)) b.meets
 
-  pub redo_least : (ts : List (Option (Trace w))) (k i m : ℕ) (t : Trace w) → first_from (blocks_redo (foot_of t)) i (drop (suc k) (feet ts)) ≡ Some m → (j : ℕ) × (m + suc k ≡ i + j) × Least (BlocksRedo ts k t) j
+  pub redo_least : (ts : List (Option (Trace w))) (k i m : ℕ) (t : Trace w) → first_from (blocks_redo (footprint_of t)) i (drop (suc k) (footprints ts)) ≡ Some m → (j : ℕ) × (m + suc k ≡ i + j) × Least (BlocksRedo ts k t) j
   redo_least ts k i m t found =
-      let at = first_at (blocks_redo (foot_of t)) i m (suc k) (feet ts) found in
+      let at = first_at (blocks_redo (footprint_of t)) i m (suc k) (footprints ts) found in
       let first = at.2 in
-      let made = meets_foot (foot_of t) first.item first.passes in
+      let made = meets_footprint (footprint_of t) first.item first.passes in
       let of_j = trace_of ts at.0 made.0 (first.there ∙ ap Some made.1) in (
         at.0,
         at.1,
@@ -186,34 +186,34 @@ module _ {w : Schema} where
             j_in_force = of_j.1;
             meets = elim made.2 [
               | inl e ↦ inl (needs_true of_j.0 t (ap (λ f. meets_any f t.before) of_j.2 ∙ e))
-              | inr e ↦ inr (needs_true t of_j.0 (ap (λ f. meets_any (foot_of t) f.before) of_j.2 ∙ e))
+              | inr e ↦ inr (needs_true t of_j.0 (ap (λ f. meets_any (footprint_of t) f.touched) of_j.2 ∙ e))
             ];
           };
           least = λ l b. elim (cases_lt l at.0) [
-            | inl low ↦ absurd (no_meeting b.of_j t (first.none_before l (Some (foot_of b.of_j)) (omega (arith, b.later)) low (foot_at ts l b.of_j b.j_in_force)) b.meets)
+            | inl low ↦ absurd (no_meeting b.of_j t (first.none_before l (Some (footprint_of b.of_j)) (omega (arith, b.later)) low (footprint_there ts l b.of_j b.j_in_force)) b.meets)
             | inr up ↦ up
           ];
         },
       )
 
   -- the plan's cells are those of the trace
-  any_inverse : (f : Foot w) (xs : List (Change w)) (s : State w) → meets_any f (inverse xs s) ≡ meets_any f xs
+  any_inverse : (f : Footprint w) (xs : List (Change w)) (s : State w) → meets_any f (inverse xs s) ≡ meets_any f xs
   any_inverse f [] s = refl
-  any_inverse f (x ∷ xs) s = ap (λ b. (changes w.order f.before x.cell || covers w f.reads x.cell) || b) (any_inverse f xs s)
+  any_inverse f (x ∷ xs) s = ap (λ b. (changes w.order f.touched x.cell || covers w f.reads x.cell) || b) (any_inverse f xs s)
 
-  any_planned : (e : Edit w) (s : State w) (ys : List (Change w)) → meets_any (planned e s) ys ≡ meets_any (foot_of (trace e s)) ys
+  any_planned : (e : Edit w) (s : State w) (ys : List (Change w)) → meets_any (planned e s) ys ≡ meets_any (footprint_of (trace e s)) ys
   any_planned e s [] = refl
   any_planned e s (y ∷ ys) =
       ap (λ b. (b || covers w (reads e s) y.cell) || meets_any (planned e s) ys) (sym (changes-inverse (written (outcome e s)) s y.cell))
       ∙ ap (λ b. (changes w.order (trace e s).before y.cell || covers w (reads e s) y.cell) || b) (any_planned e s ys)
 
-  pub same_blocks : (e : Edit w) (s : State w) (o : Option (Foot w)) → blocks_redo (planned e s) o ≡ blocks_redo (foot_of (trace e s)) o
+  pub same_blocks : (e : Edit w) (s : State w) (o : Option (Footprint w)) → blocks_redo (planned e s) o ≡ blocks_redo (footprint_of (trace e s)) o
   same_blocks e s None = refl
   same_blocks e s (Some f) =
-      ap (λ b. b || meets_any (planned e s) f.before) (sym (any_inverse f (written (outcome e s)) s))
-      ∙ ap (λ b. meets_any f (trace e s).before || b) (any_planned e s f.before)
+      ap (λ b. b || meets_any (planned e s) f.touched) (sym (any_inverse f (written (outcome e s)) s))
+      ∙ ap (λ b. meets_any f (trace e s).before || b) (any_planned e s f.touched)
 
-  pub first_planned : (e : Edit w) (s : State w) (i : ℕ) (fs : List (Option (Foot w))) → first_from (blocks_redo (planned e s)) i fs ≡ first_from (blocks_redo (foot_of (trace e s))) i fs
+  pub first_planned : (e : Edit w) (s : State w) (i : ℕ) (fs : List (Option (Footprint w))) → first_from (blocks_redo (planned e s)) i fs ≡ first_from (blocks_redo (footprint_of (trace e s))) i fs
   first_planned e s i [] = refl
   first_planned e s i (o ∷ fs) = rw (same_blocks e s o, first_planned e s (i + 1) fs)
 
@@ -244,10 +244,10 @@ module _ {w : Schema} where
 
   -- an edit comes
   pub kept_append : (s : State w) (log : List (Logged w)) (e : Edit w) (xs : List (Change w)) → IsKept s log → outcome e s ≡ Ok xs
-      → IsKept (apply xs s) (log ++ record { edit = e; kept = Some (record { reads = reads e s; before = inverse xs s }) } ∷ [])
+      → IsKept (apply xs s) (log ++ record { edit = e; kept = Some (record { reads = reads e s; touched = inverse xs s }) } ∷ [])
   kept_append s log e xs kept accepted =
       let h = history log in
-      let more : Logged w = record { edit = e; kept = Some (record { reads = reads e s; before = inverse xs s }) } in
+      let more : Logged w = record { edit = e; kept = Some (record { reads = reads e s; touched = inverse xs s }) } in
       let now_is : history (log ++ more ∷ []) ≡ h ++ done e ∷ [] = append-map entry_of log (more ∷ []) in
       let law = append_law w h e in
       let made : trace e (replay h) ≡ record { reads = reads e s; outcome = Ok xs; before = inverse xs s } =
@@ -255,37 +255,37 @@ module _ {w : Schema} where
       record {
         legal = subst (λ g. IsLegal g) (sym now_is) (accepted_append h e kept.legal (ap (λ v. is_ok v.outcome) made));
         shown = rw (now_is, law.0, ← kept.shown, accepted) refl;
-        feet = append-map (λ x. x.kept) log (more ∷ []) ∙ ap (λ fs. fs ++ more.kept ∷ []) kept.feet
-            ∙ sym (ap (λ g. feet (traces g)) now_is ∙ ap feet law.1 ∙ append-map (option_map foot_of) (traces h) (Some (trace e (replay h)) ∷ []) ∙ ap (λ t. feet (traces h) ++ Some (foot_of t) ∷ []) made);
+        footprints = append-map (λ x. x.kept) log (more ∷ []) ∙ ap (λ fs. fs ++ more.kept ∷ []) kept.footprints
+            ∙ sym (ap (λ g. footprints (traces g)) now_is ∙ ap footprints law.1 ∙ append-map (option_map footprint_of) (traces h) (Some (trace e (replay h)) ∷ []) ∙ ap (λ t. footprints (traces h) ++ Some (footprint_of t) ∷ []) made);
       }
 
   -- the traces of a kept log
-  pub trace_there : (s : State w) (log : List (Logged w)) (k : ℕ) (e : Edit w) (f : Foot w) → IsKept s log → slice_get log k ≡ Some (record { edit = e; kept = Some f }) → (t : Trace w) × InForce (traces (history log)) k t × (foot_of t ≡ f)
-  trace_there s log k e f kept is = trace_of (traces (history log)) k f (ap (λ fs. slice_get fs k) (sym kept.feet) ∙ kept_at log k (record { edit = e; kept = Some f }) is)
+  pub trace_there : (s : State w) (log : List (Logged w)) (k : ℕ) (e : Edit w) (f : Footprint w) → IsKept s log → slice_get log k ≡ Some (record { edit = e; kept = Some f }) → (t : Trace w) × InForce (traces (history log)) k t × (footprint_of t ≡ f)
+  trace_there s log k e f kept is = trace_of (traces (history log)) k f (ap (λ fs. slice_get fs k) (sym kept.footprints) ∙ kept_at log k (record { edit = e; kept = Some f }) is)
 
   -- an edit is undone
-  pub kept_undo : (s : State w) (log : List (Logged w)) (k i : ℕ) (e : Edit w) (f : Foot w) → IsKept s log → slice_get log k ≡ Some (record { edit = e; kept = Some f })
-      → first_from (blocks_undo f.before) i (drop (suc k) (map (λ x. x.kept) log)) ≡ None
-      → ((t : Trace w) × CanUndo (history log) k t × (foot_of t ≡ f)) × IsKept (apply f.before s) (slice_set log k (record { edit = e; kept = None }))
+  pub kept_undo : (s : State w) (log : List (Logged w)) (k i : ℕ) (e : Edit w) (f : Footprint w) → IsKept s log → slice_get log k ≡ Some (record { edit = e; kept = Some f })
+      → first_from (blocks_undo f.touched) i (drop (suc k) (map (λ x. x.kept) log)) ≡ None
+      → ((t : Trace w) × CanUndo (history log) k t × (footprint_of t ≡ f)) × IsKept (apply f.touched s) (slice_set log k (record { edit = e; kept = None }))
   kept_undo s log k i e f kept is none =
       let h = history log in
       let (t, there, same) = trace_there s log k e f kept is in
-      let can : CanUndo h k t = record { in_force = there; unblocked = undo_free (traces h) k i t there (rw (kept.feet, ← same) at none) } in
+      let can : CanUndo h k t = record { in_force = there; unblocked = undo_free (traces h) k i t there (rw (kept.footprints, ← same) at none) } in
       let law = undo_law w h k t kept.legal can in
       let now_is : history (slice_set log k (record { edit = e; kept = None })) ≡ undo k h =
       set-map entry_of log k (record { edit = e; kept = None }) ∙ sym (set_undo h k e (entry_at log k (record { edit = e; kept = Some f }) is)) in (
         (t, can, same),
         record {
           legal = subst (λ g. IsLegal g) (sym now_is) law.legal;
-          shown = ap (λ g. apply g.before s) (sym same) ∙ ap (apply t.before) kept.shown ∙ sym law.set_back ∙ ap replay (sym now_is);
-          feet = set-map (λ x. x.kept) log k (record { edit = e; kept = None }) ∙ ap (λ fs. slice_set fs k None) kept.feet ∙ sym (ap (λ g. feet (traces g)) now_is ∙ ap feet law.same_traces ∙ set-map (option_map foot_of) (traces h) k None);
+          shown = ap (λ g. apply g.touched s) (sym same) ∙ ap (apply t.before) kept.shown ∙ sym law.set_back ∙ ap replay (sym now_is);
+          footprints = set-map (λ x. x.kept) log k (record { edit = e; kept = None }) ∙ ap (λ fs. slice_set fs k None) kept.footprints ∙ sym (ap (λ g. footprints (traces g)) now_is ∙ ap footprints law.same_traces ∙ set-map (option_map footprint_of) (traces h) k None);
         },
       )
 
   pub redo_can : (s : State w) (log : List (Logged w)) (k i : ℕ) (e : Edit w) (xs : List (Change w)) → IsKept s log → slice_get log k ≡ Some (record { edit = e; kept = None }) → outcome e s ≡ Ok xs
       → first_from (blocks_redo (planned e s)) i (drop (suc k) (map (λ x. x.kept) log)) ≡ None → CanRedo (history log) k (trace e s)
   redo_can s log k i e xs kept is accepted none =
-      let free = redo_free (traces (history log)) k i (trace e s) (ap (λ fs. first_from (blocks_redo (foot_of (trace e s))) i (drop (suc k) fs)) (sym kept.feet) ∙ sym (first_planned e s i (drop (suc k) (map (λ x. x.kept) log))) ∙ none) in
+      let free = redo_free (traces (history log)) k i (trace e s) (ap (λ fs. first_from (blocks_redo (footprint_of (trace e s))) i (drop (suc k) fs)) (sym kept.footprints) ∙ sym (first_planned e s i (drop (suc k) (map (λ x. x.kept) log))) ∙ none) in
       record {
         edit = e;
         out_of_force = entry_at log k (record { edit = e; kept = None }) is;
@@ -298,17 +298,17 @@ module _ {w : Schema} where
   -- an edit is redone
   pub kept_redo : (s : State w) (log : List (Logged w)) (k i : ℕ) (e : Edit w) (xs : List (Change w)) → IsKept s log → slice_get log k ≡ Some (record { edit = e; kept = None }) → outcome e s ≡ Ok xs
       → first_from (blocks_redo (planned e s)) i (drop (suc k) (map (λ x. x.kept) log)) ≡ None
-      → IsKept (apply xs s) (slice_set log k (record { edit = e; kept = Some (record { reads = reads e s; before = inverse xs s }) }))
+      → IsKept (apply xs s) (slice_set log k (record { edit = e; kept = Some (record { reads = reads e s; touched = inverse xs s }) }))
   kept_redo s log k i e xs kept is accepted none =
       let h = history log in
       let can = redo_can s log k i e xs kept is accepted none in
       let law = redo_law w h k (trace e s) kept.legal can in
-      let more : Logged w = record { edit = e; kept = Some (record { reads = reads e s; before = inverse xs s }) } in
-      let made : foot_of (trace e s) ≡ record { reads = reads e s; before = inverse xs s } = rw accepted refl in
+      let more : Logged w = record { edit = e; kept = Some (record { reads = reads e s; touched = inverse xs s }) } in
+      let made : footprint_of (trace e s) ≡ record { reads = reads e s; touched = inverse xs s } = rw accepted refl in
       let now_is : history (slice_set log k more) ≡ redo k h =
       set-map entry_of log k more ∙ sym (set_redo h k e (entry_at log k (record { edit = e; kept = None }) is)) in
       record {
         legal = subst (λ g. IsLegal g) (sym now_is) law.legal;
         shown = ap (apply xs) kept.shown ∙ ap (λ o. apply (written o) (replay h)) (sym accepted) ∙ sym law.written ∙ ap replay (sym now_is);
-        feet = set-map (λ x. x.kept) log k more ∙ ap (λ fs. slice_set fs k more.kept) kept.feet ∙ sym (ap (λ g. feet (traces g)) now_is ∙ ap feet law.same_traces ∙ set-map (option_map foot_of) (traces h) k (Some (trace e s)) ∙ ap (λ f. slice_set (feet (traces h)) k (Some f)) made);
+        footprints = set-map (λ x. x.kept) log k more ∙ ap (λ fs. slice_set fs k more.kept) kept.footprints ∙ sym (ap (λ g. footprints (traces g)) now_is ∙ ap footprints law.same_traces ∙ set-map (option_map footprint_of) (traces h) k (Some (trace e s)) ∙ ap (λ f. slice_set (footprints (traces h)) k (Some f)) made);
       }

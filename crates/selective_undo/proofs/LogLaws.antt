@@ -4,13 +4,13 @@ use Rattle.std.specs.FinMap.{empty}
 use Rattle.selective_undo.specs.Edit.{Schema, State, Edit, Trace, outcome, trace, Needs}
 use Rattle.selective_undo.specs.Changes.{apply}
 use Rattle.selective_undo.specs.History.{Entry, done, replay, traces, InForce, IsLast, Blocks, CanRedo}
-use Rattle.selective_undo.specs.Log.{Foot, Logged, meets_any, foot_of, feet, entry_of, history, planned, blocks_undo, blocks_redo, first_from, undo_blocker, redo_blocker, IsKept, Least, BlocksRedo}
+use Rattle.selective_undo.specs.Log.{Footprint, Logged, meets_any, footprint_of, footprints, entry_of, history, planned, blocks_undo, blocks_redo, first_from, undo_blocker, redo_blocker, IsKept, Least, BlocksRedo}
 use Rattle.selective_undo.specs.Laws.{AcceptLaw, RecordLaw, UndoRecordLaw, RedoRecordLaw, UndoTestLaw, RedoTestLaw, KeptLastLaw, KeptEditLaw, KeptUndoLaw, KeptRedoLaw, RunLaw}
 use Rattle.selective_undo.specs.Runs.{Granted, edited, undid, redid, begins, goes_on}
 use Rattle.selective_undo.proofs.Inverses.{edit_at, last_law}
 use Rattle.selective_undo.proofs.Undo.{undo_law}
 use Rattle.selective_undo.proofs.Locality.{needs_true, needs_law}
-use Rattle.selective_undo.proofs.Log.{get-map, cases_lt, foot_at, trace_of, some_foot, meets_foot, same_blocks, accepted_append, undo_free, undo_least, redo_free, redo_least, redo_can, first_planned, trace_there, kept_append, kept_undo, kept_redo}
+use Rattle.selective_undo.proofs.Log.{get-map, cases_lt, footprint_there, trace_of, some_footprint, meets_footprint, same_blocks, accepted_append, undo_free, undo_least, redo_free, redo_least, redo_can, first_planned, trace_there, kept_append, kept_undo, kept_redo}
 
 same_least : {P : ℕ → Type 0} (i j : ℕ) → Least P i → Least P j → i ≡ j
 same_least i j first second = let a = first.least j second.holds in let b = second.least i first.holds in omega (arith, a, b)
@@ -40,16 +40,16 @@ either false b (inr h) = h
 module _ {w : Schema} where
   undo_found : (s : State w) (log : List (Logged w)) (k : ℕ) (t : Trace w) → IsKept s log → InForce (traces (history log)) k t → (m : ℕ) → undo_blocker log k t.before ≡ Some m → Least (λ i. Blocks (traces (history log)) i k) m
   undo_found s log k t kept is m e =
-      let (j, at, least) = undo_least (traces (history log)) k (suc k) m t is (rw (← kept.feet) e) in
+      let (j, at, least) = undo_least (traces (history log)) k (suc k) m t is (rw (← kept.footprints) e) in
       let same : j ≡ m = omega (arith, at) in
       rw (← same) least
 
   undo_none : (s : State w) (log : List (Logged w)) (k : ℕ) (t : Trace w) → IsKept s log → InForce (traces (history log)) k t → undo_blocker log k t.before ≡ None → (j : ℕ) → Blocks (traces (history log)) j k → ⊥
-  undo_none s log k t kept is e = undo_free (traces (history log)) k (suc k) t is (rw (← kept.feet) e)
+  undo_none s log k t kept is e = undo_free (traces (history log)) k (suc k) t is (rw (← kept.footprints) e)
 
   -- the search over what is kept is the search over the traces
-  planned_blocker : (s : State w) (log : List (Logged w)) (k : ℕ) (e : Edit w) → IsKept s log → redo_blocker log k (planned e s) ≡ first_from (blocks_redo (foot_of (trace e s))) (suc k) (drop (suc k) (feet (traces (history log))))
-  planned_blocker s log k e kept = first_planned e s (suc k) (drop (suc k) (map (λ x. x.kept) log)) ∙ ap (λ fs. first_from (blocks_redo (foot_of (trace e s))) (suc k) (drop (suc k) fs)) kept.feet
+  planned_blocker : (s : State w) (log : List (Logged w)) (k : ℕ) (e : Edit w) → IsKept s log → redo_blocker log k (planned e s) ≡ first_from (blocks_redo (footprint_of (trace e s))) (suc k) (drop (suc k) (footprints (traces (history log))))
+  planned_blocker s log k e kept = first_planned e s (suc k) (drop (suc k) (map (λ x. x.kept) log)) ∙ ap (λ fs. first_from (blocks_redo (footprint_of (trace e s))) (suc k) (drop (suc k) fs)) kept.footprints
 
   redo_found : (s : State w) (log : List (Logged w)) (k : ℕ) (e : Edit w) → IsKept s log → (m : ℕ) → redo_blocker log k (planned e s) ≡ Some m → Least (BlocksRedo (traces (history log)) k (trace e s)) m
   redo_found s log k e kept m is =
@@ -64,11 +64,11 @@ module _ {w : Schema} where
   can_free h k t can j b = elim b.meets [ inl need ↦ can.needed_by_none j b.of_j b.later b.j_in_force need | inr need ↦ can.needs_none j b.of_j b.later b.j_in_force need ]
 
   -- the records are those of the traces
-  kept_trace : (s : State w) (log : List (Logged w)) (j : ℕ) (x : Logged w) (f : Foot w) → IsKept s log → slice_get log j ≡ Some x → x.kept ≡ Some f → (u : Trace w) × InForce (traces (history log)) j u × (foot_of u ≡ f)
-  kept_trace s log j x f kept is has = trace_of (traces (history log)) j f (ap (λ fs. slice_get fs j) (sym kept.feet) ∙ get-map (λ x. x.kept) log j ∙ ap (option_map (λ x. x.kept)) is ∙ ap Some has)
+  kept_trace : (s : State w) (log : List (Logged w)) (j : ℕ) (x : Logged w) (f : Footprint w) → IsKept s log → slice_get log j ≡ Some x → x.kept ≡ Some f → (u : Trace w) × InForce (traces (history log)) j u × (footprint_of u ≡ f)
+  kept_trace s log j x f kept is has = trace_of (traces (history log)) j f (ap (λ fs. slice_get fs j) (sym kept.footprints) ∙ get-map (λ x. x.kept) log j ∙ ap (option_map (λ x. x.kept)) is ∙ ap Some has)
 
-  trace_kept : (s : State w) (log : List (Logged w)) (j : ℕ) (u : Trace w) → IsKept s log → InForce (traces (history log)) j u → (x : Logged w) × ((slice_get log j ≡ Some x) × (x.kept ≡ Some (foot_of u)))
-  trace_kept s log j u kept is = mapped (λ x. x.kept) (slice_get log j) (Some (foot_of u)) (sym (get-map (λ x. x.kept) log j) ∙ ap (λ fs. slice_get fs j) kept.feet ∙ foot_at (traces (history log)) j u is)
+  trace_kept : (s : State w) (log : List (Logged w)) (j : ℕ) (u : Trace w) → IsKept s log → InForce (traces (history log)) j u → (x : Logged w) × ((slice_get log j ≡ Some x) × (x.kept ≡ Some (footprint_of u)))
+  trace_kept s log j u kept is = mapped (λ x. x.kept) (slice_get log j) (Some (footprint_of u)) (sym (get-map (λ x. x.kept) log j) ∙ ap (λ fs. slice_get fs j) kept.footprints ∙ footprint_there (traces (history log)) j u is)
 
 pub accept_law : (w : Schema) → AcceptLaw w
 accept_law w h e legal accepted = accepted_append h e legal accepted
@@ -79,12 +79,12 @@ record_law w s log k e f kept is =
     let (d, at, made) = edit_at (history log) empty k t there in
     let entry : slice_get (history log) k ≡ Some (done e) = get-map entry_of log k ∙ ap (option_map entry_of) is in
     let this : d ≡ e = cc (at, entry) in
-    sym same ∙ ap foot_of (sym made) ∙ ap (λ x. foot_of (trace x (replay (take k (history log))))) this
+    sym same ∙ ap footprint_of (sym made) ∙ ap (λ x. footprint_of (trace x (replay (take k (history log))))) this
 
 pub undo_record_law : (w : Schema) → UndoRecordLaw w
 undo_record_law w s log k t j kept is = (
   λ r.
-      let (f, has, met) = some_foot t.before r.entry.kept r.meets in
+      let (f, has, met) = some_footprint t.before r.entry.kept r.meets in
       let (u, in_force, same) = kept_trace s log j r.entry f kept r.there has in
       record { later = r.later; of_j = u; of_k = t; j_in_force = in_force; k_in_force = is; needs = needs_true u t (ap (λ f. meets_any f t.before) same ∙ met) },
   λ b.
@@ -97,7 +97,7 @@ pub redo_record_law : (w : Schema) → RedoRecordLaw w
 redo_record_law w s log k e j kept =
     let t = trace e s in (
       λ r.
-          let (f, has, met) = meets_foot (foot_of t) r.entry.kept (sym (same_blocks e s r.entry.kept) ∙ r.meets) in
+          let (f, has, met) = meets_footprint (footprint_of t) r.entry.kept (sym (same_blocks e s r.entry.kept) ∙ r.meets) in
           let (u, in_force, same) = kept_trace s log j r.entry f kept r.there has in
           record {
             later = r.later;
@@ -105,14 +105,14 @@ redo_record_law w s log k e j kept =
             j_in_force = in_force;
             meets = elim met [
               | inl m ↦ inl (needs_true u t (ap (λ f. meets_any f t.before) same ∙ m))
-              | inr m ↦ inr (needs_true t u (ap (λ f. meets_any (foot_of t) f.before) same ∙ m))
+              | inr m ↦ inr (needs_true t u (ap (λ f. meets_any (footprint_of t) f.touched) same ∙ m))
             ];
           },
       λ b.
           let (x, (there, has)) = trace_kept s log j b.of_j kept b.j_in_force in
-          let met : blocks_redo (foot_of t) (Some (foot_of b.of_j)) ≡ true =
+          let met : blocks_redo (footprint_of t) (Some (footprint_of b.of_j)) ≡ true =
           either _ _ (elim b.meets [ inl need ↦ inl ((needs_law w b.of_j t).1 need) | inr need ↦ inr ((needs_law w t b.of_j).1 need) ]) in
-          record { later = b.later; entry = x; there = there; meets = same_blocks e s x.kept ∙ ap (blocks_redo (foot_of t)) has ∙ met },
+          record { later = b.later; entry = x; there = there; meets = same_blocks e s x.kept ∙ ap (blocks_redo (footprint_of t)) has ∙ met },
     )
 
 pub undo_test_law : (w : Schema) → UndoTestLaw w
@@ -139,7 +139,7 @@ kept_edit_law w s log e kept ok =
     rw accepted (kept_append s log e xs kept accepted)
 
 pub kept_undo_law : (w : Schema) → KeptUndoLaw w
-kept_undo_law w s log k e t kept is can = (kept_undo s log k (suc k) e (foot_of t) kept is ((undo_test_law w s log k t kept can.in_force).0.1 can)).1
+kept_undo_law w s log k e t kept is can = (kept_undo s log k (suc k) e (footprint_of t) kept is ((undo_test_law w s log k t kept can.in_force).0.1 can)).1
 
 pub kept_redo_law : (w : Schema) → KeptRedoLaw w
 kept_redo_law w s log k e kept is can =
@@ -156,8 +156,8 @@ kept_last_law w s log k e f kept is none_later =
     ] in
     let (can, before) = last_law w h k t there last in
     let back = (undo_law w h k t kept.legal can).set_back in (
-      subst (λ f. undo_blocker log k f.before ≡ None) same ((undo_test_law w s log k t kept there).0.1 can),
-      ap (λ f. apply f.before s) (sym same) ∙ ap (apply t.before) kept.shown ∙ sym back ∙ before,
+      subst (λ f. undo_blocker log k f.touched ≡ None) same ((undo_test_law w s log k t kept there).0.1 can),
+      ap (λ f. apply f.touched s) (sym same) ∙ ap (apply t.before) kept.shown ∙ sym back ∙ before,
     )
 
 granted_kept : (w : Schema) (s t : State w) (log more : List (Logged w)) → IsKept s log → Granted s log t more → IsKept t more
@@ -167,5 +167,5 @@ granted_kept w s t log more kept (redid k e is ok none) =
     kept_redo_law w s log k e kept is (((redo_test_law w s log k e kept is).0 ok).0 none)
 
 pub run_law : (w : Schema) → RunLaw w
-run_law w s log begins = record { legal = λ k t is. cc; shown = refl; feet = refl }
+run_law w s log begins = record { legal = λ k t is. cc; shown = refl; footprints = refl }
 run_law w s log (goes_on run granted) = granted_kept w _ s _ log (run_law w _ _ run) granted

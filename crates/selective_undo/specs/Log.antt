@@ -6,26 +6,26 @@ use Rattle.selective_undo.specs.Edit.{Schema, State, Change, Edit, Trace, covers
 use Rattle.selective_undo.specs.History.{Entry, done, undone, InForce, IsLegal, replay, traces}
 
 -- What an edit read, and the cells that it wrote, with the values that they had.
-pub record Foot (w : Schema) : Type 0 where
+pub record Footprint (w : Schema) : Type 0 where
   pub reads : List w.Pattern
-  pub before : List (Change w)
+  pub touched : List (Change w)
 
--- An edit, with its foot if it is in force.
+-- An edit, with its footprint if it is in force.
 pub record Logged (w : Schema) : Type 0 where
   pub edit : Edit w
-  pub kept : Option (Foot w)
+  pub kept : Option (Footprint w)
 
 module _ {w : Schema} where
   -- what is kept of a trace
-  abbrev pub foot_of : Trace w → Foot w
-  foot_of t = record { reads = t.reads; before = t.before }
+  abbrev pub footprint_of : Trace w → Footprint w
+  footprint_of t = record { reads = t.reads; touched = t.before }
 
   -- and of each trace of a history
-  abbrev pub feet : List (Option (Trace w)) → List (Option (Foot w))
-  feet ts = map (option_map foot_of) ts
+  abbrev pub footprints : List (Option (Trace w)) → List (Option (Footprint w))
+  footprints ts = map (option_map footprint_of) ts
 
   -- an edit is in force where something is kept of it
-  abbrev pub entry_by : Edit w → Option (Foot w) → Entry w
+  abbrev pub entry_by : Edit w → Option (Footprint w) → Entry w
   entry_by e (Some f) = done e
   entry_by e None = undone e
 
@@ -37,23 +37,23 @@ module _ {w : Schema} where
   abbrev pub history : List (Logged w) → List (Entry w)
   history log = map entry_of log
 
-  -- whether an edit with foot f reads or writes one of the cells
-  abbrev pub meets_any : Foot w → List (Change w) → Bool
-  meets_any f xs = list_any (λ x. changes w.order f.before x.cell || covers w f.reads x.cell) xs
+  -- whether an edit with footprint f reads or writes one of the cells
+  abbrev pub meets_any : Footprint w → List (Change w) → Bool
+  meets_any f xs = list_any (λ x. changes w.order f.touched x.cell || covers w f.reads x.cell) xs
 
   -- whether an edit in force needs one that wrote the cells of xs
-  abbrev pub blocks_undo : List (Change w) → Option (Foot w) → Bool
+  abbrev pub blocks_undo : List (Change w) → Option (Footprint w) → Bool
   blocks_undo xs None = false
   blocks_undo xs (Some f) = meets_any f xs
 
-  -- whether an edit in force and one with foot g need one another
-  abbrev pub blocks_redo : Foot w → Option (Foot w) → Bool
+  -- whether an edit in force and one with footprint g need one another
+  abbrev pub blocks_redo : Footprint w → Option (Footprint w) → Bool
   blocks_redo g None = false
-  blocks_redo g (Some f) = meets_any f g.before || meets_any g f.before
+  blocks_redo g (Some f) = meets_any f g.touched || meets_any g f.touched
 
   -- what an edit would read and write in a state, with the values that it would write
-  abbrev pub planned : Edit w → State w → Foot w
-  planned e s = record { reads = reads e s; before = written (outcome e s) }
+  abbrev pub planned : Edit w → State w → Footprint w
+  planned e s = record { reads = reads e s; touched = written (outcome e s) }
 
 -- the place of the first that passes, where i is the place of the first of all
 abbrev pub first_from : {X : Type 0} → (X → Bool) → ℕ → List X → Option ℕ
@@ -65,13 +65,13 @@ module _ {w : Schema} where
   abbrev pub undo_blocker : List (Logged w) → ℕ → List (Change w) → Option ℕ
   undo_blocker log k xs = first_from (blocks_undo xs) (suc k) (drop (suc k) (map (λ x. x.kept) log))
 
-  -- and the redo of an edit with foot g
-  abbrev pub redo_blocker : List (Logged w) → ℕ → Foot w → Option ℕ
+  -- and the redo of an edit with footprint g
+  abbrev pub redo_blocker : List (Logged w) → ℕ → Footprint w → Option ℕ
   redo_blocker log k g = first_from (blocks_redo g) (suc k) (drop (suc k) (map (λ x. x.kept) log))
 
   -- how an edit stands in a log: in force, with what is kept of its trace
   abbrev pub logged_done : Edit w → Trace w → Logged w
-  logged_done e t = record { edit = e; kept = Some (foot_of t) }
+  logged_done e t = record { edit = e; kept = Some (footprint_of t) }
 
   -- and out of force
   abbrev pub logged_undone : Edit w → Logged w
@@ -81,7 +81,7 @@ module _ {w : Schema} where
 pub record IsKept {w : Schema} (s : State w) (log : List (Logged w)) : Type 0 where
   pub legal : IsLegal (history log)
   pub shown : s ≡ replay (history log)
-  pub feet : map (λ x. x.kept) log ≡ feet (traces (history log))
+  pub footprints : map (λ x. x.kept) log ≡ footprints (traces (history log))
 
 -- The least number with the property.
 pub record Least (P : ℕ → Type 0) (j : ℕ) : Type 0 where
@@ -102,8 +102,8 @@ pub record RecordBlocksUndo {w : Schema} (log : List (Logged w)) (k : ℕ) (xs :
   pub there : slice_get log j ≡ Some entry
   pub meets : blocks_undo xs entry.kept ≡ true
 
--- The record of the later edit j and foot g meet, one way or the other.
-pub record RecordBlocksRedo {w : Schema} (log : List (Logged w)) (k : ℕ) (g : Foot w) (j : ℕ) : Type 0 where
+-- The record of the later edit j and footprint g meet, one way or the other.
+pub record RecordBlocksRedo {w : Schema} (log : List (Logged w)) (k : ℕ) (g : Footprint w) (j : ℕ) : Type 0 where
   pub later : k < j
   pub entry : Logged w
   pub there : slice_get log j ≡ Some entry

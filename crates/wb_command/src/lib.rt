@@ -67,12 +67,12 @@ pub fn command_of(alloc: Global, words: &[&str]) -> Result<Asked, CommandErr>
     let command = program(alloc).map_err(|_| CommandErr::NoMemory)?;
     match command.try_get_matches_from(words) {
         Ok(matches) => read_off(&matches).ok_or(CommandErr::BadCommandLine),
-        Err(error) => Err(told(error)),
+        Err(error) => Err(error_of(error)),
     }
 }
 
 // An error of clap's, as the program tells it.
-fn told(error: clap::Error) -> CommandErr
+fn error_of(error: clap::Error) -> CommandErr
     ensures { Tells error result }
 {
     match error.kind() {
@@ -190,11 +190,11 @@ fn read_off(matches: &ArgMatches) -> Option<Asked>
         (IsMeant (subcommand_rows_of matches.now)) }
 {
     let (name, found) = matches.subcommand()?;
-    meant(name, found)
+    asked_by(name, found)
 }
 
 // What the command of this name asks for by what was found for its options.
-fn meant(name: &str, found: &ArgMatches) -> Option<Asked>
+fn asked_by(name: &str, found: &ArgMatches) -> Option<Asked>
     ensures { MatchOption result
         ((asked : Asked) → Means name.now (rows_of (found_of found.now)) asked → ⊥)
         (Means name.now (rows_of (found_of found.now))) }

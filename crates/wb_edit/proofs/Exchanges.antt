@@ -26,7 +26,7 @@ use Rattle.wb_resize.proofs.Without.{without-apart}
 use Rattle.wb_edit.specs.declared.indexed_cells.IndexedCells.{IndexedCells}
 use Rattle.wb_edit.specs.declared.indexed_cells.IndexedCells.TheVariants.{Membership}
 use Rattle.wb_edit.specs.Changed.{set_all, AreApart}
-use Rattle.wb_edit.specs.Commands.{own_cells}
+use Rattle.wb_edit.specs.Commands.{cells_beside_indices}
 use Rattle.wb_edit.specs.Plans.{cell_at}
 use Rattle.wb_edit.proofs.IndexedCells.{changes-append, other_cells, elsewhere, get-take}
 use Rattle.wb_edit.proofs.Elements.{index_order}
@@ -104,7 +104,7 @@ module _ (leaving coming : List Index) where
       ∙ neither _ _ (fresh a i) (none_exchanged (cell_at (Membership kind d)) Present (Element a i) (λ j. membership_apart kind d a i j))
 
 -- the cells that say which indices a domain has are no others of it
-pub own_apart : (kind : DomainKind) (d : Name) (i : Index) → changes cell_cmp (clear_all (own_cells d kind)) (cell_at (Membership (kind_of kind) d) i) ≡ false
+pub own_apart : (kind : DomainKind) (d : Name) (i : Index) → changes cell_cmp (clear_all (cells_beside_indices d kind)) (cell_at (Membership (kind_of kind) d) i) ≡ false
 own_apart (Rectangular rank) d i = refl
 own_apart (Sparse parent rank) d i = refl
 own_apart (Associative type) d i = refl

@@ -26,7 +26,7 @@ use Rattle.wb_book.specs.Kinds.{kind_of}
 use Rattle.wb_book.specs.Readers as readers
 use Rattle.wb_book.specs.Shapes.{Range, indices}
 use Rattle.wb_book.specs.WellFormed.{IsWellFormed}
-use Rattle.wb_resize.specs.Dropped.{ended_cells}
+use Rattle.wb_resize.specs.Dropped.{dropped_domain_cells}
 use Rattle.wb_resize.proofs.Fills.{arrays, zeros_once}
 use Rattle.wb_resize.proofs.Users.{users}
 use Rattle.wb_edit.specs.declared.commands.seen.NewValue.TheVariants.{Fill as fill_with, Clear}
@@ -42,13 +42,13 @@ use Rattle.wb_edit.specs.Laws.{EachCellOnce}
 use Rattle.wb_edit.specs.Layouts.{for_rank, mapped}
 use Rattle.wb_edit.specs.Trees.{Tree, read, judged}
 use Rattle.wb_edit.specs.Objects.{is_empty}
-use Rattle.wb_edit.specs.Numbers.{number_in, fits_integer, sum}
+use Rattle.wb_edit.specs.Numbers.{element_or_refusal, fits_integer, sum}
 use Rattle.wb_edit.specs.Rectangles.{of_rank, all_there, over_rectangle, all_elements}
 use Rattle.wb_edit.specs.Resizing.{has_members, with_members, zeros}
 use Rattle.wb_edit.specs.Schema.{workbook}
 use Rattle.wb_edit.specs.Looks.{is_free, domain_kind, array_kind, is_there, fits, domain_named, array_named, index_fits, element, domain_indices}
 use Rattle.wb_edit.specs.Users.{is_unused, unused}
-use Rattle.wb_edit.specs.Writes.{put, put_all, clear_all}
+use Rattle.wb_edit.specs.Writes.{set_to, put_all, clear_all}
 use Rattle.wb_edit.proofs.Becoming.{same_all, all_absent}
 use Rattle.wb_edit.proofs.IndexedCells.{elsewhere}
 use Rattle.wb_edit.proofs.Elements.{elements_ascend}
@@ -107,16 +107,16 @@ number_once : (s : Cells) (b d : Name) (kind : Kind) (j : Index) (next : ℤ →
 number_once s b d kind j next once = once_read s (Element b j) (λ v. or_implicit b d kind j v next) (by_case (get s (Element b j)))
   where
     by_case : (v : Option Value) → Once (or_implicit b d kind j v next) s
-    by_case (Some v) = once_judged s (number_in (Some v)) next (λ x _. once x)
+    by_case (Some v) = once_judged s (element_or_refusal (Some v)) next (λ x _. once x)
     by_case None =
         once_judged s (has_implicit kind) (λ z. implicit_at b d j next) (λ z _.
         once_test s (Object d) parent_in (λ p. implicit_inside b p j next) (λ p _.
         once_test s (In p j) is_there (λ y. implicit_value b next) (λ y _.
-        once_test s (Implicit b) number_in next (λ x _. once x))))
+        once_test s (Implicit b) element_or_refusal next (λ x _. once x))))
 
 copy_once : (s : Cells) (a : Name) (i : Index) (b : Name) (j : Index) (c : ℤ) → Once (copy a i b j c) s
 copy_once s a i b j c =
-    let last : ℤ → Tree = λ y. write (put (Element a i) (Number y) ∷ []) in
+    let last : ℤ → Tree = λ y. write (set_to (Element a i) (Number y) ∷ []) in
     let added : ℤ → Tree = λ x. sum x c last in
     let elements : Name × Kind → Tree = λ source. element a i (λ z. element_or_implicit b source.0 source.1 j added) in
     let keys : Kind → Name × Kind → Tree = λ kind source. index_fits kind i (λ x. index_fits source.1 j (λ y. elements source)) in
@@ -172,7 +172,7 @@ new_domain_once s d rs m once =
 
 remap_once : (s : Cells) (d : Name) (m : LayoutMap) → Once (remap d m) s
 remap_once s d m =
-    let last : Tree = write (put (Mapping d) (Mapping m) ∷ []) in
+    let last : Tree = write (set_to (Mapping d) (Mapping m) ∷ []) in
     let ranked : ℕ → Tree = λ rank. mapped rank m (λ x. last) in
     once_test s (Object d) domain_kind (λ kind. rectangular kind ranked) (λ kind _.
     once_judged s (rank_of kind) ranked (λ rank _.
@@ -180,13 +180,13 @@ remap_once s d m =
 
 sparse_once : (s : Cells) (d parent : Name) → Once (sparse d parent) s
 sparse_once s d parent =
-    let last : ℕ → Tree = λ rank. write (put (Object d) (Domain (Sparse parent rank)) ∷ put (Use parent d) (Bound Sparse) ∷ []) in
+    let last : ℕ → Tree = λ rank. write (set_to (Object d) (Domain (Sparse parent rank)) ∷ set_to (Use parent d) (Bound Sparse) ∷ []) in
     once_test s (Object d) is_free (λ x. domain_named parent (λ kind. rectangular kind last)) (λ x _.
     once_test s (Object parent) domain_kind (λ kind. rectangular kind last) (λ kind _.
     once_judged s (rank_of kind) last (λ rank _. (refl, (refl, tt)))))
 
 assoc_once : (s : Cells) (d : Name) (type : KeyType) → Once (assoc d type) s
-assoc_once s d type = once_test s (Object d) is_free (λ x. write (put (Object d) (Domain (Associative type)) ∷ [])) (λ x _. (refl, tt))
+assoc_once s d type = once_test s (Object d) is_free (λ x. write (set_to (Object d) (Domain (Associative type)) ∷ [])) (λ x _. (refl, tt))
 
 new_array_once : (s : Cells) (a d : Name) → IsWellFormed s → Once (array a d) s
 new_array_once s a d h =
@@ -197,20 +197,20 @@ new_array_once s a d h =
 
 set_once : (s : Cells) (a : Name) (i : Index) (v : ℤ) → Once (set a i v) s
 set_once s a i v =
-    let last : Tree = write (put (Element a i) (Number v) ∷ []) in
+    let last : Tree = write (set_to (Element a i) (Number v) ∷ []) in
     once_test s (Object a) array_kind (λ array. index_fits array.1 i (λ x. element a i (λ y. last))) (λ array _.
     once_judged s (fits array.1 i) (λ x. element a i (λ y. last)) (λ x _.
     once_test s (Element a i) is_there (λ y. last) (λ y _. (refl, tt))))
 
 irv_once : (s : Cells) (a : Name) (v : ℤ) → Once (irv a v) s
 irv_once s a v =
-    let last : Tree = write (put (Implicit a) (Number v) ∷ []) in
+    let last : Tree = write (set_to (Implicit a) (Number v) ∷ []) in
     once_test s (Object a) array_kind (λ array. over_sparse array.1 (λ x. last)) (λ array _.
     once_judged s (is_sparse array.1) (λ x. last) (λ x _. (refl, tt)))
 
 drop_domain_once : (s : Cells) (d : Name) → IsWellFormed s → Once (drop_domain d) s
 drop_domain_once s d h =
-    let last : DomainKind → List Index → Tree = λ kind is. write (ended_cells d kind is) in
+    let last : DomainKind → List Index → Tree = λ kind is. write (dropped_domain_cells d kind is) in
     once_test s (Object d) domain_kind (λ kind. unused d (λ x. domain_indices d kind (last kind))) (λ kind _.
     once_judged s (is_unused (users s d)) (λ x. domain_indices d kind (last kind)) (λ x _.
     once_indices s h d kind (last kind) (λ is listed. once_ended d kind is listed)))

@@ -4,7 +4,7 @@ use Rattle.wb_book.specs.declared.cells.kind.Kind.{Kind}
 use Rattle.wb_book.specs.declared.cells.pattern.Pattern.{Pattern}
 use Rattle.wb_book.specs.declared.values.index.Index.{Index}
 use Rattle.wb_book.specs.Cells.{Name, Cells, Changes}
-use Rattle.wb_resize.specs.declared.given.Given.{Given}
+use Rattle.wb_resize.specs.declared.operand.Operand.{Operand}
 use Rattle.wb_edit.specs.declared.attempt_err.AttemptErr.{AttemptErr}
 use Rattle.wb_edit.specs.Trees.{Tree}
 use Rattle.wb_edit.specs.Plans.{Attempts, Gives, Looks}
@@ -12,7 +12,7 @@ use Rattle.wb_edit.specs.Sources.{gives_set, indices_given}
 use Rattle.wb_edit.specs.Looks.{members}
 use Rattle.wb_edit.proofs.Attempts.{goes_on, stops}
 
-module _ (s : Cells) (d : Name) (kind : Kind) (given : Given) (next : List Index → List Index → Tree) where
+module _ (s : Cells) (d : Name) (kind : Kind) (given : Operand) (next : List Index → List Index → Tree) where
   abbrev after_old : List Index → Tree
   after_old old = indices_given given (next old)
 

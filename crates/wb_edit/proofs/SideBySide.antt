@@ -32,7 +32,7 @@ use Rattle.wb_edit.specs.Trees.{Tree, judged}
 use Rattle.wb_edit.specs.Numbers.{is_i64, kept_if, fits_integer}
 use Rattle.wb_edit.specs.Plans.{Gives, stopped}
 use Rattle.wb_edit.specs.Looks.{array_kind, array_named}
-use Rattle.wb_edit.specs.Writes.{put}
+use Rattle.wb_edit.specs.Writes.{set_to}
 use Rattle.wb_edit.proofs.Elements.{index_order, number_of, elements_ascend, find_element}
 use Rattle.wb_resize.proofs.States.{same_name}
 use Rattle.wb_edit.proofs.Kept.Steps.{array_is}
@@ -94,14 +94,14 @@ shown_in (Ok (x ∷ xs)) = array_in x.value
 shown_in (Ok []) = None
 shown_in (Err why) = None
 
-sees : (s : Cells) (x : Name × Kind) (j : Result (Name × Kind) Refusal) → outcome (judged j (λ y. write (put (Object y.0) (Array y.0 y.1) ∷ []))) s ≡ Ok (put (Object x.0) (Array x.0 x.1) ∷ []) → j ≡ Ok x
+sees : (s : Cells) (x : Name × Kind) (j : Result (Name × Kind) Refusal) → outcome (judged j (λ y. write (set_to (Object y.0) (Array y.0 y.1) ∷ []))) s ≡ Ok (set_to (Object x.0) (Array x.0 x.1) ∷ []) → j ≡ Ok x
 sees s x (Ok y) e = let shown : Some y ≡ Some x = ap shown_in e in ap Ok (same_Some y x shown)
 sees s x (Err why) e = let shown : None ≡ Some x = ap shown_in e in absurd (none-some x shown)
 
 -- a look at an array that went on saw it
 pub saw_array : (s : Cells) (a : Name) (rs ss : List Pattern) (x : Name × Kind) → Gives (array_named a) s rs x ss → get s (Object a) ≡ Some (Array x.0 x.1)
 saw_array s a rs ss x g =
-    let next : Name × Kind → Tree = λ y. write (put (Object y.0) (Array y.0 y.1) ∷ []) in
+    let next : Name × Kind → Tree = λ y. write (set_to (Object y.0) (Array y.0 y.1) ∷ []) in
     array_is (get s (Object a)) x (sees s x (array_kind (get s (Object a))) (ap (λ v. outcome (judged (array_kind v) next) s) (sym (seen_value s (Object a))) ∙ (g next).0))
 
 pub went_on : (j : Result (Unit {0}) Refusal) (x : Unit {0}) → stopped j ≡ Ok x → j ≡ Ok x

@@ -12,7 +12,7 @@ use Rattle.wb_book.specs.Cells.{Name}
 use Rattle.wb_edit.specs.declared.refusal.Refusal.{Refusal}
 use Rattle.wb_edit.specs.declared.refusal.Refusal.TheVariants.{OutOfDomain}
 use Rattle.wb_edit.specs.Trees.{Look, ◌>>=◌, read, judged}
-use Rattle.wb_edit.specs.Numbers.{number_in}
+use Rattle.wb_edit.specs.Numbers.{element_or_refusal}
 use Rattle.wb_edit.specs.Looks.{is_there}
 
 -- ---- judgements
@@ -46,7 +46,7 @@ is_in_domain d i next = do
 abbrev pub implicit_value : Name → Look ℤ
 implicit_value a next = do
   x ← read (Implicit a)
-  judged (number_in x) next
+  judged (element_or_refusal x) next
 
 -- the implicit value, at an index of the parent
 abbrev pub implicit_inside : (a parent : Name) → Index → Look ℤ
@@ -68,7 +68,7 @@ implicit a d kind i next = do
 
 -- what stands in the element's cell, or else the implicit value
 abbrev pub or_implicit : Name → Name → Kind → Index → Option Value → Look ℤ
-or_implicit a d kind i (Some v) = judged (number_in (Some v))
+or_implicit a d kind i (Some v) = judged (element_or_refusal (Some v))
 or_implicit a d kind i None = implicit a d kind i
 
 -- the element of an array over the domain d, or its implicit value: looks at the element first

@@ -9,9 +9,9 @@ use Rattle.wb_edit.specs.Trees.{Look, judged}
 -- ---- judgements
 
 -- the element that a cell holds
-abbrev pub number_in : Option Value → Result ℤ Refusal
-number_in (Some (Number x)) = Ok x
-number_in _ = Err OutOfDomain
+abbrev pub element_or_refusal : Option Value → Result ℤ Refusal
+element_or_refusal (Some (Number x)) = Ok x
+element_or_refusal _ = Err OutOfDomain
 
 -- whether an integer is one of 64 bits: -2^63 to 2^63 - 1
 abbrev pub is_i64 : ℤ → Bool

@@ -18,7 +18,7 @@ use Rattle.wb_edit.specs.Trees.{Tree, Look, ◌>>=◌, read, judged}
 use Rattle.wb_edit.specs.Rectangles.{read_all}
 use Rattle.wb_edit.specs.Resizing.{zeros}
 use Rattle.wb_edit.specs.Users.{bound, uses}
-use Rattle.wb_edit.specs.Writes.{put}
+use Rattle.wb_edit.specs.Writes.{set_to}
 
 -- ---- judgements of what cells hold
 
@@ -58,7 +58,7 @@ none_there names is next = do
 -- what changes with the ranges of a rectangular domain, where indices leave it and others come to it: the ranges, which
 -- indices it has, and the elements of the arrays over it
 abbrev pub reshaped_cells : Name → (new : List Range) → (arrays : List Name) → (leaving coming : List Index) → Changes
-reshaped_cells d new arrays leaving coming = put (Shape d) (Ranges new) ∷ resized_cells (Rectangular (length new)) d (zeros arrays) leaving coming
+reshaped_cells d new arrays leaving coming = set_to (Shape d) (Ranges new) ∷ resized_cells (Rectangular (length new)) d (zeros arrays) leaving coming
 
 -- a rectangular domain gets new ranges, so that indices leave it and others come to it: none that leaves is in a sparse domain
 -- in it, and new elements of the arrays over it are 0

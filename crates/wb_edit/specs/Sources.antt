@@ -12,9 +12,9 @@ use Rattle.wb_book.specs.declared.values.index.Index.{Index}
 use Rattle.wb_book.specs.Cells.{Name}
 use Rattle.wb_book.specs.Kinds.{kind_of, is_key}
 use Rattle.wb_book.specs.Shapes.{Range}
-use Rattle.wb_resize.specs.declared.given.Given.{Given}
-use Rattle.wb_resize.specs.declared.given.Given.TheVariants.{Rectangle, Items, Named}
-use Rattle.wb_resize.specs.declared.source.Displacement.{Displacement}
+use Rattle.wb_resize.specs.declared.operand.Operand.{Operand}
+use Rattle.wb_resize.specs.declared.operand.Operand.TheVariants.{Rectangle, Items, Named}
+use Rattle.wb_resize.specs.declared.new_indices.Displacement.{Displacement}
 use Rattle.wb_resize.specs.Sources.{displaced, can_displace}
 use Rattle.wb_edit.specs.declared.refusal.Refusal.{Refusal}
 use Rattle.wb_edit.specs.declared.refusal.Refusal.TheVariants.{WrongKind, TooLarge}
@@ -77,13 +77,13 @@ names_rectangle rank e next = do
   judged (of_rank rank (kind_of kind)) next
 
 -- a rectangle of the rank is given: a literal, or a rectangular domain, whose object is looked at
-abbrev pub gives_rectangle : (rank : ℕ) → Given → Look (Unit {0})
+abbrev pub gives_rectangle : (rank : ℕ) → Operand → Look (Unit {0})
 gives_rectangle rank (Rectangle rs) next = judged (same_rank rank (length rs)) next
 gives_rectangle rank (Items is) next = refuse WrongKind
 gives_rectangle rank (Named e) next = names_rectangle rank e next
 
 -- the ranges that are given: looks at those of the domain that is named. A set has none, and is refused before
-abbrev pub ranges_given : Given → Look (List Range)
+abbrev pub ranges_given : Operand → Look (List Range)
 ranges_given (Rectangle rs) next = next rs
 ranges_given (Items is) next = refuse WrongKind
 ranges_given (Named e) next = shape e next
@@ -95,13 +95,13 @@ names_set kind e next = do
   judged (alike kind (kind_of other)) next
 
 -- a set for a domain of the kind is given: a literal of such indices, or a domain like it, whose object is looked at
-abbrev pub gives_set : Kind → Given → Look (Unit {0})
+abbrev pub gives_set : Kind → Operand → Look (Unit {0})
 gives_set kind (Rectangle rs) next = refuse WrongKind
 gives_set kind (Items is) next = judged (all_fit kind is) next
 gives_set kind (Named e) next = names_set kind e next
 
 -- the indices that are given: looks at those of the domain that is named. A rectangle is no set, and is refused before
-abbrev pub indices_given : Given → Look (List Index)
+abbrev pub indices_given : Operand → Look (List Index)
 indices_given (Rectangle rs) next = refuse WrongKind
 indices_given (Items is) next = next is
 indices_given (Named e) next = members e next

@@ -8,7 +8,7 @@ use Rattle.wb_book.specs.Layouts.{IsLayout}
 use Rattle.wb_book.specs.Shapes.{indices}
 use Rattle.wb_book.specs.WellFormed.{IsRectangle}
 use Rattle.wb_edit.specs.declared.edit.Edit.{Edit as Command}
-use Rattle.wb_edit.specs.ValidSources.{IsSource, IsSourceOnce}
+use Rattle.wb_edit.specs.ValidSources.{AreNewIndices, AreNewIndicesOnce}
 use Rattle.wb_reading.specs.Texts.Books.{IsBookText}
 use Rattle.wb_edit.specs.declared.edit.Edit.TheVariants.{Domain, Remap, Sparse, Assoc, Array, Set, Irv, Copy, Fill, FillAll, DropArray, All, Add, Remove, DropDomain, Reshape, DomainOfSet, FillOfSet, Load}
 
@@ -45,7 +45,7 @@ IsValid (Remove d i) = ⊤
 -- nothing is asked
 IsValid (DropDomain d) = ⊤
 -- what is given is as it has to be
-IsValid (Reshape d source) = IsSource source
+IsValid (Reshape d source) = AreNewIndices source
 -- nothing is asked
 IsValid (DomainOfSet d) = ⊤
 -- nothing is asked
@@ -56,5 +56,5 @@ IsValid (Load text) = IsBookText text
 -- The indices that a command carries are listed once each; those of every value of the type `Edit` are.
 abbrev pub ListsOnce : Command → Type 0
 ListsOnce (Fill a on v) = IsListedOnce (indices on)
-ListsOnce (Reshape d source) = IsSourceOnce source
+ListsOnce (Reshape d source) = AreNewIndicesOnce source
 ListsOnce _ = ⊤

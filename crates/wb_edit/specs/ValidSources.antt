@@ -4,33 +4,33 @@ use Rattle.std.specs.List.{All}
 use Rattle.wb_range.specs.Domain.{IsListedOnce}
 use Rattle.wb_book.specs.Kinds.{IsIndex}
 use Rattle.wb_book.specs.WellFormed.{IsRectangle}
-use Rattle.wb_resize.specs.declared.given.Given.{Given}
-use Rattle.wb_resize.specs.declared.given.Given.TheVariants.{Rectangle, Items, Named}
-use Rattle.wb_resize.specs.declared.source.Source.{Source}
-use Rattle.wb_resize.specs.declared.source.Source.TheVariants.{To, Slice, Displace, Combine}
+use Rattle.wb_resize.specs.declared.operand.Operand.{Operand}
+use Rattle.wb_resize.specs.declared.operand.Operand.TheVariants.{Rectangle, Items, Named}
+use Rattle.wb_resize.specs.declared.new_indices.NewIndices.{NewIndices}
+use Rattle.wb_resize.specs.declared.new_indices.NewIndices.TheVariants.{To, Slice, Displace, Combine}
 
 -- what is given for a domain: a rectangle within the limits, indices made of integers of 64 bits or of texts of labels, or a name
-abbrev pub IsGiven : Given → Type 0
-IsGiven (Rectangle rs) = IsRectangle (length rs) rs
-IsGiven (Items is) = All IsIndex is
-IsGiven (Named e) = ⊤
+abbrev pub IsOperand : Operand → Type 0
+IsOperand (Rectangle rs) = IsRectangle (length rs) rs
+IsOperand (Items is) = All IsIndex is
+IsOperand (Named e) = ⊤
 
-abbrev pub IsSource : Source → Type 0
-IsSource (To given) = IsGiven given
-IsSource (Slice given) = IsGiven given
-IsSource (Displace how offsets) = ⊤
-IsSource (Combine how given) = IsGiven given
+abbrev pub AreNewIndices : NewIndices → Type 0
+AreNewIndices (To given) = IsOperand given
+AreNewIndices (Slice given) = IsOperand given
+AreNewIndices (Displace how offsets) = ⊤
+AreNewIndices (Combine how given) = IsOperand given
 
 -- ---- each index once
 
 -- a set that is given has each index once
-abbrev pub IsGivenOnce : Given → Type 0
-IsGivenOnce (Rectangle rs) = ⊤
-IsGivenOnce (Items is) = IsListedOnce is
-IsGivenOnce (Named e) = ⊤
+abbrev pub IsOperandOnce : Operand → Type 0
+IsOperandOnce (Rectangle rs) = ⊤
+IsOperandOnce (Items is) = IsListedOnce is
+IsOperandOnce (Named e) = ⊤
 
-abbrev pub IsSourceOnce : Source → Type 0
-IsSourceOnce (To given) = IsGivenOnce given
-IsSourceOnce (Slice given) = IsGivenOnce given
-IsSourceOnce (Displace how offsets) = ⊤
-IsSourceOnce (Combine how given) = IsGivenOnce given
+abbrev pub AreNewIndicesOnce : NewIndices → Type 0
+AreNewIndicesOnce (To given) = IsOperandOnce given
+AreNewIndicesOnce (Slice given) = IsOperandOnce given
+AreNewIndicesOnce (Displace how offsets) = ⊤
+AreNewIndicesOnce (Combine how given) = IsOperandOnce given

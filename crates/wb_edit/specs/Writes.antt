@@ -3,8 +3,8 @@ use Rattle.std.specs.Prelude.{List, map}
 use Rattle.wb_book.specs.declared.cells.cell.Cell.{Cell}
 use Rattle.wb_book.specs.declared.cells.value.Value.{Value}
 use Rattle.wb_book.specs.Cells.{Changes}
-pub use Rattle.wb_resize.specs.Writes.{put, clear, clear_all, put_all}
+pub use Rattle.wb_resize.specs.Writes.{set_to, clear, clear_all, put_all}
 
 -- each cell gets the value beside it
 abbrev pub put_each : List (Cell × Value) → Changes
-put_each es = map (λ e. put e.0 e.1) es
+put_each es = map (λ e. set_to e.0 e.1) es

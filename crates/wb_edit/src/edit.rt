@@ -1,13 +1,13 @@
 ghost use Rattle.std.specs.Prelude.{◌≡◌, IfOk};
 ghost use Rattle.wb_edit.specs.Valid.{IsValid, ListsOnce};
-ghost use Rattle.wb_edit.specs.ValidSources.{IsGiven, IsGivenOnce, IsSource, IsSourceOnce};
+ghost use Rattle.wb_edit.specs.ValidSources.{IsOperand, IsOperandOnce, AreNewIndices, AreNewIndicesOnce};
 
 use crate::operation::Operation;
 use std::alloc::Global;
 use wb_book::{AnyIndex, AnyLayout, AnyRect, KeyType, Name, index_validity, indices_validity};
 use wb_range::{Domain, NoMemory};
 use wb_reading::BookText;
-use wb_resize::{Given, Source};
+use wb_resize::{NewIndices, Operand};
 
 /// A command that changes a workbook, as it is asked for.
 ///
@@ -51,7 +51,7 @@ pub enum Edit {
     DropDomain(Name),
     /// A new value of the domain of this name, from a source of its kind (Chapel Language Specification, Domains: assignment,
     /// slicing, translate, expand, and set operations on associative domains).
-    Reshape(Name, Source),
+    Reshape(Name, NewIndices),
     /// A new rectangular domain of this name that is asked for with a set: it is always refused.
     DomainOfSet(Name),
     /// One number as the elements of an array, asked for with a set in place of a rectangle: it is always refused.
@@ -175,51 +175,51 @@ impl Edit {
 }
 
 // Computes nothing. Callers learn that a set in the source has each index once.
-fn source_listing(source: &Source)
-    ensures { IsSourceOnce source.now }
+fn source_listing(source: &NewIndices)
+    ensures { AreNewIndicesOnce source.now }
 {
     match source {
-        Source::To(given) => given_listing(given),
-        Source::Slice(given) => given_listing(given),
-        Source::Displace(_, _) => {}
-        Source::Combine(_, given) => given_listing(given),
+        NewIndices::To(given) => given_listing(given),
+        NewIndices::Slice(given) => given_listing(given),
+        NewIndices::Displace(_, _) => {}
+        NewIndices::Combine(_, given) => given_listing(given),
     }
 }
 
 // Computes nothing. Callers learn that a set that is given has each index once.
-fn given_listing(given: &Given)
-    ensures { IsGivenOnce given.now }
+fn given_listing(given: &Operand)
+    ensures { IsOperandOnce given.now }
 {
     match given {
-        Given::Rectangle(_) => {}
-        Given::Items(items) => {
+        Operand::Rectangle(_) => {}
+        Operand::Items(items) => {
             let _once = items.size();
         }
-        Given::Named(_) => {}
+        Operand::Named(_) => {}
     }
 }
 
 // Computes nothing. Callers learn what the source of a domain's new value is made of.
-fn source_validity(source: &Source)
-    ensures { IsSource source.now }
+fn source_validity(source: &NewIndices)
+    ensures { AreNewIndices source.now }
 {
     match source {
-        Source::To(given) => given_validity(given),
-        Source::Slice(given) => given_validity(given),
-        Source::Displace(_, _) => {}
-        Source::Combine(_, given) => given_validity(given),
+        NewIndices::To(given) => given_validity(given),
+        NewIndices::Slice(given) => given_validity(given),
+        NewIndices::Displace(_, _) => {}
+        NewIndices::Combine(_, given) => given_validity(given),
     }
 }
 
 // Computes nothing. Callers learn what is given.
-fn given_validity(given: &Given)
-    ensures { IsGiven given.now }
+fn given_validity(given: &Operand)
+    ensures { IsOperand given.now }
 {
     match given {
-        Given::Rectangle(ranges) => {
+        Operand::Rectangle(ranges) => {
             let _rank = ranges.rank();
         }
-        Given::Items(items) => indices_validity(items.as_slice()),
-        Given::Named(_) => {}
+        Operand::Items(items) => indices_validity(items.as_slice()),
+        Operand::Named(_) => {}
     }
 }

@@ -7,7 +7,7 @@
 mod attempt_err;
 mod commands;
 mod edit;
-mod foot;
+mod footprint;
 mod indexed_cells;
 pub mod laws;
 mod looks;
@@ -17,10 +17,10 @@ mod refusal;
 mod same;
 
 pub use crate::edit::Edit;
-pub use crate::foot::Foot;
+pub use crate::footprint::Footprint;
 pub use crate::looks::implicit::{has_implicit, parent_in};
 pub use crate::looks::judgements;
-pub use crate::looks::numbers::number_in;
+pub use crate::looks::numbers::element_or_refusal;
 pub use crate::operation::Operation;
 pub use crate::planning::{PlanErr, plan};
 pub use crate::refusal::Refusal;

@@ -3,14 +3,14 @@ use Rattle.std.specs.Prelude.{ℕ, pos, List, [], ◌∷◌, codes}
 use Rattle.serde_json.specs.Data.{Data, number as json_number, unsigned, string, object, Members, no_members, member}
 use Rattle.serde_json.specs.Written.{compact_text}
 use Rattle.wb_edit.specs.declared.edit.Edit.{Edit}
-use Rattle.wb_resize.specs.declared.given.Given.{Given}
-use Rattle.wb_resize.specs.declared.given.Given.TheVariants.{Rectangle, Items, Named}
+use Rattle.wb_resize.specs.declared.operand.Operand.{Operand}
+use Rattle.wb_resize.specs.declared.operand.Operand.TheVariants.{Rectangle, Items, Named}
 use Rattle.wb_text.specs.Literals.{rectangle_text, set_text, mapping_text}
 use Rattle.wb_encode.specs.Values.{integer_data, index_data}
 use Rattle.wb_encode.specs.Table.{Meaning, word, name, integer, number, index, given, mapping, optional_mapping, book, some_set, some_mapping, some_integer, Fields, edit_table}
 
 -- the canonical literal, or the name
-abbrev pub given_text : Given → List ℕ
+abbrev pub given_text : Operand → List ℕ
 given_text (Rectangle ranges) = rectangle_text ranges
 given_text (Items is) = set_text is
 given_text (Named n) = n

@@ -7,11 +7,11 @@ use Rattle.wb_book.specs.declared.values.index.Index.{Index}
 use Rattle.wb_book.specs.declared.values.index.Index.TheVariants.{Point}
 use Rattle.wb_book.specs.declared.cells.kind.KeyType.{KeyType}
 use Rattle.wb_book.specs.declared.cells.kind.KeyType.TheVariants as types
-use Rattle.wb_resize.specs.declared.given.Given.{Given}
-use Rattle.wb_resize.specs.declared.given.Given.TheVariants.{Rectangle}
-use Rattle.wb_resize.specs.declared.source.Displacement.TheVariants.{Translate, Expand}
-use Rattle.wb_resize.specs.declared.source.SetOperation.TheVariants.{Union, Intersection, Difference, SymmetricDifference}
-use Rattle.wb_resize.specs.declared.source.Source.TheVariants.{To, Slice, Displace, Combine}
+use Rattle.wb_resize.specs.declared.operand.Operand.{Operand}
+use Rattle.wb_resize.specs.declared.operand.Operand.TheVariants.{Rectangle}
+use Rattle.wb_resize.specs.declared.new_indices.Displacement.TheVariants.{Translate, Expand}
+use Rattle.wb_resize.specs.declared.new_indices.SetOperation.TheVariants.{Union, Intersection, Difference, SymmetricDifference}
+use Rattle.wb_resize.specs.declared.new_indices.NewIndices.TheVariants.{To, Slice, Displace, Combine}
 use Rattle.wb_edit.specs.declared.operation.Operation.{Operation}
 use Rattle.wb_edit.specs.declared.operation.Operation.TheVariants as operations
 use Rattle.wb_edit.specs.declared.edit.Edit.{Edit}
@@ -27,7 +27,7 @@ pub data Meaning : Type 0 where
   number : ℕ → Meaning
   index : Index → Meaning
   -- a rectangle, a set of indices, or a domain by its name
-  given : Given → Meaning
+  given : Operand → Meaning
   mapping : LayoutMap → Meaning
   -- the same, in a member that may be missing; then all lies on one locale
   optional_mapping : LayoutMap → Meaning

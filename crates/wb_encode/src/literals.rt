@@ -11,7 +11,7 @@ use serde_json::{Value, json};
 use std::alloc::{AllocError, Global};
 use wb_book::{AnyIndex, AnyLayout, AnyRect, Index, KeyType};
 use wb_edit::Operation;
-use wb_resize::Given;
+use wb_resize::Operand;
 use wb_text::{push_any_layout, push_any_rect, push_set};
 
 /// The canonical literal of a rectangle.
@@ -42,13 +42,13 @@ fn set_text(alloc: Global, indices: &[AnyIndex]) -> Result<String, AllocError>
 }
 
 /// The canonical literal of what is given for a domain, or a name.
-pub(crate) fn given_text(alloc: Global, given: &Given) -> Result<String, AllocError>
+pub(crate) fn given_text(alloc: Global, given: &Operand) -> Result<String, AllocError>
     ensures { IfOk result (λ s. string_bytes s ≡ given_text given.now) }
 {
     match given {
-        Given::Rectangle(ranges) => rectangle_text(alloc, ranges),
-        Given::Items(items) => set_text(alloc, items.as_slice()),
-        Given::Named(name) => String::from_str(alloc, name.as_str()),
+        Operand::Rectangle(ranges) => rectangle_text(alloc, ranges),
+        Operand::Items(items) => set_text(alloc, items.as_slice()),
+        Operand::Named(name) => String::from_str(alloc, name.as_str()),
     }
 }
 

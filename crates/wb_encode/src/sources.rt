@@ -3,14 +3,14 @@ ghost use Rattle.std.specs.Prelude.{◌≡◌, IfOk};
 ghost use Rattle.serde_json.specs.View.{view};
 ghost use Rattle.wb_edit.specs.declared.edit.Edit.TheVariants.{Reshape};
 ghost use Rattle.wb_encode.specs.Encoded.{edit_data};
-ghost use Rattle.wb_resize.specs.declared.source.Source.TheVariants.{Displace as displace, Combine as combine};
+ghost use Rattle.wb_resize.specs.declared.new_indices.NewIndices.TheVariants.{Displace as displace, Combine as combine};
 
 use crate::literals::{given_text, index_value};
 use crate::objects::{diminished, exchanged, intersected, united};
 use serde_json::{Value, json};
 use std::alloc::{AllocError, Global};
 use wb_book::{AnyIndex, Index, Name, Point};
-use wb_resize::{Displacement, Given, SetOperation, Source};
+use wb_resize::{Displacement, NewIndices, Operand, SetOperation};
 
 fn displaced(
     alloc: Global,
@@ -32,7 +32,12 @@ fn displaced(
 }
 
 // The object of a set operation, under the key of which the other set stands.
-fn combined(alloc: Global, d: &Name, how: SetOperation, given: &Given) -> Result<Value, AllocError>
+fn combined(
+    alloc: Global,
+    d: &Name,
+    how: SetOperation,
+    given: &Operand,
+) -> Result<Value, AllocError>
     ensures { IfOk result (λ v. view v ≡ edit_data (Reshape d.now (combine how given.now))) }
 {
     let given = given_text(alloc, given)?;
@@ -45,19 +50,19 @@ fn combined(alloc: Global, d: &Name, how: SetOperation, given: &Given) -> Result
 }
 
 /// A new value of a domain.
-pub(crate) fn reshaped(alloc: Global, d: &Name, source: &Source) -> Result<Value, AllocError>
+pub(crate) fn reshaped(alloc: Global, d: &Name, source: &NewIndices) -> Result<Value, AllocError>
     ensures { IfOk result (λ v. view v ≡ edit_data (Reshape d.now source.now)) }
 {
     match source {
-        Source::To(given) => {
+        NewIndices::To(given) => {
             let given = given_text(alloc, given)?;
             json!(in alloc; {"d": d.as_str(), "op": "reshape", "to": &given})
         }
-        Source::Slice(given) => {
+        NewIndices::Slice(given) => {
             let given = given_text(alloc, given)?;
             json!(in alloc; {"d": d.as_str(), "op": "reshape", "slice": &given})
         }
-        Source::Displace(how, offsets) => displaced(alloc, d, *how, offsets),
-        Source::Combine(how, given) => combined(alloc, d, *how, given),
+        NewIndices::Displace(how, offsets) => displaced(alloc, d, *how, offsets),
+        NewIndices::Combine(how, given) => combined(alloc, d, *how, given),
     }
 }

@@ -1,4 +1,4 @@
--- Feet and places: what a foot read or touched, by the marks that it has.
+-- Footprints and places: what a footprint read or touched, by the marks that it has.
 use Rattle.std.proofs.Common.{◌≡◌, ℕ, Bool, true, false, ◌||◌, Option, Some, None, List, [], ◌∷◌, refl, sym, ◌∙◌, length, take, suc, ◌+◌, ◌<◌, get_or, add-one}
 use Rattle.std.specs.Prelude.{IfSome}
 use Rattle.std.specs.List.{list_any}
@@ -6,7 +6,7 @@ use Rattle.std.specs.Ordering.{eq_by_cmp}
 use Rattle.std.proofs.lemmas.Cmp.{eq_by_cmp_equiv}
 use Rattle.selective_undo.specs.Changes.{changes}
 use Rattle.selective_undo.specs.Edit.{covers}
-use Rattle.selective_undo.specs.Log.{Foot, blocks_undo, blocks_redo}
+use Rattle.selective_undo.specs.Log.{Footprint, blocks_undo, blocks_redo}
 use Rattle.wb_book.specs.declared.cells.cell.Cell.{Cell}
 use Rattle.wb_book.specs.declared.cells.pattern.Pattern.{Pattern}
 use Rattle.wb_book.specs.declared.cells.pattern.Pattern.TheVariants as p
@@ -25,9 +25,9 @@ use Rattle.wb_foot.specs.declared.foot_index.FootIndex.{FootIndex}
 use Rattle.wb_foot.specs.Relation.{IsLeastAfter}
 use Rattle.wb_foot.specs.Parts.{slot_cmp, is_same_part}
 use Rattle.wb_foot.specs.Places.{place_marked}
-use Rattle.wb_foot.specs.Feet.{IsIndexOf, any_met}
+use Rattle.wb_foot.specs.Footprints.{IsIndexOf, any_met}
 use Rattle.wb_foot.specs.Places.{own, family, place_of, is_same_place, is_family}
-use Rattle.wb_foot.specs.Feet.{at_cell, touched_at, read_at, touched_by, read_by, met_by, touched_under, foot}
+use Rattle.wb_foot.specs.Footprints.{at_cell, touched_at, read_at, touched_by, read_by, met_by, touched_under, footprint}
 use Rattle.wb_foot.proofs.Matching.{named}
 use Rattle.wb_foot.proofs.Setting.{more_any}
 
@@ -105,7 +105,7 @@ same_family (Some f) q = same_places q f
 at_named : (q : Pattern) (y : Cell) → matches q y ≡ at_cell y (place_of q)
 at_named q y = named q y ∙ rw (same_places (place_of q) (own y), same_family (family y) (place_of q))
 
--- ---- what a foot touched and read, at places
+-- ---- what a footprint touched and read, at places
 
 pub touched_named : (q : Pattern) (xs : Changes) → list_any (λ x. matches q x.cell) xs ≡ touched_at xs (place_of q)
 touched_named q xs = any_like (λ x. matches q x.cell) (λ x. at_cell x.cell (place_of q)) xs (λ x. at_named q x.cell)
@@ -128,23 +128,23 @@ none_family : (o : Option Place) → at_family (λ f. false) o ≡ false
 none_family None = refl
 none_family (Some f) = refl
 
-pub met_at : (o : Option (Foot workbook)) (c : Cell) → met_by o c ≡ ((touched_by o (own c) || read_by o (own c)) || at_family (read_by o) (family c))
+pub met_at : (o : Option (Footprint workbook)) (c : Cell) → met_by o c ≡ ((touched_by o (own c) || read_by o (own c)) || at_family (read_by o) (family c))
 met_at None c = sym (none_family (family c))
-met_at (Some f) c = rw (touched_named (p.One c) f.before, covers_at c f.reads) (or_assoc (touched_at f.before (own c)) (read_at f.reads (own c)) (at_family (read_at f.reads) (family c)))
+met_at (Some f) c = rw (touched_named (p.One c) f.touched, covers_at c f.reads) (or_assoc (touched_at f.touched (own c)) (read_at f.reads (own c)) (at_family (read_at f.reads) (family c)))
 
-module _ (idx : FootIndex) (feet : ℕ → Option (Foot workbook)) (h : IsIndexOf idx feet) (n : ℕ) where
-  marked_family : (o : Option Place) → at_family (read_by (feet n)) o ≡ at_family (λ q. place_marked idx.read q n) o
+module _ (idx : FootIndex) (footprints : ℕ → Option (Footprint workbook)) (h : IsIndexOf idx footprints) (n : ℕ) where
+  marked_family : (o : Option Place) → at_family (read_by (footprints n)) o ≡ at_family (λ q. place_marked idx.read q n) o
   marked_family None = refl
   marked_family (Some f) = sym (h.read f n)
 
-  pub met_marked : (c : Cell) (q : Place) (o : Option Place) → q ≡ own c → o ≡ family c → met_by (feet n) c ≡ ((place_marked idx.touched q n || place_marked idx.read q n) || at_family (λ f. place_marked idx.read f n) o)
-  met_marked c q o e g = met_at (feet n) c ∙ rw (← e, ← g, h.touched q n, h.read q n, marked_family o)
+  pub met_marked : (c : Cell) (q : Place) (o : Option Place) → q ≡ own c → o ≡ family c → met_by (footprints n) c ≡ ((place_marked idx.touched q n || place_marked idx.read q n) || at_family (λ f. place_marked idx.read f n) o)
+  met_marked c q o e g = met_at (footprints n) c ∙ rw (← e, ← g, h.touched q n, h.read q n, marked_family o)
 
   or_nothing : (a : Bool) → a || false ≡ a
   or_nothing true = refl
   or_nothing false = refl
 
-  pub met_alone : (c : Cell) (q : Place) → q ≡ own c → None ≡ family c → met_by (feet n) c ≡ (place_marked idx.touched q n || place_marked idx.read q n)
+  pub met_alone : (c : Cell) (q : Place) → q ≡ own c → None ≡ family c → met_by (footprints n) c ≡ (place_marked idx.touched q n || place_marked idx.read q n)
   met_alone c q e g = met_marked c q None e g ∙ or_nothing (place_marked idx.touched q n || place_marked idx.read q n)
 
 pub least_above : (p : ℕ → Bool) (after : ℕ) (r : Option ℕ) → IsLeastAfter p after r → IfSome r (λ j. after < j)
@@ -157,7 +157,7 @@ least_like p q after (Some j) e h = (h.0, e j ∙ h.1, λ n up down. e n ∙ h.2
 
 -- ---- undo and redo
 
-pub undo_met : (xs : Changes) (o : Option (Foot workbook)) → blocks_undo xs o ≡ any_met o xs
+pub undo_met : (xs : Changes) (o : Option (Footprint workbook)) → blocks_undo xs o ≡ any_met o xs
 undo_met xs None = sym (any_none xs)
 undo_met xs (Some f) = refl
 
@@ -176,22 +176,22 @@ covered_back rs xs =
     any_swap (λ x r. matches r x.cell) xs rs
     ∙ any_like (λ r. list_any (λ x. matches r x.cell) xs) (λ r. touched_at xs (place_of r)) rs (λ r. touched_named r xs)
 
-pub redo_met : (rs : List Pattern) (xs : Changes) (o : Option (Foot workbook)) → blocks_redo (foot rs xs) o ≡ (any_met o xs || touched_under o rs)
+pub redo_met : (rs : List Pattern) (xs : Changes) (o : Option (Footprint workbook)) → blocks_redo (footprint rs xs) o ≡ (any_met o xs || touched_under o rs)
 redo_met rs xs None = rw (any_none xs, any_none rs)
 redo_met rs xs (Some f) =
     rw (
-      any_or (λ x. changes cell_cmp f.before x.cell) (λ x. covers workbook f.reads x.cell) xs,
-      any_or (λ x. changes cell_cmp xs x.cell) (λ x. covers workbook rs x.cell) f.before,
-      changed_back f.before xs,
-      covered_back rs f.before,
+      any_or (λ x. changes cell_cmp f.touched x.cell) (λ x. covers workbook f.reads x.cell) xs,
+      any_or (λ x. changes cell_cmp xs x.cell) (λ x. covers workbook rs x.cell) f.touched,
+      changed_back f.touched xs,
+      covered_back rs f.touched,
     )
-    (again (list_any (λ x. changes cell_cmp f.before x.cell) xs) (list_any (λ x. covers workbook f.reads x.cell) xs) (list_any (λ r. touched_at f.before (place_of r)) rs))
+    (again (list_any (λ x. changes cell_cmp f.touched x.cell) xs) (list_any (λ x. covers workbook f.reads x.cell) xs) (list_any (λ r. touched_at f.touched (place_of r)) rs))
 
 -- ---- loops
 
-module _ (feet : ℕ → Option (Foot workbook)) (after : ℕ) where
-  pub undo_more : (xs : Changes) (i : ℕ) (d : _) → i < length xs → (x : Cell) → x ≡ (get_or xs i d).cell → (r : Option ℕ) → IsLeastAfter (λ n. any_met (feet n) (take i xs) || met_by (feet n) x) after r → IsLeastAfter (λ n. any_met (feet n) (take (i + 1) xs)) after r
-  undo_more xs i d below x e r h = rw add-one (least_like (λ n. any_met (feet n) (take i xs) || met_by (feet n) x) (λ n. any_met (feet n) (take (suc i) xs)) after r (λ n. sym (rw e (more_any (λ y (o : Option (Foot workbook)). met_by o y.cell) xs i d below (feet n)))) h)
+module _ (footprints : ℕ → Option (Footprint workbook)) (after : ℕ) where
+  pub undo_more : (xs : Changes) (i : ℕ) (d : _) → i < length xs → (x : Cell) → x ≡ (get_or xs i d).cell → (r : Option ℕ) → IsLeastAfter (λ n. any_met (footprints n) (take i xs) || met_by (footprints n) x) after r → IsLeastAfter (λ n. any_met (footprints n) (take (i + 1) xs)) after r
+  undo_more xs i d below x e r h = rw add-one (least_like (λ n. any_met (footprints n) (take i xs) || met_by (footprints n) x) (λ n. any_met (footprints n) (take (suc i) xs)) after r (λ n. sym (rw e (more_any (λ y (o : Option (Footprint workbook)). met_by o y.cell) xs i d below (footprints n)))) h)
 
-  pub touch_more : (rs : List Pattern) (i : ℕ) (d : Pattern) → i < length rs → (q : Pattern) → q ≡ get_or rs i d → (r : Option ℕ) → IsLeastAfter (λ n. touched_under (feet n) (take i rs) || touched_by (feet n) (place_of q)) after r → IsLeastAfter (λ n. touched_under (feet n) (take (i + 1) rs)) after r
-  touch_more rs i d below q e r h = rw add-one (least_like (λ n. touched_under (feet n) (take i rs) || touched_by (feet n) (place_of q)) (λ n. touched_under (feet n) (take (suc i) rs)) after r (λ n. sym (rw e (more_any (λ y (o : Option (Foot workbook)). touched_by o (place_of y)) rs i d below (feet n)))) h)
+  pub touch_more : (rs : List Pattern) (i : ℕ) (d : Pattern) → i < length rs → (q : Pattern) → q ≡ get_or rs i d → (r : Option ℕ) → IsLeastAfter (λ n. touched_under (footprints n) (take i rs) || touched_by (footprints n) (place_of q)) after r → IsLeastAfter (λ n. touched_under (footprints n) (take (i + 1) rs)) after r
+  touch_more rs i d below q e r h = rw add-one (least_like (λ n. touched_under (footprints n) (take i rs) || touched_by (footprints n) (place_of q)) (λ n. touched_under (footprints n) (take (suc i) rs)) after r (λ n. sym (rw e (more_any (λ y (o : Option (Footprint workbook)). touched_by o (place_of y)) rs i d below (footprints n)))) h)

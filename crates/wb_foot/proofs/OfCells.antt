@@ -6,7 +6,7 @@ use Rattle.wb_book.specs.Cells.{Changes}
 use Rattle.wb_foot.specs.declared.place.Place.{Place}
 use Rattle.wb_foot.specs.Relation.{Sets, Stays, Clears}
 use Rattle.wb_foot.specs.Places.{own, family, place_of, is_same_place}
-use Rattle.wb_foot.specs.Feet.{at_cell, touched_at, read_at}
+use Rattle.wb_foot.specs.Footprints.{at_cell, touched_at, read_at}
 use Rattle.wb_foot.proofs.Setting.{then_sets, like, more_any, then_stays, stays_none, any_out, then_clears, clears_like}
 
 module _ (o m n : Place → ℕ → Bool) (number : ℕ) (b : Bool) where

@@ -17,7 +17,7 @@ use Rattle.wb_foot.specs.Relation.{Sets, Stays}
 use Rattle.wb_foot.specs.Points.{Coordinates}
 use Rattle.wb_foot.specs.Parts.{is_same_part, in_run}
 use Rattle.wb_foot.specs.Places.{own, family, place_of, is_same_place, cell_at, in_places}
-use Rattle.wb_foot.specs.Feet.{at_cell, touched_at, run_touched, read_at, run_read}
+use Rattle.wb_foot.specs.Footprints.{at_cell, touched_at, run_touched, read_at, run_read}
 use Rattle.wb_foot.proofs.Meeting.{any_or, any_like, any_none}
 use Rattle.wb_foot.proofs.Setting.{then_sets, like, then_stays, stays_none}
 

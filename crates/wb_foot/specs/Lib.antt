@@ -6,4 +6,4 @@ pub mod Blocks
 pub mod Parts
 pub mod Spots
 pub mod Places
-pub mod Feet
+pub mod Footprints

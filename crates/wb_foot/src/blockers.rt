@@ -3,7 +3,7 @@
 ghost use Rattle.std.specs.Prelude.{◌≡◌, IfOk};
 ghost use Rattle.selective_undo.specs.Log.{blocks_undo};
 ghost use Rattle.wb_foot.specs.Relation.{AreAllAfter};
-ghost use Rattle.wb_foot.specs.Feet.{Feet, IsIndexOf};
+ghost use Rattle.wb_foot.specs.Footprints.{Footprints, IsIndexOf};
 
 use crate::foot_index::FootIndex;
 use std::alloc::Global;
@@ -18,7 +18,7 @@ impl FootIndex {
         before: &[CellChange],
         after: u64,
     ) -> Result<Vec<u64>, NoMemory>
-        ensures { IfOk result (λ v. (feet : Feet) → IsIndexOf self.now feet → AreAllAfter (λ n. blocks_undo before.now (feet n)) after v.items) }
+        ensures { IfOk result (λ v. (footprints : Footprints) → IsIndexOf self.now footprints → AreAllAfter (λ n. blocks_undo before.now (footprints n)) after v.items) }
     {
         let mut found = Vec::new(alloc);
         let mut from = after;

@@ -1,7 +1,7 @@
 //! The index itself: footprints come and go by their numbers.
 
 ghost use Rattle.std.specs.Prelude.{◌≡◌, Some, None, OnOk, OnErr};
-ghost use Rattle.wb_foot.specs.Feet.{Feet, IsIndexOf, foot, with_foot};
+ghost use Rattle.wb_foot.specs.Footprints.{Footprints, IsIndexOf, footprint, with_footprint};
 
 use crate::place_marks::PlaceMarks;
 use crate::reading::{read_all, unread_all};
@@ -36,8 +36,8 @@ impl FootIndex {
         reads: &[Pattern],
         before: &[CellChange],
     ) -> Result<(), NoMemory>
-        ensures ok { OnOk result ((feet : Feet) → IsIndexOf self.old feet → feet number ≡ None → IsIndexOf self.new (with_foot feet number (Some (foot reads.now before.now)))) }
-        ensures err { OnErr result ((feet : Feet) → IsIndexOf self.old feet → feet number ≡ None → IsIndexOf self.new feet) }
+        ensures ok { OnOk result ((footprints : Footprints) → IsIndexOf self.old footprints → footprints number ≡ None → IsIndexOf self.new (with_footprint footprints number (Some (footprint reads.now before.now)))) }
+        ensures err { OnErr result ((footprints : Footprints) → IsIndexOf self.old footprints → footprints number ≡ None → IsIndexOf self.new footprints) }
     {
         if touch_all(&mut self.touched, before, number).is_err() {
             untouch_all(&mut self.touched, before, number);
@@ -53,7 +53,7 @@ impl FootIndex {
 
     /// Takes away the footprint at a number. It takes no memory.
     pub fn take(&mut self, number: u64, reads: &[Pattern], before: &[CellChange])
-        ensures { (feet : Feet) → IsIndexOf self.old feet → feet number ≡ Some (foot reads.now before.now) → IsIndexOf self.new (with_foot feet number None) }
+        ensures { (footprints : Footprints) → IsIndexOf self.old footprints → footprints number ≡ Some (footprint reads.now before.now) → IsIndexOf self.new (with_footprint footprints number None) }
     {
         untouch_all(&mut self.touched, before, number);
         unread_all(&mut self.read, reads, number);

@@ -3,7 +3,7 @@
 ghost use Rattle.std.specs.Prelude.{◌≡◌, ◌<◌, IfSome};
 ghost use Rattle.selective_undo.specs.Log.{blocks_undo, blocks_redo};
 ghost use Rattle.wb_foot.specs.Relation.{IsLeastAfter};
-ghost use Rattle.wb_foot.specs.Feet.{Feet, IsIndexOf, foot, met_by, touched_by, touched_under};
+ghost use Rattle.wb_foot.specs.Footprints.{Footprints, IsIndexOf, footprint, met_by, touched_by, touched_under};
 ghost use Rattle.wb_foot.specs.Places.{place_of};
 
 use crate::earlier::earlier;
@@ -14,7 +14,7 @@ use wb_book::{Cell, CellChange, Pattern};
 impl FootIndex {
     /// The least number above `after` whose footprint read or touched the cell.
     fn met_after(&self, cell: &Cell, after: u64) -> Option<u64>
-        ensures least { (feet : Feet) → IsIndexOf self.now feet → IsLeastAfter (λ n. met_by (feet n) cell.now) after result }
+        ensures least { (footprints : Footprints) → IsIndexOf self.now footprints → IsLeastAfter (λ n. met_by (footprints n) cell.now) after result }
         ensures above { IfSome result (λ j. after < j) }
     {
         let place = own(cell);
@@ -28,14 +28,14 @@ impl FootIndex {
 
     /// The least number above `after` whose footprint touched a cell that the pattern names.
     fn touched_after(&self, pattern: &Pattern, after: u64) -> Option<u64>
-        ensures { (feet : Feet) → IsIndexOf self.now feet → IsLeastAfter (λ n. touched_by (feet n) (place_of pattern.now)) after result }
+        ensures { (footprints : Footprints) → IsIndexOf self.now footprints → IsLeastAfter (λ n. touched_by (footprints n) (place_of pattern.now)) after result }
     {
         self.touched.least_after(&place_of(pattern), after)
     }
 
     /// The least number above `after` whose footprint needs one that wrote the cells.
     pub fn first_to_block_undo(&self, before: &[CellChange], after: u64) -> Option<u64>
-        ensures least { (feet : Feet) → IsIndexOf self.now feet → IsLeastAfter (λ n. blocks_undo before.now (feet n)) after result }
+        ensures least { (footprints : Footprints) → IsIndexOf self.now footprints → IsLeastAfter (λ n. blocks_undo before.now (footprints n)) after result }
         ensures above { IfSome result (λ j. after < j) }
     {
         let mut first = None;
@@ -47,7 +47,7 @@ impl FootIndex {
 
     /// The least number above `after` whose footprint touched a cell that one of the patterns names.
     fn first_to_touch(&self, reads: &[Pattern], after: u64) -> Option<u64>
-        ensures { (feet : Feet) → IsIndexOf self.now feet → IsLeastAfter (λ n. touched_under (feet n) reads.now) after result }
+        ensures { (footprints : Footprints) → IsIndexOf self.now footprints → IsLeastAfter (λ n. touched_under (footprints n) reads.now) after result }
     {
         let mut first = None;
         for x in reads {
@@ -64,7 +64,7 @@ impl FootIndex {
         delta: &[CellChange],
         after: u64,
     ) -> Option<u64>
-        ensures { (feet : Feet) → IsIndexOf self.now feet → IsLeastAfter (λ n. blocks_redo (foot reads.now delta.now) (feet n)) after result }
+        ensures { (footprints : Footprints) → IsIndexOf self.now footprints → IsLeastAfter (λ n. blocks_redo (footprint reads.now delta.now) (footprints n)) after result }
     {
         earlier(
             self.first_to_block_undo(delta, after),

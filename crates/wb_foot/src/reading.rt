@@ -3,7 +3,7 @@
 ghost use Rattle.std.specs.Prelude.{◌&&◌, true, OnOk, OnErr};
 ghost use Rattle.wb_foot.specs.Relation.{Sets, Stays, Clears};
 ghost use Rattle.wb_foot.specs.Places.{place_marked};
-ghost use Rattle.wb_foot.specs.Feet.{read_at};
+ghost use Rattle.wb_foot.specs.Footprints.{read_at};
 
 use crate::blocks::Block;
 use crate::ends::end_of_reads;

@@ -6,7 +6,7 @@ ghost use Rattle.wb_book.specs.declared.cells.pattern.Pattern.TheVariants.{One};
 ghost use Rattle.wb_foot.specs.declared.place.Place.{Place};
 ghost use Rattle.wb_foot.specs.Points.{Coordinates};
 ghost use Rattle.wb_foot.specs.Places.{cell_at, family};
-ghost use Rattle.wb_foot.specs.Feet.{touched_at, run_touched, read_at, run_read};
+ghost use Rattle.wb_foot.specs.Footprints.{touched_at, run_touched, read_at, run_read};
 
 use crate::part::{Kind, Part, Slot};
 use crate::place::Place;

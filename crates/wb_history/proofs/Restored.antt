@@ -4,7 +4,7 @@ use Rattle.std.specs.Prelude.{min, ◌-◌, ◌^◌}
 use Rattle.std.proofs.Math.Nat.{sub-add-min_cancel}
 use Rattle.selective_undo.specs.Edit.{Schema, State, Change, Edit, Trace, outcome, written, trace, step}
 use Rattle.selective_undo.specs.History.{Entry, done, undone, replay_from, traces_from, replay, traces, InForce, IsLegal}
-use Rattle.selective_undo.specs.Log.{Logged, IsKept, history, entry_of, feet, foot_of}
+use Rattle.selective_undo.specs.Log.{Logged, IsKept, history, entry_of, footprints, footprint_of}
 use Rattle.selective_undo.proofs.Log.{append-map, last_or, get-map}
 use Rattle.std.specs.FinMap.{empty}
 use Rattle.wb_book.specs.Cells.{Cells, count_of, written_more}
@@ -18,7 +18,7 @@ use Rattle.wb_log.specs.declared.refusal.Refusal.TheVariants.{BadRequest, BadLit
 use Rattle.wb_history.specs.declared.restore.RestoreErr.{RestoreErr}
 use Rattle.wb_history.specs.declared.restore.RestoreErr.TheVariants.{NotLegal, NoMemory as NoRoom}
 use Rattle.wb_log.specs.Past.{Numbered, Past, entry_at, meant, AreValid}
-use Rattle.wb_log.specs.Kept.{logged, log, Shows, numbered, numbers}
+use Rattle.wb_log.specs.Kept.{logged, log, Shows, numbered, numbered_entries}
 use Rattle.wb_log.specs.declared.index.Index.{Index}
 use Rattle.wb_log.specs.Indexed.{IsIndexed}
 use Rattle.wb_log.specs.Replies.{EditReply}
@@ -57,8 +57,8 @@ module _ {w : Schema} where
       record {
         legal = λ j u is. kept.legal j u (no_more (traces h) j u (subst (λ ts. InForce ts j u) (ap traces now_is ∙ after.1) is));
         shown = kept.shown ∙ sym (ap replay now_is ∙ after.0);
-        feet = append-map (λ x. x.kept) log (more ∷ []) ∙ ap (λ fs. fs ++ None ∷ []) kept.feet
-            ∙ sym (ap (λ g. feet (traces g)) now_is ∙ ap feet after.1 ∙ append-map (option_map foot_of) (traces h) (None ∷ []));
+        footprints = append-map (λ x. x.kept) log (more ∷ []) ∙ ap (λ fs. fs ++ None ∷ []) kept.footprints
+            ∙ sym (ap (λ g. footprints (traces g)) now_is ∙ ap footprints after.1 ∙ append-map (option_map footprint_of) (traces h) (None ∷ []));
       }
 
 shows_aside : (s : Cells) (es : List kept.Entry) (e : command.Edit) → Shows es s → Shows (es ++ record { edit = e; kept = None } ∷ []) s
@@ -70,14 +70,14 @@ pub shows_aside_by : {X E : Type 0} (s : Cells) (es fs : List kept.Entry) (e : c
 shows_aside_by s es fs e (Ok x) shows more stay = subst (λ gs. Shows gs s) (sym more) (shows_aside s es e shows)
 shows_aside_by s es fs e (Err x) shows more stay = subst (λ gs. Shows gs s) (sym stay) shows
 
-valid_aside : (es : List kept.Entry) (e : command.Edit) → AreValid (numbers es) → IsValid e → AreValid (numbers (es ++ record { edit = e; kept = None } ∷ []))
+valid_aside : (es : List kept.Entry) (e : command.Edit) → AreValid (numbered_entries es) → IsValid e → AreValid (numbered_entries (es ++ record { edit = e; kept = None } ∷ []))
 valid_aside es e valid here =
     let x : kept.Entry = record { edit = e; kept = None } in
-    subst AreValid (sym (numbers_more es x)) (valid_append (numbers es) (numbered x) valid here)
+    subst AreValid (sym (numbers_more es x)) (valid_append (numbered_entries es) (numbered x) valid here)
 
-pub valid_aside_by : {X E : Type 0} (es fs : List kept.Entry) (e : command.Edit) (r : Result X E) → AreValid (numbers es) → IsValid e → OnOk r (fs ≡ es ++ record { edit = e; kept = None } ∷ []) → OnErr r (fs ≡ es) → AreValid (numbers fs)
-valid_aside_by es fs e (Ok x) valid here more stay = subst (λ gs. AreValid (numbers gs)) (sym more) (valid_aside es e valid here)
-valid_aside_by es fs e (Err x) valid here more stay = subst (λ gs. AreValid (numbers gs)) (sym stay) valid
+pub valid_aside_by : {X E : Type 0} (es fs : List kept.Entry) (e : command.Edit) (r : Result X E) → AreValid (numbered_entries es) → IsValid e → OnOk r (fs ≡ es ++ record { edit = e; kept = None } ∷ []) → OnErr r (fs ≡ es) → AreValid (numbered_entries fs)
+valid_aside_by es fs e (Ok x) valid here more stay = subst (λ gs. AreValid (numbered_entries gs)) (sym more) (valid_aside es e valid here)
+valid_aside_by es fs e (Err x) valid here more stay = subst (λ gs. AreValid (numbered_entries gs)) (sym stay) valid
 
 pub indexed_aside_by : {X E : Type 0} (x : Index) (es fs : List kept.Entry) (e : command.Edit) (r : Result X E) → IsIndexed x es → OnOk r (fs ≡ es ++ record { edit = e; kept = None } ∷ []) → OnErr r (fs ≡ es) → IsIndexed x fs
 indexed_aside_by x es fs e (Ok y) h more stay = subst (λ gs. IsIndexed x gs) (sym more) (more_indexed x es (record { edit = e; kept = None }) h)
@@ -85,7 +85,7 @@ indexed_aside_by x es fs e (Err y) h more stay = subst (λ gs. IsIndexed x gs) (
 
 -- ---- the entry of a number
 
-pub entry_of_number : (es : List kept.Entry) (x : kept.Entry) (n : ℕ) → slice_get es n ≡ Some x → Some (one_of x.edit (is_some x.kept)) ≡ numbered_at (numbers es) (suc n)
+pub entry_of_number : (es : List kept.Entry) (x : kept.Entry) (n : ℕ) → slice_get es n ≡ Some x → Some (one_of x.edit (is_some x.kept)) ≡ numbered_at (numbered_entries es) (suc n)
 entry_of_number es x n at = sym (get-map numbered es n ∙ ap (option_map numbered) at)
 
 -- ---- counts

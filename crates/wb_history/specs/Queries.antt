@@ -10,7 +10,7 @@ use Rattle.wb_book.specs.Cells.{Name, Cells}
 use Rattle.wb_book.specs.Readers.{size_at}
 use Rattle.wb_edit.specs.declared.refusal.Refusal as why
 use Rattle.wb_edit.specs.Implicit.{has_implicit, parent_in}
-use Rattle.wb_edit.specs.Numbers.{number_in}
+use Rattle.wb_edit.specs.Numbers.{element_or_refusal}
 use Rattle.wb_edit.specs.Looks.{domain_kind, array_kind, is_there, fits}
 use Rattle.wb_history.specs.declared.query.Answer.{Answer}
 use Rattle.wb_history.specs.declared.query.Answer.TheVariants.{Value as ValueIs, Size as SizeIs, InForce}
@@ -25,7 +25,7 @@ use Rattle.wb_log.specs.Past.{Numbered, force_of}
 
 -- the implicit value of an array
 abbrev pub value_inside : Cells → Name → Result (Unit {0}) why.Refusal → Result ℤ why.Refusal
-value_inside s a (Ok there) = number_in (get s (Implicit a))
+value_inside s a (Ok there) = element_or_refusal (get s (Implicit a))
 value_inside s a (Err e) = Err e
 
 -- the same, at an index of the parent
@@ -40,7 +40,7 @@ value_over s a d i (Err e) = Err e
 
 -- what stands in the element's cell, or else the implicit value, which arrays over sparse domains have
 abbrev pub element_or_implicit : Cells → (a d : Name) → Kind → Index → Option Value → Result ℤ why.Refusal
-element_or_implicit s a d kind i (Some v) = number_in (Some v)
+element_or_implicit s a d kind i (Some v) = element_or_refusal (Some v)
 element_or_implicit s a d kind i None = value_over s a d i (has_implicit kind)
 
 -- the element at an index of the type and rank of the array's

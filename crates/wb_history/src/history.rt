@@ -32,14 +32,14 @@ pub struct History {
 
 impl Model for History {
     ghost use Rattle.wb_log.specs.Past.{Past, past_code};
-    ghost use Rattle.wb_log.specs.Kept.{numbers};
+    ghost use Rattle.wb_log.specs.Kept.{numbered_entries};
     ghost use Rattle.wb_log.specs.Indexed.{Keeps};
 
     ghost Value = { Past };
 
     ghost coded = { past_code };
 
-    ghost view = { λ a. record { entries = numbers a.entries.items; writes = a.book.writes } };
+    ghost view = { λ a. record { entries = numbered_entries a.entries.items; writes = a.book.writes } };
 
     ghost invariant = { λ a. Keeps a.entries.items a.book.cells a.index };
 }

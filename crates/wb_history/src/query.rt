@@ -5,7 +5,7 @@ ghost use Rattle.wb_history.specs.Queries.{element_or_implicit, get_answer, valu
 use crate::piece::Piece;
 use std::alloc::Global;
 use wb_book::{AnyIndex, Cell, Kind, Name};
-use wb_edit::{has_implicit, judgements, number_in, parent_in};
+use wb_edit::{element_or_refusal, has_implicit, judgements, parent_in};
 use wb_log::Refusal;
 use wb_range::NoMemory;
 use wb_redist::Op;
@@ -117,7 +117,7 @@ pub(crate) fn element_of(book: &Book, array: Name, index: AnyIndex) -> Result<i6
     let (domain, kind) = judgements::array_kind(book.get(&Cell::Object(array)))?;
     judgements::fits(kind, index)?;
     match book.get(&Cell::Element(array, index)) {
-        Some(value) => number_in(Some(value)),
+        Some(value) => element_or_refusal(Some(value)),
         None => implicit_value(book, array, domain, kind, index),
     }
 }
@@ -135,7 +135,7 @@ fn implicit_value(
     has_implicit(&kind)?;
     let parent = parent_in(book.get(&Cell::Object(domain)))?;
     judgements::is_there(book.get(&Cell::In(parent, index)))?;
-    number_in(book.get(&Cell::Implicit(array)))
+    element_or_refusal(book.get(&Cell::Implicit(array)))
 }
 
 /// How many indices a domain has, or why there is none.

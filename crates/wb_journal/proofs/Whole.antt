@@ -6,7 +6,7 @@ use Rattle.std.proofs.lemmas.Bool.Decides.{nat_tests}
 use Rattle.wb_journal.specs.declared.entry.Entry.{Entry}
 use Rattle.wb_journal.specs.Entries.{of_seat}
 use Rattle.wb_journal.specs.Serving.{Held}
-use Rattle.wb_journal.specs.Settling.{Agrees, IsSettled, told}
+use Rattle.wb_journal.specs.Settling.{Agrees, IsSettled, total_of_passes}
 
 -- the entries of so many seats, counted
 abbrev counted : ℕ → List Entry → ℕ
@@ -56,7 +56,7 @@ all_counted n (e ∷ es) h =
     let rest = all_counted n es (λ k d below. h (suc k) d (omega arith)) in
     omega (arith, here, rest)
 
-told_counted : (n : ℕ) (es : List Entry) (ps : List Held) → IsSettled n es ps → told n ps ≡ counted n es
+told_counted : (n : ℕ) (es : List Entry) (ps : List Held) → IsSettled n es ps → total_of_passes n ps ≡ counted n es
 told_counted zero es ps h = refl
 told_counted (suc k) es ps h =
     let (p, only, same) : Agrees es ps k = h k (omega arith) in
@@ -65,5 +65,5 @@ told_counted (suc k) es ps h =
     let list = ap length same in
     omega (arith, before, own, list)
 
-pub whole_journal : (n : ℕ) (es : List Entry) (ps : List Held) → All (λ e. e.seat < n) es → IsSettled n es ps → length es ≡ told n ps
+pub whole_journal : (n : ℕ) (es : List Entry) (ps : List Held) → All (λ e. e.seat < n) es → IsSettled n es ps → length es ≡ total_of_passes n ps
 whole_journal n es ps seated settled = sym (told_counted n es ps settled ∙ all_counted n es seated)

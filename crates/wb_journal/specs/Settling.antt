@@ -53,6 +53,6 @@ IsCause n es ps (MissingPass k) = IsMissing n ps k
 IsCause n es ps (Differs k place) = IsDifferent n es ps k place
 
 -- the lengths of the lists of the passes of so many seats, together
-abbrev pub told : ℕ → List Held → ℕ
-told zero ps = 0
-told (suc k) ps = told k ps + sum_by (λ p. length p.own) (passes_of k ps)
+abbrev pub total_of_passes : ℕ → List Held → ℕ
+total_of_passes zero ps = 0
+total_of_passes (suc k) ps = total_of_passes k ps + sum_by (λ p. length p.own) (passes_of k ps)

@@ -16,7 +16,7 @@ use Rattle.wb_literal.specs.Tokens.{skip_spaces, after, after_token, comma_at, c
 use Rattle.wb_literal.specs.Range.{upper_at, range_at}
 use Rattle.wb_literal.specs.Rectangle.{rectangle_at, rectangle_of}
 use Rattle.wb_literal.specs.Index.{index_at}
-use Rattle.wb_literal.specs.Set.{Items, nothing, integers, pairs, triples, texts, items_at, listed_at, as_pair, pair_at, as_triple, triple_at, is_text, label_of, is_quote, quoted_at, text_at, indices_at, texts_at, filled_at, set_at, set_of}
+use Rattle.wb_literal.specs.Set.{Items, nothing, integers, pairs, triples, texts, items_at, listed_at, as_pair, pair_at, as_triple, triple_at, is_text, label_of, is_quote, quoted_at, text_at, indices_at, texts_at, filled_at, set_at, set_literal_of}
 use Rattle.wb_literal.specs.Domain.{Domain, rectangle, set, domain_of}
 use Rattle.wb_literal.specs.Grammar.{AreSpaces, IsComma, AreMore, AreListed, IsEnclosed, IsPair, IsTriple, IsText, IsIndex, IsSet, IsDomain}
 use Rattle.wb_literal.specs.declared.rectangle.RectangleLiteral.{RectangleLiteral}
@@ -384,7 +384,7 @@ set_read text rest (texts ls) h =
     (ap (λ o. option_map_or {T = List ℕ} {U = Option (Items × List ℕ)} (λ (z : List ℕ). texts_at (w.first ++ w.behind)) o (filled_indices (w.first ++ w.behind))) there
     ∙ ap (option_map {U = Items × List ℕ} (λ (y : List (List ℕ) × List ℕ). (texts y.0, y.1))) w.listed)
 
-pub set_exact : (text : List ℕ) (x : Items) → (set_of text ≡ Some x) ↔ IsSet text x
+pub set_exact : (text : List ℕ) (x : Items) → (set_literal_of text ≡ Some x) ↔ IsSet text x
 set_exact = exact set_at IsSet set_found (λ text x h. set_read text [] x h)
 
 -- ---- domains: no text is a set and a rectangle
@@ -426,11 +426,11 @@ not_rectangle text x h = ap (option_and_then (λ (p : RectangleLiteral × List �
 
 -- where no rectangle is there, a set is
 abbrev or_set : List ℕ → Option RectangleLiteral → Option Domain
-or_set text o = option_map_or {T = RectangleLiteral} {U = Option Domain} (λ (r : RectangleLiteral). Some (rectangle r)) o (option_map set (set_of text))
+or_set text o = option_map_or {T = RectangleLiteral} {U = Option Domain} (λ (r : RectangleLiteral). Some (rectangle r)) o (option_map set (set_literal_of text))
 
 domain_by : (o : Option RectangleLiteral) (text : List ℕ) (d : Domain) → rectangle_of text ≡ o → or_set text o ≡ Some d → IsDomain text d
 domain_by (Some r) text d o e = subst (IsDomain text) (same_Some (rectangle r) d e) ((rectangle_exact text r).0 o)
-domain_by None text d o e = mapped set (set_of text) d e (λ x f p. subst (IsDomain text) p ((set_exact text x).0 f))
+domain_by None text d o e = mapped set (set_literal_of text) d e (λ x f p. subst (IsDomain text) p ((set_exact text x).0 f))
 
 domain_read : (text : List ℕ) (d : Domain) → IsDomain text d → domain_of text ≡ Some d
 domain_read text (rectangle r) h = ap (or_set text) ((rectangle_exact text r).1 h)

@@ -2,7 +2,7 @@
 use Rattle.std.specs.Prelude.{ℕ, List, Option, Some, option_map}
 use Rattle.std.specs.Option.{option_map_or}
 use Rattle.wb_literal.specs.Rectangle.{rectangle_of}
-use Rattle.wb_literal.specs.Set.{Items, set_of}
+use Rattle.wb_literal.specs.Set.{Items, set_literal_of}
 use Rattle.wb_literal.specs.declared.rectangle.RectangleLiteral.{RectangleLiteral}
 
 pub data Domain : Type 0 where
@@ -11,4 +11,4 @@ pub data Domain : Type 0 where
 
 -- a rectangle or a set; no text is both
 abbrev pub domain_of : List ℕ → Option Domain
-domain_of text = option_map_or (λ r. Some (rectangle r)) (rectangle_of text) (option_map set (set_of text))
+domain_of text = option_map_or (λ r. Some (rectangle r)) (rectangle_of text) (option_map set (set_literal_of text))

@@ -76,5 +76,5 @@ filled_at bytes = option_map_or (λ _. texts_at bytes) (after (codes "\"") bytes
 abbrev pub set_at : List ℕ → Option (Items × List ℕ)
 set_at bytes = option_and_then (λ inside. option_map_or (λ rest. Some (nothing, rest)) (after (codes "}") inside) (filled_at inside)) (after_token (codes "{") bytes)
 
-abbrev pub set_of : List ℕ → Option Items
-set_of text = whole set_at text
+abbrev pub set_literal_of : List ℕ → Option Items
+set_literal_of text = whole set_at text

@@ -1,7 +1,7 @@
 // Sets of indices or of texts.
 ghost use Rattle.std.specs.Prelude.{◌≡◌, ◌↔◌, ◌+◌, ◌-◌, ◌≤◌, ◌<◌, ℕ, ℤ, List, length, take, drop, position, Option, Some, None, IfOk, IfSome, codes, option_map, option_and_then};
 ghost use Rattle.wb_literal.specs.Integer.{integer_at};
-ghost use Rattle.wb_literal.specs.Set.{Items, items_at, listed_at, as_pair, pair_at, as_triple, triple_at, label_of, is_quote, quoted_at, text_at, indices_at, texts_at, filled_at, set_at, set_of};
+ghost use Rattle.wb_literal.specs.Set.{Items, items_at, listed_at, as_pair, pair_at, as_triple, triple_at, label_of, is_quote, quoted_at, text_at, indices_at, texts_at, filled_at, set_at, set_literal_of};
 ghost use Rattle.wb_literal.specs.Said.{items};
 ghost use Rattle.wb_literal.specs.Grammar.{IsSet};
 
@@ -231,7 +231,7 @@ pub fn set_at(alloc: Global, bytes: &[u8]) -> Result<Option<(SetLiteral, &[u8])>
 
 // The set that all of the bytes spell.
 fn whole_set(alloc: Global, bytes: &[u8]) -> Result<Option<SetLiteral>, AllocError>
-    ensures { IfOk result (λ r. option_map items r ≡ set_of bytes.now) }
+    ensures { IfOk result (λ r. option_map items r ≡ set_literal_of bytes.now) }
 {
     match set_at(alloc, bytes)? {
         Some((set, rest)) => {
@@ -248,7 +248,7 @@ fn whole_set(alloc: Global, bytes: &[u8]) -> Result<Option<SetLiteral>, AllocErr
 /// The set that a text spells: any number of indices of one rank, or of texts, in braces. A text is
 /// read just where the grammar spells the set by it.
 pub fn read_set(alloc: Global, text: &str) -> Result<Option<SetLiteral>, AllocError>
-    ensures value { IfOk result (λ r. option_map items r ≡ set_of text.now) }
+    ensures value { IfOk result (λ r. option_map items r ≡ set_literal_of text.now) }
     ensures spelling { IfOk result (λ r. (x : Items) → (option_map items r ≡ Some x) ↔ IsSet text.now x) }
 {
     whole_set(alloc, text.as_bytes())

@@ -2,17 +2,17 @@
 use Rattle.std.proofs.Common.{if◌then◌else◌, ◌≡◌, ℕ, zero, suc, ◌+◌, ◌-◌, ◌<◌, ◌≤◌, ◌==◌, nat_lt, Bool, true, false, List, [], ◌∷◌, ◌++◌, length, drop, refl, sym, ap, ◌∙◌, subst, Option, Some, None, is_some, Result, Ok, Err, IfOk, OnOk, OnErr, slice_get, slice_set, arith, add-one}
 use Rattle.std.proofs.lemmas.Bool.Decides.{nat_tests}
 use Rattle.std.proofs.lemmas.List.{length-append}
-use Rattle.selective_undo.specs.Log.{Foot, first_from}
+use Rattle.selective_undo.specs.Log.{Footprint, first_from}
 use Rattle.selective_undo.proofs.Log.{set-map, append-map}
 use Rattle.wb_book.specs.Cells.{Contents}
 use Rattle.wb_edit.specs.Schema.{workbook}
 use Rattle.wb_foot.specs.declared.foot_index.FootIndex.{FootIndex}
-use Rattle.wb_foot.specs.Feet.{Feet, IsIndexOf, with_foot}
+use Rattle.wb_foot.specs.Footprints.{Footprints, IsIndexOf, with_footprint}
 use Rattle.wb_foot.specs.Relation.{IsLeastAfter, IsGreatest}
 use Rattle.wb_log.specs.declared.entry.Entry as kept
 use Rattle.wb_log.specs.declared.index.Index.{Index}
 use Rattle.wb_log.specs.declared.refusal.Refusal.{Refusal}
-use Rattle.wb_log.specs.Kept.{kept_in, kept_all, feet_of, by_number, IsLatest, TakenBack}
+use Rattle.wb_log.specs.Kept.{kept_in, kept_all, footprint_at_number, by_number, IsLatest, TakenBack}
 use Rattle.wb_log.specs.Indexed.{up_to, Indexes, IsIndexed}
 use Rattle.wb_log.proofs.Entries.{set_same}
 use Rattle.wb_log.proofs.Firsts.{first_after}
@@ -20,7 +20,7 @@ use Rattle.wb_log.proofs.Lists.{index_like, replaced}
 
 -- ---- an entry by its number
 
-there : (es : List kept.Entry) (k : ℕ) (x : kept.Entry) → slice_get es k ≡ Some x → feet_of (kept_all es) k ≡ kept_in x
+there : (es : List kept.Entry) (k : ℕ) (x : kept.Entry) → slice_get es k ≡ Some x → footprint_at_number (kept_all es) k ≡ kept_in x
 there [] k x is = cc
 there (y ∷ es) zero x is = let h : y ≡ x = cc in ap kept_in h
 there (y ∷ es) (suc k) x is = there es k x is
@@ -35,7 +35,7 @@ kept_length : (es : List kept.Entry) → length (kept_all es) ≡ length es
 kept_length [] = refl
 kept_length (x ∷ es) = ap (λ (n : ℕ). suc n) (kept_length es)
 
-past : {F : Type 0} (xs : List (Option F)) (k : ℕ) → length xs ≤ k → feet_of xs k ≡ None
+past : {F : Type 0} (xs : List (Option F)) (k : ℕ) → length xs ≤ k → footprint_at_number xs k ≡ None
 past [] k h = refl
 past (x ∷ xs) zero h = absurd (omega (arith, h))
 past (x ∷ xs) (suc k) h = past xs k (omega (arith, h))
@@ -44,7 +44,7 @@ pub none_past : (es : List kept.Entry) (k : ℕ) → length es < k → by_number
 none_past es zero h = absurd (omega (arith, h))
 none_past es (suc k) h = past (kept_all es) k (omega (arith, h, kept_length es))
 
--- ---- the feet up to a number
+-- ---- the footprints up to a number
 
 above : (n k : ℕ) → nat_lt n k ≡ true → n < k
 above n k e = grind (arith, nat_tests)
@@ -57,10 +57,10 @@ module _ {F : Type 0} where
   shown true y h = sym (h refl)
   shown false y h = refl
 
-all_up_to : (n : ℕ) (f : Feet) → ((m : ℕ) → n < m → f m ≡ None) → (m : ℕ) → up_to n f m ≡ f m
+all_up_to : (n : ℕ) (f : Footprints) → ((m : ℕ) → n < m → f m ≡ None) → (m : ℕ) → up_to n f m ≡ f m
 all_up_to n f none m = shown (nat_lt n m) (f m) (λ e. none m (above n m e))
 
-pub not_0 : (k : ℕ) (f : Feet) (o : Option (Foot workbook)) → f 0 ≡ None → with_foot f (k + 1) o 0 ≡ None
+pub not_0 : (k : ℕ) (f : Footprints) (o : Option (Footprint workbook)) → f 0 ≡ None → with_footprint f (k + 1) o 0 ≡ None
 not_0 k f o none = let apart : (k + 1 == 0) ≡ false = grind (arith, nat_tests) in rw apart none
 
 -- ---- all have entered
@@ -68,19 +68,19 @@ not_0 k f o none = let apart : (k + 1 == 0) ≡ false = grind (arith, nat_tests)
 pub index_whole : (idx : FootIndex) (es : List kept.Entry) (n : ℕ) → length es ≤ n → IsIndexOf idx (up_to n (by_number es)) → IsIndexOf idx (by_number es)
 index_whole idx es n all h = index_like idx (up_to n (by_number es)) (by_number es) (all_up_to n (by_number es) (λ m high. none_past es m (omega (arith, all, high)))) h
 
-pub first_is : (es : List kept.Entry) (k : ℕ) (p : Option (Foot workbook) → Bool) → p None ≡ false → (r : Option ℕ) → IsLeastAfter (λ n. p (by_number es n)) (k + 1) r → r ≡ first_from p (k + 2) (drop (k + 1) (kept_all es))
+pub first_is : (es : List kept.Entry) (k : ℕ) (p : Option (Footprint workbook) → Bool) → p None ≡ false → (r : Option ℕ) → IsLeastAfter (λ n. p (by_number es n)) (k + 1) r → r ≡ first_from p (k + 2) (drop (k + 1) (kept_all es))
 first_is es k p none r h =
     let e : suc (k + 1) ≡ k + 2 = omega arith in
     subst (λ (m : ℕ). r ≡ first_from p m (drop (k + 1) (kept_all es))) e (sym (first_after p none (None ∷ kept_all es) (k + 1) r h))
 
 -- ---- the latest in force
 
-got : {F : Type 0} (xs : List (Option F)) (q : ℕ) (g : F) → slice_get xs q ≡ Some (Some g) → is_some (feet_of xs q) ≡ true
+got : {F : Type 0} (xs : List (Option F)) (q : ℕ) (g : F) → slice_get xs q ≡ Some (Some g) → is_some (footprint_at_number xs q) ≡ true
 got [] q g e = cc
 got (x ∷ xs) zero g e = let h : x ≡ Some g = cc in ap is_some h
 got (x ∷ xs) (suc q) g e = got xs q g e
 
-some_at : {F : Type 0} (xs : List (Option F)) (p : ℕ) → is_some (feet_of xs p) ≡ true → (f : F) × (slice_get xs p ≡ Some (Some f))
+some_at : {F : Type 0} (xs : List (Option F)) (p : ℕ) → is_some (footprint_at_number xs p) ≡ true → (f : F) × (slice_get xs p ≡ Some (Some f))
 some_at [] p e = cc
 some_at (Some f ∷ xs) zero e = (f, refl)
 some_at (None ∷ xs) zero e = cc
@@ -109,13 +109,13 @@ greatest_whole p es n r all is h = greatest_like p (λ m. is_some (by_number es 
 
 -- ---- the entries change
 
-like : (x : Index) (c d : ℕ) (f g : Feet) → c ≤ d → ((m : ℕ) → m ≤ c → f m ≡ g m) → Indexes x c f → Indexes x d g
+like : (x : Index) (c d : ℕ) (f g : Footprints) → c ≤ d → ((m : ℕ) → m ≤ c → f m ≡ g m) → Indexes x c f → Indexes x d g
 like x c d f g more e h =
     record {
-      footprints = record {
-        from_1 = sym (e 0 (omega arith)) ∙ h.footprints.from_1;
-        within = omega (arith, h.footprints.within, more);
-        index = index_like x.footprints.index (up_to x.footprints.entered f) (up_to x.footprints.entered g) (same x.footprints.entered h.footprints.within) h.footprints.index;
+      by_footprint = record {
+        from_1 = sym (e 0 (omega arith)) ∙ h.by_footprint.from_1;
+        within = omega (arith, h.by_footprint.within, more);
+        index = index_like x.by_footprint.index (up_to x.by_footprint.entered f) (up_to x.by_footprint.entered g) (same x.by_footprint.entered h.by_footprint.within) h.by_footprint.index;
       };
       in_force = record {
         from_1 = sym (e 0 (omega arith)) ∙ h.in_force.from_1;
@@ -124,14 +124,14 @@ like x c d f g more e h =
       };
     }
   where
-    either : (b : Bool) (y z : Option (Foot workbook)) → (b ≡ false → y ≡ z) → (if b then None else y) ≡ (if b then None else z)
+    either : (b : Bool) (y z : Option (Footprint workbook)) → (b ≡ false → y ≡ z) → (if b then None else y) ≡ (if b then None else z)
     either true y z h = refl
     either false y z h = h refl
 
     same : (n : ℕ) → n ≤ c → (m : ℕ) → up_to n f m ≡ up_to n g m
     same n low m = either (nat_lt n m) (f m) (g m) (λ b. e m (omega (arith, low, not_above n m b)))
 
-below : {F : Type 0} (xs ys : List (Option F)) (m : ℕ) → m < length xs → feet_of xs m ≡ feet_of (xs ++ ys) m
+below : {F : Type 0} (xs ys : List (Option F)) (m : ℕ) → m < length xs → footprint_at_number xs m ≡ footprint_at_number (xs ++ ys) m
 below [] ys m h = absurd (omega (arith, h))
 below (x ∷ xs) ys zero h = refl
 below (x ∷ xs) ys (suc m) h = below xs ys m (omega (arith, h))
@@ -139,14 +139,14 @@ below (x ∷ xs) ys (suc m) h = below xs ys m (omega (arith, h))
 pub more_indexed : (x : Index) (es : List kept.Entry) (y : kept.Entry) → IsIndexed x es → IsIndexed x (es ++ y ∷ [])
 more_indexed x es y h =
     like x (length es) (length (es ++ y ∷ [])) (by_number es) (by_number (es ++ y ∷ [])) (omega (arith, length-append es (y ∷ [])))
-    (λ m low. below (None ∷ kept_all es) (kept_in y ∷ []) m (omega (arith, low, kept_length es)) ∙ ap (λ os. feet_of (None ∷ os) m) (sym (append-map kept_in es (y ∷ [])))) h
+    (λ m low. below (None ∷ kept_all es) (kept_in y ∷ []) m (omega (arith, low, kept_length es)) ∙ ap (λ os. footprint_at_number (None ∷ os) m) (sym (append-map kept_in es (y ∷ [])))) h
 
-pub set_indexed : (x : Index) (es : List kept.Entry) (k : ℕ) (y : kept.Entry) → k < length es → Indexes x (length es) (with_foot (by_number es) (k + 1) (kept_in y)) → IsIndexed x (slice_set es k y)
+pub set_indexed : (x : Index) (es : List kept.Entry) (k : ℕ) (y : kept.Entry) → k < length es → Indexes x (length es) (with_footprint (by_number es) (k + 1) (kept_in y)) → IsIndexed x (slice_set es k y)
 set_indexed x es k y low h =
     let fits : suc k < suc (length (kept_all es)) = omega (arith, low, kept_length es) in
     let all : slice_set (kept_all es) k (kept_in y) ≡ kept_all (slice_set es k y) = sym (set-map kept_in es k y) in
-    like x (length es) (length (slice_set es k y)) (with_foot (by_number es) (k + 1) (kept_in y)) (by_number (slice_set es k y)) (omega (arith, same_length es k y))
-    (λ m low. ap (λ (j : ℕ). with_foot (by_number es) j (kept_in y) m) (add-one k) ∙ replaced (None ∷ kept_all es) (suc k) (kept_in y) m fits ∙ ap (λ os. feet_of (None ∷ os) m) all) h
+    like x (length es) (length (slice_set es k y)) (with_footprint (by_number es) (k + 1) (kept_in y)) (by_number (slice_set es k y)) (omega (arith, same_length es k y))
+    (λ m low. ap (λ (j : ℕ). with_footprint (by_number es) j (kept_in y) m) (add-one k) ∙ replaced (None ∷ kept_all es) (suc k) (kept_in y) m fits ∙ ap (λ os. footprint_at_number (None ∷ os) m) all) h
   where
     same_length : (xs : List kept.Entry) (j : ℕ) (z : kept.Entry) → length (slice_set xs j z) ≡ length xs
     same_length [] j z = refl
@@ -154,11 +154,11 @@ set_indexed x es k y low h =
     same_length (u ∷ xs) (suc j) z = ap (λ (n : ℕ). suc n) (same_length xs j z)
 
 pub undone_indexed : (es : List kept.Entry) (k : ℕ) (x : kept.Entry) → slice_get es k ≡ Some x → k < length es → (old new : Index) (r : Result ℕ Refusal) (y : kept.Entry) (b d : Contents) → IsIndexed old es → IfOk r (λ n. TakenBack x n y b d)
-    → OnOk r ((count : ℕ) (feet : Feet) → Indexes old count feet → feet (k + 1) ≡ kept_in x → Indexes new count (with_foot feet (k + 1) None)) → OnErr r (y ≡ x) → OnErr r (new ≡ old) → IsIndexed new (slice_set es k y)
+    → OnOk r ((count : ℕ) (footprints : Footprints) → Indexes old count footprints → footprints (k + 1) ≡ kept_in x → Indexes new count (with_footprint footprints (k + 1) None)) → OnErr r (y ≡ x) → OnErr r (new ≡ old) → IsIndexed new (slice_set es k y)
 undone_indexed es k x is low old new (Ok n) y b d h ok taken entry same =
     let (q, has, count, gone, cells, writes) = ok in
     let none : None ≡ kept_in y = sym (ap kept_in gone) in
-    set_indexed new es k y low (subst (λ o. Indexes new (length es) (with_foot (by_number es) (k + 1) o)) none (taken (length es) (by_number es) h (kept_here es k x is)))
+    set_indexed new es k y low (subst (λ o. Indexes new (length es) (with_footprint (by_number es) (k + 1) o)) none (taken (length es) (by_number es) h (kept_here es k x is)))
 undone_indexed es k x is low old new (Err why) y b d h ok taken entry same =
     subst (λ fs. IsIndexed new fs) (sym (ap (slice_set es k) entry ∙ set_same es k x is es k x is)) (subst (λ i. IsIndexed i es) (sym same) h)
 

@@ -3,7 +3,7 @@ use Rattle.std.proofs.Common.{◌≡◌, ℕ, zero, suc, ◌+◌, false, List, [
 use Rattle.selective_undo.specs.Changes.{apply, inverse}
 use Rattle.selective_undo.specs.Edit.{outcome, reads}
 use Rattle.selective_undo.specs.History.{traces, replay}
-use Rattle.selective_undo.specs.Log.{Foot, IsKept, history, entry_of, feet, blocks_undo, first_from}
+use Rattle.selective_undo.specs.Log.{Footprint, IsKept, history, entry_of, footprints, blocks_undo, first_from}
 use Rattle.selective_undo.proofs.Log.{get-map, set-map, append-map, kept_append, kept_undo, trace_there, undo_least}
 use Rattle.wb_book.specs.Cells.{Changes, Contents, count_of}
 use Rattle.wb_edit.specs.Schema.{workbook}
@@ -18,7 +18,7 @@ use Rattle.wb_log.specs.declared.refusal.Refusal.{Refusal}
 use Rattle.wb_log.specs.declared.refusal.Refusal.TheVariants.{NotInForce, Blocked, NoMemory}
 use Rattle.wb_log.specs.Past.{entry_at, out_of_force}
 use Rattle.wb_log.specs.Replies.{UndoReply, EditReply}
-use Rattle.wb_log.specs.Kept.{foot, kept_in, kept_all, logged, log, Shows, numbered, numbers, entries_meant, undo_blocker, MayUndo, TakenBack, refusal_of, plan_refusal}
+use Rattle.wb_log.specs.Kept.{footprint, kept_in, kept_all, logged, log, Shows, numbered, numbered_entries, entries_meant, undo_blocker, MayUndo, TakenBack, refusal_of, plan_refusal}
 
 pub drop-map : {A B : Type 0} (f : A → B) (xs : List A) (n : ℕ) → map f (drop n xs) ≡ drop n (map f xs)
 drop-map f xs zero = refl
@@ -39,7 +39,7 @@ kept-log (x ∷ es) = ap (λ os. kept_in x ∷ os) (kept-log es)
 pub log_at : (es : List kept.Entry) (k : ℕ) (x : kept.Entry) → slice_get es k ≡ Some x → slice_get (log es) k ≡ Some (logged x)
 log_at es k x is = get-map logged es k ∙ ap (option_map logged) is
 
-pub refusal_is : (es : List kept.Entry) (at : ℕ) (x : kept.Entry) (f : Foot workbook) (bs : Changes) (o : Option ℕ) → kept_in x ≡ Some f → bs ≡ f.before
+pub refusal_is : (es : List kept.Entry) (at : ℕ) (x : kept.Entry) (f : Footprint workbook) (bs : Changes) (o : Option ℕ) → kept_in x ≡ Some f → bs ≡ f.touched
     → o ≡ first_from (blocks_undo bs) (at + 2) (drop (at + 1) (kept_all es)) → option_map Blocked o ≡ undo_blocker es at (kept_in x)
 refusal_is es at x f bs o has same is =
     ap (option_map Blocked) (is ∙ ap (λ cs. first_from (blocks_undo cs) (at + 2) (drop (at + 1) (kept_all es))) same)
@@ -50,29 +50,29 @@ none_of None e = refl
 none_of (Some m) e = cc
 
 -- what is known where an undo is not refused
-free_of : (es : List kept.Entry) (k : ℕ) (o : Option (Foot workbook)) → None ≡ undo_blocker es k o → (f : Foot workbook) × (o ≡ Some f) × (first_from (blocks_undo f.before) (k + 2) (drop (k + 1) (kept_all es)) ≡ None)
+free_of : (es : List kept.Entry) (k : ℕ) (o : Option (Footprint workbook)) → None ≡ undo_blocker es k o → (f : Footprint workbook) × (o ≡ Some f) × (first_from (blocks_undo f.touched) (k + 2) (drop (k + 1) (kept_all es)) ≡ None)
 free_of es k None e = cc
-free_of es k (Some f) e = (f, refl, none_of (first_from (blocks_undo f.before) (k + 2) (drop (k + 1) (kept_all es))) e)
+free_of es k (Some f) e = (f, refl, none_of (first_from (blocks_undo f.touched) (k + 2) (drop (k + 1) (kept_all es))) e)
 
-out_numbers : (es : List kept.Entry) (k : ℕ) (x : kept.Entry) → slice_get es k ≡ Some x → numbers (slice_set es k (record { edit = x.edit; kept = None })) ≡ out_of_force k (numbers es)
+out_numbers : (es : List kept.Entry) (k : ℕ) (x : kept.Entry) → slice_get es k ≡ Some x → numbered_entries (slice_set es k (record { edit = x.edit; kept = None })) ≡ out_of_force k (numbered_entries es)
 out_numbers [] k x is = refl
-out_numbers (z ∷ es) zero x is = let h : z ≡ x = cc in ap (λ y. record { edit = y.edit; in_force = false } ∷ numbers es) (sym h)
+out_numbers (z ∷ es) zero x is = let h : z ≡ x = cc in ap (λ y. record { edit = y.edit; in_force = false } ∷ numbered_entries es) (sym h)
 out_numbers (z ∷ es) (suc k) x is = ap (λ ns. numbered z ∷ ns) (out_numbers es k x is)
 
 module _ (es : List kept.Entry) (k : ℕ) (x : kept.Entry) (is : slice_get es k ≡ Some x) where
-  blocked_reply : (s : _) (f : Foot workbook) (o : Option ℕ) (why : Refusal) → Shows es s → kept_in x ≡ Some f → first_from (blocks_undo f.before) (k + 2) (drop (k + 1) (kept_all es)) ≡ o → Some why ≡ option_map Blocked o → UndoReply (entries_meant es) k (Err why)
+  blocked_reply : (s : _) (f : Footprint workbook) (o : Option ℕ) (why : Refusal) → Shows es s → kept_in x ≡ Some f → first_from (blocks_undo f.touched) (k + 2) (drop (k + 1) (kept_all es)) ≡ o → Some why ≡ option_map Blocked o → UndoReply (entries_meant es) k (Err why)
   blocked_reply s f None why shows has first e = cc
   blocked_reply s f (Some m) why shows has first e =
       let same : why ≡ Blocked m = cc in
       let found = trace_there s (log es) k (meaning x.edit) f shows (log_at es k x is ∙ ap (λ o. Some (record { edit = meaning x.edit; kept = o })) has) in
-      let feet_are : kept_all es ≡ feet (traces (history (log es))) = sym (kept-log es) ∙ shows.feet in
-      let least = undo_least (traces (history (log es))) k (k + 2) m found.0 found.1 (rw (ap (λ g. g.before) found.2, ← add-one k, ← feet_are) first) in
+      let footprints_are : kept_all es ≡ footprints (traces (history (log es))) = sym (kept-log es) ∙ shows.footprints in
+      let least = undo_least (traces (history (log es))) k (k + 2) m found.0 found.1 (rw (ap (λ g. g.touched) found.2, ← add-one k, ← footprints_are) first) in
       rw (same, ← history-log es) (least.0, omega (arith, least.1), least.2)
 
   pub refused_reply : (s : _) (why : Refusal) → Shows es s → Some why ≡ undo_blocker es k (kept_in x) → UndoReply (entries_meant es) k (Err why)
   refused_reply s why shows e =
       elim (kept_in x) as (λ o. kept_in x ≡ o → Some why ≡ undo_blocker es k o → UndoReply (entries_meant es) k (Err why)) [
-        | Some f ↦ λ has d. blocked_reply s f (first_from (blocks_undo f.before) (k + 2) (drop (k + 1) (kept_all es))) why shows has refl d
+        | Some f ↦ λ has d. blocked_reply s f (first_from (blocks_undo f.touched) (k + 2) (drop (k + 1) (kept_all es))) why shows has refl d
         | None ↦ λ has d.
             let same : why ≡ NotInForce = cc in
             rw same (meaning x.edit, ap (λ h. slice_get h k) (sym (history-log es)) ∙ get-map entry_of (log es) k ∙ ap (option_map entry_of) (log_at es k x is ∙ ap (λ o. Some (record { edit = meaning x.edit; kept = o })) has))
@@ -80,17 +80,17 @@ module _ (es : List kept.Entry) (k : ℕ) (x : kept.Entry) (is : slice_get es k 
 
   -- ---- the edit is taken back
 
-  free_now : MayUndo es k None → (f : Foot workbook) × (kept_in x ≡ Some f) × (first_from (blocks_undo f.before) (k + 2) (drop (suc k) (map (λ x. x.kept) (log es))) ≡ None)
+  free_now : MayUndo es k None → (f : Footprint workbook) × (kept_in x ≡ Some f) × (first_from (blocks_undo f.touched) (k + 2) (drop (suc k) (map (λ x. x.kept) (log es))) ≡ None)
   free_now may =
       let same : may.0 ≡ x = cc (may.1, is) in
       let free = free_of es k (kept_in x) (may.2 ∙ ap (λ z. undo_blocker es k (kept_in z)) same) in
       (free.0, free.1, rw (kept-log es, ← add-one k) free.2)
 
-  log_is : (f : Foot workbook) → kept_in x ≡ Some f → slice_get (log es) k ≡ Some (record { edit = meaning x.edit; kept = Some f })
+  log_is : (f : Footprint workbook) → kept_in x ≡ Some f → slice_get (log es) k ≡ Some (record { edit = meaning x.edit; kept = Some f })
   log_is f has = log_at es k x is ∙ ap (λ o. Some (record { edit = meaning x.edit; kept = o })) has
 
-  same_foot : (q : Kept) (f : Foot workbook) → x.kept ≡ Some q → kept_in x ≡ Some f → f ≡ foot q.foot q.inverse
-  same_foot q f has is_f = let h : option_map (λ k. foot k.foot k.inverse) x.kept ≡ Some (foot q.foot q.inverse) = ap (option_map (λ k. foot k.foot k.inverse)) has in cc
+  same_footprint : (q : Kept) (f : Footprint workbook) → x.kept ≡ Some q → kept_in x ≡ Some f → f ≡ footprint q.footprint q.inverse
+  same_footprint q f has is_f = let h : option_map (λ k. footprint k.footprint k.inverse) x.kept ≡ Some (footprint q.footprint q.inverse) = ap (option_map (λ k. footprint k.footprint k.inverse)) has in cc
 
   pub set_same : (xs : List kept.Entry) (j : ℕ) (y : kept.Entry) → slice_get xs j ≡ Some y → slice_set xs j y ≡ xs
   set_same [] j y e = refl
@@ -102,7 +102,7 @@ module _ (es : List kept.Entry) (k : ℕ) (x : kept.Entry) (is : slice_get es k 
       let (q, has, count, gone, cells, writes) = taken in
       let (f, is_f, none) = free_now may in
       let after = (kept_undo b.cells (log es) k (k + 2) (meaning x.edit) f shows (log_is f is_f) none).1 in
-      let back : apply f.before b.cells ≡ d.cells = ap (λ g. apply g.before b.cells) (same_foot q f has is_f) ∙ sym cells in
+      let back : apply f.touched b.cells ≡ d.cells = ap (λ g. apply g.touched b.cells) (same_footprint q f has is_f) ∙ sym cells in
       let new : slice_set (log es) k (record { edit = meaning x.edit; kept = None }) ≡ log (slice_set es k y) = sym (ap (λ z. log (slice_set es k z)) gone ∙ set-map logged es k (record { edit = x.edit; kept = None })) in
       subst (λ l. IsKept {w = workbook} d.cells l) new (subst (λ s. IsKept {w = workbook} s (slice_set (log es) k (record { edit = meaning x.edit; kept = None }))) back after)
 
@@ -115,18 +115,18 @@ module _ (es : List kept.Entry) (k : ℕ) (x : kept.Entry) (is : slice_get es k 
       let (q, has, count, gone, cells, writes) = ok in
       let (f, is_f, none) = free_now may in
       let before = (kept_undo b.cells (log es) k (k + 2) (meaning x.edit) f shows (log_is f is_f) none).0 in
-      rw (← history-log es) (before.0, before.1, count ∙ ap (λ g. count_of g.before) (sym (before.2 ∙ same_foot q f has is_f)))
+      rw (← history-log es) (before.0, before.1, count ∙ ap (λ g. count_of g.touched) (sym (before.2 ∙ same_footprint q f has is_f)))
   undone_reply (Err e) y b d shows may ok why =
       let (f, is_f, none) = free_now may in
-      let memory : refusal_of x ≡ NoMemory = elim x.kept as (λ o. option_map (λ k. foot k.foot k.inverse) o ≡ Some f → refusal_of (record { edit = x.edit; kept = o }) ≡ NoMemory) [ Some q ↦ λ h. refl | None ↦ λ h. cc ] is_f in
+      let memory : refusal_of x ≡ NoMemory = elim x.kept as (λ o. option_map (λ k. footprint k.footprint k.inverse) o ≡ Some f → refusal_of (record { edit = x.edit; kept = o }) ≡ NoMemory) [ Some q ↦ λ h. refl | None ↦ λ h. cc ] is_f in
       let before = (kept_undo b.cells (log es) k (k + 2) (meaning x.edit) f shows (log_is f is_f) none).0 in
       rw (why, memory, ← history-log es) (before.0, before.1)
 
-  pub undone_numbers : (r : Result ℕ Refusal) (y : kept.Entry) (b d : Contents) → IfOk r (λ n. TakenBack x n y b d) → OnOk r (numbers (slice_set es k y) ≡ out_of_force k (numbers es))
+  pub undone_numbers : (r : Result ℕ Refusal) (y : kept.Entry) (b d : Contents) → IfOk r (λ n. TakenBack x n y b d) → OnOk r (numbered_entries (slice_set es k y) ≡ out_of_force k (numbered_entries es))
   undone_numbers (Ok n) y b d ok = let (q, has, count, gone, cells, writes) = ok in rw gone (out_numbers es k x is)
   undone_numbers (Err e) y b d ok = tt
 
-  pub stay_numbers : (r : Result ℕ Refusal) (y : kept.Entry) → OnErr r (y ≡ x) → OnErr r (numbers (slice_set es k y) ≡ numbers es)
+  pub stay_numbers : (r : Result ℕ Refusal) (y : kept.Entry) → OnErr r (y ≡ x) → OnErr r (numbered_entries (slice_set es k y) ≡ numbered_entries es)
   stay_numbers (Ok n) y stays = tt
   stay_numbers (Err e) y stays = rw (stays, set_same es k x is) refl
 
@@ -136,15 +136,15 @@ pub numbers_length : (es : List kept.Entry) → length (entries_meant es) ≡ le
 numbers_length [] = refl
 numbers_length (x ∷ es) = ap suc (numbers_length es)
 
-pub numbers_more : (es : List kept.Entry) (x : kept.Entry) → numbers (es ++ x ∷ []) ≡ numbers es ++ numbered x ∷ []
+pub numbers_more : (es : List kept.Entry) (x : kept.Entry) → numbered_entries (es ++ x ∷ []) ≡ numbered_entries es ++ numbered x ∷ []
 numbers_more es x = append-map numbered es (x ∷ [])
 
-pub more_kept : (b : _) (es : List kept.Entry) (e : command.Edit) (xs : Changes) (k : Kept) → Shows es b → outcome (meaning e) b ≡ Ok xs → k.foot ≡ reads (meaning e) b → k.inverse ≡ inverse xs b
+pub more_kept : (b : _) (es : List kept.Entry) (e : command.Edit) (xs : Changes) (k : Kept) → Shows es b → outcome (meaning e) b ≡ Ok xs → k.footprint ≡ reads (meaning e) b → k.inverse ≡ inverse xs b
     → Shows (es ++ record { edit = e; kept = Some k } ∷ []) (apply xs b)
 more_kept b es e xs k shows accepted read before =
     let after = kept_append b (log es) (meaning e) xs shows accepted in
-    let new : log es ++ record { edit = meaning e; kept = Some (foot (reads (meaning e) b) (inverse xs b)) } ∷ [] ≡ log (es ++ record { edit = e; kept = Some k } ∷ []) =
-    ap (λ f. log es ++ record { edit = meaning e; kept = Some f } ∷ []) (ap (λ rs. foot rs (inverse xs b)) (sym read) ∙ ap (foot k.foot) (sym before))
+    let new : log es ++ record { edit = meaning e; kept = Some (footprint (reads (meaning e) b) (inverse xs b)) } ∷ [] ≡ log (es ++ record { edit = e; kept = Some k } ∷ []) =
+    ap (λ f. log es ++ record { edit = meaning e; kept = Some f } ∷ []) (ap (λ rs. footprint rs (inverse xs b)) (sym read) ∙ ap (footprint k.footprint) (sym before))
     ∙ sym (append-map logged es (record { edit = e; kept = Some k } ∷ [])) in
     subst (λ l. IsKept {w = workbook} (apply xs b) l) new after
 

@@ -3,7 +3,7 @@ use Rattle.std.proofs.Common.{◌≡◌, ℕ, zero, suc, ◌+◌, ◌-◌, ◌�
 use Rattle.std.proofs.lemmas.Bool.{cases_eq}
 use Rattle.selective_undo.specs.Log.{first_from}
 use Rattle.wb_foot.specs.Relation.{IsLeastAfter}
-use Rattle.wb_log.specs.Kept.{feet_of}
+use Rattle.wb_log.specs.Kept.{footprint_at_number}
 
 abbrev IsLeastFrom : (ℕ → Bool) → ℕ → Option ℕ → Type 0
 IsLeastFrom q i None = (n : ℕ) → i ≤ n → q n ≡ false
@@ -13,10 +13,10 @@ pick : (b : Bool) (i : ℕ) (x r : Option ℕ) → (b ≡ true → Some i ≡ r)
 pick true i x r passes fails = passes refl
 pick false i x r passes fails = fails refl
 
-dropped : {F : Type 0} (k : ℕ) (xs : List (Option F)) (m : ℕ) → feet_of xs (k + m) ≡ feet_of (drop k xs) m
-dropped zero xs m = ap (feet_of xs) (zero-add m)
+dropped : {F : Type 0} (k : ℕ) (xs : List (Option F)) (m : ℕ) → footprint_at_number xs (k + m) ≡ footprint_at_number (drop k xs) m
+dropped zero xs m = ap (footprint_at_number xs) (zero-add m)
 dropped (suc k) [] m = refl
-dropped (suc k) (x ∷ xs) m = ap (feet_of (x ∷ xs)) (suc-add k m) ∙ dropped k xs m
+dropped (suc k) (x ∷ xs) m = ap (footprint_at_number (x ∷ xs)) (suc-add k m) ∙ dropped k xs m
 
 from : (q : ℕ → Bool) (k : ℕ) (r : Option ℕ) → IsLeastAfter q k r → IsLeastFrom q (suc k) r
 from q k None h = h
@@ -44,7 +44,7 @@ module _ {F : Type 0} (p : Option F → Bool) (none : p None ≡ false) (q : ℕ
   shift : (i m : ℕ) → (i + 1) + m ≡ i + suc m
   shift i m = omega arith
 
-  pub first_is : (i : ℕ) (ys : List (Option F)) (r : Option ℕ) → ((m : ℕ) → q (i + m) ≡ p (feet_of ys m)) → IsLeastFrom q i r → first_from p i ys ≡ r
+  pub first_is : (i : ℕ) (ys : List (Option F)) (r : Option ℕ) → ((m : ℕ) → q (i + m) ≡ p (footprint_at_number ys m)) → IsLeastFrom q i r → first_from p i ys ≡ r
   first_is i [] r e h = nothing i r (λ n up. let k : i + (n - i) ≡ n = omega arith in subst (λ (x : ℕ). q x ≡ false) k (e (n - i) ∙ none)) h
   first_is i (y ∷ ys) r e h =
       let at : q i ≡ p y = subst (λ (x : ℕ). q x ≡ p y) (add-zero i) (e 0) in
@@ -53,5 +53,5 @@ module _ {F : Type 0} (p : Option F → Bool) (none : p None ≡ false) (q : ℕ
       (λ fails. first_is (i + 1) ys r (λ m. ap q (shift i m) ∙ e (suc m)) (next i r (at ∙ fails) h))
 
 -- as a history asks for it
-pub first_after : {F : Type 0} (p : Option F → Bool) → p None ≡ false → (xs : List (Option F)) (k : ℕ) (r : Option ℕ) → IsLeastAfter (λ n. p (feet_of xs n)) k r → first_from p (suc k) (drop (suc k) xs) ≡ r
-first_after p none xs k r h = first_is p none (λ n. p (feet_of xs n)) (suc k) (drop (suc k) xs) r (λ m. ap p (dropped (suc k) xs m)) (from (λ n. p (feet_of xs n)) k r h)
+pub first_after : {F : Type 0} (p : Option F → Bool) → p None ≡ false → (xs : List (Option F)) (k : ℕ) (r : Option ℕ) → IsLeastAfter (λ n. p (footprint_at_number xs n)) k r → first_from p (suc k) (drop (suc k) xs) ≡ r
+first_after p none xs k r h = first_is p none (λ n. p (footprint_at_number xs n)) (suc k) (drop (suc k) xs) r (λ m. ap p (dropped (suc k) xs m)) (from (λ n. p (footprint_at_number xs n)) k r h)

@@ -2,16 +2,16 @@
 use Rattle.std.proofs.Common.{◌≡◌, ℕ, zero, suc, ◌==◌, List, [], ◌∷◌, length, slice_set, Option, ◌<◌, arith, true, false, inl, inr, refl, sym, ap, subst, ◌∙◌}
 use Rattle.std.proofs.lemmas.Bool.{cases_eq}
 use Rattle.std.proofs.lemmas.Bool.Decides.{nat_tests}
-use Rattle.selective_undo.specs.Log.{Foot}
+use Rattle.selective_undo.specs.Log.{Footprint}
 use Rattle.wb_edit.specs.Schema.{workbook}
 use Rattle.wb_foot.specs.declared.foot_index.FootIndex.{FootIndex}
-use Rattle.wb_foot.specs.Feet.{IsIndexOf, with_foot, touched_by, read_by}
-use Rattle.wb_log.specs.Kept.{feet_of}
+use Rattle.wb_foot.specs.Footprints.{IsIndexOf, with_footprint, touched_by, read_by}
+use Rattle.wb_log.specs.Kept.{footprint_at_number}
 
 abbrev Kept : Type 0
-Kept = List (Option (Foot workbook))
+Kept = List (Option (Footprint workbook))
 
-pub index_like : (idx : FootIndex) (f g : ℕ → Option (Foot workbook)) → ((n : ℕ) → f n ≡ g n) → IsIndexOf idx f → IsIndexOf idx g
+pub index_like : (idx : FootIndex) (f g : ℕ → Option (Footprint workbook)) → ((n : ℕ) → f n ≡ g n) → IsIndexOf idx f → IsIndexOf idx g
 index_like idx f g e h = record { touched = λ q n. h.touched q n ∙ ap (λ o. touched_by o q) (e n); read = λ q n. h.read q n ∙ ap (λ o. read_by o q) (e n) }
 
 at_self : (a : ℕ) → (a == a) ≡ true
@@ -20,23 +20,23 @@ at_self a = grind (arith, nat_tests)
 at_other : (a b : ℕ) → (a ≡ b → ⊥) → (a == b) ≡ false
 at_other a b apart = grind (arith, nat_tests)
 
-with_here : (f : ℕ → Option (Foot workbook)) (k : ℕ) (o : Option (Foot workbook)) → with_foot f k o k ≡ o
+with_here : (f : ℕ → Option (Footprint workbook)) (k : ℕ) (o : Option (Footprint workbook)) → with_footprint f k o k ≡ o
 with_here f k o = rw (at_self k)
 
-with_apart : (f : ℕ → Option (Foot workbook)) (k : ℕ) (o : Option (Foot workbook)) (n : ℕ) → (k ≡ n → ⊥) → with_foot f k o n ≡ f n
+with_apart : (f : ℕ → Option (Footprint workbook)) (k : ℕ) (o : Option (Footprint workbook)) (n : ℕ) → (k ≡ n → ⊥) → with_footprint f k o n ≡ f n
 with_apart f k o n apart = rw (at_other k n apart)
 
-set_here : (xs : Kept) (k : ℕ) (o : Option (Foot workbook)) → k < length xs → feet_of (slice_set xs k o) k ≡ o
+set_here : (xs : Kept) (k : ℕ) (o : Option (Footprint workbook)) → k < length xs → footprint_at_number (slice_set xs k o) k ≡ o
 set_here [] k o h = absurd (omega arith)
 set_here (x ∷ xs) zero o h = refl
 set_here (x ∷ xs) (suc k) o h = set_here xs k o (omega arith)
 
-set_apart : (xs : Kept) (k : ℕ) (o : Option (Foot workbook)) (n : ℕ) → (k ≡ n → ⊥) → feet_of (slice_set xs k o) n ≡ feet_of xs n
+set_apart : (xs : Kept) (k : ℕ) (o : Option (Footprint workbook)) (n : ℕ) → (k ≡ n → ⊥) → footprint_at_number (slice_set xs k o) n ≡ footprint_at_number xs n
 set_apart [] k o n apart = refl
 set_apart (x ∷ xs) zero o zero apart = absurd (apart refl)
 set_apart (x ∷ xs) zero o (suc n) apart = refl
 set_apart (x ∷ xs) (suc k) o zero apart = refl
 set_apart (x ∷ xs) (suc k) o (suc n) apart = set_apart xs k o n (λ e. apart (ap (λ (k : ℕ). suc k) e))
 
-pub replaced : (xs : Kept) (k : ℕ) (o : Option (Foot workbook)) (n : ℕ) → k < length xs → with_foot (feet_of xs) k o n ≡ feet_of (slice_set xs k o) n
-replaced xs k o n h = elim (cases_eq k n) [ inl e ↦ subst (λ (j : ℕ). with_foot (feet_of xs) k o j ≡ feet_of (slice_set xs k o) j) e (with_here (feet_of xs) k o ∙ sym (set_here xs k o h)) | inr apart ↦ with_apart (feet_of xs) k o n apart ∙ sym (set_apart xs k o n apart) ]
+pub replaced : (xs : Kept) (k : ℕ) (o : Option (Footprint workbook)) (n : ℕ) → k < length xs → with_footprint (footprint_at_number xs) k o n ≡ footprint_at_number (slice_set xs k o) n
+replaced xs k o n h = elim (cases_eq k n) [ inl e ↦ subst (λ (j : ℕ). with_footprint (footprint_at_number xs) k o j ≡ footprint_at_number (slice_set xs k o) j) e (with_here (footprint_at_number xs) k o ∙ sym (set_here xs k o h)) | inr apart ↦ with_apart (footprint_at_number xs) k o n apart ∙ sym (set_apart xs k o n apart) ]

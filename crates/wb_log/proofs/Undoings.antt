@@ -14,8 +14,8 @@ use Rattle.wb_log.specs.declared.refusal.Refusal.{Refusal}
 use Rattle.wb_log.specs.declared.refusal.Refusal.TheVariants.{NotInForce, NoMemory}
 use Rattle.wb_log.specs.Past.{Numbered, meant, entry_at, out_of_force, AreValid}
 use Rattle.wb_log.specs.Replies.{UndoReply, ByNumber}
-use Rattle.wb_log.specs.Kept.{numbers, numbered, entries_meant, log, foot, by_number, Shows}
-use Rattle.wb_log.specs.Needed.{AreFromFeet}
+use Rattle.wb_log.specs.Kept.{numbered_entries, numbered, entries_meant, log, footprint, by_number, Shows}
+use Rattle.wb_log.specs.Needed.{AreFromFootprints}
 use Rattle.wb_log.specs.Cascades.{DependentsReply, CascadeReply, places, touched, set_back, all_out_of_force, IsRisen, AreUndone, OfNumber}
 use Rattle.wb_log.proofs.Depending.{by_traces, are_dependents}
 use Rattle.wb_log.proofs.Entries.{history-log, log_at}
@@ -113,7 +113,7 @@ valid_out n es fs valid out = subst AreValid (sym out) (valid_force false n es v
 
 module _ (s : _) (es : List kept.Entry) (k : ℕ) (x : kept.Entry) (shows : Shows es s) (is : slice_get es k ≡ Some x) where
   meant_here : slice_get (entries_meant es) k ≡ Some (entry_at x.edit (is_some x.kept))
-  meant_here = get-map (λ y. entry_at y.edit y.in_force) (numbers es) k ∙ ap (option_map (λ y. entry_at y.edit y.in_force)) (get-map numbered es k ∙ ap (option_map numbered) is)
+  meant_here = get-map (λ y. entry_at y.edit y.in_force) (numbered_entries es) k ∙ ap (option_map (λ y. entry_at y.edit y.in_force)) (get-map numbered es k ∙ ap (option_map numbered) is)
 
   pub out_of_force_reply : is_some x.kept ≡ false → DependentsReply (entries_meant es) k (Err NotInForce)
   out_of_force_reply off = (meaning x.edit, meant_here ∙ ap (λ b. Some (entry_at x.edit b)) off)
@@ -122,17 +122,17 @@ module _ (s : _) (es : List kept.Entry) (k : ℕ) (x : kept.Entry) (shows : Show
   there on =
       elim x.kept as (λ o. x.kept ≡ o → is_some o ≡ true → (t : Trace workbook) × InForce (traces (entries_meant es)) k t) [
         | Some q ↦ λ has yes.
-            let f = foot q.foot q.inverse in
-            let found = trace_there s (log es) k (meaning x.edit) f shows (log_at es k x is ∙ ap (λ o. Some (record { edit = meaning x.edit; kept = option_map (λ k. foot k.foot k.inverse) o })) has) in
+            let f = footprint q.footprint q.inverse in
+            let found = trace_there s (log es) k (meaning x.edit) f shows (log_at es k x is ∙ ap (λ o. Some (record { edit = meaning x.edit; kept = option_map (λ k. footprint k.footprint k.inverse) o })) has) in
             (found.0, subst (λ g. InForce (traces g) k found.0) (history-log es) found.1)
         | None ↦ λ has yes. cc
       ] refl on
 
-  pub dependents_reply : is_some x.kept ≡ true → (ns : List ℕ) → AreFromFeet (by_number es) (k + 1) ns → DependentsReply (entries_meant es) k (Ok ns)
+  pub dependents_reply : is_some x.kept ≡ true → (ns : List ℕ) → AreFromFootprints (by_number es) (k + 1) ns → DependentsReply (entries_meant es) k (Ok ns)
   dependents_reply on ns found =
       let one : k + 1 ≡ suc k = omega arith in
-      let from : AreFromFeet (by_number es) (suc k) ns = subst (λ (m : ℕ). AreFromFeet (by_number es) m ns) one found in
-      (there on, are_dependents (traces (entries_meant es)) k ns (subst (λ f. AreFromFeet f (suc k) ns) (by_traces es s shows) from))
+      let from : AreFromFootprints (by_number es) (suc k) ns = subst (λ (m : ℕ). AreFromFootprints (by_number es) m ns) one found in
+      (there on, are_dependents (traces (entries_meant es)) k ns (subst (λ f. AreFromFootprints f (suc k) ns) (by_traces es s shows) from))
 
   pub no_room_reply : is_some x.kept ≡ true → DependentsReply (entries_meant es) k (Err NoMemory)
   no_room_reply on = there on
@@ -144,7 +144,7 @@ take_some ns zero some low = absurd (omega (arith, some))
 take_some [] (suc i) some low = absurd (omega (arith, low))
 take_some (n ∷ ns) (suc i) some low = λ e. cc
 
-module _ (es : List kept.Entry) (k : ℕ) (all : List ℕ) (i w n v : ℕ) (fs : List Numbered) (some : 0 < i) (low : i ≤ length all) (h : AreUndone (numbers es) w (take i all) fs n v) where
+module _ (es : List kept.Entry) (k : ℕ) (all : List ℕ) (i w n v : ℕ) (fs : List Numbered) (some : 0 < i) (low : i ≤ length all) (h : AreUndone (numbered_entries es) w (take i all) fs n v) where
   pub cascade_reply : DependentsReply (entries_meant es) k (Ok all) → CascadeReply (entries_meant es) k (Ok (take i all, n))
   cascade_reply due =
       (take_some all i some low, (drop i all, subst (λ (ns : List ℕ). DependentsReply (entries_meant es) k (Ok ns)) (sym (take-append-drop i all)) due), h.granted, h.count)

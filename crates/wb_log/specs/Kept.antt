@@ -3,7 +3,7 @@ use Rattle.std.specs.Prelude.{◌≡◌, ℕ, zero, suc, ◌+◌, ◌≤◌, Lis
 use Rattle.selective_undo.specs.Changes.{apply}
 use Rattle.selective_undo.specs.Edit.{outcome, reads}
 use Rattle.selective_undo.specs.History as h
-use Rattle.selective_undo.specs.Log.{Foot, Logged, IsKept, blocks_undo, blocks_redo, first_from}
+use Rattle.selective_undo.specs.Log.{Footprint, Logged, IsKept, blocks_undo, blocks_redo, first_from}
 use Rattle.wb_book.specs.declared.cells.pattern.Pattern.{Pattern}
 use Rattle.wb_book.specs.Cells.{Cells, Changes, Contents, count_of, written_more}
 use Rattle.wb_book.specs.WellFormed.{IsWellFormed}
@@ -12,32 +12,32 @@ use Rattle.wb_edit.specs.declared.planning.PlanErr.TheVariants.{Refused as PlanR
 use Rattle.wb_edit.specs.declared.refusal.Refusal as command_refusal
 use Rattle.wb_edit.specs.Schema.{workbook}
 use Rattle.wb_edit.specs.Commands.{meaning}
-use Rattle.wb_foot.specs.Feet.{Feet}
+use Rattle.wb_foot.specs.Footprints.{Footprints}
 use Rattle.wb_log.specs.declared.entry.Entry as kept
 use Rattle.wb_log.specs.declared.entry.Kept.{Kept}
 use Rattle.wb_log.specs.declared.refusal.Refusal.{Refusal}
 use Rattle.wb_log.specs.declared.refusal.Refusal.TheVariants.{Refused, NotInForce, Blocked, RefusedInPlace, NoMemory}
 use Rattle.wb_log.specs.Past.{Numbered, meant}
 
-abbrev pub foot : List Pattern → Changes → Foot workbook
-foot reads before = record { reads = reads; before = before }
+abbrev pub footprint : List Pattern → Changes → Footprint workbook
+footprint reads before = record { reads = reads; touched = before }
 
 -- what an entry keeps
-abbrev pub kept_in : kept.Entry → Option (Foot workbook)
-kept_in x = option_map (λ k. foot k.foot k.inverse) x.kept
+abbrev pub kept_in : kept.Entry → Option (Footprint workbook)
+kept_in x = option_map (λ k. footprint k.footprint k.inverse) x.kept
 
-abbrev pub kept_all : List kept.Entry → List (Option (Foot workbook))
+abbrev pub kept_all : List kept.Entry → List (Option (Footprint workbook))
 kept_all es = map kept_in es
 
--- the foot kept at a number, if one is
-abbrev pub feet_of : {F : Type 0} → List (Option F) → ℕ → Option F
-feet_of [] n = None
-feet_of (x ∷ xs) zero = x
-feet_of (x ∷ xs) (suc n) = feet_of xs n
+-- the footprint kept at a number, if one is
+abbrev pub footprint_at_number : {F : Type 0} → List (Option F) → ℕ → Option F
+footprint_at_number [] n = None
+footprint_at_number (x ∷ xs) zero = x
+footprint_at_number (x ∷ xs) (suc n) = footprint_at_number xs n
 
 -- what is kept of the edits by their numbers, from 1
-abbrev pub by_number : List kept.Entry → Feet
-by_number es = feet_of (None ∷ kept_all es)
+abbrev pub by_number : List kept.Entry → Footprints
+by_number es = footprint_at_number (None ∷ kept_all es)
 
 abbrev pub logged : kept.Entry → Logged workbook
 logged x = record { edit = meaning x.edit; kept = kept_in x }
@@ -57,16 +57,16 @@ IsShown es = (s : Cells) × Shows es s
 abbrev pub numbered : kept.Entry → Numbered
 numbered x = record { edit = x.edit; in_force = is_some x.kept }
 
-abbrev pub numbers : List kept.Entry → List Numbered
-numbers es = map numbered es
+abbrev pub numbered_entries : List kept.Entry → List Numbered
+numbered_entries es = map numbered es
 
 abbrev pub entries_meant : List kept.Entry → List (h.Entry workbook)
-entries_meant es = meant (numbers es)
+entries_meant es = meant (numbered_entries es)
 
 -- the least later edit, in force, that needs edit k
-abbrev pub undo_blocker : List kept.Entry → ℕ → Option (Foot workbook) → Option Refusal
+abbrev pub undo_blocker : List kept.Entry → ℕ → Option (Footprint workbook) → Option Refusal
 undo_blocker es k None = Some NotInForce
-undo_blocker es k (Some f) = option_map Blocked (first_from (blocks_undo f.before) (k + 2) (drop (k + 1) (kept_all es)))
+undo_blocker es k (Some f) = option_map Blocked (first_from (blocks_undo f.touched) (k + 2) (drop (k + 1) (kept_all es)))
 
 abbrev pub MayUndo : List kept.Entry → ℕ → Option Refusal → Type 0
 MayUndo es k r = (x : kept.Entry) × (slice_get es k ≡ Some x) × (r ≡ undo_blocker es k (kept_in x))
@@ -84,12 +84,12 @@ refusal_of x = elim x.kept [ None ↦ NotInForce | Some k ↦ NoMemory ]
 
 -- why there is no plan, as a refusal
 abbrev pub plan_refusal : PlanErr → Refusal
-plan_refusal (PlanRefused why foot) = Refused why
+plan_refusal (PlanRefused why footprint) = Refused why
 plan_refusal PlanNoMemory = NoMemory
 
 -- the number of the least later edit, in force, that a plan in the place of edit k meets
 abbrev pub redo_blocker : List kept.Entry → ℕ → List Pattern → Changes → Option ℕ
-redo_blocker es k rs xs = first_from (blocks_redo (foot rs xs)) (k + 2) (drop (k + 1) (kept_all es))
+redo_blocker es k rs xs = first_from (blocks_redo (footprint rs xs)) (k + 2) (drop (k + 1) (kept_all es))
 
 abbrev pub in_place : Option ℕ → command_refusal.Refusal → Refusal
 in_place (Some by) why = Blocked by
@@ -106,6 +106,6 @@ PlansAgain es k s xs rs n =
     × (redo_blocker es k rs xs ≡ None)
 
 -- the place of the latest entry that keeps something, or none does
-abbrev pub IsLatest : List (Option (Foot workbook)) → Option ℕ → Type 0
-IsLatest ks (Some p) = (f : Foot workbook) × (slice_get ks p ≡ Some (Some f)) × ((q : ℕ) (g : Foot workbook) → slice_get ks q ≡ Some (Some g) → q ≤ p)
-IsLatest ks None = (q : ℕ) (g : Foot workbook) → slice_get ks q ≡ Some (Some g) → ⊥
+abbrev pub IsLatest : List (Option (Footprint workbook)) → Option ℕ → Type 0
+IsLatest ks (Some p) = (f : Footprint workbook) × (slice_get ks p ≡ Some (Some f)) × ((q : ℕ) (g : Footprint workbook) → slice_get ks q ≡ Some (Some g) → q ≤ p)
+IsLatest ks None = (q : ℕ) (g : Footprint workbook) → slice_get ks q ≡ Some (Some g) → ⊥

@@ -1,6 +1,6 @@
 -- What the records stand for in which entries are kept.
 use Rattle.std.specs.Prelude.{ℤ, List, [], ◌∷◌, Option, Some, None, option_map}
-use Rattle.selective_undo.specs.Log.{Foot}
+use Rattle.selective_undo.specs.Log.{Footprint}
 use Rattle.wb_book.specs.declared.cells.cell.Cell.{Cell}
 use Rattle.wb_book.specs.declared.cells.cell.Cell.TheVariants.{Object, Implicit, Element}
 use Rattle.wb_book.specs.declared.cells.value.Value.TheVariants.{Number}
@@ -17,9 +17,9 @@ use Rattle.wb_log.specs.declared.entry.Form.{Form}
 use Rattle.wb_log.specs.declared.entry.Form.TheVariants.{Set, Copy, Irv, Whole}
 use Rattle.wb_log.specs.declared.entry.LentEdit.{LentEdit}
 use Rattle.wb_log.specs.declared.entry.LentEdit.TheVariants.{Own, Lent as LentOne}
-use Rattle.wb_log.specs.declared.entry.LentFoot.{LentFoot}
-use Rattle.wb_log.specs.declared.entry.LentFoot.TheVariants.{Set as OfSet, Copy as OfCopy, Irv as OfIrv, Lent as LentKept}
-use Rattle.wb_log.specs.Kept.{foot}
+use Rattle.wb_log.specs.declared.entry.LentFootprint.{LentFootprint}
+use Rattle.wb_log.specs.declared.entry.LentFootprint.TheVariants.{Set as OfSet, Copy as OfCopy, Irv as OfIrv, Lent as LentKept}
+use Rattle.wb_log.specs.Kept.{footprint}
 
 -- what a new value of an element reads: the array, and the element
 abbrev pub element_reads : Name → Index → List Pattern
@@ -39,7 +39,7 @@ number_before c old = record { cell = c; value = Some (Number old) } ∷ []
 
 -- both, kept of an edit that read patterns and changed such a cell, if it is in force
 abbrev pub number_kept : List Pattern → Cell → Option ℤ → Option Kept
-number_kept rs c old = option_map (λ n. record { foot = rs; inverse = number_before c n }) old
+number_kept rs c old = option_map (λ n. record { footprint = rs; inverse = number_before c n }) old
 
 -- what is kept of a form's edit, by the number that was, if it is in force
 abbrev pub kept_of : Form → Option ℤ → Option Kept
@@ -62,9 +62,9 @@ abbrev pub lent_edit : LentEdit → command.Edit
 lent_edit (Own e) = e
 lent_edit (LentOne e) = e.now
 
--- the foot that is lent
-abbrev pub lent_foot : LentFoot → Foot workbook
-lent_foot (OfSet rs b) = foot rs (b ∷ [])
-lent_foot (OfCopy rs b) = foot rs (b ∷ [])
-lent_foot (OfIrv rs b) = foot rs (b ∷ [])
-lent_foot (LentKept k) = foot k.now.foot k.now.inverse
+-- the footprint that is lent
+abbrev pub lent_footprint : LentFootprint → Footprint workbook
+lent_footprint (OfSet rs b) = footprint rs (b ∷ [])
+lent_footprint (OfCopy rs b) = footprint rs (b ∷ [])
+lent_footprint (OfIrv rs b) = footprint rs (b ∷ [])
+lent_footprint (LentKept k) = footprint k.now.footprint k.now.inverse

@@ -7,7 +7,7 @@ ghost use Rattle.selective_undo.specs.Edit.{covers};
 ghost use Rattle.selective_undo.specs.Log.{meets_any, blocks_undo, blocks_redo, first_from};
 ghost use Rattle.wb_book.specs.Cells.{cell_cmp};
 ghost use Rattle.wb_edit.specs.Schema.{workbook};
-ghost use Rattle.wb_log.specs.Kept.{foot, kept_in, kept_all};
+ghost use Rattle.wb_log.specs.Kept.{footprint, kept_in, kept_all};
 
 use crate::entry::Record;
 use wb_book::{Cell, CellChange, Pattern};
@@ -32,7 +32,7 @@ fn meets(reads: &[Pattern], wrote: &[CellChange], cell: &Cell) -> bool
 
 /// Whether an edit that read `reads` and wrote `wrote` reads or writes one of the cells.
 fn meets_any(reads: &[Pattern], wrote: &[CellChange], cells: &[CellChange]) -> bool
-    ensures { result ≡ meets_any (foot reads.now wrote.now) cells.now }
+    ensures { result ≡ meets_any (footprint reads.now wrote.now) cells.now }
 {
     cells.iter().any(|x| meets(reads, wrote, &x.cell()))
 }
@@ -47,7 +47,7 @@ fn blocks_undo(x: &Record, before: &[CellChange]) -> bool
 }
 
 fn blocks_redo(x: &Record, reads: &[Pattern], delta: &[CellChange]) -> bool
-    ensures { result ≡ blocks_redo (foot reads.now delta.now) (kept_in x.now) }
+    ensures { result ≡ blocks_redo (footprint reads.now delta.now) (kept_in x.now) }
 {
     match x.kept() {
         None => false,
@@ -83,7 +83,7 @@ pub(crate) fn first_to_block_redo(
     delta: &[CellChange],
 ) -> Option<u64>
     requires { from + length later.now < 2 ^ 64 }
-    ensures { result ≡ first_from (blocks_redo (foot reads.now delta.now)) from (kept_all later.now) }
+    ensures { result ≡ first_from (blocks_redo (footprint reads.now delta.now)) from (kept_all later.now) }
 {
     let mut number = from;
     for x in later {

@@ -7,19 +7,19 @@ ghost use Rattle.wb_book.specs.declared.cells.pattern.Pattern.TheVariants as pat
 ghost use Rattle.wb_book.specs.Cells.{cell_cmp};
 ghost use Rattle.wb_edit.specs.declared.edit.Edit.TheVariants as command;
 ghost use Rattle.wb_log.specs.Kept.{kept_in};
-ghost use Rattle.wb_log.specs.Records.{element_reads, copy_reads, implicit_reads, number_before as before_of, lent_edit, lent_foot, shown, kept_of};
+ghost use Rattle.wb_log.specs.Records.{element_reads, copy_reads, implicit_reads, number_before as before_of, lent_edit, lent_footprint, shown, kept_of};
 
 use std::alloc::Global;
 use std::marker::Model;
 use std::slice::from_ref;
 use wb_book::{AnyCell, AnyIndex, Cell, CellChange, Inverse, Name, Pattern, Value};
-use wb_edit::{Edit, Foot};
+use wb_edit::{Edit, Footprint};
 use wb_range::NoMemory;
 
 /// What an edit in force read, and what takes it back.
 #[derive(Drop)]
 pub struct Kept {
-    pub foot: Foot,
+    pub footprint: Footprint,
     pub inverse: Inverse,
 }
 
@@ -108,36 +108,36 @@ impl<'a> LentEdit<'a> {
 
 /// What is kept of an edit in force, lent, or made for the moment.
 #[derive(Drop)]
-pub enum LentFoot<'a> {
+pub enum LentFootprint<'a> {
     Set([Pattern; 2], CellChange),
     Copy([Pattern; 4], CellChange),
     Irv([Pattern; 1], CellChange),
     Lent(&'a Kept),
 }
 
-impl<'a> LentFoot<'a> {
+impl<'a> LentFootprint<'a> {
     /// The patterns that the edit read, in order.
     pub fn reads(&self) -> &[Pattern]
-        ensures { result.now ≡ (lent_foot self.now).reads }
+        ensures { result.now ≡ (lent_footprint self.now).reads }
     {
         match self {
-            LentFoot::Set(reads, _) => reads,
-            LentFoot::Copy(reads, _) => reads,
-            LentFoot::Irv(reads, _) => reads,
-            LentFoot::Lent(kept) => kept.foot.reads(),
+            LentFootprint::Set(reads, _) => reads,
+            LentFootprint::Copy(reads, _) => reads,
+            LentFootprint::Irv(reads, _) => reads,
+            LentFootprint::Lent(kept) => kept.footprint.reads(),
         }
     }
 
     /// The cells that the edit wrote, each once, with what they were.
     pub fn before(&self) -> &[CellChange]
-        ensures same { result.now ≡ (lent_foot self.now).before }
-        ensures once { AllOnce cell_cmp (lent_foot self.now).before }
+        ensures same { result.now ≡ (lent_footprint self.now).touched }
+        ensures once { AllOnce cell_cmp (lent_footprint self.now).touched }
     {
         match self {
-            LentFoot::Set(_, before) => from_ref(before),
-            LentFoot::Copy(_, before) => from_ref(before),
-            LentFoot::Irv(_, before) => from_ref(before),
-            LentFoot::Lent(kept) => kept.inverse.before(),
+            LentFootprint::Set(_, before) => from_ref(before),
+            LentFootprint::Copy(_, before) => from_ref(before),
+            LentFootprint::Irv(_, before) => from_ref(before),
+            LentFootprint::Lent(kept) => kept.inverse.before(),
         }
     }
 }
@@ -301,34 +301,34 @@ impl Record {
     }
 
     /// What is kept of the edit, if it is in force.
-    pub fn kept(&self) -> Option<LentFoot<'_>>
-        ensures { option_map lent_foot result ≡ kept_in self.now }
+    pub fn kept(&self) -> Option<LentFootprint<'_>>
+        ensures { option_map lent_footprint result ≡ kept_in self.now }
     {
         match &self.form {
             Form::Set(element) => match &element.was {
                 None => None,
-                Some(was) => Some(LentFoot::Set(
+                Some(was) => Some(LentFootprint::Set(
                     element.reads(),
                     number_before(element.cell(), was),
                 )),
             },
             Form::Copy(copied) => match &copied.was {
                 None => None,
-                Some(was) => Some(LentFoot::Copy(
+                Some(was) => Some(LentFootprint::Copy(
                     copied.reads(),
                     number_before(copied.cell(), was),
                 )),
             },
             Form::Irv(implicit) => match &implicit.was {
                 None => None,
-                Some(was) => Some(LentFoot::Irv(
+                Some(was) => Some(LentFootprint::Irv(
                     implicit.reads(),
                     number_before(implicit.cell(), was),
                 )),
             },
             Form::Whole(entry) => match &entry.kept {
                 None => None,
-                Some(kept) => Some(LentFoot::Lent(kept)),
+                Some(kept) => Some(LentFootprint::Lent(kept)),
             },
         }
     }

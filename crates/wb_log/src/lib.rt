@@ -11,6 +11,8 @@ mod refusal;
 pub mod steps;
 mod sweep;
 
-pub use crate::entry::{Copied, Element, Entry, Form, Implicit, Kept, LentEdit, LentFoot, Record};
+pub use crate::entry::{
+    Copied, Element, Entry, Form, Implicit, Kept, LentEdit, LentFootprint, Record,
+};
 pub use crate::index::Index;
 pub use crate::refusal::Refusal;

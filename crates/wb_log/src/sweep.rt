@@ -2,9 +2,9 @@
 
 ghost use Rattle.std.specs.Prelude.{◌≡◌, ℕ, ◌<◌, ◌≤◌, ◌^◌, length, OnOk, IfOk};
 ghost use Rattle.selective_undo.specs.Log.{blocks_undo};
-ghost use Rattle.wb_foot.specs.Feet.{Feet, IsIndexOf};
+ghost use Rattle.wb_foot.specs.Footprints.{Footprints, IsIndexOf};
 ghost use Rattle.wb_log.specs.Kept.{by_number};
-ghost use Rattle.wb_log.specs.Needed.{AreFromFeet, Joined, JoinedAfter};
+ghost use Rattle.wb_log.specs.Needed.{AreFromFootprints, Joined, JoinedAfter};
 
 use crate::entry::Record;
 use std::alloc::Global;
@@ -19,7 +19,7 @@ fn wait_for_blockers(
     after: u64,
     waiting: &mut Numbers,
 ) -> Result<(), NoMemory>
-    ensures { OnOk result ((feet : Feet) → IsIndexOf index.now feet → JoinedAfter waiting.old waiting.new (λ n. blocks_undo before.now (feet n)) after) }
+    ensures { OnOk result ((footprints : Footprints) → IsIndexOf index.now footprints → JoinedAfter waiting.old waiting.new (λ n. blocks_undo before.now (footprints n)) after) }
 {
     let mut from = after;
     while let Some(number) = index.first_to_block_undo(before, from) {
@@ -61,7 +61,7 @@ pub(crate) fn needing(
     requires in_log { number ≤ length entries.now }
     requires few { length entries.now < 2 ^ 63 }
     requires indexed { IsIndexOf index.now (by_number entries.now) }
-    ensures { IfOk result (λ v. AreFromFeet (by_number entries.now) number v.items) }
+    ensures { IfOk result (λ v. AreFromFootprints (by_number entries.now) number v.items) }
 {
     let mut waiting = Numbers::new(alloc);
     match waiting.add(number) {

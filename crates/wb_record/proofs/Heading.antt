@@ -19,7 +19,7 @@ use Rattle.wb_history.specs.Past.{Numbered, meant}
 use Rattle.wb_lines.specs.Lines.{IsUnbroken}
 use Rattle.wb_lines.proofs.Progress.{unbroken-append}
 use Rattle.wb_text.specs.Literals.{rectangle_text, set_text, integers_text, mapping_text}
-use Rattle.wb_text.specs.Lines.{members, type_text, implicit_text, array_line, domain_line, elements_at, indices_in, implicit_in, line_in, object_line}
+use Rattle.wb_text.specs.Lines.{members, type_text, implicit_text, array_line, domain_line, elements_at, indices_in, implicit_in, text_of_object, object_line}
 use Rattle.wb_record.specs.Lines.{marked_at, heading}
 use Rattle.wb_record.specs.Text.{objects_text}
 use Rattle.wb_record.proofs.Unbroken.{unbroken_decimal}
@@ -46,7 +46,7 @@ domain_ended s n (kinds.Associative type) = six (codes "assoc ") n (codes " of "
 array_ended : (a d : Name) (xs : List ℤ) (irv : Option ℤ) → Ended (array_line a d xs irv)
 array_ended a d xs irv = behind (codes "array ") _ (six a (codes " over ") d (codes " ") (integers_text xs) (implicit_text irv))
 
-line_ended : (s : Cells) (n : Name) (o : Option Value) → (line_in s n o ≡ []) ⊎ Ended (line_in s n o)
+line_ended : (s : Cells) (n : Name) (o : Option Value) → (text_of_object s n o ≡ []) ⊎ Ended (text_of_object s n o)
 line_ended s n None = inl refl
 line_ended s n (Some (Domain kind)) = inr (domain_ended s n kind)
 line_ended s n (Some (Array d kind)) = inr (array_ended n d (elements_at s n (indices_in s d kind)) (implicit_in s n kind))

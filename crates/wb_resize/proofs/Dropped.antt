@@ -20,8 +20,8 @@ use Rattle.wb_book.specs.Cells.{Name, Cells, cell_cmp, cell_order, is_same_name}
 use Rattle.wb_book.specs.Kinds.{kind_of}
 use Rattle.wb_book.specs.Shapes.{Range, indices}
 use Rattle.wb_book.specs.WellFormed.{IsWellFormed, IsObject, IsShape, HasMapping, IsMember, IsImplicit, IsElement, has, present_if, domain_in, array_in, ranges_in, inside_of, use_of, domain_at, array_at, index_cell, is_index_of_array}
-use Rattle.wb_resize.specs.Dropped.{ended_cells}
-use Rattle.wb_resize.specs.Laws.{KeepsEnds}
+use Rattle.wb_resize.specs.Dropped.{dropped_domain_cells}
+use Rattle.wb_resize.specs.Laws.{KeepsDrops}
 use Rattle.wb_resize.specs.Writes.{clear_all}
 use Rattle.wb_resize.proofs.Gets.{after, cond-or, list_any-map, get-apply, same_key}
 use Rattle.wb_resize.proofs.States.{same_name, itself, in_column, second_first, domain_in-is, array_in-is, index_cell_same, indices_same, IsMember-kept}
@@ -34,7 +34,7 @@ parts d (Rectangular rank) is = Shape d ∷ Mapping d ∷ map (In d) is
 parts d (Sparse parent rank) is = Use parent d ∷ map (Member d) is
 parts d (Associative type) is = map (Member d) is
 
-ended_all : (d : Name) (kind : DomainKind) (is : List Index) → ended_cells d kind is ≡ clear_all (Object d ∷ parts d kind is)
+ended_all : (d : Name) (kind : DomainKind) (is : List Index) → dropped_domain_cells d kind is ≡ clear_all (Object d ∷ parts d kind is)
 ended_all d (Rectangular rank) is = refl
 ended_all d (Sparse parent rank) is = refl
 ended_all d (Associative type) is = refl
@@ -167,10 +167,10 @@ module _ (s : Cells) (d : Name) (h : IsWellFormed s) where
     told (Element n i) e = subst (λ (m : Name). IsTold kind is (Element m i)) (sym e) (λ none. subst (λ o. IsElement (is_index_of_array s (array_in o) i) (get s (Element d i))) object (h.elements d i))
 
     -- afterwards the cells of the domain are absent, and the others hold what they held
-    all_gone : (c : Cell) → get (apply (ended_cells d kind is) s) c ≡ cond (is_same_name d (owner c)) None (get s c)
+    all_gone : (c : Cell) → get (apply (dropped_domain_cells d kind is) s) c ≡ cond (is_same_name d (owner c)) None (get s c)
     all_gone c =
         let xs : List Cell = Object d ∷ parts d kind is in
-        get-apply cell_order (ended_cells d kind is) s c
+        get-apply cell_order (dropped_domain_cells d kind is) s c
         ∙ ap (λ ys. after cell_cmp ys c (get s c)) (ended_all d kind is)
         ∙ after-cleared xs c (get s c)
         ∙ either (list_any (eq_by_cmp cell_cmp c) xs) (is_same_name d (owner c)) (get s c)
@@ -254,5 +254,5 @@ module _ (s t : Cells) (d : Name) (h : IsWellFormed s) (unbound : (n : Name) →
         ]);
       }
 
-pub keeps_ends : KeepsEnds
-keeps_ends s d kind is h there unbound all = without_it s (apply (ended_cells d kind is) s) d h unbound (all_gone s d h kind is there all)
+pub keeps_drops : KeepsDrops
+keeps_drops s d kind is h there unbound all = without_it s (apply (dropped_domain_cells d kind is) s) d h unbound (all_gone s d h kind is there all)

@@ -5,7 +5,7 @@ use Rattle.std.specs.Cmp.{Equal-is}
 use Rattle.std.specs.List.{list_any}
 use Rattle.std.specs.FinMap.{FinMap, get}
 use Rattle.selective_undo.specs.declared.Change.{Change}
-use Rattle.selective_undo.specs.Changes.{IsOrder, put, apply}
+use Rattle.selective_undo.specs.Changes.{IsOrder, applied, apply}
 use Rattle.selective_undo.proofs.Changes.{get-put}
 
 pub cond-or : {A : Type 0} (a b : Bool) (x y : A) → cond b x (cond a x y) ≡ cond (a || b) x y
@@ -68,4 +68,4 @@ module _ {K : Type 0} {order : K → K → Ordering} (ordered : IsOrder order) w
   -- what the changes leave at a key follows from what it held
   pub get-apply : {V : Type 0} (xs : List (Change K V)) (s : FinMap order V) (c : K) → get (apply xs s) c ≡ after order xs c (get s c)
   get-apply [] s c = refl
-  get-apply (x ∷ xs) s c = get-apply xs (put x s) c ∙ ap (after order xs c) (get-put ordered x s c)
+  get-apply (x ∷ xs) s c = get-apply xs (applied x s) c ∙ ap (after order xs c) (get-put ordered x s c)

@@ -16,7 +16,7 @@ use Rattle.wb_book.specs.Shapes.{Range, indices}
 use Rattle.wb_book.specs.WellFormed.{IsWellFormed, IsRectangle, IsShape, has, present_if, domain_in, ranges_in, inside_of, use_of, domain_at}
 use Rattle.wb_resize.specs.Laws.{AreFills, LosesNone, KeepsRectangles}
 use Rattle.wb_resize.specs.Resized.{without, resized_cells}
-use Rattle.wb_resize.specs.Writes.{put}
+use Rattle.wb_resize.specs.Writes.{set_to}
 use Rattle.wb_resize.proofs.Gets.{after, get-apply}
 use Rattle.wb_resize.proofs.Exchanged.{exchanged_at, neither-resized}
 use Rattle.wb_resize.proofs.Resized.{is_shape, IsResized, is_resized, elements_kept}
@@ -93,7 +93,7 @@ keeps_rectangles s d rank fills old new h there was whole are loses =
     let leaving : List Index = without (indices new) (indices old) in
     let coming : List Index = without (indices old) (indices new) in
     let xs : Changes = resized_cells (OverRectangular rank) d fills leaving coming in
-    let ys : Changes = put (Shape d) (Ranges new) ∷ xs in
+    let ys : Changes = set_to (Shape d) (Ranges new) ∷ xs in
     let at : (c : Cell) → get (apply ys s) c ≡ after cell_cmp xs c (cond (eq_by_cmp cell_cmp c (Shape d)) (Some (Ranges new)) (get s c)) = get-apply cell_order ys s in
     rectangle_resized s (apply ys s) d rank fills old new h there was whole are loses
     (λ n. at (Shape n) ∙ neither-resized leaving coming (OverRectangular rank) d fills (Shape n) (cond (is_same_name n d) (Some (Ranges new)) (get s (Shape n))) (λ a i. refl) (λ i. refl) (λ i. refl))

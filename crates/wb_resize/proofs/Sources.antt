@@ -8,8 +8,8 @@ use Rattle.wb_range.specs.Domain.{IsListedOnce}
 use Rattle.wb_book.specs.declared.values.index.Index.{Index}
 use Rattle.wb_book.specs.Cells.{is_same_index}
 use Rattle.wb_book.specs.WellFormed.{has}
-use Rattle.wb_resize.specs.declared.source.SetOperation.{SetOperation}
-use Rattle.wb_resize.specs.declared.source.SetOperation.TheVariants.{Union, Intersection, Difference, SymmetricDifference}
+use Rattle.wb_resize.specs.declared.new_indices.SetOperation.{SetOperation}
+use Rattle.wb_resize.specs.declared.new_indices.SetOperation.TheVariants.{Union, Intersection, Difference, SymmetricDifference}
 use Rattle.wb_resize.specs.Resized.{without}
 use Rattle.wb_resize.specs.Sources.{among, combined, keeps}
 use Rattle.wb_resize.proofs.Members.{index_total}

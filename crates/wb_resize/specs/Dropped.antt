@@ -11,11 +11,11 @@ use Rattle.wb_book.specs.WellFormed.{index_cell}
 use Rattle.wb_resize.specs.Writes.{clear_all}
 
 -- what there is of a domain besides its indices
-abbrev pub own_cells : Name → DomainKind → List Cell
-own_cells d (Rectangular rank) = Object d ∷ Shape d ∷ Mapping d ∷ []
-own_cells d (Sparse parent rank) = Object d ∷ Use parent d ∷ []
-own_cells d (Associative type) = Object d ∷ []
+abbrev pub cells_beside_indices : Name → DomainKind → List Cell
+cells_beside_indices d (Rectangular rank) = Object d ∷ Shape d ∷ Mapping d ∷ []
+cells_beside_indices d (Sparse parent rank) = Object d ∷ Use parent d ∷ []
+cells_beside_indices d (Associative type) = Object d ∷ []
 
 -- what the end of a domain writes: all of it becomes absent, and so does that it has its indices
-abbrev pub ended_cells : Name → DomainKind → List Index → Changes
-ended_cells d kind is = clear_all (own_cells d kind) ++ clear_all (map (index_cell (kind_of kind) d) is)
+abbrev pub dropped_domain_cells : Name → DomainKind → List Index → Changes
+dropped_domain_cells d kind is = clear_all (cells_beside_indices d kind) ++ clear_all (map (index_cell (kind_of kind) d) is)

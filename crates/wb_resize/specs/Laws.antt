@@ -17,10 +17,10 @@ use Rattle.wb_book.specs.Cells.{Name, Cells, index_cmp, is_same_name}
 use Rattle.wb_book.specs.Kinds.{kind_of}
 use Rattle.wb_book.specs.Shapes.{Range, indices}
 use Rattle.wb_book.specs.WellFormed.{IsWellFormed, IsRectangle, MayHave, domain_at, has, index_cell}
-use Rattle.wb_resize.specs.declared.source.SetOperation.{SetOperation}
-use Rattle.wb_resize.specs.Writes.{put}
+use Rattle.wb_resize.specs.declared.new_indices.SetOperation.{SetOperation}
+use Rattle.wb_resize.specs.Writes.{set_to}
 use Rattle.wb_resize.specs.Resized.{without, resized_cells}
-use Rattle.wb_resize.specs.Dropped.{ended_cells}
+use Rattle.wb_resize.specs.Dropped.{dropped_domain_cells}
 use Rattle.wb_resize.specs.Sources.{combined, keeps, ascending}
 
 -- the arrays over a domain, all of them and no others, each with a number of 64 bits
@@ -39,7 +39,7 @@ KeepsRectangles =
     (s : Cells) (d : Name) (rank : ℕ) (fills : List (Name × ℤ)) (old new : List Range)
     → IsWellFormed s → domain_at s d ≡ Some (Rectangular rank) → get s (Shape d) ≡ Some (Ranges old)
     → IsRectangle rank new → AreFills s d fills → LosesNone s d (indices new)
-    → IsWellFormed (apply (put (Shape d) (Ranges new) ∷ resized_cells (OverRectangular rank) d fills (without (indices new) (indices old)) (without (indices old) (indices new))) s)
+    → IsWellFormed (apply (set_to (Shape d) (Ranges new) ∷ resized_cells (OverRectangular rank) d fills (without (indices new) (indices old)) (without (indices old) (indices new))) s)
 
 -- a domain that has members: a sparse or an associative one
 abbrev pub HasMembers : DomainKind → Type 0
@@ -56,12 +56,12 @@ KeepsSets =
     → IsWellFormed (apply (resized_cells (kind_of kind) d fills leaving coming) s)
 
 -- The end of a domain to which nothing is bound leaves a well-formed workbook well formed, where all indices of it are told.
-abbrev pub KeepsEnds : Type 0
-KeepsEnds =
+abbrev pub KeepsDrops : Type 0
+KeepsDrops =
     (s : Cells) (d : Name) (kind : DomainKind) (is : List Index)
     → IsWellFormed s → domain_at s d ≡ Some kind → ((n : Name) → get s (Use d n) ≡ None)
     → ((i : Index) → get s (index_cell (kind_of kind) d i) ≡ Some Present → has is i ≡ true)
-    → IsWellFormed (apply (ended_cells d kind is) s)
+    → IsWellFormed (apply (dropped_domain_cells d kind is) s)
 
 -- What two sets make has each index once, and exactly those that the operation keeps.
 abbrev pub CombinesSets : Type 0

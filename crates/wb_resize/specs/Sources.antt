@@ -9,10 +9,10 @@ use Rattle.wb_book.specs.declared.values.index.Index.{Index}
 use Rattle.wb_book.specs.Cells.{index_cmp}
 use Rattle.wb_book.specs.Shapes.{Range}
 use Rattle.wb_book.specs.WellFormed.{has}
-use Rattle.wb_resize.specs.declared.source.Displacement.{Displacement}
-use Rattle.wb_resize.specs.declared.source.Displacement.TheVariants.{Translate, Expand}
-use Rattle.wb_resize.specs.declared.source.SetOperation.{SetOperation}
-use Rattle.wb_resize.specs.declared.source.SetOperation.TheVariants.{Union, Intersection, Difference, SymmetricDifference}
+use Rattle.wb_resize.specs.declared.new_indices.Displacement.{Displacement}
+use Rattle.wb_resize.specs.declared.new_indices.Displacement.TheVariants.{Translate, Expand}
+use Rattle.wb_resize.specs.declared.new_indices.SetOperation.{SetOperation}
+use Rattle.wb_resize.specs.declared.new_indices.SetOperation.TheVariants.{Union, Intersection, Difference, SymmetricDifference}
 use Rattle.wb_resize.specs.Resized.{without}
 
 -- the indices of xs that are among ys, in their order

@@ -6,8 +6,8 @@ use Rattle.wb_book.specs.declared.cells.value.Value.{Value}
 use Rattle.wb_book.specs.Cells.{Changes}
 
 -- the cell gets the value
-abbrev pub put : Cell → Value → Change Cell Value
-put c v = record { cell = c; value = Some v }
+abbrev pub set_to : Cell → Value → Change Cell Value
+set_to c v = record { cell = c; value = Some v }
 
 -- the cell becomes absent
 abbrev pub clear : Cell → Change Cell Value
@@ -19,4 +19,4 @@ clear_all cs = map clear cs
 
 -- each of the cells gets the value
 abbrev pub put_all : List Cell → Value → Changes
-put_all cs v = map (λ c. put c v) cs
+put_all cs v = map (λ c. set_to c v) cs

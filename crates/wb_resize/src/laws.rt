@@ -1,6 +1,6 @@
 //! What holds of every change of a domain's indices, of its end, and of what two sets make: each law is the contract of a function that does nothing.
 
-ghost use Rattle.wb_resize.specs.Laws.{KeepsRectangles, KeepsSets, KeepsEnds, CombinesSets, SortsIndices};
+ghost use Rattle.wb_resize.specs.Laws.{KeepsRectangles, KeepsSets, KeepsDrops, CombinesSets, SortsIndices};
 
 /// New ranges of a rectangular domain leave a well-formed workbook well formed, where no sparse domain in it has an index
 /// outside them, and each array over the domain gets a number of 64 bits as its new elements.
@@ -16,8 +16,8 @@ pub fn keeps_sets()
 
 /// The end of a domain to which nothing is bound leaves a well-formed workbook well formed, where each index that the domain
 /// has is among those that go with it.
-pub fn keeps_ends()
-    ensures { KeepsEnds }
+pub fn keeps_drops()
+    ensures { KeepsDrops }
 {}
 
 /// What two sets make has each index once, and exactly those that the operation keeps.

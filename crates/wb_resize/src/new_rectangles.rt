@@ -7,7 +7,7 @@ ghost use Rattle.wb_rect.specs.ShiftTests.{has_unit_strides};
 ghost use Rattle.wb_resize.specs.Resized.{without};
 ghost use Rattle.wb_resize.specs.Sources.{displaced, can_displace};
 
-use crate::source::Displacement;
+use crate::new_indices::Displacement;
 use std::alloc::Global;
 use wb_book::{AnyIndex, AnyRect, Point};
 use wb_range::NoMemory;

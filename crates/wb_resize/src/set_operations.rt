@@ -6,7 +6,7 @@ ghost use Rattle.wb_range.specs.Domain.{IsListedOnce};
 ghost use Rattle.wb_resize.specs.Resized.{without};
 ghost use Rattle.wb_resize.specs.Sources.{among, combined, ascending};
 
-use crate::source::SetOperation;
+use crate::new_indices::SetOperation;
 use std::alloc::Global;
 use wb_assoc::Assoc;
 use wb_book::AnyIndex;
@@ -159,7 +159,7 @@ fn append_outside(
 }
 
 /// The set of these indices, which may stand in any order and more than once.
-pub fn set_of(alloc: Global, listed: &[AnyIndex]) -> Result<Assoc<AnyIndex>, NoMemory>
+pub fn sorted_set(alloc: Global, listed: &[AnyIndex]) -> Result<Assoc<AnyIndex>, NoMemory>
     ensures { IfOk result (λ s. s ≡ ascending listed.now) }
 {
     Assoc::from_slice(alloc, listed)

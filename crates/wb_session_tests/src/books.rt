@@ -5,8 +5,8 @@ use std::alloc::Global;
 use std::test::Fail;
 use wb_book::{AnyIndex, Index, Name, Point};
 use wb_reading::{BookErr, read_book};
-use wb_resize::set_operations::set_of;
-use wb_resize::{Given, SetOperation, Source};
+use wb_resize::set_operations::sorted_set;
+use wb_resize::{NewIndices, Operand, SetOperation};
 use wb_shelf::Book;
 
 pub(crate) fn at(i: i64) -> AnyIndex {
@@ -77,8 +77,8 @@ fn elements_of_an_array(rt: HostRuntime) -> Result<(), Fail> {
 #[test]
 fn copied_source(rt: HostRuntime) -> Result<(), Fail> {
     let alloc = rt.alloc();
-    let items = set_of(alloc, &[at(3), at(1), at(3)])?;
-    let source = Source::Combine(SetOperation::Union, Given::Items(items));
+    let items = sorted_set(alloc, &[at(3), at(1), at(3)])?;
+    let source = NewIndices::Combine(SetOperation::Union, Operand::Items(items));
     assert!(rt; source.copy(alloc)?.is_same(&source));
     Ok(())
 }

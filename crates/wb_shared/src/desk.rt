@@ -1,7 +1,7 @@
 //! A desk: opened, asked under its lock, and settled.
 
 ghost use Rattle.std.specs.Prelude.{◌≡◌, ◌≤◌, ◌+◌, length, IfOk, IfErr, OnOk, MatchResult};
-ghost use Rattle.wb_journal.specs.Settling.{IsSettled, IsCause, told};
+ghost use Rattle.wb_journal.specs.Settling.{IsSettled, IsCause, total_of_passes};
 ghost use Rattle.wb_shared.specs.Openings.{nothing_done};
 ghost use Rattle.wb_journal.specs.Courses.{IsCourse};
 ghost use Rattle.wb_shared.specs.Seats.{IsNumberOfSeats, IsSeatsErr};
@@ -160,7 +160,7 @@ pub struct Unsettled<L: Opening> {
 pub fn settle<L: Opening>(desk: Desk<L>, passes: Vec<Pass<L>>) -> Result<Shared<L>, Unsettled<L>>
     ensures course { MatchResult result (λ s. IsCourse L.opening s.course) (λ u. IsCourse L.opening u.shared.course) }
     ensures ok { IfOk result (λ s. IsSettled s.course.seats s.course.entries passes.items) }
-    ensures whole { IfOk result (λ s. length s.course.entries ≡ told s.course.seats passes.items) }
+    ensures whole { IfOk result (λ s. length s.course.entries ≡ total_of_passes s.course.seats passes.items) }
     ensures passes { IfErr result (λ u. u.passes.items ≡ passes.items) }
     ensures cause { IfErr result (λ u. IsCause u.shared.course.seats u.shared.course.entries passes.items u.cause) }
 {

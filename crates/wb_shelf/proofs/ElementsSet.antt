@@ -12,7 +12,7 @@ use Rattle.std.specs.Map.{keys_of}
 use Rattle.std.specs.Option.{option_map}
 use Rattle.std.specs.Ordering.{nat_cmp}
 use Rattle.selective_undo.specs.declared.Change.{Change}
-use Rattle.selective_undo.specs.Changes.{put, apply, changes}
+use Rattle.selective_undo.specs.Changes.{applied, apply, changes}
 use Rattle.selective_undo.proofs.Changes.{apply_keeps}
 use Rattle.wb_book.specs.declared.cells.cell.Cell.{Cell}
 use Rattle.wb_book.specs.declared.cells.cell.Cell.TheVariants.{Object, Shape, In, Member, Mapping, Use, Implicit, Element}
@@ -122,11 +122,11 @@ number_is (Some (Bound k)) v e = cc
 pub agree_set : (es fs : List (Name × Pieced)) (s : Cells) (x : Change Cell Value) (a : Name) (i : Index) (v : ℤ) → x.cell ≡ Element a i →
     number_in x.value ≡ Some v →
     IsSome (element_in es a i) → ((b : Name) → array_in fs b ≡ cond (is_same_name a b) (with_element (array_in es b) i v) (array_in es b)) →
-    Agree es s → Agree fs (put x s)
+    Agree es s → Agree fs (applied x s)
 agree_set es fs s x a i v cell number there made agree =
     let value : x.value ≡ Some (Number v) = number_is x.value v number in
     let is : x ≡ record { cell = Element a i; value = Some (Number v) } = λ k. record { cell = cell k; value = value k } in
-    subst (λ (y : Change Cell Value). Agree fs (put y s)) (sym is) (agree_step es fs s a i v there made agree)
+    subst (λ (y : Change Cell Value). Agree fs (applied y s)) (sym is) (agree_step es fs s a i v there made agree)
 
 -- ---- what is kept afterwards
 

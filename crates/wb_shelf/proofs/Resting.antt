@@ -4,7 +4,7 @@ use Rattle.std.specs.FinMap.{get}
 use Rattle.std.specs.List.{list_all}
 use Rattle.std.specs.Option.{option_map}
 use Rattle.std.specs.Ordering.{eq_by_cmp}
-use Rattle.selective_undo.specs.Changes.{put, apply}
+use Rattle.selective_undo.specs.Changes.{applied, apply}
 use Rattle.selective_undo.proofs.Changes.{get-put}
 use Rattle.wb_book.specs.declared.cells.cell.Cell.{Cell}
 use Rattle.wb_book.specs.declared.cells.cell.Cell.TheVariants.{Object, Shape, In, Member, Mapping, Use, Implicit, Element}
@@ -55,8 +55,8 @@ pub left_alone : (stored : Cell → Option Value) (c : Cell) → is_lay c ≡ tr
 left_alone stored c lay here [] u left there = refl
 left_alone stored c lay here (x ∷ xs) u left there =
     let parts = both_true (leaves stored x) (list_all (leaves stored) xs) left in
-    let rest : get (apply xs (put x u)) c ≡ cond (eq_by_cmp cell_cmp c x.cell) x.value (get u c) =
-    left_alone stored c lay here xs (put x u) parts.1 there ∙ get-put cell_order x u c in
+    let rest : get (apply xs (applied x u)) c ≡ cond (eq_by_cmp cell_cmp c x.cell) x.value (get u c) =
+    left_alone stored c lay here xs (applied x u) parts.1 there ∙ get-put cell_order x u c in
     rest ∙ by (eq_by_cmp cell_cmp c x.cell) refl parts.0 (subst (λ (o : Option Value). IsSome o) rest there)
   where
     by : (t : Bool) → eq_by_cmp cell_cmp c x.cell ≡ t → leaves stored x ≡ true → IsSome (cond t x.value (get u c)) → cond t x.value (get u c) ≡ get u c

@@ -10,7 +10,7 @@ use Rattle.std.specs.FinMap.{get}
 use Rattle.std.specs.Option.{option_map}
 use Rattle.std.specs.Ordering.{is_eq, nat_cmp, ordering_then}
 use Rattle.selective_undo.specs.declared.Change.{Change}
-use Rattle.selective_undo.specs.Changes.{put, apply}
+use Rattle.selective_undo.specs.Changes.{applied, apply}
 use Rattle.selective_undo.proofs.Changes.{same_states, get-put}
 use Rattle.wb_book.specs.declared.cells.cell.Cell.{Cell}
 use Rattle.wb_book.specs.declared.cells.cell.Cell.TheVariants.{Object, Shape, In, Member, Mapping, Use, Implicit, Element}
@@ -55,7 +55,7 @@ mapped false v o p e = e
 
 pub agree_step : (es fs : List (Name × Pieced)) (s : Cells) (a : Name) (i : Index) (v : ℤ) → IsSome (element_in es a i) →
     ((b : Name) → array_in fs b ≡ cond (is_same_name a b) (with_element (array_in es b) i v) (array_in es b)) → Agree es s →
-    Agree fs (put (record { cell = Element a i; value = Some (Number v) }) s)
+    Agree fs (applied (record { cell = Element a i; value = Some (Number v) }) s)
 agree_step es fs s a i v there is agree b j =
     ap (option_map Number) (element_in-written es fs a b i j v there (is b))
     ∙ mapped (is_same_name a b && is_same_index i j) v (element_in es b j) (get s (Element b j)) (agree b j)
@@ -63,12 +63,12 @@ agree_step es fs s a i v there is agree b j =
     (rw ((eq_by_cmp_equiv nat_list_cmp_total).symm a b, (eq_by_cmp_equiv index_laws.total-law).symm i j) (sym (both (slice_cmp nat_cmp b a) (index_cmp j i))))
     ∙ sym (get-put cell_order (record { cell = Element a i; value = Some (Number v) }) s (Element b j))
 
-pub apply-last : (xs : Changes) (x : Change Cell Value) (s : Cells) → apply (xs ++ x ∷ []) s ≡ put x (apply xs s)
+pub apply-last : (xs : Changes) (x : Change Cell Value) (s : Cells) → apply (xs ++ x ∷ []) s ≡ applied x (apply xs s)
 apply-last [] x s = refl
-apply-last (y ∷ xs) x s = apply-last xs x (put y s)
+apply-last (y ∷ xs) x s = apply-last xs x (applied y s)
 
 pub apply_more : (xs : Changes) (k : ℕ) (x : Change Cell Value) (s : Cells) → k < length xs → x ≡ get_or xs k x →
-    apply (take (k + 1) xs) s ≡ put x (apply (take k xs) s)
+    apply (take (k + 1) xs) s ≡ applied x (apply (take k xs) s)
 apply_more xs k x s low is =
     let more : take (k + 1) xs ≡ take k xs ++ x ∷ [] = take_more xs k x low ∙ ap (λ (y : Change Cell Value). take k xs ++ y ∷ []) (sym is) in
     ap (λ ys. apply ys s) more ∙ apply-last (take k xs) x s

@@ -9,7 +9,7 @@ use Rattle.std.specs.Map.{keys_of, lookup}
 use Rattle.std.specs.Option.{option_map, option_and_then}
 use Rattle.std.specs.Ordering.{nat_cmp, eq_by_cmp}
 use Rattle.selective_undo.specs.declared.Change.{Change}
-use Rattle.selective_undo.specs.Changes.{put, apply, inverse, changes, AllOnce, sets, clears}
+use Rattle.selective_undo.specs.Changes.{applied, apply, inverse, changes, AllOnce, sets, clears}
 use Rattle.selective_undo.proofs.AllOrNothing.{sets_clears}
 use Rattle.std.specs.List.{list_all}
 use Rattle.selective_undo.proofs.Changes.{get-put, apply_keeps, not_true}
@@ -78,7 +78,7 @@ clears_there (x ∷ xs) u c there =
       | Some v ↦ λ h. clears_there xs u c h
       | None ↦ λ h.
           let y : Change Cell Value = record x { value = None } in
-          let rest : get (apply (clears xs) (put y u)) c ≡ cond (eq_by_cmp cell_cmp c x.cell) None (get u c) = clears_there xs (put y u) c h
+          let rest : get (apply (clears xs) (applied y u)) c ≡ cond (eq_by_cmp cell_cmp c x.cell) None (get u c) = clears_there xs (applied y u) c h
           ∙ get-put cell_order y u c in
           rest ∙ not_cleared (eq_by_cmp cell_cmp c x.cell) (get u c) (subst (λ (o : Option Value). IsSome o) rest h)
     ] there

@@ -11,7 +11,7 @@ use Rattle.wb_book.specs.declared.cells.value.Value.TheVariants.{Domain, Array}
 use Rattle.wb_book.specs.Cells.{Name, Cells}
 use Rattle.wb_book.specs.Readers.{objects}
 use Rattle.wb_text.specs.Said.{Line, line_text, lines_text, domain_said, said_in, said_of, said}
-use Rattle.wb_text.specs.Lines.{line_in, object_line, book_text}
+use Rattle.wb_text.specs.Lines.{text_of_object, object_line, book_text}
 use Rattle.wb_text.proofs.Readable.{Each}
 use Rattle.wb_text.proofs.ReadLines.{IsLine, lines_read}
 
@@ -19,12 +19,12 @@ abbrev text_or_none : Option Line → List ℕ
 text_or_none None = []
 text_or_none (Some l) = line_text l
 
-domain_text : (s : Cells) (n : Name) (kind : DomainKind) → line_in s n (Some (Domain kind)) ≡ line_text (domain_said s n kind)
+domain_text : (s : Cells) (n : Name) (kind : DomainKind) → text_of_object s n (Some (Domain kind)) ≡ line_text (domain_said s n kind)
 domain_text s n (Rectangular rank) = refl
 domain_text s n (Sparse parent rank) = refl
 domain_text s n (Associative type) = refl
 
-value_text : (s : Cells) (n : Name) (v : Option Value) → line_in s n v ≡ text_or_none (said_in s n v)
+value_text : (s : Cells) (n : Name) (v : Option Value) → text_of_object s n v ≡ text_or_none (said_in s n v)
 value_text s n None = refl
 value_text s n (Some (Domain kind)) = domain_text s n kind
 value_text s n (Some (Array d kind)) = refl

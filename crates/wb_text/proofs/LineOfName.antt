@@ -12,7 +12,7 @@ use Rattle.wb_book.specs.declared.cells.value.Value.{Value}
 use Rattle.wb_book.specs.declared.cells.value.Value.TheVariants as values
 use Rattle.wb_book.specs.Cells.{Name, Cells, cell_cmp, is_same_name, same_names}
 use Rattle.wb_book.specs.Readers.{object_of, objects}
-use Rattle.wb_text.specs.Said.{Line, name_of, line_in, said_in, said_of, said}
+use Rattle.wb_text.specs.Said.{Line, name_of, first_line_of, said_in, said_of, said}
 
 abbrev pub IsNamed : Name → Option Line → Type 0
 IsNamed n None = Unit {0}
@@ -33,22 +33,22 @@ never : (b : Bool) → cond {A = Option Line} b None None ≡ None
 never true = refl
 never false = refl
 
-its_own : (n : Name) (o : Option Line) (ls : List Line) (b : Bool) → IsNamed n o → line_in n ls ≡ cond b o None → line_in n (cons_option o ls) ≡ o
+its_own : (n : Name) (o : Option Line) (ls : List Line) (b : Bool) → IsNamed n o → first_line_of n ls ≡ cond b o None → first_line_of n (cons_option o ls) ≡ o
 its_own n None ls b h e = e ∙ never b
 its_own n (Some l) ls b h e =
-    ap (λ k. cond (is_same_name n k) (Some l) (line_in n ls)) h ∙ ap (λ t. cond t (Some l) (line_in n ls)) (itself n)
+    ap (λ k. cond (is_same_name n k) (Some l) (first_line_of n ls)) h ∙ ap (λ t. cond t (Some l) (first_line_of n ls)) (itself n)
 
-another : (n m : Name) (o : Option Line) (ls : List Line) → is_same_name n m ≡ false → IsNamed m o → line_in n (cons_option o ls) ≡ line_in n ls
+another : (n m : Name) (o : Option Line) (ls : List Line) → is_same_name n m ≡ false → IsNamed m o → first_line_of n (cons_option o ls) ≡ first_line_of n ls
 another n m None ls f h = refl
-another n m (Some l) ls f h = ap (λ k. cond (is_same_name n k) (Some l) (line_in n ls)) h ∙ ap (λ t. cond t (Some l) (line_in n ls)) f
+another n m (Some l) ls f h = ap (λ k. cond (is_same_name n k) (Some l) (first_line_of n ls)) h ∙ ap (λ t. cond t (Some l) (first_line_of n ls)) f
 
-found : (s : Cells) (n : Name) (ns : List Name) → line_in n (filter_map (said_of s) ns) ≡ cond (list_any (is_same_name n) ns) (said_of s n) None
+found : (s : Cells) (n : Name) (ns : List Name) → first_line_of n (filter_map (said_of s) ns) ≡ cond (list_any (is_same_name n) ns) (said_of s n) None
 found s n [] = refl
 found s n (m ∷ ns) =
     let rest : List Line = filter_map (said_of s) ns in
-    elim (is_same_name n m) as (λ b. is_same_name n m ≡ b → line_in n (cons_option (said_of s m) rest) ≡ cond (b || list_any (is_same_name n) ns) (said_of s n) None) [
+    elim (is_same_name n m) as (λ b. is_same_name n m ≡ b → first_line_of n (cons_option (said_of s m) rest) ≡ cond (b || list_any (is_same_name n) ns) (said_of s n) None) [
       | true ↦ λ e.
-          subst (λ k. line_in n (cons_option (said_of s k) rest) ≡ said_of s n) (same_names n m ((Equal-is _).0 e))
+          subst (λ k. first_line_of n (cons_option (said_of s k) rest) ≡ said_of s n) (same_names n m ((Equal-is _).0 e))
           (its_own n (said_of s n) rest (list_any (is_same_name n) ns) (said_named s n (get s (Object n))) (found s n ns))
       | false ↦ λ e. another n m (said_of s m) rest e (said_named s m (get s (Object m))) ∙ found s n ns
     ] refl
@@ -62,7 +62,7 @@ by_value : (s : Cells) (n : Name) (o : Option Value) → cond (is_some o) (said_
 by_value s n None = refl
 by_value s n (Some v) = refl
 
-pub line_of_name : (s : Cells) (n : Name) → line_in n (said s) ≡ said_of s n
+pub line_of_name : (s : Cells) (n : Name) → first_line_of n (said s) ≡ said_of s n
 line_of_name s n =
     found s n (objects s)
     ∙ ap (λ b. cond b (said_of s n) None) (objects_any n (keys s) ∙ sym (contains_key-keys s (Object n)))
@@ -70,4 +70,4 @@ line_of_name s n =
 
 -- where the lines are the same, so is the line of each name
 pub same_line : (s t : Cells) → said s ≡ said t → (n : Name) → said_of s n ≡ said_of t n
-same_line s t e n = sym (line_of_name s n) ∙ ap (line_in n) e ∙ line_of_name t n
+same_line s t e n = sym (line_of_name s n) ∙ ap (first_line_of n) e ∙ line_of_name t n

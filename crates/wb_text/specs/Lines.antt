@@ -91,14 +91,14 @@ implicit_in s a (Rectangular rank) = None
 implicit_in s a (Sparse rank) = number_in (get s (Implicit a))
 implicit_in s a (Associative type) = None
 
-abbrev pub line_in : Cells → Name → Option Value → List ℕ
-line_in s n (Some (Domain kind)) = domain_line s n kind
-line_in s n (Some (Array d kind)) = array_line n d (elements_at s n (indices_in s d kind)) (implicit_in s n kind)
-line_in s n _ = []
+abbrev pub text_of_object : Cells → Name → Option Value → List ℕ
+text_of_object s n (Some (Domain kind)) = domain_line s n kind
+text_of_object s n (Some (Array d kind)) = array_line n d (elements_at s n (indices_in s d kind)) (implicit_in s n kind)
+text_of_object s n _ = []
 
 -- the line of the object of a name
 abbrev pub object_line : Cells → Name → List ℕ
-object_line s n = line_in s n (get s (Object n))
+object_line s n = text_of_object s n (get s (Object n))
 
 -- the text of a workbook; every line ends with a line feed, and nothing follows
 abbrev pub book_text : Cells → List ℕ

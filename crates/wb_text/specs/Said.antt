@@ -50,9 +50,9 @@ name_of (associative d type is) = d
 name_of (array a d xs irv) = a
 
 -- the first line of a name
-abbrev pub line_in : Name → List Line → Option Line
-line_in n [] = None
-line_in n (l ∷ ls) = cond (is_same_name n (name_of l)) (Some l) (line_in n ls)
+abbrev pub first_line_of : Name → List Line → Option Line
+first_line_of n [] = None
+first_line_of n (l ∷ ls) = cond (is_same_name n (name_of l)) (Some l) (first_line_of n ls)
 
 -- ---- what the lines of a workbook say
 

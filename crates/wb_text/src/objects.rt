@@ -1,7 +1,7 @@
 //! The lines of a workbook's objects, by what stands in the book.
 ghost use Rattle.std.specs.Prelude.{◌≡◌, ◌++◌, Some, OnOk, string_bytes};
 ghost use Rattle.wb_book.specs.declared.cells.kind.DomainKind.TheVariants.{Rectangular};
-ghost use Rattle.wb_text.specs.Lines.{members, indices_in, elements_at, implicit_in, sparse_line, associative_line, array_line, domain_line, line_in, object_line};
+ghost use Rattle.wb_text.specs.Lines.{members, indices_in, elements_at, implicit_in, sparse_line, associative_line, array_line, domain_line, text_of_object, object_line};
 
 use crate::books::{elements_at, implicit_in, indices_in, mapping_at, members, ranges_at};
 use crate::lines::{
@@ -103,7 +103,7 @@ fn push_value(
     name: &Name,
     value: Value,
 ) -> Result<(), NoMemory>
-    ensures { OnOk result (string_bytes out.new ≡ string_bytes out.old ++ line_in book.now.cells name.now (Some value)) }
+    ensures { OnOk result (string_bytes out.new ≡ string_bytes out.old ++ text_of_object book.now.cells name.now (Some value)) }
 {
     match value {
         Value::Domain(domain) => push_domain(alloc, out, book, name, domain.domain_kind()),

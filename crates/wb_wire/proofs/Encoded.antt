@@ -10,12 +10,12 @@ use Rattle.wb_book.specs.Layouts.{IsLayout, IsMapping as IsMappingOf}
 use Rattle.wb_book.specs.declared.values.index.Index.{Index}
 use Rattle.wb_book.specs.declared.values.index.Index.TheVariants.{Point, Text}
 use Rattle.wb_literal.specs.Integer.{IsWithin}
-use Rattle.wb_literal.specs.Set.{Items as Listed, nothing, set_at, set_of}
+use Rattle.wb_literal.specs.Set.{Items as Listed, nothing, set_at, set_literal_of}
 use Rattle.wb_literal.specs.declared.mapping.MappingLiteral.TheVariants.{Whole}
 use Rattle.wb_literal.proofs.SetGrammar.{set_exact}
 use Rattle.wb_resize.specs.Sources.{ascending}
-use Rattle.wb_resize.specs.declared.given.Given.{Given}
-use Rattle.wb_resize.specs.declared.given.Given.TheVariants.{Rectangle, Items, Named}
+use Rattle.wb_resize.specs.declared.operand.Operand.{Operand}
+use Rattle.wb_resize.specs.declared.operand.Operand.TheVariants.{Rectangle, Items, Named}
 use Rattle.wb_text.specs.Literals.{rectangle_text, set_text, mapping_text}
 use Rattle.wb_text.proofs.MappingWritten.{mapping_written}
 use Rattle.wb_text.proofs.Readable.{Each}
@@ -26,9 +26,9 @@ use Rattle.wb_text.proofs.Parsed.Back.Sets as sets
 use Rattle.wb_encode.specs.Values.{integer_data, point_data, index_data}
 use Rattle.wb_proto.specs.declared.requests.request.Request.{Request}
 use Rattle.wb_wire.specs.Table.{Meaning, word, name, integer, number, index, given, mapping, optional_mapping, book, some_set, some_mapping, some_integer, Fields, table}
-use Rattle.wb_wire.specs.Spelled.{IsInteger, IsIndex, IsGiven, IsMapping, Spells, Says, without, HasFields, IsRequest}
+use Rattle.wb_wire.specs.Spelled.{IsInteger, IsIndex, IsOperand, IsMapping, Spells, Says, without, HasFields, IsRequest}
 use Rattle.wb_wire.specs.Encoded.{given_text, data_of, members_of, request_data}
-use Rattle.wb_wire.specs.Proper.{AllWithin, ArePoints, AreTexts, AreAlike, IsProperIndex, IsProperGiven, IsProper, AreProper, IsProperRequest}
+use Rattle.wb_wire.specs.Proper.{AllWithin, ArePoints, AreTexts, AreAlike, IsProperIndex, IsProperOperand, IsProper, AreProper, IsProperRequest}
 use Rattle.wb_wire.proofs.Members.{found_by, same_key}
 
 -- ---- numbers and indices
@@ -49,7 +49,7 @@ index_spelled (Text t) h = (refl, h)
 
 -- ---- literals
 
-rectangle_given : (ranges : List (List ℤ)) → IsRectangle (length ranges) ranges → IsGiven (string (rectangle_text ranges)) (Rectangle ranges)
+rectangle_given : (ranges : List (List ℤ)) → IsRectangle (length ranges) ranges → IsOperand (string (rectangle_text ranges)) (Rectangle ranges)
 rectangle_given ranges h =
     let few = short (length ranges) ranges h in let all = recursion_from_All IsRange ranges h.kept in
     (rectangle_text ranges, literal_of_all ranges, refl, rectangle_spelled ranges few all, domain_back ranges few all h.size)
@@ -72,10 +72,10 @@ alike : (is : List Index) → AreAlike is → sets.AreAlike is
 alike is (inl h) = sets.points h.0 h.1 h.2 (each_point h.0 is h.3)
 alike is (inr h) = sets.labels (each_text is h)
 
-set_given : (is : List Index) → AreAlike is → ascending is ≡ is → IsGiven (string (set_text is)) (Items is)
+set_given : (is : List Index) → AreAlike is → ascending is ≡ is → IsOperand (string (set_text is)) (Items is)
 set_given is h asc =
     let b = sets.set_back is [] (alike is h) in
-    let whole_is : set_of (set_text is) ≡ Some b.items = ap set_of_at (sym (ap set_at (append-nil (set_text is))) ∙ b.read) in
+    let whole_is : set_literal_of (set_text is) ≡ Some b.items = ap set_of_at (sym (ap set_at (append-nil (set_text is))) ∙ b.read) in
     (set_text is, b.items, refl, (set_exact (set_text is) b.items).0 whole_is, ap ascending b.lists ∙ asc)
   where
     set_of_at : Option (Listed × List ℕ) → Option Listed
@@ -91,7 +91,7 @@ mapping_given (block m) h = of_rank (length m.grid) (block m) h
 mapping_given (cyclic m) h = of_rank (length m.grid) (cyclic m) h
 mapping_given (block_cyclic m) h = of_rank (length m.grid) (block_cyclic m) h
 
-given_spelled : (g : Given) → IsProperGiven g → IsGiven (string (given_text g)) g
+given_spelled : (g : Operand) → IsProperOperand g → IsOperand (string (given_text g)) g
 given_spelled (Rectangle ranges) h = rectangle_given ranges h
 given_spelled (Items is) h = set_given is h.0 h.1
 given_spelled (Named n) h = (refl, h)

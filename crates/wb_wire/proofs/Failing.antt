@@ -26,8 +26,8 @@ use Rattle.wb_limits.specs.Literals as limits
 use Rattle.wb_limits.specs.Mappings as mapping_limits
 use Rattle.wb_limits.specs.declared.limit.LimitErr.{LimitErr}
 use Rattle.wb_limits.specs.declared.limit.LimitErr.TheVariants.{TooLarge, BadMapping}
-use Rattle.wb_resize.specs.declared.given.Given.{Given}
-use Rattle.wb_resize.specs.declared.given.Given.TheVariants.{Named}
+use Rattle.wb_resize.specs.declared.operand.Operand.{Operand}
+use Rattle.wb_resize.specs.declared.operand.Operand.TheVariants.{Named}
 use Rattle.wb_proto.specs.Fields.{◌>>=◌, name_of, key_type_of, operation_of, reduction_of, index_of}
 use Rattle.wb_proto.specs.Literals.{literal_domain, literal_mapping, text_of_book, refusal_of_limit, within, domain_within, mapping_within}
 use Rattle.wb_proto.specs.Sources.{is_braced, given_within, given_literal, given_name, given_text, given_by, point_in, offsets_by}
@@ -278,7 +278,7 @@ workbook_reader = record { none = refl; bad = workbook_bad; failing = workbook_f
 
 -- ---- a source
 
-abbrev pub source_in : Option Data → Result Given Refusal
+abbrev pub source_in : Option Data → Result Operand Refusal
 source_in None = Err BadRequest
 source_in (Some v) = given_by v
 

@@ -14,14 +14,14 @@ use Rattle.wb_log.specs.declared.refusal.Refusal.TheVariants.{BadRequest}
 use Rattle.wb_literal.specs.Domain as literals
 use Rattle.wb_literal.specs.Grammar as grammar
 use Rattle.wb_literal.specs.declared.mapping.MappingLiteral.{MappingLiteral}
-use Rattle.wb_resize.specs.declared.given.Given.{Given}
-use Rattle.wb_resize.specs.declared.given.Given.TheVariants.{Rectangle}
-use Rattle.wb_resize.specs.declared.source.Displacement.{Displacement}
-use Rattle.wb_resize.specs.declared.source.Displacement.TheVariants.{Translate, Expand}
-use Rattle.wb_resize.specs.declared.source.SetOperation.{SetOperation}
-use Rattle.wb_resize.specs.declared.source.SetOperation.TheVariants.{Union, Intersection, Difference, SymmetricDifference}
-use Rattle.wb_resize.specs.declared.source.Source.{Source}
-use Rattle.wb_resize.specs.declared.source.Source.TheVariants.{To, Slice, Displace, Combine}
+use Rattle.wb_resize.specs.declared.operand.Operand.{Operand}
+use Rattle.wb_resize.specs.declared.operand.Operand.TheVariants.{Rectangle}
+use Rattle.wb_resize.specs.declared.new_indices.Displacement.{Displacement}
+use Rattle.wb_resize.specs.declared.new_indices.Displacement.TheVariants.{Translate, Expand}
+use Rattle.wb_resize.specs.declared.new_indices.SetOperation.{SetOperation}
+use Rattle.wb_resize.specs.declared.new_indices.SetOperation.TheVariants.{Union, Intersection, Difference, SymmetricDifference}
+use Rattle.wb_resize.specs.declared.new_indices.NewIndices.{NewIndices}
+use Rattle.wb_resize.specs.declared.new_indices.NewIndices.TheVariants.{To, Slice, Displace, Combine}
 use Rattle.wb_proto.specs.Fields.{◌>>=◌, member_count, has_fields, has_fields_and, text_field, optional_text, text_if_there, name_field, index_field, i64_field, u64_field, key_type_field, operation_field, reduction_field}
 use Rattle.wb_proto.specs.Literals.{literal_domain, literal_mapping, optional_mapping as mapping_if_there, text_of_book, domain_within, mapping_within}
 use Rattle.wb_proto.specs.Sources.{given_by, offsets_by, to_by, slice_by, displace_by, combine_by, combination_of, source_of}
@@ -29,7 +29,7 @@ use Rattle.wb_proto.specs.Requests.{domain_with, domain_by, domain_of, remap_of,
 use Rattle.wb_proto.specs.declared.requests.request.Request.{Request}
 use Rattle.wb_proto.specs.declared.requests.request.Request.TheVariants.{Change, Undo, Redo, Cascade, Dependents, Ask, Print, History, Edits}
 use Rattle.wb_wire.specs.Table.{Meaning, word, name, integer, index, given, mapping, optional_mapping, book, some_set, some_mapping, Fields, op, table}
-use Rattle.wb_wire.specs.Spelled.{IsIndex, IsGiven, Says, HasFields, IsRequest}
+use Rattle.wb_wire.specs.Spelled.{IsIndex, IsOperand, Says, HasFields, IsRequest}
 use Rattle.wb_wire.proofs.Members.{are_apart, is_needed, are_needed, AllSay, there, is_there, exactly, has_fields as has_fields_of}
 use Rattle.wb_wire.proofs.Values.{step, ok_same, no_ok, text_found, says_text, valued, word_found, name_found, index_found, integer_found, natural_found, type_found, operation_found, reduction_found}
 use Rattle.wb_wire.proofs.Spellings.{count_found, domain_found, rectangle_found, given_found, offsets_found, mapping_found, book_found, optional_found, optional_count, some_value, some_optional}
@@ -216,29 +216,29 @@ domain_found_of ms r s e =
 -- ---- reshape, by which source there is
 
 -- the one that is there, or the next ones
-source_by : (o : Option Data) (by : Data → Result Source Refusal) (more : Result Source Refusal) (s : Source) (P : Type 0) → option_map_or by o more ≡ Ok s
+source_by : (o : Option Data) (by : Data → Result NewIndices Refusal) (more : Result NewIndices Refusal) (s : NewIndices) (P : Type 0) → option_map_or by o more ≡ Ok s
     → ((v : Data) → o ≡ Some v → by v ≡ Ok s → P) → (more ≡ Ok s → P) → P
 source_by None by more s P e here on = on e
 source_by (Some v) by more s P e here on = here v refl e
 
-to_found : (v : Data) (s : Source) → to_by v ≡ Ok s → (g : Given) × (IsGiven v g) × (To g ≡ s)
+to_found : (v : Data) (s : NewIndices) → to_by v ≡ Ok s → (g : Operand) × (IsOperand v g) × (To g ≡ s)
 to_found v s e = let x = step (given_by v) (λ g. Ok (To g)) s e in (x.0, given_found v x.0 x.1, ok_same (To x.0) s x.2)
 
-slice_found : (v : Data) (s : Source) → slice_by v ≡ Ok s → (g : Given) × (IsGiven v g) × (Slice g ≡ s)
+slice_found : (v : Data) (s : NewIndices) → slice_by v ≡ Ok s → (g : Operand) × (IsOperand v g) × (Slice g ≡ s)
 slice_found v s e = let x = step (given_by v) (λ g. Ok (Slice g)) s e in (x.0, given_found v x.0 x.1, ok_same (Slice x.0) s x.2)
 
-combine_found : (how : SetOperation) (v : Data) (s : Source) → combine_by how v ≡ Ok s → (g : Given) × (IsGiven v g) × (Combine how g ≡ s)
+combine_found : (how : SetOperation) (v : Data) (s : NewIndices) → combine_by how v ≡ Ok s → (g : Operand) × (IsOperand v g) × (Combine how g ≡ s)
 combine_found how v s e = let x = step (given_by v) (λ g. Ok (Combine how g)) s e in (x.0, given_found v x.0 x.1, ok_same (Combine how x.0) s x.2)
 
-displace_found : (how : Displacement) (v : Data) (s : Source) → displace_by how v ≡ Ok s → (is : List ℤ) × (IsIndex v (Point is)) × (Displace how is ≡ s)
+displace_found : (how : Displacement) (v : Data) (s : NewIndices) → displace_by how v ≡ Ok s → (is : List ℤ) × (IsIndex v (Point is)) × (Displace how is ≡ s)
 displace_found how v s e = let x = step (offsets_by v) (λ is. Ok (Displace how is)) s e in (x.0, offsets_found v x.0 x.1, ok_same (Displace how x.0) s x.2)
 
 module _ (ms : Members) (d : Name) (s : Says (get_member (codes "op") ms) (word (codes "reshape"))) (n : member_count ms ≡ 3) (named : Says (get_member (codes "d") ms) (name d)) where
-  here : (x : Source) (y : Source) → are_apart (table (Change (Reshape d x))) ≡ true → are_needed (table (Change (Reshape d x))) ≡ true → 3 ≡ length (table (Change (Reshape d x)))
+  here : (x : NewIndices) (y : NewIndices) → are_apart (table (Change (Reshape d x))) ≡ true → are_needed (table (Change (Reshape d x))) ≡ true → 3 ≡ length (table (Change (Reshape d x)))
       → x ≡ y → AllSay (table (Change (Reshape d x))) ms → HasFields ms (table (Change (Reshape d y)))
   here x y h k l e a = subst (λ y. HasFields ms (table (Change (Reshape d y)))) e (exactly (table (Change (Reshape d x))) ms h k (n ∙ l) a)
 
-  combination_found : (y : Source) → combination_of (object ms) ≡ Ok y → HasFields ms (table (Change (Reshape d y)))
+  combination_found : (y : NewIndices) → combination_of (object ms) ≡ Ok y → HasFields ms (table (Change (Reshape d y)))
   combination_found y e =
       let P : Type 0 = HasFields ms (table (Change (Reshape d y))) in
       source_by (get_member (codes "or") ms) (combine_by Union) _ y P e (λ v at by. let g = combine_found Union v y by in here (Combine Union g.0) y refl refl refl g.2 (named, (s, (valued (get_member (codes "or") ms) v (given g.0) at g.1, tt)))) (λ e.
@@ -247,7 +247,7 @@ module _ (ms : Members) (d : Name) (s : Says (get_member (codes "op") ms) (word 
       source_by (get_member (codes "xor") ms) (combine_by SymmetricDifference) _ y P e (λ v at by. let g = combine_found SymmetricDifference v y by in here (Combine SymmetricDifference g.0) y refl refl refl g.2 (named, (s, (valued (get_member (codes "xor") ms) v (given g.0) at g.1, tt)))) (λ e.
       no_ok BadRequest y e))))
 
-  source_found : (y : Source) → source_of (object ms) ≡ Ok y → HasFields ms (table (Change (Reshape d y)))
+  source_found : (y : NewIndices) → source_of (object ms) ≡ Ok y → HasFields ms (table (Change (Reshape d y)))
   source_found y e =
       let P : Type 0 = HasFields ms (table (Change (Reshape d y))) in
       source_by (get_member (codes "to") ms) to_by _ y P e (λ v at by. let g = to_found v y by in here (To g.0) y refl refl refl g.2 (named, (s, (valued (get_member (codes "to") ms) v (given g.0) at g.1, tt)))) (λ e.

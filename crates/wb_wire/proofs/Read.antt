@@ -18,11 +18,11 @@ use Rattle.wb_log.specs.declared.refusal.Refusal.{Refusal}
 use Rattle.wb_literal.specs.Domain as literals
 use Rattle.wb_literal.specs.Grammar as grammar
 use Rattle.wb_literal.specs.declared.mapping.MappingLiteral.{MappingLiteral}
-use Rattle.wb_resize.specs.declared.given.Given.TheVariants.{Rectangle}
-use Rattle.wb_resize.specs.declared.source.Displacement.TheVariants.{Translate, Expand}
-use Rattle.wb_resize.specs.declared.source.SetOperation.TheVariants.{Union, Intersection, Difference, SymmetricDifference}
-use Rattle.wb_resize.specs.declared.source.Source.{Source}
-use Rattle.wb_resize.specs.declared.source.Source.TheVariants.{To, Slice, Displace, Combine}
+use Rattle.wb_resize.specs.declared.operand.Operand.TheVariants.{Rectangle}
+use Rattle.wb_resize.specs.declared.new_indices.Displacement.TheVariants.{Translate, Expand}
+use Rattle.wb_resize.specs.declared.new_indices.SetOperation.TheVariants.{Union, Intersection, Difference, SymmetricDifference}
+use Rattle.wb_resize.specs.declared.new_indices.NewIndices.{NewIndices}
+use Rattle.wb_resize.specs.declared.new_indices.NewIndices.TheVariants.{To, Slice, Displace, Combine}
 use Rattle.wb_proto.specs.Fields.{◌>>=◌, member_count, has_fields, has_fields_and, text_field, optional_text, name_field, index_field, i64_field, u64_field, key_type_field, operation_field, reduction_field}
 use Rattle.wb_proto.specs.Literals.{literal_domain, literal_mapping, optional_mapping as mapping_if_there, text_of_book, mapping_within}
 use Rattle.wb_proto.specs.Sources.{source_of}
@@ -236,7 +236,7 @@ domain_of_set_read ms d h =
 
 -- ---- reshape
 
-reshape_by : (ms : Members) (d : Name) (x : Source) → member_count ms ≡ 3 → Says (get_member (codes "op") ms) (word (codes "reshape")) → Says (get_member (codes "d") ms) (name d) → source_of (object ms) ≡ Ok x
+reshape_by : (ms : Members) (d : Name) (x : NewIndices) → member_count ms ≡ 3 → Says (get_member (codes "op") ms) (word (codes "reshape")) → Says (get_member (codes "d") ms) (name d) → source_of (object ms) ≡ Ok x
     → request_of (object ms) ≡ Ok (Change (Reshape d x))
 reshape_by ms d x n s named e =
     op_read ms (codes "reshape") (Change (Reshape d x)) s (two_read (has_fields 3 (object ms)) (name_field (codes "d") (object ms)) (source_of (object ms)) (λ d x. Ok (Change (Reshape d x))) d x (Change (Reshape d x)) (count_read ms 3 n)
@@ -244,10 +244,10 @@ reshape_by ms d x n s named e =
 
 module _ (ms : Members) (d : Name) where
   -- no other source is there
-  lacks : (k : List ℕ) (x : Source) → is_free k (table (Change (Reshape d x))) ≡ true → HasFields ms (table (Change (Reshape d x))) → get_member k ms ≡ None
+  lacks : (k : List ℕ) (x : NewIndices) → is_free k (table (Change (Reshape d x))) ≡ true → HasFields ms (table (Change (Reshape d x))) → get_member k ms ≡ None
   lacks k x h a = no_other k (table (Change (Reshape d x))) ms h a
 
-  reshape_read : (x : Source) → HasFields ms (table (Change (Reshape d x))) → request_of (object ms) ≡ Ok (Change (Reshape d x))
+  reshape_read : (x : NewIndices) → HasFields ms (table (Change (Reshape d x))) → request_of (object ms) ≡ Ok (Change (Reshape d x))
   reshape_read (To g) h =
       let s = all_say (table (Change (Reshape d (To g)))) ms refl h in
       let v = said (get_member (codes "to") ms) (given g) refl s.1.1.0 in
@@ -257,35 +257,35 @@ module _ (ms : Members) (d : Name) where
       let v = said (get_member (codes "slice") ms) (given g) refl s.1.1.0 in
       reshape_by ms d (Slice g) (counted (table (Change (Reshape d (Slice g)))) ms refl refl h) s.1.0 s.0 (rw (lacks (codes "to") (Slice g) refl h, v.1, given_read v.0 g v.2) refl)
   reshape_read (Displace Translate is) h =
-      let x : Source = Displace Translate is in
+      let x : NewIndices = Displace Translate is in
       let s = all_say (table (Change (Reshape d x))) ms refl h in
       let v = said (get_member (codes "translate") ms) (index (Point is)) refl s.1.1.0 in
       reshape_by ms d x (counted (table (Change (Reshape d x))) ms refl refl h) s.1.0 s.0 (rw (lacks (codes "to") x refl h, lacks (codes "slice") x refl h, v.1, offsets_read v.0 is v.2) refl)
   reshape_read (Displace Expand is) h =
-      let x : Source = Displace Expand is in
+      let x : NewIndices = Displace Expand is in
       let s = all_say (table (Change (Reshape d x))) ms refl h in
       let v = said (get_member (codes "expand") ms) (index (Point is)) refl s.1.0 in
       reshape_by ms d x (counted (table (Change (Reshape d x))) ms refl refl h) s.1.1.0 s.0 (rw (lacks (codes "to") x refl h, lacks (codes "slice") x refl h, lacks (codes "translate") x refl h, v.1, offsets_read v.0 is v.2) refl)
   reshape_read (Combine Union g) h =
-      let x : Source = Combine Union g in
+      let x : NewIndices = Combine Union g in
       let s = all_say (table (Change (Reshape d x))) ms refl h in
       let v = said (get_member (codes "or") ms) (given g) refl s.1.1.0 in
       reshape_by ms d x (counted (table (Change (Reshape d x))) ms refl refl h) s.1.0 s.0
       (rw (lacks (codes "to") x refl h, lacks (codes "slice") x refl h, lacks (codes "translate") x refl h, lacks (codes "expand") x refl h, v.1, given_read v.0 g v.2) refl)
   reshape_read (Combine Intersection g) h =
-      let x : Source = Combine Intersection g in
+      let x : NewIndices = Combine Intersection g in
       let s = all_say (table (Change (Reshape d x))) ms refl h in
       let v = said (get_member (codes "and") ms) (given g) refl s.0 in
       reshape_by ms d x (counted (table (Change (Reshape d x))) ms refl refl h) s.1.1.0 s.1.0
       (rw (lacks (codes "to") x refl h, lacks (codes "slice") x refl h, lacks (codes "translate") x refl h, lacks (codes "expand") x refl h, lacks (codes "or") x refl h, v.1, given_read v.0 g v.2) refl)
   reshape_read (Combine Difference g) h =
-      let x : Source = Combine Difference g in
+      let x : NewIndices = Combine Difference g in
       let s = all_say (table (Change (Reshape d x))) ms refl h in
       let v = said (get_member (codes "minus") ms) (given g) refl s.1.0 in
       reshape_by ms d x (counted (table (Change (Reshape d x))) ms refl refl h) s.1.1.0 s.0
       (rw (lacks (codes "to") x refl h, lacks (codes "slice") x refl h, lacks (codes "translate") x refl h, lacks (codes "expand") x refl h, lacks (codes "or") x refl h, lacks (codes "and") x refl h, v.1, given_read v.0 g v.2) refl)
   reshape_read (Combine SymmetricDifference g) h =
-      let x : Source = Combine SymmetricDifference g in
+      let x : NewIndices = Combine SymmetricDifference g in
       let s = all_say (table (Change (Reshape d x))) ms refl h in
       let v = said (get_member (codes "xor") ms) (given g) refl s.1.1.0 in
       reshape_by ms d x (counted (table (Change (Reshape d x))) ms refl refl h) s.1.0 s.0

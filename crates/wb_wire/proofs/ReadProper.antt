@@ -7,13 +7,13 @@ use Rattle.wb_book.specs.Layouts.{IsLayout}
 use Rattle.wb_book.specs.declared.values.index.Index.{Index}
 use Rattle.wb_book.specs.declared.values.index.Index.TheVariants.{Point, Text}
 use Rattle.wb_limits.specs.Literals.{listed_in}
-use Rattle.wb_resize.specs.declared.given.Given.{Given}
-use Rattle.wb_resize.specs.declared.given.Given.TheVariants.{Rectangle, Items as Listed, Named}
+use Rattle.wb_resize.specs.declared.operand.Operand.{Operand}
+use Rattle.wb_resize.specs.declared.operand.Operand.TheVariants.{Rectangle, Items as Listed, Named}
 use Rattle.wb_proto.specs.Requests.{request}
 use Rattle.wb_proto.specs.declared.requests.request.Request.{Request}
 use Rattle.wb_wire.specs.Table.{Meaning, word, name, integer, number, index, given, mapping, optional_mapping, book, some_set, some_mapping, some_integer, Fields, table}
-use Rattle.wb_wire.specs.Spelled.{IsIndex, IsGiven, Spells, Says, without, HasFields}
-use Rattle.wb_wire.specs.Proper.{IsProperIndex, IsProperGiven, IsProper, AreProper, IsProperRequest}
+use Rattle.wb_wire.specs.Spelled.{IsIndex, IsOperand, Spells, Says, without, HasFields}
+use Rattle.wb_wire.specs.Proper.{IsProperIndex, IsProperOperand, IsProper, AreProper, IsProperRequest}
 use Rattle.wb_wire.proofs.Lines.{line_found}
 use Rattle.wb_wire.proofs.Mappings.{mapping_is}
 use Rattle.wb_wire.proofs.Readable.{IsFit, AreFit, read_fits, member_fits, integer_within}
@@ -40,9 +40,9 @@ index_is d (Point (i ∷ j ∷ k ∷ [])) f h =
 index_is d (Point (i ∷ j ∷ k ∷ l ∷ is)) f h = absurd h
 index_is d (Text t) f h = h.1
 
-given_is : (d : Data) (g : Given) → IsGiven d g → IsProperGiven g
+given_is : (d : Data) (g : Operand) → IsOperand d g → IsProperOperand g
 given_is d (Rectangle ranges) h = domain_is h.1 ranges h.4
-given_is d (Listed is) h = subst (λ is. IsProperGiven (Listed is)) h.4 (set_is h.0 h.1 h.3, ascending_again (listed_in h.1))
+given_is d (Listed is) h = subst (λ is. IsProperOperand (Listed is)) h.4 (set_is h.0 h.1 h.3, ascending_again (listed_in h.1))
 given_is d (Named n) h = h.1
 
 spelled_is : (d : Data) (x : Meaning) → IsFit d → Spells d x → IsProper x

@@ -20,10 +20,10 @@ use Rattle.wb_literal.specs.Set.{Items as Listed}
 use Rattle.wb_literal.specs.declared.mapping.MappingLiteral.{MappingLiteral}
 use Rattle.wb_literal.specs.declared.mapping.MappingLiteral.TheVariants.{Whole}
 use Rattle.wb_literal.specs.declared.rectangle.RectangleLiteral.{RectangleLiteral}
-use Rattle.wb_resize.specs.declared.source.Displacement.TheVariants.{Translate, Expand}
-use Rattle.wb_resize.specs.declared.source.SetOperation.TheVariants.{Union, Intersection, Difference, SymmetricDifference}
-use Rattle.wb_resize.specs.declared.source.Source.{Source}
-use Rattle.wb_resize.specs.declared.source.Source.TheVariants.{To, Slice, Displace, Combine}
+use Rattle.wb_resize.specs.declared.new_indices.Displacement.TheVariants.{Translate, Expand}
+use Rattle.wb_resize.specs.declared.new_indices.SetOperation.TheVariants.{Union, Intersection, Difference, SymmetricDifference}
+use Rattle.wb_resize.specs.declared.new_indices.NewIndices.{NewIndices}
+use Rattle.wb_resize.specs.declared.new_indices.NewIndices.TheVariants.{To, Slice, Displace, Combine}
 use Rattle.wb_proto.specs.Fields.{◌>>=◌, member_count, has_fields, has_fields_and, text_field, optional_text, text_if_there, name_field, index_field, i64_field, u64_field, key_type_field, operation_field, reduction_field}
 use Rattle.wb_proto.specs.Literals.{literal_domain, literal_mapping, text_of_book, domain_within, mapping_within}
 use Rattle.wb_proto.specs.Sources.{to_by, slice_by, displace_by, combine_by, source_of}
@@ -399,7 +399,7 @@ domain_judged_of ms s =
 -- ---- reshape, by which source there is
 
 -- the one that is there, or the next ones
-source_judged : (J : Result Source Refusal → Type 0) (o : Option Data) (by : Data → Result Source Refusal) (more : Result Source Refusal) → ((v : Data) → o ≡ Some v → J (by v)) → (o ≡ None → J more) → J (option_map_or by o more)
+source_judged : (J : Result NewIndices Refusal → Type 0) (o : Option Data) (by : Data → Result NewIndices Refusal) (more : Result NewIndices Refusal) → ((v : Data) → o ≡ Some v → J (by v)) → (o ≡ None → J more) → J (option_map_or by o more)
 source_judged J None by more here on = on refl
 source_judged J (Some v) by more here on = here v refl
 
@@ -424,25 +424,25 @@ unfolding has_one
 no_source ms s n = not_whole_by ms (codes "reshape") s (λ ks c h. one_there source_keys ks ms (of_form (codes "reshape") ks (has_one source_keys) refl c) h n)
 
 module _ (ms : Members) (s : NamesOp ms (codes "reshape")) (n : member_count ms ≡ 3) (named : Fine ms (codes "reshape") (codes "d")) where
-  at_source : (k : List ℕ) {kind : Kind} {A : Type 0} {read : Option Data → Result A Refusal} → IsReader kind read → (K : A → Source) → kind_of (codes "reshape") k ≡ Some kind → Contains forms (codes "reshape", codes "d" ∷ k ∷ [])
-      → apart (codes "op" ∷ codes "d" ∷ k ∷ []) ≡ true → (v : Data) → get_member k ms ≡ Some v → Judged {X = Source} ms (read (Some v) >>= (λ a. Ok (K a)))
+  at_source : (k : List ℕ) {kind : Kind} {A : Type 0} {read : Option Data → Result A Refusal} → IsReader kind read → (K : A → NewIndices) → kind_of (codes "reshape") k ≡ Some kind → Contains forms (codes "reshape", codes "d" ∷ k ∷ [])
+      → apart (codes "op" ∷ codes "d" ∷ k ∷ []) ≡ true → (v : Data) → get_member k ms ≡ Some v → Judged {X = NewIndices} ms (read (Some v) >>= (λ a. Ok (K a)))
   at_source k {kind} {A} {read} r K kd c a v g =
       let o = codes "reshape" in let ks = codes "d" ∷ k ∷ [] in
-      bind_judged (Judged {X = Source} ms) (read (Some v)) (λ a. Ok (K a))
+      bind_judged (Judged {X = NewIndices} ms) (read (Some v)) (λ a. Ok (K a))
       (λ why e. value_bad ms o ks s c (whole_fine ms o ks s a n (named.0, ((v, g), tt))) k r kd v g why e (λ f same. (fine_above ms o (codes "d") f named, (same, tt))))
       (λ x e. all_fine ms o ks s c a n (named, (fine ms o k r kd x (ap read g ∙ e), tt)))
 
-  sources_judged : Judged {X = Source} ms (source_of (object ms))
+  sources_judged : Judged {X = NewIndices} ms (source_of (object ms))
   sources_judged =
       let o = codes "reshape" in
-      source_judged (Judged {X = Source} ms) (get_member (codes "to") ms) to_by _ (λ v g. at_source (codes "to") source_reader To refl (form_at 5 (o, codes "d" ∷ codes "to" ∷ []) refl refl) refl v g) (λ a.
-      source_judged (Judged {X = Source} ms) (get_member (codes "slice") ms) slice_by _ (λ v g. at_source (codes "slice") source_reader Slice refl (form_at 6 (o, codes "d" ∷ codes "slice" ∷ []) refl refl) refl v g) (λ b.
-      source_judged (Judged {X = Source} ms) (get_member (codes "translate") ms) (displace_by Translate) _ (λ v g. at_source (codes "translate") offsets_reader (Displace Translate) refl (form_at 7 (o, codes "d" ∷ codes "translate" ∷ []) refl refl) refl v g) (λ c.
-      source_judged (Judged {X = Source} ms) (get_member (codes "expand") ms) (displace_by Expand) _ (λ v g. at_source (codes "expand") offsets_reader (Displace Expand) refl (form_at 8 (o, codes "d" ∷ codes "expand" ∷ []) refl refl) refl v g) (λ d.
-      source_judged (Judged {X = Source} ms) (get_member (codes "or") ms) (combine_by Union) _ (λ v g. at_source (codes "or") source_reader (Combine Union) refl (form_at 9 (o, codes "d" ∷ codes "or" ∷ []) refl refl) refl v g) (λ e.
-      source_judged (Judged {X = Source} ms) (get_member (codes "and") ms) (combine_by Intersection) _ (λ v g. at_source (codes "and") source_reader (Combine Intersection) refl (form_at 10 (o, codes "d" ∷ codes "and" ∷ []) refl refl) refl v g) (λ f.
-      source_judged (Judged {X = Source} ms) (get_member (codes "minus") ms) (combine_by Difference) _ (λ v g. at_source (codes "minus") source_reader (Combine Difference) refl (form_at 11 (o, codes "d" ∷ codes "minus" ∷ []) refl refl) refl v g) (λ g.
-      source_judged (Judged {X = Source} ms) (get_member (codes "xor") ms) (combine_by SymmetricDifference) _ (λ v g. at_source (codes "xor") source_reader (Combine SymmetricDifference) refl (form_at 12 (o, codes "d" ∷ codes "xor" ∷ []) refl refl) refl v g) (λ h.
+      source_judged (Judged {X = NewIndices} ms) (get_member (codes "to") ms) to_by _ (λ v g. at_source (codes "to") source_reader To refl (form_at 5 (o, codes "d" ∷ codes "to" ∷ []) refl refl) refl v g) (λ a.
+      source_judged (Judged {X = NewIndices} ms) (get_member (codes "slice") ms) slice_by _ (λ v g. at_source (codes "slice") source_reader Slice refl (form_at 6 (o, codes "d" ∷ codes "slice" ∷ []) refl refl) refl v g) (λ b.
+      source_judged (Judged {X = NewIndices} ms) (get_member (codes "translate") ms) (displace_by Translate) _ (λ v g. at_source (codes "translate") offsets_reader (Displace Translate) refl (form_at 7 (o, codes "d" ∷ codes "translate" ∷ []) refl refl) refl v g) (λ c.
+      source_judged (Judged {X = NewIndices} ms) (get_member (codes "expand") ms) (displace_by Expand) _ (λ v g. at_source (codes "expand") offsets_reader (Displace Expand) refl (form_at 8 (o, codes "d" ∷ codes "expand" ∷ []) refl refl) refl v g) (λ d.
+      source_judged (Judged {X = NewIndices} ms) (get_member (codes "or") ms) (combine_by Union) _ (λ v g. at_source (codes "or") source_reader (Combine Union) refl (form_at 9 (o, codes "d" ∷ codes "or" ∷ []) refl refl) refl v g) (λ e.
+      source_judged (Judged {X = NewIndices} ms) (get_member (codes "and") ms) (combine_by Intersection) _ (λ v g. at_source (codes "and") source_reader (Combine Intersection) refl (form_at 10 (o, codes "d" ∷ codes "and" ∷ []) refl refl) refl v g) (λ f.
+      source_judged (Judged {X = NewIndices} ms) (get_member (codes "minus") ms) (combine_by Difference) _ (λ v g. at_source (codes "minus") source_reader (Combine Difference) refl (form_at 11 (o, codes "d" ∷ codes "minus" ∷ []) refl refl) refl v g) (λ g.
+      source_judged (Judged {X = NewIndices} ms) (get_member (codes "xor") ms) (combine_by SymmetricDifference) _ (λ v g. at_source (codes "xor") source_reader (Combine SymmetricDifference) refl (form_at 12 (o, codes "d" ∷ codes "xor" ∷ []) refl refl) refl v g) (λ h.
       first (object ms) BadRequest refl (not_whole refl (no_source ms s (a, (b, (c, (d, (e, (f, (g, (h, tt))))))))))))))))))
 
 -- what a request is made of is judged as it is

@@ -23,14 +23,14 @@ use Rattle.wb_limits.specs.Literals as limits
 use Rattle.wb_limits.specs.Mappings as mapping_limits
 use Rattle.wb_limits.specs.declared.limit.LimitErr.{LimitErr}
 use Rattle.wb_resize.specs.Sources.{ascending}
-use Rattle.wb_resize.specs.declared.given.Given.{Given}
-use Rattle.wb_resize.specs.declared.given.Given.TheVariants.{Rectangle, Items, Named}
+use Rattle.wb_resize.specs.declared.operand.Operand.{Operand}
+use Rattle.wb_resize.specs.declared.operand.Operand.TheVariants.{Rectangle, Items, Named}
 use Rattle.wb_proto.specs.Fields.{member_count, has_fields, has_fields_and, text_if_there, name_of, index_of}
 use Rattle.wb_proto.specs.Literals.{literal_domain, literal_mapping, optional_mapping as mapping_if_there, text_of_book, within, domain_within, mapping_within}
 use Rattle.wb_proto.specs.Sources.{is_braced, given_within, given_literal, given_name, given_text, given_by, point_in, offsets_by}
 use Rattle.wb_reading.specs.Texts.Books.{is_book_text}
 use Rattle.wb_wire.specs.Table.{integer, optional_mapping, some_mapping, some_integer}
-use Rattle.wb_wire.specs.Spelled.{IsIndex, IsGiven, IsMapping, Says}
+use Rattle.wb_wire.specs.Spelled.{IsIndex, IsOperand, IsMapping, Says}
 use Rattle.wb_wire.proofs.Members.{there}
 use Rattle.wb_wire.proofs.Values.{step, ok_same, no_ok, some_same, no_some, some_of_ok, some_step, str_found, chosen, mapped, index_found_of, index_read_of}
 
@@ -62,26 +62,26 @@ rectangle_read r ranges e = rw e refl
 
 -- ---- what is given
 
-given_by_literal : (text : List ℕ) (l : Domain) (g : Given) → grammar.IsDomain text l → given_within l ≡ Ok g → IsGiven (string text) g
+given_by_literal : (text : List ℕ) (l : Domain) (g : Operand) → grammar.IsDomain text l → given_within l ≡ Ok g → IsOperand (string text) g
 given_by_literal text (rectangle r) g h e =
     let x = step (domain_within r) (λ ranges. Ok (Rectangle ranges)) g e in
-    subst (IsGiven (string text)) (ok_same (Rectangle x.0) g x.2) (text, r, refl, h, rectangle_found r x.0 x.1)
-given_by_literal text (set listed) g h e = subst (IsGiven (string text)) (ok_same (Items (ascending (limits.listed_in listed))) g e) (text, listed, refl, h, refl)
+    subst (IsOperand (string text)) (ok_same (Rectangle x.0) g x.2) (text, r, refl, h, rectangle_found r x.0 x.1)
+given_by_literal text (set listed) g h e = subst (IsOperand (string text)) (ok_same (Items (ascending (limits.listed_in listed))) g e) (text, listed, refl, h, refl)
 
-given_by_name : (text : List ℕ) (g : Given) → given_name text ≡ Ok g → IsGiven (string text) g
+given_by_name : (text : List ℕ) (g : Operand) → given_name text ≡ Ok g → IsOperand (string text) g
 given_by_name text g e =
     let x = step (name_of text) (λ n. Ok (Named n)) g e in
     let k = chosen (is_name text) text x.0 x.1 in
-    subst (IsGiven (string text)) (ok_same (Named x.0) g x.2) (ap string k.1, ap is_name (sym k.1) ∙ k.0)
+    subst (IsOperand (string text)) (ok_same (Named x.0) g x.2) (ap string k.1, ap is_name (sym k.1) ∙ k.0)
 
-given_by_text : (text : List ℕ) (g : Given) (b : Bool) → (if b then given_literal text else given_name text) ≡ Ok g → IsGiven (string text) g
+given_by_text : (text : List ℕ) (g : Operand) (b : Bool) → (if b then given_literal text else given_name text) ≡ Ok g → IsOperand (string text) g
 given_by_text text g true e = let x = step (literal_domain text) given_within g e in given_by_literal text x.0 g (domain_found text x.0 x.1) x.2
 given_by_text text g false e = given_by_name text g e
 
-pub given_found : (d : Data) (g : Given) → given_by d ≡ Ok g → IsGiven d g
+pub given_found : (d : Data) (g : Operand) → given_by d ≡ Ok g → IsOperand d g
 given_found d g e =
     let x = step (ok_or (as_str d) BadRequest) given_text g e in
-    subst (λ d. IsGiven d g) (sym (str_found d x.0 (some_of_ok (as_str d) BadRequest x.0 x.1))) (given_by_text x.0 g (is_braced x.0) x.2)
+    subst (λ d. IsOperand d g) (sym (str_found d x.0 (some_of_ok (as_str d) BadRequest x.0 x.1))) (given_by_text x.0 g (is_braced x.0) x.2)
 
 set_braced : (text : List ℕ) (listed : Listed) → grammar.IsSet text listed → is_braced text ≡ true
 set_braced text nothing h = ap is_braced h.2
@@ -105,7 +105,7 @@ name_unbraced (c ∷ cs) h = elim (nat_eq c 123) as (λ b. nat_eq c 123 ≡ b �
   | false ↦ λ e. refl
 ] refl
 
-pub given_read : (d : Data) (g : Given) → IsGiven d g → given_by d ≡ Ok g
+pub given_read : (d : Data) (g : Operand) → IsOperand d g → given_by d ≡ Ok g
 given_read d (Rectangle ranges) h =
     rw (h.2, ap is_braced h.3.6, domain_read h.0 (rectangle h.1) h.3, rectangle_read h.1 ranges h.4) refl
 given_read d (Items is) h = rw (h.2, set_braced h.0 h.1 h.3, domain_read h.0 (set h.1) h.3) (ap (λ x. Ok (Items x)) h.4)

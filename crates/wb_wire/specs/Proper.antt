@@ -9,8 +9,8 @@ use Rattle.wb_book.specs.declared.values.index.Index.{Index}
 use Rattle.wb_book.specs.declared.values.index.Index.TheVariants.{Point, Text}
 use Rattle.wb_literal.specs.Integer.{IsWithin}
 use Rattle.wb_resize.specs.Sources.{ascending}
-use Rattle.wb_resize.specs.declared.given.Given.{Given}
-use Rattle.wb_resize.specs.declared.given.Given.TheVariants.{Rectangle, Items, Named}
+use Rattle.wb_resize.specs.declared.operand.Operand.{Operand}
+use Rattle.wb_resize.specs.declared.operand.Operand.TheVariants.{Rectangle, Items, Named}
 use Rattle.wb_reading.specs.Texts.Books.{is_book_text}
 use Rattle.wb_proto.specs.declared.requests.request.Request.{Request}
 use Rattle.wb_wire.specs.Table.{Meaning, word, name, integer, number, index, given, mapping, optional_mapping, book, some_set, some_mapping, some_integer, Fields, table}
@@ -45,10 +45,10 @@ abbrev pub IsProperIndex : Index → Type 0
 IsProperIndex (Point is) = (1 ≤ length is) × (length is ≤ 3) × AllWithin is
 IsProperIndex (Text t) = is_label t ≡ true
 
-abbrev pub IsProperGiven : Given → Type 0
-IsProperGiven (Rectangle ranges) = IsRectangle (length ranges) ranges
-IsProperGiven (Items is) = AreAlike is × (ascending is ≡ is)
-IsProperGiven (Named n) = is_name n ≡ true
+abbrev pub IsProperOperand : Operand → Type 0
+IsProperOperand (Rectangle ranges) = IsRectangle (length ranges) ranges
+IsProperOperand (Items is) = AreAlike is × (ascending is ≡ is)
+IsProperOperand (Named n) = is_name n ≡ true
 
 abbrev pub IsProper : Meaning → Type 0
 IsProper (word w) = Unit {0}
@@ -56,7 +56,7 @@ IsProper (name n) = is_name n ≡ true
 IsProper (integer z) = IsWithin z
 IsProper (number k) = Unit {0}
 IsProper (index i) = IsProperIndex i
-IsProper (given g) = IsProperGiven g
+IsProper (given g) = IsProperOperand g
 IsProper (mapping m) = IsLayout m
 IsProper (optional_mapping m) = IsLayout m
 IsProper (book text) = is_book_text text ≡ true

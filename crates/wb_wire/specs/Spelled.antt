@@ -15,8 +15,8 @@ use Rattle.wb_literal.specs.declared.rectangle.RectangleLiteral.{RectangleLitera
 use Rattle.wb_limits.specs.Literals.{listed_in, domain_within}
 use Rattle.wb_limits.specs.Mappings.{mapping_within}
 use Rattle.wb_resize.specs.Sources.{ascending}
-use Rattle.wb_resize.specs.declared.given.Given.{Given}
-use Rattle.wb_resize.specs.declared.given.Given.TheVariants.{Rectangle, Items, Named}
+use Rattle.wb_resize.specs.declared.operand.Operand.{Operand}
+use Rattle.wb_resize.specs.declared.operand.Operand.TheVariants.{Rectangle, Items, Named}
 use Rattle.wb_reading.specs.Texts.Books.{is_book_text}
 use Rattle.wb_proto.specs.declared.requests.request.Request.{Request}
 use Rattle.wb_wire.specs.Table.{Meaning, word, name, integer, number, index, given, mapping, optional_mapping, book, some_set, some_mapping, some_integer, Fields, table}
@@ -42,10 +42,10 @@ IsIndex d (Text t) = (d ≡ string t) × (is_label t ≡ true)
 
 -- What is given for a domain: the literal of a rectangle within the limits, the literal of a set, which stands for its
 -- indices, ascending and each once, or a name. (A literal begins with a brace, and no name does.)
-abbrev pub IsGiven : Data → Given → Type 0
-IsGiven d (Rectangle ranges) = (text : List ℕ) × (literal : RectangleLiteral) × (d ≡ string text) × grammar.IsRectangle text literal × (domain_within literal ≡ Ok ranges)
-IsGiven d (Items is) = (text : List ℕ) × (listed : Listed) × (d ≡ string text) × grammar.IsSet text listed × (ascending (listed_in listed) ≡ is)
-IsGiven d (Named n) = (d ≡ string n) × (is_name n ≡ true)
+abbrev pub IsOperand : Data → Operand → Type 0
+IsOperand d (Rectangle ranges) = (text : List ℕ) × (literal : RectangleLiteral) × (d ≡ string text) × grammar.IsRectangle text literal × (domain_within literal ≡ Ok ranges)
+IsOperand d (Items is) = (text : List ℕ) × (listed : Listed) × (d ≡ string text) × grammar.IsSet text listed × (ascending (listed_in listed) ≡ is)
+IsOperand d (Named n) = (d ≡ string n) × (is_name n ≡ true)
 
 -- the literal of a mapping within the limits, all its parts of one rank
 abbrev pub IsMapping : Data → LayoutMap → Type 0
@@ -57,7 +57,7 @@ Spells d (name n) = (d ≡ string n) × (is_name n ≡ true)
 Spells d (integer z) = IsInteger d z
 Spells d (number k) = IsNumber d k
 Spells d (index i) = IsIndex d i
-Spells d (given g) = IsGiven d g
+Spells d (given g) = IsOperand d g
 Spells d (mapping m) = IsMapping d m
 Spells d (optional_mapping m) = IsMapping d m
 Spells d (book text) = (d ≡ string text) × (is_book_text text ≡ true)

@@ -3,7 +3,7 @@
 ghost use Rattle.std.specs.Prelude.{◌≡◌, ℕ, ◌+◌, List, [], ◌∷◌, Some, None, false, IfOk, OnOk, OnErr, IsSome, length};
 ghost use Rattle.std.specs.FinMap as map;
 ghost use Rattle.std.specs.Ordering.{eq_by_cmp};
-ghost use Rattle.selective_undo.specs.Changes.{put, apply, inverse, changes, AllOnce, RoomFor, HasRoom, sets, clears};
+ghost use Rattle.selective_undo.specs.Changes.{applied, apply, inverse, changes, AllOnce, RoomFor, HasRoom, sets, clears};
 ghost use Rattle.wb_book.specs.Cells.{cell_cmp, state_of};
 
 use crate::cells::cell::Cell;
@@ -94,7 +94,7 @@ fn clear_one(cells: &mut BTreeMap<Cell, Value>, change: &CellChange)
 /// Makes a change for which there is room.
 fn put_back_one(cells: &mut BTreeMap<Cell, Value>, change: &CellChange)
     requires { RoomFor change.now.value (map.get (state_of cells.old) change.now.cell) }
-    ensures { state_of cells.new ≡ put change.now (state_of cells.old) }
+    ensures { state_of cells.new ≡ applied change.now (state_of cells.old) }
 {
     match change.value() {
         Some(value) => match set_cell(cells, change.cell(), value) {

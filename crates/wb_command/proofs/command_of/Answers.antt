@@ -38,10 +38,10 @@ returns-in-Err-clause-refused c =
     passed_on CommandErr c.program.result command (λ k. app_of k ≡ program) c.program.ensures c.in_ok-command.ensures.cases in
     let failed : Result ArgMatches Error = Err c.in-Err.error in
     let kind = faults_of command built words failed c.in-Err.ensures.kinds in
-    answer_told words c.in-Err.error c.told.result kind c.told.ensures
+    answer_told words c.in-Err.error c.error_of.result kind c.error_of.ensures
 
 pub returns-in-Ok-clause-only : goal.returns-in-Ok-clause-only
 returns-in-Ok-clause-only c = only_answer (texts c.args.words.now) c.ok_or.result (returns-in-Ok-clause-asked c) (returns-in-Ok-clause-refused c)
 
 pub returns-in-Err-clause-only : goal.returns-in-Err-clause-only
-returns-in-Err-clause-only c = only_answer (texts c.args.words.now) (Err c.told.result) tt (returns-in-Err-clause-refused c)
+returns-in-Err-clause-only c = only_answer (texts c.args.words.now) (Err c.error_of.result) tt (returns-in-Err-clause-refused c)

@@ -14,7 +14,7 @@ use Rattle.wb_book.specs.WellFormed.{IsWellFormed, use_of}
 use Rattle.wb_edit.specs.Commands.{assoc}
 use Rattle.wb_edit.specs.Trees.{judged}
 use Rattle.wb_edit.specs.Looks.{is_free}
-use Rattle.wb_edit.specs.Writes.{put}
+use Rattle.wb_edit.specs.Writes.{set_to}
 use Rattle.wb_resize.proofs.Gets.{after, get-apply}
 use Rattle.wb_resize.proofs.States.{stays}
 use Rattle.wb_edit.proofs.Kept.NewSet.{HasNewSet, IsPlain, set_added}
@@ -25,7 +25,7 @@ plain_assoc type = record { no_ranges = λ v e. e; no_layout = λ v e. e }
 
 pub assoc_kept : (s : Cells) (d : Name) (type : KeyType) → is_name d ≡ true → IsWellFormed s → Keeps (assoc d type) s
 assoc_kept s d type named h =
-    let xs : Changes = put (Object d) (Domain (Associative type)) ∷ [] in
+    let xs : Changes = set_to (Object d) (Domain (Associative type)) ∷ [] in
     let t : Cells = apply xs s in
     let at : (c : Cell) → get t c ≡ after cell_cmp xs c (get s c) = get-apply cell_order xs s in
     let k : HasNewSet s t d (Associative type) = record {

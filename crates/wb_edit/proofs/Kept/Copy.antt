@@ -11,9 +11,9 @@ use Rattle.selective_undo.specs.Edit.{write}
 use Rattle.wb_edit.specs.Commands.{copy}
 use Rattle.wb_edit.specs.Trees.{Tree, read, judged}
 use Rattle.wb_edit.specs.Implicit.{has_implicit, parent_in, or_implicit, element_or_implicit}
-use Rattle.wb_edit.specs.Numbers.{number_in, fits_integer, sum}
+use Rattle.wb_edit.specs.Numbers.{element_or_refusal, fits_integer, sum}
 use Rattle.wb_edit.specs.Looks.{array_kind, is_there, fits, array_named, index_fits, element}
-use Rattle.wb_edit.specs.Writes.{put}
+use Rattle.wb_edit.specs.Writes.{set_to}
 use Rattle.wb_edit.proofs.Sums.{within_fits}
 use Rattle.wb_edit.proofs.Kept.Set.{element_set}
 use Rattle.wb_edit.proofs.Kept.Steps.{Keeps, keeps_read, keeps_judged, there_is}
@@ -23,19 +23,19 @@ keeps_number : (s : Cells) (b d : Name) (kind : Kind) (j : Index) (next : ℤ �
 keeps_number s b d kind j next h kept = keeps_read s (Element b j) (λ v. or_implicit b d kind j v next) (λ v _. by_case v)
   where
     by_case : (v : Option Value) → Keeps (or_implicit b d kind j v next) s
-    by_case (Some v) = keeps_judged s (number_in (Some v)) next h (λ x _. kept x)
+    by_case (Some v) = keeps_judged s (element_or_refusal (Some v)) next h (λ x _. kept x)
     by_case None =
-        keeps_judged s (has_implicit kind) (λ z. read (Object d) (λ o. judged (parent_in o) (λ p. read (In p j) (λ v. judged (is_there v) (λ y. read (Implicit b) (λ x. judged (number_in x) next)))))) h (λ z _.
-        keeps_read s (Object d) (λ o. judged (parent_in o) (λ p. read (In p j) (λ v. judged (is_there v) (λ y. read (Implicit b) (λ x. judged (number_in x) next))))) (λ o _.
-        keeps_judged s (parent_in o) (λ p. read (In p j) (λ v. judged (is_there v) (λ y. read (Implicit b) (λ x. judged (number_in x) next)))) h (λ p _.
-        keeps_read s (In p j) (λ v. judged (is_there v) (λ y. read (Implicit b) (λ x. judged (number_in x) next))) (λ v _.
-        keeps_judged s (is_there v) (λ y. read (Implicit b) (λ x. judged (number_in x) next)) h (λ y _.
-        keeps_read s (Implicit b) (λ x. judged (number_in x) next) (λ x _.
-        keeps_judged s (number_in x) next h (λ n _. kept n)))))))
+        keeps_judged s (has_implicit kind) (λ z. read (Object d) (λ o. judged (parent_in o) (λ p. read (In p j) (λ v. judged (is_there v) (λ y. read (Implicit b) (λ x. judged (element_or_refusal x) next)))))) h (λ z _.
+        keeps_read s (Object d) (λ o. judged (parent_in o) (λ p. read (In p j) (λ v. judged (is_there v) (λ y. read (Implicit b) (λ x. judged (element_or_refusal x) next))))) (λ o _.
+        keeps_judged s (parent_in o) (λ p. read (In p j) (λ v. judged (is_there v) (λ y. read (Implicit b) (λ x. judged (element_or_refusal x) next)))) h (λ p _.
+        keeps_read s (In p j) (λ v. judged (is_there v) (λ y. read (Implicit b) (λ x. judged (element_or_refusal x) next))) (λ v _.
+        keeps_judged s (is_there v) (λ y. read (Implicit b) (λ x. judged (element_or_refusal x) next)) h (λ y _.
+        keeps_read s (Implicit b) (λ x. judged (element_or_refusal x) next) (λ x _.
+        keeps_judged s (element_or_refusal x) next h (λ n _. kept n)))))))
 
 pub copy_kept : (s : Cells) (a : Name) (i : Index) (b : Name) (j : Index) (c : ℤ) → IsWellFormed s → Keeps (copy a i b j c) s
 copy_kept s a i b j c h =
-    let last : ℤ → Tree = λ y. write (put (Element a i) (Number y) ∷ []) in
+    let last : ℤ → Tree = λ y. write (set_to (Element a i) (Number y) ∷ []) in
     let added : ℤ → Tree = λ x. sum x c last in
     let elements : Name × Kind → Tree = λ source. element a i (λ z. element_or_implicit b source.0 source.1 j added) in
     let keys : Kind → Name × Kind → Tree = λ kind source. index_fits kind i (λ x. index_fits source.1 j (λ y. elements source)) in

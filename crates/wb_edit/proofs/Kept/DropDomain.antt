@@ -12,10 +12,10 @@ use Rattle.wb_book.specs.declared.values.index.Index.{Index}
 use Rattle.wb_book.specs.Cells.{Name, Cells}
 use Rattle.wb_book.specs.Readers.{seen}
 use Rattle.wb_book.specs.WellFormed.{IsWellFormed, has, domain_in}
-use Rattle.wb_resize.proofs.Dropped.{keeps_ends}
+use Rattle.wb_resize.proofs.Dropped.{keeps_drops}
 use Rattle.wb_resize.proofs.States.{present_is}
 use Rattle.wb_resize.proofs.Users as users
-use Rattle.wb_edit.specs.Commands.{drop_domain, ended_cells}
+use Rattle.wb_edit.specs.Commands.{drop_domain, dropped_domain_cells}
 use Rattle.wb_edit.specs.Trees.{Tree, judged}
 use Rattle.wb_edit.specs.Looks.{domain_kind, domain_indices}
 use Rattle.wb_edit.specs.Users.{user_in, is_unused, unused}
@@ -28,11 +28,11 @@ unused_is (u ∷ us) x e = cc
 
 pub drop_domain_kept : (s : Cells) (d : Name) → IsWellFormed s → Keeps (drop_domain d) s
 drop_domain_kept s d h =
-    let last : DomainKind → List Index → Tree = λ kind is. write (ended_cells d kind is) in
+    let last : DomainKind → List Index → Tree = λ kind is. write (dropped_domain_cells d kind is) in
     let rest : DomainKind → Tree = λ kind. unused d (λ x. domain_indices d kind (last kind)) in
     keeps_read s (Object d) (λ v. judged (domain_kind v) rest) (λ v is.
     keeps_judged s (domain_kind v) rest h (λ kind found.
     keeps_judged s (is_unused (filter_map user_in (seen s (Uses d)))) (λ x. domain_indices d kind (last kind)) h (λ x ok.
     let there : get s (Object d) ≡ Some (Domain kind) = is ∙ domain_is v kind found in
     keeps_indices s d kind (last kind) h there (λ js listed.
-    keeps_ends s d kind js h (ap domain_in there) (users.unused s d h (unused_is _ x ok)) (λ i present. present_is (has js i) (sym (listed i) ∙ present))))))
+    keeps_drops s d kind js h (ap domain_in there) (users.unused s d h (unused_is _ x ok)) (λ i present. present_is (has js i) (sym (listed i) ∙ present))))))

@@ -14,7 +14,7 @@ use Rattle.wb_edit.specs.Commands.{irv}
 use Rattle.wb_edit.specs.Kinds.{is_sparse, over_sparse}
 use Rattle.wb_edit.specs.Trees.{Tree, judged}
 use Rattle.wb_edit.specs.Looks.{array_kind}
-use Rattle.wb_edit.specs.Writes.{put}
+use Rattle.wb_edit.specs.Writes.{set_to}
 use Rattle.wb_resize.proofs.Gets.{get-apply}
 use Rattle.wb_resize.proofs.States.{same_name, IsObject-same, IsMember-same, index_cell_same, indices_same}
 use Rattle.wb_edit.proofs.Kept.Steps.{Keeps, keeps_read, keeps_judged, array_is}
@@ -28,7 +28,7 @@ sparse_implicit d (Associative type) x v e within = cc
 implicit_set : (s : Cells) (a : Name) (v : ℤ) → IsWellFormed s → IsImplicit (array_at s a) (Some (Number v)) → IsWellFormed (insert s (Implicit a) (Number v))
 implicit_set s a v h fits =
     let t : Cells = insert s (Implicit a) (Number v) in
-    let at = get-apply cell_order (put (Implicit a) (Number v) ∷ []) s in
+    let at = get-apply cell_order (set_to (Implicit a) (Number v) ∷ []) s in
     let object : (n : Name) → get t (Object n) ≡ get s (Object n) = λ n. at (Object n) in
     let inside : (d : Name) (j : Index) → get t (In d j) ≡ get s (In d j) = λ d j. at (In d j) in
     let member : (d : Name) (j : Index) → get t (Member d j) ≡ get s (Member d j) = λ d j. at (Member d j) in
@@ -50,7 +50,7 @@ implicit_set s a v h fits =
 
 pub irv_kept : (s : Cells) (a : Name) (v : ℤ) → FitsSigned w64 v → IsWellFormed s → Keeps (irv a v) s
 irv_kept s a v within h =
-    let last : Tree = write (put (Implicit a) (Number v) ∷ []) in
+    let last : Tree = write (set_to (Implicit a) (Number v) ∷ []) in
     keeps_read s (Object a) (λ o. judged (array_kind o) (λ array. over_sparse array.1 (λ x. last))) (λ o is.
     keeps_judged s (array_kind o) (λ array. over_sparse array.1 (λ x. last)) h (λ array found.
     keeps_judged s (is_sparse array.1) (λ x. last) h (λ x sparse.

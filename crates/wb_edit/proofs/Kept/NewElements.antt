@@ -11,7 +11,7 @@ use Rattle.wb_book.specs.declared.cells.value.Value.TheVariants.{Number}
 use Rattle.wb_book.specs.declared.values.index.Index.{Index}
 use Rattle.wb_book.specs.Cells.{Name, Cells, Changes, cell_cmp, cell_order}
 use Rattle.wb_book.specs.WellFormed.{IsWellFormed}
-use Rattle.wb_edit.specs.Writes.{put, put_all}
+use Rattle.wb_edit.specs.Writes.{set_to, put_all}
 use Rattle.wb_resize.proofs.Gets.{get-apply}
 use Rattle.wb_edit.proofs.Kept.Set.{element_set}
 
@@ -21,7 +21,7 @@ AreNumbers s a [] = Unit {0}
 AreNumbers s a (e ∷ es) = (is_some (get s (Element a e.0)) ≡ true) × FitsSigned w64 e.1 × AreNumbers s a es
 
 abbrev pub new_numbers : Name → List (Index × ℤ) → Changes
-new_numbers a es = map (λ e. put (Element a e.0) (Number e.1)) es
+new_numbers a es = map (λ e. set_to (Element a e.0) (Number e.1)) es
 
 pub some_is : (v : Option Value) → is_some v ≡ true → (w : Value) × (v ≡ Some w)
 some_is None e = cc
@@ -34,7 +34,7 @@ set_or_there false w v there = there
 still_numbers : (s : Cells) (a : Name) (c : Cell) (w : Value) (es : List (Index × ℤ)) → AreNumbers s a es → AreNumbers (insert s c w) a es
 still_numbers s a c w [] h = tt
 still_numbers s a c w (e ∷ es) h = (
-  ap is_some (get-apply cell_order (put c w ∷ []) s (Element a e.0)) ∙ set_or_there (eq_by_cmp cell_cmp (Element a e.0) c) w (get s (Element a e.0)) h.0,
+  ap is_some (get-apply cell_order (set_to c w ∷ []) s (Element a e.0)) ∙ set_or_there (eq_by_cmp cell_cmp (Element a e.0) c) w (get s (Element a e.0)) h.0,
   h.1,
   still_numbers s a c w es h.2,
 )
@@ -48,4 +48,4 @@ numbers_kept s a (e ∷ es) h are =
 -- the same number at each index
 pub same_number : (a : Name) (v : ℤ) (is : List Index) → new_numbers a (map (λ i. (i, v)) is) ≡ put_all (map (Element a) is) (Number v)
 same_number a v [] = refl
-same_number a v (i ∷ is) = ap (λ xs. put (Element a i) (Number v) ∷ xs) (same_number a v is)
+same_number a v (i ∷ is) = ap (λ xs. set_to (Element a i) (Number v) ∷ xs) (same_number a v is)

@@ -17,7 +17,7 @@ use Rattle.wb_edit.specs.Kinds.{rank_of, rectangular}
 use Rattle.wb_edit.specs.Layouts.{for_rank, mapped}
 use Rattle.wb_edit.specs.Trees.{Tree, judged}
 use Rattle.wb_edit.specs.Looks.{domain_kind}
-use Rattle.wb_edit.specs.Writes.{put}
+use Rattle.wb_edit.specs.Writes.{set_to}
 use Rattle.wb_resize.proofs.Gets.{same_key, get-apply}
 use Rattle.wb_edit.proofs.Layouts.{kind_is, mapping_for}
 use Rattle.wb_resize.proofs.States.{IsObject-same, IsMember-same, index_cell_same, indices_same, shape_of_domain}
@@ -30,7 +30,7 @@ same_domain n d e = cc
 mapping_set : (s : Cells) (d : Name) (m : LayoutMap) (rank : ℕ) → IsWellFormed s → get s (Object d) ≡ Some (Domain (Rectangular rank)) → IsMapping rank m → IsWellFormed (insert s (Mapping d) (Mapping m))
 mapping_set s d m rank h there fits =
     let t : Cells = insert s (Mapping d) (Mapping m) in
-    let at : (c : Cell) → get t c ≡ cond (eq_by_cmp cell_cmp c (Mapping d)) (Some (Mapping m)) (get s c) = get-apply cell_order (put (Mapping d) (Mapping m) ∷ []) s in
+    let at : (c : Cell) → get t c ≡ cond (eq_by_cmp cell_cmp c (Mapping d)) (Some (Mapping m)) (get s c) = get-apply cell_order (set_to (Mapping d) (Mapping m) ∷ []) s in
     let object : (n : Name) → get t (Object n) ≡ get s (Object n) = λ n. at (Object n) in
     let inside : (n : Name) (j : Index) → get t (In n j) ≡ get s (In n j) = λ n j. at (In n j) in
     let member : (n : Name) (j : Index) → get t (Member n j) ≡ get s (Member n j) = λ n j. at (Member n j) in
@@ -55,7 +55,7 @@ mapping_set s d m rank h there fits =
 
 pub remap_kept : (s : Cells) (d : Name) (m : LayoutMap) → IsLayout m → IsWellFormed s → Keeps (remap d m) s
 remap_kept s d m valid h =
-    let last : Tree = write (put (Mapping d) (Mapping m) ∷ []) in
+    let last : Tree = write (set_to (Mapping d) (Mapping m) ∷ []) in
     let ranked : ℕ → Tree = λ rank. mapped rank m (λ x. last) in
     keeps_read s (Object d) (λ v. judged (domain_kind v) (λ kind. rectangular kind ranked)) (λ v is.
     keeps_judged s (domain_kind v) (λ kind. rectangular kind ranked) h (λ kind found.

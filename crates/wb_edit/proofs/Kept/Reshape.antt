@@ -6,27 +6,27 @@ use Rattle.wb_book.specs.declared.cells.kind.DomainKind.TheVariants.{Rectangular
 use Rattle.wb_book.specs.Cells.{Name, Cells}
 use Rattle.wb_book.specs.WellFormed.{IsWellFormed, domain_in, domain_at}
 use Rattle.selective_undo.specs.Edit.{refuse}
-use Rattle.wb_resize.specs.declared.given.Given.{Given}
-use Rattle.wb_resize.specs.declared.given.Given.TheVariants.{Rectangle, Items, Named}
-use Rattle.wb_resize.specs.declared.source.Source.{Source}
-use Rattle.wb_resize.specs.declared.source.Source.TheVariants.{To, Slice, Displace, Combine}
+use Rattle.wb_resize.specs.declared.operand.Operand.{Operand}
+use Rattle.wb_resize.specs.declared.operand.Operand.TheVariants.{Rectangle, Items, Named}
+use Rattle.wb_resize.specs.declared.new_indices.NewIndices.{NewIndices}
+use Rattle.wb_resize.specs.declared.new_indices.NewIndices.TheVariants.{To, Slice, Displace, Combine}
 use Rattle.wb_edit.specs.declared.refusal.Refusal.TheVariants.{WrongKind}
 use Rattle.wb_edit.specs.Trees.{Tree, judged}
 use Rattle.wb_edit.specs.Commands.Reshape.{no_source, reshape_kind, reshape}
 use Rattle.wb_edit.specs.Looks.{domain_kind}
-use Rattle.wb_edit.specs.ValidSources.{IsSource}
+use Rattle.wb_edit.specs.ValidSources.{AreNewIndices}
 use Rattle.wb_edit.proofs.Kept.ReshapeSet.{to_set_kept, combine_set_kept}
 use Rattle.wb_edit.proofs.Kept.ReshapeRectangle.{to_rectangle_kept, slice_rectangle_kept, displace_rectangle_kept}
 use Rattle.wb_edit.proofs.Kept.Steps.{Keeps, keeps_read, keeps_judged, domain_is}
 
-no_source_kept : (s : Cells) (given : Given) → IsWellFormed s → Keeps (no_source given) s
+no_source_kept : (s : Cells) (given : Operand) → IsWellFormed s → Keeps (no_source given) s
 no_source_kept s (Rectangle rs) h = h
 no_source_kept s (Items is) h = h
 no_source_kept s (Named e) h =
     let last : DomainKind → Tree = λ kind. refuse WrongKind in
     keeps_read s (Object e) (λ v. judged (domain_kind v) last) (λ v is. keeps_judged s (domain_kind v) last h (λ kind found. h))
 
-kind_kept : (s : Cells) (d : Name) (kind : DomainKind) (source : Source) → IsSource source → IsWellFormed s → domain_at s d ≡ Some kind → Keeps (reshape_kind d kind source) s
+kind_kept : (s : Cells) (d : Name) (kind : DomainKind) (source : NewIndices) → AreNewIndices source → IsWellFormed s → domain_at s d ≡ Some kind → Keeps (reshape_kind d kind source) s
 kind_kept s d (Rectangular rank) (To given) valid h there = to_rectangle_kept s d rank h there given valid
 kind_kept s d (Rectangular rank) (Slice given) valid h there = slice_rectangle_kept s d rank h there given valid
 kind_kept s d (Rectangular rank) (Displace how offsets) valid h there = displace_rectangle_kept s d rank h there how offsets
@@ -40,7 +40,7 @@ kind_kept s d (Associative type) (Slice given) valid h there = no_source_kept s 
 kind_kept s d (Associative type) (Displace how offsets) valid h there = h
 kind_kept s d (Associative type) (Combine how given) valid h there = combine_set_kept s h d (Associative type) there tt given valid how
 
-pub reshape_kept : (s : Cells) (d : Name) (source : Source) → IsSource source → IsWellFormed s → Keeps (reshape d source) s
+pub reshape_kept : (s : Cells) (d : Name) (source : NewIndices) → AreNewIndices source → IsWellFormed s → Keeps (reshape d source) s
 reshape_kept s d source valid h =
     keeps_read s (Object d) (λ v. judged (domain_kind v) (λ kind. reshape_kind d kind source)) (λ v is.
     keeps_judged s (domain_kind v) (λ kind. reshape_kind d kind source) h (λ kind found.

@@ -22,10 +22,10 @@ use Rattle.wb_book.specs.Cells.{Name, Cells}
 use Rattle.wb_book.specs.Kinds.{kind_of}
 use Rattle.wb_book.specs.Shapes.{Range, indices}
 use Rattle.wb_book.specs.WellFormed.{IsWellFormed, IsRectangle, IsShape, domain_in, domain_at}
-use Rattle.wb_resize.specs.declared.given.Given.{Given}
-use Rattle.wb_resize.specs.declared.given.Given.TheVariants.{Rectangle, Items, Named}
-use Rattle.wb_resize.specs.declared.source.Displacement.{Displacement}
-use Rattle.wb_resize.specs.declared.source.Displacement.TheVariants.{Translate, Expand}
+use Rattle.wb_resize.specs.declared.operand.Operand.{Operand}
+use Rattle.wb_resize.specs.declared.operand.Operand.TheVariants.{Rectangle, Items, Named}
+use Rattle.wb_resize.specs.declared.new_indices.Displacement.{Displacement}
+use Rattle.wb_resize.specs.declared.new_indices.Displacement.TheVariants.{Translate, Expand}
 use Rattle.wb_resize.specs.Resized.{without, resized_cells}
 use Rattle.wb_resize.specs.Sources.{displaced, can_displace}
 use Rattle.wb_resize.proofs.Fills.{arrays, zeros_fill, loses_none}
@@ -41,8 +41,8 @@ use Rattle.wb_edit.specs.Commands.Reshape.{to_rectangle, slice_rectangle, displa
 use Rattle.wb_edit.specs.Sources.{same_rank, slice_of, displaced_if, displacement_of, gives_rectangle, ranges_given}
 use Rattle.wb_edit.specs.Looks.{domain_kind}
 use Rattle.wb_edit.specs.Users.{bound}
-use Rattle.wb_edit.specs.ValidSources.{IsGiven}
-use Rattle.wb_edit.specs.Writes.{put}
+use Rattle.wb_edit.specs.ValidSources.{IsOperand}
+use Rattle.wb_edit.specs.Writes.{set_to}
 use Rattle.wb_edit.proofs.IndexedCells.{map-append}
 use Rattle.wb_edit.proofs.Kept.Fill.{keeps_all}
 use Rattle.wb_edit.proofs.Kept.Resized.{holds_at}
@@ -96,7 +96,7 @@ reshaped_kept s d rank old new h there was whole =
     let inner : List Name = bound bound_sparse (users s d) in
     let last : Tree = write (reshaped_cells d new (arrays s d) leaving coming) in
     keeps_none_there s leaving inner (λ x. last) h (λ x none.
-    subst (λ r. IsWellFormed (apply (put (Shape d) (Ranges new) ∷ resized_cells (over_rectangular r) d (zeros (arrays s d)) leaving coming) s)) (sym whole.dimensions) (
+    subst (λ r. IsWellFormed (apply (set_to (Shape d) (Ranges new) ∷ resized_cells (over_rectangular r) d (zeros (arrays s d)) leaving coming) s)) (sym whole.dimensions) (
     keeps_rectangles s d rank (zeros (arrays s d)) old new h there was whole (zeros_fill s d) (
     loses_none s d old (indices new) h was (λ e i sparse leaves.
     holds_at (λ j. get s (Member e j) ≡ None) leaving i (holds_at (HasNone s leaving) inner e none sparse) leaves))))
@@ -104,7 +104,7 @@ reshaped_kept s d rank old new h there was whole =
 -- ---- what is given
 
 -- what the test on it found
-abbrev IsOfRank : Cells → ℕ → Given → Type 0
+abbrev IsOfRank : Cells → ℕ → Operand → Type 0
 IsOfRank s rank (Rectangle rs) = length rs ≡ rank
 IsOfRank s rank (Items is) = ⊥
 IsOfRank s rank (Named e) = domain_at s e ≡ Some (Rectangular rank)
@@ -118,7 +118,7 @@ of_rank_is rank (Sparse parent r) x e = cc
 of_rank_is rank (Associative type) x e = cc
 
 module _ (s : Cells) (rank : ℕ) (h : IsWellFormed s) where
-  keeps_gives_rectangle : (given : Given) (next : Unit {0} → Tree) → ((x : Unit {0}) → IsOfRank s rank given → Keeps (next x) s) → Keeps (gives_rectangle rank given next) s
+  keeps_gives_rectangle : (given : Operand) (next : Unit {0} → Tree) → ((x : Unit {0}) → IsOfRank s rank given → Keeps (next x) s) → Keeps (gives_rectangle rank given next) s
   keeps_gives_rectangle (Rectangle rs) next kept = keeps_judged s (same_rank rank (length rs)) next h (λ x ok. kept x (same_rank_is rank (length rs) x ok))
   keeps_gives_rectangle (Items is) next kept = h
   keeps_gives_rectangle (Named e) next kept =
@@ -133,7 +133,7 @@ module _ (s : Cells) (rank : ℕ) (h : IsWellFormed s) where
       keeps_read s (Shape d) (λ v. judged (shape_in v) next) (λ v is.
       subst (λ o. Keeps (judged (shape_in o) next) s) (sym found.1 ∙ is) (kept found.0 found.1 found.2))
 
-  keeps_ranges_given : (given : Given) (next : List Range → Tree) → IsGiven given → IsOfRank s rank given → ((rs : List Range) → IsRectangle rank rs → Keeps (next rs) s) → Keeps (ranges_given given next) s
+  keeps_ranges_given : (given : Operand) (next : List Range → Tree) → IsOperand given → IsOfRank s rank given → ((rs : List Range) → IsRectangle rank rs → Keeps (next rs) s) → Keeps (ranges_given given next) s
   keeps_ranges_given (Rectangle rs) next valid of kept = kept rs (subst (λ n. IsRectangle n rs) of valid)
   keeps_ranges_given (Items is) next valid of kept = h
   keeps_ranges_given (Named e) next valid of kept = keeps_shape e next of (λ rs is whole. kept rs whole)
@@ -161,7 +161,7 @@ displaced_whole Expand offsets rank old whole within same = IsRectangle-each_shi
 -- ---- the sources
 
 module _ (s : Cells) (d : Name) (rank : ℕ) (h : IsWellFormed s) (there : domain_at s d ≡ Some (Rectangular rank)) where
-  pub to_rectangle_kept : (given : Given) → IsGiven given → Keeps (to_rectangle d rank given) s
+  pub to_rectangle_kept : (given : Operand) → IsOperand given → Keeps (to_rectangle d rank given) s
   to_rectangle_kept given valid =
       let last : List Range → Tree = λ old. ranges_given given (λ new. reshaped d old new) in
       keeps_gives_rectangle s rank h given (λ x. shape d last) (λ x of.
@@ -169,7 +169,7 @@ module _ (s : Cells) (d : Name) (rank : ℕ) (h : IsWellFormed s) (there : domai
       keeps_ranges_given s rank h given (λ new. reshaped d old new) valid of (λ new kept.
       reshaped_kept s d rank old new h there was kept)))
 
-  pub slice_rectangle_kept : (given : Given) → IsGiven given → Keeps (slice_rectangle d rank given) s
+  pub slice_rectangle_kept : (given : Operand) → IsOperand given → Keeps (slice_rectangle d rank given) s
   slice_rectangle_kept given valid =
       let cut : List Range → List Range → Tree = λ old by. judged (slice_of old by) (λ new. reshaped d old new) in
       keeps_gives_rectangle s rank h given (λ x. shape d (λ old. ranges_given given (cut old))) (λ x of.

@@ -19,10 +19,10 @@ use Rattle.wb_book.specs.Cells.{Name, Cells, is_same_index}
 use Rattle.wb_book.specs.Kinds.{kind_of, is_key, IsIndex}
 use Rattle.wb_book.specs.Readers.{seen}
 use Rattle.wb_book.specs.WellFormed.{IsWellFormed, IsMember, has, present_if, domain_in, domain_at}
-use Rattle.wb_resize.specs.declared.given.Given.{Given}
-use Rattle.wb_resize.specs.declared.given.Given.TheVariants.{Rectangle, Items, Named}
-use Rattle.wb_resize.specs.declared.source.SetOperation.{SetOperation}
-use Rattle.wb_resize.specs.declared.source.SetOperation.TheVariants.{Union, Intersection, Difference, SymmetricDifference}
+use Rattle.wb_resize.specs.declared.operand.Operand.{Operand}
+use Rattle.wb_resize.specs.declared.operand.Operand.TheVariants.{Rectangle, Items, Named}
+use Rattle.wb_resize.specs.declared.new_indices.SetOperation.{SetOperation}
+use Rattle.wb_resize.specs.declared.new_indices.SetOperation.TheVariants.{Union, Intersection, Difference, SymmetricDifference}
 use Rattle.wb_resize.specs.Laws.{HasMembers}
 use Rattle.wb_resize.specs.Resized.{without}
 use Rattle.wb_resize.specs.Sources.{combined}
@@ -32,7 +32,7 @@ use Rattle.wb_edit.specs.Trees.{Tree, judged}
 use Rattle.wb_edit.specs.Commands.Reshape.{with_indices, to_set, combine_set}
 use Rattle.wb_edit.specs.Sources.{is_same_type, is_alike, alike, all_fit, gives_set, indices_given}
 use Rattle.wb_edit.specs.Looks.{domain_kind, member_in, members}
-use Rattle.wb_edit.specs.ValidSources.{IsGiven}
+use Rattle.wb_edit.specs.ValidSources.{IsOperand}
 use Rattle.wb_edit.proofs.Elements.{index_order}
 use Rattle.wb_edit.proofs.Members.{members_found}
 use Rattle.wb_edit.proofs.Kept.Fill.{first_and}
@@ -90,7 +90,7 @@ was_given SymmetricDifference given old i e other =
 -- ---- what is given
 
 -- what the test on it found
-abbrev IsSetFor : Cells → DomainKind → Given → Type 0
+abbrev IsSetFor : Cells → DomainKind → Operand → Type 0
 IsSetFor s kind (Rectangle rs) = ⊥
 IsSetFor s kind (Items is) = list_all (is_key (kind_of kind)) is ≡ true
 IsSetFor s kind (Named e) = (other : DomainKind) × (domain_at s e ≡ Some other) × (is_alike (kind_of kind) (kind_of other) ≡ true)
@@ -126,7 +126,7 @@ module _ (s : Cells) (h : IsWellFormed s) where
       let member : IsMember s (Some (Associative type)) i (Some Present) = subst (λ v. IsMember s (Some (Associative type)) i v) found (subst (λ k. IsMember s k i (get s (Member e i))) kind (h.members e i)) in
       member.1
 
-  keeps_gives_set : (kind : DomainKind) (given : Given) (next : Unit {0} → Tree) → ((x : Unit {0}) → IsSetFor s kind given → Keeps (next x) s) → Keeps (gives_set (kind_of kind) given next) s
+  keeps_gives_set : (kind : DomainKind) (given : Operand) (next : Unit {0} → Tree) → ((x : Unit {0}) → IsSetFor s kind given → Keeps (next x) s) → Keeps (gives_set (kind_of kind) given next) s
   keeps_gives_set kind (Rectangle rs) next kept = h
   keeps_gives_set kind (Items is) next kept = keeps_judged s (all_fit (kind_of kind) is) next h (λ x ok. kept x (passed_is (list_all (is_key (kind_of kind)) is) x ok))
   keeps_gives_set kind (Named e) next kept =
@@ -135,14 +135,14 @@ module _ (s : Cells) (h : IsWellFormed s) where
       keeps_judged s (alike (kind_of kind) (kind_of other)) next h (λ x ok.
       kept x (other, ap domain_in (is ∙ domain_is v other found), passed_is (is_alike (kind_of kind) (kind_of other)) x ok))))
 
-  keeps_indices_given : (kind : DomainKind) (given : Given) (next : List Index → Tree) → IsGiven given → IsSetFor s kind given → ((is : List Index) → ((i : Index) → has is i ≡ true → IsKeyOf kind i) → Keeps (next is) s) → Keeps (indices_given given next) s
+  keeps_indices_given : (kind : DomainKind) (given : Operand) (next : List Index → Tree) → IsOperand given → IsSetFor s kind given → ((is : List Index) → ((i : Index) → has is i ≡ true → IsKeyOf kind i) → Keeps (next is) s) → Keeps (indices_given given next) s
   keeps_indices_given kind (Rectangle rs) next valid for kept = h
   keeps_indices_given kind (Items is) next valid for kept = kept is (λ i there. listed_key kind is i (each_passes (is_key (kind_of kind)) is for) valid (Contains-from_any same_index i is there))
   keeps_indices_given kind (Named e) next valid for kept = kept (filter_map member_in (seen s (Members e))) (λ i there. member_key kind for.0 e i for.1 for.2 there)
 
   -- ---- the sources
 
-  module _ (d : Name) (kind : DomainKind) (there : domain_at s d ≡ Some kind) (set : HasMembers kind) (given : Given) (valid : IsGiven given) where
+  module _ (d : Name) (kind : DomainKind) (there : domain_at s d ≡ Some kind) (set : HasMembers kind) (given : Operand) (valid : IsOperand given) where
     pub to_set_kept : Keeps (to_set d kind given) s
     to_set_kept =
         let last : List Index → Tree = λ old. indices_given given (λ new. with_indices d kind old new) in

@@ -15,7 +15,7 @@ use Rattle.wb_book.specs.WellFormed.{IsWellFormed, IsElement, IsNumber, domain_a
 use Rattle.wb_edit.specs.Commands.{set}
 use Rattle.wb_edit.specs.Trees.{Tree, judged}
 use Rattle.wb_edit.specs.Looks.{array_kind, is_there, fits, index_fits, element}
-use Rattle.wb_edit.specs.Writes.{put}
+use Rattle.wb_edit.specs.Writes.{set_to}
 use Rattle.wb_resize.proofs.Gets.{same_key, get-apply}
 use Rattle.wb_resize.proofs.States.{IsObject-same, IsMember-same, index_cell_same, indices_same}
 use Rattle.wb_edit.proofs.Kept.Steps.{Keeps, keeps_read, keeps_judged, there_is}
@@ -29,7 +29,7 @@ still_element false old new x there h n = absurd (none-some x (sym h ∙ there))
 pub element_set : (s : Cells) (a : Name) (i : Index) (v : ℤ) (x : Value) → IsWellFormed s → get s (Element a i) ≡ Some x → FitsSigned w64 v → IsWellFormed (insert s (Element a i) (Number v))
 element_set s a i v x h there within =
     let t : Cells = insert s (Element a i) (Number v) in
-    let at : (c : Cell) → get t c ≡ cond (eq_by_cmp cell_cmp c (Element a i)) (Some (Number v)) (get s c) = get-apply cell_order (put (Element a i) (Number v) ∷ []) s in
+    let at : (c : Cell) → get t c ≡ cond (eq_by_cmp cell_cmp c (Element a i)) (Some (Number v)) (get s c) = get-apply cell_order (set_to (Element a i) (Number v) ∷ []) s in
     let object : (n : Name) → get t (Object n) ≡ get s (Object n) = λ n. at (Object n) in
     let inside : (d : Name) (j : Index) → get t (In d j) ≡ get s (In d j) = λ d j. at (In d j) in
     let member : (d : Name) (j : Index) → get t (Member d j) ≡ get s (Member d j) = λ d j. at (Member d j) in
@@ -51,7 +51,7 @@ element_set s a i v x h there within =
 
 pub set_kept : (s : Cells) (a : Name) (i : Index) (v : ℤ) → FitsSigned w64 v → IsWellFormed s → Keeps (set a i v) s
 set_kept s a i v within h =
-    let last : Tree = write (put (Element a i) (Number v) ∷ []) in
+    let last : Tree = write (set_to (Element a i) (Number v) ∷ []) in
     keeps_read s (Object a) (λ o. judged (array_kind o) (λ array. index_fits array.1 i (λ x. element a i (λ y. last)))) (λ o _.
     keeps_judged s (array_kind o) (λ array. index_fits array.1 i (λ x. element a i (λ y. last))) h (λ array _.
     keeps_judged s (fits array.1 i) (λ x. element a i (λ y. last)) h (λ x _.

@@ -17,7 +17,7 @@ use Rattle.wb_edit.specs.Commands.{sparse}
 use Rattle.wb_edit.specs.Kinds.{rank_of, rectangular}
 use Rattle.wb_edit.specs.Trees.{Tree, judged}
 use Rattle.wb_edit.specs.Looks.{is_free, domain_kind, domain_named}
-use Rattle.wb_edit.specs.Writes.{put}
+use Rattle.wb_edit.specs.Writes.{set_to}
 use Rattle.wb_resize.proofs.Gets.{after, get-apply}
 use Rattle.wb_edit.proofs.Layouts.{kind_is}
 use Rattle.wb_resize.proofs.States.{second_first, was_free, domains_stay}
@@ -25,7 +25,7 @@ use Rattle.wb_edit.proofs.Kept.NewSet.{HasNewSet, IsPlain, set_added}
 use Rattle.wb_edit.proofs.Kept.Steps.{Keeps, keeps_read, keeps_judged, free_is, domain_is}
 
 abbrev sparse_cells : Name → Name → ℕ → Changes
-sparse_cells d parent rank = put (Object d) (Domain (Sparse parent rank)) ∷ put (Use parent d) (Bound Sparse) ∷ []
+sparse_cells d parent rank = set_to (Object d) (Domain (Sparse parent rank)) ∷ set_to (Use parent d) (Bound Sparse) ∷ []
 
 has_new_sparse : (s : Cells) (d parent : Name) (rank : ℕ) → HasNewSet s (apply (sparse_cells d parent rank) s) d (Sparse parent rank)
 has_new_sparse s d parent rank =

@@ -22,7 +22,7 @@ use Rattle.wb_book.specs.declared.values.index.Index.{Index}
 use Rattle.wb_book.specs.Cells.{Name, Changes, cell_cmp, cell_order, index_cmp}
 use Rattle.wb_book.specs.Kinds.{kind_of}
 use Rattle.wb_book.specs.WellFormed.{index_cell}
-use Rattle.wb_resize.specs.Dropped.{own_cells, ended_cells}
+use Rattle.wb_resize.specs.Dropped.{cells_beside_indices, dropped_domain_cells}
 use Rattle.wb_resize.specs.Resized.{exchanged, elements_exchanged, resized_cells}
 use Rattle.wb_resize.specs.Writes.{put_all, clear_all}
 use Rattle.wb_resize.proofs.Gets.{same_key}
@@ -120,18 +120,18 @@ module _ (leaving coming : List Index) where
 
 -- ---- the end of a domain
 
-own_once : (d : Name) (kind : DomainKind) → AllOnce cell_cmp (clear_all (own_cells d kind))
+own_once : (d : Name) (kind : DomainKind) → AllOnce cell_cmp (clear_all (cells_beside_indices d kind))
 own_once d (Rectangular rank) = (refl, (refl, (refl, tt)))
 own_once d (Sparse parent rank) = (refl, (refl, tt))
 own_once d (Associative type) = (refl, tt)
 
-own_beside : (d : Name) (kind : DomainKind) (is : List Index) → AllByRecursion (λ (x : Change Cell Value). changes cell_cmp (clear_all (map (index_cell (kind_of kind) d) is)) x.cell ≡ false) (clear_all (own_cells d kind))
+own_beside : (d : Name) (kind : DomainKind) (is : List Index) → AllByRecursion (λ (x : Change Cell Value). changes cell_cmp (clear_all (map (index_cell (kind_of kind) d) is)) x.cell ≡ false) (clear_all (cells_beside_indices d kind))
 own_beside d (Rectangular rank) is = (elsewhere (In d) None (Object d) is (λ i. refl), (elsewhere (In d) None (Shape d) is (λ i. refl), (elsewhere (In d) None (Mapping d) is (λ i. refl), tt)))
 own_beside d (Sparse parent rank) is = (elsewhere (Member d) None (Object d) is (λ i. refl), (elsewhere (Member d) None (Use parent d) is (λ i. refl), tt))
 own_beside d (Associative type) is = (elsewhere (Member d) None (Object d) is (λ i. refl), tt)
 
-pub once_ended : (d : Name) (kind : DomainKind) (is : List Index) → IsListedOnce is → AllOnce cell_cmp (ended_cells d kind is)
-once_ended d kind is once = once_append (clear_all (own_cells d kind)) (clear_all (map (index_cell (kind_of kind) d) is)) (own_once d kind) (once_indexed (index_cell (kind_of kind) d) (same_member (kind_of kind) d) None is once) (own_beside d kind is)
+pub once_ended : (d : Name) (kind : DomainKind) (is : List Index) → IsListedOnce is → AllOnce cell_cmp (dropped_domain_cells d kind is)
+once_ended d kind is once = once_append (clear_all (cells_beside_indices d kind)) (clear_all (map (index_cell (kind_of kind) d) is)) (own_once d kind) (once_indexed (index_cell (kind_of kind) d) (same_member (kind_of kind) d) None is once) (own_beside d kind is)
 
 -- ---- elements that were seen, in the order of their indices
 

@@ -23,12 +23,12 @@ use Rattle.wb_book.specs.Kinds.{kind_of}
 use Rattle.wb_book.specs.Readers.{seen}
 use Rattle.wb_book.specs.Shapes.{Range, indices}
 use Rattle.wb_book.specs.WellFormed.{IsWellFormed, IsRectangle, index_cell}
-use Rattle.wb_resize.specs.declared.given.Given.{Given}
-use Rattle.wb_resize.specs.declared.given.Given.TheVariants.{Rectangle, Items, Named}
-use Rattle.wb_resize.specs.declared.source.Displacement.{Displacement}
-use Rattle.wb_resize.specs.declared.source.SetOperation.{SetOperation}
-use Rattle.wb_resize.specs.declared.source.Source.{Source}
-use Rattle.wb_resize.specs.declared.source.Source.TheVariants.{To, Slice, Displace, Combine}
+use Rattle.wb_resize.specs.declared.operand.Operand.{Operand}
+use Rattle.wb_resize.specs.declared.operand.Operand.TheVariants.{Rectangle, Items, Named}
+use Rattle.wb_resize.specs.declared.new_indices.Displacement.{Displacement}
+use Rattle.wb_resize.specs.declared.new_indices.SetOperation.{SetOperation}
+use Rattle.wb_resize.specs.declared.new_indices.NewIndices.{NewIndices}
+use Rattle.wb_resize.specs.declared.new_indices.NewIndices.TheVariants.{To, Slice, Displace, Combine}
 use Rattle.wb_resize.specs.Resized.{without, elements_exchanged, resized_cells, exchanged as exchanged_cells}
 use Rattle.wb_resize.specs.Sources.{combined, displaced, can_displace}
 use Rattle.wb_resize.proofs.Fills.{arrays, zeros_once}
@@ -46,7 +46,7 @@ use Rattle.wb_edit.specs.Commands.Reshape.{to_rectangle, slice_rectangle, displa
 use Rattle.wb_edit.specs.Sources.{same_rank, alike, all_fit, slice_of, displaced_if, displacement_of, gives_rectangle, ranges_given, gives_set, indices_given}
 use Rattle.wb_edit.specs.Looks.{domain_kind, member_in, members}
 use Rattle.wb_edit.specs.Users.{bound}
-use Rattle.wb_edit.specs.ValidSources.{IsGiven, IsSource, IsGivenOnce, IsSourceOnce}
+use Rattle.wb_edit.specs.ValidSources.{IsOperand, AreNewIndices, IsOperandOnce, AreNewIndicesOnce}
 use Rattle.wb_edit.proofs.IndexedCells.{changes-append}
 use Rattle.wb_edit.proofs.Exchanges.{neither, none_exchanged, apart_without}
 use Rattle.wb_edit.proofs.Kept.ReshapeRectangle.{slice_is, displacement_is, displaced_whole}
@@ -67,18 +67,18 @@ with_indices_once : (s : Cells) (d : Name) (kind : DomainKind) (old new : List I
 with_indices_once s d kind old new before after =
     resized_once s d kind new (without new old) (without old new) (IsListedOnce-without new old before) (IsListedOnce-without old new after) (apart_without old new)
 
-once_gives_set : (s : Cells) (kind : Kind) (given : Given) (next : Unit {0} → Tree) → Once (next tt) s → Once (gives_set kind given next) s
+once_gives_set : (s : Cells) (kind : Kind) (given : Operand) (next : Unit {0} → Tree) → Once (next tt) s → Once (gives_set kind given next) s
 once_gives_set s kind (Rectangle rs) next once = tt
 once_gives_set s kind (Items is) next once = once_judged s (all_fit kind is) next (λ x ok. once)
 once_gives_set s kind (Named e) next once =
     once_test s (Object e) domain_kind (λ other. judged (alike kind (kind_of other)) next) (λ other found. once_judged s (alike kind (kind_of other)) next (λ x ok. once))
 
-once_indices_given : (s : Cells) (given : Given) (next : List Index → Tree) → IsGivenOnce given → ((is : List Index) → IsListedOnce is → Once (next is) s) → Once (indices_given given next) s
+once_indices_given : (s : Cells) (given : Operand) (next : List Index → Tree) → IsOperandOnce given → ((is : List Index) → IsListedOnce is → Once (next is) s) → Once (indices_given given next) s
 once_indices_given s (Rectangle rs) next valid once = tt
 once_indices_given s (Items is) next valid once = once is valid
 once_indices_given s (Named e) next valid once = once _ (members_once s e)
 
-module _ (s : Cells) (d : Name) (kind : DomainKind) (given : Given) (valid : IsGivenOnce given) where
+module _ (s : Cells) (d : Name) (kind : DomainKind) (given : Operand) (valid : IsOperandOnce given) where
   abbrev indices_of_d : List Index
   indices_of_d = filter_map member_in (seen s (Members d))
 
@@ -114,13 +114,13 @@ reshaped_once s d old new before after =
       once_resized leaving coming (IsListedOnce-without (indices new) (indices old) before) (IsListedOnce-without (indices old) (indices new) after) (apart_without (indices old) (indices new)) (over_rectangular (length new)) d fs (zeros_once s d),
     )))
 
-once_gives_rectangle : (s : Cells) (rank : ℕ) (given : Given) (next : Unit {0} → Tree) → Once (next tt) s → Once (gives_rectangle rank given next) s
+once_gives_rectangle : (s : Cells) (rank : ℕ) (given : Operand) (next : Unit {0} → Tree) → Once (next tt) s → Once (gives_rectangle rank given next) s
 once_gives_rectangle s rank (Rectangle rs) next once = once_judged s (same_rank rank (length rs)) next (λ x ok. once)
 once_gives_rectangle s rank (Items is) next once = tt
 once_gives_rectangle s rank (Named e) next once =
     once_test s (Object e) domain_kind (λ kind. judged (of_rank rank (kind_of kind)) next) (λ kind found. once_judged s (of_rank rank (kind_of kind)) next (λ x ok. once))
 
-once_ranges_given : (s : Cells) → IsWellFormed s → (given : Given) (next : List Range → Tree) → IsGiven given → ((rank : ℕ) (rs : List Range) → IsRectangle rank rs → Once (next rs) s) → Once (ranges_given given next) s
+once_ranges_given : (s : Cells) → IsWellFormed s → (given : Operand) (next : List Range → Tree) → IsOperand given → ((rank : ℕ) (rs : List Range) → IsRectangle rank rs → Once (next rs) s) → Once (ranges_given given next) s
 once_ranges_given s h (Rectangle rs) next valid once = once (length rs) rs valid
 once_ranges_given s h (Items is) next valid once = tt
 once_ranges_given s h (Named e) next valid once = once_shape s h e next once
@@ -141,7 +141,7 @@ displacement_alike how offsets old new e = eqb-true (length offsets) (length old
     from false r e = cc
 
 module _ (s : Cells) (d : Name) (rank : ℕ) (h : IsWellFormed s) where
-  to_rectangle_once : (given : Given) → IsGiven given → Once (to_rectangle d rank given) s
+  to_rectangle_once : (given : Operand) → IsOperand given → Once (to_rectangle d rank given) s
   to_rectangle_once given valid =
       let last : List Range → Tree = λ old. ranges_given given (λ new. reshaped d old new) in
       once_gives_rectangle s rank given (λ x. shape d last) (
@@ -149,7 +149,7 @@ module _ (s : Cells) (d : Name) (rank : ℕ) (h : IsWellFormed s) where
       once_ranges_given s h given (λ new. reshaped d old new) valid (λ q new also.
       reshaped_once s d old new (rectangle_once r old whole) (rectangle_once q new also))))
 
-  slice_rectangle_once : (given : Given) → IsGiven given → Once (slice_rectangle d rank given) s
+  slice_rectangle_once : (given : Operand) → IsOperand given → Once (slice_rectangle d rank given) s
   slice_rectangle_once given valid =
       let cut : List Range → List Range → Tree = λ old by. judged (slice_of old by) (λ new. reshaped d old new) in
       once_gives_rectangle s rank given (λ x. shape d (λ old. ranges_given given (cut old))) (
@@ -172,12 +172,12 @@ module _ (s : Cells) (d : Name) (rank : ℕ) (h : IsWellFormed s) where
 
 -- ---- any domain
 
-no_source_once : (s : Cells) (given : Given) → Once (no_source given) s
+no_source_once : (s : Cells) (given : Operand) → Once (no_source given) s
 no_source_once s (Rectangle rs) = tt
 no_source_once s (Items is) = tt
 no_source_once s (Named e) = once_test s (Object e) domain_kind (λ kind. refuse WrongKind) (λ kind found. tt)
 
-kind_once : (s : Cells) (d : Name) (kind : DomainKind) (source : Source) → IsSource source → IsSourceOnce source → IsWellFormed s → Once (reshape_kind d kind source) s
+kind_once : (s : Cells) (d : Name) (kind : DomainKind) (source : NewIndices) → AreNewIndices source → AreNewIndicesOnce source → IsWellFormed s → Once (reshape_kind d kind source) s
 kind_once s d (Rectangular rank) (To given) valid once h = to_rectangle_once s d rank h given valid
 kind_once s d (Rectangular rank) (Slice given) valid once h = slice_rectangle_once s d rank h given valid
 kind_once s d (Rectangular rank) (Displace how offsets) valid once h = displace_rectangle_once s d rank h how offsets
@@ -191,5 +191,5 @@ kind_once s d (Associative type) (Slice given) valid once h = no_source_once s g
 kind_once s d (Associative type) (Displace how offsets) valid once h = tt
 kind_once s d (Associative type) (Combine how given) valid once h = combine_set_once s d (Associative type) given once how
 
-pub reshape_once : (s : Cells) (d : Name) (source : Source) → IsSource source → IsSourceOnce source → IsWellFormed s → Once (reshape d source) s
+pub reshape_once : (s : Cells) (d : Name) (source : NewIndices) → AreNewIndices source → AreNewIndicesOnce source → IsWellFormed s → Once (reshape d source) s
 reshape_once s d source valid once h = once_test s (Object d) domain_kind (λ kind. reshape_kind d kind source) (λ kind found. kind_once s d kind source valid once h)

@@ -9,11 +9,11 @@ use Rattle.wb_edit.specs.declared.operation.Operation.{Operation}
 use Rattle.wb_edit.specs.Trees.{Tree, ◌>>=◌}
 use Rattle.wb_edit.specs.Looks.{array_named}
 use Rattle.wb_edit.specs.Elements.{elements, over_one_domain, results_within}
-use Rattle.wb_edit.specs.Writes.{put}
+use Rattle.wb_edit.specs.Writes.{set_to}
 
 -- elements of an array, each with the number after its index
 abbrev pub number_cells : Name → List (Index × ℤ) → Changes
-number_cells a es = map (λ e. put (Element a e.0) (Number e.1)) es
+number_cells a es = map (λ e. set_to (Element a e.0) (Number e.1)) es
 
 -- each element of an array becomes what it and the element of another array at the same index make: it is seen which
 -- elements both have, and all results are within 64 bits

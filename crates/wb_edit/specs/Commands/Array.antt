@@ -10,15 +10,15 @@ use Rattle.wb_book.specs.Cells.{Name, Changes}
 use Rattle.wb_book.specs.Kinds.{kind_of}
 use Rattle.wb_edit.specs.Trees.{Tree, ◌>>=◌}
 use Rattle.wb_edit.specs.Looks.{free_name, domain_named, domain_indices}
-use Rattle.wb_edit.specs.Writes.{put, put_all}
+use Rattle.wb_edit.specs.Writes.{set_to, put_all}
 
 -- what a new array over a domain writes: the array with its domain and that one's kind, that it is bound to the domain,
 -- its implicit value 0, and 0 as its element at each index (Chapel Language Specification, Arrays)
 abbrev pub new_array_changes : Name → Name → Kind → List Index → Changes
 new_array_changes a d kind is =
-    put (Object a) (Array d kind)
-    ∷ put (Use d a) (Bound Array)
-    ∷ put (Implicit a) (Number (pos 0))
+    set_to (Object a) (Array d kind)
+    ∷ set_to (Use d a) (Bound Array)
+    ∷ set_to (Implicit a) (Number (pos 0))
     ∷ put_all (map (Element a) is) (Number (pos 0))
 
 -- a new array: its name is free, the domain is there, and it is seen which indices that has

@@ -8,10 +8,10 @@ use Rattle.wb_book.specs.declared.cells.value.Value.TheVariants.{Domain}
 use Rattle.wb_book.specs.Cells.{Name}
 use Rattle.wb_edit.specs.Trees.{Tree, ◌>>=◌}
 use Rattle.wb_edit.specs.Looks.{free_name}
-use Rattle.wb_edit.specs.Writes.{put}
+use Rattle.wb_edit.specs.Writes.{set_to}
 
 -- a new associative domain, with no index yet: its name is free (Chapel Language Specification, Domains)
 abbrev pub assoc : Name → KeyType → Tree
 assoc d type = do
   unit ← free_name d
-  write (put (Object d) (Domain (Associative type)) ∷ [])
+  write (set_to (Object d) (Domain (Associative type)) ∷ [])

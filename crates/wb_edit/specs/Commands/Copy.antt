@@ -9,7 +9,7 @@ use Rattle.wb_edit.specs.Trees.{Tree, ◌>>=◌}
 use Rattle.wb_edit.specs.Looks.{array_named, index_fits, element}
 use Rattle.wb_edit.specs.Numbers.{sum}
 use Rattle.wb_edit.specs.Implicit.{element_or_implicit}
-use Rattle.wb_edit.specs.Writes.{put}
+use Rattle.wb_edit.specs.Writes.{set_to}
 
 -- an element that is another one and a number more, a[i] = b[j] + c: the arrays are there, each index is of the rank and
 -- type of its array's domain, the first element is there and the second or its implicit value, and the sum is within 64 bits
@@ -22,4 +22,4 @@ copy a i b j c = do
   there ← element a i
   x ← element_or_implicit b e kind_of_e j
   y ← sum x c
-  write (put (Element a i) (Number y) ∷ [])
+  write (set_to (Element a i) (Number y) ∷ [])

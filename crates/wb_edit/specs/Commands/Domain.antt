@@ -11,15 +11,15 @@ use Rattle.wb_edit.specs.declared.refusal.Refusal.TheVariants.{WrongKind}
 use Rattle.wb_edit.specs.Trees.{Tree, ◌>>=◌}
 use Rattle.wb_edit.specs.Looks.{free_name}
 use Rattle.wb_edit.specs.Layouts.{mapped}
-use Rattle.wb_edit.specs.Writes.{put, put_all}
+use Rattle.wb_edit.specs.Writes.{set_to, put_all}
 
 -- what a new rectangular domain writes: the domain with its rank, its ranges, its mapping, and that each of its indices
 -- is in it (Chapel Language Specification, Domains and Domain Maps)
 abbrev pub new_domain_changes : Name → List Range → LayoutMap → Changes
 new_domain_changes d rs m =
-    put (Object d) (Domain (Rectangular (length rs)))
-    ∷ put (Shape d) (Ranges rs)
-    ∷ put (Mapping d) (Mapping m)
+    set_to (Object d) (Domain (Rectangular (length rs)))
+    ∷ set_to (Shape d) (Ranges rs)
+    ∷ set_to (Mapping d) (Mapping m)
     ∷ put_all (map (In d) (indices rs)) Present
 
 -- a new rectangular domain: its name is free, and the mapping is for its rank

@@ -4,7 +4,7 @@ use Rattle.wb_book.specs.Cells.{Name}
 use Rattle.wb_edit.specs.Trees.{Tree, ◌>>=◌}
 use Rattle.wb_edit.specs.Looks.{domain_named, domain_indices}
 use Rattle.wb_edit.specs.Users.{unused}
-use Rattle.wb_resize.specs.Dropped.{ended_cells}
+use Rattle.wb_resize.specs.Dropped.{dropped_domain_cells}
 
 -- the end of a domain: it is there, nothing is bound to it, and it is seen which indices it has
 abbrev pub drop_domain : Name → Tree
@@ -12,4 +12,4 @@ drop_domain d = do
   kind ← domain_named d
   unit ← unused d
   is ← domain_indices d kind
-  write (ended_cells d kind is)
+  write (dropped_domain_cells d kind is)

@@ -7,7 +7,7 @@ use Rattle.wb_book.specs.Cells.{Name}
 use Rattle.wb_edit.specs.Trees.{Tree, ◌>>=◌}
 use Rattle.wb_edit.specs.Looks.{array_named}
 use Rattle.wb_edit.specs.Kinds.{over_sparse}
-use Rattle.wb_edit.specs.Writes.{put}
+use Rattle.wb_edit.specs.Writes.{set_to}
 
 -- a new implicit value, which the indices of the parent have that are not in the sparse domain: the array is there, over a
 -- sparse domain (Chapel Language Specification, Arrays)
@@ -15,4 +15,4 @@ abbrev pub irv : Name → ℤ → Tree
 irv a v = do
   (d, kind) ← array_named a
   unit ← over_sparse kind
-  write (put (Implicit a) (Number v) ∷ [])
+  write (set_to (Implicit a) (Number v) ∷ [])

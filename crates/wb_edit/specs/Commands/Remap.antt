@@ -9,7 +9,7 @@ use Rattle.wb_edit.specs.Trees.{Tree, ◌>>=◌}
 use Rattle.wb_edit.specs.Looks.{domain_named}
 use Rattle.wb_edit.specs.Kinds.{rectangular}
 use Rattle.wb_edit.specs.Layouts.{mapped}
-use Rattle.wb_edit.specs.Writes.{put}
+use Rattle.wb_edit.specs.Writes.{set_to}
 
 -- a new mapping of a domain: the domain is there and rectangular, and the mapping is for its rank
 abbrev pub remap : Name → LayoutMap → Tree
@@ -17,4 +17,4 @@ remap d m = do
   kind ← domain_named d
   rank ← rectangular kind
   unit ← mapped rank m
-  write (put (Mapping d) (Mapping m) ∷ [])
+  write (set_to (Mapping d) (Mapping m) ∷ [])

@@ -7,12 +7,12 @@ use Rattle.wb_book.specs.declared.cells.kind.DomainKind.TheVariants.{Rectangular
 use Rattle.wb_book.specs.declared.values.index.Index.{Index}
 use Rattle.wb_book.specs.Cells.{Name}
 use Rattle.wb_book.specs.Kinds.{kind_of}
-use Rattle.wb_resize.specs.declared.given.Given.{Given}
-use Rattle.wb_resize.specs.declared.given.Given.TheVariants.{Rectangle, Items, Named}
-use Rattle.wb_resize.specs.declared.source.Displacement.{Displacement}
-use Rattle.wb_resize.specs.declared.source.SetOperation.{SetOperation}
-use Rattle.wb_resize.specs.declared.source.Source.{Source}
-use Rattle.wb_resize.specs.declared.source.Source.TheVariants.{To, Slice, Displace, Combine}
+use Rattle.wb_resize.specs.declared.operand.Operand.{Operand}
+use Rattle.wb_resize.specs.declared.operand.Operand.TheVariants.{Rectangle, Items, Named}
+use Rattle.wb_resize.specs.declared.new_indices.Displacement.{Displacement}
+use Rattle.wb_resize.specs.declared.new_indices.SetOperation.{SetOperation}
+use Rattle.wb_resize.specs.declared.new_indices.NewIndices.{NewIndices}
+use Rattle.wb_resize.specs.declared.new_indices.NewIndices.TheVariants.{To, Slice, Displace, Combine}
 use Rattle.wb_resize.specs.Resized.{without}
 use Rattle.wb_resize.specs.Sources.{combined}
 use Rattle.wb_edit.specs.declared.refusal.Refusal.TheVariants.{WrongKind}
@@ -23,7 +23,7 @@ use Rattle.wb_edit.specs.Looks.{domain_named, members}
 use Rattle.wb_edit.specs.Sources.{same_rank, slice_of, displacement_of, gives_rectangle, ranges_given, gives_set, indices_given}
 
 -- no such source for the domain; a name that is given is tested first
-abbrev pub no_source : Given → Tree
+abbrev pub no_source : Operand → Tree
 no_source (Rectangle rs) = refuse WrongKind
 no_source (Items is) = refuse WrongKind
 no_source (Named e) = do
@@ -33,7 +33,7 @@ no_source (Named e) = do
 -- ---- rectangular domains
 
 -- what is given takes the place of the ranges: it is a rectangle of the rank
-abbrev pub to_rectangle : Name → (rank : ℕ) → Given → Tree
+abbrev pub to_rectangle : Name → (rank : ℕ) → Operand → Tree
 to_rectangle d rank given = do
   unit ← gives_rectangle rank given
   old ← shape d
@@ -41,7 +41,7 @@ to_rectangle d rank given = do
   reshaped d old new
 
 -- the ranges become what they have in common with those that are given: these are a rectangle of the rank
-abbrev pub slice_rectangle : Name → (rank : ℕ) → Given → Tree
+abbrev pub slice_rectangle : Name → (rank : ℕ) → Operand → Tree
 slice_rectangle d rank given = do
   unit ← gives_rectangle rank given
   old ← shape d
@@ -57,7 +57,7 @@ displace_rectangle d rank how offsets = do
   new ← judged (displacement_of how offsets old)
   reshaped d old new
 
-abbrev pub reshape_rectangle : Name → (rank : ℕ) → Source → Tree
+abbrev pub reshape_rectangle : Name → (rank : ℕ) → NewIndices → Tree
 reshape_rectangle d rank (To given) = to_rectangle d rank given
 reshape_rectangle d rank (Slice given) = slice_rectangle d rank given
 reshape_rectangle d rank (Displace how offsets) = displace_rectangle d rank how offsets
@@ -70,7 +70,7 @@ abbrev pub with_indices : Name → DomainKind → (old new : List Index) → Tre
 with_indices d kind old new = resized d kind new (without new old) (without old new)
 
 -- what is given takes the place of the indices: it is a set for such a domain
-abbrev pub to_set : Name → DomainKind → Given → Tree
+abbrev pub to_set : Name → DomainKind → Operand → Tree
 to_set d kind given = do
   unit ← gives_set (kind_of kind) given
   old ← members d
@@ -78,20 +78,20 @@ to_set d kind given = do
   with_indices d kind old new
 
 -- the indices become what they and those that are given make: these are a set for such a domain
-abbrev pub combine_set : Name → DomainKind → SetOperation → Given → Tree
+abbrev pub combine_set : Name → DomainKind → SetOperation → Operand → Tree
 combine_set d kind how given = do
   unit ← gives_set (kind_of kind) given
   old ← members d
   other ← indices_given given
   with_indices d kind old (combined how other old)
 
-abbrev pub reshape_sparse : Name → DomainKind → Source → Tree
+abbrev pub reshape_sparse : Name → DomainKind → NewIndices → Tree
 reshape_sparse d kind (To given) = to_set d kind given
 reshape_sparse d kind (Slice given) = no_source given
 reshape_sparse d kind (Displace how offsets) = refuse WrongKind
 reshape_sparse d kind (Combine how given) = no_source given
 
-abbrev pub reshape_associative : Name → DomainKind → Source → Tree
+abbrev pub reshape_associative : Name → DomainKind → NewIndices → Tree
 reshape_associative d kind (To given) = to_set d kind given
 reshape_associative d kind (Slice given) = no_source given
 reshape_associative d kind (Displace how offsets) = refuse WrongKind
@@ -99,13 +99,13 @@ reshape_associative d kind (Combine how given) = combine_set d kind how given
 
 -- ---- any domain
 
-abbrev pub reshape_kind : Name → DomainKind → Source → Tree
+abbrev pub reshape_kind : Name → DomainKind → NewIndices → Tree
 reshape_kind d (Rectangular rank) source = reshape_rectangle d rank source
 reshape_kind d (Sparse parent rank) source = reshape_sparse d (Sparse parent rank) source
 reshape_kind d (Associative type) source = reshape_associative d (Associative type) source
 
 -- a new value of a domain: the domain is there, and the source is one for its kind
-abbrev pub reshape : Name → Source → Tree
+abbrev pub reshape : Name → NewIndices → Tree
 reshape d source = do
   kind ← domain_named d
   reshape_kind d kind source

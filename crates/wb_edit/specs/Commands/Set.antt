@@ -7,7 +7,7 @@ use Rattle.wb_book.specs.declared.values.index.Index.{Index}
 use Rattle.wb_book.specs.Cells.{Name}
 use Rattle.wb_edit.specs.Trees.{Tree, ◌>>=◌}
 use Rattle.wb_edit.specs.Looks.{array_named, index_fits, element}
-use Rattle.wb_edit.specs.Writes.{put}
+use Rattle.wb_edit.specs.Writes.{set_to}
 
 -- a new element: the array is there, the index is of the rank and type of its domain, and there is an element at it
 abbrev pub set : Name → Index → ℤ → Tree
@@ -15,4 +15,4 @@ set a i v = do
   (d, kind) ← array_named a
   unit ← index_fits kind i
   there ← element a i
-  write (put (Element a i) (Number v) ∷ [])
+  write (set_to (Element a i) (Number v) ∷ [])

@@ -9,7 +9,7 @@ use Rattle.wb_book.specs.Cells.{Name}
 use Rattle.wb_edit.specs.Trees.{Tree, ◌>>=◌}
 use Rattle.wb_edit.specs.Looks.{free_name, domain_named}
 use Rattle.wb_edit.specs.Kinds.{rectangular}
-use Rattle.wb_edit.specs.Writes.{put}
+use Rattle.wb_edit.specs.Writes.{set_to}
 
 -- a new sparse domain, with no index yet, in a rectangular one, to which it is bound: its name is free, and the other domain
 -- is there and rectangular (Chapel Language Specification, Domains)
@@ -18,4 +18,4 @@ sparse d parent = do
   unit ← free_name d
   kind ← domain_named parent
   rank ← rectangular kind
-  write (put (Object d) (Domain (Sparse parent rank)) ∷ put (Use parent d) (Bound Sparse) ∷ [])
+  write (set_to (Object d) (Domain (Sparse parent rank)) ∷ set_to (Use parent d) (Bound Sparse) ∷ [])

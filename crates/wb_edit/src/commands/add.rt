@@ -4,7 +4,7 @@ ghost use Rattle.wb_edit.specs.Plans.{Attempts};
 
 use crate::attempt_err::{AttemptErr, stopped};
 use crate::commands::resized::plan_resized;
-use crate::foot::Foot;
+use crate::footprint::Footprint;
 use crate::looks::resizing::has_members;
 use crate::looks::{judgements, one_cell};
 use std::alloc::Global;
@@ -15,32 +15,41 @@ use wb_shelf::Book;
 pub(crate) fn plan_add(
     alloc: Global,
     book: &Book,
-    foot: &mut Foot,
+    footprint: &mut Footprint,
     domain: Name,
     index: AnyIndex,
 ) -> Result<Delta, AttemptErr>
-    ensures { Attempts (add domain index) book.now.cells foot.old result foot.new }
+    ensures { Attempts (add domain index) book.now.cells footprint.old result footprint.new }
 {
-    let kind = one_cell::domain_named(book, foot, domain)?;
+    let kind = one_cell::domain_named(book, footprint, domain)?;
     stopped(has_members(&kind))?;
     stopped(judgements::fits(kind.kind(), index))?;
-    let there = one_cell::read(book, foot, &Cell::Member(domain, index))?;
-    add_unless(alloc, book, foot, there, domain, &kind, index)
+    let there = one_cell::read(book, footprint, &Cell::Member(domain, index))?;
+    add_unless(alloc, book, footprint, there, domain, &kind, index)
 }
 
 fn add_unless(
     alloc: Global,
     book: &Book,
-    foot: &mut Foot,
+    footprint: &mut Footprint,
     there: Option<Value>,
     domain: Name,
     kind: &AnyDomain,
     index: AnyIndex,
 ) -> Result<Delta, AttemptErr>
-    ensures { Attempts (add_unless there domain kind.now index) book.now.cells foot.old result foot.new }
+    ensures { Attempts (add_unless there domain kind.now index) book.now.cells footprint.old result footprint.new }
 {
     match there {
         Some(_) => Ok(Delta::new(alloc)),
-        None => plan_resized(alloc, book, foot, domain, kind, &[index], &[], &[index]),
+        None => plan_resized(
+            alloc,
+            book,
+            footprint,
+            domain,
+            kind,
+            &[index],
+            &[],
+            &[index],
+        ),
     }
 }

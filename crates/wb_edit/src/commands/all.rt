@@ -11,7 +11,7 @@ ghost use Rattle.wb_edit.specs.Plans.{Attempts, Makes, stopped};
 
 use crate::attempt_err::{AttemptErr, stopped};
 use crate::commands::seen::{NewValue, all_become};
-use crate::foot::Foot;
+use crate::footprint::Footprint;
 use crate::looks::{elements, numbers, one_cell};
 use crate::operation::Operation;
 use crate::refusal::Refusal;
@@ -23,34 +23,34 @@ use wb_shelf::Book;
 pub(crate) fn plan_all(
     alloc: Global,
     book: &Book,
-    foot: &mut Foot,
+    footprint: &mut Footprint,
     array: Name,
     how: &Operation,
     other: Name,
 ) -> Result<Delta, AttemptErr>
-    ensures { Attempts (all array how.now other) book.now.cells foot.old result foot.new }
+    ensures { Attempts (all array how.now other) book.now.cells footprint.old result footprint.new }
 {
-    let (domain, _kind) = one_cell::array_named(book, foot, array)?;
-    let (over, _kind_of_other) = one_cell::array_named(book, foot, other)?;
+    let (domain, _kind) = one_cell::array_named(book, footprint, array)?;
+    let (over, _kind_of_other) = one_cell::array_named(book, footprint, other)?;
     stopped(elements::same_domain(domain, over))?;
     let _writes = book.writes();
-    plan_all_results(alloc, book, foot, array, how, other)
+    plan_all_results(alloc, book, footprint, array, how, other)
 }
 
 /// The same, where the arrays are there, over one domain.
 fn plan_all_results(
     alloc: Global,
     book: &Book,
-    foot: &mut Foot,
+    footprint: &mut Footprint,
     array: Name,
     how: &Operation,
     other: Name,
 ) -> Result<Delta, AttemptErr>
     requires { keys_of (readers.elements book.now.cells array) ≡ keys_of (readers.elements book.now.cells other) }
-    ensures { Attempts (all_results array how.now other) book.now.cells foot.old result foot.new }
+    ensures { Attempts (all_results array how.now other) book.now.cells footprint.old result footprint.new }
 {
-    let xs = elements::elements(book, foot, array)?;
-    let ys = elements::elements(book, foot, other)?;
+    let xs = elements::elements(book, footprint, array)?;
+    let ys = elements::elements(book, footprint, other)?;
     let zs = results(alloc, how, &xs, &ys)?;
     number_changes(alloc, array, &zs)
 }

@@ -5,7 +5,7 @@ ghost use Rattle.wb_edit.specs.Plans.{Attempts, Makes, indices_in};
 
 use crate::attempt_err::AttemptErr;
 use crate::commands::writes::{put, put_found};
-use crate::foot::Foot;
+use crate::footprint::Footprint;
 use crate::indexed_cells::IndexedCells;
 use crate::looks::indices::{Indices, domain_indices};
 use crate::looks::one_cell;
@@ -17,15 +17,15 @@ use wb_shelf::Book;
 pub(crate) fn plan_array(
     alloc: Global,
     book: &Book,
-    foot: &mut Foot,
+    footprint: &mut Footprint,
     name: Name,
     domain: Name,
 ) -> Result<Delta, AttemptErr>
-    ensures { Attempts (array name domain) book.now.cells foot.old result foot.new }
+    ensures { Attempts (array name domain) book.now.cells footprint.old result footprint.new }
 {
-    one_cell::free_name(book, foot, name)?;
-    let kind = one_cell::domain_named(book, foot, domain)?;
-    let found = domain_indices(alloc, book, foot, domain, &kind)?;
+    one_cell::free_name(book, footprint, name)?;
+    let kind = one_cell::domain_named(book, footprint, domain)?;
+    let found = domain_indices(alloc, book, footprint, domain, &kind)?;
     array_changes(alloc, name, domain, kind.kind(), &found)
 }
 

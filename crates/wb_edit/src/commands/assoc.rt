@@ -4,11 +4,11 @@ ghost use Rattle.wb_book.specs.declared.cells.kind.DomainKind.TheVariants.{Assoc
 ghost use Rattle.wb_book.specs.declared.cells.value.Value.TheVariants.{Domain};
 ghost use Rattle.wb_edit.specs.Commands.{assoc};
 ghost use Rattle.wb_edit.specs.Plans.{Attempts, Makes};
-ghost use Rattle.wb_edit.specs.Writes.{put};
+ghost use Rattle.wb_edit.specs.Writes.{set_to};
 
 use crate::attempt_err::AttemptErr;
 use crate::commands::writes::put;
-use crate::foot::Foot;
+use crate::footprint::Footprint;
 use crate::looks::one_cell;
 use std::alloc::Global;
 use wb_book::{AnyDomain, Cell, Delta, DomainKind, KeyType, Name, Value};
@@ -18,18 +18,18 @@ use wb_shelf::Book;
 pub(crate) fn plan_assoc(
     alloc: Global,
     book: &Book,
-    foot: &mut Foot,
+    footprint: &mut Footprint,
     name: Name,
     key: &KeyType,
 ) -> Result<Delta, AttemptErr>
-    ensures { Attempts (assoc name key.now) book.now.cells foot.old result foot.new }
+    ensures { Attempts (assoc name key.now) book.now.cells footprint.old result footprint.new }
 {
-    one_cell::free_name(book, foot, name)?;
+    one_cell::free_name(book, footprint, name)?;
     assoc_changes(alloc, name, key)
 }
 
 fn assoc_changes(alloc: Global, name: Name, key: &KeyType) -> Result<Delta, AttemptErr>
-    ensures { Makes (put (Object name) (Domain (Associative key.now)) ∷ []) result }
+    ensures { Makes (set_to (Object name) (Domain (Associative key.now)) ∷ []) result }
 {
     let mut delta = Delta::new(alloc);
     let kind = AnyDomain::new(DomainKind::Associative(*key));

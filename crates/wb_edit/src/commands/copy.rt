@@ -4,7 +4,7 @@ ghost use Rattle.wb_edit.specs.Plans.{Attempts};
 
 use crate::attempt_err::{AttemptErr, stopped};
 use crate::commands::set::element_change;
-use crate::foot::Foot;
+use crate::footprint::Footprint;
 use crate::looks::implicit::{ArrayRef, element_or_implicit};
 use crate::looks::{judgements, numbers, one_cell};
 use std::alloc::Global;
@@ -15,26 +15,26 @@ use wb_shelf::Book;
 pub(crate) fn plan_copy(
     alloc: Global,
     book: &Book,
-    foot: &mut Foot,
+    footprint: &mut Footprint,
     target: (Name, AnyIndex),
     source: (Name, AnyIndex),
     more: i64,
 ) -> Result<Delta, AttemptErr>
-    ensures { Attempts (copy target.0 target.1 source.0 source.1 more) book.now.cells foot.old result foot.new }
+    ensures { Attempts (copy target.0 target.1 source.0 source.1 more) book.now.cells footprint.old result footprint.new }
 {
     let (array, index) = target;
     let (other, place) = source;
-    let (_domain, kind) = one_cell::array_named(book, foot, array)?;
-    let (over, kind_of_other) = one_cell::array_named(book, foot, other)?;
+    let (_domain, kind) = one_cell::array_named(book, footprint, array)?;
+    let (over, kind_of_other) = one_cell::array_named(book, footprint, other)?;
     stopped(judgements::fits(kind, index))?;
     stopped(judgements::fits(kind_of_other, place))?;
-    one_cell::element(book, foot, array, index)?;
+    one_cell::element(book, footprint, array, index)?;
     let from = ArrayRef {
         array: other,
         domain: over,
         kind: kind_of_other,
     };
-    let number = element_or_implicit(book, foot, &from, place)?;
+    let number = element_or_implicit(book, footprint, &from, place)?;
     let sum = stopped(numbers::sum(number, more))?;
     element_change(alloc, array, index, sum)
 }

@@ -4,7 +4,7 @@ ghost use Rattle.wb_edit.specs.Plans.{Attempts, Makes};
 
 use crate::attempt_err::AttemptErr;
 use crate::commands::writes::{put, put_all};
-use crate::foot::Foot;
+use crate::footprint::Footprint;
 use crate::indexed_cells::IndexedCells;
 use crate::looks::{layouts, one_cell};
 use std::alloc::Global;
@@ -15,14 +15,14 @@ use wb_shelf::Book;
 pub(crate) fn plan_domain(
     alloc: Global,
     book: &Book,
-    foot: &mut Foot,
+    footprint: &mut Footprint,
     name: Name,
     ranges: &AnyRect,
     mapping: &AnyLayout,
 ) -> Result<Delta, AttemptErr>
-    ensures { Attempts (domain name ranges.now mapping.now) book.now.cells foot.old result foot.new }
+    ensures { Attempts (domain name ranges.now mapping.now) book.now.cells footprint.old result footprint.new }
 {
-    one_cell::free_name(book, foot, name)?;
+    one_cell::free_name(book, footprint, name)?;
     layouts::for_rectangle(ranges, mapping)?;
     domain_changes(alloc, name, ranges, mapping)
 }

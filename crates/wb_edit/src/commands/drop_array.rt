@@ -8,7 +8,7 @@ ghost use Rattle.wb_edit.specs.Plans.{Attempts, Makes};
 use crate::attempt_err::AttemptErr;
 use crate::commands::seen::{NewValue, all_become};
 use crate::commands::writes::change;
-use crate::foot::Foot;
+use crate::footprint::Footprint;
 use crate::looks::{elements, one_cell};
 use std::alloc::Global;
 use wb_book::{AnyIndex, Cell, Delta, Name};
@@ -18,13 +18,13 @@ use wb_shelf::Book;
 pub(crate) fn plan_drop_array(
     alloc: Global,
     book: &Book,
-    foot: &mut Foot,
+    footprint: &mut Footprint,
     array: Name,
 ) -> Result<Delta, AttemptErr>
-    ensures { Attempts (drop_array array) book.now.cells foot.old result foot.new }
+    ensures { Attempts (drop_array array) book.now.cells footprint.old result footprint.new }
 {
-    let (domain, _kind) = one_cell::array_named(book, foot, array)?;
-    let seen = elements::elements(book, foot, array)?;
+    let (domain, _kind) = one_cell::array_named(book, footprint, array)?;
+    let seen = elements::elements(book, footprint, array)?;
     drop_changes(alloc, array, domain, &seen)
 }
 

@@ -1,13 +1,13 @@
 ghost use Rattle.std.specs.Prelude.{◌≡◌, [], ◌∷◌};
 ghost use Rattle.wb_range.specs.Domain.{IsListedOnce};
 ghost use Rattle.wb_book.specs.declared.cells.cell.Cell.TheVariants.{Object, Shape, Mapping, Use};
-ghost use Rattle.wb_edit.specs.Commands.{drop_domain, ended_cells, own_cells};
+ghost use Rattle.wb_edit.specs.Commands.{drop_domain, dropped_domain_cells, cells_beside_indices};
 ghost use Rattle.wb_edit.specs.Plans.{Attempts, Makes, indices_in};
 ghost use Rattle.wb_edit.specs.Writes.{clear_all};
 
 use crate::attempt_err::AttemptErr;
 use crate::commands::writes::{become_found, change};
-use crate::foot::Foot;
+use crate::footprint::Footprint;
 use crate::indexed_cells::IndexedCells;
 use crate::looks::indices::{Indices, domain_indices};
 use crate::looks::one_cell;
@@ -20,14 +20,14 @@ use wb_shelf::Book;
 pub(crate) fn plan_drop_domain(
     alloc: Global,
     book: &Book,
-    foot: &mut Foot,
+    footprint: &mut Footprint,
     domain: Name,
 ) -> Result<Delta, AttemptErr>
-    ensures { Attempts (drop_domain domain) book.now.cells foot.old result foot.new }
+    ensures { Attempts (drop_domain domain) book.now.cells footprint.old result footprint.new }
 {
-    let kind = one_cell::domain_named(book, foot, domain)?;
-    unused(alloc, book, foot, domain)?;
-    let found = domain_indices(alloc, book, foot, domain, &kind)?;
+    let kind = one_cell::domain_named(book, footprint, domain)?;
+    unused(alloc, book, footprint, domain)?;
+    let found = domain_indices(alloc, book, footprint, domain, &kind)?;
     drop_changes(alloc, domain, &kind, &found)
 }
 
@@ -38,7 +38,7 @@ fn drop_changes(
     found: &Indices,
 ) -> Result<Delta, AttemptErr>
     requires { IsListedOnce (indices_in found.now) }
-    ensures { Makes (ended_cells domain kind.now (indices_in found.now)) result }
+    ensures { Makes (dropped_domain_cells domain kind.now (indices_in found.now)) result }
 {
     let mut delta = own_changes(alloc, domain, kind)?;
     become_found(
@@ -52,7 +52,7 @@ fn drop_changes(
 
 // What there is of a domain besides its indices becomes absent.
 fn own_changes(alloc: Global, domain: Name, kind: &AnyDomain) -> Result<Delta, AttemptErr>
-    ensures { Makes (clear_all (own_cells domain kind.now)) result }
+    ensures { Makes (clear_all (cells_beside_indices domain kind.now)) result }
 {
     match kind.domain_kind() {
         DomainKind::Rectangular(_) => rectangle_changes(alloc, domain),

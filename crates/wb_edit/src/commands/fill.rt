@@ -8,7 +8,7 @@ ghost use Rattle.wb_edit.specs.Writes.{put_all};
 
 use crate::attempt_err::AttemptErr;
 use crate::commands::writes::put_all;
-use crate::foot::Foot;
+use crate::footprint::Footprint;
 use crate::indexed_cells::IndexedCells;
 use crate::looks::{one_cell, rectangles};
 use std::alloc::Global;
@@ -19,16 +19,16 @@ use wb_shelf::Book;
 pub(crate) fn plan_fill(
     alloc: Global,
     book: &Book,
-    foot: &mut Foot,
+    footprint: &mut Footprint,
     array: Name,
     on: &AnyRect,
     value: i64,
 ) -> Result<Delta, AttemptErr>
-    ensures { Attempts (fill array on.now value) book.now.cells foot.old result foot.new }
+    ensures { Attempts (fill array on.now value) book.now.cells footprint.old result footprint.new }
 {
-    let (_domain, kind) = one_cell::array_named(book, foot, array)?;
+    let (_domain, kind) = one_cell::array_named(book, footprint, array)?;
     rectangles::over_rectangle(on, kind)?;
-    rectangles::all_elements(book, foot, array, on)?;
+    rectangles::all_elements(book, footprint, array, on)?;
     fill_changes(alloc, array, on, value)
 }
 

@@ -10,7 +10,7 @@ ghost use Rattle.wb_edit.specs.Writes.{put_all};
 
 use crate::attempt_err::AttemptErr;
 use crate::commands::seen::{NewValue, all_become};
-use crate::foot::Foot;
+use crate::footprint::Footprint;
 use crate::looks::{elements, one_cell};
 use std::alloc::Global;
 use wb_book::{AnyIndex, Delta, Name};
@@ -20,14 +20,14 @@ use wb_shelf::Book;
 pub(crate) fn plan_fill_all(
     alloc: Global,
     book: &Book,
-    foot: &mut Foot,
+    footprint: &mut Footprint,
     array: Name,
     value: i64,
 ) -> Result<Delta, AttemptErr>
-    ensures { Attempts (fill_all array value) book.now.cells foot.old result foot.new }
+    ensures { Attempts (fill_all array value) book.now.cells footprint.old result footprint.new }
 {
-    one_cell::array_named(book, foot, array)?;
-    let seen = elements::elements(book, foot, array)?;
+    one_cell::array_named(book, footprint, array)?;
+    let seen = elements::elements(book, footprint, array)?;
     fill_changes(alloc, array, &seen, value)
 }
 

@@ -3,11 +3,11 @@ ghost use Rattle.wb_book.specs.declared.cells.cell.Cell.TheVariants.{Implicit};
 ghost use Rattle.wb_book.specs.declared.cells.value.Value.TheVariants.{Number};
 ghost use Rattle.wb_edit.specs.Commands.{irv};
 ghost use Rattle.wb_edit.specs.Plans.{Attempts, Makes};
-ghost use Rattle.wb_edit.specs.Writes.{put};
+ghost use Rattle.wb_edit.specs.Writes.{set_to};
 
 use crate::attempt_err::{AttemptErr, stopped};
 use crate::commands::writes::put;
-use crate::foot::Foot;
+use crate::footprint::Footprint;
 use crate::looks::{kinds, one_cell};
 use std::alloc::Global;
 use wb_book::{Cell, Delta, Name, Value};
@@ -17,19 +17,19 @@ use wb_shelf::Book;
 pub(crate) fn plan_irv(
     alloc: Global,
     book: &Book,
-    foot: &mut Foot,
+    footprint: &mut Footprint,
     array: Name,
     value: i64,
 ) -> Result<Delta, AttemptErr>
-    ensures { Attempts (irv array value) book.now.cells foot.old result foot.new }
+    ensures { Attempts (irv array value) book.now.cells footprint.old result footprint.new }
 {
-    let (_domain, kind) = one_cell::array_named(book, foot, array)?;
+    let (_domain, kind) = one_cell::array_named(book, footprint, array)?;
     stopped(kinds::is_sparse(&kind))?;
     implicit_change(alloc, array, value)
 }
 
 fn implicit_change(alloc: Global, array: Name, value: i64) -> Result<Delta, AttemptErr>
-    ensures { Makes (put (Implicit array) (Number value) ∷ []) result }
+    ensures { Makes (set_to (Implicit array) (Number value) ∷ []) result }
 {
     let mut delta = Delta::new(alloc);
     put(&mut delta, Cell::Implicit(array), Value::Number(value))?;

@@ -6,7 +6,7 @@ ghost use Rattle.wb_reading.specs.Texts.Books.{cells_in};
 
 use crate::attempt_err::AttemptErr;
 use crate::commands::writes::put;
-use crate::foot::Foot;
+use crate::footprint::Footprint;
 use crate::looks::objects;
 use std::alloc::Global;
 use std::collections::BTreeMap;
@@ -18,12 +18,12 @@ use wb_shelf::Book;
 pub(crate) fn plan_load(
     alloc: Global,
     book: &Book,
-    foot: &mut Foot,
+    footprint: &mut Footprint,
     text: &BookText,
 ) -> Result<Delta, AttemptErr>
-    ensures { Attempts (load text.now) book.now.cells foot.old result foot.new }
+    ensures { Attempts (load text.now) book.now.cells footprint.old result footprint.new }
 {
-    objects::no_object(book, foot)?;
+    objects::no_object(book, footprint)?;
     load_changes(alloc, text)
 }
 

@@ -3,11 +3,11 @@ ghost use Rattle.wb_book.specs.declared.cells.cell.Cell.TheVariants.{Mapping};
 ghost use Rattle.wb_book.specs.declared.cells.value.Value.TheVariants.{Mapping as mapping_value};
 ghost use Rattle.wb_edit.specs.Commands.{remap};
 ghost use Rattle.wb_edit.specs.Plans.{Attempts, Makes};
-ghost use Rattle.wb_edit.specs.Writes.{put};
+ghost use Rattle.wb_edit.specs.Writes.{set_to};
 
 use crate::attempt_err::{AttemptErr, stopped};
 use crate::commands::writes::put;
-use crate::foot::Foot;
+use crate::footprint::Footprint;
 use crate::looks::{kinds, layouts, one_cell};
 use std::alloc::Global;
 use wb_book::{AnyLayout, Cell, Delta, Name, Value};
@@ -17,20 +17,20 @@ use wb_shelf::Book;
 pub(crate) fn plan_remap(
     alloc: Global,
     book: &Book,
-    foot: &mut Foot,
+    footprint: &mut Footprint,
     domain: Name,
     mapping: &AnyLayout,
 ) -> Result<Delta, AttemptErr>
-    ensures { Attempts (remap domain mapping.now) book.now.cells foot.old result foot.new }
+    ensures { Attempts (remap domain mapping.now) book.now.cells footprint.old result footprint.new }
 {
-    let kind = one_cell::domain_named(book, foot, domain)?;
+    let kind = one_cell::domain_named(book, footprint, domain)?;
     let rank = stopped(kinds::rank_of(&kind))?;
     stopped(layouts::for_rank(rank, mapping))?;
     remap_changes(alloc, domain, mapping)
 }
 
 fn remap_changes(alloc: Global, domain: Name, mapping: &AnyLayout) -> Result<Delta, AttemptErr>
-    ensures { Makes (put (Mapping domain) (mapping_value mapping.now) ∷ []) result }
+    ensures { Makes (set_to (Mapping domain) (mapping_value mapping.now) ∷ []) result }
 {
     let mut delta = Delta::new(alloc);
     put(&mut delta, Cell::Mapping(domain), Value::Mapping(*mapping))?;

@@ -4,7 +4,7 @@ ghost use Rattle.wb_edit.specs.Plans.{Attempts};
 
 use crate::attempt_err::{AttemptErr, stopped};
 use crate::commands::resized::resize_changes;
-use crate::foot::Foot;
+use crate::footprint::Footprint;
 use crate::looks::resizing::{has_members, zeros};
 use crate::looks::users::{arrays, uses};
 use crate::looks::{judgements, one_cell};
@@ -16,33 +16,33 @@ use wb_shelf::Book;
 pub(crate) fn plan_remove(
     alloc: Global,
     book: &Book,
-    foot: &mut Foot,
+    footprint: &mut Footprint,
     domain: Name,
     index: AnyIndex,
 ) -> Result<Delta, AttemptErr>
-    ensures { Attempts (remove domain index) book.now.cells foot.old result foot.new }
+    ensures { Attempts (remove domain index) book.now.cells footprint.old result footprint.new }
 {
-    let kind = one_cell::domain_named(book, foot, domain)?;
+    let kind = one_cell::domain_named(book, footprint, domain)?;
     stopped(has_members(&kind))?;
     stopped(judgements::fits(kind.kind(), index))?;
-    let there = one_cell::read(book, foot, &Cell::Member(domain, index))?;
-    remove_if(alloc, book, foot, there, domain, &kind, index)
+    let there = one_cell::read(book, footprint, &Cell::Member(domain, index))?;
+    remove_if(alloc, book, footprint, there, domain, &kind, index)
 }
 
 fn remove_if(
     alloc: Global,
     book: &Book,
-    foot: &mut Foot,
+    footprint: &mut Footprint,
     there: Option<Value>,
     domain: Name,
     kind: &AnyDomain,
     index: AnyIndex,
 ) -> Result<Delta, AttemptErr>
-    ensures { Attempts (remove_if there domain kind.now index) book.now.cells foot.old result foot.new }
+    ensures { Attempts (remove_if there domain kind.now index) book.now.cells footprint.old result footprint.new }
 {
     match there {
         None => Ok(Delta::new(alloc)),
-        Some(_) => plan_left(alloc, book, foot, domain, kind, index),
+        Some(_) => plan_left(alloc, book, footprint, domain, kind, index),
     }
 }
 
@@ -50,14 +50,14 @@ fn remove_if(
 fn plan_left(
     alloc: Global,
     book: &Book,
-    foot: &mut Foot,
+    footprint: &mut Footprint,
     domain: Name,
     kind: &AnyDomain,
     index: AnyIndex,
 ) -> Result<Delta, AttemptErr>
-    ensures { Attempts (left domain kind.now index) book.now.cells foot.old result foot.new }
+    ensures { Attempts (left domain kind.now index) book.now.cells footprint.old result footprint.new }
 {
-    let users = uses(alloc, book, foot, domain)?;
+    let users = uses(alloc, book, footprint, domain)?;
     let names = arrays(alloc, &users)?;
     let cleared = zeros(alloc, &names)?;
     resize_changes(alloc, domain, kind, &cleared, &[index], &[])

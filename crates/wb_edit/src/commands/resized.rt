@@ -11,7 +11,7 @@ ghost use Rattle.wb_resize.specs.Resized.{resized_cells};
 
 use crate::attempt_err::AttemptErr;
 use crate::commands::writes::{NamedDomain, resize};
-use crate::foot::Foot;
+use crate::footprint::Footprint;
 use crate::looks::resizing::{all_in_parent, fills};
 use std::alloc::Global;
 use wb_book::{AnyDomain, AnyIndex, Delta, Name};
@@ -21,7 +21,7 @@ use wb_shelf::Book;
 pub(crate) fn plan_resized(
     alloc: Global,
     book: &Book,
-    foot: &mut Foot,
+    footprint: &mut Footprint,
     domain: Name,
     kind: &AnyDomain,
     new: &[AnyIndex],
@@ -31,10 +31,10 @@ pub(crate) fn plan_resized(
     requires leaving { IsListedOnce leaving.now }
     requires coming { IsListedOnce coming.now }
     requires apart { AreApart leaving.now coming.now }
-    ensures { Attempts (resized domain kind.now new.now leaving.now coming.now) book.now.cells foot.old result foot.new }
+    ensures { Attempts (resized domain kind.now new.now leaving.now coming.now) book.now.cells footprint.old result footprint.new }
 {
-    all_in_parent(book, foot, kind, new)?;
-    let brought = fills(alloc, book, foot, domain, kind)?;
+    all_in_parent(book, footprint, kind, new)?;
+    let brought = fills(alloc, book, footprint, domain, kind)?;
     resize_changes(alloc, domain, kind, &brought, leaving, coming)
 }
 

@@ -3,11 +3,11 @@ ghost use Rattle.wb_book.specs.declared.cells.cell.Cell.TheVariants.{Element};
 ghost use Rattle.wb_book.specs.declared.cells.value.Value.TheVariants.{Number};
 ghost use Rattle.wb_edit.specs.Commands.{set};
 ghost use Rattle.wb_edit.specs.Plans.{Attempts, Makes};
-ghost use Rattle.wb_edit.specs.Writes.{put};
+ghost use Rattle.wb_edit.specs.Writes.{set_to};
 
 use crate::attempt_err::{AttemptErr, stopped};
 use crate::commands::writes::put;
-use crate::foot::Foot;
+use crate::footprint::Footprint;
 use crate::looks::{judgements, one_cell};
 use std::alloc::Global;
 use wb_book::{AnyIndex, Cell, Delta, Name, Value};
@@ -17,16 +17,16 @@ use wb_shelf::Book;
 pub(crate) fn plan_set(
     alloc: Global,
     book: &Book,
-    foot: &mut Foot,
+    footprint: &mut Footprint,
     array: Name,
     index: AnyIndex,
     value: i64,
 ) -> Result<Delta, AttemptErr>
-    ensures { Attempts (set array index value) book.now.cells foot.old result foot.new }
+    ensures { Attempts (set array index value) book.now.cells footprint.old result footprint.new }
 {
-    let (_domain, kind) = one_cell::array_named(book, foot, array)?;
+    let (_domain, kind) = one_cell::array_named(book, footprint, array)?;
     stopped(judgements::fits(kind, index))?;
-    one_cell::element(book, foot, array, index)?;
+    one_cell::element(book, footprint, array, index)?;
     element_change(alloc, array, index, value)
 }
 
@@ -37,7 +37,7 @@ pub(crate) fn element_change(
     index: AnyIndex,
     value: i64,
 ) -> Result<Delta, AttemptErr>
-    ensures { Makes (put (Element array index) (Number value) ∷ []) result }
+    ensures { Makes (set_to (Element array index) (Number value) ∷ []) result }
 {
     let mut delta = Delta::new(alloc);
     put(

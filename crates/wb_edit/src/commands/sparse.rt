@@ -5,11 +5,11 @@ ghost use Rattle.wb_book.specs.declared.cells.value.Binding.TheVariants.{Sparse 
 ghost use Rattle.wb_book.specs.declared.cells.value.Value.TheVariants.{Domain, Bound};
 ghost use Rattle.wb_edit.specs.Commands.{sparse};
 ghost use Rattle.wb_edit.specs.Plans.{Attempts, Makes};
-ghost use Rattle.wb_edit.specs.Writes.{put};
+ghost use Rattle.wb_edit.specs.Writes.{set_to};
 
 use crate::attempt_err::{AttemptErr, stopped};
 use crate::commands::writes::put;
-use crate::foot::Foot;
+use crate::footprint::Footprint;
 use crate::looks::{kinds, one_cell};
 use std::alloc::Global;
 use wb_book::{AnyDomain, Binding, Cell, Delta, DomainKind, Name, Value};
@@ -19,20 +19,20 @@ use wb_shelf::Book;
 pub(crate) fn plan_sparse(
     alloc: Global,
     book: &Book,
-    foot: &mut Foot,
+    footprint: &mut Footprint,
     name: Name,
     parent: Name,
 ) -> Result<Delta, AttemptErr>
-    ensures { Attempts (sparse name parent) book.now.cells foot.old result foot.new }
+    ensures { Attempts (sparse name parent) book.now.cells footprint.old result footprint.new }
 {
-    one_cell::free_name(book, foot, name)?;
-    let kind = one_cell::domain_named(book, foot, parent)?;
+    one_cell::free_name(book, footprint, name)?;
+    let kind = one_cell::domain_named(book, footprint, parent)?;
     let rank = stopped(kinds::rank_of(&kind))?;
     sparse_changes(alloc, name, parent, rank)
 }
 
 fn sparse_changes(alloc: Global, name: Name, parent: Name, rank: u8) -> Result<Delta, AttemptErr>
-    ensures { Makes (put (Object name) (Domain (Sparse parent rank)) ∷ put (Use parent name) (Bound bound_sparse) ∷ []) result }
+    ensures { Makes (set_to (Object name) (Domain (Sparse parent rank)) ∷ set_to (Use parent name) (Bound bound_sparse) ∷ []) result }
 {
     let mut delta = Delta::new(alloc);
     let kind = AnyDomain::new(DomainKind::Sparse(parent, rank));

@@ -12,7 +12,7 @@ ghost use Rattle.wb_book.specs.declared.values.index.Index.{Index};
 ghost use Rattle.wb_range.specs.Domain.{IsListedOnce};
 ghost use Rattle.wb_edit.specs.Plans.{cell_at, indices_in};
 ghost use Rattle.wb_edit.specs.Changed.{set_all, AreApart};
-ghost use Rattle.wb_edit.specs.Writes.{put, put_all};
+ghost use Rattle.wb_edit.specs.Writes.{set_to, put_all};
 ghost use Rattle.wb_resize.specs.Resized.{exchanged, elements_exchanged, resized_cells};
 ghost use Rattle.wb_edit.specs.declared.attempt_err.AttemptErr.TheVariants.{NoMemory};
 
@@ -36,7 +36,7 @@ pub(crate) fn change(delta: &mut Delta, cell: Cell, value: Option<Value>) -> Res
 /// Adds that a cell, which is not there yet, gets a value.
 pub(crate) fn put(delta: &mut Delta, cell: Cell, value: Value) -> Result<(), AttemptErr>
     requires { changes cell_cmp delta.old cell ≡ false }
-    ensures ok { OnOk result (delta.new ≡ delta.old ++ put cell value ∷ []) }
+    ensures ok { OnOk result (delta.new ≡ delta.old ++ set_to cell value ∷ []) }
     ensures only { IfErr result (λ e. e ≡ NoMemory) }
 {
     change(delta, cell, Some(value))

@@ -7,7 +7,7 @@ ghost use Rattle.wb_edit.specs.Elements.{elements, same_domain};
 ghost use Rattle.wb_edit.specs.Plans.{Looks};
 
 use crate::attempt_err::AttemptErr;
-use crate::foot::Foot;
+use crate::footprint::Footprint;
 use crate::refusal::Refusal;
 use wb_book::{AnyIndex, Name, Pattern};
 use wb_shelf::Book;
@@ -15,13 +15,13 @@ use wb_shelf::Book;
 /// The elements of an array, each after its index, in the order of the indices.
 pub(crate) fn elements(
     book: &Book,
-    foot: &mut Foot,
+    footprint: &mut Footprint,
     array: Name,
 ) -> Result<Vec<(AnyIndex, i64)>, AttemptErr>
-    ensures looks { Looks (elements array) book.now.cells foot.old (items_of result) foot.new }
+    ensures looks { Looks (elements array) book.now.cells footprint.old (items_of result) footprint.new }
     ensures seen { IfOk result (λ v. v.items ≡ readers.elements book.now.cells array) }
 {
-    if foot.keep(Pattern::Elements(array)).is_err() {
+    if footprint.keep(Pattern::Elements(array)).is_err() {
         return Err(AttemptErr::NoMemory);
     }
     match book.elements(&array) {

@@ -5,9 +5,9 @@ ghost use Rattle.wb_edit.specs.Implicit.{has_implicit, parent_in, parent_of, is_
 ghost use Rattle.wb_edit.specs.Plans.{Looks};
 
 use crate::attempt_err::{AttemptErr, stopped};
-use crate::foot::Foot;
+use crate::footprint::Footprint;
 use crate::looks::judgements::is_there;
-use crate::looks::numbers::number_in;
+use crate::looks::numbers::element_or_refusal;
 use crate::looks::one_cell::read;
 use crate::refusal::Refusal;
 use wb_book::{AnyIndex, Cell, DomainKind, Kind, Name, Value};
@@ -55,97 +55,101 @@ pub(crate) struct ArrayRef {
 }
 
 /// The parent of a sparse domain.
-pub(crate) fn parent_of(book: &Book, foot: &mut Foot, domain: Name) -> Result<Name, AttemptErr>
-    ensures { Looks (parent_of domain) book.now.cells foot.old result foot.new }
+pub(crate) fn parent_of(
+    book: &Book,
+    footprint: &mut Footprint,
+    domain: Name,
+) -> Result<Name, AttemptErr>
+    ensures { Looks (parent_of domain) book.now.cells footprint.old result footprint.new }
 {
-    let object = read(book, foot, &Cell::Object(domain))?;
+    let object = read(book, footprint, &Cell::Object(domain))?;
     stopped(parent_in(object))
 }
 
 /// That an index is in a rectangular domain.
 fn is_in_domain(
     book: &Book,
-    foot: &mut Foot,
+    footprint: &mut Footprint,
     domain: Name,
     index: AnyIndex,
 ) -> Result<(), AttemptErr>
-    ensures { Looks (is_in_domain domain index) book.now.cells foot.old result foot.new }
+    ensures { Looks (is_in_domain domain index) book.now.cells footprint.old result footprint.new }
 {
-    let present = read(book, foot, &Cell::In(domain, index))?;
+    let present = read(book, footprint, &Cell::In(domain, index))?;
     stopped(is_there(present))
 }
 
 /// The implicit value of an array.
-fn implicit_value(book: &Book, foot: &mut Foot, array: Name) -> Result<i64, AttemptErr>
-    ensures { Looks (implicit_value array) book.now.cells foot.old result foot.new }
+fn implicit_value(book: &Book, footprint: &mut Footprint, array: Name) -> Result<i64, AttemptErr>
+    ensures { Looks (implicit_value array) book.now.cells footprint.old result footprint.new }
 {
-    let value = read(book, foot, &Cell::Implicit(array))?;
-    stopped(number_in(value))
+    let value = read(book, footprint, &Cell::Implicit(array))?;
+    stopped(element_or_refusal(value))
 }
 
 fn implicit_inside(
     book: &Book,
-    foot: &mut Foot,
+    footprint: &mut Footprint,
     array: Name,
     parent: Name,
     index: AnyIndex,
 ) -> Result<i64, AttemptErr>
-    ensures { Looks (implicit_inside array parent index) book.now.cells foot.old result foot.new }
+    ensures { Looks (implicit_inside array parent index) book.now.cells footprint.old result footprint.new }
 {
-    is_in_domain(book, foot, parent, index)?;
-    implicit_value(book, foot, array)
+    is_in_domain(book, footprint, parent, index)?;
+    implicit_value(book, footprint, array)
 }
 
 fn implicit_at(
     book: &Book,
-    foot: &mut Foot,
+    footprint: &mut Footprint,
     array: Name,
     domain: Name,
     index: AnyIndex,
 ) -> Result<i64, AttemptErr>
-    ensures { Looks (implicit_at array domain index) book.now.cells foot.old result foot.new }
+    ensures { Looks (implicit_at array domain index) book.now.cells footprint.old result footprint.new }
 {
-    let parent = parent_of(book, foot, domain)?;
-    implicit_inside(book, foot, array, parent, index)
+    let parent = parent_of(book, footprint, domain)?;
+    implicit_inside(book, footprint, array, parent, index)
 }
 
 /// The implicit value at an index of the parent.
 fn implicit(
     book: &Book,
-    foot: &mut Foot,
+    footprint: &mut Footprint,
     source: &ArrayRef,
     index: AnyIndex,
 ) -> Result<i64, AttemptErr>
-    ensures { Looks (implicit source.now.array source.now.domain source.now.kind index) book.now.cells foot.old result foot.new }
+    ensures { Looks (implicit source.now.array source.now.domain source.now.kind index) book.now.cells footprint.old result footprint.new }
 {
     stopped(has_implicit(&source.kind))?;
-    implicit_at(book, foot, source.array, source.domain, index)
+    implicit_at(book, footprint, source.array, source.domain, index)
 }
 
 fn or_implicit(
     book: &Book,
-    foot: &mut Foot,
+    footprint: &mut Footprint,
     source: &ArrayRef,
     index: AnyIndex,
     element: Option<Value>,
 ) -> Result<i64, AttemptErr>
-    ensures { Looks (or_implicit source.now.array source.now.domain source.now.kind index element) book.now.cells foot.old result foot.new }
+    ensures { Looks (or_implicit source.now.array source.now.domain source.now.kind index element) book.now.cells footprint.old result footprint.new }
 {
     match element {
-        Some(value) => stopped(number_in(Some(value))),
-        None => implicit(book, foot, source, index),
+        Some(value) => stopped(element_or_refusal(Some(value))),
+        None => implicit(book, footprint, source, index),
     }
 }
 
 /// The element at an index, or the implicit value.
 pub(crate) fn element_or_implicit(
     book: &Book,
-    foot: &mut Foot,
+    footprint: &mut Footprint,
     source: &ArrayRef,
     index: AnyIndex,
 ) -> Result<i64, AttemptErr>
-    ensures { Looks (element_or_implicit source.now.array source.now.domain source.now.kind index) book.now.cells foot.old result foot.new }
+    ensures { Looks (element_or_implicit source.now.array source.now.domain source.now.kind index) book.now.cells footprint.old result footprint.new }
 {
-    let element = read(book, foot, &Cell::Element(source.array, index))?;
-    or_implicit(book, foot, source, index, element)
+    let element = read(book, footprint, &Cell::Element(source.array, index))?;
+    or_implicit(book, footprint, source, index, element)
 }

@@ -6,7 +6,7 @@ ghost use Rattle.wb_edit.specs.Looks.{members, points, indices_of, domain_indice
 ghost use Rattle.wb_edit.specs.Plans.{Looks, found_members, indices_in, shown_indices};
 
 use crate::attempt_err::AttemptErr;
-use crate::foot::Foot;
+use crate::footprint::Footprint;
 use crate::looks::judgements;
 use crate::looks::one_cell::read;
 use std::alloc::Global;
@@ -26,10 +26,10 @@ pub(crate) enum Indices {
 pub(crate) fn members(
     alloc: Global,
     book: &Book,
-    foot: &mut Foot,
+    footprint: &mut Footprint,
     domain: Name,
 ) -> Result<Vec<AnyIndex>, AttemptErr>
-    ensures looks { Looks (members domain) book.now.cells foot.old (found_members result) foot.new }
+    ensures looks { Looks (members domain) book.now.cells footprint.old (found_members result) footprint.new }
     ensures once { IfOk result (λ v. IsListedOnce v.items) }
 {
     let pattern = Pattern::Members(domain);
@@ -39,7 +39,7 @@ pub(crate) fn members(
     let Ok(found) = members_in(alloc, &shown) else {
         return Err(AttemptErr::NoMemory);
     };
-    match foot.keep(pattern) {
+    match footprint.keep(pattern) {
         Ok(()) => Ok(found),
         Err(_) => Err(AttemptErr::NoMemory),
     }
@@ -49,13 +49,13 @@ pub(crate) fn members(
 pub(crate) fn points(
     alloc: Global,
     book: &Book,
-    foot: &mut Foot,
+    footprint: &mut Footprint,
     domain: Name,
 ) -> Result<Indices, AttemptErr>
-    ensures looks { Looks (points domain) book.now.cells foot.old (shown_indices result) foot.new }
+    ensures looks { Looks (points domain) book.now.cells footprint.old (shown_indices result) footprint.new }
     ensures once { IfOk result (λ f. IsListedOnce (indices_in f)) }
 {
-    let shape = read(book, foot, &Cell::Shape(domain))?;
+    let shape = read(book, footprint, &Cell::Shape(domain))?;
     Ok(indices_of(alloc, judgements::ranges_in(shape)))
 }
 
@@ -88,16 +88,16 @@ fn listed(found: Result<Vec<AnyIndex>, AttemptErr>) -> Result<Indices, AttemptEr
 pub(crate) fn domain_indices(
     alloc: Global,
     book: &Book,
-    foot: &mut Foot,
+    footprint: &mut Footprint,
     domain: Name,
     kind: &AnyDomain,
 ) -> Result<Indices, AttemptErr>
-    ensures looks { Looks (domain_indices domain kind.now) book.now.cells foot.old (shown_indices result) foot.new }
+    ensures looks { Looks (domain_indices domain kind.now) book.now.cells footprint.old (shown_indices result) footprint.new }
     ensures once { IfOk result (λ f. IsListedOnce (indices_in f)) }
 {
     match kind.domain_kind() {
-        DomainKind::Rectangular(_) => points(alloc, book, foot, domain),
-        DomainKind::Sparse(_, _) => listed(members(alloc, book, foot, domain)),
-        DomainKind::Associative(_) => listed(members(alloc, book, foot, domain)),
+        DomainKind::Rectangular(_) => points(alloc, book, footprint, domain),
+        DomainKind::Sparse(_, _) => listed(members(alloc, book, footprint, domain)),
+        DomainKind::Associative(_) => listed(members(alloc, book, footprint, domain)),
     }
 }

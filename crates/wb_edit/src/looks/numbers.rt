@@ -1,14 +1,14 @@
 //! Tests on numbers: the element that is read, and sums within 64 bits.
 
 ghost use Rattle.std.specs.Prelude.{◌≡◌, ◌+ℤ◌, ◌-ℤ◌, ◌*ℤ◌};
-ghost use Rattle.wb_edit.specs.Numbers.{number_in, fits_integer};
+ghost use Rattle.wb_edit.specs.Numbers.{element_or_refusal, fits_integer};
 
 use crate::refusal::Refusal;
 use wb_book::Value;
 
 /// The element that a cell holds.
-pub fn number_in(element: Option<Value>) -> Result<i64, Refusal>
-    ensures { result ≡ number_in element }
+pub fn element_or_refusal(element: Option<Value>) -> Result<i64, Refusal>
+    ensures { result ≡ element_or_refusal element }
 {
     match element {
         None => Err(Refusal::OutOfDomain),

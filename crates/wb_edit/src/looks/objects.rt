@@ -7,7 +7,7 @@ ghost use Rattle.wb_edit.specs.Objects.{is_empty, no_object};
 ghost use Rattle.wb_edit.specs.Plans.{Looks};
 
 use crate::attempt_err::{AttemptErr, stopped};
-use crate::foot::Foot;
+use crate::footprint::Footprint;
 use crate::refusal::Refusal;
 use wb_book::Pattern;
 use wb_shelf::Book;
@@ -23,10 +23,10 @@ fn is_empty(book: &Book) -> Result<(), Refusal>
 }
 
 /// There is no object. However many there are, it takes no memory for them.
-pub(crate) fn no_object(book: &Book, foot: &mut Foot) -> Result<(), AttemptErr>
-    ensures { Looks no_object book.now.cells foot.old result foot.new }
+pub(crate) fn no_object(book: &Book, footprint: &mut Footprint) -> Result<(), AttemptErr>
+    ensures { Looks no_object book.now.cells footprint.old result footprint.new }
 {
-    match foot.keep(Pattern::Objects) {
+    match footprint.keep(Pattern::Objects) {
         Ok(()) => stopped(is_empty(book)),
         Err(_) => Err(AttemptErr::NoMemory),
     }

@@ -7,62 +7,70 @@ ghost use Rattle.wb_edit.specs.Looks.{free_name, domain_named, array_named, elem
 ghost use Rattle.wb_edit.specs.Plans.{Looks};
 
 use crate::attempt_err::{AttemptErr, stopped};
-use crate::foot::Foot;
+use crate::footprint::Footprint;
 use crate::looks::judgements;
 use wb_book::{AnyCell, AnyDomain, AnyIndex, Cell, Kind, Name, Pattern, Value};
 use wb_shelf::Book;
 
 /// What a cell holds.
-pub(crate) fn read(book: &Book, foot: &mut Foot, cell: &Cell) -> Result<Option<Value>, AttemptErr>
-    ensures { Looks (read cell.now) book.now.cells foot.old result foot.new }
+pub(crate) fn read(
+    book: &Book,
+    footprint: &mut Footprint,
+    cell: &Cell,
+) -> Result<Option<Value>, AttemptErr>
+    ensures { Looks (read cell.now) book.now.cells footprint.old result footprint.new }
 {
-    match foot.keep(Pattern::One(AnyCell::new(*cell))) {
+    match footprint.keep(Pattern::One(AnyCell::new(*cell))) {
         Ok(()) => Ok(book.get(cell)),
         Err(_) => Err(AttemptErr::NoMemory),
     }
 }
 
 /// Nothing has the name.
-pub(crate) fn free_name(book: &Book, foot: &mut Foot, name: Name) -> Result<(), AttemptErr>
-    ensures { Looks (free_name name) book.now.cells foot.old result foot.new }
+pub(crate) fn free_name(
+    book: &Book,
+    footprint: &mut Footprint,
+    name: Name,
+) -> Result<(), AttemptErr>
+    ensures { Looks (free_name name) book.now.cells footprint.old result footprint.new }
 {
-    let object = read(book, foot, &Cell::Object(name))?;
+    let object = read(book, footprint, &Cell::Object(name))?;
     stopped(judgements::is_free(object))
 }
 
 /// The name is there, and names a domain: what it is.
 pub(crate) fn domain_named(
     book: &Book,
-    foot: &mut Foot,
+    footprint: &mut Footprint,
     domain: Name,
 ) -> Result<AnyDomain, AttemptErr>
-    ensures { Looks (domain_named domain) book.now.cells foot.old result foot.new }
+    ensures { Looks (domain_named domain) book.now.cells footprint.old result footprint.new }
 {
-    let object = read(book, foot, &Cell::Object(domain))?;
+    let object = read(book, footprint, &Cell::Object(domain))?;
     stopped(judgements::domain_kind(object))
 }
 
 /// The name is there, and names an array: its domain, and that domain's kind.
 pub(crate) fn array_named(
     book: &Book,
-    foot: &mut Foot,
+    footprint: &mut Footprint,
     array: Name,
 ) -> Result<(Name, Kind), AttemptErr>
-    ensures { Looks (array_named array) book.now.cells foot.old result foot.new }
+    ensures { Looks (array_named array) book.now.cells footprint.old result footprint.new }
 {
-    let object = read(book, foot, &Cell::Object(array))?;
+    let object = read(book, footprint, &Cell::Object(array))?;
     stopped(judgements::array_kind(object))
 }
 
 /// The element is there.
 pub(crate) fn element(
     book: &Book,
-    foot: &mut Foot,
+    footprint: &mut Footprint,
     array: Name,
     index: AnyIndex,
 ) -> Result<(), AttemptErr>
-    ensures { Looks (element array index) book.now.cells foot.old result foot.new }
+    ensures { Looks (element array index) book.now.cells footprint.old result footprint.new }
 {
-    let element = read(book, foot, &Cell::Element(array, index))?;
+    let element = read(book, footprint, &Cell::Element(array, index))?;
     stopped(judgements::is_there(element))
 }

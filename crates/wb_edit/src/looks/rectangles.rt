@@ -10,7 +10,7 @@ ghost use Rattle.wb_edit.specs.Rectangles.{is_rectangular_of, of_rank, there_if,
 ghost use Rattle.wb_edit.specs.declared.attempt_err.AttemptErr.TheVariants.{NoMemory};
 
 use crate::attempt_err::{AttemptErr, stopped};
-use crate::foot::Foot;
+use crate::footprint::Footprint;
 use crate::refusal::Refusal;
 use wb_book::{AnyCell, AnyRect, Cell, Kind, Name, Pattern};
 use wb_shelf::Book;
@@ -55,19 +55,28 @@ pub fn there_if(all: bool) -> Result<(), Refusal>
 }
 
 /// Whether a cell is there; it is looked at.
-pub(crate) fn is_present(book: &Book, foot: &mut Foot, cell: &Cell) -> Result<bool, AttemptErr>
-    ensures read { OnOk result (foot.new ≡ foot.old ++ one_of cell.now ∷ []) }
+pub(crate) fn is_present(
+    book: &Book,
+    footprint: &mut Footprint,
+    cell: &Cell,
+) -> Result<bool, AttemptErr>
+    ensures read { OnOk result (footprint.new ≡ footprint.old ++ one_of cell.now ∷ []) }
     ensures present { IfOk result (λ b. b ≡ is_some (get book.now.cells cell.now)) }
     ensures only { IfErr result (λ e. e ≡ NoMemory) }
 {
-    match foot.keep(Pattern::One(AnyCell::new(*cell))) {
+    match footprint.keep(Pattern::One(AnyCell::new(*cell))) {
         Ok(()) => Ok(book.get(cell).is_some()),
         Err(_) => Err(AttemptErr::NoMemory),
     }
 }
 
-fn are_present(book: &Book, foot: &mut Foot, array: Name, on: &AnyRect) -> Result<bool, AttemptErr>
-    ensures read { OnOk result (foot.new ≡ foot.old ++ map one_of (map (Element array) (indices on.now))) }
+fn are_present(
+    book: &Book,
+    footprint: &mut Footprint,
+    array: Name,
+    on: &AnyRect,
+) -> Result<bool, AttemptErr>
+    ensures read { OnOk result (footprint.new ≡ footprint.old ++ map one_of (map (Element array) (indices on.now))) }
     ensures present { IfOk result (λ b. b ≡ list_all is_some (map (get book.now.cells) (map (Element array) (indices on.now)))) }
     ensures only { IfErr result (λ e. e ≡ NoMemory) }
 {
@@ -75,7 +84,7 @@ fn are_present(book: &Book, foot: &mut Foot, array: Name, on: &AnyRect) -> Resul
     for p in 0..on.size() {
         match on.nth(p) {
             Some(index) => {
-                let here = is_present(book, foot, &Cell::Element(array, index))?;
+                let here = is_present(book, footprint, &Cell::Element(array, index))?;
                 all = both_answers(all, here);
             }
             None => {}
@@ -94,12 +103,12 @@ pub(crate) fn both_answers(all: bool, here: bool) -> bool
 /// An array's elements at the indices of a rectangle.
 pub(crate) fn all_elements(
     book: &Book,
-    foot: &mut Foot,
+    footprint: &mut Footprint,
     array: Name,
     on: &AnyRect,
 ) -> Result<(), AttemptErr>
-    ensures { Looks (all_elements array (indices on.now)) book.now.cells foot.old result foot.new }
+    ensures { Looks (all_elements array (indices on.now)) book.now.cells footprint.old result footprint.new }
 {
-    let all = are_present(book, foot, array, on)?;
+    let all = are_present(book, footprint, array, on)?;
     stopped(there_if(all))
 }

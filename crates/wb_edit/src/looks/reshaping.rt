@@ -9,7 +9,7 @@ ghost use Rattle.wb_edit.specs.Reshaping.{shape_in, absent_if, shape, member_cel
 ghost use Rattle.wb_edit.specs.declared.attempt_err.AttemptErr.TheVariants.{NoMemory};
 
 use crate::attempt_err::{AttemptErr, stopped};
-use crate::foot::Foot;
+use crate::footprint::Footprint;
 use crate::looks::one_cell::read;
 use crate::looks::rectangles::is_present;
 use crate::refusal::Refusal;
@@ -35,10 +35,14 @@ pub fn shape_in(shape: Option<Value>) -> Result<AnyRect, Refusal>
 }
 
 /// The ranges of a rectangular domain.
-pub(crate) fn shape(book: &Book, foot: &mut Foot, domain: Name) -> Result<AnyRect, AttemptErr>
-    ensures { Looks (shape domain) book.now.cells foot.old result foot.new }
+pub(crate) fn shape(
+    book: &Book,
+    footprint: &mut Footprint,
+    domain: Name,
+) -> Result<AnyRect, AttemptErr>
+    ensures { Looks (shape domain) book.now.cells footprint.old result footprint.new }
 {
-    let ranges = read(book, foot, &Cell::Shape(domain))?;
+    let ranges = read(book, footprint, &Cell::Shape(domain))?;
     stopped(shape_in(ranges))
 }
 
@@ -59,17 +63,17 @@ fn either_answer(any: bool, here: bool) -> bool
 // Whether a domain has one of some indices; each of them is looked at.
 fn has_some(
     book: &Book,
-    foot: &mut Foot,
+    footprint: &mut Footprint,
     domain: Name,
     listed: &[AnyIndex],
 ) -> Result<bool, AttemptErr>
-    ensures read { OnOk result (foot.new ≡ foot.old ++ map one_of (map (Member domain) listed.now)) }
+    ensures read { OnOk result (footprint.new ≡ footprint.old ++ map one_of (map (Member domain) listed.now)) }
     ensures there { IfOk result (λ b. b ≡ list_any is_some (map (get book.now.cells) (map (Member domain) listed.now))) }
     ensures only { IfErr result (λ e. e ≡ NoMemory) }
 {
     let mut any = false;
     for index in listed {
-        let here = is_present(book, foot, &Cell::Member(domain, *index))?;
+        let here = is_present(book, footprint, &Cell::Member(domain, *index))?;
         any = either_answer(any, here);
     }
     Ok(any)
@@ -78,17 +82,17 @@ fn has_some(
 // Whether one of some domains has one of some indices; each index is looked at in each domain.
 fn some_have(
     book: &Book,
-    foot: &mut Foot,
+    footprint: &mut Footprint,
     domains: &[Name],
     listed: &[AnyIndex],
 ) -> Result<bool, AttemptErr>
-    ensures read { OnOk result (foot.new ≡ foot.old ++ map one_of (member_cells domains.now listed.now)) }
+    ensures read { OnOk result (footprint.new ≡ footprint.old ++ map one_of (member_cells domains.now listed.now)) }
     ensures there { IfOk result (λ b. b ≡ list_any is_some (map (get book.now.cells) (member_cells domains.now listed.now))) }
     ensures only { IfErr result (λ e. e ≡ NoMemory) }
 {
     let mut any = false;
     for domain in domains {
-        let here = has_some(book, foot, *domain, listed)?;
+        let here = has_some(book, footprint, *domain, listed)?;
         any = either_answer(any, here);
     }
     Ok(any)
@@ -97,12 +101,12 @@ fn some_have(
 /// None of some indices is in one of the domains.
 pub(crate) fn none_there(
     book: &Book,
-    foot: &mut Foot,
+    footprint: &mut Footprint,
     domains: &[Name],
     listed: &[AnyIndex],
 ) -> Result<(), AttemptErr>
-    ensures { Looks (none_there domains.now listed.now) book.now.cells foot.old result foot.new }
+    ensures { Looks (none_there domains.now listed.now) book.now.cells footprint.old result footprint.new }
 {
-    let any = some_have(book, foot, domains, listed)?;
+    let any = some_have(book, footprint, domains, listed)?;
     stopped(absent_if(any))
 }

@@ -12,7 +12,7 @@ ghost use Rattle.wb_edit.specs.Resizing.{has_members, inside_if, number_or_zero,
 ghost use Rattle.wb_edit.specs.declared.attempt_err.AttemptErr.TheVariants.{NoMemory};
 
 use crate::attempt_err::{AttemptErr, stopped};
-use crate::foot::Foot;
+use crate::footprint::Footprint;
 use crate::indexed_cells::{IndexedCells, cell_at};
 use crate::looks::rectangles::{both_answers, is_present};
 use crate::looks::users::{arrays, uses};
@@ -46,17 +46,17 @@ pub fn inside_if(all: bool) -> Result<(), Refusal>
 /// Whether the cells of some indices are all there; each of them is looked at.
 pub(crate) fn are_there(
     book: &Book,
-    foot: &mut Foot,
+    footprint: &mut Footprint,
     indexed: &IndexedCells,
     listed: &[AnyIndex],
 ) -> Result<bool, AttemptErr>
-    ensures read { OnOk result (foot.new ≡ foot.old ++ map one_of (map (cell_at indexed.now) listed.now)) }
+    ensures read { OnOk result (footprint.new ≡ footprint.old ++ map one_of (map (cell_at indexed.now) listed.now)) }
     ensures there { IfOk result (λ b. b ≡ list_all is_some (map (get book.now.cells) (map (cell_at indexed.now) listed.now))) }
     ensures only { IfErr result (λ e. e ≡ NoMemory) }
 {
     let mut all = true;
     for index in listed {
-        let here = is_present(book, foot, &cell_at(indexed, *index))?;
+        let here = is_present(book, footprint, &cell_at(indexed, *index))?;
         all = both_answers(all, here);
     }
     Ok(all)
@@ -65,28 +65,28 @@ pub(crate) fn are_there(
 /// All indices are in a rectangular domain.
 fn all_in_domain(
     book: &Book,
-    foot: &mut Foot,
+    footprint: &mut Footprint,
     parent: Name,
     listed: &[AnyIndex],
 ) -> Result<(), AttemptErr>
-    ensures { Looks (all_in_domain parent listed.now) book.now.cells foot.old result foot.new }
+    ensures { Looks (all_in_domain parent listed.now) book.now.cells footprint.old result footprint.new }
 {
-    let all = are_there(book, foot, &IndexedCells::Inside(parent), listed)?;
+    let all = are_there(book, footprint, &IndexedCells::Inside(parent), listed)?;
     stopped(inside_if(all))
 }
 
 /// The domain may have the indices: if it is sparse, they are in its parent.
 pub(crate) fn all_in_parent(
     book: &Book,
-    foot: &mut Foot,
+    footprint: &mut Footprint,
     kind: &AnyDomain,
     listed: &[AnyIndex],
 ) -> Result<(), AttemptErr>
-    ensures { Looks (all_in_parent kind.now listed.now) book.now.cells foot.old result foot.new }
+    ensures { Looks (all_in_parent kind.now listed.now) book.now.cells footprint.old result footprint.new }
 {
     match kind.domain_kind() {
         DomainKind::Rectangular(_) => Ok(()),
-        DomainKind::Sparse(parent, _) => all_in_domain(book, foot, parent, listed),
+        DomainKind::Sparse(parent, _) => all_in_domain(book, footprint, parent, listed),
         DomainKind::Associative(_) => Ok(()),
     }
 }
@@ -110,13 +110,17 @@ fn number_or_zero(value: Option<Value>) -> i64
 }
 
 // An array with its implicit value, which is looked at.
-fn with_implicit(book: &Book, foot: &mut Foot, array: Name) -> Result<(Name, i64), AttemptErr>
-    ensures read { OnOk result (foot.new ≡ foot.old ++ one_of (Implicit array) ∷ []) }
+fn with_implicit(
+    book: &Book,
+    footprint: &mut Footprint,
+    array: Name,
+) -> Result<(Name, i64), AttemptErr>
+    ensures read { OnOk result (footprint.new ≡ footprint.old ++ one_of (Implicit array) ∷ []) }
     ensures value { IfOk result (λ f. f ≡ (array, number_or_zero (get book.now.cells (Implicit array)))) }
     ensures only { IfErr result (λ e. e ≡ NoMemory) }
 {
     let cell = Cell::Implicit(array);
-    match foot.keep(Pattern::One(AnyCell::new(cell))) {
+    match footprint.keep(Pattern::One(AnyCell::new(cell))) {
         Ok(()) => Ok((array, number_or_zero(book.get(&cell)))),
         Err(_) => Err(AttemptErr::NoMemory),
     }
@@ -126,16 +130,16 @@ fn with_implicit(book: &Book, foot: &mut Foot, array: Name) -> Result<(Name, i64
 fn with_implicits(
     alloc: Global,
     book: &Book,
-    foot: &mut Foot,
+    footprint: &mut Footprint,
     arrays: &[Name],
 ) -> Result<Vec<(Name, i64)>, AttemptErr>
-    ensures read { OnOk result (foot.new ≡ foot.old ++ map one_of (map Implicit arrays.now)) }
+    ensures read { OnOk result (footprint.new ≡ footprint.old ++ map one_of (map Implicit arrays.now)) }
     ensures values { IfOk result (λ v. v.items ≡ map (λ a. (a, number_or_zero (get book.now.cells (Implicit a)))) arrays.now) }
     ensures only { IfErr result (λ e. e ≡ NoMemory) }
 {
     let mut found = Vec::new(alloc);
     for array in arrays {
-        let fill = with_implicit(book, foot, *array)?;
+        let fill = with_implicit(book, footprint, *array)?;
         if found.push(fill).is_err() {
             return Err(AttemptErr::NoMemory);
         }
@@ -163,16 +167,16 @@ pub(crate) fn zeros(alloc: Global, arrays: &[Name]) -> Result<Vec<(Name, i64)>, 
 fn defaults(
     alloc: Global,
     book: &Book,
-    foot: &mut Foot,
+    footprint: &mut Footprint,
     kind: &AnyDomain,
     arrays: &[Name],
 ) -> Result<Vec<(Name, i64)>, AttemptErr>
-    ensures looks { Looks (defaults kind.now arrays.now) book.now.cells foot.old (items_of result) foot.new }
+    ensures looks { Looks (defaults kind.now arrays.now) book.now.cells footprint.old (items_of result) footprint.new }
     ensures keys { IfOk result (λ v. keys_of v.items ≡ arrays.now) }
 {
     match kind.domain_kind() {
         DomainKind::Rectangular(_) => zeros(alloc, arrays),
-        DomainKind::Sparse(_, _) => with_implicits(alloc, book, foot, arrays),
+        DomainKind::Sparse(_, _) => with_implicits(alloc, book, footprint, arrays),
         DomainKind::Associative(_) => zeros(alloc, arrays),
     }
 }
@@ -181,14 +185,14 @@ fn defaults(
 pub(crate) fn fills(
     alloc: Global,
     book: &Book,
-    foot: &mut Foot,
+    footprint: &mut Footprint,
     domain: Name,
     kind: &AnyDomain,
 ) -> Result<Vec<(Name, i64)>, AttemptErr>
-    ensures looks { Looks (fills domain kind.now) book.now.cells foot.old (items_of result) foot.new }
+    ensures looks { Looks (fills domain kind.now) book.now.cells footprint.old (items_of result) footprint.new }
     ensures once { IfOk result (λ v. IsListedOnce (keys_of v.items)) }
 {
-    let users = uses(alloc, book, foot, domain)?;
+    let users = uses(alloc, book, footprint, domain)?;
     let names = arrays(alloc, &users)?;
-    defaults(alloc, book, foot, kind, &names)
+    defaults(alloc, book, footprint, kind, &names)
 }

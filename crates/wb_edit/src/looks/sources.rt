@@ -9,7 +9,7 @@ ghost use Rattle.wb_edit.specs.declared.attempt_err.AttemptErr.TheVariants.{NoMe
 ghost use Rattle.wb_edit.specs.Sources.{same_rank, slice_of, displacement_of, is_same_type, is_alike, alike, all_fit, names_rectangle, gives_rectangle, ranges_given, names_set, gives_set, indices_given};
 
 use crate::attempt_err::{AttemptErr, stopped};
-use crate::foot::Foot;
+use crate::footprint::Footprint;
 use crate::looks::indices::members;
 use crate::looks::one_cell::domain_named;
 use crate::looks::rectangles::{both_answers, of_rank};
@@ -21,7 +21,7 @@ use wb_book::{AnyIndex, AnyRect, KeyType, Kind, Name, Point};
 use wb_range::Domain;
 use wb_rect::RectErr;
 use wb_resize::new_rectangles::displaced;
-use wb_resize::{Displacement, Given};
+use wb_resize::{Displacement, Operand};
 use wb_shelf::Book;
 
 /// That there are so many dimensions as a domain of the rank has; `WrongKind` where there are not.
@@ -130,65 +130,75 @@ pub fn all_fit(kind: Kind, listed: &[AnyIndex]) -> Result<(), Refusal>
 }
 
 // The name is that of a rectangular domain of the rank.
-fn names_rectangle(book: &Book, foot: &mut Foot, rank: u8, name: Name) -> Result<(), AttemptErr>
-    ensures { Looks (names_rectangle rank name) book.now.cells foot.old result foot.new }
+fn names_rectangle(
+    book: &Book,
+    footprint: &mut Footprint,
+    rank: u8,
+    name: Name,
+) -> Result<(), AttemptErr>
+    ensures { Looks (names_rectangle rank name) book.now.cells footprint.old result footprint.new }
 {
-    let kind = domain_named(book, foot, name)?;
+    let kind = domain_named(book, footprint, name)?;
     stopped(of_rank(rank, kind.kind()))
 }
 
 /// A rectangle of the rank is given.
 pub(crate) fn gives_rectangle(
     book: &Book,
-    foot: &mut Foot,
+    footprint: &mut Footprint,
     rank: u8,
-    given: &Given,
+    given: &Operand,
 ) -> Result<(), AttemptErr>
-    ensures { Looks (gives_rectangle rank given.now) book.now.cells foot.old result foot.new }
+    ensures { Looks (gives_rectangle rank given.now) book.now.cells footprint.old result footprint.new }
 {
     match given {
-        Given::Rectangle(ranges) => stopped(same_rank(rank as usize, ranges.rank() as usize)),
-        Given::Items(_) => Err(AttemptErr::Refused(Refusal::WrongKind)),
-        Given::Named(name) => names_rectangle(book, foot, rank, *name),
+        Operand::Rectangle(ranges) => stopped(same_rank(rank as usize, ranges.rank() as usize)),
+        Operand::Items(_) => Err(AttemptErr::Refused(Refusal::WrongKind)),
+        Operand::Named(name) => names_rectangle(book, footprint, rank, *name),
     }
 }
 
 /// The ranges that are given.
 pub(crate) fn ranges_given(
     book: &Book,
-    foot: &mut Foot,
-    given: &Given,
+    footprint: &mut Footprint,
+    given: &Operand,
 ) -> Result<AnyRect, AttemptErr>
-    ensures { Looks (ranges_given given.now) book.now.cells foot.old result foot.new }
+    ensures { Looks (ranges_given given.now) book.now.cells footprint.old result footprint.new }
 {
     match given {
-        Given::Rectangle(ranges) => Ok(*ranges),
-        Given::Items(_) => Err(AttemptErr::Refused(Refusal::WrongKind)),
-        Given::Named(name) => shape(book, foot, *name),
+        Operand::Rectangle(ranges) => Ok(*ranges),
+        Operand::Items(_) => Err(AttemptErr::Refused(Refusal::WrongKind)),
+        Operand::Named(name) => shape(book, footprint, *name),
     }
 }
 
 // The name is that of a domain like one of the kind.
-fn names_set(book: &Book, foot: &mut Foot, kind: Kind, name: Name) -> Result<(), AttemptErr>
-    ensures { Looks (names_set kind name) book.now.cells foot.old result foot.new }
+fn names_set(
+    book: &Book,
+    footprint: &mut Footprint,
+    kind: Kind,
+    name: Name,
+) -> Result<(), AttemptErr>
+    ensures { Looks (names_set kind name) book.now.cells footprint.old result footprint.new }
 {
-    let other = domain_named(book, foot, name)?;
+    let other = domain_named(book, footprint, name)?;
     stopped(alike(kind, other.kind()))
 }
 
 /// A set for a domain of the kind is given.
 pub(crate) fn gives_set(
     book: &Book,
-    foot: &mut Foot,
+    footprint: &mut Footprint,
     kind: Kind,
-    given: &Given,
+    given: &Operand,
 ) -> Result<(), AttemptErr>
-    ensures { Looks (gives_set kind given.now) book.now.cells foot.old result foot.new }
+    ensures { Looks (gives_set kind given.now) book.now.cells footprint.old result footprint.new }
 {
     match given {
-        Given::Rectangle(_) => Err(AttemptErr::Refused(Refusal::WrongKind)),
-        Given::Items(listed) => stopped(all_fit(kind, listed.as_slice())),
-        Given::Named(name) => names_set(book, foot, kind, *name),
+        Operand::Rectangle(_) => Err(AttemptErr::Refused(Refusal::WrongKind)),
+        Operand::Items(listed) => stopped(all_fit(kind, listed.as_slice())),
+        Operand::Named(name) => names_set(book, footprint, kind, *name),
     }
 }
 
@@ -209,15 +219,15 @@ fn listed(alloc: Global, items: &Assoc<AnyIndex>) -> Result<Vec<AnyIndex>, Attem
 pub(crate) fn indices_given(
     alloc: Global,
     book: &Book,
-    foot: &mut Foot,
-    given: &Given,
+    footprint: &mut Footprint,
+    given: &Operand,
 ) -> Result<Vec<AnyIndex>, AttemptErr>
-    ensures looks { Looks (indices_given given.now) book.now.cells foot.old (found_members result) foot.new }
+    ensures looks { Looks (indices_given given.now) book.now.cells footprint.old (found_members result) footprint.new }
     ensures once { IfOk result (λ v. IsListedOnce v.items) }
 {
     match given {
-        Given::Rectangle(_) => Err(AttemptErr::Refused(Refusal::WrongKind)),
-        Given::Items(items) => listed(alloc, items),
-        Given::Named(name) => members(alloc, book, foot, *name),
+        Operand::Rectangle(_) => Err(AttemptErr::Refused(Refusal::WrongKind)),
+        Operand::Items(items) => listed(alloc, items),
+        Operand::Named(name) => members(alloc, book, footprint, *name),
     }
 }

@@ -11,7 +11,7 @@ ghost use Rattle.wb_edit.specs.Users.{binding_in, user_in, named, bound, is_unus
 ghost use Rattle.wb_edit.specs.declared.attempt_err.AttemptErr.TheVariants.{NoMemory};
 
 use crate::attempt_err::{AttemptErr, stopped};
-use crate::foot::Foot;
+use crate::footprint::Footprint;
 use crate::refusal::Refusal;
 use std::alloc::{AllocError, Global};
 use wb_book::{Binding, Cell, Name, Pattern, Value};
@@ -68,10 +68,10 @@ fn users_in(alloc: Global, shown: &[(Cell, Value)]) -> Result<Vec<(Name, Binding
 pub(crate) fn uses(
     alloc: Global,
     book: &Book,
-    foot: &mut Foot,
+    footprint: &mut Footprint,
     domain: Name,
 ) -> Result<Vec<(Name, Binding)>, AttemptErr>
-    ensures looks { Looks (uses domain) book.now.cells foot.old (items_of result) foot.new }
+    ensures looks { Looks (uses domain) book.now.cells footprint.old (items_of result) footprint.new }
     ensures seen { IfOk result (λ v. v.items ≡ filter_map user_in (seen book.now.cells (Uses domain))) }
 {
     let pattern = Pattern::Uses(domain);
@@ -81,7 +81,7 @@ pub(crate) fn uses(
     let Ok(found) = users_in(alloc, &shown) else {
         return Err(AttemptErr::NoMemory);
     };
-    match foot.keep(pattern) {
+    match footprint.keep(pattern) {
         Ok(()) => Ok(found),
         Err(_) => Err(AttemptErr::NoMemory),
     }
@@ -173,11 +173,11 @@ pub fn is_unused(users: &[(Name, Binding)]) -> Result<(), Refusal>
 pub(crate) fn unused(
     alloc: Global,
     book: &Book,
-    foot: &mut Foot,
+    footprint: &mut Footprint,
     domain: Name,
 ) -> Result<(), AttemptErr>
-    ensures { Looks (unused domain) book.now.cells foot.old result foot.new }
+    ensures { Looks (unused domain) book.now.cells footprint.old result footprint.new }
 {
-    let users = uses(alloc, book, foot, domain)?;
+    let users = uses(alloc, book, footprint, domain)?;
     stopped(is_unused(&users))
 }

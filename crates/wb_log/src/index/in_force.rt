@@ -1,9 +1,9 @@
 //! The latest edit in force.
 
 ghost use Rattle.std.specs.Prelude.{◌≡◌, ℕ, ◌+◌, ◌^◌, ◌<◌, length, Some, None, OnOk, OnErr};
-ghost use Rattle.selective_undo.specs.Log.{Foot};
+ghost use Rattle.selective_undo.specs.Log.{Footprint};
 ghost use Rattle.wb_edit.specs.Schema.{workbook};
-ghost use Rattle.wb_foot.specs.Feet.{Feet, with_foot};
+ghost use Rattle.wb_foot.specs.Footprints.{Footprints, with_footprint};
 ghost use Rattle.wb_log.specs.Indexed.{AreInForce};
 ghost use Rattle.wb_log.specs.Kept.{IsLatest, by_number, kept_in, kept_all};
 
@@ -23,7 +23,7 @@ pub struct InForce {
 impl InForce {
     /// No edit has entered.
     pub fn new(alloc: Global) -> InForce
-        ensures { (count : ℕ) (feet : Feet) → feet 0 ≡ None → AreInForce result count feet }
+        ensures { (count : ℕ) (footprints : Footprints) → footprints 0 ≡ None → AreInForce result count footprints }
     {
         InForce {
             alloc,
@@ -35,9 +35,9 @@ impl InForce {
     /// The next edit enters, or none where no memory is left.
     fn enter(&mut self, entry: &Record) -> Result<(), NoMemory>
         requires { self.old.entered < 2 ^ 63 }
-        ensures ok { OnOk result ((count : ℕ) (feet : Feet) → AreInForce self.old count feet → self.old.entered < count → feet (self.old.entered + 1) ≡ kept_in entry.now → AreInForce self.new count feet) }
+        ensures ok { OnOk result ((count : ℕ) (footprints : Footprints) → AreInForce self.old count footprints → self.old.entered < count → footprints (self.old.entered + 1) ≡ kept_in entry.now → AreInForce self.new count footprints) }
         ensures next { OnOk result (self.new.entered ≡ self.old.entered + 1) }
-        ensures err { OnErr result ((count : ℕ) (feet : Feet) → AreInForce self.old count feet → AreInForce self.new count feet) }
+        ensures err { OnErr result ((count : ℕ) (footprints : Footprints) → AreInForce self.old count footprints → AreInForce self.new count footprints) }
     {
         if entry.is_in_force() {
             self.numbers.add(self.entered as u64 + 1)?;
@@ -81,7 +81,7 @@ impl InForce {
     /// The edit at a place is out of force.
     pub fn take(&mut self, at: usize)
         requires { at < 2 ^ 63 }
-        ensures { (count : ℕ) (feet : Feet) → AreInForce self.old count feet → AreInForce self.new count (with_foot feet (at + 1) None) }
+        ensures { (count : ℕ) (footprints : Footprints) → AreInForce self.old count footprints → AreInForce self.new count (with_footprint footprints (at + 1) None) }
     {
         if at < self.entered {
             self.numbers.take(at as u64 + 1);
@@ -89,9 +89,9 @@ impl InForce {
     }
 
     /// The edit at a place is in force again. Where no memory is left for it, none has entered.
-    pub fn put(&mut self, at: usize)
+    pub fn put_back(&mut self, at: usize)
         requires { at < 2 ^ 63 }
-        ensures { (count : ℕ) (feet : Feet) (f : Foot workbook) → AreInForce self.old count feet → AreInForce self.new count (with_foot feet (at + 1) (Some f)) }
+        ensures { (count : ℕ) (footprints : Footprints) (f : Footprint workbook) → AreInForce self.old count footprints → AreInForce self.new count (with_footprint footprints (at + 1) (Some f)) }
     {
         if at >= self.entered {
             return;

@@ -2,14 +2,14 @@
 //! it is asked: each edit enters once, before the first question that needs it. To make an edit costs nothing here, and
 //! never fails for its sake. Where no memory is left for an edit to enter, the edits are gone through.
 
-mod footprints;
+mod by_footprint;
 mod in_force;
 
 ghost use Rattle.std.specs.Prelude.{◌≡◌, ℕ, ◌+◌, ◌^◌, ◌<◌, Some, None};
-ghost use Rattle.wb_foot.specs.Feet.{Feet, foot, with_foot};
+ghost use Rattle.wb_foot.specs.Footprints.{Footprints, footprint, with_footprint};
 ghost use Rattle.wb_log.specs.Indexed.{Indexes};
 
-use crate::index::footprints::Footprints;
+use crate::index::by_footprint::ByFootprint;
 use crate::index::in_force::InForce;
 use std::alloc::Global;
 use wb_book::{CellChange, Pattern};
@@ -17,17 +17,17 @@ use wb_book::{CellChange, Pattern};
 /// Indexes over the edits in force.
 #[derive(Drop)]
 pub struct Index {
-    pub footprints: Footprints,
+    pub by_footprint: ByFootprint,
     pub in_force: InForce,
 }
 
 impl Index {
     /// No edit has entered.
     pub fn new(alloc: Global) -> Index
-        ensures { (count : ℕ) (feet : Feet) → feet 0 ≡ None → Indexes result count feet }
+        ensures { (count : ℕ) (footprints : Footprints) → footprints 0 ≡ None → Indexes result count footprints }
     {
         Index {
-            footprints: Footprints::new(alloc),
+            by_footprint: ByFootprint::new(alloc),
             in_force: InForce::new(alloc),
         }
     }
@@ -35,18 +35,18 @@ impl Index {
     /// The edit at a place, which was in force, no longer is.
     pub fn take(&mut self, at: usize, reads: &[Pattern], before: &[CellChange])
         requires { at < 2 ^ 63 }
-        ensures { (count : ℕ) (feet : Feet) → Indexes self.old count feet → feet (at + 1) ≡ Some (foot reads.now before.now) → Indexes self.new count (with_foot feet (at + 1) None) }
+        ensures { (count : ℕ) (footprints : Footprints) → Indexes self.old count footprints → footprints (at + 1) ≡ Some (footprint reads.now before.now) → Indexes self.new count (with_footprint footprints (at + 1) None) }
     {
-        self.footprints.take(at, reads, before);
+        self.by_footprint.take(at, reads, before);
         self.in_force.take(at);
     }
 
     /// The edit at a place, which was out of force, is in force again.
-    pub fn put(&mut self, at: usize, reads: &[Pattern], before: &[CellChange])
+    pub fn put_back(&mut self, at: usize, reads: &[Pattern], before: &[CellChange])
         requires { at < 2 ^ 63 }
-        ensures { (count : ℕ) (feet : Feet) → Indexes self.old count feet → feet (at + 1) ≡ None → Indexes self.new count (with_foot feet (at + 1) (Some (foot reads.now before.now))) }
+        ensures { (count : ℕ) (footprints : Footprints) → Indexes self.old count footprints → footprints (at + 1) ≡ None → Indexes self.new count (with_footprint footprints (at + 1) (Some (footprint reads.now before.now))) }
     {
-        self.footprints.put(at, reads, before);
-        self.in_force.put(at);
+        self.by_footprint.put_back(at, reads, before);
+        self.in_force.put_back(at);
     }
 }

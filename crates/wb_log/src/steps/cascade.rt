@@ -4,7 +4,7 @@ ghost use Rattle.std.specs.Prelude.{◌≡◌, ◌<◌, ◌≤◌, ◌-◌, ◌^
 ghost use Rattle.wb_book.specs.Cells.{written_more};
 ghost use Rattle.wb_log.specs.Cascades.{DependentsReply, CascadeReply, AreUndone, all_out_of_force, places, set_back};
 ghost use Rattle.wb_log.specs.Indexed.{IsIndexed};
-ghost use Rattle.wb_log.specs.Kept.{Shows, IsShown, entries_meant, numbers};
+ghost use Rattle.wb_log.specs.Kept.{Shows, IsShown, entries_meant, numbered_entries};
 ghost use Rattle.wb_log.specs.Past.{AreValid, out_of_force};
 ghost use Rattle.wb_log.specs.Replies.{UndoReply, ByNumber};
 
@@ -30,7 +30,7 @@ pub fn dependents_at(entries: &[Record], index: &mut Index, at: usize) -> Result
     if !entry.is_in_force() {
         return Err(Refusal::NotInForce);
     }
-    match index.footprints.needing(entries, at) {
+    match index.by_footprint.needing(entries, at) {
         Ok(found) => Ok(found),
         Err(_) => Err(Refusal::NoMemory),
     }
@@ -47,13 +47,13 @@ fn undo_number<M: Mover>(
     requires few { length entries.old < 2 ^ 63 }
     requires kept { Shows entries.old book.old.cells }
     requires indexed { IsIndexed index.old entries.old }
-    requires valid { AreValid (numbers entries.old) }
+    requires valid { AreValid (numbered_entries entries.old) }
     ensures kept { Shows entries.new book.new.cells }
     ensures indexed { IsIndexed index.new entries.new }
     ensures reply { ByNumber (UndoReply (entries_meant entries.old)) number result }
-    ensures entries { OnOk result (numbers entries.new ≡ out_of_force (number - 1) (numbers entries.old)) }
+    ensures entries { OnOk result (numbered_entries entries.new ≡ out_of_force (number - 1) (numbered_entries entries.old)) }
     ensures writes { IfOk result (λ n. book.new.writes ≡ written_more book.old.writes n) }
-    ensures entries_stay { OnErr result (numbers entries.new ≡ numbers entries.old) }
+    ensures entries_stay { OnErr result (numbered_entries entries.new ≡ numbered_entries entries.old) }
     ensures book_stays { OnErr result (book.new ≡ book.old) }
 {
     if number == 0 {
@@ -77,12 +77,12 @@ fn undo_each<M: Mover>(
     requires few { length entries.old < 2 ^ 63 }
     requires kept { Shows entries.old book.old.cells }
     requires indexed { IsIndexed index.old entries.old }
-    requires valid { AreValid (numbers entries.old) }
+    requires valid { AreValid (numbered_entries entries.old) }
     ensures kept { Shows entries.new book.new.cells }
     ensures indexed { IsIndexed index.new entries.new }
-    ensures valid { AreValid (numbers entries.new) }
+    ensures valid { AreValid (numbered_entries entries.new) }
     ensures within { result.0 ≤ length undone.now }
-    ensures undone { AreUndone (numbers entries.old) book.old.writes (take result.0 undone.now) (numbers entries.new) result.1 book.new.writes }
+    ensures undone { AreUndone (numbered_entries entries.old) book.old.writes (take result.0 undone.now) (numbered_entries entries.new) result.1 book.new.writes }
     ensures none { result.0 ≡ 0 → book.new ≡ book.old }
 {
     let mut done = 0;
@@ -110,16 +110,16 @@ pub fn undo_listed<M: Mover>(
     requires few { length entries.old < 2 ^ 63 }
     requires kept { Shows entries.old book.old.cells }
     requires indexed { IsIndexed index.old entries.old }
-    requires valid { AreValid (numbers entries.old) }
+    requires valid { AreValid (numbered_entries entries.old) }
     requires listed { DependentsReply (entries_meant entries.old) at (Ok listed.now) }
     ensures kept { Shows entries.new book.new.cells }
     ensures indexed { IsIndexed index.new entries.new }
-    ensures valid { AreValid (numbers entries.new) }
+    ensures valid { AreValid (numbered_entries entries.new) }
     ensures within { IfOk result (λ r. r.0 ≤ length listed.now) }
     ensures reply { IfOk result (λ r. CascadeReply (entries_meant entries.old) at (Ok (take r.0 listed.now, r.1))) }
-    ensures entries { IfOk result (λ r. numbers entries.new ≡ all_out_of_force (take r.0 listed.now) (numbers entries.old)) }
+    ensures entries { IfOk result (λ r. numbered_entries entries.new ≡ all_out_of_force (take r.0 listed.now) (numbered_entries entries.old)) }
     ensures writes { IfOk result (λ r. book.new.writes ≡ written_more book.old.writes (set_back (entries_meant entries.old) (places (take r.0 listed.now)))) }
-    ensures entries_stay { OnErr result (numbers entries.new ≡ numbers entries.old) }
+    ensures entries_stay { OnErr result (numbered_entries entries.new ≡ numbered_entries entries.old) }
     ensures book_stays { OnErr result (book.new ≡ book.old) }
 {
     let (done, count) = undo_each(book, entries, index, listed, mover);
@@ -142,15 +142,15 @@ pub fn cascade_at<M: Mover>(
     requires few { length entries.old < 2 ^ 63 }
     requires kept { Shows entries.old book.old.cells }
     requires indexed { IsIndexed index.old entries.old }
-    requires valid { AreValid (numbers entries.old) }
+    requires valid { AreValid (numbered_entries entries.old) }
     ensures kept { Shows entries.new book.new.cells }
     ensures indexed { IsIndexed index.new entries.new }
-    ensures valid { AreValid (numbers entries.new) }
+    ensures valid { AreValid (numbered_entries entries.new) }
     ensures reply { IfOk result (λ r. CascadeReply (entries_meant entries.old) at (Ok (r.0.items, r.1))) }
     ensures why { IfErr result (λ e. CascadeReply (entries_meant entries.old) at (Err e)) }
-    ensures entries { IfOk result (λ r. numbers entries.new ≡ all_out_of_force r.0.items (numbers entries.old)) }
+    ensures entries { IfOk result (λ r. numbered_entries entries.new ≡ all_out_of_force r.0.items (numbered_entries entries.old)) }
     ensures writes { IfOk result (λ r. book.new.writes ≡ written_more book.old.writes (set_back (entries_meant entries.old) (places r.0.items))) }
-    ensures entries_stay { OnErr result (numbers entries.new ≡ numbers entries.old) }
+    ensures entries_stay { OnErr result (numbered_entries entries.new ≡ numbered_entries entries.old) }
     ensures book_stays { OnErr result (book.new ≡ book.old) }
 {
     match dependents_at(entries, index, at) {

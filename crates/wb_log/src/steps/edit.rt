@@ -6,7 +6,7 @@ ghost use Rattle.wb_book.specs.WellFormed.{IsWellFormed};
 ghost use Rattle.wb_edit.specs.Commands.{meaning};
 ghost use Rattle.wb_edit.specs.Valid.{IsValid};
 ghost use Rattle.wb_log.specs.declared.entry.Entry.{Entry};
-ghost use Rattle.wb_log.specs.Kept.{Shows, entries_meant, numbers, plan_refusal};
+ghost use Rattle.wb_log.specs.Kept.{Shows, entries_meant, numbered_entries, plan_refusal};
 ghost use Rattle.wb_log.specs.Past.{AreValid};
 ghost use Rattle.wb_log.specs.Replies.{EditReply};
 
@@ -15,7 +15,7 @@ use crate::refusal::Refusal;
 use crate::steps::making::make;
 use std::alloc::Global;
 use wb_book::Delta;
-use wb_edit::{Edit, Foot, PlanErr, plan};
+use wb_edit::{Edit, Footprint, PlanErr, plan};
 use wb_range::NoMemory;
 use wb_redist::Mover;
 use wb_shelf::Book;
@@ -29,11 +29,11 @@ pub fn add<M: Mover>(
     mover: &M,
 ) -> Result<(u64, usize), Refusal>
     requires kept { Shows entries.old.items book.old.cells }
-    requires valid { AreValid (numbers entries.old.items) }
+    requires valid { AreValid (numbered_entries entries.old.items) }
     requires valid_edit { IsValid edit }
     ensures kept { Shows entries.new.items book.new.cells }
     ensures reply { EditReply (entries_meant entries.old.items) (meaning edit) result }
-    ensures entries { OnOk result (numbers entries.new.items ≡ numbers entries.old.items ++ record { edit = edit; in_force = true } ∷ []) }
+    ensures entries { OnOk result (numbered_entries entries.new.items ≡ numbered_entries entries.old.items ++ record { edit = edit; in_force = true } ∷ []) }
     ensures appended { OnOk result ((x : Entry) × (entries.new.items ≡ entries.old.items ++ x ∷ [])) }
     ensures writes { IfOk result (λ r. book.new.writes ≡ written_more book.old.writes r.1) }
     ensures entries_stay { OnErr result (entries.new.items ≡ entries.old.items) }
@@ -41,7 +41,9 @@ pub fn add<M: Mover>(
 {
     match plan(alloc, book, &edit) {
         Err(stop) => Err(plan_refusal(stop)),
-        Ok((delta, foot, count)) => match keep_new(alloc, book, entries, edit, delta, foot, mover) {
+        Ok((delta, footprint, count)) => match keep_new(
+            alloc, book, entries, edit, delta, footprint, mover,
+        ) {
             Ok(number) => Ok((number, count)),
             Err(_) => Err(Refusal::NoMemory),
         },
@@ -64,16 +66,16 @@ fn keep_new<M: Mover>(
     entries: &mut Vec<Record>,
     edit: Edit,
     delta: Delta,
-    foot: Foot,
+    footprint: Footprint,
     mover: &M,
 ) -> Result<u64, NoMemory>
     requires kept { Shows entries.old.items book.old.cells }
     requires outcome { outcome (meaning edit) book.old.cells ≡ Ok delta }
-    requires reads { foot ≡ reads (meaning edit) book.old.cells }
+    requires reads { footprint ≡ reads (meaning edit) book.old.cells }
     requires well_formed { IsWellFormed (apply delta book.old.cells) }
     ensures kept { Shows entries.new.items book.new.cells }
     ensures number { IfOk result (λ k. k ≡ length entries.old.items + 1) }
-    ensures entries { OnOk result (numbers entries.new.items ≡ numbers entries.old.items ++ record { edit = edit; in_force = true } ∷ []) }
+    ensures entries { OnOk result (numbered_entries entries.new.items ≡ numbered_entries entries.old.items ++ record { edit = edit; in_force = true } ∷ []) }
     ensures appended { OnOk result ((x : Entry) × (entries.new.items ≡ entries.old.items ++ x ∷ [])) }
     ensures writes { OnOk result (book.new.writes ≡ written_more book.old.writes (count_of delta)) }
     ensures entries_stay { OnErr result (entries.new.items ≡ entries.old.items) }
@@ -84,7 +86,7 @@ fn keep_new<M: Mover>(
     }
     match Record::aside(alloc, edit) {
         Err(why) => Err(why),
-        Ok(mut entry) => match make(alloc, book, &mut entry, delta, foot, mover) {
+        Ok(mut entry) => match make(alloc, book, &mut entry, delta, footprint, mover) {
             Err(why) => Err(why),
             Ok(()) => match entries.push(entry) {
                 Ok(()) => Ok(entries.len() as u64),

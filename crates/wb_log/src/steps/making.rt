@@ -11,7 +11,7 @@ ghost use Rattle.wb_log.specs.Records.{shown, kept_of, number_before};
 use crate::entry::{Entry, Form, Kept, Record};
 use std::alloc::Global;
 use wb_book::{Cell, CellChange, Delta, Pattern, Value};
-use wb_edit::{Edit, Foot};
+use wb_edit::{Edit, Footprint};
 use wb_range::NoMemory;
 use wb_redist::Mover;
 use wb_shelf::Book;
@@ -62,11 +62,11 @@ fn old_number(
     reads: &[Pattern],
     target: &Cell,
     delta: &Delta,
-    foot: &Foot,
+    footprint: &Footprint,
 ) -> Option<i64>
-    ensures { IfSome result (λ was. (foot.now ≡ reads.now) × (inverse delta.now book.now.cells ≡ number_before target.now was)) }
+    ensures { IfSome result (λ was. (footprint.now ≡ reads.now) × (inverse delta.now book.now.cells ≡ number_before target.now was)) }
 {
-    if !are_same(foot.reads(), reads) {
+    if !are_same(footprint.reads(), reads) {
         return None;
     }
     if !changes_one(delta.changes(), target) {
@@ -79,13 +79,19 @@ fn old_number(
 }
 
 // What number the edit of a form changed, where what it read, and what takes it back, follow from that.
-fn old_of(book: &Book, form: &Form, delta: &Delta, foot: &Foot) -> Option<i64>
-    ensures { IfSome result (λ was. kept_of form.now (Some was) ≡ Some (record { foot = foot.now; inverse = inverse delta.now book.now.cells })) }
+fn old_of(book: &Book, form: &Form, delta: &Delta, footprint: &Footprint) -> Option<i64>
+    ensures { IfSome result (λ was. kept_of form.now (Some was) ≡ Some (record { footprint = footprint.now; inverse = inverse delta.now book.now.cells })) }
 {
     match form {
-        Form::Set(element) => old_number(book, &element.reads(), &element.cell(), delta, foot),
-        Form::Copy(copied) => old_number(book, &copied.reads(), &copied.cell(), delta, foot),
-        Form::Irv(implicit) => old_number(book, &implicit.reads(), &implicit.cell(), delta, foot),
+        Form::Set(element) => old_number(book, &element.reads(), &element.cell(), delta, footprint),
+        Form::Copy(copied) => old_number(book, &copied.reads(), &copied.cell(), delta, footprint),
+        Form::Irv(implicit) => old_number(
+            book,
+            &implicit.reads(),
+            &implicit.cell(),
+            delta,
+            footprint,
+        ),
         Form::Whole(_) => None,
     }
 }
@@ -95,11 +101,11 @@ fn make_whole<M: Mover>(
     book: &mut Book,
     entry: &mut Entry,
     delta: Delta,
-    foot: Foot,
+    footprint: Footprint,
     mover: &M,
 ) -> Result<(), NoMemory>
     requires well_formed { IsWellFormed (apply delta book.old.cells) }
-    ensures entry { OnOk result (entry.new ≡ record { edit = entry.old.edit; kept = Some (record { foot = foot; inverse = inverse delta book.old.cells }) }) }
+    ensures entry { OnOk result (entry.new ≡ record { edit = entry.old.edit; kept = Some (record { footprint = footprint; inverse = inverse delta book.old.cells }) }) }
     ensures cells { OnOk result (book.new.cells ≡ apply delta book.old.cells) }
     ensures writes { OnOk result (book.new.writes ≡ written_more book.old.writes (count_of delta)) }
     ensures entry_stays { OnErr result (entry.new ≡ entry.old) }
@@ -108,7 +114,7 @@ fn make_whole<M: Mover>(
     match book.apply(delta, mover) {
         Err(_) => Err(NoMemory),
         Ok(inverse) => {
-            entry.kept = Some(Kept { foot, inverse });
+            entry.kept = Some(Kept { footprint, inverse });
             Ok(())
         }
     }
@@ -120,18 +126,18 @@ fn make_new<M: Mover>(
     book: &mut Book,
     edit: Edit,
     delta: Delta,
-    foot: Foot,
+    footprint: Footprint,
     mover: &M,
 ) -> Result<Form, NoMemory>
     requires well_formed { IsWellFormed (apply delta book.old.cells) }
-    ensures form { IfOk result (λ f. shown f ≡ record { edit = edit; kept = Some (record { foot = foot; inverse = inverse delta book.old.cells }) }) }
+    ensures form { IfOk result (λ f. shown f ≡ record { edit = edit; kept = Some (record { footprint = footprint; inverse = inverse delta book.old.cells }) }) }
     ensures cells { OnOk result (book.new.cells ≡ apply delta book.old.cells) }
     ensures writes { OnOk result (book.new.writes ≡ written_more book.old.writes (count_of delta)) }
     ensures book_stays { OnErr result (book.new ≡ book.old) }
 {
     match Box::new(alloc, Entry { edit, kept: None }) {
         Err(_) => Err(NoMemory),
-        Ok(mut entry) => match make_whole(book, &mut entry, delta, foot, mover) {
+        Ok(mut entry) => match make_whole(book, &mut entry, delta, footprint, mover) {
             Err(why) => Err(why),
             Ok(()) => Ok(Form::Whole(entry)),
         },
@@ -144,21 +150,21 @@ fn make_unlike<M: Mover>(
     book: &mut Book,
     form: &mut Form,
     delta: Delta,
-    foot: Foot,
+    footprint: Footprint,
     mover: &M,
 ) -> Result<(), NoMemory>
     requires well_formed { IsWellFormed (apply delta book.old.cells) }
-    ensures form { OnOk result (shown form.new ≡ record { edit = (shown form.old).edit; kept = Some (record { foot = foot; inverse = inverse delta book.old.cells }) }) }
+    ensures form { OnOk result (shown form.new ≡ record { edit = (shown form.old).edit; kept = Some (record { footprint = footprint; inverse = inverse delta book.old.cells }) }) }
     ensures cells { OnOk result (book.new.cells ≡ apply delta book.old.cells) }
     ensures writes { OnOk result (book.new.writes ≡ written_more book.old.writes (count_of delta)) }
     ensures form_stays { OnErr result (shown form.new ≡ shown form.old) }
     ensures book_stays { OnErr result (book.new ≡ book.old) }
 {
     match form {
-        Form::Whole(entry) => make_whole(book, entry, delta, foot, mover),
+        Form::Whole(entry) => make_whole(book, entry, delta, footprint, mover),
         _ => match form.copy_of_edit(alloc) {
             Err(why) => Err(why),
-            Ok(edit) => match make_new(alloc, book, edit, delta, foot, mover) {
+            Ok(edit) => match make_new(alloc, book, edit, delta, footprint, mover) {
                 Err(why) => Err(why),
                 Ok(made) => {
                     *form = made;
@@ -175,18 +181,18 @@ fn make_form<M: Mover>(
     book: &mut Book,
     form: &mut Form,
     delta: Delta,
-    foot: Foot,
+    footprint: Footprint,
     mover: &M,
 ) -> Result<(), NoMemory>
     requires well_formed { IsWellFormed (apply delta book.old.cells) }
-    ensures form { OnOk result (shown form.new ≡ record { edit = (shown form.old).edit; kept = Some (record { foot = foot; inverse = inverse delta book.old.cells }) }) }
+    ensures form { OnOk result (shown form.new ≡ record { edit = (shown form.old).edit; kept = Some (record { footprint = footprint; inverse = inverse delta book.old.cells }) }) }
     ensures cells { OnOk result (book.new.cells ≡ apply delta book.old.cells) }
     ensures writes { OnOk result (book.new.writes ≡ written_more book.old.writes (count_of delta)) }
     ensures form_stays { OnErr result (shown form.new ≡ shown form.old) }
     ensures book_stays { OnErr result (book.new ≡ book.old) }
 {
-    match old_of(book, form, &delta, &foot) {
-        None => make_unlike(alloc, book, form, delta, foot, mover),
+    match old_of(book, form, &delta, &footprint) {
+        None => make_unlike(alloc, book, form, delta, footprint, mover),
         Some(was) => match book.apply(delta, mover) {
             Err(_) => Err(NoMemory),
             Ok(_) => {
@@ -203,15 +209,15 @@ pub fn make<M: Mover>(
     book: &mut Book,
     entry: &mut Record,
     delta: Delta,
-    foot: Foot,
+    footprint: Footprint,
     mover: &M,
 ) -> Result<(), NoMemory>
     requires well_formed { IsWellFormed (apply delta book.old.cells) }
-    ensures entry { OnOk result (entry.new ≡ record { edit = entry.old.edit; kept = Some (record { foot = foot; inverse = inverse delta book.old.cells }) }) }
+    ensures entry { OnOk result (entry.new ≡ record { edit = entry.old.edit; kept = Some (record { footprint = footprint; inverse = inverse delta book.old.cells }) }) }
     ensures cells { OnOk result (book.new.cells ≡ apply delta book.old.cells) }
     ensures writes { OnOk result (book.new.writes ≡ written_more book.old.writes (count_of delta)) }
     ensures entry_stays { OnErr result (entry.new ≡ entry.old) }
     ensures book_stays { OnErr result (book.new ≡ book.old) }
 {
-    make_form(alloc, book, &mut entry.form, delta, foot, mover)
+    make_form(alloc, book, &mut entry.form, delta, footprint, mover)
 }

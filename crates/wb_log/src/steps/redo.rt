@@ -4,9 +4,9 @@ ghost use Rattle.wb_book.specs.Cells.{written_more, count_of};
 ghost use Rattle.wb_book.specs.WellFormed.{IsWellFormed};
 ghost use Rattle.wb_edit.specs.Commands.{meaning};
 ghost use Rattle.wb_edit.specs.Plans.{IsPlan};
-ghost use Rattle.wb_foot.specs.Feet.{Feet, with_foot};
+ghost use Rattle.wb_foot.specs.Footprints.{Footprints, with_footprint};
 ghost use Rattle.wb_log.specs.Indexed.{Indexes, IsIndexed};
-ghost use Rattle.wb_log.specs.Kept.{kept_in, Shows, PlansAgain, redo_blocker, stopped_refusal, entries_meant, numbers};
+ghost use Rattle.wb_log.specs.Kept.{kept_in, Shows, PlansAgain, redo_blocker, stopped_refusal, entries_meant, numbered_entries};
 ghost use Rattle.wb_log.specs.Past.{into_force, AreValid};
 ghost use Rattle.wb_log.specs.Replies.{RedoReply, RedoesInPlace};
 
@@ -16,13 +16,13 @@ use crate::refusal::Refusal;
 use crate::steps::making::make;
 use std::alloc::Global;
 use wb_book::Delta;
-use wb_edit::{Foot, PlanErr, plan};
+use wb_edit::{Footprint, PlanErr, plan};
 use wb_range::NoMemory;
 use wb_redist::Mover;
 use wb_shelf::Book;
 
 /// What an entry's edit would change in a workbook.
-fn plan_of(alloc: Global, book: &Book, entry: &Record) -> Result<(Delta, Foot, usize), PlanErr>
+fn plan_of(alloc: Global, book: &Book, entry: &Record) -> Result<(Delta, Footprint, usize), PlanErr>
     ensures { IsPlan (meaning entry.now.edit) book.now.cells result }
 {
     let edit = entry.edit();
@@ -36,7 +36,7 @@ fn plan_again(
     entries: &[Record],
     index: &mut Index,
     at: usize,
-) -> Result<(Delta, Foot, usize), Refusal>
+) -> Result<(Delta, Footprint, usize), Refusal>
     requires in_log { at < length entries.now }
     requires few { length entries.now < 2 ^ 63 }
     requires indexed { IsIndexed index.old entries.now }
@@ -51,9 +51,11 @@ fn plan_again(
     }
     match plan_of(alloc, book, entry) {
         Err(stop) => Err(refusal_in_place(entries, index, at, stop)),
-        Ok((delta, foot, count)) => match plan_blocker(entries, index, at, &foot, &delta) {
+        Ok((delta, footprint, count)) => match plan_blocker(
+            entries, index, at, &footprint, &delta,
+        ) {
             Some(by) => Err(Refusal::Blocked(by)),
-            None => Ok((delta, foot, count)),
+            None => Ok((delta, footprint, count)),
         },
     }
 }
@@ -63,31 +65,36 @@ fn plan_blocker(
     entries: &[Record],
     index: &mut Index,
     at: usize,
-    foot: &Foot,
+    footprint: &Footprint,
     delta: &Delta,
 ) -> Option<u64>
     requires in_log { at < length entries.now }
     requires few { length entries.now < 2 ^ 63 }
     requires indexed { IsIndexed index.old entries.now }
-    ensures first { result ≡ redo_blocker entries.now at foot.now delta.now }
+    ensures first { result ≡ redo_blocker entries.now at footprint.now delta.now }
     ensures indexed { IsIndexed index.new entries.now }
 {
     index
-        .footprints
-        .first_to_block_redo(entries, at, foot.reads(), delta.changes())
+        .by_footprint
+        .first_to_block_redo(entries, at, footprint.reads(), delta.changes())
 }
 
 /// The same of a plan that is refused.
-fn refused_blocker(entries: &[Record], index: &mut Index, at: usize, foot: &Foot) -> Option<u64>
+fn refused_blocker(
+    entries: &[Record],
+    index: &mut Index,
+    at: usize,
+    footprint: &Footprint,
+) -> Option<u64>
     requires in_log { at < length entries.now }
     requires few { length entries.now < 2 ^ 63 }
     requires indexed { IsIndexed index.old entries.now }
-    ensures first { result ≡ redo_blocker entries.now at foot.now [] }
+    ensures first { result ≡ redo_blocker entries.now at footprint.now [] }
     ensures indexed { IsIndexed index.new entries.now }
 {
     index
-        .footprints
-        .first_to_block_redo(entries, at, foot.reads(), &[])
+        .by_footprint
+        .first_to_block_redo(entries, at, footprint.reads(), &[])
 }
 
 /// Why an edit whose plan stopped is not redone.
@@ -100,7 +107,7 @@ fn refusal_in_place(entries: &[Record], index: &mut Index, at: usize, stop: Plan
 {
     match stop {
         PlanErr::NoMemory => Refusal::NoMemory,
-        PlanErr::Refused(why, foot) => match refused_blocker(entries, index, at, &foot) {
+        PlanErr::Refused(why, footprint) => match refused_blocker(entries, index, at, &footprint) {
             Some(by) => Refusal::Blocked(by),
             None => Refusal::RefusedInPlace(why),
         },
@@ -115,24 +122,24 @@ fn put_in<M: Mover>(
     index: &mut Index,
     at: usize,
     delta: Delta,
-    foot: Foot,
+    footprint: Footprint,
     mover: &M,
 ) -> Result<(), NoMemory>
     requires few { at < 2 ^ 63 }
     requires well_formed { IsWellFormed (apply delta book.old.cells) }
-    ensures entry { OnOk result (entry.new ≡ record { edit = entry.old.edit; kept = Some (record { foot = foot; inverse = inverse delta book.old.cells }) }) }
+    ensures entry { OnOk result (entry.new ≡ record { edit = entry.old.edit; kept = Some (record { footprint = footprint; inverse = inverse delta book.old.cells }) }) }
     ensures cells { OnOk result (book.new.cells ≡ apply delta book.old.cells) }
     ensures writes { OnOk result (book.new.writes ≡ written_more book.old.writes (count_of delta)) }
-    ensures put { OnOk result ((count : ℕ) (feet : Feet) → Indexes index.old count feet → feet (at + 1) ≡ None → Indexes index.new count (with_foot feet (at + 1) (kept_in entry.new))) }
+    ensures put { OnOk result ((count : ℕ) (footprints : Footprints) → Indexes index.old count footprints → footprints (at + 1) ≡ None → Indexes index.new count (with_footprint footprints (at + 1) (kept_in entry.new))) }
     ensures entry_stays { OnErr result (entry.new ≡ entry.old) }
     ensures book_stays { OnErr result (book.new ≡ book.old) }
     ensures index_stays { OnErr result (index.new ≡ index.old) }
 {
-    match make(alloc, book, entry, delta, foot, mover) {
+    match make(alloc, book, entry, delta, footprint, mover) {
         Err(why) => Err(why),
         Ok(()) => match entry.kept() {
             Some(kept) => {
-                index.put(at, kept.reads(), kept.before());
+                index.put_back(at, kept.reads(), kept.before());
                 Ok(())
             }
             None => unreachable!(),
@@ -153,20 +160,29 @@ pub fn redo_at<M: Mover>(
     requires few { length entries.old < 2 ^ 63 }
     requires kept { Shows entries.old book.old.cells }
     requires indexed { IsIndexed index.old entries.old }
-    requires valid { AreValid (numbers entries.old) }
+    requires valid { AreValid (numbered_entries entries.old) }
     ensures kept { Shows entries.new book.new.cells }
     ensures indexed { IsIndexed index.new entries.new }
     ensures reply { RedoReply (entries_meant entries.old) at result }
-    ensures entries { OnOk result (numbers entries.new ≡ into_force at (numbers entries.old)) }
+    ensures entries { OnOk result (numbered_entries entries.new ≡ into_force at (numbered_entries entries.old)) }
     ensures in_place { OnOk result (RedoesInPlace (entries_meant entries.old) at (entries_meant entries.new)) }
     ensures writes { IfOk result (λ n. book.new.writes ≡ written_more book.old.writes n) }
-    ensures entries_stay { OnErr result (numbers entries.new ≡ numbers entries.old) }
+    ensures entries_stay { OnErr result (numbered_entries entries.new ≡ numbered_entries entries.old) }
     ensures book_stays { OnErr result (book.new ≡ book.old) }
 {
     match plan_again(alloc, book, entries, index, at) {
         Err(why) => Err(why),
-        Ok((delta, foot, count)) => {
-            match put_in(alloc, book, &mut entries[at], index, at, delta, foot, mover) {
+        Ok((delta, footprint, count)) => {
+            match put_in(
+                alloc,
+                book,
+                &mut entries[at],
+                index,
+                at,
+                delta,
+                footprint,
+                mover,
+            ) {
                 Ok(()) => Ok(count),
                 Err(_) => Err(Refusal::NoMemory),
             }

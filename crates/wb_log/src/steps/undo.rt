@@ -1,8 +1,8 @@
 ghost use Rattle.std.specs.Prelude.{◌≡◌, ℕ, ◌+◌, ◌-◌, ◌^◌, ◌<◌, length, None, OnOk, OnErr, IfOk, IfErr};
 ghost use Rattle.wb_book.specs.Cells.{written_more};
-ghost use Rattle.wb_foot.specs.Feet.{Feet, with_foot};
+ghost use Rattle.wb_foot.specs.Footprints.{Footprints, with_footprint};
 ghost use Rattle.wb_log.specs.Indexed.{Indexes, IsIndexed};
-ghost use Rattle.wb_log.specs.Kept.{kept_in, Shows, MayUndo, TakenBack, LeavesWellFormed, refusal_of, entries_meant, numbers};
+ghost use Rattle.wb_log.specs.Kept.{kept_in, Shows, MayUndo, TakenBack, LeavesWellFormed, refusal_of, entries_meant, numbered_entries};
 ghost use Rattle.wb_log.specs.Past.{out_of_force, AreValid};
 ghost use Rattle.wb_log.specs.Replies.{UndoReply, LastReply, SetsBack, LeavesOthers, Restores};
 
@@ -24,7 +24,7 @@ fn undo_refusal(entries: &[Record], index: &mut Index, at: usize) -> Option<Refu
     match entries[at].kept() {
         None => Some(Refusal::NotInForce),
         Some(kept) => match index
-            .footprints
+            .by_footprint
             .first_to_block_undo(entries, at, kept.before())
         {
             Some(by) => Some(Refusal::Blocked(by)),
@@ -45,7 +45,7 @@ fn take_back<M: Mover>(
     requires well_formed { LeavesWellFormed entry.old book.old.cells }
     ensures ok { IfOk result (λ n. TakenBack entry.old n entry.new book.old book.new) }
     ensures why { IfErr result (λ e. e ≡ refusal_of entry.old) }
-    ensures taken { OnOk result ((count : ℕ) (feet : Feet) → Indexes index.old count feet → feet (at + 1) ≡ kept_in entry.old → Indexes index.new count (with_foot feet (at + 1) None)) }
+    ensures taken { OnOk result ((count : ℕ) (footprints : Footprints) → Indexes index.old count footprints → footprints (at + 1) ≡ kept_in entry.old → Indexes index.new count (with_footprint footprints (at + 1) None)) }
     ensures entry_stays { OnErr result (entry.new ≡ entry.old) }
     ensures book_stays { OnErr result (book.new ≡ book.old) }
     ensures index_stays { OnErr result (index.new ≡ index.old) }
@@ -76,16 +76,16 @@ fn undo_free<M: Mover>(
     requires few { length entries.old < 2 ^ 63 }
     requires kept { Shows entries.old book.old.cells }
     requires indexed { IsIndexed index.old entries.old }
-    requires valid { AreValid (numbers entries.old) }
+    requires valid { AreValid (numbered_entries entries.old) }
     requires free { MayUndo entries.old at None }
     ensures kept { Shows entries.new book.new.cells }
     ensures indexed { IsIndexed index.new entries.new }
     ensures reply { UndoReply (entries_meant entries.old) at result }
-    ensures entries { OnOk result (numbers entries.new ≡ out_of_force at (numbers entries.old)) }
+    ensures entries { OnOk result (numbered_entries entries.new ≡ out_of_force at (numbered_entries entries.old)) }
     ensures set_back { OnOk result (SetsBack (entries_meant entries.old) at (entries_meant entries.new)) }
     ensures others { OnOk result (LeavesOthers (entries_meant entries.old) at (entries_meant entries.new)) }
     ensures writes { IfOk result (λ n. book.new.writes ≡ written_more book.old.writes n) }
-    ensures entries_stay { OnErr result (numbers entries.new ≡ numbers entries.old) }
+    ensures entries_stay { OnErr result (numbered_entries entries.new ≡ numbered_entries entries.old) }
     ensures book_stays { OnErr result (book.new ≡ book.old) }
 {
     take_back(book, &mut entries[at], index, at, mover)
@@ -103,15 +103,15 @@ pub fn undo_at<M: Mover>(
     requires few { length entries.old < 2 ^ 63 }
     requires kept { Shows entries.old book.old.cells }
     requires indexed { IsIndexed index.old entries.old }
-    requires valid { AreValid (numbers entries.old) }
+    requires valid { AreValid (numbered_entries entries.old) }
     ensures kept { Shows entries.new book.new.cells }
     ensures indexed { IsIndexed index.new entries.new }
     ensures reply { UndoReply (entries_meant entries.old) at result }
-    ensures entries { OnOk result (numbers entries.new ≡ out_of_force at (numbers entries.old)) }
+    ensures entries { OnOk result (numbered_entries entries.new ≡ out_of_force at (numbered_entries entries.old)) }
     ensures set_back { OnOk result (SetsBack (entries_meant entries.old) at (entries_meant entries.new)) }
     ensures others { OnOk result (LeavesOthers (entries_meant entries.old) at (entries_meant entries.new)) }
     ensures writes { IfOk result (λ n. book.new.writes ≡ written_more book.old.writes n) }
-    ensures entries_stay { OnErr result (numbers entries.new ≡ numbers entries.old) }
+    ensures entries_stay { OnErr result (numbered_entries entries.new ≡ numbered_entries entries.old) }
     ensures book_stays { OnErr result (book.new ≡ book.old) }
 {
     match undo_refusal(entries, index, at) {
@@ -130,15 +130,15 @@ pub fn undo_latest<M: Mover>(
     requires few { length entries.old < 2 ^ 63 }
     requires kept { Shows entries.old book.old.cells }
     requires indexed { IsIndexed index.old entries.old }
-    requires valid { AreValid (numbers entries.old) }
+    requires valid { AreValid (numbered_entries entries.old) }
     ensures kept { Shows entries.new book.new.cells }
     ensures indexed { IsIndexed index.new entries.new }
     ensures reply { LastReply (entries_meant entries.old) result }
-    ensures entries { IfOk result (λ r. numbers entries.new ≡ out_of_force (r.0 - 1) (numbers entries.old)) }
+    ensures entries { IfOk result (λ r. numbered_entries entries.new ≡ out_of_force (r.0 - 1) (numbered_entries entries.old)) }
     ensures restored { IfOk result (λ r. Restores (entries_meant entries.old) (r.0 - 1) (entries_meant entries.new)) }
     ensures others { IfOk result (λ r. LeavesOthers (entries_meant entries.old) (r.0 - 1) (entries_meant entries.new)) }
     ensures writes { IfOk result (λ r. book.new.writes ≡ written_more book.old.writes r.1) }
-    ensures entries_stay { OnErr result (numbers entries.new ≡ numbers entries.old) }
+    ensures entries_stay { OnErr result (numbered_entries entries.new ≡ numbered_entries entries.old) }
     ensures book_stays { OnErr result (book.new ≡ book.old) }
 {
     match index.in_force.latest(entries) {

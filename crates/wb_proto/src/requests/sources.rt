@@ -6,7 +6,7 @@ ghost use Rattle.wb_proto.specs.Answers.{IsAnswer};
 ghost use Rattle.wb_limits.specs.Literals.{listed_in};
 ghost use Rattle.wb_proto.specs.Sources.{is_braced, given_within, given_literal, given_name, given_text, given_by, point_in, offsets_by, to_by, slice_by, displace_by, combine_by, combination_of, source_of};
 ghost use Rattle.wb_resize.specs.Sources.{ascending};
-ghost use Rattle.wb_resize.specs.declared.given.Given.TheVariants.{Items};
+ghost use Rattle.wb_resize.specs.declared.operand.Operand.TheVariants.{Items};
 
 use crate::requests::fields::{index_of, name_of};
 use crate::requests::literals::{domain_within, literal_domain};
@@ -17,8 +17,8 @@ use wb_history::Refusal;
 use wb_limits::listed_in;
 use wb_literal::{DomainLiteral, SetLiteral};
 use wb_range::NoMemory;
-use wb_resize::set_operations::set_of;
-use wb_resize::{Displacement, Given, SetOperation, Source};
+use wb_resize::set_operations::sorted_set;
+use wb_resize::{Displacement, NewIndices, Operand, SetOperation};
 
 // Whether a text is a literal; others are names.
 fn is_braced(text: &str) -> bool
@@ -31,47 +31,47 @@ fn is_braced(text: &str) -> bool
 }
 
 // The set of the indices that a literal lists.
-fn given_set(alloc: Global, set: &SetLiteral) -> Result<Given, Refusal>
+fn given_set(alloc: Global, set: &SetLiteral) -> Result<Operand, Refusal>
     ensures { IsAnswer (Ok (Items (ascending (listed_in (items set.now))))) result }
 {
     let listed = match listed_in(alloc, set) {
         Ok(listed) => listed,
         Err(_) => return Err(Refusal::NoMemory),
     };
-    match set_of(alloc, &listed) {
-        Ok(set) => Ok(Given::Items(set)),
+    match sorted_set(alloc, &listed) {
+        Ok(set) => Ok(Operand::Items(set)),
         Err(NoMemory) => Err(Refusal::NoMemory),
     }
 }
 
 // What a literal stands for.
-fn given_within(alloc: Global, literal: &DomainLiteral) -> Result<Given, Refusal>
+fn given_within(alloc: Global, literal: &DomainLiteral) -> Result<Operand, Refusal>
     ensures { IsAnswer (given_within (domain literal.now)) result }
 {
     match literal {
         DomainLiteral::Rectangle(rectangle) => {
             let ranges = domain_within(rectangle)?;
-            Ok(Given::Rectangle(ranges))
+            Ok(Operand::Rectangle(ranges))
         }
         DomainLiteral::Set(set) => given_set(alloc, set),
     }
 }
 
-fn given_literal(alloc: Global, text: &str) -> Result<Given, Refusal>
+fn given_literal(alloc: Global, text: &str) -> Result<Operand, Refusal>
     ensures { IsAnswer (given_literal text.now) result }
 {
     let literal = literal_domain(alloc, text)?;
     given_within(alloc, &literal)
 }
 
-fn given_name(text: &str) -> Result<Given, Refusal>
+fn given_name(text: &str) -> Result<Operand, Refusal>
     ensures { result ≡ given_name text.now }
 {
     let name = name_of(text)?;
-    Ok(Given::Named(name))
+    Ok(Operand::Named(name))
 }
 
-fn given_text(alloc: Global, text: &str) -> Result<Given, Refusal>
+fn given_text(alloc: Global, text: &str) -> Result<Operand, Refusal>
     ensures { IsAnswer (given_text text.now) result }
 {
     if is_braced(text) {
@@ -83,7 +83,7 @@ fn given_text(alloc: Global, text: &str) -> Result<Given, Refusal>
 }
 
 // What a field gives.
-fn given_by(alloc: Global, field: &Value) -> Result<Given, Refusal>
+fn given_by(alloc: Global, field: &Value) -> Result<Operand, Refusal>
     ensures { IsAnswer (given_by (view field.now)) result }
 {
     match field.as_str() {
@@ -111,36 +111,36 @@ fn offsets_by(field: &Value) -> Result<Point, Refusal>
     }
 }
 
-fn to_by(alloc: Global, field: &Value) -> Result<Source, Refusal>
+fn to_by(alloc: Global, field: &Value) -> Result<NewIndices, Refusal>
     ensures { IsAnswer (to_by (view field.now)) result }
 {
     let given = given_by(alloc, field)?;
-    Ok(Source::To(given))
+    Ok(NewIndices::To(given))
 }
 
-fn slice_by(alloc: Global, field: &Value) -> Result<Source, Refusal>
+fn slice_by(alloc: Global, field: &Value) -> Result<NewIndices, Refusal>
     ensures { IsAnswer (slice_by (view field.now)) result }
 {
     let given = given_by(alloc, field)?;
-    Ok(Source::Slice(given))
+    Ok(NewIndices::Slice(given))
 }
 
-fn displace_by(how: Displacement, field: &Value) -> Result<Source, Refusal>
+fn displace_by(how: Displacement, field: &Value) -> Result<NewIndices, Refusal>
     ensures { result ≡ displace_by how (view field.now) }
 {
     let offsets = offsets_by(field)?;
-    Ok(Source::Displace(how, offsets))
+    Ok(NewIndices::Displace(how, offsets))
 }
 
-fn combine_by(alloc: Global, how: SetOperation, field: &Value) -> Result<Source, Refusal>
+fn combine_by(alloc: Global, how: SetOperation, field: &Value) -> Result<NewIndices, Refusal>
     ensures { IsAnswer (combine_by how (view field.now)) result }
 {
     let given = given_by(alloc, field)?;
-    Ok(Source::Combine(how, given))
+    Ok(NewIndices::Combine(how, given))
 }
 
 // The set operation that a request has a field for.
-fn combination_of(alloc: Global, value: &Value) -> Result<Source, Refusal>
+fn combination_of(alloc: Global, value: &Value) -> Result<NewIndices, Refusal>
     ensures { IsAnswer (combination_of (view value.now)) result }
 {
     if let Some(field) = value.get("or") {
@@ -159,7 +159,7 @@ fn combination_of(alloc: Global, value: &Value) -> Result<Source, Refusal>
 }
 
 /// The source that a request has a field for.
-pub(crate) fn source_of(alloc: Global, value: &Value) -> Result<Source, Refusal>
+pub(crate) fn source_of(alloc: Global, value: &Value) -> Result<NewIndices, Refusal>
     ensures { IsAnswer (source_of (view value.now)) result }
 {
     if let Some(field) = value.get("to") {

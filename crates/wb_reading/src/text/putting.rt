@@ -3,7 +3,7 @@ ghost use Rattle.std.specs.Prelude.{◌≡◌, length, OnOk};
 ghost use Rattle.std.specs.List.{zip};
 ghost use Rattle.wb_book.specs.Cells.{state_of};
 ghost use Rattle.wb_text.specs.FromLines.Inserted.{inserted};
-ghost use Rattle.wb_text.specs.FromLines.Told.{numbers};
+ghost use Rattle.wb_text.specs.FromLines.Told.{element_cells};
 
 use std::collections::BTreeMap;
 use wb_book::{AnyIndex, Cell, Name, Value};
@@ -18,7 +18,7 @@ pub(crate) fn put_numbers(
     elements: &[i64],
 ) -> Result<(), NoMemory>
     requires { length indices.now ≡ length elements.now }
-    ensures { OnOk result (state_of cells.new ≡ inserted (numbers array (zip indices.now elements.now)) (state_of cells.old)) }
+    ensures { OnOk result (state_of cells.new ≡ inserted (element_cells array (zip indices.now elements.now)) (state_of cells.old)) }
 {
     for p in 0..indices.len() {
         put(

@@ -21,7 +21,7 @@ use Rattle.wb_book.specs.Readers.{indices_at}
 use Rattle.wb_book.specs.Shapes.{Range, indices}
 use Rattle.wb_book.specs.WellFormed.{IsWellFormed, IsShape, HasMapping, IsMember, MayHave, IsImplicit, IsElement, domain_in, domain_at, array_in, ranges_in, inside_of, use_of, has, present_if, is_index_of_array}
 use Rattle.wb_text.specs.Lines.{indices_in, number_in, element_at, elements_at, implicit_in}
-use Rattle.wb_text.specs.Said.{Line, line_in, domain_said, said_in, said}
+use Rattle.wb_text.specs.Said.{Line, first_line_of, domain_said, said_in, said}
 use Rattle.wb_text.proofs.LineOfName.{line_of_name}
 use Rattle.wb_text.proofs.Readable.{Each}
 use Rattle.wb_text.proofs.ReadIndices.{some_same}
@@ -87,18 +87,18 @@ module _ (w : Cells) (well : IsWellFormed w) where
   abbrev pub ranges_at : Name → List Range
   ranges_at d = unwrap_or (ranges_in (get w (Shape d))) []
 
-  line_of_domain : (d : Name) (kind : DomainKind) → domain_at w d ≡ Some kind → line_in d ls ≡ Some (domain_said w d kind)
+  line_of_domain : (d : Name) (kind : DomainKind) → domain_at w d ≡ Some kind → first_line_of d ls ≡ Some (domain_said w d kind)
   line_of_domain d kind e = line_of_name w d ∙ domain_line w d kind e
 
-  pub ranges_line : (d : Name) (rank : ℕ) → domain_at w d ≡ Some (domains.Rectangular rank) → ranges_told (line_in d ls) ≡ Some (ranges_at d)
+  pub ranges_line : (d : Name) (rank : ℕ) → domain_at w d ≡ Some (domains.Rectangular rank) → ranges_told (first_line_of d ls) ≡ Some (ranges_at d)
   ranges_line d rank is = ap ranges_told (line_of_domain d (domains.Rectangular rank) is)
 
-  pub rank_line : (d : Name) (rank : ℕ) → domain_at w d ≡ Some (domains.Rectangular rank) → rank_told (line_in d ls) ≡ rank
+  pub rank_line : (d : Name) (rank : ℕ) → domain_at w d ≡ Some (domains.Rectangular rank) → rank_told (first_line_of d ls) ≡ rank
   rank_line d rank is = ap (λ o. length (unwrap_or o [])) (ranges_line d rank is) ∙ rank_known w d rank well is
 
   -- ---- the domain of an array
 
-  domain_kind : (d : Name) (o : Option DomainKind) (kind : Kind) → domain_at w d ≡ o → option_map kind_of o ≡ Some kind → kind_told ls (line_in d ls) ≡ kind
+  domain_kind : (d : Name) (o : Option DomainKind) (kind : Kind) → domain_at w d ≡ o → option_map kind_of o ≡ Some kind → kind_told ls (first_line_of d ls) ≡ kind
   domain_kind d None kind is e = none_some kind e
   domain_kind d (Some (domains.Rectangular rank)) kind is e =
       ap (kind_told ls) (line_of_domain d (domains.Rectangular rank) is) ∙ ap Rectangular (rank_known w d rank well is) ∙ some_same (Rectangular rank) kind e
@@ -108,16 +108,16 @@ module _ (w : Cells) (well : IsWellFormed w) where
       ∙ some_same (Sparse rank) kind e
   domain_kind d (Some (domains.Associative type)) kind is e = ap (kind_told ls) (line_of_domain d (domains.Associative type) is) ∙ some_same (Associative type) kind e
 
-  pub kind_line : (d : Name) (kind : Kind) → option_map kind_of (domain_at w d) ≡ Some kind → kind_told ls (line_in d ls) ≡ kind
+  pub kind_line : (d : Name) (kind : Kind) → option_map kind_of (domain_at w d) ≡ Some kind → kind_told ls (first_line_of d ls) ≡ kind
   kind_line d kind e = domain_kind d (domain_at w d) kind refl e
 
-  domain_is : (d : Name) (o : Option DomainKind) (kind : Kind) → domain_at w d ≡ o → option_map kind_of o ≡ Some kind → is_domain (line_in d ls) ≡ true
+  domain_is : (d : Name) (o : Option DomainKind) (kind : Kind) → domain_at w d ≡ o → option_map kind_of o ≡ Some kind → is_domain (first_line_of d ls) ≡ true
   domain_is d None kind is e = none_some kind e
   domain_is d (Some (domains.Rectangular rank)) kind is e = ap is_domain (line_of_domain d (domains.Rectangular rank) is)
   domain_is d (Some (domains.Sparse parent rank)) kind is e = ap is_domain (line_of_domain d (domains.Sparse parent rank) is)
   domain_is d (Some (domains.Associative type)) kind is e = ap is_domain (line_of_domain d (domains.Associative type) is)
 
-  pub is_domain_line : (d : Name) (kind : Kind) → option_map kind_of (domain_at w d) ≡ Some kind → is_domain (line_in d ls) ≡ true
+  pub is_domain_line : (d : Name) (kind : Kind) → option_map kind_of (domain_at w d) ≡ Some kind → is_domain (first_line_of d ls) ≡ true
   is_domain_line d kind e = domain_is d (domain_at w d) kind refl e
 
   indices_by : (d : Name) (rank : ℕ) → domain_at w d ≡ Some (domains.Rectangular rank) → indices (ranges_at d) ≡ unwrap_or (indices_at w d) []
@@ -125,14 +125,14 @@ module _ (w : Cells) (well : IsWellFormed w) where
       let shape = shape_of d rank is in
       ap (λ v. indices (unwrap_or (ranges_in v) [])) shape.1 ∙ sym (ap (λ v. unwrap_or (option_map indices (ranges_in v)) []) shape.1)
 
-  domain_indices : (d : Name) (o : Option DomainKind) (kind : Kind) → domain_at w d ≡ o → option_map kind_of o ≡ Some kind → indices_told (line_in d ls) ≡ indices_in w d kind
+  domain_indices : (d : Name) (o : Option DomainKind) (kind : Kind) → domain_at w d ≡ o → option_map kind_of o ≡ Some kind → indices_told (first_line_of d ls) ≡ indices_in w d kind
   domain_indices d None kind is e = none_some kind e
   domain_indices d (Some (domains.Rectangular rank)) kind is e =
       ap indices_told (line_of_domain d (domains.Rectangular rank) is) ∙ indices_by d rank is ∙ ap (indices_in w d) (some_same (Rectangular rank) kind e)
   domain_indices d (Some (domains.Sparse parent rank)) kind is e = ap indices_told (line_of_domain d (domains.Sparse parent rank) is) ∙ ap (indices_in w d) (some_same (Sparse rank) kind e)
   domain_indices d (Some (domains.Associative type)) kind is e = ap indices_told (line_of_domain d (domains.Associative type) is) ∙ ap (indices_in w d) (some_same (Associative type) kind e)
 
-  pub indices_line : (d : Name) (kind : Kind) → option_map kind_of (domain_at w d) ≡ Some kind → indices_told (line_in d ls) ≡ indices_in w d kind
+  pub indices_line : (d : Name) (kind : Kind) → option_map kind_of (domain_at w d) ≡ Some kind → indices_told (first_line_of d ls) ≡ indices_in w d kind
   indices_line d kind e = domain_indices d (domain_at w d) kind refl e
 
   -- ---- the cells of a name, by what stands under it
@@ -216,7 +216,7 @@ module _ (w : Cells) (well : IsWellFormed w) where
   column n d kind e = all_there w n d kind well (ap array_in e)
 
   element_array : (n d : Name) (kind : Kind) (i : Index) → get w (Object n) ≡ Some (values.Array d kind)
-      → option_map (λ z. values.Number z) (last_of index_cmp (zip (indices_told (line_in d ls)) (elements_at w n (indices_in w d kind))) i) ≡ get w (Element n i)
+      → option_map (λ z. values.Number z) (last_of index_cmp (zip (indices_told (first_line_of d ls)) (elements_at w n (indices_in w d kind))) i) ≡ get w (Element n i)
   element_array n d kind i e =
       ap (λ is. option_map (λ z. values.Number z) (last_of index_cmp (zip is (elements_at w n (indices_in w d kind))) i)) (indices_line d kind (well.objects n _ e))
       ∙ ap (option_map (λ z. values.Number z)) (column_last (element_at w n) (indices_in w d kind) i (column n d kind e))
@@ -230,7 +230,7 @@ module _ (w : Cells) (well : IsWellFormed w) where
   element_back n i (Some (values.Array d kind)) e h = element_array n d kind i e
   element_back n i (Some v) e h = sym h
 
-  by_name : (n : Name) (c : Cell) → told_by ls (line_in n ls) c ≡ told_by ls (said_in w n (get w (Object n))) c
+  by_name : (n : Name) (c : Cell) → told_by ls (first_line_of n ls) c ≡ told_by ls (said_in w n (get w (Object n))) c
   by_name n c = ap (λ o. told_by ls o c) (line_of_name w n)
 
   -- what the lines tell of a cell stands in it

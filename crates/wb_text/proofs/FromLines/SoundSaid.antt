@@ -27,7 +27,7 @@ use Rattle.wb_book.specs.Shapes.{indices}
 use Rattle.wb_book.specs.WellFormed.{IsWellFormed, HasMapping, MayHave, domain_at, domain_in, ranges_in, inside_of, has}
 use Rattle.wb_book.specs.declared.cells.value.Value.TheVariants.{Present}
 use Rattle.wb_text.specs.Lines.{members, indices_in, element_at, elements_at}
-use Rattle.wb_text.specs.Said.{Line, name_of, line_in, said_in, said_of, said}
+use Rattle.wb_text.specs.Said.{Line, name_of, first_line_of, said_in, said_of, said}
 use Rattle.wb_text.proofs.MembersWritten.{has_members, members_each, present_known}
 use Rattle.wb_text.proofs.NamesAscend.{lines_ascend}
 use Rattle.wb_text.proofs.Readable.{Each}
@@ -103,10 +103,10 @@ module _ (w : Cells) (well : IsWellFormed w) where
       ∙ ap (λ v. is_of_rank rank (unwrap_or (mapping_in v) whole)) h.1 ∙ rank_of_mapping rank h.0 h.2.valid
 
   array_sound : (n d : Name) (kind : Kind) → get w (Object n) ≡ Some (values.Array d kind)
-      → is_domain (line_in d (said w)) && (length (indices_told (line_in d (said w))) == length (elements_at w n (indices_in w d kind))) ≡ true
+      → is_domain (first_line_of d (said w)) && (length (indices_told (first_line_of d (said w))) == length (elements_at w n (indices_in w d kind))) ≡ true
   array_sound n d kind e =
       let over = well.objects n _ e in
-      ap (λ b. b && (length (indices_told (line_in d (said w))) == length (elements_at w n (indices_in w d kind)))) (is_domain_line w well d kind over)
+      ap (λ b. b && (length (indices_told (first_line_of d (said w))) == length (elements_at w n (indices_in w d kind)))) (is_domain_line w well d kind over)
       ∙ ap (λ is. length is == length (elements_at w n (indices_in w d kind))) (indices_line w well d kind over)
       ∙ eq-eqb _ _ (column_length (element_at w n) (indices_in w d kind) (column w well n d kind e))
 
@@ -134,9 +134,9 @@ module _ (w : Cells) (well : IsWellFormed w) where
 
 -- ---- names
 
-absent : (l : Line) (ls : List Line) → AllByRecursion (λ m. slice_cmp nat_cmp (name_of l) (name_of m) ≡ Less) ls → line_in (name_of l) ls ≡ None
+absent : (l : Line) (ls : List Line) → AllByRecursion (λ m. slice_cmp nat_cmp (name_of l) (name_of m) ≡ Less) ls → first_line_of (name_of l) ls ≡ None
 absent l [] h = refl
-absent l (m ∷ ls) h = ap (λ o. cond (is_eq o) (Some m) (line_in (name_of l) ls)) h.0 ∙ absent l ls h.1
+absent l (m ∷ ls) h = ap (λ o. cond (is_eq o) (Some m) (first_line_of (name_of l) ls)) h.0 ∙ absent l ls h.1
 
 all_distinct : (ls : List Line) → IsStrictlySortedBy (λ l m. slice_cmp nat_cmp (name_of l) (name_of m)) ls → are_distinct ls ≡ true
 unfolding IsStrictlySortedBy

@@ -9,7 +9,7 @@ use Rattle.std.specs.Cmp.Lexicographic.{slice_cmp, nat_list_cmp_total}
 use Rattle.std.specs.List.{AllByRecursion, list_all}
 use Rattle.std.specs.Ordering.{nat_cmp}
 use Rattle.wb_book.specs.Cells.{Name, is_same_name}
-use Rattle.wb_text.specs.Said.{Line, name_of, line_in, line_of}
+use Rattle.wb_text.specs.Said.{Line, name_of, first_line_of, line_of}
 use Rattle.wb_text.specs.declared.said.ObjectLine.{ObjectLine}
 use Rattle.wb_text.specs.FromLines.Found.{Finds}
 use Rattle.wb_text.specs.FromLines.Told.{are_distinct}
@@ -43,16 +43,16 @@ pub not_distinct : (ls : List Line) (k : ℕ) → are_distinct (drop k ls) ≡ f
 not_distinct [] zero f = f
 not_distinct [] (suc k) f = f
 not_distinct (l ∷ ls) zero f = f
-not_distinct (l ∷ ls) (suc k) f = ap (cond (is_some (line_in (name_of l) ls)) false) (not_distinct ls k f) ∙ either (is_some (line_in (name_of l) ls))
+not_distinct (l ∷ ls) (suc k) f = ap (cond (is_some (first_line_of (name_of l) ls)) false) (not_distinct ls k f) ∙ either (is_some (first_line_of (name_of l) ls))
   where
     either : (b : Bool) → cond b false false ≡ false
     either true = refl
     either false = refl
 
-pub twice : (l : Line) (ls : List Line) → is_some (line_in (name_of l) ls) ≡ true → are_distinct (l ∷ ls) ≡ false
+pub twice : (l : Line) (ls : List Line) → is_some (first_line_of (name_of l) ls) ≡ true → are_distinct (l ∷ ls) ≡ false
 twice l ls e = ap (λ b. cond b false (are_distinct ls)) e
 
-pub once : (l : Line) (ls : List Line) → is_some (line_in (name_of l) ls) ≡ false → are_distinct ls ≡ true → are_distinct (l ∷ ls) ≡ true
+pub once : (l : Line) (ls : List Line) → is_some (first_line_of (name_of l) ls) ≡ false → are_distinct ls ≡ true → are_distinct (l ∷ ls) ≡ true
 once l ls e d = ap (λ b. cond b false (are_distinct ls)) e ∙ d
 
 pub turned : (n m : Name) → is_same_name n m ≡ is_same_name m n
@@ -71,10 +71,10 @@ pub found_more : (lines ls : List Line) (l : Line) (m n : BTreeMap Name ℕ) (p 
 found_more lines ls l m n p there found is = record {
   line = λ q.
       ap (option_and_then (slice_get lines)) (is.0 q ∙ ap (λ b. cond b (Some p) (tree.get (slice_cmp nat_cmp) m q)) (turned (name_of l) q))
-      ∙ chosen (is_same_name q (name_of l)) lines p (tree.get (slice_cmp nat_cmp) m q) l (line_in q ls) there (found.line q);
+      ∙ chosen (is_same_name q (name_of l)) lines p (tree.get (slice_cmp nat_cmp) m q) l (first_line_of q ls) there (found.line q);
   there = λ q.
       ap is_some (is.0 q ∙ ap (λ b. cond b (Some p) (tree.get (slice_cmp nat_cmp) m q)) (turned (name_of l) q))
-      ∙ some_either (is_same_name q (name_of l)) p (tree.get (slice_cmp nat_cmp) m q) l (line_in q ls) (found.there q);
+      ∙ some_either (is_same_name q (name_of l)) p (tree.get (slice_cmp nat_cmp) m q) l (first_line_of q ls) (found.there q);
 }
 
 -- ---- one more line, from the last one back
@@ -103,7 +103,7 @@ next_found xs k j i x q m n h same is =
     subst (λ (ys : List ObjectLine). Finds n (map line_of xs) (map line_of ys)) (sym (ap (λ t. drop t xs) same ∙ drop_at xs k j x h.low h.next h.this))
     (found_more (map line_of xs) (map line_of (drop j xs)) (line_of x) m n k (place_line xs k x h.low h.this) h.found (subst (λ (r : Name). Updates (slice_cmp nat_cmp) m n r (Some k)) h.named is))
 
-there_is : (xs : List ObjectLine) (k j : ℕ) (x : ObjectLine) (q : Name) (m : BTreeMap Name ℕ) → IsRead xs k j x q m → is_some (line_in (name_of (line_of x)) (map line_of (drop j xs))) ≡ is_some (tree.get (slice_cmp nat_cmp) m q)
+there_is : (xs : List ObjectLine) (k j : ℕ) (x : ObjectLine) (q : Name) (m : BTreeMap Name ℕ) → IsRead xs k j x q m → is_some (first_line_of (name_of (line_of x)) (map line_of (drop j xs))) ≡ is_some (tree.get (slice_cmp nat_cmp) m q)
 there_is xs k j x q m h = sym (h.found.there (name_of (line_of x))) ∙ ap (λ r. is_some (tree.get (slice_cmp nat_cmp) m r)) (sym h.named)
 
 pub next_distinct : (xs : List ObjectLine) (k j i : ℕ) (x : ObjectLine) (q : Name) (m : BTreeMap Name ℕ) → IsRead xs k j x q m → i ≡ k → tree.get (slice_cmp nat_cmp) m q ≡ None → are_distinct (map line_of (drop j xs)) ≡ true → are_distinct (map line_of (drop i xs)) ≡ true

@@ -13,9 +13,9 @@ use Rattle.wb_book.specs.Shapes.{indices}
 use Rattle.wb_shelf.specs.Joined.{is_stored, AllStored}
 use Rattle.wb_shelf.specs.Stored.{stored_cells}
 use Rattle.wb_shelf.proofs.Stored.{get-stored_cells}
-use Rattle.wb_text.specs.Said.{Line, rectangular, sparse, associative, array, line_in}
+use Rattle.wb_text.specs.Said.{Line, rectangular, sparse, associative, array, first_line_of}
 use Rattle.wb_text.specs.FromLines.Inserted.{inserted}
-use Rattle.wb_text.specs.FromLines.Told.{presents, numbers, stored_told, derived_told, cells_of, cells_put, indices_told, stored_put}
+use Rattle.wb_text.specs.FromLines.Told.{presents, element_cells, stored_told, derived_told, cells_of, cells_put, indices_told, stored_put}
 use Rattle.std.specs.List.{zip}
 
 -- ---- one cell
@@ -67,7 +67,7 @@ insides_not : (d : Name) (is : List Index) → NoneStored (presents (In d) is)
 insides_not d [] = tt
 insides_not d (i ∷ is) = (refl, insides_not d is)
 
-numbers_not : (a : Name) (ps : List (Index × ℤ)) → NoneStored (numbers a ps)
+numbers_not : (a : Name) (ps : List (Index × ℤ)) → NoneStored (element_cells a ps)
 numbers_not a [] = tt
 numbers_not a (p ∷ ps) = (refl, numbers_not a ps)
 
@@ -83,7 +83,7 @@ derived_not : (ls : List Line) (l : Line) → NoneStored (derived_told ls l)
 derived_not ls (rectangular d rs m) = insides_not d (indices rs)
 derived_not ls (sparse d parent is) = tt
 derived_not ls (associative d type is) = tt
-derived_not ls (array a d xs irv) = numbers_not a (zip (indices_told (line_in d ls)) xs)
+derived_not ls (array a d xs irv) = numbers_not a (zip (indices_told (first_line_of d ls)) xs)
 
 both_told : (ls : List Line) (l : Line) (s : Cells) → inserted (derived_told ls l) (inserted (stored_told ls l) s) ≡ inserted (cells_of ls l) s
 both_told ls (rectangular d rs m) s = refl

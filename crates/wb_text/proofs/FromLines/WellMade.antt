@@ -23,7 +23,7 @@ use Rattle.wb_book.specs.Layouts.{is_of_rank, IsMapping, IsLayout}
 use Rattle.wb_book.specs.Names.{is_name}
 use Rattle.wb_book.specs.Shapes.{indices}
 use Rattle.wb_book.specs.WellFormed.{IsWellFormed, IsObject, IsShape, HasMapping, IsMember, MayHave, IsImplicit, IsElement, domain_in, array_in, ranges_in, inside_of, use_of, has, present_if, index_cell, is_index_of_array}
-use Rattle.wb_text.specs.Said.{Line, rectangular, sparse, associative, array, name_of, line_in}
+use Rattle.wb_text.specs.Said.{Line, rectangular, sparse, associative, array, name_of, first_line_of}
 use Rattle.wb_text.proofs.Readable.{both}
 use Rattle.wb_text.proofs.ReadIndices.{some_same}
 use Rattle.wb_text.proofs.SameDomains.{none_some}
@@ -43,11 +43,11 @@ record IsFit (ls : List Line) (n : Name) (l : Line) : Type 0 where
   sound : is_sound ls l ≡ true
   made : IsMade l
 
-fit_in : (ls more : List Line) (n : Name) → list_all (is_sound ls) more ≡ true → AllByRecursion IsMade more → Of (IsFit ls n) (line_in n more)
+fit_in : (ls more : List Line) (n : Name) → list_all (is_sound ls) more ≡ true → AllByRecursion IsMade more → Of (IsFit ls n) (first_line_of n more)
 fit_in ls [] n h k = tt
 fit_in ls (l ∷ more) n h k =
     let parts = both (is_sound ls l) (list_all (is_sound ls) more) h in
-    elim (is_same_name n (name_of l)) as (λ b. is_same_name n (name_of l) ≡ b → Of (IsFit ls n) (cond b (Some l) (line_in n more))) [
+    elim (is_same_name n (name_of l)) as (λ b. is_same_name n (name_of l) ≡ b → Of (IsFit ls n) (cond b (Some l) (first_line_of n more))) [
       | true ↦ λ e. record { named = same_names n (name_of l) ((Equal-is _).0 e); sound = parts.0; made = k.0 }
       | false ↦ λ e. fit_in ls more n parts.1 k.1
     ] refl
@@ -186,10 +186,10 @@ implicit_by ls n None h = refl
 implicit_by ls n (Some (rectangular d rs m)) h = refl
 implicit_by ls n (Some (sparse d parent is)) h = refl
 implicit_by ls n (Some (associative d type is)) h = refl
-implicit_by ls n (Some (array a d xs irv)) h = implicit_kind d (kind_told ls (line_in d ls)) irv h.made.2
+implicit_by ls n (Some (array a d xs irv)) h = implicit_kind d (kind_told ls (first_line_of d ls)) irv h.made.2
 
 -- the line that tells of the cell of an index is that of the domain
-cell_told : (ls : List Line) (d : Name) (i : Index) (kind : Kind) → told ls (index_cell kind d i) ≡ told_by ls (line_in d ls) (index_cell kind d i)
+cell_told : (ls : List Line) (d : Name) (i : Index) (kind : Kind) → told ls (index_cell kind d i) ≡ told_by ls (first_line_of d ls) (index_cell kind d i)
 cell_told ls d i (Rectangular rank) = refl
 cell_told ls d i (Sparse rank) = refl
 cell_told ls d i (Associative type) = refl
@@ -197,18 +197,18 @@ cell_told ls d i (Associative type) = refl
 -- ---- the workbook
 
 module _ (ls : List Line) (s : Cells) (distinct : list_all (is_sound ls) ls ≡ true) (made : AllByRecursion IsMade ls) (as_told : (c : Cell) → get s c ≡ told ls c) where
-  fit : (n : Name) → Of (IsFit ls n) (line_in n ls)
+  fit : (n : Name) → Of (IsFit ls n) (first_line_of n ls)
   fit n = fit_in ls ls n distinct made
 
   object_made : (n : Name) (o : Option Line) (v : Value) → Of (IsFit ls n) o → told_by ls o (Object n) ≡ Some v → IsObject s v
   object_made n None v h e = none_some v e
   object_made n (Some (rectangular d rs m)) v h e = subst (IsObject s) (some_same _ v e) tt
   object_made n (Some (sparse d parent is)) v h e =
-      subst (IsObject s) (some_same _ v e) (ap domain_in (as_told (Object parent)) ∙ parent_kind ls parent is (line_in parent ls) h.sound)
+      subst (IsObject s) (some_same _ v e) (ap domain_in (as_told (Object parent)) ∙ parent_kind ls parent is (first_line_of parent ls) h.sound)
   object_made n (Some (associative d type is)) v h e = subst (IsObject s) (some_same _ v e) tt
   object_made n (Some (array a d xs irv)) v h e =
       subst (IsObject s) (some_same _ v e)
-      (ap (λ w. option_map kind_of (domain_in w)) (as_told (Object d)) ∙ kind_there ls d (line_in d ls) (both (is_domain (line_in d ls)) _ h.sound).0)
+      (ap (λ w. option_map kind_of (domain_in w)) (as_told (Object d)) ∙ kind_there ls d (first_line_of d ls) (both (is_domain (first_line_of d ls)) _ h.sound).0)
 
   member_if : (kind : Option DomainKind) (i : Index) (b : Bool) → (b ≡ true → MayHave s kind i) → IsMember s kind i (present_if b)
   member_if kind i true h = (refl, h refl)
@@ -218,7 +218,7 @@ module _ (ls : List Line) (s : Cells) (distinct : list_all (is_sound ls) ls ≡ 
   member_made n i None h = tt
   member_made n i (Some (rectangular d rs m)) h = tt
   member_made n i (Some (sparse d parent is)) h =
-      member_if (Some (domains.Sparse parent (rank_told (line_in parent ls)))) i (has is i) (λ there. as_told (In parent i) ∙ parent_inside ls parent is i (line_in parent ls) h.sound there)
+      member_if (Some (domains.Sparse parent (rank_told (first_line_of parent ls)))) i (has is i) (λ there. as_told (In parent i) ∙ parent_inside ls parent is i (first_line_of parent ls) h.sound there)
   member_made n i (Some (associative d type is)) h =
       member_if (Some (domains.Associative type)) i (has is i) (λ there. (listed_passes (is_key (Associative type)) is i h.sound there, listed_is IsIndex is i (recursion_from_All IsIndex is h.made.1) there))
   member_made n i (Some (array a d xs irv)) h = tt
@@ -229,22 +229,22 @@ module _ (ls : List Line) (s : Cells) (distinct : list_all (is_sound ls) ls ≡ 
   element_made n i (Some (sparse d parent is)) h = refl
   element_made n i (Some (associative d type is)) h = refl
   element_made n i (Some (array a d xs irv)) h =
-      let over : Option Line = line_in d ls in
-      let tests = both (is_domain (line_in d ls)) (length (indices_told (line_in d ls)) == length xs) h.sound in
-      let index : is_some (get s (index_cell (kind_told ls (line_in d ls)) d i)) ≡ has (indices_told (line_in d ls)) i =
-      ap is_some (as_told (index_cell (kind_told ls (line_in d ls)) d i)) ∙ ap is_some (cell_told ls d i (kind_told ls (line_in d ls))) ∙ index_there ls d i (line_in d ls) tests.0 in
-      subst (λ b. IsElement b (option_map (λ z. values.Number z) (last_of index_cmp (zip (indices_told (line_in d ls)) xs) i))) (sym index)
-      (element_there (indices_told (line_in d ls)) xs i (eqb-true _ _ tests.1) (recursion_from_All (FitsSigned w64) xs h.made.1))
+      let over : Option Line = first_line_of d ls in
+      let tests = both (is_domain (first_line_of d ls)) (length (indices_told (first_line_of d ls)) == length xs) h.sound in
+      let index : is_some (get s (index_cell (kind_told ls (first_line_of d ls)) d i)) ≡ has (indices_told (first_line_of d ls)) i =
+      ap is_some (as_told (index_cell (kind_told ls (first_line_of d ls)) d i)) ∙ ap is_some (cell_told ls d i (kind_told ls (first_line_of d ls))) ∙ index_there ls d i (first_line_of d ls) tests.0 in
+      subst (λ b. IsElement b (option_map (λ z. values.Number z) (last_of index_cmp (zip (indices_told (first_line_of d ls)) xs) i))) (sym index)
+      (element_there (indices_told (first_line_of d ls)) xs i (eqb-true _ _ tests.1) (recursion_from_All (FitsSigned w64) xs h.made.1))
 
   pub well_made : IsWellFormed s
   well_made = record {
-    names = λ n v e. name_told ls n (line_in n ls) v (fit n) (sym (as_told (Object n)) ∙ e);
-    objects = λ n v e. object_made n (line_in n ls) v (fit n) (sym (as_told (Object n)) ∙ e);
-    shapes = λ d. rw (as_told (Object d), as_told (Shape d)) (shape_told ls d (line_in d ls) (fit d));
-    insides = λ d i. rw (as_told (In d i), as_told (Shape d)) (inside_told ls d i (line_in d ls));
-    members = λ d i. rw (as_told (Object d), as_told (Member d i)) (member_made d i (line_in d ls) (fit d));
-    mappings = λ d. rw (as_told (Object d), as_told (Mapping d)) (mapping_told ls d (line_in d ls) (fit d));
-    uses = λ d n. rw (as_told (Use d n), as_told (Object n)) (use_told ls d n (line_in n ls));
-    implicits = λ a. rw (as_told (Object a), as_told (Implicit a)) (implicit_by ls a (line_in a ls) (fit a));
-    elements = λ a i. rw (as_told (Object a), as_told (Element a i)) (element_made a i (line_in a ls) (fit a));
+    names = λ n v e. name_told ls n (first_line_of n ls) v (fit n) (sym (as_told (Object n)) ∙ e);
+    objects = λ n v e. object_made n (first_line_of n ls) v (fit n) (sym (as_told (Object n)) ∙ e);
+    shapes = λ d. rw (as_told (Object d), as_told (Shape d)) (shape_told ls d (first_line_of d ls) (fit d));
+    insides = λ d i. rw (as_told (In d i), as_told (Shape d)) (inside_told ls d i (first_line_of d ls));
+    members = λ d i. rw (as_told (Object d), as_told (Member d i)) (member_made d i (first_line_of d ls) (fit d));
+    mappings = λ d. rw (as_told (Object d), as_told (Mapping d)) (mapping_told ls d (first_line_of d ls) (fit d));
+    uses = λ d n. rw (as_told (Use d n), as_told (Object n)) (use_told ls d n (first_line_of n ls));
+    implicits = λ a. rw (as_told (Object a), as_told (Implicit a)) (implicit_by ls a (first_line_of a ls) (fit a));
+    elements = λ a i. rw (as_told (Object a), as_told (Element a i)) (element_made a i (first_line_of a ls) (fit a));
   }

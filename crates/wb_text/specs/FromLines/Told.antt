@@ -18,7 +18,7 @@ use Rattle.wb_book.specs.Kinds.{is_key}
 use Rattle.wb_book.specs.Layouts.{is_of_rank}
 use Rattle.wb_book.specs.Shapes.{Range, indices}
 use Rattle.wb_book.specs.WellFormed.{has, present_if}
-use Rattle.wb_text.specs.Said.{Line, rectangular, sparse, associative, array, name_of, line_in}
+use Rattle.wb_text.specs.Said.{Line, rectangular, sparse, associative, array, name_of, first_line_of}
 use Rattle.wb_text.specs.FromLines.Inserted.{inserted, last_of}
 
 -- ---- what a line tells of a domain to those that are bound to it
@@ -35,7 +35,7 @@ rank_told o = length (unwrap_or (ranges_told o) [])
 -- what an array knows of its domain; any kind where no line tells of such a domain
 abbrev pub kind_told : List Line → Option Line → Kind
 kind_told ls (Some (rectangular d rs m)) = Rectangular (length rs)
-kind_told ls (Some (sparse d parent is)) = Sparse (rank_told (line_in parent ls))
+kind_told ls (Some (sparse d parent is)) = Sparse (rank_told (first_line_of parent ls))
 kind_told ls (Some (associative d type is)) = Associative type
 kind_told ls _ = Rectangular 0
 
@@ -64,14 +64,14 @@ are_within None is = false
 -- domain of its type, and an array has an element for each index of a domain
 abbrev pub is_sound : List Line → Line → Bool
 is_sound ls (rectangular d rs m) = is_of_rank (length rs) m
-is_sound ls (sparse d parent is) = are_within (ranges_told (line_in parent ls)) is
+is_sound ls (sparse d parent is) = are_within (ranges_told (first_line_of parent ls)) is
 is_sound ls (associative d type is) = list_all (is_key (Associative type)) is
-is_sound ls (array a d xs irv) = is_domain (line_in d ls) && (length (indices_told (line_in d ls)) == length xs)
+is_sound ls (array a d xs irv) = is_domain (first_line_of d ls) && (length (indices_told (first_line_of d ls)) == length xs)
 
 -- no two lines are of one name
 abbrev pub are_distinct : List Line → Bool
 are_distinct [] = true
-are_distinct (l ∷ ls) = cond (is_some (line_in (name_of l) ls)) false (are_distinct ls)
+are_distinct (l ∷ ls) = cond (is_some (first_line_of (name_of l) ls)) false (are_distinct ls)
 
 -- ---- the cells that a line tells of
 
@@ -86,8 +86,8 @@ abbrev pub presents : (Index → Cell) → List Index → List (Cell × Value)
 presents make is = map (λ i. (make i, values.Present)) is
 
 -- the elements of an array at the indices
-abbrev pub numbers : Name → List (Index × ℤ) → List (Cell × Value)
-numbers a ps = map (λ (p : Index × ℤ). (Element a p.0, values.Number p.1)) ps
+abbrev pub element_cells : Name → List (Index × ℤ) → List (Cell × Value)
+element_cells a ps = map (λ (p : Index × ℤ). (Element a p.0, values.Number p.1)) ps
 
 -- what is stored of a rectangular domain: what it is, its ranges, and its mapping
 abbrev pub rectangular_stored : Name → List Range → LayoutMap → List (Cell × Value)
@@ -110,28 +110,28 @@ abbrev pub array_stored : Name → Name → Kind → Option ℤ → List (Cell �
 array_stored a d kind irv = (Object a, values.Array d kind) ∷ (Use d a, values.Bound bindings.Array) ∷ (Implicit a, values.Number (implicit_told kind irv)) ∷ []
 
 -- all its cells: also its elements
-abbrev pub array_cells : Name → Name → Kind → List Index → List ℤ → Option ℤ → List (Cell × Value)
-array_cells a d kind is xs irv = array_stored a d kind irv ++ numbers a (zip is xs)
+abbrev pub line_array_cells : Name → Name → Kind → List Index → List ℤ → Option ℤ → List (Cell × Value)
+line_array_cells a d kind is xs irv = array_stored a d kind irv ++ element_cells a (zip is xs)
 
 -- the stored cells that a line tells of, among all lines
 abbrev pub stored_told : List Line → Line → List (Cell × Value)
 stored_told ls (rectangular d rs m) = rectangular_stored d rs m
-stored_told ls (sparse d parent is) = sparse_cells d parent (rank_told (line_in parent ls)) is
+stored_told ls (sparse d parent is) = sparse_cells d parent (rank_told (first_line_of parent ls)) is
 stored_told ls (associative d type is) = associative_cells d type is
-stored_told ls (array a d xs irv) = array_stored a d (kind_told ls (line_in d ls)) irv
+stored_told ls (array a d xs irv) = array_stored a d (kind_told ls (first_line_of d ls)) irv
 
 -- and the others: which indices are in a domain follows from its ranges, and elements lie in the array
 abbrev pub derived_told : List Line → Line → List (Cell × Value)
 derived_told ls (rectangular d rs m) = presents (In d) (indices rs)
-derived_told ls (array a d xs irv) = numbers a (zip (indices_told (line_in d ls)) xs)
+derived_told ls (array a d xs irv) = element_cells a (zip (indices_told (first_line_of d ls)) xs)
 derived_told ls l = []
 
 -- the cells that a line tells of, among all lines
 abbrev pub cells_of : List Line → Line → List (Cell × Value)
 cells_of ls (rectangular d rs m) = rectangular_cells d rs m
-cells_of ls (sparse d parent is) = sparse_cells d parent (rank_told (line_in parent ls)) is
+cells_of ls (sparse d parent is) = sparse_cells d parent (rank_told (first_line_of parent ls)) is
 cells_of ls (associative d type is) = associative_cells d type is
-cells_of ls (array a d xs irv) = array_cells a d (kind_told ls (line_in d ls)) (indices_told (line_in d ls)) xs irv
+cells_of ls (array a d xs irv) = line_array_cells a d (kind_told ls (first_line_of d ls)) (indices_told (first_line_of d ls)) xs irv
 
 -- the stored cells of lines among all of them, put in line by line
 abbrev pub stored_put : List Line → List Line → Cells → Cells
@@ -170,15 +170,15 @@ told_of ls (rectangular d rs m) (Object n) = Some (values.Domain (domains.Rectan
 told_of ls (rectangular d rs m) (Shape n) = Some (values.Ranges rs)
 told_of ls (rectangular d rs m) (Mapping n) = Some (values.Mapping m)
 told_of ls (rectangular d rs m) (In n i) = present_if (has (indices rs) i)
-told_of ls (sparse d parent is) (Object n) = Some (values.Domain (domains.Sparse parent (rank_told (line_in parent ls))))
+told_of ls (sparse d parent is) (Object n) = Some (values.Domain (domains.Sparse parent (rank_told (first_line_of parent ls))))
 told_of ls (sparse d parent is) (Use e n) = cond (is_same_name e parent) (Some (values.Bound bindings.Sparse)) None
 told_of ls (sparse d parent is) (Member n i) = present_if (has is i)
 told_of ls (associative d type is) (Object n) = Some (values.Domain (domains.Associative type))
 told_of ls (associative d type is) (Member n i) = present_if (has is i)
-told_of ls (array a d xs irv) (Object n) = Some (values.Array d (kind_told ls (line_in d ls)))
+told_of ls (array a d xs irv) (Object n) = Some (values.Array d (kind_told ls (first_line_of d ls)))
 told_of ls (array a d xs irv) (Use e n) = cond (is_same_name e d) (Some (values.Bound bindings.Array)) None
-told_of ls (array a d xs irv) (Implicit n) = Some (values.Number (implicit_told (kind_told ls (line_in d ls)) irv))
-told_of ls (array a d xs irv) (Element n i) = option_map (λ z. values.Number z) (last_of index_cmp (zip (indices_told (line_in d ls)) xs) i)
+told_of ls (array a d xs irv) (Implicit n) = Some (values.Number (implicit_told (kind_told ls (first_line_of d ls)) irv))
+told_of ls (array a d xs irv) (Element n i) = option_map (λ z. values.Number z) (last_of index_cmp (zip (indices_told (first_line_of d ls)) xs) i)
 told_of ls l c = None
 
 -- the same, if there is such a line
@@ -188,4 +188,4 @@ told_by ls (Some l) c = told_of ls l c
 
 -- what the lines tell of a cell: what the line of its owner does
 abbrev pub told : List Line → Cell → Option Value
-told ls c = told_by ls (line_in (owner c) ls) c
+told ls c = told_by ls (first_line_of (owner c) ls) c

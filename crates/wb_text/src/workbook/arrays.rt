@@ -4,7 +4,7 @@ ghost use Rattle.std.specs.Prelude.{◌≡◌, ◌∷◌, map, List, None, true,
 ghost use Rattle.wb_text.specs.FromLines.Found.{Finds};
 ghost use Rattle.wb_text.specs.FromLines.Told.{are_distinct};
 ghost use Rattle.wb_text.specs.FromLines.Laid.{AreArraysTold};
-ghost use Rattle.wb_text.specs.Said.{Line, name_of, line_in, line_of};
+ghost use Rattle.wb_text.specs.Said.{Line, name_of, first_line_of, line_of};
 
 use crate::ObjectLine;
 use crate::workbook::columns::column;
@@ -23,7 +23,7 @@ fn put_array(
     line: &ObjectLine,
 ) -> Result<(), NoMemory>
     requires { Finds places.now (map line_of lines.now) (map line_of lines.now) }
-    ensures { OnOk result ((more : List Line) → line_in (name_of (line_of line.now)) more ≡ None → AreArraysTold (map line_of lines.now) more arrays.old.entries → AreArraysTold (map line_of lines.now) (line_of line.now ∷ more) arrays.new.entries) }
+    ensures { OnOk result ((more : List Line) → first_line_of (name_of (line_of line.now)) more ≡ None → AreArraysTold (map line_of lines.now) more arrays.old.entries → AreArraysTold (map line_of lines.now) (line_of line.now ∷ more) arrays.new.entries) }
 {
     match line {
         ObjectLine::Rectangular(_, _, _) => Ok(()),

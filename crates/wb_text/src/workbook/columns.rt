@@ -5,7 +5,7 @@ ghost use Rattle.std.specs.List.{zip};
 ghost use Rattle.wb_shelf.specs.Piecewise.Changed.{all_set};
 ghost use Rattle.wb_text.specs.FromLines.Found.{Finds};
 ghost use Rattle.wb_text.specs.FromLines.Laid.{rectangle_lies, lies_told, IsColumn};
-ghost use Rattle.wb_text.specs.Said.{line_in, line_of};
+ghost use Rattle.wb_text.specs.Said.{first_line_of, line_of};
 
 use crate::ObjectLine;
 use crate::workbook::finding::find;
@@ -23,7 +23,7 @@ fn rectangle_lies(
     name: &Name,
 ) -> (AnyLayout, u8)
     requires { Finds places.now (map line_of lines.now) (map line_of lines.now) }
-    ensures { result ≡ rectangle_lies (line_in name.now (map line_of lines.now)) }
+    ensures { result ≡ rectangle_lies (first_line_of name.now (map line_of lines.now)) }
 {
     match find(lines, places, name) {
         Some(ObjectLine::Rectangular(_, ranges, mapping)) => (*mapping, ranges.rank()),
@@ -37,7 +37,7 @@ fn rectangle_lies(
 // How the arrays over a domain lie.
 fn lies(lines: &[ObjectLine], places: &BTreeMap<Name, usize>, name: &Name) -> (AnyLayout, u8)
     requires { Finds places.now (map line_of lines.now) (map line_of lines.now) }
-    ensures { result ≡ lies_told (map line_of lines.now) (line_in name.now (map line_of lines.now)) }
+    ensures { result ≡ lies_told (map line_of lines.now) (first_line_of name.now (map line_of lines.now)) }
 {
     match find(lines, places, name) {
         Some(ObjectLine::Rectangular(_, ranges, mapping)) => (*mapping, ranges.rank()),

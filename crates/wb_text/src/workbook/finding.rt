@@ -1,7 +1,7 @@
 //! The line of a name among the lines, found by its place.
 ghost use Rattle.std.specs.Prelude.{◌≡◌, map, option_map, is_some, IfOk, IfSome};
 ghost use Rattle.wb_text.specs.Said as said;
-ghost use Rattle.wb_text.specs.Said.{line_in, line_of};
+ghost use Rattle.wb_text.specs.Said.{first_line_of, line_of};
 ghost use Rattle.wb_text.specs.FromLines.Found.{Finds};
 ghost use Rattle.wb_text.specs.FromLines.Told.{are_distinct};
 
@@ -50,7 +50,7 @@ pub(crate) fn find<'a>(
     name: &Name,
 ) -> Option<&'a ObjectLine>
     requires { Finds places.now (map line_of lines.now) (map line_of lines.now) }
-    ensures { option_map (λ l. line_of l.now) result ≡ line_in name.now (map line_of lines.now) }
+    ensures { option_map (λ l. line_of l.now) result ≡ first_line_of name.now (map line_of lines.now) }
 {
     let place = *places.get(name)?;
     lines.get(place)

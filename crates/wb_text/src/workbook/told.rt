@@ -5,7 +5,7 @@ ghost use Rattle.wb_book.specs.Cells.{state_of};
 ghost use Rattle.wb_book.specs.Kinds.{is_key};
 ghost use Rattle.wb_book.specs.Layouts.{is_of_rank};
 ghost use Rattle.wb_book.specs.declared.cells.kind.Kind.TheVariants.{Associative as over_associative};
-ghost use Rattle.wb_text.specs.Said.{line_in, line_of};
+ghost use Rattle.wb_text.specs.Said.{first_line_of, line_of};
 ghost use Rattle.wb_text.specs.FromLines.Found.{Finds};
 ghost use Rattle.wb_text.specs.FromLines.Inserted.{inserted};
 ghost use Rattle.wb_text.specs.FromLines.Told.{ranges_told, rank_told, kind_told, indices_told, implicit_told, is_domain, are_within, is_sound, rectangular_stored, sparse_cells, associative_cells, array_stored, stored_told};
@@ -25,7 +25,7 @@ use wb_range::NoMemory;
 // The ranges of the rectangular domain of a name.
 fn ranges_of(lines: &[ObjectLine], places: &BTreeMap<Name, usize>, name: &Name) -> Option<AnyRect>
     requires { Finds places.now (map line_of lines.now) (map line_of lines.now) }
-    ensures { result ≡ ranges_told (line_in name.now (map line_of lines.now)) }
+    ensures { result ≡ ranges_told (first_line_of name.now (map line_of lines.now)) }
 {
     match find(lines, places, name)? {
         ObjectLine::Rectangular(_, ranges, _) => Some(*ranges),
@@ -38,7 +38,7 @@ fn ranges_of(lines: &[ObjectLine], places: &BTreeMap<Name, usize>, name: &Name) 
 // How many dimensions the rectangular domain of a name has; 0 where there is none.
 fn rank_of(lines: &[ObjectLine], places: &BTreeMap<Name, usize>, name: &Name) -> u8
     requires { Finds places.now (map line_of lines.now) (map line_of lines.now) }
-    ensures { result ≡ rank_told (line_in name.now (map line_of lines.now)) }
+    ensures { result ≡ rank_told (first_line_of name.now (map line_of lines.now)) }
 {
     match ranges_of(lines, places, name) {
         Some(ranges) => ranges.rank(),
@@ -55,8 +55,8 @@ fn copied(alloc: Global, indices: &[AnyIndex]) -> Result<Vec<AnyIndex>, AllocErr
 // The kind of the domain of a name.
 fn kind_of(lines: &[ObjectLine], places: &BTreeMap<Name, usize>, name: &Name) -> Option<Kind>
     requires { Finds places.now (map line_of lines.now) (map line_of lines.now) }
-    ensures domain { is_some result ≡ is_domain (line_in name.now (map line_of lines.now)) }
-    ensures kind { IfSome result (λ k. k ≡ kind_told (map line_of lines.now) (line_in name.now (map line_of lines.now))) }
+    ensures domain { is_some result ≡ is_domain (first_line_of name.now (map line_of lines.now)) }
+    ensures kind { IfSome result (λ k. k ≡ kind_told (map line_of lines.now) (first_line_of name.now (map line_of lines.now))) }
 {
     match find(lines, places, name)? {
         ObjectLine::Rectangular(_, ranges, _) => Some(Kind::Rectangular(ranges.rank())),
@@ -69,7 +69,7 @@ fn kind_of(lines: &[ObjectLine], places: &BTreeMap<Name, usize>, name: &Name) ->
 // How many indices the domain of a name has; 0 where it is of no domain.
 fn count_of(lines: &[ObjectLine], places: &BTreeMap<Name, usize>, name: &Name) -> usize
     requires { Finds places.now (map line_of lines.now) (map line_of lines.now) }
-    ensures { result ≡ length (indices_told (line_in name.now (map line_of lines.now))) }
+    ensures { result ≡ length (indices_told (first_line_of name.now (map line_of lines.now))) }
 {
     match find(lines, places, name) {
         Some(ObjectLine::Rectangular(_, ranges, _)) => ranges.size(),
@@ -88,7 +88,7 @@ pub fn indices_of(
     name: &Name,
 ) -> Result<Vec<AnyIndex>, AllocError>
     requires { Finds places.now (map line_of lines.now) (map line_of lines.now) }
-    ensures { IfOk result (λ v. v.items ≡ indices_told (line_in name.now (map line_of lines.now))) }
+    ensures { IfOk result (λ v. v.items ≡ indices_told (first_line_of name.now (map line_of lines.now))) }
 {
     match find(lines, places, name) {
         Some(ObjectLine::Rectangular(_, ranges, _)) => points_of(alloc, ranges),

@@ -6,30 +6,32 @@ ghost use Rattle.wb_edit.specs.Commands.Reshape.{reshape, reshape_kind};
 use crate::attempt_err::AttemptErr;
 use crate::commands::reshape::rectangles::plan_reshape_rectangle;
 use crate::commands::reshape::sets::{plan_reshape_associative, plan_reshape_sparse};
-use crate::foot::Foot;
+use crate::footprint::Footprint;
 use crate::looks::one_cell::domain_named;
 use std::alloc::Global;
 use wb_book::{AnyDomain, Delta, DomainKind, Name};
-use wb_resize::Source;
+use wb_resize::NewIndices;
 use wb_shelf::Book;
 
 fn plan_reshape_kind(
     alloc: Global,
     book: &Book,
-    foot: &mut Foot,
+    footprint: &mut Footprint,
     domain: Name,
     kind: &AnyDomain,
-    source: &Source,
+    source: &NewIndices,
 ) -> Result<Delta, AttemptErr>
-    ensures { Attempts (reshape_kind domain kind.now source.now) book.now.cells foot.old result foot.new }
+    ensures { Attempts (reshape_kind domain kind.now source.now) book.now.cells footprint.old result footprint.new }
 {
     match kind.domain_kind() {
         DomainKind::Rectangular(rank) => {
-            plan_reshape_rectangle(alloc, book, foot, domain, rank, source)
+            plan_reshape_rectangle(alloc, book, footprint, domain, rank, source)
         }
-        DomainKind::Sparse(_, _) => plan_reshape_sparse(alloc, book, foot, domain, kind, source),
+        DomainKind::Sparse(_, _) => plan_reshape_sparse(
+            alloc, book, footprint, domain, kind, source,
+        ),
         DomainKind::Associative(_) => {
-            plan_reshape_associative(alloc, book, foot, domain, kind, source)
+            plan_reshape_associative(alloc, book, footprint, domain, kind, source)
         }
     }
 }
@@ -38,12 +40,12 @@ fn plan_reshape_kind(
 pub(crate) fn plan_reshape(
     alloc: Global,
     book: &Book,
-    foot: &mut Foot,
+    footprint: &mut Footprint,
     domain: Name,
-    source: &Source,
+    source: &NewIndices,
 ) -> Result<Delta, AttemptErr>
-    ensures { Attempts (reshape domain source.now) book.now.cells foot.old result foot.new }
+    ensures { Attempts (reshape domain source.now) book.now.cells footprint.old result footprint.new }
 {
-    let kind = domain_named(book, foot, domain)?;
-    plan_reshape_kind(alloc, book, foot, domain, &kind, source)
+    let kind = domain_named(book, footprint, domain)?;
+    plan_reshape_kind(alloc, book, footprint, domain, &kind, source)
 }

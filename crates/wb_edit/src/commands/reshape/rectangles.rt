@@ -7,25 +7,25 @@ ghost use Rattle.wb_edit.specs.Commands.Reshape.{to_rectangle, slice_rectangle, 
 use crate::attempt_err::{AttemptErr, stopped};
 use crate::commands::reshape::no_source::plan_no_source;
 use crate::commands::reshape::replaced::plan_replaced;
-use crate::foot::Foot;
+use crate::footprint::Footprint;
 use crate::looks::reshaping::shape;
 use crate::looks::sources::{displacement_of, gives_rectangle, ranges_given, same_rank, slice_of};
 use std::alloc::Global;
 use wb_book::{AnyRect, Delta, Name, Point};
 use wb_resize::new_rectangles::left_out;
-use wb_resize::{Displacement, Given, Source};
+use wb_resize::{Displacement, NewIndices, Operand};
 use wb_shelf::Book;
 
 // A rectangular domain with some ranges gets new ones.
 fn plan_reshaped(
     alloc: Global,
     book: &Book,
-    foot: &mut Foot,
+    footprint: &mut Footprint,
     domain: Name,
     old: &AnyRect,
     new: &AnyRect,
 ) -> Result<Delta, AttemptErr>
-    ensures { Attempts (reshaped domain old.now new.now) book.now.cells foot.old result foot.new }
+    ensures { Attempts (reshaped domain old.now new.now) book.now.cells footprint.old result footprint.new }
 {
     let Ok(leaving) = left_out(alloc, new, old) else {
         return Err(AttemptErr::NoMemory);
@@ -33,79 +33,79 @@ fn plan_reshaped(
     let Ok(coming) = left_out(alloc, old, new) else {
         return Err(AttemptErr::NoMemory);
     };
-    plan_replaced(alloc, book, foot, domain, new, &leaving, &coming)
+    plan_replaced(alloc, book, footprint, domain, new, &leaving, &coming)
 }
 
 // What is given takes the place of the ranges.
 fn plan_to(
     alloc: Global,
     book: &Book,
-    foot: &mut Foot,
+    footprint: &mut Footprint,
     domain: Name,
     rank: u8,
-    given: &Given,
+    given: &Operand,
 ) -> Result<Delta, AttemptErr>
-    ensures { Attempts (to_rectangle domain rank given.now) book.now.cells foot.old result foot.new }
+    ensures { Attempts (to_rectangle domain rank given.now) book.now.cells footprint.old result footprint.new }
 {
-    gives_rectangle(book, foot, rank, given)?;
-    let old = shape(book, foot, domain)?;
-    let new = ranges_given(book, foot, given)?;
-    plan_reshaped(alloc, book, foot, domain, &old, &new)
+    gives_rectangle(book, footprint, rank, given)?;
+    let old = shape(book, footprint, domain)?;
+    let new = ranges_given(book, footprint, given)?;
+    plan_reshaped(alloc, book, footprint, domain, &old, &new)
 }
 
 // The ranges become what they have in common with those that are given.
 fn plan_slice(
     alloc: Global,
     book: &Book,
-    foot: &mut Foot,
+    footprint: &mut Footprint,
     domain: Name,
     rank: u8,
-    given: &Given,
+    given: &Operand,
 ) -> Result<Delta, AttemptErr>
-    ensures { Attempts (slice_rectangle domain rank given.now) book.now.cells foot.old result foot.new }
+    ensures { Attempts (slice_rectangle domain rank given.now) book.now.cells footprint.old result footprint.new }
 {
-    gives_rectangle(book, foot, rank, given)?;
-    let old = shape(book, foot, domain)?;
-    let by = ranges_given(book, foot, given)?;
+    gives_rectangle(book, footprint, rank, given)?;
+    let old = shape(book, footprint, domain)?;
+    let by = ranges_given(book, footprint, given)?;
     let new = stopped(slice_of(&old, &by))?;
-    plan_reshaped(alloc, book, foot, domain, &old, &new)
+    plan_reshaped(alloc, book, footprint, domain, &old, &new)
 }
 
 // The ranges move by an offset for each dimension.
 fn plan_displace(
     alloc: Global,
     book: &Book,
-    foot: &mut Foot,
+    footprint: &mut Footprint,
     domain: Name,
     rank: u8,
     how: Displacement,
     offsets: &Point,
 ) -> Result<Delta, AttemptErr>
-    ensures { Attempts (displace_rectangle domain rank how offsets.now) book.now.cells foot.old result foot.new }
+    ensures { Attempts (displace_rectangle domain rank how offsets.now) book.now.cells footprint.old result footprint.new }
 {
     stopped(same_rank(rank as usize, offsets.coordinates().len()))?;
-    let old = shape(book, foot, domain)?;
+    let old = shape(book, footprint, domain)?;
     let new = stopped(displacement_of(how, offsets, &old))?;
-    plan_reshaped(alloc, book, foot, domain, &old, &new)
+    plan_reshaped(alloc, book, footprint, domain, &old, &new)
 }
 
 /// A new value of a rectangular domain of a rank.
 pub(crate) fn plan_reshape_rectangle(
     alloc: Global,
     book: &Book,
-    foot: &mut Foot,
+    footprint: &mut Footprint,
     domain: Name,
     rank: u8,
-    source: &Source,
+    source: &NewIndices,
 ) -> Result<Delta, AttemptErr>
-    ensures { Attempts (reshape_rectangle domain rank source.now) book.now.cells foot.old result foot.new }
+    ensures { Attempts (reshape_rectangle domain rank source.now) book.now.cells footprint.old result footprint.new }
 {
     match source {
-        Source::To(given) => plan_to(alloc, book, foot, domain, rank, given),
-        Source::Slice(given) => plan_slice(alloc, book, foot, domain, rank, given),
-        Source::Displace(how, offsets) => {
-            plan_displace(alloc, book, foot, domain, rank, *how, offsets)
+        NewIndices::To(given) => plan_to(alloc, book, footprint, domain, rank, given),
+        NewIndices::Slice(given) => plan_slice(alloc, book, footprint, domain, rank, given),
+        NewIndices::Displace(how, offsets) => {
+            plan_displace(alloc, book, footprint, domain, rank, *how, offsets)
         }
-        Source::Combine(_, given) => plan_no_source(book, foot, given),
+        NewIndices::Combine(_, given) => plan_no_source(book, footprint, given),
     }
 }

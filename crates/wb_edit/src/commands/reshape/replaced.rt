@@ -8,7 +8,7 @@ ghost use Rattle.wb_edit.specs.Reshaping.{reshaped_cells, replaced};
 
 use crate::attempt_err::AttemptErr;
 use crate::commands::writes::{NamedDomain, put, resize};
-use crate::foot::Foot;
+use crate::footprint::Footprint;
 use crate::looks::reshaping::none_there;
 use crate::looks::resizing::zeros;
 use crate::looks::users::{arrays, sparse_domains, uses};
@@ -20,7 +20,7 @@ use wb_shelf::Book;
 pub(crate) fn plan_replaced(
     alloc: Global,
     book: &Book,
-    foot: &mut Foot,
+    footprint: &mut Footprint,
     domain: Name,
     new: &AnyRect,
     leaving: &[AnyIndex],
@@ -29,11 +29,11 @@ pub(crate) fn plan_replaced(
     requires leaving { IsListedOnce leaving.now }
     requires coming { IsListedOnce coming.now }
     requires apart { AreApart leaving.now coming.now }
-    ensures { Attempts (replaced domain new.now leaving.now coming.now) book.now.cells foot.old result foot.new }
+    ensures { Attempts (replaced domain new.now leaving.now coming.now) book.now.cells footprint.old result footprint.new }
 {
-    let users = uses(alloc, book, foot, domain)?;
+    let users = uses(alloc, book, footprint, domain)?;
     let inner = sparse_domains(alloc, &users)?;
-    none_there(book, foot, &inner, leaving)?;
+    none_there(book, footprint, &inner, leaving)?;
     let names = arrays(alloc, &users)?;
     replace_changes(alloc, domain, new, &names, leaving, coming)
 }

@@ -7,21 +7,21 @@ ghost use Rattle.wb_edit.specs.Commands.Reshape.{with_indices, to_set, combine_s
 use crate::attempt_err::AttemptErr;
 use crate::commands::reshape::no_source::plan_no_source;
 use crate::commands::resized::plan_resized;
-use crate::foot::Foot;
+use crate::footprint::Footprint;
 use crate::looks::indices::members;
 use crate::looks::sources::{gives_set, indices_given};
 use crate::refusal::Refusal;
 use std::alloc::Global;
 use wb_book::{AnyDomain, AnyIndex, Delta, Name};
 use wb_resize::set_operations::{combined, without};
-use wb_resize::{Given, SetOperation, Source};
+use wb_resize::{NewIndices, Operand, SetOperation};
 use wb_shelf::Book;
 
 // A domain with some indices gets others.
 fn plan_with_indices(
     alloc: Global,
     book: &Book,
-    foot: &mut Foot,
+    footprint: &mut Footprint,
     domain: Name,
     kind: &AnyDomain,
     old: &[AnyIndex],
@@ -29,7 +29,7 @@ fn plan_with_indices(
 ) -> Result<Delta, AttemptErr>
     requires old { IsListedOnce old.now }
     requires new { IsListedOnce new.now }
-    ensures { Attempts (with_indices domain kind.now old.now new.now) book.now.cells foot.old result foot.new }
+    ensures { Attempts (with_indices domain kind.now old.now new.now) book.now.cells footprint.old result footprint.new }
 {
     let Ok(leaving) = without(alloc, new, old) else {
         return Err(AttemptErr::NoMemory);
@@ -37,63 +37,63 @@ fn plan_with_indices(
     let Ok(coming) = without(alloc, old, new) else {
         return Err(AttemptErr::NoMemory);
     };
-    plan_resized(alloc, book, foot, domain, kind, new, &leaving, &coming)
+    plan_resized(alloc, book, footprint, domain, kind, new, &leaving, &coming)
 }
 
 // What is given takes the place of the indices.
 fn plan_to(
     alloc: Global,
     book: &Book,
-    foot: &mut Foot,
+    footprint: &mut Footprint,
     domain: Name,
     kind: &AnyDomain,
-    given: &Given,
+    given: &Operand,
 ) -> Result<Delta, AttemptErr>
-    ensures { Attempts (to_set domain kind.now given.now) book.now.cells foot.old result foot.new }
+    ensures { Attempts (to_set domain kind.now given.now) book.now.cells footprint.old result footprint.new }
 {
-    gives_set(book, foot, kind.kind(), given)?;
-    let old = members(alloc, book, foot, domain)?;
-    let new = indices_given(alloc, book, foot, given)?;
-    plan_with_indices(alloc, book, foot, domain, kind, &old, &new)
+    gives_set(book, footprint, kind.kind(), given)?;
+    let old = members(alloc, book, footprint, domain)?;
+    let new = indices_given(alloc, book, footprint, given)?;
+    plan_with_indices(alloc, book, footprint, domain, kind, &old, &new)
 }
 
 // The indices become what they and those that are given make.
 fn plan_combine(
     alloc: Global,
     book: &Book,
-    foot: &mut Foot,
+    footprint: &mut Footprint,
     domain: Name,
     kind: &AnyDomain,
     how: SetOperation,
-    given: &Given,
+    given: &Operand,
 ) -> Result<Delta, AttemptErr>
-    ensures { Attempts (combine_set domain kind.now how given.now) book.now.cells foot.old result foot.new }
+    ensures { Attempts (combine_set domain kind.now how given.now) book.now.cells footprint.old result footprint.new }
 {
-    gives_set(book, foot, kind.kind(), given)?;
-    let old = members(alloc, book, foot, domain)?;
-    let other = indices_given(alloc, book, foot, given)?;
+    gives_set(book, footprint, kind.kind(), given)?;
+    let old = members(alloc, book, footprint, domain)?;
+    let other = indices_given(alloc, book, footprint, given)?;
     let Ok(new) = combined(alloc, how, &other, &old) else {
         return Err(AttemptErr::NoMemory);
     };
-    plan_with_indices(alloc, book, foot, domain, kind, &old, &new)
+    plan_with_indices(alloc, book, footprint, domain, kind, &old, &new)
 }
 
 /// A new value of a sparse domain.
 pub(crate) fn plan_reshape_sparse(
     alloc: Global,
     book: &Book,
-    foot: &mut Foot,
+    footprint: &mut Footprint,
     domain: Name,
     kind: &AnyDomain,
-    source: &Source,
+    source: &NewIndices,
 ) -> Result<Delta, AttemptErr>
-    ensures { Attempts (reshape_sparse domain kind.now source.now) book.now.cells foot.old result foot.new }
+    ensures { Attempts (reshape_sparse domain kind.now source.now) book.now.cells footprint.old result footprint.new }
 {
     match source {
-        Source::To(given) => plan_to(alloc, book, foot, domain, kind, given),
-        Source::Slice(given) => plan_no_source(book, foot, given),
-        Source::Displace(_, _) => Err(AttemptErr::Refused(Refusal::WrongKind)),
-        Source::Combine(_, given) => plan_no_source(book, foot, given),
+        NewIndices::To(given) => plan_to(alloc, book, footprint, domain, kind, given),
+        NewIndices::Slice(given) => plan_no_source(book, footprint, given),
+        NewIndices::Displace(_, _) => Err(AttemptErr::Refused(Refusal::WrongKind)),
+        NewIndices::Combine(_, given) => plan_no_source(book, footprint, given),
     }
 }
 
@@ -101,19 +101,19 @@ pub(crate) fn plan_reshape_sparse(
 pub(crate) fn plan_reshape_associative(
     alloc: Global,
     book: &Book,
-    foot: &mut Foot,
+    footprint: &mut Footprint,
     domain: Name,
     kind: &AnyDomain,
-    source: &Source,
+    source: &NewIndices,
 ) -> Result<Delta, AttemptErr>
-    ensures { Attempts (reshape_associative domain kind.now source.now) book.now.cells foot.old result foot.new }
+    ensures { Attempts (reshape_associative domain kind.now source.now) book.now.cells footprint.old result footprint.new }
 {
     match source {
-        Source::To(given) => plan_to(alloc, book, foot, domain, kind, given),
-        Source::Slice(given) => plan_no_source(book, foot, given),
-        Source::Displace(_, _) => Err(AttemptErr::Refused(Refusal::WrongKind)),
-        Source::Combine(how, given) => {
-            plan_combine(alloc, book, foot, domain, kind, *how, given)
+        NewIndices::To(given) => plan_to(alloc, book, footprint, domain, kind, given),
+        NewIndices::Slice(given) => plan_no_source(book, footprint, given),
+        NewIndices::Displace(_, _) => Err(AttemptErr::Refused(Refusal::WrongKind)),
+        NewIndices::Combine(how, given) => {
+            plan_combine(alloc, book, footprint, domain, kind, *how, given)
         }
     }
 }

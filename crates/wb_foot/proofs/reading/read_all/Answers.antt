@@ -1,7 +1,7 @@
 use Rattle.std.proofs.Common.{true, take, ap, arith}
 use Rattle.std.proofs.lemmas.List.{take_all}
 use Rattle.wb_foot.specs.Places.{place_marked, place_of, is_same_place}
-use Rattle.wb_foot.specs.Feet.{read_at}
+use Rattle.wb_foot.specs.Footprints.{read_at}
 use Rattle.wb_foot.proofs.Setting.{like, on_err}
 use Rattle.wb_foot.proofs.InParts.{part_more, part_stays}
 use Rattle.wb_foot.proofs.reading.read_all.Goals as goal

@@ -1,7 +1,7 @@
 use Rattle.std.proofs.Common.{◌≤◌, ◌-◌, length, take, true}
 use Rattle.wb_foot.specs.Relation.{Sets}
 use Rattle.wb_foot.specs.Places.{place_marked}
-use Rattle.wb_foot.specs.Feet.{read_at}
+use Rattle.wb_foot.specs.Footprints.{read_at}
 use Rattle.wb_foot.proofs.reading.read_all.Given as goal
 
 abbrev pub invariant-loop-from : goal.invariant-loop-from

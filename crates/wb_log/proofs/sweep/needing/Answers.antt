@@ -1,7 +1,7 @@
 use Rattle.std.proofs.Common.{◌≡◌, List, ℕ, [], ◌∷◌, length, reverse, ap, sym, subst, ◌∙◌}
 use Rattle.std.proofs.lemmas.List.{reverse-append}
 use Rattle.wb_log.specs.Kept.{by_number}
-use Rattle.wb_log.specs.Needed.{AreFromFeet}
+use Rattle.wb_log.specs.Needed.{AreFromFootprints}
 use Rattle.wb_log.proofs.Sweeps.{Swept, first_swept, next_swept, all_swept, within_log}
 use Rattle.wb_log.proofs.sweep.needing.Goals as goal
 
@@ -25,4 +25,4 @@ pub returns : goal.returns
 returns c =
     let es = c.args.entries.now in
     let found = all_swept (by_number es) c.args.number (length es) (reverse c.loop-next.found.items) c.loop-next.last c.loop-next.waiting c.loop-next.invariant c.in_default.ensures.least in
-    subst (λ (ns : List ℕ). AreFromFeet (by_number es) c.args.number ns) (sym c.reverse.ensures.items) found
+    subst (λ (ns : List ℕ). AreFromFootprints (by_number es) c.args.number ns) (sym c.reverse.ensures.items) found

@@ -1,7 +1,7 @@
 use Rattle.std.proofs.Common.{◌≡◌, ℕ, ◌+◌, ◌-◌, ◌<◌, Some, None, length, option_map, ap, sym, subst, ◌∙◌, arith}
 use Rattle.std.proofs.lemmas.Option.{slice_get-get_or}
 use Rattle.wb_log.specs.Kept.{by_number}
-use Rattle.wb_log.specs.Records.{lent_foot}
+use Rattle.wb_log.specs.Records.{lent_footprint}
 use Rattle.wb_log.proofs.Entered.{kept_here}
 use Rattle.wb_log.proofs.Sweeps.{none_needs, on_ok_needing}
 use Rattle.wb_log.proofs.sweep.wait_for_those.Goals as goal
@@ -14,7 +14,7 @@ returns-in-None c =
     let here : (n - 1) + 1 ≡ n = omega (arith, c.requires.positive) in
     let x = c.index-entries-number.result in
     let is = slice_get-get_or es (n - 1) x low ∙ ap Some (sym c.index-entries-number.is) in
-    let off = kept_here es (n - 1) x is ∙ sym c.kept.ensures ∙ ap (option_map lent_foot) c.in-None.is in
+    let off = kept_here es (n - 1) x is ∙ sym c.kept.ensures ∙ ap (option_map lent_footprint) c.in-None.is in
     none_needs c.args.waiting.now (by_number es) n (subst (λ (m : ℕ). by_number es m ≡ None) here off)
 
 pub returns-in-Some : goal.returns-in-Some
@@ -25,6 +25,6 @@ returns-in-Some c =
     let here : (n - 1) + 1 ≡ n = omega (arith, c.requires.positive) in
     let x = c.index-entries-number.result in
     let is = slice_get-get_or es (n - 1) x low ∙ ap Some (sym c.index-entries-number.is) in
-    let f = lent_foot c.in-Some.kept in
-    let there = subst (λ (m : ℕ). by_number es m ≡ Some f) here (kept_here es (n - 1) x is ∙ sym c.kept.ensures ∙ ap (option_map lent_foot) c.in-Some.is) in
+    let f = lent_footprint c.in-Some.kept in
+    let there = subst (λ (m : ℕ). by_number es m ≡ Some f) here (kept_here es (n - 1) x is ∙ sym c.kept.ensures ∙ ap (option_map lent_footprint) c.in-Some.is) in
     on_ok_needing c.wait_for_blockers.result c.args.index.now c.args.waiting.now c.wait_for_blockers.new.waiting (by_number es) n f c.before-in-Some.result.now there c.before-in-Some.ensures.same c.requires.indexed c.wait_for_blockers.ensures

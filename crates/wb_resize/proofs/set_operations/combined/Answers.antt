@@ -1,7 +1,7 @@
 use Rattle.std.proofs.Common.{List, ◌++◌, ap, subst, sym, ◌∙◌}
 use Rattle.wb_book.specs.declared.values.index.Index.{Index}
 use Rattle.wb_range.specs.Domain.{IsListedOnce}
-use Rattle.wb_resize.specs.declared.source.SetOperation.TheVariants.{Union, SymmetricDifference}
+use Rattle.wb_resize.specs.declared.new_indices.SetOperation.TheVariants.{Union, SymmetricDifference}
 use Rattle.wb_resize.specs.Resized.{without}
 use Rattle.wb_resize.proofs.Sources.{IsListedOnce-combined}
 use Rattle.wb_resize.proofs.set_operations.combined.Goals as goal

@@ -1,5 +1,5 @@
 use Rattle.std.proofs.Common.{◌≡◌, get_or, subst}
-use Rattle.selective_undo.specs.Changes.{apply, put}
+use Rattle.selective_undo.specs.Changes.{apply, applied}
 use Rattle.selective_undo.specs.declared.Change.{Change}
 use Rattle.selective_undo.proofs.AllOrNothing.{put_step, once_step, room_step}
 use Rattle.wb_book.specs.declared.cells.cell.Cell.{Cell}
@@ -15,7 +15,7 @@ loop-x-preserved c =
     let s = state_of c.loop-x.cells in
     let t = state_of c.put_back_one.new.cells in
     let old = c.loop-x.invariant in
-    let made : t ≡ put (get_or xs i x) s = subst (λ (y : Change Cell Value). t ≡ put y s) c.x-item.is c.put_back_one.ensures in
+    let made : t ≡ applied (get_or xs i x) s = subst (λ (y : Change Cell Value). t ≡ applied y s) c.x-item.is c.put_back_one.ensures in
     record {
       ahead = put_step cell_order xs i x s t (apply xs (state_of c.args.cells.now)) c.loop-x-test.true made old.ahead;
       once = once_step cell_order xs i x c.loop-x-test.true old.once;

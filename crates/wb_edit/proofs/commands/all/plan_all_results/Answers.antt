@@ -27,7 +27,7 @@ returns-in_err-xs c =
     let a : Name = c.args.array in
     let b : Name = c.args.other in
     let how : Operation = c.args.how.now in
-    rw (p.1, p.2) (stops (elements a) c.args.book.now.cells c.args.foot.now c.elements.new.foot (λ xs. elements b (rest a how xs)) c.in_err-xs.field-0.0 c.in_err-xs.ensures.looks)
+    rw (p.1, p.2) (stops (elements a) c.args.book.now.cells c.args.footprint.now c.elements.new.footprint (λ xs. elements b (rest a how xs)) c.in_err-xs.field-0.0 c.in_err-xs.ensures.looks)
 
 pub returns-in_err-ys : goal.returns-in_err-ys
 returns-in_err-ys c =
@@ -38,8 +38,8 @@ returns-in_err-ys c =
     let how : Operation = c.args.how.now in
     let xs : List (Index × ℤ) = c.in_ok-xs.xs.items in
     let why = c.in_err-ys.field-0.0 in
-    rw (p.1, p.2) (goes_on (elements a) s c.args.foot.now c.elements.new.foot (λ xs. elements b (rest a how xs)) xs (Err why) c.elements-2.new.foot c.in_ok-xs.ensures.looks (
-    stops (elements b) s c.elements.new.foot c.elements-2.new.foot (rest a how xs) why c.in_err-ys.ensures.looks))
+    rw (p.1, p.2) (goes_on (elements a) s c.args.footprint.now c.elements.new.footprint (λ xs. elements b (rest a how xs)) xs (Err why) c.elements-2.new.footprint c.in_ok-xs.ensures.looks (
+    stops (elements b) s c.elements.new.footprint c.elements-2.new.footprint (rest a how xs) why c.in_err-ys.ensures.looks))
 
 pub results-requires-clause-alike : goal.results-requires-clause-alike
 results-requires-clause-alike c = rw (c.deref.ensures.value, c.deref-2.ensures.value, c.in_ok-xs.ensures.seen, c.in_ok-ys.ensures.seen) c.requires
@@ -58,10 +58,10 @@ returns-in_err-zs c =
     let xs : List (Index × ℤ) = c.in_ok-xs.xs.items in
     let ys : List (Index × ℤ) = c.in_ok-ys.ys.items in
     let why = c.in_err-zs.field-0.0 in
-    let us = c.elements-2.new.foot in
+    let us = c.elements-2.new.footprint in
     let judged : Judges (all_within (results how xs ys)) (Err why) = subst (λ (es : List (Index × ℤ)). Judges (all_within (results how es ys)) (Err why)) c.deref.ensures.value (subst (λ (es : List (Index × ℤ)). Judges (all_within (results how c.deref.result.now es)) (Err why)) c.deref-2.ensures.value c.in_err-zs.ensures) in
-    rw (p.1, p.2) (goes_on (elements a) s c.args.foot.now c.elements.new.foot (λ xs. elements b (rest a how xs)) xs (Err why) us c.in_ok-xs.ensures.looks (
-    goes_on (elements b) s c.elements.new.foot us (rest a how xs) ys (Err why) us c.in_ok-ys.ensures.looks (
+    rw (p.1, p.2) (goes_on (elements a) s c.args.footprint.now c.elements.new.footprint (λ xs. elements b (rest a how xs)) xs (Err why) us c.in_ok-xs.ensures.looks (
+    goes_on (elements b) s c.elements.new.footprint us (rest a how xs) ys (Err why) us c.in_ok-ys.ensures.looks (
     refuses s us (all_within (results how xs ys)) (last a) why judged)))
 
 pub number_changes-requires : goal.number_changes-requires
@@ -80,10 +80,10 @@ returns c =
     let xs : List (Index × ℤ) = c.in_ok-xs.xs.items in
     let ys : List (Index × ℤ) = c.in_ok-ys.ys.items in
     let zs : List (Index × ℤ) = c.in_ok-zs.zs.items in
-    let us = c.elements-2.new.foot in
+    let us = c.elements-2.new.footprint in
     let r = c.number_changes.result in
     let made : all_within (results how xs ys) ≡ Ok zs = subst (λ (es : List (Index × ℤ)). all_within (results how es ys) ≡ Ok zs) c.deref.ensures.value (subst (λ (es : List (Index × ℤ)). all_within (results how c.deref.result.now es) ≡ Ok zs) c.deref-2.ensures.value c.in_ok-zs.ensures) in
-    goes_on (elements a) s c.args.foot.now c.elements.new.foot (λ xs. elements b (rest a how xs)) xs r us c.in_ok-xs.ensures.looks (
-    goes_on (elements b) s c.elements.new.foot us (rest a how xs) ys r us c.in_ok-ys.ensures.looks (
+    goes_on (elements a) s c.args.footprint.now c.elements.new.footprint (λ xs. elements b (rest a how xs)) xs r us c.in_ok-xs.ensures.looks (
+    goes_on (elements b) s c.elements.new.footprint us (rest a how xs) ys r us c.in_ok-ys.ensures.looks (
     goes_on (results_within how xs ys) s us us (last a) zs r us (decides s us (all_within (results how xs ys)) zs made) (
     ends (number_cells a zs) s us r (subst (λ (es : List (Index × ℤ)). Makes (number_cells a es) r) c.deref-3.ensures.value c.number_changes.ensures))))

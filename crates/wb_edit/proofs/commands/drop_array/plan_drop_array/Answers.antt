@@ -22,10 +22,10 @@ returns-in_err-seen c =
     let a : Name = c.args.array in
     let last : Name → List (Index × ℤ) → Tree = λ d es. write (dropped_cells a d (keys_of es)) in
     let seen : Name × Kind = (c.in_ok-domain.domain, c.in_ok-domain._kind) in
-    let rs = c.array_named.new.foot in
-    let us = c.elements.new.foot in
+    let rs = c.array_named.new.footprint in
+    let us = c.elements.new.footprint in
     let why = c.in_err-seen.field-0.0 in
-    rw (p.1, p.2) (goes_on (array_named a) s c.args.foot.now rs (λ array. elements a (last array.0)) seen (Err why) us c.in_ok-domain.ensures (
+    rw (p.1, p.2) (goes_on (array_named a) s c.args.footprint.now rs (λ array. elements a (last array.0)) seen (Err why) us c.in_ok-domain.ensures (
     stops (elements a) s rs us (last seen.0) why c.in_err-seen.ensures.looks))
 
 pub drop_changes-requires : goal.drop_changes-requires
@@ -39,9 +39,9 @@ returns c =
     let last : Name → List (Index × ℤ) → Tree = λ d es. write (dropped_cells a d (keys_of es)) in
     let seen : Name × Kind = (c.in_ok-domain.domain, c.in_ok-domain._kind) in
     let es : List (Index × ℤ) = c.in_ok-seen.seen.items in
-    let rs = c.array_named.new.foot in
-    let us = c.elements.new.foot in
+    let rs = c.array_named.new.footprint in
+    let us = c.elements.new.footprint in
     let r = c.drop_changes.result in
-    goes_on (array_named a) s c.args.foot.now rs (λ array. elements a (last array.0)) seen r us c.in_ok-domain.ensures (
+    goes_on (array_named a) s c.args.footprint.now rs (λ array. elements a (last array.0)) seen r us c.in_ok-domain.ensures (
     goes_on (elements a) s rs us (last seen.0) es r us c.in_ok-seen.ensures.looks (
     ends (dropped_cells a seen.0 (keys_of es)) s us r (subst (λ (xs : List (Index × ℤ)). Makes (dropped_cells a seen.0 (keys_of xs)) r) c.deref.ensures.value c.drop_changes.ensures)))

@@ -3,7 +3,7 @@ use Rattle.wb_book.proofs.Order.{entries-state_of}
 use Rattle.wb_book.specs.declared.cells.cell.Cell.{Cell}
 use Rattle.wb_book.specs.declared.cells.value.Value.{Value}
 use Rattle.wb_book.specs.Cells.{Changes}
-use Rattle.wb_edit.specs.Writes.{put, put_each}
+use Rattle.wb_edit.specs.Writes.{set_to, put_each}
 use Rattle.wb_edit.proofs.Loading.{next_new, all_once}
 use Rattle.wb_edit.proofs.commands.load.changes_of.Goals as goal
 
@@ -12,7 +12,7 @@ put-requires c =
     let delta : Changes = c.loop-cell.delta in
     let rest : List (Cell × Value) = c.next.new.self in
     let left = ap (λ (es : List (Cell × Value)). delta ++ put_each es) (sym c.in-Some.ensures.steps) ∙ c.loop-cell.invariant in
-    next_new delta (put c.in-Some.cell.now c.in-Some.value.now) (put_each rest) (all_once c.args.cells.now c.len-count.ensures.ordered _ left)
+    next_new delta (set_to c.in-Some.cell.now c.in-Some.value.now) (put_each rest) (all_once c.args.cells.now c.len-count.ensures.ordered _ left)
 
 pub returns : goal.returns
 returns c =

@@ -24,7 +24,7 @@ returns-in_err-users c =
     let d : Name = c.args.domain in
     let i : Index = c.args.index in
     let last : List (Name × Binding) → Tree = λ users. write (resized_cells (kind_of c.args.kind.now) d (zeros (bound Array users)) (i ∷ []) []) in
-    rw (p.1, p.2) (stops (uses d) c.args.book.now.cells c.args.foot.now c.uses.new.foot last c.in_err-users.field-0.0 c.in_err-users.ensures.looks)
+    rw (p.1, p.2) (stops (uses d) c.args.book.now.cells c.args.footprint.now c.uses.new.footprint last c.in_err-users.field-0.0 c.in_err-users.ensures.looks)
 
 pub resize_changes-requires-clause-once : goal.resize_changes-requires-clause-once
 resize_changes-requires-clause-once c =
@@ -43,8 +43,8 @@ returns c =
     let kind : DomainKind = c.args.kind.now in
     let last : List (Name × Binding) → Tree = λ users. write (resized_cells (kind_of kind) d (zeros (bound Array users)) (i ∷ []) []) in
     let users : List (Name × Binding) = c.in_ok-users.users.items in
-    let us = c.uses.new.foot in
+    let us = c.uses.new.footprint in
     let r = c.resize_changes.result in
     let cleared : c.deref-3.result.now ≡ zeros (bound Array users) = c.deref-3.ensures.value ∙ c.in_ok-cleared.ensures.same ∙ ap zeros (c.deref-2.ensures.value ∙ c.in_ok-names.ensures.same ∙ ap (bound Array) c.deref.ensures.value) in
-    goes_on (uses d) s c.args.foot.now us last users r us c.in_ok-users.ensures.looks (
+    goes_on (uses d) s c.args.footprint.now us last users r us c.in_ok-users.ensures.looks (
     ends (resized_cells (kind_of kind) d (zeros (bound Array users)) (i ∷ []) []) s us r (subst (λ (fs : List (Name × ℤ)). Makes (resized_cells (kind_of kind) d fs (i ∷ []) []) r) cleared c.resize_changes.ensures))

@@ -21,9 +21,9 @@ returns c =
     let cs : List Index = c.args.coming.now in
     let last : List (Name × ℤ) → Tree = λ fs. write (resized_cells (kind_of kind) d fs ls cs) in
     let brought : List (Name × ℤ) = c.in_ok-brought.brought.items in
-    let ss = c.all_in_parent.new.foot in
-    let us = c.fills.new.foot in
+    let ss = c.all_in_parent.new.footprint in
+    let us = c.fills.new.footprint in
     let r = c.resize_changes.result in
-    goes_on (all_in_parent kind new) s c.args.foot.now ss (λ x. fills d kind last) tt r us c.in_ok-all_in_parent.ensures (
+    goes_on (all_in_parent kind new) s c.args.footprint.now ss (λ x. fills d kind last) tt r us c.in_ok-all_in_parent.ensures (
     goes_on (fills d kind) s ss us last brought r us c.in_ok-brought.ensures.looks (
     ends (resized_cells (kind_of kind) d brought ls cs) s us r (subst (λ (fs : List (Name × ℤ)). Makes (resized_cells (kind_of kind) d fs ls cs) r) c.deref.ensures.value c.resize_changes.ensures)))

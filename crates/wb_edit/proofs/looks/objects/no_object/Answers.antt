@@ -10,7 +10,7 @@ use Rattle.wb_edit.proofs.looks.objects.no_object.Goals as goal
 pub returns-in-Ok : goal.returns-in-Ok
 returns-in-Ok c =
     let s = c.args.book.now.cells in
-    let rs : List Pattern = c.args.foot.now in
+    let rs : List Pattern = c.args.footprint.now in
     let ss : List Pattern = c.keep.new.self in
     let kept : ss ≡ rs ++ Objects ∷ [] = c.in-Ok.ensures.ok in
     rw (c.stopped.ensures, c.is_empty.ensures) (then_judged (λ next. look Objects next) s rs ss is_empty (seen workbook Objects s)

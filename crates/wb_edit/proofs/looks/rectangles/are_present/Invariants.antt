@@ -9,6 +9,6 @@ use Rattle.wb_edit.proofs.looks.rectangles.are_present.Given as goal
 -- the elements at the indices so far were looked at
 abbrev pub invariant-loop-p : goal.invariant-loop-p
 invariant-loop-p l = record {
-  read : l.foot ≡ l.fn.foot ++ map one_of (map (Element l.array) (take l.p (indices l.on)));
+  read : l.footprint ≡ l.fn.footprint ++ map one_of (map (Element l.array) (take l.p (indices l.on)));
   present : l.all ≡ list_all is_some (map (get l.book.cells) (map (Element l.array) (take l.p (indices l.on))));
 }

@@ -8,6 +8,6 @@ use Rattle.wb_edit.proofs.looks.reshaping.has_some.Given as goal
 -- the cells of the indices so far were looked at
 abbrev pub invariant-loop-index : goal.invariant-loop-index
 invariant-loop-index l = record {
-  read : l.foot ≡ l.fn.foot ++ map one_of (map (Member l.domain) (take l.index-index l.listed));
+  read : l.footprint ≡ l.fn.footprint ++ map one_of (map (Member l.domain) (take l.index-index l.listed));
   there : l.any ≡ list_any is_some (map (get l.book.cells) (map (Member l.domain) (take l.index-index l.listed)));
 }

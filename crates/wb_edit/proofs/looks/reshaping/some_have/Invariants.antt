@@ -8,6 +8,6 @@ use Rattle.wb_edit.proofs.looks.reshaping.some_have.Given as goal
 -- the cells of the domains so far were looked at
 abbrev pub invariant-loop-domain : goal.invariant-loop-domain
 invariant-loop-domain l = record {
-  read : l.foot ≡ l.fn.foot ++ map one_of (member_cells (take l.domain-index l.domains) l.listed);
+  read : l.footprint ≡ l.fn.footprint ++ map one_of (member_cells (take l.domain-index l.domains) l.listed);
   there : l.any ≡ list_any is_some (map (get l.book.cells) (member_cells (take l.domain-index l.domains) l.listed));
 }

@@ -7,6 +7,6 @@ use Rattle.wb_edit.proofs.looks.resizing.are_there.Given as goal
 -- the cells of the indices so far were looked at
 abbrev pub invariant-loop-index : goal.invariant-loop-index
 invariant-loop-index l = record {
-  read : l.foot ≡ l.fn.foot ++ map one_of (map (cell_at l.indexed) (take l.index-index l.listed));
+  read : l.footprint ≡ l.fn.footprint ++ map one_of (map (cell_at l.indexed) (take l.index-index l.listed));
   there : l.all ≡ list_all is_some (map (get l.book.cells) (map (cell_at l.indexed) (take l.index-index l.listed)));
 }

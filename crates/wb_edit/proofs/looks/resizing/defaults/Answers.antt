@@ -21,10 +21,10 @@ returns-in-Sparse-clause-looks c =
     let s = c.args.book.now.cells in
     let ns : List Name = c.args.arrays.now in
     let r = c.with_implicits.result in
-    let us = c.with_implicits.new.foot in
+    let us = c.with_implicits.new.footprint in
     let kind : Sparse c.in-Sparse.field-0 c.in-Sparse.field-1 ≡ c.args.kind.now = sym c.in-Sparse.is ∙ c.domain_kind.ensures in
-    subst (λ (k : DomainKind). Looks (defaults k ns) s c.args.foot.now (items_of r) us) kind (
-    found_implicits s ns c.args.foot.now us r c.with_implicits.ensures.read c.with_implicits.ensures.values c.with_implicits.ensures.only)
+    subst (λ (k : DomainKind). Looks (defaults k ns) s c.args.footprint.now (items_of r) us) kind (
+    found_implicits s ns c.args.footprint.now us r c.with_implicits.ensures.read c.with_implicits.ensures.values c.with_implicits.ensures.only)
 
 pub returns-in-Sparse-clause-keys : goal.returns-in-Sparse-clause-keys
 returns-in-Sparse-clause-keys c =

@@ -1,13 +1,13 @@
 use Rattle.std.proofs.Common.{Some, refl}
 use Rattle.wb_foot.specs.Places.{place_marked}
-use Rattle.wb_foot.specs.Feet.{touched_by, read_by, touched_at, read_at, foot}
+use Rattle.wb_foot.specs.Footprints.{touched_by, read_by, touched_at, read_at, footprint}
 use Rattle.wb_foot.proofs.Taking.{taken}
 use Rattle.wb_foot.proofs.foot_index.FootIndex.take.Goals as goal
 
 pub returns : goal.returns
-returns c = λ feet h had.
-    let f = foot c.args.reads.now c.args.before.now in
+returns c = λ footprints h had.
+    let f = footprint c.args.reads.now c.args.before.now in
     record {
-      touched = taken touched_by (λ q. refl) feet (touched_at c.args.before.now) c.args.number (place_marked c.args.self.now.touched) (place_marked c.untouch_all.new.marks) f (λ q. refl) had h.touched c.untouch_all.ensures;
-      read = taken read_by (λ q. refl) feet (read_at c.args.reads.now) c.args.number (place_marked c.args.self.now.read) (place_marked c.unread_all.new.marks) f (λ q. refl) had h.read c.unread_all.ensures;
+      touched = taken touched_by (λ q. refl) footprints (touched_at c.args.before.now) c.args.number (place_marked c.args.self.now.touched) (place_marked c.untouch_all.new.marks) f (λ q. refl) had h.touched c.untouch_all.ensures;
+      read = taken read_by (λ q. refl) footprints (read_at c.args.reads.now) c.args.number (place_marked c.args.self.now.read) (place_marked c.unread_all.new.marks) f (λ q. refl) had h.read c.unread_all.ensures;
     }

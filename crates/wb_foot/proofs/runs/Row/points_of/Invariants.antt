@@ -2,7 +2,7 @@ use Rattle.std.proofs.Common.{◌≡◌, length, take}
 use Rattle.std.specs.List.Sorted.{IsStrictlySortedBy}
 use Rattle.wb_foot.specs.declared.place.Place.{Place}
 use Rattle.wb_foot.specs.Points.{point_cmp}
-use Rattle.wb_foot.specs.Feet.{touched_at, run_touched}
+use Rattle.wb_foot.specs.Footprints.{touched_at, run_touched}
 use Rattle.wb_foot.proofs.runs.Row.points_of.Given as goal
 
 abbrev pub invariant-loop-x : goal.invariant-loop-x

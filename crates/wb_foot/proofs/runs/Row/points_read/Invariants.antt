@@ -2,7 +2,7 @@ use Rattle.std.proofs.Common.{◌≡◌, take}
 use Rattle.std.specs.List.Sorted.{IsStrictlySortedBy}
 use Rattle.wb_foot.specs.declared.place.Place.{Place}
 use Rattle.wb_foot.specs.Points.{point_cmp}
-use Rattle.wb_foot.specs.Feet.{read_at, run_read}
+use Rattle.wb_foot.specs.Footprints.{read_at, run_read}
 use Rattle.wb_foot.proofs.runs.Row.points_read.Given as goal
 
 abbrev pub invariant-loop-x : goal.invariant-loop-x

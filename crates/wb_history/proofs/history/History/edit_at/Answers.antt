@@ -1,7 +1,7 @@
 use Rattle.std.proofs.Common.{◌<◌, ◌-◌, suc, ◌≡◌, arith, ap, ◌∙◌, Some, slice_index_or, is_some, length}
 use Rattle.std.proofs.lemmas.Option.{slice_get-get_or}
 use Rattle.wb_history.specs.Restored.{one_of, numbered_at}
-use Rattle.wb_log.specs.Kept.{numbers}
+use Rattle.wb_log.specs.Kept.{numbered_entries}
 use Rattle.wb_history.proofs.Restored.{entry_of_number}
 use Rattle.wb_history.proofs.history.History.edit_at.Goals as goal
 
@@ -14,4 +14,4 @@ returns c =
     let x = slice_index_or es (n - 1) c.index-entry.result.now in
     let is = slice_get-get_or es (n - 1) c.index-entry.result.now low in
     ap (λ e. Some (one_of e c.is_in_force.result)) (c.edit.ensures ∙ ap (λ y. y.edit) c.index-entry.ensures) ∙ ap (λ b. Some (one_of x.edit b)) (c.is_in_force.ensures ∙ ap (λ y. is_some y.kept) c.index-entry.ensures)
-    ∙ entry_of_number es x (n - 1) is ∙ ap (numbered_at (numbers es)) some ∙ ap (λ p. numbered_at p.entries n) c.self.view_is
+    ∙ entry_of_number es x (n - 1) is ∙ ap (numbered_at (numbered_entries es)) some ∙ ap (λ p. numbered_at p.entries n) c.self.view_is

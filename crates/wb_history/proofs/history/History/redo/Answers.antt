@@ -1,6 +1,6 @@
 use Rattle.wb_log.proofs.Valid.{keeps_valid, whole_slice}
 use Rattle.wb_log.specs.Past.{AreValid}
-use Rattle.wb_log.specs.Kept.{numbers}
+use Rattle.wb_log.specs.Kept.{numbered_entries}
 use Rattle.wb_log.specs.Indexed.{Keeps}
 use Rattle.std.proofs.Common.{length, drop, sym, true, ◌<◌, ◌-◌, arith, ◌∙◌, subst}
 use Rattle.wb_log.specs.Past.{meant}
@@ -21,7 +21,7 @@ pub invariant_of-self : goal.invariant_of-self
 invariant_of-self g c =
     let es = c.deref_mut.result.now in
     let fs = c.redo_at.new.entries in
-    let valid : AreValid (numbers es) = subst (λ gs. AreValid (numbers gs)) (sym c.deref_mut.ensures.value) c.self.invariant.valid in
+    let valid : AreValid (numbered_entries es) = subst (λ gs. AreValid (numbered_entries gs)) (sym c.deref_mut.ensures.value) c.self.invariant.valid in
     let same = whole_slice c.self.inside.entries.len fs (drop (length fs) c.self.inside.entries.items) (sym (c.redo_at.auto.entries ∙ c.deref_mut.ensures.len)) in
     subst (λ gs. Keeps gs c.redo_at.new.book.cells c.redo_at.new.index) (sym same) (record {
       shows = c.redo_at.ensures.kept;

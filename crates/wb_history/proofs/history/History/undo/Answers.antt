@@ -2,7 +2,7 @@ use Rattle.std.proofs.Common.{◌<◌, ◌-◌, length, drop, subst, sym, ◌∙
 use Rattle.wb_log.proofs.Valid.{keeps_valid, whole_slice}
 use Rattle.wb_log.specs.Past.{AreValid, meant}
 use Rattle.wb_log.specs.Replies.{UndoReply, ByNumber}
-use Rattle.wb_log.specs.Kept.{numbers, entries_meant}
+use Rattle.wb_log.specs.Kept.{numbered_entries, entries_meant}
 use Rattle.wb_log.proofs.Redone.{by_number}
 use Rattle.wb_log.specs.Indexed.{Keeps}
 use Rattle.wb_history.proofs.history.History.undo.Goals as goal
@@ -11,7 +11,7 @@ pub invariant_of-self : goal.invariant_of-self
 invariant_of-self g c =
     let es = c.deref_mut.result.now in
     let fs = c.undo_at.new.entries in
-    let valid : AreValid (numbers es) = subst (λ gs. AreValid (numbers gs)) (sym c.deref_mut.ensures.value) c.self.invariant.valid in
+    let valid : AreValid (numbered_entries es) = subst (λ gs. AreValid (numbered_entries gs)) (sym c.deref_mut.ensures.value) c.self.invariant.valid in
     let same = whole_slice c.self.inside.entries.len fs (drop (length fs) c.self.inside.entries.items) (sym (c.undo_at.auto.entries ∙ c.deref_mut.ensures.len)) in
     subst (λ gs. Keeps gs c.undo_at.new.book.cells c.undo_at.new.index) (sym same) (record {
       shows = c.undo_at.ensures.kept;

@@ -1,5 +1,5 @@
 use Rattle.std.proofs.Common.{◌≡◌, ◌≤◌, ℕ, Some, length, slice_get}
-use Rattle.selective_undo.specs.Log.{Foot}
+use Rattle.selective_undo.specs.Log.{Footprint}
 use Rattle.wb_edit.specs.Schema.{workbook}
 use Rattle.wb_log.specs.Kept.{kept_all}
 use Rattle.wb_log.proofs.index.in_force.latest_from_the_end.Given as goal
@@ -8,7 +8,7 @@ use Rattle.wb_log.proofs.index.in_force.latest_from_the_end.Given as goal
 abbrev pub invariant-loop-at : goal.invariant-loop-at
 invariant-loop-at l = record {
   within : l.at ≤ length l.entries;
-  none_later : (q : ℕ) (g : Foot workbook) → l.at ≤ q → slice_get (kept_all l.entries) q ≡ Some (Some g) → ⊥;
+  none_later : (q : ℕ) (g : Footprint workbook) → l.at ≤ q → slice_get (kept_all l.entries) q ≡ Some (Some g) → ⊥;
 }
 
 abbrev pub decreases-loop-at : goal.decreases-loop-at

@@ -1,7 +1,7 @@
 use Rattle.std.proofs.Common.{◌≡◌, ℕ, suc, ◌+◌, ◌-◌, List, [], ◌∷◌, ◌++◌, take, get_or, refl, sym, ap, subst, ◌∙◌, arith}
 use Rattle.std.proofs.lemmas.Option.{slice_get-get_or}
 use Rattle.wb_log.specs.Cascades.{AreUndone}
-use Rattle.wb_log.specs.Kept.{numbers}
+use Rattle.wb_log.specs.Kept.{numbered_entries}
 use Rattle.wb_log.proofs.Undoings.{none_undone, one_undone, take_more, valid_out}
 use Rattle.wb_log.proofs.steps.cascade.undo_each.Goals as goal
 
@@ -12,7 +12,7 @@ loop-done-init g c = record {
   kept = c.requires.kept;
   indexed = c.requires.indexed;
   valid = c.requires.valid;
-  undone = none_undone (numbers c.args.entries.now) c.args.book.now.writes;
+  undone = none_undone (numbered_entries c.args.entries.now) c.args.book.now.writes;
   none = λ zero_done. refl;
 }
 
@@ -23,9 +23,9 @@ loop-done-preserved g c =
     let number = get_or all i 0 in
     let one : i + 1 ≡ suc i = omega arith in
     let now : take (i + 1) all ≡ take i all ++ number ∷ [] = ap (λ (j : ℕ). take j all) one ∙ take_more all i number (slice_get-get_or all i 0 c.loop-done-test.true) in
-    let es = numbers c.args.entries.now in
-    let fs = numbers c.loop-done.entries in
-    let gs = numbers c.undo_number.new.entries in
+    let es = numbered_entries c.args.entries.now in
+    let fs = numbered_entries c.loop-done.entries in
+    let gs = numbered_entries c.undo_number.new.entries in
     let w = c.args.book.now.writes in
     let step = one_undone es fs gs w c.loop-done.count c.loop-done.book.writes c.saturating_add-count.result c.undo_number.new.book.writes number c.in-Ok.more (take i all)
     c.loop-done.invariant.undone c.in-Ok.ensures.reply c.in-Ok.ensures.entries c.saturating_add-count.ensures c.in-Ok.ensures.writes in

@@ -22,7 +22,7 @@ returns-in-Some-clause-err c =
     let es = c.args.entries.now in
     let x = c.index-entries-at.result in
     let is = slice_get-get_or es c.args.at c.index-entries-at.result c.requires.in_log ∙ ap Some (sym c.index-entries-at.is) in
-    blocked_plan c.args.book.now.cells es c.args.at x c.requires.kept is (off_by x.kept c.is_in_force.result c.is_in_force.ensures c.if-is_in_force.false) c.in-Ok.delta c.in-Ok.foot c.in-Some.by c.in-Ok.ensures.0 c.in-Ok.ensures.1 c.in-Some.ensures.first
+    blocked_plan c.args.book.now.cells es c.args.at x c.requires.kept is (off_by x.kept c.is_in_force.result c.is_in_force.ensures c.if-is_in_force.false) c.in-Ok.delta c.in-Ok.footprint c.in-Some.by c.in-Ok.ensures.0 c.in-Ok.ensures.1 c.in-Some.ensures.first
 
 pub returns-in-None-clause-ok : goal.returns-in-None-clause-ok
 returns-in-None-clause-ok c =

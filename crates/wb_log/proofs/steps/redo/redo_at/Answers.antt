@@ -15,28 +15,28 @@ returns-in-Ok-put_in-clause-kept g c =
     let es = c.args.entries.now in
     let x = slice_index_or es c.args.at c.index-entries-at.result in
     let is = slice_get-get_or es c.args.at c.index-entries-at.result c.requires.in_log in
-    redone_kept c.args.book.now.cells es c.args.at x c.requires.kept is c.in-Ok.delta c.in-Ok.foot c.in-Ok.count c.in-Ok.ensures.ok c.put_in.new.entry c.put_in.new.book.cells c.in-Ok-put_in.ensures.entry c.in-Ok-put_in.ensures.cells
+    redone_kept c.args.book.now.cells es c.args.at x c.requires.kept is c.in-Ok.delta c.in-Ok.footprint c.in-Ok.count c.in-Ok.ensures.ok c.put_in.new.entry c.put_in.new.book.cells c.in-Ok-put_in.ensures.entry c.in-Ok-put_in.ensures.cells
 
 pub returns-in-Ok-put_in-clause-reply : goal.returns-in-Ok-put_in-clause-reply
 returns-in-Ok-put_in-clause-reply g c =
     let es = c.args.entries.now in
     let x = slice_index_or es c.args.at c.index-entries-at.result in
     let is = slice_get-get_or es c.args.at c.index-entries-at.result c.requires.in_log in
-    redone_reply c.args.book.now.cells es c.args.at x c.requires.kept is c.in-Ok.delta c.in-Ok.foot c.in-Ok.count c.in-Ok.ensures.ok
+    redone_reply c.args.book.now.cells es c.args.at x c.requires.kept is c.in-Ok.delta c.in-Ok.footprint c.in-Ok.count c.in-Ok.ensures.ok
 
 pub returns-in-Err-put_in-clause-reply : goal.returns-in-Err-put_in-clause-reply
 returns-in-Err-put_in-clause-reply g c =
     let es = c.args.entries.now in
     let x = slice_index_or es c.args.at c.index-entries-at.result in
     let is = slice_get-get_or es c.args.at c.index-entries-at.result c.requires.in_log in
-    redone_memory c.args.book.now.cells es c.args.at x c.requires.kept is c.in-Ok.delta c.in-Ok.foot c.in-Ok.count c.in-Ok.ensures.ok
+    redone_memory c.args.book.now.cells es c.args.at x c.requires.kept is c.in-Ok.delta c.in-Ok.footprint c.in-Ok.count c.in-Ok.ensures.ok
 
 pub returns-in-Ok-put_in-clause-entries : goal.returns-in-Ok-put_in-clause-entries
 returns-in-Ok-put_in-clause-entries g c =
     let es = c.args.entries.now in
     let x = slice_index_or es c.args.at c.index-entries-at.result in
     let is = slice_get-get_or es c.args.at c.index-entries-at.result c.requires.in_log in
-    redone_numbers c.args.book.now.cells es c.args.at x c.requires.kept is c.in-Ok.delta c.in-Ok.foot c.in-Ok.count c.in-Ok.ensures.ok c.put_in.new.entry c.in-Ok-put_in.ensures.entry
+    redone_numbers c.args.book.now.cells es c.args.at x c.requires.kept is c.in-Ok.delta c.in-Ok.footprint c.in-Ok.count c.in-Ok.ensures.ok c.put_in.new.entry c.in-Ok-put_in.ensures.entry
 
 pub put_in-requires-clause-well_formed : goal.put_in-requires-clause-well_formed
 put_in-requires-clause-well_formed g c = λ _ _.
@@ -50,8 +50,8 @@ returns-in-Ok-put_in-clause-in_place g c =
     let is = slice_get-get_or es c.args.at c.index-entries-at.result c.requires.in_log in
     let s = c.args.book.now.cells in
     redoes_in_place s es (slice_set es c.args.at c.put_in.new.entry) c.requires.kept c.args.at (Ok c.in-Ok.count)
-    (redone_reply s es c.args.at x c.requires.kept is c.in-Ok.delta c.in-Ok.foot c.in-Ok.count c.in-Ok.ensures.ok)
-    (redone_numbers s es c.args.at x c.requires.kept is c.in-Ok.delta c.in-Ok.foot c.in-Ok.count c.in-Ok.ensures.ok c.put_in.new.entry c.in-Ok-put_in.ensures.entry)
+    (redone_reply s es c.args.at x c.requires.kept is c.in-Ok.delta c.in-Ok.footprint c.in-Ok.count c.in-Ok.ensures.ok)
+    (redone_numbers s es c.args.at x c.requires.kept is c.in-Ok.delta c.in-Ok.footprint c.in-Ok.count c.in-Ok.ensures.ok c.put_in.new.entry c.in-Ok-put_in.ensures.entry)
 
 pub returns-in-Ok-put_in-clause-indexed : goal.returns-in-Ok-put_in-clause-indexed
 returns-in-Ok-put_in-clause-indexed g c =

@@ -1,6 +1,6 @@
 use Rattle.std.proofs.Common.{◌≡◌, ◌+◌, ◌-◌, Ok, add-one, arith, subst}
 use Rattle.wb_log.specs.Past.{out_of_force}
-use Rattle.wb_log.specs.Kept.{numbers, entries_meant}
+use Rattle.wb_log.specs.Kept.{numbered_entries, entries_meant}
 use Rattle.wb_log.specs.Replies.{LeavesOthers}
 use Rattle.wb_log.proofs.Granted.{restores}
 use Rattle.wb_log.proofs.Latest.{latest_is_last, none_in_force, latest_refused, latest_is_free}
@@ -24,7 +24,7 @@ returns-in-Ok-clause-restored g c =
     let number : at ≡ at + 1 - 1 = omega arith in
     restores c.args.book.now.cells es fs c.requires.kept (Ok (at + 1, c.in-Ok.count))
     (at, add-one at, latest_is_last c.args.book.now.cells es at c.requires.kept c.in-Some.ensures.latest, c.in-Ok.ensures.reply)
-    (subst (λ k. numbers fs ≡ out_of_force k (numbers es)) number c.in-Ok.ensures.entries)
+    (subst (λ k. numbered_entries fs ≡ out_of_force k (numbered_entries es)) number c.in-Ok.ensures.entries)
 
 pub returns-in-Ok-clause-others : goal.returns-in-Ok-clause-others
 returns-in-Ok-clause-others g c =

@@ -9,7 +9,7 @@ use Rattle.wb_shelf.specs.Piecewise.Changed.{changed_at, all_set}
 use Rattle.wb_text.specs.FromLines.Told.{indices_told}
 use Rattle.wb_shelf.proofs.Kept.{ascending-nothing}
 use Rattle.wb_shelf.proofs.Seen.{both_ok}
-use Rattle.wb_text.specs.Said.{line_in, line_of}
+use Rattle.wb_text.specs.Said.{first_line_of, line_of}
 use Rattle.wb_text.proofs.FromLines.Columnwise.{column_set}
 use Rattle.wb_text.proofs.workbook.columns.column.Goals as goal
 
@@ -19,7 +19,7 @@ made-requires c = subst (λ (es : List (Index × ℤ)). IsStrictlySortedBy index
 pub returns : goal.returns
 returns c =
     let numbers = c.args.numbers.now in
-    let is = indices_told (line_in c.args.domain.now (map line_of c.args.lines.now)) in
+    let is = indices_told (first_line_of c.args.domain.now (map line_of c.args.lines.now)) in
     let none = c.as_slice.ensures.value ∙ c.new-none.ensures.items in
     let set = c.as_slice-2.ensures.value ∙ c.in_ok-changes.ensures ∙ ap (λ ks. all_set (zip ks numbers)) (c.deref.ensures.value ∙ c.in-Ok.ensures) in
     both_ok c.made.result _ _ _ c.made.ensures.elements c.made.ensures.lies (λ e elements lies. record {

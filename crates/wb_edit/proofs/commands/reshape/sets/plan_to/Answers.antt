@@ -5,7 +5,7 @@ use Rattle.wb_book.specs.declared.cells.kind.Kind.{Kind}
 use Rattle.wb_book.specs.declared.values.index.Index.{Index}
 use Rattle.wb_book.specs.Cells.{Name}
 use Rattle.wb_book.specs.Kinds.{kind_of}
-use Rattle.wb_resize.specs.declared.given.Given.{Given}
+use Rattle.wb_resize.specs.declared.operand.Operand.{Operand}
 use Rattle.wb_edit.specs.Trees.{Tree}
 use Rattle.wb_edit.specs.Plans.{Attempts, Looks}
 use Rattle.wb_edit.specs.Commands.Reshape.{with_indices}
@@ -19,12 +19,12 @@ returns-in_err-old c =
     let s = c.args.book.now.cells in
     let d : Name = c.args.domain in
     let kind : DomainKind = c.args.kind.now in
-    let given : Given = c.args.given.now in
-    let rs = c.args.foot.now in
-    let ss = c.gives_set.new.foot in
+    let given : Operand = c.args.given.now in
+    let rs = c.args.footprint.now in
+    let ss = c.gives_set.new.footprint in
     let next : List Index → List Index → Tree = λ old new. with_indices d kind old new in
     let tested = subst (λ (k : Kind). Looks (gives_set k given) s rs (Ok tt) ss) c.kind.ensures c.in_ok-gives_set.ensures in
-    rw (p.1, p.2) (stops_at_old s d (kind_of kind) given next rs ss c.members.new.foot tested c.in_err-old.field-0.0 c.in_err-old.ensures.looks)
+    rw (p.1, p.2) (stops_at_old s d (kind_of kind) given next rs ss c.members.new.footprint tested c.in_err-old.field-0.0 c.in_err-old.ensures.looks)
 
 pub returns-in_err-new : goal.returns-in_err-new
 returns-in_err-new c =
@@ -32,23 +32,23 @@ returns-in_err-new c =
     let s = c.args.book.now.cells in
     let d : Name = c.args.domain in
     let kind : DomainKind = c.args.kind.now in
-    let given : Given = c.args.given.now in
-    let rs = c.args.foot.now in
-    let ss = c.gives_set.new.foot in
+    let given : Operand = c.args.given.now in
+    let rs = c.args.footprint.now in
+    let ss = c.gives_set.new.footprint in
     let next : List Index → List Index → Tree = λ old new. with_indices d kind old new in
     let tested = subst (λ (k : Kind). Looks (gives_set k given) s rs (Ok tt) ss) c.kind.ensures c.in_ok-gives_set.ensures in
-    rw (p.1, p.2) (stops_at_given s d (kind_of kind) given next rs ss c.members.new.foot tested c.indices_given.new.foot c.in_ok-old.old.items c.in_ok-old.ensures.looks c.in_err-new.field-0.0 c.in_err-new.ensures.looks)
+    rw (p.1, p.2) (stops_at_given s d (kind_of kind) given next rs ss c.members.new.footprint tested c.indices_given.new.footprint c.in_ok-old.old.items c.in_ok-old.ensures.looks c.in_err-new.field-0.0 c.in_err-new.ensures.looks)
 
 pub returns : goal.returns
 returns c =
     let s = c.args.book.now.cells in
     let d : Name = c.args.domain in
     let kind : DomainKind = c.args.kind.now in
-    let given : Given = c.args.given.now in
-    let rs = c.args.foot.now in
-    let ss = c.gives_set.new.foot in
-    let vs = c.indices_given.new.foot in
-    let ws = c.plan_with_indices.new.foot in
+    let given : Operand = c.args.given.now in
+    let rs = c.args.footprint.now in
+    let ss = c.gives_set.new.footprint in
+    let vs = c.indices_given.new.footprint in
+    let ws = c.plan_with_indices.new.footprint in
     let r = c.plan_with_indices.result in
     let old : List Index = c.in_ok-old.old.items in
     let other : List Index = c.in_ok-new.new.items in
@@ -56,6 +56,6 @@ returns c =
     let tested = subst (λ (k : Kind). Looks (gives_set k given) s rs (Ok tt) ss) c.kind.ensures c.in_ok-gives_set.ensures in
     let shown_old : c.deref.result.now ≡ old = c.deref.ensures.value in
     let shown_new : c.deref-2.result.now ≡ other = c.deref-2.ensures.value in
-    both_seen s d (kind_of kind) given next rs ss c.members.new.foot tested vs old c.in_ok-old.ensures.looks ws other r c.in_ok-new.ensures.looks (
+    both_seen s d (kind_of kind) given next rs ss c.members.new.footprint tested vs old c.in_ok-old.ensures.looks ws other r c.in_ok-new.ensures.looks (
     subst (λ (is : List Index). Attempts (with_indices d kind old is) s vs r ws) shown_new (
     subst (λ (is : List Index). Attempts (with_indices d kind is c.deref-2.result.now) s vs r ws) shown_old c.plan_with_indices.ensures))

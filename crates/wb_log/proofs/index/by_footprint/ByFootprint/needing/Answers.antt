@@ -1,5 +1,5 @@
 use Rattle.wb_log.proofs.Entered.{index_whole}
-use Rattle.wb_log.proofs.index.footprints.Footprints.needing.Goals as goal
+use Rattle.wb_log.proofs.index.by_footprint.ByFootprint.needing.Goals as goal
 
 pub needing-requires-clause-indexed : goal.needing-requires-clause-indexed
 needing-requires-clause-indexed c =

@@ -2,7 +2,7 @@
 -- something.
 use Rattle.std.specs.Prelude.{◌≡◌, ℕ, Bool, false, ◌||◌, ◌==◌, List, Option, Some, None, if◌then◌else◌}
 use Rattle.std.specs.List.{list_any}
-use Rattle.selective_undo.specs.Log.{Foot}
+use Rattle.selective_undo.specs.Log.{Footprint}
 use Rattle.wb_book.specs.declared.cells.cell.Cell.{Cell}
 use Rattle.wb_book.specs.declared.cells.pattern.Pattern.{Pattern}
 use Rattle.selective_undo.specs.Changes.{changes}
@@ -16,8 +16,8 @@ use Rattle.wb_foot.specs.Points.{Coordinates}
 use Rattle.wb_foot.specs.Places.{own, family, place_of, is_same_place, place_marked, cell_at}
 
 -- what edits read and touched, by their numbers; some numbers have no footprint
-abbrev pub Feet : Type 0
-Feet = ℕ → Option (Foot workbook)
+abbrev pub Footprints : Type 0
+Footprints = ℕ → Option (Footprint workbook)
 
 -- whether a place is that of a cell, or of its family
 abbrev pub at_cell : Cell → Place → Bool
@@ -40,37 +40,37 @@ abbrev pub read_at : List Pattern → Place → Bool
 read_at rs q = list_any (λ r. is_same_place (place_of r) q) rs
 
 -- whether a footprint, where there is one, touched a place
-abbrev pub touched_by : Option (Foot workbook) → Place → Bool
+abbrev pub touched_by : Option (Footprint workbook) → Place → Bool
 touched_by None q = false
-touched_by (Some f) q = touched_at f.before q
+touched_by (Some f) q = touched_at f.touched q
 
 -- whether it read a place
-abbrev pub read_by : Option (Foot workbook) → Place → Bool
+abbrev pub read_by : Option (Footprint workbook) → Place → Bool
 read_by None q = false
 read_by (Some f) q = read_at f.reads q
 
 -- A number is marked at the places that its footprint touched, and at those that it read, and at no others.
-pub record IsIndexOf (index : FootIndex) (feet : Feet) : Type 0 where
-  pub touched : (q : Place) (n : ℕ) → place_marked index.touched q n ≡ touched_by (feet n) q
-  pub read : (q : Place) (n : ℕ) → place_marked index.read q n ≡ read_by (feet n) q
+pub record IsIndexOf (index : FootIndex) (footprints : Footprints) : Type 0 where
+  pub touched : (q : Place) (n : ℕ) → place_marked index.touched q n ≡ touched_by (footprints n) q
+  pub read : (q : Place) (n : ℕ) → place_marked index.read q n ≡ read_by (footprints n) q
 
 -- what was read, and what the touched cells were before
-abbrev pub foot : List Pattern → Changes → Foot workbook
-foot reads before = record { reads = reads; before = before }
+abbrev pub footprint : List Pattern → Changes → Footprint workbook
+footprint reads before = record { reads = reads; touched = before }
 
 -- the same footprints, with another one, or none, at a number
-abbrev pub with_foot : Feet → ℕ → Option (Foot workbook) → Feet
-with_foot feet number f n = if number == n then f else feet n
+abbrev pub with_footprint : Footprints → ℕ → Option (Footprint workbook) → Footprints
+with_footprint footprints number f n = if number == n then f else footprints n
 
 -- whether a footprint, where there is one, read or touched a cell
-abbrev pub met_by : Option (Foot workbook) → Cell → Bool
+abbrev pub met_by : Option (Footprint workbook) → Cell → Bool
 met_by None c = false
-met_by (Some f) c = changes cell_cmp f.before c || covers workbook f.reads c
+met_by (Some f) c = changes cell_cmp f.touched c || covers workbook f.reads c
 
 -- whether it touched a cell that one of the patterns names
-abbrev pub touched_under : Option (Foot workbook) → List Pattern → Bool
+abbrev pub touched_under : Option (Footprint workbook) → List Pattern → Bool
 touched_under o rs = list_any (λ r. touched_by o (place_of r)) rs
 
 -- whether it read or touched one of some cells
-abbrev pub any_met : Option (Foot workbook) → Changes → Bool
+abbrev pub any_met : Option (Footprint workbook) → Changes → Bool
 any_met o xs = list_any (λ x. met_by o x.cell) xs

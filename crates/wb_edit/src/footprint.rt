@@ -11,11 +11,11 @@ const FEW: usize = 2;
 
 /// The footprint of an edit: what it read, in order. Contracts see the list of its patterns.
 #[derive(Drop)]
-pub struct Foot {
+pub struct Footprint {
     reads: SmallVec<Pattern, FEW>,
 }
 
-impl Model for Foot {
+impl Model for Footprint {
     ghost use Rattle.std.specs.Prelude.{List};
     ghost use Rattle.wb_book.specs.declared.cells.pattern.Pattern.{Pattern};
 
@@ -24,12 +24,12 @@ impl Model for Foot {
     ghost view = { λ a. a.reads.items };
 }
 
-impl Foot {
+impl Footprint {
     /// Nothing read yet.
-    pub(crate) fn new(alloc: Global) -> Foot
+    pub(crate) fn new(alloc: Global) -> Footprint
         ensures { result ≡ [] }
     {
-        Foot {
+        Footprint {
             reads: SmallVec::new(alloc),
         }
     }

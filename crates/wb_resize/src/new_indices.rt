@@ -1,7 +1,7 @@
 ghost use Rattle.std.specs.Prelude.{◌≡◌, IfOk};
 ghost use Rattle.std.specs.Bool.{Decides};
 
-use crate::given::Given;
+use crate::operand::Operand;
 use std::alloc::Global;
 use wb_book::Point;
 use wb_range::NoMemory;
@@ -58,41 +58,41 @@ impl Displacement {
 
 /// Where the new value of a domain comes from.
 #[derive(Drop)]
-pub enum Source {
+pub enum NewIndices {
     /// What is given takes the place of the value.
-    To(Given),
+    To(Operand),
     /// The slice of a rectangular domain by what is given.
-    Slice(Given),
+    Slice(Operand),
     /// The ranges of a rectangular domain, displaced by an offset for each dimension.
     Displace(Displacement, Point),
     /// The set that the indices of the domain and those that are given make.
-    Combine(SetOperation, Given),
+    Combine(SetOperation, Operand),
 }
 
-impl Source {
+impl NewIndices {
     /// An equal source, or `NoMemory` where none is left for what is given.
-    pub fn copy(&self, alloc: Global) -> Result<Source, NoMemory>
+    pub fn copy(&self, alloc: Global) -> Result<NewIndices, NoMemory>
         ensures { IfOk result (λ s. s ≡ self.now) }
     {
         match self {
-            Source::To(given) => Ok(Source::To(given.copy(alloc)?)),
-            Source::Slice(given) => Ok(Source::Slice(given.copy(alloc)?)),
-            Source::Displace(how, offsets) => Ok(Source::Displace(*how, *offsets)),
-            Source::Combine(how, given) => Ok(Source::Combine(*how, given.copy(alloc)?)),
+            NewIndices::To(given) => Ok(NewIndices::To(given.copy(alloc)?)),
+            NewIndices::Slice(given) => Ok(NewIndices::Slice(given.copy(alloc)?)),
+            NewIndices::Displace(how, offsets) => Ok(NewIndices::Displace(*how, *offsets)),
+            NewIndices::Combine(how, given) => Ok(NewIndices::Combine(*how, given.copy(alloc)?)),
         }
     }
 
     /// Whether the sources are equal.
-    pub fn is_same(&self, other: &Source) -> bool
+    pub fn is_same(&self, other: &NewIndices) -> bool
         ensures { Decides result (self.now ≡ other.now) }
     {
         match (self, other) {
-            (Source::To(given), Source::To(by)) => given.is_same(by),
-            (Source::Slice(given), Source::Slice(by)) => given.is_same(by),
-            (Source::Displace(how, offsets), Source::Displace(by, others)) => {
+            (NewIndices::To(given), NewIndices::To(by)) => given.is_same(by),
+            (NewIndices::Slice(given), NewIndices::Slice(by)) => given.is_same(by),
+            (NewIndices::Displace(how, offsets), NewIndices::Displace(by, others)) => {
                 displace_alike(*how, offsets, *by, others)
             }
-            (Source::Combine(how, given), Source::Combine(by, others)) => {
+            (NewIndices::Combine(how, given), NewIndices::Combine(by, others)) => {
                 combine_alike(*how, given, *by, others)
             }
             _ => false,
@@ -109,7 +109,7 @@ fn displace_alike(how: Displacement, offsets: &Point, by: Displacement, others: 
     offsets.is_same(others)
 }
 
-fn combine_alike(how: SetOperation, given: &Given, by: SetOperation, others: &Given) -> bool
+fn combine_alike(how: SetOperation, given: &Operand, by: SetOperation, others: &Operand) -> bool
     ensures { Decides result ((how ≡ by) × (given.now ≡ others.now)) }
 {
     if !how.is_same(by) {

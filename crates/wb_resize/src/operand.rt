@@ -8,7 +8,7 @@ use wb_range::NoMemory;
 
 /// The new value of a domain, or what is joined with its value, as it is given.
 #[derive(Drop)]
-pub enum Given {
+pub enum Operand {
     /// A rectangle by its ranges.
     Rectangle(AnyRect),
     /// A set of indices.
@@ -17,26 +17,28 @@ pub enum Given {
     Named(Name),
 }
 
-impl Given {
+impl Operand {
     /// What is equally given, or `NoMemory` where none is left for the set of indices.
-    pub fn copy(&self, alloc: Global) -> Result<Given, NoMemory>
+    pub fn copy(&self, alloc: Global) -> Result<Operand, NoMemory>
         ensures { IfOk result (λ g. g ≡ self.now) }
     {
         match self {
-            Given::Rectangle(ranges) => Ok(Given::Rectangle(*ranges)),
-            Given::Items(items) => Ok(Given::Items(items.copy(alloc)?)),
-            Given::Named(domain) => Ok(Given::Named(*domain)),
+            Operand::Rectangle(ranges) => Ok(Operand::Rectangle(*ranges)),
+            Operand::Items(items) => Ok(Operand::Items(items.copy(alloc)?)),
+            Operand::Named(domain) => Ok(Operand::Named(*domain)),
         }
     }
 
     /// Whether the same is given.
-    pub fn is_same(&self, other: &Given) -> bool
+    pub fn is_same(&self, other: &Operand) -> bool
         ensures { Decides result (self.now ≡ other.now) }
     {
         match (self, other) {
-            (Given::Rectangle(ranges), Given::Rectangle(by)) => ranges.is_same(by),
-            (Given::Items(items), Given::Items(by)) => { are_same(items.as_slice(), by.as_slice()) }
-            (Given::Named(domain), Given::Named(by)) => domain.is_same(by),
+            (Operand::Rectangle(ranges), Operand::Rectangle(by)) => ranges.is_same(by),
+            (Operand::Items(items), Operand::Items(by)) => {
+                are_same(items.as_slice(), by.as_slice())
+            }
+            (Operand::Named(domain), Operand::Named(by)) => domain.is_same(by),
             _ => false,
         }
     }

@@ -2,10 +2,10 @@
 
 ghost use Rattle.std.specs.Prelude.{◌≡◌, ℕ, ◌+◌, ◌^◌, ◌<◌, length, drop, Some, None, OnOk, OnErr, IfOk};
 ghost use Rattle.selective_undo.specs.Log.{blocks_undo, blocks_redo, first_from};
-ghost use Rattle.wb_foot.specs.Feet.{Feet, foot, with_foot};
-ghost use Rattle.wb_log.specs.Indexed.{AreFootprints};
+ghost use Rattle.wb_foot.specs.Footprints.{Footprints, footprint, with_footprint};
+ghost use Rattle.wb_log.specs.Indexed.{IsByFootprint};
 ghost use Rattle.wb_log.specs.Kept.{by_number, kept_in, kept_all};
-ghost use Rattle.wb_log.specs.Needed.{AreFromFeet};
+ghost use Rattle.wb_log.specs.Needed.{AreFromFootprints};
 
 use crate::blockers;
 use crate::entry::Record;
@@ -17,18 +17,18 @@ use wb_range::NoMemory;
 
 /// An index of the footprints of the first `entered` edits.
 #[derive(Drop)]
-pub struct Footprints {
+pub struct ByFootprint {
     alloc: Global,
     index: FootIndex,
     entered: usize,
 }
 
-impl Footprints {
+impl ByFootprint {
     /// No edit has entered.
-    pub fn new(alloc: Global) -> Footprints
-        ensures { (count : ℕ) (feet : Feet) → feet 0 ≡ None → AreFootprints result count feet }
+    pub fn new(alloc: Global) -> ByFootprint
+        ensures { (count : ℕ) (footprints : Footprints) → footprints 0 ≡ None → IsByFootprint result count footprints }
     {
-        Footprints {
+        ByFootprint {
             alloc,
             index: FootIndex::new(alloc),
             entered: 0,
@@ -38,9 +38,9 @@ impl Footprints {
     /// The next edit enters, or none where no memory is left.
     fn enter(&mut self, entry: &Record) -> Result<(), NoMemory>
         requires { self.old.entered < 2 ^ 63 }
-        ensures ok { OnOk result ((count : ℕ) (feet : Feet) → AreFootprints self.old count feet → self.old.entered < count → feet (self.old.entered + 1) ≡ kept_in entry.now → AreFootprints self.new count feet) }
+        ensures ok { OnOk result ((count : ℕ) (footprints : Footprints) → IsByFootprint self.old count footprints → self.old.entered < count → footprints (self.old.entered + 1) ≡ kept_in entry.now → IsByFootprint self.new count footprints) }
         ensures next { OnOk result (self.new.entered ≡ self.old.entered + 1) }
-        ensures err { OnErr result ((count : ℕ) (feet : Feet) → AreFootprints self.old count feet → AreFootprints self.new count feet) }
+        ensures err { OnErr result ((count : ℕ) (footprints : Footprints) → IsByFootprint self.old count footprints → IsByFootprint self.new count footprints) }
     {
         if let Some(kept) = entry.kept() {
             let number = self.entered as u64 + 1;
@@ -53,8 +53,8 @@ impl Footprints {
     /// Edits enter up to the last, or as far as memory goes.
     fn fill(&mut self, entries: &[Record])
         requires few { length entries.now < 2 ^ 63 }
-        requires indexed { AreFootprints self.old (length entries.now) (by_number entries.now) }
-        ensures indexed { AreFootprints self.new (length entries.now) (by_number entries.now) }
+        requires indexed { IsByFootprint self.old (length entries.now) (by_number entries.now) }
+        ensures indexed { IsByFootprint self.new (length entries.now) (by_number entries.now) }
     {
         while self.entered < entries.len() {
             let next = &entries[self.entered];
@@ -74,9 +74,9 @@ impl Footprints {
     ) -> Option<u64>
         requires in_log { at < length entries.now }
         requires few { length entries.now < 2 ^ 63 }
-        requires indexed { AreFootprints self.old (length entries.now) (by_number entries.now) }
+        requires indexed { IsByFootprint self.old (length entries.now) (by_number entries.now) }
         ensures first { result ≡ first_from (blocks_undo before.now) (at + 2) (drop (at + 1) (kept_all entries.now)) }
-        ensures indexed { AreFootprints self.new (length entries.now) (by_number entries.now) }
+        ensures indexed { IsByFootprint self.new (length entries.now) (by_number entries.now) }
     {
         self.fill(entries);
         if self.entered < entries.len() {
@@ -96,9 +96,9 @@ impl Footprints {
     ) -> Option<u64>
         requires in_log { at < length entries.now }
         requires few { length entries.now < 2 ^ 63 }
-        requires indexed { AreFootprints self.old (length entries.now) (by_number entries.now) }
-        ensures first { result ≡ first_from (blocks_redo (foot reads.now delta.now)) (at + 2) (drop (at + 1) (kept_all entries.now)) }
-        ensures indexed { AreFootprints self.new (length entries.now) (by_number entries.now) }
+        requires indexed { IsByFootprint self.old (length entries.now) (by_number entries.now) }
+        ensures first { result ≡ first_from (blocks_redo (footprint reads.now delta.now)) (at + 2) (drop (at + 1) (kept_all entries.now)) }
+        ensures indexed { IsByFootprint self.new (length entries.now) (by_number entries.now) }
     {
         self.fill(entries);
         if self.entered < entries.len() {
@@ -112,9 +112,9 @@ impl Footprints {
     pub fn needing(&mut self, entries: &[Record], at: usize) -> Result<Vec<u64>, NoMemory>
         requires in_log { at < length entries.now }
         requires few { length entries.now < 2 ^ 63 }
-        requires indexed { AreFootprints self.old (length entries.now) (by_number entries.now) }
-        ensures found { IfOk result (λ v. AreFromFeet (by_number entries.now) (at + 1) v.items) }
-        ensures indexed { AreFootprints self.new (length entries.now) (by_number entries.now) }
+        requires indexed { IsByFootprint self.old (length entries.now) (by_number entries.now) }
+        ensures found { IfOk result (λ v. AreFromFootprints (by_number entries.now) (at + 1) v.items) }
+        ensures indexed { IsByFootprint self.new (length entries.now) (by_number entries.now) }
     {
         self.fill(entries);
         if self.entered < entries.len() {
@@ -126,7 +126,7 @@ impl Footprints {
     /// The edit at a place is out of force.
     pub fn take(&mut self, at: usize, reads: &[Pattern], before: &[CellChange])
         requires { at < 2 ^ 63 }
-        ensures { (count : ℕ) (feet : Feet) → AreFootprints self.old count feet → feet (at + 1) ≡ Some (foot reads.now before.now) → AreFootprints self.new count (with_foot feet (at + 1) None) }
+        ensures { (count : ℕ) (footprints : Footprints) → IsByFootprint self.old count footprints → footprints (at + 1) ≡ Some (footprint reads.now before.now) → IsByFootprint self.new count (with_footprint footprints (at + 1) None) }
     {
         if at < self.entered {
             self.index.take(at as u64 + 1, reads, before);
@@ -134,15 +134,15 @@ impl Footprints {
     }
 
     /// The edit at a place is in force again. Where no memory is left for it, none has entered.
-    pub fn put(&mut self, at: usize, reads: &[Pattern], before: &[CellChange])
+    pub fn put_back(&mut self, at: usize, reads: &[Pattern], before: &[CellChange])
         requires { at < 2 ^ 63 }
-        ensures { (count : ℕ) (feet : Feet) → AreFootprints self.old count feet → feet (at + 1) ≡ None → AreFootprints self.new count (with_foot feet (at + 1) (Some (foot reads.now before.now))) }
+        ensures { (count : ℕ) (footprints : Footprints) → IsByFootprint self.old count footprints → footprints (at + 1) ≡ None → IsByFootprint self.new count (with_footprint footprints (at + 1) (Some (footprint reads.now before.now))) }
     {
         if at >= self.entered {
             return;
         }
         if self.index.add(at as u64 + 1, reads, before).is_err() {
-            *self = Footprints::new(self.alloc);
+            *self = ByFootprint::new(self.alloc);
         }
     }
 }

@@ -3,7 +3,7 @@ use Rattle.selective_undo.specs.Log.{blocks_undo, first_from}
 use Rattle.wb_log.specs.Kept.{by_number, kept_in, kept_all}
 use Rattle.wb_log.proofs.Entries.{drop-map}
 use Rattle.wb_log.proofs.Entered.{first_is, index_whole}
-use Rattle.wb_log.proofs.index.footprints.Footprints.first_to_block_undo.Goals as goal
+use Rattle.wb_log.proofs.index.by_footprint.ByFootprint.first_to_block_undo.Goals as goal
 
 pub returns-then-self-entries-clause-first : goal.returns-then-self-entries-clause-first
 returns-then-self-entries-clause-first c =

@@ -3,7 +3,7 @@ use Rattle.std.proofs.lemmas.Option.{slice_get-get_or}
 use Rattle.std.proofs.Common.{ap, sym, ◌∙◌, Some}
 use Rattle.wb_log.specs.Kept.{by_number}
 use Rattle.wb_log.proofs.Entered.{kept_here}
-use Rattle.wb_log.proofs.index.footprints.Footprints.fill.Goals as goal
+use Rattle.wb_log.proofs.index.by_footprint.ByFootprint.fill.Goals as goal
 
 pub returns-in-Err : goal.returns-in-Err
 returns-in-Err c = record { indexed = c.in-Err.ensures.err (length c.args.entries.now) (by_number c.args.entries.now) c.loop-self.invariant }

@@ -1,7 +1,0 @@
-use Rattle.wb_log.proofs.Entered.{not_0}
-use Rattle.std.proofs.Common.{Some, ◌+◌}
-use Rattle.wb_foot.specs.Feet.{with_foot}
-use Rattle.wb_log.proofs.index.in_force.InForce.put.Goals as goal
-
-pub returns-then-is_err : goal.returns-then-is_err
-returns-then-is_err c = λ count feet f h. c.new.ensures count (with_foot feet (c.args.at + 1) (Some f)) (not_0 c.args.at feet (Some f) h.from_1)
