@@ -1,5 +1,6 @@
 -- Changes made in two parts, first those that set cells and then those that clear them, and taken back halfway.
-use Rattle.std.proofs.Common.{◌≡◌, ℕ, zero, suc, ◌+◌, ◌<◌, true, false, true≢false, cond, ◌||◌, List, [], ◌∷◌, length, get_or, drop, drop-cons, add-one, arith, Some, None, IsSome, refl, sym, ap, ◌∙◌, Ordering}
+use Rattle.std.proofs.Common.{◌≡◌, ℕ, zero, suc, ◌+◌, ◌<◌, true, false, true≢false, cond, ◌||◌, List, [], ◌∷◌, length, get_or, drop, drop-cons, add-one, arith}
+use Rattle.std.proofs.Common.{Some, None, IsSome, refl, sym, ap, ◌∙◌, Ordering}
 use Rattle.std.specs.Ordering.{eq_by_cmp}
 use Rattle.std.specs.Cmp.{Equal-is}
 use Rattle.std.specs.FinMap.{FinMap, get}
@@ -26,10 +27,12 @@ tied {order = order} ordered y x e = ordered.strict y x ((Equal-is (order y x)).
 module _ {K V : Type 0} {order : K → K → Ordering} where
   -- one change at a time
   pub sets-cons : (x : Change K V) (xs : List (Change K V)) (s : FinMap order V) → apply (sets (x ∷ xs)) s ≡ apply (sets xs) (apply (sets (x ∷ [])) s)
-  sets-cons x xs s = elim x.value as (λ v. let y : Change K V = record x { value = v } in apply (sets (y ∷ xs)) s ≡ apply (sets xs) (apply (sets (y ∷ [])) s)) [ Some v ↦ refl | None ↦ refl ]
+  sets-cons x xs s = elim x.value as (λ v. let y : Change K V = record x { value = v } in apply (sets (y ∷ xs)) s ≡ apply (sets xs) (apply (sets (y ∷ [])) s))
+      [ Some v ↦ refl | None ↦ refl ]
 
   pub clears-cons : (x : Change K V) (xs : List (Change K V)) (s : FinMap order V) → apply (clears (x ∷ xs)) s ≡ apply (clears xs) (apply (clears (x ∷ [])) s)
-  clears-cons x xs s = elim x.value as (λ v. let y : Change K V = record x { value = v } in apply (clears (y ∷ xs)) s ≡ apply (clears xs) (apply (clears (y ∷ [])) s)) [ Some v ↦ refl | None ↦ refl ]
+  clears-cons x xs s = elim x.value as (λ v. let y : Change K V = record x { value = v } in
+      apply (clears (y ∷ xs)) s ≡ apply (clears xs) (apply (clears (y ∷ [])) s)) [ Some v ↦ refl | None ↦ refl ]
 
   pub once-inverse : (xs : List (Change K V)) (s : FinMap order V) → AllOnce order xs → AllOnce order (inverse xs s)
   once-inverse [] s once = tt
@@ -38,8 +41,10 @@ module _ {K V : Type 0} {order : K → K → Ordering} where
   -- where the cells that were there are still there, what they were can be put back
   pub room-inverse : (xs : List (Change K V)) (s t : FinMap order V) → ((c : K) → IsSome (get s c) → IsSome (get t c)) → HasRoom (inverse xs s) t
   room-inverse [] s t stays = tt
-  room-inverse (x ∷ xs) s t stays =
-      (elim (get s x.cell) as (λ o. (IsSome o → IsSome (get t x.cell)) → RoomFor o (get t x.cell)) [ Some v ↦ λ f. f refl | None ↦ λ f. tt ] (stays x.cell), room-inverse xs s t stays)
+  room-inverse (x ∷ xs) s t stays = (
+    elim (get s x.cell) as (λ o. (IsSome o → IsSome (get t x.cell)) → RoomFor o (get t x.cell)) [ Some v ↦ λ f. f refl | None ↦ λ f. tt ] (stays x.cell),
+    room-inverse xs s t stays,
+  )
 
 module _ {K V : Type 0} {order : K → K → Ordering} (ordered : IsOrder order) where
   only : (x : Change K V) (c : K) → changes order (x ∷ []) c ≡ true → c ≡ x.cell
@@ -75,11 +80,13 @@ module _ {K V : Type 0} {order : K → K → Ordering} (ordered : IsOrder order)
   room-put x [] s once room = tt
   room-put x (y ∷ xs) s once room =
       let parts = or_neither _ _ once in
-      let other : eq_by_cmp order y.cell x.cell ≡ false = not_true _ (λ e. true≢false (sym (is_itself ordered x.cell) ∙ ap (λ c. eq_by_cmp order x.cell c) (sym (tied ordered y.cell x.cell e)) ∙ parts.0)) in
+      let other : eq_by_cmp order y.cell x.cell ≡ false = not_true _
+      (λ e. true≢false (sym (is_itself ordered x.cell) ∙ ap (λ c. eq_by_cmp order x.cell c) (sym (tied ordered y.cell x.cell e)) ∙ parts.0)) in
       (rw (get-put ordered x s y.cell, other) room.0, room-put x xs s parts.1 room.1)
 
   -- a cell that is changed once has the value of its change
-  set_value : (xs : List (Change K V)) (s : FinMap order V) (x : Change K V) (i : ℕ) → AllOnce order xs → i < length xs → get_or xs i x ≡ x → get (apply xs s) x.cell ≡ x.value
+  set_value : (xs : List (Change K V)) (s : FinMap order V) (x : Change K V) (i : ℕ) → AllOnce order xs → i < length xs → get_or xs i x ≡ x →
+      get (apply xs s) x.cell ≡ x.value
   set_value [] s x i once low is = absurd (omega (arith, low))
   set_value (y ∷ xs) s x zero once low is =
       let same : y ≡ x = is in
@@ -98,33 +105,40 @@ module _ {K V : Type 0} {order : K → K → Ordering} (ordered : IsOrder order)
   pub set_stays : (x : Change K V) (s : FinMap order V) (c : K) → IsSome (get s c) → IsSome (get (apply (sets (x ∷ [])) s) c)
   set_stays x s c there =
       elim x.value as (λ v. let y : Change K V = record x { value = v } in IsSome (get (apply (sets (y ∷ [])) s) c)) [
-        | Some v ↦ rw (get-put ordered (record x { value = Some v }) s c) (elim (eq_by_cmp order c x.cell) as (λ b. IsSome (cond b (Some v) (get s c))) [ true ↦ refl | false ↦ there ])
+        | Some v ↦ rw (get-put ordered (record x { value = Some v }) s c)
+            (elim (eq_by_cmp order c x.cell) as (λ b. IsSome (cond b (Some v) (get s c))) [ true ↦ refl | false ↦ there ])
         | None ↦ there
       ]
 
-  pub other_cell : (xs : List (Change K V)) (i : ℕ) (d : Change K V) (c : K) → i < length xs → changes order xs c ≡ false → eq_by_cmp order c (get_or xs i d).cell ≡ false
+  pub other_cell : (xs : List (Change K V)) (i : ℕ) (d : Change K V) (c : K) → i < length xs → changes order xs c ≡ false →
+      eq_by_cmp order c (get_or xs i d).cell ≡ false
   other_cell [] i d c low e = absurd (omega (arith, low))
   other_cell (x ∷ xs) zero d c low e = (or_neither _ _ e).0
   other_cell (x ∷ xs) (suc i) d c low e = other_cell xs i d c (omega (arith, low)) (or_neither _ _ e).1
 
-  pub set_step : (xs : List (Change K V)) (i : ℕ) (d : Change K V) (s t r : FinMap order V) → i < length xs → t ≡ apply (sets (get_or xs i d ∷ [])) s → apply (sets (drop i xs)) s ≡ r → apply (sets (drop (i + 1) xs)) t ≡ r
+  pub set_step : (xs : List (Change K V)) (i : ℕ) (d : Change K V) (s t r : FinMap order V) → i < length xs → t ≡ apply (sets (get_or xs i d ∷ [])) s →
+      apply (sets (drop i xs)) s ≡ r → apply (sets (drop (i + 1) xs)) t ≡ r
   set_step xs i d s t r low is ahead =
-      rw (add-one) (ap (apply (sets (drop (suc i) xs))) is ∙ sym (sets-cons (get_or xs i d) (drop (suc i) xs) s) ∙ ap (λ ys. apply (sets ys) s) (sym (drop-cons xs i d low)) ∙ ahead)
+      rw (add-one) (ap (apply (sets (drop (suc i) xs))) is ∙ sym (sets-cons (get_or xs i d) (drop (suc i) xs) s) ∙
+      ap (λ ys. apply (sets ys) s) (sym (drop-cons xs i d low)) ∙ ahead)
 
-  pub put_step : (xs : List (Change K V)) (i : ℕ) (d : Change K V) (s t r : FinMap order V) → i < length xs → t ≡ applied (get_or xs i d) s → apply (drop i xs) s ≡ r → apply (drop (i + 1) xs) t ≡ r
+  pub put_step : (xs : List (Change K V)) (i : ℕ) (d : Change K V) (s t r : FinMap order V) → i < length xs → t ≡ applied (get_or xs i d) s →
+      apply (drop i xs) s ≡ r → apply (drop (i + 1) xs) t ≡ r
   put_step xs i d s t r low is ahead =
       rw (add-one) (ap (apply (drop (suc i) xs)) is ∙ ap (λ ys. apply ys s) (sym (drop-cons xs i d low)) ∙ ahead)
 
   pub once_step : (xs : List (Change K V)) (i : ℕ) (d : Change K V) → i < length xs → AllOnce order (drop i xs) → AllOnce order (drop (i + 1) xs)
   once_step xs i d low once = rw (add-one) (let h : AllOnce order (get_or xs i d ∷ drop (suc i) xs) = rw (drop-cons xs i d low) at once in h.1)
 
-  pub room_step : (xs : List (Change K V)) (i : ℕ) (d : Change K V) (s t : FinMap order V) → i < length xs → t ≡ applied (get_or xs i d) s → AllOnce order (drop i xs) → HasRoom (drop i xs) s → HasRoom (drop (i + 1) xs) t
+  pub room_step : (xs : List (Change K V)) (i : ℕ) (d : Change K V) (s t : FinMap order V) → i < length xs → t ≡ applied (get_or xs i d) s →
+      AllOnce order (drop i xs) → HasRoom (drop i xs) s → HasRoom (drop (i + 1) xs) t
   room_step xs i d s t low is once room =
       let once' : AllOnce order (get_or xs i d ∷ drop (suc i) xs) = rw (drop-cons xs i d low) at once in
       let room' : HasRoom (get_or xs i d ∷ drop (suc i) xs) s = rw (drop-cons xs i d low) at room in
       rw (add-one, is) (room-put (get_or xs i d) (drop (suc i) xs) s once'.0 room'.1)
 
-  pub room_here : (xs : List (Change K V)) (i : ℕ) (d : Change K V) (s : FinMap order V) → i < length xs → HasRoom (drop i xs) s → RoomFor (get_or xs i d).value (get s (get_or xs i d).cell)
+  pub room_here : (xs : List (Change K V)) (i : ℕ) (d : Change K V) (s : FinMap order V) → i < length xs → HasRoom (drop i xs) s →
+      RoomFor (get_or xs i d).value (get s (get_or xs i d).cell)
   room_here xs i d s low room = let room' : HasRoom (get_or xs i d ∷ drop (suc i) xs) s = rw (drop-cons xs i d low) at room in room'.0
 
 -- ---- laws
@@ -143,4 +157,5 @@ room_law w xs s t stays = room-inverse xs s t stays
 
 -- a law of each workbook, where the law names nothing that tells the patterns and refusals
 pub of_each : (Cell Value Pattern Refusal : Type 0) (Law : Schema → Type 0) → ((w : Schema) → Law w) → OfEach Cell Value Pattern Refusal Law
-of_each Cell Value Pattern Refusal Law all = λ order is_order matches. all (record { Cell = Cell; order = order; is_order = is_order; Value = Value; Pattern = Pattern; matches = matches; Refusal = Refusal })
+of_each Cell Value Pattern Refusal Law all = λ order is_order matches. all
+    (record { Cell = Cell; order = order; is_order = is_order; Value = Value; Pattern = Pattern; matches = matches; Refusal = Refusal })

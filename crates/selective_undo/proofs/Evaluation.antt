@@ -2,7 +2,8 @@
 use Rattle.std.proofs.Common.{◌≡◌, Bool, true, false, cond, not, List, [], ◌∷◌, length, Some, None, arith, refl, sym, ap, ◌∙◌}
 use Rattle.std.specs.Ordering.{eq_by_cmp}
 use Rattle.std.specs.Cmp.{eq_by_cmp_equiv}
-use Rattle.std.specs.FinMap.{FinMap, get, len-empty, len-entries, entries, entries_sorted, entries-insert, entries-from_sorted, get-entries, get-from_sorted, get-retain_keys, get-remove, retain_keys, remove, from_sorted, empty}
+use Rattle.std.specs.FinMap.{FinMap, get, len-empty, len-entries, entries, entries_sorted, entries-insert, entries-from_sorted, get-entries, get-from_sorted}
+use Rattle.std.specs.FinMap.{get-retain_keys, get-remove, retain_keys, remove, from_sorted, empty}
 use Rattle.std.specs.FinMap.Entries.{where_key, is_sorted-where_key, find-where_key}
 use Rattle.std.specs.declared.cmp.Ordering.{Ordering}
 use Rattle.selective_undo.specs.declared.Change as declared

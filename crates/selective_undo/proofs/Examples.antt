@@ -20,7 +20,15 @@ holds (at c) d = c == d
 holds anywhere d = true
 
 abbrev numbers : Schema
-numbers = record { Cell = ℕ; order = nat_cmp; is_order = record { total = nat_cmp_total; strict = nat_cmp-IsAntisymmetric }; Value = ℕ; Pattern = Place; matches = holds; Refusal = Why }
+numbers = record {
+  Cell = ℕ;
+  order = nat_cmp;
+  is_order = record { total = nat_cmp_total; strict = nat_cmp-IsAntisymmetric };
+  Value = ℕ;
+  Pattern = Place;
+  matches = holds;
+  Refusal = Why;
+}
 
 abbrev to : ℕ → ℕ → Change numbers
 to c v = record { cell = c; value = Some v }
@@ -60,7 +68,8 @@ copied = done (set 1 5) ∷ done (copy 1 2) ∷ done (set 3 7) ∷ []
 copied_state : entries (replay copied) ≡ (1, 5) ∷ (2, 6) ∷ (3, 7) ∷ []
 copied_state = entries-replay copied ∙ refl
 
-copied_traces : traces copied ≡ Some (did [] (to 1 5 ∷ []) (off 1 ∷ [])) ∷ Some (did (at 1 ∷ []) (to 2 6 ∷ []) (off 2 ∷ [])) ∷ Some (did [] (to 3 7 ∷ []) (off 3 ∷ [])) ∷ []
+copied_traces : traces copied ≡ Some (did [] (to 1 5 ∷ []) (off 1 ∷ [])) ∷ Some (did (at 1 ∷ []) (to 2 6 ∷ []) (off 2 ∷ [])) ∷ Some
+    (did [] (to 3 7 ∷ []) (off 3 ∷ [])) ∷ []
 copied_traces = traces-in copied ∙ refl
 
 -- so to undo the source is to undo the copy first, and nothing else

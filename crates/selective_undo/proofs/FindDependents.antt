@@ -1,5 +1,6 @@
 -- One pass finds the dependents of an edit.
-use Rattle.std.proofs.Common.{◌≡◌, ℕ, zero, suc, ◌<◌, ◌≤◌, Bool, true, false, true≢false, ◌||◌, List, [], ◌∷◌, map, drop, Option, Some, None, arith, refl, sym, ap, ◌∙◌, subst, slice_get, if◌then◌else◌, ◌⊎◌, inl, inr}
+use Rattle.std.proofs.Common.{◌≡◌, ℕ, zero, suc, ◌<◌, ◌≤◌, Bool, true, false, true≢false, ◌||◌, List, [], ◌∷◌, map, drop, Option, Some, None, arith, refl, sym}
+use Rattle.std.proofs.Common.{ap, ◌∙◌, subst, slice_get, if◌then◌else◌, ◌⊎◌, inl, inr}
 use Rattle.std.specs.List.{list_any}
 use Rattle.selective_undo.specs.Edit.{Schema, Trace, needs, Needs}
 use Rattle.selective_undo.specs.History.{InForce, Dependent, itself, through, Has, Falls, joined, gathered}
@@ -40,11 +41,13 @@ module _ {w : Schema} where
   found_has (d ∷ ds) j u (inr is) = inr (found_has ds j u is)
 
   -- the test finds the one that is needed
-  some_needed : (found : List (ℕ × Trace w)) (v : Trace w) → list_any (λ d. needs v d.1) found ≡ true → (j : ℕ) × ((u : Trace w) × (Found found j u × (needs v u ≡ true)))
+  some_needed : (found : List (ℕ × Trace w)) (v : Trace w) → list_any (λ d. needs v d.1) found ≡ true → (j : ℕ) ×
+      ((u : Trace w) × (Found found j u × (needs v u ≡ true)))
   unfolding Found
   some_needed [] v e = cc
   some_needed (d ∷ ds) v e =
-      elim (needs v d.1) as (λ b. needs v d.1 ≡ b → b || list_any (λ d. needs v d.1) ds ≡ true → (j : ℕ) × ((u : Trace w) × (Found (d ∷ ds) j u × (needs v u ≡ true)))) [
+      elim (needs v d.1) as (λ b. needs v d.1 ≡ b → b || list_any (λ d. needs v d.1) ds ≡ true → (j : ℕ) ×
+      ((u : Trace w) × (Found (d ∷ ds) j u × (needs v u ≡ true)))) [
         | true ↦ λ is f. (d.0, (d.1, (inl (refl, refl), is)))
         | false ↦ λ is f. let (j, (u, (there, met))) = some_needed ds v f in (j, (u, (inr there, met)))
       ] refl e
@@ -71,14 +74,21 @@ module _ {w : Schema} where
   first_gathered ts k t is = record {
     above = omega arith;
     sound = λ i u f. elim f [
-      | inl same ↦ (omega (arith, same.0), (subst (λ i. InForce ts i u) same.0 (subst (λ u. InForce ts k u) same.1 is), subst (λ i. Dependent ts k i) same.0 itself))
+      | inl same ↦ (
+        omega (arith, same.0),
+        (
+          subst (λ i. InForce ts i u) same.0 (subst (λ u. InForce ts k u) same.1 is),
+          subst (λ i. Dependent ts k i) same.0 itself,
+        ),
+      )
       | inr none ↦ absurd none
     ];
     whole = λ i low d. (t, inl (let up = not_below ts k i d in omega (arith, up, low), refl));
     falls = (λ j none. absurd none, tt);
   }
 
-  must_need : (ts : List (Option (Trace w))) (k j : ℕ) (found : List (ℕ × Trace w)) (v : Trace w) → Gathered ts k j found → InForce ts j v → Dependent ts k j → list_any (λ d. needs v d.1) found ≡ true
+  must_need : (ts : List (Option (Trace w))) (k j : ℕ) (found : List (ℕ × Trace w)) (v : Trace w) → Gathered ts k j found → InForce ts j v → Dependent ts k j →
+      list_any (λ d. needs v d.1) found ≡ true
   must_need ts k j found v so_far is itself = let up = so_far.above in absurd (omega (arith, up))
   must_need ts k j found v so_far is (through {m = m} b d) =
       let (u, there) = so_far.whole m b.later d in
@@ -91,7 +101,8 @@ module _ {w : Schema} where
   out_of_force ts k j up out itself = absurd (omega (arith, up))
   out_of_force ts k j up out (through b d) = let there = b.j_in_force in cc (out, there)
 
-  none_gathered : (ts : List (Option (Trace w))) (k j : ℕ) (found : List (ℕ × Trace w)) → Gathered ts k j found → slice_get ts j ≡ Some None → Gathered ts k (suc j) found
+  none_gathered : (ts : List (Option (Trace w))) (k j : ℕ) (found : List (ℕ × Trace w)) → Gathered ts k j found → slice_get ts j ≡ Some None →
+      Gathered ts k (suc j) found
   none_gathered ts k j found so_far out = record {
     above = let up = so_far.above in omega (arith, up);
     sound = λ i u f. let (low, rest) = so_far.sound i u f in (omega (arith, low), rest);
@@ -103,16 +114,24 @@ module _ {w : Schema} where
   }
 
   -- edit j is a dependent exactly where it needs one that was found
-  more_gathered : (ts : List (Option (Trace w))) (k j : ℕ) (found : List (ℕ × Trace w)) (v : Trace w) (b : Bool) → Gathered ts k j found → InForce ts j v → list_any (λ d. needs v d.1) found ≡ b → Gathered ts k (suc j) (if b then (j, v) ∷ found else found)
+  more_gathered : (ts : List (Option (Trace w))) (k j : ℕ) (found : List (ℕ × Trace w)) (v : Trace w) (b : Bool) → Gathered ts k j found → InForce ts j v →
+      list_any (λ d. needs v d.1) found ≡ b → Gathered ts k (suc j) (if b then (j, v) ∷ found else found)
   unfolding Found
   more_gathered ts k j found v true so_far is e =
       let (i, (u, (there, met))) = some_needed found v e in
       let (low, (in_force, dependent)) = so_far.sound i u there in
-      let joins : Dependent ts k j = through (record { later = low; of_j = v; of_k = u; j_in_force = is; k_in_force = in_force; needs = needs_true v u met }) dependent in
+      let joins : Dependent ts k j = through (record { later = low; of_j = v; of_k = u; j_in_force = is; k_in_force = in_force; needs = needs_true v u met })
+      dependent in
       record {
         above = let up = so_far.above in omega (arith, up);
         sound = λ i u f. elim f [
-          | inl same ↦ (omega (arith, same.0), (subst (λ i. InForce ts i u) same.0 (subst (λ u. InForce ts j u) same.1 is), subst (λ i. Dependent ts k i) same.0 joins))
+          | inl same ↦ (
+            omega (arith, same.0),
+            (
+              subst (λ i. InForce ts i u) same.0 (subst (λ u. InForce ts j u) same.1 is),
+              subst (λ i. Dependent ts k i) same.0 joins,
+            ),
+          )
           | inr before ↦ let (low, rest) = so_far.sound i u before in (omega (arith, low), rest)
         ];
         whole = λ i low d. elim (cases_lt i j) [
@@ -127,12 +146,14 @@ module _ {w : Schema} where
         sound = λ i u f. let (low, rest) = so_far.sound i u f in (omega (arith, low), rest);
         whole = λ i low d. elim (cases_lt i j) [
           | inl below ↦ so_far.whole i below d
-          | inr up ↦ absurd (true≢false (sym (must_need ts k j found v so_far is (let same : i ≡ j = omega (arith, up, low) in subst (λ n. Dependent ts k n) same d)) ∙ e))
+          | inr up ↦ absurd (true≢false (sym (must_need ts k j found v so_far is
+              (let same : i ≡ j = omega (arith, up, low) in subst (λ n. Dependent ts k n) same d)) ∙ e))
         ];
         falls = so_far.falls;
       }
 
-  all_gathered : (ts : List (Option (Trace w))) (k j : ℕ) (found : List (ℕ × Trace w)) (rest : List (Option (Trace w))) → drop j ts ≡ rest → Gathered ts k j found → (n : ℕ) × (Gathered ts k n (gathered found j rest) × (drop n ts ≡ []))
+  all_gathered : (ts : List (Option (Trace w))) (k j : ℕ) (found : List (ℕ × Trace w)) (rest : List (Option (Trace w))) → drop j ts ≡ rest →
+      Gathered ts k j found → (n : ℕ) × (Gathered ts k n (gathered found j rest) × (drop n ts ≡ []))
   all_gathered ts k j found [] e so_far = (j, (so_far, e))
   all_gathered ts k j found (None ∷ rest) e so_far =
       let (at, next) = drop_step ts j None rest e in

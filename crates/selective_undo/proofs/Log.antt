@@ -1,10 +1,12 @@
 -- A log that is kept stays so when an edit comes, is undone or is redone.
-use Rattle.std.proofs.Common.{◌≡◌, ℕ, zero, suc, ◌+◌, ◌<◌, ◌≤◌, List, [], ◌∷◌, ◌++◌, map, refl, sym, ap, ◌∙◌, subst, Option, Some, None, option_map, Bool, true, false, ◌||◌, Ok, IsOk, is_ok, slice_get, slice_set, drop, arith, inl, inr, ◌⊎◌, if◌then◌else◌}
+use Rattle.std.proofs.Common.{◌≡◌, ℕ, zero, suc, ◌+◌, ◌<◌, ◌≤◌, List, [], ◌∷◌, ◌++◌, map, refl, sym, ap, ◌∙◌, subst, Option, Some, None, option_map, Bool, true}
+use Rattle.std.proofs.Common.{false, ◌||◌, Ok, IsOk, is_ok, slice_get, slice_set, drop, arith, inl, inr, ◌⊎◌, if◌then◌else◌}
 use Rattle.selective_undo.specs.Changes.{apply, inverse, changes}
 use Rattle.selective_undo.proofs.Changes.{changes-inverse}
 use Rattle.selective_undo.specs.Edit.{Schema, State, Change, Edit, Trace, covers, outcome, reads, written, trace, needs, Needs}
 use Rattle.selective_undo.specs.History.{Entry, done, undone, replay, traces, undo, redo, InForce, IsLegal, Blocks, CanUndo, CanRedo}
-use Rattle.selective_undo.specs.Log.{Footprint, Logged, footprint_of, footprints, entry_of, history, meets_any, blocks_undo, blocks_redo, planned, first_from, IsKept, Least, BlocksRedo}
+use Rattle.selective_undo.specs.Log.{Footprint, Logged, footprint_of, footprints, entry_of, history, meets_any, blocks_undo, blocks_redo, planned, first_from}
+use Rattle.selective_undo.specs.Log.{IsKept, Least, BlocksRedo}
 use Rattle.selective_undo.proofs.Locality.{needs_true, needs_false, or_neither}
 use Rattle.selective_undo.proofs.Undo.{undo_law, append_law}
 use Rattle.selective_undo.proofs.Redo.{redo_law}
@@ -45,7 +47,11 @@ module _ {X : Type 0} (p : X → Bool) where
   first_found i m [] e = cc
   first_found i m (x ∷ xs) e =
       elim (p x) as (λ b. p x ≡ b → (if b then Some i else first_from p (i + 1) xs) ≡ Some m → (j : ℕ) × (m ≡ i + j) × FirstAt p 0 (x ∷ xs) j) [
-        | true ↦ λ h f. (zero, omega (arith, (let g : i ≡ m = cc in g)), record { from = omega arith; item = x; there = refl; passes = h; none_before = λ l y up low is. absurd (omega (arith, low)) })
+        | true ↦ λ h f. (
+          zero,
+          omega (arith, (let g : i ≡ m = cc in g)),
+          record { from = omega arith; item = x; there = refl; passes = h; none_before = λ l y up low is. absurd (omega (arith, low)) },
+        )
         | false ↦ λ h f. let found = first_found (i + 1) m xs f in (
           suc found.0,
           omega (arith, found.1),
@@ -112,7 +118,8 @@ module _ {w : Schema} where
   pub footprint_there : (ts : List (Option (Trace w))) (j : ℕ) (u : Trace w) → InForce ts j u → slice_get (footprints ts) j ≡ Some (Some (footprint_of u))
   footprint_there ts j u is = get-map (option_map footprint_of) ts j ∙ ap (option_map (option_map footprint_of)) is
 
-  pub trace_of : (ts : List (Option (Trace w))) (j : ℕ) (f : Footprint w) → slice_get (footprints ts) j ≡ Some (Some f) → (u : Trace w) × InForce ts j u × (footprint_of u ≡ f)
+  pub trace_of : (ts : List (Option (Trace w))) (j : ℕ) (f : Footprint w) → slice_get (footprints ts) j ≡ Some (Some f) → (u : Trace w) × InForce ts j u ×
+      (footprint_of u ≡ f)
   trace_of [] j f is = cc
   trace_of (Some u ∷ ts) zero f is = (u, refl, cc)
   trace_of (None ∷ ts) zero f is = cc
@@ -125,13 +132,16 @@ module _ {w : Schema} where
   -- ---- the least edit that blocks an undo
 
   -- the test finds the blockers of edit k
-  pub undo_free : (ts : List (Option (Trace w))) (k i : ℕ) (t : Trace w) → InForce ts k t → first_from (blocks_undo t.before) i (drop (suc k) (footprints ts)) ≡ None → (j : ℕ) → Blocks ts j k → ⊥
+  pub undo_free : (ts : List (Option (Trace w))) (k i : ℕ) (t : Trace w) → InForce ts k t →
+      first_from (blocks_undo t.before) i (drop (suc k) (footprints ts)) ≡ None → (j : ℕ) → Blocks ts j k → ⊥
   undo_free ts k i t is none j b =
       let same : b.of_k ≡ t = cc (b.k_in_force, is) in
-      let quiet = none_at (blocks_undo t.before) i (suc k) (footprints ts) j (Some (footprint_of b.of_j)) none (omega (arith, b.later)) (footprint_there ts j b.of_j b.j_in_force) in
+      let quiet = none_at (blocks_undo t.before) i (suc k) (footprints ts) j (Some (footprint_of b.of_j)) none (omega (arith, b.later))
+      (footprint_there ts j b.of_j b.j_in_force) in
       needs_false b.of_j t quiet (subst (λ u. Needs b.of_j u) same b.needs)
 
-  pub undo_least : (ts : List (Option (Trace w))) (k i m : ℕ) (t : Trace w) → InForce ts k t → first_from (blocks_undo t.before) i (drop (suc k) (footprints ts)) ≡ Some m → (j : ℕ) × (m + suc k ≡ i + j) × Least (λ j. Blocks ts j k) j
+  pub undo_least : (ts : List (Option (Trace w))) (k i m : ℕ) (t : Trace w) → InForce ts k t →
+      first_from (blocks_undo t.before) i (drop (suc k) (footprints ts)) ≡ Some m → (j : ℕ) × (m + suc k ≡ i + j) × Least (λ j. Blocks ts j k) j
   undo_least ts k i m t is found =
       let at = first_at (blocks_undo t.before) i m (suc k) (footprints ts) found in
       let first = at.2 in
@@ -141,7 +151,15 @@ module _ {w : Schema} where
         at.0,
         at.1,
         record {
-          holds = record { later = omega (arith, first.from); of_j = of_j.0; of_k = t; j_in_force = of_j.1; k_in_force = is; needs = needs_true of_j.0 t needed };
+          holds = record {
+            later = omega (arith, first.from);
+            of_j = of_j.0;
+            of_k = t;
+            j_in_force = of_j.1;
+            k_in_force = is;
+            needs =
+                needs_true of_j.0 t needed;
+          };
           least = λ l b. elim (cases_lt l at.0) [
             | inl low ↦
                 let same : b.of_k ≡ t = cc (b.k_in_force, is) in
@@ -154,10 +172,12 @@ module _ {w : Schema} where
 
   -- ---- the least edit that blocks a redo
 
-  pub meets_footprint : (g : Footprint w) (o : Option (Footprint w)) → blocks_redo g o ≡ true → (f : Footprint w) × (o ≡ Some f) × ((meets_any f g.touched ≡ true) ⊎ (meets_any g f.touched ≡ true))
+  pub meets_footprint : (g : Footprint w) (o : Option (Footprint w)) → blocks_redo g o ≡ true → (f : Footprint w) × (o ≡ Some f) ×
+      ((meets_any f g.touched ≡ true) ⊎ (meets_any g f.touched ≡ true))
   meets_footprint g None e = cc
   meets_footprint g (Some f) e =
-      elim (meets_any f g.touched) as (λ b. meets_any f g.touched ≡ b → b || meets_any g f.touched ≡ true → (h : Footprint w) × (Some f ≡ Some h) × ((meets_any h g.touched ≡ true) ⊎ (meets_any g h.touched ≡ true))) [
+      elim (meets_any f g.touched) as (λ b. meets_any f g.touched ≡ b → b || meets_any g f.touched ≡ true → (h : Footprint w) × (Some f ≡ Some h) ×
+      ((meets_any h g.touched ≡ true) ⊎ (meets_any g h.touched ≡ true))) [
         | true ↦ λ is d. (f, refl, inl is)
         | false ↦ λ is d. (f, refl, inr d)
       ] refl e
@@ -167,11 +187,14 @@ module _ {w : Schema} where
       let parts = or_neither _ _ e in
       elim needed [ inl n ↦ needs_false u t parts.0 n | inr n ↦ needs_false t u parts.1 n ]
 
-  pub redo_free : (ts : List (Option (Trace w))) (k i : ℕ) (t : Trace w) → first_from (blocks_redo (footprint_of t)) i (drop (suc k) (footprints ts)) ≡ None → (j : ℕ) → BlocksRedo ts k t j → ⊥
+  pub redo_free : (ts : List (Option (Trace w))) (k i : ℕ) (t : Trace w) → first_from (blocks_redo (footprint_of t)) i (drop (suc k) (footprints ts)) ≡ None →
+      (j : ℕ) → BlocksRedo ts k t j → ⊥
   redo_free ts k i t none j b =
-      no_meeting b.of_j t (none_at (blocks_redo (footprint_of t)) i (suc k) (footprints ts) j (Some (footprint_of b.of_j)) none (omega (arith, b.later)) (footprint_there ts j b.of_j b.j_in_force)) b.meets
+      no_meeting b.of_j t (none_at (blocks_redo (footprint_of t)) i (suc k) (footprints ts) j (Some (footprint_of b.of_j)) none (omega (arith, b.later))
+      (footprint_there ts j b.of_j b.j_in_force)) b.meets
 
-  pub redo_least : (ts : List (Option (Trace w))) (k i m : ℕ) (t : Trace w) → first_from (blocks_redo (footprint_of t)) i (drop (suc k) (footprints ts)) ≡ Some m → (j : ℕ) × (m + suc k ≡ i + j) × Least (BlocksRedo ts k t) j
+  pub redo_least : (ts : List (Option (Trace w))) (k i m : ℕ) (t : Trace w) →
+      first_from (blocks_redo (footprint_of t)) i (drop (suc k) (footprints ts)) ≡ Some m → (j : ℕ) × (m + suc k ≡ i + j) × Least (BlocksRedo ts k t) j
   redo_least ts k i m t found =
       let at = first_at (blocks_redo (footprint_of t)) i m (suc k) (footprints ts) found in
       let first = at.2 in
@@ -190,7 +213,8 @@ module _ {w : Schema} where
             ];
           };
           least = λ l b. elim (cases_lt l at.0) [
-            | inl low ↦ absurd (no_meeting b.of_j t (first.none_before l (Some (footprint_of b.of_j)) (omega (arith, b.later)) low (footprint_there ts l b.of_j b.j_in_force)) b.meets)
+            | inl low ↦ absurd (no_meeting b.of_j t (first.none_before l (Some (footprint_of b.of_j)) (omega (arith, b.later)) low
+                (footprint_there ts l b.of_j b.j_in_force)) b.meets)
             | inr up ↦ up
           ];
         },
@@ -213,7 +237,8 @@ module _ {w : Schema} where
       ap (λ b. b || meets_any (planned e s) f.touched) (sym (any_inverse f (written (outcome e s)) s))
       ∙ ap (λ b. meets_any f (trace e s).before || b) (any_planned e s f.touched)
 
-  pub first_planned : (e : Edit w) (s : State w) (i : ℕ) (fs : List (Option (Footprint w))) → first_from (blocks_redo (planned e s)) i fs ≡ first_from (blocks_redo (footprint_of (trace e s))) i fs
+  pub first_planned : (e : Edit w) (s : State w) (i : ℕ) (fs : List (Option (Footprint w))) →
+      first_from (blocks_redo (planned e s)) i fs ≡ first_from (blocks_redo (footprint_of (trace e s))) i fs
   first_planned e s i [] = refl
   first_planned e s i (o ∷ fs) = rw (same_blocks e s o, first_planned e s (i + 1) fs)
 
@@ -256,15 +281,20 @@ module _ {w : Schema} where
         legal = subst (λ g. IsLegal g) (sym now_is) (accepted_append h e kept.legal (ap (λ v. is_ok v.outcome) made));
         shown = rw (now_is, law.0, ← kept.shown, accepted) refl;
         footprints = append-map (λ x. x.kept) log (more ∷ []) ∙ ap (λ fs. fs ++ more.kept ∷ []) kept.footprints
-            ∙ sym (ap (λ g. footprints (traces g)) now_is ∙ ap footprints law.1 ∙ append-map (option_map footprint_of) (traces h) (Some (trace e (replay h)) ∷ []) ∙ ap (λ t. footprints (traces h) ++ Some (footprint_of t) ∷ []) made);
+            ∙ sym (ap (λ g. footprints (traces g)) now_is ∙ ap footprints law.1 ∙
+            append-map (option_map footprint_of) (traces h) (Some (trace e (replay h)) ∷ []) ∙
+            ap (λ t. footprints (traces h) ++ Some (footprint_of t) ∷ []) made);
       }
 
   -- the traces of a kept log
-  pub trace_there : (s : State w) (log : List (Logged w)) (k : ℕ) (e : Edit w) (f : Footprint w) → IsKept s log → slice_get log k ≡ Some (record { edit = e; kept = Some f }) → (t : Trace w) × InForce (traces (history log)) k t × (footprint_of t ≡ f)
-  trace_there s log k e f kept is = trace_of (traces (history log)) k f (ap (λ fs. slice_get fs k) (sym kept.footprints) ∙ kept_at log k (record { edit = e; kept = Some f }) is)
+  pub trace_there : (s : State w) (log : List (Logged w)) (k : ℕ) (e : Edit w) (f : Footprint w) → IsKept s log →
+      slice_get log k ≡ Some (record { edit = e; kept = Some f }) → (t : Trace w) × InForce (traces (history log)) k t × (footprint_of t ≡ f)
+  trace_there s log k e f kept is = trace_of (traces (history log)) k f
+      (ap (λ fs. slice_get fs k) (sym kept.footprints) ∙ kept_at log k (record { edit = e; kept = Some f }) is)
 
   -- an edit is undone
-  pub kept_undo : (s : State w) (log : List (Logged w)) (k i : ℕ) (e : Edit w) (f : Footprint w) → IsKept s log → slice_get log k ≡ Some (record { edit = e; kept = Some f })
+  pub kept_undo : (s : State w) (log : List (Logged w)) (k i : ℕ) (e : Edit w) (f : Footprint w) → IsKept s log →
+      slice_get log k ≡ Some (record { edit = e; kept = Some f })
       → first_from (blocks_undo f.touched) i (drop (suc k) (map (λ x. x.kept) log)) ≡ None
       → ((t : Trace w) × CanUndo (history log) k t × (footprint_of t ≡ f)) × IsKept (apply f.touched s) (slice_set log k (record { edit = e; kept = None }))
   kept_undo s log k i e f kept is none =
@@ -278,14 +308,17 @@ module _ {w : Schema} where
         record {
           legal = subst (λ g. IsLegal g) (sym now_is) law.legal;
           shown = ap (λ g. apply g.touched s) (sym same) ∙ ap (apply t.before) kept.shown ∙ sym law.set_back ∙ ap replay (sym now_is);
-          footprints = set-map (λ x. x.kept) log k (record { edit = e; kept = None }) ∙ ap (λ fs. slice_set fs k None) kept.footprints ∙ sym (ap (λ g. footprints (traces g)) now_is ∙ ap footprints law.same_traces ∙ set-map (option_map footprint_of) (traces h) k None);
+          footprints = set-map (λ x. x.kept) log k (record { edit = e; kept = None }) ∙ ap (λ fs. slice_set fs k None) kept.footprints ∙
+              sym (ap (λ g. footprints (traces g)) now_is ∙ ap footprints law.same_traces ∙ set-map (option_map footprint_of) (traces h) k None);
         },
       )
 
-  pub redo_can : (s : State w) (log : List (Logged w)) (k i : ℕ) (e : Edit w) (xs : List (Change w)) → IsKept s log → slice_get log k ≡ Some (record { edit = e; kept = None }) → outcome e s ≡ Ok xs
+  pub redo_can : (s : State w) (log : List (Logged w)) (k i : ℕ) (e : Edit w) (xs : List (Change w)) → IsKept s log →
+      slice_get log k ≡ Some (record { edit = e; kept = None }) → outcome e s ≡ Ok xs
       → first_from (blocks_redo (planned e s)) i (drop (suc k) (map (λ x. x.kept) log)) ≡ None → CanRedo (history log) k (trace e s)
   redo_can s log k i e xs kept is accepted none =
-      let free = redo_free (traces (history log)) k i (trace e s) (ap (λ fs. first_from (blocks_redo (footprint_of (trace e s))) i (drop (suc k) fs)) (sym kept.footprints) ∙ sym (first_planned e s i (drop (suc k) (map (λ x. x.kept) log))) ∙ none) in
+      let free = redo_free (traces (history log)) k i (trace e s) (ap (λ fs. first_from (blocks_redo (footprint_of (trace e s))) i (drop (suc k) fs))
+      (sym kept.footprints) ∙ sym (first_planned e s i (drop (suc k) (map (λ x. x.kept) log))) ∙ none) in
       record {
         edit = e;
         out_of_force = entry_at log k (record { edit = e; kept = None }) is;
@@ -296,7 +329,8 @@ module _ {w : Schema} where
       }
 
   -- an edit is redone
-  pub kept_redo : (s : State w) (log : List (Logged w)) (k i : ℕ) (e : Edit w) (xs : List (Change w)) → IsKept s log → slice_get log k ≡ Some (record { edit = e; kept = None }) → outcome e s ≡ Ok xs
+  pub kept_redo : (s : State w) (log : List (Logged w)) (k i : ℕ) (e : Edit w) (xs : List (Change w)) → IsKept s log →
+      slice_get log k ≡ Some (record { edit = e; kept = None }) → outcome e s ≡ Ok xs
       → first_from (blocks_redo (planned e s)) i (drop (suc k) (map (λ x. x.kept) log)) ≡ None
       → IsKept (apply xs s) (slice_set log k (record { edit = e; kept = Some (record { reads = reads e s; touched = inverse xs s }) }))
   kept_redo s log k i e xs kept is accepted none =
@@ -310,5 +344,7 @@ module _ {w : Schema} where
       record {
         legal = subst (λ g. IsLegal g) (sym now_is) law.legal;
         shown = ap (apply xs) kept.shown ∙ ap (λ o. apply (written o) (replay h)) (sym accepted) ∙ sym law.written ∙ ap replay (sym now_is);
-        footprints = set-map (λ x. x.kept) log k more ∙ ap (λ fs. slice_set fs k more.kept) kept.footprints ∙ sym (ap (λ g. footprints (traces g)) now_is ∙ ap footprints law.same_traces ∙ set-map (option_map footprint_of) (traces h) k (Some (trace e s)) ∙ ap (λ f. slice_set (footprints (traces h)) k (Some f)) made);
+        footprints = set-map (λ x. x.kept) log k more ∙ ap (λ fs. slice_set fs k more.kept) kept.footprints ∙
+            sym (ap (λ g. footprints (traces g)) now_is ∙ ap footprints law.same_traces ∙ set-map (option_map footprint_of) (traces h) k (Some (trace e s)) ∙
+            ap (λ f. slice_set (footprints (traces h)) k (Some f)) made);
       }

@@ -1,16 +1,20 @@
 -- The laws of kept logs.
-use Rattle.std.proofs.Common.{◌≡◌, ℕ, suc, List, map, drop, take, refl, sym, ap, ◌∙◌, subst, Bool, true, false, ◌||◌, ◌⊎◌, Option, Some, None, option_map, inl, inr, Ok, Err, Result, IsOk, slice_get, ◌↔◌, arith}
+use Rattle.std.proofs.Common.{◌≡◌, ℕ, suc, List, map, drop, take, refl, sym, ap, ◌∙◌, subst, Bool, true, false, ◌||◌, ◌⊎◌, Option, Some, None, option_map, inl}
+use Rattle.std.proofs.Common.{inr, Ok, Err, Result, IsOk, slice_get, ◌↔◌, arith}
 use Rattle.std.specs.FinMap.{empty}
 use Rattle.selective_undo.specs.Edit.{Schema, State, Edit, Trace, outcome, trace, Needs}
 use Rattle.selective_undo.specs.Changes.{apply}
 use Rattle.selective_undo.specs.History.{Entry, done, replay, traces, InForce, IsLast, Blocks, CanRedo}
-use Rattle.selective_undo.specs.Log.{Footprint, Logged, meets_any, footprint_of, footprints, entry_of, history, planned, blocks_undo, blocks_redo, first_from, undo_blocker, redo_blocker, IsKept, Least, BlocksRedo}
-use Rattle.selective_undo.specs.Laws.{AcceptLaw, RecordLaw, UndoRecordLaw, RedoRecordLaw, UndoTestLaw, RedoTestLaw, KeptLastLaw, KeptEditLaw, KeptUndoLaw, KeptRedoLaw, RunLaw}
+use Rattle.selective_undo.specs.Log.{Footprint, Logged, meets_any, footprint_of, footprints, entry_of, history, planned, blocks_undo, blocks_redo, first_from}
+use Rattle.selective_undo.specs.Log.{undo_blocker, redo_blocker, IsKept, Least, BlocksRedo}
+use Rattle.selective_undo.specs.Laws.{AcceptLaw, RecordLaw, UndoRecordLaw, RedoRecordLaw, UndoTestLaw, RedoTestLaw, KeptLastLaw, KeptEditLaw, KeptUndoLaw}
+use Rattle.selective_undo.specs.Laws.{KeptRedoLaw, RunLaw}
 use Rattle.selective_undo.specs.Runs.{Granted, edited, undid, redid, begins, goes_on}
 use Rattle.selective_undo.proofs.Inverses.{edit_at, last_law}
 use Rattle.selective_undo.proofs.Undo.{undo_law}
 use Rattle.selective_undo.proofs.Locality.{needs_true, needs_law}
-use Rattle.selective_undo.proofs.Log.{get-map, cases_lt, footprint_there, trace_of, some_footprint, meets_footprint, same_blocks, accepted_append, undo_free, undo_least, redo_free, redo_least, redo_can, first_planned, trace_there, kept_append, kept_undo, kept_redo}
+use Rattle.selective_undo.proofs.Log.{get-map, cases_lt, footprint_there, trace_of, some_footprint, meets_footprint, same_blocks, accepted_append, undo_free}
+use Rattle.selective_undo.proofs.Log.{undo_least, redo_free, redo_least, redo_can, first_planned, trace_there, kept_append, kept_undo, kept_redo}
 
 same_least : {P : ℕ → Type 0} (i j : ℕ) → Least P i → Least P j → i ≡ j
 same_least i j first second = let a = first.least j second.holds in let b = second.least i first.holds in omega (arith, a, b)
@@ -38,37 +42,51 @@ either false b (inl h) = cc
 either false b (inr h) = h
 
 module _ {w : Schema} where
-  undo_found : (s : State w) (log : List (Logged w)) (k : ℕ) (t : Trace w) → IsKept s log → InForce (traces (history log)) k t → (m : ℕ) → undo_blocker log k t.before ≡ Some m → Least (λ i. Blocks (traces (history log)) i k) m
+  undo_found : (s : State w) (log : List (Logged w)) (k : ℕ) (t : Trace w) → IsKept s log → InForce (traces (history log)) k t → (m : ℕ) →
+      undo_blocker log k t.before ≡ Some m → Least (λ i. Blocks (traces (history log)) i k) m
   undo_found s log k t kept is m e =
       let (j, at, least) = undo_least (traces (history log)) k (suc k) m t is (rw (← kept.footprints) e) in
       let same : j ≡ m = omega (arith, at) in
       rw (← same) least
 
-  undo_none : (s : State w) (log : List (Logged w)) (k : ℕ) (t : Trace w) → IsKept s log → InForce (traces (history log)) k t → undo_blocker log k t.before ≡ None → (j : ℕ) → Blocks (traces (history log)) j k → ⊥
+  undo_none : (s : State w) (log : List (Logged w)) (k : ℕ) (t : Trace w) → IsKept s log → InForce (traces (history log)) k t →
+      undo_blocker log k t.before ≡ None → (j : ℕ) → Blocks (traces (history log)) j k → ⊥
   undo_none s log k t kept is e = undo_free (traces (history log)) k (suc k) t is (rw (← kept.footprints) e)
 
   -- the search over what is kept is the search over the traces
-  planned_blocker : (s : State w) (log : List (Logged w)) (k : ℕ) (e : Edit w) → IsKept s log → redo_blocker log k (planned e s) ≡ first_from (blocks_redo (footprint_of (trace e s))) (suc k) (drop (suc k) (footprints (traces (history log))))
-  planned_blocker s log k e kept = first_planned e s (suc k) (drop (suc k) (map (λ x. x.kept) log)) ∙ ap (λ fs. first_from (blocks_redo (footprint_of (trace e s))) (suc k) (drop (suc k) fs)) kept.footprints
+  planned_blocker : (s : State w) (log : List (Logged w)) (k : ℕ) (e : Edit w) → IsKept s log →
+      redo_blocker log k (planned e s) ≡ first_from (blocks_redo (footprint_of (trace e s))) (suc k) (drop (suc k) (footprints (traces (history log))))
+  planned_blocker s log k e kept = first_planned e s (suc k) (drop (suc k) (map (λ x. x.kept) log)) ∙
+      ap (λ fs. first_from (blocks_redo (footprint_of (trace e s))) (suc k) (drop (suc k) fs)) kept.footprints
 
-  redo_found : (s : State w) (log : List (Logged w)) (k : ℕ) (e : Edit w) → IsKept s log → (m : ℕ) → redo_blocker log k (planned e s) ≡ Some m → Least (BlocksRedo (traces (history log)) k (trace e s)) m
+  redo_found : (s : State w) (log : List (Logged w)) (k : ℕ) (e : Edit w) → IsKept s log → (m : ℕ) → redo_blocker log k (planned e s) ≡ Some m →
+      Least (BlocksRedo (traces (history log)) k (trace e s)) m
   redo_found s log k e kept m is =
       let (j, at, least) = redo_least (traces (history log)) k (suc k) m (trace e s) (sym (planned_blocker s log k e kept) ∙ is) in
       let same : j ≡ m = omega (arith, at) in
       rw (← same) least
 
-  redo_none : (s : State w) (log : List (Logged w)) (k : ℕ) (e : Edit w) → IsKept s log → redo_blocker log k (planned e s) ≡ None → (j : ℕ) → BlocksRedo (traces (history log)) k (trace e s) j → ⊥
+  redo_none : (s : State w) (log : List (Logged w)) (k : ℕ) (e : Edit w) → IsKept s log → redo_blocker log k (planned e s) ≡ None → (j : ℕ) →
+      BlocksRedo (traces (history log)) k (trace e s) j → ⊥
   redo_none s log k e kept is = redo_free (traces (history log)) k (suc k) (trace e s) (sym (planned_blocker s log k e kept) ∙ is)
 
   can_free : (h : List (Entry w)) (k : ℕ) (t : Trace w) → CanRedo h k t → (j : ℕ) → BlocksRedo (traces h) k t j → ⊥
-  can_free h k t can j b = elim b.meets [ inl need ↦ can.needed_by_none j b.of_j b.later b.j_in_force need | inr need ↦ can.needs_none j b.of_j b.later b.j_in_force need ]
+  can_free h k t can j b = elim b.meets [
+    | inl need ↦ can.needed_by_none j b.of_j b.later b.j_in_force need
+    | inr need ↦ can.needs_none j b.of_j b.later
+        b.j_in_force need
+  ]
 
   -- the records are those of the traces
-  kept_trace : (s : State w) (log : List (Logged w)) (j : ℕ) (x : Logged w) (f : Footprint w) → IsKept s log → slice_get log j ≡ Some x → x.kept ≡ Some f → (u : Trace w) × InForce (traces (history log)) j u × (footprint_of u ≡ f)
-  kept_trace s log j x f kept is has = trace_of (traces (history log)) j f (ap (λ fs. slice_get fs j) (sym kept.footprints) ∙ get-map (λ x. x.kept) log j ∙ ap (option_map (λ x. x.kept)) is ∙ ap Some has)
+  kept_trace : (s : State w) (log : List (Logged w)) (j : ℕ) (x : Logged w) (f : Footprint w) → IsKept s log → slice_get log j ≡ Some x → x.kept ≡ Some f →
+      (u : Trace w) × InForce (traces (history log)) j u × (footprint_of u ≡ f)
+  kept_trace s log j x f kept is has = trace_of (traces (history log)) j f
+      (ap (λ fs. slice_get fs j) (sym kept.footprints) ∙ get-map (λ x. x.kept) log j ∙ ap (option_map (λ x. x.kept)) is ∙ ap Some has)
 
-  trace_kept : (s : State w) (log : List (Logged w)) (j : ℕ) (u : Trace w) → IsKept s log → InForce (traces (history log)) j u → (x : Logged w) × ((slice_get log j ≡ Some x) × (x.kept ≡ Some (footprint_of u)))
-  trace_kept s log j u kept is = mapped (λ x. x.kept) (slice_get log j) (Some (footprint_of u)) (sym (get-map (λ x. x.kept) log j) ∙ ap (λ fs. slice_get fs j) kept.footprints ∙ footprint_there (traces (history log)) j u is)
+  trace_kept : (s : State w) (log : List (Logged w)) (j : ℕ) (u : Trace w) → IsKept s log → InForce (traces (history log)) j u → (x : Logged w) ×
+      ((slice_get log j ≡ Some x) × (x.kept ≡ Some (footprint_of u)))
+  trace_kept s log j u kept is = mapped (λ x. x.kept) (slice_get log j) (Some (footprint_of u))
+      (sym (get-map (λ x. x.kept) log j) ∙ ap (λ fs. slice_get fs j) kept.footprints ∙ footprint_there (traces (history log)) j u is)
 
 pub accept_law : (w : Schema) → AcceptLaw w
 accept_law w h e legal accepted = accepted_append h e legal accepted
@@ -86,11 +104,25 @@ undo_record_law w s log k t j kept is = (
   λ r.
       let (f, has, met) = some_footprint t.before r.entry.kept r.meets in
       let (u, in_force, same) = kept_trace s log j r.entry f kept r.there has in
-      record { later = r.later; of_j = u; of_k = t; j_in_force = in_force; k_in_force = is; needs = needs_true u t (ap (λ f. meets_any f t.before) same ∙ met) },
+      record {
+        later = r.later;
+        of_j = u;
+        of_k = t;
+        j_in_force = in_force;
+        k_in_force = is;
+        needs =
+            needs_true u t (ap (λ f. meets_any f t.before) same ∙ met);
+      },
   λ b.
       let (x, (there, has)) = trace_kept s log j b.of_j kept b.j_in_force in
       let same : b.of_k ≡ t = cc (b.k_in_force, is) in
-      record { later = b.later; entry = x; there = there; meets = ap (blocks_undo t.before) has ∙ (needs_law w b.of_j t).1 (subst (λ u. Needs b.of_j u) same b.needs) },
+      record {
+        later = b.later;
+        entry = x;
+        there = there;
+        meets = ap (blocks_undo t.before) has ∙
+            (needs_law w b.of_j t).1 (subst (λ u. Needs b.of_j u) same b.needs);
+      },
 )
 
 pub redo_record_law : (w : Schema) → RedoRecordLaw w

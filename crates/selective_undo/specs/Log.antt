@@ -1,5 +1,6 @@
 -- A log of edits as a program keeps it: with each edit in force a record of what it read and what it wrote over, so that no undo has to replay.
-use Rattle.std.specs.Prelude.{◌≡◌, ℕ, suc, slice_get, drop, ◌+◌, ◌≤◌, ◌<◌, Bool, true, false, ◌||◌, List, [], ◌∷◌, map, Option, Some, None, option_map, ◌⊎◌, if◌then◌else◌}
+use Rattle.std.specs.Prelude.{◌≡◌, ℕ, suc, slice_get, drop, ◌+◌, ◌≤◌, ◌<◌, Bool, true, false, ◌||◌, List, [], ◌∷◌, map, Option, Some, None, option_map, ◌⊎◌}
+use Rattle.std.specs.Prelude.{if◌then◌else◌}
 use Rattle.std.specs.List.{list_any}
 use Rattle.selective_undo.specs.Changes.{changes}
 use Rattle.selective_undo.specs.Edit.{Schema, State, Change, Edit, Trace, covers, reads, outcome, written, Needs}

@@ -14,7 +14,8 @@ pub set_value-none : {I : Type 0} (test : I → Bool) (es : List (I × ℤ)) (v 
 set_value-none test [] v h = refl
 set_value-none test (e ∷ es) v h = by (test e.0) h (λ g. set_value-none test es v g)
   where
-    by : (b : Bool) → cond b (Some e.1) (lookup test es) ≡ None → (lookup test es ≡ None → set_value test es v ≡ es) → cond b ((e.0, v) ∷ es) (e ∷ set_value test es v) ≡ e ∷ es
+    by : (b : Bool) → cond b (Some e.1) (lookup test es) ≡ None → (lookup test es ≡ None → set_value test es v ≡ es) →
+        cond b ((e.0, v) ∷ es) (e ∷ set_value test es v) ≡ e ∷ es
     by true g again = absurd (cc)
     by false g again = ap (λ l. e ∷ l) (again g)
 
@@ -30,9 +31,11 @@ module _ {I : Type 0} (cmp : I → I → Ordering) (exact : IsAntisymmetric cmp)
       either true x = refl
       either false x = refl
   value_at-left_out (e ∷ es) xs q =
-      inside (has cmp xs e.0) ∙ by (has cmp xs e.0) (has cmp xs q) (is_eq (cmp q e.0)) (value_at cmp (left_out cmp es xs) q) (value_at cmp es q) (λ h. ap (has cmp xs) (sym (exact q e.0 (is_equal _ h)))) (value_at-left_out es xs q)
+      inside (has cmp xs e.0) ∙ by (has cmp xs e.0) (has cmp xs q) (is_eq (cmp q e.0)) (value_at cmp (left_out cmp es xs) q) (value_at cmp es q)
+      (λ h. ap (has cmp xs) (sym (exact q e.0 (is_equal _ h)))) (value_at-left_out es xs q)
     where
-      inside : (b : Bool) → value_at cmp (cond (not b) (e ∷ left_out cmp es xs) (left_out cmp es xs)) q ≡ cond (not b) (cond (is_eq (cmp q e.0)) (Some e.1) (value_at cmp (left_out cmp es xs) q)) (value_at cmp (left_out cmp es xs) q)
+      inside : (b : Bool) → value_at cmp (cond (not b) (e ∷ left_out cmp es xs) (left_out cmp es xs)) q ≡ cond (not b)
+          (cond (is_eq (cmp q e.0)) (Some e.1) (value_at cmp (left_out cmp es xs) q)) (value_at cmp (left_out cmp es xs) q)
       inside true = refl
       inside false = refl
 
@@ -45,11 +48,13 @@ module _ {I : Type 0} (cmp : I → I → Ordering) (exact : IsAntisymmetric cmp)
       by false false true l v same again = refl
       by false false false l v same again = again
 
-  pub restored-undoes : (es before : List (I × ℤ)) (old new : List I) → HoldsExactly cmp es new → HoldsExactly cmp before old → AgreeOnCommon cmp before es → (q : I) → restored cmp es (left_out cmp before new) old new q ≡ value_at cmp before q
+  pub restored-undoes : (es before : List (I × ℤ)) (old new : List I) → HoldsExactly cmp es new → HoldsExactly cmp before old → AgreeOnCommon cmp before es →
+      (q : I) → restored cmp es (left_out cmp before new) old new q ≡ value_at cmp before q
   restored-undoes es before old new holds held agree q =
       rw (value_at-left_out before new q) (by (has cmp old q) (has cmp new q) (value_at cmp es q) (value_at cmp before q) (held q) (holds q) (agree q))
     where
-      by : (a b : Bool) (x y : Option ℤ) → is_some y ≡ a → is_some x ≡ b → (is_some y ≡ true → is_some x ≡ true → x ≡ y) → cond a (cond b x (cond b None y)) None ≡ y
+      by : (a b : Bool) (x y : Option ℤ) → is_some y ≡ a → is_some x ≡ b → (is_some y ≡ true → is_some x ≡ true → x ≡ y) →
+          cond a (cond b x (cond b None y)) None ≡ y
       by true true x y h g same = same h g
       by true false x y h g same = refl
       by false b x None h g same = refl

@@ -1,5 +1,6 @@
 -- What one more index of a domain adds.
-use Rattle.std.proofs.Common.{◌≡◌, ℕ, zero, suc, ◌+◌, ◌≤◌, ℤ, Bool, true, false, cond, List, [], ◌∷◌, ◌++◌, take, length, Option, Some, None, slice_get, refl, sym, ◌∙◌, ap, arith}
+use Rattle.std.proofs.Common.{◌≡◌, ℕ, zero, suc, ◌+◌, ◌≤◌, ℤ, Bool, true, false, cond, List, [], ◌∷◌, ◌++◌, take, length, Option, Some, None, slice_get, refl}
+use Rattle.std.proofs.Common.{sym, ◌∙◌, ap, arith}
 use Rattle.std.specs.declared.cmp.Ordering.{Ordering}
 use Rattle.std.specs.declared.cmp.Ordering.TheVariants.{Equal}
 use Rattle.std.specs.Ordering.{is_eq}
@@ -13,7 +14,8 @@ pub has-append : {I : Type 0} (cmp : I → I → Ordering) (xs : List I) (i q : 
 has-append cmp [] i q = refl
 has-append cmp (x ∷ xs) i q = grind (arith, has-append cmp xs i q)
 
-pub has-take_more : {I : Type 0} (cmp : I → I → Ordering) (xs : List I) (p : ℕ) (i q : I) → slice_get xs p ≡ Some i → has cmp (take (p + 1) xs) q ≡ cond (is_eq (cmp q i)) true (has cmp (take p xs) q)
+pub has-take_more : {I : Type 0} (cmp : I → I → Ordering) (xs : List I) (p : ℕ) (i q : I) → slice_get xs p ≡ Some i →
+    has cmp (take (p + 1) xs) q ≡ cond (is_eq (cmp q i)) true (has cmp (take p xs) q)
 has-take_more cmp xs p i q h = rw (take_more xs p i (slice_get_within xs p i h), get_or_from_slice_get xs p i i h) (has-append cmp (take p xs) i q)
 
 module _ {I : Type 0} (cmp : I → I → Ordering) (total : IsTotalOrder cmp) (exact : IsAntisymmetric cmp) where

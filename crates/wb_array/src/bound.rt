@@ -103,7 +103,8 @@ fn filled<D: Domain>(
     domain: &D,
     default: Option<i64>,
 ) -> Result<BTreeMap<D::Index, i64>, AllocError>
-    ensures { IfOk result (λ m. (q : D.Index) → get D.Index.cmp m q ≡ (if has D.Index.cmp (D.indices domain.now) q then option_or (get D.Index.cmp map.now q) default else None)) }
+    ensures { IfOk result (λ m. (q : D.Index) → get D.Index.cmp m
+        q ≡ (if has D.Index.cmp (D.indices domain.now) q then option_or (get D.Index.cmp map.now q) default else None)) }
 {
     let mut fresh = BTreeMap::new(alloc);
     for place in 0..domain.size() {

@@ -68,7 +68,8 @@ pub trait Store {
     /// Replaces the element at `index` by `value` and gives the old one.
     /// Outside the domain it changes nothing and is refused.
     fn set(&mut self, index: Self::Index, value: i64) -> Result<i64, OutOfDomain>
-        ensures old { MatchResult result (λ v. value_at Self.Index.cmp (contents self.old) index ≡ Some v) (λ _. value_at Self.Index.cmp (contents self.old) index ≡ None) }
+        ensures old { MatchResult result (λ v. value_at Self.Index.cmp (contents self.old) index ≡ Some v)
+            (λ _. value_at Self.Index.cmp (contents self.old) index ≡ None) }
         ensures elements { contents self.new ≡ set_value (is_at (Self.Index.cmp index)) (contents self.old) value }
         ensures layout { same_layout self.old self.new }
         ensures holds { (xs : List Self.Index) → HoldsExactly Self.Index.cmp (contents self.old) xs → HoldsExactly Self.Index.cmp (contents self.new) xs }
@@ -84,7 +85,8 @@ pub trait Store {
         default: i64,
     ) -> Result<Dropped<Self::Index>, NoMemory>
         requires { HoldsExactly Self.Index.cmp (contents self.old) (Self.Dom.indices old.now) }
-        ensures elements { OnOk result ((q : Self.Index) → value_at Self.Index.cmp (contents self.new) q ≡ reallocated Self.Index.cmp (contents self.old) (Self.Dom.indices old.now) (Self.Dom.indices new.now) default q) }
+        ensures elements { OnOk result ((q : Self.Index) → value_at Self.Index.cmp (contents self.new) q ≡ reallocated Self.Index.cmp (contents self.old)
+            (Self.Dom.indices old.now) (Self.Dom.indices new.now) default q) }
         ensures dropped { IfOk result (λ d. d ≡ left_out Self.Index.cmp (contents self.old) (Self.Dom.indices new.now)) }
         ensures layout { same_layout self.old self.new }
         ensures holds { OnOk result (HoldsExactly Self.Index.cmp (contents self.new) (Self.Dom.indices new.now)) }
@@ -102,7 +104,8 @@ pub trait Store {
     ) -> Result<(), NoMemory>
         requires holds { HoldsExactly Self.Index.cmp (contents self.old) (Self.Dom.indices new.now) }
         requires pairs { HoldsDropped Self.Index.cmp dropped.now (Self.Dom.indices old.now) (Self.Dom.indices new.now) }
-        ensures elements { OnOk result ((q : Self.Index) → value_at Self.Index.cmp (contents self.new) q ≡ restored Self.Index.cmp (contents self.old) dropped.now (Self.Dom.indices old.now) (Self.Dom.indices new.now) q) }
+        ensures elements { OnOk result ((q : Self.Index) → value_at Self.Index.cmp (contents self.new) q ≡ restored Self.Index.cmp (contents self.old)
+            dropped.now (Self.Dom.indices old.now) (Self.Dom.indices new.now) q) }
         ensures layout { same_layout self.old self.new }
         ensures holds { OnOk result (HoldsExactly Self.Index.cmp (contents self.new) (Self.Dom.indices old.now)) }
         ensures err { OnErr result (self.new ≡ self.old) };
@@ -122,10 +125,13 @@ pub trait Store {
         Self: Sized,
         requires holds { HoldsExactly Self.Index.cmp (contents self.old) (Self.Dom.indices new.now) }
         requires pairs { HoldsDropped Self.Index.cmp dropped (Self.Dom.indices old.now) (Self.Dom.indices new.now) }
-        ensures elements { OnOk result ((q : Self.Index) → value_at Self.Index.cmp (contents self.new) q ≡ restored Self.Index.cmp (contents self.old) dropped (Self.Dom.indices old.now) (Self.Dom.indices new.now) q) }
+        ensures elements { OnOk result ((q : Self.Index) → value_at Self.Index.cmp (contents self.new) q ≡ restored Self.Index.cmp (contents self.old) dropped
+            (Self.Dom.indices old.now) (Self.Dom.indices new.now) q) }
         ensures layout { same_layout self.old self.new }
         ensures holds { OnOk result (HoldsExactly Self.Index.cmp (contents self.new) (Self.Dom.indices old.now)) }
-        ensures undoes { OnOk result ((before : List (Self.Index × ℤ)) → HoldsExactly Self.Index.cmp before (Self.Dom.indices old.now) → dropped ≡ left_out Self.Index.cmp before (Self.Dom.indices new.now) → AgreeOnCommon Self.Index.cmp before (contents self.old) → (q : Self.Index) → value_at Self.Index.cmp (contents self.new) q ≡ value_at Self.Index.cmp before q) }
+        ensures undoes { OnOk result ((before : List (Self.Index × ℤ)) → HoldsExactly Self.Index.cmp before (Self.Dom.indices old.now) →
+            dropped ≡ left_out Self.Index.cmp before (Self.Dom.indices new.now) → AgreeOnCommon Self.Index.cmp before (contents self.old) → (q : Self.Index) →
+            value_at Self.Index.cmp (contents self.new) q ≡ value_at Self.Index.cmp before q) }
         ensures back { IfErr result (λ e. e.0 ≡ dropped) }
         ensures err { OnErr result (self.new ≡ self.old) }
     {

@@ -15,7 +15,8 @@ use Rattle.std.proofs.lemmas.List.Sorted.{IsPermutation-sym, Contains-permutatio
 is_equal : (o : Ordering) → is_eq o ≡ true → o ≡ Equal
 is_equal o h = grind arith
 
-module _ {K : Type 0} (cmp : K → K → Ordering) (total : IsTotalOrder cmp) (exact : IsAntisymmetric cmp) (same : K → K → Bool) (equiv : IsEquivalence same) (ties : (x y : K) → same x y ≡ eq_by_cmp cmp x y) where
+module _ {K : Type 0} (cmp : K → K → Ordering) (total : IsTotalOrder cmp) (exact : IsAntisymmetric cmp) (same : K → K → Bool) (equiv : IsEquivalence same)
+    (ties : (x y : K) → same x y ≡ eq_by_cmp cmp x y) where
   same_is : (x y : K) → same x y ≡ true → x ≡ y
   same_is x y h = exact x y (is_equal (cmp x y) (sym (ties x y) ∙ h))
 

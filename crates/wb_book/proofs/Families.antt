@@ -1,6 +1,7 @@
 -- The cells that a pattern names stand together: before its first cell stands none of them, and behind one that is not named
 -- there is none any more.
-use Rattle.std.proofs.Common.{◌≡◌, Bool, true, false, cond, ◌&&◌, ◌||◌, ℕ, suc, ◌+◌, ◌<◌, ◌≤◌, nat_le, length, arith, List, [], ◌∷◌, map, take, Option, Some, None, refl, sym, ap, subst, ◌∙◌, IsSome}
+use Rattle.std.proofs.Common.{◌≡◌, Bool, true, false, cond, ◌&&◌, ◌||◌, ℕ, suc, ◌+◌, ◌<◌, ◌≤◌, nat_le, length, arith, List, [], ◌∷◌, map, take, Option, Some}
+use Rattle.std.proofs.Common.{None, refl, sym, ap, subst, ◌∙◌, IsSome}
 use Rattle.std.specs.BTreeMap.{BTreeMap, IsOrdered, ContainsKey, keys}
 use Rattle.std.specs.BTreeMap.Range.{range_contains, entries_between}
 use Rattle.std.specs.Cmp.Lexicographic.{slice_cmp, nat_list_cmp_total}
@@ -71,7 +72,8 @@ later d f e Less r is up below = nat_list_cmp_total.trans d f e below is
 later d f e Equal r is up below = subst (λ (g : Name). slice_cmp nat_cmp d g ≡ Less) (same_names f e is) below
 later d f e Greater r is up below = cc
 
-other_name : (d f e : Name) (o r q : Ordering) → is_le (ordering_then (slice_cmp nat_cmp d f) r) && true ≡ true → slice_cmp nat_cmp f e ≡ o → ordering_then o q ≡ Less → is_same_name d f ≡ false → is_same_name d e ≡ false
+other_name : (d f e : Name) (o r q : Ordering) → is_le (ordering_then (slice_cmp nat_cmp d f) r) && true ≡ true → slice_cmp nat_cmp f e ≡ o →
+    ordering_then o q ≡ Less → is_same_name d f ≡ false → is_same_name d e ≡ false
 other_name d f e o r q from is up none =
     less_is_other (slice_cmp nat_cmp d e) (later d f e o q is up (below (slice_cmp nat_cmp d f) r from none))
 
@@ -298,13 +300,15 @@ module _ (p : Pattern) (c : Cell) (b : Begins p c) where
   pub together_from : (x y : Cell) → is_from c x ≡ true → cell_cmp x y ≡ Less → matches p x ≡ false → matches p y ≡ false
   together_from x y from up none = b.together x y (with_true (is_le (cell_cmp c x)) true from) up none
 
-  pub all_covered : (m : BTreeMap Cell Value) → AreNamed (state_of m) → (xs : List Cell) → AllByRecursion (ContainsKey cell_cmp m) xs → AllByRecursion (λ x. is_from c x ≡ false → matches p x ≡ false) xs
+  pub all_covered : (m : BTreeMap Cell Value) → AreNamed (state_of m) → (xs : List Cell) → AllByRecursion (ContainsKey cell_cmp m) xs →
+      AllByRecursion (λ x. is_from c x ≡ false → matches p x ≡ false) xs
   all_covered m names [] there = tt
   all_covered m names (x ∷ xs) there =
       let here : IsSome (get (state_of m) x) = subst (λ (o : Option Value). IsSome o) (sym (get-state_of m x)) there.0 in
       (λ before. b.none_before x (names x here) (with_true (is_le (cell_cmp c x)) false before), all_covered m names xs there.1)
 
-  none_behind : (x : Cell) (es : List (Cell × Value)) → is_from c x ≡ true → matches p x ≡ false → AllByRecursion (λ y. cell_cmp x y ≡ Less) (keys_of es) → filter (named p) es ≡ []
+  none_behind : (x : Cell) (es : List (Cell × Value)) → is_from c x ≡ true → matches p x ≡ false → AllByRecursion (λ y. cell_cmp x y ≡ Less) (keys_of es) →
+      filter (named p) es ≡ []
   none_behind x [] from none above = refl
   none_behind x (e ∷ es) from none above = rw (together_from x e.0 from above.0 none) (none_behind x es from none above.1)
 
@@ -314,15 +318,18 @@ module _ (p : Pattern) (c : Cell) (b : Begins p c) where
   front [] all s = refl
   front (e ∷ es) all s =
       let rest : List (Cell × Value) = filter (λ x. is_from c x.0) es in
-      elim (is_from c e.0) as (λ v. is_from c e.0 ≡ v → take (prefix_len (named p) (cond v (e ∷ rest) rest)) (cond v (e ∷ rest) rest) ≡ filter (named p) (e ∷ es)) [
-        | true ↦ λ from. elim (matches p e.0) as (λ v. matches p e.0 ≡ v → take (cond v (1 + prefix_len (named p) rest) 0) (e ∷ rest) ≡ cond v (e ∷ filter (named p) es) (filter (named p) es)) [
-          | true ↦ λ here. one_more (prefix_len (named p) rest) e rest ∙ ap (λ xs. e ∷ xs) (front es all.1 s.1)
-          | false ↦ λ none. sym (none_behind e.0 es from none s.0)
-        ] refl
+      elim (is_from c e.0) as (λ v. is_from c e.0 ≡ v → take (prefix_len (named p) (cond v (e ∷ rest) rest)) (cond v (e ∷ rest) rest) ≡ filter (named p)
+      (e ∷ es)) [
+        | true ↦ λ from. elim (matches p e.0) as (λ v. matches p e.0 ≡ v →
+            take (cond v (1 + prefix_len (named p) rest) 0) (e ∷ rest) ≡ cond v (e ∷ filter (named p) es) (filter (named p) es)) [
+              | true ↦ λ here. one_more (prefix_len (named p) rest) e rest ∙ ap (λ xs. e ∷ xs) (front es all.1 s.1)
+              | false ↦ λ none. sym (none_behind e.0 es from none s.0)
+            ] refl
         | false ↦ λ from. rw (all.0 from) (front es all.1 s.1)
       ] refl
 
-  found : (m : BTreeMap Cell Value) (part : List (Cell × Value)) → AllByRecursion (λ x. is_from c x ≡ false → matches p x ≡ false) (keys m) → IsOrdered cell_cmp m → part ≡ entries_between cell_cmp (Included c) Unbounded m.entries
+  found : (m : BTreeMap Cell Value) (part : List (Cell × Value)) → AllByRecursion (λ x. is_from c x ≡ false → matches p x ≡ false) (keys m) →
+      IsOrdered cell_cmp m → part ≡ entries_between cell_cmp (Included c) Unbounded m.entries
       → take (prefix_len (named p) part) part ≡ seen (state_of m) p
   found m part all s is =
       ap (λ (es : List (Cell × Value)). take (prefix_len (named p) es) es) is
@@ -330,13 +337,15 @@ module _ (p : Pattern) (c : Cell) (b : Begins p c) where
       ∙ sym (ap (where_key cell_cmp (matches p)) (entries-state_of m s))
       ∙ sym (entries-retain_keys cell_order (state_of m) (matches p))
 
-pub seen_found : (m : BTreeMap Cell Value) (p : Pattern) (c : Cell) (part : List (Cell × Value)) → AreNamed (state_of m) → IsOrdered cell_cmp m → Begins p c → part ≡ entries_between cell_cmp (Included c) Unbounded m.entries
+pub seen_found : (m : BTreeMap Cell Value) (p : Pattern) (c : Cell) (part : List (Cell × Value)) → AreNamed (state_of m) → IsOrdered cell_cmp m → Begins p c →
+    part ≡ entries_between cell_cmp (Included c) Unbounded m.entries
     → take (prefix_len (named p) part) part ≡ seen (state_of m) p
 seen_found m p c part names s b is =
     found p c b m part (all_covered p c b m names (keys m) (recursion_from_All (ContainsKey cell_cmp m) (keys m) (All-keys_found cell_order.total m s))) s is
 
 -- a family of cells that are neither objects nor users, in any workbook
-module _ (p : Pattern) (c : Cell) (b : Begins p c) (no_object : (n : Name) → matches p (Object n) ≡ false) (no_user : (d n : Name) → matches p (Use d n) ≡ false) where
+module _ (p : Pattern) (c : Cell) (b : Begins p c) (no_object : (n : Name) → matches p (Object n) ≡ false)
+    (no_user : (d n : Name) → matches p (Use d n) ≡ false) where
   none_before : (x : Cell) → is_from c x ≡ false → matches p x ≡ false
   none_before (Object e) before = no_object e
   none_before (Use e n) before = no_user e n
@@ -351,6 +360,7 @@ module _ (p : Pattern) (c : Cell) (b : Begins p c) (no_object : (n : Name) → m
   all_before [] = tt
   all_before (x ∷ xs) = (none_before x, all_before xs)
 
-  pub family_found : (m : BTreeMap Cell Value) (part : List (Cell × Value)) → IsOrdered cell_cmp m → part ≡ entries_between cell_cmp (Included c) Unbounded m.entries
+  pub family_found : (m : BTreeMap Cell Value) (part : List (Cell × Value)) → IsOrdered cell_cmp m →
+      part ≡ entries_between cell_cmp (Included c) Unbounded m.entries
       → take (prefix_len (named p) part) part ≡ seen (state_of m) p
   family_found m part s is = found p c b m part (all_before (keys m)) s is

@@ -51,26 +51,31 @@ of_rank rank (cyclic m) e = eq-eqb rank (length m.grid) (sym (cyclic_grid rank m
 of_rank rank (block_cyclic m) e = eq-eqb rank (length m.grid) (sym (block_cyclic_grid rank m e))
 
 -- a mapping of the rank puts each index of the ranges on a locale
-lies_inside : (m : LayoutMap) (rs : List Range) (i : Index) → is_of_rank (length rs) m ≡ true → is_some (inside_of (Some rs) i) ≡ true → is_some (locale_in m i) ≡ true
+lies_inside : (m : LayoutMap) (rs : List Range) (i : Index) → is_of_rank (length rs) m ≡ true → is_some (inside_of (Some rs) i) ≡ true →
+    is_some (locale_in m i) ≡ true
 lies_inside m rs (Point is) fits there = rw (length-inside rs is (is_inside rs (Point is) there), fits) refl
 lies_inside m rs (Text t) fits there = let no : false ≡ true = has_no_text rs t ∙ is_inside rs (Text t) there in cc
 
 module _ (s : Cells) (ok : IsWellFormed s) where
   -- an index of a rectangular domain lies on a locale by its mapping
-  lies_by_mapping : (d : Name) (rank : ℕ) (i : Index) → domain_at s d ≡ Some (Rectangular rank) → is_some (get s (In d i)) ≡ true → is_some (locale_by s d i) ≡ true
+  lies_by_mapping : (d : Name) (rank : ℕ) (i : Index) → domain_at s d ≡ Some (Rectangular rank) → is_some (get s (In d i)) ≡ true →
+      is_some (locale_by s d i) ≡ true
   lies_by_mapping d rank i is there =
       let shape = subst (λ (o : Option DomainKind). IsShape o (get s (Shape d))) is (ok.shapes d) in
       let mapping = subst (λ (o : Option DomainKind). HasMapping o (get s (Mapping d))) is (ok.mappings d) in
-      let inside : is_some (inside_of (Some shape.0) i) ≡ true = sym (ap (λ v. is_some (inside_of (ranges_in v) i)) shape.1) ∙ sym (ap (λ v. is_some v) (ok.insides d i)) ∙ there in
+      let inside : is_some (inside_of (Some shape.0) i) ≡ true = sym (ap (λ v. is_some (inside_of (ranges_in v) i)) shape.1) ∙
+      sym (ap (λ v. is_some v) (ok.insides d i)) ∙ there in
       let fits : is_of_rank (length shape.0) mapping.0 ≡ true = ap (λ k. is_of_rank k mapping.0) shape.2.dimensions ∙ of_rank rank mapping.0 mapping.2.valid in
       rw mapping.1 (lies_inside mapping.0 shape.0 i fits inside)
 
   -- a member of a sparse domain is an index of the parent
-  member_inside : (d parent : Name) (rank : ℕ) (i : Index) (v : Option Value) → IsMember s (Some (Sparse parent rank)) i v → is_some v ≡ true → is_some (get s (In parent i)) ≡ true
+  member_inside : (d parent : Name) (rank : ℕ) (i : Index) (v : Option Value) → IsMember s (Some (Sparse parent rank)) i v → is_some v ≡ true →
+      is_some (get s (In parent i)) ≡ true
   member_inside d parent rank i None h there = cc
   member_inside d parent rank i (Some v) h there = rw h.1 refl
 
-  parent_is : (d parent : Name) (rank : ℕ) (o : Option Value) → get s (Object d) ≡ o → domain_in o ≡ Some (Sparse parent rank) → domain_at s parent ≡ Some (Rectangular rank)
+  parent_is : (d parent : Name) (rank : ℕ) (o : Option Value) → get s (Object d) ≡ o → domain_in o ≡ Some (Sparse parent rank) →
+      domain_at s parent ≡ Some (Rectangular rank)
   parent_is d parent rank (Some (Domain (Sparse p r))) at is =
       let object : IsObject s (Domain (Sparse p r)) = ok.objects d (Domain (Sparse p r)) at in
       let same : Sparse p r ≡ Sparse parent rank = cc in
@@ -86,7 +91,8 @@ module _ (s : Cells) (ok : IsWellFormed s) where
       lies_by_mapping parent rank i (parent_is d parent rank (get s (Object d)) refl is) (member_inside d parent rank i (get s (Member d i)) member there)
   lies_by d i (Associative type) is there = refl
 
-  lies_within : (d : Name) (i : Index) (kind : DomainKind) (b : Bool) → domain_at s d ≡ Some kind → has_index s d i kind ≡ b → is_some (locale_within s d i kind) ≡ has_index s d i kind
+  lies_within : (d : Name) (i : Index) (kind : DomainKind) (b : Bool) → domain_at s d ≡ Some kind → has_index s d i kind ≡ b →
+      is_some (locale_within s d i kind) ≡ has_index s d i kind
   lies_within d i kind true is there = rw there (lies_by d i kind is there)
   lies_within d i kind false is there = rw there refl
 

@@ -29,10 +29,11 @@ tells d (Element e i) v is = cc
 
 all_tell : (d : Name) (es : List (Cell × Value)) → AllByRecursion Tells (where_key cell_cmp (matches (Members d)) es)
 all_tell d [] = tt
-all_tell d ((c, v) ∷ es) = elim (matches (Members d) c) as (λ b. matches (Members d) c ≡ b → AllByRecursion Tells (cond b ((c, v) ∷ where_key cell_cmp (matches (Members d)) es) (where_key cell_cmp (matches (Members d)) es))) [
-  | true ↦ λ is. (tells d c v is, all_tell d es)
-  | false ↦ λ is. all_tell d es
-] refl
+all_tell d ((c, v) ∷ es) = elim (matches (Members d) c) as (λ b. matches (Members d) c ≡ b →
+    AllByRecursion Tells (cond b ((c, v) ∷ where_key cell_cmp (matches (Members d)) es) (where_key cell_cmp (matches (Members d)) es))) [
+      | true ↦ λ is. (tells d c v is, all_tell d es)
+      | false ↦ λ is. all_tell d es
+    ] refl
 
 all_seen_tell : (s : Cells) (d : Name) → AllByRecursion Tells (seen s (Members d))
 all_seen_tell s d = rw (entries-retain_keys cell_order s (matches (Members d))) (all_tell d (entries s))

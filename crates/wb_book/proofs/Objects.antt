@@ -44,7 +44,8 @@ object_count m s =
     length_leading object_of (keys m) (objects_lead (keys m) s)
     ∙ sym (ap (λ (cells : List Cell). length (filter_map object_of cells)) (keys-state_of m s))
 
-pub object_found : (m : BTreeMap Cell Value) (p : ℕ) (found : Option Cell) → IsOrdered cell_cmp m → found ≡ slice_get (keys m) p → option_and_then object_of found ≡ slice_get (objects (state_of m)) p
+pub object_found : (m : BTreeMap Cell Value) (p : ℕ) (found : Option Cell) → IsOrdered cell_cmp m → found ≡ slice_get (keys m) p →
+    option_and_then object_of found ≡ slice_get (objects (state_of m)) p
 object_found m p found s is =
     ap (option_and_then object_of) is
     ∙ get_leading object_of (keys m) p (objects_lead (keys m) s)

@@ -9,7 +9,8 @@ behind n fill s = drop-append_seam s (drop (length s) (replicate n fill)) ∙ dr
 
 -- and the whole has n items
 pub whole : {X : Type 0} (n : ℕ) (fill : X) (s : List X) → length s ≤ n → length (s ++ drop (length s) (replicate n fill)) ≡ n
-whole {X} n fill s h = let behind_it : List X = replicate n fill in omega (arith, length-append s (drop (length s) behind_it), length-drop (length s) behind_it, length-replicate {A = X} n fill)
+whole {X} n fill s h = let behind_it : List X = replicate n fill in
+    omega (arith, length-append s (drop (length s) behind_it), length-drop (length s) behind_it, length-replicate {A = X} n fill)
 
 -- the front is the list again
 pub front : {X : Type 0} (P : List X → Type 0) (n : ℕ) (fill : X) (s : List X) → P s → P (take (length s) (s ++ drop (length s) (replicate n fill)))

@@ -13,7 +13,8 @@ denied : {P : Type 0} (b : Bool) → Decides b P → b ≡ false → P → ⊥
 denied b d e p = let t : b ≡ true = d.1 p in let no : true ≡ false = cc in cc
 
 -- the strides are tested first, then the limits
-module _ {X U T : Type 0} (r : Result X RectErr) (unit fits : Bool) (d : Decides unit U) (f : Decides fits T) (s : (r ≡ Err Strided) ↔ (¬ U)) (l : (r ≡ Err TooLarge) ↔ (U × (¬ T))) where
+module _ {X U T : Type 0} (r : Result X RectErr) (unit fits : Bool) (d : Decides unit U) (f : Decides fits T) (s : (r ≡ Err Strided) ↔ (¬ U))
+    (l : (r ≡ Err TooLarge) ↔ (U × (¬ T))) where
   pub strided_by_test : (r ≡ Err Strided) ↔ (unit ≡ false)
   strided_by_test = (λ e. refuted unit d (s.0 e), λ e. s.1 (denied unit d e))
 

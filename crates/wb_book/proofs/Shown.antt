@@ -38,7 +38,8 @@ last_of : (xs : Changes) (x : Change Cell Value) (c : Cell) → changes cell_cmp
 last_of [] x c = elim (eq_by_cmp cell_cmp c x.cell) as (λ b. b || false ≡ b) [ true ↦ refl | false ↦ refl ]
 last_of (y ∷ xs) x c =
     ap (λ b. eq_by_cmp cell_cmp c y.cell || b) (last_of xs x c)
-    ∙ elim (eq_by_cmp cell_cmp c y.cell) as (λ b. b || (changes cell_cmp xs c || eq_by_cmp cell_cmp c x.cell) ≡ (b || changes cell_cmp xs c) || eq_by_cmp cell_cmp c x.cell) [ true ↦ refl | false ↦ refl ]
+    ∙ elim (eq_by_cmp cell_cmp c y.cell) as (λ b. b || (changes cell_cmp xs c || eq_by_cmp cell_cmp c x.cell) ≡ (b || changes cell_cmp xs c) ||
+    eq_by_cmp cell_cmp c x.cell) [ true ↦ refl | false ↦ refl ]
 
 pub once-push : (xs : Changes) (x : Change Cell Value) → AllOnce cell_cmp xs → changes cell_cmp xs x.cell ≡ false → AllOnce cell_cmp (xs ++ x ∷ [])
 once-push [] x once new = (refl, tt)
@@ -47,6 +48,7 @@ once-push (y ∷ xs) x once new =
     (last_of xs x y.cell ∙ rw (once.0, (eq_by_cmp_equiv cell_order.total).symm y.cell x.cell, parts.0) refl, once-push xs x once.1 parts.1)
 
 -- a change was added, or none was
-pub once_pushed : (b : Bool) (xs ys : Changes) (x : Change Cell Value) → ys ≡ (if b then xs ++ x ∷ [] else xs) → AllOnce cell_cmp xs → changes cell_cmp xs x.cell ≡ false → AllOnce cell_cmp ys
+pub once_pushed : (b : Bool) (xs ys : Changes) (x : Change Cell Value) → ys ≡ (if b then xs ++ x ∷ [] else xs) → AllOnce cell_cmp xs →
+    changes cell_cmp xs x.cell ≡ false → AllOnce cell_cmp ys
 once_pushed true xs ys x is once new = rw is (once-push xs x once new)
 once_pushed false xs ys x is once new = rw is once

@@ -50,7 +50,8 @@ module _ (d : Name) (c : Cell) (b : Begins (Uses d) c) where
   users_stop : Stops (user_of d) (λ x. is_from c x ≡ true)
   users_stop x y from up none = unused d y (together_from (Uses d) c b x y from up (unnamed d x none))
 
-  no_user_before : (xs : List Cell) → AllByRecursion (λ x. is_from c x ≡ false → matches (Uses d) x ≡ false) xs → AllByRecursion (λ x. is_from c x ≡ false → user_of d x ≡ None) xs
+  no_user_before : (xs : List Cell) → AllByRecursion (λ x. is_from c x ≡ false → matches (Uses d) x ≡ false) xs →
+      AllByRecursion (λ x. is_from c x ≡ false → user_of d x ≡ None) xs
   no_user_before [] all = tt
   no_user_before (x ∷ xs) all = (λ before. unused d x (all.0 before), no_user_before xs all.1)
 
@@ -58,19 +59,24 @@ module _ (d : Name) (c : Cell) (b : Begins (Uses d) c) where
 
 keys-filter : (test : Cell → Bool) (es : List (Cell × Value)) → keys_of (filter (λ e. test e.0) es) ≡ filter test (keys_of es)
 keys-filter test [] = refl
-keys-filter test (e ∷ es) = elim (test e.0) as (λ b. keys_of (cond b (e ∷ filter (λ x. test x.0) es) (filter (λ x. test x.0) es)) ≡ cond b (e.0 ∷ filter test (keys_of es)) (filter test (keys_of es))) [
-  | true ↦ ap (λ xs. e.0 ∷ xs) (keys-filter test es)
-  | false ↦ keys-filter test es
-]
+keys-filter test (e ∷ es) = elim (test e.0) as (λ b. keys_of (cond b (e ∷ filter (λ x. test x.0) es) (filter (λ x. test x.0) es)) ≡ cond b
+    (e.0 ∷ filter test (keys_of es)) (filter test (keys_of es))) [
+      | true ↦ ap (λ xs. e.0 ∷ xs) (keys-filter test es)
+      | false ↦ keys-filter test es
+    ]
 
-by_key : (d : Name) (found : Option (Cell × Value)) → option_and_then (λ (e : Cell × Value). user_of d e.0) found ≡ option_and_then (user_of d) (option_map (λ (e : Cell × Value). e.0) found)
+by_key : (d : Name) (found : Option (Cell × Value)) → option_and_then (λ (e : Cell × Value). user_of d e.0) found ≡ option_and_then (user_of d)
+    (option_map (λ (e : Cell × Value). e.0) found)
 by_key d None = refl
 by_key d (Some e) = refl
 
-pub user_found : (m : BTreeMap Cell Value) (d : Name) (c : Cell) (p : ℕ) (part : List (Cell × Value)) (found : Option (Cell × Value)) → AreNamed (state_of m) → IsOrdered cell_cmp m → Begins (Uses d) c
-    → part ≡ entries_between cell_cmp (Included c) Unbounded m.entries → found ≡ slice_get part p → option_and_then (λ (e : Cell × Value). user_of d e.0) found ≡ slice_get (users (state_of m) d) p
+pub user_found : (m : BTreeMap Cell Value) (d : Name) (c : Cell) (p : ℕ) (part : List (Cell × Value)) (found : Option (Cell × Value)) → AreNamed (state_of m) →
+    IsOrdered cell_cmp m → Begins (Uses d) c
+    → part ≡ entries_between cell_cmp (Included c) Unbounded m.entries → found ≡ slice_get part p →
+    option_and_then (λ (e : Cell × Value). user_of d e.0) found ≡ slice_get (users (state_of m) d) p
 user_found m d c p part found names s b is there =
-    let all = no_user_before d c b (keys m) (all_covered (Uses d) c b m names (keys m) (recursion_from_All (ContainsKey cell_cmp m) (keys m) (All-keys_found cell_order.total m s))) in
+    let all = no_user_before d c b (keys m) (all_covered (Uses d) c b m names (keys m)
+    (recursion_from_All (ContainsKey cell_cmp m) (keys m) (All-keys_found cell_order.total m s))) in
     let cells : keys_of part ≡ filter (is_from c) (keys m) = ap (λ (es : List (Cell × Value)). keys_of es) is ∙ keys-filter (is_from c) m.entries in
     ap (λ (o : Option (Cell × Value)). option_and_then (λ (e : Cell × Value). user_of d e.0) o) there
     ∙ by_key d (slice_get part p)

@@ -116,7 +116,8 @@ pub record Contents : Type 0 where
 
 abbrev pub contents_code : Coded Contents
 contents_code =
-    code_by (Cells × ℕ) (coded× (code cell_row.the_row.coded value_row.the_row.coded) coded_ℕ) (λ a. (a.cells, a.writes)) (λ a. record { cells = a.0; writes = a.1 }) (λ _. refl)
+    code_by (Cells × ℕ) (coded× (code cell_row.the_row.coded value_row.the_row.coded) coded_ℕ) (λ a. (a.cells, a.writes))
+    (λ a. record { cells = a.0; writes = a.1 }) (λ _. refl)
 
 -- ---- counts: the cells `In` follow from the shapes, and are not counted
 

@@ -1,5 +1,6 @@
 -- the first and the last index of a box
-use Rattle.std.proofs.Common.{◌≡◌, ℕ, suc, ◌+◌, ◌-◌, ◌*◌, ◌<◌, ◌≤◌, Bool, true, false, ℤ, List, [], ◌∷◌, Some, None, map, length, slice_get, refl, sym, ap, ◌∙◌, arith}
+use Rattle.std.proofs.Common.{◌≡◌, ℕ, suc, ◌+◌, ◌-◌, ◌*◌, ◌<◌, ◌≤◌, Bool, true, false, ℤ, List, [], ◌∷◌, Some, None, map, length, slice_get, refl, sym, ap, ◌∙◌}
+use Rattle.std.proofs.Common.{arith}
 use Rattle.std.specs.List.{list_all}
 use Rattle.std.proofs.lemmas.Option.{none-some, same_Some, slice_get_within}
 use Rattle.wb_rect.specs.Product.{rows, product}
@@ -60,10 +61,12 @@ no_corner box e = by (list_all is_filled box) refl
     by true f = absurd (none-some (low_corner box) (e ∙ low_at box f))
     by false f = f
 
-pub far_corner : (box : List (List ℤ)) (low high : List ℤ) (size : ℕ) → IsCorner box low → size ≡ length (product box) → Some high ≡ slice_get (product box) (size - 1) → high ≡ high_corner box
+pub far_corner : (box : List (List ℤ)) (low high : List ℤ) (size : ℕ) → IsCorner box low → size ≡ length (product box) →
+    Some high ≡ slice_get (product box) (size - 1) → high ≡ high_corner box
 far_corner box low high size h s e = same_Some _ _ (e ∙ ap (λ (n : ℕ). slice_get (product box) (n - 1)) s ∙ high_at box h.filled)
 
-pub no_far_corner : (box : List (List ℤ)) (low : List ℤ) (size : ℕ) → IsCorner box low → size ≡ length (product box) → None ≡ slice_get (product box) (size - 1) → ⊥
+pub no_far_corner : (box : List (List ℤ)) (low : List ℤ) (size : ℕ) → IsCorner box low → size ≡ length (product box) →
+    None ≡ slice_get (product box) (size - 1) → ⊥
 no_far_corner box low size h s e = none-some (high_corner box) (e ∙ ap (λ (n : ℕ). slice_get (product box) (n - 1)) s ∙ high_at box h.filled)
 
 length-map : {A B : Type 0} (f : A → B) (xs : List A) → length (map f xs) ≡ length xs

@@ -1,5 +1,6 @@
 -- counting the locales of a grid, one dimension after another
-use Rattle.std.proofs.Common.{◌≡◌, ℕ, zero, suc, ◌*◌, ◌<◌, ◌≤◌, nat_le, Bool, true, false, ◌&&◌, ℤ, pos, negsuc, int_le, List, [], ◌∷◌, Some, None, refl, sym, ap, ◌∙◌, arith}
+use Rattle.std.proofs.Common.{◌≡◌, ℕ, zero, suc, ◌*◌, ◌<◌, ◌≤◌, nat_le, Bool, true, false, ◌&&◌, ℤ, pos, negsuc, int_le, List, [], ◌∷◌, Some, None, refl, sym}
+use Rattle.std.proofs.Common.{ap, ◌∙◌, arith}
 use Rattle.std.specs.Prelude.{if◌then◌else◌}
 use Rattle.std.proofs.Math.Nat.{mul-le-mul_left}
 use Rattle.wb_range.specs.Sequence.{or_zero}
@@ -31,7 +32,8 @@ positive_size (pos zero ∷ ns) h = absurd (cc)
 positive_size (pos (suc n) ∷ ns) h = let i : 0 < size_of_grid ns = positive_size ns (sym (positive_next n ns) ∙ h) in omega (arith, mul-le-mul_left (suc n) i)
 positive_size (negsuc n ∷ ns) h = absurd (cc)
 
-pub counted_more : (all : List ℤ) (n : ℤ) (ns : List ℤ) (locales : ℕ) → IsCounted all (n ∷ ns) locales → fits locales n ≡ true → IsCounted all ns (locales * or_zero n)
+pub counted_more : (all : List ℤ) (n : ℤ) (ns : List ℤ) (locales : ℕ) → IsCounted all (n ∷ ns) locales → fits locales n ≡ true →
+    IsCounted all ns (locales * or_zero n)
 counted_more all (pos zero) ns locales h t = absurd (cc)
 counted_more all (pos (suc n)) ns locales h t = record {
   product = omega (arith, h.product);

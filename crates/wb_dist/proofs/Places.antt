@@ -1,5 +1,6 @@
 -- the row-major place of a locale, one dimension after another
-use Rattle.std.proofs.Common.{◌≡◌, ℕ, zero, suc, ◌+◌, ◌*◌, ◌<◌, ◌≤◌, nat_le, Bool, true, false, ◌&&◌, ℤ, pos, negsuc, ◌≤ℤ◌, List, [], ◌∷◌, Some, length, slice_get, drop, get_or, refl, sym, ap, subst, ◌∙◌, arith}
+use Rattle.std.proofs.Common.{◌≡◌, ℕ, zero, suc, ◌+◌, ◌*◌, ◌<◌, ◌≤◌, nat_le, Bool, true, false, ◌&&◌, ℤ, pos, negsuc, ◌≤ℤ◌, List, [], ◌∷◌, Some, length}
+use Rattle.std.proofs.Common.{slice_get, drop, get_or, refl, sym, ap, subst, ◌∙◌, arith}
 use Rattle.std.proofs.Math.Nat.{mul-le-mul_left, mul-le-mul_right}
 use Rattle.std.proofs.lemmas.Int.{ints}
 use Rattle.wb_range.specs.Sequence.{or_zero}
@@ -71,7 +72,8 @@ pub record IsRoom (c at p : ℕ) : Type 0 where
   pub next : at * c + p < 256
 
 -- one dimension more, with c locales and the coordinate p
-pub placed_more : (grid ns : List ℤ) (whole left : List ℕ) (c at p : ℕ) → IsPlaced grid (pos c ∷ ns) whole (p ∷ left) at → p < c → IsPlaced grid ns whole left (at * c + p)
+pub placed_more : (grid ns : List ℤ) (whole left : List ℕ) (c at p : ℕ) → IsPlaced grid (pos c ∷ ns) whole (p ∷ left) at → p < c →
+    IsPlaced grid ns whole left (at * c + p)
 placed_more grid ns whole left c at p h l =
     let s = size_of_grid ns in
     let m : (at * c + p + 1) * s ≤ (at * c + c) * s = mul-le-mul_right s (omega arith) in
@@ -124,7 +126,8 @@ pub block_cyclic_more : (start size grid is : List ℤ) (whole : List ℕ) (k b 
     IsPlaced grid (drop k grid) whole (block_cyclic_coordinates (drop k start) (drop k size) (drop k grid) (drop k is)) at →
     k < length start → k < length size → k < length grid → k < length is → pos b ≡ get_or size k (pos 0) → pos c ≡ get_or grid k (pos 0) →
     p ≡ block_cyclic_coordinate (get_or start k (pos 0)) (pos b) (pos c) (get_or is k (pos 0)) → p < c →
-    IsPlaced grid (drop (k + 1) grid) whole (block_cyclic_coordinates (drop (k + 1) start) (drop (k + 1) size) (drop (k + 1) grid) (drop (k + 1) is)) (at * c + p)
+    IsPlaced grid (drop (k + 1) grid) whole (block_cyclic_coordinates (drop (k + 1) start) (drop (k + 1) size) (drop (k + 1) grid) (drop (k + 1) is))
+    (at * c + p)
 block_cyclic_more start size grid is whole k b c at p h a i d e j f v l =
     placed_more grid (drop (k + 1) grid) whole (block_cyclic_coordinates (drop (k + 1) start) (drop (k + 1) size) (drop (k + 1) grid) (drop (k + 1) is)) c at p
     (rw v (rw (next_count grid k c d f, next_count size k b i j, drop_next start k (pos 0) a, drop_next is k (pos 0) e) at h)) l
@@ -134,7 +137,8 @@ pub record IsEntry (n : ℤ) (at : ℕ) : Type 0 where
   pub positive : pos 1 ≤ℤ n
   pub room : (c p : ℕ) → pos c ≡ n → p < c → IsRoom c at p
 
-pub entry_at : (grid : List ℤ) (whole left : List ℕ) (k at : ℕ) → IsPlaced grid (drop k grid) whole left at → k < length grid → IsEntry (get_or grid k (pos 0)) at
+pub entry_at : (grid : List ℤ) (whole left : List ℕ) (k at : ℕ) → IsPlaced grid (drop k grid) whole left at → k < length grid →
+    IsEntry (get_or grid k (pos 0)) at
 entry_at grid whole left k at h l = record {
   positive = positive_entry (get_or grid k (pos 0)) (drop (k + 1) grid) (rw (drop_next grid k (pos 0) l) at h.positive);
   room = λ c p e m. placed_room grid (drop (k + 1) grid) whole left c at p (rw (next_count grid k c l e) at h) m;

@@ -39,12 +39,14 @@ same_box-exact xs ys = slice_eq-Decides same_indices-exact xs ys (same_box xs ys
 
 pub same_block-exact : (a b : BlockMap) → Decides (same_block a b) (a ≡ b)
 same_block-exact a b =
-    Decides-like {P = (a.box ≡ b.box) × (a.grid ≡ b.grid)} {Q = a ≡ b} (same_block a b) (λ h. λ i. record { box = h.0 i; grid = h.1 i }) (λ e. (ap (λ (m : BlockMap). m.box) e, ap (λ (m : BlockMap). m.grid) e))
+    Decides-like {P = (a.box ≡ b.box) × (a.grid ≡ b.grid)} {Q = a ≡ b} (same_block a b) (λ h. λ i. record { box = h.0 i; grid = h.1 i })
+    (λ e. (ap (λ (m : BlockMap). m.box) e, ap (λ (m : BlockMap). m.grid) e))
     (Decides-and _ _ (same_box-exact a.box b.box) (same_indices-exact a.grid b.grid))
 
 pub same_cyclic-exact : (a b : CyclicMap) → Decides (same_cyclic a b) (a ≡ b)
 same_cyclic-exact a b =
-    Decides-like {P = (a.start ≡ b.start) × (a.grid ≡ b.grid)} {Q = a ≡ b} (same_cyclic a b) (λ h. λ i. record { start = h.0 i; grid = h.1 i }) (λ e. (ap (λ (m : CyclicMap). m.start) e, ap (λ (m : CyclicMap). m.grid) e))
+    Decides-like {P = (a.start ≡ b.start) × (a.grid ≡ b.grid)} {Q = a ≡ b} (same_cyclic a b) (λ h. λ i. record { start = h.0 i; grid = h.1 i })
+    (λ e. (ap (λ (m : CyclicMap). m.start) e, ap (λ (m : CyclicMap). m.grid) e))
     (Decides-and _ _ (same_indices-exact a.start b.start) (same_indices-exact a.grid b.grid))
 
 pub same_block_cyclic-exact : (a b : BlockCyclicMap) → Decides (same_block_cyclic a b) (a ≡ b)
@@ -60,8 +62,10 @@ differs a b n = (λ h. absurd (cc), λ e. absurd (n e))
 pub same_layout-exact : (a b : LayoutMap) → Decides (same_layout a b) (a ≡ b)
 same_layout-exact whole whole = (λ h. refl, λ e. refl)
 same_layout-exact (block a) (block b) = Decides-like {P = a ≡ b} {Q = block a ≡ block b} (same_block a b) (λ e. ap block e) (λ e. cc) (same_block-exact a b)
-same_layout-exact (cyclic a) (cyclic b) = Decides-like {P = a ≡ b} {Q = cyclic a ≡ cyclic b} (same_cyclic a b) (λ e. ap cyclic e) (λ e. cc) (same_cyclic-exact a b)
-same_layout-exact (block_cyclic a) (block_cyclic b) = Decides-like {P = a ≡ b} {Q = block_cyclic a ≡ block_cyclic b} (same_block_cyclic a b) (λ e. ap block_cyclic e) (λ e. cc) (same_block_cyclic-exact a b)
+same_layout-exact (cyclic a) (cyclic b) = Decides-like {P = a ≡ b} {Q = cyclic a ≡ cyclic b} (same_cyclic a b) (λ e. ap cyclic e) (λ e. cc)
+    (same_cyclic-exact a b)
+same_layout-exact (block_cyclic a) (block_cyclic b) = Decides-like {P = a ≡ b} {Q = block_cyclic a ≡ block_cyclic b} (same_block_cyclic a b)
+    (λ e. ap block_cyclic e) (λ e. cc) (same_block_cyclic-exact a b)
 same_layout-exact whole (block b) = differs whole (block b) (λ e. cc)
 same_layout-exact whole (cyclic b) = differs whole (cyclic b) (λ e. cc)
 same_layout-exact whole (block_cyclic b) = differs whole (block_cyclic b) (λ e. cc)

@@ -23,13 +23,15 @@ module _ (names : List Name) (is : List Index) (k : ℕ) (e : Name) (low : k < l
       ∙ ap (λ cs. member_cells (take k names) is ++ cs) (append-nil (map (Member e) is))
 
   -- one more domain
-  pub reads_more : (rs : List Pattern) → rs ++ map one_of (member_cells (take (k + 1) names) is) ≡ (rs ++ map one_of (member_cells (take k names) is)) ++ map one_of (map (Member e) is)
+  pub reads_more : (rs : List Pattern) → rs ++ map one_of (member_cells (take (k + 1) names) is) ≡ (rs ++ map one_of (member_cells (take k names) is)) ++ map
+      one_of (map (Member e) is)
   reads_more rs =
       ap (λ cs. rs ++ map one_of cs) cells_more
       ∙ ap (λ ps. rs ++ ps) (map-append one_of (member_cells (take k names) is) (map (Member e) is))
       ∙ sym (append_assoc rs (map one_of (member_cells (take k names) is)) (map one_of (map (Member e) is)))
 
-  pub any_more : (s : Cells) → list_any is_some (map (get s) (member_cells (take (k + 1) names) is)) ≡ (list_any is_some (map (get s) (member_cells (take k names) is)) || list_any is_some (map (get s) (map (Member e) is)))
+  pub any_more : (s : Cells) → list_any is_some (map (get s) (member_cells (take (k + 1) names) is)) ≡
+      (list_any is_some (map (get s) (member_cells (take k names) is)) || list_any is_some (map (get s) (map (Member e) is)))
   any_more s =
       ap (λ cs. list_any is_some (map (get s) cs)) cells_more
       ∙ ap (list_any is_some) (map-append (get s) (member_cells (take k names) is) (map (Member e) is))

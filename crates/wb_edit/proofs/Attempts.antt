@@ -11,13 +11,15 @@ use Rattle.wb_edit.specs.Trees.{Tree, Look, judged}
 use Rattle.wb_edit.specs.Plans.{Attempts, Gives, Looks, Makes, stopped}
 
 -- a look that goes on
-pub goes_on : {X : Type 0} (t : Look X) (s : Cells) (rs ss : List Pattern) (next : X → Tree) (x : X) (r : Result Changes AttemptErr) (us : List Pattern) → Gives t s rs x ss → Attempts (next x) s ss r us → Attempts (t next) s rs r us
+pub goes_on : {X : Type 0} (t : Look X) (s : Cells) (rs ss : List Pattern) (next : X → Tree) (x : X) (r : Result Changes AttemptErr) (us : List Pattern) →
+    Gives t s rs x ss → Attempts (next x) s ss r us → Attempts (t next) s rs r us
 goes_on t s rs ss next x (Ok xs) us g a = ((g next).0 ∙ a.0, a.1 ∙ sym (g next).1)
 goes_on t s rs ss next x (Err (Refused why)) us g a = ((g next).0 ∙ a.0, a.1 ∙ sym (g next).1)
 goes_on t s rs ss next x (Err NoMemory) us g a = tt
 
 -- a look that stops
-pub stops : {X : Type 0} (t : Look X) (s : Cells) (rs ss : List Pattern) (next : X → Tree) (why : AttemptErr) → Looks t s rs (Err why) ss → Attempts (t next) s rs (Err why) ss
+pub stops : {X : Type 0} (t : Look X) (s : Cells) (rs ss : List Pattern) (next : X → Tree) (why : AttemptErr) → Looks t s rs (Err why) ss →
+    Attempts (t next) s rs (Err why) ss
 stops t s rs ss next (Refused why) h = h next
 stops t s rs ss next NoMemory h = tt
 
@@ -33,7 +35,8 @@ pub decides : {X : Type 0} (s : Cells) (rs : List Pattern) (j : Result X Refusal
 decides s rs j x e = λ next. (ap (λ r. outcome (judged r next) s) e, ap (λ r. rs ++ reads (judged r next) s) e)
 
 -- a judgement that stops
-pub refuses : {X : Type 0} (s : Cells) (rs : List Pattern) (j : Result X Refusal) (next : X → Tree) (why : AttemptErr) → Judges j (Err why) → Attempts (judged j next) s rs (Err why) rs
+pub refuses : {X : Type 0} (s : Cells) (rs : List Pattern) (j : Result X Refusal) (next : X → Tree) (why : AttemptErr) → Judges j (Err why) →
+    Attempts (judged j next) s rs (Err why) rs
 refuses s rs j next (Refused why) e = (ap (λ r. outcome (judged r next) s) e, sym (ap (λ r. rs ++ reads (judged r next) s) e ∙ append-nil rs))
 refuses s rs j next NoMemory e = tt
 

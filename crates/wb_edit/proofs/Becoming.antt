@@ -1,5 +1,6 @@
 -- Changes of elements that were seen touch each cell once.
-use Rattle.std.proofs.Common.{◌≡◌, ℕ, zero, suc, ◌+◌, ◌<◌, true, false, T, ℤ, List, [], ◌∷◌, ◌++◌, map, take, length, get_or, refl, ap, ◌∙◌, arith, add-one, Ordering}
+use Rattle.std.proofs.Common.{◌≡◌, ℕ, zero, suc, ◌+◌, ◌<◌, true, false, T, ℤ, List, [], ◌∷◌, ◌++◌, map, take, length, get_or, refl, ap, ◌∙◌, arith, add-one}
+use Rattle.std.proofs.Common.{Ordering}
 use Rattle.std.proofs.Math.Seq.{take-suc}
 use Rattle.std.specs.FinMap.{is_sorted}
 use Rattle.std.specs.FinMap.Entries.{below_all}
@@ -21,7 +22,8 @@ use Rattle.wb_edit.proofs.Elements.{index_order}
 use Rattle.wb_resize.proofs.Gets.{same_key}
 use Rattle.wb_resize.proofs.Sorted.{first, second}
 
-below_at : (k : Index) (es : List (Index × ℤ)) (i : ℕ) (d : Index × ℤ) → T (below_all index_cmp k es) → i < length es → T (is_lt (index_cmp k (get_or es i d).0))
+below_at : (k : Index) (es : List (Index × ℤ)) (i : ℕ) (d : Index × ℤ) → T (below_all index_cmp k es) → i < length es →
+    T (is_lt (index_cmp k (get_or es i d).0))
 below_at k [] i d below low = absurd (omega (arith, low))
 below_at k (e ∷ es) zero d below low = first _ _ below
 below_at k (e ∷ es) (suc i) d below low = below_at k es i d (second _ _ below) (omega (arith, low))
@@ -39,23 +41,27 @@ other_cell a k i above = not_true _ λ e.
     less_and_equal (index_cmp k i) above (ap (λ j. eq_by_cmp index_cmp k j) index ∙ is_itself index_order k)
 
 -- the element at a place has none of the cells before it
-none_before : (a : Name) (new : NewValue) (es : List (Index × ℤ)) (i : ℕ) (d : Index × ℤ) → T (is_sorted index_cmp es) → i < length es → changes cell_cmp (all_become a new (take i es)) (Element a (get_or es i d).0) ≡ false
+none_before : (a : Name) (new : NewValue) (es : List (Index × ℤ)) (i : ℕ) (d : Index × ℤ) → T (is_sorted index_cmp es) → i < length es →
+    changes cell_cmp (all_become a new (take i es)) (Element a (get_or es i d).0) ≡ false
 none_before a new [] i d s low = absurd (omega (arith, low))
 none_before a new (e ∷ es) zero d s low = refl
 none_before a new (e ∷ es) (suc i) d s low =
     let below : i < length es = omega (arith, low) in
     let parts : T (below_all index_cmp e.0 es) × T (is_sorted index_cmp es) = (first _ _ s, second _ _ s) in
-    let here : eq_by_cmp cell_cmp (Element a (get_or es i d).0) (Element a e.0) ≡ false = other_cell a e.0 (get_or es i d).0 (below_at e.0 es i d parts.0 below) in
+    let here : eq_by_cmp cell_cmp (Element a (get_or es i d).0) (Element a e.0) ≡ false =
+    other_cell a e.0 (get_or es i d).0 (below_at e.0 es i d parts.0 below) in
     let rest = none_before a new es i d parts.1 below in
     rw (here, rest) refl
 
-pub next_is_new : (a : Name) (new : NewValue) (old : Changes) (es : List (Index × ℤ)) (i : ℕ) (d : Index × ℤ) → ((j : Index) → changes cell_cmp old (Element a j) ≡ false) → T (is_sorted index_cmp es) → i < length es
+pub next_is_new : (a : Name) (new : NewValue) (old : Changes) (es : List (Index × ℤ)) (i : ℕ) (d : Index × ℤ) →
+    ((j : Index) → changes cell_cmp old (Element a j) ≡ false) → T (is_sorted index_cmp es) → i < length es
     → changes cell_cmp (old ++ all_become a new (take i es)) (Element a (get_or es i d).0) ≡ false
 next_is_new a new old es i d fresh s low =
     changes-append old (all_become a new (take i es)) (Element a (get_or es i d).0) ∙ rw (fresh (get_or es i d).0, none_before a new es i d s low) refl
 
 -- one more element
-pub becomes_more : (a : Name) (new : NewValue) (es : List (Index × ℤ)) (i : ℕ) (d : Index × ℤ) → i < length es → all_become a new (take (i + 1) es) ≡ all_become a new (take i es) ++ all_become a new (get_or es i d ∷ [])
+pub becomes_more : (a : Name) (new : NewValue) (es : List (Index × ℤ)) (i : ℕ) (d : Index × ℤ) → i < length es →
+    all_become a new (take (i + 1) es) ≡ all_become a new (take i es) ++ all_become a new (get_or es i d ∷ [])
 becomes_more a new es i d low =
     ap (λ n. all_become a new (take n es)) (add-one i)
     ∙ ap (all_become a new) (take-suc es i d low)

@@ -55,34 +55,43 @@ tied Less e = cc
 tied Equal e = refl
 tied Greater e = cc
 
-found_here : (i j : Index) (o : Option ℤ) (rest : List (Index × ℤ)) (v : Value) (there : Option Value) → number_of v ≡ o → (is_eq (index_cmp i j) ≡ true → there ≡ None)
-    → find index_cmp i rest ≡ option_and_then number_of there → find index_cmp i (cons_option (option_map (λ x. (j, x)) o) rest) ≡ option_and_then number_of (cond (is_eq (index_cmp i j)) (Some v) there)
-found_here i j None rest v there none alone is = elim (is_eq (index_cmp i j)) as (λ b. is_eq (index_cmp i j) ≡ b → find index_cmp i rest ≡ option_and_then number_of (cond b (Some v) there)) [
-  | true ↦ λ same. is ∙ ap (option_and_then number_of) (alone same) ∙ sym none
-  | false ↦ λ other. is
-] refl
-found_here i j (Some x) rest v there number alone is = elim (is_eq (index_cmp i j)) as (λ b. cond b (Some x) (find index_cmp i rest) ≡ option_and_then number_of (cond b (Some v) there)) [
-  | true ↦ sym number
-  | false ↦ is
-]
+found_here : (i j : Index) (o : Option ℤ) (rest : List (Index × ℤ)) (v : Value) (there : Option Value) → number_of v ≡ o →
+    (is_eq (index_cmp i j) ≡ true → there ≡ None)
+    → find index_cmp i rest ≡ option_and_then number_of there → find index_cmp i (cons_option (option_map (λ x. (j, x)) o) rest) ≡ option_and_then number_of
+    (cond (is_eq (index_cmp i j)) (Some v) there)
+found_here i j None rest v there none alone is = elim (is_eq (index_cmp i j)) as
+    (λ b. is_eq (index_cmp i j) ≡ b → find index_cmp i rest ≡ option_and_then number_of (cond b (Some v) there)) [
+      | true ↦ λ same. is ∙ ap (option_and_then number_of) (alone same) ∙ sym none
+      | false ↦ λ other. is
+    ] refl
+found_here i j (Some x) rest v there number alone is = elim (is_eq (index_cmp i j)) as
+    (λ b. cond b (Some x) (find index_cmp i rest) ≡ option_and_then number_of (cond b (Some v) there)) [
+      | true ↦ sym number
+      | false ↦ is
+    ]
 
 -- at an index, the number that the cell holds
-find_those : (a : Name) (i : Index) (es : List (Cell × Value)) → T (is_sorted cell_cmp es) → find index_cmp i (those_of a es) ≡ option_and_then number_of (find cell_cmp (Element a i) es)
+find_those : (a : Name) (i : Index) (es : List (Cell × Value)) → T (is_sorted cell_cmp es) →
+    find index_cmp i (those_of a es) ≡ option_and_then number_of (find cell_cmp (Element a i) es)
 find_those a i [] s = refl
 find_those a i ((Element b j, v) ∷ es) s =
     let rest = find_those a i es (second _ _ s) in
-    elim (is_same_name a b) as (λ k. is_same_name a b ≡ k → find index_cmp i (filter_map element_in (cond k ((Element b j, v) ∷ where_key cell_cmp (matches (Elements a)) es) (where_key cell_cmp (matches (Elements a)) es))) ≡ option_and_then number_of (cond (is_eq (ordering_then (slice_cmp nat_cmp a b) (index_cmp i j))) (Some v) (find cell_cmp (Element a i) es))) [
+    elim (is_same_name a b) as (λ k. is_same_name a b ≡ k → find index_cmp i
+    (filter_map element_in (cond k ((Element b j, v) ∷ where_key cell_cmp (matches (Elements a)) es) (where_key cell_cmp (matches (Elements a)) es))) ≡
+    option_and_then number_of (cond (is_eq (ordering_then (slice_cmp nat_cmp a b) (index_cmp i j))) (Some v) (find cell_cmp (Element a i) es))) [
       | true ↦ λ same.
           let alone : is_eq (index_cmp i j) ≡ true → find cell_cmp (Element a i) es ≡ None = λ e.
           let name : a ≡ b = same_name a b same in
           let index : i ≡ j = index_cmp-IsAntisymmetric i j (tied (index_cmp i j) e) in
           ap (λ n. find cell_cmp (Element n i) es) name ∙ ap (λ k. find cell_cmp (Element b k) es) index ∙ none_below cell_cmp (Element b j) es (first _ _ s) in
-          rw (then_index (slice_cmp nat_cmp a b) (index_cmp i j) same, shown_as b j v) (found_here i j (number_of v) (those_of a es) v (find cell_cmp (Element a i) es) refl alone rest)
+          rw (then_index (slice_cmp nat_cmp a b) (index_cmp i j) same, shown_as b j v)
+          (found_here i j (number_of v) (those_of a es) v (find cell_cmp (Element a i) es) refl alone rest)
       | false ↦ λ other. rw (other_name (slice_cmp nat_cmp a b) (index_cmp i j) other) rest
     ] refl
 find_those a i (e ∷ es) s = find_those a i es (second _ _ s)
 
-below_here : (i j : Index) (o : Option ℤ) (rest : List (Index × ℤ)) → T (is_lt (index_cmp i j)) → T (below_all index_cmp i rest) → T (below_all index_cmp i (cons_option (option_map (λ x. (j, x)) o) rest))
+below_here : (i j : Index) (o : Option ℤ) (rest : List (Index × ℤ)) → T (is_lt (index_cmp i j)) → T (below_all index_cmp i rest) →
+    T (below_all index_cmp i (cons_option (option_map (λ x. (j, x)) o) rest))
 below_here i j None rest low below = below
 below_here i j (Some x) rest low below = both _ _ low below
 
@@ -90,13 +99,16 @@ below_those : (a : Name) (i : Index) (es : List (Cell × Value)) → T (below_al
 below_those a i [] s = tt
 below_those a i ((Element b j, v) ∷ es) s =
     let rest = below_those a i es (second _ _ s) in
-    elim (is_same_name a b) as (λ k. is_same_name a b ≡ k → T (below_all index_cmp i (filter_map element_in (cond k ((Element b j, v) ∷ where_key cell_cmp (matches (Elements a)) es) (where_key cell_cmp (matches (Elements a)) es))))) [
-      | true ↦ λ same. rw (shown_as b j v) (below_here i j (number_of v) (those_of a es) (subst (λ o. T (is_lt o)) (then_index (slice_cmp nat_cmp a b) (index_cmp i j) same) (first _ _ s)) rest)
+    elim (is_same_name a b) as (λ k. is_same_name a b ≡ k → T (below_all index_cmp i
+    (filter_map element_in (cond k ((Element b j, v) ∷ where_key cell_cmp (matches (Elements a)) es) (where_key cell_cmp (matches (Elements a)) es))))) [
+      | true ↦ λ same. rw (shown_as b j v) (below_here i j (number_of v) (those_of a es)
+          (subst (λ o. T (is_lt o)) (then_index (slice_cmp nat_cmp a b) (index_cmp i j) same) (first _ _ s)) rest)
       | false ↦ λ other. rest
     ] refl
 below_those a i (e ∷ es) s = below_those a i es (second (is_lt (cell_cmp (Element a i) e.0)) (below_all cell_cmp (Element a i) es) s)
 
-sorted_here : (j : Index) (o : Option ℤ) (rest : List (Index × ℤ)) → T (below_all index_cmp j rest) → T (is_sorted index_cmp rest) → T (is_sorted index_cmp (cons_option (option_map (λ x. (j, x)) o) rest))
+sorted_here : (j : Index) (o : Option ℤ) (rest : List (Index × ℤ)) → T (below_all index_cmp j rest) → T (is_sorted index_cmp rest) →
+    T (is_sorted index_cmp (cons_option (option_map (λ x. (j, x)) o) rest))
 sorted_here j None rest below s = s
 sorted_here j (Some x) rest below s = both _ _ below s
 
@@ -104,8 +116,10 @@ sorted_those : (a : Name) (es : List (Cell × Value)) → T (is_sorted cell_cmp 
 sorted_those a [] s = tt
 sorted_those a ((Element b j, v) ∷ es) s =
     let rest = sorted_those a es (second _ _ s) in
-    elim (is_same_name a b) as (λ k. is_same_name a b ≡ k → T (is_sorted index_cmp (filter_map element_in (cond k ((Element b j, v) ∷ where_key cell_cmp (matches (Elements a)) es) (where_key cell_cmp (matches (Elements a)) es))))) [
-      | true ↦ λ same. rw (shown_as b j v) (sorted_here j (number_of v) (those_of a es) (below_those a j es (subst (λ n. T (below_all cell_cmp (Element n j) es)) (sym (same_name a b same)) (first _ _ s))) rest)
+    elim (is_same_name a b) as (λ k. is_same_name a b ≡ k → T (is_sorted index_cmp
+    (filter_map element_in (cond k ((Element b j, v) ∷ where_key cell_cmp (matches (Elements a)) es) (where_key cell_cmp (matches (Elements a)) es))))) [
+      | true ↦ λ same. rw (shown_as b j v) (sorted_here j (number_of v) (those_of a es)
+          (below_those a j es (subst (λ n. T (below_all cell_cmp (Element n j) es)) (sym (same_name a b same)) (first _ _ s))) rest)
       | false ↦ λ other. rest
     ] refl
 sorted_those a (e ∷ es) s = sorted_those a es (second _ _ s)
@@ -119,7 +133,8 @@ pub elements_ascend : (s : Cells) (a : Name) → T (is_sorted index_cmp (element
 elements_ascend s a = subst (λ es. T (is_sorted index_cmp es)) (those_in s a) (sorted_those a (entries s) (entries_sorted s))
 
 pub find_element : (s : Cells) (a : Name) (i : Index) → find index_cmp i (elements s a) ≡ option_and_then number_of (get s (Element a i))
-find_element s a i = ap (find index_cmp i) (sym (those_in s a)) ∙ find_those a i (entries s) (entries_sorted s) ∙ ap (option_and_then number_of) (sym (get-entries s (Element a i)))
+find_element s a i = ap (find index_cmp i) (sym (those_in s a)) ∙ find_those a i (entries s) (entries_sorted s) ∙
+    ap (option_and_then number_of) (sym (get-entries s (Element a i)))
 
 was_some : (o : Option Value) (x : ℤ) → option_and_then number_of o ≡ Some x → is_some o ≡ true
 was_some None x e = cc
@@ -127,4 +142,5 @@ was_some (Some v) x e = refl
 
 -- each of them is there
 pub elements_there : (s : Cells) (a : Name) → AllByRecursion (λ e. is_some (get s (Element a e.0)) ≡ true) (elements s a)
-elements_there s a = of_entries index_order (λ i x. is_some (get s (Element a i)) ≡ true) (elements s a) (elements_ascend s a) (λ i x there. was_some (get s (Element a i)) x (sym (find_element s a i) ∙ there))
+elements_there s a = of_entries index_order (λ i x. is_some (get s (Element a i)) ≡ true) (elements s a) (elements_ascend s a)
+    (λ i x there. was_some (get s (Element a i)) x (sym (find_element s a i) ∙ there))

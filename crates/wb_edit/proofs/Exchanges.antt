@@ -1,5 +1,6 @@
 -- Cells of indices that leave and of indices that come: each cell once.
-use Rattle.std.proofs.Common.{◌≡◌, ℕ, zero, suc, ◌+◌, ◌<◌, Bool, true, false, ◌||◌, ℤ, List, [], ◌∷◌, ◌++◌, map, take, length, Some, None, slice_get, get_or, refl, sym, ap, subst, ◌∙◌, append-nil, add-one, arith}
+use Rattle.std.proofs.Common.{◌≡◌, ℕ, zero, suc, ◌+◌, ◌<◌, Bool, true, false, ◌||◌, ℤ, List, [], ◌∷◌, ◌++◌, map, take, length, Some, None, slice_get, get_or}
+use Rattle.std.proofs.Common.{refl, sym, ap, subst, ◌∙◌, append-nil, add-one, arith}
 use Rattle.std.proofs.Math.Seq.{take-suc}
 use Rattle.std.proofs.lemmas.Grind.{flat_map-append}
 use Rattle.std.specs.Map.{keys_of}
@@ -36,10 +37,12 @@ neither true b e f = cc
 neither false b e f = f
 
 -- the cell of an index that comes is none of those of the indices that leave
-pub coming_is_new : (indexed : IndexedCells) (old : Changes) (leaving coming : List Index) → ((i : Index) → changes cell_cmp old (cell_at indexed i) ≡ false) → AreApart leaving coming → (p : ℕ) (i : Index) → slice_get coming p ≡ Some i
+pub coming_is_new : (indexed : IndexedCells) (old : Changes) (leaving coming : List Index) → ((i : Index) → changes cell_cmp old (cell_at indexed i) ≡ false) →
+    AreApart leaving coming → (p : ℕ) (i : Index) → slice_get coming p ≡ Some i
     → changes cell_cmp (old ++ set_all (map (cell_at indexed) leaving) None) (cell_at indexed i) ≡ false
 coming_is_new indexed old leaving coming fresh apart p i here =
-    changes-append old (set_all (map (cell_at indexed) leaving) None) (cell_at indexed i) ∙ neither _ _ (fresh i) (other_cells indexed None i leaving (λ q e. apart q p i e here))
+    changes-append old (set_all (map (cell_at indexed) leaving) None) (cell_at indexed i) ∙
+    neither _ _ (fresh i) (other_cells indexed None i leaving (λ q e. apart q p i e here))
 
 keys-take : (fs : List (Name × ℤ)) (k : ℕ) → keys_of (take k fs) ≡ take k (keys_of fs)
 keys-take [] zero = refl
@@ -54,9 +57,11 @@ key_at (f ∷ fs) (suc k) d low = key_at fs k d (omega (arith, low))
 
 module _ (leaving coming : List Index) where
   -- a cell that is none of a column's
-  pub none_exchanged : (f : Index → Cell) (v : Value) (c : Cell) → ((i : Index) → eq_by_cmp cell_cmp c (f i) ≡ false) → changes cell_cmp (exchanged f leaving coming v) c ≡ false
+  pub none_exchanged : (f : Index → Cell) (v : Value) (c : Cell) → ((i : Index) → eq_by_cmp cell_cmp c (f i) ≡ false) →
+      changes cell_cmp (exchanged f leaving coming v) c ≡ false
   none_exchanged f v c other =
-      changes-append (clear_all (map f leaving)) (put_all (map f coming) v) c ∙ neither _ _ (elsewhere f None c leaving other) (elsewhere f (Some v) c coming other)
+      changes-append (clear_all (map f leaving)) (put_all (map f coming) v) c ∙
+      neither _ _ (elsewhere f None c leaving other) (elsewhere f (Some v) c coming other)
 
   other_array : (a b : Name) (i j : Index) → (a ≡ b → ⊥) → eq_by_cmp cell_cmp (Element a i) (Element b j) ≡ false
   other_array a b i j other = not_true _ λ e.
@@ -64,14 +69,17 @@ module _ (leaving coming : List Index) where
       let name : a ≡ b = cc in
       other name
 
-  pub none_of : (fs : List (Name × ℤ)) (a : Name) (i : Index) → ((q : ℕ) → slice_get (keys_of fs) q ≡ Some a → ⊥) → changes cell_cmp (elements_exchanged fs leaving coming) (Element a i) ≡ false
+  pub none_of : (fs : List (Name × ℤ)) (a : Name) (i : Index) → ((q : ℕ) → slice_get (keys_of fs) q ≡ Some a → ⊥) →
+      changes cell_cmp (elements_exchanged fs leaving coming) (Element a i) ≡ false
   none_of [] a i other = refl
   none_of (f ∷ fs) a i other =
       changes-append (exchanged (Element f.0) leaving coming (Number f.1)) (elements_exchanged fs leaving coming) (Element a i)
-      ∙ neither _ _ (none_exchanged (Element f.0) (Number f.1) (Element a i) (λ j. other_array a f.0 i j (λ same. other zero (ap Some (sym same))))) (none_of fs a i (λ q e. other (suc q) e))
+      ∙ neither _ _ (none_exchanged (Element f.0) (Number f.1) (Element a i) (λ j. other_array a f.0 i j (λ same. other zero (ap Some (sym same)))))
+      (none_of fs a i (λ q e. other (suc q) e))
 
   -- the next array has none of the cells so far
-  pub next_array : (old : Changes) (fs : List (Name × ℤ)) (k : ℕ) (d : Name × ℤ) → ((a : Name) (i : Index) → changes cell_cmp old (Element a i) ≡ false) → IsListedOnce (keys_of fs) → k < length fs → (i : Index)
+  pub next_array : (old : Changes) (fs : List (Name × ℤ)) (k : ℕ) (d : Name × ℤ) → ((a : Name) (i : Index) → changes cell_cmp old (Element a i) ≡ false) →
+      IsListedOnce (keys_of fs) → k < length fs → (i : Index)
       → changes cell_cmp (old ++ elements_exchanged (take k fs) leaving coming) (Element (get_or fs k d).0 i) ≡ false
   next_array old fs k d fresh once low i =
       let a : Name = (get_or fs k d).0 in
@@ -83,7 +91,8 @@ module _ (leaving coming : List Index) where
 
   -- one more array
   pub elements_more : (fs : List (Name × ℤ)) (k : ℕ) (d : Name × ℤ) → k < length fs
-      → elements_exchanged (take (k + 1) fs) leaving coming ≡ elements_exchanged (take k fs) leaving coming ++ exchanged (Element (get_or fs k d).0) leaving coming (Number (get_or fs k d).1)
+      → elements_exchanged (take (k + 1) fs) leaving coming ≡ elements_exchanged (take k fs) leaving coming ++ exchanged (Element (get_or fs k d).0) leaving
+      coming (Number (get_or fs k d).1)
   elements_more fs k d low =
       let f : Name × ℤ → Changes = λ x. exchanged (Element x.0) leaving coming (Number x.1) in
       ap (λ n. elements_exchanged (take n fs) leaving coming) (add-one k)
@@ -97,14 +106,16 @@ module _ (leaving coming : List Index) where
   membership_apart (over_associative type) d a i j = refl
 
   -- no element is among the cells that say which indices are there
-  pub elements_are_new : (kind : Kind) (d : Name) (old : Changes) → ((a : Name) (i : Index) → changes cell_cmp old (Element a i) ≡ false) → (a : Name) (i : Index)
+  pub elements_are_new : (kind : Kind) (d : Name) (old : Changes) → ((a : Name) (i : Index) → changes cell_cmp old (Element a i) ≡ false) →
+      (a : Name) (i : Index)
       → changes cell_cmp (old ++ exchanged (cell_at (Membership kind d)) leaving coming Present) (Element a i) ≡ false
   elements_are_new kind d old fresh a i =
       changes-append old (exchanged (cell_at (Membership kind d)) leaving coming Present) (Element a i)
       ∙ neither _ _ (fresh a i) (none_exchanged (cell_at (Membership kind d)) Present (Element a i) (λ j. membership_apart kind d a i j))
 
 -- the cells that say which indices a domain has are no others of it
-pub own_apart : (kind : DomainKind) (d : Name) (i : Index) → changes cell_cmp (clear_all (cells_beside_indices d kind)) (cell_at (Membership (kind_of kind) d) i) ≡ false
+pub own_apart : (kind : DomainKind) (d : Name) (i : Index) →
+    changes cell_cmp (clear_all (cells_beside_indices d kind)) (cell_at (Membership (kind_of kind) d) i) ≡ false
 own_apart (Rectangular rank) d i = refl
 own_apart (Sparse parent rank) d i = refl
 own_apart (Associative type) d i = refl

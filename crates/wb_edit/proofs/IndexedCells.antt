@@ -1,5 +1,6 @@
 -- Cells of indices: each cell once.
-use Rattle.std.proofs.Common.{◌≡◌, ℕ, zero, suc, ◌+◌, ◌<◌, true, false, ◌||◌, List, [], ◌∷◌, ◌++◌, map, take, length, Option, Some, None, slice_get, refl, sym, ap, ◌∙◌, arith, add-one}
+use Rattle.std.proofs.Common.{◌≡◌, ℕ, zero, suc, ◌+◌, ◌<◌, true, false, ◌||◌, List, [], ◌∷◌, ◌++◌, map, take, length, Option, Some, None, slice_get, refl, sym}
+use Rattle.std.proofs.Common.{ap, ◌∙◌, arith, add-one}
 use Rattle.std.specs.Ordering.{eq_by_cmp}
 use Rattle.std.specs.Cmp.{Equal-is}
 use Rattle.selective_undo.specs.Changes.{changes}
@@ -19,7 +20,8 @@ pub changes-append : (xs ys : Changes) (c : Cell) → changes cell_cmp (xs ++ ys
 changes-append [] ys c = refl
 changes-append (x ∷ xs) ys c =
     ap (λ b. eq_by_cmp cell_cmp c x.cell || b) (changes-append xs ys c)
-    ∙ elim (eq_by_cmp cell_cmp c x.cell) as (λ b. b || (changes cell_cmp xs c || changes cell_cmp ys c) ≡ (b || changes cell_cmp xs c) || changes cell_cmp ys c) [ true ↦ refl | false ↦ refl ]
+    ∙ elim (eq_by_cmp cell_cmp c x.cell) as (λ b. b || (changes cell_cmp xs c || changes cell_cmp ys c) ≡ (b || changes cell_cmp xs c) ||
+    changes cell_cmp ys c) [ true ↦ refl | false ↦ refl ]
 
 same_index : (indexed : IndexedCells) (i j : Index) → cell_at indexed i ≡ cell_at indexed j → i ≡ j
 same_index (Inside d) i j e = cc
@@ -29,17 +31,20 @@ same_index (Membership (Sparse rank) d) i j e = cc
 same_index (Membership (Associative type) d) i j e = cc
 
 -- an index that is not among some others has another cell
-pub other_cells : (indexed : IndexedCells) (o : Option Value) (i : Index) (js : List Index) → ((q : ℕ) → slice_get js q ≡ Some i → ⊥) → changes cell_cmp (set_all (map (cell_at indexed) js) o) (cell_at indexed i) ≡ false
+pub other_cells : (indexed : IndexedCells) (o : Option Value) (i : Index) (js : List Index) → ((q : ℕ) → slice_get js q ≡ Some i → ⊥) →
+    changes cell_cmp (set_all (map (cell_at indexed) js) o) (cell_at indexed i) ≡ false
 other_cells indexed o i [] other = refl
 other_cells indexed o i (j ∷ js) other =
     let differs : eq_by_cmp cell_cmp (cell_at indexed i) (cell_at indexed j) ≡ false = not_true _ λ e.
-    let same : cell_at indexed i ≡ cell_at indexed j = cell_order.strict (cell_at indexed i) (cell_at indexed j) ((Equal-is (cell_cmp (cell_at indexed i) (cell_at indexed j))).0 e) in
+    let same : cell_at indexed i ≡ cell_at indexed j = cell_order.strict (cell_at indexed i) (cell_at indexed j)
+    ((Equal-is (cell_cmp (cell_at indexed i) (cell_at indexed j))).0 e) in
     other zero (ap Some (sym (same_index indexed i j same))) in
     let rest = other_cells indexed o i js (λ q e. other (suc q) e) in
     rw (differs, rest) refl
 
 -- a cell that is no index's
-pub elsewhere : (f : Index → Cell) (o : Option Value) (c : Cell) (js : List Index) → ((i : Index) → eq_by_cmp cell_cmp c (f i) ≡ false) → changes cell_cmp (set_all (map f js) o) c ≡ false
+pub elsewhere : (f : Index → Cell) (o : Option Value) (c : Cell) (js : List Index) → ((i : Index) → eq_by_cmp cell_cmp c (f i) ≡ false) →
+    changes cell_cmp (set_all (map f js) o) c ≡ false
 elsewhere f o c [] other = refl
 elsewhere f o c (j ∷ js) other = let rest = elsewhere f o c js other in rw (other j, rest) refl
 
@@ -51,7 +56,8 @@ get-take (y ∷ xs) (suc n) zero x e = (omega arith, e)
 get-take (y ∷ xs) (suc n) (suc q) x e = let h = get-take xs n q x e in (omega (arith, h.0), h.1)
 
 -- the next index of a domain has a cell that is not there yet
-pub next_is_new : (indexed : IndexedCells) (o : Option Value) (old : Changes) (is : List Index) (p : ℕ) (i : Index) → IsListedOnce is → changes cell_cmp old (cell_at indexed i) ≡ false → slice_get is p ≡ Some i
+pub next_is_new : (indexed : IndexedCells) (o : Option Value) (old : Changes) (is : List Index) (p : ℕ) (i : Index) → IsListedOnce is →
+    changes cell_cmp old (cell_at indexed i) ≡ false → slice_get is p ≡ Some i
     → changes cell_cmp (old ++ set_all (map (cell_at indexed) (take p is)) o) (cell_at indexed i) ≡ false
 next_is_new indexed o old is p i once fresh here =
     let other : (q : ℕ) → slice_get (take p is) q ≡ Some i → ⊥ = λ q e.
@@ -71,7 +77,8 @@ map-append f [] ys = refl
 map-append f (x ∷ xs) ys = ap (λ zs. f x ∷ zs) (map-append f xs ys)
 
 -- one index more is one change more
-pub grows : (indexed : IndexedCells) (o : Option Value) (is : List Index) (p : ℕ) (i : Index) → slice_get is p ≡ Some i → set_all (map (cell_at indexed) (take (p + 1) is)) o ≡ set_all (map (cell_at indexed) (take p is)) o ++ record { cell = cell_at indexed i; value = o } ∷ []
+pub grows : (indexed : IndexedCells) (o : Option Value) (is : List Index) (p : ℕ) (i : Index) → slice_get is p ≡ Some i →
+    set_all (map (cell_at indexed) (take (p + 1) is)) o ≡ set_all (map (cell_at indexed) (take p is)) o ++ record { cell = cell_at indexed i; value = o } ∷ []
 grows indexed o is p i here =
     ap (λ n. set_all (map (cell_at indexed) (take n is)) o) (add-one p)
     ∙ ap (λ js. set_all (map (cell_at indexed) js) o) (take_more is p i here)

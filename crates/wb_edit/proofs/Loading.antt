@@ -1,5 +1,6 @@
 -- What a loaded workbook writes, and where.
-use Rattle.std.proofs.Common.{◌≡◌, ℕ, Bool, true, false, cond, T, List, [], ◌∷◌, ◌++◌, Option, Some, None, Result, Ok, Err, slice_get, refl, sym, ap, subst, ◌∙◌, Ordering}
+use Rattle.std.proofs.Common.{◌≡◌, ℕ, Bool, true, false, cond, T, List, [], ◌∷◌, ◌++◌, Option, Some, None, Result, Ok, Err, slice_get, refl, sym, ap, subst}
+use Rattle.std.proofs.Common.{◌∙◌, Ordering}
 use Rattle.std.specs.BTreeMap.{BTreeMap}
 use Rattle.std.specs.BTreeMap as tree
 use Rattle.std.specs.Cmp.{eq_by_cmp_equiv}
@@ -23,7 +24,8 @@ use Rattle.wb_book.specs.declared.cells.value.Value.{Value}
 use Rattle.wb_book.specs.declared.values.index.Index.{Index}
 use Rattle.wb_book.specs.Cells.{Name, Cells, Changes, cell_cmp, cell_order, matches, state_of}
 use Rattle.wb_book.specs.Readers.{object_of, objects}
-use Rattle.wb_book.specs.WellFormed.{IsWellFormed, IsShape, IsMember, HasMapping, IsImplicit, IsElement, domain_in, array_in, ranges_in, inside_of, use_of, is_index_of_array}
+use Rattle.wb_book.specs.WellFormed.{IsWellFormed, IsShape, IsMember, HasMapping, IsImplicit, IsElement, domain_in, array_in, ranges_in, inside_of, use_of}
+use Rattle.wb_book.specs.WellFormed.{is_index_of_array}
 use Rattle.wb_edit.specs.declared.refusal.Refusal.{Refusal}
 use Rattle.wb_edit.specs.declared.refusal.Refusal.TheVariants.{NotEmpty}
 use Rattle.wb_edit.specs.Commands.{book_cells}
@@ -51,7 +53,8 @@ puts_once (e ∷ es) h = (none_put e.0 es (first _ _ h), puts_once es (second _ 
 
 -- the changes of a map of cells, however they are made up
 pub all_once : (m : BTreeMap Cell Value) → tree.IsOrdered cell_cmp m → (xs : Changes) → xs ≡ put_each m.entries → AllOnce cell_cmp xs
-all_once m ordered xs e = subst (AllOnce cell_cmp) (ap (λ es. put_each es) (entries-state_of m ordered) ∙ sym e) (puts_once (entries (state_of m)) (entries_sorted (state_of m)))
+all_once m ordered xs e = subst (AllOnce cell_cmp) (ap (λ es. put_each es) (entries-state_of m ordered) ∙ sym e)
+    (puts_once (entries (state_of m)) (entries_sorted (state_of m)))
 
 -- of changes that name each cell once, one names none of the cells before it
 pub next_new : (xs : Changes) (x : Change Cell Value) (ys : Changes) → AllOnce cell_cmp (xs ++ (x ∷ ys)) → changes cell_cmp xs x.cell ≡ false
@@ -71,15 +74,18 @@ none_after (x ∷ xs) c o h =
 
 after_puts : (es : List (Cell × Value)) (c : Cell) → T (is_sorted cell_cmp es) → after cell_cmp (put_each es) c None ≡ find cell_cmp c es
 after_puts [] c h = refl
-after_puts (e ∷ es) c h = elim (eq_by_cmp cell_cmp c e.0) as (λ b. eq_by_cmp cell_cmp c e.0 ≡ b → after cell_cmp (put_each es) c (cond b (Some e.1) None) ≡ cond b (Some e.1) (find cell_cmp c es)) [
-  | true ↦ λ same. none_after (put_each es) c (Some e.1) (ap (changes cell_cmp (put_each es)) (same_key cell_order c e.0 same) ∙ none_put e.0 es (first _ _ h))
-  | false ↦ λ other. after_puts es c (second _ _ h)
-] refl
+after_puts (e ∷ es) c h = elim (eq_by_cmp cell_cmp c e.0) as
+    (λ b. eq_by_cmp cell_cmp c e.0 ≡ b → after cell_cmp (put_each es) c (cond b (Some e.1) None) ≡ cond b (Some e.1) (find cell_cmp c es)) [
+      | true ↦ λ same. none_after (put_each es) c (Some e.1) (ap (changes cell_cmp (put_each es)) (same_key cell_order c e.0 same) ∙
+          none_put e.0 es (first _ _ h))
+      | false ↦ λ other. after_puts es c (second _ _ h)
+    ] refl
 
 pub becomes : (w s : Cells) → ((c : Cell) → get s c ≡ None) → apply (book_cells w) s ≡ w
 becomes w s none =
     same_states cell_order (apply (book_cells w) s) w (λ c.
-    get-apply cell_order (book_cells w) s c ∙ ap (after cell_cmp (book_cells w) c) (none c) ∙ after_puts (entries w) c (entries_sorted w) ∙ sym (get-entries w c))
+    get-apply cell_order (book_cells w) s c ∙ ap (after cell_cmp (book_cells w) c) (none c) ∙ after_puts (entries w) c (entries_sorted w) ∙
+    sym (get-entries w c))
 
 -- ---- a workbook without objects has no cells
 

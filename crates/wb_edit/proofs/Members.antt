@@ -27,7 +27,8 @@ use Rattle.wb_edit.specs.Looks.{member_in}
 
 -- ---- ascending
 
-above : (d e : Name) (i : Index) (es : List (Cell × Value)) → is_same_name d e ≡ true → T (below_all cell_cmp (Member e i) es) → AreNamed (Members d) es → AllByRecursion (λ j. index_cmp i j ≡ Less) (filter_map member_in es)
+above : (d e : Name) (i : Index) (es : List (Cell × Value)) → is_same_name d e ≡ true → T (below_all cell_cmp (Member e i) es) → AreNamed (Members d) es →
+    AllByRecursion (λ j. index_cmp i j ≡ Less) (filter_map member_in es)
 above d e i [] same below of = tt
 above d e i ((Member f j, v) ∷ es) same below of = (
   second_less (slice_cmp nat_cmp e f) (index_cmp i j) (same_family d e f same of.0) (first _ _ below),
@@ -54,7 +55,8 @@ ascending d ((Implicit n, v) ∷ es) sorted of = let no : ⊥ = cc in absurd no
 ascending d ((Element f j, v) ∷ es) sorted of = let no : ⊥ = cc in absurd no
 
 pub members_once : (s : Cells) (d : Name) → IsListedOnce (filter_map member_in (seen s (Members d)))
-members_once s d = IsListedOnce-sorted index_cmp index_laws.total-law index_cmp-IsAntisymmetric _ (ascending d (seen s (Members d)) (seen_sorted s (Members d)) (seen_named s (Members d)))
+members_once s d = IsListedOnce-sorted index_cmp index_laws.total-law index_cmp-IsAntisymmetric _
+    (ascending d (seen s (Members d)) (seen_sorted s (Members d)) (seen_named s (Members d)))
 
 -- ---- exactly those that are there
 
@@ -82,7 +84,8 @@ present s kind i None false m e = refl
 present s kind i (Some v) true m e = ap Some m.0
 present s kind i (Some v) false m e = cc
 
-pub members_found : (s : Cells) (d : Name) (kind : Option DomainKind) (i : Index) → IsMember s kind i (get s (Member d i)) → get s (Member d i) ≡ present_if (has (filter_map member_in (seen s (Members d))) i)
+pub members_found : (s : Cells) (d : Name) (kind : Option DomainKind) (i : Index) → IsMember s kind i (get s (Member d i)) →
+    get s (Member d i) ≡ present_if (has (filter_map member_in (seen s (Members d))) i)
 members_found s d kind i m =
     present s kind i (get s (Member d i)) _ m (
     ap is_some (sym (find_seen s (Members d) (Member d i) (itself d)))

@@ -22,7 +22,8 @@ module _ (s : Cells) (d : Name) (i : Index) (next : Option Value → DomainKind 
   after_kind kind = with_members kind (λ x. index_fits (kind_of kind) i (λ y. after_fits kind))
 
   -- where the domain is there and may have the index, it is seen whether it has it
-  pub reaches : (rs ss us : List Pattern) (kind : DomainKind) (r : Result Changes AttemptErr) → Gives (domain_named d) s rs kind ss → stopped (has_members kind) ≡ Ok tt → stopped (fits (kind_of kind) i) ≡ Ok tt → Attempts (after_fits kind) s ss r us
+  pub reaches : (rs ss us : List Pattern) (kind : DomainKind) (r : Result Changes AttemptErr) → Gives (domain_named d) s rs kind ss →
+      stopped (has_members kind) ≡ Ok tt → stopped (fits (kind_of kind) i) ≡ Ok tt → Attempts (after_fits kind) s ss r us
       → Attempts (domain_named d after_kind) s rs r us
   reaches rs ss us kind r found set fitting rest =
       goes_on (domain_named d) s rs ss after_kind kind r us found (

@@ -30,11 +30,13 @@ use Rattle.wb_resize.specs.Dropped.{dropped_domain_cells}
 use Rattle.wb_resize.proofs.Fills.{arrays, zeros_once}
 use Rattle.wb_resize.proofs.Users.{users}
 use Rattle.wb_edit.specs.declared.commands.seen.NewValue.TheVariants.{Fill as fill_with, Clear}
-use Rattle.wb_edit.specs.declared.edit.Edit.TheVariants.{Domain, Remap, Sparse, Assoc, Array, Set, Irv, Copy, Fill, FillAll, DropArray, All, Add, Remove, DropDomain, Reshape, DomainOfSet, FillOfSet, Load}
+use Rattle.wb_edit.specs.declared.edit.Edit.TheVariants.{Domain, Remap, Sparse, Assoc, Array, Set, Irv, Copy, Fill, FillAll, DropArray, All, Add, Remove}
+use Rattle.wb_edit.specs.declared.edit.Edit.TheVariants.{DropDomain, Reshape, DomainOfSet, FillOfSet, Load}
 use Rattle.wb_edit.specs.declared.operation.Operation.{Operation}
 use Rattle.wb_edit.specs.declared.refusal.Refusal.TheVariants.{WrongKind}
 use Rattle.wb_edit.specs.Changed.{set_all, value_of}
-use Rattle.wb_edit.specs.Commands.{new_domain_changes, domain, remap, sparse, assoc, new_array_changes, array, set, irv, copy, fill, fill_all, dropped_cells, drop_array, number_cells, all_results, all, drop_domain, add_unless, remove_if, book_cells, load}
+use Rattle.wb_edit.specs.Commands.{new_domain_changes, domain, remap, sparse, assoc, new_array_changes, array, set, irv, copy, fill, fill_all, dropped_cells}
+use Rattle.wb_edit.specs.Commands.{drop_array, number_cells, all_results, all, drop_domain, add_unless, remove_if, book_cells, load}
 use Rattle.wb_edit.specs.Elements.{elements, same_domain, results, all_within, over_one_domain}
 use Rattle.wb_edit.specs.Implicit.{has_implicit, parent_in, implicit_value, implicit_inside, implicit_at, or_implicit, element_or_implicit}
 use Rattle.wb_edit.specs.Kinds.{rank_of, is_sparse, rectangular, over_sparse}
@@ -61,17 +63,29 @@ use Rattle.wb_reading.specs.Texts.Books.{cells_in}
 
 domain_once : (d : Name) (rs : List Range) (m : LayoutMap) → IsListedOnce (indices rs) → AllOnce cell_cmp (new_domain_changes d rs m)
 domain_once d rs m once =
-    let apart : (c : Cell) → ((i : Index) → eq_by_cmp cell_cmp c (In d i) ≡ false) → changes cell_cmp (put_all (map (In d) (indices rs)) Present) c ≡ false = λ c other. elsewhere (In d) (Some Present) c (indices rs) other in
-    (apart (Object d) (λ i. refl), (apart (Shape d) (λ i. refl), (apart (Mapping d) (λ i. refl), once_indexed (In d) (λ i j e. cc) (Some Present) (indices rs) once)))
+    let apart : (c : Cell) → ((i : Index) → eq_by_cmp cell_cmp c (In d i) ≡ false) → changes cell_cmp (put_all (map (In d) (indices rs)) Present) c ≡ false =
+    λ c other. elsewhere (In d) (Some Present) c (indices rs) other in (
+      apart (Object d) (λ i. refl),
+      (
+        apart (Shape d) (λ i. refl),
+        (apart (Mapping d) (λ i. refl), once_indexed (In d) (λ i j e. cc) (Some Present) (indices rs) once),
+      ),
+    )
 
 -- a cell that is no element of an array
-not_among : (a : Name) (o : Option Value) (is : List Index) (c : Cell) → ((i : Index) → eq_by_cmp cell_cmp c (Element a i) ≡ false) → changes cell_cmp (set_all (map (Element a) is) o) c ≡ false
+not_among : (a : Name) (o : Option Value) (is : List Index) (c : Cell) → ((i : Index) → eq_by_cmp cell_cmp c (Element a i) ≡ false) →
+    changes cell_cmp (set_all (map (Element a) is) o) c ≡ false
 not_among a o is c other = elsewhere (Element a) o c is other
 
 array_once : (a d : Name) (kind : Kind) (is : List Index) → IsListedOnce is → AllOnce cell_cmp (new_array_changes a d kind is)
 array_once a d kind is once =
-    let apart = not_among a (Some (Number (pos 0))) is in
-    (apart (Object a) (λ i. refl), (apart (Use d a) (λ i. refl), (apart (Implicit a) (λ i. refl), once_indexed (Element a) (λ i j e. cc) (Some (Number (pos 0))) is once)))
+    let apart = not_among a (Some (Number (pos 0))) is in (
+      apart (Object a) (λ i. refl),
+      (
+        apart (Use d a) (λ i. refl),
+        (apart (Implicit a) (λ i. refl), once_indexed (Element a) (λ i j e. cc) (Some (Number (pos 0))) is once),
+      ),
+    )
 
 -- ---- all elements of an array
 
@@ -85,7 +99,8 @@ drop_array_once : (s : Cells) (a : Name) → Once (drop_array a) s
 drop_array_once s a =
     let es : List (Index × ℤ) = readers.elements s a in
     let apart = not_among a None (keys_of es) in
-    let own : AllOnce cell_cmp (clear_all (map (Element a) (keys_of es))) = subst (AllOnce cell_cmp) (all_absent a es) (once_seen a (λ e. value_of Clear e.1) es (elements_ascend s a)) in
+    let own : AllOnce cell_cmp (clear_all (map (Element a) (keys_of es))) =
+    subst (AllOnce cell_cmp) (all_absent a es) (once_seen a (λ e. value_of Clear e.1) es (elements_ascend s a)) in
     once_test s (Object a) array_kind (λ array. elements a (λ es. write (dropped_cells a array.0 (keys_of es)))) (λ array _.
     (apart (Object a) (λ i. refl), (apart (Use array.0 a) (λ i. refl), (apart (Implicit a) (λ i. refl), own))))
 
@@ -150,10 +165,12 @@ add_unless_once s None d kind i = resized_once s d kind (i ∷ []) [] (i ∷ [])
 
 remove_if_once : (s : Cells) (o : Option Value) (d : Name) (kind : DomainKind) (i : Index) → Once (remove_if o d kind i) s
 remove_if_once s None d kind i = tt
-remove_if_once s (Some v) d kind i = once_resized (i ∷ []) [] (single_once i) none_once (λ p q x e f. none_apart q x f) (kind_of kind) d (zeros (arrays s d)) (zeros_once s d)
+remove_if_once s (Some v) d kind i = once_resized (i ∷ []) [] (single_once i) none_once (λ p q x e f. none_apart q x f) (kind_of kind) d (zeros (arrays s d))
+    (zeros_once s d)
 
 -- the tests on an index that is added or removed
-member_once : (s : Cells) (d : Name) (i : Index) (next : Option Value → DomainKind → Tree) → ((o : Option Value) (kind : DomainKind) → Once (next o kind) s) → Once (domain_named d (λ kind. with_members kind (λ x. index_fits (kind_of kind) i (λ y. read (Member d i) (λ there. next there kind))))) s
+member_once : (s : Cells) (d : Name) (i : Index) (next : Option Value → DomainKind → Tree) → ((o : Option Value) (kind : DomainKind) → Once (next o kind) s) →
+    Once (domain_named d (λ kind. with_members kind (λ x. index_fits (kind_of kind) i (λ y. read (Member d i) (λ there. next there kind))))) s
 member_once s d i next once =
     let last : DomainKind → Tree = λ kind. read (Member d i) (λ there. next there kind) in
     let keyed : DomainKind → Tree = λ kind. index_fits (kind_of kind) i (λ y. last kind) in

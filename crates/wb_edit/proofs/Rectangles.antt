@@ -1,5 +1,6 @@
 -- Looks at many cells.
-use Rattle.std.proofs.Common.{◌≡◌, ℕ, zero, suc, ◌+◌, ◌≤◌, arith, Bool, true, false, ◌&&◌, ◌||◌, List, [], ◌∷◌, ◌++◌, map, take, length, Option, Some, is_some, slice_get, refl, sym, ap, ◌∙◌, append_assoc, append-nil, add-one}
+use Rattle.std.proofs.Common.{◌≡◌, ℕ, zero, suc, ◌+◌, ◌≤◌, arith, Bool, true, false, ◌&&◌, ◌||◌, List, [], ◌∷◌, ◌++◌, map, take, length, Option, Some, is_some}
+use Rattle.std.proofs.Common.{slice_get, refl, sym, ap, ◌∙◌, append_assoc, append-nil, add-one}
 use Rattle.std.proofs.lemmas.List.Folds.{list_any-append}
 use Rattle.std.specs.FinMap.{get}
 use Rattle.std.specs.List.{list_all, list_any}
@@ -43,7 +44,8 @@ list_all-last [] v = elim (is_some v) as (λ b. (b && true) ≡ b) [ true ↦ re
 list_all-last (w ∷ vs) v = ap (λ b. is_some w && b) (list_all-last vs v) ∙ and-assoc (is_some w) (list_all is_some vs) (is_some v)
 
 -- one more element that a test is asked of
-pub each_more : {X : Type 0} (test : X → Bool) (xs : List X) (p : ℕ) (x : X) → slice_get xs p ≡ Some x → list_all test (take (p + 1) xs) ≡ (list_all test (take p xs) && test x)
+pub each_more : {X : Type 0} (test : X → Bool) (xs : List X) (p : ℕ) (x : X) → slice_get xs p ≡ Some x →
+    list_all test (take (p + 1) xs) ≡ (list_all test (take p xs) && test x)
 each_more test xs p x here =
     ap (λ n. list_all test (take n xs)) (add-one p) ∙ ap (list_all test) (take_more xs p x here) ∙ last (take p xs)
   where
@@ -66,13 +68,15 @@ module _ (f : Index → Cell) (is : List Index) (p : ℕ) (i : Index) (here : sl
       ∙ ap (λ ps. rs ++ ps) (map-append one_of (map f (take p is)) (f i ∷ []))
       ∙ sym (append_assoc rs (map one_of (map f (take p is))) (one_of (f i) ∷ []))
 
-  pub all_more : (s : Cells) → list_all is_some (map (get s) (map f (take (p + 1) is))) ≡ (list_all is_some (map (get s) (map f (take p is))) && is_some (get s (f i)))
+  pub all_more : (s : Cells) → list_all is_some (map (get s) (map f (take (p + 1) is))) ≡
+      (list_all is_some (map (get s) (map f (take p is))) && is_some (get s (f i)))
   all_more s =
       ap (λ cs. list_all is_some (map (get s) cs)) cells_more
       ∙ ap (list_all is_some) (map-append (get s) (map f (take p is)) (f i ∷ []))
       ∙ list_all-last (map (get s) (map f (take p is))) (get s (f i))
 
-  pub any_more : (s : Cells) → list_any is_some (map (get s) (map f (take (p + 1) is))) ≡ (list_any is_some (map (get s) (map f (take p is))) || is_some (get s (f i)))
+  pub any_more : (s : Cells) → list_any is_some (map (get s) (map f (take (p + 1) is))) ≡
+      (list_any is_some (map (get s) (map f (take p is))) || is_some (get s (f i)))
   any_more s =
       ap (λ cs. list_any is_some (map (get s) cs)) cells_more
       ∙ ap (list_any is_some) (map-append (get s) (map f (take p is)) (f i ∷ []))

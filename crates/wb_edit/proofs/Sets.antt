@@ -22,7 +22,8 @@ module _ (s : Cells) (d : Name) (kind : Kind) (given : Operand) (next : List Ind
 
   module _ (rs ss us : List Pattern) (tested : Gives (gives_set kind given) s rs tt ss) where
     pub stops_at_old : (why : AttemptErr) → Looks (members d) s ss (Err why) us → Attempts sets_seen s rs (Err why) us
-    stops_at_old why seen = goes_on (gives_set kind given) s rs ss (λ x. members d after_old) tt (Err why) us tested (stops (members d) s ss us after_old why seen)
+    stops_at_old why seen = goes_on (gives_set kind given) s rs ss (λ x. members d after_old) tt (Err why) us tested
+        (stops (members d) s ss us after_old why seen)
 
     module _ (vs : List Pattern) (old : List Index) (found : Gives (members d) s ss old us) where
       pub stops_at_given : (why : AttemptErr) → Looks (indices_given given) s us (Err why) vs → Attempts sets_seen s rs (Err why) vs
@@ -30,7 +31,8 @@ module _ (s : Cells) (d : Name) (kind : Kind) (given : Operand) (next : List Ind
           goes_on (gives_set kind given) s rs ss (λ x. members d after_old) tt (Err why) vs tested (
           goes_on (members d) s ss us after_old old (Err why) vs found (stops (indices_given given) s us vs (next old) why seen))
 
-      pub both_seen : (ws : List Pattern) (other : List Index) (r : Result Changes AttemptErr) → Gives (indices_given given) s us other vs → Attempts (next old other) s vs r ws → Attempts sets_seen s rs r ws
+      pub both_seen : (ws : List Pattern) (other : List Index) (r : Result Changes AttemptErr) → Gives (indices_given given) s us other vs →
+          Attempts (next old other) s vs r ws → Attempts sets_seen s rs r ws
       both_seen ws other r seen rest =
           goes_on (gives_set kind given) s rs ss (λ x. members d after_old) tt r ws tested (
           goes_on (members d) s ss us after_old old r ws found (

@@ -1,5 +1,7 @@
 -- Two arrays over one domain list the same indices, so that their elements stand side by side.
-use Rattle.std.proofs.Common.{◌≡◌, ℕ, zero, suc, ◌+◌, ◌<◌, ◌≤◌, if◌then◌else◌, is_ok, is_err, Bool, true, false, cond, ◌&&◌, T, ℤ, List, [], ◌∷◌, ◌++◌, map, take, length, get_or, Option, Some, None, option_map, Result, Ok, Err, FitsSigned, refl, sym, ap, subst, ◌∙◌, arith, add-one, Ordering}
+use Rattle.std.proofs.Common.{◌≡◌, ℕ, zero, suc, ◌+◌, ◌<◌, ◌≤◌, if◌then◌else◌, is_ok, is_err, Bool, true, false, cond, ◌&&◌, T, ℤ, List, [], ◌∷◌, ◌++◌, map}
+use Rattle.std.proofs.Common.{take, length, get_or, Option, Some, None, option_map, Result, Ok, Err, FitsSigned, refl, sym, ap, subst, ◌∙◌, arith, add-one}
+use Rattle.std.proofs.Common.{Ordering}
 use Rattle.std.proofs.lemmas.Option.{none-some, same_Some}
 use Rattle.std.specs.FinMap.{get, find, is_sorted}
 use Rattle.std.specs.FinMap.Entries.{below_all, same_entries}
@@ -67,10 +69,11 @@ some_if false = None
 
 find-blank : (i : Index) (es : List (Index × ℤ)) → find index_cmp i (blank es) ≡ option_map nothing_of (find index_cmp i es)
 find-blank i [] = refl
-find-blank i (e ∷ es) = elim (eq_by_cmp index_cmp i e.0) as (λ b. cond b (Some tt) (find index_cmp i (blank es)) ≡ option_map nothing_of (cond b (Some e.1) (find index_cmp i es))) [
-  | true ↦ refl
-  | false ↦ find-blank i es
-]
+find-blank i (e ∷ es) = elim (eq_by_cmp index_cmp i e.0) as (λ b. cond b (Some tt) (find index_cmp i (blank es)) ≡ option_map nothing_of
+    (cond b (Some e.1) (find index_cmp i es))) [
+      | true ↦ refl
+      | false ↦ find-blank i es
+    ]
 
 there_if : (b : Bool) (o : Option Value) → IsElement b o → option_map nothing_of (option_and_then number_of o) ≡ some_if b
 there_if true o number = rw number.1 refl
@@ -82,8 +85,10 @@ same_indices s a b h alike =
     let xs : List (Index × ℤ) = elements s a in
     let ys : List (Index × ℤ) = elements s b in
     let at : (n : Name) (i : Index) → find index_cmp i (blank (elements s n)) ≡ some_if (is_index_of_array s (array_at s n) i) = λ n i.
-    find-blank i (elements s n) ∙ ap (option_map nothing_of) (find_element s n i) ∙ there_if (is_index_of_array s (array_at s n) i) (get s (Element n i)) (h.elements n i) in
-    let same : blank xs ≡ blank ys = same_entries index_cmp index_order.total index_order.strict (blank xs) (blank ys) (sorted-blank xs (elements_ascend s a)) (sorted-blank ys (elements_ascend s b)) (λ i.
+    find-blank i (elements s n) ∙ ap (option_map nothing_of) (find_element s n i) ∙
+    there_if (is_index_of_array s (array_at s n) i) (get s (Element n i)) (h.elements n i) in
+    let same : blank xs ≡ blank ys = same_entries index_cmp index_order.total index_order.strict (blank xs) (blank ys) (sorted-blank xs (elements_ascend s a))
+    (sorted-blank ys (elements_ascend s b)) (λ i.
     at a i ∙ ap (λ o. some_if (is_index_of_array s o i)) alike ∙ sym (at b i)) in
     sym (keys-blank xs) ∙ ap (λ es. keys_of es) same ∙ keys-blank ys
 
@@ -94,7 +99,8 @@ shown_in (Ok (x ∷ xs)) = array_in x.value
 shown_in (Ok []) = None
 shown_in (Err why) = None
 
-sees : (s : Cells) (x : Name × Kind) (j : Result (Name × Kind) Refusal) → outcome (judged j (λ y. write (set_to (Object y.0) (Array y.0 y.1) ∷ []))) s ≡ Ok (set_to (Object x.0) (Array x.0 x.1) ∷ []) → j ≡ Ok x
+sees : (s : Cells) (x : Name × Kind) (j : Result (Name × Kind) Refusal) →
+    outcome (judged j (λ y. write (set_to (Object y.0) (Array y.0 y.1) ∷ []))) s ≡ Ok (set_to (Object x.0) (Array x.0 x.1) ∷ []) → j ≡ Ok x
 sees s x (Ok y) e = let shown : Some y ≡ Some x = ap shown_in e in ap Ok (same_Some y x shown)
 sees s x (Err why) e = let shown : None ≡ Some x = ap shown_in e in absurd (none-some x shown)
 
@@ -102,7 +108,8 @@ sees s x (Err why) e = let shown : None ≡ Some x = ap shown_in e in absurd (no
 pub saw_array : (s : Cells) (a : Name) (rs ss : List Pattern) (x : Name × Kind) → Gives (array_named a) s rs x ss → get s (Object a) ≡ Some (Array x.0 x.1)
 saw_array s a rs ss x g =
     let next : Name × Kind → Tree = λ y. write (set_to (Object y.0) (Array y.0 y.1) ∷ []) in
-    array_is (get s (Object a)) x (sees s x (array_kind (get s (Object a))) (ap (λ v. outcome (judged (array_kind v) next) s) (sym (seen_value s (Object a))) ∙ (g next).0))
+    array_is (get s (Object a)) x (sees s x (array_kind (get s (Object a)))
+    (ap (λ v. outcome (judged (array_kind v) next) s) (sym (seen_value s (Object a))) ∙ (g next).0))
 
 pub went_on : (j : Result (Unit {0}) Refusal) (x : Unit {0}) → stopped j ≡ Ok x → j ≡ Ok x
 went_on (Ok y) x e = refl
@@ -112,7 +119,8 @@ found_same : (b : Bool) (x : Unit {0}) (why : Refusal) → ◌≡◌ {A = Result
 found_same true x why e = refl
 found_same false x why e = cc
 
-pub one_array : (s : Cells) (a b d e : Name) (kind other : Kind) (x : Unit {0}) → IsWellFormed s → get s (Object a) ≡ Some (Array d kind) → get s (Object b) ≡ Some (Array e other) → same_domain d e ≡ Ok x → array_at s a ≡ array_at s b
+pub one_array : (s : Cells) (a b d e : Name) (kind other : Kind) (x : Unit {0}) → IsWellFormed s → get s (Object a) ≡ Some (Array d kind) →
+    get s (Object b) ≡ Some (Array e other) → same_domain d e ≡ Ok x → array_at s a ≡ array_at s b
 one_array s a b d e kind other x h there also same =
     let name : d ≡ e = same_name d e (found_same (is_same_name d e) x _ same) in
     let one : option_map kind_of (domain_at s d) ≡ Some kind = h.objects a (Array d kind) there in
@@ -150,7 +158,8 @@ passed_over how y (x ∷ xs) ys below =
     let value : value_at (y ∷ ys) x.0 ≡ value_at ys x.0 = rw (other, value_at) refl in
     (λ i. (x.0, result_of how x.1 (value i)) ∷ passed_over how y xs ys (second _ _ below) i)
 
-pub results_are : (how : Operation) (xs ys : List (Index × ℤ)) → keys_of xs ≡ keys_of ys → T (is_sorted index_cmp xs) → results how xs ys ≡ side_by_side how xs ys
+pub results_are : (how : Operation) (xs ys : List (Index × ℤ)) → keys_of xs ≡ keys_of ys → T (is_sorted index_cmp xs) →
+    results how xs ys ≡ side_by_side how xs ys
 results_are how [] ys alike s = refl
 results_are how (x ∷ xs) [] alike s = let none : x.0 ∷ keys_of xs ≡ [] = alike in cc
 results_are how (x ∷ xs) (y ∷ ys) alike s =
@@ -167,17 +176,21 @@ pub same_length : (xs ys : List (Index × ℤ)) → keys_of xs ≡ keys_of ys �
 same_length [] [] alike = refl
 same_length [] (y ∷ ys) alike = let none : [] ≡ y.0 ∷ keys_of ys = alike in cc
 same_length (x ∷ xs) [] alike = let none : x.0 ∷ keys_of xs ≡ [] = alike in cc
-same_length (x ∷ xs) (y ∷ ys) alike = let both_are : x.0 ∷ keys_of xs ≡ y.0 ∷ keys_of ys = alike in let rest : keys_of xs ≡ keys_of ys = cc in let e = same_length xs ys rest in omega (arith, e)
+same_length (x ∷ xs) (y ∷ ys) alike = let both_are : x.0 ∷ keys_of xs ≡ y.0 ∷ keys_of ys = alike in let rest : keys_of xs ≡ keys_of ys = cc in let e =
+    same_length xs ys rest in omega (arith, e)
 
 -- the result at a place
-pub result_at : (how : Operation) (xs ys : List (Index × ℤ)) (p : ℕ) (d e : Index × ℤ) → p < length xs → p < length ys → take (p + 1) (side_by_side how xs ys) ≡ take p (side_by_side how xs ys) ++ ((get_or xs p d).0, result_of how (get_or xs p d).1 (get_or ys p e).1) ∷ []
+pub result_at : (how : Operation) (xs ys : List (Index × ℤ)) (p : ℕ) (d e : Index × ℤ) → p < length xs → p < length ys →
+    take (p + 1) (side_by_side how xs ys) ≡ take p (side_by_side how xs ys) ++ ((get_or xs p d).0, result_of how (get_or xs p d).1 (get_or ys p e).1) ∷ []
 result_at how xs ys p d e low below = ap (λ n. take n (side_by_side how xs ys)) (add-one p) ∙ at how xs ys p d e low below
   where
-    at : (how : Operation) (xs ys : List (Index × ℤ)) (p : ℕ) (d e : Index × ℤ) → p < length xs → p < length ys → take (suc p) (side_by_side how xs ys) ≡ take p (side_by_side how xs ys) ++ ((get_or xs p d).0, result_of how (get_or xs p d).1 (get_or ys p e).1) ∷ []
+    at : (how : Operation) (xs ys : List (Index × ℤ)) (p : ℕ) (d e : Index × ℤ) → p < length xs → p < length ys →
+        take (suc p) (side_by_side how xs ys) ≡ take p (side_by_side how xs ys) ++ ((get_or xs p d).0, result_of how (get_or xs p d).1 (get_or ys p e).1) ∷ []
     at how [] ys p d e low below = absurd (omega (arith, low))
     at how (x ∷ xs) [] p d e low below = absurd (omega (arith, below))
     at how (x ∷ xs) (y ∷ ys) zero d e low below = refl
-    at how (x ∷ xs) (y ∷ ys) (suc p) d e low below = ap (λ zs. (x.0, result_of how x.1 y.1) ∷ zs) (at how xs ys p d e (omega (arith, low)) (omega (arith, below)))
+    at how (x ∷ xs) (y ∷ ys) (suc p) d e low below = ap (λ zs. (x.0, result_of how x.1 y.1) ∷ zs)
+        (at how xs ys p d e (omega (arith, low)) (omega (arith, below)))
 
 pub length-side : (how : Operation) (xs ys : List (Index × ℤ)) → length xs ≡ length ys → length (side_by_side how xs ys) ≡ length xs
 length-side how [] ys e = refl
@@ -200,14 +213,17 @@ and-false false = refl
 
 within-append : (xs ys : List (Index × ℤ)) → list_all (λ z. is_i64 z.1) (xs ++ ys) ≡ (list_all (λ z. is_i64 z.1) xs && list_all (λ z. is_i64 z.1) ys)
 within-append [] ys = refl
-within-append (x ∷ xs) ys = ap (λ b. is_i64 x.1 && b) (within-append xs ys) ∙ and-assoc (is_i64 x.1) (list_all (λ z. is_i64 z.1) xs) (list_all (λ z. is_i64 z.1) ys)
+within-append (x ∷ xs) ys = ap (λ b. is_i64 x.1 && b) (within-append xs ys) ∙
+    and-assoc (is_i64 x.1) (list_all (λ z. is_i64 z.1) xs) (list_all (λ z. is_i64 z.1) ys)
 
 -- one more that is of 64 bits
-pub within_more : (zs : List (Index × ℤ)) (z : Index × ℤ) → list_all (λ z. is_i64 z.1) zs ≡ true → is_i64 z.1 ≡ true → list_all (λ z. is_i64 z.1) (zs ++ z ∷ []) ≡ true
+pub within_more : (zs : List (Index × ℤ)) (z : Index × ℤ) → list_all (λ z. is_i64 z.1) zs ≡ true → is_i64 z.1 ≡ true →
+    list_all (λ z. is_i64 z.1) (zs ++ z ∷ []) ≡ true
 within_more zs z before here = within-append zs (z ∷ []) ∙ rw (before, here) refl
 
 -- one that is not
-pub not_within : (how : Operation) (xs ys : List (Index × ℤ)) (p : ℕ) (d e : Index × ℤ) → p < length xs → p < length ys → is_i64 (result_of how (get_or xs p d).1 (get_or ys p e).1) ≡ false → list_all (λ z. is_i64 z.1) (side_by_side how xs ys) ≡ false
+pub not_within : (how : Operation) (xs ys : List (Index × ℤ)) (p : ℕ) (d e : Index × ℤ) → p < length xs → p < length ys →
+    is_i64 (result_of how (get_or xs p d).1 (get_or ys p e).1) ≡ false → list_all (λ z. is_i64 z.1) (side_by_side how xs ys) ≡ false
 not_within how [] ys p d e low below out = absurd (omega (arith, low))
 not_within how (x ∷ xs) [] p d e low below out = absurd (omega (arith, below))
 not_within how (x ∷ xs) (y ∷ ys) zero d e low below out = rw out refl
@@ -229,8 +245,10 @@ pub all_kept_is : (b : Bool) (zs ys : List (Index × ℤ)) → all_kept_if b zs 
 all_kept_is true zs ys e = let same : zs ≡ ys = cc in (refl, same)
 all_kept_is false zs ys e = cc
 
-pub kept_ascend : (how : Operation) (xs ys zs : List (Index × ℤ)) → T (is_sorted index_cmp xs) → all_within (results how xs ys) ≡ Ok zs → T (is_sorted index_cmp zs)
-kept_ascend how xs ys zs s e = subst (λ es. T (is_sorted index_cmp es)) (all_kept_is (list_all (λ z. is_i64 z.1) (results how xs ys)) (results how xs ys) zs e).1 (sorted-results how xs ys s)
+pub kept_ascend : (how : Operation) (xs ys zs : List (Index × ℤ)) → T (is_sorted index_cmp xs) → all_within (results how xs ys) ≡ Ok zs →
+    T (is_sorted index_cmp zs)
+kept_ascend how xs ys zs s e = subst (λ es. T (is_sorted index_cmp es))
+    (all_kept_is (list_all (λ z. is_i64 z.1) (results how xs ys)) (results how xs ys) zs e).1 (sorted-results how xs ys s)
 
 -- ---- the loop
 
@@ -249,11 +267,13 @@ pub pushed : {X A B : Type 0} (r : Result A B) (xs ys : List X) (x : X) → is_e
 pushed (Ok a) xs ys x ok e = e
 pushed (Err b) xs ys x ok e = cc
 
-module _ (how : Operation) (xs ys : List (Index × ℤ)) (alike : keys_of xs ≡ keys_of ys) (p : ℕ) (x y : Index × ℤ) (low : p < length xs) (here : x ≡ get_or xs p x) (there : y ≡ get_or ys p y) where
+module _ (how : Operation) (xs ys : List (Index × ℤ)) (alike : keys_of xs ≡ keys_of ys) (p : ℕ) (x y : Index × ℤ) (low : p < length xs)
+    (here : x ≡ get_or xs p x) (there : y ≡ get_or ys p y) where
   also_low : p < length ys
   also_low = let same = same_length xs ys alike in omega (arith, low, same)
 
-  pub next_result : (z : ℤ) (made more : List (Index × ℤ)) → stopped (fits_integer (result_of how x.1 y.1)) ≡ Ok z → made ≡ take p (side_by_side how xs ys) → list_all (λ z. is_i64 z.1) made ≡ true → more ≡ made ++ (x.0, z) ∷ []
+  pub next_result : (z : ℤ) (made more : List (Index × ℤ)) → stopped (fits_integer (result_of how x.1 y.1)) ≡ Ok z → made ≡ take p (side_by_side how xs ys) →
+      list_all (λ z. is_i64 z.1) made ≡ true → more ≡ made ++ (x.0, z) ∷ []
       → (more ≡ take (p + 1) (side_by_side how xs ys)) × (list_all (λ z. is_i64 z.1) more ≡ true)
   next_result z made more given sofar within_64 is =
       let w : ℤ = result_of how x.1 y.1 in
@@ -266,15 +286,19 @@ module _ (how : Operation) (xs ys : List (Index × ℤ)) (alike : keys_of xs ≡
         ap (list_all (λ z. is_i64 z.1)) same ∙ within_more made (x.0, w) within_64 kept.0,
       )
 
-  pub halted : (why : AttemptErr) → T (is_sorted index_cmp xs) → stopped (fits_integer (result_of how x.1 y.1)) ≡ Err why → Judges (all_within (results how xs ys)) (Err why)
+  pub halted : (why : AttemptErr) → T (is_sorted index_cmp xs) → stopped (fits_integer (result_of how x.1 y.1)) ≡ Err why →
+      Judges (all_within (results how xs ys)) (Err why)
   halted why s given =
       let w : ℤ = result_of how x.1 y.1 in
       let out = halted_with (is_i64 w) w why given in
-      let value : result_of how (get_or xs p x).1 (get_or ys p y).1 ≡ w = ap (λ e. result_of how e.1 (get_or ys p y).1) (sym here) ∙ ap (λ e. result_of how x.1 e.1) (sym there) in
+      let value : result_of how (get_or xs p x).1 (get_or ys p y).1 ≡ w = ap (λ e. result_of how e.1 (get_or ys p y).1) (sym here) ∙
+      ap (λ e. result_of how x.1 e.1) (sym there) in
       let none : list_all (λ z. is_i64 z.1) (side_by_side how xs ys) ≡ false = not_within how xs ys p x y low also_low (ap is_i64 value ∙ out.0) in
-      subst (λ stop. Judges (all_within (results how xs ys)) (Err stop)) out.1 (ap all_within (results_are how xs ys alike s) ∙ ap (λ b. all_kept_if b (side_by_side how xs ys)) none)
+      subst (λ stop. Judges (all_within (results how xs ys)) (Err stop)) out.1
+      (ap all_within (results_are how xs ys alike s) ∙ ap (λ b. all_kept_if b (side_by_side how xs ys)) none)
 
-pub results_made : (how : Operation) (xs ys made : List (Index × ℤ)) (p : ℕ) → keys_of xs ≡ keys_of ys → T (is_sorted index_cmp xs) → length xs ≤ p → made ≡ take p (side_by_side how xs ys) → list_all (λ z. is_i64 z.1) made ≡ true → all_within (results how xs ys) ≡ Ok made
+pub results_made : (how : Operation) (xs ys made : List (Index × ℤ)) (p : ℕ) → keys_of xs ≡ keys_of ys → T (is_sorted index_cmp xs) → length xs ≤ p →
+    made ≡ take p (side_by_side how xs ys) → list_all (λ z. is_i64 z.1) made ≡ true → all_within (results how xs ys) ≡ Ok made
 results_made how xs ys made p alike s past is within_64 =
     let size = length-side how xs ys (same_length xs ys alike) in
     let whole_made : made ≡ side_by_side how xs ys = is ∙ whole (side_by_side how xs ys) p (omega (arith, past, size)) in

@@ -22,7 +22,8 @@ use Rattle.wb_edit.specs.Plans.{Gives, Looks, stopped}
 first_of : (c : Cell) (es : List (Cell × Value)) → first_value (where_key cell_cmp (eq_by_cmp cell_cmp c) es) ≡ find cell_cmp c es
 first_of c [] = refl
 first_of c (e ∷ es) =
-    elim (eq_by_cmp cell_cmp c e.0) as (λ b. first_value (cond b (e ∷ where_key cell_cmp (eq_by_cmp cell_cmp c) es) (where_key cell_cmp (eq_by_cmp cell_cmp c) es)) ≡ cond b (Some e.1) (find cell_cmp c es)) [
+    elim (eq_by_cmp cell_cmp c e.0) as (λ b. first_value (cond b (e ∷ where_key cell_cmp (eq_by_cmp cell_cmp c) es)
+    (where_key cell_cmp (eq_by_cmp cell_cmp c) es)) ≡ cond b (Some e.1) (find cell_cmp c es)) [
       | true ↦ refl
       | false ↦ first_of c es
     ]
@@ -44,7 +45,8 @@ module _ {X : Type 0} (t : Look X) (s : Cells) (rs ss : List Pattern) where
   halts f (Refused why) h = λ next. h (λ x. f x next)
   halts f NoMemory h = tt
 
-  judged_by : {Y : Type 0} (j : X → Result Y Refusal) (x : X) → Gives t s rs x ss → (r : Result Y Refusal) → j x ≡ r → Looks (λ next. t (λ x. judged (j x) next)) s rs (stopped r) ss
+  judged_by : {Y : Type 0} (j : X → Result Y Refusal) (x : X) → Gives t s rs x ss → (r : Result Y Refusal) → j x ≡ r →
+      Looks (λ next. t (λ x. judged (j x) next)) s rs (stopped r) ss
   judged_by j x g (Ok y) e = λ next.
       let h = g (λ x. judged (j x) next) in
       (h.0 ∙ ap (λ r. outcome (judged r next) s) e, h.1 ∙ ap (λ r. ss ++ reads (judged r next) s) e)
@@ -53,7 +55,8 @@ module _ {X : Type 0} (t : Look X) (s : Cells) (rs ss : List Pattern) where
       (h.0 ∙ ap (λ r. outcome (judged r next) s) e, sym (h.1 ∙ ap (λ r. ss ++ reads (judged r next) s) e ∙ append-nil ss))
 
   -- a look that goes on, and then another one
-  pub then_looks : {Y : Type 0} (f : X → Look Y) (x : X) (r : Result Y AttemptErr) (us : List Pattern) → Gives t s rs x ss → Looks (f x) s ss r us → Looks (λ next. t (λ x. f x next)) s rs r us
+  pub then_looks : {Y : Type 0} (f : X → Look Y) (x : X) (r : Result Y AttemptErr) (us : List Pattern) → Gives t s rs x ss → Looks (f x) s ss r us →
+      Looks (λ next. t (λ x. f x next)) s rs r us
   then_looks f x (Ok y) us g l = λ next.
       let h = g (λ x. f x next) in
       let k = l next in

@@ -10,7 +10,8 @@ use Rattle.wb_book.specs.WellFormed.{IsRectangle}
 use Rattle.wb_edit.specs.declared.edit.Edit.{Edit as Command}
 use Rattle.wb_edit.specs.ValidSources.{AreNewIndices, AreNewIndicesOnce}
 use Rattle.wb_reading.specs.Texts.Books.{IsBookText}
-use Rattle.wb_edit.specs.declared.edit.Edit.TheVariants.{Domain, Remap, Sparse, Assoc, Array, Set, Irv, Copy, Fill, FillAll, DropArray, All, Add, Remove, DropDomain, Reshape, DomainOfSet, FillOfSet, Load}
+use Rattle.wb_edit.specs.declared.edit.Edit.TheVariants.{Domain, Remap, Sparse, Assoc, Array, Set, Irv, Copy, Fill, FillAll, DropArray, All, Add, Remove}
+use Rattle.wb_edit.specs.declared.edit.Edit.TheVariants.{DropDomain, Reshape, DomainOfSet, FillOfSet, Load}
 
 -- what a command has to be so that it keeps a workbook well formed; every value of the type `Edit` is
 abbrev pub IsValid : Command → Type 0

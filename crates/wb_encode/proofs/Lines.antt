@@ -19,7 +19,8 @@ take_next [] k x e = cc
 take_next (y ∷ es) zero x e = let h : x ≡ y = cc in ap (λ z. z ∷ []) (sym h)
 take_next (y ∷ es) (suc k) x e = ap (λ zs. y ∷ zs) (take_next es k x e)
 
-pub lines_more : (es : List Numbered) (k : ℕ) (x : Numbered) → Some x ≡ numbered_at es (k + 1) → flat_map edit_line (take (k + 1) es) ≡ flat_map edit_line (take k es) ++ edit_line x
+pub lines_more : (es : List Numbered) (k : ℕ) (x : Numbered) → Some x ≡ numbered_at es (k + 1) →
+    flat_map edit_line (take (k + 1) es) ≡ flat_map edit_line (take k es) ++ edit_line x
 lines_more es k x e =
     let next : k + 1 ≡ suc k = omega arith in
     ap (λ n. flat_map edit_line (take n es)) next ∙ ap (flat_map edit_line) (take_next es k x (e ∙ ap (numbered_at es) next))

@@ -8,7 +8,8 @@ use Rattle.serde_json.specs.Written.{compact_text, has_float, items_have_float, 
 use Rattle.serde_json.specs.declared.value.Value.{Value}
 use Rattle.wb_book.specs.declared.values.index.Index.TheVariants.{Point, Text}
 use Rattle.wb_encode.specs.Values.{integer_data, point_data}
-use Rattle.wb_encode.specs.Table.{Meaning, word, name, integer, number, index, given, mapping, optional_mapping, book, some_set, some_mapping, some_integer, Fields}
+use Rattle.wb_encode.specs.Table.{Meaning, word, name, integer, number, index, given, mapping, optional_mapping, book, some_set, some_mapping, some_integer}
+use Rattle.wb_encode.specs.Table.{Fields}
 use Rattle.wb_encode.specs.Encoded.{data_of, members_of}
 
 -- ---- no number in it is a float
@@ -89,8 +90,10 @@ object_of fs = object (members_of fs)
 shallow : (fs : Fields) → depth (object_of fs) ≤ max_depth
 shallow fs = let m = flat_members fs in omega (arith, m)
 
-pub line_is : (v : Value) (fs : Fields) (s : List ℕ) → view v ≡ object_of fs → (has_float (view v) ≡ false → s ≡ compact_text (view v)) → s ≡ compact_text (object_of fs)
+pub line_is : (v : Value) (fs : Fields) (s : List ℕ) → view v ≡ object_of fs → (has_float (view v) ≡ false → s ≡ compact_text (view v)) →
+    s ≡ compact_text (object_of fs)
 line_is v fs s e h = h (ap has_float e ∙ whole_members fs) ∙ ap compact_text e
 
-pub line_json : (v : Value) (fs : Fields) (s : List ℕ) → view v ≡ object_of fs → (depth (view v) ≤ max_depth → (is_utf8 s ≡ true) × (read s ≡ Some (view v))) → (is_utf8 s ≡ true) × (read s ≡ Some (object_of fs))
+pub line_json : (v : Value) (fs : Fields) (s : List ℕ) → view v ≡ object_of fs → (depth (view v) ≤ max_depth → (is_utf8 s ≡ true) × (read s ≡ Some (view v))) →
+    (is_utf8 s ≡ true) × (read s ≡ Some (object_of fs))
 line_json v fs s e h = let k = h (subst (λ d. depth d ≤ max_depth) (sym e) (shallow fs)) in (k.0, k.1 ∙ ap Some e)

@@ -7,7 +7,8 @@ use Rattle.wb_resize.specs.declared.operand.Operand.{Operand}
 use Rattle.wb_resize.specs.declared.operand.Operand.TheVariants.{Rectangle, Items, Named}
 use Rattle.wb_text.specs.Literals.{rectangle_text, set_text, mapping_text}
 use Rattle.wb_encode.specs.Values.{integer_data, index_data}
-use Rattle.wb_encode.specs.Table.{Meaning, word, name, integer, number, index, given, mapping, optional_mapping, book, some_set, some_mapping, some_integer, Fields, edit_table}
+use Rattle.wb_encode.specs.Table.{Meaning, word, name, integer, number, index, given, mapping, optional_mapping, book, some_set, some_mapping, some_integer}
+use Rattle.wb_encode.specs.Table.{Fields, edit_table}
 
 -- the canonical literal, or the name
 abbrev pub given_text : Operand → List ℕ

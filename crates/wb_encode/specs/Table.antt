@@ -15,7 +15,8 @@ use Rattle.wb_resize.specs.declared.new_indices.NewIndices.TheVariants.{To, Slic
 use Rattle.wb_edit.specs.declared.operation.Operation.{Operation}
 use Rattle.wb_edit.specs.declared.operation.Operation.TheVariants as operations
 use Rattle.wb_edit.specs.declared.edit.Edit.{Edit}
-use Rattle.wb_edit.specs.declared.edit.Edit.TheVariants.{Domain, DomainOfSet, Remap, Reshape, Sparse, Assoc, DropDomain, Add, Remove, Array, Set, Irv, Copy, Fill, FillOfSet, FillAll, DropArray, All, Load}
+use Rattle.wb_edit.specs.declared.edit.Edit.TheVariants.{Domain, DomainOfSet, Remap, Reshape, Sparse, Assoc, DropDomain, Add, Remove, Array, Set, Irv, Copy}
+use Rattle.wb_edit.specs.declared.edit.Edit.TheVariants.{Fill, FillOfSet, FillAll, DropArray, All, Load}
 
 -- What a value spells.
 pub data Meaning : Type 0 where
@@ -81,6 +82,7 @@ edit_table (Fill a on v) = (codes "a", name a) ∷ (codes "on", given (Rectangle
 edit_table (FillOfSet a) = (codes "a", name a) ∷ (codes "on", some_set) ∷ op (codes "fill") ∷ (codes "v", some_integer) ∷ []
 edit_table (FillAll a v) = (codes "a", name a) ∷ op (codes "fill_all") ∷ (codes "v", integer v) ∷ []
 edit_table (Irv a v) = (codes "a", name a) ∷ op (codes "irv") ∷ (codes "v", integer v) ∷ []
-edit_table (Copy a i b j c) = (codes "a", name a) ∷ (codes "b", name b) ∷ (codes "c", integer c) ∷ (codes "i", index i) ∷ (codes "j", index j) ∷ op (codes "copy") ∷ []
+edit_table (Copy a i b j c) = (codes "a", name a) ∷ (codes "b", name b) ∷ (codes "c", integer c) ∷ (codes "i", index i) ∷ (codes "j", index j) ∷ op
+    (codes "copy") ∷ []
 edit_table (Load text) = op (codes "load") ∷ (codes "text", book text) ∷ []
 edit_table (All a how b) = (codes "a", name a) ∷ (codes "b", name b) ∷ (codes "how", word (operation_word how)) ∷ op (codes "all") ∷ []

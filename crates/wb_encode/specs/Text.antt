@@ -31,7 +31,8 @@ objects_text s = flat_map (object_line s) (objects s)
 -- the text of a history; every line ends with a line feed, and nothing follows
 abbrev pub history_text : List Numbered → List ℕ
 history_text es =
-    codes "chapel-workbook 2\n" ++ (objects_text (replay (meant es)) ++ (codes "history " ++ (decimal (length es) ++ (codes "\n" ++ (flat_map edit_line es ++ codes "end\n")))))
+    codes "chapel-workbook 2\n" ++ (objects_text (replay (meant es)) ++
+    (codes "history " ++ (decimal (length es) ++ (codes "\n" ++ (flat_map edit_line es ++ codes "end\n")))))
 
 -- ---- what the lines of edits are
 

@@ -72,7 +72,8 @@ pub fn edit_value(alloc: Global, edit: &Edit) -> Result<Value, AllocError>
 /// The compact text of a JSON value, which is read as the value.
 pub fn line_of(alloc: Global, value: &Value) -> Result<String, AllocError>
     ensures text { IfOk result (λ s. has_float (view value.now) ≡ false → string_bytes s ≡ compact_text (view value.now)) }
-    ensures read_back { IfOk result (λ s. depth (view value.now) ≤ max_depth → (is_utf8 (string_bytes s) ≡ true) × (read (string_bytes s) ≡ Some (view value.now))) }
+    ensures read_back { IfOk result (λ s. depth (view value.now) ≤ max_depth → (is_utf8 (string_bytes s) ≡ true) ×
+        (read (string_bytes s) ≡ Some (view value.now))) }
 {
     let text = value.to_string(alloc)?;
     let _line = text.as_str();

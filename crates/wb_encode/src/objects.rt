@@ -11,21 +11,24 @@ use wb_book::{AnyIndex, Name};
 
 /// `d`, `is`, `map`.
 pub(crate) fn new_domain(alloc: Global, d: &Name, is: &str, map: &str) -> Result<Value, AllocError>
-    ensures { IfOk result (λ v. view v ≡ object (member (codes "d") (string d.now) (member (codes "is") (string is.now) (member (codes "map") (string map.now) (member (codes "op") (string (codes "domain")) no_members))))) }
+    ensures { IfOk result (λ v. view v ≡ object (member (codes "d") (string d.now)
+        (member (codes "is") (string is.now) (member (codes "map") (string map.now) (member (codes "op") (string (codes "domain")) no_members))))) }
 {
     json!(in alloc; {"d": d.as_str(), "is": is, "map": map, "op": "domain"})
 }
 
 /// `d`, `map`.
 pub(crate) fn remapped(alloc: Global, d: &Name, map: &str) -> Result<Value, AllocError>
-    ensures { IfOk result (λ v. view v ≡ object (member (codes "d") (string d.now) (member (codes "map") (string map.now) (member (codes "op") (string (codes "remap")) no_members)))) }
+    ensures { IfOk result (λ v. view v ≡ object (member (codes "d") (string d.now)
+        (member (codes "map") (string map.now) (member (codes "op") (string (codes "remap")) no_members)))) }
 {
     json!(in alloc; {"d": d.as_str(), "map": map, "op": "remap"})
 }
 
 /// `d`, `of`.
 pub(crate) fn domain_of(alloc: Global, op: &str, d: &Name, of: &str) -> Result<Value, AllocError>
-    ensures { IfOk result (λ v. view v ≡ object (member (codes "d") (string d.now) (member (codes "of") (string of.now) (member (codes "op") (string op.now) no_members)))) }
+    ensures { IfOk result (λ v. view v ≡ object (member (codes "d") (string d.now)
+        (member (codes "of") (string of.now) (member (codes "op") (string op.now) no_members)))) }
 {
     json!(in alloc; {"d": d.as_str(), "of": of, "op": op})
 }
@@ -39,7 +42,8 @@ pub fn of_domain(alloc: Global, op: &str, d: &Name) -> Result<Value, AllocError>
 
 /// The members `d`, `i` and `op`.
 pub fn index_of_domain(alloc: Global, op: &str, d: &Name, i: &AnyIndex) -> Result<Value, AllocError>
-    ensures { IfOk result (λ v. view v ≡ object (member (codes "d") (string d.now) (member (codes "i") (index_data i.now) (member (codes "op") (string op.now) no_members)))) }
+    ensures { IfOk result (λ v. view v ≡ object (member (codes "d") (string d.now)
+        (member (codes "i") (index_data i.now) (member (codes "op") (string op.now) no_members)))) }
 {
     let i = index_value(alloc, i)?;
     json!(in alloc; {"d": d.as_str(), "i": &i, "op": op})
@@ -47,7 +51,8 @@ pub fn index_of_domain(alloc: Global, op: &str, d: &Name, i: &AnyIndex) -> Resul
 
 /// `a`, `d`.
 pub(crate) fn new_array(alloc: Global, a: &Name, d: &Name) -> Result<Value, AllocError>
-    ensures { IfOk result (λ v. view v ≡ object (member (codes "a") (string a.now) (member (codes "d") (string d.now) (member (codes "op") (string (codes "array")) no_members)))) }
+    ensures { IfOk result (λ v. view v ≡ object (member (codes "a") (string a.now)
+        (member (codes "d") (string d.now) (member (codes "op") (string (codes "array")) no_members)))) }
 {
     json!(in alloc; {"a": a.as_str(), "d": d.as_str(), "op": "array"})
 }
@@ -66,7 +71,8 @@ pub(crate) fn new_element(
     i: &AnyIndex,
     v: i64,
 ) -> Result<Value, AllocError>
-    ensures { IfOk result (λ x. view x ≡ object (member (codes "a") (string a.now) (member (codes "i") (index_data i.now) (member (codes "op") (string (codes "set")) (member (codes "v") (integer_data v) no_members))))) }
+    ensures { IfOk result (λ x. view x ≡ object (member (codes "a") (string a.now)
+        (member (codes "i") (index_data i.now) (member (codes "op") (string (codes "set")) (member (codes "v") (integer_data v) no_members))))) }
 {
     let i = index_value(alloc, i)?;
     json!(in alloc; {"a": a.as_str(), "i": &i, "op": "set", "v": v})
@@ -74,14 +80,16 @@ pub(crate) fn new_element(
 
 /// `a`, `on`, `v`.
 pub(crate) fn filled(alloc: Global, a: &Name, on: &str, v: i64) -> Result<Value, AllocError>
-    ensures { IfOk result (λ x. view x ≡ object (member (codes "a") (string a.now) (member (codes "on") (string on.now) (member (codes "op") (string (codes "fill")) (member (codes "v") (integer_data v) no_members))))) }
+    ensures { IfOk result (λ x. view x ≡ object (member (codes "a") (string a.now)
+        (member (codes "on") (string on.now) (member (codes "op") (string (codes "fill")) (member (codes "v") (integer_data v) no_members))))) }
 {
     json!(in alloc; {"a": a.as_str(), "on": on, "op": "fill", "v": v})
 }
 
 /// `a`, `v`.
 pub(crate) fn array_with(alloc: Global, op: &str, a: &Name, v: i64) -> Result<Value, AllocError>
-    ensures { IfOk result (λ x. view x ≡ object (member (codes "a") (string a.now) (member (codes "op") (string op.now) (member (codes "v") (integer_data v) no_members)))) }
+    ensures { IfOk result (λ x. view x ≡ object (member (codes "a") (string a.now)
+        (member (codes "op") (string op.now) (member (codes "v") (integer_data v) no_members)))) }
 {
     json!(in alloc; {"a": a.as_str(), "op": op, "v": v})
 }
@@ -95,7 +103,9 @@ pub(crate) fn copied(
     j: &AnyIndex,
     c: i64,
 ) -> Result<Value, AllocError>
-    ensures { IfOk result (λ v. view v ≡ object (member (codes "a") (string a.now) (member (codes "b") (string b.now) (member (codes "c") (integer_data c) (member (codes "i") (index_data i.now) (member (codes "j") (index_data j.now) (member (codes "op") (string (codes "copy")) no_members))))))) }
+    ensures { IfOk result (λ v. view v ≡ object (member (codes "a") (string a.now)
+        (member (codes "b") (string b.now) (member (codes "c") (integer_data c)
+        (member (codes "i") (index_data i.now) (member (codes "j") (index_data j.now) (member (codes "op") (string (codes "copy")) no_members))))))) }
 {
     let i = index_value(alloc, i)?;
     let j = index_value(alloc, j)?;
@@ -104,7 +114,8 @@ pub(crate) fn copied(
 
 /// `a`, `b`, `how`.
 pub(crate) fn combined(alloc: Global, a: &Name, how: &str, b: &Name) -> Result<Value, AllocError>
-    ensures { IfOk result (λ v. view v ≡ object (member (codes "a") (string a.now) (member (codes "b") (string b.now) (member (codes "how") (string how.now) (member (codes "op") (string (codes "all")) no_members))))) }
+    ensures { IfOk result (λ v. view v ≡ object (member (codes "a") (string a.now)
+        (member (codes "b") (string b.now) (member (codes "how") (string how.now) (member (codes "op") (string (codes "all")) no_members))))) }
 {
     json!(in alloc; {"a": a.as_str(), "b": b.as_str(), "how": how, "op": "all"})
 }
@@ -118,28 +129,32 @@ pub(crate) fn loaded(alloc: Global, text: &str) -> Result<Value, AllocError>
 
 /// `d`, `or`.
 pub(crate) fn united(alloc: Global, d: &Name, other: &str) -> Result<Value, AllocError>
-    ensures { IfOk result (λ v. view v ≡ object (member (codes "d") (string d.now) (member (codes "op") (string (codes "reshape")) (member (codes "or") (string other.now) no_members)))) }
+    ensures { IfOk result (λ v. view v ≡ object (member (codes "d") (string d.now)
+        (member (codes "op") (string (codes "reshape")) (member (codes "or") (string other.now) no_members)))) }
 {
     json!(in alloc; {"d": d.as_str(), "op": "reshape", "or": other})
 }
 
 /// `and`, `d`.
 pub(crate) fn intersected(alloc: Global, d: &Name, other: &str) -> Result<Value, AllocError>
-    ensures { IfOk result (λ v. view v ≡ object (member (codes "and") (string other.now) (member (codes "d") (string d.now) (member (codes "op") (string (codes "reshape")) no_members)))) }
+    ensures { IfOk result (λ v. view v ≡ object (member (codes "and") (string other.now)
+        (member (codes "d") (string d.now) (member (codes "op") (string (codes "reshape")) no_members)))) }
 {
     json!(in alloc; {"and": other, "d": d.as_str(), "op": "reshape"})
 }
 
 /// `d`, `minus`.
 pub(crate) fn diminished(alloc: Global, d: &Name, other: &str) -> Result<Value, AllocError>
-    ensures { IfOk result (λ v. view v ≡ object (member (codes "d") (string d.now) (member (codes "minus") (string other.now) (member (codes "op") (string (codes "reshape")) no_members)))) }
+    ensures { IfOk result (λ v. view v ≡ object (member (codes "d") (string d.now)
+        (member (codes "minus") (string other.now) (member (codes "op") (string (codes "reshape")) no_members)))) }
 {
     json!(in alloc; {"d": d.as_str(), "minus": other, "op": "reshape"})
 }
 
 /// `d`, `xor`.
 pub(crate) fn exchanged(alloc: Global, d: &Name, other: &str) -> Result<Value, AllocError>
-    ensures { IfOk result (λ v. view v ≡ object (member (codes "d") (string d.now) (member (codes "op") (string (codes "reshape")) (member (codes "xor") (string other.now) no_members)))) }
+    ensures { IfOk result (λ v. view v ≡ object (member (codes "d") (string d.now)
+        (member (codes "op") (string (codes "reshape")) (member (codes "xor") (string other.now) no_members)))) }
 {
     json!(in alloc; {"d": d.as_str(), "op": "reshape", "xor": other})
 }

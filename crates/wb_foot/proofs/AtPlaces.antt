@@ -15,19 +15,25 @@ use Rattle.wb_foot.specs.Spots.{spot_marked, is_same_spot, in_spots}
 use Rattle.wb_foot.specs.Places.{place_marked, is_same_place, in_places}
 
 module _ (old new : PlaceMarks) (stay : new.objects ≡ old.objects) where
-  of_at : (d : Name) (x : Part) (number : ℕ) (b : Bool) → Sets (spot_marked old.spots) (spot_marked new.spots) (is_same_spot (d, x)) number b → (p : Place) (n : ℕ) → place_marked new p n ≡ (if is_same_place (Of d x) p && (number == n) then b else place_marked old p n)
+  of_at : (d : Name) (x : Part) (number : ℕ) (b : Bool) → Sets (spot_marked old.spots) (spot_marked new.spots) (is_same_spot (d, x)) number b →
+      (p : Place) (n : ℕ) → place_marked new p n ≡ (if is_same_place (Of d x) p && (number == n) then b else place_marked old p n)
   of_at d x number b h Objects n = ap (λ m. marked bool_cmp m true n) stay
   of_at d x number b h (Of e y) n = h.at (e, y) n
 
-  pub of_set : (d : Name) (x : Part) (number : ℕ) (b : Bool) → Sets (spot_marked old.spots) (spot_marked new.spots) (is_same_spot (d, x)) number b → Sets (place_marked old) (place_marked new) (is_same_place (Of d x)) number b
+  pub of_set : (d : Name) (x : Part) (number : ℕ) (b : Bool) → Sets (spot_marked old.spots) (spot_marked new.spots) (is_same_spot (d, x)) number b →
+      Sets (place_marked old) (place_marked new) (is_same_place (Of d x)) number b
   of_set d x number b h = record { at = of_at d x number b h }
 
-  block_at : (done : Bool) (d : Name) (kind : Kind) (ps : List Coordinates) (number : ℕ) → Sets (spot_marked old.spots) (spot_marked new.spots) (λ s. done && in_spots d kind ps s) number true → (p : Place) (n : ℕ) → place_marked new p n ≡ (if (done && in_places d kind ps p) && (number == n) then true else place_marked old p n)
+  block_at : (done : Bool) (d : Name) (kind : Kind) (ps : List Coordinates) (number : ℕ) →
+      Sets (spot_marked old.spots) (spot_marked new.spots) (λ s. done && in_spots d kind ps s) number true → (p : Place) (n : ℕ) →
+      place_marked new p n ≡ (if (done && in_places d kind ps p) && (number == n) then true else place_marked old p n)
   block_at true d kind ps number h Objects n = ap (λ m. marked bool_cmp m true n) stay
   block_at false d kind ps number h Objects n = ap (λ m. marked bool_cmp m true n) stay
   block_at done d kind ps number h (Of e y) n = h.at (e, y) n
 
-  pub of_block : (done : Bool) (d : Name) (kind : Kind) (ps : List Coordinates) (number : ℕ) → Sets (spot_marked old.spots) (spot_marked new.spots) (λ s. done && in_spots d kind ps s) number true → Sets (place_marked old) (place_marked new) (λ q. done && in_places d kind ps q) number true
+  pub of_block : (done : Bool) (d : Name) (kind : Kind) (ps : List Coordinates) (number : ℕ) →
+      Sets (spot_marked old.spots) (spot_marked new.spots) (λ s. done && in_spots d kind ps s) number true →
+      Sets (place_marked old) (place_marked new) (λ q. done && in_places d kind ps q) number true
   of_block done d kind ps number h = record { at = block_at done d kind ps number h }
 
   module _ (d : Name) (x : Part) (number : ℕ) (h : Clears (spot_marked old.spots) (spot_marked new.spots) (is_same_spot (d, x)) number) where
@@ -50,6 +56,7 @@ module _ (old new : PlaceMarks) (stay : new.objects ≡ old.objects) where
   of_same h Objects n = ap (λ m. marked bool_cmp m true n) stay
   of_same h (Of d x) n = h (d, x) n
 
-pub none_at : (m : PlaceMarks) → ((k : Bool) (n : ℕ) → marked bool_cmp m.objects k n ≡ false) → ((s : Spot) (n : ℕ) → spot_marked m.spots s n ≡ false) → (p : Place) (n : ℕ) → place_marked m p n ≡ false
+pub none_at : (m : PlaceMarks) → ((k : Bool) (n : ℕ) → marked bool_cmp m.objects k n ≡ false) → ((s : Spot) (n : ℕ) → spot_marked m.spots s n ≡ false) →
+    (p : Place) (n : ℕ) → place_marked m p n ≡ false
 none_at m h k Objects n = h true n
 none_at m h k (Of d x) n = k (d, x) n

@@ -1,5 +1,6 @@
 -- Blocks: what is in them, after one is added and after those of a number are taken away.
-use Rattle.std.proofs.Common.{◌≡◌, ◌⊎◌, inl, inr, ℕ, ◌<◌, ◌≤◌, ◌+◌, ◌-◌, Bool, true, false, ◌&&◌, ◌||◌, ◌==◌, if◌then◌else◌, List, [], ◌∷◌, ◌++◌, Option, Some, None, Result, Ok, Err, length, take, drop, get_or, suc, zero, refl, sym, ap, subst, ◌∙◌, arith}
+use Rattle.std.proofs.Common.{◌≡◌, ◌⊎◌, inl, inr, ℕ, ◌<◌, ◌≤◌, ◌+◌, ◌-◌, Bool, true, false, ◌&&◌, ◌||◌, ◌==◌, if◌then◌else◌, List, [], ◌∷◌, ◌++◌, Option, Some}
+use Rattle.std.proofs.Common.{None, Result, Ok, Err, length, take, drop, get_or, suc, zero, refl, sym, ap, subst, ◌∙◌, arith}
 use Rattle.std.specs.Cmp.{IsTotalOrder}
 use Rattle.std.specs.Cmp.Lexicographic.{lists_total}
 use Rattle.std.specs.Cmp.{int_cmp_total}
@@ -28,7 +29,8 @@ pub points_exact : IsAntisymmetric point_cmp
 points_exact = slice_cmp-IsAntisymmetric int_cmp-IsAntisymmetric
 
 -- what a binary search says of ascending points
-pub among : (xs : List Coordinates) (p : Coordinates) (r : Result ℕ ℕ) → IsStrictlySortedBy point_cmp xs → IsSearchInRange r (length xs) → IsBinarySearchResult (λ y. point_cmp y p) xs r → is_ok r ≡ in_points xs p
+pub among : (xs : List Coordinates) (p : Coordinates) (r : Result ℕ ℕ) → IsStrictlySortedBy point_cmp xs → IsSearchInRange r (length xs) →
+    IsBinarySearchResult (λ y. point_cmp y p) xs r → is_ok r ≡ in_points xs p
 among xs p (Ok q) s l h = sym (list_any_at (λ y. eq_by_cmp point_cmp y p) xs q p l (ap is_eq (h p)))
 among xs p (Err q) s l h =
     let gap : IsGap point_cmp xs p q = gap_by point_cmp points_total points_exact xs p (Err q) s l h in
@@ -43,7 +45,8 @@ number_is m n e = grind (arith, nat_tests)
 
 -- ---- one more point above all
 
-pub all_below : (xs : List Coordinates) (p d : Coordinates) (i : ℕ) → IsStrictlySortedBy point_cmp xs → i + 1 ≡ length xs → point_cmp (get_or xs i d) p ≡ Less → AllByRecursion (λ y. point_cmp y p ≡ Less) xs
+pub all_below : (xs : List Coordinates) (p d : Coordinates) (i : ℕ) → IsStrictlySortedBy point_cmp xs → i + 1 ≡ length xs →
+    point_cmp (get_or xs i d) p ≡ Less → AllByRecursion (λ y. point_cmp y p ≡ Less) xs
 unfolding IsStrictlySortedBy
 all_below [] p d i s e h = tt
 all_below (x ∷ []) p d zero s e h = (h, tt)
@@ -61,7 +64,8 @@ pub sorted_none : IsStrictlySortedBy point_cmp []
 unfolding IsStrictlySortedBy
 sorted_none = tt
 
-pub sorted_push : (xs : List Coordinates) (p : Coordinates) → IsStrictlySortedBy point_cmp xs → AllByRecursion (λ y. point_cmp y p ≡ Less) xs → IsStrictlySortedBy point_cmp (xs ++ p ∷ [])
+pub sorted_push : (xs : List Coordinates) (p : Coordinates) → IsStrictlySortedBy point_cmp xs → AllByRecursion (λ y. point_cmp y p ≡ Less) xs →
+    IsStrictlySortedBy point_cmp (xs ++ p ∷ [])
 unfolding IsStrictlySortedBy
 sorted_push [] p s a = (tt, tt)
 sorted_push (x ∷ xs) p s a = (push_all (λ y. point_cmp x y ≡ Less) xs p s.0 a.0, sorted_push xs p s.1 a.1)
@@ -75,8 +79,10 @@ before_last : (n : ℕ) → (n == 0) ≡ false → (n - 1) + 1 ≡ n
 before_last zero e = cc
 before_last (suc n) e = omega arith
 
-pub above_all : (xs : List Coordinates) (p x : Coordinates) → IsStrictlySortedBy point_cmp xs → (length xs == 0) ≡ false → x ≡ get_or xs (length xs - 1) x → point_cmp x p ≡ Less → IsStrictlySortedBy point_cmp (xs ++ p ∷ [])
-above_all xs p x s some is less = sorted_push xs p s (all_below xs p x (length xs - 1) s (before_last (length xs) some) (ap (λ y. point_cmp y p) (sym is) ∙ less))
+pub above_all : (xs : List Coordinates) (p x : Coordinates) → IsStrictlySortedBy point_cmp xs → (length xs == 0) ≡ false → x ≡ get_or xs (length xs - 1) x →
+    point_cmp x p ≡ Less → IsStrictlySortedBy point_cmp (xs ++ p ∷ [])
+above_all xs p x s some is less = sorted_push xs p s (all_below xs p x (length xs - 1) s (before_last (length xs) some)
+    (ap (λ y. point_cmp y p) (sym is) ∙ less))
 
 pub less_of : (o : Ordering) → is_lt o ≡ true → o ≡ Less
 less_of Less e = refl
@@ -171,27 +177,33 @@ module _ (p : ℕ → Bool) (hit : Bool) (number after : ℕ) where
 
 -- ---- a list of blocks
 
-removed_any : {X : Type 0} (f : X → Bool) (xs : List X) (i : ℕ) (d : X) → i < length xs → f (get_or xs i d) ≡ false → list_any f (take i xs ++ drop (i + 1) xs) ≡ list_any f xs
+removed_any : {X : Type 0} (f : X → Bool) (xs : List X) (i : ℕ) (d : X) → i < length xs → f (get_or xs i d) ≡ false →
+    list_any f (take i xs ++ drop (i + 1) xs) ≡ list_any f xs
 removed_any f [] i d l h = let no : ⊥ = omega arith in absurd no
 removed_any f (x ∷ xs) zero d l h = sym (ap (λ b. b || list_any f xs) h)
 removed_any f (x ∷ xs) (suc i) d l h = let e : suc i + 1 ≡ suc (i + 1) = omega arith in rw e (ap (λ b. f x || b) (removed_any f xs i d (omega arith) h))
 
-pub without : (xs ys : List Block) (number i : ℕ) (d : Block) → i < length xs → ((get_or xs i d).number == number) ≡ true → ys ≡ take i xs ++ drop (i + 1) xs → (p : Coordinates) (n : ℕ) → (number == n) ≡ false → in_blocks ys p n ≡ in_blocks xs p n
+pub without : (xs ys : List Block) (number i : ℕ) (d : Block) → i < length xs → ((get_or xs i d).number == number) ≡ true → ys ≡ take i xs ++ drop (i + 1) xs →
+    (p : Coordinates) (n : ℕ) → (number == n) ≡ false → in_blocks ys p n ≡ in_blocks xs p n
 without xs ys number i d l its e p n other =
     let apart : ((get_or xs i d).number == n) ≡ false = ap (λ k. k == n) (number_is _ _ its) ∙ other in
     rw e (removed_any (λ b. in_points b.points p && (b.number == n)) xs i d l (and_out (in_points (get_or xs i d).points p) _ apart))
 
-pub cleared : (old new : List Block) (number : ℕ) → ((p : Coordinates) (n : ℕ) → (number == n) ≡ false → in_blocks new p n ≡ in_blocks old p n) → ((p : Coordinates) → in_blocks new p number ≡ false) → Sets (in_blocks old) (in_blocks new) (λ p. true) number false
+pub cleared : (old new : List Block) (number : ℕ) → ((p : Coordinates) (n : ℕ) → (number == n) ≡ false → in_blocks new p n ≡ in_blocks old p n) →
+    ((p : Coordinates) → in_blocks new p number ≡ false) → Sets (in_blocks old) (in_blocks new) (λ p. true) number false
 cleared old new number others gone = record { at = λ p n. by p n (number == n) refl }
   where
     by : (p : Coordinates) (n : ℕ) (b : Bool) → (number == n) ≡ b → in_blocks new p n ≡ (if true && b then false else in_blocks old p n)
     by p n true e = subst (λ (k : ℕ). in_blocks new p k ≡ false) (number_is number n e) (gone p)
     by p n false e = others p n e
 
-pub one_apart : (xs : List Block) (i number : ℕ) (d : Block) → i < length xs → (x : Block) → x ≡ get_or xs i d → (x.number == number) ≡ false → ((p : Coordinates) → in_blocks (take i xs) p number ≡ false) → (p : Coordinates) → in_blocks (take (i + 1) xs) p number ≡ false
+pub one_apart : (xs : List Block) (i number : ℕ) (d : Block) → i < length xs → (x : Block) → x ≡ get_or xs i d → (x.number == number) ≡ false →
+    ((p : Coordinates) → in_blocks (take i xs) p number ≡ false) → (p : Coordinates) → in_blocks (take (i + 1) xs) p number ≡ false
 one_apart xs i number d l x e apart h p =
     list_any_more (λ b. in_points b.points p && (b.number == number)) xs i d l
     ∙ or_out _ _ (h p) (and_out _ _ (ap (λ (y : Block). y.number == number) (sym e) ∙ apart))
 
-pub least_more : (xs : List Block) (i after : ℕ) (d : Block) → i < length xs → (x : Block) → x ≡ get_or xs i d → (p : Coordinates) (r : Option ℕ) → IsLeastAfter (λ n. in_blocks (take i xs) p n || (in_points x.points p && (x.number == n))) after r → IsLeastAfter (in_blocks (take (i + 1) xs) p) after r
-least_more xs i after d l x e p r h = least_like (λ n. in_blocks (take i xs) p n || (in_points x.points p && (x.number == n))) (in_blocks (take (i + 1) xs) p) after r (λ n. rw e (list_any_more (λ b. in_points b.points p && (b.number == n)) xs i d l)) h
+pub least_more : (xs : List Block) (i after : ℕ) (d : Block) → i < length xs → (x : Block) → x ≡ get_or xs i d → (p : Coordinates) (r : Option ℕ) →
+    IsLeastAfter (λ n. in_blocks (take i xs) p n || (in_points x.points p && (x.number == n))) after r → IsLeastAfter (in_blocks (take (i + 1) xs) p) after r
+least_more xs i after d l x e p r h = least_like (λ n. in_blocks (take i xs) p n || (in_points x.points p && (x.number == n))) (in_blocks (take (i + 1) xs) p)
+    after r (λ n. rw e (list_any_more (λ b. in_points b.points p && (b.number == n)) xs i d l)) h

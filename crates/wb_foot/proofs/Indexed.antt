@@ -34,12 +34,16 @@ text_out : (ps : List Coordinates) (t : List ℕ) → in_index ps (Text t) ≡ f
 text_out ps t = any_none ps
 
 module _ (old new : IndexMarks) (b : Block) (points : new.points ≡ old.points) (texts : new.texts ≡ old.texts) where
-  added_at : (done : Bool) → new.blocks.list.items ≡ (if done then old.blocks.list.items ++ b ∷ [] else old.blocks.list.items) → (i : Index) (n : ℕ) → index_marked new i n ≡ (if (done && in_index b.points i) && (b.number == n) then true else index_marked old i n)
+  added_at : (done : Bool) → new.blocks.list.items ≡ (if done then old.blocks.list.items ++ b ∷ [] else old.blocks.list.items) → (i : Index) (n : ℕ) →
+      index_marked new i n ≡ (if (done && in_index b.points i) && (b.number == n) then true else index_marked old i n)
   added_at true e (Point p) n =
       rw (points, e, list_any-append (λ (x : Block). in_points x.points p && (x.number == n)) old.blocks.list.items (b ∷ []))
       (with_hit (marked (slice_cmp int_cmp) old.points p n) (in_blocks old.blocks.list.items p n) (in_points b.points p && (b.number == n)))
   added_at false e (Point p) n = rw (points, e) refl
-  added_at done e (Text t) n = ap (λ m. marked (slice_cmp nat_cmp) m t n) texts ∙ sym (unless ((done && in_index b.points (Text t)) && (b.number == n)) true (marked (slice_cmp nat_cmp) old.texts t n) (and_any done (in_index b.points (Text t)) (b.number == n) (text_out b.points t)))
+  added_at done e (Text t) n = ap (λ m. marked (slice_cmp nat_cmp) m t n) texts ∙
+      sym (unless ((done && in_index b.points (Text t)) && (b.number == n)) true (marked (slice_cmp nat_cmp) old.texts t n)
+      (and_any done (in_index b.points (Text t)) (b.number == n) (text_out b.points t)))
 
-  pub block_added : (done : Bool) → new.blocks.list.items ≡ (if done then old.blocks.list.items ++ b ∷ [] else old.blocks.list.items) → Sets (index_marked old) (index_marked new) (λ i. done && in_index b.points i) b.number true
+  pub block_added : (done : Bool) → new.blocks.list.items ≡ (if done then old.blocks.list.items ++ b ∷ [] else old.blocks.list.items) →
+      Sets (index_marked old) (index_marked new) (λ i. done && in_index b.points i) b.number true
   block_added done e = record { at = added_at done e }

@@ -50,7 +50,8 @@ module _ {X : Type 0} where
   any_none [] = refl
   any_none (x ∷ xs) = any_none xs
 
-pub any_swap : {X Y : Type 0} (r : X → Y → Bool) (xs : List X) (ys : List Y) → list_any (λ x. list_any (r x) ys) xs ≡ list_any (λ y. list_any (λ x. r x y) xs) ys
+pub any_swap : {X Y : Type 0} (r : X → Y → Bool) (xs : List X) (ys : List Y) →
+    list_any (λ x. list_any (r x) ys) xs ≡ list_any (λ y. list_any (λ x. r x y) xs) ys
 any_swap r [] ys = sym (any_none ys)
 any_swap r (x ∷ xs) ys = rw (any_swap r xs ys) (sym (any_or (r x) (λ y. list_any (λ z. r z y) xs) ys))
 
@@ -130,14 +131,16 @@ none_family (Some f) = refl
 
 pub met_at : (o : Option (Footprint workbook)) (c : Cell) → met_by o c ≡ ((touched_by o (own c) || read_by o (own c)) || at_family (read_by o) (family c))
 met_at None c = sym (none_family (family c))
-met_at (Some f) c = rw (touched_named (p.One c) f.touched, covers_at c f.reads) (or_assoc (touched_at f.touched (own c)) (read_at f.reads (own c)) (at_family (read_at f.reads) (family c)))
+met_at (Some f) c = rw (touched_named (p.One c) f.touched, covers_at c f.reads)
+    (or_assoc (touched_at f.touched (own c)) (read_at f.reads (own c)) (at_family (read_at f.reads) (family c)))
 
 module _ (idx : FootIndex) (footprints : ℕ → Option (Footprint workbook)) (h : IsIndexOf idx footprints) (n : ℕ) where
   marked_family : (o : Option Place) → at_family (read_by (footprints n)) o ≡ at_family (λ q. place_marked idx.read q n) o
   marked_family None = refl
   marked_family (Some f) = sym (h.read f n)
 
-  pub met_marked : (c : Cell) (q : Place) (o : Option Place) → q ≡ own c → o ≡ family c → met_by (footprints n) c ≡ ((place_marked idx.touched q n || place_marked idx.read q n) || at_family (λ f. place_marked idx.read f n) o)
+  pub met_marked : (c : Cell) (q : Place) (o : Option Place) → q ≡ own c → o ≡ family c →
+      met_by (footprints n) c ≡ ((place_marked idx.touched q n || place_marked idx.read q n) || at_family (λ f. place_marked idx.read f n) o)
   met_marked c q o e g = met_at (footprints n) c ∙ rw (← e, ← g, h.touched q n, h.read q n, marked_family o)
 
   or_nothing : (a : Bool) → a || false ≡ a
@@ -169,7 +172,9 @@ again false false t = refl
 changed_back : (xs ys : Changes) → list_any (λ x. changes cell_cmp ys x.cell) xs ≡ list_any (λ y. changes cell_cmp xs y.cell) ys
 changed_back xs ys =
     any_swap (λ x y. eq_by_cmp cell_cmp x.cell y.cell) xs ys
-    ∙ any_like (λ y. list_any (λ x. eq_by_cmp cell_cmp x.cell y.cell) xs) (λ y. changes cell_cmp xs y.cell) ys (λ y. any_like (λ x. eq_by_cmp cell_cmp x.cell y.cell) (λ x. eq_by_cmp cell_cmp y.cell x.cell) xs (λ x. (eq_by_cmp_equiv cell_cmp_total).symm x.cell y.cell))
+    ∙ any_like (λ y. list_any (λ x. eq_by_cmp cell_cmp x.cell y.cell) xs) (λ y. changes cell_cmp xs y.cell) ys
+    (λ y. any_like (λ x. eq_by_cmp cell_cmp x.cell y.cell) (λ x. eq_by_cmp cell_cmp y.cell x.cell) xs
+    (λ x. (eq_by_cmp_equiv cell_cmp_total).symm x.cell y.cell))
 
 covered_back : (rs : List Pattern) (xs : Changes) → list_any (λ x. covers workbook rs x.cell) xs ≡ list_any (λ r. touched_at xs (place_of r)) rs
 covered_back rs xs =
@@ -185,13 +190,22 @@ redo_met rs xs (Some f) =
       changed_back f.touched xs,
       covered_back rs f.touched,
     )
-    (again (list_any (λ x. changes cell_cmp f.touched x.cell) xs) (list_any (λ x. covers workbook f.reads x.cell) xs) (list_any (λ r. touched_at f.touched (place_of r)) rs))
+    (again (list_any (λ x. changes cell_cmp f.touched x.cell) xs) (list_any (λ x. covers workbook f.reads x.cell) xs)
+    (list_any (λ r. touched_at f.touched (place_of r)) rs))
 
 -- ---- loops
 
 module _ (footprints : ℕ → Option (Footprint workbook)) (after : ℕ) where
-  pub undo_more : (xs : Changes) (i : ℕ) (d : _) → i < length xs → (x : Cell) → x ≡ (get_or xs i d).cell → (r : Option ℕ) → IsLeastAfter (λ n. any_met (footprints n) (take i xs) || met_by (footprints n) x) after r → IsLeastAfter (λ n. any_met (footprints n) (take (i + 1) xs)) after r
-  undo_more xs i d below x e r h = rw add-one (least_like (λ n. any_met (footprints n) (take i xs) || met_by (footprints n) x) (λ n. any_met (footprints n) (take (suc i) xs)) after r (λ n. sym (rw e (more_any (λ y (o : Option (Footprint workbook)). met_by o y.cell) xs i d below (footprints n)))) h)
+  pub undo_more : (xs : Changes) (i : ℕ) (d : _) → i < length xs → (x : Cell) → x ≡ (get_or xs i d).cell → (r : Option ℕ) →
+      IsLeastAfter (λ n. any_met (footprints n) (take i xs) || met_by (footprints n) x) after r →
+      IsLeastAfter (λ n. any_met (footprints n) (take (i + 1) xs)) after r
+  undo_more xs i d below x e r h = rw add-one (least_like (λ n. any_met (footprints n) (take i xs) || met_by (footprints n) x)
+      (λ n. any_met (footprints n) (take (suc i) xs)) after r (λ n. sym
+      (rw e (more_any (λ y (o : Option (Footprint workbook)). met_by o y.cell) xs i d below (footprints n)))) h)
 
-  pub touch_more : (rs : List Pattern) (i : ℕ) (d : Pattern) → i < length rs → (q : Pattern) → q ≡ get_or rs i d → (r : Option ℕ) → IsLeastAfter (λ n. touched_under (footprints n) (take i rs) || touched_by (footprints n) (place_of q)) after r → IsLeastAfter (λ n. touched_under (footprints n) (take (i + 1) rs)) after r
-  touch_more rs i d below q e r h = rw add-one (least_like (λ n. touched_under (footprints n) (take i rs) || touched_by (footprints n) (place_of q)) (λ n. touched_under (footprints n) (take (suc i) rs)) after r (λ n. sym (rw e (more_any (λ y (o : Option (Footprint workbook)). touched_by o (place_of y)) rs i d below (footprints n)))) h)
+  pub touch_more : (rs : List Pattern) (i : ℕ) (d : Pattern) → i < length rs → (q : Pattern) → q ≡ get_or rs i d → (r : Option ℕ) →
+      IsLeastAfter (λ n. touched_under (footprints n) (take i rs) || touched_by (footprints n) (place_of q)) after r →
+      IsLeastAfter (λ n. touched_under (footprints n) (take (i + 1) rs)) after r
+  touch_more rs i d below q e r h = rw add-one (least_like (λ n. touched_under (footprints n) (take i rs) || touched_by (footprints n) (place_of q))
+      (λ n. touched_under (footprints n) (take (suc i) rs)) after r
+      (λ n. sym (rw e (more_any (λ y (o : Option (Footprint workbook)). touched_by o (place_of y)) rs i d below (footprints n)))) h)

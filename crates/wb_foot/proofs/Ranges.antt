@@ -31,7 +31,9 @@ tie_then Equal m n = grind (arith, nat_tests)
 tie_then Greater m n = refl
 
 module _ {K : Type 0} (cmp : K → K → Ordering) where
-  pub sets_from : (old new : Marks K) (key : K) (number : ℕ) (b : Bool) → ((q : K × ℕ) → contains (pair_cmp cmp) new.set q ≡ cond (is_at (pair_cmp cmp (key, number)) q) b (contains (pair_cmp cmp) old.set q)) → Sets (marked cmp old) (marked cmp new) (eq_by_cmp cmp key) number b
+  pub sets_from : (old new : Marks K) (key : K) (number : ℕ) (b : Bool) →
+      ((q : K × ℕ) → contains (pair_cmp cmp) new.set q ≡ cond (is_at (pair_cmp cmp (key, number)) q) b (contains (pair_cmp cmp) old.set q)) →
+      Sets (marked cmp old) (marked cmp new) (eq_by_cmp cmp key) number b
   sets_from old new key number b h = record { at = λ k n. rw (h (k, n), tie_then (cmp key k) number n) }
 
 pair_total : {K : Type 0} (cmp : K → K → Ordering) → IsTotalOrder cmp → IsTotalOrder (pair_cmp cmp)
@@ -74,9 +76,11 @@ module _ {K : Type 0} (cmp : K → K → Ordering) (o : IsTotalOrder cmp) where
           λ n up down. not_between (has n) x.0 x.1 n tie (λ there. at.2 (key, n) (behind key after n up, tt) there) down,
         )
 
-    apart_from : (b : Bool) (x : K × ℕ) (n : ℕ) → pair_cmp cmp (key, after) x ≡ Less → (cmp x.0 key ≡ Equal → ⊥) → (IsTrue b → is_gt (pair_cmp cmp x (key, n)) ≡ false) → b ≡ false
+    apart_from : (b : Bool) (x : K × ℕ) (n : ℕ) → pair_cmp cmp (key, after) x ≡ Less → (cmp x.0 key ≡ Equal → ⊥) →
+        (IsTrue b → is_gt (pair_cmp cmp x (key, n)) ≡ false) → b ≡ false
     apart_from false x n less apart least = refl
-    apart_from true x n less apart least = absurd (apart (by_order (nat_cmp after x.1) (nat_cmp x.1 n) (cmp key x.0) (cmp x.0 key) (o.antisymm x.0 key) less (least refl)))
+    apart_from true x n less apart least = absurd (apart (by_order (nat_cmp after x.1) (nat_cmp x.1 n) (cmp key x.0) (cmp x.0 key) (o.antisymm x.0 key) less
+        (least refl)))
 
     pub other_found : (r t : List (K × ℕ)) (x : K × ℕ) → IsBehind r → r ≡ x ∷ t → is_eq (cmp x.0 key) ≡ false → IsLeastAfter has after None
     other_found r t x h e apart =

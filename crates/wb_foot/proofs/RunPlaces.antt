@@ -1,5 +1,6 @@
 -- A run of cells: their own places, and that of their family.
-use Rattle.std.proofs.Common.{◌≡◌, ℕ, ◌<◌, ◌+◌, Bool, true, false, ◌&&◌, ◌||◌, ◌==◌, Option, Some, None, List, [], ◌∷◌, ◌++◌, length, take, get_or, refl, sym, ap, ◌∙◌, arith}
+use Rattle.std.proofs.Common.{◌≡◌, ℕ, ◌<◌, ◌+◌, Bool, true, false, ◌&&◌, ◌||◌, ◌==◌, Option, Some, None, List, [], ◌∷◌, ◌++◌, length, take, get_or, refl, sym}
+use Rattle.std.proofs.Common.{ap, ◌∙◌, arith}
 use Rattle.std.specs.List.{list_any}
 use Rattle.std.proofs.lemmas.List.Folds.{list_any_more, list_any-append}
 use Rattle.wb_book.specs.declared.cells.cell.Cell.{Cell}
@@ -25,12 +26,15 @@ or_false : (a : Bool) → a || false ≡ a
 or_false true = refl
 or_false false = refl
 
-pub run_more : (xs : Changes) (j : ℕ) (d : _) → j < length xs → (x : Cell) → x ≡ (get_or xs j d).cell → (kind : Kind) (name : Name) (ps qs : List Coordinates) (p : Coordinates) → x ≡ cell_at kind name p → qs ≡ ps ++ p ∷ [] → ((q : Place) → touched_at (take j xs) q ≡ run_touched kind name ps q) → (q : Place) → touched_at (take (j + 1) xs) q ≡ run_touched kind name qs q
+pub run_more : (xs : Changes) (j : ℕ) (d : _) → j < length xs → (x : Cell) → x ≡ (get_or xs j d).cell →
+    (kind : Kind) (name : Name) (ps qs : List Coordinates) (p : Coordinates) → x ≡ cell_at kind name p → qs ≡ ps ++ p ∷ [] →
+    ((q : Place) → touched_at (take j xs) q ≡ run_touched kind name ps q) → (q : Place) → touched_at (take (j + 1) xs) q ≡ run_touched kind name qs q
 run_more xs j d below x e kind name ps qs p is more h q =
     list_any_more (λ y. at_cell y.cell q) xs j d below
     ∙ ap (λ b. b || at_cell (get_or xs j d).cell q) (h q)
     ∙ ap (λ y. run_touched kind name ps q || at_cell y q) (sym e ∙ is)
-    ∙ sym (ap (λ l. run_touched kind name l q) more ∙ list_any-append (λ y. at_cell (cell_at kind name y) q) ps (p ∷ []) ∙ ap (λ b. run_touched kind name ps q || b) (or_false (at_cell (cell_at kind name p) q)))
+    ∙ sym (ap (λ l. run_touched kind name l q) more ∙ list_any-append (λ y. at_cell (cell_at kind name y) q) ps (p ∷ []) ∙
+    ap (λ b. run_touched kind name ps q || b) (or_false (at_cell (cell_at kind name p) q)))
 
 -- the same of what patterns read, by the cells' own places
 pub read_run_more : (rs : List Pattern) (j : ℕ) (d : Pattern) → j < length rs → (r : Pattern) → r ≡ get_or rs j d →
@@ -80,7 +84,8 @@ places_in d kind ps Objects = any_none ps
 places_in d kind ps (Of e x) = and_each (is_same_name d e) (λ p. is_same_part (part_at kind p) x) ps ∙ ap (λ b. is_same_name d e && b) (parts_in kind ps x)
 
 owns_in : (d : Name) (kind : Kind) (ps : List Coordinates) (q : Place) → list_any (λ p. is_same_place (own (cell_at kind d p)) q) ps ≡ in_places d kind ps q
-owns_in d kind ps q = any_like (λ p. is_same_place (own (cell_at kind d p)) q) (λ p. is_same_place (Of d (part_at kind p)) q) ps (λ p. ap (λ o. is_same_place o q) (own_at kind d p)) ∙ places_in d kind ps q
+owns_in d kind ps q = any_like (λ p. is_same_place (own (cell_at kind d p)) q) (λ p. is_same_place (Of d (part_at kind p)) q) ps
+    (λ p. ap (λ o. is_same_place o q) (own_at kind d p)) ∙ places_in d kind ps q
 
 abbrev at_family : Option Place → Place → Bool
 at_family o q = elim o [ Some f ↦ is_same_place f q | None ↦ false ]
@@ -90,11 +95,13 @@ always b [] l = let no : ⊥ = omega arith in absurd no
 always true (x ∷ xs) l = refl
 always false (x ∷ xs) l = any_none xs
 
-pub run_is : (d : Name) (kind : Kind) (ps : List Coordinates) (o : Option Place) → ((p : Coordinates) → o ≡ family (cell_at kind d p)) → 0 < length ps → (q : Place) → run_touched kind d ps q ≡ (in_places d kind ps q || at_family o q)
+pub run_is : (d : Name) (kind : Kind) (ps : List Coordinates) (o : Option Place) → ((p : Coordinates) → o ≡ family (cell_at kind d p)) → 0 < length ps →
+    (q : Place) → run_touched kind d ps q ≡ (in_places d kind ps q || at_family o q)
 run_is d kind ps o h some q =
     any_or (λ p. is_same_place (own (cell_at kind d p)) q) (λ p. at_family (family (cell_at kind d p)) q) ps
     ∙ ap (λ b. b || list_any (λ p. at_family (family (cell_at kind d p)) q) ps) (owns_in d kind ps q)
-    ∙ ap (λ b. in_places d kind ps q || b) (any_like (λ p. at_family (family (cell_at kind d p)) q) (λ p. at_family o q) ps (λ p. ap (λ f. at_family f q) (sym (h p))) ∙ always (at_family o q) ps some)
+    ∙ ap (λ b. in_places d kind ps q || b) (any_like (λ p. at_family (family (cell_at kind d p)) q) (λ p. at_family o q) ps
+    (λ p. ap (λ f. at_family f q) (sym (h p))) ∙ always (at_family o q) ps some)
 
 pub length_push : (ps : List Coordinates) (p : Coordinates) → length (ps ++ p ∷ []) ≡ length ps + 1
 length_push [] p = refl
@@ -109,16 +116,20 @@ module _ (o m : Place → ℕ → Bool) (number : ℕ) (d : Name) (kind : Kind) 
       (λ q. ap (λ b. done && b) (sym (t q ∙ owns_in d kind ps q)))
 
 module _ (o m n : Place → ℕ → Bool) (number : ℕ) where
-  module _ (d : Name) (kind : Kind) (ps : List Coordinates) (xs : Changes) (some : 0 < length ps) (t : (q : Place) → touched_at xs q ≡ run_touched kind d ps q) (h : Sets o m (in_places d kind ps) number true) where
+  module _ (d : Name) (kind : Kind) (ps : List Coordinates) (xs : Changes) (some : 0 < length ps) (t : (q : Place) → touched_at xs q ≡ run_touched kind d ps q)
+      (h : Sets o m (in_places d kind ps) number true) where
     pub row_alone : ((p : Coordinates) → None ≡ family (cell_at kind d p)) → Sets o m (touched_at xs) number true
-    row_alone fam = like o m (in_places d kind ps) (touched_at xs) number true (λ q. sym (t q ∙ run_is d kind ps None fam some q ∙ or_false (in_places d kind ps q))) h
+    row_alone fam = like o m (in_places d kind ps) (touched_at xs) number true
+        (λ q. sym (t q ∙ run_is d kind ps None fam some q ∙ or_false (in_places d kind ps q))) h
 
     module _ (f : Place) (fam : (p : Coordinates) → Some f ≡ family (cell_at kind d p)) where
       whole : (q : Place) → (in_places d kind ps q || is_same_place f q) ≡ touched_at xs q
       whole q = sym (t q ∙ run_is d kind ps (Some f) fam some q)
 
       pub row_done : Sets m n (is_same_place f) number true → Sets o n (touched_at xs) number true
-      row_done k = like o n (λ q. in_places d kind ps q || is_same_place f q) (touched_at xs) number true whole (then_sets o m n (in_places d kind ps) (is_same_place f) number true h k)
+      row_done k = like o n (λ q. in_places d kind ps q || is_same_place f q) (touched_at xs) number true whole
+          (then_sets o m n (in_places d kind ps) (is_same_place f) number true h k)
 
       pub row_failed : ((q : Place) (j : ℕ) → n q j ≡ m q j) → Stays o n (touched_at xs) number
-      row_failed same = then_stays o m n (in_places d kind ps) (is_same_place f) (touched_at xs) number true h (stays_none m n (is_same_place f) number same) (λ q j out. ap (λ b. b && (number == j)) (whole q) ∙ out)
+      row_failed same = then_stays o m n (in_places d kind ps) (is_same_place f) (touched_at xs) number true h (stays_none m n (is_same_place f) number same)
+          (λ q j out. ap (λ b. b && (number == j)) (whole q) ∙ out)

@@ -1,5 +1,6 @@
 -- What several writes of one number do together.
-use Rattle.std.proofs.Common.{◌≡◌, ℕ, Bool, true, false, ◌&&◌, ◌||◌, ◌==◌, if◌then◌else◌, List, [], ◌∷◌, suc, ◌<◌, length, take, drop, get_or, refl, sym, ap, ◌∙◌, arith}
+use Rattle.std.proofs.Common.{◌≡◌, ℕ, Bool, true, false, ◌&&◌, ◌||◌, ◌==◌, if◌then◌else◌, List, [], ◌∷◌, suc, ◌<◌, length, take, drop, get_or, refl, sym, ap}
+use Rattle.std.proofs.Common.{◌∙◌, arith}
 use Rattle.std.proofs.lemmas.Bool.Decides.{nat_tests}
 use Rattle.std.proofs.Math.Seq.{take-suc}
 use Rattle.std.proofs.lemmas.List.{take-append-drop}
@@ -34,7 +35,8 @@ if_not true b x e = cc
 if_not false b x e = refl
 
 module _ {A : Type 0} where
-  pub then_sets : (o m n : A → ℕ → Bool) (h g : A → Bool) (number : ℕ) (b : Bool) → Sets o m h number b → Sets m n g number b → Sets o n (λ a. h a || g a) number b
+  pub then_sets : (o m n : A → ℕ → Bool) (h g : A → Bool) (number : ℕ) (b : Bool) → Sets o m h number b → Sets m n g number b →
+      Sets o n (λ a. h a || g a) number b
   then_sets o m n h g number b p q = record { at = λ a k. q.at a k ∙ rw (p.at a k) (twice (h a) (g a) (number == k) b (o a k)) }
 
   pub like : (o n : A → ℕ → Bool) (h g : A → Bool) (number : ℕ) (b : Bool) → ((a : A) → h a ≡ g a) → Sets o n h number b → Sets o n g number b
@@ -44,7 +46,8 @@ module _ {A : Type 0} where
   sets_none o number b = record { at = λ a k. refl }
 
   -- a write, and one that failed
-  pub then_stays : (o m n : A → ℕ → Bool) (h g w : A → Bool) (number : ℕ) (b : Bool) → Sets o m h number b → Stays m n g number → ((a : A) (k : ℕ) → w a && (number == k) ≡ false → (h a || g a) && (number == k) ≡ false) → Stays o n w number
+  pub then_stays : (o m n : A → ℕ → Bool) (h g w : A → Bool) (number : ℕ) (b : Bool) → Sets o m h number b → Stays m n g number →
+      ((a : A) (k : ℕ) → w a && (number == k) ≡ false → (h a || g a) && (number == k) ≡ false) → Stays o n w number
   then_stays o m n h g w number b p q more = record {
     at = λ a k out.
         let parts = part_out (h a) (g a) (number == k) (more a k out) in
@@ -102,14 +105,18 @@ or_false true = refl
 or_false false = refl
 
 -- one more element of a list
-pub more_any : {X A : Type 0} (f : X → A → Bool) (xs : List X) (i : ℕ) (d : X) → i < length xs → (a : A) → (list_any (λ x. f x a) (take i xs) || f (get_or xs i d) a) ≡ list_any (λ x. f x a) (take (suc i) xs)
-more_any f xs i d below a = sym (ap (list_any (λ x. f x a)) (take-suc xs i d below) ∙ list_any-append (λ x. f x a) (take i xs) (get_or xs i d ∷ []) ∙ ap (λ b. list_any (λ x. f x a) (take i xs) || b) (or_false (f (get_or xs i d) a)))
+pub more_any : {X A : Type 0} (f : X → A → Bool) (xs : List X) (i : ℕ) (d : X) → i < length xs → (a : A) →
+    (list_any (λ x. f x a) (take i xs) || f (get_or xs i d) a) ≡ list_any (λ x. f x a) (take (suc i) xs)
+more_any f xs i d below a = sym (ap (list_any (λ x. f x a)) (take-suc xs i d below) ∙ list_any-append (λ x. f x a) (take i xs) (get_or xs i d ∷ []) ∙
+    ap (λ b. list_any (λ x. f x a) (take i xs) || b) (or_false (f (get_or xs i d) a)))
 
-pub any_out : {X A : Type 0} (f : X → A → Bool) (xs : List X) (i : ℕ) (d : X) → i < length xs → (a : A) (num : Bool) → list_any (λ x. f x a) xs && num ≡ false → (list_any (λ x. f x a) (take i xs) || f (get_or xs i d) a) && num ≡ false
+pub any_out : {X A : Type 0} (f : X → A → Bool) (xs : List X) (i : ℕ) (d : X) → i < length xs → (a : A) (num : Bool) → list_any (λ x. f x a) xs &&
+    num ≡ false → (list_any (λ x. f x a) (take i xs) || f (get_or xs i d) a) && num ≡ false
 any_out f xs i d below a num out =
     let whole = ap (list_any (λ x. f x a)) (take-append-drop (suc i) xs) in
     let parts = list_any-append (λ x. f x a) (take (suc i) xs) (drop (suc i) xs) in
-    rw (more_any f xs i d below a) (part_out (list_any (λ x. f x a) (take (suc i) xs)) (list_any (λ x. f x a) (drop (suc i) xs)) num (rw (← parts, whole) out)).0
+    rw (more_any f xs i d below a) (part_out (list_any (λ x. f x a) (take (suc i) xs)) (list_any (λ x. f x a) (drop (suc i) xs)) num
+    (rw (← parts, whole) out)).0
 
 pub on_err : {T E P : Type 0} (r : Result T E) → P → OnErr r P
 on_err (Ok x) p = tt

@@ -21,8 +21,10 @@ unless false b x e = refl
 pub sets_stays : (o n : Place → ℕ → Bool) (h : Place → Bool) (number : ℕ) (b : Bool) → Sets o n h number b → Stays o n h number
 sets_stays o n h number b p = record { at = λ q k out. p.at q k ∙ unless (h q && (number == k)) b (o q k) out }
 
-module _ (by : Option (Footprint workbook) → Place → Bool) (nothing : (q : Place) → by None q ≡ false) (footprints : ℕ → Option (Footprint workbook)) (here : Place → Bool) (number : ℕ) where
-  module _ (old new : Place → ℕ → Bool) (f : Footprint workbook) (its : (q : Place) → by (Some f) q ≡ here q) (had : footprints number ≡ Some f) (was : (q : Place) (n : ℕ) → old q n ≡ by (footprints n) q) (h : Clears old new here number) where
+module _ (by : Option (Footprint workbook) → Place → Bool) (nothing : (q : Place) → by None q ≡ false) (footprints : ℕ → Option (Footprint workbook))
+    (here : Place → Bool) (number : ℕ) where
+  module _ (old new : Place → ℕ → Bool) (f : Footprint workbook) (its : (q : Place) → by (Some f) q ≡ here q) (had : footprints number ≡ Some f)
+      (was : (q : Place) (n : ℕ) → old q n ≡ by (footprints n) q) (h : Clears old new here number) where
     gone_at : (q : Place) (b : Bool) → here q ≡ b → new q number ≡ false
     gone_at q true e = h.gone q e
     gone_at q false e = h.fewer q (was q number ∙ ap (λ o. by o q) had ∙ its q ∙ e)
@@ -34,7 +36,8 @@ module _ (by : Option (Footprint workbook) → Place → Bool) (nothing : (q : P
     pub taken : (q : Place) (n : ℕ) → new q n ≡ by (with_footprint footprints number None n) q
     taken q n = taken_at q n (number == n) refl
 
-  module _ (old mid new : Place → ℕ → Bool) (had : footprints number ≡ None) (was : (q : Place) (n : ℕ) → old q n ≡ by (footprints n) q) (p : Stays old mid here number) (h : Clears mid new here number) where
+  module _ (old mid new : Place → ℕ → Bool) (had : footprints number ≡ None) (was : (q : Place) (n : ℕ) → old q n ≡ by (footprints n) q)
+      (p : Stays old mid here number) (h : Clears mid new here number) where
     before_at : (q : Place) → old q number ≡ false
     before_at q = was q number ∙ ap (λ o. by o q) had ∙ nothing q
 

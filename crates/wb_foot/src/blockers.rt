@@ -18,7 +18,8 @@ impl FootIndex {
         before: &[CellChange],
         after: u64,
     ) -> Result<Vec<u64>, NoMemory>
-        ensures { IfOk result (λ v. (footprints : Footprints) → IsIndexOf self.now footprints → AreAllAfter (λ n. blocks_undo before.now (footprints n)) after v.items) }
+        ensures { IfOk result (λ v. (footprints : Footprints) → IsIndexOf self.now footprints →
+            AreAllAfter (λ n. blocks_undo before.now (footprints n)) after v.items) }
     {
         let mut found = Vec::new(alloc);
         let mut from = after;

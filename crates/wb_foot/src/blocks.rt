@@ -22,7 +22,8 @@ pub struct Block {
 impl Block {
     /// The lesser of the number, where it is above `after` and stands at the point, and of a first one.
     fn or_first(&self, first: Option<u64>, point: &Point, after: u64) -> Option<u64>
-        ensures { (p : ℕ → Bool) → IsLeastAfter p after first → IsLeastAfter (λ n. p n || (in_points self.now.points point.now && (self.now.number == n))) after result }
+        ensures { (p : ℕ → Bool) → IsLeastAfter p after first → IsLeastAfter (λ n. p n || (in_points self.now.points point.now && (self.now.number == n)))
+            after result }
     {
         if self.number <= after {
             return first;

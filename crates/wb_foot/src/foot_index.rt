@@ -36,7 +36,8 @@ impl FootIndex {
         reads: &[Pattern],
         before: &[CellChange],
     ) -> Result<(), NoMemory>
-        ensures ok { OnOk result ((footprints : Footprints) → IsIndexOf self.old footprints → footprints number ≡ None → IsIndexOf self.new (with_footprint footprints number (Some (footprint reads.now before.now)))) }
+        ensures ok { OnOk result ((footprints : Footprints) → IsIndexOf self.old footprints → footprints number ≡ None →
+            IsIndexOf self.new (with_footprint footprints number (Some (footprint reads.now before.now)))) }
         ensures err { OnErr result ((footprints : Footprints) → IsIndexOf self.old footprints → footprints number ≡ None → IsIndexOf self.new footprints) }
     {
         if touch_all(&mut self.touched, before, number).is_err() {
@@ -53,7 +54,8 @@ impl FootIndex {
 
     /// Takes away the footprint at a number. It takes no memory.
     pub fn take(&mut self, number: u64, reads: &[Pattern], before: &[CellChange])
-        ensures { (footprints : Footprints) → IsIndexOf self.old footprints → footprints number ≡ Some (footprint reads.now before.now) → IsIndexOf self.new (with_footprint footprints number None) }
+        ensures { (footprints : Footprints) → IsIndexOf self.old footprints → footprints number ≡ Some (footprint reads.now before.now) →
+            IsIndexOf self.new (with_footprint footprints number None) }
     {
         untouch_all(&mut self.touched, before, number);
         unread_all(&mut self.read, reads, number);

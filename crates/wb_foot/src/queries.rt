@@ -28,7 +28,8 @@ impl FootIndex {
 
     /// The least number above `after` whose footprint touched a cell that the pattern names.
     fn touched_after(&self, pattern: &Pattern, after: u64) -> Option<u64>
-        ensures { (footprints : Footprints) → IsIndexOf self.now footprints → IsLeastAfter (λ n. touched_by (footprints n) (place_of pattern.now)) after result }
+        ensures { (footprints : Footprints) → IsIndexOf self.now footprints →
+            IsLeastAfter (λ n. touched_by (footprints n) (place_of pattern.now)) after result }
     {
         self.touched.least_after(&place_of(pattern), after)
     }
@@ -64,7 +65,8 @@ impl FootIndex {
         delta: &[CellChange],
         after: u64,
     ) -> Option<u64>
-        ensures { (footprints : Footprints) → IsIndexOf self.now footprints → IsLeastAfter (λ n. blocks_redo (footprint reads.now delta.now) (footprints n)) after result }
+        ensures { (footprints : Footprints) → IsIndexOf self.now footprints →
+            IsLeastAfter (λ n. blocks_redo (footprint reads.now delta.now) (footprints n)) after result }
     {
         earlier(
             self.first_to_block_undo(delta, after),

@@ -38,7 +38,8 @@ in_again (x ∷ es) (suc k) d is = ap (λ r. x ∷ r) (in_again es k d is)
 ok_not_err : {n : ℕ} {E : Type 0} {e : E} → Ok n ≡ Err e → ⊥
 ok_not_err h = cc
 
-undo_again : (es : List Numbered) (k n : ℕ) (r : Result ℕ Refusal) → IsLegal (meant es) → RedoReply (meant es) k (Ok n) → UndoReply (meant (into_force k es)) k r
+undo_again : (es : List Numbered) (k n : ℕ) (r : Result ℕ Refusal) → IsLegal (meant es) → RedoReply (meant es) k (Ok n) →
+    UndoReply (meant (into_force k es)) k r
     → (r ≢ Err NoMemory → r ≡ Ok n) × (out_of_force k (into_force k es) ≡ es)
 undo_again es k n r legal (t, can, count) fits =
     let may : CanUndo (redo k (meant es)) k t = (undo_after_redo_law workbook (meant es) k t legal can).0 in
@@ -52,7 +53,8 @@ undo_after_redo_answer_law es (suc k) n r legal redone fits =
     let P : ℕ → Type 0 = λ m. UndoReply (meant (into_force m es)) k r → (r ≢ Err NoMemory → r ≡ Ok n) × (out_of_force m (into_force m es) ≡ es) in
     subst P here (λ f. undo_again es k n r legal redone f) fits
 
-redo_again : (es : List Numbered) (k n : ℕ) (r : Result ℕ Refusal) → IsLegal (meant es) → LastReply (meant es) (Ok (suc k, n)) → RedoReply (meant (out_of_force k es)) k r
+redo_again : (es : List Numbered) (k n : ℕ) (r : Result ℕ Refusal) → IsLegal (meant es) → LastReply (meant es) (Ok (suc k, n)) →
+    RedoReply (meant (out_of_force k es)) k r
     → (r ≢ Err NoMemory → r ≡ Ok n) × (into_force k (out_of_force k es) ≡ es)
 redo_again es k n r legal (j, is, last, (t, can, count)) fits =
     let here : j ≡ k = omega (arith, is) in

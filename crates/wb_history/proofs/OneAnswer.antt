@@ -1,5 +1,6 @@
 -- At most one kind of answer fits a history and a request.
-use Rattle.std.proofs.Common.{◌≡◌, ◌≢◌, ℕ, zero, suc, ◌+◌, List, length, Option, Some, None, Result, Ok, Err, IsOk, slice_get, inl, inr, refl, sym, ap, ◌∙◌, subst, arith}
+use Rattle.std.proofs.Common.{◌≡◌, ◌≢◌, ℕ, zero, suc, ◌+◌, List, length, Option, Some, None, Result, Ok, Err, IsOk, slice_get, inl, inr, refl, sym, ap, ◌∙◌}
+use Rattle.std.proofs.Common.{subst, arith}
 use Rattle.std.specs.FinMap.{empty}
 use Rattle.selective_undo.specs.Edit.{Edit, Trace, trace, outcome}
 use Rattle.selective_undo.specs.History.{Entry, done, undone, traces, replay, InForce, IsLast, Blocks, CanUndo, CanRedo}
@@ -9,7 +10,8 @@ use Rattle.wb_book.specs.Cells.{Changes, count_of}
 use Rattle.wb_edit.specs.Schema.{workbook}
 use Rattle.wb_edit.specs.declared.refusal.Refusal as command_refusal
 use Rattle.wb_log.specs.declared.refusal.Refusal.{Refusal}
-use Rattle.wb_log.specs.declared.refusal.Refusal.TheVariants.{BadRequest, BadLiteral, Refused, NoSuchEdit, NotInForce, InForce as IsInForce, Blocked, RefusedInPlace, NoMemory, StrangePass}
+use Rattle.wb_log.specs.declared.refusal.Refusal.TheVariants.{BadRequest, BadLiteral, Refused, NoSuchEdit, NotInForce, InForce as IsInForce, Blocked}
+use Rattle.wb_log.specs.declared.refusal.Refusal.TheVariants.{RefusedInPlace, NoMemory, StrangePass}
 use Rattle.wb_log.specs.Replies.{EditReply, UndoReply, LastReply, RedoReply}
 use Rattle.wb_history.specs.ReplyLaws.{EditAnswerLaw, UndoAnswerLaw, LastAnswerLaw, RedoAnswerLaw}
 
@@ -101,7 +103,8 @@ module _ (es : List (Entry workbook)) (k : ℕ) where
     none_there : slice_get es k ≡ None → RedoCause
     on : (e : Edit workbook) → slice_get es k ≡ Some (done e) → RedoCause
     met : (e : Edit workbook) → slice_get es k ≡ Some (undone e) → (j : ℕ) → Least (BlocksRedo (traces es) k (trace e (replay es))) j → RedoCause
-    refused : (e : Edit workbook) → slice_get es k ≡ Some (undone e) → (why : command_refusal.Refusal) → outcome e (replay es) ≡ Err why → ((j : ℕ) → BlocksRedo (traces es) k (trace e (replay es)) j → ⊥) → RedoCause
+    refused : (e : Edit workbook) → slice_get es k ≡ Some (undone e) → (why : command_refusal.Refusal) → outcome e (replay es) ≡ Err why →
+        ((j : ℕ) → BlocksRedo (traces es) k (trace e (replay es)) j → ⊥) → RedoCause
 
   abbrev redo_answer : RedoCause → Result ℕ Refusal
   redo_answer (regranted t can) = Ok (count_of t.before)
@@ -126,7 +129,8 @@ module _ (es : List (Entry workbook)) (k : ℕ) where
   tried_same : (t : Trace workbook) (can : CanRedo es k t) (e : Edit workbook) → slice_get es k ≡ Some (undone e) → trace e (replay es) ≡ t
   tried_same t can e off = ap (λ d. trace d (replay es)) (undone_same e can.edit off can.out_of_force) ∙ can.tried
 
-  granted_met : (t : Trace workbook) → CanRedo es k t → (e : Edit workbook) → slice_get es k ≡ Some (undone e) → (j : ℕ) → BlocksRedo (traces es) k (trace e (replay es)) j → ⊥
+  granted_met : (t : Trace workbook) → CanRedo es k t → (e : Edit workbook) → slice_get es k ≡ Some (undone e) → (j : ℕ) →
+      BlocksRedo (traces es) k (trace e (replay es)) j → ⊥
   granted_met t can e off j blocks =
       let b : BlocksRedo (traces es) k t j = subst (λ u. BlocksRedo (traces es) k u j) (tried_same t can e off) blocks in
       elim b.meets [
@@ -134,17 +138,21 @@ module _ (es : List (Entry workbook)) (k : ℕ) where
         | inr need ↦ can.needs_none j b.of_j b.later b.j_in_force need
       ]
 
-  granted_refused : (t : Trace workbook) → CanRedo es k t → (e : Edit workbook) → slice_get es k ≡ Some (undone e) → (why : command_refusal.Refusal) → outcome e (replay es) ≡ Err why → ⊥
+  granted_refused : (t : Trace workbook) → CanRedo es k t → (e : Edit workbook) → slice_get es k ≡ Some (undone e) → (why : command_refusal.Refusal) →
+      outcome e (replay es) ≡ Err why → ⊥
   granted_refused t can e off why is = ok_err can.accepted (ap (λ u. u.outcome) (sym (tried_same t can e off)) ∙ is)
 
-  met_refused : (e d : Edit workbook) → slice_get es k ≡ Some (undone e) → slice_get es k ≡ Some (undone d) → (j : ℕ) → BlocksRedo (traces es) k (trace e (replay es)) j
+  met_refused : (e d : Edit workbook) → slice_get es k ≡ Some (undone e) → slice_get es k ≡ Some (undone d) → (j : ℕ) →
+      BlocksRedo (traces es) k (trace e (replay es)) j
       → ((j : ℕ) → BlocksRedo (traces es) k (trace d (replay es)) j → ⊥) → ⊥
   met_refused e d a b j blocks free = free j (subst (λ f. BlocksRedo (traces es) k (trace f (replay es)) j) (undone_same e d a b) blocks)
 
-  met_same : (e d : Edit workbook) → slice_get es k ≡ Some (undone e) → slice_get es k ≡ Some (undone d) → (j i : ℕ) → Least (BlocksRedo (traces es) k (trace e (replay es))) j
+  met_same : (e d : Edit workbook) → slice_get es k ≡ Some (undone e) → slice_get es k ≡ Some (undone d) → (j i : ℕ) →
+      Least (BlocksRedo (traces es) k (trace e (replay es))) j
       → Least (BlocksRedo (traces es) k (trace d (replay es))) i → j ≡ i
   met_same e d a b j i least other =
-      least_same (BlocksRedo (traces es) k (trace d (replay es))) j i (subst (λ f. Least (BlocksRedo (traces es) k (trace f (replay es))) j) (undone_same e d a b) least) other
+      least_same (BlocksRedo (traces es) k (trace d (replay es))) j i
+      (subst (λ f. Least (BlocksRedo (traces es) k (trace f (replay es))) j) (undone_same e d a b) least) other
 
   refused_same : (e d : Edit workbook) → slice_get es k ≡ Some (undone e) → slice_get es k ≡ Some (undone d) → (why other : command_refusal.Refusal)
       → outcome e (replay es) ≡ Err why → outcome d (replay es) ≡ Err other → why ≡ other
@@ -262,10 +270,12 @@ module _ (es : List (Entry workbook)) (e : Edit workbook) where
   edit_cause (Err (RefusedInPlace e)) reply memory = absurd reply
 
   edit_same : (c d : EditCause) → edit_answer c ≡ edit_answer d
-  edit_same (accepted xs is) (accepted ys also) = let both : Ok xs ≡ Ok ys = sym is ∙ also in let same : xs ≡ ys = cc in ap (λ zs. Ok (length es + 1, count_of zs)) same
+  edit_same (accepted xs is) (accepted ys also) = let both : Ok xs ≡ Ok ys = sym is ∙ also in let same : xs ≡ ys = cc in
+      ap (λ zs. Ok (length es + 1, count_of zs)) same
   edit_same (accepted xs is) (denied why not) = let both : Ok xs ≡ Err why = sym is ∙ not in cc
   edit_same (denied why not) (accepted xs is) = let both : Ok xs ≡ Err why = sym is ∙ not in cc
-  edit_same (denied why is) (denied other also) = let both : Err why ≡ Err other = sym is ∙ also in let same : why ≡ other = cc in ap (λ w. Err (Refused w)) same
+  edit_same (denied why is) (denied other also) = let both : Err why ≡ Err other = sym is ∙ also in let same : why ≡ other = cc in
+      ap (λ w. Err (Refused w)) same
 
 pub edit_answer_law : EditAnswerLaw
 edit_answer_law es e r q fits also memory room =

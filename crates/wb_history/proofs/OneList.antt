@@ -5,7 +5,8 @@ use Rattle.selective_undo.specs.History.{Entry, undone, traces, InForce, Has, Fa
 use Rattle.wb_edit.specs.Schema.{workbook}
 use Rattle.wb_log.specs.Cascades.{AreDependents, DependentsReply}
 use Rattle.wb_log.specs.declared.refusal.Refusal.{Refusal}
-use Rattle.wb_log.specs.declared.refusal.Refusal.TheVariants.{BadRequest, BadLiteral, Refused, NoSuchEdit, NotInForce, InForce as IsInForce, Blocked, RefusedInPlace, NoMemory, StrangePass}
+use Rattle.wb_log.specs.declared.refusal.Refusal.TheVariants.{BadRequest, BadLiteral, Refused, NoSuchEdit, NotInForce, InForce as IsInForce, Blocked}
+use Rattle.wb_log.specs.declared.refusal.Refusal.TheVariants.{RefusedInPlace, NoMemory, StrangePass}
 use Rattle.wb_history.proofs.OneAnswer.{none_some, granted_missing, granted_out}
 use Rattle.wb_history.specs.ReplyLaws.{DependentsAnswerLaw}
 

@@ -1,5 +1,6 @@
 -- What a book lends of an array on a locale is the piece that is to be answered.
-use Rattle.std.proofs.Common.{◌≡◌, ℕ, ◌==◌, nat_lt, ℤ, Bool, true, false, List, filter, Option, Some, None, option_map, option_and_then, unwrap_or, Result, Ok, Err, refl, sym, ap, subst, ◌∙◌, if◌then◌else◌}
+use Rattle.std.proofs.Common.{◌≡◌, ℕ, ◌==◌, nat_lt, ℤ, Bool, true, false, List, filter, Option, Some, None, option_map, option_and_then, unwrap_or, Result, Ok}
+use Rattle.std.proofs.Common.{Err, refl, sym, ap, subst, ◌∙◌, if◌then◌else◌}
 use Rattle.std.specs.FinMap.{get}
 use Rattle.std.proofs.lemmas.List.Elements.{filter_agree}
 use Rattle.wb_dist.specs.Maps.{LayoutMap, whole, locale_count_of}
@@ -50,7 +51,8 @@ mapped (Some n) rank l es m there = refl
 has_mapping : (s : Cells) (d : Name) (rank : ℕ) → IsWellFormed s → domain_at s d ≡ Some (Rectangular rank) →
     (m : LayoutMap) × (mapping_in (get s (Mapping d)) ≡ Some m)
 has_mapping s d rank formed is =
-    let has : HasMapping (Some (Rectangular rank)) (get s (Mapping d)) = subst (λ (k : Option DomainKind). HasMapping k (get s (Mapping d))) is (formed.mappings d) in
+    let has : HasMapping (Some (Rectangular rank)) (get s (Mapping d)) =
+    subst (λ (k : Option DomainKind). HasMapping k (get s (Mapping d))) is (formed.mappings d) in
     (has.0, ap mapping_in has.1)
 
 -- an associative one has none
@@ -98,7 +100,8 @@ of_array s a l (Some (Array d k)) p formed is there =
     let es = elements s a in
     let o = mapping_in (get s (Mapping (mapped_as d (domain_kind (get s (Object d)))))) in
     let same = of_domain s d k l es (get s (Object d)) formed refl (formed.objects a (Array d k) is) in
-    sym (ap or_outside same ∙ outside_if (nat_lt l (unwrap_or (option_map locale_count_of o) 1)) (filter (λ x. unwrap_or (option_and_then (λ m. locale_in m x.0) o) 0 == l) es))
+    sym (ap or_outside same ∙ outside_if (nat_lt l (unwrap_or (option_map locale_count_of o) 1))
+    (filter (λ x. unwrap_or (option_and_then (λ m. locale_in m x.0) o) 0 == l) es))
 of_array s a l (Some (Domain kind)) p formed is there = cc
 of_array s a l (Some (Ranges rs)) p formed is there = cc
 of_array s a l (Some (MappingIs m)) p formed is there = cc

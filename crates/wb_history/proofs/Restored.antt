@@ -1,5 +1,6 @@
 -- A history is made again edit by edit.
-use Rattle.std.proofs.Common.{◌≡◌, ℕ, suc, ◌+◌, Bool, true, false, List, [], ◌∷◌, ◌++◌, length, refl, sym, ap, ◌∙◌, subst, Option, Some, None, is_some, option_map, Result, Ok, Err, IsOk, OnOk, OnErr, slice_get, arith, inl, inr}
+use Rattle.std.proofs.Common.{◌≡◌, ℕ, suc, ◌+◌, Bool, true, false, List, [], ◌∷◌, ◌++◌, length, refl, sym, ap, ◌∙◌, subst, Option, Some, None, is_some}
+use Rattle.std.proofs.Common.{option_map, Result, Ok, Err, IsOk, OnOk, OnErr, slice_get, arith, inl, inr}
 use Rattle.std.specs.Prelude.{min, ◌-◌, ◌^◌}
 use Rattle.std.proofs.Math.Nat.{sub-add-min_cancel}
 use Rattle.selective_undo.specs.Edit.{Schema, State, Change, Edit, Trace, outcome, written, trace, step}
@@ -14,7 +15,8 @@ use Rattle.wb_edit.specs.Commands.{meaning}
 use Rattle.wb_edit.specs.Valid.{IsValid}
 use Rattle.wb_log.specs.declared.entry.Entry as kept
 use Rattle.wb_log.specs.declared.refusal.Refusal.{Refusal}
-use Rattle.wb_log.specs.declared.refusal.Refusal.TheVariants.{BadRequest, BadLiteral, Refused, NoSuchEdit, NotInForce, InForce as IsInForce, Blocked, RefusedInPlace, NoMemory, StrangePass}
+use Rattle.wb_log.specs.declared.refusal.Refusal.TheVariants.{BadRequest, BadLiteral, Refused, NoSuchEdit, NotInForce, InForce as IsInForce, Blocked}
+use Rattle.wb_log.specs.declared.refusal.Refusal.TheVariants.{RefusedInPlace, NoMemory, StrangePass}
 use Rattle.wb_history.specs.declared.restore.RestoreErr.{RestoreErr}
 use Rattle.wb_history.specs.declared.restore.RestoreErr.TheVariants.{NotLegal, NoMemory as NoRoom}
 use Rattle.wb_log.specs.Past.{Numbered, Past, entry_at, meant, AreValid}
@@ -66,26 +68,31 @@ shows_aside s es e shows =
     let x : kept.Entry = record { edit = e; kept = None } in
     subst (λ l. IsKept {w = workbook} s l) (sym (append-map logged es (x ∷ []))) (kept_aside s (log es) (meaning e) shows)
 
-pub shows_aside_by : {X E : Type 0} (s : Cells) (es fs : List kept.Entry) (e : command.Edit) (r : Result X E) → Shows es s → OnOk r (fs ≡ es ++ record { edit = e; kept = None } ∷ []) → OnErr r (fs ≡ es) → Shows fs s
+pub shows_aside_by : {X E : Type 0} (s : Cells) (es fs : List kept.Entry) (e : command.Edit) (r : Result X E) → Shows es s →
+    OnOk r (fs ≡ es ++ record { edit = e; kept = None } ∷ []) → OnErr r (fs ≡ es) → Shows fs s
 shows_aside_by s es fs e (Ok x) shows more stay = subst (λ gs. Shows gs s) (sym more) (shows_aside s es e shows)
 shows_aside_by s es fs e (Err x) shows more stay = subst (λ gs. Shows gs s) (sym stay) shows
 
-valid_aside : (es : List kept.Entry) (e : command.Edit) → AreValid (numbered_entries es) → IsValid e → AreValid (numbered_entries (es ++ record { edit = e; kept = None } ∷ []))
+valid_aside : (es : List kept.Entry) (e : command.Edit) → AreValid (numbered_entries es) → IsValid e →
+    AreValid (numbered_entries (es ++ record { edit = e; kept = None } ∷ []))
 valid_aside es e valid here =
     let x : kept.Entry = record { edit = e; kept = None } in
     subst AreValid (sym (numbers_more es x)) (valid_append (numbered_entries es) (numbered x) valid here)
 
-pub valid_aside_by : {X E : Type 0} (es fs : List kept.Entry) (e : command.Edit) (r : Result X E) → AreValid (numbered_entries es) → IsValid e → OnOk r (fs ≡ es ++ record { edit = e; kept = None } ∷ []) → OnErr r (fs ≡ es) → AreValid (numbered_entries fs)
+pub valid_aside_by : {X E : Type 0} (es fs : List kept.Entry) (e : command.Edit) (r : Result X E) → AreValid (numbered_entries es) → IsValid e →
+    OnOk r (fs ≡ es ++ record { edit = e; kept = None } ∷ []) → OnErr r (fs ≡ es) → AreValid (numbered_entries fs)
 valid_aside_by es fs e (Ok x) valid here more stay = subst (λ gs. AreValid (numbered_entries gs)) (sym more) (valid_aside es e valid here)
 valid_aside_by es fs e (Err x) valid here more stay = subst (λ gs. AreValid (numbered_entries gs)) (sym stay) valid
 
-pub indexed_aside_by : {X E : Type 0} (x : Index) (es fs : List kept.Entry) (e : command.Edit) (r : Result X E) → IsIndexed x es → OnOk r (fs ≡ es ++ record { edit = e; kept = None } ∷ []) → OnErr r (fs ≡ es) → IsIndexed x fs
+pub indexed_aside_by : {X E : Type 0} (x : Index) (es fs : List kept.Entry) (e : command.Edit) (r : Result X E) → IsIndexed x es →
+    OnOk r (fs ≡ es ++ record { edit = e; kept = None } ∷ []) → OnErr r (fs ≡ es) → IsIndexed x fs
 indexed_aside_by x es fs e (Ok y) h more stay = subst (λ gs. IsIndexed x gs) (sym more) (more_indexed x es (record { edit = e; kept = None }) h)
 indexed_aside_by x es fs e (Err y) h more stay = subst (λ gs. IsIndexed x gs) (sym stay) h
 
 -- ---- the entry of a number
 
-pub entry_of_number : (es : List kept.Entry) (x : kept.Entry) (n : ℕ) → slice_get es n ≡ Some x → Some (one_of x.edit (is_some x.kept)) ≡ numbered_at (numbered_entries es) (suc n)
+pub entry_of_number : (es : List kept.Entry) (x : kept.Entry) (n : ℕ) → slice_get es n ≡ Some x →
+    Some (one_of x.edit (is_some x.kept)) ≡ numbered_at (numbered_entries es) (suc n)
 entry_of_number es x n at = sym (get-map numbered es n ∙ ap (option_map numbered) at)
 
 -- ---- counts
@@ -113,20 +120,24 @@ counted_on c d n w v is more sum =
     let zero_d : 0 + (c + n) ≡ c + n = omega arith in
     more ∙ ap (λ x. min (x + n) m) (is ∙ ap (λ x. min x m) zero_c) ∙ capped c n m ∙ ap (λ x. min x m) (sym zero_d) ∙ ap (λ x. min (0 + x) m) (sym sum)
 
-one_more : (h : List (Entry workbook)) (e : Edit workbook) → cells_written (traces (h ++ done e ∷ [])) ≡ cells_written (traces h) + count_of (written (outcome e (replay h)))
+one_more : (h : List (Entry workbook)) (e : Edit workbook) →
+    cells_written (traces (h ++ done e ∷ [])) ≡ cells_written (traces h) + count_of (written (outcome e (replay h)))
 one_more h e =
     let zero_more : count_of (written (outcome e (replay h))) + 0 ≡ count_of (written (outcome e (replay h))) = omega arith in
-    ap cells_written (follows h (done e ∷ []) empty).1 ∙ written_append (traces h) (Some (trace e (replay h)) ∷ []) ∙ ap (λ n. cells_written (traces h) + n) zero_more
+    ap cells_written (follows h (done e ∷ []) empty).1 ∙ written_append (traces h) (Some (trace e (replay h)) ∷ []) ∙
+    ap (λ n. cells_written (traces h) + n) zero_more
 
 none_more : (h : List (Entry workbook)) (e : Edit workbook) → cells_written (traces (h ++ undone e ∷ [])) ≡ cells_written (traces h)
 none_more h e =
     let same : cells_written (traces h) + 0 ≡ cells_written (traces h) = omega arith in
     ap cells_written (follows h (undone e ∷ []) empty).1 ∙ written_append (traces h) (None ∷ []) ∙ same
 
-pub counted_edit : (p q : Past) (e : command.Edit) (r : ℕ × ℕ) → EditReply (meant p.entries) (meaning e) (Ok r) → q.entries ≡ p.entries ++ one_of e true ∷ [] → q.writes ≡ written_more p.writes r.1 → IsCounted p → IsCounted q
+pub counted_edit : (p q : Past) (e : command.Edit) (r : ℕ × ℕ) → EditReply (meant p.entries) (meaning e) (Ok r) → q.entries ≡ p.entries ++ one_of e true ∷ [] →
+    q.writes ≡ written_more p.writes r.1 → IsCounted p → IsCounted q
 counted_edit p q e r (k, (xs, accepted, n)) more writes counted =
     let h = meant p.entries in
-    let now_is : traces (meant q.entries) ≡ traces (h ++ done (meaning e) ∷ []) = ap (λ es. traces (meant es)) more ∙ ap traces (meant_more p.entries (one_of e true ∷ [])) in
+    let now_is : traces (meant q.entries) ≡ traces (h ++ done (meaning e) ∷ []) = ap (λ es. traces (meant es)) more ∙
+    ap traces (meant_more p.entries (one_of e true ∷ [])) in
     let count : count_of (written (outcome (meaning e) (replay h))) ≡ r.1 = ap (λ o. count_of (written o)) accepted ∙ sym n in
     counted_on (cells_written (traces h)) (cells_written (traces (meant q.entries))) r.1 p.writes q.writes counted writes
     (ap cells_written now_is ∙ one_more h (meaning e) ∙ ap (λ c. cells_written (traces h) + c) count)
@@ -134,7 +145,8 @@ counted_edit p q e r (k, (xs, accepted, n)) more writes counted =
 pub counted_aside : (p q : Past) (e : command.Edit) → q.entries ≡ p.entries ++ one_of e false ∷ [] → q.writes ≡ p.writes → IsCounted p → IsCounted q
 counted_aside p q e more writes counted =
     let h = meant p.entries in
-    let now_is : traces (meant q.entries) ≡ traces (h ++ undone (meaning e) ∷ []) = ap (λ es. traces (meant es)) more ∙ ap traces (meant_more p.entries (one_of e false ∷ [])) in
+    let now_is : traces (meant q.entries) ≡ traces (h ++ undone (meaning e) ∷ []) = ap (λ es. traces (meant es)) more ∙
+    ap traces (meant_more p.entries (one_of e false ∷ [])) in
     writes ∙ counted ∙ ap (written_more 0) (sym (ap cells_written now_is ∙ none_more h (meaning e)))
 
 -- ---- an edit in force that is refused
@@ -153,7 +165,8 @@ begins : (es fs : List Numbered) (e : command.Edit) → meant ((es ++ one_of e t
 begins [] fs e = refl
 begins (x ∷ es) fs e = ap (λ h. entry_at x.edit x.in_force ∷ h) (begins es fs e)
 
-pub refused_here : (es : List Numbered) (e : command.Edit) (why : Refusal) → EditReply (meant es) (meaning e) (Err why) → stopped why ≡ NotLegal → BeginsNone (es ++ one_of e true ∷ [])
+pub refused_here : (es : List Numbered) (e : command.Edit) (why : Refusal) → EditReply (meant es) (meaning e) (Err why) → stopped why ≡ NotLegal →
+    BeginsNone (es ++ one_of e true ∷ [])
 refused_here es e (Refused o) reply is fs legal = not_ok (meant es) (meant fs) (meaning e) o reply (subst (λ h. IsLegal h) (begins es fs e) legal)
 refused_here es e NoMemory reply is fs legal = cc
 refused_here es e BadRequest reply is fs legal = reply
@@ -171,5 +184,6 @@ one_by_one (y ∷ es) fs x = ap (λ zs. y ∷ zs) (one_by_one es fs x)
 
 pub stopped_reply : (all rest : List (command.Edit × Bool)) (es : List Numbered) (e : command.Edit) (b : Bool) (why : RestoreErr)
     → es ++ marked ((e, b) ∷ rest) ≡ marked all → (why ≡ NotLegal → BeginsNone (es ++ one_of e b ∷ [])) → RestoreReply (marked all) (Err why)
-stopped_reply all rest es e b NotLegal is none = λ legal. none refl (marked rest) (subst (λ fs. IsLegal (meant fs)) (sym (one_by_one es (marked rest) (one_of e b) ∙ is)) legal)
+stopped_reply all rest es e b NotLegal is none = λ legal. none refl (marked rest)
+    (subst (λ fs. IsLegal (meant fs)) (sym (one_by_one es (marked rest) (one_of e b) ∙ is)) legal)
 stopped_reply all rest es e b NoRoom is none = tt

@@ -1,9 +1,11 @@
 //! The laws of undo and redo at the workbook's own cells and commands, and of the answers of a history: each is the
 //! contract of a function that does nothing. They name no command.
 
-ghost use Rattle.selective_undo.specs.Laws.{AppendLaw, UndoLaw, SetBackLaw, LastLaw, RedoLaw, UndoAfterRedoLaw, RedoAfterUndoLaw, RedoBackLaw, DependentsLaw, NoShorterLaw, RecordLaw, RunLaw};
+ghost use Rattle.selective_undo.specs.Laws.{AppendLaw, UndoLaw, SetBackLaw, LastLaw, RedoLaw, UndoAfterRedoLaw, RedoAfterUndoLaw, RedoBackLaw, DependentsLaw};
+ghost use Rattle.selective_undo.specs.Laws.{NoShorterLaw, RecordLaw, RunLaw};
 ghost use Rattle.wb_edit.specs.Schema.{workbook};
-ghost use Rattle.wb_history.specs.ReplyLaws.{EditAnswerLaw, UndoAnswerLaw, LastAnswerLaw, RedoAnswerLaw, DependentsAnswerLaw, UndoAfterRedoAnswerLaw, RedoAfterLastAnswerLaw, RedoBackAnswerLaw};
+ghost use Rattle.wb_history.specs.ReplyLaws.{EditAnswerLaw, UndoAnswerLaw, LastAnswerLaw, RedoAnswerLaw, DependentsAnswerLaw, UndoAfterRedoAnswerLaw};
+ghost use Rattle.wb_history.specs.ReplyLaws.{RedoAfterLastAnswerLaw, RedoBackAnswerLaw};
 
 /// A new edit does at the end of a history what it does in the workbook as it is, and all edits before it stay.
 pub fn append()

@@ -1,5 +1,6 @@
 -- The part of a list that passes a test, as far as a loop has come; and where two lists first differ.
-use Rattle.std.proofs.Common.{◌≡◌, ◌≢◌, ℕ, zero, suc, ◌+◌, ◌<◌, ◌≤◌, Bool, true, false, cond, List, [], ◌∷◌, ◌++◌, length, get_or, take, drop, filter, slice_get, Some, None, refl, ap, sym, ◌∙◌, arith, add-one}
+use Rattle.std.proofs.Common.{◌≡◌, ◌≢◌, ℕ, zero, suc, ◌+◌, ◌<◌, ◌≤◌, Bool, true, false, cond, List, [], ◌∷◌, ◌++◌, length, get_or, take, drop, filter}
+use Rattle.std.proofs.Common.{slice_get, Some, None, refl, ap, sym, ◌∙◌, arith, add-one}
 use Rattle.std.proofs.lemmas.List.{append-nil, take_more}
 use Rattle.std.proofs.lemmas.List.Elements.{filter-append}
 use Rattle.std.proofs.lemmas.Option.{slice_get_past}
@@ -12,11 +13,13 @@ filter_more p xs i d h = ap (filter p) (take_more xs i d h) ∙ filter-append p 
 
 pub filter_yes : {X : Type 0} (p : X → Bool) (xs : List X) (i : ℕ) (x : X) → i < length xs → x ≡ get_or xs i x → p x ≡ true
     → filter p (take (i + 1) xs) ≡ filter p (take i xs) ++ x ∷ []
-filter_yes p xs i x h is t = let t' : p (get_or xs i x) ≡ true = rw (← is) t in filter_more p xs i x h ∙ ap (λ b. filter p (take i xs) ++ cond b (get_or xs i x ∷ []) []) t' ∙ ap (λ y. filter p (take i xs) ++ y ∷ []) (sym is)
+filter_yes p xs i x h is t = let t' : p (get_or xs i x) ≡ true = rw (← is) t in filter_more p xs i x h ∙
+    ap (λ b. filter p (take i xs) ++ cond b (get_or xs i x ∷ []) []) t' ∙ ap (λ y. filter p (take i xs) ++ y ∷ []) (sym is)
 
 pub filter_no : {X : Type 0} (p : X → Bool) (xs : List X) (i : ℕ) (x : X) → i < length xs → x ≡ get_or xs i x → p x ≡ false
     → filter p (take (i + 1) xs) ≡ filter p (take i xs)
-filter_no p xs i x h is t = let t' : p (get_or xs i x) ≡ false = rw (← is) t in filter_more p xs i x h ∙ ap (λ b. filter p (take i xs) ++ cond b (get_or xs i x ∷ []) []) t' ∙ append-nil (filter p (take i xs))
+filter_no p xs i x h is t = let t' : p (get_or xs i x) ≡ false = rw (← is) t in filter_more p xs i x h ∙
+    ap (λ b. filter p (take i xs) ++ cond b (get_or xs i x ∷ []) []) t' ∙ append-nil (filter p (take i xs))
 
 parts : {X : Type 0} (xs : List X) (i : ℕ) → xs ≡ take i xs ++ drop i xs
 parts [] zero = refl
@@ -34,7 +37,8 @@ append_assoc' (y ∷ xs) x ys = ap (λ zs. y ∷ zs) (append_assoc' xs x ys)
 -- the parts at an element that passes
 pub filter_at : {X : Type 0} (p : X → Bool) (xs : List X) (i : ℕ) (x : X) → i < length xs → x ≡ get_or xs i x → p x ≡ true
     → filter p xs ≡ filter p (take i xs) ++ x ∷ filter p (drop (i + 1) xs)
-filter_at p xs i x h is t = filter_parts p xs (i + 1) ∙ ap (λ ys. ys ++ filter p (drop (i + 1) xs)) (filter_yes p xs i x h is t) ∙ append_assoc' (filter p (take i xs)) x (filter p (drop (i + 1) xs))
+filter_at p xs i x h is t = filter_parts p xs (i + 1) ∙ ap (λ ys. ys ++ filter p (drop (i + 1) xs)) (filter_yes p xs i x h is t) ∙
+    append_assoc' (filter p (take i xs)) x (filter p (drop (i + 1) xs))
 
 seam : {X : Type 0} (pre : List X) (x : X) (post : List X) → slice_get (pre ++ x ∷ post) (length pre) ≡ Some x
 seam [] x post = refl
@@ -88,4 +92,5 @@ take_next (y ∷ xs) (suc k) x h = ap (λ zs. y ∷ zs) (take_next xs k x h)
 pub same_more : (p : Entry → Bool) (es own : List Entry) (i k : ℕ) (e : Entry) → i < length es → e ≡ get_or es i e → p e ≡ true
     → filter p (take i es) ≡ take k own → slice_get own k ≡ Some e
     → filter p (take (i + 1) es) ≡ take (k + 1) own
-same_more p es own i k e within is passes same next = filter_yes p es i e within is passes ∙ ap (λ xs. xs ++ e ∷ []) same ∙ sym (take_next own k e next) ∙ ap (λ n. take n own) (sym (add-one k))
+same_more p es own i k e within is passes same next = filter_yes p es i e within is passes ∙ ap (λ xs. xs ++ e ∷ []) same ∙ sym (take_next own k e next) ∙
+    ap (λ n. take n own) (sym (add-one k))

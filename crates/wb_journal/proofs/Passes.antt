@@ -1,5 +1,6 @@
 -- The only pass of a seat, as far as a loop has come.
-use Rattle.std.proofs.Common.{◌≡◌, ℕ, zero, suc, ◌+◌, ◌<◌, true, false, List, [], ◌∷◌, ◌++◌, length, get_or, take, drop, slice_get, Option, Some, None, is_some, ap, sym, ◌∙◌, arith}
+use Rattle.std.proofs.Common.{◌≡◌, ℕ, zero, suc, ◌+◌, ◌<◌, true, false, List, [], ◌∷◌, ◌++◌, length, get_or, take, drop, slice_get, Option, Some, None, is_some}
+use Rattle.std.proofs.Common.{ap, sym, ◌∙◌, arith}
 use Rattle.std.specs.Prelude.{◌==◌}
 use Rattle.wb_journal.specs.Serving.{Held}
 use Rattle.wb_journal.specs.Settling.{passes_of, HasOnePass}

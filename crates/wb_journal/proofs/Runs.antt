@@ -1,5 +1,6 @@
 -- One more entry of a journal.
-use Rattle.std.proofs.Common.{◌≡◌, ◌≢◌, MatchBool, subst, ℕ, ◌+◌, ◌<◌, Bool, true, false, cond, List, [], ◌∷◌, ◌++◌, length, slice_index, slice_set, refl, ap, sym, ◌∙◌, arith, length-append}
+use Rattle.std.proofs.Common.{◌≡◌, ◌≢◌, MatchBool, subst, ℕ, ◌+◌, ◌<◌, Bool, true, false, cond, List, [], ◌∷◌, ◌++◌, length, slice_index, slice_set, refl, ap}
+use Rattle.std.proofs.Common.{sym, ◌∙◌, arith, length-append}
 use Rattle.std.specs.Prelude.{◌==◌}
 use Rattle.std.proofs.lemmas.Bool.Decides.{nat_tests}
 use Rattle.std.proofs.lemmas.Grind.{get_or-set_at}
@@ -53,7 +54,8 @@ course_more opening c seat own asked r d course strange answers = by_entered (is
         let below : seat < c.seats = (strange.1 (entered_known r is)).0 in
         record {
           run = rw enters.entries (run_more opening c.entries c.history e d.history course.run is enters.reply);
-          seated = rw (enters.entries, enters.seats) (All-append (λ (x : Entry). x.seat < c.seats) c.entries (e ∷ []) course.seated (All-cons (λ (x : Entry). x.seat < c.seats) e [] below (All-nil (λ (x : Entry). x.seat < c.seats))));
+          seated = rw (enters.entries, enters.seats) (All-append (λ (x : Entry). x.seat < c.seats) c.entries (e ∷ []) course.seated
+              (All-cons (λ (x : Entry). x.seat < c.seats) e [] below (All-nil (λ (x : Entry). x.seat < c.seats))));
         }
     by_entered false is same = subst (λ x. IsCourse opening x) (sym same) course
 

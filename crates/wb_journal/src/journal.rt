@@ -111,7 +111,8 @@ impl Journal {
         mover: &M,
     ) -> Result<Reply, NoMemory>
         requires { Knows self.old seat own.old.items }
-        ensures ok { IfOk result (λ r. (is_entered r ≡ true) × Enters self.old seat request r self.new × (own.new.items ≡ own.old.items ++ entry seat request r ∷ [])) }
+        ensures ok { IfOk result (λ r. (is_entered r ≡ true) × Enters self.old seat request r self.new ×
+            (own.new.items ≡ own.old.items ++ entry seat request r ∷ [])) }
         ensures err { OnErr result ((self.new ≡ self.old) × (own.new.items ≡ own.old.items)) }
     {
         if self.entries.reserve(1).is_err() {

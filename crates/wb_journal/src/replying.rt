@@ -219,7 +219,8 @@ fn recorded_small<M: Mover>(
 ) -> Result<(Reply, Record, Record), NoMemory>
     requires same { asked.now ≡ request }
     requires element { sets_or_asks request ≡ true }
-    ensures ok { IfOk result (λ r. (is_entered r.0 ≡ true) × Step history.old request r.0 history.new × (r.1 ≡ entry seat request r.0) × (r.2 ≡ entry seat request r.0)) }
+    ensures ok { IfOk result (λ r. (is_entered r.0 ≡ true) × Step history.old request r.0 history.new × (r.1 ≡ entry seat request r.0) ×
+        (r.2 ≡ entry seat request r.0)) }
     ensures err { OnErr result (history.new ≡ history.old) }
 {
     let reply = answer_request(alloc, history, request, mover);
@@ -246,7 +247,8 @@ fn recorded_any<M: Mover>(
     mover: &M,
 ) -> Result<(Reply, Record, Record), NoMemory>
     requires same { asked ≡ request }
-    ensures ok { IfOk result (λ r. (is_entered r.0 ≡ true) × Step history.old request r.0 history.new × (r.1 ≡ entry seat request r.0) × (r.2 ≡ entry seat request r.0)) }
+    ensures ok { IfOk result (λ r. (is_entered r.0 ≡ true) × Step history.old request r.0 history.new × (r.1 ≡ entry seat request r.0) ×
+        (r.2 ≡ entry seat request r.0)) }
     ensures err { OnErr result (history.new ≡ history.old) }
 {
     let told = asked.copy(alloc)?;
@@ -266,7 +268,8 @@ pub(crate) fn recorded<M: Mover>(
     request: Request,
     mover: &M,
 ) -> Result<(Reply, Record, Record), NoMemory>
-    ensures ok { IfOk result (λ r. (is_entered r.0 ≡ true) × Step history.old request r.0 history.new × (r.1 ≡ entry seat request r.0) × (r.2 ≡ entry seat request r.0)) }
+    ensures ok { IfOk result (λ r. (is_entered r.0 ≡ true) × Step history.old request r.0 history.new × (r.1 ≡ entry seat request r.0) ×
+        (r.2 ≡ entry seat request r.0)) }
     ensures err { OnErr result (history.new ≡ history.old) }
 {
     let asked = request.copy(alloc)?;

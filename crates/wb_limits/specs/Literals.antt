@@ -1,6 +1,7 @@
 -- What the literals of rectangles and of sets stand for, within the limits of ranges and of rectangular domains (Chapel
 -- Language Specification, Ranges and Domains).
-use Rattle.std.specs.Prelude.{ℤ, pos, negsuc, ◌-ℤ◌, int_le, List, [], ◌∷◌, length, map, Bool, not, ◌&&◌, nat_le, Option, Some, None, Result, Ok, Err, if◌then◌else◌}
+use Rattle.std.specs.Prelude.{ℤ, pos, negsuc, ◌-ℤ◌, int_le, List, [], ◌∷◌, length, map, Bool, not, ◌&&◌, nat_le, Option, Some, None, Result, Ok, Err}
+use Rattle.std.specs.Prelude.{if◌then◌else◌}
 use Rattle.std.specs.Ordering.{int_eq}
 use Rattle.wb_range.specs.Sequence.{sequence, counted_bounds}
 use Rattle.wb_rect.specs.Product.{product}

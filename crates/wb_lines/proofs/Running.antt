@@ -1,5 +1,6 @@
 -- A session while it runs.
-use Rattle.std.proofs.Common.{◌≡◌, ◌⊎◌, ◌<◌, length, inl, inr, false, ℕ, ◌+◌, List, [], ◌∷◌, ◌++◌, take, Option, None, refl, sym, ap, ◌∙◌, subst, append_assoc, append-nil, length-append, arith}
+use Rattle.std.proofs.Common.{◌≡◌, ◌⊎◌, ◌<◌, length, inl, inr, false, ℕ, ◌+◌, List, [], ◌∷◌, ◌++◌, take, Option, None, refl, sym, ap, ◌∙◌, subst, append_assoc}
+use Rattle.std.proofs.Common.{append-nil, length-append, arith}
 use Rattle.std.specs.Io.KnownBytes.{Appends}
 use Rattle.std.proofs.KnownBytes.{Appends-trans}
 use Rattle.wb_lines.specs.Lines.{IsUnbroken, lines, whole_lines, ended}
@@ -12,8 +13,15 @@ pub Replies-push : {M : Type 0} (answers : M → List ℕ → List ℕ → M →
     → Replies answers m ls text n → answers n line reply k → Replies answers m (ls ++ line ∷ []) (text ++ ended reply) k
 Replies-push answers m n k [] text line reply r a =
     (reply, [], k, subst (λ x. answers x line reply k) r.1 a, (refl, refl), ap (λ x. x ++ ended reply) r.0 ∙ sym (append-nil (ended reply)))
-Replies-push answers m n k (l ∷ ls) text line reply r a =
-    (r.0, r.1 ++ ended reply, r.2, r.3, Replies-push answers r.2 n k ls r.1 line reply r.4 a, ap (λ x. x ++ ended reply) r.5 ∙ append_assoc (ended r.0) r.1 (ended reply))
+Replies-push answers m n k (l ∷ ls) text line reply r a = (
+  r.0,
+  r.1 ++ ended reply,
+  r.2,
+  r.3,
+  Replies-push answers r.2 n k ls r.1 line reply r.4 a,
+  ap (λ x. x ++ ended reply) r.5 ∙
+      append_assoc (ended r.0) r.1 (ended reply),
+)
 
 pub record Running {M : Type 0} (answers : M → List ℕ → List ℕ → M → Type 0) (m n : M) (read text : List ℕ) (count : ℕ) (now : Reading) : Type 0 where
   pub answered : List (List ℕ)
@@ -35,20 +43,27 @@ pub running_line : {M : Type 0} (answers : M → List ℕ → List ℕ → M →
 running_line answers m n k read got text line reply count old new r t f a = record {
   answered = r.answered ++ line ∷ [];
   standing = standing_line read got line r.answered old new r.standing t;
-  replies = (Replies-push (AnswersLine answers) m n k r.answered text line reply r.replies.0 a, omega (arith, r.replies.1, length-append r.answered (line ∷ [])));
+  replies = (
+    Replies-push (AnswersLine answers) m n k r.answered text line reply r.replies.0 a,
+    omega (arith, r.replies.1, length-append r.answered (line ∷ [])),
+  );
   fault = f;
 }
 
-along : {M : Type 0} (answers : M → List ℕ → List ℕ → M → Type 0) (m n : M) (asked answered : List (List ℕ)) (text : List ℕ) (count : ℕ) → asked ≡ answered → AnswersAll answers m answered text count n → AnswersAll answers m asked text count n
+along : {M : Type 0} (answers : M → List ℕ → List ℕ → M → Type 0) (m n : M) (asked answered : List (List ℕ)) (text : List ℕ) (count : ℕ) → asked ≡ answered →
+    AnswersAll answers m answered text count n → AnswersAll answers m asked text count n
 along answers m n asked answered text count e a = subst (λ x. AnswersAll answers m x text count n) (sym e) a
 
 pub running_end : {M : Type 0} (answers : M → List ℕ → List ℕ → M → Type 0) (m n : M) (read got text : List ℕ) (count : ℕ) (old new : Reading)
     → Running answers m n read text count old → Takes old new got [] → new.ahead ≡ [] → AnswersAll answers m (lines (read ++ got)) text count n
-running_end answers m n read got text count old new r t none = along answers m n _ r.answered text count (standing_end read got r.answered old new r.standing t none) r.replies
+running_end answers m n read got text count old new r t none =
+    along answers m n _ r.answered text count (standing_end read got r.answered old new r.standing t none) r.replies
 
 pub running_fault : {M : Type 0} (answers : M → List ℕ → List ℕ → M → Type 0) (m n : M) (read got text line : List ℕ) (count : ℕ) (old new : Reading)
-    → Running answers m n read text count old → old.at_end ≡ false → IsUnbroken line → Takes old new got line → new.ahead ≡ [] → AnswersAll answers m (whole_lines (read ++ got)) text count n
-running_fault answers m n read got text line count old new r f u t none = along answers m n _ r.answered text count (standing_fault read got line r.answered old new r.standing f u t none) r.replies
+    → Running answers m n read text count old → old.at_end ≡ false → IsUnbroken line → Takes old new got line → new.ahead ≡ [] →
+    AnswersAll answers m (whole_lines (read ++ got)) text count n
+running_fault answers m n read got text line count old new r f u t none =
+    along answers m n _ r.answered text count (standing_fault read got line r.answered old new r.standing f u t none) r.replies
 
 pub running_broken : {M : Type 0} (answers : M → List ℕ → List ℕ → M → Type 0) (m n : M) (read got text line : List ℕ) (count : ℕ) (old new : Reading)
     → Running answers m n read text count old → Takes old new got line → AnswersSome answers m (lines (read ++ got)) text count n
@@ -66,18 +81,24 @@ running_waits answers m n read text count now r =
 -- a line was taken, and its reply was not sent whole
 pub running_stops : {M : Type 0} (answers : M → List ℕ → List ℕ → M → Type 0) (m n k : M) (read got text line part : List ℕ) (count : ℕ) (old new : Reading)
     → Running answers m n read text count old → TakesLine old new got line
-    → (((part ≡ []) × (k ≡ n)) ⊎ ((reply : List ℕ) × AnswersLine answers n line reply k × ((i : ℕ) × (i < length (ended reply)) × (part ≡ take i (ended reply)))))
+    → (((part ≡ []) × (k ≡ n)) ⊎ ((reply : List ℕ) × AnswersLine answers n line reply k ×
+    ((i : ℕ) × (i < length (ended reply)) × (part ≡ take i (ended reply)))))
     → AnswersSome answers m (lines (read ++ got)) (text ++ part) count k
 running_stops answers m n k read got text line part count old new r t last =
     let s = standing_some (read ++ got) (r.answered ++ line ∷ []) new (standing_line read got line r.answered old new r.standing t) in
     (r.answered, line ∷ s.0, text, part, n, s.1 ∙ append_assoc r.answered (line ∷ []) s.0, r.replies, refl, last)
 
 -- a line was taken, and of its reply went out what the writer has more
-pub running_unsent : {M : Type 0} (answers : M → List ℕ → List ℕ → M → Type 0) (m n k : M) (read got text line : List ℕ) (count : ℕ) (old new : Reading) (start before after : Option (List ℕ))
+pub running_unsent : {M : Type 0} (answers : M → List ℕ → List ℕ → M → Type 0) (m n k : M) (read got text line : List ℕ) (count : ℕ) (old new : Reading)
+    (start before after : Option (List ℕ))
     → Running answers m n read text count old → TakesLine old new got line → Appends start before text
-    → (((k ≡ n) × Appends before after []) ⊎ ((reply : List ℕ) × AnswersLine answers n line reply k × ((i : ℕ) × (i < length (ended reply)) × Appends before after (take i (ended reply)))))
+    → (((k ≡ n) × Appends before after []) ⊎ ((reply : List ℕ) × AnswersLine answers n line reply k ×
+    ((i : ℕ) × (i < length (ended reply)) × Appends before after (take i (ended reply)))))
     → (sent : List ℕ) × Appends start after sent × AnswersSome answers m (lines (read ++ got)) sent count k
 running_unsent answers m n k read got text line count old new start before after r t a (inl (e, b)) =
     (text ++ [], Appends-trans start before after text [] a b, running_stops answers m n k read got text line [] count old new r t (inl (refl, e)))
-running_unsent answers m n k read got text line count old new start before after r t a (inr (reply, x, (i, f, b))) =
-    (text ++ take i (ended reply), Appends-trans start before after text _ a b, running_stops answers m n k read got text line (take i (ended reply)) count old new r t (inr (reply, x, (i, f, refl))))
+running_unsent answers m n k read got text line count old new start before after r t a (inr (reply, x, (i, f, b))) = (
+  text ++ take i (ended reply),
+  Appends-trans start before after text _ a b,
+  running_stops answers m n k read got text line (take i (ended reply)) count old new r t (inr (reply, x, (i, f, refl))),
+)

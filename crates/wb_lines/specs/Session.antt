@@ -39,7 +39,8 @@ AnswersAll answers m asked text count n = Replies (AnswersLine answers) m asked 
 -- the next line was answered, and of the reply and its line end a front was sent, and not all
 abbrev pub BreaksOff : {M : Type 0} → (M → List ℕ → List ℕ → M → Type 0) → M → List (List ℕ) → List ℕ → M → Type 0
 BreaksOff answers m [] text n = ⊥
-BreaksOff answers m (line ∷ more) text n = (reply : List ℕ) × AnswersLine answers m line reply n × ((k : ℕ) × (k < length (ended reply)) × (text ≡ take k (ended reply)))
+BreaksOff answers m (line ∷ more) text n = (reply : List ℕ) × AnswersLine answers m line reply n ×
+    ((k : ℕ) × (k < length (ended reply)) × (text ≡ take k (ended reply)))
 
 -- some of these lines were answered, and perhaps one more, whose reply was not sent whole
 abbrev pub AnswersSome : {M : Type 0} → (M → List ℕ → List ℕ → M → Type 0) → M → List (List ℕ) → List ℕ → ℕ → M → Type 0

@@ -1,5 +1,6 @@
 -- A text is read as a whole just where all of it spells the value.
-use Rattle.std.proofs.Common.{◌≡◌, ◌↔◌, ℕ, Bool, true, false, cond, nat_eq, List, [], ◌∷◌, ◌++◌, length, Option, Some, None, option_and_then, refl, sym, ap, ◌∙◌, subst, append-nil, eqb-true, arith}
+use Rattle.std.proofs.Common.{◌≡◌, ◌↔◌, ℕ, Bool, true, false, cond, nat_eq, List, [], ◌∷◌, ◌++◌, length, Option, Some, None, option_and_then, refl, sym, ap}
+use Rattle.std.proofs.Common.{◌∙◌, subst, append-nil, eqb-true, arith}
 use Rattle.std.proofs.lemmas.Option.{same_Some, option_and_then_some}
 use Rattle.wb_literal.specs.Tokens.{whole}
 
@@ -7,7 +8,8 @@ empty_by : (t : Bool) (l : List ℕ) → nat_eq (length l) 0 ≡ t → t ≡ tru
 empty_by t [] e f = refl
 empty_by t (b ∷ l) e f = absurd (omega (arith, eqb-true (length (b ∷ l)) 0 (e ∙ f)))
 
-whole_by : {X : Type 0} (t : Bool) (x y : X) (l : List ℕ) → nat_eq (length l) 0 ≡ t → cond {A = Option X} t (Some x) None ≡ Some y → ◌≡◌ {A = Option (X × List ℕ)} (Some (x, l)) (Some (y, []))
+whole_by : {X : Type 0} (t : Bool) (x y : X) (l : List ℕ) → nat_eq (length l) 0 ≡ t → cond {A = Option X} t (Some x) None ≡ Some y →
+    ◌≡◌ {A = Option (X × List ℕ)} (Some (x, l)) (Some (y, []))
 whole_by true x y l t e = let n = empty_by true l t refl in ap (λ m. Some (x, m)) n ∙ ap (λ z. Some (z, [])) (same_Some x y e)
 whole_by false x y l t e = absurd (cc)
 

@@ -1,5 +1,6 @@
 -- What is printed for a range is read back.
-use Rattle.std.proofs.Common.{◌≡◌, ◌≢◌, ℕ, ℤ, pos, Decides, Bool, true, false, cond, ◌&&◌, List, [], ◌∷◌, ◌++◌, codes, Option, Some, None, option_and_then, option_map, refl, sym, ap, ◌∙◌, append-nil, ne_eqb}
+use Rattle.std.proofs.Common.{◌≡◌, ◌≢◌, ℕ, ℤ, pos, Decides, Bool, true, false, cond, ◌&&◌, List, [], ◌∷◌, ◌++◌, codes, Option, Some, None, option_and_then}
+use Rattle.std.proofs.Common.{option_map, refl, sym, ap, ◌∙◌, append-nil, ne_eqb}
 use Rattle.std.proofs.lemmas.Bool.Decides.{Decides-int_eq}
 use Rattle.std.specs.Fmt.{signed_decimal}
 use Rattle.std.specs.Ordering.{int_eq}
@@ -30,7 +31,8 @@ upper_back : (high : ℤ) (tail : List ℕ) → IsWithin high → EndsDigits tai
 upper_back high tail h e =
     let f = integer_first high tail h in
     let front : List ℕ → List ℕ = λ x. 46 ∷ 46 ∷ x in
-    ap (λ x. upper_at (front x)) f.2 ∙ upper_by f.0 f.1 f.3 f.4 f.5 ∙ ap to_at (sym f.2) ∙ ap (option_map (λ (n : ℤ × List ℕ). (To n.0, n.1))) (integer_back high tail h e)
+    ap (λ x. upper_at (front x)) f.2 ∙ upper_by f.0 f.1 f.3 f.4 f.5 ∙ ap to_at (sym f.2) ∙
+    ap (option_map (λ (n : ℤ × List ℕ). (To n.0, n.1))) (integer_back high tail h e)
 
 low_back : (low : ℤ) (bytes : List ℕ) → IsWithin low → integer_at (signed_decimal low ++ (46 ∷ bytes)) ≡ Some (low, 46 ∷ bytes)
 low_back low bytes h = integer_back low (46 ∷ bytes) h refl
@@ -58,13 +60,17 @@ int_same z h = decided_yes (int_eq z (pos 0)) (z ≡ pos 0) (Decides-int_eq z (p
 pub int_ne : (z : ℤ) → z ≢ pos 0 → int_eq z (pos 0) ≡ false
 int_ne z h = decided_no (int_eq z (pos 0)) (z ≡ pos 0) (Decides-int_eq z (pos 0)) h
 
-stride_back : (stride : ℤ) → IsWithin stride → stride ≢ pos 0 → stride_at (codes " by " ++ signed_decimal stride) ≡ Some (Some (record { stride = stride; align = None }), [])
+stride_back : (stride : ℤ) → IsWithin stride → stride ≢ pos 0 →
+    stride_at (codes " by " ++ signed_decimal stride) ≡ Some (Some (record { stride = stride; align = None }), [])
 stride_back stride h n = rw (unspaced stride h, number_of stride h, int_ne stride n) refl
 
 range_by : (low high : ℤ) (tail : List ℕ) (s : Option Stride) → IsWithin low → IsWithin high → EndsDigits tail → stride_at tail ≡ Some (s, [])
     → range_of (signed_decimal low ++ (46 ∷ 46 ∷ (signed_decimal high ++ tail))) ≡ Some (record { low = low; upper = To high; stride = s })
 range_by low high tail s l h e t = rw (low_back low (46 ∷ (signed_decimal high ++ tail)) l, upper_back high tail h e, t) refl
 
-pub range_back : (low high : ℤ) (stride : Option ℤ) → IsWithin low → IsWithin high → IsStride stride → range_of (range_text low high stride) ≡ Some (record { low = low; upper = To high; stride = unaligned stride })
-range_back low high None l h s = ap (λ (x : List ℕ). range_of (signed_decimal low ++ (46 ∷ 46 ∷ x))) (sym (append-nil (signed_decimal high))) ∙ range_by low high [] None l h tt refl
-range_back low high (Some stride) l h s = range_by low high (codes " by " ++ signed_decimal stride) (Some (record { stride = stride; align = None })) l h refl (stride_back stride s.0 s.1)
+pub range_back : (low high : ℤ) (stride : Option ℤ) → IsWithin low → IsWithin high → IsStride stride →
+    range_of (range_text low high stride) ≡ Some (record { low = low; upper = To high; stride = unaligned stride })
+range_back low high None l h s = ap (λ (x : List ℕ). range_of (signed_decimal low ++ (46 ∷ 46 ∷ x))) (sym (append-nil (signed_decimal high))) ∙
+    range_by low high [] None l h tt refl
+range_back low high (Some stride) l h s = range_by low high (codes " by " ++ signed_decimal stride) (Some (record { stride = stride; align = None })) l h refl
+    (stride_back stride s.0 s.1)

@@ -1,5 +1,7 @@
 -- Ranges: what is spelled is read, and what is read is spelled.
-use Rattle.std.proofs.Common.{◌≡◌, ◌↔◌, ◌≢◌, ◌⊎◌, inl, inr, ℕ, ◌^◌, ◌<◌, ◌≤◌, ℤ, pos, Bool, true, false, cond, ◌&&◌, nat_eq, nat_le, nat_lt, List, [], ◌∷◌, ◌++◌, codes, Option, Some, None, option_map, option_and_then, refl, sym, ap, ◌∙◌, subst, append_assoc, eqb-true, ne_eqb, lt-ltb, ltb-true, arith}
+use Rattle.std.proofs.Common.{◌≡◌, ◌↔◌, ◌≢◌, ◌⊎◌, inl, inr, ℕ, ◌^◌, ◌<◌, ◌≤◌, ℤ, pos, Bool, true, false, cond, ◌&&◌, nat_eq, nat_le, nat_lt, List, [], ◌∷◌}
+use Rattle.std.proofs.Common.{◌++◌, codes, Option, Some, None, option_map, option_and_then, refl, sym, ap, ◌∙◌, subst, append_assoc, eqb-true, ne_eqb, lt-ltb}
+use Rattle.std.proofs.Common.{ltb-true, arith}
 use Rattle.std.proofs.lemmas.Bool.{leb-true, true≢false}
 use Rattle.std.proofs.lemmas.Option.{same_Some, option_and_then_some, some_pair_parts}
 use Rattle.std.specs.Option.{option_map_or}
@@ -82,7 +84,8 @@ no_by_at [] h = refl
 no_by_at (b ∷ e) h = not_after 98 b (codes "y") e h.3
 
 no_align : (rest : List ℕ) → Ends rest → after_word (codes "align") rest ≡ None
-no_align rest e = ap (after_word (codes "align")) e.is ∙ word_none 97 (codes "lign") e.spaces e.stop e.are (stop_unspaced e.stop e.stops) (no_align_at e.stop e.stops)
+no_align rest e = ap (after_word (codes "align")) e.is ∙ word_none 97 (codes "lign") e.spaces e.stop e.are (stop_unspaced e.stop e.stops)
+    (no_align_at e.stop e.stops)
 
 no_by : (rest : List ℕ) → Ends rest → after_word (codes "by") rest ≡ None
 no_by rest e = ap (after_word (codes "by")) e.is ∙ word_none 98 (codes "y") e.spaces e.stop e.are (stop_unspaced e.stop e.stops) (no_by_at e.stop e.stops)
@@ -100,7 +103,14 @@ opens : (s b rest : List ℕ) → AreSpaces s → Starts b → Opens (s ++ (b ++
 opens [] [] rest a h = absurd h
 opens [] (c ∷ b) rest a (inl e) = record { first = c; more = b ++ rest; is = refl; no_hash = λ x. omega (arith, e, x); no_less = λ x. omega (arith, e, x) }
 opens [] (c ∷ b) rest a (inr h) = record { first = c; more = b ++ rest; is = refl; no_hash = λ x. omega (arith, h.0, x); no_less = λ x. omega (arith, h.1, x) }
-opens (c ∷ s) b rest a h = let e = a.0 in record { first = c; more = s ++ (b ++ rest); is = refl; no_hash = λ x. omega (arith, e, x); no_less = λ x. omega (arith, e, x) }
+opens (c ∷ s) b rest a h = let e = a.0 in record {
+  first = c;
+  more = s ++ (b ++ rest);
+  is = refl;
+  no_hash = λ x. omega (arith, e, x);
+  no_less =
+      λ x. omega (arith, e, x);
+}
 
 other_dots : (b k : ℕ) (bytes : List ℕ) → b ≢ k → after_token (46 ∷ 46 ∷ k ∷ []) (46 ∷ 46 ∷ b ∷ bytes) ≡ None
 other_dots b k bytes h = ap (λ (t : Bool). option_map skip_spaces (cond (t && true) (Some bytes) None)) (ne_eqb k b (λ e. h (sym e)))
@@ -125,45 +135,62 @@ count_read b rest n h l e = ap (option_and_then natural) (natural_read b rest n 
 upper_read : (text rest : List ℕ) (u : Upper) → IsUpper text u → EndsDigits rest → upper_at (text ++ rest) ≡ Some (u, rest)
 upper_read text rest (To n) (s, b, a, h, e) f = ap upper_at (ap (λ x. x ++ rest) e ∙ ap (λ x. 46 ∷ 46 ∷ x) (append_assoc s b rest)) ∙ to_read s b rest n a h f
 upper_read text rest (Below n) (s, b, a, h, e) f = ap upper_at (ap (λ x. x ++ rest) e ∙ ap (λ x. 46 ∷ 46 ∷ 60 ∷ x) (append_assoc s b rest))
-    ∙ ap below_at (skip_over s (b ++ rest) a (starts_unspaced b rest (integer_starts b n h))) ∙ ap (option_map (λ (m : ℤ × List ℕ). (Below m.0, m.1))) (integer_read b rest n h f)
+    ∙ ap below_at (skip_over s (b ++ rest) a (starts_unspaced b rest (integer_starts b n h))) ∙
+    ap (option_map (λ (m : ℤ × List ℕ). (Below m.0, m.1))) (integer_read b rest n h f)
 upper_read text rest (Count n) (s, b, a, h, l, e) f = ap upper_at (ap (λ x. x ++ rest) e ∙ ap (λ x. 46 ∷ 46 ∷ 35 ∷ x) (append_assoc s b rest))
-    ∙ ap count_at (skip_over s (b ++ rest) a (starts_unspaced b rest (natural_starts b n h))) ∙ ap (option_map (λ (m : ℕ × List ℕ). (Count m.0, m.1))) (count_read b rest n h l f)
+    ∙ ap count_at (skip_over s (b ++ rest) a (starts_unspaced b rest (natural_starts b n h))) ∙
+    ap (option_map (λ (m : ℕ × List ℕ). (Count m.0, m.1))) (count_read b rest n h l f)
 
 -- a text at the front spells the value, and the rest follows it
 abbrev pub Found : {X : Type 0} → (List ℕ → X → Type 0) → List ℕ → X → List ℕ → Type 0
 Found G bytes x rest = (text : List ℕ) × G text x × (bytes ≡ text ++ rest)
 
-within_by : (t : Bool) (d : ℕ × List ℕ) (n : ℕ) (rest : List ℕ) → nat_lt d.0 (2 ^ 63) ≡ t → cond {A = Option (ℕ × List ℕ)} t (Some d) None ≡ Some (n, rest) → (d.0 < 2 ^ 63) × (d.0 ≡ n) × (d.1 ≡ rest)
+within_by : (t : Bool) (d : ℕ × List ℕ) (n : ℕ) (rest : List ℕ) → nat_lt d.0 (2 ^ 63) ≡ t → cond {A = Option (ℕ × List ℕ)} t (Some d) None ≡ Some (n, rest) →
+    (d.0 < 2 ^ 63) × (d.0 ≡ n) × (d.1 ≡ rest)
 within_by true d n rest t e = let p = some_pair_parts d.0 n d.1 rest e in (ltb-true d.0 (2 ^ 63) t, p.0, p.1)
 within_by false d n rest t e = absurd (cc)
 
-bound_found : (f : ℤ → Upper) (token bytes x rest : List ℕ) (u : Upper) → ((s b : List ℕ) (n : ℤ) → AreSpaces s → IsInteger b n → IsUpper (token ++ (s ++ b)) (f n))
-    → ((s : List ℕ) × AreSpaces s × (bytes ≡ token ++ (s ++ x))) → option_map {U = Upper × List ℕ} (λ (n : ℤ × List ℕ). (f n.0, n.1)) (integer_at x) ≡ Some (u, rest) → Found IsUpper bytes u rest
+bound_found : (f : ℤ → Upper) (token bytes x rest : List ℕ) (u : Upper) →
+    ((s b : List ℕ) (n : ℤ) → AreSpaces s → IsInteger b n → IsUpper (token ++ (s ++ b)) (f n))
+    → ((s : List ℕ) × AreSpaces s × (bytes ≡ token ++ (s ++ x))) →
+    option_map {U = Upper × List ℕ} (λ (n : ℤ × List ℕ). (f n.0, n.1)) (integer_at x) ≡ Some (u, rest) → Found IsUpper bytes u rest
 bound_found f token bytes x rest u g (s, a, h) e = mapped (λ (n : ℤ × List ℕ). (f n.0, n.1)) (integer_at x) (u, rest) e (λ n o p.
     let t = integer_found x n.1 n.0 o in
     let same : f n.0 ≡ u = ap (λ (q : Upper × List ℕ). q.0) p in
     let left : n.1 ≡ rest = ap (λ (q : Upper × List ℕ). q.1) p in
-    let joined : (token ++ (s ++ t.0)) ++ rest ≡ token ++ (s ++ (t.0 ++ rest)) = simp append_assoc in
-    (token ++ (s ++ t.0), subst (IsUpper (token ++ (s ++ t.0))) same (g s t.0 n.0 a t.1), h ∙ ap (λ y. token ++ (s ++ y)) (t.3 ∙ ap (λ y. t.0 ++ y) left) ∙ sym joined))
+    let joined : (token ++ (s ++ t.0)) ++ rest ≡ token ++ (s ++ (t.0 ++ rest)) = simp append_assoc in (
+      token ++ (s ++ t.0),
+      subst (IsUpper (token ++ (s ++ t.0))) same (g s t.0 n.0 a t.1),
+      h ∙ ap (λ y. token ++ (s ++ y)) (t.3 ∙ ap (λ y. t.0 ++ y) left) ∙
+          sym joined,
+    ))
 
-count_found : (bytes x rest : List ℕ) (u : Upper) → ((s : List ℕ) × AreSpaces s × (bytes ≡ codes "..#" ++ (s ++ x))) → count_at x ≡ Some (u, rest) → Found IsUpper bytes u rest
+count_found : (bytes x rest : List ℕ) (u : Upper) → ((s : List ℕ) × AreSpaces s × (bytes ≡ codes "..#" ++ (s ++ x))) → count_at x ≡ Some (u, rest) →
+    Found IsUpper bytes u rest
 count_found bytes x rest u (s, a, h) e = mapped (λ (n : ℕ × List ℕ). (Count n.0, n.1)) (natural_at x) (u, rest) e (λ n o p.
     option_and_then_some natural (digits_at x) n o (λ d q f.
     let k = within_by (nat_lt d.0 (2 ^ 63)) d n.0 n.1 refl f in
     let t = natural_found x d.1 d.0 q in
     let same : Count d.0 ≡ u = ap (λ m. Count m) k.1 ∙ ap (λ (q : Upper × List ℕ). q.0) p in
     let left : d.1 ≡ rest = k.2 ∙ ap (λ (q : Upper × List ℕ). q.1) p in
-    let joined : (codes "..#" ++ (s ++ t.0)) ++ rest ≡ codes "..#" ++ (s ++ (t.0 ++ rest)) = simp append_assoc in
-    (codes "..#" ++ (s ++ t.0), subst (IsUpper (codes "..#" ++ (s ++ t.0))) same (s, t.0, a, t.1, k.0, refl), h ∙ ap (λ y. codes "..#" ++ (s ++ y)) (t.3 ∙ ap (λ y. t.0 ++ y) left) ∙ sym joined)))
+    let joined : (codes "..#" ++ (s ++ t.0)) ++ rest ≡ codes "..#" ++ (s ++ (t.0 ++ rest)) = simp append_assoc in (
+      codes "..#" ++ (s ++ t.0),
+      subst (IsUpper (codes "..#" ++ (s ++ t.0))) same (s, t.0, a, t.1, k.0, refl),
+      h ∙
+          ap (λ y. codes "..#" ++ (s ++ y)) (t.3 ∙ ap (λ y. t.0 ++ y) left) ∙ sym joined,
+    )))
 
-hash_by : (o : Option (List ℕ)) (bytes rest : List ℕ) (u : Upper) → after_token (codes "..#") bytes ≡ o → option_map_or count_at o (option_and_then to_at (after_token (codes "..") bytes)) ≡ Some (u, rest) → Found IsUpper bytes u rest
+hash_by : (o : Option (List ℕ)) (bytes rest : List ℕ) (u : Upper) → after_token (codes "..#") bytes ≡ o →
+    option_map_or count_at o (option_and_then to_at (after_token (codes "..") bytes)) ≡ Some (u, rest) → Found IsUpper bytes u rest
 hash_by (Some x) bytes rest u o e = count_found bytes x rest u (token_found (codes "..#") bytes x o) e
 hash_by None bytes rest u o e = option_and_then_some to_at (after_token (codes "..") bytes) (u, rest) e (λ x q f.
     bound_found (λ n. To n) (codes "..") bytes x rest u (λ s b n a h. (s, b, a, h, refl)) (token_found (codes "..") bytes x q) f)
 
 less_by : (o : Option (List ℕ)) (bytes rest : List ℕ) (u : Upper) → after_token (codes "..<") bytes ≡ o
-    → option_map_or below_at o (option_map_or count_at (after_token (codes "..#") bytes) (option_and_then to_at (after_token (codes "..") bytes))) ≡ Some (u, rest) → Found IsUpper bytes u rest
-less_by (Some x) bytes rest u o e = bound_found (λ n. Below n) (codes "..<") bytes x rest u (λ s b n a h. (s, b, a, h, refl)) (token_found (codes "..<") bytes x o) e
+    → option_map_or below_at o (option_map_or count_at (after_token (codes "..#") bytes) (option_and_then to_at (after_token (codes "..") bytes))) ≡ Some
+    (u, rest) → Found IsUpper bytes u rest
+less_by (Some x) bytes rest u o e = bound_found (λ n. Below n) (codes "..<") bytes x rest u (λ s b n a h. (s, b, a, h, refl))
+    (token_found (codes "..<") bytes x o) e
 less_by None bytes rest u o e = hash_by (after_token (codes "..#") bytes) bytes rest u refl e
 
 upper_found : (bytes rest : List ℕ) (u : Upper) → upper_at bytes ≡ Some (u, rest) → Found IsUpper bytes u rest
@@ -174,12 +201,16 @@ upper_found bytes rest u e = less_by (after_token (codes "..<") bytes) bytes res
 word_joined : (word s u rest : List ℕ) → ((32 ∷ s) ++ (word ++ (32 ∷ u))) ++ rest ≡ (32 ∷ s) ++ (word ++ (32 ∷ (u ++ rest)))
 word_joined word s u rest = append_assoc (32 ∷ s) (word ++ (32 ∷ u)) rest ∙ ap (λ x. (32 ∷ s) ++ x) (append_assoc word (32 ∷ u) rest)
 
-align_read : (stride : ℤ) (text rest : List ℕ) (al : Option ℤ) → IsAlign text al → Ends rest → align_at stride (text ++ rest) ≡ Some (Some (record { stride = stride; align = al }), rest)
+align_read : (stride : ℤ) (text rest : List ℕ) (al : Option ℤ) → IsAlign text al → Ends rest →
+    align_at stride (text ++ rest) ≡ Some (Some (record { stride = stride; align = al }), rest)
 align_read stride text rest None e f = ap (λ x. align_at stride (x ++ rest)) e ∙ rw (no_align rest f) refl
 align_read stride text rest (Some t) (w, n, (s, u, a, b, we), h, e) f =
     let joined : text ++ rest ≡ (32 ∷ s) ++ (codes "align" ++ (32 ∷ (u ++ (n ++ rest)))) = rw (e, we) (simp append_assoc) in
     ap (align_at stride) joined
-    ∙ rw (word_over 97 (codes "lign") s u (n ++ rest) (λ r. refl) (λ x. omega (arith, x)) a b (starts_unspaced n rest (integer_starts n t h)), integer_read n rest t h (ends_digits rest f)) refl
+    ∙ rw (
+      word_over 97 (codes "lign") s u (n ++ rest) (λ r. refl) (λ x. omega (arith, x)) a b (starts_unspaced n rest (integer_starts n t h)),
+      integer_read n rest t h (ends_digits rest f),
+    ) refl
 
 align_ends : (text rest : List ℕ) (al : Option ℤ) → IsAlign text al → Ends rest → EndsDigits (text ++ rest)
 align_ends text rest None e f = subst (λ x. EndsDigits (x ++ rest)) (sym e) (ends_digits rest f)
@@ -189,9 +220,15 @@ by_read : (text rest : List ℕ) (by : Option Stride) → IsBy text by → Ends 
 by_read text rest None e f = ap (λ x. stride_at (x ++ rest)) e ∙ rw (no_by rest f) refl
 by_read text rest (Some st) (w, n, al, (s, u, a, b, we), h, nz, k, e) f =
     let joined : text ++ rest ≡ (32 ∷ s) ++ (codes "by" ++ (32 ∷ (u ++ (n ++ (al ++ rest))))) =
-    ap (λ x. x ++ rest) e ∙ append_assoc w (n ++ al) rest ∙ ap (λ x. w ++ x) (append_assoc n al rest) ∙ ap (λ x. x ++ (n ++ (al ++ rest))) we ∙ word_joined (codes "by") s u (n ++ (al ++ rest)) in
+    ap (λ x. x ++ rest) e ∙ append_assoc w (n ++ al) rest ∙ ap (λ x. w ++ x) (append_assoc n al rest) ∙ ap (λ x. x ++ (n ++ (al ++ rest))) we ∙
+    word_joined (codes "by") s u (n ++ (al ++ rest)) in
     ap stride_at joined
-    ∙ rw (word_over 98 (codes "y") s u (n ++ (al ++ rest)) (λ r. refl) (λ x. omega (arith, x)) a b (starts_unspaced n (al ++ rest) (integer_starts n st.stride h)), integer_read n (al ++ rest) st.stride h (align_ends al rest st.align k f), int_ne st.stride nz)
+    ∙ rw (
+      word_over 98 (codes "y") s u (n ++ (al ++ rest)) (λ r. refl) (λ x. omega (arith, x)) a b
+          (starts_unspaced n (al ++ rest) (integer_starts n st.stride h)),
+      integer_read n (al ++ rest) st.stride h (align_ends al rest st.align k f),
+      int_ne st.stride nz,
+    )
     (align_read st.stride al rest st.align k f)
 
 by_ends : (text rest : List ℕ) (by : Option Stride) → IsBy text by → Ends rest → EndsDigits (text ++ rest)
@@ -207,7 +244,9 @@ record AlignFound (stride : ℤ) (bytes rest : List ℕ) (st : Option Stride) : 
   bytes_are : bytes ≡ text ++ rest
 
 align_by : (o : Option (List ℕ)) (stride : ℤ) (bytes rest : List ℕ) (st : Option Stride) → after_word (codes "align") bytes ≡ o
-    → option_map_or {T = List ℕ} {U = Option (Option Stride × List ℕ)} (λ r. option_map (λ (t : ℤ × List ℕ). (Some (record { stride = stride; align = Some t.0 }), t.1)) (integer_at r)) o (Some (Some (record { stride = stride; align = None }), bytes)) ≡ Some (st, rest)
+    → option_map_or {T = List ℕ} {U = Option (Option Stride × List ℕ)}
+    (λ r. option_map (λ (t : ℤ × List ℕ). (Some (record { stride = stride; align = Some t.0 }), t.1)) (integer_at r)) o
+    (Some (Some (record { stride = stride; align = None }), bytes)) ≡ Some (st, rest)
     → AlignFound stride bytes rest st
 align_by None stride bytes rest st o e =
     let p = some_pair_parts (Some (record { stride = stride; align = None })) st bytes rest e in
@@ -222,7 +261,8 @@ align_by (Some x) stride bytes rest st o e =
       align = Some n.0;
       spelled = (word, t.0, (w.0, w.1, w.2, w.3, refl), t.1, refl);
       is = sym (ap (λ (q : Option Stride × List ℕ). q.0) p);
-      bytes_are = w.4 ∙ sym (word_joined (codes "align") w.0 w.1 x) ∙ ap (λ y. word ++ y) (t.3 ∙ ap (λ y. t.0 ++ y) (ap (λ (q : Option Stride × List ℕ). q.1) p)) ∙ sym (append_assoc word t.0 rest);
+      bytes_are = w.4 ∙ sym (word_joined (codes "align") w.0 w.1 x) ∙
+          ap (λ y. word ++ y) (t.3 ∙ ap (λ y. t.0 ++ y) (ap (λ (q : Option Stride × List ℕ). q.1) p)) ∙ sym (append_assoc word t.0 rest);
     })
 
 nonzero_by : (t : Bool) (i s : ℤ × List ℕ) → int_eq i.0 (pos 0) ≡ t → cond {A = Option (ℤ × List ℕ)} t None (Some i) ≡ Some s → (i ≡ s) × (i.0 ≢ pos 0)
@@ -230,7 +270,8 @@ nonzero_by true i s t e = absurd (cc)
 nonzero_by false i s t e = (same_Some i s e, λ z. true≢false (sym (int_same i.0 z) ∙ t))
 
 by_by : (o : Option (List ℕ)) (bytes rest : List ℕ) (st : Option Stride) → after_word (codes "by") bytes ≡ o
-    → option_map_or {T = List ℕ} {U = Option (Option Stride × List ℕ)} (λ r. option_and_then (λ s. align_at s.0 s.1) (nonzero_at r)) o (Some (None, bytes)) ≡ Some (st, rest) → Found IsBy bytes st rest
+    → option_map_or {T = List ℕ} {U = Option (Option Stride × List ℕ)} (λ r. option_and_then (λ s. align_at s.0 s.1) (nonzero_at r)) o
+    (Some (None, bytes)) ≡ Some (st, rest) → Found IsBy bytes st rest
 by_by None bytes rest st o e =
     let p = some_pair_parts None st bytes rest e in
     ([], subst (IsBy []) p.0 refl, p.1)
@@ -245,8 +286,18 @@ by_by (Some x) bytes rest st o e =
     let value : i.0 ≡ s.0 = ap (λ (q : ℤ × List ℕ). q.0) fits.0 in
     let left : i.1 ≡ s.1 = ap (λ (q : ℤ × List ℕ). q.1) fits.0 in (
       word ++ (t.0 ++ a.text),
-      subst (IsBy (word ++ (t.0 ++ a.text))) (sym a.is) (word, t.0, a.text, (w.0, w.1, w.2, w.3, refl), subst (IsInteger t.0) value t.1, subst (λ n. n ≢ pos 0) value fits.1, a.spelled, refl),
-      w.4 ∙ sym (word_joined (codes "by") w.0 w.1 x) ∙ ap (λ y. word ++ y) (t.3 ∙ ap (λ y. t.0 ++ y) (left ∙ a.bytes_are) ∙ sym (append_assoc t.0 a.text rest)) ∙ sym (append_assoc word (t.0 ++ a.text) rest),
+      subst (IsBy (word ++ (t.0 ++ a.text))) (sym a.is) (
+        word,
+        t.0,
+        a.text,
+        (w.0, w.1, w.2, w.3, refl),
+        subst (IsInteger t.0) value t.1,
+        subst (λ n. n ≢ pos 0) value fits.1,
+        a.spelled,
+        refl,
+      ),
+      w.4 ∙ sym (word_joined (codes "by") w.0 w.1 x) ∙ ap (λ y. word ++ y) (t.3 ∙ ap (λ y. t.0 ++ y) (left ∙ a.bytes_are) ∙ sym (append_assoc t.0 a.text rest))
+          ∙ sym (append_assoc word (t.0 ++ a.text) rest),
     )))
 
 by_found : (bytes rest : List ℕ) (st : Option Stride) → stride_at bytes ≡ Some (st, rest) → Found IsBy bytes st rest
@@ -273,11 +324,19 @@ pub range_read : (text rest : List ℕ) (r : RangeLiteral) → IsRange text r �
 range_read text rest r (low, s, up, by, h, a, u, k, e) f =
     let joined : text ++ rest ≡ low ++ (s ++ (up ++ (by ++ rest))) = rw e (simp append_assoc) in
     ap range_at joined
-    ∙ rw (integer_read low (s ++ (up ++ (by ++ rest))) r.low h (dots_end s up (by ++ rest) r.upper a u), skip_over s (up ++ (by ++ rest)) a (dots_unspaced up (by ++ rest) r.upper u), upper_read up (by ++ rest) r.upper u (by_ends by rest r.stride k f), by_read by rest r.stride k f) refl
+    ∙ rw (
+      integer_read low (s ++ (up ++ (by ++ rest))) r.low h (dots_end s up (by ++ rest) r.upper a u),
+      skip_over s (up ++ (by ++ rest)) a (dots_unspaced up (by ++ rest) r.upper u),
+      upper_read up (by ++ rest) r.upper u (by_ends by rest r.stride k f),
+      by_read by rest r.stride k f,
+    ) refl
 
 pub range_found : (bytes rest : List ℕ) (r : RangeLiteral) → range_at bytes ≡ Some (r, rest) → Found IsRange bytes r rest
-range_found bytes rest r e = option_and_then_some (λ (low : ℤ × List ℕ). option_and_then (λ (up : Upper × List ℕ). option_map (λ (s : Option Stride × List ℕ). (record { low = low.0; upper = up.0; stride = s.0 }, s.1)) (stride_at up.1)) (upper_at (skip_spaces low.1))) (integer_at bytes) (r, rest) e (λ low f g.
-    option_and_then_some (λ (up : Upper × List ℕ). option_map (λ (s : Option Stride × List ℕ). (record { low = low.0; upper = up.0; stride = s.0 }, s.1)) (stride_at up.1)) (upper_at (skip_spaces low.1)) (r, rest) g (λ up h k.
+range_found bytes rest r e = option_and_then_some (λ (low : ℤ × List ℕ). option_and_then
+    (λ (up : Upper × List ℕ). option_map (λ (s : Option Stride × List ℕ). (record { low = low.0; upper = up.0; stride = s.0 }, s.1)) (stride_at up.1))
+    (upper_at (skip_spaces low.1))) (integer_at bytes) (r, rest) e (λ low f g.
+    option_and_then_some (λ (up : Upper × List ℕ). option_map (λ (s : Option Stride × List ℕ). (record { low = low.0; upper = up.0; stride = s.0 }, s.1))
+    (stride_at up.1)) (upper_at (skip_spaces low.1)) (r, rest) g (λ up h k.
     mapped (λ (s : Option Stride × List ℕ). (record { low = low.0; upper = up.0; stride = s.0 }, s.1)) (stride_at up.1) (r, rest) k (λ st m p.
     let l = integer_found bytes low.1 low.0 f in
     let sp = spaces_of low.1 in

@@ -30,12 +30,15 @@ rectangle_found bytes rest y e = enclosed_found range_at IsRange range_reads ran
     (λ c u h. last_found range_at IsRange range_reads ranges_of 125 brace (a ∷ b ∷ c ∷ []) y (Solid a b c) u rest refl h) g) f) e
 
 pub rectangle_read : (text rest : List ℕ) (y : RectangleLiteral) → IsRectangle text y → rectangle_at (text ++ rest) ≡ Some (y, rest)
-rectangle_read text rest (Line a) h = enclosed_read range_at IsRange range_reads (λ a z. second_range_at a z) 123 125 text rest a [] (Line a) (λ z. refl) brace h
+rectangle_read text rest (Line a) h = enclosed_read range_at IsRange range_reads (λ a z. second_range_at a z) 123 125 text rest a [] (Line a) (λ z. refl) brace
+    h
     (λ b t m s. ends_read range_at IsRange range_reads ranges_of 125 brace (λ b w. third_range_at a b w) (Line a) b t rest m s)
-rectangle_read text rest (Plane a b) h = enclosed_read range_at IsRange range_reads (λ a z. second_range_at a z) 123 125 text rest a (b ∷ []) (Plane a b) (λ z. refl) brace h
+rectangle_read text rest (Plane a b) h = enclosed_read range_at IsRange range_reads (λ a z. second_range_at a z) 123 125 text rest a (b ∷ []) (Plane a b)
+    (λ z. refl) brace h
     (λ v t m s. goes_read range_at IsRange range_reads ranges_of 125 brace (λ b w. third_range_at a b w) (Line a) (Plane a b) v t rest b [] m s
     (λ w n. ends_read range_at IsRange range_reads ranges_of 125 brace (third a b) (Plane a b) w t rest n s))
-rectangle_read text rest (Solid a b c) h = enclosed_read range_at IsRange range_reads (λ a z. second_range_at a z) 123 125 text rest a (b ∷ c ∷ []) (Solid a b c) (λ z. refl) brace h
+rectangle_read text rest (Solid a b c) h = enclosed_read range_at IsRange range_reads (λ a z. second_range_at a z) 123 125 text rest a (b ∷ c ∷ [])
+    (Solid a b c) (λ z. refl) brace h
     (λ v t m s. goes_read range_at IsRange range_reads ranges_of 125 brace (λ b w. third_range_at a b w) (Line a) (Solid a b c) v t rest b (c ∷ []) m s
     (λ w n. goes_read range_at IsRange range_reads ranges_of 125 brace (third a b) (Plane a b) (Solid a b c) w t rest c [] n s
     (λ u o. end_read range_at IsRange range_reads ranges_of 125 brace (Solid a b c) u t rest o s)))

@@ -1,5 +1,7 @@
 -- Sets and domains: what is spelled is read, and what is read is spelled.
-use Rattle.std.proofs.Common.{◌≡◌, ◌≢◌, ◌↔◌, ◌⊎◌, inl, inr, ℕ, zero, suc, ◌+◌, ◌<◌, ◌≤◌, ℤ, Bool, true, false, cond, not, ◌&&◌, nat_eq, nat_le, nat_lt, List, [], ◌∷◌, ◌++◌, codes, length, take, drop, position, Option, Some, None, option_map, option_and_then, IsUtf8, refl, sym, ap, ◌∙◌, subst, append_assoc, append-nil, length-append, take_all, take_at, drop_at, lt-ltb, ltb-true, eqb-true, arith}
+use Rattle.std.proofs.Common.{◌≡◌, ◌≢◌, ◌↔◌, ◌⊎◌, inl, inr, ℕ, zero, suc, ◌+◌, ◌<◌, ◌≤◌, ℤ, Bool, true, false, cond, not, ◌&&◌, nat_eq, nat_le, nat_lt, List}
+use Rattle.std.proofs.Common.{[], ◌∷◌, ◌++◌, codes, length, take, drop, position, Option, Some, None, option_map, option_and_then, IsUtf8, refl, sym, ap, ◌∙◌}
+use Rattle.std.proofs.Common.{subst, append_assoc, append-nil, length-append, take_all, take_at, drop_at, lt-ltb, ltb-true, eqb-true, arith}
 use Rattle.std.proofs.lemmas.Bool.{and_parts, not-true, cond_both}
 use Rattle.std.proofs.lemmas.List.{length_push}
 use Rattle.std.proofs.lemmas.List.Sums.{split_at_first, passes_at_first}
@@ -16,7 +18,8 @@ use Rattle.wb_literal.specs.Tokens.{skip_spaces, after, after_token, comma_at, c
 use Rattle.wb_literal.specs.Range.{upper_at, range_at}
 use Rattle.wb_literal.specs.Rectangle.{rectangle_at, rectangle_of}
 use Rattle.wb_literal.specs.Index.{index_at}
-use Rattle.wb_literal.specs.Set.{Items, nothing, integers, pairs, triples, texts, items_at, listed_at, as_pair, pair_at, as_triple, triple_at, is_text, label_of, is_quote, quoted_at, text_at, indices_at, texts_at, filled_at, set_at, set_literal_of}
+use Rattle.wb_literal.specs.Set.{Items, nothing, integers, pairs, triples, texts, items_at, listed_at, as_pair, pair_at, as_triple, triple_at, is_text}
+use Rattle.wb_literal.specs.Set.{label_of, is_quote, quoted_at, text_at, indices_at, texts_at, filled_at, set_at, set_literal_of}
 use Rattle.wb_literal.specs.Domain.{Domain, rectangle, set, domain_of}
 use Rattle.wb_literal.specs.Grammar.{AreSpaces, IsComma, AreMore, AreListed, IsEnclosed, IsPair, IsTriple, IsText, IsIndex, IsSet, IsDomain}
 use Rattle.wb_literal.specs.declared.rectangle.RectangleLiteral.{RectangleLiteral}
@@ -36,27 +39,36 @@ use Rattle.wb_literal.proofs.MappingGrammar.{index_unspaced, comma_read, comma_i
 module _ {X : Type 0} (at : List ℕ → Option (X × List ℕ)) (Item : List ℕ → X → Type 0) (r : Reads at Item) where
   -- an item, and then the further ones
   abbrev then_more : ℕ → X × List ℕ → Option (List X × List ℕ)
-  then_more n x = option_map_or {T = List ℕ} {U = Option (List X × List ℕ)} (λ (rest : List ℕ). option_map {U = List X × List ℕ} (λ (more : List X × List ℕ). (x.0 ∷ more.0, more.1)) (items_at at n rest)) (comma_at x.1) (Some (x.0 ∷ [], x.1))
+  then_more n x = option_map_or {T = List ℕ} {U = Option (List X × List ℕ)}
+      (λ (rest : List ℕ). option_map {U = List X × List ℕ} (λ (more : List X × List ℕ). (x.0 ∷ more.0, more.1)) (items_at at n rest)) (comma_at x.1)
+      (Some (x.0 ∷ [], x.1))
 
   more_of : (c l : List ℕ) (xs : List X) → IsComma c → AreListed Item l xs → AreMore Item (c ++ l) xs
   more_of c l [] k h = absurd h
   more_of c l (x ∷ xs) k (a, b, i, m, e) = (c, a, b, k, i, m, ap (λ y. c ++ y) e)
 
-  next_items : (o : Option (List ℕ)) (n : ℕ) (bytes behind rest a : List ℕ) (x : X) (xs : List X) → ((z w : List ℕ) (ys : List X) → items_at at n z ≡ Some (ys, w) → Found (AreListed Item) z ys w)
+  next_items : (o : Option (List ℕ)) (n : ℕ) (bytes behind rest a : List ℕ) (x : X) (xs : List X) →
+      ((z w : List ℕ) (ys : List X) → items_at at n z ≡ Some (ys, w) → Found (AreListed Item) z ys w)
       → Item a x → bytes ≡ a ++ behind → comma_at behind ≡ o
-      → option_map_or {T = List ℕ} {U = Option (List X × List ℕ)} (λ (z : List ℕ). option_map {U = List X × List ℕ} (λ (more : List X × List ℕ). (x ∷ more.0, more.1)) (items_at at n z)) o (Some (x ∷ [], behind)) ≡ Some (xs, rest)
+      → option_map_or {T = List ℕ} {U = Option (List X × List ℕ)} (λ (z : List ℕ). option_map {U = List X × List ℕ}
+      (λ (more : List X × List ℕ). (x ∷ more.0, more.1)) (items_at at n z)) o (Some (x ∷ [], behind)) ≡ Some (xs, rest)
       → Found (AreListed Item) bytes xs rest
   next_items None n bytes behind rest a x xs again i h o e =
       let p = some_pair_parts (x ∷ []) xs behind rest e in
       (a, subst (AreListed Item a) p.0 (a, [], i, refl, sym (append-nil a)), h ∙ ap (λ z. a ++ z) p.1)
-  next_items (Some z) n bytes behind rest a x xs again i h o e = mapped {B = List X × List ℕ} (λ (more : List X × List ℕ). (x ∷ more.0, more.1)) (items_at at n z) (xs, rest) e (λ m f p.
+  next_items (Some z) n bytes behind rest a x xs again i h o e =
+      mapped {B = List X × List ℕ} (λ (more : List X × List ℕ). (x ∷ more.0, more.1)) (items_at at n z) (xs, rest) e (λ m f p.
       let t = again z m.1 m.0 f in
       let c = comma_is behind z o in
       let value : x ∷ m.0 ≡ xs = ap (λ (q : List X × List ℕ). q.0) p in
       let left : m.1 ≡ rest = ap (λ (q : List X × List ℕ). q.1) p in
       let text : List ℕ = a ++ (c.0 ++ t.0) in
-      let joined : text ++ rest ≡ a ++ (c.0 ++ (t.0 ++ rest)) = append_assoc a (c.0 ++ t.0) rest ∙ ap (λ y. a ++ y) (append_assoc c.0 t.0 rest) in
-      (text, subst (AreListed Item text) value (a, c.0 ++ t.0, i, more_of c.0 t.0 m.0 c.1 t.1, refl), h ∙ ap (λ y. a ++ y) (c.2 ∙ ap (λ y. c.0 ++ y) (t.2 ∙ ap (λ y. t.0 ++ y) left)) ∙ sym joined))
+      let joined : text ++ rest ≡ a ++ (c.0 ++ (t.0 ++ rest)) = append_assoc a (c.0 ++ t.0) rest ∙ ap (λ y. a ++ y) (append_assoc c.0 t.0 rest) in (
+        text,
+        subst (AreListed Item text) value (a, c.0 ++ t.0, i, more_of c.0 t.0 m.0 c.1 t.1, refl),
+        h ∙
+            ap (λ y. a ++ y) (c.2 ∙ ap (λ y. c.0 ++ y) (t.2 ∙ ap (λ y. t.0 ++ y) left)) ∙ sym joined,
+      ))
 
   pub items_found : (n : ℕ) (bytes rest : List ℕ) (xs : List X) → items_at at n bytes ≡ Some (xs, rest) → Found (AreListed Item) bytes xs rest
   items_found zero bytes rest xs e = absurd (none-some (xs, rest) e)
@@ -64,18 +76,22 @@ module _ {X : Type 0} (at : List ℕ → Option (X × List ℕ)) (Item : List �
       let i = r.found bytes x.1 x.0 f in
       next_items (comma_at x.1) n bytes x.1 rest i.0 x.0 xs (λ z w ys h. items_found n z w ys h) i.1 i.2 refl g)
 
-  pub items_read : (n d : ℕ) (a b t rest : List ℕ) (x : X) (xs : List X) → Closes d → Item a x → AreMore Item b xs → AreSpaces t → length xs < n → items_at at n (a ++ (b ++ (t ++ (d ∷ rest)))) ≡ Some (x ∷ xs, t ++ (d ∷ rest))
+  pub items_read : (n d : ℕ) (a b t rest : List ℕ) (x : X) (xs : List X) → Closes d → Item a x → AreMore Item b xs → AreSpaces t → length xs < n →
+      items_at at n (a ++ (b ++ (t ++ (d ∷ rest)))) ≡ Some (x ∷ xs, t ++ (d ∷ rest))
   items_read zero d a b t rest x xs k i m s l = absurd (omega (arith, l))
   items_read (suc n) d a b t rest x [] k i m s l =
       let tail : List ℕ = t ++ (d ∷ rest) in
       ap (λ z. items_at at (suc n) (a ++ (z ++ tail))) m
       ∙ ap (option_and_then (then_more n)) (r.read a tail x i (closing_ends d t rest k s))
-      ∙ ap (λ o. option_map_or {T = List ℕ} {U = Option (List X × List ℕ)} (λ (z : List ℕ). option_map {U = List X × List ℕ} (λ (more : List X × List ℕ). (x ∷ more.0, more.1)) (items_at at n z)) o (Some (x ∷ [], tail))) (no_comma d t rest s k.stop.1 k.other)
+      ∙ ap (λ o. option_map_or {T = List ℕ} {U = Option (List X × List ℕ)}
+      (λ (z : List ℕ). option_map {U = List X × List ℕ} (λ (more : List X × List ℕ). (x ∷ more.0, more.1)) (items_at at n z)) o (Some (x ∷ [], tail)))
+      (no_comma d t rest s k.stop.1 k.other)
   items_read (suc n) d a b t rest x (y ∷ ys) k i (c, u, w, p, j, m, e) s l =
       let tail : List ℕ = t ++ (d ∷ rest) in
       let joined : b ++ tail ≡ c ++ (u ++ (w ++ tail)) = ap (λ z. z ++ tail) e ∙ append_assoc c (u ++ w) tail ∙ ap (λ z. c ++ z) (append_assoc u w tail) in
       ap (option_and_then (then_more n)) (r.read a (b ++ tail) x i (more_ends at Item r d b t rest (y ∷ ys) k (c, u, w, p, j, m, e) s))
-      ∙ ap (λ o. option_map_or {T = List ℕ} {U = Option (List X × List ℕ)} (λ (z : List ℕ). option_map {U = List X × List ℕ} (λ (more : List X × List ℕ). (x ∷ more.0, more.1)) (items_at at n z)) o (Some (x ∷ [], b ++ tail)))
+      ∙ ap (λ o. option_map_or {T = List ℕ} {U = Option (List X × List ℕ)}
+      (λ (z : List ℕ). option_map {U = List X × List ℕ} (λ (more : List X × List ℕ). (x ∷ more.0, more.1)) (items_at at n z)) o (Some (x ∷ [], b ++ tail)))
       (ap comma_at joined ∙ comma_read c (u ++ (w ++ tail)) p (r.unspaced u (w ++ tail) y j))
       ∙ ap (option_map {U = List X × List ℕ} (λ (more : List X × List ℕ). (x ∷ more.0, more.1))) (items_read n d u w t rest y ys k j m s (omega (arith, l)))
 
@@ -92,7 +108,8 @@ module _ {X : Type 0} (at : List ℕ → Option (X × List ℕ)) (Item : List �
   abbrev closed : List X × List ℕ → Option (List X × List ℕ)
   closed x = option_map {U = List X × List ℕ} (λ (rest : List ℕ). (x.0, rest)) (close_at (codes "}") x.1)
 
-  listed_found : (inside rest : List ℕ) (xs : List X) → listed_at at inside ≡ Some (xs, rest) → (l t : List ℕ) × AreListed Item l xs × AreSpaces t × (inside ≡ l ++ (t ++ (125 ∷ rest)))
+  listed_found : (inside rest : List ℕ) (xs : List X) → listed_at at inside ≡ Some (xs, rest) → (l t : List ℕ) × AreListed Item l xs × AreSpaces t ×
+      (inside ≡ l ++ (t ++ (125 ∷ rest)))
   listed_found inside rest xs e = option_and_then_some closed (items_at at (length inside) inside) (xs, rest) e (λ y f g.
       mapped {B = List X × List ℕ} (λ (z : List ℕ). (y.0, z)) (close_at (codes "}") y.1) (xs, rest) g (λ z h p.
       let i = items_found (length inside) inside y.1 y.0 f in
@@ -101,14 +118,16 @@ module _ {X : Type 0} (at : List ℕ → Option (X × List ℕ)) (Item : List �
       let left : z ≡ rest = ap (λ (m : List X × List ℕ). m.1) p in
       (i.0, q.0, subst (AreListed Item i.0) value i.1, q.1, i.2 ∙ ap (λ w. i.0 ++ w) (q.2 ∙ ap (λ w. q.0 ++ (125 ∷ w)) left))))
 
-  braced_found : (bytes inside s rest : List ℕ) (xs : List X) → AreSpaces s → bytes ≡ 123 ∷ (s ++ inside) → listed_at at inside ≡ Some (xs, rest) → Found (IsEnclosed (codes "{") (codes "}") Item) bytes xs rest
+  braced_found : (bytes inside s rest : List ℕ) (xs : List X) → AreSpaces s → bytes ≡ 123 ∷ (s ++ inside) → listed_at at inside ≡ Some (xs, rest) →
+      Found (IsEnclosed (codes "{") (codes "}") Item) bytes xs rest
   braced_found bytes inside s rest xs a h e =
       let f = listed_found inside rest xs e in
       let l = f.0 in
       let t = f.1 in
       let text : List ℕ = 123 ∷ (s ++ (l ++ (t ++ (125 ∷ [])))) in
       let joined : text ++ rest ≡ 123 ∷ (s ++ (l ++ (t ++ (125 ∷ rest)))) =
-      ap (λ z. 123 ∷ z) (append_assoc s (l ++ (t ++ (125 ∷ []))) rest ∙ ap (λ z. s ++ z) (append_assoc l (t ++ (125 ∷ [])) rest ∙ ap (λ z. l ++ z) (append_assoc t (125 ∷ []) rest))) in
+      ap (λ z. 123 ∷ z) (append_assoc s (l ++ (t ++ (125 ∷ []))) rest ∙
+      ap (λ z. s ++ z) (append_assoc l (t ++ (125 ∷ [])) rest ∙ ap (λ z. l ++ z) (append_assoc t (125 ∷ []) rest))) in
       (text, (s, l, t, a, f.2, f.3, refl), h ∙ ap (λ z. 123 ∷ (s ++ z)) f.4 ∙ sym joined)
 
   -- what stands in the braces: a first item, and a comma or the closing brace behind it
@@ -125,7 +144,8 @@ module _ {X : Type 0} (at : List ℕ → Option (X × List ℕ)) (Item : List �
     next : skip_spaces behind ≡ byte ∷ more
     no_dot : byte ≢ 46
 
-  listed_read : (a b t rest : List ℕ) (x : X) (xs : List X) → Item a x → AreMore Item b xs → AreSpaces t → listed_at at (a ++ (b ++ (t ++ (125 ∷ rest)))) ≡ Some (x ∷ xs, rest)
+  listed_read : (a b t rest : List ℕ) (x : X) (xs : List X) → Item a x → AreMore Item b xs → AreSpaces t →
+      listed_at at (a ++ (b ++ (t ++ (125 ∷ rest)))) ≡ Some (x ∷ xs, rest)
   listed_read a b t rest x xs i m s =
       let tail : List ℕ = t ++ (125 ∷ rest) in
       let all : length (a ++ (b ++ tail)) ≡ length a + (length b + (length t + length (125 ∷ rest))) =
@@ -134,19 +154,23 @@ module _ {X : Type 0} (at : List ℕ → Option (X × List ℕ)) (Item : List �
       ap (option_and_then closed) (items_read (length (a ++ (b ++ tail))) 125 a b t rest x xs brace i m s (omega (arith, all, fewer)))
       ∙ ap (option_map {U = List X × List ℕ} (λ (z : List ℕ). (x ∷ xs, z))) (close_over 125 t rest brace.stop.1 s)
 
-  next_byte : (b t rest : List ℕ) (xs : List X) → AreMore Item b xs → AreSpaces t → (byte : ℕ) × (more : List ℕ) × (skip_spaces (b ++ (t ++ (125 ∷ rest))) ≡ byte ∷ more) × (byte ≢ 46)
+  next_byte : (b t rest : List ℕ) (xs : List X) → AreMore Item b xs → AreSpaces t → (byte : ℕ) × (more : List ℕ) ×
+      (skip_spaces (b ++ (t ++ (125 ∷ rest))) ≡ byte ∷ more) × (byte ≢ 46)
   next_byte b t rest [] e s = (125, rest, ap (λ z. skip_spaces (z ++ (t ++ (125 ∷ rest)))) e ∙ skip_over t (125 ∷ rest) s brace.stop.1, λ z. omega (arith, z))
   next_byte b t rest (x ∷ xs) (c, a, w, (u, v, p, q, f), i, m, e) s =
       let tail : List ℕ = (a ++ w) ++ (t ++ (125 ∷ rest)) in
-      let joined : b ++ (t ++ (125 ∷ rest)) ≡ u ++ (44 ∷ (v ++ tail)) = ap (λ z. z ++ (t ++ (125 ∷ rest))) e ∙ append_assoc c (a ++ w) (t ++ (125 ∷ rest)) ∙ ap (λ z. z ++ tail) f ∙ append_assoc u (44 ∷ v) tail in
+      let joined : b ++ (t ++ (125 ∷ rest)) ≡ u ++ (44 ∷ (v ++ tail)) = ap (λ z. z ++ (t ++ (125 ∷ rest))) e ∙ append_assoc c (a ++ w) (t ++ (125 ∷ rest)) ∙
+      ap (λ z. z ++ tail) f ∙ append_assoc u (44 ∷ v) tail in
       (44, v ++ tail, ap skip_spaces joined ∙ skip_over u (44 ∷ (v ++ tail)) p (λ z. omega (arith, z)), λ z. omega (arith, z))
 
   inside_of : (text rest : List ℕ) (xs : List X) → IsEnclosed (codes "{") (codes "}") Item text xs → Inside text rest xs
   inside_of text rest [] (s, l, t, p, none, q, f) = absurd none
   inside_of text rest (x ∷ xs) (s, l, t, p, (a, b, i, m, e), q, f) =
       let behind : List ℕ = b ++ (t ++ (125 ∷ rest)) in
-      let inner : (l ++ (t ++ (125 ∷ []))) ++ rest ≡ a ++ behind = append_assoc l (t ++ (125 ∷ [])) rest ∙ ap (λ z. z ++ ((t ++ (125 ∷ [])) ++ rest)) e ∙ append_assoc a b ((t ++ (125 ∷ [])) ++ rest) ∙ ap (λ z. a ++ (b ++ z)) (append_assoc t (125 ∷ []) rest) in
-      let joined : text ++ rest ≡ 123 ∷ (s ++ (a ++ behind)) = ap (λ z. z ++ rest) f ∙ ap (λ z. 123 ∷ z) (append_assoc s (l ++ (t ++ (125 ∷ []))) rest ∙ ap (λ z. s ++ z) inner) in
+      let inner : (l ++ (t ++ (125 ∷ []))) ++ rest ≡ a ++ behind = append_assoc l (t ++ (125 ∷ [])) rest ∙ ap (λ z. z ++ ((t ++ (125 ∷ [])) ++ rest)) e ∙
+      append_assoc a b ((t ++ (125 ∷ [])) ++ rest) ∙ ap (λ z. a ++ (b ++ z)) (append_assoc t (125 ∷ []) rest) in
+      let joined : text ++ rest ≡ 123 ∷ (s ++ (a ++ behind)) = ap (λ z. z ++ rest) f ∙
+      ap (λ z. 123 ∷ z) (append_assoc s (l ++ (t ++ (125 ∷ []))) rest ∙ ap (λ z. s ++ z) inner) in
       let n = next_byte b t rest xs m q in
       record {
         first = a;
@@ -194,7 +218,8 @@ triple_by (Triple i j k) bytes z rest p f e =
     (f.0, (i, j, k, f.1, sym q.0), f.2 ∙ ap (λ x. f.0 ++ x) q.1)
 
 triple_found : (bytes rest : List ℕ) (p : List ℤ) → triple_at bytes ≡ Some (p, rest) → Found IsTriple bytes p rest
-triple_found bytes rest p e = option_and_then_some tripled (index_at bytes) (p, rest) e (λ x f g. triple_by x.0 bytes x.1 rest p (index_found bytes x.1 x.0 f) g)
+triple_found bytes rest p e = option_and_then_some tripled (index_at bytes) (p, rest) e
+    (λ x f g. triple_by x.0 bytes x.1 rest p (index_found bytes x.1 x.0 f) g)
 
 triple_read : (text rest : List ℕ) (p : List ℤ) → IsTriple text p → Ends rest → triple_at (text ++ rest) ≡ Some (p, rest)
 triple_read text rest p (i, j, k, h, q) f = ap (option_and_then tripled) (index_read text rest (Triple i j k) h f) ∙ ap (λ (z : List ℤ). Some (z, rest)) (sym q)
@@ -232,7 +257,8 @@ quote_found : (inside : List ℕ) (n : ℕ) → position is_quote inside ≡ Som
 quote_found inside n e =
     let c = cond_some (nat_lt (position_or_len is_quote inside) (length inside)) (position_or_len is_quote inside) n e in
     let lt = ltb-true (position_or_len is_quote inside) (length inside) c.0 in
-    split_at_first is_quote inside 0 lt ∙ ap (λ b. before_first is_quote inside ++ (b ∷ after_first is_quote inside)) (eqb-true _ 34 (passes_at_first is_quote inside 0 lt))
+    split_at_first is_quote inside 0 lt ∙ ap (λ b. before_first is_quote inside ++ (b ∷ after_first is_quote inside))
+    (eqb-true _ 34 (passes_at_first is_quote inside 0 lt))
     ∙ ap (λ m. take m inside ++ (34 ∷ drop (m + 1) inside)) c.1
 
 -- no quote is in a label
@@ -253,20 +279,28 @@ quote_read label rest h =
 
 text_found : (bytes rest label : List ℕ) → text_at bytes ≡ Some (label, rest) → Found IsText bytes label rest
 text_found bytes rest label e =
-    option_and_then_some (λ (inside : List ℕ). option_and_then (quoted_at inside) (position is_quote inside)) (after (codes "\"") bytes) (label, rest) e (λ inside f g.
+    option_and_then_some (λ (inside : List ℕ). option_and_then (quoted_at inside) (position is_quote inside)) (after (codes "\"") bytes) (label, rest) e
+    (λ inside f g.
     option_and_then_some (quoted_at inside) (position is_quote inside) (label, rest) g (λ n h k.
     mapped {B = List ℕ × List ℕ} (λ (t : List ℕ). (t, drop (n + 1) inside)) (label_of (take n inside)) (label, rest) k (λ l m p.
     let t = label_found (take n inside) l m in
     let value : l ≡ label = ap (λ (m : List ℕ × List ℕ). m.0) p in
     let left : drop (n + 1) inside ≡ rest = ap (λ (m : List ℕ × List ℕ). m.1) p in
-    let split : inside ≡ label ++ (34 ∷ rest) = quote_found inside n h ∙ ap (λ z. z ++ (34 ∷ drop (n + 1) inside)) (t.1 ∙ value) ∙ ap (λ z. label ++ (34 ∷ z)) left in
-    (34 ∷ (label ++ (34 ∷ [])), (subst IsLabel value t.0, refl), after_found (34 ∷ []) bytes inside f ∙ ap (λ z. 34 ∷ z) (split ∙ sym (append_assoc label (34 ∷ []) rest))))))
+    let split : inside ≡ label ++ (34 ∷ rest) = quote_found inside n h ∙ ap (λ z. z ++ (34 ∷ drop (n + 1) inside)) (t.1 ∙ value) ∙
+    ap (λ z. label ++ (34 ∷ z)) left in (
+      34 ∷ (label ++ (34 ∷ [])),
+      (subst IsLabel value t.0, refl),
+      after_found (34 ∷ []) bytes inside f ∙
+          ap (λ z. 34 ∷ z) (split ∙ sym (append_assoc label (34 ∷ []) rest)),
+    ))))
 
 quoted_read : (label rest : List ℕ) → IsLabel label → quoted_at (label ++ (34 ∷ rest)) (length label) ≡ Some (label, rest)
 quoted_read label rest h =
     let front : take (length label) (label ++ (34 ∷ rest)) ≡ label = take_at label (34 ∷ rest) (length label) refl in
-    let left : drop (length label + 1) (label ++ (34 ∷ rest)) ≡ rest = ap (drop (length label + 1)) (sym (append_assoc label (34 ∷ []) rest)) ∙ drop_at (label ++ 34 ∷ []) rest (length label + 1) (length_push label 34) in
-    ap (λ z. option_map {U = List ℕ × List ℕ} (λ (t : List ℕ). (t, drop (length label + 1) (label ++ (34 ∷ rest)))) z) (ap label_of front ∙ label_yes label h.utf8 h.accepted)
+    let left : drop (length label + 1) (label ++ (34 ∷ rest)) ≡ rest = ap (drop (length label + 1)) (sym (append_assoc label (34 ∷ []) rest)) ∙
+    drop_at (label ++ 34 ∷ []) rest (length label + 1) (length_push label 34) in
+    ap (λ z. option_map {U = List ℕ × List ℕ} (λ (t : List ℕ). (t, drop (length label + 1) (label ++ (34 ∷ rest)))) z)
+    (ap label_of front ∙ label_yes label h.utf8 h.accepted)
     ∙ ap (λ z. Some (label, z)) left
 
 text_read : (text rest label : List ℕ) → IsText text label → Ends rest → text_at (text ++ rest) ≡ Some (label, rest)
@@ -277,39 +311,56 @@ text_read text rest label (h, e) f =
     ∙ ap (option_and_then (quoted_at inside)) (quote_read label rest plain.1) ∙ quoted_read label rest h
 
 text_reads : Reads text_at IsText
-text_reads = record { found = λ bytes rest label e. text_found bytes rest label e; read = λ text rest label h f. text_read text rest label h f; unspaced = λ text rest label h. subst (λ z. NoSpace (z ++ rest)) (sym h.1) (λ z. omega (arith, z)) }
+text_reads = record {
+  found = λ bytes rest label e. text_found bytes rest label e;
+  read = λ text rest label h f. text_read text rest label h f;
+  unspaced =
+      λ text rest label h. subst (λ z. NoSpace (z ++ rest)) (sym h.1) (λ z. omega (arith, z));
+}
 
 -- ---- sets
 
-kind_found : {X : Type 0} (at : List ℕ → Option (X × List ℕ)) (Item : List ℕ → X → Type 0) (r : Reads at Item) (kind : List X → Items) (bytes inside s rest : List ℕ) (x : Items)
+kind_found : {X : Type 0} (at : List ℕ → Option (X × List ℕ)) (Item : List ℕ → X → Type 0) (r : Reads at Item) (kind : List X → Items)
+    (bytes inside s rest : List ℕ) (x : Items)
     → ((text : List ℕ) (xs : List X) → IsEnclosed (codes "{") (codes "}") Item text xs → IsSet text (kind xs)) → AreSpaces s → bytes ≡ 123 ∷ (s ++ inside)
     → option_map {U = Items × List ℕ} (λ (y : List X × List ℕ). (kind y.0, y.1)) (listed_at at inside) ≡ Some (x, rest) → Found IsSet bytes x rest
-kind_found {X} at Item r kind bytes inside s rest x fits a h e = mapped {B = Items × List ℕ} (λ (y : List X × List ℕ). (kind y.0, y.1)) (listed_at at inside) (x, rest) e (λ y f p.
+kind_found {X} at Item r kind bytes inside s rest x fits a h e =
+    mapped {B = Items × List ℕ} (λ (y : List X × List ℕ). (kind y.0, y.1)) (listed_at at inside) (x, rest) e (λ y f p.
     let w = braced_found at Item r bytes inside s y.1 y.0 a h f in
     let value : kind y.0 ≡ x = ap (λ (m : Items × List ℕ). m.0) p in
     let left : y.1 ≡ rest = ap (λ (m : Items × List ℕ). m.1) p in
     (w.0, subst (IsSet w.0) value (fits w.0 y.0 w.1), w.2 ∙ ap (λ z. w.0 ++ z) left))
 
-indices_found : (first : IndexLiteral) (bytes inside s rest : List ℕ) (x : Items) → AreSpaces s → bytes ≡ 123 ∷ (s ++ inside) → indices_at first inside ≡ Some (x, rest) → Found IsSet bytes x rest
-indices_found (Integer i) bytes inside s rest x a h e = kind_found integer_at IsInteger integer_reads (λ xs. integers xs) bytes inside s rest x (λ text xs h. h) a h e
+indices_found : (first : IndexLiteral) (bytes inside s rest : List ℕ) (x : Items) → AreSpaces s → bytes ≡ 123 ∷ (s ++ inside) →
+    indices_at first inside ≡ Some (x, rest) → Found IsSet bytes x rest
+indices_found (Integer i) bytes inside s rest x a h e = kind_found integer_at IsInteger integer_reads (λ xs. integers xs) bytes inside s rest x
+    (λ text xs h. h) a h e
 indices_found (Pair i j) bytes inside s rest x a h e = kind_found pair_at IsPair pair_reads (λ xs. pairs xs) bytes inside s rest x (λ text xs h. h) a h e
-indices_found (Triple i j k) bytes inside s rest x a h e = kind_found triple_at IsTriple triple_reads (λ xs. triples xs) bytes inside s rest x (λ text xs h. h) a h e
+indices_found (Triple i j k) bytes inside s rest x a h e = kind_found triple_at IsTriple triple_reads (λ xs. triples xs) bytes inside s rest x (λ text xs h. h)
+    a h e
 
 -- indices like the first one
 abbrev filled_indices : List ℕ → Option (Items × List ℕ)
 filled_indices inside = option_and_then (λ (first : IndexLiteral × List ℕ). indices_at first.0 inside) (index_at inside)
 
 filled_found : (o : Option (List ℕ)) (bytes inside s rest : List ℕ) (x : Items) → AreSpaces s → bytes ≡ 123 ∷ (s ++ inside)
-    → option_map_or {T = List ℕ} {U = Option (Items × List ℕ)} (λ (z : List ℕ). texts_at inside) o (filled_indices inside) ≡ Some (x, rest) → Found IsSet bytes x rest
+    → option_map_or {T = List ℕ} {U = Option (Items × List ℕ)} (λ (z : List ℕ). texts_at inside) o (filled_indices inside) ≡ Some (x, rest) →
+    Found IsSet bytes x rest
 filled_found (Some z) bytes inside s rest x a h e = kind_found text_at IsText text_reads (λ xs. texts xs) bytes inside s rest x (λ text xs h. h) a h e
-filled_found None bytes inside s rest x a h e = option_and_then_some (λ (first : IndexLiteral × List ℕ). indices_at first.0 inside) (index_at inside) (x, rest) e (λ y f g. indices_found y.0 bytes inside s rest x a h g)
+filled_found None bytes inside s rest x a h e = option_and_then_some (λ (first : IndexLiteral × List ℕ). indices_at first.0 inside) (index_at inside) (x, rest)
+    e (λ y f g. indices_found y.0 bytes inside s rest x a h g)
 
 set_by : (o : Option (List ℕ)) (bytes inside s rest : List ℕ) (x : Items) → AreSpaces s → bytes ≡ 123 ∷ (s ++ inside) → after (codes "}") inside ≡ o
-    → option_map_or {T = List ℕ} {U = Option (Items × List ℕ)} (λ (z : List ℕ). Some (nothing, z)) o (filled_at inside) ≡ Some (x, rest) → Found IsSet bytes x rest
+    → option_map_or {T = List ℕ} {U = Option (Items × List ℕ)} (λ (z : List ℕ). Some (nothing, z)) o (filled_at inside) ≡ Some (x, rest) →
+    Found IsSet bytes x rest
 set_by (Some z) bytes inside s rest x a h o e =
     let p = some_pair_parts nothing x z rest e in
-    let text : List ℕ = 123 ∷ (s ++ (125 ∷ [])) in
-    (text, subst (IsSet text) p.0 (s, a, refl), h ∙ ap (λ y. 123 ∷ (s ++ y)) (after_found (125 ∷ []) inside z o ∙ ap (λ y. 125 ∷ y) p.1) ∙ ap (λ y. 123 ∷ y) (sym (append_assoc s (125 ∷ []) rest)))
+    let text : List ℕ = 123 ∷ (s ++ (125 ∷ [])) in (
+      text,
+      subst (IsSet text) p.0 (s, a, refl),
+      h ∙ ap (λ y. 123 ∷ (s ++ y)) (after_found (125 ∷ []) inside z o ∙ ap (λ y. 125 ∷ y) p.1) ∙
+          ap (λ y. 123 ∷ y) (sym (append_assoc s (125 ∷ []) rest)),
+    )
 set_by None bytes inside s rest x a h o e = filled_found (after (codes "\"") inside) bytes inside s rest x a h e
 
 -- what follows the opening brace
@@ -336,10 +387,13 @@ no_token k (b ∷ text) rest o h = not_after k b [] (text ++ rest) (outside k b 
 other_token : (k b : ℕ) (text more rest : List ℕ) → b ≢ k → text ≡ b ∷ more → after (k ∷ []) (text ++ rest) ≡ None
 other_token k b text more rest h e = ap (λ z. after (k ∷ []) (z ++ rest)) e ∙ not_after k b [] (more ++ rest) h
 
-in_braces_read : (bytes inside rest : List ℕ) (x : Items) → after_token (codes "{") bytes ≡ Some inside → after (codes "}") inside ≡ None → filled_at inside ≡ Some (x, rest) → set_at bytes ≡ Some (x, rest)
-in_braces_read bytes inside rest x o n e = ap (option_and_then in_braces) o ∙ ap (λ c. option_map_or {T = List ℕ} {U = Option (Items × List ℕ)} (λ (z : List ℕ). Some (nothing, z)) c (filled_at inside)) n ∙ e
+in_braces_read : (bytes inside rest : List ℕ) (x : Items) → after_token (codes "{") bytes ≡ Some inside → after (codes "}") inside ≡ None →
+    filled_at inside ≡ Some (x, rest) → set_at bytes ≡ Some (x, rest)
+in_braces_read bytes inside rest x o n e = ap (option_and_then in_braces) o ∙
+    ap (λ c. option_map_or {T = List ℕ} {U = Option (Items × List ℕ)} (λ (z : List ℕ). Some (nothing, z)) c (filled_at inside)) n ∙ e
 
-indices_read : (inside behind : List ℕ) (first : IndexLiteral) → after (codes "\"") inside ≡ None → index_at inside ≡ Some (first, behind) → filled_at inside ≡ indices_at first inside
+indices_read : (inside behind : List ℕ) (first : IndexLiteral) → after (codes "\"") inside ≡ None → index_at inside ≡ Some (first, behind) →
+    filled_at inside ≡ indices_at first inside
 indices_read inside behind first n f =
     ap (λ o. option_map_or {T = List ℕ} {U = Option (Items × List ℕ)} (λ (z : List ℕ). texts_at inside) o (filled_indices inside)) n
     ∙ ap (option_and_then (λ (first : IndexLiteral × List ℕ). indices_at first.0 inside)) f
@@ -352,7 +406,8 @@ triple_opens text p (i, j, k, (s, x, t, a, l, q, e), v) = (s ++ (x ++ (t ++ (41 
 
 nothing_opened : (text rest : List ℕ) → IsSet text nothing → after_token (codes "{") (text ++ rest) ≡ Some (125 ∷ rest)
 nothing_opened text rest (s, a, e) =
-    ap (after_token (codes "{")) (ap (λ z. z ++ rest) e ∙ ap (λ z. 123 ∷ z) (append_assoc s (125 ∷ []) rest)) ∙ ap (λ z. Some z) (skip_over s (125 ∷ rest) a brace.stop.1)
+    ap (after_token (codes "{")) (ap (λ z. z ++ rest) e ∙ ap (λ z. 123 ∷ z) (append_assoc s (125 ∷ []) rest)) ∙
+    ap (λ z. Some z) (skip_over s (125 ∷ rest) a brace.stop.1)
 
 pub set_read : (text rest : List ℕ) (x : Items) → IsSet text x → set_at (text ++ rest) ≡ Some (x, rest)
 set_read text rest nothing h = ap (option_and_then in_braces) (nothing_opened text rest h)
@@ -360,28 +415,33 @@ set_read text rest (integers is) h =
     let w = inside_of integer_at IsInteger integer_reads text rest is h in
     let starts = integer_starts w.first w.value w.item in
     in_braces_read (text ++ rest) (w.first ++ w.behind) rest (integers is) w.opened (no_token 125 w.first w.behind (inr (omega arith)) starts)
-    (indices_read (w.first ++ w.behind) w.behind (Integer w.value) (no_token 34 w.first w.behind (inl (omega arith)) starts) (index_read w.first w.behind (Integer w.value) w.item w.ends)
+    (indices_read (w.first ++ w.behind) w.behind (Integer w.value) (no_token 34 w.first w.behind (inl (omega arith)) starts)
+    (index_read w.first w.behind (Integer w.value) w.item w.ends)
     ∙ ap (option_map {U = Items × List ℕ} (λ (y : List ℤ × List ℕ). (integers y.0, y.1))) w.listed)
 set_read text rest (pairs ps) h =
     let w = inside_of pair_at IsPair pair_reads text rest ps h in
     let o = pair_opens w.first w.value w.item in
     let i = w.item in
     in_braces_read (text ++ rest) (w.first ++ w.behind) rest (pairs ps) w.opened (other_token 125 40 w.first o.0 w.behind (λ z. omega (arith, z)) o.1)
-    (indices_read (w.first ++ w.behind) w.behind (Pair i.0 i.1) (other_token 34 40 w.first o.0 w.behind (λ z. omega (arith, z)) o.1) (index_read w.first w.behind (Pair i.0 i.1) i.2 w.ends)
+    (indices_read (w.first ++ w.behind) w.behind (Pair i.0 i.1) (other_token 34 40 w.first o.0 w.behind (λ z. omega (arith, z)) o.1)
+    (index_read w.first w.behind (Pair i.0 i.1) i.2 w.ends)
     ∙ ap (option_map {U = Items × List ℕ} (λ (y : List (List ℤ) × List ℕ). (pairs y.0, y.1))) w.listed)
 set_read text rest (triples ts) h =
     let w = inside_of triple_at IsTriple triple_reads text rest ts h in
     let o = triple_opens w.first w.value w.item in
     let i = w.item in
     in_braces_read (text ++ rest) (w.first ++ w.behind) rest (triples ts) w.opened (other_token 125 40 w.first o.0 w.behind (λ z. omega (arith, z)) o.1)
-    (indices_read (w.first ++ w.behind) w.behind (Triple i.0 i.1 i.2) (other_token 34 40 w.first o.0 w.behind (λ z. omega (arith, z)) o.1) (index_read w.first w.behind (Triple i.0 i.1 i.2) i.3 w.ends)
+    (indices_read (w.first ++ w.behind) w.behind (Triple i.0 i.1 i.2) (other_token 34 40 w.first o.0 w.behind (λ z. omega (arith, z)) o.1)
+    (index_read w.first w.behind (Triple i.0 i.1 i.2) i.3 w.ends)
     ∙ ap (option_map {U = Items × List ℕ} (λ (y : List (List ℤ) × List ℕ). (triples y.0, y.1))) w.listed)
 set_read text rest (texts ls) h =
     let w = inside_of text_at IsText text_reads text rest ls h in
     let quote : w.first ≡ 34 ∷ (w.value ++ (34 ∷ [])) = w.item.1 in
     let there : after (codes "\"") (w.first ++ w.behind) ≡ Some ((w.value ++ (34 ∷ [])) ++ w.behind) = ap (λ z. after (codes "\"") (z ++ w.behind)) quote in
-    in_braces_read (text ++ rest) (w.first ++ w.behind) rest (texts ls) w.opened (other_token 125 34 w.first (w.value ++ (34 ∷ [])) w.behind (λ z. omega (arith, z)) quote)
-    (ap (λ o. option_map_or {T = List ℕ} {U = Option (Items × List ℕ)} (λ (z : List ℕ). texts_at (w.first ++ w.behind)) o (filled_indices (w.first ++ w.behind))) there
+    in_braces_read (text ++ rest) (w.first ++ w.behind) rest (texts ls) w.opened
+    (other_token 125 34 w.first (w.value ++ (34 ∷ [])) w.behind (λ z. omega (arith, z)) quote)
+    (ap (λ o. option_map_or {T = List ℕ} {U = Option (Items × List ℕ)} (λ (z : List ℕ). texts_at (w.first ++ w.behind)) o
+    (filled_indices (w.first ++ w.behind))) there
     ∙ ap (option_map {U = Items × List ℕ} (λ (y : List (List ℕ) × List ℕ). (texts y.0, y.1))) w.listed)
 
 pub set_exact : (text : List ℕ) (x : Items) → (set_literal_of text ≡ Some x) ↔ IsSet text x
@@ -393,7 +453,8 @@ set_exact = exact set_at IsSet set_found (λ text x h. set_read text [] x h)
 no_upper : (b : ℕ) (bytes : List ℕ) → b ≢ 46 → upper_at (b ∷ bytes) ≡ None
 no_upper b bytes h = rw (not_after 46 b (46 ∷ 60 ∷ []) bytes h, not_after 46 b (46 ∷ 35 ∷ []) bytes h, not_after 46 b (46 ∷ []) bytes h) refl
 
-no_range : (inside behind more : List ℕ) (z : ℤ) (b : ℕ) → integer_at inside ≡ Some (z, behind) → skip_spaces behind ≡ b ∷ more → b ≢ 46 → range_at inside ≡ None
+no_range : (inside behind more : List ℕ) (z : ℤ) (b : ℕ) → integer_at inside ≡ Some (z, behind) → skip_spaces behind ≡ b ∷ more → b ≢ 46 →
+    range_at inside ≡ None
 no_range inside behind more z b e f h = rw (e, f, no_upper b more h) refl
 
 no_rectangle : (bytes inside : List ℕ) → after_token (codes "{") bytes ≡ Some inside → range_at inside ≡ None → rectangle_at bytes ≡ None
@@ -422,7 +483,8 @@ set_no_rectangle text rest (texts ls) h =
     no_rectangle (text ++ rest) (w.first ++ w.behind) w.opened (other_range 34 w.first (w.value ++ (34 ∷ [])) w.behind (λ z. refl) w.item.1)
 
 not_rectangle : (text : List ℕ) (x : Items) → IsSet text x → rectangle_of text ≡ None
-not_rectangle text x h = ap (option_and_then (λ (p : RectangleLiteral × List ℕ). cond (nat_eq (length p.1) 0) (Some p.0) None)) (ap rectangle_at (sym (append-nil text)) ∙ set_no_rectangle text [] x h)
+not_rectangle text x h = ap (option_and_then (λ (p : RectangleLiteral × List ℕ). cond (nat_eq (length p.1) 0) (Some p.0) None))
+    (ap rectangle_at (sym (append-nil text)) ∙ set_no_rectangle text [] x h)
 
 -- where no rectangle is there, a set is
 abbrev or_set : List ℕ → Option RectangleLiteral → Option Domain

@@ -1,5 +1,6 @@
 -- Tokens and spaces: what is there is read, and what is read is there.
-use Rattle.std.proofs.Common.{◌≡◌, ◌≢◌, ℕ, Bool, true, false, cond, nat_eq, List, [], ◌∷◌, ◌++◌, length, take, drop, Option, Some, None, option_map, option_and_then, refl, sym, ap, ◌∙◌, eq-eqb, ne_eqb, eqb-true, arith}
+use Rattle.std.proofs.Common.{◌≡◌, ◌≢◌, ℕ, Bool, true, false, cond, nat_eq, List, [], ◌∷◌, ◌++◌, length, take, drop, Option, Some, None, option_map}
+use Rattle.std.proofs.Common.{option_and_then, refl, sym, ap, ◌∙◌, eq-eqb, ne_eqb, eqb-true, arith}
 use Rattle.std.proofs.lemmas.Bool.Decides.{Decides-eqb}
 use Rattle.std.proofs.lemmas.Option.{same_Some, none-some, option_and_then_some}
 use Rattle.std.proofs.lemmas.Slice.Eq.{starts_is}
@@ -20,7 +21,8 @@ pub skip_over : (s rest : List ℕ) → AreSpaces s → NoSpace rest → skip_sp
 skip_over [] rest a h = skip_none rest h
 skip_over (b ∷ s) rest a h = rw (eq-eqb b 32 a.0) (skip_over s rest a.1 h)
 
-spaces_by : (t : Bool) (b : ℕ) (bytes : List ℕ) → nat_eq b 32 ≡ t → ((s : List ℕ) × AreSpaces s × (bytes ≡ s ++ skip_spaces bytes)) → (s : List ℕ) × AreSpaces s × (b ∷ bytes ≡ s ++ cond t (skip_spaces bytes) (b ∷ bytes))
+spaces_by : (t : Bool) (b : ℕ) (bytes : List ℕ) → nat_eq b 32 ≡ t → ((s : List ℕ) × AreSpaces s × (bytes ≡ s ++ skip_spaces bytes)) → (s : List ℕ) ×
+    AreSpaces s × (b ∷ bytes ≡ s ++ cond t (skip_spaces bytes) (b ∷ bytes))
 spaces_by true b bytes e (s, a, f) = (b ∷ s, (eqb-true b 32 e, a), ap (λ x. b ∷ x) f)
 spaces_by false b bytes e r = ([], tt, refl)
 
@@ -29,7 +31,8 @@ pub spaces_of : (bytes : List ℕ) → (s : List ℕ) × AreSpaces s × (bytes �
 spaces_of [] = ([], tt, refl)
 spaces_of (b ∷ bytes) = spaces_by (nat_eq b 32) b bytes refl (spaces_of bytes)
 
-found_by : (t : Bool) (front bytes rest : List ℕ) → t ≡ pointwise nat_eq front (take (length front) bytes) → cond {A = Option (List ℕ)} t (Some (drop (length front) bytes)) None ≡ Some rest → bytes ≡ front ++ rest
+found_by : (t : Bool) (front bytes rest : List ℕ) → t ≡ pointwise nat_eq front (take (length front) bytes) →
+    cond {A = Option (List ℕ)} t (Some (drop (length front) bytes)) None ≡ Some rest → bytes ≡ front ++ rest
 found_by true front bytes rest t e = (starts_is Decides-eqb bytes front true t).0 refl ∙ ap (λ x. front ++ x) (same_Some _ _ e)
 found_by false front bytes rest t e = absurd (cc)
 
@@ -40,7 +43,8 @@ after_found front bytes rest e = found_by (pointwise nat_eq front (take (length 
 pub not_after : (c b : ℕ) (front bytes : List ℕ) → b ≢ c → after (c ∷ front) (b ∷ bytes) ≡ None
 not_after c b front bytes h = rw (ne_eqb c b (λ e. h (sym e))) refl
 
-token_by : (o : Option (List ℕ)) (token bytes rest : List ℕ) → after token bytes ≡ o → option_map skip_spaces o ≡ Some rest → (s : List ℕ) × AreSpaces s × (bytes ≡ token ++ (s ++ rest))
+token_by : (o : Option (List ℕ)) (token bytes rest : List ℕ) → after token bytes ≡ o → option_map skip_spaces o ≡ Some rest → (s : List ℕ) × AreSpaces s ×
+    (bytes ≡ token ++ (s ++ rest))
 token_by None token bytes rest e f = absurd (cc)
 token_by (Some x) token bytes rest e f =
     let sp = spaces_of x in
@@ -71,14 +75,16 @@ close_found token bytes rest e =
     (sp.0, sp.1, sp.2 ∙ ap (λ x. sp.0 ++ x) (after_found token (skip_spaces bytes) rest e))
 
 -- a word is there: `again` says that it is found before any rest
-pub word_over : (c : ℕ) (word s t rest : List ℕ) → ((r : List ℕ) → after (c ∷ word) ((c ∷ word) ++ r) ≡ Some r) → c ≢ 32 → AreSpaces s → AreSpaces t → NoSpace rest
+pub word_over : (c : ℕ) (word s t rest : List ℕ) → ((r : List ℕ) → after (c ∷ word) ((c ∷ word) ++ r) ≡ Some r) → c ≢ 32 → AreSpaces s → AreSpaces t →
+    NoSpace rest
     → after_word (c ∷ word) ((32 ∷ s) ++ ((c ∷ word) ++ (32 ∷ (t ++ rest)))) ≡ Some rest
 word_over c word s t rest again h a b n =
     ap (λ x. option_and_then (λ y. after_token (32 ∷ []) y) (after (c ∷ word) x)) (skip_over s ((c ∷ word) ++ (32 ∷ (t ++ rest))) a h)
     ∙ ap (λ x. option_and_then (λ y. after_token (32 ∷ []) y) x) (again (32 ∷ (t ++ rest)))
     ∙ ap (λ x. Some x) (skip_over t rest b n)
 
-pub word_found : (word bytes rest : List ℕ) → after_word word bytes ≡ Some rest → (s t : List ℕ) × AreSpaces s × AreSpaces t × (bytes ≡ (32 ∷ s) ++ (word ++ (32 ∷ (t ++ rest))))
+pub word_found : (word bytes rest : List ℕ) → after_word word bytes ≡ Some rest → (s t : List ℕ) × AreSpaces s × AreSpaces t ×
+    (bytes ≡ (32 ∷ s) ++ (word ++ (32 ∷ (t ++ rest))))
 word_found word bytes rest e =
     option_and_then_some (λ spaced. option_and_then (after_token (32 ∷ [])) (after word spaced)) (after_token (32 ∷ []) bytes) rest e
     (λ x f g. option_and_then_some (after_token (32 ∷ [])) (after word x) rest g
@@ -91,7 +97,8 @@ word_found word bytes rest e =
 pub word_none : (c : ℕ) (word s e : List ℕ) → AreSpaces s → NoSpace e → after (c ∷ word) e ≡ None → after_word (c ∷ word) (s ++ e) ≡ None
 word_none c word [] [] a n h = refl
 word_none c word [] (b ∷ e) a n h = rw (not_after 32 b [] e n) refl
-word_none c word (b ∷ s) e a n h = rw (eq-eqb 32 b (sym a.0)) (ap (λ x. option_and_then (after_token (32 ∷ [])) (after (c ∷ word) x)) (skip_over s e a.1 n) ∙ ap (option_and_then (after_token (32 ∷ []))) h)
+word_none c word (b ∷ s) e a n h = rw (eq-eqb 32 b (sym a.0))
+    (ap (λ x. option_and_then (after_token (32 ∷ [])) (after (c ∷ word) x)) (skip_over s e a.1 n) ∙ ap (option_and_then (after_token (32 ∷ []))) h)
 
 -- what a mapped value comes from
 pub mapped : {A B P : Type 0} (f : A → B) (o : Option A) (y : B) → option_map f o ≡ Some y → ((x : A) → o ≡ Some x → f x ≡ y → P) → P

@@ -29,7 +29,8 @@ third_extent_at i j bytes = option_map_or (λ k. option_map (λ rest. (grids.Sol
     (option_map (λ rest. (grids.Plane i j, rest)) (close_at (codes "]") bytes))
 
 abbrev pub second_extent_at : ℤ → List ℕ → Option (GridLiteral × List ℕ)
-second_extent_at i bytes = option_map_or (λ j. third_extent_at i j.0 j.1) (next_integer_at bytes) (option_map (λ rest. (grids.Line i, rest)) (close_at (codes "]") bytes))
+second_extent_at i bytes = option_map_or (λ j. third_extent_at i j.0 j.1) (next_integer_at bytes)
+    (option_map (λ rest. (grids.Line i, rest)) (close_at (codes "]") bytes))
 
 -- 1 to 3 integers in brackets
 abbrev pub grid_at : List ℕ → Option (GridLiteral × List ℕ)

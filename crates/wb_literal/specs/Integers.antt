@@ -11,4 +11,5 @@ filled_at bytes = option_and_then (λ x. option_map (λ rest. (x.0, rest)) (clos
 
 -- any number of integers in brackets
 abbrev pub integers_at : List ℕ → Option (List ℤ × List ℕ)
-integers_at bytes = option_and_then (λ inside. option_map_or (λ rest. Some ([], rest)) (after (codes "]") inside) (filled_at inside)) (after_token (codes "[") bytes)
+integers_at bytes = option_and_then (λ inside. option_map_or (λ rest. Some ([], rest)) (after (codes "]") inside) (filled_at inside))
+    (after_token (codes "[") bytes)

@@ -11,7 +11,8 @@ use Rattle.wb_literal.specs.declared.mapping.MappingLiteral.TheVariants as mappi
 
 -- a comma, a grid and the closing parenthesis
 abbrev pub last_grid_at : List ℕ → Option (GridLiteral × List ℕ)
-last_grid_at bytes = option_and_then (λ rest. option_and_then (λ g. option_map (λ last. (g.0, last)) (close_at (codes ")") g.1)) (grid_at rest)) (comma_at bytes)
+last_grid_at bytes = option_and_then (λ rest. option_and_then (λ g. option_map (λ last. (g.0, last)) (close_at (codes ")") g.1)) (grid_at rest))
+    (comma_at bytes)
 
 -- a further index, after a comma
 abbrev pub next_index_at : List ℕ → Option (IndexLiteral × List ℕ)
@@ -27,7 +28,8 @@ cyclic_at bytes = option_and_then (λ start. option_map (λ g. (mappings.Cyclic 
 
 -- a start, the sizes of the blocks and a grid
 abbrev pub block_cyclic_at : List ℕ → Option (MappingLiteral × List ℕ)
-block_cyclic_at bytes = option_and_then (λ start. option_and_then (λ sizes. option_map (λ g. (mappings.BlockCyclic start.0 sizes.0 g.0, g.1)) (last_grid_at sizes.1)) (next_index_at start.1)) (index_at bytes)
+block_cyclic_at bytes = option_and_then (λ start. option_and_then
+    (λ sizes. option_map (λ g. (mappings.BlockCyclic start.0 sizes.0 g.0, g.1)) (last_grid_at sizes.1)) (next_index_at start.1)) (index_at bytes)
 
 abbrev pub mapping_at : List ℕ → Option (MappingLiteral × List ℕ)
 mapping_at bytes = option_map_or block_at (after_token (codes "blockDist(") bytes)

@@ -20,11 +20,13 @@ count_at bytes = option_map (λ n. (Count n.0, n.1)) (natural_at bytes)
 
 -- `..<` and the bound above, or `..#` and a count, or `..` and the last bound
 abbrev pub upper_at : List ℕ → Option (Upper × List ℕ)
-upper_at bytes = option_map_or below_at (after_token (codes "..<") bytes) (option_map_or count_at (after_token (codes "..#") bytes) (option_and_then to_at (after_token (codes "..") bytes)))
+upper_at bytes = option_map_or below_at (after_token (codes "..<") bytes)
+    (option_map_or count_at (after_token (codes "..#") bytes) (option_and_then to_at (after_token (codes "..") bytes)))
 
 -- after a stride, an alignment where there is one
 abbrev pub align_at : ℤ → List ℕ → Option (Option Stride × List ℕ)
-align_at stride bytes = option_map_or (λ rest. option_map (λ t. (Some (record { stride = stride; align = Some t.0 }), t.1)) (integer_at rest)) (after_word (codes "align") bytes)
+align_at stride bytes = option_map_or (λ rest. option_map (λ t. (Some (record { stride = stride; align = Some t.0 }), t.1)) (integer_at rest))
+    (after_word (codes "align") bytes)
     (Some (Some (record { stride = stride; align = None }), bytes))
 
 abbrev pub nonzero_at : List ℕ → Option (ℤ × List ℕ)
@@ -35,7 +37,8 @@ abbrev pub stride_at : List ℕ → Option (Option Stride × List ℕ)
 stride_at bytes = option_map_or (λ rest. option_and_then (λ s. align_at s.0 s.1) (nonzero_at rest)) (after_word (codes "by") bytes) (Some (None, bytes))
 
 abbrev pub range_at : List ℕ → Option (RangeLiteral × List ℕ)
-range_at bytes = option_and_then (λ low. option_and_then (λ up. option_map (λ s. (record { low = low.0; upper = up.0; stride = s.0 }, s.1)) (stride_at up.1)) (upper_at (skip_spaces low.1))) (integer_at bytes)
+range_at bytes = option_and_then (λ low. option_and_then (λ up. option_map (λ s. (record { low = low.0; upper = up.0; stride = s.0 }, s.1)) (stride_at up.1))
+    (upper_at (skip_spaces low.1))) (integer_at bytes)
 
 abbrev pub range_of : List ℕ → Option RangeLiteral
 range_of text = whole range_at text

@@ -12,7 +12,8 @@ abbrev pub next_range_at : List ℕ → Option (RangeLiteral × List ℕ)
 next_range_at bytes = option_and_then range_at (comma_at bytes)
 
 abbrev pub third_range_at : RangeLiteral → RangeLiteral → List ℕ → Option (RectangleLiteral × List ℕ)
-third_range_at a b bytes = option_map_or (λ c. option_map (λ rest. (Solid a b c.0, rest)) (close_at (codes "}") c.1)) (next_range_at bytes) (option_map (λ rest. (Plane a b, rest)) (close_at (codes "}") bytes))
+third_range_at a b bytes = option_map_or (λ c. option_map (λ rest. (Solid a b c.0, rest)) (close_at (codes "}") c.1)) (next_range_at bytes)
+    (option_map (λ rest. (Plane a b, rest)) (close_at (codes "}") bytes))
 
 abbrev pub second_range_at : RangeLiteral → List ℕ → Option (RectangleLiteral × List ℕ)
 second_range_at a bytes = option_map_or (λ b. third_range_at a b.0 b.1) (next_range_at bytes) (option_map (λ rest. (Line a, rest)) (close_at (codes "}") bytes))

@@ -1,5 +1,6 @@
 -- Sets at the front of a text.
-use Rattle.std.specs.Prelude.{ℕ, zero, suc, ◌+◌, ℤ, List, [], ◌∷◌, length, take, drop, codes, Bool, ◌&&◌, nat_eq, if◌then◌else◌, Option, Some, None, option_map, option_and_then, position}
+use Rattle.std.specs.Prelude.{ℕ, zero, suc, ◌+◌, ℤ, List, [], ◌∷◌, length, take, drop, codes, Bool, ◌&&◌, nat_eq, if◌then◌else◌, Option, Some, None, option_map}
+use Rattle.std.specs.Prelude.{option_and_then, position}
 use Rattle.std.specs.Option.{option_map_or}
 use Rattle.std.specs.Str.Lossy.{utf8_valid_len}
 use Rattle.wb_assoc.specs.Labels.{is_label}
@@ -20,7 +21,8 @@ pub data Items : Type 0 where
 -- one or more items, at most n, separated by commas
 abbrev pub items_at : {X : Type 0} → (List ℕ → Option (X × List ℕ)) → ℕ → List ℕ → Option (List X × List ℕ)
 items_at item_at zero bytes = None
-items_at item_at (suc n) bytes = option_and_then (λ x. option_map_or (λ rest. option_map (λ more. (x.0 ∷ more.0, more.1)) (items_at item_at n rest)) (comma_at x.1) (Some (x.0 ∷ [], x.1))) (item_at bytes)
+items_at item_at (suc n) bytes = option_and_then (λ x. option_map_or (λ rest. option_map (λ more. (x.0 ∷ more.0, more.1)) (items_at item_at n rest))
+    (comma_at x.1) (Some (x.0 ∷ [], x.1))) (item_at bytes)
 
 -- one or more items and the closing brace; a text has no more items than bytes
 abbrev pub listed_at : {X : Type 0} → (List ℕ → Option (X × List ℕ)) → List ℕ → Option (List X × List ℕ)
@@ -74,7 +76,8 @@ filled_at bytes = option_map_or (λ _. texts_at bytes) (after (codes "\"") bytes
 
 -- any number of items in braces
 abbrev pub set_at : List ℕ → Option (Items × List ℕ)
-set_at bytes = option_and_then (λ inside. option_map_or (λ rest. Some (nothing, rest)) (after (codes "}") inside) (filled_at inside)) (after_token (codes "{") bytes)
+set_at bytes = option_and_then (λ inside. option_map_or (λ rest. Some (nothing, rest)) (after (codes "}") inside) (filled_at inside))
+    (after_token (codes "{") bytes)
 
 abbrev pub set_literal_of : List ℕ → Option Items
 set_literal_of text = whole set_at text

@@ -1,7 +1,9 @@
 // Sets of indices or of texts.
-ghost use Rattle.std.specs.Prelude.{◌≡◌, ◌↔◌, ◌+◌, ◌-◌, ◌≤◌, ◌<◌, ℕ, ℤ, List, length, take, drop, position, Option, Some, None, IfOk, IfSome, codes, option_map, option_and_then};
+ghost use Rattle.std.specs.Prelude.{◌≡◌, ◌↔◌, ◌+◌, ◌-◌, ◌≤◌, ◌<◌, ℕ, ℤ, List, length, take, drop, position, Option, Some, None, IfOk, IfSome, codes};
+ghost use Rattle.std.specs.Prelude.{option_map, option_and_then};
 ghost use Rattle.wb_literal.specs.Integer.{integer_at};
-ghost use Rattle.wb_literal.specs.Set.{Items, items_at, listed_at, as_pair, pair_at, as_triple, triple_at, label_of, is_quote, quoted_at, text_at, indices_at, texts_at, filled_at, set_at, set_literal_of};
+ghost use Rattle.wb_literal.specs.Set.{Items, items_at, listed_at, as_pair, pair_at, as_triple, triple_at, label_of, is_quote, quoted_at, text_at, indices_at};
+ghost use Rattle.wb_literal.specs.Set.{texts_at, filled_at, set_at, set_literal_of};
 ghost use Rattle.wb_literal.specs.Said.{items};
 ghost use Rattle.wb_literal.specs.Grammar.{IsSet};
 

@@ -34,7 +34,15 @@ module _ (ts : List (Option (Trace workbook))) where
       let met = some_footprint need.footprint.touched (footprint_at_number (footprints ts) j) need.needs in
       let of_j = trace_of ts j met.0 (at_place (footprints ts) j met.0 met.1) in
       let needed : needs of_j.0 of_k.0 ≡ true = ap (λ f. meets_any f of_k.0.before) of_j.2 ∙ ap (λ f. meets_any met.0 f.touched) of_k.2 ∙ met.2 in
-      record { later = omega (arith, need.later); of_j = of_j.0; of_k = of_k.0; j_in_force = of_j.1; k_in_force = of_k.1; needs = needs_true of_j.0 of_k.0 needed }
+      record {
+        later = omega (arith, need.later);
+        of_j = of_j.0;
+        of_k = of_k.0;
+        j_in_force = of_j.1;
+        k_in_force = of_k.1;
+        needs =
+            needs_true of_j.0 of_k.0 needed;
+      }
 
   needed_true : (u t : Trace workbook) → Needs u t → needs u t ≡ true
   needed_true u t need = elim (needs u t) as (λ b. needs u t ≡ b → b ≡ true) [ true ↦ λ e. refl | false ↦ λ e. absurd (needs_false u t e need) ] refl

@@ -1,5 +1,6 @@
 -- What has entered the indexes, as edits come, go and enter.
-use Rattle.std.proofs.Common.{if◌then◌else◌, ◌≡◌, ℕ, zero, suc, ◌+◌, ◌-◌, ◌<◌, ◌≤◌, ◌==◌, nat_lt, Bool, true, false, List, [], ◌∷◌, ◌++◌, length, drop, refl, sym, ap, ◌∙◌, subst, Option, Some, None, is_some, Result, Ok, Err, IfOk, OnOk, OnErr, slice_get, slice_set, arith, add-one}
+use Rattle.std.proofs.Common.{if◌then◌else◌, ◌≡◌, ℕ, zero, suc, ◌+◌, ◌-◌, ◌<◌, ◌≤◌, ◌==◌, nat_lt, Bool, true, false, List, [], ◌∷◌, ◌++◌, length, drop, refl}
+use Rattle.std.proofs.Common.{sym, ap, ◌∙◌, subst, Option, Some, None, is_some, Result, Ok, Err, IfOk, OnOk, OnErr, slice_get, slice_set, arith, add-one}
 use Rattle.std.proofs.lemmas.Bool.Decides.{nat_tests}
 use Rattle.std.proofs.lemmas.List.{length-append}
 use Rattle.selective_undo.specs.Log.{Footprint, first_from}
@@ -66,9 +67,11 @@ not_0 k f o none = let apart : (k + 1 == 0) ≡ false = grind (arith, nat_tests)
 -- ---- all have entered
 
 pub index_whole : (idx : FootIndex) (es : List kept.Entry) (n : ℕ) → length es ≤ n → IsIndexOf idx (up_to n (by_number es)) → IsIndexOf idx (by_number es)
-index_whole idx es n all h = index_like idx (up_to n (by_number es)) (by_number es) (all_up_to n (by_number es) (λ m high. none_past es m (omega (arith, all, high)))) h
+index_whole idx es n all h = index_like idx (up_to n (by_number es)) (by_number es)
+    (all_up_to n (by_number es) (λ m high. none_past es m (omega (arith, all, high)))) h
 
-pub first_is : (es : List kept.Entry) (k : ℕ) (p : Option (Footprint workbook) → Bool) → p None ≡ false → (r : Option ℕ) → IsLeastAfter (λ n. p (by_number es n)) (k + 1) r → r ≡ first_from p (k + 2) (drop (k + 1) (kept_all es))
+pub first_is : (es : List kept.Entry) (k : ℕ) (p : Option (Footprint workbook) → Bool) → p None ≡ false → (r : Option ℕ) →
+    IsLeastAfter (λ n. p (by_number es n)) (k + 1) r → r ≡ first_from p (k + 2) (drop (k + 1) (kept_all es))
 first_is es k p none r h =
     let e : suc (k + 1) ≡ k + 2 = omega arith in
     subst (λ (m : ℕ). r ≡ first_from p m (drop (k + 1) (kept_all es))) e (sym (first_after p none (None ∷ kept_all es) (k + 1) r h))
@@ -98,14 +101,21 @@ latest_some es zero h = let bad = h.0 in cc
 latest_some es (suc p) h =
     let e : p ≡ suc p - 1 = omega arith in
     let found = some_at (kept_all es) p h.0 in
-    subst (λ (m : ℕ). IsLatest (kept_all es) (Some m)) e (found.0, found.1, λ q g at. let low : suc q ≤ suc p = h.1 (suc q) (got (kept_all es) q g at) in omega (arith, low))
+    subst (λ (m : ℕ). IsLatest (kept_all es) (Some m)) e (
+      found.0,
+      found.1,
+      λ q g at. let low : suc q ≤ suc p = h.1 (suc q) (got (kept_all es) q g at) in
+          omega (arith, low),
+    )
 
 greatest_like : (p q : ℕ → Bool) → ((m : ℕ) → p m ≡ q m) → (r : Option ℕ) → IsGreatest p r → IsGreatest q r
 greatest_like p q e None h = λ n. sym (e n) ∙ h n
 greatest_like p q e (Some j) h = (sym (e j) ∙ h.0, λ n is. h.1 n (e n ∙ is))
 
-pub greatest_whole : (p : ℕ → Bool) (es : List kept.Entry) (n : ℕ) (r : Option ℕ) → length es ≤ n → ((m : ℕ) → p m ≡ is_some (up_to n (by_number es) m)) → IsGreatest p r → IsGreatest (λ m. is_some (by_number es m)) r
-greatest_whole p es n r all is h = greatest_like p (λ m. is_some (by_number es m)) (λ m. is m ∙ ap is_some (all_up_to n (by_number es) (λ m high. none_past es m (omega (arith, all, high))) m)) r h
+pub greatest_whole : (p : ℕ → Bool) (es : List kept.Entry) (n : ℕ) (r : Option ℕ) → length es ≤ n → ((m : ℕ) → p m ≡ is_some (up_to n (by_number es) m)) →
+    IsGreatest p r → IsGreatest (λ m. is_some (by_number es m)) r
+greatest_whole p es n r all is h = greatest_like p (λ m. is_some (by_number es m))
+    (λ m. is m ∙ ap is_some (all_up_to n (by_number es) (λ m high. none_past es m (omega (arith, all, high))) m)) r h
 
 -- ---- the entries change
 
@@ -115,7 +125,8 @@ like x c d f g more e h =
       by_footprint = record {
         from_1 = sym (e 0 (omega arith)) ∙ h.by_footprint.from_1;
         within = omega (arith, h.by_footprint.within, more);
-        index = index_like x.by_footprint.index (up_to x.by_footprint.entered f) (up_to x.by_footprint.entered g) (same x.by_footprint.entered h.by_footprint.within) h.by_footprint.index;
+        index = index_like x.by_footprint.index (up_to x.by_footprint.entered f) (up_to x.by_footprint.entered g)
+            (same x.by_footprint.entered h.by_footprint.within) h.by_footprint.index;
       };
       in_force = record {
         from_1 = sym (e 0 (omega arith)) ∙ h.in_force.from_1;
@@ -139,29 +150,37 @@ below (x ∷ xs) ys (suc m) h = below xs ys m (omega (arith, h))
 pub more_indexed : (x : Index) (es : List kept.Entry) (y : kept.Entry) → IsIndexed x es → IsIndexed x (es ++ y ∷ [])
 more_indexed x es y h =
     like x (length es) (length (es ++ y ∷ [])) (by_number es) (by_number (es ++ y ∷ [])) (omega (arith, length-append es (y ∷ [])))
-    (λ m low. below (None ∷ kept_all es) (kept_in y ∷ []) m (omega (arith, low, kept_length es)) ∙ ap (λ os. footprint_at_number (None ∷ os) m) (sym (append-map kept_in es (y ∷ [])))) h
+    (λ m low. below (None ∷ kept_all es) (kept_in y ∷ []) m (omega (arith, low, kept_length es)) ∙
+    ap (λ os. footprint_at_number (None ∷ os) m) (sym (append-map kept_in es (y ∷ [])))) h
 
-pub set_indexed : (x : Index) (es : List kept.Entry) (k : ℕ) (y : kept.Entry) → k < length es → Indexes x (length es) (with_footprint (by_number es) (k + 1) (kept_in y)) → IsIndexed x (slice_set es k y)
+pub set_indexed : (x : Index) (es : List kept.Entry) (k : ℕ) (y : kept.Entry) → k < length es →
+    Indexes x (length es) (with_footprint (by_number es) (k + 1) (kept_in y)) → IsIndexed x (slice_set es k y)
 set_indexed x es k y low h =
     let fits : suc k < suc (length (kept_all es)) = omega (arith, low, kept_length es) in
     let all : slice_set (kept_all es) k (kept_in y) ≡ kept_all (slice_set es k y) = sym (set-map kept_in es k y) in
-    like x (length es) (length (slice_set es k y)) (with_footprint (by_number es) (k + 1) (kept_in y)) (by_number (slice_set es k y)) (omega (arith, same_length es k y))
-    (λ m low. ap (λ (j : ℕ). with_footprint (by_number es) j (kept_in y) m) (add-one k) ∙ replaced (None ∷ kept_all es) (suc k) (kept_in y) m fits ∙ ap (λ os. footprint_at_number (None ∷ os) m) all) h
+    like x (length es) (length (slice_set es k y)) (with_footprint (by_number es) (k + 1) (kept_in y)) (by_number (slice_set es k y))
+    (omega (arith, same_length es k y))
+    (λ m low. ap (λ (j : ℕ). with_footprint (by_number es) j (kept_in y) m) (add-one k) ∙ replaced (None ∷ kept_all es) (suc k) (kept_in y) m fits ∙
+    ap (λ os. footprint_at_number (None ∷ os) m) all) h
   where
     same_length : (xs : List kept.Entry) (j : ℕ) (z : kept.Entry) → length (slice_set xs j z) ≡ length xs
     same_length [] j z = refl
     same_length (u ∷ xs) zero z = refl
     same_length (u ∷ xs) (suc j) z = ap (λ (n : ℕ). suc n) (same_length xs j z)
 
-pub undone_indexed : (es : List kept.Entry) (k : ℕ) (x : kept.Entry) → slice_get es k ≡ Some x → k < length es → (old new : Index) (r : Result ℕ Refusal) (y : kept.Entry) (b d : Contents) → IsIndexed old es → IfOk r (λ n. TakenBack x n y b d)
-    → OnOk r ((count : ℕ) (footprints : Footprints) → Indexes old count footprints → footprints (k + 1) ≡ kept_in x → Indexes new count (with_footprint footprints (k + 1) None)) → OnErr r (y ≡ x) → OnErr r (new ≡ old) → IsIndexed new (slice_set es k y)
+pub undone_indexed : (es : List kept.Entry) (k : ℕ) (x : kept.Entry) → slice_get es k ≡ Some x → k < length es →
+    (old new : Index) (r : Result ℕ Refusal) (y : kept.Entry) (b d : Contents) → IsIndexed old es → IfOk r (λ n. TakenBack x n y b d)
+    → OnOk r ((count : ℕ) (footprints : Footprints) → Indexes old count footprints → footprints (k + 1) ≡ kept_in x →
+    Indexes new count (with_footprint footprints (k + 1) None)) → OnErr r (y ≡ x) → OnErr r (new ≡ old) → IsIndexed new (slice_set es k y)
 undone_indexed es k x is low old new (Ok n) y b d h ok taken entry same =
     let (q, has, count, gone, cells, writes) = ok in
     let none : None ≡ kept_in y = sym (ap kept_in gone) in
-    set_indexed new es k y low (subst (λ o. Indexes new (length es) (with_footprint (by_number es) (k + 1) o)) none (taken (length es) (by_number es) h (kept_here es k x is)))
+    set_indexed new es k y low (subst (λ o. Indexes new (length es) (with_footprint (by_number es) (k + 1) o)) none
+    (taken (length es) (by_number es) h (kept_here es k x is)))
 undone_indexed es k x is low old new (Err why) y b d h ok taken entry same =
     subst (λ fs. IsIndexed new fs) (sym (ap (slice_set es k) entry ∙ set_same es k x is es k x is)) (subst (λ i. IsIndexed i es) (sym same) h)
 
-pub still_indexed : {X : Type 0} (x : Index) (es fs : List kept.Entry) (r : Result X Refusal) → IsIndexed x es → OnOk r ((y : kept.Entry) × (fs ≡ es ++ y ∷ [])) → OnErr r (fs ≡ es) → IsIndexed x fs
+pub still_indexed : {X : Type 0} (x : Index) (es fs : List kept.Entry) (r : Result X Refusal) → IsIndexed x es →
+    OnOk r ((y : kept.Entry) × (fs ≡ es ++ y ∷ [])) → OnErr r (fs ≡ es) → IsIndexed x fs
 still_indexed x es fs (Ok n) h more stays = subst (λ gs. IsIndexed x gs) (sym more.1) (more_indexed x es more.0 h)
 still_indexed x es fs (Err why) h more stays = subst (λ gs. IsIndexed x gs) (sym stays) h

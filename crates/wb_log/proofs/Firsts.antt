@@ -1,5 +1,6 @@
 -- The least number after another is the first from the next one on.
-use Rattle.std.proofs.Common.{◌≡◌, ℕ, zero, suc, ◌+◌, ◌-◌, ◌≤◌, ◌<◌, Bool, true, false, if◌then◌else◌, List, [], ◌∷◌, drop, Option, Some, None, refl, ap, subst, ◌∙◌, arith, add-zero, zero-add, suc-add, inl, inr}
+use Rattle.std.proofs.Common.{◌≡◌, ℕ, zero, suc, ◌+◌, ◌-◌, ◌≤◌, ◌<◌, Bool, true, false, if◌then◌else◌, List, [], ◌∷◌, drop, Option, Some, None, refl, ap, subst}
+use Rattle.std.proofs.Common.{◌∙◌, arith, add-zero, zero-add, suc-add, inl, inr}
 use Rattle.std.proofs.lemmas.Bool.{cases_eq}
 use Rattle.selective_undo.specs.Log.{first_from}
 use Rattle.wb_foot.specs.Relation.{IsLeastAfter}
@@ -27,7 +28,11 @@ module _ {F : Type 0} (p : Option F → Bool) (none : p None ≡ false) (q : ℕ
   past i j fails up passes = elim (cases_eq i j) [ inl e ↦ (let at : q j ≡ false = subst (λ (x : ℕ). q x ≡ false) e fails in cc) | inr ne ↦ omega (arith, ne) ]
 
   same : (i j : ℕ) → q i ≡ true → IsLeastFrom q i (Some j) → i ≡ j
-  same i j passes h = elim (cases_eq i j) [ inl e ↦ e | inr ne ↦ (let up = h.0 in let low : i < j = omega (arith, ne) in let fails = h.2 i (omega arith) low in cc) ]
+  same i j passes h = elim (cases_eq i j) [
+    | inl e ↦ e
+    | inr ne ↦
+        (let up = h.0 in let low : i < j = omega (arith, ne) in let fails = h.2 i (omega arith) low in cc)
+  ]
 
   next : (i : ℕ) (r : Option ℕ) → q i ≡ false → IsLeastFrom q i r → IsLeastFrom q (i + 1) r
   next i None fails h = λ n up. h n (omega arith)
@@ -44,7 +49,8 @@ module _ {F : Type 0} (p : Option F → Bool) (none : p None ≡ false) (q : ℕ
   shift : (i m : ℕ) → (i + 1) + m ≡ i + suc m
   shift i m = omega arith
 
-  pub first_is : (i : ℕ) (ys : List (Option F)) (r : Option ℕ) → ((m : ℕ) → q (i + m) ≡ p (footprint_at_number ys m)) → IsLeastFrom q i r → first_from p i ys ≡ r
+  pub first_is : (i : ℕ) (ys : List (Option F)) (r : Option ℕ) → ((m : ℕ) → q (i + m) ≡ p (footprint_at_number ys m)) → IsLeastFrom q i r →
+      first_from p i ys ≡ r
   first_is i [] r e h = nothing i r (λ n up. let k : i + (n - i) ≡ n = omega arith in subst (λ (x : ℕ). q x ≡ false) k (e (n - i) ∙ none)) h
   first_is i (y ∷ ys) r e h =
       let at : q i ≡ p y = subst (λ (x : ℕ). q x ≡ p y) (add-zero i) (e 0) in
@@ -53,5 +59,7 @@ module _ {F : Type 0} (p : Option F → Bool) (none : p None ≡ false) (q : ℕ
       (λ fails. first_is (i + 1) ys r (λ m. ap q (shift i m) ∙ e (suc m)) (next i r (at ∙ fails) h))
 
 -- as a history asks for it
-pub first_after : {F : Type 0} (p : Option F → Bool) → p None ≡ false → (xs : List (Option F)) (k : ℕ) (r : Option ℕ) → IsLeastAfter (λ n. p (footprint_at_number xs n)) k r → first_from p (suc k) (drop (suc k) xs) ≡ r
-first_after p none xs k r h = first_is p none (λ n. p (footprint_at_number xs n)) (suc k) (drop (suc k) xs) r (λ m. ap p (dropped (suc k) xs m)) (from (λ n. p (footprint_at_number xs n)) k r h)
+pub first_after : {F : Type 0} (p : Option F → Bool) → p None ≡ false → (xs : List (Option F)) (k : ℕ) (r : Option ℕ) →
+    IsLeastAfter (λ n. p (footprint_at_number xs n)) k r → first_from p (suc k) (drop (suc k) xs) ≡ r
+first_after p none xs k r h = first_is p none (λ n. p (footprint_at_number xs n)) (suc k) (drop (suc k) xs) r (λ m. ap p (dropped (suc k) xs m))
+    (from (λ n. p (footprint_at_number xs n)) k r h)

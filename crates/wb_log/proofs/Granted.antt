@@ -1,5 +1,6 @@
 -- What a granted undo or redo leaves.
-use Rattle.std.proofs.Common.{◌≡◌, ℕ, zero, suc, ◌-◌, true, false, List, [], ◌∷◌, Some, Result, Ok, Err, OnOk, IfOk, slice_set, refl, sym, ap, ◌∙◌, subst, arith}
+use Rattle.std.proofs.Common.{◌≡◌, ℕ, zero, suc, ◌-◌, true, false, List, [], ◌∷◌, Some, Result, Ok, Err, OnOk, IfOk, slice_set, refl, sym, ap, ◌∙◌, subst}
+use Rattle.std.proofs.Common.{arith}
 use Rattle.selective_undo.specs.Edit.{Edit, trace}
 use Rattle.selective_undo.specs.History.{Entry, undone, undo, redo, traces, replay, IsLegal}
 use Rattle.selective_undo.proofs.Inverses.{set_back_law, last_law}
@@ -28,18 +29,23 @@ module _ (s : Cells) (es fs : List kept.Entry) (shows : Shows es s) where
   legal : IsLegal (entries_meant es)
   legal = subst IsLegal (history-log es) shows.legal
 
-  pub sets_back : (k : ℕ) (r : Result ℕ Refusal) → UndoReply (entries_meant es) k r → OnOk r (numbered_entries fs ≡ out_of_force k (numbered_entries es)) → OnOk r (SetsBack (entries_meant es) k (entries_meant fs))
+  pub sets_back : (k : ℕ) (r : Result ℕ Refusal) → UndoReply (entries_meant es) k r → OnOk r (numbered_entries fs ≡ out_of_force k (numbered_entries es)) →
+      OnOk r (SetsBack (entries_meant es) k (entries_meant fs))
   sets_back k (Ok n) (t, can, count) is = λ u there c.
       let P : List (Entry workbook) → Type 0 = λ h. SetsBack (entries_meant es) k h in
-      let law : SetsBack (entries_meant es) k (undo k (entries_meant es)) = λ u there c. set_back_law workbook (entries_meant es) k u c legal (record { in_force = there; unblocked = can.unblocked }) in
+      let law : SetsBack (entries_meant es) k (undo k (entries_meant es)) =
+      λ u there c. set_back_law workbook (entries_meant es) k u c legal (record { in_force = there; unblocked = can.unblocked }) in
       subst P (undo_meant k (numbered_entries es) ∙ sym (ap meant is)) law u there c
   sets_back k (Err why) reply is = tt
 
-  pub leaves_others : (k : ℕ) (r : Result ℕ Refusal) → UndoReply (entries_meant es) k r → OnOk r (numbered_entries fs ≡ out_of_force k (numbered_entries es)) → OnOk r (LeavesOthers (entries_meant es) k (entries_meant fs))
-  leaves_others k (Ok n) (t, can, count) is = ap traces (ap meant is ∙ sym (undo_meant k (numbered_entries es))) ∙ (undo_law workbook (entries_meant es) k t legal can).same_traces
+  pub leaves_others : (k : ℕ) (r : Result ℕ Refusal) → UndoReply (entries_meant es) k r → OnOk r (numbered_entries fs ≡ out_of_force k (numbered_entries es)) →
+      OnOk r (LeavesOthers (entries_meant es) k (entries_meant fs))
+  leaves_others k (Ok n) (t, can, count) is = ap traces (ap meant is ∙ sym (undo_meant k (numbered_entries es))) ∙
+      (undo_law workbook (entries_meant es) k t legal can).same_traces
   leaves_others k (Err why) reply is = tt
 
-  pub restores : (r : Result (ℕ × ℕ) Refusal) → LastReply (entries_meant es) r → IfOk r (λ q. numbered_entries fs ≡ out_of_force (q.0 - 1) (numbered_entries es)) → IfOk r (λ q. Restores (entries_meant es) (q.0 - 1) (entries_meant fs))
+  pub restores : (r : Result (ℕ × ℕ) Refusal) → LastReply (entries_meant es) r →
+      IfOk r (λ q. numbered_entries fs ≡ out_of_force (q.0 - 1) (numbered_entries es)) → IfOk r (λ q. Restores (entries_meant es) (q.0 - 1) (entries_meant fs))
   restores (Ok (number, n)) (j, is_number, last, (t, can, count)) is =
       let here : number - 1 ≡ j = omega (arith, is_number) in
       let law = (last_law workbook (entries_meant es) j t can.in_force last).1 in
@@ -47,11 +53,13 @@ module _ (s : Cells) (es fs : List kept.Entry) (shows : Shows es s) where
       (λ now. ap (λ ns. replay (meant ns)) now ∙ ap replay (sym (undo_meant j (numbered_entries es))) ∙ law) is
   restores (Err why) reply is = tt
 
-  pub redoes_in_place : (k : ℕ) (r : Result ℕ Refusal) → RedoReply (entries_meant es) k r → OnOk r (numbered_entries fs ≡ into_force k (numbered_entries es)) → OnOk r (RedoesInPlace (entries_meant es) k (entries_meant fs))
+  pub redoes_in_place : (k : ℕ) (r : Result ℕ Refusal) → RedoReply (entries_meant es) k r → OnOk r (numbered_entries fs ≡ into_force k (numbered_entries es)) →
+      OnOk r (RedoesInPlace (entries_meant es) k (entries_meant fs))
   redoes_in_place k (Ok n) (t, can, count) is = λ e out.
       let law = (redo_law workbook (entries_meant es) k t legal can).same_traces in
       let same : can.edit ≡ e = same_edit (sym can.out_of_force ∙ out) in
-      ap traces (ap meant is ∙ sym (redo_meant k (numbered_entries es))) ∙ law ∙ ap (λ u. slice_set (traces (entries_meant es)) k (Some u)) (sym can.tried ∙ ap (λ d. trace d (replay (entries_meant es))) same)
+      ap traces (ap meant is ∙ sym (redo_meant k (numbered_entries es))) ∙ law ∙
+      ap (λ u. slice_set (traces (entries_meant es)) k (Some u)) (sym can.tried ∙ ap (λ d. trace d (replay (entries_meant es))) same)
     where
       same_edit : {d e : Edit workbook} → Some (undone d) ≡ Some (undone e) → d ≡ e
       same_edit h = cc

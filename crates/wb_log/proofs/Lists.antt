@@ -38,5 +38,11 @@ set_apart (x ∷ xs) zero o (suc n) apart = refl
 set_apart (x ∷ xs) (suc k) o zero apart = refl
 set_apart (x ∷ xs) (suc k) o (suc n) apart = set_apart xs k o n (λ e. apart (ap (λ (k : ℕ). suc k) e))
 
-pub replaced : (xs : Kept) (k : ℕ) (o : Option (Footprint workbook)) (n : ℕ) → k < length xs → with_footprint (footprint_at_number xs) k o n ≡ footprint_at_number (slice_set xs k o) n
-replaced xs k o n h = elim (cases_eq k n) [ inl e ↦ subst (λ (j : ℕ). with_footprint (footprint_at_number xs) k o j ≡ footprint_at_number (slice_set xs k o) j) e (with_here (footprint_at_number xs) k o ∙ sym (set_here xs k o h)) | inr apart ↦ with_apart (footprint_at_number xs) k o n apart ∙ sym (set_apart xs k o n apart) ]
+pub replaced : (xs : Kept) (k : ℕ) (o : Option (Footprint workbook)) (n : ℕ) → k < length xs →
+    with_footprint (footprint_at_number xs) k o n ≡ footprint_at_number (slice_set xs k o) n
+replaced xs k o n h = elim (cases_eq k n) [
+  | inl e ↦ subst (λ (j : ℕ). with_footprint (footprint_at_number xs) k o j ≡ footprint_at_number (slice_set xs k o) j)
+      e (with_here (footprint_at_number xs) k o ∙ sym (set_here xs k o h))
+  | inr apart ↦ with_apart (footprint_at_number xs) k o n apart ∙
+      sym (set_apart xs k o n apart)
+]

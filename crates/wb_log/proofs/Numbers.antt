@@ -20,7 +20,8 @@ pub same_cell : (a b : Cell) → eq_by_cmp cell_cmp a b ≡ true → a ≡ b
 same_cell a b e = cell_cmp-IsAntisymmetric a b (equal_from (cell_cmp a b) e)
 
 -- what takes back a change of one cell
-pub one_change : (xs : Changes) (d : _) (c : Cell) → length xs ≡ 1 → eq_by_cmp cell_cmp (get_or xs 0 d).cell c ≡ true → (s : Cells) → inverse xs s ≡ record { cell = c; value = get s c } ∷ []
+pub one_change : (xs : Changes) (d : _) (c : Cell) → length xs ≡ 1 → eq_by_cmp cell_cmp (get_or xs 0 d).cell c ≡ true → (s : Cells) →
+    inverse xs s ≡ record { cell = c; value = get s c } ∷ []
 one_change [] d c one e s = absurd (omega (arith, one))
 one_change (x ∷ []) d c one e s = let same = same_cell x.cell c e in ap (λ y. record { cell = y; value = get s y } ∷ []) same
 one_change (x ∷ y ∷ xs) d c one e s = absurd (omega (arith, one))

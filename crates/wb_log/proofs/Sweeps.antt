@@ -1,5 +1,6 @@
 -- A sweep over what is kept, from each number that is found to those that need it.
-use Rattle.std.proofs.Common.{if◌then◌else◌, ◌≡◌, ℕ, ◌<◌, ◌≤◌, ◌==◌, Bool, true, false, true≢false, List, [], ◌∷◌, Some, None, length, Result, Ok, Err, OnOk, arith, refl, sym, ap, ◌∙◌, subst, ◌⊎◌, inl, inr}
+use Rattle.std.proofs.Common.{if◌then◌else◌, ◌≡◌, ℕ, ◌<◌, ◌≤◌, ◌==◌, Bool, true, false, true≢false, List, [], ◌∷◌, Some, None, length, Result, Ok, Err, OnOk}
+use Rattle.std.proofs.Common.{arith, refl, sym, ap, ◌∙◌, subst, ◌⊎◌, inl, inr}
 use Rattle.std.proofs.lemmas.Bool.{cases_eq}
 use Rattle.std.proofs.lemmas.Bool.Decides.{nat_tests}
 use Rattle.selective_undo.specs.History.{Has, Falls}
@@ -49,7 +50,8 @@ pub record JoinedUpTo (old new : Numbers) (p : ℕ → Bool) (after last : ℕ) 
 pub none_joined : (old : Numbers) (p : ℕ → Bool) (after : ℕ) → JoinedUpTo old old p after after
 none_joined old p after = record { order = omega arith; from = λ n has. inl has; stay = λ n has. has; all = λ n low up is. absurd (omega (arith, low, up)) }
 
-pub one_joined : (old now new : Numbers) (p : ℕ → Bool) (after last j : ℕ) → JoinedUpTo old now p after last → IsLeastAfter p last (Some j) → ((n : ℕ) → numbered new n ≡ (if j == n then true else numbered now n)) → JoinedUpTo old new p after j
+pub one_joined : (old now new : Numbers) (p : ℕ → Bool) (after last j : ℕ) → JoinedUpTo old now p after last → IsLeastAfter p last (Some j) →
+    ((n : ℕ) → numbered new n ≡ (if j == n then true else numbered now n)) → JoinedUpTo old new p after j
 one_joined old now new p after last j h (up, passes, least) is =
     record {
       order = omega (arith, up, h.order);
@@ -83,7 +85,8 @@ none_needs old footprints m off = record { from = λ n has. inl has; stay = λ n
     no_footprint : {f : Footprint workbook} → None ≡ Some f → ⊥
     no_footprint e = cc
 
-pub those_needing : (old new : Numbers) (footprints : Footprints) (m : ℕ) (f : Footprint workbook) → footprints m ≡ Some f → JoinedAfter old new (λ n. blocks_undo f.touched (footprints n)) m → Joined old new footprints m
+pub those_needing : (old new : Numbers) (footprints : Footprints) (m : ℕ) (f : Footprint workbook) → footprints m ≡ Some f →
+    JoinedAfter old new (λ n. blocks_undo f.touched (footprints n)) m → Joined old new footprints m
 those_needing old new footprints m f is h =
     record {
       from = λ n has. elim (h.from n has) [
@@ -91,15 +94,19 @@ those_needing old new footprints m f is h =
         | inr met ↦ inr (record { later = met.0; footprint = f; kept = is; needs = met.1 })
       ];
       stay = h.stay;
-      all = λ n need. let same : need.footprint ≡ f = one_footprint (sym need.kept ∙ is) in h.all n need.later (subst (λ g. blocks_undo g.touched (footprints n) ≡ true) same need.needs);
+      all = λ n need. let same : need.footprint ≡ f = one_footprint (sym need.kept ∙ is) in
+          h.all n need.later (subst (λ g. blocks_undo g.touched (footprints n) ≡ true) same need.needs);
     }
   where
     one_footprint : {f g : Footprint workbook} → Some f ≡ Some g → f ≡ g
     one_footprint e = cc
 
-pub on_ok_needing : {X E : Type 0} (r : Result X E) (idx : FootIndex) (old new : Numbers) (footprints : Footprints) (m : ℕ) (f : Footprint workbook) (bs : Changes) → footprints m ≡ Some f → bs ≡ f.touched → IsIndexOf idx footprints
-    → OnOk r ((footprints : Footprints) → IsIndexOf idx footprints → JoinedAfter old new (λ n. blocks_undo bs (footprints n)) m) → OnOk r (Joined old new footprints m)
-on_ok_needing (Ok x) idx old new footprints m f bs is same indexed h = those_needing old new footprints m f is (subst (λ cs. JoinedAfter old new (λ n. blocks_undo cs (footprints n)) m) same (h footprints indexed))
+pub on_ok_needing : {X E : Type 0} (r : Result X E) (idx : FootIndex) (old new : Numbers) (footprints : Footprints) (m : ℕ) (f : Footprint workbook)
+    (bs : Changes) → footprints m ≡ Some f → bs ≡ f.touched → IsIndexOf idx footprints
+    → OnOk r ((footprints : Footprints) → IsIndexOf idx footprints → JoinedAfter old new (λ n. blocks_undo bs (footprints n)) m) →
+    OnOk r (Joined old new footprints m)
+on_ok_needing (Ok x) idx old new footprints m f bs is same indexed h =
+    those_needing old new footprints m f is (subst (λ cs. JoinedAfter old new (λ n. blocks_undo cs (footprints n)) m) same (h footprints indexed))
 on_ok_needing (Err e) idx old new footprints m f bs is same indexed h = tt
 
 -- an edit that needs another one is in the log
@@ -123,7 +130,8 @@ pub record Swept (footprints : Footprints) (k size : ℕ) (ns : List ℕ) (last 
   pub closed : (m j : ℕ) → Has ns m → NeedsKept footprints j m → Has ns j ⊎ (numbered waiting j ≡ true)
 
 -- at first the number itself waits
-pub first_swept : (footprints : Footprints) (k size : ℕ) (none w : Numbers) → 0 < k → k ≤ size → ((n : ℕ) → numbered none n ≡ false) → ((n : ℕ) → numbered w n ≡ (if k == n then true else numbered none n)) → Swept footprints k size [] 0 w
+pub first_swept : (footprints : Footprints) (k size : ℕ) (none w : Numbers) → 0 < k → k ≤ size → ((n : ℕ) → numbered none n ≡ false) →
+    ((n : ℕ) → numbered w n ≡ (if k == n then true else numbered none n)) → Swept footprints k size [] 0 w
 first_swept footprints k size none w some low empty is =
     record {
       falls = tt;
@@ -140,8 +148,10 @@ first_swept footprints k size none w some low empty is =
     only n has = elim (added_from none w k is n has) [ inl had ↦ absurd (true≢false (sym had ∙ empty n)) | inr same ↦ same ]
 
 -- the least that waits is found, and those that need it wait
-pub next_swept : (footprints : Footprints) (k size : ℕ) (ns : List ℕ) (last j : ℕ) (w v u : Numbers) → Swept footprints k size ns last w → IsLeast (numbered w) (Some j)
-    → ((n : ℕ) → numbered v n ≡ (if j == n then false else numbered w n)) → Joined v u footprints j → ((n : ℕ) → NeedsKept footprints n j → n ≤ size) → Swept footprints k size (j ∷ ns) j u
+pub next_swept : (footprints : Footprints) (k size : ℕ) (ns : List ℕ) (last j : ℕ) (w v u : Numbers) → Swept footprints k size ns last w →
+    IsLeast (numbered w) (Some j)
+    → ((n : ℕ) → numbered v n ≡ (if j == n then false else numbered w n)) → Joined v u footprints j → ((n : ℕ) → NeedsKept footprints n j → n ≤ size) →
+    Swept footprints k size (j ∷ ns) j u
 next_swept footprints k size ns last j w v u h (waits, least) taken joined fits =
     record {
       falls = (λ n has. let up = h.up_to n has in let over = h.above j waits in omega (arith, up, over), h.falls);
@@ -158,7 +168,8 @@ next_swept footprints k size ns last j w v u h (waits, least) taken joined fits 
     }
   where
     was : (n : ℕ) → numbered v n ≡ true → numbered w n ≡ true
-    was n has = elim (j == n) as (λ b. (if b then false else numbered w n) ≡ true → numbered w n ≡ true) [ true ↦ λ e. absurd (true≢false (sym e)) | false ↦ λ e. e ] (sym (taken n) ∙ has)
+    was n has = elim (j == n) as (λ b. (if b then false else numbered w n) ≡ true → numbered w n ≡ true)
+        [ true ↦ λ e. absurd (true≢false (sym e)) | false ↦ λ e. e ] (sym (taken n) ∙ has)
 
     other : (n : ℕ) → numbered v n ≡ true → j ≡ n → ⊥
     other n has same = true≢false (sym has ∙ taken n ∙ ap (λ b. if b then false else numbered w n) (subst (λ (m : ℕ). (j == m) ≡ true) same (at_self j)))
@@ -177,7 +188,8 @@ next_swept footprints k size ns last j w v u h (waits, least) taken joined fits 
     ]
 
 -- once none waits, all were found
-pub all_swept : (footprints : Footprints) (k size : ℕ) (ns : List ℕ) (last : ℕ) (w : Numbers) → Swept footprints k size ns last w → IsLeast (numbered w) None → AreFromFootprints footprints k ns
+pub all_swept : (footprints : Footprints) (k size : ℕ) (ns : List ℕ) (last : ℕ) (w : Numbers) → Swept footprints k size ns last w → IsLeast (numbered w) None →
+    AreFromFootprints footprints k ns
 all_swept footprints k size ns last w h none = (h.falls, λ n. (h.found n, λ d. all n d))
   where
     here : (n : ℕ) → Has ns n ⊎ (numbered w n ≡ true) → Has ns n

@@ -1,5 +1,6 @@
 -- Undos one after another.
-use Rattle.std.proofs.Common.{◌≡◌, ◌≢◌, ℕ, zero, suc, ◌+◌, ◌-◌, ◌^◌, ◌<◌, ◌≤◌, true, false, List, [], ◌∷◌, ◌++◌, length, take, drop, Some, None, is_some, option_map, Result, Ok, Err, IfOk, IfErr, slice_get, arith, refl, sym, ap, ◌∙◌, subst}
+use Rattle.std.proofs.Common.{◌≡◌, ◌≢◌, ℕ, zero, suc, ◌+◌, ◌-◌, ◌^◌, ◌<◌, ◌≤◌, true, false, List, [], ◌∷◌, ◌++◌, length, take, drop, Some, None, is_some}
+use Rattle.std.proofs.Common.{option_map, Result, Ok, Err, IfOk, IfErr, slice_get, arith, refl, sym, ap, ◌∙◌, subst}
 use Rattle.std.specs.Prelude.{min}
 use Rattle.std.proofs.Math.Nat.{sub-add-min_cancel}
 use Rattle.std.proofs.lemmas.List.{take-append-drop}
@@ -67,11 +68,13 @@ granted_at fs zero more reply = absurd (ok_not_err reply)
 granted_at fs (suc k) more reply = let here : k ≡ suc k - 1 = omega arith in subst (λ (j : ℕ). UndoReply (meant fs) j (Ok more)) here reply
 
 -- the count of writes
-risen_more : (es : List Numbered) (ns : List ℕ) (w v u more : ℕ) → IsRisen ns w (set_back (meant es) (places ns)) v → u ≡ written_more v more → u ≡ written_more w (set_back (meant es) (places ns) + more)
+risen_more : (es : List Numbered) (ns : List ℕ) (w v u more : ℕ) → IsRisen ns w (set_back (meant es) (places ns)) v → u ≡ written_more v more →
+    u ≡ written_more w (set_back (meant es) (places ns) + more)
 risen_more es [] w v u more same writes =
     let zero_c : more ≡ 0 + more = omega arith in
     writes ∙ ap (λ (x : ℕ). written_more x more) same ∙ ap (written_more w) zero_c
-risen_more es (n ∷ ns) w v u more risen writes = writes ∙ ap (λ (x : ℕ). written_more x more) risen ∙ more_written w (set_back (meant es) (places (n ∷ ns))) more
+risen_more es (n ∷ ns) w v u more risen writes = writes ∙ ap (λ (x : ℕ). written_more x more) risen ∙
+    more_written w (set_back (meant es) (places (n ∷ ns))) more
 
 risen_now : (ns : List ℕ) (n w c u : ℕ) → u ≡ written_more w c → IsRisen (ns ++ n ∷ []) w c u
 risen_now [] n w c u is = is
@@ -84,7 +87,8 @@ risen_some (n ∷ ns) w c v some risen = risen
 pub none_undone : (es : List Numbered) (w : ℕ) → AreUndone es w [] es 0 w
 none_undone es w = record { granted = tt; left = refl; count = refl; writes = refl }
 
-pub one_undone : (es fs gs : List Numbered) (w n v m u number more : ℕ) (ns : List ℕ) → AreUndone es w ns fs n v → ByNumber (UndoReply (meant fs)) number (Ok more) → gs ≡ out_of_force (number - 1) fs
+pub one_undone : (es fs gs : List Numbered) (w n v m u number more : ℕ) (ns : List ℕ) → AreUndone es w ns fs n v →
+    ByNumber (UndoReply (meant fs)) number (Ok more) → gs ≡ out_of_force (number - 1) fs
     → m ≡ min (n + more) (2 ^ 64 - 1) → u ≡ written_more v more → AreUndone es w (ns ++ number ∷ []) gs m u
 one_undone es fs gs w n v m u number more ns h reply out count writes =
     let k = number - 1 in
@@ -92,13 +96,17 @@ one_undone es fs gs w n v m u number more ns h reply out count writes =
     let now_is : undo_all ks (meant es) ≡ meant fs = left_meant ns es ∙ ap meant (sym h.left) in
     let (t, can, cells) = granted_at fs number more reply in
     let all : places (ns ++ number ∷ []) ≡ ks ++ k ∷ [] = append-map (λ (i : ℕ). i - 1) ns (number ∷ []) in
-    let here : touched (slice_get (traces (undo_all ks (meant es))) k) ≡ more = ap (λ g. touched (slice_get (traces g) k)) now_is ∙ ap touched can.in_force ∙ sym cells in
-    let sum : set_back (meant es) (places (ns ++ number ∷ [])) ≡ set_back (meant es) ks + more = ap (set_back (meant es)) all ∙ back_more (meant es) ks k ∙ ap (λ (c : ℕ). set_back (meant es) ks + c) here in
+    let here : touched (slice_get (traces (undo_all ks (meant es))) k) ≡ more = ap (λ g. touched (slice_get (traces g) k)) now_is ∙ ap touched can.in_force ∙
+    sym cells in
+    let sum : set_back (meant es) (places (ns ++ number ∷ [])) ≡ set_back (meant es) ks + more = ap (set_back (meant es)) all ∙ back_more (meant es) ks k ∙
+    ap (λ (c : ℕ). set_back (meant es) ks + c) here in
     record {
       granted = subst (λ js. CanUndoAll (meant es) js) (sym all) (can_more (meant es) ks k t h.granted (subst (λ g. CanUndo g k t) (sym now_is) can));
       left = out ∙ ap (out_of_force k) h.left ∙ sym (out_more es ns number);
-      count = count ∙ ap (λ (c : ℕ). min (c + more) (2 ^ 64 - 1)) h.count ∙ capped (set_back (meant es) ks) more (2 ^ 64 - 1) ∙ ap (λ (c : ℕ). min c (2 ^ 64 - 1)) (sym sum);
-      writes = risen_now ns number w (set_back (meant es) (places (ns ++ number ∷ []))) u (risen_more es ns w v u more h.writes writes ∙ ap (written_more w) (sym sum));
+      count = count ∙ ap (λ (c : ℕ). min (c + more) (2 ^ 64 - 1)) h.count ∙ capped (set_back (meant es) ks) more (2 ^ 64 - 1) ∙
+          ap (λ (c : ℕ). min c (2 ^ 64 - 1)) (sym sum);
+      writes = risen_now ns number w (set_back (meant es) (places (ns ++ number ∷ []))) u
+          (risen_more es ns w v u more h.writes writes ∙ ap (written_more w) (sym sum));
     }
 
 pub take_more : (ns : List ℕ) (i n : ℕ) → slice_get ns i ≡ Some n → take (suc i) ns ≡ take i ns ++ n ∷ []
@@ -113,7 +121,8 @@ valid_out n es fs valid out = subst AreValid (sym out) (valid_force false n es v
 
 module _ (s : _) (es : List kept.Entry) (k : ℕ) (x : kept.Entry) (shows : Shows es s) (is : slice_get es k ≡ Some x) where
   meant_here : slice_get (entries_meant es) k ≡ Some (entry_at x.edit (is_some x.kept))
-  meant_here = get-map (λ y. entry_at y.edit y.in_force) (numbered_entries es) k ∙ ap (option_map (λ y. entry_at y.edit y.in_force)) (get-map numbered es k ∙ ap (option_map numbered) is)
+  meant_here = get-map (λ y. entry_at y.edit y.in_force) (numbered_entries es) k ∙
+      ap (option_map (λ y. entry_at y.edit y.in_force)) (get-map numbered es k ∙ ap (option_map numbered) is)
 
   pub out_of_force_reply : is_some x.kept ≡ false → DependentsReply (entries_meant es) k (Err NotInForce)
   out_of_force_reply off = (meaning x.edit, meant_here ∙ ap (λ b. Some (entry_at x.edit b)) off)
@@ -123,7 +132,8 @@ module _ (s : _) (es : List kept.Entry) (k : ℕ) (x : kept.Entry) (shows : Show
       elim x.kept as (λ o. x.kept ≡ o → is_some o ≡ true → (t : Trace workbook) × InForce (traces (entries_meant es)) k t) [
         | Some q ↦ λ has yes.
             let f = footprint q.footprint q.inverse in
-            let found = trace_there s (log es) k (meaning x.edit) f shows (log_at es k x is ∙ ap (λ o. Some (record { edit = meaning x.edit; kept = option_map (λ k. footprint k.footprint k.inverse) o })) has) in
+            let found = trace_there s (log es) k (meaning x.edit) f shows
+            (log_at es k x is ∙ ap (λ o. Some (record { edit = meaning x.edit; kept = option_map (λ k. footprint k.footprint k.inverse) o })) has) in
             (found.0, subst (λ g. InForce (traces g) k found.0) (history-log es) found.1)
         | None ↦ λ has yes. cc
       ] refl on
@@ -144,10 +154,15 @@ take_some ns zero some low = absurd (omega (arith, some))
 take_some [] (suc i) some low = absurd (omega (arith, low))
 take_some (n ∷ ns) (suc i) some low = λ e. cc
 
-module _ (es : List kept.Entry) (k : ℕ) (all : List ℕ) (i w n v : ℕ) (fs : List Numbered) (some : 0 < i) (low : i ≤ length all) (h : AreUndone (numbered_entries es) w (take i all) fs n v) where
+module _ (es : List kept.Entry) (k : ℕ) (all : List ℕ) (i w n v : ℕ) (fs : List Numbered) (some : 0 < i) (low : i ≤ length all)
+    (h : AreUndone (numbered_entries es) w (take i all) fs n v) where
   pub cascade_reply : DependentsReply (entries_meant es) k (Ok all) → CascadeReply (entries_meant es) k (Ok (take i all, n))
-  cascade_reply due =
-      (take_some all i some low, (drop i all, subst (λ (ns : List ℕ). DependentsReply (entries_meant es) k (Ok ns)) (sym (take-append-drop i all)) due), h.granted, h.count)
+  cascade_reply due = (
+    take_some all i some low,
+    (drop i all, subst (λ (ns : List ℕ). DependentsReply (entries_meant es) k (Ok ns)) (sym (take-append-drop i all)) due),
+    h.granted,
+    h.count,
+  )
 
   pub cascade_writes : v ≡ written_more w (set_back (entries_meant es) (places (take i all)))
   cascade_writes = risen_some (take i all) w (set_back (entries_meant es) (places (take i all))) v (take_some all i some low) h.writes
@@ -158,10 +173,12 @@ of_number : {Y : Type 0} (Reply : ℕ → Result Y Refusal → Type 0) (n : ℕ)
 of_number Reply zero r some h = absurd (omega (arith, some))
 of_number Reply (suc k) r some h = let here : suc k - 1 ≡ k = omega arith in subst (λ (j : ℕ). Reply j r) here h
 
-pub ok_of_number : {X Y : Type 0} (Reply : ℕ → Result Y Refusal → Type 0) (f : X → Y) (n : ℕ) (r : Result X Refusal) → 0 < n → IfOk r (λ x. Reply (n - 1) (Ok (f x))) → IfOk r (λ x. OfNumber Reply n (Ok (f x)))
+pub ok_of_number : {X Y : Type 0} (Reply : ℕ → Result Y Refusal → Type 0) (f : X → Y) (n : ℕ) (r : Result X Refusal) → 0 < n →
+    IfOk r (λ x. Reply (n - 1) (Ok (f x))) → IfOk r (λ x. OfNumber Reply n (Ok (f x)))
 ok_of_number Reply f n (Ok x) some h = of_number Reply n (Ok (f x)) some h
 ok_of_number Reply f n (Err e) some h = tt
 
-pub err_of_number : {X Y : Type 0} (Reply : ℕ → Result Y Refusal → Type 0) (n : ℕ) (r : Result X Refusal) → 0 < n → IfErr r (λ e. Reply (n - 1) (Err e)) → IfErr r (λ e. OfNumber Reply n (Err e))
+pub err_of_number : {X Y : Type 0} (Reply : ℕ → Result Y Refusal → Type 0) (n : ℕ) (r : Result X Refusal) → 0 < n → IfErr r (λ e. Reply (n - 1) (Err e)) →
+    IfErr r (λ e. OfNumber Reply n (Err e))
 err_of_number Reply n (Ok x) some h = tt
 err_of_number Reply n (Err e) some h = of_number Reply n (Err e) some h

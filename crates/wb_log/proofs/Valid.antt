@@ -1,6 +1,7 @@
 -- Histories of valid edits, and the well-formed workbooks that they give.
 use Rattle.std.proofs.Math.Seq.{take-append_seam}
-use Rattle.std.proofs.Common.{length, take, ◌-◌, Result, Err, IfOk, OnOk, OnErr, ◌≡◌, ℕ, zero, suc, Bool, true, false, List, [], ◌∷◌, ◌++◌, Option, Some, None, Ok, slice_get, slice_set, refl, sym, ap, ◌∙◌, subst}
+use Rattle.std.proofs.Common.{length, take, ◌-◌, Result, Err, IfOk, OnOk, OnErr, ◌≡◌, ℕ, zero, suc, Bool, true, false, List, [], ◌∷◌, ◌++◌, Option, Some, None}
+use Rattle.std.proofs.Common.{Ok, slice_get, slice_set, refl, sym, ap, ◌∙◌, subst}
 use Rattle.std.specs.FinMap.{empty}
 use Rattle.selective_undo.specs.Changes.{apply}
 use Rattle.selective_undo.specs.Edit.{outcome, written, step}
@@ -35,7 +36,8 @@ valid_at [] k x valid is = cc
 valid_at (y ∷ es) zero x valid is = let h : y ≡ x = cc in subst (λ z. IsValid z.edit) h valid.0
 valid_at (y ∷ es) (suc k) x valid is = valid_at es k x valid.1 is
 
-valid_put : (es : List kept.Entry) (k : ℕ) (x : kept.Entry) (o : Option Kept) → AreValid (numbered_entries es) → IsValid x.edit → AreValid (numbered_entries (slice_set es k (record { edit = x.edit; kept = o })))
+valid_put : (es : List kept.Entry) (k : ℕ) (x : kept.Entry) (o : Option Kept) → AreValid (numbered_entries es) → IsValid x.edit →
+    AreValid (numbered_entries (slice_set es k (record { edit = x.edit; kept = o })))
 valid_put [] k x o valid v = tt
 valid_put (y ∷ es) zero x o valid v = (v, valid.1)
 valid_put (y ∷ es) (suc k) x o valid v = (valid.0, valid_put es k x o valid.1 v)
@@ -55,15 +57,18 @@ well_formed es s shows valid =
     subst IsWellFormed (sym (shows.shown ∙ ap replay (history-log es))) (replay_kept (numbered_entries es) empty valid empty_is_well_formed)
 
 -- an edit that is accepted leaves a well-formed workbook
-pub planned_well_formed : (es : List kept.Entry) (s : Cells) (e : command.Edit) (xs : Changes) → Shows es s → AreValid (numbered_entries es) → IsValid e → outcome (meaning e) s ≡ Ok xs → IsWellFormed (apply xs s)
+pub planned_well_formed : (es : List kept.Entry) (s : Cells) (e : command.Edit) (xs : Changes) → Shows es s → AreValid (numbered_entries es) → IsValid e →
+    outcome (meaning e) s ≡ Ok xs → IsWellFormed (apply xs s)
 planned_well_formed es s e xs shows valid v accepted =
     subst (λ o. IsWellFormed (apply (written o) s)) accepted (keeps_well_formed e s v (well_formed es s shows valid))
 
-pub planned_again_well_formed : (es : List kept.Entry) (s : Cells) (k : ℕ) (x : kept.Entry) (xs : Changes) → Shows es s → AreValid (numbered_entries es) → slice_get es k ≡ Some x → outcome (meaning x.edit) s ≡ Ok xs → IsWellFormed (apply xs s)
+pub planned_again_well_formed : (es : List kept.Entry) (s : Cells) (k : ℕ) (x : kept.Entry) (xs : Changes) → Shows es s → AreValid (numbered_entries es) →
+    slice_get es k ≡ Some x → outcome (meaning x.edit) s ≡ Ok xs → IsWellFormed (apply xs s)
 planned_again_well_formed es s k x xs shows valid is accepted = planned_well_formed es s x.edit xs shows valid (valid_at es k x valid is) accepted
 
 -- so does an undo that may be made
-pub undone_well_formed : (es : List kept.Entry) (s : Cells) (k : ℕ) (x : kept.Entry) → Shows es s → AreValid (numbered_entries es) → slice_get es k ≡ Some x → MayUndo es k None → LeavesWellFormed x s
+pub undone_well_formed : (es : List kept.Entry) (s : Cells) (k : ℕ) (x : kept.Entry) → Shows es s → AreValid (numbered_entries es) → slice_get es k ≡ Some x →
+    MayUndo es k None → LeavesWellFormed x s
 undone_well_formed es s k x shows valid is may q has =
     let b : Contents = record { cells = s; writes = 0 } in
     let d : Contents = record { cells = apply q.inverse s; writes = written_more 0 (count_of q.inverse) } in
@@ -73,15 +78,19 @@ undone_well_formed es s k x shows valid is may q has =
 
 -- ---- what a history keeps
 
-pub keeps_valid : {X : Type 0} (b : Bool) (k : ℕ) (es fs : List kept.Entry) (r : Result X Refusal) → AreValid (numbered_entries es) → OnOk r (numbered_entries fs ≡ set_force b k (numbered_entries es)) → OnErr r (numbered_entries fs ≡ numbered_entries es) → AreValid (numbered_entries fs)
+pub keeps_valid : {X : Type 0} (b : Bool) (k : ℕ) (es fs : List kept.Entry) (r : Result X Refusal) → AreValid (numbered_entries es) →
+    OnOk r (numbered_entries fs ≡ set_force b k (numbered_entries es)) → OnErr r (numbered_entries fs ≡ numbered_entries es) → AreValid (numbered_entries fs)
 keeps_valid b k es fs (Ok n) valid ok stays = subst AreValid (sym ok) (valid_force b k (numbered_entries es) valid)
 keeps_valid b k es fs (Err why) valid ok stays = subst AreValid (sym stays) valid
 
-pub keeps_valid_last : (es fs : List kept.Entry) (r : Result (ℕ × ℕ) Refusal) → AreValid (numbered_entries es) → IfOk r (λ q. numbered_entries fs ≡ set_force false (q.0 - 1) (numbered_entries es)) → OnErr r (numbered_entries fs ≡ numbered_entries es) → AreValid (numbered_entries fs)
+pub keeps_valid_last : (es fs : List kept.Entry) (r : Result (ℕ × ℕ) Refusal) → AreValid (numbered_entries es) →
+    IfOk r (λ q. numbered_entries fs ≡ set_force false (q.0 - 1) (numbered_entries es)) → OnErr r (numbered_entries fs ≡ numbered_entries es) →
+    AreValid (numbered_entries fs)
 keeps_valid_last es fs (Ok q) valid ok stays = subst AreValid (sym ok) (valid_force false (q.0 - 1) (numbered_entries es) valid)
 keeps_valid_last es fs (Err why) valid ok stays = subst AreValid (sym stays) valid
 
-pub keeps_valid_more : {X : Type 0} (es fs : List kept.Entry) (e : command.Edit) (r : Result X Refusal) → AreValid (numbered_entries es) → IsValid e → OnOk r (numbered_entries fs ≡ numbered_entries es ++ record { edit = e; in_force = true } ∷ []) → OnErr r (fs ≡ es) → AreValid (numbered_entries fs)
+pub keeps_valid_more : {X : Type 0} (es fs : List kept.Entry) (e : command.Edit) (r : Result X Refusal) → AreValid (numbered_entries es) → IsValid e →
+    OnOk r (numbered_entries fs ≡ numbered_entries es ++ record { edit = e; in_force = true } ∷ []) → OnErr r (fs ≡ es) → AreValid (numbered_entries fs)
 keeps_valid_more es fs e (Ok n) valid v ok stays = subst AreValid (sym ok) (valid_append (numbered_entries es) (record { edit = e; in_force = true }) valid v)
 keeps_valid_more es fs e (Err why) valid v ok stays = subst (λ gs. AreValid (numbered_entries gs)) (sym stays) valid
 

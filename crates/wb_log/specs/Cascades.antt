@@ -1,5 +1,6 @@
 -- Undo with dependents: which edits go, in which order, and what each answer says.
-use Rattle.std.specs.Prelude.{◌≡◌, ◌≢◌, ℕ, zero, suc, ◌+◌, ◌-◌, ◌^◌, ◌≤◌, min, length, List, [], ◌∷◌, ◌++◌, map, Option, Some, None, Result, Ok, Err, slice_get, ◌↔◌}
+use Rattle.std.specs.Prelude.{◌≡◌, ◌≢◌, ℕ, zero, suc, ◌+◌, ◌-◌, ◌^◌, ◌≤◌, min, length, List, [], ◌∷◌, ◌++◌, map, Option, Some, None, Result, Ok, Err, slice_get}
+use Rattle.std.specs.Prelude.{◌↔◌}
 use Rattle.selective_undo.specs.Edit.{Edit, Trace}
 use Rattle.selective_undo.specs.History as h
 use Rattle.selective_undo.specs.History.{undone, undo, traces, InForce, Dependent, CanUndoAll, Has, Falls}

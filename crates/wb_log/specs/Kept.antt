@@ -73,7 +73,8 @@ MayUndo es k r = (x : kept.Entry) × (slice_get es k ≡ Some x) × (r ≡ undo_
 
 -- an entry's edit is taken back, with n cells
 abbrev pub TakenBack : kept.Entry → ℕ → kept.Entry → Contents → Contents → Type 0
-TakenBack x n y b d = (k : Kept) × (x.kept ≡ Some k) × (n ≡ count_of k.inverse) × (y ≡ record { edit = x.edit; kept = None }) × (d.cells ≡ apply k.inverse b.cells) × (d.writes ≡ written_more b.writes n)
+TakenBack x n y b d = (k : Kept) × (x.kept ≡ Some k) × (n ≡ count_of k.inverse) × (y ≡ record { edit = x.edit; kept = None }) ×
+    (d.cells ≡ apply k.inverse b.cells) × (d.writes ≡ written_more b.writes n)
 
 -- to take an entry's edit back leaves a well-formed workbook
 abbrev pub LeavesWellFormed : kept.Entry → Cells → Type 0

@@ -29,7 +29,8 @@ pub record Past : Type 0 where
 abbrev pub past_code : Coded Past
 past_code =
     code_by (List (command.Edit × Bool) × ℕ) (coded× (coded_list (coded× edit_row.the_row.coded coded_bool)) coded_ℕ)
-    (λ p. (map (λ x. (x.edit, x.in_force)) p.entries, p.writes)) (λ p. record { entries = map pair_back p.0; writes = p.1 }) (λ p. ap (λ es. record { entries = es; writes = p.writes }) (pairs_back p.entries))
+    (λ p. (map (λ x. (x.edit, x.in_force)) p.entries, p.writes)) (λ p. record { entries = map pair_back p.0; writes = p.1 })
+    (λ p. ap (λ es. record { entries = es; writes = p.writes }) (pairs_back p.entries))
 
 abbrev pub entry_at : command.Edit → Bool → h.Entry workbook
 entry_at e true = h.done (meaning e)

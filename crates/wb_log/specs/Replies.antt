@@ -44,8 +44,10 @@ abbrev pub RedoReply : List (h.Entry workbook) → ℕ → Result ℕ Refusal �
 RedoReply es k (Ok n) = (t : Trace workbook) × CanRedo es k t × (n ≡ count_of t.before)
 RedoReply es k (Err NoSuchEdit) = slice_get es k ≡ None
 RedoReply es k (Err IsInForce) = (e : Edit workbook) × (slice_get es k ≡ Some (h.done e))
-RedoReply es k (Err (Blocked by)) = (e : Edit workbook) × (slice_get es k ≡ Some (undone e)) × ((j : ℕ) × (by ≡ suc j) × Least (BlocksRedo (traces es) k (trace e (replay es))) j)
-RedoReply es k (Err (RefusedInPlace why)) = (e : Edit workbook) × (slice_get es k ≡ Some (undone e)) × (outcome e (replay es) ≡ Err why) × ((j : ℕ) → BlocksRedo (traces es) k (trace e (replay es)) j → ⊥)
+RedoReply es k (Err (Blocked by)) = (e : Edit workbook) × (slice_get es k ≡ Some (undone e)) ×
+    ((j : ℕ) × (by ≡ suc j) × Least (BlocksRedo (traces es) k (trace e (replay es))) j)
+RedoReply es k (Err (RefusedInPlace why)) = (e : Edit workbook) × (slice_get es k ≡ Some (undone e)) × (outcome e (replay es) ≡ Err why) ×
+    ((j : ℕ) → BlocksRedo (traces es) k (trace e (replay es)) j → ⊥)
 RedoReply es k (Err NoMemory) = (e : Edit workbook) × (slice_get es k ≡ Some (undone e))
 RedoReply es k (Err why) = ⊥
 
@@ -58,7 +60,8 @@ ByNumber Reply (suc k) r = Reply k r
 
 -- Each cell that edit k touched has its value from before it, and every other cell stays.
 abbrev pub SetsBack : List (h.Entry workbook) → ℕ → List (h.Entry workbook) → Type 0
-SetsBack es k fs = (t : Trace workbook) → InForce (traces es) k t → (c : Cell) → get (replay fs) c ≡ (if writes t c then get (state_before k es) c else get (replay es) c)
+SetsBack es k fs = (t : Trace workbook) → InForce (traces es) k t → (c : Cell) →
+    get (replay fs) c ≡ (if writes t c then get (state_before k es) c else get (replay es) c)
 
 -- Edit k does nothing any more, and each other edit in force does what it did.
 abbrev pub LeavesOthers : List (h.Entry workbook) → ℕ → List (h.Entry workbook) → Type 0

@@ -19,7 +19,8 @@ fn wait_for_blockers(
     after: u64,
     waiting: &mut Numbers,
 ) -> Result<(), NoMemory>
-    ensures { OnOk result ((footprints : Footprints) → IsIndexOf index.now footprints → JoinedAfter waiting.old waiting.new (λ n. blocks_undo before.now (footprints n)) after) }
+    ensures { OnOk result ((footprints : Footprints) → IsIndexOf index.now footprints →
+        JoinedAfter waiting.old waiting.new (λ n. blocks_undo before.now (footprints n)) after) }
 {
     let mut from = after;
     while let Some(number) = index.first_to_block_undo(before, from) {

@@ -1,5 +1,6 @@
 -- The pieces of an array, merged, are the array.
-use Rattle.std.proofs.Common.{◌≡◌, ℕ, zero, suc, ◌+◌, ◌<◌, ◌≤◌, ℤ, Bool, true, false, cond, ◌||◌, List, [], ◌∷◌, ◌++◌, map, filter, length, get_or, drop, Option, Some, None, is_some, T, ◌&&◌, ◌⊎◌, inl, inr, eq-eqb, refl, sym, ap, subst, ◌∙◌, arith}
+use Rattle.std.proofs.Common.{◌≡◌, ℕ, zero, suc, ◌+◌, ◌<◌, ◌≤◌, ℤ, Bool, true, false, cond, ◌||◌, List, [], ◌∷◌, ◌++◌, map, filter, length, get_or, drop}
+use Rattle.std.proofs.Common.{Option, Some, None, is_some, T, ◌&&◌, ◌⊎◌, inl, inr, eq-eqb, refl, sym, ap, subst, ◌∙◌, arith}
 use Rattle.std.proofs.Common.{eqb}
 use Rattle.std.specs.declared.vec.Vec.{Vec}
 use Rattle.std.specs.declared.cmp.Ordering.{Ordering}
@@ -57,7 +58,8 @@ module _ {I : Type 0} (cmp : I → I → Ordering) where
   value_at-append [] ys q = refl
   value_at-append (e ∷ xs) ys q = by (is_eq (cmp q e.0)) (value_at-append xs ys q)
     where
-      by : (b : Bool) → value_at cmp (xs ++ ys) q ≡ option_or (value_at cmp xs q) (value_at cmp ys q) → cond b (Some e.1) (value_at cmp (xs ++ ys) q) ≡ option_or (cond b (Some e.1) (value_at cmp xs q)) (value_at cmp ys q)
+      by : (b : Bool) → value_at cmp (xs ++ ys) q ≡ option_or (value_at cmp xs q) (value_at cmp ys q) →
+          cond b (Some e.1) (value_at cmp (xs ++ ys) q) ≡ option_or (cond b (Some e.1) (value_at cmp xs q)) (value_at cmp ys q)
       by true h = refl
       by false h = h
 
@@ -76,9 +78,11 @@ module _ {I : Type 0} (cmp : I → I → Ordering) where
         either true x = refl
         either false x = refl
     value_at-piece (e ∷ es) l q =
-        inside (eqb (locale e.0) l) ∙ by (eqb (locale e.0) l) (eqb (locale q) l) (is_eq (cmp q e.0)) (value_at cmp (piece_of locale es l) q) (value_at cmp es q) (λ h. ap (λ k. eqb (locale k) l) (sym (same_index q e.0 h))) (value_at-piece es l q)
+        inside (eqb (locale e.0) l) ∙ by (eqb (locale e.0) l) (eqb (locale q) l) (is_eq (cmp q e.0)) (value_at cmp (piece_of locale es l) q)
+        (value_at cmp es q) (λ h. ap (λ k. eqb (locale k) l) (sym (same_index q e.0 h))) (value_at-piece es l q)
       where
-        inside : (b : Bool) → value_at cmp (cond b (e ∷ piece_of locale es l) (piece_of locale es l)) q ≡ cond b (cond (is_eq (cmp q e.0)) (Some e.1) (value_at cmp (piece_of locale es l) q)) (value_at cmp (piece_of locale es l) q)
+        inside : (b : Bool) → value_at cmp (cond b (e ∷ piece_of locale es l) (piece_of locale es l)) q ≡ cond b
+            (cond (is_eq (cmp q e.0)) (Some e.1) (value_at cmp (piece_of locale es l) q)) (value_at cmp (piece_of locale es l) q)
         inside true = refl
         inside false = refl
 
@@ -92,10 +96,12 @@ module _ {I : Type 0} (cmp : I → I → Ordering) where
         by false false c m v same again = again
 
     -- a look-up in the pieces of some locales
-    value_at-pieces : (es : List (I × ℤ)) (ls : List ℕ) (q : I) → value_at cmp (flat_map (λ p. p) (map (piece_of locale es) ls)) q ≡ cond (list_any (eqb (locale q)) ls) (value_at cmp es q) None
+    value_at-pieces : (es : List (I × ℤ)) (ls : List ℕ) (q : I) →
+        value_at cmp (flat_map (λ p. p) (map (piece_of locale es) ls)) q ≡ cond (list_any (eqb (locale q)) ls) (value_at cmp es q) None
     value_at-pieces es [] q = refl
     value_at-pieces es (l ∷ ls) q =
-        value_at-append (piece_of locale es l) (flat_map (λ p. p) (map (piece_of locale es) ls)) q ∙ rw (value_at-piece es l q, value_at-pieces es ls q) (by (eqb (locale q) l) (list_any (eqb (locale q)) ls) (value_at cmp es q))
+        value_at-append (piece_of locale es l) (flat_map (λ p. p) (map (piece_of locale es) ls)) q ∙
+        rw (value_at-piece es l q, value_at-pieces es ls q) (by (eqb (locale q) l) (list_any (eqb (locale q)) ls) (value_at cmp es q))
       where
         by : (a b : Bool) (v : Option ℤ) → option_or (cond a v None) (cond b v None) ≡ cond (a || b) v None
         by true true None = refl
@@ -113,7 +119,8 @@ module _ {I : Type 0} (cmp : I → I → Ordering) where
         or_true true = refl
         or_true false = refl
 
-        by : (a < k) ⊎ (k ≤ a) → (a + 1 ≤ k → list_any (eqb k) (range_with_len (a + 1) n) ≡ true) → (eqb k a || list_any (eqb k) (range_with_len (a + 1) n)) ≡ true
+        by : (a < k) ⊎ (k ≤ a) → (a + 1 ≤ k → list_any (eqb k) (range_with_len (a + 1) n) ≡ true) →
+            (eqb k a || list_any (eqb k) (range_with_len (a + 1) n)) ≡ true
         by (inl g) again = rw (again (omega arith)) (or_true (eqb k a))
         by (inr g) again = rw (eq-eqb k a (omega arith)) refl
 
@@ -121,7 +128,8 @@ module _ {I : Type 0} (cmp : I → I → Ordering) where
     has_locale n [] q below h = absurd (true≢false (sym h))
     has_locale n (e ∷ es) q below h = by (is_eq (cmp q e.0)) refl h (λ f. has_locale n es q below.1 f)
       where
-        by : (b : Bool) → is_eq (cmp q e.0) ≡ b → is_some (cond b (Some e.1) (value_at cmp es q)) ≡ true → (is_some (value_at cmp es q) ≡ true → locale q < n) → locale q < n
+        by : (b : Bool) → is_eq (cmp q e.0) ≡ b → is_some (cond b (Some e.1) (value_at cmp es q)) ≡ true →
+            (is_some (value_at cmp es q) ≡ true → locale q < n) → locale q < n
         by true g f again = subst (λ (k : I). locale k < n) (sym (same_index q e.0 g)) below.0
         by false g f again = again f
 
@@ -161,16 +169,20 @@ module _ {I : Type 0} (cmp : I → I → Ordering) where
 
     module _ (exact : IsAntisymmetric cmp) where
       -- pieces that look up as an ascending list does are that list, merged
-      pub merged_is : (ps : List (List (I × ℤ))) (es : List (I × ℤ)) → IsStrictlySortedBy cmp (keys_of es) → ((q : I) → value_at cmp (flat_map (λ p. p) ps) q ≡ value_at cmp es q) → merged cmp ps ≡ es
+      pub merged_is : (ps : List (List (I × ℤ))) (es : List (I × ℤ)) → IsStrictlySortedBy cmp (keys_of es) →
+          ((q : I) → value_at cmp (flat_map (λ p. p) ps) q ≡ value_at cmp es q) → merged cmp ps ≡ es
       merged_is ps es h same =
           let m = from_entries {R = cmp} (flat_map (λ p. p) ps) in
-          same_entries cmp total exact (entries m) es (entries_sorted m) (true-T _ (test_from_ascending es h)) (λ q. sym (get-entries m q) ∙ get-from_entries total (flat_map (λ p. p) ps) q ∙ find-is (flat_map (λ p. p) ps) q ∙ same q ∙ sym (find-is es q))
+          same_entries cmp total exact (entries m) es (entries_sorted m) (true-T _ (test_from_ascending es h))
+          (λ q. sym (get-entries m q) ∙ get-from_entries total (flat_map (λ p. p) ps) q ∙ find-is (flat_map (λ p. p) ps) q ∙ same q ∙ sym (find-is es q))
 
-      pub merged-split : (locale : I → ℕ) (n : ℕ) (es : List (I × ℤ)) → IsStrictlySortedBy cmp (keys_of es) → LieBelow locale n es → merged cmp (pieces_of locale n es) ≡ es
+      pub merged-split : (locale : I → ℕ) (n : ℕ) (es : List (I × ℤ)) → IsStrictlySortedBy cmp (keys_of es) → LieBelow locale n es →
+          merged cmp (pieces_of locale n es) ≡ es
       merged-split locale n es h below = merged_is (pieces_of locale n es) es h (λ q. value_at-split exact locale n es q below)
 
       -- what the pieces of an ascending array keep
-      pub is_split : (locale : I → ℕ) (n size : ℕ) (ps : List (List (I × ℤ))) (es : List (I × ℤ)) → IsStrictlySortedBy cmp (keys_of es) → LieBelow locale n es → ps ≡ pieces_of locale n es → size ≡ length es → (merged cmp ps ≡ es) × IsSplit cmp locale n size ps
+      pub is_split : (locale : I → ℕ) (n size : ℕ) (ps : List (List (I × ℤ))) (es : List (I × ℤ)) → IsStrictlySortedBy cmp (keys_of es) →
+          LieBelow locale n es → ps ≡ pieces_of locale n es → size ≡ length es → (merged cmp ps ≡ es) × IsSplit cmp locale n size ps
       is_split locale n size ps es h below is count =
           let whole : merged cmp ps ≡ es = ap (merged cmp) is ∙ merged-split locale n es h below in (
             whole,
@@ -182,7 +194,8 @@ module _ {I : Type 0} (cmp : I → I → Ordering) where
           )
 
   -- the piece at a locale
-  pub piece_at : (locale : I → ℕ) (n size : ℕ) (ps : List (List (I × ℤ))) (l : ℕ) → IsSplit cmp locale n size ps → l < length ps → (l < n) × (get_or ps l [] ≡ piece_of locale (merged cmp ps) l)
+  pub piece_at : (locale : I → ℕ) (n size : ℕ) (ps : List (List (I × ℤ))) (l : ℕ) → IsSplit cmp locale n size ps → l < length ps → (l < n) ×
+      (get_or ps l [] ≡ piece_of locale (merged cmp ps) l)
   piece_at locale n size ps l u h =
       let many : length ps ≡ n = ap length u.pieces ∙ length-map-range_with_len (piece_of locale (merged cmp ps)) 0 n in
       let within : l < n = omega arith in
@@ -195,15 +208,19 @@ module _ {I : Type 0} (cmp : I → I → Ordering) where
   keys_of-piece locale [] l = refl
   keys_of-piece locale (e ∷ es) l = by (eqb (locale e.0) l) (keys_of-piece locale es l)
     where
-      by : (b : Bool) → keys_of (piece_of locale es l) ≡ filter (λ k. eqb (locale k) l) (keys_of es) → keys_of (cond b (e ∷ piece_of locale es l) (piece_of locale es l)) ≡ cond b (e.0 ∷ filter (λ k. eqb (locale k) l) (keys_of es)) (filter (λ k. eqb (locale k) l) (keys_of es))
+      by : (b : Bool) → keys_of (piece_of locale es l) ≡ filter (λ k. eqb (locale k) l) (keys_of es) →
+          keys_of (cond b (e ∷ piece_of locale es l) (piece_of locale es l)) ≡ cond b (e.0 ∷ filter (λ k. eqb (locale k) l) (keys_of es))
+          (filter (λ k. eqb (locale k) l) (keys_of es))
       by true h = ap (λ ks. e.0 ∷ ks) h
       by false h = h
 
-  pub piece-ascending : (locale : I → ℕ) (es : List (I × ℤ)) (l : ℕ) → IsStrictlySortedBy cmp (keys_of es) → IsStrictlySortedBy cmp (keys_of (piece_of locale es l))
+  pub piece-ascending : (locale : I → ℕ) (es : List (I × ℤ)) (l : ℕ) → IsStrictlySortedBy cmp (keys_of es) →
+      IsStrictlySortedBy cmp (keys_of (piece_of locale es l))
   piece-ascending locale es l h = rw (keys_of-piece locale es l) (IsStrictlySortedBy-filter cmp (λ k. eqb (locale k) l) (keys_of es) h)
 
   -- one more piece is gathered
-  pub gather_more : (o : Option ℤ) (xs ys : List (I × ℤ)) (q : I) → option_or o (value_at cmp (xs ++ ys) q) ≡ option_or (option_or o (value_at cmp xs q)) (value_at cmp ys q)
+  pub gather_more : (o : Option ℤ) (xs ys : List (I × ℤ)) (q : I) →
+      option_or o (value_at cmp (xs ++ ys) q) ≡ option_or (option_or o (value_at cmp xs q)) (value_at cmp ys q)
   gather_more o xs ys q = rw (value_at-append xs ys q) (by o (value_at cmp xs q) (value_at cmp ys q))
     where
       by : (a b c : Option ℤ) → option_or a (option_or b c) ≡ option_or (option_or a b) c
@@ -212,12 +229,15 @@ module _ {I : Type 0} (cmp : I → I → Ordering) where
 
   -- the pieces from place k on are left to be gathered
   module _ {Z : Type 0} (vs : List (Vec (I × ℤ) Z)) where
-    pub gathered_more : (k : ℕ) (x : Vec (I × ℤ) Z) (o n all : Option ℤ) (q : I) → k < length vs → x ≡ get_or vs k x → n ≡ option_or o (value_at cmp x.items q) → option_or o (value_at cmp (flat_map (λ p. p) (lists_of (drop k vs))) q) ≡ all → option_or n (value_at cmp (flat_map (λ p. p) (lists_of (drop (k + 1) vs))) q) ≡ all
+    pub gathered_more : (k : ℕ) (x : Vec (I × ℤ) Z) (o n all : Option ℤ) (q : I) → k < length vs → x ≡ get_or vs k x →
+        n ≡ option_or o (value_at cmp x.items q) → option_or o (value_at cmp (flat_map (λ p. p) (lists_of (drop k vs))) q) ≡ all →
+        option_or n (value_at cmp (flat_map (λ p. p) (lists_of (drop (k + 1) vs))) q) ≡ all
     gathered_more k x o n all q l is new h =
         let left = λ (ws : List (Vec (I × ℤ) Z)). option_or o (value_at cmp (flat_map (λ p. p) (lists_of ws)) q) in
         rw new (sym (gather_more o x.items (flat_map (λ p. p) (lists_of (drop (k + 1) vs))) q) ∙ ap left (sym (drop_at vs k x l is)) ∙ h)
 
-    pub gathered_all : (k : ℕ) (o all : Option ℤ) (q : I) → length vs ≤ k → option_or o (value_at cmp (flat_map (λ p. p) (lists_of (drop k vs))) q) ≡ all → o ≡ all
+    pub gathered_all : (k : ℕ) (o all : Option ℤ) (q : I) → length vs ≤ k → option_or o (value_at cmp (flat_map (λ p. p) (lists_of (drop k vs))) q) ≡ all →
+        o ≡ all
     gathered_all k o all q l h =
         let left = λ (ws : List (Vec (I × ℤ) Z)). option_or o (value_at cmp (flat_map (λ p. p) (lists_of ws)) q) in
         by o ∙ ap left (sym (drop_past vs k l)) ∙ h

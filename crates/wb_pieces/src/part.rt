@@ -80,7 +80,8 @@ fn push_at<I: Copy>(
     pair: (I, i64),
 ) -> Result<(), AllocError>
     requires { place < vec_len pieces.old }
-    ensures { OnOk result (lists_of pieces.new.items ≡ slice_set (lists_of pieces.old.items) place (slice_index_or (lists_of pieces.old.items) place [] ++ pair ∷ [])) }
+    ensures { OnOk result (lists_of pieces.new.items ≡ slice_set (lists_of pieces.old.items) place
+        (slice_index_or (lists_of pieces.old.items) place [] ++ pair ∷ [])) }
 {
     pieces[place].push(pair)?;
     Ok(())

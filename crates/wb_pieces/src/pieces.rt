@@ -1,4 +1,5 @@
-ghost use Rattle.std.specs.Prelude.{◌≡◌, ℕ, ℤ, ◌<◌, ◌≤◌, ◌↔◌, List, length, IfOk, IfSome, MatchOption, MatchResult, OnOk, OnErr, IfNone, Err, Some, None, [], slice_index_or, slice_set};
+ghost use Rattle.std.specs.Prelude.{◌≡◌, ℕ, ℤ, ◌<◌, ◌≤◌, ◌↔◌, List, length, IfOk, IfSome, MatchOption, MatchResult, OnOk, OnErr, IfNone, Err, Some, None, []};
+ghost use Rattle.std.specs.Prelude.{slice_index_or, slice_set};
 ghost use Rattle.std.specs.List.Sorted.{IsStrictlySortedBy};
 ghost use Rattle.std.specs.Map.{keys_of, set_value};
 ghost use Rattle.std.specs.BTreeMap.{is_at};
@@ -116,7 +117,8 @@ impl<D: Domain, M: Mapping<Index = D::Index>> Pieces<D, M> {
     /// Lends the pairs of locale `locale`, ascending by index; `None` where the
     /// mapping has no such locale.
     pub fn pairs(&self, locale: usize) -> Option<&[(D::Index, i64)]>
-        ensures cases { MatchOption result (M.locale_count self.now.1 ≤ locale) (λ s. (locale < M.locale_count self.now.1) × (s.now ≡ piece_of (M.locale self.now.1) self.now.0 locale)) }
+        ensures cases { MatchOption result (M.locale_count self.now.1 ≤ locale)
+            (λ s. (locale < M.locale_count self.now.1) × (s.now ≡ piece_of (M.locale self.now.1) self.now.0 locale)) }
         ensures ascending { IfSome result (λ s. IsStrictlySortedBy D.Index.cmp (keys_of s.now)) }
     {
         if self.mapping().locales() <= locale {
@@ -241,7 +243,8 @@ fn list_at<I: Copy>(pieces: &[Vec<(I, i64)>], place: usize) -> &[(I, i64)]
 fn write_at<I: Copy>(pieces: &mut Vec<Vec<(I, i64)>>, locale: usize, place: usize, pair: (I, i64))
     requires locale { locale < length pieces.old.items }
     requires place { place < length (slice_index_or (lists_of pieces.old.items) locale []) }
-    ensures { lists_of pieces.new.items ≡ slice_set (lists_of pieces.old.items) locale (slice_set (slice_index_or (lists_of pieces.old.items) locale []) place pair) }
+    ensures { lists_of pieces.new.items ≡ slice_set (lists_of pieces.old.items) locale
+        (slice_set (slice_index_or (lists_of pieces.old.items) locale []) place pair) }
 {
     pieces[locale][place] = pair;
 }

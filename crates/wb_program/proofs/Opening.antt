@@ -46,7 +46,8 @@ abbrev pub behind : List ℕ → Option (List ℕ) → Option (List ℕ)
 behind xs o = option_map (λ t. xs ++ t) o
 
 -- what was read up to a place, and then from there on
-pub reads_on : (old mid new : Option (List ℕ)) (bytes front back asked : List ℕ) → Consumes old mid bytes → bytes ≡ front ++ back → Consumes (behind back mid) new asked → Consumes old new (front ++ asked)
+pub reads_on : (old mid new : Option (List ℕ)) (bytes front back asked : List ℕ) → Consumes old mid bytes → bytes ≡ front ++ back →
+    Consumes (behind back mid) new asked → Consumes old new (front ++ asked)
 reads_on None mid new bytes front back asked h e k = tt
 reads_on (Some xs) None new bytes front back asked h e k = absurd h
 reads_on (Some xs) (Some m) None bytes front back asked h e k = absurd k

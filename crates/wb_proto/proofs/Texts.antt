@@ -30,7 +30,8 @@ unfolding serde_json_on_literals
 counted_is n w = refl
 
 -- the parts of the text of what was undone, as they are written
-pub undone_parts : (d js : List ℕ) → (codes "{\"n\":" ++ (d ++ codes ",\"undone\":[")) ++ (js ++ codes "]}") ≡ codes "{\"n\":" ++ (d ++ (codes ",\"undone\":[" ++ (js ++ codes "]}")))
+pub undone_parts : (d js : List ℕ) → (codes "{\"n\":" ++ (d ++ codes ",\"undone\":[")) ++ (js ++ codes "]}") ≡ codes
+    "{\"n\":" ++ (d ++ (codes ",\"undone\":[" ++ (js ++ codes "]}")))
 undone_parts d js = ap (λ t. codes "{\"n\":" ++ t) (append_assoc d (codes ",\"undone\":[") (js ++ codes "]}"))
 
 -- numbers in brackets, and what follows them

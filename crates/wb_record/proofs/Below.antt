@@ -65,7 +65,9 @@ regroup a o h t e = simp append_assoc
 pub text_is : (es : List Numbered) → history_text es ≡ (heading es ++ below es) ++ codes "\nend\n"
 text_is es =
     let s = replay (meant es) in
-    ap (λ t. codes "chapel-workbook 2\n" ++ (objects_text s ++ t)) (sym (append_assoc (codes "history ") (decimal (length es)) (codes "\n" ++ (flat_map edit_line es ++ codes "end\n"))) ∙ ap (λ t. count_line es ++ t) (lines_end es))
+    ap (λ t. codes "chapel-workbook 2\n" ++ (objects_text s ++ t))
+    (sym (append_assoc (codes "history ") (decimal (length es)) (codes "\n" ++ (flat_map edit_line es ++ codes "end\n"))) ∙
+    ap (λ t. count_line es ++ t) (lines_end es))
     ∙ regroup (codes "chapel-workbook 2\n") (objects_text s) (count_line es) (below es) (codes "\nend\n")
 
 -- ---- what is printed is read

@@ -1,5 +1,6 @@
 -- What stands above the edits in the text of a history ends with a line that has no mark.
-use Rattle.std.proofs.Common.{◌≡◌, ℕ, ℤ, unwrap_or, List, [], ◌∷◌, ◌++◌, length, codes, refl, sym, ap, ◌∙◌, subst, Option, Some, None, ◌⊎◌, inl, inr, decimal, arith}
+use Rattle.std.proofs.Common.{◌≡◌, ℕ, ℤ, unwrap_or, List, [], ◌∷◌, ◌++◌, length, codes, refl, sym, ap, ◌∙◌, subst, Option, Some, None, ◌⊎◌, inl, inr, decimal}
+use Rattle.std.proofs.Common.{arith}
 use Rattle.std.specs.FinMap.{get}
 use Rattle.std.specs.List.{flat_map}
 use Rattle.std.proofs.lemmas.List.{append-nil, append_assoc}
@@ -39,7 +40,8 @@ six a b c d e f = behind a _ (behind b _ (behind c _ (behind d _ (behind e _ (be
 
 domain_ended : (s : Cells) (n : Name) (kind : DomainKind) → Ended (domain_line s n kind)
 domain_ended s n (kinds.Rectangular rank) =
-    six (codes "rect ") n (codes " ") (rectangle_text (unwrap_or (ranges_in (get s (Shape n))) [])) (codes " ") (mapping_text (unwrap_or (mapping_in (get s (MappingCell n))) whole))
+    six (codes "rect ") n (codes " ") (rectangle_text (unwrap_or (ranges_in (get s (Shape n))) [])) (codes " ")
+    (mapping_text (unwrap_or (mapping_in (get s (MappingCell n))) whole))
 domain_ended s n (kinds.Sparse parent rank) = six (codes "sparse ") n (codes " of ") parent (codes " ") (set_text (members s n))
 domain_ended s n (kinds.Associative type) = six (codes "assoc ") n (codes " of ") (type_text type) (codes " ") (set_text (members s n))
 
@@ -73,12 +75,27 @@ count_line es = codes "history " ++ decimal (length es)
 pub heading_last : (es : List Numbered) → (above : List ℕ) × (heading es ≡ above ++ 10 ∷ count_line es)
 heading_last es =
     let s = replay (meant es) in
-    let (above, e) = lines_ended s (codes "chapel-workbook 2\n") (objects s) (behind (codes "chapel-workbook 2") _ line_end) in
-    (above, sym (append_assoc (codes "chapel-workbook 2\n") (objects_text s) (count_line es)) ∙ ap (λ t. t ++ count_line es) e ∙ append_assoc above (10 ∷ []) (count_line es))
+    let (above, e) = lines_ended s (codes "chapel-workbook 2\n") (objects s) (behind (codes "chapel-workbook 2") _ line_end) in (
+      above,
+      sym (append_assoc (codes "chapel-workbook 2\n") (objects_text s) (count_line es)) ∙ ap (λ t. t ++ count_line es) e ∙
+          append_assoc above (10 ∷ []) (count_line es),
+    )
 
 pub count_unbroken : (es : List Numbered) → IsUnbroken (count_line es)
 count_unbroken es =
-    unbroken-append (codes "history ") _ ((λ e. omega (arith, e)), ((λ e. omega (arith, e)), ((λ e. omega (arith, e)), ((λ e. omega (arith, e)), ((λ e. omega (arith, e)), ((λ e. omega (arith, e)), ((λ e. omega (arith, e)), ((λ e. omega (arith, e)), tt)))))))) (unbroken_decimal (length es))
+    unbroken-append (codes "history ") _ (
+      (λ e. omega (arith, e)),
+      (
+        (λ e. omega (arith, e)),
+        (
+          (λ e. omega (arith, e)),
+          (
+            (λ e. omega (arith, e)),
+            ((λ e. omega (arith, e)), ((λ e. omega (arith, e)), ((λ e. omega (arith, e)), ((λ e. omega (arith, e)), tt)))),
+          ),
+        ),
+      ),
+    ) (unbroken_decimal (length es))
 
 pub count_unmarked : (es : List Numbered) → marked_at (count_line es) ≡ None
 count_unmarked es = refl

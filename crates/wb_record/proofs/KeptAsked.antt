@@ -6,7 +6,8 @@ use Rattle.wb_history.specs.Cascades.{all_out_of_force}
 use Rattle.wb_history.specs.Restored.{one_of}
 use Rattle.wb_history.specs.declared.query.Query.{Query}
 use Rattle.wb_log.specs.declared.refusal.Refusal.{Refusal}
-use Rattle.wb_proto.specs.Machine.{Changes, UndoesNumber, UndoesLatest, Cascades, Redoes, ListsDependents, Answers, Prints, PrintsHistory, Counts, Step, StepIfRead}
+use Rattle.wb_proto.specs.Machine.{Changes, UndoesNumber, UndoesLatest, Cascades, Redoes, ListsDependents, Answers, Prints, PrintsHistory, Counts, Step}
+use Rattle.wb_proto.specs.Machine.{StepIfRead}
 use Rattle.wb_proto.specs.Requests.{request}
 use Rattle.wb_proto.specs.declared.replies.reply.Reply.{Reply}
 use Rattle.wb_proto.specs.declared.replies.reply.Reply.TheVariants.{Edited, Undone, Cascaded, Redone, Listed, Answered, Printed, Counted, Refused}

@@ -1,5 +1,6 @@
 -- The last line of a text.
-use Rattle.std.proofs.Common.{◌≡◌, ◌≢◌, ℕ, zero, suc, ◌+◌, ◌<◌, ◌≤◌, List, [], ◌∷◌, ◌++◌, length, get_or, take, drop, refl, ap, ◌∙◌, subst, sym, arith, Option, None, Some, option_map, eq-eqb, eqb-true}
+use Rattle.std.proofs.Common.{◌≡◌, ◌≢◌, ℕ, zero, suc, ◌+◌, ◌<◌, ◌≤◌, List, [], ◌∷◌, ◌++◌, length, get_or, take, drop, refl, ap, ◌∙◌, subst, sym, arith, Option}
+use Rattle.std.proofs.Common.{None, Some, option_map, eq-eqb, eqb-true}
 use Rattle.memchr.specs.Find.{IsLastByte, is_byte}
 use Rattle.wb_lines.specs.Lines.{IsUnbroken}
 use Rattle.wb_record.specs.Lines.{IsLastLine}
@@ -37,7 +38,8 @@ same_last (x ∷ xs) (y ∷ ys) l m e u v =
     let rest = same_last xs ys l m f u v in
     (rw (head, rest.0) refl, rest.1)
 
-pub last_is : (bytes before line : List ℕ) (r : Option (List ℕ × List ℕ)) → IsLastLine bytes r → bytes ≡ before ++ 10 ∷ line → IsUnbroken line → r ≡ Some (before, line)
+pub last_is : (bytes before line : List ℕ) (r : Option (List ℕ × List ℕ)) → IsLastLine bytes r → bytes ≡ before ++ 10 ∷ line → IsUnbroken line →
+    r ≡ Some (before, line)
 last_is bytes before line None h e u = absurd (broken before line (subst IsUnbroken e h))
 last_is bytes before line (Some (b, l)) h e u =
     let same = same_last b before l line (sym h.0 ∙ e) h.1 u in

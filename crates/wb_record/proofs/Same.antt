@@ -20,12 +20,14 @@ same_change e f p q = let r : Ok (Change e) ≡ Ok (Change f) = p ∙ q in cc
 
 same_said : (x y : Numbered) → IsSaid x.edit → IsSaid y.edit → said x ≡ said y → x ≡ y
 same_said x y p q e =
-    let same = same_marked x.in_force y.in_force (request_line (Change x.edit)) (request_line (Change y.edit)) (sym (marked_said x) ∙ ap marked_at e ∙ marked_said y) in
+    let same = same_marked x.in_force y.in_force (request_line (Change x.edit)) (request_line (Change y.edit))
+    (sym (marked_said x) ∙ ap marked_at e ∙ marked_said y) in
     let edits = same_change x.edit y.edit (sym p ∙ ap request same.1) q in
     ap (λ z. one_of z x.in_force) edits ∙ ap (one_of y.edit) same.0
 
 last_here : (p gs es : List Numbered) (x : Numbered) → es ≡ gs ++ x ∷ [] → heading p ++ below es ≡ (heading p ++ below gs) ++ 10 ∷ said x
-last_here p gs es x e = ap (λ hs. heading p ++ below hs) e ∙ ap (λ t. heading p ++ t) (below_more gs x) ∙ sym (append_assoc (heading p) (below gs) (10 ∷ said x))
+last_here p gs es x e = ap (λ hs. heading p ++ below hs) e ∙ ap (λ t. heading p ++ t) (below_more gs x) ∙
+    sym (append_assoc (heading p) (below gs) (10 ∷ said x))
 
 none_here : (p es : List Numbered) → es ≡ [] → heading p ++ below es ≡ (heading_last p).0 ++ 10 ∷ count_line p
 none_here p es e = ap (λ hs. heading p ++ below hs) e ∙ append-nil (heading p) ∙ (heading_last p).1
@@ -39,10 +41,12 @@ other_line p xs ys x e =
 abbrev Same : ℕ → Type 0
 Same n = (p q es fs : List Numbered) → length es < n → AreSaid es → AreSaid fs → heading p ++ below es ≡ heading q ++ below fs → es ≡ fs
 
-both_end : (n : ℕ) → Same n → (p q es fs gs hs : List Numbered) (x y : Numbered) → length es < suc n → es ≡ gs ++ x ∷ [] → fs ≡ hs ++ y ∷ [] → AreSaid es → AreSaid fs
+both_end : (n : ℕ) → Same n → (p q es fs gs hs : List Numbered) (x y : Numbered) → length es < suc n → es ≡ gs ++ x ∷ [] → fs ≡ hs ++ y ∷ [] → AreSaid es →
+    AreSaid fs
     → heading p ++ below es ≡ heading q ++ below fs → es ≡ fs
 both_end n shorter p q es fs gs hs x y few ends also told and_told e =
-    let same = same_last (heading p ++ below gs) (heading q ++ below hs) (said x) (said y) (sym (last_here p gs es x ends) ∙ e ∙ last_here q hs fs y also) (unbroken_said x) (unbroken_said y) in
+    let same = same_last (heading p ++ below gs) (heading q ++ below hs) (said x) (said y) (sym (last_here p gs es x ends) ∙ e ∙ last_here q hs fs y also)
+    (unbroken_said x) (unbroken_said y) in
     let one = said_front gs x (subst AreSaid ends told) in
     let other = said_front hs y (subst AreSaid also and_told) in
     let count = length-append gs (x ∷ []) in
@@ -56,18 +60,21 @@ same_edits (suc n) p q es fs few told also e =
       | inl none ↦
           elim (last_or_none fs) [
             | inl empty ↦ none ∙ sym empty
-            | inr some ↦ absurd (other_line p (heading_last p).0 (heading q ++ below some.0) some.1 (sym (none_here p es none) ∙ e ∙ last_here q some.0 fs some.1 some.2))
+            | inr some ↦ absurd (other_line p (heading_last p).0 (heading q ++ below some.0) some.1
+                (sym (none_here p es none) ∙ e ∙ last_here q some.0 fs some.1 some.2))
           ]
       | inr last ↦
           elim (last_or_none fs) [
-            | inl empty ↦ absurd (other_line q (heading_last q).0 (heading p ++ below last.0) last.1 (sym (none_here q fs empty) ∙ sym e ∙ last_here p last.0 es last.1 last.2))
+            | inl empty ↦ absurd (other_line q (heading_last q).0 (heading p ++ below last.0) last.1
+                (sym (none_here q fs empty) ∙ sym e ∙ last_here p last.0 es last.1 last.2))
             | inr some ↦ both_end n (same_edits n) p q es fs last.0 some.0 last.1 some.1 few last.2 some.2 told also e
           ]
     ]
 
 before_end : (a b : List ℕ) → a ++ codes "\nend\n" ≡ b ++ codes "\nend\n" → a ≡ b
 before_end a b e =
-    let first = same_last (a ++ codes "\nend") (b ++ codes "\nend") [] [] (append_assoc a (codes "\nend") (10 ∷ []) ∙ e ∙ sym (append_assoc b (codes "\nend") (10 ∷ []))) tt tt in
+    let first = same_last (a ++ codes "\nend") (b ++ codes "\nend") [] []
+    (append_assoc a (codes "\nend") (10 ∷ []) ∙ e ∙ sym (append_assoc b (codes "\nend") (10 ∷ []))) tt tt in
     (same_last a b (codes "end") (codes "end") first.0 unbroken_end unbroken_end).0
 
 pub one_history : OneTextOneHistory

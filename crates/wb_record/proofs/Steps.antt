@@ -1,5 +1,6 @@
 -- Edits are read from the last line up.
-use Rattle.std.proofs.Common.{◌≡◌, ℕ, Bool, ◌<◌, List, [], ◌∷◌, ◌++◌, length, map, codes, reverse, refl, sym, ap, ◌∙◌, subst, Option, Some, None, ◌⊎◌, inl, inr, Ok, arith}
+use Rattle.std.proofs.Common.{◌≡◌, ℕ, Bool, ◌<◌, List, [], ◌∷◌, ◌++◌, length, map, codes, reverse, refl, sym, ap, ◌∙◌, subst, Option, Some, None, ◌⊎◌, inl, inr}
+use Rattle.std.proofs.Common.{Ok, arith}
 use Rattle.std.proofs.lemmas.List.{append-nil, append_assoc, reverse-append, length-append, map-append}
 use Rattle.wb_edit.specs.declared.edit.Edit.{Edit}
 use Rattle.wb_history.specs.Past.{Numbered}
@@ -16,7 +17,8 @@ use Rattle.wb_record.proofs.Below.{unbroken_said, marked_said, below_more, last_
 
 -- what is still to be read of the text of a history, where these edits were read behind it
 abbrev pub Left : List ℕ → List ℕ → List Numbered → Type 0
-Left text rest read = (es : List Numbered) → AreSaid es → text ≡ heading es ++ below es → (fs : List Numbered) × AreSaid fs × (rest ≡ heading es ++ below fs) × (es ≡ fs ++ reverse read)
+Left text rest read = (es : List Numbered) → AreSaid es → text ≡ heading es ++ below es → (fs : List Numbered) × AreSaid fs × (rest ≡ heading es ++ below fs) ×
+    (es ≡ fs ++ reverse read)
 
 pub left_first : (text : List ℕ) → Left text text []
 left_first text es told is = (es, told, is, sym (append-nil es))
@@ -47,17 +49,21 @@ record AtEdit (es read : List Numbered) (before line : List ℕ) : Type 0 where
   front : before ≡ heading es ++ below edits
   all : es ≡ edits ++ one ∷ reverse read
 
-at_heading : (rest before line : List ℕ) (es fs read : List Numbered) → IsLastLine rest (Some (before, line)) → rest ≡ heading es ++ below fs → es ≡ fs ++ reverse read → fs ≡ [] → AtHeading es read line
+at_heading : (rest before line : List ℕ) (es fs read : List Numbered) → IsLastLine rest (Some (before, line)) → rest ≡ heading es ++ below fs →
+    es ≡ fs ++ reverse read → fs ≡ [] → AtHeading es read line
 at_heading rest before line es fs read last is all none =
     let (above, e) = heading_last es in
     let here : rest ≡ above ++ 10 ∷ count_line es = is ∙ ap (λ gs. heading es ++ below gs) none ∙ append-nil (heading es) ∙ e in
     let same = pair_same before line above (count_line es) (last_is rest above (count_line es) (Some (before, line)) last here (count_unbroken es)) in
     record { unmarked = ap marked_at same.1 ∙ count_unmarked es; all = all ∙ ap (λ gs. gs ++ reverse read) none }
 
-at_edit : (rest before line : List ℕ) (es fs gs read : List Numbered) (x : Numbered) → IsLastLine rest (Some (before, line)) → AreSaid fs → rest ≡ heading es ++ below fs → es ≡ fs ++ reverse read → fs ≡ gs ++ x ∷ [] → AtEdit es read before line
+at_edit : (rest before line : List ℕ) (es fs gs read : List Numbered) (x : Numbered) → IsLastLine rest (Some (before, line)) → AreSaid fs →
+    rest ≡ heading es ++ below fs → es ≡ fs ++ reverse read → fs ≡ gs ++ x ∷ [] → AtEdit es read before line
 at_edit rest before line es fs gs read x last told is all some =
-    let here : rest ≡ (heading es ++ below gs) ++ 10 ∷ said x = is ∙ ap (λ hs. heading es ++ below hs) some ∙ ap (λ t. heading es ++ t) (below_more gs x) ∙ sym (append_assoc (heading es) (below gs) (10 ∷ said x)) in
-    let same = pair_same before line (heading es ++ below gs) (said x) (last_is rest (heading es ++ below gs) (said x) (Some (before, line)) last here (unbroken_said x)) in
+    let here : rest ≡ (heading es ++ below gs) ++ 10 ∷ said x = is ∙ ap (λ hs. heading es ++ below hs) some ∙ ap (λ t. heading es ++ t) (below_more gs x) ∙
+    sym (append_assoc (heading es) (below gs) (10 ∷ said x)) in
+    let same = pair_same before line (heading es ++ below gs) (said x)
+    (last_is rest (heading es ++ below gs) (said x) (Some (before, line)) last here (unbroken_said x)) in
     let parts = said_front gs x (subst AreSaid some told) in
     record {
       edits = gs;
@@ -69,7 +75,8 @@ at_edit rest before line es fs gs read x last told is all some =
       all = all ∙ ap (λ hs. hs ++ reverse read) some ∙ append_assoc gs (x ∷ []) (reverse read);
     }
 
-last_of : (text rest before line : List ℕ) (read es : List Numbered) → Left text rest read → IsLastLine rest (Some (before, line)) → AreSaid es → text ≡ heading es ++ below es → AtHeading es read line ⊎ AtEdit es read before line
+last_of : (text rest before line : List ℕ) (read es : List Numbered) → Left text rest read → IsLastLine rest (Some (before, line)) → AreSaid es →
+    text ≡ heading es ++ below es → AtHeading es read line ⊎ AtEdit es read before line
 last_of text rest before line read es left last told is =
     let (fs, said_fs, here, all) = left es told is in
     elim (last_or_none fs) [
@@ -82,7 +89,8 @@ none_some a o n s = let e : None ≡ Some a = sym n ∙ s in cc
 
 -- ---- where a line has no mark, all were read
 
-pub all_read : (text rest before line : List ℕ) (read : List Numbered) → Left text rest read → IsLastLine rest (Some (before, line)) → marked_at line ≡ None → ReadsEdits text (Some (reverse read))
+pub all_read : (text rest before line : List ℕ) (read : List Numbered) → Left text rest read → IsLastLine rest (Some (before, line)) → marked_at line ≡ None →
+    ReadsEdits text (Some (reverse read))
 all_read text rest before line read left last unmarked es told is =
     elim (last_of text rest before line read es left last told is) [
       | inl heading_here ↦ ap Some (sym heading_here.all)
@@ -97,7 +105,8 @@ same_marked b c l m e = (ap (first_or b) e, ap (second_or l) e)
 pub some_same : {A : Type 0} (a b : A) → Some a ≡ Some b → a ≡ b
 some_same a b e = cc
 
-pub no_edit : (text rest before line spelled : List ℕ) (read : List Numbered) (b : Bool) → Left text rest read → IsLastLine rest (Some (before, line)) → marked_at line ≡ Some (b, spelled)
+pub no_edit : (text rest before line spelled : List ℕ) (read : List Numbered) (b : Bool) → Left text rest read → IsLastLine rest (Some (before, line)) →
+    marked_at line ≡ Some (b, spelled)
     → ((e : Edit) → request spelled ≡ Ok (Change e) → None ≡ Some e) → ReadsEdits text None
 no_edit text rest before line spelled read b left last marked found es told is =
     elim (last_of text rest before line read es left last told is) [
@@ -108,7 +117,8 @@ no_edit text rest before line spelled read b left last marked found es told is =
           absurd (none_some x.edit None refl (found x.edit (ap request same.1 ∙ edit_here.is_said)))
     ]
 
-pub left_next : (text rest before line spelled : List ℕ) (read : List Numbered) (b : Bool) (edit : Edit) → Left text rest read → IsLastLine rest (Some (before, line)) → marked_at line ≡ Some (b, spelled)
+pub left_next : (text rest before line spelled : List ℕ) (read : List Numbered) (b : Bool) (edit : Edit) → Left text rest read →
+    IsLastLine rest (Some (before, line)) → marked_at line ≡ Some (b, spelled)
     → ((e : Edit) → request spelled ≡ Ok (Change e) → Some edit ≡ Some e) → Left text before (read ++ one_of edit b ∷ [])
 left_next text rest before line spelled read b edit left last marked found es told is =
     elim (last_of text rest before line read es left last told is) [
@@ -140,14 +150,16 @@ shorter rest before line last = let n = length-append before (10 ∷ line) in om
 pub unbroken_end : IsUnbroken (codes "end")
 unbroken_end = ((λ e. omega (arith, e)), ((λ e. omega (arith, e)), ((λ e. omega (arith, e)), tt)))
 
-pub front_is : (bytes ended line front last : List ℕ) (wanted : List ℕ) → IsLastLine bytes (Some (ended, line)) → IsLastLine ended (Some (front, last)) → bytes ≡ wanted ++ codes "\nend\n" → Some front ≡ Some wanted
+pub front_is : (bytes ended line front last : List ℕ) (wanted : List ℕ) → IsLastLine bytes (Some (ended, line)) → IsLastLine ended (Some (front, last)) →
+    bytes ≡ wanted ++ codes "\nend\n" → Some front ≡ Some wanted
 front_is bytes ended line front last wanted h g is =
     let whole : bytes ≡ (wanted ++ codes "\nend") ++ 10 ∷ [] = is ∙ sym (append_assoc wanted (codes "\nend") (10 ∷ [])) in
     let first = pair_same ended line (wanted ++ codes "\nend") [] (last_is bytes (wanted ++ codes "\nend") [] (Some (ended, line)) h whole tt) in
     let second = pair_same front last wanted (codes "end") (last_is ended wanted (codes "end") (Some (front, last)) g first.0 unbroken_end) in
     ap Some second.0
 
-pub reads_history : (text rest : List ℕ) (read : Option (List Numbered)) → ((front : List ℕ) → text ≡ front ++ codes "\nend\n" → Some rest ≡ Some front) → ReadsEdits rest read → ReadsHistory text read
+pub reads_history : (text rest : List ℕ) (read : Option (List Numbered)) → ((front : List ℕ) → text ≡ front ++ codes "\nend\n" → Some rest ≡ Some front) →
+    ReadsEdits rest read → ReadsHistory text read
 reads_history text rest read end edits es told is =
     let e : rest ≡ heading es ++ below es = some_same rest (heading es ++ below es) (end (heading es ++ below es) (is ∙ text_is es)) in
     edits es told e
@@ -158,7 +170,8 @@ no_history text end es told is = absurd (none_some (heading es ++ below es) None
 pub unended : (bytes : List ℕ) → IsLastLine bytes None → (wanted : List ℕ) → bytes ≡ wanted ++ codes "\nend\n" → None ≡ Some wanted
 unended bytes last wanted is = absurd (broken wanted (codes "end\n") (subst IsUnbroken is last))
 
-pub unended_twice : (bytes ended line : List ℕ) → IsLastLine bytes (Some (ended, line)) → IsLastLine ended None → (wanted : List ℕ) → bytes ≡ wanted ++ codes "\nend\n" → None ≡ Some wanted
+pub unended_twice : (bytes ended line : List ℕ) → IsLastLine bytes (Some (ended, line)) → IsLastLine ended None → (wanted : List ℕ) →
+    bytes ≡ wanted ++ codes "\nend\n" → None ≡ Some wanted
 unended_twice bytes ended line last none wanted is =
     let whole : bytes ≡ (wanted ++ codes "\nend") ++ 10 ∷ [] = is ∙ sym (append_assoc wanted (codes "\nend") (10 ∷ [])) in
     let first = pair_same ended line (wanted ++ codes "\nend") [] (last_is bytes (wanted ++ codes "\nend") [] (Some (ended, line)) last whole tt) in
@@ -169,4 +182,5 @@ unended_twice bytes ended line last none wanted is =
 pub map_reverse : {A B : Type 0} (f : A → B) (xs : List A) → map f (reverse xs) ≡ reverse (map f xs)
 map_reverse f [] = refl
 map_reverse f (x ∷ xs) =
-    ap (map f) (reverse-append (x ∷ []) xs) ∙ map-append f (reverse xs) (x ∷ []) ∙ ap (λ t. t ++ f x ∷ []) (map_reverse f xs) ∙ sym (reverse-append (f x ∷ []) (map f xs))
+    ap (map f) (reverse-append (x ∷ []) xs) ∙ map-append f (reverse xs) (x ∷ []) ∙ ap (λ t. t ++ f x ∷ []) (map_reverse f xs) ∙
+    sym (reverse-append (f x ∷ []) (map f xs))

@@ -1,11 +1,13 @@
 -- Compact JSON has no line end in it.
-use Rattle.std.proofs.Common.{◌≡◌, ◌≢◌, ◌==◌, ◌||◌, ℕ, zero, suc, ℤ, pos, negsuc, ◌+◌, ◌/◌, ◌%◌, Bool, true, false, nat_lt, List, [], ◌∷◌, cond, if◌then◌else◌, refl, sym, subst, arith}
+use Rattle.std.proofs.Common.{◌≡◌, ◌≢◌, ◌==◌, ◌||◌, ℕ, zero, suc, ℤ, pos, negsuc, ◌+◌, ◌/◌, ◌%◌, Bool, true, false, nat_lt, List, [], ◌∷◌, cond, if◌then◌else◌}
+use Rattle.std.proofs.Common.{refl, sym, subst, arith}
 use Rattle.std.specs.Prelude.{flat_map}
 use Rattle.std.specs.Char.{digit_char}
 use Rattle.std.specs.Fmt.{digit_glyph, digits_onto, digits, decimal, signed_decimal}
 use Rattle.std.proofs.lemmas.List.Concat.{flat_map-cons}
 use Rattle.json.specs.Print.{escape_letter, escape_byte, escape, quoted}
-use Rattle.serde_json.specs.Data.{Num, unsigned, negative, float, Data, null, boolean, number, string, array, object, Items, no_items, item, Members, no_members, member}
+use Rattle.serde_json.specs.Data.{Num, unsigned, negative, float, Data, null, boolean, number, string, array, object, Items, no_items, item, Members}
+use Rattle.serde_json.specs.Data.{no_members, member}
 use Rattle.serde_json.specs.Written.{number_text, comma_if, compact_text, items_text, members_text}
 use Rattle.wb_lines.specs.Lines.{IsUnbroken}
 use Rattle.wb_lines.proofs.Progress.{unbroken-append}
@@ -22,7 +24,8 @@ glyph d = ne_if (nat_lt d 10) (48 + d) (87 + d) (λ t e. omega (arith, e)) (λ e
 glyphs : (k n : ℕ) (acc : List ℕ) → IsUnbroken acc → IsUnbroken (digits_onto k 10 false n acc)
 glyphs zero n acc u = u
 glyphs (suc k) n acc u =
-    elim (n / 10 == 0) as (λ b. IsUnbroken (if b then digit_glyph false (n % 10) ∷ acc else digits_onto k 10 false (n / 10) (digit_glyph false (n % 10) ∷ acc))) [
+    elim (n / 10 == 0) as (λ b. IsUnbroken (if b then digit_glyph false (n % 10) ∷ acc else digits_onto k 10 false (n / 10)
+    (digit_glyph false (n % 10) ∷ acc))) [
       | true ↦ (glyph (n % 10), u)
       | false ↦ glyphs k (n / 10) (digit_glyph false (n % 10) ∷ acc) (glyph (n % 10), u)
     ]
@@ -67,7 +70,8 @@ escaped x =
 
 escaped_all : (s : List ℕ) → IsUnbroken (flat_map escape_byte s)
 escaped_all [] = tt
-escaped_all (x ∷ s) = subst IsUnbroken (sym (flat_map-cons escape_byte x s)) (unbroken-append (escape_byte x) (flat_map escape_byte s) (escaped x) (escaped_all s))
+escaped_all (x ∷ s) = subst IsUnbroken (sym (flat_map-cons escape_byte x s))
+    (unbroken-append (escape_byte x) (flat_map escape_byte s) (escaped x) (escaped_all s))
 
 unbroken_quoted : (s : List ℕ) → IsUnbroken (quoted s)
 unbroken_quoted s = ((λ e. omega (arith, e)), unbroken-append (escape s) (34 ∷ []) (escaped_all s) ((λ e. omega (arith, e)), tt))
@@ -87,7 +91,13 @@ mutual
   pub unbroken_value : (d : Data) → IsUnbroken (compact_text d)
   unbroken_value null = ((λ e. omega (arith, e)), ((λ e. omega (arith, e)), ((λ e. omega (arith, e)), ((λ e. omega (arith, e)), tt))))
   unbroken_value (boolean true) = ((λ e. omega (arith, e)), ((λ e. omega (arith, e)), ((λ e. omega (arith, e)), ((λ e. omega (arith, e)), tt))))
-  unbroken_value (boolean false) = ((λ e. omega (arith, e)), ((λ e. omega (arith, e)), ((λ e. omega (arith, e)), ((λ e. omega (arith, e)), ((λ e. omega (arith, e)), tt)))))
+  unbroken_value (boolean false) = (
+    (λ e. omega (arith, e)),
+    (
+      (λ e. omega (arith, e)),
+      ((λ e. omega (arith, e)), ((λ e. omega (arith, e)), ((λ e. omega (arith, e)), tt))),
+    ),
+  )
   unbroken_value (number n) = unbroken_number n
   unbroken_value (string s) = unbroken_quoted s
   unbroken_value (array ds) = ((λ e. omega (arith, e)), unbroken_items false ds)
@@ -95,10 +105,14 @@ mutual
 
   unbroken_items : (later : Bool) (ds : Items) → IsUnbroken (items_text later ds)
   unbroken_items later no_items = ((λ e. omega (arith, e)), tt)
-  unbroken_items later (item d ds) = unbroken-append (comma_if later) _ (comma later) (unbroken-append (compact_text d) _ (unbroken_value d) (unbroken_items true ds))
+  unbroken_items later (item d ds) = unbroken-append (comma_if later) _ (comma later)
+      (unbroken-append (compact_text d) _ (unbroken_value d) (unbroken_items true ds))
 
   unbroken_members : (later : Bool) (ms : Members) → IsUnbroken (members_text later ms)
   unbroken_members later no_members = ((λ e. omega (arith, e)), tt)
   unbroken_members later (member k d ms) =
       unbroken-append (comma_if later) _ (comma later)
-      (unbroken-append (quoted k) _ (unbroken_quoted k) ((λ e. omega (arith, e)), unbroken-append (compact_text d) _ (unbroken_value d) (unbroken_members true ms)))
+      (unbroken-append (quoted k) _ (unbroken_quoted k) (
+        (λ e. omega (arith, e)),
+        unbroken-append (compact_text d) _ (unbroken_value d) (unbroken_members true ms),
+      ))

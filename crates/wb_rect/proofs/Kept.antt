@@ -1,5 +1,6 @@
 -- a range is a list of numbers at equal distances, as its fields keep them
-use Rattle.std.proofs.Common.{◌≡◌, ◌≢◌, ℕ, zero, suc, ◌+◌, ◌-◌, ◌*◌, ◌/◌, ◌%◌, ◌<◌, ◌≤◌, ℤ, pos, ◌+ℤ◌, ◌-ℤ◌, ◌*ℤ◌, List, None, unsigned_abs, IsTrue, refl, sym, subst, ◌∙◌, arith}
+use Rattle.std.proofs.Common.{◌≡◌, ◌≢◌, ℕ, zero, suc, ◌+◌, ◌-◌, ◌*◌, ◌/◌, ◌%◌, ◌<◌, ◌≤◌, ℤ, pos, ◌+ℤ◌, ◌-ℤ◌, ◌*ℤ◌, List, None, unsigned_abs, IsTrue, refl, sym}
+use Rattle.std.proofs.Common.{subst, ◌∙◌, arith}
 use Rattle.std.proofs.lemmas.Int.{ints}
 use Rattle.std.proofs.Math.Nat.{mul-mod_left}
 use Rattle.wb_range.specs.Canonical.{IsRange}
@@ -38,7 +39,12 @@ by_count x s (suc zero) xs nz few b e =
     record { fields = record { first = x; count = 1; stride = pos 1 }; canonical = canonical_one x k.head; is = e }
 by_count x s (suc (suc c)) xs nz few b e =
     let k : AreBounds x s (suc (suc c)) = b (λ z. omega arith) in
-    record { fields = record { first = x; count = suc (suc c); stride = s }; canonical = canonical_many x s (suc (suc c)) k.head k.last nz few (λ z. omega arith) (λ z. omega arith); is = e }
+    record {
+      fields = record { first = x; count = suc (suc c); stride = s };
+      canonical =
+          canonical_many x s (suc (suc c)) k.head k.last nz few (λ z. omega arith) (λ z. omega arith);
+      is = e;
+    }
 
 -- so many steps of m lead past n
 pub record IsPast (n m c : ℕ) : Type 0 where
@@ -63,4 +69,5 @@ kept xs h =
     let e : sequence h.low h.high h.stride None ≡ steps (st +ℤ pos 0 *ℤ direction h.stride) h.stride c.0 =
     sequence-is h.low h.high h.stride None st st n 0 c.0 m h.nonzero refl refl refl refl p t c.1.reached c.1.not_passed in
     let few : c.0 ≤ 65536 = omega (arith, length-sequence h.low h.high h.stride (st +ℤ pos 0 *ℤ direction h.stride) None c.0 e, h.limits.count) in
-    by_count (st +ℤ pos 0 *ℤ direction h.stride) h.stride c.0 xs h.nonzero few (λ nz. are_bounds h.low h.high h.stride st 0 c.0 n m h.limits.low_bound h.limits.high_bound refl refl refl nz c.1.not_passed) (sym e ∙ sym h.is)
+    by_count (st +ℤ pos 0 *ℤ direction h.stride) h.stride c.0 xs h.nonzero few
+    (λ nz. are_bounds h.low h.high h.stride st 0 c.0 n m h.limits.low_bound h.limits.high_bound refl refl refl nz c.1.not_passed) (sym e ∙ sym h.is)

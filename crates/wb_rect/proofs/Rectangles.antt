@@ -25,7 +25,8 @@ IsListedOnce-range xs h =
 
 pub IsListedOnce-product : (rs : List (List ℤ)) → All IsRange rs → IsListedOnce (product rs)
 IsListedOnce-product [] h = IsListedOnce-none
-IsListedOnce-product (xs ∷ rs) h = IsListedOnce-rows xs (product rs) (IsListedOnce-range xs (All-head IsRange xs rs h)) (IsListedOnce-product rs (All-tail IsRange xs rs h))
+IsListedOnce-product (xs ∷ rs) h = IsListedOnce-rows xs (product rs) (IsListedOnce-range xs (All-head IsRange xs rs h))
+    (IsListedOnce-product rs (All-tail IsRange xs rs h))
 
 -- ---- slices
 
@@ -38,13 +39,15 @@ ranges_sliced : (rs ts : List (List ℤ)) → All IsRange rs → All IsRange ts 
 ranges_sliced [] ts h g = All-nil IsRange
 ranges_sliced (xs ∷ rs) [] h g = All-nil IsRange
 ranges_sliced (xs ∷ rs) (ys ∷ ts) h g =
-    All-cons IsRange (common xs ys) (sliced rs ts) (IsRange-common xs ys (All-head IsRange xs rs h) (All-head IsRange ys ts g)) (ranges_sliced rs ts (All-tail IsRange xs rs h) (All-tail IsRange ys ts g))
+    All-cons IsRange (common xs ys) (sliced rs ts) (IsRange-common xs ys (All-head IsRange xs rs h) (All-head IsRange ys ts g))
+    (ranges_sliced rs ts (All-tail IsRange xs rs h) (All-tail IsRange ys ts g))
 
 fewer_sliced : (rs ts : List (List ℤ)) → length ts ≡ length rs → length (product (sliced rs ts)) ≤ length (product rs)
 fewer_sliced [] ts e = omega arith
 fewer_sliced (xs ∷ rs) [] e = absurd (omega arith)
 fewer_sliced (xs ∷ rs) (ys ∷ ts) e =
-    let m : length (common xs ys) * length (product (sliced rs ts)) ≤ length xs * length (product rs) = mul-le-mul (length-common xs ys) (fewer_sliced rs ts (omega arith)) in
+    let m : length (common xs ys) * length (product (sliced rs ts)) ≤ length xs * length (product rs) =
+    mul-le-mul (length-common xs ys) (fewer_sliced rs ts (omega arith)) in
     omega (arith, length-rows (common xs ys) (product (sliced rs ts)), length-rows xs (product rs))
 
 pub IsRectangle-sliced : (rank : ℕ) (rs ts : List (List ℤ)) → IsRectangle rank rs → IsRectangle rank ts → IsRectangle rank (sliced rs ts)
@@ -61,7 +64,8 @@ IsRectangle-sliced rank rs ts h g =
     }
 
 -- ranges that have in common what both have are the slice
-pub sliced_is : (rs ts zs : List (List ℤ)) → length ts ≡ length rs → length zs ≡ length rs → All IsRange rs → ((p : ℕ) → p < length rs → IsCommon (get_or rs p []) (get_or ts p []) (get_or zs p [])) → zs ≡ sliced rs ts
+pub sliced_is : (rs ts zs : List (List ℤ)) → length ts ≡ length rs → length zs ≡ length rs → All IsRange rs →
+    ((p : ℕ) → p < length rs → IsCommon (get_or rs p []) (get_or ts p []) (get_or zs p [])) → zs ≡ sliced rs ts
 sliced_is [] ts [] e f h g = refl
 sliced_is [] ts (zs ∷ ws) e f h g = absurd (omega arith)
 sliced_is (xs ∷ rs) [] ws e f h g = absurd (omega arith)
@@ -91,9 +95,11 @@ ranges_shifted : (outward : Bool) (os : List ℤ) (rs : List (List ℤ)) → Eac
 ranges_shifted outward [] rs h = All-nil IsRange
 ranges_shifted outward (o ∷ os) [] h = All-nil IsRange
 ranges_shifted outward (o ∷ os) (xs ∷ rs) h =
-    All-cons IsRange (shifted (low_by outward o) o xs) (each_shifted outward os rs) (IsRange-shifted (low_by outward o) o xs h.0) (ranges_shifted outward os rs h.1)
+    All-cons IsRange (shifted (low_by outward o) o xs) (each_shifted outward os rs) (IsRange-shifted (low_by outward o) o xs h.0)
+    (ranges_shifted outward os rs h.1)
 
-pub IsRectangle-each_shifted : (rank : ℕ) (outward : Bool) (os : List ℤ) (rs : List (List ℤ)) → IsRectangle rank rs → CanShift outward os rs → length os ≡ rank → IsRectangle rank (each_shifted outward os rs)
+pub IsRectangle-each_shifted : (rank : ℕ) (outward : Bool) (os : List ℤ) (rs : List (List ℤ)) → IsRectangle rank rs → CanShift outward os rs →
+    length os ≡ rank → IsRectangle rank (each_shifted outward os rs)
 IsRectangle-each_shifted rank outward os rs h c e =
     let k : All IsRange (each_shifted outward os rs) = ranges_shifted outward os rs c.ranges_within in
     record {

@@ -1,5 +1,6 @@
 -- the tests of shifts decide what they are named after
-use Rattle.std.proofs.Common.{◌≡◌, ℕ, ◌*◌, ◌≤◌, nat_le, Bool, ◌&&◌, Decides, ℤ, pos, negsuc, ◌+ℤ◌, ◌-ℤ◌, ◌*ℤ◌, ◌≤ℤ◌, ◌<ℤ◌, int_lt, int_le, List, [], ◌∷◌, None, length, IsTrue, unsigned_abs, refl, ap, ◌∙◌, arith}
+use Rattle.std.proofs.Common.{◌≡◌, ℕ, ◌*◌, ◌≤◌, nat_le, Bool, ◌&&◌, Decides, ℤ, pos, negsuc, ◌+ℤ◌, ◌-ℤ◌, ◌*ℤ◌, ◌≤ℤ◌, ◌<ℤ◌, int_lt, int_le, List, [], ◌∷◌, None}
+use Rattle.std.proofs.Common.{length, IsTrue, unsigned_abs, refl, ap, ◌∙◌, arith}
 use Rattle.std.specs.Ordering.{int_eq}
 use Rattle.std.proofs.lemmas.Bool.Decides.{Decides-int_eq, Decides-like, Decides-and, Decides-or, Decides-by_and, nat_tests}
 use Rattle.std.proofs.lemmas.Int.{ints}
@@ -18,8 +19,11 @@ use Rattle.wb_rect.proofs.Product.{length-rows}
 
 pub Decides-has_unit_strides : (rs : List (List ℤ)) → Decides (has_unit_strides rs) (HasUnitStrides rs)
 Decides-has_unit_strides rs =
-    let d = Decides-by_and (λ (xs : List ℤ). int_eq (stride_of xs) (pos 1)) (λ (xs : List ℤ). stride_of xs ≡ pos 1) has_unit_strides (λ xs. Decides-int_eq (stride_of xs) (pos 1)) refl (λ _ _. refl) rs in
-    (λ t. let h = d.0 t in λ p l. All-get_or (λ (xs : List ℤ). stride_of xs ≡ pos 1) rs p [] l h, λ h. d.1 (All-from_get_or (λ (xs : List ℤ). stride_of xs ≡ pos 1) rs [] h))
+    let d = Decides-by_and (λ (xs : List ℤ). int_eq (stride_of xs) (pos 1)) (λ (xs : List ℤ). stride_of xs ≡ pos 1) has_unit_strides
+    (λ xs. Decides-int_eq (stride_of xs) (pos 1)) refl (λ _ _. refl) rs in (
+      λ t. let h = d.0 t in λ p l. All-get_or (λ (xs : List ℤ). stride_of xs ≡ pos 1) rs p [] l h,
+      λ h. d.1 (All-from_get_or (λ (xs : List ℤ). stride_of xs ≡ pos 1) rs [] h),
+    )
 
 -- ---- bounds
 
@@ -68,7 +72,8 @@ Decides-limits low high =
     Decides-like (is_bound low && is_bound high && nat_le (count_between low high) 65536)
     (λ (h : (IsBound low × IsBound high) × (count_between low high ≤ 65536)). record { low_bound = h.0.0; high_bound = h.0.1; count = omega (arith, e, h.1) })
     (λ h. ((h.low_bound, h.high_bound), omega (arith, e, h.count)))
-    (Decides-and (is_bound low && is_bound high) (nat_le (count_between low high) 65536) (Decides-and (is_bound low) (is_bound high) (Decides-is_bound low) (Decides-is_bound high)) (Decides-nat_le (count_between low high) 65536))
+    (Decides-and (is_bound low && is_bound high) (nat_le (count_between low high) 65536)
+    (Decides-and (is_bound low) (is_bound high) (Decides-is_bound low) (Decides-is_bound high)) (Decides-nat_le (count_between low high) 65536))
 
 Decides-are_within : (low high : ℤ) → Decides (are_within low high) (AreWithin low high)
 Decides-are_within low high =
@@ -90,4 +95,5 @@ Decides-can_shift outward os rs =
     Decides-like (can_shift outward os rs)
     (λ (h : EachWithin outward os rs × (shifted_size outward os rs ≤ 65536)). record { ranges_within = h.0; size = omega (arith, e, h.1) })
     (λ h. (h.ranges_within, omega (arith, e, h.size)))
-    (Decides-and (are_each_within outward os rs) (nat_le (shifted_size outward os rs) 65536) (Decides-each outward os rs) (Decides-nat_le (shifted_size outward os rs) 65536))
+    (Decides-and (are_each_within outward os rs) (nat_le (shifted_size outward os rs) 65536) (Decides-each outward os rs)
+    (Decides-nat_le (shifted_size outward os rs) 65536))

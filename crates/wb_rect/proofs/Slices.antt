@@ -1,5 +1,6 @@
 -- what two ranges have in common is one list, and a range
-use Rattle.std.proofs.Common.{◌≡◌, ◌≢◌, ◌↔◌, ◌⊎◌, inl, inr, ⊎_elim, ℕ, zero, suc, ◌+◌, ◌-◌, ◌*◌, ◌<◌, ◌≤◌, ℤ, pos, negsuc, ◌+ℤ◌, ◌*ℤ◌, ◌<ℤ◌, Bool, true, false, List, [], ◌∷◌, Some, reverse, length, get_or, slice_get, unsigned_abs, IsTrue, refl, sym, ap, subst, ◌∙◌, arith, mul-le-mul_right}
+use Rattle.std.proofs.Common.{◌≡◌, ◌≢◌, ◌↔◌, ◌⊎◌, inl, inr, ⊎_elim, ℕ, zero, suc, ◌+◌, ◌-◌, ◌*◌, ◌<◌, ◌≤◌, ℤ, pos, negsuc, ◌+ℤ◌, ◌*ℤ◌, ◌<ℤ◌, Bool, true, false}
+use Rattle.std.proofs.Common.{List, [], ◌∷◌, Some, reverse, length, get_or, slice_get, unsigned_abs, IsTrue, refl, sym, ap, subst, ◌∙◌, arith, mul-le-mul_right}
 use Rattle.std.specs.List.{Contains, AllPairs, list_any}
 use Rattle.std.specs.Ordering.{int_eq}
 use Rattle.std.specs.Cmp.{int_eq_equiv}
@@ -50,13 +51,15 @@ first_is_in x xs = (0, omega arith, refl)
 
 rest_in : (x y i : ℤ) (xs ys : List ℤ) → x ≡ y → Ascends (x ∷ xs) → (Contains (x ∷ xs) i → Contains (y ∷ ys) i) → Contains xs i → Contains ys i
 rest_in x y i xs ys e h f m =
-    ⊎_elim (λ (g : y ≡ i). absurd (let l = first_below x i xs h m in omega (arith, ints))) (λ (n : Contains ys i). n) (first_or_later y i ys (f (later x i xs m)))
+    ⊎_elim (λ (g : y ≡ i). absurd (let l = first_below x i xs h m in omega (arith, ints))) (λ (n : Contains ys i). n)
+    (first_or_later y i ys (f (later x i xs m)))
 
 same_first : (x y : ℤ) (xs ys : List ℤ) → Ascends (x ∷ xs) → Ascends (y ∷ ys) → Contains (y ∷ ys) x → Contains (x ∷ xs) y → x ≡ y
 same_first x y xs ys h g m n =
     ⊎_elim (λ (e : y ≡ x). sym e)
     (λ (a : Contains ys x).
-    ⊎_elim (λ (e : x ≡ y). e) (λ (b : Contains xs y). absurd (let p = first_below y x ys g a in let q = first_below x y xs h b in omega (arith, ints))) (first_or_later x y xs n))
+    ⊎_elim (λ (e : x ≡ y). e) (λ (b : Contains xs y). absurd (let p = first_below y x ys g a in let q = first_below x y xs h b in omega (arith, ints)))
+    (first_or_later x y xs n))
     (first_or_later y x ys m)
 
 pub same_ascending : (xs ys : List ℤ) → Ascends xs → Ascends ys → ((i : ℤ) → Contains xs i ↔ Contains ys i) → xs ≡ ys
@@ -65,7 +68,8 @@ same_ascending [] (y ∷ ys) h g m = let n = (m y).1 (first_is_in y ys) in absur
 same_ascending (x ∷ xs) [] h g m = let n = (m x).0 (first_is_in x xs) in absurd (omega (arith, n.1))
 same_ascending (x ∷ xs) (y ∷ ys) h g m =
     let e : x ≡ y = same_first x y xs ys h g ((m x).0 (first_is_in x xs)) ((m y).1 (first_is_in y ys)) in
-    let r : xs ≡ ys = same_ascending xs ys (ascends_tail x xs h) (ascends_tail y ys g) (λ i. (rest_in x y i xs ys e h (m i).0, rest_in y x i ys xs (sym e) g (m i).1)) in
+    let r : xs ≡ ys = same_ascending xs ys (ascends_tail x xs h) (ascends_tail y ys g)
+    (λ i. (rest_in x y i xs ys e h (m i).0, rest_in y x i ys xs (sym e) g (m i).1)) in
     cc
 
 -- two ranges have one list in common
@@ -116,7 +120,8 @@ turned_up x (negsuc t) c nz = AllPairs-reverse (λ i j. j <ℤ i) (steps x (negs
 upward_up : (xs : List ℤ) → IsKept xs → Ascends (upward xs)
 upward_up xs k =
     let e : k.fields.stride ≡ stride_of xs = stride_of-steps k.fields.first k.fields.stride k.fields.count k.canonical.short ∙ ap stride_of k.is in
-    let u : Ascends (turned k.fields.stride (steps k.fields.first k.fields.stride k.fields.count)) = turned_up k.fields.first k.fields.stride k.fields.count k.canonical.nonzero in
+    let u : Ascends (turned k.fields.stride (steps k.fields.first k.fields.stride k.fields.count)) =
+    turned_up k.fields.first k.fields.stride k.fields.count k.canonical.nonzero in
     let v : Ascends (turned k.fields.stride xs) = subst (λ (zs : List ℤ). Ascends (turned k.fields.stride zs)) k.is u in
     subst (λ (s : ℤ). Ascends (turned s xs)) e v
 
@@ -138,7 +143,12 @@ common_is xs ys h =
 
 pub length-common : (xs ys : List ℤ) → length (common xs ys) ≤ length xs
 length-common xs ys =
-    omega (arith, length-filter (λ (i : ℤ). list_any (int_eq i) ys) (upward xs), count_by-le-length (λ (i : ℤ). list_any (int_eq i) ys) (upward xs), length-turned (stride_of xs) xs)
+    omega (
+      arith,
+      length-filter (λ (i : ℤ). list_any (int_eq i) ys) (upward xs),
+      count_by-le-length (λ (i : ℤ). list_any (int_eq i) ys) (upward xs),
+      length-turned (stride_of xs) xs,
+    )
 
 -- ---- it is at equal distances
 
@@ -150,7 +160,8 @@ record HasPlaces (xs ys : List ℤ) (bound : ℕ) : Type 0 where
   places : AreCommonPlaces xs ys first gap count bound
 
 module _ (a s : ℤ) (n : ℕ) (ys : List ℤ) (closed : IsClosed ys) where
-  more_places : (p : ℕ) (i : ℤ) (b : Bool) → list_any (int_eq i) ys ≡ b → slice_get (steps a s n) p ≡ Some i → HasPlaces (steps a s n) ys p → HasPlaces (steps a s n) ys (p + 1)
+  more_places : (p : ℕ) (i : ℤ) (b : Bool) → list_any (int_eq i) ys ≡ b → slice_get (steps a s n) p ≡ Some i → HasPlaces (steps a s n) ys p →
+      HasPlaces (steps a s n) ys (p + 1)
   more_places p i false e at h =
       record {
         first = h.first;
@@ -165,7 +176,13 @@ module _ (a s : ℤ) (n : ℕ) (ys : List ℤ) (closed : IsClosed ys) where
 
       by : (c : ℕ) → AreCommonPlaces (steps a s n) ys h.first h.gap c p → HasPlaces (steps a s n) ys (p + 1)
       by zero k = record { first = p; gap = h.gap; count = 0 + 1; places = step_first (steps a s n) ys h.first h.gap 0 p i refl k (sym at) m }
-      by (suc zero) k = record { first = h.first; gap = p - h.first; count = 1 + 1; places = step_second (steps a s n) ys h.first h.gap 1 p i refl k (sym at) m }
+      by (suc zero) k = record {
+        first = h.first;
+        gap = p - h.first;
+        count = 1 + 1;
+        places =
+            step_second (steps a s n) ys h.first h.gap 1 p i refl k (sym at) m;
+      }
       by (suc (suc c)) k =
           record {
             first = h.first;
@@ -178,7 +195,8 @@ module _ (a s : ℤ) (n : ℕ) (ys : List ℤ) (closed : IsClosed ys) where
   all_places zero l = record { first = 0; gap = 1; count = 0; places = no_common_places (steps a s n) ys }
   all_places (suc p) l =
       let e : p + 1 ≡ suc p = omega arith in
-      subst (λ (q : ℕ). HasPlaces (steps a s n) ys q) e (more_places p (a +ℤ pos p *ℤ s) (list_any (int_eq (a +ℤ pos p *ℤ s)) ys) refl (get-steps a s n p (omega arith)) (all_places p (omega arith)))
+      subst (λ (q : ℕ). HasPlaces (steps a s n) ys q) e (more_places p (a +ℤ pos p *ℤ s) (list_any (int_eq (a +ℤ pos p *ℤ s)) ys) refl
+      (get-steps a s n p (omega arith)) (all_places p (omega arith)))
 
 -- ---- so it is a range
 
@@ -224,11 +242,14 @@ module _ (r : Inside) (canonical : IsCanonical r) (xs ys : List ℤ) (is : steps
       t : ℕ
       t = g * unsigned_abs r.stride
 
-      by : (k : ℕ) → AreCommonPlaces xs ys f g (suc k) r.count → IsLowest r.stride f g (suc k) l → IsRange (steps (r.first +ℤ pos l *ℤ r.stride) (pos (g * unsigned_abs r.stride)) (suc k))
-      by zero k v = is_range (record { first = r.first +ℤ pos l *ℤ r.stride; count = 1; stride = pos 1 }) _ (canonical_one (r.first +ℤ pos l *ℤ r.stride) (bound_at r canonical l b)) refl
+      by : (k : ℕ) → AreCommonPlaces xs ys f g (suc k) r.count → IsLowest r.stride f g (suc k) l →
+          IsRange (steps (r.first +ℤ pos l *ℤ r.stride) (pos (g * unsigned_abs r.stride)) (suc k))
+      by zero k v = is_range (record { first = r.first +ℤ pos l *ℤ r.stride; count = 1; stride = pos 1 }) _
+          (canonical_one (r.first +ℤ pos l *ℤ r.stride) (bound_at r canonical l b)) refl
       by (suc j) k v =
           is_range (record { first = r.first +ℤ pos l *ℤ r.stride; count = suc (suc j); stride = pos (g * unsigned_abs r.stride) }) _
-          (meet_canonical r canonical (r.first +ℤ pos l *ℤ r.stride) f g (suc (suc j)) l (g * unsigned_abs r.stride) xs ys is k v b refl refl (λ z. omega arith) (λ z. omega arith)) refl
+          (meet_canonical r canonical (r.first +ℤ pos l *ℤ r.stride) f g (suc (suc j)) l (g * unsigned_abs r.stride) xs ys is k v b refl refl
+          (λ z. omega arith) (λ z. omega arith)) refl
 
   lowest : (s : ℤ) (c : ℕ) → s ≡ r.stride → AreCommonPlaces xs ys f g (suc c) r.count → HasMeeting xs ys
   lowest (pos n) c e h =
@@ -246,7 +267,8 @@ meeting : (xs ys : List ℤ) → IsKept xs → IsKept ys → HasMeeting xs ys
 meeting xs ys k j =
     let cl : IsClosed ys = subst IsClosed j.is (IsClosed-steps j.fields.first j.fields.stride j.fields.count j.canonical.nonzero) in
     let h = all_places k.fields.first k.fields.stride k.fields.count ys cl k.fields.count (omega arith) in
-    let p : AreCommonPlaces xs ys h.first h.gap h.count k.fields.count = subst (λ (zs : List ℤ). AreCommonPlaces zs ys h.first h.gap h.count k.fields.count) k.is h.places in
+    let p : AreCommonPlaces xs ys h.first h.gap h.count k.fields.count =
+    subst (λ (zs : List ℤ). AreCommonPlaces zs ys h.first h.gap h.count k.fields.count) k.is h.places in
     meeting_at k.fields k.canonical xs ys k.is h.first h.gap h.count p
 
 -- what two ranges have in common is a range

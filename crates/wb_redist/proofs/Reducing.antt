@@ -1,5 +1,6 @@
 -- What is made of the pieces, joined, is what is made of the whole; and no sum wraps.
-use Rattle.std.proofs.Common.{◌≡◌, ℕ, zero, suc, ◌+◌, ◌*◌, ◌<◌, ◌≤◌, ℤ, pos, ◌+ℤ◌, ◌≤ℤ◌, Bool, true, false, cond, eqb, List, [], ◌∷◌, ◌++◌, map, length, take, get_or, Option, Some, None, fold, refl, sym, ap, subst, ◌∙◌, ⊎_elim, eq-eqb, eqb-true, arith}
+use Rattle.std.proofs.Common.{◌≡◌, ℕ, zero, suc, ◌+◌, ◌*◌, ◌<◌, ◌≤◌, ℤ, pos, ◌+ℤ◌, ◌≤ℤ◌, Bool, true, false, cond, eqb, List, [], ◌∷◌, ◌++◌, map, length, take}
+use Rattle.std.proofs.Common.{get_or, Option, Some, None, fold, refl, sym, ap, subst, ◌∙◌, ⊎_elim, eq-eqb, eqb-true, arith}
 use Rattle.std.specs.Prelude.{FitsSigned, Result, Err, IfNone, IfSome, IfErr, OkIff}
 use Rattle.std.specs.List.{reduce, All, AllZip}
 use Rattle.std.specs.Option.{option_map}
@@ -68,7 +69,9 @@ module _ (op : Op) where
     outside e es zero h = refl
     outside e es (suc n) h = by (eqb (locale e.0) n) refl (outside e es n (omega arith))
       where
-        by : (b : Bool) → eqb (locale e.0) n ≡ b → of_first (e ∷ es) n ≡ of_first es n → joined_in_128 op (of_first (e ∷ es) n) (of_piece (cond b (e ∷ piece_of locale es n) (piece_of locale es n))) ≡ joined_in_128 op (of_first es n) (of_piece (piece_of locale es n))
+        by : (b : Bool) → eqb (locale e.0) n ≡ b → of_first (e ∷ es) n ≡ of_first es n →
+            joined_in_128 op (of_first (e ∷ es) n) (of_piece (cond b (e ∷ piece_of locale es n) (piece_of locale es n))) ≡ joined_in_128 op (of_first es n)
+            (of_piece (piece_of locale es n))
         by true is again = let same = eqb-true (locale e.0) n is in absurd (omega (arith, same))
         by false is again = ap (λ x. joined_in_128 op x (of_piece (piece_of locale es n))) again
 
@@ -76,7 +79,10 @@ module _ (op : Op) where
     inside e es zero h = absurd (omega arith)
     inside e es (suc n) h = by (eqb (locale e.0) n) refl (outside e es n) (inside e es n)
       where
-        by : (b : Bool) → eqb (locale e.0) n ≡ b → (n ≤ locale e.0 → of_first (e ∷ es) n ≡ of_first es n) → (locale e.0 < n → of_first (e ∷ es) n ≡ joined_in_128 op (Some e.1) (of_first es n)) → joined_in_128 op (of_first (e ∷ es) n) (of_piece (cond b (e ∷ piece_of locale es n) (piece_of locale es n))) ≡ joined_in_128 op (Some e.1) (joined_in_128 op (of_first es n) (of_piece (piece_of locale es n)))
+        by : (b : Bool) → eqb (locale e.0) n ≡ b → (n ≤ locale e.0 → of_first (e ∷ es) n ≡ of_first es n) →
+            (locale e.0 < n → of_first (e ∷ es) n ≡ joined_in_128 op (Some e.1) (of_first es n)) →
+            joined_in_128 op (of_first (e ∷ es) n) (of_piece (cond b (e ∷ piece_of locale es n) (piece_of locale es n))) ≡ joined_in_128 op (Some e.1)
+            (joined_in_128 op (of_first es n) (of_piece (piece_of locale es n)))
         by true is out again =
             let same = eqb-true (locale e.0) n is in
             let l : n ≤ locale e.0 = omega (arith, same) in
@@ -94,17 +100,23 @@ module _ (op : Op) where
 
 -- the pieces of the first locales, with one more
 module _ {I : Type 0} (locale : I → ℕ) (es : List (I × ℤ)) (k : ℕ) where
-  pub one_more : (op : Op) (before here r : Option ℤ) (ps : List (I × ℤ)) → before ≡ of_locales_in_128 op locale es k → ps ≡ piece_of locale es k → here ≡ reduce (op_in_128 op) (elements_of ps) → r ≡ joined_in_128 op before here → r ≡ of_locales_in_128 op locale es (k + 1)
+  pub one_more : (op : Op) (before here r : Option ℤ) (ps : List (I × ℤ)) → before ≡ of_locales_in_128 op locale es k → ps ≡ piece_of locale es k →
+      here ≡ reduce (op_in_128 op) (elements_of ps) → r ≡ joined_in_128 op before here → r ≡ of_locales_in_128 op locale es (k + 1)
   one_more op before here r ps d p o e = let next : k + 1 ≡ suc k = omega arith in rw (next, e, d, o, p) refl
 
-  pub one_more_small : ((l : ℕ) → l < k → AreSmall (piece_of locale es l)) → AreSmall (piece_of locale es k) → (l : ℕ) → l < k + 1 → AreSmall (piece_of locale es l)
-  one_more_small before here l h = ⊎_elim (before l) (λ g. let same : l ≡ k = omega arith in subst (λ (m : ℕ). AreSmall (piece_of locale es m)) (sym same) here) (cases_lt l k)
+  pub one_more_small : ((l : ℕ) → l < k → AreSmall (piece_of locale es l)) → AreSmall (piece_of locale es k) → (l : ℕ) → l < k + 1 →
+      AreSmall (piece_of locale es l)
+  one_more_small before here l h = ⊎_elim (before l) (λ g. let same : l ≡ k = omega arith in
+      subst (λ (m : ℕ). AreSmall (piece_of locale es m)) (sym same) here) (cases_lt l k)
 
 -- the elements are small where those of each piece are
 module _ {I : Type 0} (locale : I → ℕ) where
   pub small : (n : ℕ) (es : List (I × ℤ)) → LieBelow locale n es → ((l : ℕ) → l < n → AreSmall (piece_of locale es l)) → AreSmall es
   small n [] below h = tt
-  small n (e ∷ es) below h = (first (eqb (locale e.0) (locale e.0)) (eq-eqb (locale e.0) (locale e.0) refl) (h (locale e.0) below.0), small n es below.1 (λ l k. rest (eqb (locale e.0) l) (piece_of locale es l) (h l k)))
+  small n (e ∷ es) below h = (
+    first (eqb (locale e.0) (locale e.0)) (eq-eqb (locale e.0) (locale e.0) refl) (h (locale e.0) below.0),
+    small n es below.1 (λ l k. rest (eqb (locale e.0) l) (piece_of locale es l) (h l k)),
+  )
     where
       first : (b : Bool) → b ≡ true → AreSmall (cond b (e ∷ piece_of locale es (locale e.0)) (piece_of locale es (locale e.0))) → FitsSigned w64 e.1
       first true is g = g.0
@@ -122,7 +134,8 @@ module _ {I : Type 0} where
   abbrev sum_of : List (I × ℤ) → ℤ
   sum_of es = fold ◌+ℤ◌ (pos 0) (elements_of es)
 
-  bound : (es : List (I × ℤ)) → AreSmall es → (pos 0 ≤ℤ (sum_of es +ℤ pos (length es * 9223372036854775808))) × (sum_of es ≤ℤ pos (length es * 9223372036854775808))
+  bound : (es : List (I × ℤ)) → AreSmall es → (pos 0 ≤ℤ (sum_of es +ℤ pos (length es * 9223372036854775808))) ×
+      (sum_of es ≤ℤ pos (length es * 9223372036854775808))
   bound [] h = (omega (arith, ints), omega (arith, ints))
   bound (e ∷ es) h =
       let again = bound es h.1 in
@@ -139,7 +152,8 @@ wrapped a b [] h = h
 wrapped a b (x ∷ xs) h = wrapped (int_wrap w128 (a +ℤ x)) (b +ℤ x) xs (ap (λ z. int_wrap w128 (z +ℤ x)) h ∙ int_wrap-add_left w128 b x)
 
 -- no sum wraps
-pub plain : {I : Type 0} (op : Op) (es : List (I × ℤ)) → AreSmall es → length es < 18446744073709551616 → reduce (op_in_128 op) (elements_of es) ≡ reduce (op_of op) (elements_of es)
+pub plain : {I : Type 0} (op : Op) (es : List (I × ℤ)) → AreSmall es → length es < 18446744073709551616 →
+    reduce (op_in_128 op) (elements_of es) ≡ reduce (op_of op) (elements_of es)
 plain Min es h l = refl
 plain Max es h l = refl
 plain Sum [] h l = refl
@@ -147,7 +161,8 @@ plain Sum (e ∷ es) h l =
     let first : e.1 ≡ pos 0 +ℤ e.1 = omega (arith, ints) in
     let fits : FitsSigned w128 e.1 = let f = h.0 in omega (arith, ints) in
     let start : e.1 ≡ int_wrap w128 (pos 0 +ℤ e.1) = sym (int_wrap_fits w128 e.1 fits) ∙ ap (int_wrap w128) first in
-    ap Some (wrapped e.1 (pos 0 +ℤ e.1) (elements_of es) start ∙ int_wrap_fits w128 _ (sum-fits (e ∷ es) h l) ∙ ap (λ z. fold ◌+ℤ◌ z (elements_of es)) (sym first))
+    ap Some (wrapped e.1 (pos 0 +ℤ e.1) (elements_of es) start ∙ int_wrap_fits w128 _ (sum-fits (e ∷ es) h l) ∙
+    ap (λ z. fold ◌+ℤ◌ z (elements_of es)) (sym first))
 
 -- the elements of lent pairs, each an i64
 pub lent_elements : {I : Type 0} (es : List (I × ℤ)) (ys : List ℤ) → AllZip (λ e y. (y ≡ e.1) × FitsSigned w64 e.1) es ys → (ys ≡ elements_of es) × AreSmall es
@@ -195,8 +210,10 @@ module _ {I : Type 0} (es : List (I × ℤ)) (k : ℕ) (x : I × ℤ) (low : k <
 -- what several threads make of the elements is what one makes of them in their order
 pub reduced : (op : Op) (xs : List ℤ) (r : Option ℤ) → ReducesWith (λ a b c. c ≡ op_in_128 op a b) xs r → r ≡ reduce (op_in_128 op) xs
 reduced op xs r h =
-    let group : ActsAsSemigroup (λ a b c. c ≡ op_in_128 op a b) (λ x. x) (λ x. Unit {0}) (op_in_128 op) = record { computes = λ a b c p q e. e; closed = λ a b p q. tt; associative = λ a b c p q s. op-associative op a b c } in
-    sym (same_option r) ∙ ReducesWith-reduce (λ a b c. c ≡ op_in_128 op a b) (λ x. x) (λ x. Unit {0}) (op_in_128 op) group xs r (all_of_any _) h ∙ ap (reduce (op_in_128 op)) (same_list xs)
+    let group : ActsAsSemigroup (λ a b c. c ≡ op_in_128 op a b) (λ x. x) (λ x. Unit {0}) (op_in_128 op) =
+    record { computes = λ a b c p q e. e; closed = λ a b p q. tt; associative = λ a b c p q s. op-associative op a b c } in
+    sym (same_option r) ∙ ReducesWith-reduce (λ a b c. c ≡ op_in_128 op a b) (λ x. x) (λ x. Unit {0}) (op_in_128 op) group xs r (all_of_any _) h ∙
+    ap (reduce (op_in_128 op)) (same_list xs)
 
 module _ {I : Type 0} where
   reduction-some : (op : Op) (es : List (I × ℤ)) (s : ℤ) → Some s ≡ reduce (op_of op) (elements_of es) → reduction op es ≡ Some s
@@ -206,7 +223,8 @@ module _ {I : Type 0} where
   reduction-some Sum (e ∷ es) s h = let first : pos 0 +ℤ e.1 ≡ e.1 = omega (arith, ints) in ap (λ z. Some (fold ◌+ℤ◌ z (elements_of es))) first ∙ sym h
 
   -- the answer is that of the reduction
-  pub answered : (op : Op) (es : List (I × ℤ)) (w : Option ℤ) (r : Result ℤ ReduceErr) → w ≡ reduce (op_of op) (elements_of es) → IfNone w (r ≡ of_nothing op) → IfSome w (λ s. OkIff r (FitsSigned w64 s) s) → IfSome w (λ s. IfErr r (λ e. e ≡ Overflow)) → IsReduced op es r
+  pub answered : (op : Op) (es : List (I × ℤ)) (w : Option ℤ) (r : Result ℤ ReduceErr) → w ≡ reduce (op_of op) (elements_of es) →
+      IfNone w (r ≡ of_nothing op) → IfSome w (λ s. OkIff r (FitsSigned w64 s) s) → IfSome w (λ s. IfErr r (λ e. e ≡ Overflow)) → IsReduced op es r
   answered op es (Some s) r h n v o = rw (reduction-some op es s h) (v, o)
   answered Min [] None r h n v o = n
   answered Max [] None r h n v o = n
@@ -226,5 +244,7 @@ module _ {I : Type 0} where
   only_sums_overflow Sum es r h m e = refl
   only_sums_overflow Min [] r h m e = absurd (cc)
   only_sums_overflow Max [] r h m e = absurd (cc)
-  only_sums_overflow Min (x ∷ es) r h m e = absurd (subst (λ (q : Result ℤ ReduceErr). OkIff q (FitsSigned w64 (fold int_min x.1 (elements_of es))) (fold int_min x.1 (elements_of es))) e m.0 (least-fits x.1 es h.0 h.1))
-  only_sums_overflow Max (x ∷ es) r h m e = absurd (subst (λ (q : Result ℤ ReduceErr). OkIff q (FitsSigned w64 (fold int_max x.1 (elements_of es))) (fold int_max x.1 (elements_of es))) e m.0 (greatest-fits x.1 es h.0 h.1))
+  only_sums_overflow Min (x ∷ es) r h m e = absurd (subst (λ (q : Result ℤ ReduceErr). OkIff q (FitsSigned w64 (fold int_min x.1 (elements_of es)))
+      (fold int_min x.1 (elements_of es))) e m.0 (least-fits x.1 es h.0 h.1))
+  only_sums_overflow Max (x ∷ es) r h m e = absurd (subst (λ (q : Result ℤ ReduceErr). OkIff q (FitsSigned w64 (fold int_max x.1 (elements_of es)))
+      (fold int_max x.1 (elements_of es))) e m.0 (greatest-fits x.1 es h.0 h.1))

@@ -35,7 +35,8 @@ pub fn pieces_by_team<
         workers,
         &|worker: usize| -> Result<Vec<Vec<(I, i64)>>, NoMemory>
             requires { worker < workers }
-            ensures pieces { IfOk result (λ v. lists_of v.items ≡ share_of (M.locale to.entry.now) whole.entry.now.entries (M.locale_count to.entry.now) workers worker) }
+            ensures pieces { IfOk result (λ v. lists_of v.items ≡ share_of (M.locale to.entry.now) whole.entry.now.entries (M.locale_count to.entry.now)
+                workers worker) }
             ensures below { OnOk result (LieBelow (M.locale to.entry.now) (M.locale_count to.entry.now) whole.entry.now.entries) }
         {
             gate.arrive(worker);

@@ -24,7 +24,8 @@ or_swap true true c = refl
 or_swap true false c = refl
 or_swap false b c = refl
 
-has_placed : (o : Ordering) (i j : Index) (js rest : List Index) (k : Index) → index_cmp i j ≡ o → has rest k ≡ (is_same_index k i || has js k) → has (placed o i j js rest) k ≡ (is_same_index k i || (is_same_index k j || has js k))
+has_placed : (o : Ordering) (i j : Index) (js rest : List Index) (k : Index) → index_cmp i j ≡ o → has rest k ≡ (is_same_index k i || has js k) →
+    has (placed o i j js rest) k ≡ (is_same_index k i || (is_same_index k j || has js k))
 has_placed Less i j js rest k e more = refl
 has_placed Equal i j js rest k e more =
     let same : i ≡ j = index_cmp-IsAntisymmetric i j e in
@@ -48,7 +49,8 @@ Contains-ascending is k = (
 -- ---- what holds of each
 
 module _ (P : Index → Type 0) where
-  all_placed : (o : Ordering) (i j : Index) (js rest : List Index) → P i → P j → AllByRecursion P js → AllByRecursion P rest → AllByRecursion P (placed o i j js rest)
+  all_placed : (o : Ordering) (i j : Index) (js rest : List Index) → P i → P j → AllByRecursion P js → AllByRecursion P rest →
+      AllByRecursion P (placed o i j js rest)
   all_placed Less i j js rest p q all more = (p, (q, all))
   all_placed Equal i j js rest p q all more = (q, all)
   all_placed Greater i j js rest p q all more = (q, more)
@@ -59,11 +61,14 @@ module _ (P : Index → Type 0) where
 
 -- ---- in order
 
-below_all : (i j : Index) (js : List Index) → index_cmp i j ≡ Less → AllByRecursion (λ k. index_cmp j k ≡ Less) js → AllByRecursion (λ k. index_cmp i k ≡ Less) js
+below_all : (i j : Index) (js : List Index) → index_cmp i j ≡ Less → AllByRecursion (λ k. index_cmp j k ≡ Less) js →
+    AllByRecursion (λ k. index_cmp i k ≡ Less) js
 below_all i j [] e low = tt
 below_all i j (k ∷ js) e low = (index_total.trans i j k e low.0, below_all i j js e low.1)
 
-sorted_placed : (o : Ordering) (i j : Index) (js rest : List Index) → index_cmp i j ≡ o → IsStrictlySortedBy index_cmp (j ∷ js) → (index_cmp j i ≡ Less → AllByRecursion (λ k. index_cmp j k ≡ Less) rest) → IsStrictlySortedBy index_cmp rest → IsStrictlySortedBy index_cmp (placed o i j js rest)
+sorted_placed : (o : Ordering) (i j : Index) (js rest : List Index) → index_cmp i j ≡ o → IsStrictlySortedBy index_cmp (j ∷ js) →
+    (index_cmp j i ≡ Less → AllByRecursion (λ k. index_cmp j k ≡ Less) rest) → IsStrictlySortedBy index_cmp rest →
+    IsStrictlySortedBy index_cmp (placed o i j js rest)
 unfolding IsStrictlySortedBy
 sorted_placed Less i j js rest e sorted low more = ((e, below_all i j js e sorted.0), sorted)
 sorted_placed Equal i j js rest e sorted low more = sorted
@@ -73,7 +78,8 @@ sorted_inserted : (i : Index) (js : List Index) → IsStrictlySortedBy index_cmp
 unfolding IsStrictlySortedBy
 sorted_inserted i [] sorted = (tt, tt)
 sorted_inserted i (j ∷ js) sorted =
-    sorted_placed (index_cmp i j) i j js (inserted i js) refl sorted (λ e. all_inserted (λ k. index_cmp j k ≡ Less) i js e sorted.0) (sorted_inserted i js sorted.1)
+    sorted_placed (index_cmp i j) i j js (inserted i js) refl sorted (λ e. all_inserted (λ k. index_cmp j k ≡ Less) i js e sorted.0)
+    (sorted_inserted i js sorted.1)
 
 pub sorted-ascending : (is : List Index) → IsStrictlySortedBy index_cmp (ascending is)
 unfolding IsStrictlySortedBy
@@ -89,6 +95,7 @@ is_ascending xs is sorted same =
     ))
 
 -- where there is such a list
-pub ascending_if : {E : Type 0} (r : Result (List Index) E) (is : List Index) → IfOk r (λ xs. (k : Index) → Contains xs k ↔ Contains is k) → IfOk r (λ xs. IsStrictlySortedBy index_cmp xs) → IfOk r (λ xs. xs ≡ ascending is)
+pub ascending_if : {E : Type 0} (r : Result (List Index) E) (is : List Index) → IfOk r (λ xs. (k : Index) → Contains xs k ↔ Contains is k) →
+    IfOk r (λ xs. IsStrictlySortedBy index_cmp xs) → IfOk r (λ xs. xs ≡ ascending is)
 ascending_if (Ok xs) is same sorted = is_ascending xs is sorted same
 ascending_if (Err e) is same sorted = tt

@@ -1,5 +1,6 @@
 -- The end of a domain to which nothing is bound keeps a workbook well formed.
-use Rattle.std.proofs.Common.{◌≡◌, ℕ, Bool, true, false, cond, ◌&&◌, ◌||◌, List, [], ◌∷◌, map, Option, Some, None, is_some, option_map, refl, sym, ap, subst, ◌∙◌}
+use Rattle.std.proofs.Common.{◌≡◌, ℕ, Bool, true, false, cond, ◌&&◌, ◌||◌, List, [], ◌∷◌, map, Option, Some, None, is_some, option_map, refl, sym, ap, subst}
+use Rattle.std.proofs.Common.{◌∙◌}
 use Rattle.std.proofs.lemmas.Option.{none-some}
 use Rattle.std.specs.Cmp.Lexicographic.{slice_cmp}
 use Rattle.std.specs.Ordering.{eq_by_cmp, nat_cmp}
@@ -19,7 +20,8 @@ use Rattle.wb_book.specs.declared.values.index.Index.{Index}
 use Rattle.wb_book.specs.Cells.{Name, Cells, cell_cmp, cell_order, is_same_name}
 use Rattle.wb_book.specs.Kinds.{kind_of}
 use Rattle.wb_book.specs.Shapes.{Range, indices}
-use Rattle.wb_book.specs.WellFormed.{IsWellFormed, IsObject, IsShape, HasMapping, IsMember, IsImplicit, IsElement, has, present_if, domain_in, array_in, ranges_in, inside_of, use_of, domain_at, array_at, index_cell, is_index_of_array}
+use Rattle.wb_book.specs.WellFormed.{IsWellFormed, IsObject, IsShape, HasMapping, IsMember, IsImplicit, IsElement, has, present_if, domain_in, array_in}
+use Rattle.wb_book.specs.WellFormed.{ranges_in, inside_of, use_of, domain_at, array_at, index_cell, is_index_of_array}
 use Rattle.wb_resize.specs.Dropped.{dropped_domain_cells}
 use Rattle.wb_resize.specs.Laws.{KeepsDrops}
 use Rattle.wb_resize.specs.Writes.{clear_all}
@@ -72,10 +74,11 @@ parts_of d (Associative type) is = column_of (Member d) d is (λ i. refl)
 -- a cell that is one of some of an object is of it
 owner_is : (d : Name) (c : Cell) (xs : List Cell) → AreOf d xs → list_any (eq_by_cmp cell_cmp c) xs ≡ true → owner c ≡ d
 owner_is d c [] of there = cc
-owner_is d c (x ∷ xs) of there = elim (eq_by_cmp cell_cmp c x) as (λ b. eq_by_cmp cell_cmp c x ≡ b → (b || list_any (eq_by_cmp cell_cmp c) xs) ≡ true → owner c ≡ d) [
-  | true ↦ λ same _. ap owner (same_key cell_order c x same) ∙ of.0
-  | false ↦ λ other later. owner_is d c xs of.1 later
-] refl there
+owner_is d c (x ∷ xs) of there = elim (eq_by_cmp cell_cmp c x) as
+    (λ b. eq_by_cmp cell_cmp c x ≡ b → (b || list_any (eq_by_cmp cell_cmp c) xs) ≡ true → owner c ≡ d) [
+      | true ↦ λ same _. ap owner (same_key cell_order c x same) ∙ of.0
+      | false ↦ λ other later. owner_is d c xs of.1 later
+    ] refl there
 
 -- ---- nothing else stands in cells of the domain
 
@@ -84,7 +87,8 @@ first_there true b e none = cc
 first_there false b e none = cc
 
 -- an index whose cell is none of a column of them is none of theirs
-no_index : (make : Name → Index → Cell) (d : Name) (i : Index) (is : List Index) → ((is : List Index) → list_any (λ j. eq_by_cmp cell_cmp (make d i) (make d j)) is ≡ (is_same_name d d && has is i))
+no_index : (make : Name → Index → Cell) (d : Name) (i : Index) (is : List Index) →
+    ((is : List Index) → list_any (λ j. eq_by_cmp cell_cmp (make d i) (make d j)) is ≡ (is_same_name d d && has is i))
     → list_any (eq_by_cmp cell_cmp (make d i)) (map (make d) is) ≡ false → has is i ≡ false
 no_index make d i is column none =
     ap (λ b. b && has is i) (sym (itself d)) ∙ sym (column is) ∙ sym (list_any-map (eq_by_cmp cell_cmp (make d i)) (make d) is) ∙ none
@@ -128,7 +132,8 @@ module _ (s : Cells) (d : Name) (h : IsWellFormed s) where
   AreAll kind is = (i : Index) → get s (index_cell (kind_of kind) d i) ≡ Some Present → has is i ≡ true
 
   inside_told : (kind : DomainKind) (is : List Index) (i : Index) → AreAll kind is → IsShape (Some kind) (get s (Shape d)) → IsTold kind is (In d i)
-  inside_told (Rectangular rank) is i all shape none = absent (get s (In d i)) (is_some (get s (In d i))) (has is i) (inside_present s h d i) (all i) (no_index In d i is (in_column (slice_cmp nat_cmp d d) i) none)
+  inside_told (Rectangular rank) is i all shape none = absent (get s (In d i)) (is_some (get s (In d i))) (has is i) (inside_present s h d i) (all i)
+      (no_index In d i is (in_column (slice_cmp nat_cmp d d) i) none)
   inside_told (Sparse parent rank) is i all shape none = h.insides d i ∙ ap (λ o. inside_of (ranges_in o) i) shape
   inside_told (Associative type) is i all shape none = h.insides d i ∙ ap (λ o. inside_of (ranges_in o) i) shape
 
@@ -138,16 +143,20 @@ module _ (s : Cells) (d : Name) (h : IsWellFormed s) where
 
   member_told : (kind : DomainKind) (is : List Index) (i : Index) → AreAll kind is → IsMember s (Some kind) i (get s (Member d i)) → IsTold kind is (Member d i)
   member_told (Rectangular rank) is i all member none = no_member_of_ranges rank i (get s (Member d i)) member
-  member_told (Sparse parent rank) is i all member none = absent (get s (Member d i)) (is_some (get s (Member d i))) (has is i) (is_present s (Some (Sparse parent rank)) i (get s (Member d i)) member) (all i) (no_index Member d i is (in_column (slice_cmp nat_cmp d d) i) none)
-  member_told (Associative type) is i all member none = absent (get s (Member d i)) (is_some (get s (Member d i))) (has is i) (is_present s (Some (Associative type)) i (get s (Member d i)) member) (all i) (no_index Member d i is (in_column (slice_cmp nat_cmp d d) i) none)
+  member_told (Sparse parent rank) is i all member none = absent (get s (Member d i)) (is_some (get s (Member d i))) (has is i)
+      (is_present s (Some (Sparse parent rank)) i (get s (Member d i)) member) (all i) (no_index Member d i is (in_column (slice_cmp nat_cmp d d) i) none)
+  member_told (Associative type) is i all member none = absent (get s (Member d i)) (is_some (get s (Member d i))) (has is i)
+      (is_present s (Some (Associative type)) i (get s (Member d i)) member) (all i) (no_index Member d i is (in_column (slice_cmp nat_cmp d d) i) none)
 
   use_told : (kind : DomainKind) (is : List Index) (e : Name) → get s (Use e d) ≡ use_of e (Some (Domain kind)) → IsTold kind is (Use e d)
   use_told (Rectangular rank) is e used none = used
   use_told (Associative type) is e used none = used
-  use_told (Sparse parent rank) is e used none = used ∙ elim (is_same_name e parent) as (λ b. is_same_name e parent ≡ b → elim b as (λ _. Option Value) [ true ↦ Some (Bound BoundSparse) | false ↦ None ] ≡ None) [
-    | true ↦ λ same. absurd (first_there _ _ (second_first (slice_cmp nat_cmp e parent) (slice_cmp nat_cmp d d) ∙ ap (λ b. b && is_same_name e parent) (itself d) ∙ same) none)
-    | false ↦ λ other. refl
-  ] refl
+  use_told (Sparse parent rank) is e used none = used ∙ elim (is_same_name e parent) as
+      (λ b. is_same_name e parent ≡ b → elim b as (λ _. Option Value) [ true ↦ Some (Bound BoundSparse) | false ↦ None ] ≡ None) [
+        | true ↦ λ same. absurd (first_there _ _ (second_first (slice_cmp nat_cmp e parent) (slice_cmp nat_cmp d d) ∙
+            ap (λ b. b && is_same_name e parent) (itself d) ∙ same) none)
+        | false ↦ λ other. refl
+      ] refl
 
   module _ (kind : DomainKind) (is : List Index) (there : domain_at s d ≡ Some kind) (all : AreAll kind is) where
     object : get s (Object d) ≡ Some (Domain kind)
@@ -160,11 +169,15 @@ module _ (s : Cells) (d : Name) (h : IsWellFormed s) where
     told (Object n) e = subst (λ (m : Name). IsTold kind is (Object m)) (sym e) (object_told kind is)
     told (Shape n) e = subst (λ (m : Name). IsTold kind is (Shape m)) (sym e) (shape_told kind is shape)
     told (In n i) e = subst (λ (m : Name). IsTold kind is (In m i)) (sym e) (inside_told kind is i all shape)
-    told (Member n i) e = subst (λ (m : Name). IsTold kind is (Member m i)) (sym e) (member_told kind is i all (subst (λ o. IsMember s o i (get s (Member d i))) there (h.members d i)))
-    told (Mapping n) e = subst (λ (m : Name). IsTold kind is (Mapping m)) (sym e) (mapping_told kind is (subst (λ o. HasMapping o (get s (Mapping d))) there (h.mappings d)))
+    told (Member n i) e = subst (λ (m : Name). IsTold kind is (Member m i)) (sym e)
+        (member_told kind is i all (subst (λ o. IsMember s o i (get s (Member d i))) there (h.members d i)))
+    told (Mapping n) e = subst (λ (m : Name). IsTold kind is (Mapping m)) (sym e)
+        (mapping_told kind is (subst (λ o. HasMapping o (get s (Mapping d))) there (h.mappings d)))
     told (Use f n) e = subst (λ (m : Name). IsTold kind is (Use f m)) (sym e) (use_told kind is f (h.uses f d ∙ ap (use_of f) object))
-    told (Implicit n) e = subst (λ (m : Name). IsTold kind is (Implicit m)) (sym e) (λ none. subst (λ o. IsImplicit (array_in o) (get s (Implicit d))) object (h.implicits d))
-    told (Element n i) e = subst (λ (m : Name). IsTold kind is (Element m i)) (sym e) (λ none. subst (λ o. IsElement (is_index_of_array s (array_in o) i) (get s (Element d i))) object (h.elements d i))
+    told (Implicit n) e = subst (λ (m : Name). IsTold kind is (Implicit m)) (sym e)
+        (λ none. subst (λ o. IsImplicit (array_in o) (get s (Implicit d))) object (h.implicits d))
+    told (Element n i) e = subst (λ (m : Name). IsTold kind is (Element m i)) (sym e)
+        (λ none. subst (λ o. IsElement (is_index_of_array s (array_in o) i) (get s (Element d i))) object (h.elements d i))
 
     -- afterwards the cells of the domain are absent, and the others hold what they held
     all_gone : (c : Cell) → get (apply (dropped_domain_cells d kind is) s) c ≡ cond (is_same_name d (owner c)) None (get s c)
@@ -184,7 +197,8 @@ module _ (s : Cells) (d : Name) (h : IsWellFormed s) where
 
 -- ---- a workbook without the cells of an object to which nothing is bound
 
-module _ (s t : Cells) (d : Name) (h : IsWellFormed s) (unbound : (n : Name) → get s (Use d n) ≡ None) (at : (c : Cell) → get t c ≡ cond (is_same_name d (owner c)) None (get s c)) where
+module _ (s t : Cells) (d : Name) (h : IsWellFormed s) (unbound : (n : Name) → get s (Use d n) ≡ None)
+    (at : (c : Cell) → get t c ≡ cond (is_same_name d (owner c)) None (get s c)) where
   elsewhere : (c : Cell) → is_same_name d (owner c) ≡ false → get t c ≡ get s c
   elsewhere c other = at c ∙ ap (λ b. cond b None (get s c)) other
 
@@ -221,37 +235,44 @@ module _ (s t : Cells) (d : Name) (h : IsWellFormed s) (unbound : (n : Name) →
       record {
         names = λ n v is. h.names n v (was n v is);
         objects = λ n v is. object_kept n v (was n v is) (h.objects n v (was n v is));
-        shapes = λ n. rw (at (Object n), at (Shape n)) (elim (is_same_name d n) as (λ b. IsShape (domain_in (cond b None (get s (Object n)))) (cond b None (get s (Shape n)))) [
-          | true ↦ refl
-          | false ↦ h.shapes n
-        ]);
-        insides = λ n i. rw (at (In n i), at (Shape n)) (elim (is_same_name d n) as (λ b. cond b None (get s (In n i)) ≡ inside_of (ranges_in (cond b None (get s (Shape n)))) i) [
-          | true ↦ refl
-          | false ↦ h.insides n i
-        ]);
-        members = λ n i. rw (at (Object n), at (Member n i)) (elim (is_same_name d n) as (λ b. IsMember t (domain_in (cond b None (get s (Object n)))) i (cond b None (get s (Member n i)))) [
-          | true ↦ tt
-          | false ↦ IsMember-kept s t (domain_at s n) i (get s (Member n i)) (λ parent rank over there here.
-              elsewhere (In parent i) (in_other n parent rank (domain_in-is (get s (Object n)) (Sparse parent rank) over)) ∙ here) (h.members n i)
-        ]);
-        mappings = λ n. rw (at (Object n), at (Mapping n)) (elim (is_same_name d n) as (λ b. HasMapping (domain_in (cond b None (get s (Object n)))) (cond b None (get s (Mapping n)))) [
-          | true ↦ refl
-          | false ↦ h.mappings n
-        ]);
-        uses = λ e n. rw (at (Use e n), at (Object n)) (elim (is_same_name d n) as (λ b. cond b None (get s (Use e n)) ≡ use_of e (cond b None (get s (Object n)))) [
-          | true ↦ refl
-          | false ↦ h.uses e n
-        ]);
-        implicits = λ a. rw (at (Object a), at (Implicit a)) (elim (is_same_name d a) as (λ b. IsImplicit (array_in (cond b None (get s (Object a)))) (cond b None (get s (Implicit a)))) [
-          | true ↦ refl
-          | false ↦ h.implicits a
-        ]);
-        elements = λ a i. rw (at (Object a), at (Element a i)) (elim (is_same_name d a) as (λ b. IsElement (is_index_of_array t (array_in (cond b None (get s (Object a)))) i) (cond b None (get s (Element a i)))) [
-          | true ↦ refl
-          | false ↦ rw (indices_same s t (array_at s a) i (λ e kind over.
-              let other : is_same_name d e ≡ false = over_other a e kind (array_in-is (get s (Object a)) (e, kind) over) in
-              index_cell_same s t kind e i (elsewhere (In e i) other) (elsewhere (Member e i) other))) (h.elements a i)
-        ]);
+        shapes = λ n. rw (at (Object n), at (Shape n)) (elim (is_same_name d n) as
+            (λ b. IsShape (domain_in (cond b None (get s (Object n)))) (cond b None (get s (Shape n)))) [
+              | true ↦ refl
+              | false ↦ h.shapes n
+            ]);
+        insides = λ n i. rw (at (In n i), at (Shape n)) (elim (is_same_name d n) as
+            (λ b. cond b None (get s (In n i)) ≡ inside_of (ranges_in (cond b None (get s (Shape n)))) i) [
+              | true ↦ refl
+              | false ↦ h.insides n i
+            ]);
+        members = λ n i. rw (at (Object n), at (Member n i)) (elim (is_same_name d n) as
+            (λ b. IsMember t (domain_in (cond b None (get s (Object n)))) i (cond b None (get s (Member n i)))) [
+              | true ↦ tt
+              | false ↦ IsMember-kept s t (domain_at s n) i (get s (Member n i)) (λ parent rank over there here.
+                  elsewhere (In parent i) (in_other n parent rank (domain_in-is (get s (Object n)) (Sparse parent rank) over)) ∙ here) (h.members n i)
+            ]);
+        mappings = λ n. rw (at (Object n), at (Mapping n)) (elim (is_same_name d n) as
+            (λ b. HasMapping (domain_in (cond b None (get s (Object n)))) (cond b None (get s (Mapping n)))) [
+              | true ↦ refl
+              | false ↦ h.mappings n
+            ]);
+        uses = λ e n. rw (at (Use e n), at (Object n)) (elim (is_same_name d n) as
+            (λ b. cond b None (get s (Use e n)) ≡ use_of e (cond b None (get s (Object n)))) [
+              | true ↦ refl
+              | false ↦ h.uses e n
+            ]);
+        implicits = λ a. rw (at (Object a), at (Implicit a)) (elim (is_same_name d a) as
+            (λ b. IsImplicit (array_in (cond b None (get s (Object a)))) (cond b None (get s (Implicit a)))) [
+              | true ↦ refl
+              | false ↦ h.implicits a
+            ]);
+        elements = λ a i. rw (at (Object a), at (Element a i)) (elim
+            (is_same_name d a) as (λ b. IsElement (is_index_of_array t (array_in (cond b None (get s (Object a)))) i) (cond b None (get s (Element a i)))) [
+              | true ↦ refl
+              | false ↦ rw (indices_same s t (array_at s a) i (λ e kind over.
+                  let other : is_same_name d e ≡ false = over_other a e kind (array_in-is (get s (Object a)) (e, kind) over) in
+                  index_cell_same s t kind e i (elsewhere (In e i) other) (elsewhere (Member e i) other))) (h.elements a i)
+            ]);
       }
 
 pub keeps_drops : KeepsDrops

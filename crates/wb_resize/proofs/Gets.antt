@@ -37,14 +37,16 @@ module _ {K V : Type 0} (order : K → K → Ordering) where
   each make is v = map (λ k. record { cell = k; value = v }) (map make is)
 
   -- a key that is one of them holds it, another one what it held
-  pub after-each : {A : Type 0} (make : A → K) (is : List A) (v : Option V) (c : K) (o : Option V) → after (each make is v) c o ≡ cond (list_any (λ i. eq_by_cmp order c (make i)) is) v o
+  pub after-each : {A : Type 0} (make : A → K) (is : List A) (v : Option V) (c : K) (o : Option V) →
+      after (each make is v) c o ≡ cond (list_any (λ i. eq_by_cmp order c (make i)) is) v o
   after-each make [] v c o = refl
   after-each make (i ∷ is) v c o =
       after-each make is v c (cond (eq_by_cmp order c (make i)) v o)
       ∙ cond-or (eq_by_cmp order c (make i)) (list_any (λ i. eq_by_cmp order c (make i)) is) v o
 
   -- a key that is none of them holds what it held
-  pub each-beside : {A : Type 0} (make : A → K) (is : List A) (v : Option V) (c : K) (o : Option V) → ((i : A) → eq_by_cmp order c (make i) ≡ false) → after (each make is v) c o ≡ o
+  pub each-beside : {A : Type 0} (make : A → K) (is : List A) (v : Option V) (c : K) (o : Option V) → ((i : A) → eq_by_cmp order c (make i) ≡ false) →
+      after (each make is v) c o ≡ o
   each-beside make [] v c o beside = refl
   each-beside make (i ∷ is) v c o beside = each-beside make is v c (cond (eq_by_cmp order c (make i)) v o) beside ∙ ap (λ b. cond b v o) (beside i)
 
@@ -53,11 +55,13 @@ module _ {K V : Type 0} (order : K → K → Ordering) where
   column make is v = each make is (Some v)
 
   -- at a key of the column, the value
-  pub after-column : {A : Type 0} (make : A → K) (is : List A) (v : V) (c : K) (o : Option V) → after (column make is v) c o ≡ cond (list_any (λ i. eq_by_cmp order c (make i)) is) (Some v) o
+  pub after-column : {A : Type 0} (make : A → K) (is : List A) (v : V) (c : K) (o : Option V) →
+      after (column make is v) c o ≡ cond (list_any (λ i. eq_by_cmp order c (make i)) is) (Some v) o
   after-column make is v = after-each make is (Some v)
 
   -- a key that is none of them holds what it held
-  pub after-beside : {A : Type 0} (make : A → K) (is : List A) (v : V) (c : K) (o : Option V) → ((i : A) → eq_by_cmp order c (make i) ≡ false) → after (column make is v) c o ≡ o
+  pub after-beside : {A : Type 0} (make : A → K) (is : List A) (v : V) (c : K) (o : Option V) → ((i : A) → eq_by_cmp order c (make i) ≡ false) →
+      after (column make is v) c o ≡ o
   after-beside make is v = each-beside make is (Some v)
 
 module _ {K : Type 0} {order : K → K → Ordering} (ordered : IsOrder order) where

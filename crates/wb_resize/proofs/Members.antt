@@ -1,5 +1,6 @@
 -- What a list of indices has, as a search of a set says it, and as definitions compute it.
-use Rattle.std.proofs.Common.{◌≡◌, ◌↔◌, ℕ, zero, suc, ◌+◌, ◌<◌, Bool, true, false, cond, not, List, [], ◌∷◌, ◌++◌, Some, None, IsTrue, take, length, slice_get, refl, sym, ap, ◌∙◌, arith}
+use Rattle.std.proofs.Common.{◌≡◌, ◌↔◌, ℕ, zero, suc, ◌+◌, ◌<◌, Bool, true, false, cond, not, List, [], ◌∷◌, ◌++◌, Some, None, IsTrue, take, length, slice_get}
+use Rattle.std.proofs.Common.{refl, sym, ap, ◌∙◌, arith}
 use Rattle.std.proofs.lemmas.List.{take_more}
 use Rattle.std.proofs.lemmas.List.Elements.{filter-append}
 use Rattle.std.proofs.lemmas.Option.{slice_get_within, get_or_from_slice_get}
@@ -35,7 +36,8 @@ found_has b xs i h = same_truth b (has xs i) (λ e. has-Contains xs i (h.0 e)) (
 
 -- lists with the same members
 pub has_same : (xs ys : List Index) → ((k : Index) → Contains xs k ↔ Contains ys k) → (i : Index) → has xs i ≡ has ys i
-has_same xs ys h i = same_truth (has xs i) (has ys i) (λ e. has-Contains ys i ((h i).0 (Contains-has xs i e))) (λ e. has-Contains xs i ((h i).1 (Contains-has ys i e)))
+has_same xs ys h i = same_truth (has xs i) (has ys i) (λ e. has-Contains ys i ((h i).0 (Contains-has xs i e)))
+    (λ e. has-Contains xs i ((h i).1 (Contains-has ys i e)))
 
 filter_same : (p q : Index → Bool) → ((i : Index) → p i ≡ q i) → (xs : List Index) → filter p xs ≡ filter q xs
 filter_same p q h [] = refl
@@ -56,7 +58,9 @@ pub none_within : (xs : List Index) (p : ℕ) → p < length xs → None ≡ sli
 none_within = within
 
 -- one more index looked at
-pub without_more : (ys xs : List Index) (p : ℕ) (i : Index) → Some i ≡ slice_get xs p → without ys (take (p + 1) xs) ≡ without ys (take p xs) ++ without ys (i ∷ [])
+pub without_more : (ys xs : List Index) (p : ℕ) (i : Index) → Some i ≡ slice_get xs p →
+    without ys (take (p + 1) xs) ≡ without ys (take p xs) ++ without ys (i ∷ [])
 without_more ys xs p i e =
-    let more : take (p + 1) xs ≡ take p xs ++ i ∷ [] = take_more xs p i (slice_get_within xs p i (sym e)) ∙ ap (λ x. take p xs ++ x ∷ []) (get_or_from_slice_get xs p i i (sym e)) in
+    let more : take (p + 1) xs ≡ take p xs ++ i ∷ [] = take_more xs p i (slice_get_within xs p i (sym e)) ∙
+    ap (λ x. take p xs ++ x ∷ []) (get_or_from_slice_get xs p i i (sym e)) in
     ap (without ys) more ∙ filter-append (λ j. not (has ys j)) (take p xs) (i ∷ [])

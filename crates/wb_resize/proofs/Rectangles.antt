@@ -24,14 +24,17 @@ use Rattle.wb_resize.proofs.Without.{has-without}
 use Rattle.wb_resize.proofs.States.{same_name, itself, domain_in-is, IsObject-same, IsMember-kept}
 
 -- an index is present afterwards exactly where it is among the new ones
-exchanged_present : (in_new in_old : Bool) → cond (in_new && not in_old) (Some Present) (cond (in_old && not in_new) None (present_if in_old)) ≡ present_if in_new
+exchanged_present : (in_new in_old : Bool) → cond (in_new && not in_old) (Some Present) (cond (in_old && not in_new) None (present_if in_old)) ≡ present_if
+    in_new
 exchanged_present true true = refl
 exchanged_present true false = refl
 exchanged_present false true = refl
 exchanged_present false false = refl
 
-new_present : (old new : List Range) (i : Index) → exchanged_at (without (indices new) (indices old)) (without (indices old) (indices new)) Present i (present_if (has (indices old) i)) ≡ present_if (has (indices new) i)
-new_present old new i = rw (has-without (indices new) (indices old) i, has-without (indices old) (indices new) i) (exchanged_present (has (indices new) i) (has (indices old) i))
+new_present : (old new : List Range) (i : Index) → exchanged_at (without (indices new) (indices old)) (without (indices old) (indices new)) Present i
+    (present_if (has (indices old) i)) ≡ present_if (has (indices new) i)
+new_present old new i = rw (has-without (indices new) (indices old) i, has-without (indices old) (indices new) i)
+    (exchanged_present (has (indices new) i) (has (indices old) i))
 
 -- a sparse domain is bound to its parent
 parent_bound : (s : Cells) → IsWellFormed s → (d e : Name) (rank : ℕ) → domain_at s e ≡ Some (Sparse d rank) → get s (Use d e) ≡ Some (Bound BoundSparse)
@@ -41,7 +44,8 @@ parent_bound s h d e rank there =
     ∙ ap (λ b. elim b as (λ _. Option Value) [ true ↦ Some (Bound BoundSparse) | false ↦ None ]) (itself d)
 
 rectangle_resized : (s t : Cells) (d : Name) (rank : ℕ) (fills : List (Name × ℤ)) (old new : List Range)
-    → IsWellFormed s → domain_at s d ≡ Some (Rectangular rank) → get s (Shape d) ≡ Some (Ranges old) → IsRectangle rank new → AreFills s d fills → LosesNone s d (indices new)
+    → IsWellFormed s → domain_at s d ≡ Some (Rectangular rank) → get s (Shape d) ≡ Some (Ranges old) → IsRectangle rank new → AreFills s d fills →
+    LosesNone s d (indices new)
     → ((n : Name) → get t (Shape n) ≡ cond (is_same_name n d) (Some (Ranges new)) (get s (Shape n)))
     → IsResized s t (OverRectangular rank) d fills (without (indices new) (indices old)) (without (indices old) (indices new)) → IsWellFormed t
 rectangle_resized s t d rank fills old new h there was whole are loses shape k =
@@ -49,28 +53,35 @@ rectangle_resized s t d rank fills old new h there was whole are loses shape k =
     let coming : List Index = without (indices old) (indices new) in
     let over : (n : Name) → is_same_name n d ≡ true → domain_at s n ≡ Some (Rectangular rank) = λ n same. ap (domain_at s) (same_name n d same) ∙ there in
     let inside : (n : Name) (i : Index) → get t (In n i) ≡ cond (is_same_name n d) (present_if (has (indices new) i)) (get s (In n i)) = λ n i.
-    k.inside n i ∙ elim (is_same_name n d) as (λ b. is_same_name n d ≡ b → cond b (exchanged_at leaving coming Present i (get s (In n i))) (get s (In n i)) ≡ cond b (present_if (has (indices new) i)) (get s (In n i))) [
-      | true ↦ λ same. ap (exchanged_at leaving coming Present i) (h.insides n i ∙ ap (λ o. inside_of (ranges_in o) i) (ap (λ m. get s (Shape m)) (same_name n d same) ∙ was)) ∙ new_present old new i
+    k.inside n i ∙ elim (is_same_name n d) as (λ b. is_same_name n d ≡ b →
+    cond b (exchanged_at leaving coming Present i (get s (In n i))) (get s (In n i)) ≡ cond b (present_if (has (indices new) i)) (get s (In n i))) [
+      | true ↦ λ same. ap (exchanged_at leaving coming Present i) (h.insides n i ∙
+          ap (λ o. inside_of (ranges_in o) i) (ap (λ m. get s (Shape m)) (same_name n d same) ∙ was)) ∙ new_present old new i
       | false ↦ λ same. refl
     ] refl in
-    let stays : (n : Name) (i : Index) (parent : Name) (other : ℕ) → domain_at s n ≡ Some (Sparse parent other) → get s (Member n i) ≡ Some Present → get s (In parent i) ≡ Some Present → get t (In parent i) ≡ Some Present = λ n i parent other sparse present was_in.
-    rw (inside parent i) (elim (is_same_name parent d) as (λ b. is_same_name parent d ≡ b → cond b (present_if (has (indices new) i)) (get s (In parent i)) ≡ Some Present) [
+    let stays : (n : Name) (i : Index) (parent : Name) (other : ℕ) → domain_at s n ≡ Some (Sparse parent other) → get s (Member n i) ≡ Some Present →
+    get s (In parent i) ≡ Some Present → get t (In parent i) ≡ Some Present = λ n i parent other sparse present was_in.
+    rw (inside parent i) (elim (is_same_name parent d) as (λ b. is_same_name parent d ≡ b →
+    cond b (present_if (has (indices new) i)) (get s (In parent i)) ≡ Some Present) [
       | true ↦ λ same.
-          let bound : get s (Use d n) ≡ Some (Bound BoundSparse) = parent_bound s h d n other (sparse ∙ ap (λ p. Some (Sparse p other)) (same_name parent d same)) in
+          let bound : get s (Use d n) ≡ Some (Bound BoundSparse) = parent_bound s h d n other
+          (sparse ∙ ap (λ p. Some (Sparse p other)) (same_name parent d same)) in
           ap present_if (loses n i bound present)
       | false ↦ λ same. was_in
     ] refl) in
     record {
       names = λ n v is. h.names n v (sym (k.object n) ∙ is);
       objects = λ n v is. IsObject-same s t (λ e other there. ap domain_in (k.object e) ∙ there) v (h.objects n v (sym (k.object n) ∙ is));
-      shapes = λ n. rw (k.object n, shape n) (elim (is_same_name n d) as (λ b. is_same_name n d ≡ b → IsShape (domain_at s n) (cond b (Some (Ranges new)) (get s (Shape n)))) [
-        | true ↦ λ same. subst (λ o. IsShape o (Some (Ranges new))) (sym (over n same)) (new, refl, whole)
-        | false ↦ λ same. h.shapes n
-      ] refl);
-      insides = λ n i. rw (inside n i, shape n) (elim (is_same_name n d) as (λ b. cond b (present_if (has (indices new) i)) (get s (In n i)) ≡ inside_of (ranges_in (cond b (Some (Ranges new)) (get s (Shape n)))) i) [
-        | true ↦ refl
-        | false ↦ h.insides n i
-      ]);
+      shapes = λ n. rw (k.object n, shape n) (elim (is_same_name n d) as
+          (λ b. is_same_name n d ≡ b → IsShape (domain_at s n) (cond b (Some (Ranges new)) (get s (Shape n)))) [
+            | true ↦ λ same. subst (λ o. IsShape o (Some (Ranges new))) (sym (over n same)) (new, refl, whole)
+            | false ↦ λ same. h.shapes n
+          ] refl);
+      insides = λ n i. rw (inside n i, shape n) (elim (is_same_name n d) as
+          (λ b. cond b (present_if (has (indices new) i)) (get s (In n i)) ≡ inside_of (ranges_in (cond b (Some (Ranges new)) (get s (Shape n)))) i) [
+            | true ↦ refl
+            | false ↦ h.insides n i
+          ]);
       members = λ n i. rw (k.object n, k.member n i) (IsMember-kept s t (domain_at s n) i (get s (Member n i)) (stays n i) (h.members n i));
       mappings = λ n. rw (k.object n, k.mapping n) (h.mappings n);
       uses = λ e n. rw (k.used e n, k.object n) (h.uses e n);
@@ -94,7 +105,10 @@ keeps_rectangles s d rank fills old new h there was whole are loses =
     let coming : List Index = without (indices old) (indices new) in
     let xs : Changes = resized_cells (OverRectangular rank) d fills leaving coming in
     let ys : Changes = set_to (Shape d) (Ranges new) ∷ xs in
-    let at : (c : Cell) → get (apply ys s) c ≡ after cell_cmp xs c (cond (eq_by_cmp cell_cmp c (Shape d)) (Some (Ranges new)) (get s c)) = get-apply cell_order ys s in
+    let at : (c : Cell) → get (apply ys s) c ≡ after cell_cmp xs c (cond (eq_by_cmp cell_cmp c (Shape d)) (Some (Ranges new)) (get s c)) =
+    get-apply cell_order ys s in
     rectangle_resized s (apply ys s) d rank fills old new h there was whole are loses
-    (λ n. at (Shape n) ∙ neither-resized leaving coming (OverRectangular rank) d fills (Shape n) (cond (is_same_name n d) (Some (Ranges new)) (get s (Shape n))) (λ a i. refl) (λ i. refl) (λ i. refl))
-    (is_resized s (apply ys s) (OverRectangular rank) d fills leaving coming (λ c other. at c ∙ ap (λ b. after cell_cmp xs c (cond b (Some (Ranges new)) (get s c))) (no_shape_cell c d other)))
+    (λ n. at (Shape n) ∙ neither-resized leaving coming (OverRectangular rank) d fills (Shape n)
+    (cond (is_same_name n d) (Some (Ranges new)) (get s (Shape n))) (λ a i. refl) (λ i. refl) (λ i. refl))
+    (is_resized s (apply ys s) (OverRectangular rank) d fills leaving coming
+    (λ c other. at c ∙ ap (λ b. after cell_cmp xs c (cond b (Some (Ranges new)) (get s c))) (no_shape_cell c d other)))

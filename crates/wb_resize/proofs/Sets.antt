@@ -26,7 +26,8 @@ set_has_no_ranges (Rectangular rank) set = absurd set
 set_has_no_ranges (Sparse parent rank) set = refl
 set_has_no_ranges (Associative type) set = refl
 
-exchanged_member : (s : Cells) (kind : Option DomainKind) (i : Index) (comes leaves : Bool) (o : Option Value) → (comes ≡ true → MayHave s kind i) → IsMember s kind i o → IsMember s kind i (cond comes (Some Present) (cond leaves None o))
+exchanged_member : (s : Cells) (kind : Option DomainKind) (i : Index) (comes leaves : Bool) (o : Option Value) → (comes ≡ true → MayHave s kind i) →
+    IsMember s kind i o → IsMember s kind i (cond comes (Some Present) (cond leaves None o))
 exchanged_member s kind i true leaves o may old = (refl, may refl)
 exchanged_member s kind i false true o may old = tt
 exchanged_member s kind i false false o may old = old
@@ -36,7 +37,8 @@ set_resized : (s t : Cells) (d : Name) (kind : DomainKind) (fills : List (Name �
     → ((n : Name) → get t (Shape n) ≡ get s (Shape n)) → IsResized s t (kind_of kind) d fills leaving coming → IsWellFormed t
 set_resized s t d kind fills leaving coming h there set are may shape k =
     let inside : (n : Name) (i : Index) → get t (In n i) ≡ get s (In n i) = λ n i. rw (set_has_no_ranges kind set) at (k.inside n i) in
-    let member : (n : Name) (i : Index) → get t (Member n i) ≡ cond (is_same_name n d) (exchanged_at leaving coming Present i (get s (Member n i))) (get s (Member n i)) = λ n i. rw (set_has_no_ranges kind set) at (k.member n i) in
+    let member : (n : Name) (i : Index) → get t (Member n i) ≡ cond (is_same_name n d) (exchanged_at leaving coming Present i (get s (Member n i)))
+    (get s (Member n i)) = λ n i. rw (set_has_no_ranges kind set) at (k.member n i) in
     record {
       names = λ n v is. h.names n v (sym (k.object n) ∙ is);
       objects = λ n v is. IsObject-same s t (λ e other over. ap domain_in (k.object e) ∙ over) v (h.objects n v (sym (k.object n) ∙ is));
@@ -44,9 +46,11 @@ set_resized s t d kind fills leaving coming h there set are may shape k =
       insides = λ n i. rw (inside n i, shape n) (h.insides n i);
       members = λ n i.
           let v : Bool → Option Value = λ b. cond b (exchanged_at leaving coming Present i (get s (Member n i))) (get s (Member n i)) in
-          let old : IsMember s (domain_at s n) i (v (is_same_name n d)) = elim (is_same_name n d) as (λ b. is_same_name n d ≡ b → IsMember s (domain_at s n) i (v b)) [
+          let old : IsMember s (domain_at s n) i (v (is_same_name n d)) =
+          elim (is_same_name n d) as (λ b. is_same_name n d ≡ b → IsMember s (domain_at s n) i (v b)) [
             | true ↦ λ same. exchanged_member s (domain_at s n) i (has coming i) (has leaving i) (get s (Member n i)) (λ comes.
-                subst (λ over. MayHave s over i) (sym (ap (domain_at s) (same_name n d same) ∙ there)) (may i (Contains-from_any same_index i coming comes))) (h.members n i)
+                subst (λ over. MayHave s over i) (sym (ap (domain_at s) (same_name n d same) ∙ there)) (may i (Contains-from_any same_index i coming comes)))
+                (h.members n i)
             | false ↦ λ same. h.members n i
           ] refl in
           rw (k.object n, member n i) (IsMember-same s t (λ e j was. inside e j ∙ was) (domain_at s n) i (v (is_same_name n d)) old);

@@ -19,7 +19,8 @@ use Rattle.wb_book.specs.declared.values.index.Index.{Index}
 use Rattle.wb_book.specs.Names.{is_name}
 use Rattle.wb_book.specs.Shapes.{Range, indices}
 use Rattle.wb_book.specs.Cells.{Name, Cells, index_cmp, index_cmp-IsAntisymmetric, is_same_name, is_same_index, same_names}
-use Rattle.wb_book.specs.WellFormed.{IsWellFormed, IsObject, IsRectangle, IsShape, HasMapping, IsMember, IsElement, has, present_if, domain_in, array_in, ranges_in, inside_of, use_of, domain_at, array_at, index_cell, is_index_of_array}
+use Rattle.wb_book.specs.WellFormed.{IsWellFormed, IsObject, IsRectangle, IsShape, HasMapping, IsMember, IsElement, has, present_if, domain_in, array_in}
+use Rattle.wb_book.specs.WellFormed.{ranges_in, inside_of, use_of, domain_at, array_at, index_cell, is_index_of_array}
 use Rattle.wb_book.specs.Kinds.{kind_of}
 use Rattle.wb_resize.proofs.Gets.{list_any-nowhere}
 
@@ -73,26 +74,32 @@ domain_in-is _ kind e = cc
 
 -- what is bound to a domain as an array is an array over it
 bound_array : (d : Name) (o : Option Value) → use_of d o ≡ Some (Bound BoundArray) → (kind : Kind) × (array_in o ≡ Some (d, kind))
-bound_array d (Some (Array e kind)) used = elim (is_same_name d e) as (λ b. is_same_name d e ≡ b → elim b [ true ↦ Some (Bound BoundArray) | false ↦ None ] ≡ Some (Bound BoundArray) → (other : Kind) × (array_in (Some (Array e kind)) ≡ Some (d, other))) [
-  | true ↦ λ same _. (kind, ap (λ n. array_in (Some (Array n kind))) (sym (same_name d e same)))
-  | false ↦ λ other none. cc
-] refl used
-bound_array d (Some (Domain (Sparse parent rank))) used = absurd (elim (is_same_name d parent) as (λ b. elim b [ true ↦ Some (Bound BoundSparse) | false ↦ None ] ≡ Some (Bound BoundArray) → ⊥) [
-  | true ↦ λ no. cc
-  | false ↦ λ no. cc
-] used)
+bound_array d (Some (Array e kind)) used = elim (is_same_name d e) as
+    (λ b. is_same_name d e ≡ b → elim b [ true ↦ Some (Bound BoundArray) | false ↦ None ] ≡ Some (Bound BoundArray) → (other : Kind) ×
+    (array_in (Some (Array e kind)) ≡ Some (d, other))) [
+      | true ↦ λ same _. (kind, ap (λ n. array_in (Some (Array n kind))) (sym (same_name d e same)))
+      | false ↦ λ other none. cc
+    ] refl used
+bound_array d (Some (Domain (Sparse parent rank))) used = absurd
+    (elim (is_same_name d parent) as (λ b. elim b [ true ↦ Some (Bound BoundSparse) | false ↦ None ] ≡ Some (Bound BoundArray) → ⊥) [
+      | true ↦ λ no. cc
+      | false ↦ λ no. cc
+    ] used)
 bound_array d _ used = cc
 
 -- what is bound to a domain as a sparse domain is one in it
 bound_sparse : (d : Name) (o : Option Value) → use_of d o ≡ Some (Bound BoundSparse) → (rank : ℕ) × (domain_in o ≡ Some (Sparse d rank))
-bound_sparse d (Some (Array e kind)) used = absurd (elim (is_same_name d e) as (λ b. elim b [ true ↦ Some (Bound BoundArray) | false ↦ None ] ≡ Some (Bound BoundSparse) → ⊥) [
-  | true ↦ λ no. cc
-  | false ↦ λ no. cc
-] used)
-bound_sparse d (Some (Domain (Sparse parent rank))) used = elim (is_same_name d parent) as (λ b. is_same_name d parent ≡ b → elim b [ true ↦ Some (Bound BoundSparse) | false ↦ None ] ≡ Some (Bound BoundSparse) → (other : ℕ) × (domain_in (Some (Domain (Sparse parent rank))) ≡ Some (Sparse d other))) [
-  | true ↦ λ same _. (rank, ap (λ n. Some (Sparse n rank)) (sym (same_name d parent same)))
-  | false ↦ λ other none. cc
-] refl used
+bound_sparse d (Some (Array e kind)) used = absurd (elim (is_same_name d e) as
+    (λ b. elim b [ true ↦ Some (Bound BoundArray) | false ↦ None ] ≡ Some (Bound BoundSparse) → ⊥) [
+      | true ↦ λ no. cc
+      | false ↦ λ no. cc
+    ] used)
+bound_sparse d (Some (Domain (Sparse parent rank))) used = elim
+    (is_same_name d parent) as (λ b. is_same_name d parent ≡ b → elim b [ true ↦ Some (Bound BoundSparse) | false ↦ None ] ≡ Some (Bound BoundSparse) →
+    (other : ℕ) × (domain_in (Some (Domain (Sparse parent rank))) ≡ Some (Sparse d other))) [
+      | true ↦ λ same _. (rank, ap (λ n. Some (Sparse n rank)) (sym (same_name d parent same)))
+      | false ↦ λ other none. cc
+    ] refl used
 bound_sparse d _ used = cc
 
 pub present_is : (b : Bool) → present_if b ≡ Some Present → b ≡ true
@@ -105,11 +112,13 @@ module _ (s : Cells) (h : IsWellFormed s) where
   domain_of_array a d kind e = h.objects a (Array d kind) (array_in-is (get s (Object a)) (d, kind) e)
 
   -- a rectangular domain's ranges are there
-  pub shape_of_domain : (d : Name) (rank : ℕ) → get s (Object d) ≡ Some (Domain (Rectangular rank)) → (rs : List Range) × (get s (Shape d) ≡ Some (Ranges rs)) × IsRectangle rank rs
+  pub shape_of_domain : (d : Name) (rank : ℕ) → get s (Object d) ≡ Some (Domain (Rectangular rank)) → (rs : List Range) ×
+      (get s (Shape d) ≡ Some (Ranges rs)) × IsRectangle rank rs
   shape_of_domain d rank there = subst (λ o. IsShape (domain_in o) (get s (Shape d))) there (h.shapes d)
 
   -- an array that is bound to a domain is over it
-  pub array_over : (d : Name) (kind : DomainKind) → domain_at s d ≡ Some kind → (a : Name) → get s (Use d a) ≡ Some (Bound BoundArray) → array_at s a ≡ Some (d, kind_of kind)
+  pub array_over : (d : Name) (kind : DomainKind) → domain_at s d ≡ Some kind → (a : Name) → get s (Use d a) ≡ Some (Bound BoundArray) →
+      array_at s a ≡ Some (d, kind_of kind)
   array_over d kind there a used =
       let array = bound_array d (get s (Object a)) (sym (h.uses d a) ∙ used) in
       let same : array.0 ≡ kind_of kind = same_Some array.0 (kind_of kind) (sym (domain_of_array a d array.0 array.1) ∙ ap (option_map kind_of) there) in
@@ -144,7 +153,8 @@ module _ (s : Cells) (h : IsWellFormed s) where
     no_element i = subst (λ o. IsElement (is_index_of_array s (array_in o) i) (get s (Element n i))) free (h.elements n i)
 
 -- what is said of an object stays so where the domains do
-pub IsObject-same : (s t : Cells) → ((d : Name) (kind : DomainKind) → domain_at s d ≡ Some kind → domain_at t d ≡ Some kind) → (v : Value) → IsObject s v → IsObject t v
+pub IsObject-same : (s t : Cells) → ((d : Name) (kind : DomainKind) → domain_at s d ≡ Some kind → domain_at t d ≡ Some kind) → (v : Value) → IsObject s v →
+    IsObject t v
 IsObject-same s t kept (Domain (Rectangular rank)) h = h
 IsObject-same s t kept (Domain (Sparse parent rank)) h = kept parent (Rectangular rank) h
 IsObject-same s t kept (Domain (Associative type)) h = h
@@ -157,7 +167,8 @@ IsObject-same s t kept (Number x) h = h
 
 -- what is said of a member stays so where an index of a sparse domain stays in its parent
 pub IsMember-kept : (s t : Cells) (kind : Option DomainKind) (i : Index) (v : Option Value)
-    → ((parent : Name) (rank : ℕ) → kind ≡ Some (Sparse parent rank) → v ≡ Some Present → get s (In parent i) ≡ Some Present → get t (In parent i) ≡ Some Present) → IsMember s kind i v → IsMember t kind i v
+    → ((parent : Name) (rank : ℕ) → kind ≡ Some (Sparse parent rank) → v ≡ Some Present → get s (In parent i) ≡ Some Present →
+    get t (In parent i) ≡ Some Present) → IsMember s kind i v → IsMember t kind i v
 IsMember-kept s t kind i None kept m = m
 IsMember-kept s t (Some (Sparse parent rank)) i (Some v) kept m = (m.0, kept parent rank refl (ap Some m.0) m.1)
 IsMember-kept s t (Some (Associative type)) i (Some v) kept m = m
@@ -165,23 +176,28 @@ IsMember-kept s t (Some (Rectangular rank)) i (Some v) kept m = m
 IsMember-kept s t None i (Some v) kept m = m
 
 -- so it does where the indices of rectangular domains do
-pub IsMember-same : (s t : Cells) → ((d : Name) (i : Index) → get s (In d i) ≡ Some Present → get t (In d i) ≡ Some Present) → (kind : Option DomainKind) (i : Index) (v : Option Value) → IsMember s kind i v → IsMember t kind i v
+pub IsMember-same : (s t : Cells) → ((d : Name) (i : Index) → get s (In d i) ≡ Some Present → get t (In d i) ≡ Some Present) →
+    (kind : Option DomainKind) (i : Index) (v : Option Value) → IsMember s kind i v → IsMember t kind i v
 IsMember-same s t kept kind i v = IsMember-kept s t kind i v (λ parent rank over there. kept parent i)
 
 -- the cell that says whether an index is in a domain holds the same where both cells do that may say so
-pub index_cell_same : (s t : Cells) (kind : Kind) (d : Name) (i : Index) → get t (In d i) ≡ get s (In d i) → get t (Member d i) ≡ get s (Member d i) → get t (index_cell kind d i) ≡ get s (index_cell kind d i)
+pub index_cell_same : (s t : Cells) (kind : Kind) (d : Name) (i : Index) → get t (In d i) ≡ get s (In d i) → get t (Member d i) ≡ get s (Member d i) →
+    get t (index_cell kind d i) ≡ get s (index_cell kind d i)
 index_cell_same s t (Rectangular rank) d i inside member = inside
 index_cell_same s t (Sparse rank) d i inside member = member
 index_cell_same s t (Associative type) d i inside member = member
 
 -- an array has the same indices where its domain does
-pub indices_same : (s t : Cells) (array : Option (Name × Kind)) (i : Index) → ((d : Name) (kind : Kind) → array ≡ Some (d, kind) → get t (index_cell kind d i) ≡ get s (index_cell kind d i)) → is_index_of_array t array i ≡ is_index_of_array s array i
+pub indices_same : (s t : Cells) (array : Option (Name × Kind)) (i : Index) →
+    ((d : Name) (kind : Kind) → array ≡ Some (d, kind) → get t (index_cell kind d i) ≡ get s (index_cell kind d i)) →
+    is_index_of_array t array i ≡ is_index_of_array s array i
 indices_same s t None i same = refl
 indices_same s t (Some (d, kind)) i same = ap is_some (same d kind refl)
 
 -- ---- a new object x under the name a, which was free
 
-module _ (s t : Cells) (a : Name) (x : Value) (free : get s (Object a) ≡ None) (object : (n : Name) → get t (Object n) ≡ cond (is_same_name n a) (Some x) (get s (Object n))) where
+module _ (s t : Cells) (a : Name) (x : Value) (free : get s (Object a) ≡ None)
+    (object : (n : Name) → get t (Object n) ≡ cond (is_same_name n a) (Some x) (get s (Object n))) where
   pub was_free : (n : Name) → is_same_name n a ≡ true → get s (Object n) ≡ None
   was_free n e = ap (λ m. get s (Object m)) (same_name n a e) ∙ free
 

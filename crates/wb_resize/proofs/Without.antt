@@ -50,7 +50,8 @@ module _ {X : Type 0} where
 
   pub IsListedOnce-filter : (test : X → Bool) (xs : List X) → IsListedOnce xs → IsListedOnce (filter test xs)
   IsListedOnce-filter test [] once = once
-  IsListedOnce-filter test (x ∷ xs) once = still_once (test x) x xs (filter test xs) once (kept_were_there test xs) (IsListedOnce-filter test xs (later_once x xs once))
+  IsListedOnce-filter test (x ∷ xs) once = still_once (test x) x xs (filter test xs) once (kept_were_there test xs)
+      (IsListedOnce-filter test xs (later_once x xs once))
 
 pub IsListedOnce-without : (ys xs : List Index) → IsListedOnce xs → IsListedOnce (without ys xs)
 IsListedOnce-without ys = IsListedOnce-filter (λ i. not (has ys i))

@@ -39,7 +39,8 @@ KeepsRectangles =
     (s : Cells) (d : Name) (rank : ℕ) (fills : List (Name × ℤ)) (old new : List Range)
     → IsWellFormed s → domain_at s d ≡ Some (Rectangular rank) → get s (Shape d) ≡ Some (Ranges old)
     → IsRectangle rank new → AreFills s d fills → LosesNone s d (indices new)
-    → IsWellFormed (apply (set_to (Shape d) (Ranges new) ∷ resized_cells (OverRectangular rank) d fills (without (indices new) (indices old)) (without (indices old) (indices new))) s)
+    → IsWellFormed (apply (set_to (Shape d) (Ranges new) ∷ resized_cells (OverRectangular rank) d fills (without (indices new) (indices old))
+    (without (indices old) (indices new))) s)
 
 -- a domain that has members: a sparse or an associative one
 abbrev pub HasMembers : DomainKind → Type 0

@@ -34,7 +34,8 @@ impl<L: Opening> Model for Shared<L> {
 
     ghost view = { λ a. record { course = a.kept.journal; total = a.kept.calls.total } };
 
-    ghost invariant = { λ a. (a.kept.calls.total ≡ length a.kept.journal.entries) × (a.rest.amount ≡ 0) × (a.rest.parts + a.kept.journal.seats ≡ 16) × IsCourse L.opening a.kept.journal };
+    ghost invariant = { λ a. (a.kept.calls.total ≡ length a.kept.journal.entries) × (a.rest.amount ≡ 0) × (a.rest.parts + a.kept.journal.seats ≡ 16) ×
+        IsCourse L.opening a.kept.journal };
 }
 
 impl<L: Opening> Shared<L> {
@@ -57,7 +58,8 @@ impl<L: Opening> Shared<L> {
     // Why these passes and the journal do not agree.
     pub(crate) fn cause(&self, passes: &[Pass<L>]) -> Option<Cause>
         ensures course { IsCourse L.opening self.now.course }
-        ensures cause { MatchOption result (IsSettled self.now.course.seats self.now.course.entries passes.now) (λ why. IsCause self.now.course.seats self.now.course.entries passes.now why) }
+        ensures cause { MatchOption result (IsSettled self.now.course.seats self.now.course.entries passes.now)
+            (λ why. IsCause self.now.course.seats self.now.course.entries passes.now why) }
     {
         self.kept.journal.cause(passes)
     }

@@ -47,8 +47,10 @@ stored_only (x ∷ xs) s t c st same = by (is_stored x.cell) refl (λ u v e. sto
     by : (b : Bool) → is_stored x.cell ≡ b →
         ((u v : Cells) → get v c ≡ get u c → get (apply (filter (λ y. is_stored y.cell) xs) v) c ≡ get (apply xs u) c) →
         get (apply (cond b (x ∷ filter (λ y. is_stored y.cell) xs) (filter (λ y. is_stored y.cell) xs)) t) c ≡ get (apply xs (applied x s)) c
-    by true e rest = rest (applied x s) (applied x t) (get-put cell_order x t c ∙ ap (cond (eq_by_cmp cell_cmp c x.cell) x.value) same ∙ sym (get-put cell_order x s c))
-    by false e rest = rest (applied x s) t (same ∙ ap (λ (b : Bool). cond b x.value (get s c)) (sym (stored_apart c x.cell st e)) ∙ sym (get-put cell_order x s c))
+    by true e rest = rest (applied x s) (applied x t) (get-put cell_order x t c ∙ ap (cond (eq_by_cmp cell_cmp c x.cell) x.value) same ∙
+        sym (get-put cell_order x s c))
+    by false e rest = rest (applied x s) t (same ∙ ap (λ (b : Bool). cond b x.value (get s c)) (sym (stored_apart c x.cell st e)) ∙
+        sym (get-put cell_order x s c))
 
 pub stored_after : (cells after : BTreeMap Cell Value) (arrays : BTreeMap Name Pieced) (delta : Changes) → IsShelf cells arrays →
     state_of after ≡ apply (filter (λ x. is_stored x.cell) delta) (state_of cells) → (c : Cell) → is_stored c ≡ true →

@@ -35,7 +35,8 @@ pub get-stored : (s : Cells) (c : Cell) → is_stored c ≡ true → get (stored
 get-stored s c st = get-stored_cells s c ∙ ap (λ (b : Bool). cond b (get s c) None) st
 
 -- the cells that are kept of a workbook are its stored cells
-pub kept_are_stored : {M : Type 0} (cells : List (Cell × Value)) (arrays : List (Name × (List (Index × ℤ) × M))) → IsKept cells arrays → from_entries cells ≡ stored_cells (from_entries (joined cells arrays))
+pub kept_are_stored : {M : Type 0} (cells : List (Cell × Value)) (arrays : List (Name × (List (Index × ℤ) × M))) → IsKept cells arrays →
+    from_entries cells ≡ stored_cells (from_entries (joined cells arrays))
 kept_are_stored cells arrays kept = same_states cell_order _ _ λ c.
     get-from_entries cell_order.total cells c ∙ find-lookup cells c ∙ by c (is_stored c) refl ∙ sym (get-stored_cells (from_entries (joined cells arrays)) c)
   where
@@ -67,12 +68,14 @@ stored_named s ok c there = cell_named s ok c (by (is_stored c) (subst (λ (o : 
 abbrev pub NamesStored : Pattern → Type 0
 NamesStored p = (c : Cell) → is_stored c ≡ false → matches p c ≡ false
 
-named_twice : (p : Pattern) → NamesStored p → (es : List (Cell × Value)) → where_key cell_cmp (matches p) (where_key cell_cmp is_stored es) ≡ where_key cell_cmp (matches p) es
+named_twice : (p : Pattern) → NamesStored p → (es : List (Cell × Value)) →
+    where_key cell_cmp (matches p) (where_key cell_cmp is_stored es) ≡ where_key cell_cmp (matches p) es
 named_twice p named [] = refl
-named_twice p named (e ∷ es) = elim (is_stored e.0) as (λ b. is_stored e.0 ≡ b → where_key cell_cmp (matches p) (cond b (e ∷ where_key cell_cmp is_stored es) (where_key cell_cmp is_stored es)) ≡ where_key cell_cmp (matches p) (e ∷ es)) [
-  | true ↦ λ is. ap (λ xs. cond (matches p e.0) (e ∷ xs) xs) (named_twice p named es)
-  | false ↦ λ is. rw (named e.0 is) (named_twice p named es)
-] refl
+named_twice p named (e ∷ es) = elim (is_stored e.0) as (λ b. is_stored e.0 ≡ b →
+    where_key cell_cmp (matches p) (cond b (e ∷ where_key cell_cmp is_stored es) (where_key cell_cmp is_stored es)) ≡ where_key cell_cmp (matches p) (e ∷ es)) [
+      | true ↦ λ is. ap (λ xs. cond (matches p e.0) (e ∷ xs) xs) (named_twice p named es)
+      | false ↦ λ is. rw (named e.0 is) (named_twice p named es)
+    ] refl
 
 pub seen-stored : (s : Cells) (p : Pattern) → NamesStored p → seen (stored_cells s) p ≡ seen s p
 seen-stored s p named =
@@ -117,12 +120,14 @@ uses_stored n (Implicit d) e = refl
 abbrev TakesStored : (Cell → Option Name) → Type 0
 TakesStored f = (c : Cell) → is_stored c ≡ false → f c ≡ None
 
-taken_twice : (f : Cell → Option Name) → TakesStored f → (es : List (Cell × Value)) → filter_map f (keys_of (where_key cell_cmp is_stored es)) ≡ filter_map f (keys_of es)
+taken_twice : (f : Cell → Option Name) → TakesStored f → (es : List (Cell × Value)) →
+    filter_map f (keys_of (where_key cell_cmp is_stored es)) ≡ filter_map f (keys_of es)
 taken_twice f takes [] = refl
-taken_twice f takes (e ∷ es) = elim (is_stored e.0) as (λ b. is_stored e.0 ≡ b → filter_map f (keys_of (cond b (e ∷ where_key cell_cmp is_stored es) (where_key cell_cmp is_stored es))) ≡ filter_map f (keys_of (e ∷ es))) [
-  | true ↦ λ is. ap (cons_option (f e.0)) (taken_twice f takes es)
-  | false ↦ λ is. rw (takes e.0 is) (taken_twice f takes es)
-] refl
+taken_twice f takes (e ∷ es) = elim (is_stored e.0) as (λ b. is_stored e.0 ≡ b →
+    filter_map f (keys_of (cond b (e ∷ where_key cell_cmp is_stored es) (where_key cell_cmp is_stored es))) ≡ filter_map f (keys_of (e ∷ es))) [
+      | true ↦ λ is. ap (cons_option (f e.0)) (taken_twice f takes es)
+      | false ↦ λ is. rw (takes e.0 is) (taken_twice f takes es)
+    ] refl
 
 taken : (s : Cells) (f : Cell → Option Name) → TakesStored f → filter_map f (keys_of (entries (stored_cells s))) ≡ filter_map f (keys_of (entries s))
 taken s f takes = ap (λ (es : List (Cell × Value)). filter_map f (keys_of es)) (entries-retain_keys cell_order s is_stored) ∙ taken_twice f takes (entries s)
@@ -164,12 +169,14 @@ indices-stored s d (Sparse parent rank) = ap (λ xs. Some (filter_map member_in 
 indices-stored s d (Associative type) = ap (λ xs. Some (filter_map member_in xs)) (seen-stored s (Members d) (members_stored d))
 
 -- what is asked of each kind of domain
-by_kind : {A : Type 0} (f g : DomainKind → Option A) (o p : Option DomainKind) → o ≡ p → ((kind : DomainKind) → f kind ≡ g kind) → option_and_then f o ≡ option_and_then g p
+by_kind : {A : Type 0} (f g : DomainKind → Option A) (o p : Option DomainKind) → o ≡ p → ((kind : DomainKind) → f kind ≡ g kind) →
+    option_and_then f o ≡ option_and_then g p
 by_kind f g o None is same = rw is refl
 by_kind f g o (Some kind) is same = rw is (same kind)
 
 listed-stored : (s : Cells) (d : Name) → listed_at (stored_cells s) d ≡ listed_at s d
-listed-stored s d = by_kind (indices_of (stored_cells s) d) (indices_of s d) (domain_at (stored_cells s) d) (domain_at s d) (domain-stored s d) (indices-stored s d)
+listed-stored s d = by_kind (indices_of (stored_cells s) d) (indices_of s d) (domain_at (stored_cells s) d) (domain_at s d) (domain-stored s d)
+    (indices-stored s d)
 
 pub size-stored : (s : Cells) (d : Name) → size_at (stored_cells s) d ≡ size_at s d
 size-stored s d = rw (listed-stored s d) refl
@@ -183,4 +190,5 @@ held-stored s d i (Sparse parent rank) = rw (get-stored s (Member d i) refl, get
 held-stored s d i (Associative type) = rw (get-stored s (Member d i) refl) refl
 
 pub locale-stored : (s : Cells) (d : Name) (i : Index) → locale_held (stored_cells s) d i ≡ locale_held s d i
-locale-stored s d i = by_kind (locale_held_by (stored_cells s) d i) (locale_held_by s d i) (domain_at (stored_cells s) d) (domain_at s d) (domain-stored s d) (held-stored s d i)
+locale-stored s d i = by_kind (locale_held_by (stored_cells s) d i) (locale_held_by s d i) (domain_at (stored_cells s) d) (domain_at s d) (domain-stored s d)
+    (held-stored s d i)

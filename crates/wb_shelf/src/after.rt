@@ -154,7 +154,8 @@ fn after_named<V: Mover>(
     changes: &[(AnyIndex, Option<i64>)],
     mover: &V,
 ) -> Result<Option<Elements>, MoveErr>
-    ensures after { IfOk result (λ o. (p : Pieced) (l : LayoutMap × ℕ) → array_in arrays.now.entries name.now ≡ Some p → lies_at (stored_in cells.now.entries) name.now ≡ Some l → IsAfter changes.now l p o) }
+    ensures after { IfOk result (λ o. (p : Pieced) (l : LayoutMap × ℕ) → array_in arrays.now.entries name.now ≡ Some p →
+        lies_at (stored_in cells.now.entries) name.now ≡ Some l → IsAfter changes.now l p o) }
     ensures no_thread { result ≡ Err MoveErr.NoThread → V.may_lack_threads mover.now }
 {
     match arrays.get(name) {

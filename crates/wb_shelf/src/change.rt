@@ -72,7 +72,8 @@ fn put_new_one(
     ensures others { (b : List ℕ) → eq_by_cmp cell_cmp (Object b) change.now.cell ≡ false → array_in arrays.new.entries b ≡ array_in arrays.old.entries b }
     ensures stays { (b : List ℕ) (p : Pieced) → array_in arrays.old.entries b ≡ Some p → array_in arrays.new.entries b ≡ Some p }
     ensures elements { (b : List ℕ) (i : Index) → element_in arrays.new.entries b i ≡ element_in arrays.old.entries b i }
-    ensures there { OnOk result ((b : List ℕ) → eq_by_cmp cell_cmp (Object b) change.now.cell ≡ true → is_array (stored_in cells.now.entries (Object b)) ≡ true → IsSome (array_in arrays.new.entries b)) }
+    ensures there { OnOk result ((b : List ℕ) → eq_by_cmp cell_cmp (Object b) change.now.cell ≡ true →
+        is_array (stored_in cells.now.entries (Object b)) ≡ true → IsSome (array_in arrays.new.entries b)) }
 {
     let cell = change.cell();
     match &cell {
@@ -96,7 +97,8 @@ fn put_new(
     ensures others { (b : List ℕ) → changes cell_cmp stored.now (Object b) ≡ false → array_in arrays.new.entries b ≡ array_in arrays.old.entries b }
     ensures stays { (b : List ℕ) (p : Pieced) → array_in arrays.old.entries b ≡ Some p → array_in arrays.new.entries b ≡ Some p }
     ensures elements { (b : List ℕ) (i : Index) → element_in arrays.new.entries b i ≡ element_in arrays.old.entries b i }
-    ensures there { OnOk result ((b : List ℕ) → changes cell_cmp stored.now (Object b) ≡ true → is_array (stored_in cells.now.entries (Object b)) ≡ true → IsSome (array_in arrays.new.entries b)) }
+    ensures there { OnOk result ((b : List ℕ) → changes cell_cmp stored.now (Object b) ≡ true → is_array (stored_in cells.now.entries (Object b)) ≡ true →
+        IsSome (array_in arrays.new.entries b)) }
 {
     for change in stored {
         put_new_one(alloc, cells, arrays, change)?;
@@ -115,7 +117,8 @@ fn drop_one(
     arrays: &mut BTreeMap<Name, Elements>,
     change: &CellChange,
 )
-    ensures { (b : List ℕ) → array_in arrays.new.entries b ≡ cond (eq_by_cmp cell_cmp (Object b) change.now.cell && not (is_array (stored_in cells.now.entries (Object b)))) None (array_in arrays.old.entries b) }
+    ensures { (b : List ℕ) → array_in arrays.new.entries b ≡ cond
+        (eq_by_cmp cell_cmp (Object b) change.now.cell && not (is_array (stored_in cells.now.entries (Object b)))) None (array_in arrays.old.entries b) }
 {
     let cell = change.cell();
     match &cell {
@@ -135,7 +138,8 @@ fn drop_gone(
     arrays: &mut BTreeMap<Name, Elements>,
     stored: &[CellChange],
 )
-    ensures arrays { (b : List ℕ) → array_in arrays.new.entries b ≡ cond (changes cell_cmp stored.now (Object b) && not (is_array (stored_in cells.now.entries (Object b)))) None (array_in arrays.old.entries b) }
+    ensures arrays { (b : List ℕ) → array_in arrays.new.entries b ≡ cond
+        (changes cell_cmp stored.now (Object b) && not (is_array (stored_in cells.now.entries (Object b)))) None (array_in arrays.old.entries b) }
     ensures ascending { IsStrictlySortedBy (slice_cmp nat_cmp) (keys_of arrays.new.entries) }
 {
     for change in stored {
@@ -160,7 +164,8 @@ fn prepared<V: Mover>(
     ensures stays { (b : List ℕ) (p : Pieced) → array_in arrays.old.entries b ≡ Some p → array_in arrays.new.entries b ≡ Some p }
     ensures elements { (b : List ℕ) (i : Index) → element_in arrays.new.entries b i ≡ element_in arrays.old.entries b i }
     ensures set { OnOk result (state_of cells.new ≡ apply (sets stored.now) (state_of cells.old)) }
-    ensures there { OnOk result ((b : List ℕ) → changes cell_cmp stored.now (Object b) ≡ true → is_array (stored_in cells.new.entries (Object b)) ≡ true → IsSome (array_in arrays.new.entries b)) }
+    ensures there { OnOk result ((b : List ℕ) → changes cell_cmp stored.now (Object b) ≡ true → is_array (stored_in cells.new.entries (Object b)) ≡ true →
+        IsSome (array_in arrays.new.entries b)) }
     ensures built { IfOk result (λ v. AreAfter (lies_at (stored_in cells.new.entries)) arrays.new.entries groups.now.entries v.items) }
     ensures no_thread { result ≡ Err MoveErr.NoThread → V.may_lack_threads mover.now }
 {
@@ -183,7 +188,9 @@ fn finish(
 )
     requires { IsStrictlySortedBy (slice_cmp nat_cmp) (keys_of built.items) }
     ensures cells { state_of cells.new ≡ apply (clears stored.now) (state_of cells.old) }
-    ensures arrays { (b : List ℕ) → array_in arrays.new.entries b ≡ cond (changes cell_cmp stored.now (Object b) && not (is_array (stored_in cells.new.entries (Object b)))) None (put_over (array_in arrays.old.entries b) (array_in built.items b)) }
+    ensures arrays { (b : List ℕ) → array_in arrays.new.entries b ≡ cond
+        (changes cell_cmp stored.now (Object b) && not (is_array (stored_in cells.new.entries (Object b)))) None
+        (put_over (array_in arrays.old.entries b) (array_in built.items b)) }
     ensures ascending_cells { IsStrictlySortedBy cell_cmp (keys_of cells.new.entries) }
     ensures ascending { IsStrictlySortedBy (slice_cmp nat_cmp) (keys_of arrays.new.entries) }
 {
@@ -203,7 +210,8 @@ fn take_back(
     requires once { AllOnce cell_cmp before.now }
     requires room { HasRoom before.now (state_of cells.old) }
     ensures cells { state_of cells.new ≡ apply before.now (state_of cells.old) }
-    ensures arrays { (b : List ℕ) → array_in arrays.new.entries b ≡ cond (changes cell_cmp stored.now (Object b) && not (is_array (stored_in cells.new.entries (Object b)))) None (array_in arrays.old.entries b) }
+    ensures arrays { (b : List ℕ) → array_in arrays.new.entries b ≡ cond
+        (changes cell_cmp stored.now (Object b) && not (is_array (stored_in cells.new.entries (Object b)))) None (array_in arrays.old.entries b) }
     ensures ascending_cells { IsStrictlySortedBy cell_cmp (keys_of cells.new.entries) }
     ensures ascending { IsStrictlySortedBy (slice_cmp nat_cmp) (keys_of arrays.new.entries) }
 {

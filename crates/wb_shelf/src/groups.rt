@@ -88,7 +88,8 @@ fn add_to(
 ) -> Result<(), NoMemory>
     requires { IsSome (group_in groups.old.entries name.now) }
     ensures stays { (b : List ℕ) → IsSome (group_in groups.old.entries b) → IsSome (group_in groups.new.entries b) }
-    ensures added { OnOk result ((b : List ℕ) → changes_in groups.new.entries b ≡ cond (is_same_name name.now b) (changes_in groups.old.entries b ++ (index.now, number) ∷ []) (changes_in groups.old.entries b)) }
+    ensures added { OnOk result ((b : List ℕ) → changes_in groups.new.entries b ≡ cond (is_same_name name.now b)
+        (changes_in groups.old.entries b ++ (index.now, number) ∷ []) (changes_in groups.old.entries b)) }
 {
     match groups.get_mut(name) {
         Some(group) => group.add(*index, number),
@@ -112,7 +113,8 @@ fn add_change(
     groups: &mut BTreeMap<Name, Group>,
     change: &CellChange,
 ) -> Result<(), NoMemory>
-    ensures lead { (before : List (Change cell_type value_type)) → ((b : List ℕ) → LeadTo before b (changes_in groups.old.entries b)) → OnOk result ((b : List ℕ) → LeadTo (before ++ change.now ∷ []) b (changes_in groups.new.entries b)) }
+    ensures lead { (before : List (Change cell_type value_type)) → ((b : List ℕ) → LeadTo before b (changes_in groups.old.entries b)) →
+        OnOk result ((b : List ℕ) → LeadTo (before ++ change.now ∷ []) b (changes_in groups.new.entries b)) }
     ensures stays { (b : List ℕ) → IsSome (group_in groups.old.entries b) → IsSome (group_in groups.new.entries b) }
     ensures object { OnOk result ((b : List ℕ) → eq_by_cmp cell_cmp (Object b) change.now.cell ≡ true → IsSome (group_in groups.new.entries b)) }
 {
@@ -193,7 +195,8 @@ pub(crate) fn concerned(
 ) -> Result<BTreeMap<Name, Group>, NoMemory>
     ensures lead { IfOk result (λ m. (b : List ℕ) → LeadTo delta.now b (changes_in m.entries b)) }
     ensures objects { IfOk result (λ m. (b : List ℕ) → changes cell_cmp delta.now (Object b) ≡ true → IsSome (group_in m.entries b)) }
-    ensures others { IfOk result (λ m. (b : List ℕ) → IsSome (array_in arrays.now.entries b) → group_in m.entries b ≡ None → list_all (leaves (stored_in cells.now.entries)) delta.now ≡ true) }
+    ensures others { IfOk result (λ m. (b : List ℕ) → IsSome (array_in arrays.now.entries b) → group_in m.entries b ≡ None →
+        list_all (leaves (stored_in cells.now.entries)) delta.now ≡ true) }
     ensures ascending { IfOk result (λ m. IsStrictlySortedBy (slice_cmp nat_cmp) (keys_of m.entries)) }
 {
     let mut groups = grouped(alloc, delta)?;

@@ -47,4 +47,5 @@ text_of_lines s = ap (λ t. codes "chapel-workbook 1\n" ++ (t ++ codes "end\n"))
 -- two workbooks with one text have the same lines, if each part of these may be written
 pub same_lines : (s t : Cells) → Each IsLine (said s) → Each IsLine (said t) → book_text s ≡ book_text t → said s ≡ said t
 same_lines s t h k e =
-    lines_read (said s) (said t) h k (append_cancel_left (codes "chapel-workbook 1\n") (lines_text (said s)) (lines_text (said t)) (sym (text_of_lines s) ∙ e ∙ text_of_lines t))
+    lines_read (said s) (said t) h k (append_cancel_left (codes "chapel-workbook 1\n") (lines_text (said s)) (lines_text (said t))
+    (sym (text_of_lines s) ∙ e ∙ text_of_lines t))

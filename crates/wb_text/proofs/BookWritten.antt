@@ -17,7 +17,8 @@ use Rattle.wb_book.specs.Locales.{mapping_in}
 use Rattle.wb_book.specs.Names.{is_name}
 use Rattle.wb_book.specs.Readers.{objects}
 use Rattle.wb_book.specs.WellFormed as wf
-use Rattle.wb_book.specs.WellFormed.{IsWellFormed, IsShape, HasMapping, IsElement, IsNumber, array_at, array_in, domain_at, domain_in, is_index_of_array, ranges_in}
+use Rattle.wb_book.specs.WellFormed.{IsWellFormed, IsShape, HasMapping, IsElement, IsNumber, array_at, array_in, domain_at, domain_in, is_index_of_array}
+use Rattle.wb_book.specs.WellFormed.{ranges_in}
 use Rattle.wb_text.specs.Said.{Line, domain_said, said_in, said_of, said}
 use Rattle.wb_text.specs.Lines.{number_in, element_at, elements_at, indices_in, implicit_in, book_text}
 use Rattle.wb_text.proofs.Readable.{Each}
@@ -52,7 +53,8 @@ element_within false v h = subst (λ o. IsImplicit (number_in o)) (sym h) tt
 elements_within : (s : Cells) (a : Name) → IsWellFormed s → (is : List Index) → AreWithin (elements_at s a is)
 elements_within s a w [] = tt
 elements_within s a w (i ∷ is) =
-    one_more (element_at s a i) (elements_at s a is) (element_within (is_index_of_array s (array_at s a) i) (get s (Element a i)) (w.elements a i)) (elements_within s a w is)
+    one_more (element_at s a i) (elements_at s a is) (element_within (is_index_of_array s (array_at s a) i) (get s (Element a i)) (w.elements a i))
+    (elements_within s a w is)
 
 implicit_within : (s : Cells) (a d : Name) (kind : Kind) → IsWellFormed s → array_at s a ≡ Some (d, kind) → IsImplicit (implicit_in s a kind)
 implicit_within s a d (kinds.Rectangular rank) w e = tt
@@ -77,12 +79,14 @@ bound_named s d kind w = of (domain_at s d) refl
 
 -- ---- lines
 
-ranges_written : (s : Cells) (d : Name) (rank : ℕ) → IsWellFormed s → domain_at s d ≡ Some (Rectangular rank) → Each IsSpelled (unwrap_or (ranges_in (get s (Shape d))) [])
+ranges_written : (s : Cells) (d : Name) (rank : ℕ) → IsWellFormed s → domain_at s d ≡ Some (Rectangular rank) →
+    Each IsSpelled (unwrap_or (ranges_in (get s (Shape d))) [])
 ranges_written s d rank w is =
     let shape : IsShape (Some (Rectangular rank)) (get s (Shape d)) = subst (λ k. IsShape k (get s (Shape d))) is (w.shapes d) in
     subst (λ v. Each IsSpelled (unwrap_or (ranges_in v) [])) (sym shape.1) (rectangle_spelled rank shape.0 shape.2)
 
-layout_written : (s : Cells) (d : Name) (rank : ℕ) → IsWellFormed s → domain_at s d ≡ Some (Rectangular rank) → IsMapped (unwrap_or (mapping_in (get s (Mapping d))) whole)
+layout_written : (s : Cells) (d : Name) (rank : ℕ) → IsWellFormed s → domain_at s d ≡ Some (Rectangular rank) →
+    IsMapped (unwrap_or (mapping_in (get s (Mapping d))) whole)
 layout_written s d rank w is =
     let mapping : HasMapping (Some (Rectangular rank)) (get s (Mapping d)) = subst (λ k. HasMapping k (get s (Mapping d))) is (w.mappings d) in
     subst (λ v. IsMapped (unwrap_or (mapping_in v) whole)) (sym mapping.1) (mapping_written rank mapping.0 mapping.2)

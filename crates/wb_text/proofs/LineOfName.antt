@@ -46,7 +46,8 @@ found : (s : Cells) (n : Name) (ns : List Name) → first_line_of n (filter_map 
 found s n [] = refl
 found s n (m ∷ ns) =
     let rest : List Line = filter_map (said_of s) ns in
-    elim (is_same_name n m) as (λ b. is_same_name n m ≡ b → first_line_of n (cons_option (said_of s m) rest) ≡ cond (b || list_any (is_same_name n) ns) (said_of s n) None) [
+    elim (is_same_name n m) as (λ b. is_same_name n m ≡ b → first_line_of n (cons_option (said_of s m) rest) ≡ cond (b || list_any (is_same_name n) ns)
+    (said_of s n) None) [
       | true ↦ λ e.
           subst (λ k. first_line_of n (cons_option (said_of s k) rest) ≡ said_of s n) (same_names n m ((Equal-is _).0 e))
           (its_own n (said_of s n) rest (list_any (is_same_name n) ns) (said_named s n (get s (Object n))) (found s n ns))

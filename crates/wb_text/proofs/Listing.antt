@@ -1,5 +1,6 @@
 -- Lists that are read place by place, or through a function that gives some of their items.
-use Rattle.std.proofs.Common.{◌≡◌, ℕ, zero, suc, ◌+◌, ◌<◌, List, [], ◌∷◌, ◌++◌, Option, Some, None, take, length, slice_get, get_or, arith, append_assoc, sym, refl, ap, ◌∙◌}
+use Rattle.std.proofs.Common.{◌≡◌, ℕ, zero, suc, ◌+◌, ◌<◌, List, [], ◌∷◌, ◌++◌, Option, Some, None, take, length, slice_get, get_or, arith, append_assoc, sym}
+use Rattle.std.proofs.Common.{refl, ap, ◌∙◌}
 use Rattle.std.specs.List.{filter_map}
 use Rattle.std.specs.Option.{option_to_list}
 use Rattle.std.proofs.lemmas.List.{take_more}
@@ -24,7 +25,8 @@ given_of h x (Some y) e = rw (← e) refl
 
 pub given_more : {X Y : Type 0} (h : X → Option Y) (xs : List X) (p : ℕ) (d : X) (o : Option Y) → p < length xs → o ≡ h (get_or xs p d)
     → filter_map h (take (p + 1) xs) ≡ filter_map h (take p xs) ++ option_to_list o
-given_more h xs p d o b e = ap (filter_map h) (take_more xs p d b) ∙ filter_map-append h (take p xs) (get_or xs p d ∷ []) ∙ ap (λ t. filter_map h (take p xs) ++ t) (given_of h (get_or xs p d) o e)
+given_more h xs p d o b e = ap (filter_map h) (take_more xs p d b) ∙ filter_map-append h (take p xs) (get_or xs p d ∷ []) ∙
+    ap (λ t. filter_map h (take p xs) ++ t) (given_of h (get_or xs p d) o e)
 
 -- two texts put after one another
 pub joined : (w a b x z : List ℕ) → x ≡ w ++ a → z ≡ x ++ b → z ≡ w ++ (a ++ b)

@@ -96,12 +96,18 @@ six false b c d g h e = cc
 
 pub mapping_written : (rank : ℕ) (m : LayoutMap) → IsMapping rank m → IsMapped m
 mapping_written rank whole h = tt
-mapping_written rank (block m) h =
-    (rectangle_spelled rank m.box h.in_limits, grid_within m.grid (five (is_rank rank) (length m.box == rank) (length m.grid == rank) (is_box m.box) (is_grid m.grid) h.valid))
+mapping_written rank (block m) h = (
+  rectangle_spelled rank m.box h.in_limits,
+  grid_within m.grid
+      (five (is_rank rank) (length m.box == rank) (length m.grid == rank) (is_box m.box) (is_grid m.grid) h.valid),
+)
 mapping_written rank (cyclic m) h =
     let parts = four (is_rank rank) (length m.start == rank) (length m.grid == rank) (is_grid m.grid) h.valid in
     (point_of rank m.start (some_rank rank parts.0) (eqb-true (length m.start) rank parts.1) (fit_within m.start h.in_limits), grid_within m.grid parts.2)
 mapping_written rank (block_cyclic m) h =
     let parts = six (is_rank rank) (length m.start == rank) (length m.size == rank) (length m.grid == rank) (are_positive m.size) (is_grid m.grid) h.valid in
-    let some = some_rank rank parts.0 in
-    (point_of rank m.start some (eqb-true (length m.start) rank parts.1) (fit_within m.start h.in_limits.0), point_of rank m.size some (eqb-true (length m.size) rank parts.2) (fit_within m.size h.in_limits.1), grid_within m.grid parts.3)
+    let some = some_rank rank parts.0 in (
+      point_of rank m.start some (eqb-true (length m.start) rank parts.1) (fit_within m.start h.in_limits.0),
+      point_of rank m.size some (eqb-true (length m.size) rank parts.2) (fit_within m.size h.in_limits.1),
+      grid_within m.grid parts.3,
+    )

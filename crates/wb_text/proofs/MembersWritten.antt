@@ -1,5 +1,6 @@
 -- The indices of a sparse or associative domain of a well-formed workbook may be written.
-use Rattle.std.proofs.Common.{◌≡◌, ℕ, zero, suc, ℤ, Bool, true, false, ◌||◌, cond, nat_le, List, [], ◌∷◌, map, Option, Some, None, is_some, length, refl, sym, ap, ◌∙◌, subst, arith}
+use Rattle.std.proofs.Common.{◌≡◌, ℕ, zero, suc, ℤ, Bool, true, false, ◌||◌, cond, nat_le, List, [], ◌∷◌, map, Option, Some, None, is_some, length, refl, sym}
+use Rattle.std.proofs.Common.{ap, ◌∙◌, subst, arith}
 use Rattle.std.proofs.lemmas.List.Elements.{recursion_from_All}
 use Rattle.std.specs.Cmp.{Equal-is, eq_by_cmp_equiv}
 use Rattle.std.specs.FinMap.{get, keys, entries, retain_keys, contains_key-keys, get-retain_keys}
@@ -35,7 +36,8 @@ use Rattle.wb_text.proofs.RangeSpelled.{member_within}
 
 -- ---- what a look shows is there
 
-weaker : (k : Cell) (ks cs : List Cell) → AllByRecursion (λ c. list_any (eq_by_cmp cell_cmp c) ks ≡ true) cs → AllByRecursion (λ c. list_any (eq_by_cmp cell_cmp c) (k ∷ ks) ≡ true) cs
+weaker : (k : Cell) (ks cs : List Cell) → AllByRecursion (λ c. list_any (eq_by_cmp cell_cmp c) ks ≡ true) cs →
+    AllByRecursion (λ c. list_any (eq_by_cmp cell_cmp c) (k ∷ ks) ≡ true) cs
 weaker k ks [] h = tt
 weaker k ks (c ∷ cs) h = (or_true (eq_by_cmp cell_cmp c k) (list_any (eq_by_cmp cell_cmp c) ks) h.0, weaker k ks cs h.1)
   where
@@ -62,7 +64,8 @@ is_there s p c e =
     let parts = by_test (matches p c) (get s c) (sym (ap is_some kept) ∙ contains_key-keys (retain_keys s (matches p)) c ∙ e) in
     record { named = parts.0; there = parts.1 }
 
-each_there : (s : Cells) (p : Pattern) (cs : List Cell) → AllByRecursion (λ c. list_any (eq_by_cmp cell_cmp c) (keys (retain_keys s (matches p))) ≡ true) cs → AllByRecursion (IsThere s p) cs
+each_there : (s : Cells) (p : Pattern) (cs : List Cell) → AllByRecursion (λ c. list_any (eq_by_cmp cell_cmp c) (keys (retain_keys s (matches p))) ≡ true) cs →
+    AllByRecursion (IsThere s p) cs
 each_there s p [] h = tt
 each_there s p (c ∷ cs) h = (is_there s p c h.0, each_there s p cs h.1)
 
@@ -70,7 +73,8 @@ pub seen_there : (s : Cells) (p : Pattern) → AllByRecursion (IsThere s p) (key
 seen_there s p = each_there s p _ (among (keys (retain_keys s (matches p))))
 
 -- a fact of each member that is there, of all of them
-each_member : (P : Index → Type 0) (s : Cells) (d : Name) → ((i : Index) → is_some (get s (Member d i)) ≡ true → P i) → (es : List (Cell × Value)) → AllByRecursion (IsThere s (Members d)) (map (λ e. e.0) es) → Each P (filter_map member_in es)
+each_member : (P : Index → Type 0) (s : Cells) (d : Name) → ((i : Index) → is_some (get s (Member d i)) ≡ true → P i) → (es : List (Cell × Value)) →
+    AllByRecursion (IsThere s (Members d)) (map (λ e. e.0) es) → Each P (filter_map member_in es)
 each_member P s d fact [] h = tt
 each_member P s d fact ((Member f i, v) ∷ es) h =
     let same : d ≡ f = same_names d f ((Equal-is _).0 h.0.named) in
@@ -103,7 +107,8 @@ pub present_known : (b : Bool) → present_if b ≡ Some Present → b ≡ true
 present_known true e = refl
 present_known false e = cc
 
-sparse_written : (s : Cells) (parent : Name) (rank : ℕ) (i : Index) → IsWellFormed s → domain_at s parent ≡ Some (Rectangular rank) → get s (In parent i) ≡ Some Present → IsWritten i
+sparse_written : (s : Cells) (parent : Name) (rank : ℕ) (i : Index) → IsWellFormed s → domain_at s parent ≡ Some (Rectangular rank) →
+    get s (In parent i) ≡ Some Present → IsWritten i
 sparse_written s parent rank i w is e =
     let shape : IsShape (Some (Rectangular rank)) (get s (Shape parent)) = subst (λ k. IsShape k (get s (Shape parent))) is (w.shapes parent) in
     let rs = shape.0 in
@@ -124,7 +129,8 @@ pub has_members : (s : Cells) (kind : Option DomainKind) (i : Index) (o : Option
 has_members s kind i None m e = true_false e
 has_members s kind i (Some v) m e = m.1
 
-pub sparse_members : (s : Cells) (d parent : Name) (rank : ℕ) → IsWellFormed s → domain_at s d ≡ Some (Sparse parent rank) → domain_at s parent ≡ Some (Rectangular rank) → Each IsWritten (members s d)
+pub sparse_members : (s : Cells) (d parent : Name) (rank : ℕ) → IsWellFormed s → domain_at s d ≡ Some (Sparse parent rank) →
+    domain_at s parent ≡ Some (Rectangular rank) → Each IsWritten (members s d)
 sparse_members s d parent rank w is within =
     members_each IsWritten s d (λ i there.
     sparse_written s parent rank i w within (subst (λ k. MayHave s k i) is (has_members s (domain_at s d) i (get s (Member d i)) (w.members d i) there)))

@@ -40,8 +40,10 @@ sorted_keys R (e ∷ es) h = let p = parts (below_all R e.0 es) (is_sorted R es)
 
 -- ---- what a function that keeps the order gives of ascending items ascends
 
-module _ {K J : Type 0} (R : K → K → Ordering) (S : J → J → Ordering) (h : K → Option J) (keeps : (k l : K) (a b : J) → h k ≡ Some a → h l ≡ Some b → R k l ≡ Less → S a b ≡ Less) where
-  above_more : (a : J) (o : Option J) (bs : List J) → ((b : J) → o ≡ Some b → S a b ≡ Less) → AllByRecursion (λ b. S a b ≡ Less) bs → AllByRecursion (λ b. S a b ≡ Less) (cons_option o bs)
+module _ {K J : Type 0} (R : K → K → Ordering) (S : J → J → Ordering) (h : K → Option J)
+    (keeps : (k l : K) (a b : J) → h k ≡ Some a → h l ≡ Some b → R k l ≡ Less → S a b ≡ Less) where
+  above_more : (a : J) (o : Option J) (bs : List J) → ((b : J) → o ≡ Some b → S a b ≡ Less) → AllByRecursion (λ b. S a b ≡ Less) bs →
+      AllByRecursion (λ b. S a b ≡ Less) (cons_option o bs)
   above_more a None bs here rest = rest
   above_more a (Some b) bs here rest = (here b refl, rest)
 
@@ -49,7 +51,8 @@ module _ {K J : Type 0} (R : K → K → Ordering) (S : J → J → Ordering) (h
   above k a e [] s = tt
   above k a e (l ∷ ks) s = above_more a (h l) (filter_map h ks) (λ b f. keeps k l a b e f s.0) (above k a e ks s.1)
 
-  sorted_more : (o : Option J) (bs : List J) → ((a : J) → o ≡ Some a → AllByRecursion (λ b. S a b ≡ Less) bs) → IsStrictlySortedBy S bs → IsStrictlySortedBy S (cons_option o bs)
+  sorted_more : (o : Option J) (bs : List J) → ((a : J) → o ≡ Some a → AllByRecursion (λ b. S a b ≡ Less) bs) → IsStrictlySortedBy S bs →
+      IsStrictlySortedBy S (cons_option o bs)
   unfolding IsStrictlySortedBy
   sorted_more None bs here rest = rest
   sorted_more (Some a) bs here rest = (here a refl, rest)
@@ -100,7 +103,8 @@ pub names_ascend : (s : Cells) → IsStrictlySortedBy (slice_cmp nat_cmp) (map n
 names_ascend s = mapped name_cmp name_of (said s) (lines_ascend s)
 
 -- of two lines, the one that stands before the other has the lesser name
-pub earlier_is_less : (s : Cells) (p q : ℕ) (a b : Line) → p < q → slice_get (said s) p ≡ Some a → slice_get (said s) q ≡ Some b → slice_cmp nat_cmp (name_of a) (name_of b) ≡ Less
+pub earlier_is_less : (s : Cells) (p q : ℕ) (a b : Line) → p < q → slice_get (said s) p ≡ Some a → slice_get (said s) q ≡ Some b →
+    slice_cmp nat_cmp (name_of a) (name_of b) ≡ Less
 earlier_is_less s p q a b before e f =
     let within = slice_get_within (said s) q b f in
     let first = get_or_from_slice_get (said s) p a a e in
@@ -108,5 +112,6 @@ earlier_is_less s p q a b before e f =
     rw (← ap name_of first, ← ap name_of second) (Less-from_sorted (λ x y. name_cmp (name_of x) (name_of y)) (said s) p q a (lines_ascend s) before within)
 
 -- and so have two neighbours
-pub neighbours_ascend : (s : Cells) (p : ℕ) (a b : Line) → slice_get (said s) p ≡ Some a → slice_get (said s) (p + 1) ≡ Some b → slice_cmp nat_cmp (name_of a) (name_of b) ≡ Less
+pub neighbours_ascend : (s : Cells) (p : ℕ) (a b : Line) → slice_get (said s) p ≡ Some a → slice_get (said s) (p + 1) ≡ Some b →
+    slice_cmp nat_cmp (name_of a) (name_of b) ≡ Less
 neighbours_ascend s p a b e f = earlier_is_less s p (p + 1) a b (omega arith) e f

@@ -1,5 +1,6 @@
 -- Every range of a workbook is known by its least index, its greatest index and its stride.
-use Rattle.std.proofs.Common.{◌≡◌, ◌≢◌, ℕ, zero, suc, ◌+◌, ◌-◌, ◌*◌, ◌<◌, ◌≤◌, ℤ, pos, negsuc, ◌+ℤ◌, ◌-ℤ◌, ◌*ℤ◌, List, [], ◌∷◌, Some, None, inl, inr, unsigned_abs, refl, sym, ap, ◌∙◌, subst, arith}
+use Rattle.std.proofs.Common.{◌≡◌, ◌≢◌, ℕ, zero, suc, ◌+◌, ◌-◌, ◌*◌, ◌<◌, ◌≤◌, ℤ, pos, negsuc, ◌+ℤ◌, ◌-ℤ◌, ◌*ℤ◌, List, [], ◌∷◌, Some, None, inl, inr}
+use Rattle.std.proofs.Common.{unsigned_abs, refl, sym, ap, ◌∙◌, subst, arith}
 use Rattle.std.proofs.lemmas.Bool.{cases_lt}
 use Rattle.std.proofs.lemmas.Int.{ints}
 use Rattle.std.proofs.Math.Nat.{zero-mod}
@@ -83,7 +84,8 @@ steps_of xs r =
     let count = least_count n m some in
     let c = count.0 in let low = count.1 in let high = count.2 in
     let zero_off : 0 ≡ unsigned_abs (st -ℤ st) = omega (arith, ints) in
-    let is = sequence-is r.low r.high s None st st n 0 c m r.nonzero refl refl refl refl some (no_offset st s st 0 m refl zero_off (zero-mod m)) (omega (arith, low)) (omega (arith, high)) in
+    let is = sequence-is r.low r.high s None st st n 0 c m r.nonzero refl refl refl refl some (no_offset st s st 0 m refl zero_off (zero-mod m))
+    (omega (arith, low)) (omega (arith, high)) in
     let bounds = λ (nz : c ≢ 0). are_bounds r.low r.high s st 0 c n m r.limits.low_bound r.limits.high_bound refl refl refl nz (omega (arith, high)) in
     record {
       first = st +ℤ pos 0 *ℤ direction s;
@@ -112,22 +114,29 @@ none_bounded xs e = subst IsBounded e (record {
 one_bounded : (a : ℤ) (xs : List ℤ) → IsBound a → (a ∷ []) ≡ xs → IsBounded xs
 one_bounded a xs b e =
     let one : IsStride (Some (pos 1)) = (omega arith, λ z. omega (arith, ints, z)) in
-    bounded_by a _ xs (bounds_up (record { first = a; count = 1; stride = pos 1 }) xs _ (canonical_one a b) e (omega (arith, ints)) (λ z. omega arith) refl) (subst (λ ys. IsStride (Some (stride_of ys))) e one)
+    bounded_by a _ xs (bounds_up (record { first = a; count = 1; stride = pos 1 }) xs _ (canonical_one a b) e (omega (arith, ints)) (λ z. omega arith) refl)
+    (subst (λ ys. IsStride (Some (stride_of ys))) e one)
 
-many_stride : (a s : ℤ) (n : ℕ) (xs : List ℤ) → s ≢ pos 0 → suc (suc n) ≤ 65536 → IsBound a → IsBound (a +ℤ pos (suc (suc n) - 1) *ℤ s) → steps a s (suc (suc n)) ≡ xs → IsStride (Some (stride_of xs))
+many_stride : (a s : ℤ) (n : ℕ) (xs : List ℤ) → s ≢ pos 0 → suc (suc n) ≤ 65536 → IsBound a → IsBound (a +ℤ pos (suc (suc n) - 1) *ℤ s) →
+    steps a s (suc (suc n)) ≡ xs → IsStride (Some (stride_of xs))
 many_stride a s n xs nz few b l e =
     let next = Between-steps a s _ _ (suc (suc n)) 1 (omega arith) b.low b.high l.low l.high in
-    subst (λ z. IsStride (Some z)) (stride_of-steps a s (suc (suc n)) (λ h. absurd (omega (arith, h))) ∙ ap stride_of e) (stride_within a s b (record { low = next.0; high = next.1 }), nz)
+    subst (λ z. IsStride (Some z)) (stride_of-steps a s (suc (suc n)) (λ h. absurd (omega (arith, h))) ∙ ap stride_of e)
+    (stride_within a s b (record { low = next.0; high = next.1 }), nz)
 
-many_bounded : (a s : ℤ) (n : ℕ) (xs : List ℤ) → s ≢ pos 0 → suc (suc n) ≤ 65536 → IsBound a → IsBound (a +ℤ pos (suc (suc n) - 1) *ℤ s) → steps a s (suc (suc n)) ≡ xs → IsBounded xs
+many_bounded : (a s : ℤ) (n : ℕ) (xs : List ℤ) → s ≢ pos 0 → suc (suc n) ≤ 65536 → IsBound a → IsBound (a +ℤ pos (suc (suc n) - 1) *ℤ s) →
+    steps a s (suc (suc n)) ≡ xs → IsBounded xs
 many_bounded a (pos k) n xs nz few b l e =
     let kept = canonical_many a (pos k) (suc (suc n)) b l nz few (λ z. omega (arith, z)) (λ z. omega (arith, z)) in
-    bounded_by a _ xs (bounds_up (record { first = a; count = suc (suc n); stride = pos k }) xs _ kept e (omega (arith, ints)) (λ z. omega (arith, z)) refl) (many_stride a (pos k) n xs nz few b l e)
+    bounded_by a _ xs (bounds_up (record { first = a; count = suc (suc n); stride = pos k }) xs _ kept e (omega (arith, ints)) (λ z. omega (arith, z)) refl)
+    (many_stride a (pos k) n xs nz few b l e)
 many_bounded a (negsuc k) n xs nz few b l e =
     let kept = canonical_many a (negsuc k) (suc (suc n)) b l nz few (λ z. omega (arith, z)) (λ z. omega (arith, z)) in
-    bounded_by _ a xs (bounds_down (record { first = a; count = suc (suc n); stride = negsuc k }) xs _ kept e (omega (arith, ints)) (λ z. omega (arith, z)) refl) (many_stride a (negsuc k) n xs nz few b l e)
+    bounded_by _ a xs (bounds_down (record { first = a; count = suc (suc n); stride = negsuc k }) xs _ kept e (omega (arith, ints)) (λ z. omega (arith, z))
+    refl) (many_stride a (negsuc k) n xs nz few b l e)
 
-by_count : (a s : ℤ) (c : ℕ) (xs : List ℤ) → s ≢ pos 0 → c ≤ 65536 → (c ≢ 0 → IsBound a) → (c ≢ 0 → IsBound (a +ℤ pos (c - 1) *ℤ s)) → steps a s c ≡ xs → IsBounded xs
+by_count : (a s : ℤ) (c : ℕ) (xs : List ℤ) → s ≢ pos 0 → c ≤ 65536 → (c ≢ 0 → IsBound a) → (c ≢ 0 → IsBound (a +ℤ pos (c - 1) *ℤ s)) → steps a s c ≡ xs →
+    IsBounded xs
 by_count a s zero xs nz few b l e = none_bounded xs e
 by_count a s (suc zero) xs nz few b l e = one_bounded a xs (b (λ z. omega (arith, z))) e
 by_count a s (suc (suc n)) xs nz few b l e = many_bounded a s n xs nz few (b (λ z. omega (arith, z))) (l (λ z. omega (arith, z))) e

@@ -1,5 +1,6 @@
 -- Integers, names, texts and indices are read in one way.
-use Rattle.std.proofs.Common.{◌≡◌, ◌≢◌, ◌==◌, ◌&&◌, ◌||◌, nat_le, Bool, ℕ, ℤ, true, false, List, [], ◌∷◌, ◌++◌, codes, Option, Some, None, length, refl, sym, ap, ◌∙◌, append_assoc, arith}
+use Rattle.std.proofs.Common.{◌≡◌, ◌≢◌, ◌==◌, ◌&&◌, ◌||◌, nat_le, Bool, ℕ, ℤ, true, false, List, [], ◌∷◌, ◌++◌, codes, Option, Some, None, length, refl, sym}
+use Rattle.std.proofs.Common.{ap, ◌∙◌, append_assoc, arith}
 use Rattle.std.specs.Fmt.{signed_decimal}
 use Rattle.std.specs.List.{list_all}
 use Rattle.wb_assoc.specs.Labels.{is_plain}
@@ -40,10 +41,12 @@ abbrev pub AreWithin : List ℤ → Type 0
 AreWithin = Each IsWithin
 
 pub listed_read : (left : List ℕ) → IsRead Any AreWithin (enclosed left (codes "]") signed_decimal)
-listed_read left = enclosed_read EndsDigits IsWithin signed_decimal left 93 integer_read (λ e. omega (arith, e)) (λ r. refl) (λ r. refl) (no_integer 93 (λ q. refl))
+listed_read left = enclosed_read EndsDigits IsWithin signed_decimal left 93 integer_read (λ e. omega (arith, e)) (λ r. refl) (λ r. refl)
+    (no_integer 93 (λ q. refl))
 
 pub tuple_read : (left : List ℕ) → IsRead Any AreWithin (enclosed left (codes ")") signed_decimal)
-tuple_read left = enclosed_read EndsDigits IsWithin signed_decimal left 41 integer_read (λ e. omega (arith, e)) (λ r. refl) (λ r. refl) (no_integer 41 (λ q. refl))
+tuple_read left = enclosed_read EndsDigits IsWithin signed_decimal left 41 integer_read (λ e. omega (arith, e)) (λ r. refl) (λ r. refl)
+    (no_integer 41 (λ q. refl))
 
 pub integers_read : IsRead Any AreWithin integers_text
 integers_read = listed_read (codes "[")

@@ -30,7 +30,8 @@ IsLine (associative d type is) = (is_name d ≡ true) × Each IsWritten is
 IsLine (array a d xs irv) = (is_name a ≡ true) × (is_name d ≡ true) × AreWithin xs × IsImplicit irv
 
 -- a word, a name up to a space, and what follows
-named_read : (word m n a b r q : List ℕ) → list_all is_name_part m ≡ true → list_all is_name_part n ≡ true → (word ++ (m ++ (32 ∷ a))) ++ r ≡ (word ++ (n ++ (32 ∷ b))) ++ q → (m ≡ n) × (a ++ r ≡ b ++ q)
+named_read : (word m n a b r q : List ℕ) → list_all is_name_part m ≡ true → list_all is_name_part n ≡ true →
+    (word ++ (m ++ (32 ∷ a))) ++ r ≡ (word ++ (n ++ (32 ∷ b))) ++ q → (m ≡ n) × (a ++ r ≡ b ++ q)
 named_read word m n a b r q h k e =
     let f = after_word word (m ++ (32 ∷ a)) (n ++ (32 ∷ b)) r q e in
     name_read m n (a ++ r) (b ++ q) h k (sym (append_assoc m (32 ∷ a) r) ∙ f ∙ append_assoc n (32 ∷ b) q)
@@ -40,11 +41,13 @@ named_read word m n a b r q h k e =
 rectangular_rest : List (List ℤ) → LayoutMap → List ℕ
 rectangular_rest rs m = rectangle_text rs ++ (codes " " ++ (mapping_text m ++ codes "\n"))
 
-rectangular_read : (d e : Name) (rs us : List (List ℤ)) (m n : LayoutMap) (r q : List ℕ) → IsLine (rectangular d rs m) → IsLine (rectangular e us n) → rectangular_line d rs m ++ r ≡ rectangular_line e us n ++ q → (rectangular d rs m ≡ rectangular e us n) × (r ≡ q)
+rectangular_read : (d e : Name) (rs us : List (List ℤ)) (m n : LayoutMap) (r q : List ℕ) → IsLine (rectangular d rs m) → IsLine (rectangular e us n) →
+    rectangular_line d rs m ++ r ≡ rectangular_line e us n ++ q → (rectangular d rs m ≡ rectangular e us n) × (r ≡ q)
 unfolding rectangular_rest
 rectangular_read d e rs us m n r q h k f =
     let name = named_read (codes "rect ") d e (rectangular_rest rs m) (rectangular_rest us n) r q (name_parts d h.0) (name_parts e k.0) f in
-    let ranges = part_read Any (Each IsSpelled) rectangle_text rectangle_read rs us (codes " " ++ (mapping_text m ++ codes "\n")) (codes " " ++ (mapping_text n ++ codes "\n")) r q h.1 k.1 tt tt name.1 in
+    let ranges = part_read Any (Each IsSpelled) rectangle_text rectangle_read rs us (codes " " ++ (mapping_text m ++ codes "\n"))
+    (codes " " ++ (mapping_text n ++ codes "\n")) r q h.1 k.1 tt tt name.1 in
     let layout = part_read Any IsMapped mapping_text mapping_read m n (codes "\n") (codes "\n") r q h.2 k.2 tt tt (tail_same 32 32 _ _ ranges.1) in
     let one = name.0 in let two = ranges.0 in let three = layout.0 in
     let same : rectangular d rs m ≡ rectangular e us n = cc in
@@ -62,7 +65,8 @@ set_rest_read is js r q h k f =
 of_rest : Name → List Index → List ℕ
 of_rest n is = codes "of " ++ (n ++ (codes " " ++ (set_text is ++ codes "\n")))
 
-of_rest_read : (m n : Name) (is js : List Index) (r q : List ℕ) → list_all is_name_part m ≡ true → list_all is_name_part n ≡ true → Each IsWritten is → Each IsWritten js → of_rest m is ++ r ≡ of_rest n js ++ q
+of_rest_read : (m n : Name) (is js : List Index) (r q : List ℕ) → list_all is_name_part m ≡ true → list_all is_name_part n ≡ true → Each IsWritten is →
+    Each IsWritten js → of_rest m is ++ r ≡ of_rest n js ++ q
     → (m ≡ n) × (is ≡ js) × (r ≡ q)
 unfolding of_rest set_rest
 of_rest_read m n is js r q a b h k f =
@@ -70,7 +74,8 @@ of_rest_read m n is js r q a b h k f =
     let set = set_rest_read is js r q h k name.1 in
     (name.0, set.0, set.1)
 
-sparse_read : (d e p o : Name) (is js : List Index) (r q : List ℕ) → IsLine (sparse d p is) → IsLine (sparse e o js) → sparse_line d p is ++ r ≡ sparse_line e o js ++ q → (sparse d p is ≡ sparse e o js) × (r ≡ q)
+sparse_read : (d e p o : Name) (is js : List Index) (r q : List ℕ) → IsLine (sparse d p is) → IsLine (sparse e o js) →
+    sparse_line d p is ++ r ≡ sparse_line e o js ++ q → (sparse d p is ≡ sparse e o js) × (r ≡ q)
 unfolding of_rest
 sparse_read d e p o is js r q h k f =
     let name = named_read (codes "sparse ") d e (of_rest p is) (of_rest o js) r q (name_parts d h.0) (name_parts e k.0) f in
@@ -89,7 +94,8 @@ type_known Int Text e = other_first 105 116 _ _ refl e
 type_known Text Int e = other_first 116 105 _ _ refl e
 type_known Text Text e = refl
 
-associative_read : (d e : Name) (t u : KeyType) (is js : List Index) (r q : List ℕ) → IsLine (associative d t is) → IsLine (associative e u js) → associative_line d t is ++ r ≡ associative_line e u js ++ q → (associative d t is ≡ associative e u js) × (r ≡ q)
+associative_read : (d e : Name) (t u : KeyType) (is js : List Index) (r q : List ℕ) → IsLine (associative d t is) → IsLine (associative e u js) →
+    associative_line d t is ++ r ≡ associative_line e u js ++ q → (associative d t is ≡ associative e u js) × (r ≡ q)
 unfolding of_rest
 associative_read d e t u is js r q h k f =
     let name = named_read (codes "assoc ") d e (of_rest (type_text t) is) (of_rest (type_text u) js) r q (name_parts d h.0) (name_parts e k.0) f in
@@ -111,18 +117,21 @@ implicit_read None None r q h k e = (refl, tail_same 10 10 r q e)
 implicit_read None (Some w) r q h k e = other_first 10 32 _ _ refl e
 implicit_read (Some z) None r q h k e = other_first 32 10 _ _ refl e
 implicit_read (Some z) (Some w) r q h k e =
-    let after = append_cancel_left (codes " irv ") (signed_decimal z ++ (10 ∷ r)) (signed_decimal w ++ (10 ∷ q)) (sym (implicit_shape z r) ∙ e ∙ implicit_shape w q) in
+    let after = append_cancel_left (codes " irv ") (signed_decimal z ++ (10 ∷ r)) (signed_decimal w ++ (10 ∷ q))
+    (sym (implicit_shape z r) ∙ e ∙ implicit_shape w q) in
     let one = integer_read z w (10 ∷ r) (10 ∷ q) h k refl refl after in
     (ap Some one.0, tail_same 10 10 r q one.1)
 
 array_rest : Name → List ℤ → Option ℤ → List ℕ
 array_rest d xs irv = codes "over " ++ (d ++ (codes " " ++ (integers_text xs ++ (implicit_text irv ++ codes "\n"))))
 
-array_read : (a c d e : Name) (xs ys : List ℤ) (z w : Option ℤ) (r q : List ℕ) → IsLine (array a d xs z) → IsLine (array c e ys w) → array_line a d xs z ++ r ≡ array_line c e ys w ++ q → (array a d xs z ≡ array c e ys w) × (r ≡ q)
+array_read : (a c d e : Name) (xs ys : List ℤ) (z w : Option ℤ) (r q : List ℕ) → IsLine (array a d xs z) → IsLine (array c e ys w) →
+    array_line a d xs z ++ r ≡ array_line c e ys w ++ q → (array a d xs z ≡ array c e ys w) × (r ≡ q)
 unfolding array_rest implicit_rest
 array_read a c d e xs ys z w r q h k f =
     let name = named_read (codes "array ") a c (array_rest d xs z) (array_rest e ys w) r q (name_parts a h.0) (name_parts c k.0) f in
-    let over = named_read (codes "over ") d e (integers_text xs ++ implicit_rest z) (integers_text ys ++ implicit_rest w) r q (name_parts d h.1) (name_parts e k.1) name.1 in
+    let over = named_read (codes "over ") d e (integers_text xs ++ implicit_rest z) (integers_text ys ++ implicit_rest w) r q (name_parts d h.1)
+    (name_parts e k.1) name.1 in
     let elements = part_read Any AreWithin integers_text integers_read xs ys (implicit_rest z) (implicit_rest w) r q h.2 k.2 tt tt over.1 in
     let implicit = implicit_read z w r q h.3 k.3 elements.1 in
     let one = name.0 in let two = over.0 in let three = elements.0 in let four = implicit.0 in

@@ -26,24 +26,28 @@ part_read Ends Is text read x y a b r q h k i j e = read x y (a ++ r) (b ++ q) h
 
 last_read : (g h : List ℤ) (r q : List ℕ) → AreWithin g → AreWithin h → last_grid_text g ++ r ≡ last_grid_text h ++ q → (g ≡ h) × (r ≡ q)
 last_read g h r q i j e =
-    let one = part_read Any AreWithin integers_text integers_read g h (codes ")") (codes ")") r q i j tt tt (after_word (codes ", ") (integers_text g ++ codes ")") (integers_text h ++ codes ")") r q e) in
+    let one = part_read Any AreWithin integers_text integers_read g h (codes ")") (codes ")") r q i j tt tt
+    (after_word (codes ", ") (integers_text g ++ codes ")") (integers_text h ++ codes ")") r q e) in
     (one.0, tail_same 41 41 _ _ one.1)
 
-block_read : (m n : BlockMap) (r q : List ℕ) → IsMapped (block m) → IsMapped (block n) → mapping_text (block m) ++ r ≡ mapping_text (block n) ++ q → (block m ≡ block n) × (r ≡ q)
+block_read : (m n : BlockMap) (r q : List ℕ) → IsMapped (block m) → IsMapped (block n) → mapping_text (block m) ++ r ≡ mapping_text (block n) ++ q →
+    (block m ≡ block n) × (r ≡ q)
 block_read m n r q h k e =
     let box = part_read Any (Each IsSpelled) rectangle_text rectangle_read m.box n.box (last_grid_text m.grid) (last_grid_text n.grid) r q h.0 k.0 tt tt
     (after_word (codes "blockDist(") (rectangle_text m.box ++ last_grid_text m.grid) (rectangle_text n.box ++ last_grid_text n.grid) r q e) in
     let grid = last_read m.grid n.grid r q h.1 k.1 box.1 in
     (ap₂ (λ b g. block (record { box = b; grid = g })) box.0 grid.0, grid.1)
 
-cyclic_read : (m n : CyclicMap) (r q : List ℕ) → IsMapped (cyclic m) → IsMapped (cyclic n) → mapping_text (cyclic m) ++ r ≡ mapping_text (cyclic n) ++ q → (cyclic m ≡ cyclic n) × (r ≡ q)
+cyclic_read : (m n : CyclicMap) (r q : List ℕ) → IsMapped (cyclic m) → IsMapped (cyclic n) → mapping_text (cyclic m) ++ r ≡ mapping_text (cyclic n) ++ q →
+    (cyclic m ≡ cyclic n) × (r ≡ q)
 cyclic_read m n r q h k e =
     let start = part_read EndsDigits IsPoint point_text point_read m.start n.start (last_grid_text m.grid) (last_grid_text n.grid) r q h.0 k.0 refl refl
     (after_word (codes "cyclicDist(") (point_text m.start ++ last_grid_text m.grid) (point_text n.start ++ last_grid_text n.grid) r q e) in
     let grid = last_read m.grid n.grid r q h.1 k.1 start.1 in
     (ap₂ (λ s g. cyclic (record { start = s; grid = g })) start.0 grid.0, grid.1)
 
-block_cyclic_read : (m n : BlockCyclicMap) (r q : List ℕ) → IsMapped (block_cyclic m) → IsMapped (block_cyclic n) → mapping_text (block_cyclic m) ++ r ≡ mapping_text (block_cyclic n) ++ q → (block_cyclic m ≡ block_cyclic n) × (r ≡ q)
+block_cyclic_read : (m n : BlockCyclicMap) (r q : List ℕ) → IsMapped (block_cyclic m) → IsMapped (block_cyclic n) →
+    mapping_text (block_cyclic m) ++ r ≡ mapping_text (block_cyclic n) ++ q → (block_cyclic m ≡ block_cyclic n) × (r ≡ q)
 block_cyclic_read m n r q h k e =
     let more : BlockCyclicMap → List ℕ = λ x. codes ", " ++ (point_text x.size ++ last_grid_text x.grid) in
     let start = part_read EndsDigits IsPoint point_text point_read m.start n.start (more m) (more n) r q h.0 k.0 refl refl
@@ -51,8 +55,10 @@ block_cyclic_read m n r q h k e =
     let size = part_read EndsDigits IsPoint point_text point_read m.size n.size (last_grid_text m.grid) (last_grid_text n.grid) r q h.1 k.1 refl refl
     (after_word (codes ", ") (point_text m.size ++ last_grid_text m.grid) (point_text n.size ++ last_grid_text n.grid) r q start.1) in
     let grid = last_read m.grid n.grid r q h.2 k.2 size.1 in
-    let one = start.0 in let two = size.0 in let three = grid.0 in
-    (ap₂ (λ (s : List ℤ) (p : List ℤ × List ℤ). block_cyclic (record { start = s; size = p.0; grid = p.1 })) one (ap₂ (λ (a b : List ℤ). (a, b)) two three), grid.1)
+    let one = start.0 in let two = size.0 in let three = grid.0 in (
+      ap₂ (λ (s : List ℤ) (p : List ℤ × List ℤ). block_cyclic (record { start = s; size = p.0; grid = p.1 })) one (ap₂ (λ (a b : List ℤ). (a, b)) two three),
+      grid.1,
+    )
 
 -- distributions are told apart by their first bytes
 pub mapping_read : IsRead Any IsMapped mapping_text

@@ -1,5 +1,6 @@
 -- The texts of ranges and rectangles are read in one way.
-use Rattle.std.proofs.Common.{◌≡◌, ◌≢◌, ℕ, ℤ, pos, true, false, List, [], ◌∷◌, ◌++◌, codes, Option, Some, None, if◌then◌else◌, refl, sym, ap, ap₂, ◌∙◌, append_assoc, arith}
+use Rattle.std.proofs.Common.{◌≡◌, ◌≢◌, ℕ, ℤ, pos, true, false, List, [], ◌∷◌, ◌++◌, codes, Option, Some, None, if◌then◌else◌, refl, sym, ap, ap₂, ◌∙◌}
+use Rattle.std.proofs.Common.{append_assoc, arith}
 use Rattle.std.proofs.lemmas.Bool.Decides.{Decides-int_eq}
 use Rattle.std.specs.Fmt.{signed_decimal}
 use Rattle.std.specs.Ordering.{int_eq}
@@ -49,7 +50,8 @@ no_space : (r q : List ℕ) → EndsRange r → r ≡ 32 ∷ q → ⊥
 no_space [] q a e = cc
 no_space (b ∷ r) q a e = a.1 (head_same b 32 r q e)
 
-tail_read : (s t : Option ℤ) (r q : List ℕ) → IsStrideWithin s → IsStrideWithin t → EndsRange r → EndsRange q → tail_text s r ≡ tail_text t q → (s ≡ t) × (r ≡ q)
+tail_read : (s t : Option ℤ) (r q : List ℕ) → IsStrideWithin s → IsStrideWithin t → EndsRange r → EndsRange q → tail_text s r ≡ tail_text t q → (s ≡ t) ×
+    (r ≡ q)
 tail_read None None r q h k a b e = (refl, e)
 tail_read None (Some t) r q h k a b e = absurd (no_space r _ a e)
 tail_read (Some s) None r q h k a b e = absurd (no_space q _ b (sym e))
@@ -65,11 +67,13 @@ record AreSame (low high low' high' : ℤ) (s t : Option ℤ) (r q : List ℕ) :
   stride_same : s ≡ t
   rest_same : r ≡ q
 
-parts_read : (low high low' high' : ℤ) (s t : Option ℤ) (r q : List ℕ) → IsWithin low → IsWithin high → IsWithin low' → IsWithin high' → IsStrideWithin s → IsStrideWithin t
+parts_read : (low high low' high' : ℤ) (s t : Option ℤ) (r q : List ℕ) → IsWithin low → IsWithin high → IsWithin low' → IsWithin high' → IsStrideWithin s →
+    IsStrideWithin t
     → EndsRange r → EndsRange q → range_text low high s ++ r ≡ range_text low' high' t ++ q → AreSame low high low' high' s t r q
 parts_read low high low' high' s t r q l h l' h' i j a b e =
     let first = integer_read low low' (from_dots high s r) (from_dots high' t q) l l' refl refl (sym (in_parts low high s r) ∙ e ∙ in_parts low' high' t q) in
-    let second = integer_read high high' (tail_text s r) (tail_text t q) h h' (tail_ends s r a) (tail_ends t q b) (tail_same 46 46 _ _ (tail_same 46 46 _ _ first.1)) in
+    let second = integer_read high high' (tail_text s r) (tail_text t q) h h' (tail_ends s r a) (tail_ends t q b)
+    (tail_same 46 46 _ _ (tail_same 46 46 _ _ first.1)) in
     let third = tail_read s t r q i j a b second.1 in
     record { low_same = first.0; high_same = second.0; stride_same = third.0; rest_same = third.1 }
 
@@ -98,7 +102,8 @@ stride_known a b e =
       ] refl
     ] refl e
 
-by_parts : (xs ys : List ℤ) → IsSpelled xs → IsSpelled ys → (bounds_of xs).0 ≡ (bounds_of ys).0 → (bounds_of xs).1 ≡ (bounds_of ys).1 → stride_of xs ≡ stride_of ys → xs ≡ ys
+by_parts : (xs ys : List ℤ) → IsSpelled xs → IsSpelled ys → (bounds_of xs).0 ≡ (bounds_of ys).0 → (bounds_of xs).1 ≡ (bounds_of ys).1 →
+    stride_of xs ≡ stride_of ys → xs ≡ ys
 by_parts xs ys h k l u s =
     sym h.spelled
     ∙ ap₂ (λ (a b : ℤ). sequence a b (stride_of xs) None) l u
@@ -107,12 +112,15 @@ by_parts xs ys h k l u s =
 
 pub range_read : IsRead EndsRange IsSpelled text_of_range
 range_read xs ys r q h k a b e =
-    let all = parts_read _ _ _ _ (written_stride (stride_of xs)) (written_stride (stride_of ys)) r q h.low h.high k.low k.high (stride_within _ h.stride) (stride_within _ k.stride) a b e in
+    let all = parts_read _ _ _ _ (written_stride (stride_of xs)) (written_stride (stride_of ys)) r q h.low h.high k.low k.high (stride_within _ h.stride)
+    (stride_within _ k.stride) a b e in
     (by_parts xs ys h k all.low_same all.high_same (stride_known _ _ all.stride_same), all.rest_same)
 
 no_range : IsNever EndsRange IsSpelled text_of_range 125
 no_range xs r q h a e =
-    no_integer 125 (λ x. refl) (bounds_of xs).0 (from_dots (bounds_of xs).1 (written_stride (stride_of xs)) r) q h.low refl (sym (in_parts _ _ (written_stride (stride_of xs)) r) ∙ e)
+    no_integer 125 (λ x. refl) (bounds_of xs).0 (from_dots (bounds_of xs).1 (written_stride (stride_of xs)) r) q h.low refl
+    (sym (in_parts _ _ (written_stride (stride_of xs)) r) ∙ e)
 
 pub rectangle_read : IsRead Any (Each IsSpelled) rectangle_text
-rectangle_read = enclosed_read EndsRange IsSpelled text_of_range (codes "{") 125 range_read (λ e. omega (arith, e)) (λ r. (refl, λ e. omega (arith, e))) (λ r. (refl, λ e. omega (arith, e))) no_range
+rectangle_read = enclosed_read EndsRange IsSpelled text_of_range (codes "{") 125 range_read (λ e. omega (arith, e)) (λ r. (refl, λ e. omega (arith, e)))
+    (λ r. (refl, λ e. omega (arith, e))) no_range

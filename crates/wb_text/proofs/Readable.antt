@@ -48,7 +48,8 @@ both false b e = cc
 apart : (p : ℕ → Bool) (b c : ℕ) → p b ≡ false → p c ≡ true → b ≡ c → ⊥
 apart p b c f t e = let g = ap p e in cc
 
-pub bytes_until : (p : ℕ → Bool) (b : ℕ) → p b ≡ false → (m n r q : List ℕ) → list_all p m ≡ true → list_all p n ≡ true → m ++ (b ∷ r) ≡ n ++ (b ∷ q) → (m ≡ n) × (r ≡ q)
+pub bytes_until : (p : ℕ → Bool) (b : ℕ) → p b ≡ false → (m n r q : List ℕ) → list_all p m ≡ true → list_all p n ≡ true → m ++ (b ∷ r) ≡ n ++ (b ∷ q) →
+    (m ≡ n) × (r ≡ q)
 bytes_until p b f [] [] r q h k e = (refl, tail_same b b r q e)
 bytes_until p b f [] (c ∷ n) r q h k e = absurd (apart p b c f (both (p c) (list_all p n) k).0 (head_same b c r (n ++ (b ∷ q)) e))
 bytes_until p b f (c ∷ m) [] r q h k e = absurd (apart p b c f (both (p c) (list_all p m) h).0 (sym (head_same c b (m ++ (b ∷ r)) q e)))
@@ -63,7 +64,8 @@ bytes_until p b f (c ∷ m) (d ∷ n) r q h k e =
 -- further items up to a closing byte other than a comma
 further_read : {X : Type 0} (Ends : List ℕ → Type 0) (Is : X → Type 0) (text : X → List ℕ) (close : ℕ) → IsRead Ends Is text → close ≢ 44
     → ((r : List ℕ) → Ends (44 ∷ r)) → ((r : List ℕ) → Ends (close ∷ r))
-    → (xs ys : List X) (r q : List ℕ) → Each Is xs → Each Is ys → flat_map (further text) xs ++ (close ∷ r) ≡ flat_map (further text) ys ++ (close ∷ q) → (xs ≡ ys) × (r ≡ q)
+    → (xs ys : List X) (r q : List ℕ) → Each Is xs → Each Is ys → flat_map (further text) xs ++ (close ∷ r) ≡ flat_map (further text) ys ++ (close ∷ q) →
+    (xs ≡ ys) × (r ≡ q)
 further_read Ends Is text close read other comma closing [] [] r q h k e = (refl, tail_same close close r q e)
 further_read Ends Is text close read other comma closing [] (y ∷ ys) r q h k e = absurd (other (head_same close 44 _ _ e))
 further_read Ends Is text close read other comma closing (x ∷ xs) [] r q h k e = absurd (other (sym (head_same 44 close _ _ e)))
@@ -97,7 +99,8 @@ enclosed_read {X} Ends Is text left close read other comma closing never xs ys r
     begun : (z : X) (zs : List X) (t : List ℕ) → join_by text (codes ", ") (z ∷ zs) ++ (close ∷ t) ≡ text z ++ (flat_map (further text) zs ++ (close ∷ t))
     begun z zs t = append_assoc (text z) (flat_map (further text) zs) (close ∷ t)
 
-    within : (us vs : List X) → Each Is us → Each Is vs → join_by text (codes ", ") us ++ (close ∷ r) ≡ join_by text (codes ", ") vs ++ (close ∷ q) → (us ≡ vs) × (r ≡ q)
+    within : (us vs : List X) → Each Is us → Each Is vs → join_by text (codes ", ") us ++ (close ∷ r) ≡ join_by text (codes ", ") vs ++ (close ∷ q) →
+        (us ≡ vs) × (r ≡ q)
     within [] [] i j f = (refl, tail_same close close r q f)
     within [] (v ∷ vs) i j f = absurd (never v _ r j.0 (ends vs q) (sym (f ∙ begun v vs q)))
     within (u ∷ us) [] i j f = absurd (never u _ q i.0 (ends us r) (sym (begun u us r) ∙ f))

@@ -18,7 +18,8 @@ use Rattle.wb_book.specs.declared.values.index.Index.{Index}
 use Rattle.wb_book.specs.Cells.{Name, Cells, cell_order, index_cmp-IsAntisymmetric, is_same_index}
 use Rattle.wb_book.specs.Kinds.{kind_of}
 use Rattle.wb_book.specs.Shapes.{Range, indices}
-use Rattle.wb_book.specs.WellFormed.{IsWellFormed, IsElement, IsMember, IsNumber, MayHave, array_at, array_in, domain_at, has, index_cell, inside_of, is_index_of_array, present_if, ranges_in}
+use Rattle.wb_book.specs.WellFormed.{IsWellFormed, IsElement, IsMember, IsNumber, MayHave, array_at, array_in, domain_at, has, index_cell, inside_of}
+use Rattle.wb_book.specs.WellFormed.{is_index_of_array, present_if, ranges_in}
 use Rattle.wb_text.specs.Said.{sparse, associative, array, said}
 use Rattle.wb_text.specs.Lines.{element_at, elements_at, indices_in, members, number_in}
 use Rattle.wb_text.proofs.Readable.{Each}
@@ -35,8 +36,10 @@ true_false e = cc
 -- what holds of each index that is in a list, of all of them
 each_among : (P : Index → Type 0) (is : List Index) → ((i : Index) → has is i ≡ true → P i) → Each P is
 each_among P [] fact = tt
-each_among P (j ∷ is) fact =
-    (fact j (ap (λ b. b || has is j) ((eq_by_cmp_equiv index_laws.total-law).refl j)), each_among P is (λ i h. fact i (or_right (is_same_index i j) (has is i) h)))
+each_among P (j ∷ is) fact = (
+  fact j (ap (λ b. b || has is j) ((eq_by_cmp_equiv index_laws.total-law).refl j)),
+  each_among P is (λ i h. fact i (or_right (is_same_index i j) (has is i) h)),
+)
 
 of_each : (P : Index → Type 0) (is : List Index) (i : Index) → Each P is → has is i ≡ true → P i
 of_each P [] i h e = true_false (sym e)
@@ -52,13 +55,15 @@ heads_same x y xs ys e = cc
 tails_same : {X : Type 0} (x y : X) (xs ys : List X) → x ∷ xs ≡ y ∷ ys → xs ≡ ys
 tails_same x y xs ys e = cc
 
-one_more : {X Y : Type 0} (f g : X → Option Y) (xs : List X) (o p : Option Y) → is_some o ≡ true → is_some p ≡ true → cons_option o (filter_map f xs) ≡ cons_option p (filter_map g xs) → (o ≡ p) × (filter_map f xs ≡ filter_map g xs)
+one_more : {X Y : Type 0} (f g : X → Option Y) (xs : List X) (o p : Option Y) → is_some o ≡ true → is_some p ≡ true →
+    cons_option o (filter_map f xs) ≡ cons_option p (filter_map g xs) → (o ≡ p) × (filter_map f xs ≡ filter_map g xs)
 one_more f g xs None p h i e = true_false (sym h)
 one_more f g xs (Some x) None h i e = true_false (sym i)
 one_more f g xs (Some x) (Some y) h i e = (ap (λ z. Some z) (heads_same x y _ _ e), tails_same x y _ _ e)
 
 -- two functions that give something of each item, and the same lists of all, give the same of each
-each_same : {X Y : Type 0} (f g : X → Option Y) (xs : List X) → Each (λ x. is_some (f x) ≡ true) xs → Each (λ x. is_some (g x) ≡ true) xs → filter_map f xs ≡ filter_map g xs → Each (λ x. f x ≡ g x) xs
+each_same : {X Y : Type 0} (f g : X → Option Y) (xs : List X) → Each (λ x. is_some (f x) ≡ true) xs → Each (λ x. is_some (g x) ≡ true) xs →
+    filter_map f xs ≡ filter_map g xs → Each (λ x. f x ≡ g x) xs
 each_same f g [] h i e = tt
 each_same f g (x ∷ xs) h i e =
     let one = one_more f g xs (f x) (g x) h.0 i.0 e in
@@ -117,10 +122,12 @@ pub members_same : (s t : Cells) → IsWellFormed s → IsWellFormed t → said 
 members_same s t v w same d i =
     of (domain_at s d) refl (v.members d i) (subst (λ k. IsMember t k i (get t (Member d i))) (sym (domains_same s t v w same d)) (w.members d i))
   where
-    of : (k : Option DomainKind) → domain_at s d ≡ k → IsMember s k i (get s (Member d i)) → IsMember t k i (get t (Member d i)) → get s (Member d i) ≡ get t (Member d i)
+    of : (k : Option DomainKind) → domain_at s d ≡ k → IsMember s k i (get s (Member d i)) → IsMember t k i (get t (Member d i)) →
+        get s (Member d i) ≡ get t (Member d i)
     of None e h j = none_there s t i None _ _ h j (λ m. m) (λ m. m)
     of (Some (Rectangular rank)) e h j = none_there s t i (Some (Rectangular rank)) _ _ h j (λ m. m) (λ m. m)
-    of (Some (Sparse parent rank)) e h j = present_same s t i (Some (Sparse parent rank)) _ _ h j (listed_same s t d i (sparse_members s t v w same d parent rank e))
+    of (Some (Sparse parent rank)) e h j = present_same s t i (Some (Sparse parent rank)) _ _ h j
+        (listed_same s t d i (sparse_members s t v w same d parent rank e))
     of (Some (Associative type)) e h j = present_same s t i (Some (Associative type)) _ _ h j (listed_same s t d i (associative_members s t v w same d type e))
 
 -- ---- elements
@@ -139,14 +146,16 @@ index_listed s d (kinds.Rectangular rank) i w = ap is_some (w.insides d i) ∙ i
 index_listed s d (kinds.Sparse rank) i w = member_listed s d i
 index_listed s d (kinds.Associative type) i w = member_listed s d i
 
-pub element_by : (s : Cells) (a d : Name) (kind : Kind) (i : Index) (b : Bool) → IsWellFormed s → array_at s a ≡ Some (d, kind) → has (indices_in s d kind) i ≡ b → IsElement b (get s (Element a i))
+pub element_by : (s : Cells) (a d : Name) (kind : Kind) (i : Index) (b : Bool) → IsWellFormed s → array_at s a ≡ Some (d, kind) →
+    has (indices_in s d kind) i ≡ b → IsElement b (get s (Element a i))
 element_by s a d kind i b w e h =
     subst (λ x. IsElement x (get s (Element a i))) (ap (λ o. is_index_of_array s o i) e ∙ index_listed s d kind i w ∙ h) (w.elements a i)
 
 number_there : (o : Option Value) → IsNumber o → is_some (number_in o) ≡ true
 number_there o h = ap (λ x. is_some (number_in x)) h.1
 
-pub all_there : (s : Cells) (a d : Name) (kind : Kind) → IsWellFormed s → array_at s a ≡ Some (d, kind) → Each (λ i. is_some (element_at s a i) ≡ true) (indices_in s d kind)
+pub all_there : (s : Cells) (a d : Name) (kind : Kind) → IsWellFormed s → array_at s a ≡ Some (d, kind) →
+    Each (λ i. is_some (element_at s a i) ≡ true) (indices_in s d kind)
 all_there s a d kind w e =
     each_among (λ i. is_some (element_at s a i) ≡ true) (indices_in s d kind) (λ i h. number_there (get s (Element a i)) (element_by s a d kind i true w e h))
 
@@ -168,12 +177,14 @@ module _ (s t : Cells) (v : IsWellFormed s) (w : IsWellFormed t) (same : said s 
       (subst (Each (λ i. is_some (element_at t a i) ≡ true)) (sym is) (all_there t a d kind w (sym arrays_same ∙ e)))
       (numbers_same _ _ _ _ _ _ _ _ (arrays_said s t v w same a d kind e) ∙ ap (elements_at t a) (sym is))
 
-  over : (d : Name) (kind : Kind) (i : Index) (b : Bool) → array_at s a ≡ Some (d, kind) → has (indices_in s d kind) i ≡ b → get s (Element a i) ≡ get t (Element a i)
+  over : (d : Name) (kind : Kind) (i : Index) (b : Bool) → array_at s a ≡ Some (d, kind) → has (indices_in s d kind) i ≡ b →
+      get s (Element a i) ≡ get t (Element a i)
   over d kind i b e h =
       let is : indices_in s d kind ≡ indices_in t d kind = indices_same s t v w same d kind (v.objects a _ (array_object (get s (Object a)) d kind e)) in
       of b h (element_by s a d kind i b v e h) (element_by t a d kind i b w (sym arrays_same ∙ e) (ap (λ js. has js i) (sym is) ∙ h))
     where
-      of : (b : Bool) → has (indices_in s d kind) i ≡ b → IsElement b (get s (Element a i)) → IsElement b (get t (Element a i)) → get s (Element a i) ≡ get t (Element a i)
+      of : (b : Bool) → has (indices_in s d kind) i ≡ b → IsElement b (get s (Element a i)) → IsElement b (get t (Element a i)) →
+          get s (Element a i) ≡ get t (Element a i)
       of true h j k = number_same _ _ j k (of_each (λ i. element_at s a i ≡ element_at t a i) (indices_in s d kind) i (each_element d kind e) h)
       of false h j k = j ∙ sym k
 
@@ -183,7 +194,8 @@ module _ (s t : Cells) (v : IsWellFormed s) (w : IsWellFormed t) (same : said s 
       of : (o : Option (Name × Kind)) → array_at s a ≡ o → get s (Element a i) ≡ get t (Element a i)
       of None e =
           let here : get s (Element a i) ≡ None = subst (λ o. IsElement (is_index_of_array s o i) (get s (Element a i))) e (v.elements a i) in
-          let there : get t (Element a i) ≡ None = subst (λ o. IsElement (is_index_of_array t o i) (get t (Element a i))) (sym arrays_same ∙ e) (w.elements a i) in
+          let there : get t (Element a i) ≡ None = subst (λ o. IsElement (is_index_of_array t o i) (get t (Element a i))) (sym arrays_same ∙ e)
+          (w.elements a i) in
           here ∙ sym there
       of (Some (d, kind)) e = over d kind i (has (indices_in s d kind) i) e refl
 

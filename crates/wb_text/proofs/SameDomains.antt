@@ -40,17 +40,20 @@ pub domain_line : (s : Cells) (d : Name) (kind : DomainKind) → domain_at s d �
 domain_line s d kind e = ap (said_in s d) (domain_object (get s (Object d)) kind e)
 
 -- two domains of one name are said alike
-pub both_said : (s t : Cells) → said s ≡ said t → (d : Name) (k l : DomainKind) → domain_at s d ≡ Some k → domain_at t d ≡ Some l → domain_said s d k ≡ domain_said t d l
+pub both_said : (s t : Cells) → said s ≡ said t → (d : Name) (k l : DomainKind) → domain_at s d ≡ Some k → domain_at t d ≡ Some l →
+    domain_said s d k ≡ domain_said t d l
 both_said s t same d k l e f = some_same _ _ (sym (domain_line s d k e) ∙ same_line s t same d ∙ domain_line t d l f)
 
 -- ---- ranks
 
-pub rank_known : (s : Cells) (d : Name) (rank : ℕ) → IsWellFormed s → domain_at s d ≡ Some (Rectangular rank) → length (unwrap_or (ranges_in (get s (Shape d))) []) ≡ rank
+pub rank_known : (s : Cells) (d : Name) (rank : ℕ) → IsWellFormed s → domain_at s d ≡ Some (Rectangular rank) →
+    length (unwrap_or (ranges_in (get s (Shape d))) []) ≡ rank
 rank_known s d rank w is =
     let shape : IsShape (Some (Rectangular rank)) (get s (Shape d)) = subst (λ k. IsShape k (get s (Shape d))) is (w.shapes d) in
     ap (λ v. length (unwrap_or (ranges_in v) [])) shape.1 ∙ shape.2.dimensions
 
-rank_same : (s t : Cells) → IsWellFormed s → IsWellFormed t → said s ≡ said t → (d : Name) (j k : ℕ) → domain_at s d ≡ Some (Rectangular j) → domain_at t d ≡ Some (Rectangular k) → j ≡ k
+rank_same : (s t : Cells) → IsWellFormed s → IsWellFormed t → said s ≡ said t → (d : Name) (j k : ℕ) → domain_at s d ≡ Some (Rectangular j) →
+    domain_at t d ≡ Some (Rectangular k) → j ≡ k
 rank_same s t v w same d j k e f =
     sym (rank_known s d j v e)
     ∙ ap (λ rs. length rs) (ranges_same d d _ _ _ _ (both_said s t same d (Rectangular j) (Rectangular k) e f))
@@ -58,7 +61,8 @@ rank_same s t v w same d j k e f =
 
 -- ---- kinds
 
-kind_same : (s t : Cells) → IsWellFormed s → IsWellFormed t → said s ≡ said t → (d : Name) (k l : DomainKind) → domain_at s d ≡ Some k → domain_at t d ≡ Some l → domain_said s d k ≡ domain_said t d l → k ≡ l
+kind_same : (s t : Cells) → IsWellFormed s → IsWellFormed t → said s ≡ said t → (d : Name) (k l : DomainKind) → domain_at s d ≡ Some k →
+    domain_at t d ≡ Some l → domain_said s d k ≡ domain_said t d l → k ≡ l
 kind_same s t v w same d (Rectangular j) (Rectangular k) e f g = ap Rectangular (rank_same s t v w same d j k e f)
 kind_same s t v w same d (Rectangular j) (Sparse p k) e f g = cc
 kind_same s t v w same d (Rectangular j) (Associative u) e f g = cc
@@ -76,7 +80,8 @@ kind_same s t v w same d (Associative t1) (Associative u) e f g = ap Associative
 
 -- ---- a domain is there in both, or in neither
 
-not_domain : (s : Cells) (d : Name) (o : Option Value) (line : Line) → said_in s d o ≡ Some line → domain_in o ≡ None → (a e : Name) × (xs : List ℤ) × (irv : Option ℤ) × (line ≡ array a e xs irv)
+not_domain : (s : Cells) (d : Name) (o : Option Value) (line : Line) → said_in s d o ≡ Some line → domain_in o ≡ None → (a e : Name) × (xs : List ℤ) ×
+    (irv : Option ℤ) × (line ≡ array a e xs irv)
 not_domain s d None line e f = none_some line e
 not_domain s d (Some (values.Domain k)) line e f = none_some k (sym f)
 not_domain s d (Some (values.Array over kind)) line e f = (d, over, _, _, sym (some_same _ _ e))

@@ -37,14 +37,16 @@ array_said s a d kind = array a d (elements_at s a (indices_in s d kind)) (impli
 array_line : (s : Cells) (a d : Name) (kind : Kind) → array_at s a ≡ Some (d, kind) → said_of s a ≡ Some (array_said s a d kind)
 array_line s a d kind e = ap (said_in s a) (array_object (get s (Object a)) d kind e)
 
-pub arrays_said : (s t : Cells) → IsWellFormed s → IsWellFormed t → said s ≡ said t → (a d : Name) (kind : Kind) → array_at s a ≡ Some (d, kind) → array_said s a d kind ≡ array_said t a d kind
+pub arrays_said : (s t : Cells) → IsWellFormed s → IsWellFormed t → said s ≡ said t → (a d : Name) (kind : Kind) → array_at s a ≡ Some (d, kind) →
+    array_said s a d kind ≡ array_said t a d kind
 arrays_said s t v w same a d kind e =
     some_same _ _ (sym (array_line s a d kind e) ∙ same_line s t same a ∙ array_line t a d kind (sym (ap array_in (objects_same s t v w same a)) ∙ e))
 
 implicit_same : (a b d e : Name) (xs ys : List ℤ) (z w : Option ℤ) → array a d xs z ≡ array b e ys w → z ≡ w
 implicit_same a b d e xs ys z w f = cc
 
-by_implicit : (o : Option (Name × Kind)) (a b : Option Value) → IsImplicit o a → IsImplicit o b → ((d : Name) (rank : ℕ) → o ≡ Some (d, kinds.Sparse rank) → number_in a ≡ number_in b) → a ≡ b
+by_implicit : (o : Option (Name × Kind)) (a b : Option Value) → IsImplicit o a → IsImplicit o b →
+    ((d : Name) (rank : ℕ) → o ≡ Some (d, kinds.Sparse rank) → number_in a ≡ number_in b) → a ≡ b
 by_implicit None a b h i fact = h ∙ sym i
 by_implicit (Some (d, kinds.Rectangular rank)) a b h i fact = h ∙ sym i
 by_implicit (Some (d, kinds.Sparse rank)) a b h i fact =
@@ -53,7 +55,8 @@ by_implicit (Some (d, kinds.Associative type)) a b h i fact = h ∙ sym i
 
 pub implicits_same : (s t : Cells) → IsWellFormed s → IsWellFormed t → said s ≡ said t → (a : Name) → get s (Implicit a) ≡ get t (Implicit a)
 implicits_same s t v w same a =
-    by_implicit (array_at s a) (get s (Implicit a)) (get t (Implicit a)) (v.implicits a) (subst (λ o. IsImplicit o (get t (Implicit a))) (sym (ap array_in (objects_same s t v w same a))) (w.implicits a))
+    by_implicit (array_at s a) (get s (Implicit a)) (get t (Implicit a)) (v.implicits a)
+    (subst (λ o. IsImplicit o (get t (Implicit a))) (sym (ap array_in (objects_same s t v w same a))) (w.implicits a))
     (λ d rank is. implicit_same _ _ _ _ _ _ _ _ (arrays_said s t v w same a d (kinds.Sparse rank) is))
 
 -- ---- members: a list of them tells which are there
@@ -63,10 +66,12 @@ second_tie Equal r e = refl
 second_tie Less r e = cc
 second_tie Greater r e = cc
 
-listed : (s : Cells) (d : Name) (i : Index) (es : List (Cell × Value)) → AllByRecursion (IsThere s (Members d)) (map (λ e. e.0) es) → list_any (eq_by_cmp cell_cmp (Member d i)) (map (λ e. e.0) es) ≡ has (filter_map member_in es) i
+listed : (s : Cells) (d : Name) (i : Index) (es : List (Cell × Value)) → AllByRecursion (IsThere s (Members d)) (map (λ e. e.0) es) →
+    list_any (eq_by_cmp cell_cmp (Member d i)) (map (λ e. e.0) es) ≡ has (filter_map member_in es) i
 listed s d i [] h = refl
 listed s d i ((Member f j, v) ∷ es) h =
-    ap (λ b. b || list_any (eq_by_cmp cell_cmp (Member d i)) (map (λ e. e.0) es)) (second_tie (slice_cmp nat_cmp d f) (index_cmp i j) ((Equal-is _).0 h.0.named))
+    ap (λ b. b || list_any (eq_by_cmp cell_cmp (Member d i)) (map (λ e. e.0) es))
+    (second_tie (slice_cmp nat_cmp d f) (index_cmp i j) ((Equal-is _).0 h.0.named))
     ∙ ap (λ b. is_eq (index_cmp i j) || b) (listed s d i es h.1)
 listed s d i (e ∷ es) h = listed s d i es h.1
 

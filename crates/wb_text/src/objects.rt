@@ -1,7 +1,8 @@
 //! The lines of a workbook's objects, by what stands in the book.
 ghost use Rattle.std.specs.Prelude.{◌≡◌, ◌++◌, Some, OnOk, string_bytes};
 ghost use Rattle.wb_book.specs.declared.cells.kind.DomainKind.TheVariants.{Rectangular};
-ghost use Rattle.wb_text.specs.Lines.{members, indices_in, elements_at, implicit_in, sparse_line, associative_line, array_line, domain_line, text_of_object, object_line};
+ghost use Rattle.wb_text.specs.Lines.{members, indices_in, elements_at, implicit_in, sparse_line, associative_line, array_line, domain_line, text_of_object};
+ghost use Rattle.wb_text.specs.Lines.{object_line};
 
 use crate::books::{elements_at, implicit_in, indices_in, mapping_at, members, ranges_at};
 use crate::lines::{

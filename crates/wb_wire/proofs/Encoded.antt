@@ -1,5 +1,6 @@
 -- The canonical object of a request is that request.
-use Rattle.std.proofs.Common.{◌≡◌, ◌∙◌, ◌^◌, ℕ, ℤ, pos, negsuc, List, [], ◌∷◌, codes, length, Option, Some, None, inl, inr, nat_eq, refl, sym, ap, subst, append-nil, if◌then◌else◌, arith, lt-ltb}
+use Rattle.std.proofs.Common.{◌≡◌, ◌∙◌, ◌^◌, ℕ, ℤ, pos, negsuc, List, [], ◌∷◌, codes, length, Option, Some, None, inl, inr, nat_eq, refl, sym, ap, subst}
+use Rattle.std.proofs.Common.{append-nil, if◌then◌else◌, arith, lt-ltb}
 use Rattle.std.proofs.lemmas.List.Elements.{recursion_from_All}
 use Rattle.serde_json.specs.Data.{unsigned, string}
 use Rattle.serde_json.specs.Find.{get_member, of_integer}
@@ -25,7 +26,8 @@ use Rattle.wb_text.proofs.Parsed.Back.Ranges.{literal_of_all, rectangle_spelled,
 use Rattle.wb_text.proofs.Parsed.Back.Sets as sets
 use Rattle.wb_encode.specs.Values.{integer_data, point_data, index_data}
 use Rattle.wb_proto.specs.declared.requests.request.Request.{Request}
-use Rattle.wb_wire.specs.Table.{Meaning, word, name, integer, number, index, given, mapping, optional_mapping, book, some_set, some_mapping, some_integer, Fields, table}
+use Rattle.wb_wire.specs.Table.{Meaning, word, name, integer, number, index, given, mapping, optional_mapping, book, some_set, some_mapping, some_integer}
+use Rattle.wb_wire.specs.Table.{Fields, table}
 use Rattle.wb_wire.specs.Spelled.{IsInteger, IsIndex, IsOperand, IsMapping, Spells, Says, without, HasFields, IsRequest}
 use Rattle.wb_wire.specs.Encoded.{given_text, data_of, members_of, request_data}
 use Rattle.wb_wire.specs.Proper.{AllWithin, ArePoints, AreTexts, AreAlike, IsProperIndex, IsProperOperand, IsProper, AreProper, IsProperRequest}

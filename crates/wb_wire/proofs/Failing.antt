@@ -1,5 +1,6 @@
 -- Each kind of member: what is wrong with its value is what its reader answers.
-use Rattle.std.proofs.Common.{◌≡◌, ◌⊎◌, inl, inr, ℕ, ℤ, Bool, true, false, List, [], ◌∷◌, codes, Option, Some, None, option_and_then, Result, Ok, Err, refl, sym, ap, ◌∙◌, if◌then◌else◌, eqb-true}
+use Rattle.std.proofs.Common.{◌≡◌, ◌⊎◌, inl, inr, ℕ, ℤ, Bool, true, false, List, [], ◌∷◌, codes, Option, Some, None, option_and_then, Result, Ok, Err, refl}
+use Rattle.std.proofs.Common.{sym, ap, ◌∙◌, if◌then◌else◌, eqb-true}
 use Rattle.std.specs.Prelude.{bytes_eq}
 use Rattle.std.specs.Option.{ok_or}
 use Rattle.serde_json.specs.Data.{Data, null, boolean, number as json_number, string, array, object}
@@ -34,7 +35,9 @@ use Rattle.wb_proto.specs.Sources.{is_braced, given_within, given_literal, given
 use Rattle.wb_reading.specs.Texts.Books.{is_book_text}
 use Rattle.wb_wire.specs.Faults.{Fault, bad_request, bad_literal, too_large, bad_mapping, refusal_of, Plain, Kind, plain, IsBraced, IsBad, Fails}
 use Rattle.wb_wire.specs.Faults as kinds
-use Rattle.wb_wire.proofs.Values.{no_ok, some_of_ok, text_in, text_read, str_found, name_found, name_read, type_found, type_read, operation_found, operation_read, reduction_found, reduction_read, integer_in, integer_found, integer_read, number_in, natural_found, natural_read, index_in, index_found, index_read}
+use Rattle.wb_wire.proofs.Values.{no_ok, some_of_ok, text_in, text_read, str_found, name_found, name_read, type_found, type_read, operation_found}
+use Rattle.wb_wire.proofs.Values.{operation_read, reduction_found, reduction_read, integer_in, integer_found, integer_read, number_in, natural_found}
+use Rattle.wb_wire.proofs.Values.{natural_read, index_in, index_found, index_read}
 use Rattle.wb_wire.proofs.Spellings.{domain_found, domain_read, literal_read, offsets_found, offsets_read}
 use Rattle.wb_wire.proofs.TooLarge.{domain_large}
 
@@ -46,7 +49,8 @@ err_same v w e = cc
 pub no_err : {X Y : Type 0} {x : X} {why : Refusal} → ◌≡◌ {A = Result X Refusal} (Ok x) (Err why) → Y
 no_err e = cc
 
-pub step_err : {X Y P : Type 0} (r : Result X Refusal) (next : X → Result Y Refusal) (why : Refusal) → (r >>= next) ≡ Err why → (r ≡ Err why → P) → ((x : X) → r ≡ Ok x → next x ≡ Err why → P) → P
+pub step_err : {X Y P : Type 0} (r : Result X Refusal) (next : X → Result Y Refusal) (why : Refusal) → (r >>= next) ≡ Err why → (r ≡ Err why → P) →
+    ((x : X) → r ≡ Ok x → next x ≡ Err why → P) → P
 step_err (Ok x) next why e h k = k x refl e
 step_err (Err w) next why e h k = h (ap Err (err_same w why e))
 
@@ -54,11 +58,13 @@ pub or_only : {X : Type 0} (o : Option X) (w why : Refusal) → ok_or o w ≡ Er
 or_only None w why e = sym (err_same w why e)
 or_only (Some x) w why e = no_err e
 
-if_only : {X : Type 0} (b : Bool) (x : X) (more : Result X Refusal) (why : Refusal) → (if b then Ok x else more) ≡ Err why → (more ≡ Err why → why ≡ BadRequest) → why ≡ BadRequest
+if_only : {X : Type 0} (b : Bool) (x : X) (more : Result X Refusal) (why : Refusal) → (if b then Ok x else more) ≡ Err why →
+    (more ≡ Err why → why ≡ BadRequest) → why ≡ BadRequest
 if_only true x more why e h = no_err e
 if_only false x more why e h = h e
 
-then_only : {X Y : Type 0} (r : Result X Refusal) (next : X → Result Y Refusal) (why : Refusal) → (r >>= next) ≡ Err why → (r ≡ Err why → why ≡ BadRequest) → ((x : X) → next x ≡ Err why → why ≡ BadRequest) → why ≡ BadRequest
+then_only : {X Y : Type 0} (r : Result X Refusal) (next : X → Result Y Refusal) (why : Refusal) → (r >>= next) ≡ Err why → (r ≡ Err why → why ≡ BadRequest) →
+    ((x : X) → next x ≡ Err why → why ≡ BadRequest) → why ≡ BadRequest
 then_only r next why e h k = step_err r next why e h (λ x q f. k x f)
 
 -- ---- a kind and its reader
@@ -78,8 +84,10 @@ plain_failing p read only found v bad_literal h = absurd h
 plain_failing p read only found v too_large h = absurd h
 plain_failing p read only found v bad_mapping h = absurd h
 
-plain_reader : (p : Plain) {A : Type 0} (read : Option Data → Result A Refusal) → read None ≡ Err BadRequest → ((v : Data) (why : Refusal) → read (Some v) ≡ Err why → why ≡ BadRequest)
-    → ((v : Data) (x : A) → read (Some v) ≡ Ok x → IsBad (plain p) v → ⊥) → ((v : Data) → read (Some v) ≡ Err BadRequest → IsBad (plain p) v) → IsReader (plain p) read
+plain_reader : (p : Plain) {A : Type 0} (read : Option Data → Result A Refusal) → read None ≡ Err BadRequest →
+    ((v : Data) (why : Refusal) → read (Some v) ≡ Err why → why ≡ BadRequest)
+    → ((v : Data) (x : A) → read (Some v) ≡ Ok x → IsBad (plain p) v → ⊥) → ((v : Data) → read (Some v) ≡ Err BadRequest → IsBad (plain p) v) →
+    IsReader (plain p) read
 plain_reader p read n only found back = record {
   none = n;
   bad = λ v why e. (bad_request, only v why e, back v (e ∙ ap Err (only v why e)));
@@ -134,15 +142,18 @@ name_reader = plain_reader kinds.name name_in refl (λ v why e. then_only (text_
     (λ v n e bad. bad n (name_found (Some v) n e)) (λ v e n s. no_ok BadRequest n (sym e ∙ name_read (Some v) n s))
 
 pub key_type_reader : IsReader (plain kinds.key_type) key_type_in
-key_type_reader = plain_reader kinds.key_type key_type_in refl (λ v why e. then_only (text_in (Some v)) key_type_of why e (text_only v why) (λ t. key_type_only t why))
+key_type_reader = plain_reader kinds.key_type key_type_in refl
+    (λ v why e. then_only (text_in (Some v)) key_type_of why e (text_only v why) (λ t. key_type_only t why))
     (λ v n e bad. bad n (type_found (Some v) n e)) (λ v e n s. no_ok BadRequest n (sym e ∙ type_read (Some v) n s))
 
 pub operation_reader : IsReader (plain kinds.operation) operation_in
-operation_reader = plain_reader kinds.operation operation_in refl (λ v why e. then_only (text_in (Some v)) operation_of why e (text_only v why) (λ t. operation_only t why))
+operation_reader = plain_reader kinds.operation operation_in refl
+    (λ v why e. then_only (text_in (Some v)) operation_of why e (text_only v why) (λ t. operation_only t why))
     (λ v n e bad. bad n (operation_found (Some v) n e)) (λ v e n s. no_ok BadRequest n (sym e ∙ operation_read (Some v) n s))
 
 pub reduction_reader : IsReader (plain kinds.reduction) reduction_in
-reduction_reader = plain_reader kinds.reduction reduction_in refl (λ v why e. then_only (text_in (Some v)) reduction_of why e (text_only v why) (λ t. reduction_only t why))
+reduction_reader = plain_reader kinds.reduction reduction_in refl
+    (λ v why e. then_only (text_in (Some v)) reduction_of why e (text_only v why) (λ t. reduction_only t why))
     (λ v n e bad. bad n (reduction_found (Some v) n e)) (λ v e n s. no_ok BadRequest n (sym e ∙ reduction_read (Some v) n s))
 
 pub integer_reader : IsReader (plain kinds.integer) integer_in
@@ -178,10 +189,12 @@ text_none (array ds) h = refl
 text_none (object ms) h = refl
 
 pub unspelled_domain : (t : List ℕ) → ((l : Domain) → grammar.IsDomain t l → ⊥) → literal_domain t ≡ Err BadLiteral
-unspelled_domain t none = elim (domain_of t) as (λ o. domain_of t ≡ o → ok_or o BadLiteral ≡ Err BadLiteral) [ None ↦ λ e. refl | Some l ↦ λ e. absurd (none l ((domain_exact t l).0 e)) ] refl
+unspelled_domain t none = elim (domain_of t) as (λ o. domain_of t ≡ o → ok_or o BadLiteral ≡ Err BadLiteral)
+    [ None ↦ λ e. refl | Some l ↦ λ e. absurd (none l ((domain_exact t l).0 e)) ] refl
 
 pub unspelled_mapping : (t : List ℕ) → ((l : MappingLiteral) → grammar.IsMapping t l → ⊥) → literal_mapping t ≡ Err BadLiteral
-unspelled_mapping t none = elim (mapping_of t) as (λ o. mapping_of t ≡ o → ok_or o BadLiteral ≡ Err BadLiteral) [ None ↦ λ e. refl | Some l ↦ λ e. absurd (none l ((mapping_exact t l).0 e)) ] refl
+unspelled_mapping t none = elim (mapping_of t) as (λ o. mapping_of t ≡ o → ok_or o BadLiteral ≡ Err BadLiteral)
+    [ None ↦ λ e. refl | Some l ↦ λ e. absurd (none l ((mapping_exact t l).0 e)) ] refl
 
 mapping_spelled : (t : List ℕ) (l : MappingLiteral) → literal_mapping t ≡ Ok l → grammar.IsMapping t l
 mapping_spelled t l e = (mapping_exact t l).0 (some_of_ok (mapping_of t) BadLiteral l e)
@@ -206,7 +219,8 @@ domain_judged (set listed) = Ok tt
 abbrev pub domain_in : Option Data → Result (Unit {0}) Refusal
 domain_in o = text_in o >>= (λ t. literal_domain t >>= domain_judged)
 
-judged_bad : (v : Data) (t : List ℕ) (l : Domain) (why : Refusal) → v ≡ string t → grammar.IsDomain t l → domain_judged l ≡ Err why → (f : Fault) × (why ≡ refusal_of f) × Fails kinds.domain v f
+judged_bad : (v : Data) (t : List ℕ) (l : Domain) (why : Refusal) → v ≡ string t → grammar.IsDomain t l → domain_judged l ≡ Err why → (f : Fault) ×
+    (why ≡ refusal_of f) × Fails kinds.domain v f
 judged_bad v t (rectangle r) why q h e = step_err (domain_within r) (λ ranges. Ok tt) why e
     (λ m. let x = rectangle_err r why m in (too_large, x.0, (t, r, q, h, x.1))) (λ ranges m e. no_err e)
 judged_bad v t (set listed) why q h e = no_err e
@@ -232,7 +246,8 @@ domain_reader = record { none = refl; bad = domain_bad; failing = domain_failing
 abbrev pub mapping_in : Option Data → Result LayoutMap Refusal
 mapping_in o = text_in o >>= (λ t. literal_mapping t >>= mapping_within)
 
-limit_bad : (v : Data) (t : List ℕ) (l : MappingLiteral) (w : LimitErr) (why : Refusal) → v ≡ string t → grammar.IsMapping t l → mapping_limits.mapping_within l ≡ Err w → why ≡ refusal_of_limit w
+limit_bad : (v : Data) (t : List ℕ) (l : MappingLiteral) (w : LimitErr) (why : Refusal) → v ≡ string t → grammar.IsMapping t l →
+    mapping_limits.mapping_within l ≡ Err w → why ≡ refusal_of_limit w
     → (f : Fault) × (why ≡ refusal_of f) × Fails kinds.mapping v f
 limit_bad v t l TooLarge why q h m e = (too_large, e, (t, l, q, h, m))
 limit_bad v t l BadMapping why q h m e = (bad_mapping, e, (t, l, q, h, m))
@@ -300,13 +315,15 @@ unnamed v t why q b e s r (inr h) =
     let named : given_name t ≡ Ok (Named t) = rw n refl in
     no_err (sym named ∙ e)
 
-given_bad : (v : Data) (t : List ℕ) (why : Refusal) (b : Bool) → v ≡ string t → is_braced t ≡ b → (if b then given_literal t else given_name t) ≡ Err why → (f : Fault) × (why ≡ refusal_of f) × Fails kinds.source v f
+given_bad : (v : Data) (t : List ℕ) (why : Refusal) (b : Bool) → v ≡ string t → is_braced t ≡ b → (if b then given_literal t else given_name t) ≡ Err why →
+    (f : Fault) × (why ≡ refusal_of f) × Fails kinds.source v f
 given_bad v t why true q b e = step_err (literal_domain t) given_within why e
     (λ m. (bad_literal, or_only (domain_of t) BadLiteral why m, (t, q, braced t b, λ l h. no_err (sym (domain_read t l h) ∙ m))))
     (λ l m e. within_bad l (domain_found t l m) e)
   where
     within_bad : (l : Domain) → grammar.IsDomain t l → given_within l ≡ Err why → (f : Fault) × (why ≡ refusal_of f) × Fails kinds.source v f
-    within_bad (rectangle r) h e = step_err (domain_within r) _ why e (λ m. let x = rectangle_err r why m in (too_large, x.0, (t, r, q, h, x.1))) (λ ranges m e. no_err e)
+    within_bad (rectangle r) h e = step_err (domain_within r) _ why e (λ m. let x = rectangle_err r why m in (too_large, x.0, (t, r, q, h, x.1)))
+        (λ ranges m e. no_err e)
     within_bad (set listed) h e = no_err e
 given_bad v t why false q b e =
     (bad_request, then_only (name_of t) (λ n. Ok (Named n)) why e (name_only t why) (λ n e. no_err e), unnamed v t why q b e)
@@ -316,7 +333,8 @@ source_bad v why e = step_err (text_in (Some v)) given_text why e
     (λ q. let b = text_bad v why q in (bad_request, b.0, λ t q h. b.1 t q))
     (λ t q e. given_bad v t why (is_braced t) (text_is v t q) refl e)
 
-given_failing : (t : List ℕ) (b c : Bool) → is_braced t ≡ b → is_name t ≡ c → (IsBraced t ⊎ (is_name t ≡ true) → ⊥) → (if b then given_literal t else ((if c then Ok t else Err BadRequest) >>= (λ n. Ok (Named n)))) ≡ Err BadRequest
+given_failing : (t : List ℕ) (b c : Bool) → is_braced t ≡ b → is_name t ≡ c → (IsBraced t ⊎ (is_name t ≡ true) → ⊥) →
+    (if b then given_literal t else ((if c then Ok t else Err BadRequest) >>= (λ n. Ok (Named n)))) ≡ Err BadRequest
 given_failing t true c e f h = absurd (h (inl (braced t e)))
 given_failing t false true e f h = absurd (h (inr f))
 given_failing t false false e f h = refl

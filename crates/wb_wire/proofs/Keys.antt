@@ -1,5 +1,6 @@
 -- Which members an object has to have, by its op.
-use Rattle.std.proofs.Common.{◌≡◌, ℕ, suc, Bool, true, false, List, [], ◌∷◌, codes, length, Some, None, refl, sym, ap, ◌∙◌, subst, nat_eq, nat_lt, if◌then◌else◌, arith, eqb-true, ltb-true}
+use Rattle.std.proofs.Common.{◌≡◌, ℕ, suc, Bool, true, false, List, [], ◌∷◌, codes, length, Some, None, refl, sym, ap, ◌∙◌, subst, nat_eq, nat_lt}
+use Rattle.std.proofs.Common.{if◌then◌else◌, arith, eqb-true, ltb-true}
 use Rattle.std.specs.Prelude.{bytes_eq, Contains, slice_index_or}
 use Rattle.std.specs.List.{list_all}
 use Rattle.std.proofs.lemmas.List.Elements.{All-contains}
@@ -100,7 +101,8 @@ whole_with ms op s h ns other ks m t c k =
     h ks (subst (λ op. Contains forms (op, ks)) (sym o) c) (subst (λ ms. HasKeys ms (codes "op" ∷ ks)) (sym m) k)
 
 -- An object that names an op isn't whole if it hasn't the members of any form of the op.
-pub not_whole_by : (ms : Members) (op : List ℕ) → NamesOp ms op → ((ks : List (List ℕ)) → Contains forms (op, ks) → HasKeys ms (codes "op" ∷ ks) → ⊥) → IsWhole (object ms) → ⊥
+pub not_whole_by : (ms : Members) (op : List ℕ) → NamesOp ms op → ((ks : List (List ℕ)) → Contains forms (op, ks) → HasKeys ms (codes "op" ∷ ks) → ⊥) →
+    IsWhole (object ms) → ⊥
 not_whole_by ms op s h w = whole_with ms op s h w.0 w.1 w.2 (members_same ms w.0 w.3) w.4 w.5 w.6
 
 has_tail : (b c : Bool) → c ≡ true → (if b then true else c) ≡ true
@@ -113,8 +115,10 @@ key_there k ks ms e h = keys_there k (codes "op" ∷ ks) ms (has_tail (bytes_eq 
 pub lacks : (ms : Members) (op k : List ℕ) → NamesOp ms op → list_all (passes op (has k)) forms ≡ true → get_member k ms ≡ None → IsWhole (object ms) → ⊥
 lacks ms op k s a n = not_whole_by ms op s (λ ks c h. let x = key_there k ks ms (of_form op ks (has k) a c) h in no_some x.0 (sym n ∙ x.1))
 
-pub miscounted : (ms : Members) (op : List ℕ) (n : ℕ) → NamesOp ms op → list_all (passes op (λ ks. nat_eq (length ks) n)) forms ≡ true → (member_count ms ≡ suc n → ⊥) → IsWhole (object ms) → ⊥
-miscounted ms op n s a other = not_whole_by ms op s (λ ks c h. other (keys_counted (codes "op" ∷ ks) ms h ∙ ap suc (eqb-true (length ks) n (of_form op ks (λ ks. nat_eq (length ks) n) a c))))
+pub miscounted : (ms : Members) (op : List ℕ) (n : ℕ) → NamesOp ms op → list_all (passes op (λ ks. nat_eq (length ks) n)) forms ≡ true →
+    (member_count ms ≡ suc n → ⊥) → IsWhole (object ms) → ⊥
+miscounted ms op n s a other = not_whole_by ms op s (λ ks c h. other
+    (keys_counted (codes "op" ∷ ks) ms h ∙ ap suc (eqb-true (length ks) n (of_form op ks (λ ks. nat_eq (length ks) n) a c))))
 
 -- ---- all faults of an object that is whole
 
@@ -122,7 +126,8 @@ miscounted ms op n s a other = not_whole_by ms op s (λ ks c h. other (keys_coun
 abbrev pub FailsAt : Members → List ℕ → List ℕ → Fault → Type 0
 FailsAt ms op k fault = (kind : Kind) × (v : Data) × (kind_of op k ≡ Some kind) × (get_member k ms ≡ Some v) × Fails kind v fault
 
-at_member : (ms : Members) (op : List ℕ) (ks : List (List ℕ)) (P : Fault → Type 0) (fault : Fault) → HasKeys ms (codes "op" ∷ ks) → AllKeys ks (λ k. (g : Fault) → FailsAt ms op k g → P g)
+at_member : (ms : Members) (op : List ℕ) (ks : List (List ℕ)) (P : Fault → Type 0) (fault : Fault) → HasKeys ms (codes "op" ∷ ks) →
+    AllKeys ks (λ k. (g : Fault) → FailsAt ms op k g → P g)
     → (k : List ℕ) → FailsAt ms op k fault → P fault
 at_member ms op ks P fault h all k x = elim (bytes_eq k (codes "op")) as (λ b. bytes_eq k (codes "op") ≡ b → P fault) [
   | true ↦ λ e. let none : kind_of op k ≡ None = ap (kind_of op) (equal_key k (codes "op") e) in no_some x.0 (sym none ∙ x.2)
@@ -133,7 +138,8 @@ at_member ms op ks P fault h all k x = elim (bytes_eq k (codes "op")) as (λ b. 
 ] refl
 
 member_with : (ms : Members) (op : List ℕ) (P : Fault → Type 0) (fault : Fault) → NamesOp ms op → ((k : List ℕ) → FailsAt ms op k fault → P fault)
-    → (ns : Members) (other k : List ℕ) (kind : Kind) (v : Data) → ms ≡ ns → NamesOp ns other → kind_of other k ≡ Some kind → get_member k ns ≡ Some v → Fails kind v fault → P fault
+    → (ns : Members) (other k : List ℕ) (kind : Kind) (v : Data) → ms ≡ ns → NamesOp ns other → kind_of other k ≡ Some kind → get_member k ns ≡ Some v →
+    Fails kind v fault → P fault
 member_with ms op P fault s h ns other k kind v m t kd g f =
     let o : op ≡ other = op_same op other (sym s ∙ subst (λ ms. NamesOp ms other) (sym m) t) in
     h k (kind, v, subst (λ op. kind_of op k ≡ Some kind) (sym o) kd, subst (λ ms. get_member k ms ≡ Some v) (sym m) g, f)
@@ -142,4 +148,5 @@ pub all_faults : (ms : Members) (op : List ℕ) (ks : List (List ℕ)) (P : Faul
     → AllKeys ks (λ k. (g : Fault) → FailsAt ms op k g → P g) → (fault : Fault) → IsFault (object ms) fault → P fault
 all_faults ms op ks P s c h all fault (not_whole e other) = absurd (other (ms, op, ks, refl, s, c, h))
 all_faults ms op ks P s c h all fault (of_member m) =
-    member_with ms op P fault s (at_member ms op ks P fault h all) m.members m.op m.key m.kind m.value (members_same ms m.members m.is_object) m.names_op m.is_kind m.is_value m.fails
+    member_with ms op P fault s (at_member ms op ks P fault h all) m.members m.op m.key m.kind m.value (members_same ms m.members m.is_object) m.names_op
+    m.is_kind m.is_value m.fails

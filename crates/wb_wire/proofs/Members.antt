@@ -1,5 +1,6 @@
 -- The members of an object, by their keys.
-use Rattle.std.proofs.Common.{◌≡◌, ◌≢◌, ◌+◌, ℕ, suc, Bool, true, false, List, [], ◌∷◌, length, Option, Some, None, refl, sym, ap, ◌∙◌, subst, arith, if◌then◌else◌}
+use Rattle.std.proofs.Common.{◌≡◌, ◌≢◌, ◌+◌, ℕ, suc, Bool, true, false, List, [], ◌∷◌, length, Option, Some, None, refl, sym, ap, ◌∙◌, subst, arith}
+use Rattle.std.proofs.Common.{if◌then◌else◌}
 use Rattle.std.specs.Prelude.{bytes_eq}
 use Rattle.std.specs.Ordering.{is_eq, nat_cmp, match_ordering}
 use Rattle.std.specs.Cmp.Lexicographic.{slice_cmp}
@@ -10,7 +11,8 @@ use Rattle.std.proofs.lemmas.Slice.Eq.{bytes_eq-Decides}
 use Rattle.serde_json.specs.Data.{Data, Members, no_members, member}
 use Rattle.serde_json.specs.Find.{get_member}
 use Rattle.wb_proto.specs.Fields.{member_count}
-use Rattle.wb_wire.specs.Table.{Meaning, word, name, integer, number, index, given, mapping, optional_mapping, book, some_set, some_mapping, some_integer, Fields}
+use Rattle.wb_wire.specs.Table.{Meaning, word, name, integer, number, index, given, mapping, optional_mapping, book, some_set, some_mapping, some_integer}
+use Rattle.wb_wire.specs.Table.{Fields}
 use Rattle.wb_wire.specs.Spelled.{Says, without, HasFields}
 
 pub true_false : {X : Type 0} → true ≡ false → X
@@ -41,13 +43,14 @@ other_key k l h = elim (bytes_eq k l) as (λ b. bytes_eq k l ≡ b → b ≡ fal
 
 pub other_same : (k l : List ℕ) (ms : Members) → k ≢ l → get_member l (without k ms) ≡ get_member l ms
 other_same k l no_members h = refl
-other_same k l (member m d ms) h = elim (bytes_eq k m) as (λ b. bytes_eq k m ≡ b → get_member l (if b then ms else member m d (without k ms)) ≡ get_member l (member m d ms)) [
-  | true ↦ λ e.
-      let apart : l ≢ m = λ f. h (equal_key k m e ∙ sym f) in
-      sym (found_by l m d ms ∙ ap (λ (b : Bool). if b then Some d else get_member l ms) (other_key l m apart))
-  | false ↦ λ e.
-      found_by l m d (without k ms) ∙ ap (λ (o : Option Data). if bytes_eq l m then Some d else o) (other_same k l ms h) ∙ sym (found_by l m d ms)
-] refl
+other_same k l (member m d ms) h = elim (bytes_eq k m) as (λ b. bytes_eq k m ≡ b →
+    get_member l (if b then ms else member m d (without k ms)) ≡ get_member l (member m d ms)) [
+      | true ↦ λ e.
+          let apart : l ≢ m = λ f. h (equal_key k m e ∙ sym f) in
+          sym (found_by l m d ms ∙ ap (λ (b : Bool). if b then Some d else get_member l ms) (other_key l m apart))
+      | false ↦ λ e.
+          found_by l m d (without k ms) ∙ ap (λ (o : Option Data). if bytes_eq l m then Some d else o) (other_same k l ms h) ∙ sym (found_by l m d ms)
+    ] refl
 
 -- ---- how many members there are
 
@@ -57,10 +60,12 @@ there (Some d) = 1
 
 pub count_out : (k : List ℕ) (ms : Members) → there (get_member k ms) + member_count (without k ms) ≡ member_count ms
 count_out k no_members = refl
-count_out k (member m d ms) = elim (bytes_eq k m) as (λ b. bytes_eq k m ≡ b → there (get_member k (member m d ms)) + member_count (if b then ms else member m d (without k ms)) ≡ suc (member_count ms)) [
-  | true ↦ λ e. let f = ap there (found_by k m d ms ∙ ap (λ (b : Bool). if b then Some d else get_member k ms) e) in omega (arith, f)
-  | false ↦ λ e. let f = ap there (found_by k m d ms ∙ ap (λ (b : Bool). if b then Some d else get_member k ms) e) in let g = count_out k ms in omega (arith, f, g)
-] refl
+count_out k (member m d ms) = elim (bytes_eq k m) as (λ b. bytes_eq k m ≡ b →
+    there (get_member k (member m d ms)) + member_count (if b then ms else member m d (without k ms)) ≡ suc (member_count ms)) [
+      | true ↦ λ e. let f = ap there (found_by k m d ms ∙ ap (λ (b : Bool). if b then Some d else get_member k ms) e) in omega (arith, f)
+      | false ↦ λ e. let f = ap there (found_by k m d ms ∙ ap (λ (b : Bool). if b then Some d else get_member k ms) e) in let g = count_out k ms in
+          omega (arith, f, g)
+    ] refl
 
 -- ---- keys that are apart
 

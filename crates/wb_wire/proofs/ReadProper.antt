@@ -11,7 +11,8 @@ use Rattle.wb_resize.specs.declared.operand.Operand.{Operand}
 use Rattle.wb_resize.specs.declared.operand.Operand.TheVariants.{Rectangle, Items as Listed, Named}
 use Rattle.wb_proto.specs.Requests.{request}
 use Rattle.wb_proto.specs.declared.requests.request.Request.{Request}
-use Rattle.wb_wire.specs.Table.{Meaning, word, name, integer, number, index, given, mapping, optional_mapping, book, some_set, some_mapping, some_integer, Fields, table}
+use Rattle.wb_wire.specs.Table.{Meaning, word, name, integer, number, index, given, mapping, optional_mapping, book, some_set, some_mapping, some_integer}
+use Rattle.wb_wire.specs.Table.{Fields, table}
 use Rattle.wb_wire.specs.Spelled.{IsIndex, IsOperand, Spells, Says, without, HasFields}
 use Rattle.wb_wire.specs.Proper.{IsProperIndex, IsProperOperand, IsProper, AreProper, IsProperRequest}
 use Rattle.wb_wire.proofs.Lines.{line_found}

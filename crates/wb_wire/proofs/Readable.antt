@@ -1,5 +1,6 @@
 -- The negative integers of a JSON value that was read are of 64 bits.
-use Rattle.std.proofs.Common.{◌≡◌, ◌==◌, ◌^◌, ℕ, ℤ, pos, slice_index, drop, Bool, true, false, ◌&&◌, nat_lt, nat_le, List, Option, Some, None, option_map, option_and_then, refl, subst, if◌then◌else◌, ltb-true}
+use Rattle.std.proofs.Common.{◌≡◌, ◌==◌, ◌^◌, ℕ, ℤ, pos, slice_index, drop, Bool, true, false, ◌&&◌, nat_lt, nat_le, List, Option, Some, None, option_map}
+use Rattle.std.proofs.Common.{option_and_then, refl, subst, if◌then◌else◌, ltb-true}
 use Rattle.std.proofs.lemmas.Bool.{leb-true, and_parts}
 use Rattle.std.specs.declared.cmp.Ordering.{Ordering}
 use Rattle.std.specs.declared.cmp.Ordering.TheVariants.{Less, Equal, Greater}
@@ -9,7 +10,8 @@ use Rattle.std.specs.Float.{binary64, float_is_finite}
 use Rattle.fast_float.specs.Text.{minus, Parts, scan, digits_of, nearest, with_sign}
 use Rattle.json.specs.Json as json
 use Rattle.json.specs.Lex.{tokens}
-use Rattle.serde_json.specs.Data.{Num, unsigned, negative, float, Data, null, boolean, number, string, array, object, Items, no_items, item, Members, no_members, member, put}
+use Rattle.serde_json.specs.Data.{Num, unsigned, negative, float, Data, null, boolean, number, string, array, object, Items, no_items, item, Members}
+use Rattle.serde_json.specs.Data.{no_members, member, put}
 use Rattle.serde_json.specs.Find.{get_member, as_i64}
 use Rattle.serde_json.specs.Read.{is_integer, float_of, number_from, number_of, of_json, of_items, of_members, max_depth, read}
 use Rattle.wb_literal.specs.Integer.{IsWithin}

@@ -1,5 +1,6 @@
 -- What the literal of a rectangle stands for, within the limits, is a rectangle.
-use Rattle.std.proofs.Common.{rules, ◌≡◌, ◌≢◌, ◌≤◌, ℤ, pos, negsuc, ◌≤ℤ◌, int_le, int_eq, Bool, true, false, not, ◌&&◌, nat_le, List, [], ◌∷◌, length, Option, Result, Ok, Err, refl, subst, if◌then◌else◌, arith}
+use Rattle.std.proofs.Common.{rules, ◌≡◌, ◌≢◌, ◌≤◌, ℤ, pos, negsuc, ◌≤ℤ◌, int_le, int_eq, Bool, true, false, not, ◌&&◌, nat_le, List, [], ◌∷◌, length, Option}
+use Rattle.std.proofs.Common.{Result, Ok, Err, refl, subst, if◌then◌else◌, arith}
 use Rattle.std.proofs.lemmas.Bool.{leb-true, and_parts}
 use Rattle.std.proofs.lemmas.List.Elements.{All-from_recursion}
 use Rattle.std.specs.List.{All, AllByRecursion}

@@ -1,5 +1,6 @@
 -- Each op: what its reader reads is without a fault, and what it refuses is refused with the least.
-use Rattle.std.proofs.Common.{◌≡◌, ◌≤◌, ℕ, ℤ, suc, Bool, true, false, List, [], ◌∷◌, codes, length, Option, Some, None, option_map, option_and_then, Result, Ok, Err, refl, sym, ap, ◌∙◌, subst, nat_eq, if◌then◌else◌, arith, eqb-true, eq-eqb}
+use Rattle.std.proofs.Common.{◌≡◌, ◌≤◌, ℕ, ℤ, suc, Bool, true, false, List, [], ◌∷◌, codes, length, Option, Some, None, option_map, option_and_then, Result, Ok}
+use Rattle.std.proofs.Common.{Err, refl, sym, ap, ◌∙◌, subst, nat_eq, if◌then◌else◌, arith, eqb-true, eq-eqb}
 use Rattle.std.specs.Prelude.{bytes_eq, Contains}
 use Rattle.std.specs.Option.{ok_or, option_map_or}
 use Rattle.std.proofs.lemmas.List.Elements.{All-contains}
@@ -9,8 +10,7 @@ use Rattle.serde_json.specs.Find.{get_member, as_str}
 use Rattle.wb_dist.specs.Maps.{LayoutMap, whole}
 use Rattle.wb_book.specs.Cells.{Name}
 use Rattle.wb_book.specs.Shapes.{Range}
-use Rattle.wb_edit.specs.declared.edit.Edit.TheVariants.{Domain as NewDomain, DomainOfSet, Remap, Reshape, Sparse, Assoc, DropDomain, Add, Remove, Array, Set, Irv, Copy, Fill, FillAll, DropArray, All, Load}
-use Rattle.wb_history.specs.declared.query.Query.TheVariants.{Get, Size, Where, Piece, Reduce, State}
+use Rattle.wb_edit.specs.declared.edit.Edit.TheVariants.{Domain as NewDomain, DomainOfSet, Remap, Reshape, Fill, Load}
 use Rattle.wb_log.specs.declared.refusal.Refusal.{Refusal}
 use Rattle.wb_log.specs.declared.refusal.Refusal.TheVariants.{BadRequest, BadLiteral}
 use Rattle.wb_literal.specs.Domain.{Domain, rectangle, set, domain_of as domain_of_text}
@@ -24,13 +24,15 @@ use Rattle.wb_resize.specs.declared.new_indices.Displacement.TheVariants.{Transl
 use Rattle.wb_resize.specs.declared.new_indices.SetOperation.TheVariants.{Union, Intersection, Difference, SymmetricDifference}
 use Rattle.wb_resize.specs.declared.new_indices.NewIndices.{NewIndices}
 use Rattle.wb_resize.specs.declared.new_indices.NewIndices.TheVariants.{To, Slice, Displace, Combine}
-use Rattle.wb_proto.specs.Fields.{◌>>=◌, member_count, has_fields, has_fields_and, text_field, optional_text, text_if_there, name_field, index_field, i64_field, u64_field, key_type_field, operation_field, reduction_field}
+use Rattle.wb_proto.specs.Fields.{◌>>=◌, member_count, has_fields, has_fields_and, text_field, optional_text, text_if_there, name_field, i64_field, u64_field}
 use Rattle.wb_proto.specs.Literals.{literal_domain, literal_mapping, text_of_book, domain_within, mapping_within}
 use Rattle.wb_proto.specs.Sources.{to_by, slice_by, displace_by, combine_by, source_of}
-use Rattle.wb_proto.specs.Requests.{domain_with, domain_by, domain_of, remap_of, reshape_of, fill_over, fill_of, load_of, undo_by_number, undo_of, print_of, history_of, edits_of, by_op, request_of, array_of, drop_array_of, set_of, fill_all_of, copy_of, irv_of, all_of, sparse_of, assoc_of, add_of, remove_of, drop_domain_of, redo_of, cascade_of, dependents_of, get_of, where_of, size_of, piece_of, reduce_of, state_of}
+use Rattle.wb_proto.specs.Requests.{domain_with, domain_by, domain_of, remap_of, reshape_of, fill_over, fill_of, load_of, undo_by_number, undo_of, print_of}
+use Rattle.wb_proto.specs.Requests.{history_of, edits_of, by_op, request_of}
 use Rattle.wb_proto.specs.declared.requests.request.Request.{Request}
-use Rattle.wb_proto.specs.declared.requests.request.Request.TheVariants.{Change, Undo, Redo, Cascade, Dependents, Ask, Print, History, Edits}
-use Rattle.wb_wire.specs.Faults.{Fault, bad_request, bad_literal, too_large, bad_mapping, code, refusal_of, forms, HasKeys, NamesOp, IsWhole, Kind, kind_of, Fails, not_whole}
+use Rattle.wb_proto.specs.declared.requests.request.Request.TheVariants.{Change, Undo, Print, History, Edits}
+use Rattle.wb_wire.specs.Faults.{Fault, bad_request, bad_literal, too_large, bad_mapping, code, refusal_of, forms, HasKeys, NamesOp, IsWhole, Kind, kind_of}
+use Rattle.wb_wire.specs.Faults.{Fails, not_whole}
 use Rattle.wb_wire.specs.Faults as kinds
 use Rattle.wb_wire.proofs.Members.{true_false, equal_key}
 use Rattle.wb_wire.proofs.Values.{no_ok, some_of_ok, no_some, mapped, str_found, text_in, text_found, text_read, integer_in}
@@ -38,150 +40,30 @@ use Rattle.wb_wire.proofs.Spellings.{count_found, domain_found, domain_read, lit
 use Rattle.wb_wire.proofs.Steps.{two_of}
 use Rattle.wb_wire.proofs.Found.{Reader, by_first, readers}
 use Rattle.wb_wire.proofs.Keys.{has, apart, AllKeys, keys_counted, no_more, of_form, form_at, members_same, not_whole_by, key_there, passes, lacks, FailsAt}
-use Rattle.wb_wire.proofs.Failing.{err_same, no_err, or_only, IsReader, name_in, name_reader, key_type_reader, operation_reader, reduction_reader, integer_reader, number_reader, index_reader, offsets_reader, text_bad, unspelled_domain, unspelled_mapping, rectangle_err, domain_judged, domain_in, domain_reader, mapping_in, mapping_reader, workbook_in, workbook_reader, string_same, source_reader}
-use Rattle.wb_wire.proofs.Judged.{refusal_same, NoFault, Refused, Judges, Judged, IsJudged, first, bind_judged, one_judged, two_judged, three_judged, five_judged, fails_there, member_fault, Fine, fine, field_bad, field_bad_by, uncounted, count_bad, whole_fine, all_fine, IsAbove, fine_above, least_of, value_bad}
+use Rattle.wb_wire.proofs.Failing.{err_same, no_err, or_only, IsReader, name_in, name_reader, integer_reader, number_reader, offsets_reader, text_bad}
+use Rattle.wb_wire.proofs.Failing.{unspelled_domain, unspelled_mapping, rectangle_err, domain_judged, domain_in, domain_reader, mapping_in, mapping_reader}
+use Rattle.wb_wire.proofs.Failing.{workbook_in, workbook_reader, string_same, source_reader}
+use Rattle.wb_wire.proofs.Judged.{refusal_same, NoFault, Refused, Judges, Judged, IsJudged, first, bind_judged, one_judged, two_judged, three_judged}
+use Rattle.wb_wire.proofs.Judged.{fails_there, member_fault, Fine, fine, field_bad, field_bad_by, uncounted, count_bad, whole_fine, all_fine, IsAbove}
+use Rattle.wb_wire.proofs.Judged.{fine_above, least_of, value_bad}
 use Rattle.std.specs.List.{list_all}
-
--- ---- the ops without a literal
-
-sparse_judged : IsJudged (codes "sparse") sparse_of
-sparse_judged ms s =
-    let o = codes "sparse" in
-    two_judged (Judged ms) (has_fields 3 (object ms)) (name_field (codes "d") (object ms)) (name_field (codes "of") (object ms)) (λ d parent. Ok (Change (Sparse d parent))) (λ why. count_bad ms o 2 s refl why) (λ why. field_bad ms o (codes "d") s name_reader refl refl why) (λ why. field_bad ms o (codes "of") s name_reader refl refl why)
-    (λ a b n p q. all_fine ms o (codes "d" ∷ codes "of" ∷ []) s (form_at 2 (o, codes "d" ∷ codes "of" ∷ []) refl refl) refl (count_found ms 3 tt n) (fine ms o (codes "d") name_reader refl a p, (fine ms o (codes "of") name_reader refl b q, tt)))
-
-assoc_judged : IsJudged (codes "assoc") assoc_of
-assoc_judged ms s =
-    let o = codes "assoc" in
-    two_judged (Judged ms) (has_fields 3 (object ms)) (name_field (codes "d") (object ms)) (key_type_field (codes "of") (object ms)) (λ d type. Ok (Change (Assoc d type))) (λ why. count_bad ms o 2 s refl why) (λ why. field_bad ms o (codes "d") s name_reader refl refl why) (λ why. field_bad ms o (codes "of") s key_type_reader refl refl why)
-    (λ a b n p q. all_fine ms o (codes "d" ∷ codes "of" ∷ []) s (form_at 3 (o, codes "d" ∷ codes "of" ∷ []) refl refl) refl (count_found ms 3 tt n) (fine ms o (codes "d") name_reader refl a p, (fine ms o (codes "of") key_type_reader refl b q, tt)))
-
-drop_domain_judged : IsJudged (codes "drop_domain") drop_domain_of
-drop_domain_judged ms s =
-    let o = codes "drop_domain" in
-    one_judged (Judged ms) (has_fields 2 (object ms)) (name_field (codes "d") (object ms)) (λ d. Ok (Change (DropDomain d))) (λ why. count_bad ms o 1 s refl why) (λ why. field_bad ms o (codes "d") s name_reader refl refl why)
-    (λ a n p. all_fine ms o (codes "d" ∷ []) s (form_at 4 (o, codes "d" ∷ []) refl refl) refl (count_found ms 2 tt n) (fine ms o (codes "d") name_reader refl a p, tt))
-
-add_judged : IsJudged (codes "add") add_of
-add_judged ms s =
-    let o = codes "add" in
-    two_judged (Judged ms) (has_fields 3 (object ms)) (name_field (codes "d") (object ms)) (index_field (codes "i") (object ms)) (λ d i. Ok (Change (Add d i))) (λ why. count_bad ms o 2 s refl why) (λ why. field_bad ms o (codes "d") s name_reader refl refl why) (λ why. field_bad ms o (codes "i") s index_reader refl refl why)
-    (λ a b n p q. all_fine ms o (codes "d" ∷ codes "i" ∷ []) s (form_at 13 (o, codes "d" ∷ codes "i" ∷ []) refl refl) refl (count_found ms 3 tt n) (fine ms o (codes "d") name_reader refl a p, (fine ms o (codes "i") index_reader refl b q, tt)))
-
-remove_judged : IsJudged (codes "remove") remove_of
-remove_judged ms s =
-    let o = codes "remove" in
-    two_judged (Judged ms) (has_fields 3 (object ms)) (name_field (codes "d") (object ms)) (index_field (codes "i") (object ms)) (λ d i. Ok (Change (Remove d i))) (λ why. count_bad ms o 2 s refl why) (λ why. field_bad ms o (codes "d") s name_reader refl refl why) (λ why. field_bad ms o (codes "i") s index_reader refl refl why)
-    (λ a b n p q. all_fine ms o (codes "d" ∷ codes "i" ∷ []) s (form_at 14 (o, codes "d" ∷ codes "i" ∷ []) refl refl) refl (count_found ms 3 tt n) (fine ms o (codes "d") name_reader refl a p, (fine ms o (codes "i") index_reader refl b q, tt)))
-
-array_judged : IsJudged (codes "array") array_of
-array_judged ms s =
-    let o = codes "array" in
-    two_judged (Judged ms) (has_fields 3 (object ms)) (name_field (codes "a") (object ms)) (name_field (codes "d") (object ms)) (λ a d. Ok (Change (Array a d))) (λ why. count_bad ms o 2 s refl why) (λ why. field_bad ms o (codes "a") s name_reader refl refl why) (λ why. field_bad ms o (codes "d") s name_reader refl refl why)
-    (λ a b n p q. all_fine ms o (codes "a" ∷ codes "d" ∷ []) s (form_at 16 (o, codes "a" ∷ codes "d" ∷ []) refl refl) refl (count_found ms 3 tt n) (fine ms o (codes "a") name_reader refl a p, (fine ms o (codes "d") name_reader refl b q, tt)))
-
-drop_array_judged : IsJudged (codes "drop_array") drop_array_of
-drop_array_judged ms s =
-    let o = codes "drop_array" in
-    one_judged (Judged ms) (has_fields 2 (object ms)) (name_field (codes "a") (object ms)) (λ a. Ok (Change (DropArray a))) (λ why. count_bad ms o 1 s refl why) (λ why. field_bad ms o (codes "a") s name_reader refl refl why)
-    (λ a n p. all_fine ms o (codes "a" ∷ []) s (form_at 17 (o, codes "a" ∷ []) refl refl) refl (count_found ms 2 tt n) (fine ms o (codes "a") name_reader refl a p, tt))
-
-set_judged : IsJudged (codes "set") set_of
-set_judged ms s =
-    let o = codes "set" in
-    three_judged (Judged ms) (has_fields 4 (object ms)) (name_field (codes "a") (object ms)) (index_field (codes "i") (object ms)) (i64_field (codes "v") (object ms)) (λ a i v. Ok (Change (Set a i v))) (λ why. count_bad ms o 3 s refl why) (λ why. field_bad ms o (codes "a") s name_reader refl refl why) (λ why. field_bad ms o (codes "i") s index_reader refl refl why) (λ why. field_bad ms o (codes "v") s integer_reader refl refl why)
-    (λ a b c n p q r. all_fine ms o (codes "a" ∷ codes "i" ∷ codes "v" ∷ []) s (form_at 18 (o, codes "a" ∷ codes "i" ∷ codes "v" ∷ []) refl refl) refl (count_found ms 4 tt n) (fine ms o (codes "a") name_reader refl a p, (fine ms o (codes "i") index_reader refl b q, (fine ms o (codes "v") integer_reader refl c r, tt))))
-
-fill_all_judged : IsJudged (codes "fill_all") fill_all_of
-fill_all_judged ms s =
-    let o = codes "fill_all" in
-    two_judged (Judged ms) (has_fields 3 (object ms)) (name_field (codes "a") (object ms)) (i64_field (codes "v") (object ms)) (λ a v. Ok (Change (FillAll a v))) (λ why. count_bad ms o 2 s refl why) (λ why. field_bad ms o (codes "a") s name_reader refl refl why) (λ why. field_bad ms o (codes "v") s integer_reader refl refl why)
-    (λ a b n p q. all_fine ms o (codes "a" ∷ codes "v" ∷ []) s (form_at 20 (o, codes "a" ∷ codes "v" ∷ []) refl refl) refl (count_found ms 3 tt n) (fine ms o (codes "a") name_reader refl a p, (fine ms o (codes "v") integer_reader refl b q, tt)))
-
-irv_judged : IsJudged (codes "irv") irv_of
-irv_judged ms s =
-    let o = codes "irv" in
-    two_judged (Judged ms) (has_fields 3 (object ms)) (name_field (codes "a") (object ms)) (i64_field (codes "v") (object ms)) (λ a v. Ok (Change (Irv a v))) (λ why. count_bad ms o 2 s refl why) (λ why. field_bad ms o (codes "a") s name_reader refl refl why) (λ why. field_bad ms o (codes "v") s integer_reader refl refl why)
-    (λ a b n p q. all_fine ms o (codes "a" ∷ codes "v" ∷ []) s (form_at 21 (o, codes "a" ∷ codes "v" ∷ []) refl refl) refl (count_found ms 3 tt n) (fine ms o (codes "a") name_reader refl a p, (fine ms o (codes "v") integer_reader refl b q, tt)))
-
-copy_judged : IsJudged (codes "copy") copy_of
-copy_judged ms s =
-    let o = codes "copy" in
-    five_judged (Judged ms) (has_fields 6 (object ms)) (name_field (codes "a") (object ms)) (index_field (codes "i") (object ms)) (name_field (codes "b") (object ms)) (index_field (codes "j") (object ms)) (i64_field (codes "c") (object ms)) (λ a i b j c. Ok (Change (Copy a i b j c))) (λ why. count_bad ms o 5 s refl why) (λ why. field_bad ms o (codes "a") s name_reader refl refl why) (λ why. field_bad ms o (codes "i") s index_reader refl refl why) (λ why. field_bad ms o (codes "b") s name_reader refl refl why) (λ why. field_bad ms o (codes "j") s index_reader refl refl why) (λ why. field_bad ms o (codes "c") s integer_reader refl refl why)
-    (λ a b c d e n p q r t w. all_fine ms o (codes "a" ∷ codes "i" ∷ codes "b" ∷ codes "j" ∷ codes "c" ∷ []) s (form_at 22 (o, codes "a" ∷ codes "i" ∷ codes "b" ∷ codes "j" ∷ codes "c" ∷ []) refl refl) refl (count_found ms 6 tt n) (fine ms o (codes "a") name_reader refl a p, (fine ms o (codes "i") index_reader refl b q, (fine ms o (codes "b") name_reader refl c r, (fine ms o (codes "j") index_reader refl d t, (fine ms o (codes "c") integer_reader refl e w, tt))))))
-
-all_judged : IsJudged (codes "all") all_of
-all_judged ms s =
-    let o = codes "all" in
-    three_judged (Judged ms) (has_fields 4 (object ms)) (name_field (codes "a") (object ms)) (operation_field (codes "how") (object ms)) (name_field (codes "b") (object ms)) (λ a how b. Ok (Change (All a how b))) (λ why. count_bad ms o 3 s refl why) (λ why. field_bad ms o (codes "a") s name_reader refl refl why) (λ why. field_bad ms o (codes "how") s operation_reader refl refl why) (λ why. field_bad ms o (codes "b") s name_reader refl refl why)
-    (λ a b c n p q r. all_fine ms o (codes "a" ∷ codes "how" ∷ codes "b" ∷ []) s (form_at 23 (o, codes "a" ∷ codes "how" ∷ codes "b" ∷ []) refl refl) refl (count_found ms 4 tt n) (fine ms o (codes "a") name_reader refl a p, (fine ms o (codes "how") operation_reader refl b q, (fine ms o (codes "b") name_reader refl c r, tt))))
-
-redo_judged : IsJudged (codes "redo") redo_of
-redo_judged ms s =
-    let o = codes "redo" in
-    one_judged (Judged ms) (has_fields 2 (object ms)) (u64_field (codes "k") (object ms)) (λ k. Ok (Redo k)) (λ why. count_bad ms o 1 s refl why) (λ why. field_bad ms o (codes "k") s number_reader refl refl why)
-    (λ a n p. all_fine ms o (codes "k" ∷ []) s (form_at 26 (o, codes "k" ∷ []) refl refl) refl (count_found ms 2 tt n) (fine ms o (codes "k") number_reader refl a p, tt))
-
-cascade_judged : IsJudged (codes "cascade") cascade_of
-cascade_judged ms s =
-    let o = codes "cascade" in
-    one_judged (Judged ms) (has_fields 2 (object ms)) (u64_field (codes "k") (object ms)) (λ k. Ok (Cascade k)) (λ why. count_bad ms o 1 s refl why) (λ why. field_bad ms o (codes "k") s number_reader refl refl why)
-    (λ a n p. all_fine ms o (codes "k" ∷ []) s (form_at 36 (o, codes "k" ∷ []) refl refl) refl (count_found ms 2 tt n) (fine ms o (codes "k") number_reader refl a p, tt))
-
-dependents_judged : IsJudged (codes "dependents") dependents_of
-dependents_judged ms s =
-    let o = codes "dependents" in
-    one_judged (Judged ms) (has_fields 2 (object ms)) (u64_field (codes "k") (object ms)) (λ k. Ok (Dependents k)) (λ why. count_bad ms o 1 s refl why) (λ why. field_bad ms o (codes "k") s number_reader refl refl why)
-    (λ a n p. all_fine ms o (codes "k" ∷ []) s (form_at 37 (o, codes "k" ∷ []) refl refl) refl (count_found ms 2 tt n) (fine ms o (codes "k") number_reader refl a p, tt))
-
-get_judged : IsJudged (codes "get") get_of
-get_judged ms s =
-    let o = codes "get" in
-    two_judged (Judged ms) (has_fields 3 (object ms)) (name_field (codes "a") (object ms)) (index_field (codes "i") (object ms)) (λ a i. Ok (Ask (Get a i))) (λ why. count_bad ms o 2 s refl why) (λ why. field_bad ms o (codes "a") s name_reader refl refl why) (λ why. field_bad ms o (codes "i") s index_reader refl refl why)
-    (λ a b n p q. all_fine ms o (codes "a" ∷ codes "i" ∷ []) s (form_at 27 (o, codes "a" ∷ codes "i" ∷ []) refl refl) refl (count_found ms 3 tt n) (fine ms o (codes "a") name_reader refl a p, (fine ms o (codes "i") index_reader refl b q, tt)))
-
-where_judged : IsJudged (codes "where") where_of
-where_judged ms s =
-    let o = codes "where" in
-    two_judged (Judged ms) (has_fields 3 (object ms)) (name_field (codes "d") (object ms)) (index_field (codes "i") (object ms)) (λ d i. Ok (Ask (Where d i))) (λ why. count_bad ms o 2 s refl why) (λ why. field_bad ms o (codes "d") s name_reader refl refl why) (λ why. field_bad ms o (codes "i") s index_reader refl refl why)
-    (λ a b n p q. all_fine ms o (codes "d" ∷ codes "i" ∷ []) s (form_at 28 (o, codes "d" ∷ codes "i" ∷ []) refl refl) refl (count_found ms 3 tt n) (fine ms o (codes "d") name_reader refl a p, (fine ms o (codes "i") index_reader refl b q, tt)))
-
-size_judged : IsJudged (codes "size") size_of
-size_judged ms s =
-    let o = codes "size" in
-    one_judged (Judged ms) (has_fields 2 (object ms)) (name_field (codes "d") (object ms)) (λ d. Ok (Ask (Size d))) (λ why. count_bad ms o 1 s refl why) (λ why. field_bad ms o (codes "d") s name_reader refl refl why)
-    (λ a n p. all_fine ms o (codes "d" ∷ []) s (form_at 29 (o, codes "d" ∷ []) refl refl) refl (count_found ms 2 tt n) (fine ms o (codes "d") name_reader refl a p, tt))
-
-piece_judged : IsJudged (codes "piece") piece_of
-piece_judged ms s =
-    let o = codes "piece" in
-    two_judged (Judged ms) (has_fields 3 (object ms)) (name_field (codes "a") (object ms)) (u64_field (codes "l") (object ms)) (λ a l. Ok (Ask (Piece a l))) (λ why. count_bad ms o 2 s refl why) (λ why. field_bad ms o (codes "a") s name_reader refl refl why) (λ why. field_bad ms o (codes "l") s number_reader refl refl why)
-    (λ a b n p q. all_fine ms o (codes "a" ∷ codes "l" ∷ []) s (form_at 30 (o, codes "a" ∷ codes "l" ∷ []) refl refl) refl (count_found ms 3 tt n) (fine ms o (codes "a") name_reader refl a p, (fine ms o (codes "l") number_reader refl b q, tt)))
-
-reduce_judged : IsJudged (codes "reduce") reduce_of
-reduce_judged ms s =
-    let o = codes "reduce" in
-    two_judged (Judged ms) (has_fields 3 (object ms)) (name_field (codes "a") (object ms)) (reduction_field (codes "how") (object ms)) (λ a how. Ok (Ask (Reduce a how)))
-    (λ why. count_bad ms o 2 s refl why) (λ why. field_bad ms o (codes "a") s name_reader refl refl why) (λ why. field_bad ms o (codes "how") s reduction_reader refl refl why)
-    (λ a b n p q. all_fine ms o (codes "a" ∷ codes "how" ∷ []) s (form_at 34 (o, codes "a" ∷ codes "how" ∷ []) refl refl) refl (count_found ms 3 tt n)
-    (fine ms o (codes "a") name_reader refl a p, (fine ms o (codes "how") reduction_reader refl b q, tt)))
-
-state_judged : IsJudged (codes "state") state_of
-state_judged ms s =
-    let o = codes "state" in
-    one_judged (Judged ms) (has_fields 2 (object ms)) (u64_field (codes "k") (object ms)) (λ k. Ok (Ask (State k))) (λ why. count_bad ms o 1 s refl why) (λ why. field_bad ms o (codes "k") s number_reader refl refl why)
-    (λ a n p. all_fine ms o (codes "k" ∷ []) s (form_at 31 (o, codes "k" ∷ []) refl refl) refl (count_found ms 2 tt n) (fine ms o (codes "k") number_reader refl a p, tt))
+use Rattle.wb_wire.proofs.RefusedPlain.{sparse_judged, assoc_judged, drop_domain_judged, add_judged, remove_judged, array_judged, drop_array_judged, set_judged}
+use Rattle.wb_wire.proofs.RefusedPlain.{fill_all_judged, irv_judged, copy_judged, all_judged, redo_judged, cascade_judged, dependents_judged, get_judged}
+use Rattle.wb_wire.proofs.RefusedPlain.{where_judged, size_judged, piece_judged, reduce_judged, state_judged}
 
 -- ---- the ops with one literal
 
 -- a text where a literal is wanted
-text_field_bad : (ms : Members) (o k : List ℕ) (kind : Kind) → NamesOp ms o → ((v : Data) → ((t : List ℕ) → v ≡ string t → ⊥) → Fails kind v bad_request) → kind_of o k ≡ Some kind → list_all (passes o (has k)) forms ≡ true
+text_field_bad : (ms : Members) (o k : List ℕ) (kind : Kind) → NamesOp ms o → ((v : Data) → ((t : List ℕ) → v ≡ string t → ⊥) → Fails kind v bad_request) →
+    kind_of o k ≡ Some kind → list_all (passes o (has k)) forms ≡ true
     → (why : Refusal) (v : Option Data) → get_member k ms ≡ v → text_in v ≡ Err why → Refused (object ms) why
 text_field_bad ms o k kind s h kd a why None g e = first (object ms) why (err_same why BadRequest (sym e)) (not_whole refl (lacks ms o k s a g))
-text_field_bad ms o k kind s h kd a why (Some v) g e = let b = text_bad v why e in first (object ms) why b.0 (member_fault ms o k kind v bad_request s kd g (h v b.1))
+text_field_bad ms o k kind s h kd a why (Some v) g e = let b = text_bad v why e in
+    first (object ms) why b.0 (member_fault ms o k kind v bad_request s kd g (h v b.1))
 
 -- what is spelled and then judged
-spelled_judged : {L M X : Type 0} (J : Result X Refusal → Type 0) (l : Result L Refusal) (w : L → Result M Refusal) (K : M → X) → ((why : Refusal) → (l >>= w) ≡ Err why → J (Err why))
+spelled_judged : {L M X : Type 0} (J : Result X Refusal → Type 0) (l : Result L Refusal) (w : L → Result M Refusal) (K : M → X) →
+    ((why : Refusal) → (l >>= w) ≡ Err why → J (Err why))
     → ((m : M) → (l >>= w) ≡ Ok m → J (Ok (K m))) → J (l >>= (λ x. w x >>= (λ m. Ok (K m))))
 spelled_judged {L} {M} J (Ok x) w K bad good = by (w x) (λ why e. bad why e) (λ m e. good m e)
   where
@@ -193,47 +75,57 @@ spelled_judged J (Err why) w K bad good = bad why refl
 remap_judged : IsJudged (codes "remap") remap_of
 remap_judged ms s =
     let o = codes "remap" in
-    two_judged (Judged ms) (has_fields 3 (object ms)) (name_field (codes "d") (object ms)) (text_field (codes "map") (object ms)) (λ d text. literal_mapping text >>= (λ spelled. mapping_within spelled >>= (λ m. Ok (Change (Remap d m)))))
-    (λ why. count_bad ms o 2 s refl why) (λ why. field_bad ms o (codes "d") s name_reader refl refl why) (λ why e. text_field_bad ms o (codes "map") kinds.mapping s (λ v h. h) refl refl why (get_member (codes "map") ms) refl e)
+    two_judged (Judged ms) (has_fields 3 (object ms)) (name_field (codes "d") (object ms)) (text_field (codes "map") (object ms))
+    (λ d text. literal_mapping text >>= (λ spelled. mapping_within spelled >>= (λ m. Ok (Change (Remap d m)))))
+    (λ why. count_bad ms o 2 s refl why) (λ why. field_bad ms o (codes "d") s name_reader refl refl why)
+    (λ why e. text_field_bad ms o (codes "map") kinds.mapping s (λ v h. h) refl refl why (get_member (codes "map") ms) refl e)
     (λ d text n p q. with_map d text n p (text_found (get_member (codes "map") ms) text q))
   where
-    with_map : (d : Name) (text : List ℕ) → has_fields 3 (object ms) ≡ Ok tt → name_in (get_member (codes "d") ms) ≡ Ok d → get_member (codes "map") ms ≡ Some (string text)
+    with_map : (d : Name) (text : List ℕ) → has_fields 3 (object ms) ≡ Ok tt → name_in (get_member (codes "d") ms) ≡ Ok d →
+        get_member (codes "map") ms ≡ Some (string text)
         → Judged ms (literal_mapping text >>= (λ spelled. mapping_within spelled >>= (λ m. Ok (Change (Remap d m)))))
     with_map d text n p at =
         let o = codes "remap" in let ks = codes "d" ∷ codes "map" ∷ [] in
         let c : Contains forms (o, ks) = form_at 15 (o, ks) refl refl in
         let named : Fine ms o (codes "d") = fine ms o (codes "d") name_reader refl d p in
         spelled_judged (Judged ms) (literal_mapping text) mapping_within (λ m. Change (Remap d m))
-        (λ why e. value_bad ms o ks s c (whole_fine ms o ks s refl (count_found ms 3 tt n) (named.0, ((string text, at), tt))) (codes "map") mapping_reader refl (string text) at why e (λ f same. (fine_above ms o (codes "d") f named, (same, tt))))
+        (λ why e. value_bad ms o ks s c (whole_fine ms o ks s refl (count_found ms 3 tt n) (named.0, ((string text, at), tt))) (codes "map") mapping_reader
+        refl (string text) at why e (λ f same. (fine_above ms o (codes "d") f named, (same, tt))))
         (λ m e. all_fine ms o ks s c refl (count_found ms 3 tt n) (named, (fine ms o (codes "map") mapping_reader refl m (ap mapping_in at ∙ e), tt)))
 
 load_judged : IsJudged (codes "load") load_of
 load_judged ms s =
     let o = codes "load" in
     one_judged (Judged ms) (has_fields 2 (object ms)) (text_field (codes "text") (object ms)) (λ text. text_of_book text >>= (λ t. Ok (Change (Load t))))
-    (λ why. count_bad ms o 1 s refl why) (λ why e. text_field_bad ms o (codes "text") kinds.workbook s (λ v h. h) refl refl why (get_member (codes "text") ms) refl e)
+    (λ why. count_bad ms o 1 s refl why) (λ why e. text_field_bad ms o (codes "text") kinds.workbook s (λ v h. h) refl refl why (get_member (codes "text") ms)
+    refl e)
     (λ text n q. with_text text n (text_found (get_member (codes "text") ms) text q))
   where
-    with_text : (text : List ℕ) → has_fields 2 (object ms) ≡ Ok tt → get_member (codes "text") ms ≡ Some (string text) → Judged ms (text_of_book text >>= (λ t. Ok (Change (Load t))))
+    with_text : (text : List ℕ) → has_fields 2 (object ms) ≡ Ok tt → get_member (codes "text") ms ≡ Some (string text) →
+        Judged ms (text_of_book text >>= (λ t. Ok (Change (Load t))))
     with_text text n at =
         let o = codes "load" in let ks = codes "text" ∷ [] in
         let c : Contains forms (o, ks) = form_at 35 (o, ks) refl refl in
         bind_judged (Judged ms) (text_of_book text) (λ t. Ok (Change (Load t)))
-        (λ why e. value_bad ms o ks s c (whole_fine ms o ks s refl (count_found ms 2 tt n) ((string text, at), tt)) (codes "text") workbook_reader refl (string text) at why e (λ f same. (same, tt)))
+        (λ why e. value_bad ms o ks s c (whole_fine ms o ks s refl (count_found ms 2 tt n) ((string text, at), tt)) (codes "text") workbook_reader refl
+        (string text) at why e (λ f same. (same, tt)))
         (λ t e. all_fine ms o ks s c refl (count_found ms 2 tt n) (fine ms o (codes "text") workbook_reader refl t (ap workbook_in at ∙ e), tt))
 
 -- by what a literal spells
-by_domain : {X : Type 0} (J : Result X Refusal → Type 0) (l : Result Domain Refusal) (K : Domain → Result X Refusal) → ((why : Refusal) → l ≡ Err why → J (Err why)) → ((r : RectangleLiteral) → l ≡ Ok (rectangle r) → J (K (rectangle r)))
+by_domain : {X : Type 0} (J : Result X Refusal → Type 0) (l : Result Domain Refusal) (K : Domain → Result X Refusal) →
+    ((why : Refusal) → l ≡ Err why → J (Err why)) → ((r : RectangleLiteral) → l ≡ Ok (rectangle r) → J (K (rectangle r)))
     → ((listed : Listed) → l ≡ Ok (set listed) → J (K (set listed))) → J (l >>= K)
 by_domain J (Ok (rectangle r)) K bad one more = one r refl
 by_domain J (Ok (set listed)) K bad one more = more listed refl
 by_domain J (Err why) K bad one more = bad why refl
 
 -- a literal that is spelled, by whether it is within the limits
-judged_err : (l : Result Domain Refusal) (r : RectangleLiteral) (why : Refusal) → l ≡ Ok (rectangle r) → domain_within r ≡ Err why → (l >>= domain_judged) ≡ Err why
+judged_err : (l : Result Domain Refusal) (r : RectangleLiteral) (why : Refusal) → l ≡ Ok (rectangle r) → domain_within r ≡ Err why →
+    (l >>= domain_judged) ≡ Err why
 judged_err l r why e f = rw (e, f) refl
 
-judged_ok : (l : Result Domain Refusal) (r : RectangleLiteral) (ranges : List Range) → l ≡ Ok (rectangle r) → domain_within r ≡ Ok ranges → (l >>= domain_judged) ≡ Ok tt
+judged_ok : (l : Result Domain Refusal) (r : RectangleLiteral) (ranges : List Range) → l ≡ Ok (rectangle r) → domain_within r ≡ Ok ranges →
+    (l >>= domain_judged) ≡ Ok tt
 judged_ok l r ranges e f = rw (e, f) refl
 
 unspelled_err : (l : Result Domain Refusal) (why : Refusal) → l ≡ Err why → (l >>= domain_judged) ≡ Err why
@@ -245,24 +137,31 @@ set_ok l listed e = rw e refl
 fill_judged : IsJudged (codes "fill") fill_of
 fill_judged ms s =
     let o = codes "fill" in
-    three_judged (Judged ms) (has_fields 4 (object ms)) (name_field (codes "a") (object ms)) (text_field (codes "on") (object ms)) (i64_field (codes "v") (object ms)) (λ a text v. literal_domain text >>= (λ l. fill_over a l v))
-    (λ why. count_bad ms o 3 s refl why) (λ why. field_bad ms o (codes "a") s name_reader refl refl why) (λ why e. text_field_bad ms o (codes "on") kinds.domain s (λ v h. h) refl refl why (get_member (codes "on") ms) refl e)
+    three_judged (Judged ms) (has_fields 4 (object ms)) (name_field (codes "a") (object ms)) (text_field (codes "on") (object ms))
+    (i64_field (codes "v") (object ms)) (λ a text v. literal_domain text >>= (λ l. fill_over a l v))
+    (λ why. count_bad ms o 3 s refl why) (λ why. field_bad ms o (codes "a") s name_reader refl refl why)
+    (λ why e. text_field_bad ms o (codes "on") kinds.domain s (λ v h. h) refl refl why (get_member (codes "on") ms) refl e)
     (λ why. field_bad ms o (codes "v") s integer_reader refl refl why)
     (λ a text v n p q r. with_text a text v n p (text_found (get_member (codes "on") ms) text q) r)
   where
-    with_text : (a : Name) (text : List ℕ) (v : ℤ) → has_fields 4 (object ms) ≡ Ok tt → name_in (get_member (codes "a") ms) ≡ Ok a → get_member (codes "on") ms ≡ Some (string text) → integer_in (get_member (codes "v") ms) ≡ Ok v
+    with_text : (a : Name) (text : List ℕ) (v : ℤ) → has_fields 4 (object ms) ≡ Ok tt → name_in (get_member (codes "a") ms) ≡ Ok a →
+        get_member (codes "on") ms ≡ Some (string text) → integer_in (get_member (codes "v") ms) ≡ Ok v
         → Judged ms (literal_domain text >>= (λ l. fill_over a l v))
     with_text a text v n p at q =
         let o = codes "fill" in let ks = codes "a" ∷ codes "on" ∷ codes "v" ∷ [] in
         let c : Contains forms (o, ks) = form_at 19 (o, ks) refl refl in
         let named : Fine ms o (codes "a") = fine ms o (codes "a") name_reader refl a p in
         let value : Fine ms o (codes "v") = fine ms o (codes "v") integer_reader refl v q in
-        let bad : (why : Refusal) → domain_in (Some (string text)) ≡ Err why → Refused (object ms) why = λ why e. value_bad ms o ks s c (whole_fine ms o ks s refl (count_found ms 4 tt n) (named.0, ((string text, at), (value.0, tt))))
-        (codes "on") domain_reader refl (string text) at why e (λ f same. (fine_above ms o (codes "a") f named, (same, (fine_above ms o (codes "v") f value, tt)))) in
-        let good : domain_in (Some (string text)) ≡ Ok tt → NoFault (object ms) = λ e. all_fine ms o ks s c refl (count_found ms 4 tt n) (named, (fine ms o (codes "on") domain_reader refl tt (ap domain_in at ∙ e), (value, tt))) in
+        let bad : (why : Refusal) → domain_in (Some (string text)) ≡ Err why → Refused (object ms) why =
+        λ why e. value_bad ms o ks s c (whole_fine ms o ks s refl (count_found ms 4 tt n) (named.0, ((string text, at), (value.0, tt))))
+        (codes "on") domain_reader refl (string text) at why e (λ f same.
+        (fine_above ms o (codes "a") f named, (same, (fine_above ms o (codes "v") f value, tt)))) in
+        let good : domain_in (Some (string text)) ≡ Ok tt → NoFault (object ms) =
+        λ e. all_fine ms o ks s c refl (count_found ms 4 tt n) (named, (fine ms o (codes "on") domain_reader refl tt (ap domain_in at ∙ e), (value, tt))) in
         by_domain (Judged ms) (literal_domain text) (λ l. fill_over a l v)
         (λ why e. bad why (unspelled_err (literal_domain text) why e))
-        (λ r e. bind_judged (Judged ms) (domain_within r) (λ ranges. Ok (Change (Fill a ranges v))) (λ why f. bad why (judged_err (literal_domain text) r why e f)) (λ ranges f. good (judged_ok (literal_domain text) r ranges e f)))
+        (λ r e. bind_judged (Judged ms) (domain_within r) (λ ranges. Ok (Change (Fill a ranges v)))
+        (λ why f. bad why (judged_err (literal_domain text) r why e f)) (λ ranges f. good (judged_ok (literal_domain text) r ranges e f)))
         (λ listed e. good (set_ok (literal_domain text) listed e))
 
 -- ---- a new domain, whose mapping may be missing
@@ -293,49 +192,81 @@ mapping_spelled_from t l too_large e h = omega arith
 mapping_spelled_from t l bad_mapping e h = omega arith
 
 module _ (ms : Members) (s : NamesOp ms (codes "domain")) where
-  without_map : (d : Name) (text : List ℕ) → get_member (codes "map") ms ≡ None → has_fields 3 (object ms) ≡ Ok tt → name_in (get_member (codes "d") ms) ≡ Ok d → get_member (codes "is") ms ≡ Some (string text)
+  without_map : (d : Name) (text : List ℕ) → get_member (codes "map") ms ≡ None → has_fields 3 (object ms) ≡ Ok tt →
+      name_in (get_member (codes "d") ms) ≡ Ok d → get_member (codes "is") ms ≡ Some (string text)
       → Judged ms (domain_by d text None)
   without_map d text none n p at =
       let o = codes "domain" in let ks = codes "d" ∷ codes "is" ∷ [] in
       let c : Contains forms (o, ks) = form_at 0 (o, ks) refl refl in
       let named : Fine ms o (codes "d") = fine ms o (codes "d") name_reader refl d p in
-      let bad : (why : Refusal) → domain_in (Some (string text)) ≡ Err why → Refused (object ms) why = λ why e. value_bad ms o ks s c (whole_fine ms o ks s refl (count_found ms 3 tt n) (named.0, ((string text, at), tt)))
+      let bad : (why : Refusal) → domain_in (Some (string text)) ≡ Err why → Refused (object ms) why =
+      λ why e. value_bad ms o ks s c (whole_fine ms o ks s refl (count_found ms 3 tt n) (named.0, ((string text, at), tt)))
       (codes "is") domain_reader refl (string text) at why e (λ f same. (fine_above ms o (codes "d") f named, (same, tt))) in
-      let good : domain_in (Some (string text)) ≡ Ok tt → NoFault (object ms) = λ e. all_fine ms o ks s c refl (count_found ms 3 tt n) (named, (fine ms o (codes "is") domain_reader refl tt (ap domain_in at ∙ e), tt)) in
+      let good : domain_in (Some (string text)) ≡ Ok tt → NoFault (object ms) =
+      λ e. all_fine ms o ks s c refl (count_found ms 3 tt n) (named, (fine ms o (codes "is") domain_reader refl tt (ap domain_in at ∙ e), tt)) in
       by_domain (Judged ms) (literal_domain text) (λ l. domain_with d l Whole)
       (λ why e. bad why (unspelled_err (literal_domain text) why e))
-      (λ r e. bind_judged (Judged ms) (domain_within r) (λ ranges. Ok (Change (NewDomain d ranges whole))) (λ why f. bad why (judged_err (literal_domain text) r why e f)) (λ ranges f. good (judged_ok (literal_domain text) r ranges e f)))
+      (λ r e. bind_judged (Judged ms) (domain_within r) (λ ranges. Ok (Change (NewDomain d ranges whole)))
+      (λ why f. bad why (judged_err (literal_domain text) r why e f)) (λ ranges f. good (judged_ok (literal_domain text) r ranges e f)))
       (λ listed e. good (set_ok (literal_domain text) listed e))
 
-  with_map : (d : Name) (text map : List ℕ) → get_member (codes "map") ms ≡ Some (string map) → has_fields 4 (object ms) ≡ Ok tt → name_in (get_member (codes "d") ms) ≡ Ok d → get_member (codes "is") ms ≡ Some (string text)
+  with_map : (d : Name) (text map : List ℕ) → get_member (codes "map") ms ≡ Some (string map) → has_fields 4 (object ms) ≡ Ok tt →
+      name_in (get_member (codes "d") ms) ≡ Ok d → get_member (codes "is") ms ≡ Some (string text)
       → Judged ms (domain_by d text (Some map))
   with_map d text map mapped n p at =
       let o = codes "domain" in let ks = codes "d" ∷ codes "is" ∷ codes "map" ∷ [] in
       let c : Contains forms (o, ks) = form_at 1 (o, ks) refl refl in
       let named : Fine ms o (codes "d") = fine ms o (codes "d") name_reader refl d p in
       let h : HasKeys ms (codes "op" ∷ ks) = whole_fine ms o ks s refl (count_found ms 4 tt n) (named.0, ((string text, at), ((string map, mapped), tt))) in
-      let is_fails : (g : Fault) → FailsAt ms o (codes "is") g → Fails kinds.domain (string text) g = λ g x. fails_there ms o (codes "is") kinds.domain (string text) g refl at x in
-      let map_fails : (g : Fault) → FailsAt ms o (codes "map") g → Fails kinds.mapping (string map) g = λ g x. fails_there ms o (codes "map") kinds.mapping (string map) g refl mapped x in
-      let refused : (k : List ℕ) (kind : Kind) (v : Data) → kind_of o k ≡ Some kind → get_member k ms ≡ Some v → (f : Fault) (why : Refusal) → why ≡ refusal_of f → Fails kind v f → IsAbove ms o f (codes "is") → IsAbove ms o f (codes "map") → Refused (object ms) why =
-      λ k kind v kd g f why q x is_above map_above. (f, q, least_of ms o ks f s c h (member_fault ms o k kind v f s kd g x) (fine_above ms o (codes "d") f named, (is_above, (map_above, tt)))) in
-      let map_bad : (domain_in (Some (string text)) ≡ Ok tt) → (why : Refusal) → mapping_in (Some (string map)) ≡ Err why → Refused (object ms) why = λ e why f. value_bad ms o ks s c h (codes "map") mapping_reader refl (string map) mapped why f
-      (λ f same. (fine_above ms o (codes "d") f named, (fine_above ms o (codes "is") f (fine ms o (codes "is") domain_reader refl tt (ap domain_in at ∙ e)), (same, tt)))) in
-      let good : domain_in (Some (string text)) ≡ Ok tt → (m : LayoutMap) → mapping_in (Some (string map)) ≡ Ok m → NoFault (object ms) = λ e m f. all_fine ms o ks s c refl (count_found ms 4 tt n)
-      (named, (fine ms o (codes "is") domain_reader refl tt (ap domain_in at ∙ e), (fine ms o (codes "map") mapping_reader refl m (ap mapping_in mapped ∙ f), tt))) in
+      let is_fails : (g : Fault) → FailsAt ms o (codes "is") g → Fails kinds.domain (string text) g =
+      λ g x. fails_there ms o (codes "is") kinds.domain (string text) g refl at x in
+      let map_fails : (g : Fault) → FailsAt ms o (codes "map") g → Fails kinds.mapping (string map) g =
+      λ g x. fails_there ms o (codes "map") kinds.mapping (string map) g refl mapped x in
+      let refused : (k : List ℕ) (kind : Kind) (v : Data) → kind_of o k ≡ Some kind → get_member k ms ≡ Some v → (f : Fault) (why : Refusal) →
+      why ≡ refusal_of f → Fails kind v f → IsAbove ms o f (codes "is") → IsAbove ms o f (codes "map") → Refused (object ms) why =
+      λ k kind v kd g f why q x is_above map_above. (
+        f,
+        q,
+        least_of ms o ks f s c h (member_fault ms o k kind v f s kd g x)
+            (fine_above ms o (codes "d") f named, (is_above, (map_above, tt))),
+      ) in
+      let map_bad : (domain_in (Some (string text)) ≡ Ok tt) → (why : Refusal) → mapping_in (Some (string map)) ≡ Err why → Refused (object ms) why =
+      λ e why f. value_bad ms o ks s c h (codes "map") mapping_reader refl (string map) mapped why f
+      (λ f same. (
+        fine_above ms o (codes "d") f named,
+        (
+          fine_above ms o (codes "is") f (fine ms o (codes "is") domain_reader refl tt (ap domain_in at ∙ e)),
+          (same, tt),
+        ),
+      )) in
+      let good : domain_in (Some (string text)) ≡ Ok tt → (m : LayoutMap) → mapping_in (Some (string map)) ≡ Ok m → NoFault (object ms) =
+      λ e m f. all_fine ms o ks s c refl (count_found ms 4 tt n) (
+        named,
+        (
+          fine ms o (codes "is") domain_reader refl tt (ap domain_in at ∙ e),
+          (fine ms o (codes "map") mapping_reader refl m (ap mapping_in mapped ∙ f), tt),
+        ),
+      ) in
       let unspelled : (why : Refusal) → literal_domain text ≡ Err why → Refused (object ms) why = λ why e.
-      refused (codes "is") kinds.domain (string text) refl at bad_literal why (literal_refusal text why e) (text, refl, λ l k. no_err (sym (domain_read text l k) ∙ e)) (λ g x. domain_from text g (is_fails g x)) (λ g x. mapping_from map g (map_fails g x)) in
+      refused (codes "is") kinds.domain (string text) refl at bad_literal why (literal_refusal text why e)
+      (text, refl, λ l k. no_err (sym (domain_read text l k) ∙ e)) (λ g x. domain_from text g (is_fails g x)) (λ g x. mapping_from map g (map_fails g x)) in
       let map_unspelled : (why : Refusal) → literal_mapping map ≡ Err why → Refused (object ms) why = λ why e.
-      refused (codes "map") kinds.mapping (string map) refl mapped bad_literal why (mapping_refusal map why e) (map, refl, λ l k. no_err (sym (literal_read map l k) ∙ e)) (λ g x. domain_from text g (is_fails g x)) (λ g x. mapping_from map g (map_fails g x)) in
+      refused (codes "map") kinds.mapping (string map) refl mapped bad_literal why (mapping_refusal map why e)
+      (map, refl, λ l k. no_err (sym (literal_read map l k) ∙ e)) (λ g x. domain_from text g (is_fails g x)) (λ g x. mapping_from map g (map_fails g x)) in
       by_domain (Judged ms) (literal_domain text) (λ l. literal_mapping map >>= (λ m. domain_with d l m))
       unspelled
       (λ r e. bind_judged (Judged ms) (literal_mapping map) (λ m. domain_with d (rectangle r) m) map_unspelled (λ m f.
       bind_judged (Judged ms) (domain_within r) (λ ranges. mapping_within m >>= (λ layout. Ok (Change (NewDomain d ranges layout))))
       (λ why w. let x = rectangle_err r why w in
-      refused (codes "is") kinds.domain (string text) refl at too_large why x.0 (text, r, refl, domain_found text (rectangle r) e, x.1) (λ g y. domain_spelled_from text (rectangle r) g e (is_fails g y)) (λ g y. mapping_spelled_from map m g f (map_fails g y)))
+      refused (codes "is") kinds.domain (string text) refl at too_large why x.0 (text, r, refl, domain_found text (rectangle r) e, x.1)
+      (λ g y. domain_spelled_from text (rectangle r) g e (is_fails g y)) (λ g y. mapping_spelled_from map m g f (map_fails g y)))
       (λ ranges w. let fits = judged_ok (literal_domain text) r ranges e w in
-      bind_judged (Judged ms) (mapping_within m) (λ layout. Ok (Change (NewDomain d ranges layout))) (λ why y. map_bad fits why (mapping_err map m why f y)) (λ layout y. good fits layout (mapping_ok map m layout f y)))))
-      (λ listed e. let fits = set_ok (literal_domain text) listed e in bind_judged (Judged ms) (literal_mapping map) (λ m. domain_with d (set listed) m) map_unspelled (λ m f.
-      bind_judged (Judged ms) (mapping_within m) (λ layout. Ok (Change (DomainOfSet d))) (λ why y. map_bad fits why (mapping_err map m why f y)) (λ layout y. good fits layout (mapping_ok map m layout f y))))
+      bind_judged (Judged ms) (mapping_within m) (λ layout. Ok (Change (NewDomain d ranges layout))) (λ why y. map_bad fits why (mapping_err map m why f y))
+      (λ layout y. good fits layout (mapping_ok map m layout f y)))))
+      (λ listed e. let fits = set_ok (literal_domain text) listed e in
+      bind_judged (Judged ms) (literal_mapping map) (λ m. domain_with d (set listed) m) map_unspelled (λ m f.
+      bind_judged (Judged ms) (mapping_within m) (λ layout. Ok (Change (DomainOfSet d))) (λ why y. map_bad fits why (mapping_err map m why f y))
+      (λ layout y. good fits layout (mapping_ok map m layout f y))))
     where
       literal_refusal : (t : List ℕ) (why : Refusal) → literal_domain t ≡ Err why → why ≡ BadLiteral
       literal_refusal t why e = or_only (domain_of_text t) BadLiteral why e
@@ -343,10 +274,12 @@ module _ (ms : Members) (s : NamesOp ms (codes "domain")) where
       mapping_refusal : (t : List ℕ) (why : Refusal) → literal_mapping t ≡ Err why → why ≡ BadLiteral
       mapping_refusal t why e = or_only (mapping_of t) BadLiteral why e
 
-      mapping_err : (t : List ℕ) (m : MappingLiteral) (why : Refusal) → literal_mapping t ≡ Ok m → mapping_within m ≡ Err why → mapping_in (Some (string t)) ≡ Err why
+      mapping_err : (t : List ℕ) (m : MappingLiteral) (why : Refusal) → literal_mapping t ≡ Ok m → mapping_within m ≡ Err why →
+          mapping_in (Some (string t)) ≡ Err why
       mapping_err t m why e f = rw (e, f) refl
 
-      mapping_ok : (t : List ℕ) (m : MappingLiteral) (layout : LayoutMap) → literal_mapping t ≡ Ok m → mapping_within m ≡ Ok layout → mapping_in (Some (string t)) ≡ Ok layout
+      mapping_ok : (t : List ℕ) (m : MappingLiteral) (layout : LayoutMap) → literal_mapping t ≡ Ok m → mapping_within m ≡ Ok layout →
+          mapping_in (Some (string t)) ≡ Ok layout
       mapping_ok t m layout e f = rw (e, f) refl
 
   -- a mapping that is no text
@@ -354,7 +287,8 @@ module _ (ms : Members) (s : NamesOp ms (codes "domain")) where
   map_bad why None g e = no_err e
   map_bad why (Some v) g e =
       let only : why ≡ BadRequest = or_only (option_map Some (as_str v)) BadRequest why e in
-      first (object ms) why only (member_fault ms (codes "domain") (codes "map") kinds.mapping v bad_request s refl g (λ t q. no_err (sym (ap (λ v. ok_or (option_map Some (as_str v)) BadRequest) q) ∙ e)))
+      first (object ms) why only (member_fault ms (codes "domain") (codes "map") kinds.mapping v bad_request s refl g
+      (λ t q. no_err (sym (ap (λ v. ok_or (option_map Some (as_str v)) BadRequest) q) ∙ e)))
 
   counted_without : get_member (codes "map") ms ≡ None → (member_count ms ≡ 3 → ⊥) → IsWhole (object ms) → ⊥
   counted_without none other = not_whole_by ms (codes "domain") s (λ ks c h.
@@ -372,17 +306,20 @@ module _ (ms : Members) (s : NamesOp ms (codes "domain")) where
         | false ↦ λ e q. no_some v (sym (no_more (codes "map") (codes "op" ∷ ks) ms e h) ∙ g)
       ] refl p)
 
-  counted_bad : (t : Option (List ℕ)) (v : Option Data) → get_member (codes "map") ms ≡ v → text_if_there v ≡ Ok t → (why : Refusal) → has_fields_and 3 t (object ms) ≡ Err why → Refused (object ms) why
+  counted_bad : (t : Option (List ℕ)) (v : Option Data) → get_member (codes "map") ms ≡ v → text_if_there v ≡ Ok t → (why : Refusal) →
+      has_fields_and 3 t (object ms) ≡ Err why → Refused (object ms) why
   counted_bad None None g e why f = let x = uncounted ms 3 why f in first (object ms) why x.0 (not_whole refl (counted_without g x.1))
   counted_bad (Some t) None g e why f = absurd (cc)
   counted_bad None (Some v) g e why f = let x = mapped Some (as_str v) None (some_of_ok (option_map Some (as_str v)) BadRequest None e) in no_some x.0 (sym x.2)
   counted_bad (Some t) (Some v) g e why f = let x = uncounted ms 4 why f in first (object ms) why x.0 (not_whole refl (counted_with v g x.1))
 
-  by_map : (d : Name) (text : List ℕ) (t : Option (List ℕ)) (v : Option Data) → get_member (codes "map") ms ≡ v → text_if_there v ≡ Ok t → has_fields_and 3 t (object ms) ≡ Ok tt → name_in (get_member (codes "d") ms) ≡ Ok d
+  by_map : (d : Name) (text : List ℕ) (t : Option (List ℕ)) (v : Option Data) → get_member (codes "map") ms ≡ v → text_if_there v ≡ Ok t →
+      has_fields_and 3 t (object ms) ≡ Ok tt → name_in (get_member (codes "d") ms) ≡ Ok d
       → get_member (codes "is") ms ≡ Some (string text) → Judged ms (domain_by d text t)
   by_map d text None None g e n p at = without_map d text g n p at
   by_map d text (Some t) None g e n p at = absurd (cc)
-  by_map d text None (Some v) g e n p at = let x = mapped Some (as_str v) None (some_of_ok (option_map Some (as_str v)) BadRequest None e) in no_some x.0 (sym x.2)
+  by_map d text None (Some v) g e n p at = let x = mapped Some (as_str v) None (some_of_ok (option_map Some (as_str v)) BadRequest None e) in
+      no_some x.0 (sym x.2)
   by_map d text (Some t) (Some v) g e n p at =
       let x = mapped Some (as_str v) (Some t) (some_of_ok (option_map Some (as_str v)) BadRequest (Some t) e) in
       with_map d text t (g ∙ ap Some (str_found v t (x.1 ∙ x.2))) n p at
@@ -390,16 +327,21 @@ module _ (ms : Members) (s : NamesOp ms (codes "domain")) where
 domain_judged_of : IsJudged (codes "domain") domain_of
 domain_judged_of ms s =
     let o = codes "domain" in
-    bind_judged (Judged ms) (optional_text (codes "map") (object ms)) (λ map. two_of (has_fields_and 3 map (object ms)) (name_field (codes "d") (object ms)) (text_field (codes "is") (object ms)) (λ d text. domain_by d text map))
+    bind_judged (Judged ms) (optional_text (codes "map") (object ms))
+    (λ map. two_of (has_fields_and 3 map (object ms)) (name_field (codes "d") (object ms)) (text_field (codes "is") (object ms))
+    (λ d text. domain_by d text map))
     (λ why e. map_bad ms s why (get_member (codes "map") ms) refl e)
-    (λ t e. two_judged (Judged ms) (has_fields_and 3 t (object ms)) (name_field (codes "d") (object ms)) (text_field (codes "is") (object ms)) (λ d text. domain_by d text t)
-    (λ why f. counted_bad ms s t (get_member (codes "map") ms) refl e why f) (λ why. field_bad ms o (codes "d") s name_reader refl refl why) (λ why e. text_field_bad ms o (codes "is") kinds.domain s (λ v h. h) refl refl why (get_member (codes "is") ms) refl e)
+    (λ t e. two_judged (Judged ms) (has_fields_and 3 t (object ms)) (name_field (codes "d") (object ms)) (text_field (codes "is") (object ms))
+    (λ d text. domain_by d text t)
+    (λ why f. counted_bad ms s t (get_member (codes "map") ms) refl e why f) (λ why. field_bad ms o (codes "d") s name_reader refl refl why)
+    (λ why e. text_field_bad ms o (codes "is") kinds.domain s (λ v h. h) refl refl why (get_member (codes "is") ms) refl e)
     (λ d text n p q. by_map ms s d text t (get_member (codes "map") ms) refl e n p (text_found (get_member (codes "is") ms) text q)))
 
 -- ---- reshape, by which source there is
 
 -- the one that is there, or the next ones
-source_judged : (J : Result NewIndices Refusal → Type 0) (o : Option Data) (by : Data → Result NewIndices Refusal) (more : Result NewIndices Refusal) → ((v : Data) → o ≡ Some v → J (by v)) → (o ≡ None → J more) → J (option_map_or by o more)
+source_judged : (J : Result NewIndices Refusal → Type 0) (o : Option Data) (by : Data → Result NewIndices Refusal) (more : Result NewIndices Refusal) →
+    ((v : Data) → o ≡ Some v → J (by v)) → (o ≡ None → J more) → J (option_map_or by o more)
 source_judged J None by more here on = on refl
 source_judged J (Some v) by more here on = here v refl
 
@@ -424,25 +366,37 @@ unfolding has_one
 no_source ms s n = not_whole_by ms (codes "reshape") s (λ ks c h. one_there source_keys ks ms (of_form (codes "reshape") ks (has_one source_keys) refl c) h n)
 
 module _ (ms : Members) (s : NamesOp ms (codes "reshape")) (n : member_count ms ≡ 3) (named : Fine ms (codes "reshape") (codes "d")) where
-  at_source : (k : List ℕ) {kind : Kind} {A : Type 0} {read : Option Data → Result A Refusal} → IsReader kind read → (K : A → NewIndices) → kind_of (codes "reshape") k ≡ Some kind → Contains forms (codes "reshape", codes "d" ∷ k ∷ [])
+  at_source : (k : List ℕ) {kind : Kind} {A : Type 0} {read : Option Data → Result A Refusal} → IsReader kind read → (K : A → NewIndices) →
+      kind_of (codes "reshape") k ≡ Some kind → Contains forms (codes "reshape", codes "d" ∷ k ∷ [])
       → apart (codes "op" ∷ codes "d" ∷ k ∷ []) ≡ true → (v : Data) → get_member k ms ≡ Some v → Judged {X = NewIndices} ms (read (Some v) >>= (λ a. Ok (K a)))
   at_source k {kind} {A} {read} r K kd c a v g =
       let o = codes "reshape" in let ks = codes "d" ∷ k ∷ [] in
       bind_judged (Judged {X = NewIndices} ms) (read (Some v)) (λ a. Ok (K a))
-      (λ why e. value_bad ms o ks s c (whole_fine ms o ks s a n (named.0, ((v, g), tt))) k r kd v g why e (λ f same. (fine_above ms o (codes "d") f named, (same, tt))))
+      (λ why e. value_bad ms o ks s c (whole_fine ms o ks s a n (named.0, ((v, g), tt))) k r kd v g why e
+      (λ f same. (fine_above ms o (codes "d") f named, (same, tt))))
       (λ x e. all_fine ms o ks s c a n (named, (fine ms o k r kd x (ap read g ∙ e), tt)))
 
   sources_judged : Judged {X = NewIndices} ms (source_of (object ms))
   sources_judged =
       let o = codes "reshape" in
-      source_judged (Judged {X = NewIndices} ms) (get_member (codes "to") ms) to_by _ (λ v g. at_source (codes "to") source_reader To refl (form_at 5 (o, codes "d" ∷ codes "to" ∷ []) refl refl) refl v g) (λ a.
-      source_judged (Judged {X = NewIndices} ms) (get_member (codes "slice") ms) slice_by _ (λ v g. at_source (codes "slice") source_reader Slice refl (form_at 6 (o, codes "d" ∷ codes "slice" ∷ []) refl refl) refl v g) (λ b.
-      source_judged (Judged {X = NewIndices} ms) (get_member (codes "translate") ms) (displace_by Translate) _ (λ v g. at_source (codes "translate") offsets_reader (Displace Translate) refl (form_at 7 (o, codes "d" ∷ codes "translate" ∷ []) refl refl) refl v g) (λ c.
-      source_judged (Judged {X = NewIndices} ms) (get_member (codes "expand") ms) (displace_by Expand) _ (λ v g. at_source (codes "expand") offsets_reader (Displace Expand) refl (form_at 8 (o, codes "d" ∷ codes "expand" ∷ []) refl refl) refl v g) (λ d.
-      source_judged (Judged {X = NewIndices} ms) (get_member (codes "or") ms) (combine_by Union) _ (λ v g. at_source (codes "or") source_reader (Combine Union) refl (form_at 9 (o, codes "d" ∷ codes "or" ∷ []) refl refl) refl v g) (λ e.
-      source_judged (Judged {X = NewIndices} ms) (get_member (codes "and") ms) (combine_by Intersection) _ (λ v g. at_source (codes "and") source_reader (Combine Intersection) refl (form_at 10 (o, codes "d" ∷ codes "and" ∷ []) refl refl) refl v g) (λ f.
-      source_judged (Judged {X = NewIndices} ms) (get_member (codes "minus") ms) (combine_by Difference) _ (λ v g. at_source (codes "minus") source_reader (Combine Difference) refl (form_at 11 (o, codes "d" ∷ codes "minus" ∷ []) refl refl) refl v g) (λ g.
-      source_judged (Judged {X = NewIndices} ms) (get_member (codes "xor") ms) (combine_by SymmetricDifference) _ (λ v g. at_source (codes "xor") source_reader (Combine SymmetricDifference) refl (form_at 12 (o, codes "d" ∷ codes "xor" ∷ []) refl refl) refl v g) (λ h.
+      source_judged (Judged {X = NewIndices} ms) (get_member (codes "to") ms) to_by _
+      (λ v g. at_source (codes "to") source_reader To refl (form_at 5 (o, codes "d" ∷ codes "to" ∷ []) refl refl) refl v g) (λ a.
+      source_judged (Judged {X = NewIndices} ms) (get_member (codes "slice") ms) slice_by _
+      (λ v g. at_source (codes "slice") source_reader Slice refl (form_at 6 (o, codes "d" ∷ codes "slice" ∷ []) refl refl) refl v g) (λ b.
+      source_judged (Judged {X = NewIndices} ms) (get_member (codes "translate") ms) (displace_by Translate) _
+      (λ v g. at_source (codes "translate") offsets_reader (Displace Translate) refl (form_at 7 (o, codes "d" ∷ codes "translate" ∷ []) refl refl) refl v
+      g) (λ c.
+      source_judged (Judged {X = NewIndices} ms) (get_member (codes "expand") ms) (displace_by Expand) _
+      (λ v g. at_source (codes "expand") offsets_reader (Displace Expand) refl (form_at 8 (o, codes "d" ∷ codes "expand" ∷ []) refl refl) refl v g) (λ d.
+      source_judged (Judged {X = NewIndices} ms) (get_member (codes "or") ms) (combine_by Union) _
+      (λ v g. at_source (codes "or") source_reader (Combine Union) refl (form_at 9 (o, codes "d" ∷ codes "or" ∷ []) refl refl) refl v g) (λ e.
+      source_judged (Judged {X = NewIndices} ms) (get_member (codes "and") ms) (combine_by Intersection) _
+      (λ v g. at_source (codes "and") source_reader (Combine Intersection) refl (form_at 10 (o, codes "d" ∷ codes "and" ∷ []) refl refl) refl v g) (λ f.
+      source_judged (Judged {X = NewIndices} ms) (get_member (codes "minus") ms) (combine_by Difference) _
+      (λ v g. at_source (codes "minus") source_reader (Combine Difference) refl (form_at 11 (o, codes "d" ∷ codes "minus" ∷ []) refl refl) refl v g) (λ g.
+      source_judged (Judged {X = NewIndices} ms) (get_member (codes "xor") ms) (combine_by SymmetricDifference) _
+      (λ v g. at_source (codes "xor") source_reader (Combine SymmetricDifference) refl (form_at 12 (o, codes "d" ∷ codes "xor" ∷ []) refl refl) refl v g)
+      (λ h.
       first (object ms) BadRequest refl (not_whole refl (no_source ms s (a, (b, (c, (d, (e, (f, (g, (h, tt))))))))))))))))))
 
 -- what a request is made of is judged as it is
@@ -455,7 +409,8 @@ reshape_judged ms s =
     let o = codes "reshape" in
     one_judged (Judged ms) (has_fields 3 (object ms)) (name_field (codes "d") (object ms)) (λ d. source_of (object ms) >>= (λ y. Ok (Change (Reshape d y))))
     (λ why. count_bad ms o 2 s refl why) (λ why. field_bad ms o (codes "d") s name_reader refl refl why)
-    (λ d n p. made_judged (object ms) (source_of (object ms)) (λ y. Change (Reshape d y)) (sources_judged ms s (count_found ms 3 tt n) (fine ms o (codes "d") name_reader refl d p)))
+    (λ d n p. made_judged (object ms) (source_of (object ms)) (λ y. Change (Reshape d y))
+    (sources_judged ms s (count_found ms 3 tt n) (fine ms o (codes "d") name_reader refl d p)))
 
 -- ---- the ops without a field, or with one that may be missing
 
@@ -501,7 +456,8 @@ undo_judged ms s =
           one_judged (Judged ms) (has_fields 2 (object ms)) (u64_field (codes "k") (object ms)) (λ k. Ok (Undo (Some k)))
           (λ why f. let x = uncounted ms 2 why f in first (object ms) why x.0 (not_whole refl (undo_whole ms s one x.1)))
           (λ why f. field_bad_by ms o (codes "k") s number_reader refl (undo_lacks ms s one) why f)
-          (λ k n p. all_fine ms o (codes "k" ∷ []) s (form_at 25 (o, codes "k" ∷ []) refl refl) refl (count_found ms 2 tt n) (fine ms o (codes "k") number_reader refl k p, tt))
+          (λ k n p. all_fine ms o (codes "k" ∷ []) s (form_at 25 (o, codes "k" ∷ []) refl refl) refl (count_found ms 2 tt n)
+          (fine ms o (codes "k") number_reader refl k p, tt))
     ] refl
 
 -- ---- by the op
@@ -514,22 +470,103 @@ abbrev AllJudged : List Reader → Type 0
 AllJudged [] = Unit {0}
 AllJudged (x ∷ xs) = IsJudged x.0 x.1 × AllJudged xs
 
-first_judged : (xs : List Reader) → AllJudged xs → (ms : Members) (op : List ℕ) → NamesOp ms op → (IsWhole (object ms) → has op (names xs) ≡ true) → Judged ms (by_first xs op (object ms))
+first_judged : (xs : List Reader) → AllJudged xs → (ms : Members) (op : List ℕ) → NamesOp ms op → (IsWhole (object ms) → has op (names xs) ≡ true) →
+    Judged ms (by_first xs op (object ms))
 first_judged [] h ms op s k = first (object ms) BadRequest refl (not_whole refl (λ w. true_false (sym (k w))))
-first_judged (x ∷ xs) h ms op s k = elim (bytes_eq op x.0) as (λ b. bytes_eq op x.0 ≡ b → Judged ms (if b then x.1 (object ms) else by_first xs op (object ms))) [
-  | true ↦ λ is. h.0 ms (subst (NamesOp ms) (equal_key op x.0 is) s)
-  | false ↦ λ is. first_judged xs h.1 ms op s (λ w. sym (ap (λ (b : Bool). if b then true else has op (names xs)) is) ∙ k w)
-] refl
+first_judged (x ∷ xs) h ms op s k = elim (bytes_eq op x.0) as
+    (λ b. bytes_eq op x.0 ≡ b → Judged ms (if b then x.1 (object ms) else by_first xs op (object ms))) [
+      | true ↦ λ is. h.0 ms (subst (NamesOp ms) (equal_key op x.0 is) s)
+      | false ↦ λ is. first_judged xs h.1 ms op s (λ w. sym (ap (λ (b : Bool). if b then true else has op (names xs)) is) ∙ k w)
+    ] refl
 
 every_judged : AllJudged readers
-every_judged = (domain_judged_of, (remap_judged, (sparse_judged, (assoc_judged, (drop_domain_judged, (reshape_judged, (add_judged, (remove_judged, (load_judged, (array_judged, (drop_array_judged, (set_judged, (fill_judged, (fill_all_judged, (irv_judged, (copy_judged, (all_judged, (undo_judged, (redo_judged, (cascade_judged, (dependents_judged, (get_judged, (where_judged, (size_judged, (piece_judged, (reduce_judged, (state_judged, (print_judged, (history_judged, (edits_judged, tt))))))))))))))))))))))))))))))
+every_judged = (
+  domain_judged_of,
+  (
+    remap_judged,
+    (
+      sparse_judged,
+      (
+        assoc_judged,
+        (
+          drop_domain_judged,
+          (
+            reshape_judged,
+            (
+              add_judged,
+              (
+                remove_judged,
+                (
+                  load_judged,
+                  (
+                    array_judged,
+                    (
+                      drop_array_judged,
+                      (
+                        set_judged,
+                        (
+                          fill_judged,
+                          (
+                            fill_all_judged,
+                            (
+                              irv_judged,
+                              (
+                                copy_judged,
+                                (
+                                  all_judged,
+                                  (
+                                    undo_judged,
+                                    (
+                                      redo_judged,
+                                      (
+                                        cascade_judged,
+                                        (
+                                          dependents_judged,
+                                          (
+                                            get_judged,
+                                            (
+                                              where_judged,
+                                              (
+                                                size_judged,
+                                                (
+                                                  piece_judged,
+                                                  (
+                                                    reduce_judged,
+                                                    (state_judged, (print_judged, (history_judged, (edits_judged, tt)))),
+                                                  ),
+                                                ),
+                                              ),
+                                            ),
+                                          ),
+                                        ),
+                                      ),
+                                    ),
+                                  ),
+                                ),
+                              ),
+                            ),
+                          ),
+                        ),
+                      ),
+                    ),
+                  ),
+                ),
+              ),
+            ),
+          ),
+        ),
+      ),
+    ),
+  ),
+)
 
 -- the op of each form has a reader
 is_read : (ms : Members) (op : List ℕ) → NamesOp ms op → IsWhole (object ms) → has op (names readers) ≡ true
 is_read ms op s w = elim (has op (names readers)) as (λ b. has op (names readers) ≡ b → b ≡ true) [
   | true ↦ λ e. refl
   | false ↦ λ e. absurd (not_whole_by ms op s (λ ks c h.
-      true_false (sym (All-contains (λ x. has x.0 (names readers) ≡ true) forms (op, ks) (AllPass-from_list_all (λ x. has x.0 (names readers)) forms refl) c) ∙ e)) w)
+      true_false (sym (All-contains (λ x. has x.0 (names readers) ≡ true) forms (op, ks) (AllPass-from_list_all (λ x. has x.0 (names readers)) forms refl) c) ∙
+      e)) w)
 ] refl
 
 no_op : (ms : Members) (why : Refusal) (v : Option Data) → get_member (codes "op") ms ≡ v → text_in v ≡ Err why → Refused (object ms) why

@@ -1,5 +1,6 @@
 -- Members that spell literals: what is read of them is what they spell, and the other way round.
-use Rattle.std.proofs.Common.{◌≡◌, ℕ, ◌+◌, ℤ, Bool, true, false, ◌&&◌, List, [], ◌∷◌, length, Option, Some, None, option_map, option_and_then, Result, Ok, Err, refl, sym, ap, ◌∙◌, subst, nat_eq, nat_le, if◌then◌else◌, eq-eqb, eqb-true, arith}
+use Rattle.std.proofs.Common.{◌≡◌, ℕ, ◌+◌, ℤ, Bool, true, false, ◌&&◌, List, [], ◌∷◌, length, Option, Some, None, option_map, option_and_then, Result, Ok, Err}
+use Rattle.std.proofs.Common.{refl, sym, ap, ◌∙◌, subst, nat_eq, nat_le, if◌then◌else◌, eq-eqb, eqb-true, arith}
 use Rattle.std.specs.Option.{ok_or}
 use Rattle.std.specs.List.{list_all}
 use Rattle.serde_json.specs.Data.{Data, string, object, Members}
@@ -66,7 +67,8 @@ given_by_literal : (text : List ℕ) (l : Domain) (g : Operand) → grammar.IsDo
 given_by_literal text (rectangle r) g h e =
     let x = step (domain_within r) (λ ranges. Ok (Rectangle ranges)) g e in
     subst (IsOperand (string text)) (ok_same (Rectangle x.0) g x.2) (text, r, refl, h, rectangle_found r x.0 x.1)
-given_by_literal text (set listed) g h e = subst (IsOperand (string text)) (ok_same (Items (ascending (limits.listed_in listed))) g e) (text, listed, refl, h, refl)
+given_by_literal text (set listed) g h e = subst (IsOperand (string text)) (ok_same (Items (ascending (limits.listed_in listed))) g e)
+    (text, listed, refl, h, refl)
 
 given_by_name : (text : List ℕ) (g : Operand) → given_name text ≡ Ok g → IsOperand (string text) g
 given_by_name text g e =
@@ -114,7 +116,13 @@ given_read d (Named n) h = rw (h.0, name_unbraced n h.1, h.1) refl
 -- ---- mappings
 
 pub mapping_found : (text : List ℕ) (l : MappingLiteral) (m : LayoutMap) → literal_mapping text ≡ Ok l → mapping_within l ≡ Ok m → IsMapping (string text) m
-mapping_found text l m e f = (text, l, refl, (mapping_exact text l).0 (some_of_ok (mapping_of text) BadLiteral l e), within_found (mapping_limits.mapping_within l) m f)
+mapping_found text l m e f = (
+  text,
+  l,
+  refl,
+  (mapping_exact text l).0 (some_of_ok (mapping_of text) BadLiteral l e),
+  within_found (mapping_limits.mapping_within l) m f,
+)
 
 pub literal_read : (text : List ℕ) (l : MappingLiteral) → grammar.IsMapping text l → literal_mapping text ≡ Ok l
 literal_read text l h = rw ((mapping_exact text l).1 h) refl
@@ -133,7 +141,8 @@ book_found text t e = let k = book_chosen (is_book_text text) text t e in (ap st
 
 -- ---- a member that may be missing
 
-pub optional_found : (o : Option Data) (t : Option (List ℕ)) (l : MappingLiteral) (m : LayoutMap) → text_if_there o ≡ Ok t → mapping_if_there t ≡ Ok l → mapping_within l ≡ Ok m → Says o (optional_mapping m)
+pub optional_found : (o : Option Data) (t : Option (List ℕ)) (l : MappingLiteral) (m : LayoutMap) → text_if_there o ≡ Ok t → mapping_if_there t ≡ Ok l →
+    mapping_within l ≡ Ok m → Says o (optional_mapping m)
 optional_found None t l m e f g =
     let none : None ≡ t = ok_same None t e in
     let whole_is : Whole ≡ l = ok_same Whole l (ap mapping_if_there none ∙ f) in
@@ -142,7 +151,8 @@ optional_found (Some d) t l m e f g =
     let x = mapped Some (as_str d) t (some_of_ok (option_map Some (as_str d)) BadRequest t e) in
     subst (λ d. IsMapping d m) (sym (str_found d x.0 x.1)) (mapping_found x.0 l m (ap mapping_if_there x.2 ∙ f) g)
 
-pub optional_count : (o : Option Data) (t : Option (List ℕ)) (ms : Members) (u : Unit {0}) → text_if_there o ≡ Ok t → has_fields_and 3 t (object ms) ≡ Ok u → 3 + there o ≡ member_count ms
+pub optional_count : (o : Option Data) (t : Option (List ℕ)) (ms : Members) (u : Unit {0}) → text_if_there o ≡ Ok t → has_fields_and 3 t (object ms) ≡ Ok u →
+    3 + there o ≡ member_count ms
 optional_count None t ms u e f = let n = count_found ms 3 u (ap (λ t. has_fields_and 3 t (object ms)) (ok_same None t e) ∙ f) in omega (arith, n)
 optional_count (Some d) t ms u e f =
     let x = mapped Some (as_str d) t (some_of_ok (option_map Some (as_str d)) BadRequest t e) in
@@ -159,7 +169,15 @@ pub record IsOptional (o : Option Data) (ms : Members) (m : LayoutMap) : Type 0 
   pub within : mapping_within literal ≡ Ok m
 
 pub optional_read : (o : Option Data) (ms : Members) (m : LayoutMap) → Says o (optional_mapping m) → IsOptional o ms m
-optional_read None ms m s = record { text = None; literal = Whole; found = refl; counted = λ n. count_read ms 3 (omega (arith, n)); spelled = refl; within = ap Ok (sym s) }
+optional_read None ms m s = record {
+  text = None;
+  literal = Whole;
+  found = refl;
+  counted = λ n. count_read ms 3 (omega (arith, n));
+  spelled = refl;
+  within =
+      ap Ok (sym s);
+}
 optional_read (Some d) ms m s = record {
   text = Some s.0;
   literal = s.1;

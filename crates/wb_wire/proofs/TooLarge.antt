@@ -20,12 +20,14 @@ if_large : {X : Type 0} (b : Bool) (x : X) (w : LimitErr) → (if b then Ok x el
 if_large true x w e = ok_err x w e
 if_large false x w e = sym (same_err TooLarge w e)
 
-then_large : {X Y : Type 0} (r : Result X LimitErr) (next : X → Result Y LimitErr) (w : LimitErr) → (r >>= next) ≡ Err w → (r ≡ Err w → w ≡ TooLarge) → ((x : X) → next x ≡ Err w → w ≡ TooLarge) → w ≡ TooLarge
+then_large : {X Y : Type 0} (r : Result X LimitErr) (next : X → Result Y LimitErr) (w : LimitErr) → (r >>= next) ≡ Err w → (r ≡ Err w → w ≡ TooLarge) →
+    ((x : X) → next x ≡ Err w → w ≡ TooLarge) → w ≡ TooLarge
 then_large (Ok x) next w e h k = k x e
 then_large (Err v) next w e h k = h (ap Err (same_err v w e))
 
 range_large : (r : RangeLiteral) (w : LimitErr) → range_of r ≡ Err w → w ≡ TooLarge
-range_large r w e = if_large (is_range (bounds_to r.low r.upper) (stride_in r.stride) (align_in r.stride)) (sequence (bounds_to r.low r.upper).0 (bounds_to r.low r.upper).1 (stride_in r.stride) (align_in r.stride)) w e
+range_large r w e = if_large (is_range (bounds_to r.low r.upper) (stride_in r.stride) (align_in r.stride))
+    (sequence (bounds_to r.low r.upper).0 (bounds_to r.low r.upper).1 (stride_in r.stride) (align_in r.stride)) w e
 
 rectangle_large : (rs : List Range) (w : LimitErr) → rectangle_within rs ≡ Err w → w ≡ TooLarge
 rectangle_large rs w e = if_large (nat_le (length (product rs)) 65536) rs w e

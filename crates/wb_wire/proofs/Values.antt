@@ -1,5 +1,6 @@
 -- Each kind of field: what is read of it is what its value spells, and the other way round.
-use Rattle.std.proofs.Common.{◌≡◌, ℕ, ℤ, Bool, true, false, List, [], ◌∷◌, codes, Option, Some, None, option_map, option_and_then, Result, Ok, Err, refl, sym, ap, ◌∙◌, if◌then◌else◌}
+use Rattle.std.proofs.Common.{◌≡◌, ℕ, ℤ, Bool, true, false, List, [], ◌∷◌, codes, Option, Some, None, option_map, option_and_then, Result, Ok, Err, refl, sym}
+use Rattle.std.proofs.Common.{ap, ◌∙◌, if◌then◌else◌}
 use Rattle.std.specs.Prelude.{bytes_eq}
 use Rattle.std.specs.Option.{ok_or}
 use Rattle.std.proofs.lemmas.Slice.Eq.{bytes_eq-Decides}
@@ -99,10 +100,12 @@ word_read None w s = absurd s
 word_read (Some d) w s = rw s refl
 
 type_word_of : (text : List ℕ) (t : KeyType) → key_type_of text ≡ Ok t → text ≡ type_word t
-type_word_of text t e = elim (bytes_eq text (codes "int")) as (λ b. bytes_eq text (codes "int") ≡ b → (if b then Ok types.Int else if bytes_eq text (codes "text") then Ok types.Text else Err BadRequest) ≡ Ok t → text ≡ type_word t) [
-  | true ↦ λ h f. (bytes_eq-Decides text (codes "int")).0 h ∙ ap type_word (ok_same types.Int t f)
-  | false ↦ λ h f. let k = chosen (bytes_eq text (codes "text")) types.Text t f in (bytes_eq-Decides text (codes "text")).0 k.0 ∙ ap type_word k.1
-] refl e
+type_word_of text t e = elim (bytes_eq text (codes "int")) as
+    (λ b. bytes_eq text (codes "int") ≡ b → (if b then Ok types.Int else if bytes_eq text (codes "text") then Ok types.Text else Err BadRequest) ≡ Ok t →
+    text ≡ type_word t) [
+      | true ↦ λ h f. (bytes_eq-Decides text (codes "int")).0 h ∙ ap type_word (ok_same types.Int t f)
+      | false ↦ λ h f. let k = chosen (bytes_eq text (codes "text")) types.Text t f in (bytes_eq-Decides text (codes "text")).0 k.0 ∙ ap type_word k.1
+    ] refl e
 
 pub type_found : (o : Option Data) (t : KeyType) → (text_in o >>= key_type_of) ≡ Ok t → Says o (word (type_word t))
 type_found o t e =
@@ -117,7 +120,8 @@ pub type_read : (o : Option Data) (t : KeyType) → Says o (word (type_word t)) 
 type_read o t s = ap (λ r. r >>= key_type_of) (word_read o (type_word t) s) ∙ type_of_word t
 
 -- what is tested for a word and is that, or goes on
-tested : {X : Type 0} (text w : List ℕ) (x y : X) (more : Result X Refusal) (P : Type 0) → (if bytes_eq text w then Ok x else more) ≡ Ok y → (text ≡ w → x ≡ y → P) → (more ≡ Ok y → P) → P
+tested : {X : Type 0} (text w : List ℕ) (x y : X) (more : Result X Refusal) (P : Type 0) → (if bytes_eq text w then Ok x else more) ≡ Ok y →
+    (text ≡ w → x ≡ y → P) → (more ≡ Ok y → P) → P
 tested text w x y more P e here on = elim (bytes_eq text w) as (λ b. bytes_eq text w ≡ b → (if b then Ok x else more) ≡ Ok y → P) [
   | true ↦ λ h f. here ((bytes_eq-Decides text w).0 h) (ok_same x y f)
   | false ↦ λ h f. on f
@@ -201,7 +205,8 @@ number_in o = ok_or (option_and_then as_u64 (option_and_then as_number o)) BadRe
 
 pub natural_found : (o : Option Data) (k : ℕ) → number_in o ≡ Ok k → Says o (number k)
 natural_found None k e = no_ok BadRequest k e
-natural_found (Some d) k e = let n = some_step (as_number d) as_u64 k (some_of_ok (option_and_then as_u64 (as_number d)) BadRequest k e) in (n.0, number_found d n.0 n.1, n.2)
+natural_found (Some d) k e = let n = some_step (as_number d) as_u64 k (some_of_ok (option_and_then as_u64 (as_number d)) BadRequest k e) in
+    (n.0, number_found d n.0 n.1, n.2)
 
 pub natural_read : (o : Option Data) (k : ℕ) → Says o (number k) → number_in o ≡ Ok k
 natural_read None k s = absurd s

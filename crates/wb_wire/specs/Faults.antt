@@ -106,7 +106,8 @@ NamesOp ms op = get_member (codes "op") ms ≡ Some (string op)
 
 -- an object that names an op and has just the members of one of its forms, whatever their values are
 abbrev pub IsWhole : Data → Type 0
-IsWhole d = (ms : Members) × (op : List ℕ) × (keys : List (List ℕ)) × (d ≡ object ms) × NamesOp ms op × Contains forms (op, keys) × HasKeys ms (codes "op" ∷ keys)
+IsWhole d = (ms : Members) × (op : List ℕ) × (keys : List (List ℕ)) × (d ≡ object ms) × NamesOp ms op × Contains forms (op, keys) ×
+    HasKeys ms (codes "op" ∷ keys)
 
 -- ---- what each member spells
 
@@ -201,15 +202,19 @@ IsMisspelled (plain p) d = ⊥
 
 -- E09: the literal of a rectangle, or of a mapping, that is beyond a limit
 abbrev pub IsTooLarge : Kind → Data → Type 0
-IsTooLarge domain d = (text : List ℕ) × (literal : RectangleLiteral) × (d ≡ string text) × grammar.IsRectangle text literal × (domain_within literal ≡ Err limits.TooLarge)
-IsTooLarge source d = (text : List ℕ) × (literal : RectangleLiteral) × (d ≡ string text) × grammar.IsRectangle text literal × (domain_within literal ≡ Err limits.TooLarge)
-IsTooLarge mapping d = (text : List ℕ) × (literal : MappingLiteral) × (d ≡ string text) × grammar.IsMapping text literal × (mapping_within literal ≡ Err limits.TooLarge)
+IsTooLarge domain d = (text : List ℕ) × (literal : RectangleLiteral) × (d ≡ string text) × grammar.IsRectangle text literal ×
+    (domain_within literal ≡ Err limits.TooLarge)
+IsTooLarge source d = (text : List ℕ) × (literal : RectangleLiteral) × (d ≡ string text) × grammar.IsRectangle text literal ×
+    (domain_within literal ≡ Err limits.TooLarge)
+IsTooLarge mapping d = (text : List ℕ) × (literal : MappingLiteral) × (d ≡ string text) × grammar.IsMapping text literal ×
+    (mapping_within literal ≡ Err limits.TooLarge)
 IsTooLarge (plain p) d = ⊥
 IsTooLarge workbook d = ⊥
 
 -- E15: the literal of a mapping whose parts don't fit one another
 abbrev pub DoesNotFit : Kind → Data → Type 0
-DoesNotFit mapping d = (text : List ℕ) × (literal : MappingLiteral) × (d ≡ string text) × grammar.IsMapping text literal × (mapping_within literal ≡ Err limits.BadMapping)
+DoesNotFit mapping d = (text : List ℕ) × (literal : MappingLiteral) × (d ≡ string text) × grammar.IsMapping text literal ×
+    (mapping_within literal ≡ Err limits.BadMapping)
 DoesNotFit (plain p) d = ⊥
 DoesNotFit domain d = ⊥
 DoesNotFit source d = ⊥

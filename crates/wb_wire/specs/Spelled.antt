@@ -19,7 +19,8 @@ use Rattle.wb_resize.specs.declared.operand.Operand.{Operand}
 use Rattle.wb_resize.specs.declared.operand.Operand.TheVariants.{Rectangle, Items, Named}
 use Rattle.wb_reading.specs.Texts.Books.{is_book_text}
 use Rattle.wb_proto.specs.declared.requests.request.Request.{Request}
-use Rattle.wb_wire.specs.Table.{Meaning, word, name, integer, number, index, given, mapping, optional_mapping, book, some_set, some_mapping, some_integer, Fields, table}
+use Rattle.wb_wire.specs.Table.{Meaning, word, name, integer, number, index, given, mapping, optional_mapping, book, some_set, some_mapping, some_integer}
+use Rattle.wb_wire.specs.Table.{Fields, table}
 
 -- ---- what one value spells
 
@@ -43,7 +44,8 @@ IsIndex d (Text t) = (d ≡ string t) × (is_label t ≡ true)
 -- What is given for a domain: the literal of a rectangle within the limits, the literal of a set, which stands for its
 -- indices, ascending and each once, or a name. (A literal begins with a brace, and no name does.)
 abbrev pub IsOperand : Data → Operand → Type 0
-IsOperand d (Rectangle ranges) = (text : List ℕ) × (literal : RectangleLiteral) × (d ≡ string text) × grammar.IsRectangle text literal × (domain_within literal ≡ Ok ranges)
+IsOperand d (Rectangle ranges) = (text : List ℕ) × (literal : RectangleLiteral) × (d ≡ string text) × grammar.IsRectangle text literal ×
+    (domain_within literal ≡ Ok ranges)
 IsOperand d (Items is) = (text : List ℕ) × (listed : Listed) × (d ≡ string text) × grammar.IsSet text listed × (ascending (listed_in listed) ≡ is)
 IsOperand d (Named n) = (d ≡ string n) × (is_name n ≡ true)
 

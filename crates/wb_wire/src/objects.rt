@@ -11,7 +11,8 @@ use wb_encode::index_value;
 
 /// `a`, `i`.
 pub(crate) fn element(alloc: Global, a: &Name, i: &AnyIndex) -> Result<Value, AllocError>
-    ensures { IfOk result (λ v. view v ≡ object (member (codes "a") (string a.now) (member (codes "i") (index_data i.now) (member (codes "op") (string (codes "get")) no_members)))) }
+    ensures { IfOk result (λ v. view v ≡ object (member (codes "a") (string a.now)
+        (member (codes "i") (index_data i.now) (member (codes "op") (string (codes "get")) no_members)))) }
 {
     let i = index_value(alloc, i)?;
     json!(in alloc; {"a": a.as_str(), "i": &i, "op": "get"})
@@ -26,14 +27,16 @@ pub(crate) fn by_number(alloc: Global, op: &str, k: u64) -> Result<Value, AllocE
 
 /// `a`, `l`.
 pub(crate) fn piece(alloc: Global, a: &Name, l: u64) -> Result<Value, AllocError>
-    ensures { IfOk result (λ v. view v ≡ object (member (codes "a") (string a.now) (member (codes "l") (number (unsigned l)) (member (codes "op") (string (codes "piece")) no_members)))) }
+    ensures { IfOk result (λ v. view v ≡ object (member (codes "a") (string a.now)
+        (member (codes "l") (number (unsigned l)) (member (codes "op") (string (codes "piece")) no_members)))) }
 {
     json!(in alloc; {"a": a.as_str(), "l": l, "op": "piece"})
 }
 
 /// `a`, `how`.
 pub(crate) fn reduction(alloc: Global, a: &Name, how: &str) -> Result<Value, AllocError>
-    ensures { IfOk result (λ v. view v ≡ object (member (codes "a") (string a.now) (member (codes "how") (string how.now) (member (codes "op") (string (codes "reduce")) no_members)))) }
+    ensures { IfOk result (λ v. view v ≡ object (member (codes "a") (string a.now)
+        (member (codes "how") (string how.now) (member (codes "op") (string (codes "reduce")) no_members)))) }
 {
     json!(in alloc; {"a": a.as_str(), "how": how, "op": "reduce"})
 }

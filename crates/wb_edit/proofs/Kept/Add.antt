@@ -25,5 +25,6 @@ add_kept s d i valid h =
     let over : domain_at s d ≡ Some kind = ap domain_in (is ∙ domain_is v kind found) in
     elim there as (λ o. Keeps (add_unless o d kind i) s) [
       | Some w ↦ h
-      | None ↦ resized_kept s d kind (i ∷ []) [] (i ∷ []) h over (members_of kind x set) (λ j comes. (comes, holds_at (IsKeyOf kind) (i ∷ []) j (key_of kind i (fits_is (kind_of kind) i y ok) valid, tt) comes))
+      | None ↦ resized_kept s d kind (i ∷ []) [] (i ∷ []) h over (members_of kind x set)
+          (λ j comes. (comes, holds_at (IsKeyOf kind) (i ∷ []) j (key_of kind i (fits_is (kind_of kind) i y ok) valid, tt) comes))
     ])))))

@@ -24,7 +24,8 @@ first_and : (a b : Bool) → (a && b) ≡ true → (a ≡ true) × (b ≡ true)
 first_and true b e = (refl, e)
 first_and false b e = cc
 
-results_are_numbers : (s : Cells) (a : Name) (how : Operation) (xs ys : List (Index × ℤ)) → AllByRecursion (λ e. is_some (get s (Element a e.0)) ≡ true) xs → list_all (λ z. is_i64 z.1) (results how xs ys) ≡ true → AreNumbers s a (results how xs ys)
+results_are_numbers : (s : Cells) (a : Name) (how : Operation) (xs ys : List (Index × ℤ)) → AllByRecursion (λ e. is_some (get s (Element a e.0)) ≡ true) xs →
+    list_all (λ z. is_i64 z.1) (results how xs ys) ≡ true → AreNumbers s a (results how xs ys)
 results_are_numbers s a how [] ys there within = tt
 results_are_numbers s a how (x ∷ xs) ys there within =
     let z : ℤ = result_of how x.1 (value_at ys x.0) in

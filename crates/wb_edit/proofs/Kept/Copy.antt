@@ -19,15 +19,19 @@ use Rattle.wb_edit.proofs.Kept.Set.{element_set}
 use Rattle.wb_edit.proofs.Kept.Steps.{Keeps, keeps_read, keeps_judged, there_is}
 
 -- an element or an implicit value that was read, and then more
-keeps_number : (s : Cells) (b d : Name) (kind : Kind) (j : Index) (next : ℤ → Tree) → IsWellFormed s → ((x : ℤ) → Keeps (next x) s) → Keeps (element_or_implicit b d kind j next) s
+keeps_number : (s : Cells) (b d : Name) (kind : Kind) (j : Index) (next : ℤ → Tree) → IsWellFormed s → ((x : ℤ) → Keeps (next x) s) →
+    Keeps (element_or_implicit b d kind j next) s
 keeps_number s b d kind j next h kept = keeps_read s (Element b j) (λ v. or_implicit b d kind j v next) (λ v _. by_case v)
   where
     by_case : (v : Option Value) → Keeps (or_implicit b d kind j v next) s
     by_case (Some v) = keeps_judged s (element_or_refusal (Some v)) next h (λ x _. kept x)
     by_case None =
-        keeps_judged s (has_implicit kind) (λ z. read (Object d) (λ o. judged (parent_in o) (λ p. read (In p j) (λ v. judged (is_there v) (λ y. read (Implicit b) (λ x. judged (element_or_refusal x) next)))))) h (λ z _.
-        keeps_read s (Object d) (λ o. judged (parent_in o) (λ p. read (In p j) (λ v. judged (is_there v) (λ y. read (Implicit b) (λ x. judged (element_or_refusal x) next))))) (λ o _.
-        keeps_judged s (parent_in o) (λ p. read (In p j) (λ v. judged (is_there v) (λ y. read (Implicit b) (λ x. judged (element_or_refusal x) next)))) h (λ p _.
+        keeps_judged s (has_implicit kind) (λ z. read (Object d) (λ o. judged (parent_in o)
+        (λ p. read (In p j) (λ v. judged (is_there v) (λ y. read (Implicit b) (λ x. judged (element_or_refusal x) next)))))) h (λ z _.
+        keeps_read s (Object d) (λ o. judged (parent_in o) (λ p. read (In p j)
+        (λ v. judged (is_there v) (λ y. read (Implicit b) (λ x. judged (element_or_refusal x) next))))) (λ o _.
+        keeps_judged s (parent_in o) (λ p. read (In p j) (λ v. judged (is_there v) (λ y. read (Implicit b) (λ x. judged (element_or_refusal x) next)))) h
+        (λ p _.
         keeps_read s (In p j) (λ v. judged (is_there v) (λ y. read (Implicit b) (λ x. judged (element_or_refusal x) next))) (λ v _.
         keeps_judged s (is_there v) (λ y. read (Implicit b) (λ x. judged (element_or_refusal x) next)) h (λ y _.
         keeps_read s (Implicit b) (λ x. judged (element_or_refusal x) next) (λ x _.

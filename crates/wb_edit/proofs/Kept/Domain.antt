@@ -15,7 +15,8 @@ use Rattle.wb_book.specs.Names.{is_name}
 use Rattle.wb_book.specs.Layouts.{IsMapping, IsLayout}
 use Rattle.wb_book.specs.Shapes.{Range, indices}
 use Rattle.wb_book.specs.Cells.{Name, Cells, cell_cmp, cell_order, is_same_name}
-use Rattle.wb_book.specs.WellFormed.{IsWellFormed, IsRectangle, IsShape, IsMember, HasMapping, has, present_if, domain_in, array_in, ranges_in, inside_of, use_of, domain_at, array_at, index_cell}
+use Rattle.wb_book.specs.WellFormed.{IsWellFormed, IsRectangle, IsShape, IsMember, HasMapping, has, present_if, domain_in, array_in, ranges_in, inside_of}
+use Rattle.wb_book.specs.WellFormed.{use_of, domain_at, array_at, index_cell}
 use Rattle.wb_book.specs.Kinds.{kind_of}
 use Rattle.wb_edit.specs.Commands.{domain, new_domain_changes}
 use Rattle.wb_edit.specs.Looks.{is_free}
@@ -23,7 +24,8 @@ use Rattle.wb_edit.specs.Layouts.{for_rank, mapped}
 use Rattle.wb_edit.specs.Trees.{judged}
 use Rattle.wb_edit.proofs.Layouts.{mapping_for}
 use Rattle.wb_resize.proofs.Gets.{after, after-column, after-beside, get-apply}
-use Rattle.wb_resize.proofs.States.{in_column, domain_of_array, of_kind, no_inside, no_member, IsMember-same, index_cell_same, indices_same, was_free, apart, stays, names_kept, objects_kept}
+use Rattle.wb_resize.proofs.States.{in_column, domain_of_array, of_kind, no_inside, no_member, IsMember-same, index_cell_same, indices_same, was_free, apart}
+use Rattle.wb_resize.proofs.States.{stays, names_kept, objects_kept}
 use Rattle.wb_edit.proofs.Kept.Steps.{Keeps, keeps_read, keeps_judged, free_is}
 
 -- The workbook t is s with a domain of these ranges and this mapping.
@@ -39,11 +41,13 @@ record HasNewDomain (s t : Cells) (d : Name) (rs : List Range) (m : LayoutMap) :
 
 has_new_domain : (s : Cells) (d : Name) (rs : List Range) (m : LayoutMap) → HasNewDomain s (apply (new_domain_changes d rs m) s) d rs m
 has_new_domain s d rs m =
-    let at : (c : Cell) → get (apply (new_domain_changes d rs m) s) c ≡ after cell_cmp (new_domain_changes d rs m) c (get s c) = get-apply cell_order (new_domain_changes d rs m) s in
+    let at : (c : Cell) → get (apply (new_domain_changes d rs m) s) c ≡ after cell_cmp (new_domain_changes d rs m) c (get s c) =
+    get-apply cell_order (new_domain_changes d rs m) s in
     record {
       object = λ n. at (Object n) ∙ after-beside cell_cmp (In d) (indices rs) Present (Object n) _ (λ i. refl);
       shape = λ n. at (Shape n) ∙ after-beside cell_cmp (In d) (indices rs) Present (Shape n) _ (λ i. refl);
-      inside = λ n i. at (In n i) ∙ after-column cell_cmp (In d) (indices rs) Present (In n i) (get s (In n i)) ∙ ap (λ b. cond b (Some Present) (get s (In n i))) (in_column _ i (indices rs));
+      inside = λ n i. at (In n i) ∙ after-column cell_cmp (In d) (indices rs) Present (In n i) (get s (In n i)) ∙
+          ap (λ b. cond b (Some Present) (get s (In n i))) (in_column _ i (indices rs));
       member = λ n i. at (Member n i) ∙ after-beside cell_cmp (In d) (indices rs) Present (Member n i) _ (λ j. refl);
       mapping = λ n. at (Mapping n) ∙ after-beside cell_cmp (In d) (indices rs) Present (Mapping n) _ (λ i. refl);
       used = λ e n. at (Use e n) ∙ after-beside cell_cmp (In d) (indices rs) Present (Use e n) _ (λ i. refl);
@@ -60,35 +64,44 @@ either : (b : Bool) → cond b (Some Present) (Some Present) ≡ Some Present
 either true = refl
 either false = refl
 
-domain_added : (s t : Cells) (d : Name) (rs : List Range) (m : LayoutMap) → is_name d ≡ true → IsRectangle (length rs) rs → IsMapping (length rs) m → IsWellFormed s → get s (Object d) ≡ None → HasNewDomain s t d rs m → IsWellFormed t
+domain_added : (s t : Cells) (d : Name) (rs : List Range) (m : LayoutMap) → is_name d ≡ true → IsRectangle (length rs) rs → IsMapping (length rs) m →
+    IsWellFormed s → get s (Object d) ≡ None → HasNewDomain s t d rs m → IsWellFormed t
 domain_added s t d rs m named rectangle fits h free k =
     let x : Value = Domain (Rectangular (length rs)) in
     let same_array : (a : Name) → array_at t a ≡ array_at s a = stays s t d x free k.object array_in refl in
     let still : (e : Name) (i : Index) → get s (In e i) ≡ Some Present → get t (In e i) ≡ Some Present =
-    λ e i there. k.inside e i ∙ ap (λ o. cond (is_same_name e d && has (indices rs) i) (Some Present) o) there ∙ either (is_same_name e d && has (indices rs) i) in
-    let elsewhere : (e : Name) (kind : Kind) (i : Index) → option_map kind_of (domain_at s e) ≡ Some kind → get t (index_cell kind e i) ≡ get s (index_cell kind e i) =
+    λ e i there. k.inside e i ∙ ap (λ o. cond (is_same_name e d && has (indices rs) i) (Some Present) o) there ∙
+    either (is_same_name e d && has (indices rs) i) in
+    let elsewhere : (e : Name) (kind : Kind) (i : Index) → option_map kind_of (domain_at s e) ≡ Some kind →
+    get t (index_cell kind e i) ≡ get s (index_cell kind e i) =
     λ e kind i over.
     let of = of_kind (domain_at s e) kind over in
-    index_cell_same s t kind e i (k.inside e i ∙ ap (λ b. cond (b && has (indices rs) i) (Some Present) (get s (In e i))) (apart s t d x free k.object e of.0 of.1)) (k.member e i) in
+    index_cell_same s t kind e i (k.inside e i ∙ ap (λ b. cond (b && has (indices rs) i) (Some Present) (get s (In e i)))
+    (apart s t d x free k.object e of.0 of.1)) (k.member e i) in
     record {
       names = names_kept s t d x free k.object h named;
       objects = objects_kept s t d x free k.object h tt;
-      shapes = λ n. rw (k.object n, k.shape n) (elim (is_same_name n d) as (λ b. IsShape (domain_in (cond b (Some x) (get s (Object n)))) (cond b (Some (Ranges rs)) (get s (Shape n)))) [
-        | true ↦ (rs, refl, rectangle)
-        | false ↦ h.shapes n
-      ]);
-      insides = λ n i. rw (k.inside n i, k.shape n) (elim (is_same_name n d) as (λ b. is_same_name n d ≡ b → cond (b && has (indices rs) i) (Some Present) (get s (In n i)) ≡ inside_of (ranges_in (cond b (Some (Ranges rs)) (get s (Shape n)))) i) [
-        | true ↦ λ e. present (has (indices rs) i) (get s (In n i)) (no_inside s h n (was_free s t d x free k.object n e) i)
-        | false ↦ λ e. h.insides n i
-      ] refl);
-      members = λ n i. rw (k.object n, k.member n i) (elim (is_same_name n d) as (λ b. is_same_name n d ≡ b → IsMember t (domain_in (cond b (Some x) (get s (Object n)))) i (get s (Member n i))) [
-        | true ↦ λ e. rw (no_member s h n (was_free s t d x free k.object n e) i) tt
-        | false ↦ λ e. IsMember-same s t still (domain_at s n) i (get s (Member n i)) (h.members n i)
-      ] refl);
-      mappings = λ n. rw (k.object n, k.mapping n) (elim (is_same_name n d) as (λ b. HasMapping (domain_in (cond b (Some x) (get s (Object n)))) (cond b (Some (Mapping m)) (get s (Mapping n)))) [
-        | true ↦ (m, refl, fits)
-        | false ↦ h.mappings n
-      ]);
+      shapes = λ n. rw (k.object n, k.shape n) (elim (is_same_name n d) as
+          (λ b. IsShape (domain_in (cond b (Some x) (get s (Object n)))) (cond b (Some (Ranges rs)) (get s (Shape n)))) [
+            | true ↦ (rs, refl, rectangle)
+            | false ↦ h.shapes n
+          ]);
+      insides = λ n i. rw (k.inside n i, k.shape n) (elim (is_same_name n d) as
+          (λ b. is_same_name n d ≡ b → cond (b && has (indices rs) i) (Some Present) (get s (In n i)) ≡ inside_of
+          (ranges_in (cond b (Some (Ranges rs)) (get s (Shape n)))) i) [
+            | true ↦ λ e. present (has (indices rs) i) (get s (In n i)) (no_inside s h n (was_free s t d x free k.object n e) i)
+            | false ↦ λ e. h.insides n i
+          ] refl);
+      members = λ n i. rw (k.object n, k.member n i) (elim (is_same_name n d) as
+          (λ b. is_same_name n d ≡ b → IsMember t (domain_in (cond b (Some x) (get s (Object n)))) i (get s (Member n i))) [
+            | true ↦ λ e. rw (no_member s h n (was_free s t d x free k.object n e) i) tt
+            | false ↦ λ e. IsMember-same s t still (domain_at s n) i (get s (Member n i)) (h.members n i)
+          ] refl);
+      mappings = λ n. rw (k.object n, k.mapping n) (elim (is_same_name n d) as
+          (λ b. HasMapping (domain_in (cond b (Some x) (get s (Object n)))) (cond b (Some (Mapping m)) (get s (Mapping n)))) [
+            | true ↦ (m, refl, fits)
+            | false ↦ h.mappings n
+          ]);
       uses = λ e n. k.used e n ∙ h.uses e n ∙ sym (stays s t d x free k.object (use_of e) refl n);
       implicits = λ a. rw (same_array a, k.implicit a) (h.implicits a);
       elements = λ a i. rw (
@@ -98,7 +111,8 @@ domain_added s t d rs m named rectangle fits h free k =
       ) (h.elements a i);
     }
 
-pub domain_kept : (s : Cells) (d : Name) (rs : List Range) (m : LayoutMap) → (is_name d ≡ true) × IsRectangle (length rs) rs × IsLayout m → IsWellFormed s → Keeps (domain d rs m) s
+pub domain_kept : (s : Cells) (d : Name) (rs : List Range) (m : LayoutMap) → (is_name d ≡ true) × IsRectangle (length rs) rs × IsLayout m → IsWellFormed s →
+    Keeps (domain d rs m) s
 domain_kept s d rs m valid h =
     keeps_read s (Object d) (λ v. judged (is_free v) (λ x. mapped (length rs) m (λ y. write (new_domain_changes d rs m)))) (λ v is.
     keeps_judged s (is_free v) (λ x. mapped (length rs) m (λ y. write (new_domain_changes d rs m))) h (λ x ok.

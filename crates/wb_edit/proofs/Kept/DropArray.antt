@@ -32,7 +32,8 @@ use Rattle.wb_edit.proofs.Kept.Steps.{Keeps, keeps_read, keeps_judged, array_is}
 -- ---- cells that become absent
 
 -- a cell that is one of them is absent; another one holds what it held
-after-cleared : (make : Index → Cell) (is : List Index) (c : Cell) (o : Option Value) → after cell_cmp (clear_all (map make is)) c o ≡ cond (list_any (λ i. eq_by_cmp cell_cmp c (make i)) is) None o
+after-cleared : (make : Index → Cell) (is : List Index) (c : Cell) (o : Option Value) →
+    after cell_cmp (clear_all (map make is)) c o ≡ cond (list_any (λ i. eq_by_cmp cell_cmp c (make i)) is) None o
 after-cleared make [] c o = refl
 after-cleared make (i ∷ is) c o =
     after-cleared make is c (cond (eq_by_cmp cell_cmp c (make i)) None o)
@@ -51,8 +52,10 @@ record HasNoArray (s t : Cells) (a d : Name) (is : List Index) : Type 0 where
 
 has_no_array : (s : Cells) (a d : Name) (is : List Index) → HasNoArray s (apply (dropped_cells a d is) s) a d is
 has_no_array s a d is =
-    let at : (c : Cell) → get (apply (dropped_cells a d is) s) c ≡ after cell_cmp (dropped_cells a d is) c (get s c) = get-apply cell_order (dropped_cells a d is) s in
-    let beside : (c : Cell) (o : Option Value) → list_any (λ i. eq_by_cmp cell_cmp c (Element a i)) is ≡ false → after cell_cmp (clear_all (map (Element a) is)) c o ≡ o = λ c o none.
+    let at : (c : Cell) → get (apply (dropped_cells a d is) s) c ≡ after cell_cmp (dropped_cells a d is) c (get s c) =
+    get-apply cell_order (dropped_cells a d is) s in
+    let beside : (c : Cell) (o : Option Value) → list_any (λ i. eq_by_cmp cell_cmp c (Element a i)) is ≡ false →
+    after cell_cmp (clear_all (map (Element a) is)) c o ≡ o = λ c o none.
     after-cleared (Element a) is c o ∙ ap (λ b. cond b None o) none in
     record {
       object = λ n. at (Object n) ∙ beside (Object n) _ (list_any-nowhere is);
@@ -62,7 +65,8 @@ has_no_array s a d is =
       mapping = λ n. at (Mapping n) ∙ beside (Mapping n) _ (list_any-nowhere is);
       used = λ e n. at (Use e n) ∙ beside (Use e n) _ (list_any-nowhere is) ∙ ap (λ b. cond b None (get s (Use e n))) (second_first _ _);
       implicit = λ n. at (Implicit n) ∙ beside (Implicit n) _ (list_any-nowhere is);
-      element = λ n i. at (Element n i) ∙ after-cleared (Element a) is (Element n i) (get s (Element n i)) ∙ ap (λ b. cond b None (get s (Element n i))) (in_column _ i is);
+      element = λ n i. at (Element n i) ∙ after-cleared (Element a) is (Element n i) (get s (Element n i)) ∙
+          ap (λ b. cond b None (get s (Element n i))) (in_column _ i is);
     }
 
 -- what was bound to the domain alone is bound to none
@@ -70,14 +74,18 @@ unbound : (b : Bool) (o : Option Value) → o ≡ elim b [ true ↦ Some (Bound 
 unbound true o e = refl
 unbound false o e = e
 
-array_dropped : (s t : Cells) (a d : Name) (kind : Kind) (is : List Index) → IsWellFormed s → get s (Object a) ≡ Some (Array d kind) → ((i : Index) → cond (has is i) None (get s (Element a i)) ≡ None) → HasNoArray s t a d is → IsWellFormed t
+array_dropped : (s t : Cells) (a d : Name) (kind : Kind) (is : List Index) → IsWellFormed s → get s (Object a) ≡ Some (Array d kind) →
+    ((i : Index) → cond (has is i) None (get s (Element a i)) ≡ None) → HasNoArray s t a d is → IsWellFormed t
 array_dropped s t a d kind is h there gone k =
-    let was : (n : Name) → is_same_name n a ≡ true → get s (Object n) ≡ Some (Array d kind) = λ n same. ap (λ m. get s (Object m)) (same_name n a same) ∙ there in
-    let same_domain : (n : Name) → domain_at t n ≡ domain_at s n = λ n. ap domain_in (k.object n) ∙ elim (is_same_name n a) as (λ b. is_same_name n a ≡ b → domain_in (cond b None (get s (Object n))) ≡ domain_in (get s (Object n))) [
+    let was : (n : Name) → is_same_name n a ≡ true → get s (Object n) ≡ Some (Array d kind) = λ n same. ap (λ m. get s (Object m)) (same_name n a same) ∙ there
+    in
+    let same_domain : (n : Name) → domain_at t n ≡ domain_at s n = λ n. ap domain_in (k.object n) ∙
+    elim (is_same_name n a) as (λ b. is_same_name n a ≡ b → domain_in (cond b None (get s (Object n))) ≡ domain_in (get s (Object n))) [
       | true ↦ λ same. sym (ap domain_in (was n same))
       | false ↦ λ same. refl
     ] refl in
-    let old : (n : Name) (v : Value) → get t (Object n) ≡ Some v → get s (Object n) ≡ Some v = λ n v is. elim (is_same_name n a) as (λ b. cond b None (get s (Object n)) ≡ Some v → get s (Object n) ≡ Some v) [
+    let old : (n : Name) (v : Value) → get t (Object n) ≡ Some v → get s (Object n) ≡ Some v =
+    λ n v is. elim (is_same_name n a) as (λ b. cond b None (get s (Object n)) ≡ Some v → get s (Object n) ≡ Some v) [
       | true ↦ λ none. absurd (none-some v none)
       | false ↦ λ same. same
     ] (sym (k.object n) ∙ is) in
@@ -86,20 +94,26 @@ array_dropped s t a d kind is h there gone k =
       objects = λ n v is. IsObject-same s t (λ e other over. same_domain e ∙ over) v (h.objects n v (old n v is));
       shapes = λ n. rw (same_domain n, k.shape n) (h.shapes n);
       insides = λ n i. rw (k.inside n i, k.shape n) (h.insides n i);
-      members = λ n i. rw (same_domain n, k.member n i) (IsMember-same s t (λ e j here. k.inside e j ∙ here) (domain_at s n) i (get s (Member n i)) (h.members n i));
+      members = λ n i. rw (same_domain n, k.member n i) (IsMember-same s t (λ e j here. k.inside e j ∙ here) (domain_at s n) i (get s (Member n i))
+          (h.members n i));
       mappings = λ n. rw (same_domain n, k.mapping n) (h.mappings n);
-      uses = λ e n. rw (k.used e n, k.object n) (elim (is_same_name n a) as (λ b. is_same_name n a ≡ b → cond (b && is_same_name e d) None (get s (Use e n)) ≡ use_of e (cond b None (get s (Object n)))) [
-        | true ↦ λ same. unbound (is_same_name e d) (get s (Use e n)) (h.uses e n ∙ ap (use_of e) (was n same))
-        | false ↦ λ same. h.uses e n
-      ] refl);
-      implicits = λ n. rw (k.object n, k.implicit n) (elim (is_same_name n a) as (λ b. IsImplicit (array_in (cond b None (get s (Object n)))) (cond b None (get s (Implicit n)))) [
-        | true ↦ refl
-        | false ↦ h.implicits n
-      ]);
-      elements = λ n i. rw (k.object n, k.element n i) (elim (is_same_name n a) as (λ b. is_same_name n a ≡ b → IsElement (is_index_of_array t (array_in (cond b None (get s (Object n)))) i) (cond (b && has is i) None (get s (Element n i)))) [
-        | true ↦ λ same. ap (λ m. cond (has is i) None (get s (Element m i))) (same_name n a same) ∙ gone i
-        | false ↦ λ same. rw (indices_same s t (array_at s n) i (λ e other over. index_cell_same s t other e i (k.inside e i) (k.member e i))) (h.elements n i)
-      ] refl);
+      uses = λ e n. rw (k.used e n, k.object n) (elim (is_same_name n a) as
+          (λ b. is_same_name n a ≡ b → cond (b && is_same_name e d) None (get s (Use e n)) ≡ use_of e (cond b None (get s (Object n)))) [
+            | true ↦ λ same. unbound (is_same_name e d) (get s (Use e n)) (h.uses e n ∙ ap (use_of e) (was n same))
+            | false ↦ λ same. h.uses e n
+          ] refl);
+      implicits = λ n. rw (k.object n, k.implicit n) (elim (is_same_name n a) as
+          (λ b. IsImplicit (array_in (cond b None (get s (Object n)))) (cond b None (get s (Implicit n)))) [
+            | true ↦ refl
+            | false ↦ h.implicits n
+          ]);
+      elements = λ n i. rw (k.object n, k.element n i) (elim (is_same_name n a) as
+          (λ b. is_same_name n a ≡ b → IsElement (is_index_of_array t (array_in (cond b None (get s (Object n)))) i)
+          (cond (b && has is i) None (get s (Element n i)))) [
+            | true ↦ λ same. ap (λ m. cond (has is i) None (get s (Element m i))) (same_name n a same) ∙ gone i
+            | false ↦ λ same. rw (indices_same s t (array_at s n) i (λ e other over. index_cell_same s t other e i (k.inside e i) (k.member e i)))
+                (h.elements n i)
+          ] refl);
     }
 
 -- ---- the elements that are seen are all that are there

@@ -1,6 +1,7 @@
 -- Every command keeps a workbook well formed.
 use Rattle.wb_edit.specs.Laws.{KeepsWellFormed}
-use Rattle.wb_edit.specs.declared.edit.Edit.TheVariants.{Domain, Remap, Sparse, Assoc, Array, Set, Irv, Copy, Fill, FillAll, DropArray, All, Add, Remove, DropDomain, Reshape, DomainOfSet, FillOfSet, Load}
+use Rattle.wb_edit.specs.declared.edit.Edit.TheVariants.{Domain, Remap, Sparse, Assoc, Array, Set, Irv, Copy, Fill, FillAll, DropArray, All, Add, Remove}
+use Rattle.wb_edit.specs.declared.edit.Edit.TheVariants.{DropDomain, Reshape, DomainOfSet, FillOfSet, Load}
 use Rattle.wb_edit.proofs.Kept.Domain.{domain_kept}
 use Rattle.wb_edit.proofs.Kept.Sparse.{sparse_kept}
 use Rattle.wb_edit.proofs.Kept.Assoc.{assoc_kept}

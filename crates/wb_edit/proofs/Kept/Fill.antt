@@ -34,7 +34,8 @@ pub first_and : (a b : Bool) → (a && b) ≡ true → (a ≡ true) × (b ≡ tr
 first_and true b e = (refl, e)
 first_and false b e = cc
 
-at_all : (s : Cells) (a : Name) (v : ℤ) (is : List Index) → FitsSigned w64 v → list_all is_some (map (get s) (map (Element a) is)) ≡ true → AreNumbers s a (map (λ i. (i, v)) is)
+at_all : (s : Cells) (a : Name) (v : ℤ) (is : List Index) → FitsSigned w64 v → list_all is_some (map (get s) (map (Element a) is)) ≡ true →
+    AreNumbers s a (map (λ i. (i, v)) is)
 at_all s a v [] within there = tt
 at_all s a v (i ∷ is) within there =
     let both = first_and (is_some (get s (Element a i))) (list_all is_some (map (get s) (map (Element a) is))) there in

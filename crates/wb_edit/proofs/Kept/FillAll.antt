@@ -21,7 +21,8 @@ use Rattle.wb_edit.proofs.Elements.{elements_there}
 use Rattle.wb_edit.proofs.Kept.NewElements.{AreNumbers, numbers_kept, same_number}
 use Rattle.wb_edit.proofs.Kept.Steps.{Keeps, keeps_read, keeps_judged}
 
-one_number : (s : Cells) (a : Name) (v : ℤ) (es : List (Index × ℤ)) → FitsSigned w64 v → AllByRecursion (λ e. is_some (get s (Element a e.0)) ≡ true) es → AreNumbers s a (map (λ i. (i, v)) (keys_of es))
+one_number : (s : Cells) (a : Name) (v : ℤ) (es : List (Index × ℤ)) → FitsSigned w64 v → AllByRecursion (λ e. is_some (get s (Element a e.0)) ≡ true) es →
+    AreNumbers s a (map (λ i. (i, v)) (keys_of es))
 one_number s a v [] within there = tt
 one_number s a v (e ∷ es) within there = (there.0, within, one_number s a v es within there.1)
 

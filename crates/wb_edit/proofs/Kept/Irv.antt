@@ -41,11 +41,16 @@ implicit_set s a v h fits =
       members = λ d j. rw (object d, member d j) (IsMember-same s t (λ e k there. inside e k ∙ there) (domain_at s d) j (get s (Member d j)) (h.members d j));
       mappings = λ d. rw (object d, at (Mapping d)) (h.mappings d);
       uses = λ d n. rw (at (Use d n), object n) (h.uses d n);
-      implicits = λ b. rw (object b, implicit b) (elim (is_same_name b a) as (λ k. is_same_name b a ≡ k → IsImplicit (array_at s b) (cond k (Some (Number v)) (get s (Implicit b)))) [
-        | true ↦ λ e. subst (λ n. IsImplicit (array_at s n) (Some (Number v))) (sym (same_name b a e)) fits
-        | false ↦ λ e. h.implicits b
-      ] refl);
-      elements = λ b j. rw (object b, indices_same s t (array_at s b) j (λ d kind is. index_cell_same s t kind d j (inside d j) (member d j)), at (Element b j)) (h.elements b j);
+      implicits = λ b. rw (object b, implicit b) (elim (is_same_name b a) as
+          (λ k. is_same_name b a ≡ k → IsImplicit (array_at s b) (cond k (Some (Number v)) (get s (Implicit b)))) [
+            | true ↦ λ e. subst (λ n. IsImplicit (array_at s n) (Some (Number v))) (sym (same_name b a e)) fits
+            | false ↦ λ e. h.implicits b
+          ] refl);
+      elements = λ b j. rw (
+        object b,
+        indices_same s t (array_at s b) j (λ d kind is. index_cell_same s t kind d j (inside d j) (member d j)),
+        at (Element b j),
+      ) (h.elements b j);
     }
 
 pub irv_kept : (s : Cells) (a : Name) (v : ℤ) → FitsSigned w64 v → IsWellFormed s → Keeps (irv a v) s
@@ -54,4 +59,5 @@ irv_kept s a v within h =
     keeps_read s (Object a) (λ o. judged (array_kind o) (λ array. over_sparse array.1 (λ x. last))) (λ o is.
     keeps_judged s (array_kind o) (λ array. over_sparse array.1 (λ x. last)) h (λ array found.
     keeps_judged s (is_sparse array.1) (λ x. last) h (λ x sparse.
-    implicit_set s a v h (subst (λ o. IsImplicit o (Some (Number v))) (sym (ap array_in (is ∙ array_is o array found))) (sparse_implicit array.0 array.1 x v sparse within)))))
+    implicit_set s a v h (subst (λ o. IsImplicit o (Some (Number v))) (sym (ap array_in (is ∙ array_is o array found)))
+    (sparse_implicit array.0 array.1 x v sparse within)))))

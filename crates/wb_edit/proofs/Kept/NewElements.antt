@@ -43,7 +43,8 @@ pub numbers_kept : (s : Cells) (a : Name) (es : List (Index × ℤ)) → IsWellF
 numbers_kept s a [] h are = h
 numbers_kept s a (e ∷ es) h are =
     let there = some_is (get s (Element a e.0)) are.0 in
-    numbers_kept (insert s (Element a e.0) (Number e.1)) a es (element_set s a e.0 e.1 there.0 h there.1 are.1) (still_numbers s a (Element a e.0) (Number e.1) es are.2)
+    numbers_kept (insert s (Element a e.0) (Number e.1)) a es (element_set s a e.0 e.1 there.0 h there.1 are.1)
+    (still_numbers s a (Element a e.0) (Number e.1) es are.2)
 
 -- the same number at each index
 pub same_number : (a : Name) (v : ℤ) (is : List Index) → new_numbers a (map (λ i. (i, v)) is) ≡ put_all (map (Element a) is) (Number v)

@@ -35,19 +35,22 @@ set_added s t d kind named plain h free k whole bound =
     record {
       names = names_kept s t d x free k.object h named;
       objects = objects_kept s t d x free k.object h whole;
-      shapes = λ n. rw (k.object n, k.shape n) (elim (is_same_name n d) as (λ b. is_same_name n d ≡ b → IsShape (domain_in (cond b (Some x) (get s (Object n)))) (get s (Shape n))) [
-        | true ↦ λ e. plain.no_ranges (get s (Shape n)) (no_shape s h n (was_free s t d x free k.object n e))
-        | false ↦ λ e. h.shapes n
-      ] refl);
+      shapes = λ n. rw (k.object n, k.shape n) (elim (is_same_name n d) as
+          (λ b. is_same_name n d ≡ b → IsShape (domain_in (cond b (Some x) (get s (Object n)))) (get s (Shape n))) [
+            | true ↦ λ e. plain.no_ranges (get s (Shape n)) (no_shape s h n (was_free s t d x free k.object n e))
+            | false ↦ λ e. h.shapes n
+          ] refl);
       insides = λ n i. rw (k.inside n i, k.shape n) (h.insides n i);
-      members = λ n i. rw (k.object n, k.member n i) (elim (is_same_name n d) as (λ b. is_same_name n d ≡ b → IsMember t (domain_in (cond b (Some x) (get s (Object n)))) i (get s (Member n i))) [
-        | true ↦ λ e. rw (no_member s h n (was_free s t d x free k.object n e) i) tt
-        | false ↦ λ e. IsMember-same s t (λ f j was. k.inside f j ∙ was) (domain_at s n) i (get s (Member n i)) (h.members n i)
-      ] refl);
-      mappings = λ n. rw (k.object n, k.mapping n) (elim (is_same_name n d) as (λ b. is_same_name n d ≡ b → HasMapping (domain_in (cond b (Some x) (get s (Object n)))) (get s (Mapping n))) [
-        | true ↦ λ e. plain.no_layout (get s (Mapping n)) (no_mapping s h n (was_free s t d x free k.object n e))
-        | false ↦ λ e. h.mappings n
-      ] refl);
+      members = λ n i. rw (k.object n, k.member n i) (elim (is_same_name n d) as
+          (λ b. is_same_name n d ≡ b → IsMember t (domain_in (cond b (Some x) (get s (Object n)))) i (get s (Member n i))) [
+            | true ↦ λ e. rw (no_member s h n (was_free s t d x free k.object n e) i) tt
+            | false ↦ λ e. IsMember-same s t (λ f j was. k.inside f j ∙ was) (domain_at s n) i (get s (Member n i)) (h.members n i)
+          ] refl);
+      mappings = λ n. rw (k.object n, k.mapping n) (elim (is_same_name n d) as
+          (λ b. is_same_name n d ≡ b → HasMapping (domain_in (cond b (Some x) (get s (Object n)))) (get s (Mapping n))) [
+            | true ↦ λ e. plain.no_layout (get s (Mapping n)) (no_mapping s h n (was_free s t d x free k.object n e))
+            | false ↦ λ e. h.mappings n
+          ] refl);
       uses = bound;
       implicits = λ a. rw (same_array a, k.implicit a) (h.implicits a);
       elements = λ a i. rw (

@@ -27,10 +27,12 @@ same_domain : (n d : Name) → ◌≡◌ {A = Cell} (Mapping n) (Mapping d) → 
 same_domain n d e = cc
 
 -- a rectangular domain gets a mapping for its rank
-mapping_set : (s : Cells) (d : Name) (m : LayoutMap) (rank : ℕ) → IsWellFormed s → get s (Object d) ≡ Some (Domain (Rectangular rank)) → IsMapping rank m → IsWellFormed (insert s (Mapping d) (Mapping m))
+mapping_set : (s : Cells) (d : Name) (m : LayoutMap) (rank : ℕ) → IsWellFormed s → get s (Object d) ≡ Some (Domain (Rectangular rank)) → IsMapping rank m →
+    IsWellFormed (insert s (Mapping d) (Mapping m))
 mapping_set s d m rank h there fits =
     let t : Cells = insert s (Mapping d) (Mapping m) in
-    let at : (c : Cell) → get t c ≡ cond (eq_by_cmp cell_cmp c (Mapping d)) (Some (Mapping m)) (get s c) = get-apply cell_order (set_to (Mapping d) (Mapping m) ∷ []) s in
+    let at : (c : Cell) → get t c ≡ cond (eq_by_cmp cell_cmp c (Mapping d)) (Some (Mapping m)) (get s c) =
+    get-apply cell_order (set_to (Mapping d) (Mapping m) ∷ []) s in
     let object : (n : Name) → get t (Object n) ≡ get s (Object n) = λ n. at (Object n) in
     let inside : (n : Name) (j : Index) → get t (In n j) ≡ get s (In n j) = λ n j. at (In n j) in
     let member : (n : Name) (j : Index) → get t (Member n j) ≡ get s (Member n j) = λ n j. at (Member n j) in
@@ -41,7 +43,8 @@ mapping_set s d m rank h there fits =
       insides = λ n j. rw (inside n j, at (Shape n)) (h.insides n j);
       members = λ n j. rw (object n, member n j) (IsMember-same s t (λ e i there. inside e i ∙ there) (domain_at s n) j (get s (Member n j)) (h.members n j));
       mappings = λ n. rw (object n, at (Mapping n)) (
-          elim (eq_by_cmp cell_cmp (Mapping n) (Mapping d)) as (λ k. eq_by_cmp cell_cmp (Mapping n) (Mapping d) ≡ k → HasMapping (domain_at s n) (cond k (Some (Mapping m)) (get s (Mapping n)))) [
+          elim (eq_by_cmp cell_cmp (Mapping n) (Mapping d)) as (λ k. eq_by_cmp cell_cmp (Mapping n) (Mapping d) ≡ k →
+          HasMapping (domain_at s n) (cond k (Some (Mapping m)) (get s (Mapping n)))) [
             | true ↦ λ e.
                 let same : n ≡ d = same_domain n d (same_key cell_order (Mapping n) (Mapping d) e) in
                 let found : get s (Object n) ≡ Some (Domain (Rectangular rank)) = ap (λ o. get s (Object o)) same ∙ there in
@@ -50,7 +53,11 @@ mapping_set s d m rank h there fits =
           ] refl);
       uses = λ e n. rw (at (Use e n), object n) (h.uses e n);
       implicits = λ b. rw (object b, at (Implicit b)) (h.implicits b);
-      elements = λ b j. rw (object b, indices_same s t (array_at s b) j (λ e kind is. index_cell_same s t kind e j (inside e j) (member e j)), at (Element b j)) (h.elements b j);
+      elements = λ b j. rw (
+        object b,
+        indices_same s t (array_at s b) j (λ e kind is. index_cell_same s t kind e j (inside e j) (member e j)),
+        at (Element b j),
+      ) (h.elements b j);
     }
 
 pub remap_kept : (s : Cells) (d : Name) (m : LayoutMap) → IsLayout m → IsWellFormed s → Keeps (remap d m) s

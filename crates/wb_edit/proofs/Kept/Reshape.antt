@@ -26,7 +26,8 @@ no_source_kept s (Named e) h =
     let last : DomainKind → Tree = λ kind. refuse WrongKind in
     keeps_read s (Object e) (λ v. judged (domain_kind v) last) (λ v is. keeps_judged s (domain_kind v) last h (λ kind found. h))
 
-kind_kept : (s : Cells) (d : Name) (kind : DomainKind) (source : NewIndices) → AreNewIndices source → IsWellFormed s → domain_at s d ≡ Some kind → Keeps (reshape_kind d kind source) s
+kind_kept : (s : Cells) (d : Name) (kind : DomainKind) (source : NewIndices) → AreNewIndices source → IsWellFormed s → domain_at s d ≡ Some kind →
+    Keeps (reshape_kind d kind source) s
 kind_kept s d (Rectangular rank) (To given) valid h there = to_rectangle_kept s d rank h there given valid
 kind_kept s d (Rectangular rank) (Slice given) valid h there = slice_rectangle_kept s d rank h there given valid
 kind_kept s d (Rectangular rank) (Displace how offsets) valid h there = displace_rectangle_kept s d rank h there how offsets

@@ -1,5 +1,6 @@
 -- New ranges of a rectangular domain keep a workbook well formed.
-use Rattle.std.proofs.Common.{◌≡◌, ℕ, ◌==◌, Bool, true, false, ◌||◌, ℤ, List, [], ◌∷◌, map, length, Option, Some, None, is_some, Result, Ok, Err, refl, sym, ap, subst, ◌∙◌}
+use Rattle.std.proofs.Common.{◌≡◌, ℕ, ◌==◌, Bool, true, false, ◌||◌, ℤ, List, [], ◌∷◌, map, length, Option, Some, None, is_some, Result, Ok, Err, refl, sym, ap}
+use Rattle.std.proofs.Common.{subst, ◌∙◌}
 use Rattle.std.proofs.lemmas.Bool.{eqb-true}
 use Rattle.std.proofs.lemmas.List.Folds.{list_any-append}
 use Rattle.std.specs.FinMap.{get}
@@ -78,25 +79,29 @@ module _ (s : Cells) (is : List Index) where
   no_members (e ∷ names) none =
       let first : List (Option Value) = map (get s) (map (Member e) is) in
       let rest : List (Option Value) = map (get s) (member_cells names is) in
-      let parts : list_any is_some (map (get s) (member_cells (e ∷ names) is)) ≡ (list_any is_some first || list_any is_some rest) = ap (list_any is_some) (map-append (get s) (map (Member e) is) (member_cells names is)) ∙ list_any-append is_some first rest in
+      let parts : list_any is_some (map (get s) (member_cells (e ∷ names) is)) ≡ (list_any is_some first || list_any is_some rest) =
+      ap (list_any is_some) (map-append (get s) (map (Member e) is) (member_cells names is)) ∙ list_any-append is_some first rest in
       let both = neither (list_any is_some first) (list_any is_some rest) (sym parts ∙ none) in
       (no_member e is both.0, no_members names both.1)
 
-  keeps_none_there : (names : List Name) (next : Unit {0} → Tree) → IsWellFormed s → ((x : Unit {0}) → AllByRecursion HasNone names → Keeps (next x) s) → Keeps (none_there names is next) s
+  keeps_none_there : (names : List Name) (next : Unit {0} → Tree) → IsWellFormed s → ((x : Unit {0}) → AllByRecursion HasNone names → Keeps (next x) s) →
+      Keeps (none_there names is next) s
   keeps_none_there names next h kept =
       keeps_all s (member_cells names is) (λ vs. judged (none_present vs) next) (
       keeps_judged s (none_present (map (get s) (member_cells names is))) next h (λ x ok. kept x (no_members names (absent_is _ x ok))))
 
 -- ---- new ranges
 
-reshaped_kept : (s : Cells) (d : Name) (rank : ℕ) (old new : List Range) → IsWellFormed s → domain_at s d ≡ Some (Rectangular rank) → get s (Shape d) ≡ Some (Ranges old) → IsRectangle rank new → Keeps (reshaped d old new) s
+reshaped_kept : (s : Cells) (d : Name) (rank : ℕ) (old new : List Range) → IsWellFormed s → domain_at s d ≡ Some (Rectangular rank) →
+    get s (Shape d) ≡ Some (Ranges old) → IsRectangle rank new → Keeps (reshaped d old new) s
 reshaped_kept s d rank old new h there was whole =
     let leaving : List Index = without (indices new) (indices old) in
     let coming : List Index = without (indices old) (indices new) in
     let inner : List Name = bound bound_sparse (users s d) in
     let last : Tree = write (reshaped_cells d new (arrays s d) leaving coming) in
     keeps_none_there s leaving inner (λ x. last) h (λ x none.
-    subst (λ r. IsWellFormed (apply (set_to (Shape d) (Ranges new) ∷ resized_cells (over_rectangular r) d (zeros (arrays s d)) leaving coming) s)) (sym whole.dimensions) (
+    subst (λ r. IsWellFormed (apply (set_to (Shape d) (Ranges new) ∷ resized_cells (over_rectangular r) d (zeros (arrays s d)) leaving coming) s))
+    (sym whole.dimensions) (
     keeps_rectangles s d rank (zeros (arrays s d)) old new h there was whole (zeros_fill s d) (
     loses_none s d old (indices new) h was (λ e i sparse leaves.
     holds_at (λ j. get s (Member e j) ≡ None) leaving i (holds_at (HasNone s leaving) inner e none sparse) leaves))))
@@ -118,7 +123,8 @@ of_rank_is rank (Sparse parent r) x e = cc
 of_rank_is rank (Associative type) x e = cc
 
 module _ (s : Cells) (rank : ℕ) (h : IsWellFormed s) where
-  keeps_gives_rectangle : (given : Operand) (next : Unit {0} → Tree) → ((x : Unit {0}) → IsOfRank s rank given → Keeps (next x) s) → Keeps (gives_rectangle rank given next) s
+  keeps_gives_rectangle : (given : Operand) (next : Unit {0} → Tree) → ((x : Unit {0}) → IsOfRank s rank given → Keeps (next x) s) →
+      Keeps (gives_rectangle rank given next) s
   keeps_gives_rectangle (Rectangle rs) next kept = keeps_judged s (same_rank rank (length rs)) next h (λ x ok. kept x (same_rank_is rank (length rs) x ok))
   keeps_gives_rectangle (Items is) next kept = h
   keeps_gives_rectangle (Named e) next kept =
@@ -127,13 +133,15 @@ module _ (s : Cells) (rank : ℕ) (h : IsWellFormed s) where
       keeps_judged s (of_rank rank (kind_of kind)) next h (λ x ok.
       kept x (ap domain_in (is ∙ domain_is v kind found) ∙ ap Some (of_rank_is rank kind x ok)))))
 
-  keeps_shape : (d : Name) (next : List Range → Tree) → domain_at s d ≡ Some (Rectangular rank) → ((rs : List Range) → get s (Shape d) ≡ Some (Ranges rs) → IsRectangle rank rs → Keeps (next rs) s) → Keeps (shape d next) s
+  keeps_shape : (d : Name) (next : List Range → Tree) → domain_at s d ≡ Some (Rectangular rank) →
+      ((rs : List Range) → get s (Shape d) ≡ Some (Ranges rs) → IsRectangle rank rs → Keeps (next rs) s) → Keeps (shape d next) s
   keeps_shape d next there kept =
       let found : IsShape (Some (Rectangular rank)) (get s (Shape d)) = subst (λ o. IsShape o (get s (Shape d))) there (h.shapes d) in
       keeps_read s (Shape d) (λ v. judged (shape_in v) next) (λ v is.
       subst (λ o. Keeps (judged (shape_in o) next) s) (sym found.1 ∙ is) (kept found.0 found.1 found.2))
 
-  keeps_ranges_given : (given : Operand) (next : List Range → Tree) → IsOperand given → IsOfRank s rank given → ((rs : List Range) → IsRectangle rank rs → Keeps (next rs) s) → Keeps (ranges_given given next) s
+  keeps_ranges_given : (given : Operand) (next : List Range → Tree) → IsOperand given → IsOfRank s rank given →
+      ((rs : List Range) → IsRectangle rank rs → Keeps (next rs) s) → Keeps (ranges_given given next) s
   keeps_ranges_given (Rectangle rs) next valid of kept = kept rs (subst (λ n. IsRectangle n rs) of valid)
   keeps_ranges_given (Items is) next valid of kept = h
   keeps_ranges_given (Named e) next valid of kept = keeps_shape e next of (λ rs is whole. kept rs whole)
@@ -145,18 +153,23 @@ slice_is old by new e = from (length old == length by) e
     from true e = cc
     from false e = cc
 
-pub displacement_is : (how : Displacement) (offsets : List ℤ) (old new : List Range) → displacement_of how offsets old ≡ Ok new → (can_displace how offsets old ≡ true) × (displaced how offsets old ≡ new)
+pub displacement_is : (how : Displacement) (offsets : List ℤ) (old new : List Range) → displacement_of how offsets old ≡ Ok new →
+    (can_displace how offsets old ≡ true) × (displaced how offsets old ≡ new)
 displacement_is how offsets old new e = from (length offsets == length old) (has_unit_strides old) (can_displace how offsets old) (displaced how offsets old) e
   where
-    from : (fit unit_strides within : Bool) (rs : List Range) → ◌≡◌ {A = Result (List Range) Refusal} (elim fit [ true ↦ displaced_if unit_strides within rs | false ↦ Err WrongKind ]) (Ok new) → (within ≡ true) × (rs ≡ new)
+    from : (fit unit_strides within : Bool) (rs : List Range) → ◌≡◌ {A = Result (List Range) Refusal}
+        (elim fit [ true ↦ displaced_if unit_strides within rs | false ↦ Err WrongKind ]) (Ok new) → (within ≡ true) × (rs ≡ new)
     from true true true rs e = (refl, cc)
     from true true false rs e = cc
     from true false within rs e = cc
     from false unit_strides within rs e = cc
 
-pub displaced_whole : (how : Displacement) (offsets : List ℤ) (rank : ℕ) (old : List Range) → IsRectangle rank old → can_displace how offsets old ≡ true → length offsets ≡ rank → IsRectangle rank (displaced how offsets old)
-displaced_whole Translate offsets rank old whole within same = IsRectangle-each_shifted rank false offsets old whole ((Decides-can_shift false offsets old).0 within) same
-displaced_whole Expand offsets rank old whole within same = IsRectangle-each_shifted rank true offsets old whole ((Decides-can_shift true offsets old).0 within) same
+pub displaced_whole : (how : Displacement) (offsets : List ℤ) (rank : ℕ) (old : List Range) → IsRectangle rank old → can_displace how offsets old ≡ true →
+    length offsets ≡ rank → IsRectangle rank (displaced how offsets old)
+displaced_whole Translate offsets rank old whole within same =
+    IsRectangle-each_shifted rank false offsets old whole ((Decides-can_shift false offsets old).0 within) same
+displaced_whole Expand offsets rank old whole within same = IsRectangle-each_shifted rank true offsets old whole
+    ((Decides-can_shift true offsets old).0 within) same
 
 -- ---- the sources
 
@@ -185,4 +198,5 @@ module _ (s : Cells) (d : Name) (rank : ℕ) (h : IsWellFormed s) (there : domai
       keeps_shape s rank h d last there (λ old was whole.
       keeps_judged s (displacement_of how offsets old) (λ new. reshaped d old new) h (λ new ok.
       let is = displacement_is how offsets old new ok in
-      reshaped_kept s d rank old new h there was (subst (IsRectangle rank) is.1 (displaced_whole how offsets rank old whole is.0 (same_rank_is rank (length offsets) x ranked))))))
+      reshaped_kept s d rank old new h there was (subst (IsRectangle rank) is.1
+      (displaced_whole how offsets rank old whole is.0 (same_rank_is rank (length offsets) x ranked))))))

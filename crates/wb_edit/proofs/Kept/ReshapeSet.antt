@@ -51,13 +51,15 @@ comes_new : (old new : List Index) (i : Index) → Contains (without old new) i 
 comes_new old new i comes =
     both_are (has new i) (has old i) (sym (has-without old new i) ∙ list_any-from_Contains (eq_by_cmp_equiv index_order.total) i (without old new) comes)
 
-with_indices_kept : (s : Cells) (d : Name) (kind : DomainKind) (old new : List Index) → IsWellFormed s → domain_at s d ≡ Some kind → HasMembers kind → ((i : Index) → has new i ≡ true → has old i ≡ false → IsKeyOf kind i) → Keeps (with_indices d kind old new) s
+with_indices_kept : (s : Cells) (d : Name) (kind : DomainKind) (old new : List Index) → IsWellFormed s → domain_at s d ≡ Some kind → HasMembers kind →
+    ((i : Index) → has new i ≡ true → has old i ≡ false → IsKeyOf kind i) → Keeps (with_indices d kind old new) s
 with_indices_kept s d kind old new h there set keys =
     resized_kept s d kind new (without new old) (without old new) h there set (λ i comes.
     let is_new = comes_new old new i comes in
     (Contains-from_any same_index i new is_new.0, keys i is_new.0 is_new.1))
 
-kept_first : (i j : Index) (keep : Bool) (xs ys : List Index) → (has ys i ≡ true → has xs i ≡ true) → has (cond keep (j ∷ ys) ys) i ≡ true → has (j ∷ xs) i ≡ true
+kept_first : (i j : Index) (keep : Bool) (xs ys : List Index) → (has ys i ≡ true → has xs i ≡ true) → has (cond keep (j ∷ ys) ys) i ≡ true →
+    has (j ∷ xs) i ≡ true
 kept_first i j true xs ys rest e = elim (is_same_index i j) as (λ b. (b || has ys i) ≡ true → (b || has xs i) ≡ true) [
   | true ↦ λ e. refl
   | false ↦ rest
@@ -79,12 +81,15 @@ in_second false b g not_a from e = from e
 -- an index of what two sets make that is not in the old one is in the given one
 was_given : (how : SetOperation) (given old : List Index) (i : Index) → has (combined how given old) i ≡ true → has old i ≡ false → has given i ≡ true
 was_given Union given old i e other =
-    in_second (has old i) (has (without old given) i) (has given i) (λ there. let no : true ≡ false = sym there ∙ other in cc) (kept_was_there (λ j. not (has old j)) given i) (
+    in_second (has old i) (has (without old given) i) (has given i) (λ there. let no : true ≡ false = sym there ∙ other in cc)
+    (kept_was_there (λ j. not (has old j)) given i) (
     sym (list_any-append (is_same_index i) old (without old given)) ∙ e)
 was_given Intersection given old i e other = let no : true ≡ false = sym (kept_was_there (has given) old i e) ∙ other in cc
 was_given Difference given old i e other = let no : true ≡ false = sym (kept_was_there (λ j. not (has given j)) old i e) ∙ other in cc
 was_given SymmetricDifference given old i e other =
-    in_second (has (without given old) i) (has (without old given) i) (has given i) (λ there. let no : true ≡ false = sym (kept_was_there (λ j. not (has given j)) old i there) ∙ other in cc) (kept_was_there (λ j. not (has old j)) given i) (
+    in_second (has (without given old) i) (has (without old given) i) (has given i)
+    (λ there. let no : true ≡ false = sym (kept_was_there (λ j. not (has given j)) old i there) ∙ other in cc)
+    (kept_was_there (λ j. not (has old j)) given i) (
     sym (list_any-append (is_same_index i) (without given old) (without old given)) ∙ e)
 
 -- ---- what is given
@@ -110,35 +115,46 @@ alike_associative type (Rectangular rank) e = cc
 alike_associative type (Sparse parent rank) e = cc
 alike_associative type (Associative t) e = ap Associative (same_type type t e)
 
-listed_key : (kind : DomainKind) (is : List Index) (i : Index) → AllByRecursion (λ j. is_key (kind_of kind) j ≡ true) is → All IsIndex is → Contains is i → IsKeyOf kind i
+listed_key : (kind : DomainKind) (is : List Index) (i : Index) → AllByRecursion (λ j. is_key (kind_of kind) j ≡ true) is → All IsIndex is → Contains is i →
+    IsKeyOf kind i
 listed_key (Rectangular rank) is i fitting valid there = tt
 listed_key (Sparse parent rank) is i fitting valid there = tt
-listed_key (Associative type) is i fitting valid there = (holds_at (λ j. is_key (over_associative type) j ≡ true) is i fitting there, All-contains IsIndex is i valid there)
+listed_key (Associative type) is i fitting valid there = (
+  holds_at (λ j. is_key (over_associative type) j ≡ true) is i fitting there,
+  All-contains IsIndex is i valid there,
+)
 
 module _ (s : Cells) (h : IsWellFormed s) where
   -- a member of a domain like one of a kind
-  member_key : (kind other : DomainKind) (e : Name) (i : Index) → domain_at s e ≡ Some other → is_alike (kind_of kind) (kind_of other) ≡ true → has (filter_map member_in (seen s (Members e))) i ≡ true → IsKeyOf kind i
+  member_key : (kind other : DomainKind) (e : Name) (i : Index) → domain_at s e ≡ Some other → is_alike (kind_of kind) (kind_of other) ≡ true →
+      has (filter_map member_in (seen s (Members e))) i ≡ true → IsKeyOf kind i
   member_key (Rectangular rank) other e i over same there = tt
   member_key (Sparse parent rank) other e i over same there = tt
   member_key (Associative type) other e i over same there =
       let kind : domain_at s e ≡ Some (Associative type) = over ∙ ap Some (alike_associative type other same) in
       let found : get s (Member e i) ≡ Some Present = members_found s e (domain_at s e) i (h.members e i) ∙ ap present_if there in
-      let member : IsMember s (Some (Associative type)) i (Some Present) = subst (λ v. IsMember s (Some (Associative type)) i v) found (subst (λ k. IsMember s k i (get s (Member e i))) kind (h.members e i)) in
+      let member : IsMember s (Some (Associative type)) i (Some Present) =
+      subst (λ v. IsMember s (Some (Associative type)) i v) found (subst (λ k. IsMember s k i (get s (Member e i))) kind (h.members e i)) in
       member.1
 
-  keeps_gives_set : (kind : DomainKind) (given : Operand) (next : Unit {0} → Tree) → ((x : Unit {0}) → IsSetFor s kind given → Keeps (next x) s) → Keeps (gives_set (kind_of kind) given next) s
+  keeps_gives_set : (kind : DomainKind) (given : Operand) (next : Unit {0} → Tree) → ((x : Unit {0}) → IsSetFor s kind given → Keeps (next x) s) →
+      Keeps (gives_set (kind_of kind) given next) s
   keeps_gives_set kind (Rectangle rs) next kept = h
-  keeps_gives_set kind (Items is) next kept = keeps_judged s (all_fit (kind_of kind) is) next h (λ x ok. kept x (passed_is (list_all (is_key (kind_of kind)) is) x ok))
+  keeps_gives_set kind (Items is) next kept = keeps_judged s (all_fit (kind_of kind) is) next h
+      (λ x ok. kept x (passed_is (list_all (is_key (kind_of kind)) is) x ok))
   keeps_gives_set kind (Named e) next kept =
       keeps_read s (Object e) (λ v. judged (domain_kind v) (λ other. judged (alike (kind_of kind) (kind_of other)) next)) (λ v is.
       keeps_judged s (domain_kind v) (λ other. judged (alike (kind_of kind) (kind_of other)) next) h (λ other found.
       keeps_judged s (alike (kind_of kind) (kind_of other)) next h (λ x ok.
       kept x (other, ap domain_in (is ∙ domain_is v other found), passed_is (is_alike (kind_of kind) (kind_of other)) x ok))))
 
-  keeps_indices_given : (kind : DomainKind) (given : Operand) (next : List Index → Tree) → IsOperand given → IsSetFor s kind given → ((is : List Index) → ((i : Index) → has is i ≡ true → IsKeyOf kind i) → Keeps (next is) s) → Keeps (indices_given given next) s
+  keeps_indices_given : (kind : DomainKind) (given : Operand) (next : List Index → Tree) → IsOperand given → IsSetFor s kind given →
+      ((is : List Index) → ((i : Index) → has is i ≡ true → IsKeyOf kind i) → Keeps (next is) s) → Keeps (indices_given given next) s
   keeps_indices_given kind (Rectangle rs) next valid for kept = h
-  keeps_indices_given kind (Items is) next valid for kept = kept is (λ i there. listed_key kind is i (each_passes (is_key (kind_of kind)) is for) valid (Contains-from_any same_index i is there))
-  keeps_indices_given kind (Named e) next valid for kept = kept (filter_map member_in (seen s (Members e))) (λ i there. member_key kind for.0 e i for.1 for.2 there)
+  keeps_indices_given kind (Items is) next valid for kept = kept is
+      (λ i there. listed_key kind is i (each_passes (is_key (kind_of kind)) is for) valid (Contains-from_any same_index i is there))
+  keeps_indices_given kind (Named e) next valid for kept = kept (filter_map member_in (seen s (Members e)))
+      (λ i there. member_key kind for.0 e i for.1 for.2 there)
 
   -- ---- the sources
 

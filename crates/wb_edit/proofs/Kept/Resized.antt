@@ -1,5 +1,6 @@
 -- Indices that leave a sparse or associative domain, and others that come to it, keep a workbook well formed.
-use Rattle.std.proofs.Common.{◌≡◌, ℕ, zero, suc, ◌<◌, Bool, true, false, List, [], ◌∷◌, map, length, get_or, Option, Some, None, is_some, Ok, ℤ, refl, sym, ap, subst, ◌∙◌, arith}
+use Rattle.std.proofs.Common.{◌≡◌, ℕ, zero, suc, ◌<◌, Bool, true, false, List, [], ◌∷◌, map, length, get_or, Option, Some, None, is_some, Ok, ℤ, refl, sym, ap}
+use Rattle.std.proofs.Common.{subst, ◌∙◌, arith}
 use Rattle.std.proofs.lemmas.Simd.{map-map}
 use Rattle.std.specs.FinMap.{get}
 use Rattle.std.specs.List.{AllByRecursion, Contains, list_all, zip}
@@ -29,7 +30,8 @@ use Rattle.wb_edit.proofs.Kept.Steps.{Keeps, keeps_judged, passed_is}
 -- ---- the arrays over a domain, with numbers
 
 -- a look at what new indices bring goes on with numbers for the arrays over the domain
-keeps_defaults : (s : Cells) (d : Name) (kind : DomainKind) (next : List (Name × ℤ) → Tree) → IsWellFormed s → domain_at s d ≡ Some kind → ((fs : List (Name × ℤ)) → AreFills s d fs → Keeps (next fs) s) → Keeps (defaults kind (arrays s d) next) s
+keeps_defaults : (s : Cells) (d : Name) (kind : DomainKind) (next : List (Name × ℤ) → Tree) → IsWellFormed s → domain_at s d ≡ Some kind →
+    ((fs : List (Name × ℤ)) → AreFills s d fs → Keeps (next fs) s) → Keeps (defaults kind (arrays s d) next) s
 keeps_defaults s d (Rectangular rank) next h there kept = kept _ (zeros_fill s d)
 keeps_defaults s d (Associative type) next h there kept = kept _ (zeros_fill s d)
 keeps_defaults s d (Sparse parent rank) next h there kept =
@@ -55,7 +57,8 @@ AreInside s (Rectangular rank) is = Unit {0}
 AreInside s (Sparse parent rank) is = list_all is_some (map (get s) (map (In parent) is)) ≡ true
 AreInside s (Associative type) is = Unit {0}
 
-keeps_inside : (s : Cells) (kind : DomainKind) (is : List Index) (next : Unit {0} → Tree) → IsWellFormed s → ((x : Unit {0}) → AreInside s kind is → Keeps (next x) s) → Keeps (all_in_parent kind is next) s
+keeps_inside : (s : Cells) (kind : DomainKind) (is : List Index) (next : Unit {0} → Tree) → IsWellFormed s →
+    ((x : Unit {0}) → AreInside s kind is → Keeps (next x) s) → Keeps (all_in_parent kind is next) s
 keeps_inside s (Rectangular rank) is next h kept = kept tt tt
 keeps_inside s (Associative type) is next h kept = kept tt tt
 keeps_inside s (Sparse parent rank) is next h kept =
@@ -83,7 +86,8 @@ there_inside (Some rs) i e = was_present _ e
 there_inside None i e = cc
 
 -- the indices that were found are in the parent
-all_present : (s : Cells) (parent : Name) (is : List Index) → IsWellFormed s → list_all is_some (map (get s) (map (In parent) is)) ≡ true → AllByRecursion (λ i. get s (In parent i) ≡ Some Present) is
+all_present : (s : Cells) (parent : Name) (is : List Index) → IsWellFormed s → list_all is_some (map (get s) (map (In parent) is)) ≡ true →
+    AllByRecursion (λ i. get s (In parent i) ≡ Some Present) is
 all_present s parent [] h within = tt
 all_present s parent (i ∷ is) h within =
     let both = first_and (is_some (get s (In parent i))) (list_all is_some (map (get s) (map (In parent) is))) within in
@@ -98,13 +102,15 @@ holds_at P xs x all there = at xs there.0 all there.1 there.2
     at (y ∷ ys) zero h low e = subst P e h.0
     at (y ∷ ys) (suc k) h low e = at ys k h.1 (omega (arith, low)) e
 
-may_have : (s : Cells) (kind : DomainKind) (is : List Index) (i : Index) → IsWellFormed s → HasMembers kind → AreInside s kind is → Contains is i → IsKeyOf kind i → MayHave s (Some kind) i
+may_have : (s : Cells) (kind : DomainKind) (is : List Index) (i : Index) → IsWellFormed s → HasMembers kind → AreInside s kind is → Contains is i →
+    IsKeyOf kind i → MayHave s (Some kind) i
 may_have s (Rectangular rank) is i h set within new keyed = absurd set
 may_have s (Sparse parent rank) is i h set within new keyed = holds_at (λ j. get s (In parent j) ≡ Some Present) is i (all_present s parent is h within) new
 may_have s (Associative type) is i h set within new keyed = keyed
 
 -- indices leave, and others come that are among the new ones
-pub resized_kept : (s : Cells) (d : Name) (kind : DomainKind) (new leaving coming : List Index) → IsWellFormed s → domain_at s d ≡ Some kind → HasMembers kind → ((i : Index) → Contains coming i → Contains new i × IsKeyOf kind i)
+pub resized_kept : (s : Cells) (d : Name) (kind : DomainKind) (new leaving coming : List Index) → IsWellFormed s → domain_at s d ≡ Some kind →
+    HasMembers kind → ((i : Index) → Contains coming i → Contains new i × IsKeyOf kind i)
     → Keeps (resized d kind new leaving coming) s
 resized_kept s d kind new leaving coming h there set come =
     let last : List (Name × ℤ) → Tree = λ fs. write (resized_cells (kind_of kind) d fs leaving coming) in

@@ -26,10 +26,12 @@ still_element true old new x there h n = n
 still_element false old new x there h n = absurd (none-some x (sym h ∙ there))
 
 -- one that is there is set
-pub element_set : (s : Cells) (a : Name) (i : Index) (v : ℤ) (x : Value) → IsWellFormed s → get s (Element a i) ≡ Some x → FitsSigned w64 v → IsWellFormed (insert s (Element a i) (Number v))
+pub element_set : (s : Cells) (a : Name) (i : Index) (v : ℤ) (x : Value) → IsWellFormed s → get s (Element a i) ≡ Some x → FitsSigned w64 v →
+    IsWellFormed (insert s (Element a i) (Number v))
 element_set s a i v x h there within =
     let t : Cells = insert s (Element a i) (Number v) in
-    let at : (c : Cell) → get t c ≡ cond (eq_by_cmp cell_cmp c (Element a i)) (Some (Number v)) (get s c) = get-apply cell_order (set_to (Element a i) (Number v) ∷ []) s in
+    let at : (c : Cell) → get t c ≡ cond (eq_by_cmp cell_cmp c (Element a i)) (Some (Number v)) (get s c) =
+    get-apply cell_order (set_to (Element a i) (Number v) ∷ []) s in
     let object : (n : Name) → get t (Object n) ≡ get s (Object n) = λ n. at (Object n) in
     let inside : (d : Name) (j : Index) → get t (In d j) ≡ get s (In d j) = λ d j. at (In d j) in
     let member : (d : Name) (j : Index) → get t (Member d j) ≡ get s (Member d j) = λ d j. at (Member d j) in
@@ -42,9 +44,15 @@ element_set s a i v x h there within =
       mappings = λ d. rw (object d, at (Mapping d)) (h.mappings d);
       uses = λ d n. rw (at (Use d n), object n) (h.uses d n);
       implicits = λ b. rw (object b, at (Implicit b)) (h.implicits b);
-      elements = λ b j. rw (object b, indices_same s t (array_at s b) j (λ d kind is. index_cell_same s t kind d j (inside d j) (member d j)), at (Element b j)) (
-          elim (eq_by_cmp cell_cmp (Element b j) (Element a i)) as (λ k. eq_by_cmp cell_cmp (Element b j) (Element a i) ≡ k → IsElement (is_index_of_array s (array_at s b) j) (cond k (Some (Number v)) (get s (Element b j)))) [
-            | true ↦ λ e. still_element _ (get s (Element b j)) _ x (ap (get s) (same_key cell_order (Element b j) (Element a i) e) ∙ there) (h.elements b j) (v, refl, within)
+      elements = λ b j. rw (
+        object b,
+        indices_same s t (array_at s b) j (λ d kind is. index_cell_same s t kind d j (inside d j) (member d j)),
+        at (Element b j),
+      ) (
+          elim (eq_by_cmp cell_cmp (Element b j) (Element a i)) as (λ k. eq_by_cmp cell_cmp (Element b j) (Element a i) ≡ k →
+          IsElement (is_index_of_array s (array_at s b) j) (cond k (Some (Number v)) (get s (Element b j)))) [
+            | true ↦ λ e. still_element _ (get s (Element b j)) _ x (ap (get s) (same_key cell_order (Element b j) (Element a i) e) ∙ there) (h.elements b j)
+                (v, refl, within)
             | false ↦ λ e. h.elements b j
           ] refl);
     }

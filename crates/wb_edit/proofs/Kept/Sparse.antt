@@ -29,7 +29,8 @@ sparse_cells d parent rank = set_to (Object d) (Domain (Sparse parent rank)) ∷
 
 has_new_sparse : (s : Cells) (d parent : Name) (rank : ℕ) → HasNewSet s (apply (sparse_cells d parent rank) s) d (Sparse parent rank)
 has_new_sparse s d parent rank =
-    let at : (c : Cell) → get (apply (sparse_cells d parent rank) s) c ≡ after cell_cmp (sparse_cells d parent rank) c (get s c) = get-apply cell_order (sparse_cells d parent rank) s in
+    let at : (c : Cell) → get (apply (sparse_cells d parent rank) s) c ≡ after cell_cmp (sparse_cells d parent rank) c (get s c) =
+    get-apply cell_order (sparse_cells d parent rank) s in
     record {
       object = λ n. at (Object n);
       shape = λ n. at (Shape n);
@@ -48,10 +49,12 @@ as_bound true o e = refl
 as_bound false o e = e
 
 sparse_bound : (s t : Cells) (d parent : Name) (rank : ℕ) → IsWellFormed s → get s (Object d) ≡ None → HasNewSet s t d (Sparse parent rank)
-    → ((e n : Name) → get t (Use e n) ≡ cond (is_same_name n d && is_same_name e parent) (Some (Bound Sparse)) (get s (Use e n))) → (e n : Name) → get t (Use e n) ≡ use_of e (get t (Object n))
+    → ((e n : Name) → get t (Use e n) ≡ cond (is_same_name n d && is_same_name e parent) (Some (Bound Sparse)) (get s (Use e n))) → (e n : Name) →
+    get t (Use e n) ≡ use_of e (get t (Object n))
 sparse_bound s t d parent rank h free k used e n =
     let x : Value = Domain (Sparse parent rank) in
-    rw (used e n, k.object n) (elim (is_same_name n d) as (λ b. is_same_name n d ≡ b → cond (b && is_same_name e parent) (Some (Bound Sparse)) (get s (Use e n)) ≡ use_of e (cond b (Some x) (get s (Object n)))) [
+    rw (used e n, k.object n) (elim (is_same_name n d) as (λ b. is_same_name n d ≡ b →
+    cond (b && is_same_name e parent) (Some (Bound Sparse)) (get s (Use e n)) ≡ use_of e (cond b (Some x) (get s (Object n)))) [
       | true ↦ λ same. as_bound (is_same_name e parent) (get s (Use e n)) (h.uses e n ∙ ap (use_of e) (was_free s t d x free k.object n same))
       | false ↦ λ same. h.uses e n
     ] refl)
@@ -71,4 +74,5 @@ sparse_kept s d parent named h =
     let over : domain_at s parent ≡ Some (Rectangular rank) = ap domain_in (is ∙ domain_is w kind found) ∙ ap Some (kind_is kind rank ranks) in
     set_added s t d (Sparse parent rank) named (plain_sparse parent rank) h free k
     (domains_stay s t d (Domain (Sparse parent rank)) free k.object parent (Rectangular rank) over)
-    (sparse_bound s t d parent rank h free k (λ e n. get-apply cell_order (sparse_cells d parent rank) s (Use e n) ∙ ap (λ b. cond b (Some (Bound Sparse)) (get s (Use e n))) (second_first _ _))))))))
+    (sparse_bound s t d parent rank h free k (λ e n. get-apply cell_order (sparse_cells d parent rank) s (Use e n) ∙
+    ap (λ b. cond b (Some (Bound Sparse)) (get s (Use e n))) (second_first _ _))))))))

@@ -24,7 +24,8 @@ pub keeps_read : (s : Cells) (c : Cell) (next : Option Value → Tree) → ((v :
 keeps_read s c next kept = subst (λ v. Keeps (next v) s) (sym (seen_value s c)) (kept (get s c) refl)
 
 -- a judgement goes on with what it gives; where it refuses, nothing changes
-pub keeps_judged : {X : Type 0} (s : Cells) (j : Result X Refusal) (next : X → Tree) → IsWellFormed s → ((x : X) → j ≡ Ok x → Keeps (next x) s) → Keeps (judged j next) s
+pub keeps_judged : {X : Type 0} (s : Cells) (j : Result X Refusal) (next : X → Tree) → IsWellFormed s → ((x : X) → j ≡ Ok x → Keeps (next x) s) →
+    Keeps (judged j next) s
 keeps_judged s (Ok x) next h kept = kept x refl
 keeps_judged s (Err why) next h kept = h
 

@@ -46,14 +46,16 @@ not_again : {X : Type 0} (x : X) (xs : List X) → IsListedOnce (x ∷ xs) → (
 not_again x xs once q e = let same : zero ≡ suc q = once zero (suc q) x refl e in omega (arith, same)
 
 -- changes, and then others of other cells
-pub once_append : (xs ys : Changes) → AllOnce cell_cmp xs → AllOnce cell_cmp ys → AllByRecursion (λ (x : Change Cell Value). changes cell_cmp ys x.cell ≡ false) xs → AllOnce cell_cmp (xs ++ ys)
+pub once_append : (xs ys : Changes) → AllOnce cell_cmp xs → AllOnce cell_cmp ys →
+    AllByRecursion (λ (x : Change Cell Value). changes cell_cmp ys x.cell ≡ false) xs → AllOnce cell_cmp (xs ++ ys)
 once_append [] ys one two apart = two
 once_append (x ∷ xs) ys one two apart = (changes-append xs ys x.cell ∙ neither _ _ one.0 apart.0, once_append xs ys one.1 two apart.1)
 
 -- ---- cells of indices
 
 -- what holds of the cells of indices
-each_of : (P : Cell → Type 0) (f : Index → Cell) (o : Option Value) (is : List Index) → ((p : ℕ) (i : Index) → slice_get is p ≡ Some i → P (f i)) → AllByRecursion (λ (x : Change Cell Value). P x.cell) (set_all (map f is) o)
+each_of : (P : Cell → Type 0) (f : Index → Cell) (o : Option Value) (is : List Index) → ((p : ℕ) (i : Index) → slice_get is p ≡ Some i → P (f i)) →
+    AllByRecursion (λ (x : Change Cell Value). P x.cell) (set_all (map f is) o)
 each_of P f o [] all = tt
 each_of P f o (i ∷ is) all = (all zero i refl, each_of P f o is (λ p j e. all (suc p) j e))
 
@@ -75,7 +77,8 @@ module _ (f : Index → Cell) (distinct : Distinct f) where
   once_indexed o [] once = tt
   once_indexed o (i ∷ is) once = (others o i is (not_again i is once), once_indexed o is (later i is once))
 
-  pub once_exchanged : (leaving coming : List Index) (v : Value) → IsListedOnce leaving → IsListedOnce coming → AreApart leaving coming → AllOnce cell_cmp (exchanged f leaving coming v)
+  pub once_exchanged : (leaving coming : List Index) (v : Value) → IsListedOnce leaving → IsListedOnce coming → AreApart leaving coming →
+      AllOnce cell_cmp (exchanged f leaving coming v)
   once_exchanged leaving coming v leave come apart =
       once_append (clear_all (map f leaving)) (put_all (map f coming) v) (once_indexed None leaving leave) (once_indexed (Some v) coming come) (
       each_of (λ c. changes cell_cmp (put_all (map f coming) v) c ≡ false) f None leaving (λ p i e. others (Some v) i coming (λ q g. apart p q i e g)))
@@ -94,29 +97,36 @@ no_element (over_associative type) d a i j = refl
 
 module _ (leaving coming : List Index) where
   -- a cell that is no element
-  pub none_among : (c : Cell) → ((a : Name) (j : Index) → eq_by_cmp cell_cmp c (Element a j) ≡ false) → (fs : List (Name × ℤ)) → changes cell_cmp (elements_exchanged fs leaving coming) c ≡ false
+  pub none_among : (c : Cell) → ((a : Name) (j : Index) → eq_by_cmp cell_cmp c (Element a j) ≡ false) → (fs : List (Name × ℤ)) →
+      changes cell_cmp (elements_exchanged fs leaving coming) c ≡ false
   none_among c other [] = refl
   none_among c other (f ∷ fs) =
       changes-append (exchanged (Element f.0) leaving coming (Number f.1)) (elements_exchanged fs leaving coming) c
       ∙ neither _ _ (none_exchanged leaving coming (Element f.0) (Number f.1) c (λ j. other f.0 j)) (none_among c other fs)
 
   -- what holds of the cells of indices holds of those that are exchanged
-  all_exchanged : (P : Cell → Type 0) (f : Index → Cell) (v : Value) → ((i : Index) → P (f i)) → AllByRecursion (λ (x : Change Cell Value). P x.cell) (exchanged f leaving coming v)
+  all_exchanged : (P : Cell → Type 0) (f : Index → Cell) (v : Value) → ((i : Index) → P (f i)) →
+      AllByRecursion (λ (x : Change Cell Value). P x.cell) (exchanged f leaving coming v)
   all_exchanged P f v all =
-      all_append (λ (x : Change Cell Value). P x.cell) (clear_all (map f leaving)) (put_all (map f coming) v) (each_of P f None leaving (λ p i e. all i)) (each_of P f (Some v) coming (λ p i e. all i))
+      all_append (λ (x : Change Cell Value). P x.cell) (clear_all (map f leaving)) (put_all (map f coming) v) (each_of P f None leaving (λ p i e. all i))
+      (each_of P f (Some v) coming (λ p i e. all i))
 
   module _ (leave : IsListedOnce leaving) (come : IsListedOnce coming) (apart : AreApart leaving coming) where
     once_elements : (fs : List (Name × ℤ)) → IsListedOnce (keys_of fs) → AllOnce cell_cmp (elements_exchanged fs leaving coming)
     once_elements [] names = tt
     once_elements (f ∷ fs) names =
         let rest : Changes = elements_exchanged fs leaving coming in
-        once_append (exchanged (Element f.0) leaving coming (Number f.1)) rest (once_exchanged (Element f.0) (λ i j e. cc) leaving coming (Number f.1) leave come apart) (once_elements fs (later f.0 (keys_of fs) names)) (
-        all_exchanged (λ c. changes cell_cmp rest c ≡ false) (Element f.0) (Number f.1) (λ i. none_of leaving coming fs f.0 i (not_again f.0 (keys_of fs) names)))
+        once_append (exchanged (Element f.0) leaving coming (Number f.1)) rest
+        (once_exchanged (Element f.0) (λ i j e. cc) leaving coming (Number f.1) leave come apart) (once_elements fs (later f.0 (keys_of fs) names)) (
+        all_exchanged (λ c. changes cell_cmp rest c ≡ false) (Element f.0) (Number f.1)
+        (λ i. none_of leaving coming fs f.0 i (not_again f.0 (keys_of fs) names)))
 
     pub once_resized : (kind : Kind) (d : Name) (fs : List (Name × ℤ)) → IsListedOnce (keys_of fs) → AllOnce cell_cmp (resized_cells kind d fs leaving coming)
     once_resized kind d fs names =
-        once_append (exchanged (index_cell kind d) leaving coming Present) (elements_exchanged fs leaving coming) (once_exchanged (index_cell kind d) (same_member kind d) leaving coming Present leave come apart) (once_elements fs names) (
-        all_exchanged (λ c. changes cell_cmp (elements_exchanged fs leaving coming) c ≡ false) (index_cell kind d) Present (λ i. none_among (index_cell kind d i) (λ a j. no_element kind d a i j) fs))
+        once_append (exchanged (index_cell kind d) leaving coming Present) (elements_exchanged fs leaving coming)
+        (once_exchanged (index_cell kind d) (same_member kind d) leaving coming Present leave come apart) (once_elements fs names) (
+        all_exchanged (λ c. changes cell_cmp (elements_exchanged fs leaving coming) c ≡ false) (index_cell kind d) Present
+        (λ i. none_among (index_cell kind d i) (λ a j. no_element kind d a i j) fs))
 
 -- ---- the end of a domain
 
@@ -125,13 +135,19 @@ own_once d (Rectangular rank) = (refl, (refl, (refl, tt)))
 own_once d (Sparse parent rank) = (refl, (refl, tt))
 own_once d (Associative type) = (refl, tt)
 
-own_beside : (d : Name) (kind : DomainKind) (is : List Index) → AllByRecursion (λ (x : Change Cell Value). changes cell_cmp (clear_all (map (index_cell (kind_of kind) d) is)) x.cell ≡ false) (clear_all (cells_beside_indices d kind))
-own_beside d (Rectangular rank) is = (elsewhere (In d) None (Object d) is (λ i. refl), (elsewhere (In d) None (Shape d) is (λ i. refl), (elsewhere (In d) None (Mapping d) is (λ i. refl), tt)))
+own_beside : (d : Name) (kind : DomainKind) (is : List Index) →
+    AllByRecursion (λ (x : Change Cell Value). changes cell_cmp (clear_all (map (index_cell (kind_of kind) d) is)) x.cell ≡ false)
+    (clear_all (cells_beside_indices d kind))
+own_beside d (Rectangular rank) is = (
+  elsewhere (In d) None (Object d) is (λ i. refl),
+  (elsewhere (In d) None (Shape d) is (λ i. refl), (elsewhere (In d) None (Mapping d) is (λ i. refl), tt)),
+)
 own_beside d (Sparse parent rank) is = (elsewhere (Member d) None (Object d) is (λ i. refl), (elsewhere (Member d) None (Use parent d) is (λ i. refl), tt))
 own_beside d (Associative type) is = (elsewhere (Member d) None (Object d) is (λ i. refl), tt)
 
 pub once_ended : (d : Name) (kind : DomainKind) (is : List Index) → IsListedOnce is → AllOnce cell_cmp (dropped_domain_cells d kind is)
-once_ended d kind is once = once_append (clear_all (cells_beside_indices d kind)) (clear_all (map (index_cell (kind_of kind) d) is)) (own_once d kind) (once_indexed (index_cell (kind_of kind) d) (same_member (kind_of kind) d) None is once) (own_beside d kind is)
+once_ended d kind is once = once_append (clear_all (cells_beside_indices d kind)) (clear_all (map (index_cell (kind_of kind) d) is)) (own_once d kind)
+    (once_indexed (index_cell (kind_of kind) d) (same_member (kind_of kind) d) None is once) (own_beside d kind is)
 
 -- ---- elements that were seen, in the order of their indices
 

@@ -43,7 +43,8 @@ once_judged s (Ok x) next once = once x refl
 once_judged s (Err why) next once = tt
 
 -- a look at one cell whose value is judged
-pub once_test : {X : Type 0} (s : Cells) (c : Cell) (test : Option Value → Result X Refusal) (next : X → Tree) → ((x : X) → test (get s c) ≡ Ok x → Once (next x) s) → Once (read c (λ v. judged (test v) next)) s
+pub once_test : {X : Type 0} (s : Cells) (c : Cell) (test : Option Value → Result X Refusal) (next : X → Tree) →
+    ((x : X) → test (get s c) ≡ Ok x → Once (next x) s) → Once (read c (λ v. judged (test v) next)) s
 once_test s c test next once = once_read s c (λ v. judged (test v) next) (once_judged s (test (get s c)) next once)
 
 -- a look at many cells goes on with what each holds
@@ -78,8 +79,10 @@ shape_whole (Some (Associative type)) v rs none found = let no : shape_in None �
 shape_whole None v rs none found = let no : shape_in None ≡ Ok rs = ap shape_in (sym none) ∙ found in cc
 
 module _ (s : Cells) (h : IsWellFormed s) where
-  pub once_indices : (d : Name) (kind : DomainKind) (next : List Index → Tree) → ((is : List Index) → IsListedOnce is → Once (next is) s) → Once (domain_indices d kind next) s
-  once_indices d (Rectangular rank) next once = once_read s (Shape d) (λ v. next (indices_of (ranges_in v))) (once _ (shape_once (domain_at s d) (get s (Shape d)) (h.shapes d)))
+  pub once_indices : (d : Name) (kind : DomainKind) (next : List Index → Tree) → ((is : List Index) → IsListedOnce is → Once (next is) s) →
+      Once (domain_indices d kind next) s
+  once_indices d (Rectangular rank) next once = once_read s (Shape d) (λ v. next (indices_of (ranges_in v)))
+      (once _ (shape_once (domain_at s d) (get s (Shape d)) (h.shapes d)))
   once_indices d (Sparse parent rank) next once = once _ (members_once s d)
   once_indices d (Associative type) next once = once _ (members_once s d)
 
@@ -94,11 +97,14 @@ module _ (s : Cells) (h : IsWellFormed s) where
 pub once_inside : (s : Cells) (kind : DomainKind) (is : List Index) (next : Unit {0} → Tree) → Once (next tt) s → Once (all_in_parent kind is next) s
 once_inside s (Rectangular rank) is next once = once
 once_inside s (Associative type) is next once = once
-once_inside s (Sparse parent rank) is next once = once_all s (map (In parent) is) (λ vs. judged (all_inside vs) next) (once_judged s (all_inside (map (get s) (map (In parent) is))) next (λ x ok. once))
+once_inside s (Sparse parent rank) is next once = once_all s (map (In parent) is) (λ vs. judged (all_inside vs) next)
+    (once_judged s (all_inside (map (get s) (map (In parent) is))) next (λ x ok. once))
 
-pub once_defaults : (s : Cells) (d : Name) (kind : DomainKind) (next : List (Name × ℤ) → Tree) → ((fs : List (Name × ℤ)) → IsListedOnce (keys_of fs) → Once (next fs) s) → Once (defaults kind (arrays s d) next) s
+pub once_defaults : (s : Cells) (d : Name) (kind : DomainKind) (next : List (Name × ℤ) → Tree) →
+    ((fs : List (Name × ℤ)) → IsListedOnce (keys_of fs) → Once (next fs) s) → Once (defaults kind (arrays s d) next) s
 once_defaults s d (Rectangular rank) next once = once _ (zeros_once s d)
 once_defaults s d (Associative type) next once = once _ (zeros_once s d)
 once_defaults s d (Sparse parent rank) next once =
     once_all s (map Implicit (arrays s d)) (λ vs. next (zip (arrays s d) (map number_or_zero vs))) (
-    subst (λ vs. Once (next (zip (arrays s d) (map number_or_zero vs))) s) (sym (map-map (get s) Implicit (arrays s d))) (once _ (held_once s d (λ a. get s (Implicit a)))))
+    subst (λ vs. Once (next (zip (arrays s d) (map number_or_zero vs))) s) (sym (map-map (get s) Implicit (arrays s d)))
+    (once _ (held_once s d (λ a. get s (Implicit a)))))

@@ -1,6 +1,7 @@
 -- What each command means.
 use Rattle.wb_edit.specs.declared.edit.Edit.{Edit as Command}
-use Rattle.wb_edit.specs.declared.edit.Edit.TheVariants.{Domain, Remap, Sparse, Assoc, Array, Set, Irv, Copy, Fill, FillAll, DropArray, All, Add, Remove, DropDomain, Reshape, DomainOfSet, FillOfSet, Load}
+use Rattle.wb_edit.specs.declared.edit.Edit.TheVariants.{Domain, Remap, Sparse, Assoc, Array, Set, Irv, Copy, Fill, FillAll, DropArray, All, Add, Remove}
+use Rattle.wb_edit.specs.declared.edit.Edit.TheVariants.{DropDomain, Reshape, DomainOfSet, FillOfSet, Load}
 use Rattle.wb_edit.specs.Trees.{Tree}
 use Rattle.wb_edit.specs.Commands.Domain.{domain, domain_of_set}
 use Rattle.wb_edit.specs.Commands.Remap.{remap}

@@ -1,7 +1,8 @@
 //! The element of an array, or its implicit value.
 
 ghost use Rattle.std.specs.Prelude.{◌≡◌};
-ghost use Rattle.wb_edit.specs.Implicit.{has_implicit, parent_in, parent_of, is_in_domain, implicit_value, implicit_inside, implicit_at, implicit, or_implicit, element_or_implicit};
+ghost use Rattle.wb_edit.specs.Implicit.{has_implicit, parent_in, parent_of, is_in_domain, implicit_value, implicit_inside, implicit_at, implicit, or_implicit};
+ghost use Rattle.wb_edit.specs.Implicit.{element_or_implicit};
 ghost use Rattle.wb_edit.specs.Plans.{Looks};
 
 use crate::attempt_err::{AttemptErr, stopped};

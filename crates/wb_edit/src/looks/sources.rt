@@ -6,7 +6,8 @@ ghost use Rattle.wb_book.specs.Kinds.{is_key};
 ghost use Rattle.wb_range.specs.Domain.{IsListedOnce};
 ghost use Rattle.wb_edit.specs.Plans.{Looks, found_members};
 ghost use Rattle.wb_edit.specs.declared.attempt_err.AttemptErr.TheVariants.{NoMemory};
-ghost use Rattle.wb_edit.specs.Sources.{same_rank, slice_of, displacement_of, is_same_type, is_alike, alike, all_fit, names_rectangle, gives_rectangle, ranges_given, names_set, gives_set, indices_given};
+ghost use Rattle.wb_edit.specs.Sources.{same_rank, slice_of, displacement_of, is_same_type, is_alike, alike, all_fit, names_rectangle, gives_rectangle};
+ghost use Rattle.wb_edit.specs.Sources.{ranges_given, names_set, gives_set, indices_given};
 
 use crate::attempt_err::{AttemptErr, stopped};
 use crate::footprint::Footprint;

@@ -38,7 +38,8 @@ impl ByFootprint {
     /// The next edit enters, or none where no memory is left.
     fn enter(&mut self, entry: &Record) -> Result<(), NoMemory>
         requires { self.old.entered < 2 ^ 63 }
-        ensures ok { OnOk result ((count : ℕ) (footprints : Footprints) → IsByFootprint self.old count footprints → self.old.entered < count → footprints (self.old.entered + 1) ≡ kept_in entry.now → IsByFootprint self.new count footprints) }
+        ensures ok { OnOk result ((count : ℕ) (footprints : Footprints) → IsByFootprint self.old count footprints → self.old.entered < count →
+            footprints (self.old.entered + 1) ≡ kept_in entry.now → IsByFootprint self.new count footprints) }
         ensures next { OnOk result (self.new.entered ≡ self.old.entered + 1) }
         ensures err { OnErr result ((count : ℕ) (footprints : Footprints) → IsByFootprint self.old count footprints → IsByFootprint self.new count footprints) }
     {
@@ -126,7 +127,8 @@ impl ByFootprint {
     /// The edit at a place is out of force.
     pub fn take(&mut self, at: usize, reads: &[Pattern], before: &[CellChange])
         requires { at < 2 ^ 63 }
-        ensures { (count : ℕ) (footprints : Footprints) → IsByFootprint self.old count footprints → footprints (at + 1) ≡ Some (footprint reads.now before.now) → IsByFootprint self.new count (with_footprint footprints (at + 1) None) }
+        ensures { (count : ℕ) (footprints : Footprints) → IsByFootprint self.old count footprints →
+            footprints (at + 1) ≡ Some (footprint reads.now before.now) → IsByFootprint self.new count (with_footprint footprints (at + 1) None) }
     {
         if at < self.entered {
             self.index.take(at as u64 + 1, reads, before);
@@ -136,7 +138,8 @@ impl ByFootprint {
     /// The edit at a place is in force again. Where no memory is left for it, none has entered.
     pub fn put_back(&mut self, at: usize, reads: &[Pattern], before: &[CellChange])
         requires { at < 2 ^ 63 }
-        ensures { (count : ℕ) (footprints : Footprints) → IsByFootprint self.old count footprints → footprints (at + 1) ≡ None → IsByFootprint self.new count (with_footprint footprints (at + 1) (Some (footprint reads.now before.now))) }
+        ensures { (count : ℕ) (footprints : Footprints) → IsByFootprint self.old count footprints → footprints (at + 1) ≡ None →
+            IsByFootprint self.new count (with_footprint footprints (at + 1) (Some (footprint reads.now before.now))) }
     {
         if at >= self.entered {
             return;

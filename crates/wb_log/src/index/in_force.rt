@@ -35,7 +35,8 @@ impl InForce {
     /// The next edit enters, or none where no memory is left.
     fn enter(&mut self, entry: &Record) -> Result<(), NoMemory>
         requires { self.old.entered < 2 ^ 63 }
-        ensures ok { OnOk result ((count : ℕ) (footprints : Footprints) → AreInForce self.old count footprints → self.old.entered < count → footprints (self.old.entered + 1) ≡ kept_in entry.now → AreInForce self.new count footprints) }
+        ensures ok { OnOk result ((count : ℕ) (footprints : Footprints) → AreInForce self.old count footprints → self.old.entered < count →
+            footprints (self.old.entered + 1) ≡ kept_in entry.now → AreInForce self.new count footprints) }
         ensures next { OnOk result (self.new.entered ≡ self.old.entered + 1) }
         ensures err { OnErr result ((count : ℕ) (footprints : Footprints) → AreInForce self.old count footprints → AreInForce self.new count footprints) }
     {
@@ -81,7 +82,8 @@ impl InForce {
     /// The edit at a place is out of force.
     pub fn take(&mut self, at: usize)
         requires { at < 2 ^ 63 }
-        ensures { (count : ℕ) (footprints : Footprints) → AreInForce self.old count footprints → AreInForce self.new count (with_footprint footprints (at + 1) None) }
+        ensures { (count : ℕ) (footprints : Footprints) → AreInForce self.old count footprints →
+            AreInForce self.new count (with_footprint footprints (at + 1) None) }
     {
         if at < self.entered {
             self.numbers.take(at as u64 + 1);
@@ -91,7 +93,8 @@ impl InForce {
     /// The edit at a place is in force again. Where no memory is left for it, none has entered.
     pub fn put_back(&mut self, at: usize)
         requires { at < 2 ^ 63 }
-        ensures { (count : ℕ) (footprints : Footprints) (f : Footprint workbook) → AreInForce self.old count footprints → AreInForce self.new count (with_footprint footprints (at + 1) (Some f)) }
+        ensures { (count : ℕ) (footprints : Footprints) (f : Footprint workbook) → AreInForce self.old count footprints →
+            AreInForce self.new count (with_footprint footprints (at + 1) (Some f)) }
     {
         if at >= self.entered {
             return;

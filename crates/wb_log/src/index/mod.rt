@@ -35,7 +35,8 @@ impl Index {
     /// The edit at a place, which was in force, no longer is.
     pub fn take(&mut self, at: usize, reads: &[Pattern], before: &[CellChange])
         requires { at < 2 ^ 63 }
-        ensures { (count : ℕ) (footprints : Footprints) → Indexes self.old count footprints → footprints (at + 1) ≡ Some (footprint reads.now before.now) → Indexes self.new count (with_footprint footprints (at + 1) None) }
+        ensures { (count : ℕ) (footprints : Footprints) → Indexes self.old count footprints → footprints (at + 1) ≡ Some (footprint reads.now before.now) →
+            Indexes self.new count (with_footprint footprints (at + 1) None) }
     {
         self.by_footprint.take(at, reads, before);
         self.in_force.take(at);
@@ -44,7 +45,8 @@ impl Index {
     /// The edit at a place, which was out of force, is in force again.
     pub fn put_back(&mut self, at: usize, reads: &[Pattern], before: &[CellChange])
         requires { at < 2 ^ 63 }
-        ensures { (count : ℕ) (footprints : Footprints) → Indexes self.old count footprints → footprints (at + 1) ≡ None → Indexes self.new count (with_footprint footprints (at + 1) (Some (footprint reads.now before.now))) }
+        ensures { (count : ℕ) (footprints : Footprints) → Indexes self.old count footprints → footprints (at + 1) ≡ None →
+            Indexes self.new count (with_footprint footprints (at + 1) (Some (footprint reads.now before.now))) }
     {
         self.by_footprint.put_back(at, reads, before);
         self.in_force.put_back(at);

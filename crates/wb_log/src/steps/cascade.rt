@@ -82,7 +82,8 @@ fn undo_each<M: Mover>(
     ensures indexed { IsIndexed index.new entries.new }
     ensures valid { AreValid (numbered_entries entries.new) }
     ensures within { result.0 ≤ length undone.now }
-    ensures undone { AreUndone (numbered_entries entries.old) book.old.writes (take result.0 undone.now) (numbered_entries entries.new) result.1 book.new.writes }
+    ensures undone { AreUndone (numbered_entries entries.old) book.old.writes (take result.0 undone.now) (numbered_entries entries.new) result.1
+        book.new.writes }
     ensures none { result.0 ≡ 0 → book.new ≡ book.old }
 {
     let mut done = 0;

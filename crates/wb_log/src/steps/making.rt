@@ -105,7 +105,11 @@ fn make_whole<M: Mover>(
     mover: &M,
 ) -> Result<(), NoMemory>
     requires well_formed { IsWellFormed (apply delta book.old.cells) }
-    ensures entry { OnOk result (entry.new ≡ record { edit = entry.old.edit; kept = Some (record { footprint = footprint; inverse = inverse delta book.old.cells }) }) }
+    ensures entry { OnOk result (entry.new ≡ record {
+      edit = entry.old.edit;
+      kept =
+          Some (record { footprint = footprint; inverse = inverse delta book.old.cells });
+    }) }
     ensures cells { OnOk result (book.new.cells ≡ apply delta book.old.cells) }
     ensures writes { OnOk result (book.new.writes ≡ written_more book.old.writes (count_of delta)) }
     ensures entry_stays { OnErr result (entry.new ≡ entry.old) }
@@ -154,7 +158,11 @@ fn make_unlike<M: Mover>(
     mover: &M,
 ) -> Result<(), NoMemory>
     requires well_formed { IsWellFormed (apply delta book.old.cells) }
-    ensures form { OnOk result (shown form.new ≡ record { edit = (shown form.old).edit; kept = Some (record { footprint = footprint; inverse = inverse delta book.old.cells }) }) }
+    ensures form { OnOk result (shown form.new ≡ record {
+      edit = (shown form.old).edit;
+      kept =
+          Some (record { footprint = footprint; inverse = inverse delta book.old.cells });
+    }) }
     ensures cells { OnOk result (book.new.cells ≡ apply delta book.old.cells) }
     ensures writes { OnOk result (book.new.writes ≡ written_more book.old.writes (count_of delta)) }
     ensures form_stays { OnErr result (shown form.new ≡ shown form.old) }
@@ -185,7 +193,11 @@ fn make_form<M: Mover>(
     mover: &M,
 ) -> Result<(), NoMemory>
     requires well_formed { IsWellFormed (apply delta book.old.cells) }
-    ensures form { OnOk result (shown form.new ≡ record { edit = (shown form.old).edit; kept = Some (record { footprint = footprint; inverse = inverse delta book.old.cells }) }) }
+    ensures form { OnOk result (shown form.new ≡ record {
+      edit = (shown form.old).edit;
+      kept =
+          Some (record { footprint = footprint; inverse = inverse delta book.old.cells });
+    }) }
     ensures cells { OnOk result (book.new.cells ≡ apply delta book.old.cells) }
     ensures writes { OnOk result (book.new.writes ≡ written_more book.old.writes (count_of delta)) }
     ensures form_stays { OnErr result (shown form.new ≡ shown form.old) }
@@ -213,7 +225,11 @@ pub fn make<M: Mover>(
     mover: &M,
 ) -> Result<(), NoMemory>
     requires well_formed { IsWellFormed (apply delta book.old.cells) }
-    ensures entry { OnOk result (entry.new ≡ record { edit = entry.old.edit; kept = Some (record { footprint = footprint; inverse = inverse delta book.old.cells }) }) }
+    ensures entry { OnOk result (entry.new ≡ record {
+      edit = entry.old.edit;
+      kept =
+          Some (record { footprint = footprint; inverse = inverse delta book.old.cells });
+    }) }
     ensures cells { OnOk result (book.new.cells ≡ apply delta book.old.cells) }
     ensures writes { OnOk result (book.new.writes ≡ written_more book.old.writes (count_of delta)) }
     ensures entry_stays { OnErr result (entry.new ≡ entry.old) }

@@ -127,10 +127,15 @@ fn put_in<M: Mover>(
 ) -> Result<(), NoMemory>
     requires few { at < 2 ^ 63 }
     requires well_formed { IsWellFormed (apply delta book.old.cells) }
-    ensures entry { OnOk result (entry.new ≡ record { edit = entry.old.edit; kept = Some (record { footprint = footprint; inverse = inverse delta book.old.cells }) }) }
+    ensures entry { OnOk result (entry.new ≡ record {
+      edit = entry.old.edit;
+      kept =
+          Some (record { footprint = footprint; inverse = inverse delta book.old.cells });
+    }) }
     ensures cells { OnOk result (book.new.cells ≡ apply delta book.old.cells) }
     ensures writes { OnOk result (book.new.writes ≡ written_more book.old.writes (count_of delta)) }
-    ensures put { OnOk result ((count : ℕ) (footprints : Footprints) → Indexes index.old count footprints → footprints (at + 1) ≡ None → Indexes index.new count (with_footprint footprints (at + 1) (kept_in entry.new))) }
+    ensures put { OnOk result ((count : ℕ) (footprints : Footprints) → Indexes index.old count footprints → footprints (at + 1) ≡ None →
+        Indexes index.new count (with_footprint footprints (at + 1) (kept_in entry.new))) }
     ensures entry_stays { OnErr result (entry.new ≡ entry.old) }
     ensures book_stays { OnErr result (book.new ≡ book.old) }
     ensures index_stays { OnErr result (index.new ≡ index.old) }

@@ -45,7 +45,8 @@ fn take_back<M: Mover>(
     requires well_formed { LeavesWellFormed entry.old book.old.cells }
     ensures ok { IfOk result (λ n. TakenBack entry.old n entry.new book.old book.new) }
     ensures why { IfErr result (λ e. e ≡ refusal_of entry.old) }
-    ensures taken { OnOk result ((count : ℕ) (footprints : Footprints) → Indexes index.old count footprints → footprints (at + 1) ≡ kept_in entry.old → Indexes index.new count (with_footprint footprints (at + 1) None)) }
+    ensures taken { OnOk result ((count : ℕ) (footprints : Footprints) → Indexes index.old count footprints → footprints (at + 1) ≡ kept_in entry.old →
+        Indexes index.new count (with_footprint footprints (at + 1) None)) }
     ensures entry_stays { OnErr result (entry.new ≡ entry.old) }
     ensures book_stays { OnErr result (book.new ≡ book.old) }
     ensures index_stays { OnErr result (index.new ≡ index.old) }

@@ -102,7 +102,8 @@ fn blocked_value(alloc: Global, by: u64) -> Result<Value, AllocError>
 
 // That of a redo which is refused in its place, by the code of why.
 fn in_place_value(alloc: Global, code: &str) -> Result<Value, AllocError>
-    ensures { IfOk result (λ v. view v ≡ object (member (codes "code") (string code.now) (member (codes "error") (string (codes "E16")) (member (codes "name") (string (codes "refused-in-place")) no_members)))) }
+    ensures { IfOk result (λ v. view v ≡ object (member (codes "code") (string code.now)
+        (member (codes "error") (string (codes "E16")) (member (codes "name") (string (codes "refused-in-place")) no_members)))) }
 {
     json!(in alloc; {"code": code, "error": "E16", "name": "refused-in-place"})
 }

@@ -2,7 +2,9 @@
 ghost use Rattle.std.specs.Prelude.{◌≡◌, ◌<◌, ◌^◌, ℕ, List, codes, option_map};
 ghost use Rattle.std.specs.Result.{result_map_both};
 ghost use Rattle.serde_json.specs.View.{view, items_view};
-ghost use Rattle.wb_proto.specs.Fields.{field_count, has_fields, has_fields_and, text_field, optional_text, i64_field, u64_field, name_of, name_field, integer_of, pair_of, triple_of, tuple_of, label_of, index_of, index_field, key_type_of, key_type_field, operation_of, operation_field, reduction_of, reduction_field};
+ghost use Rattle.wb_proto.specs.Fields.{field_count, has_fields, has_fields_and, text_field, optional_text, i64_field, u64_field, name_of, name_field};
+ghost use Rattle.wb_proto.specs.Fields.{integer_of, pair_of, triple_of, tuple_of, label_of, index_of, index_field, key_type_of, key_type_field, operation_of};
+ghost use Rattle.wb_proto.specs.Fields.{operation_field, reduction_of, reduction_field};
 
 use serde_json::Value;
 use wb_assoc::Label;

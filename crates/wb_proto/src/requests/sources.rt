@@ -4,7 +4,8 @@ ghost use Rattle.serde_json.specs.View.{view};
 ghost use Rattle.wb_literal.specs.Said.{items, domain};
 ghost use Rattle.wb_proto.specs.Answers.{IsAnswer};
 ghost use Rattle.wb_limits.specs.Literals.{listed_in};
-ghost use Rattle.wb_proto.specs.Sources.{is_braced, given_within, given_literal, given_name, given_text, given_by, point_in, offsets_by, to_by, slice_by, displace_by, combine_by, combination_of, source_of};
+ghost use Rattle.wb_proto.specs.Sources.{is_braced, given_within, given_literal, given_name, given_text, given_by, point_in, offsets_by, to_by, slice_by};
+ghost use Rattle.wb_proto.specs.Sources.{displace_by, combine_by, combination_of, source_of};
 ghost use Rattle.wb_resize.specs.Sources.{ascending};
 ghost use Rattle.wb_resize.specs.declared.operand.Operand.TheVariants.{Items};
 

@@ -30,7 +30,8 @@ pub(crate) fn made<D: Domain, M: Mapping<Index = D::Index>>(
 where
     D::Index: AsIndex,
     requires { IsStrictlySortedBy index_cmp (keys_of old.now) }
-    ensures elements { IfOk result (λ p. (i : any_index) → value_at index_cmp (indexed D.Index.as_index p.0) i ≡ changed_at changes.now (value_at index_cmp old.now i) i) }
+    ensures elements { IfOk result (λ p. (i : any_index) → value_at index_cmp (indexed D.Index.as_index p.0) i ≡ changed_at changes.now
+        (value_at index_cmp old.now i) i) }
     ensures mapping { IfOk result (λ p. p.1 ≡ mapping.now) }
     ensures kept { IfOk result (λ p. AllOf D.Index.as_index D.Index.is_of p.0) }
 {
@@ -45,7 +46,8 @@ fn changed_pairs<I: AsIndex>(
     changes: &[(AnyIndex, Option<i64>)],
 ) -> Result<Vec<(I, i64)>, NoMemory>
     requires { IsStrictlySortedBy index_cmp (keys_of old.now) }
-    ensures elements { IfOk result (λ v. (i : any_index) → value_at index_cmp (indexed I.as_index v.items) i ≡ changed_at changes.now (value_at index_cmp old.now i) i) }
+    ensures elements { IfOk result (λ v. (i : any_index) → value_at index_cmp (indexed I.as_index v.items) i ≡ changed_at changes.now
+        (value_at index_cmp old.now i) i) }
     ensures kept { IfOk result (λ v. AllOf I.as_index I.is_of v.items) }
     ensures ascending { IfOk result (λ v. IsStrictlySortedBy I.cmp (keys_of v.items)) }
 {
@@ -80,7 +82,8 @@ fn mark_old<I: AsIndex>(
     old: &[(AnyIndex, i64)],
 ) -> Result<(), NoMemory>
     requires { AllMarked I.as_index I.is_of marks.old.items }
-    ensures elements { OnOk result ((i : any_index) → marked_at I.as_index marks.new.items i ≡ changed_at (all_set old.now) (marked_at I.as_index marks.old.items i) i) }
+    ensures elements { OnOk result ((i : any_index) → marked_at I.as_index marks.new.items i ≡ changed_at (all_set old.now)
+        (marked_at I.as_index marks.old.items i) i) }
     ensures kept { OnOk result (AllMarked I.as_index I.is_of marks.new.items) }
 {
     for (index, value) in old {
@@ -94,7 +97,8 @@ fn mark_all<I: AsIndex>(
     changes: &[(AnyIndex, Option<i64>)],
 ) -> Result<(), NoMemory>
     requires { AllMarked I.as_index I.is_of marks.old.items }
-    ensures elements { OnOk result ((i : any_index) → marked_at I.as_index marks.new.items i ≡ changed_at changes.now (marked_at I.as_index marks.old.items i) i) }
+    ensures elements { OnOk result ((i : any_index) → marked_at I.as_index marks.new.items i ≡ changed_at changes.now (marked_at I.as_index marks.old.items i)
+        i) }
     ensures kept { OnOk result (AllMarked I.as_index I.is_of marks.new.items) }
 {
     for (index, value) in changes {
@@ -110,7 +114,8 @@ fn mark_one<I: AsIndex>(
     value: &Option<i64>,
 ) -> Result<(), NoMemory>
     requires { AllMarked I.as_index I.is_of marks.old.items }
-    ensures elements { OnOk result ((i : any_index) → marked_at I.as_index marks.new.items i ≡ cond (is_same_index i index.now) value.now (marked_at I.as_index marks.old.items i)) }
+    ensures elements { OnOk result ((i : any_index) → marked_at I.as_index marks.new.items i ≡ cond (is_same_index i index.now) value.now
+        (marked_at I.as_index marks.old.items i)) }
     ensures kept { OnOk result (AllMarked I.as_index I.is_of marks.new.items) }
 {
     match I::of(index) {

@@ -42,7 +42,8 @@ module _ (ls : List Line) (distinct : are_distinct ls ≡ true) (well : IsWellFo
   no_element : (es : List (Name × Pieced)) (a : Name) (i : Index) → array_in es a ≡ None → option_map values.Number (element_in es a i) ≡ None
   no_element es a i none = ap (λ (o : Option Pieced). option_map values.Number (option_and_then (λ x. lookup (is_at (index_cmp i)) x.0) o)) none
 
-  element_told : (es : List (Name × Pieced)) (a : Name) (i : Index) (o : Option Line) → IsArrayTold ls o (array_in es a) → option_map values.Number (element_in es a i) ≡ told_by ls o (Element a i)
+  element_told : (es : List (Name × Pieced)) (a : Name) (i : Index) (o : Option Line) → IsArrayTold ls o (array_in es a) →
+      option_map values.Number (element_in es a i) ≡ told_by ls o (Element a i)
   element_told es a i None t = no_element es a i t
   element_told es a i (Some (rectangular d rs m)) t = no_element es a i t
   element_told es a i (Some (sparse d parent is)) t = no_element es a i t
@@ -73,7 +74,8 @@ module _ (ls : List Line) (distinct : are_distinct ls ≡ true) (well : IsWellFo
       let ranks : length rs ≡ rank = cc in
       ap (option_map (λ x. (x, rank))) (mapping_told parent (Some (rectangular d rs m)) is) ∙ ap (λ r. Some (m, r)) (sym ranks)
 
-  domain_lies : (d : Name) (kind : Kind) (o : Option Line) → first_line_of d ls ≡ o → option_map kind_of (domain_at w d) ≡ Some kind → mapping_of w d (domain_at w d) ≡ Some (lies_told ls o)
+  domain_lies : (d : Name) (kind : Kind) (o : Option Line) → first_line_of d ls ≡ o → option_map kind_of (domain_at w d) ≡ Some kind →
+      mapping_of w d (domain_at w d) ≡ Some (lies_told ls o)
   domain_lies d kind None is there = let no = sym (ap (option_map kind_of) (domain_told d None is)) ∙ there in cc
   domain_lies d kind (Some (array a e xs irv)) is there = let no = sym (ap (option_map kind_of) (domain_told d (Some (array a e xs irv)) is)) ∙ there in cc
   domain_lies d kind (Some (rectangular e rs m)) is there =
@@ -84,12 +86,15 @@ module _ (ls : List Line) (distinct : are_distinct ls ≡ true) (well : IsWellFo
   domain_lies d kind (Some (sparse e parent xs)) is there =
       let rank : ℕ = rank_told (first_line_of parent ls) in
       ap (mapping_of w d) (domain_told d (Some (sparse e parent xs)) is)
-      ∙ rectangle_told parent rank (first_line_of parent ls) refl (well.objects d (values.Domain (domains.Sparse parent rank)) (at_line (Object d) (Some (sparse e parent xs)) is))
+      ∙ rectangle_told parent rank (first_line_of parent ls) refl (well.objects d (values.Domain (domains.Sparse parent rank))
+      (at_line (Object d) (Some (sparse e parent xs)) is))
 
-  no_array : (es : List (Name × Pieced)) (a : Name) (o : Option Line) → first_line_of a ls ≡ o → object_in (told_by ls o (Object a)) ≡ None → array_in es a ≡ None → option_map (λ p. p.1) (array_in es a) ≡ lies_by w (array_at w a)
+  no_array : (es : List (Name × Pieced)) (a : Name) (o : Option Line) → first_line_of a ls ≡ o → object_in (told_by ls o (Object a)) ≡ None →
+      array_in es a ≡ None → option_map (λ p. p.1) (array_in es a) ≡ lies_by w (array_at w a)
   no_array es a o is none nothing = ap (option_map (λ p. p.1)) nothing ∙ sym (ap (λ v. lies_by w (object_in v)) (at_line (Object a) o is) ∙ ap (lies_by w) none)
 
-  lies_told_by : (es : List (Name × Pieced)) (a : Name) (o : Option Line) → first_line_of a ls ≡ o → IsArrayTold ls o (array_in es a) → option_map (λ p. p.1) (array_in es a) ≡ lies_by w (array_at w a)
+  lies_told_by : (es : List (Name × Pieced)) (a : Name) (o : Option Line) → first_line_of a ls ≡ o → IsArrayTold ls o (array_in es a) →
+      option_map (λ p. p.1) (array_in es a) ≡ lies_by w (array_at w a)
   lies_told_by es a None is t = no_array es a None is refl t
   lies_told_by es a (Some (rectangular d rs m)) is t = no_array es a (Some (rectangular d rs m)) is refl t
   lies_told_by es a (Some (sparse d parent xs)) is t = no_array es a (Some (sparse d parent xs)) is refl t
@@ -101,7 +106,8 @@ module _ (ls : List Line) (distinct : are_distinct ls ≡ true) (well : IsWellFo
       ∙ sym (ap (λ v. lies_by w (object_in v)) object ∙ domain_lies d kind (first_line_of d ls) refl (well.objects a (values.Array d kind) object))
 
   -- so they are its parts
-  parts_told : (cells : BTreeMap Cell Value) (arrays : BTreeMap Name Pieced) → state_of cells ≡ stored_put ls ls empty → AreArraysTold ls ls arrays.entries → AreParts cells arrays w
+  parts_told : (cells : BTreeMap Cell Value) (arrays : BTreeMap Name Pieced) → state_of cells ≡ stored_put ls ls empty → AreArraysTold ls ls arrays.entries →
+      AreParts cells arrays w
   parts_told cells arrays is told = record {
     well_formed = well;
     stored = is ∙ told_stored ls;
@@ -109,6 +115,8 @@ module _ (ls : List Line) (distinct : are_distinct ls ≡ true) (well : IsWellFo
     lie = λ a. lies_told_by arrays.entries a (first_line_of a ls) refl (told a);
   }
 
-pub made_parts : (ls : List Line) → list_all (is_sound ls) ls ≡ true → AllByRecursion IsMade ls → are_distinct ls ≡ true → (cells : BTreeMap Cell Value) (arrays : BTreeMap Name Pieced)
+pub made_parts : (ls : List Line) → list_all (is_sound ls) ls ≡ true → AllByRecursion IsMade ls → are_distinct ls ≡ true →
+    (cells : BTreeMap Cell Value) (arrays : BTreeMap Name Pieced)
     → state_of cells ≡ stored_put ls ls empty → AreArraysTold ls ls arrays.entries → AreParts cells arrays (cells_put ls ls empty)
-made_parts ls sound made distinct cells arrays is told = parts_told ls distinct (made_well ls (cells_put ls ls empty) sound made distinct refl) cells arrays is told
+made_parts ls sound made distinct cells arrays is told = parts_told ls distinct (made_well ls (cells_put ls ls empty) sound made distinct refl) cells arrays is
+    told

@@ -28,11 +28,13 @@ first_alone : (o : Option Line) (b : Bool) → cond (is_some o) false b ≡ true
 first_alone None b e = (refl, e)
 first_alone (Some l) b e = cc
 
-owned : (ls more : List Line) (s : Cells) (c : Cell) → are_distinct more ≡ true → get s c ≡ None → get (cells_put ls more s) c ≡ told_by ls (first_line_of (owner c) more) c
+owned : (ls more : List Line) (s : Cells) (c : Cell) → are_distinct more ≡ true → get s c ≡ None →
+    get (cells_put ls more s) c ≡ told_by ls (first_line_of (owner c) more) c
 owned ls [] s c distinct h = h
 owned ls (l ∷ more) s c distinct h =
     let parts = first_alone (first_line_of (name_of l) more) (are_distinct more) distinct in
-    elim (is_same_name (owner c) (name_of l)) as (λ b. is_same_name (owner c) (name_of l) ≡ b → get (cells_put ls more (inserted (cells_of ls l) s)) c ≡ told_by ls (cond b (Some l) (first_line_of (owner c) more)) c) [
+    elim (is_same_name (owner c) (name_of l)) as (λ b. is_same_name (owner c) (name_of l) ≡ b →
+    get (cells_put ls more (inserted (cells_of ls l) s)) c ≡ told_by ls (cond b (Some l) (first_line_of (owner c) more)) c) [
       | true ↦ λ e.
           let same : owner c ≡ name_of l = same_names (owner c) (name_of l) ((Equal-is _).0 e) in
           unowned ls more (inserted (cells_of ls l) s) c (ap (λ n. first_line_of n more) same ∙ parts.0)

@@ -22,7 +22,8 @@ not_unsound ls w well e f = true_false (sym (sound_said w well) ∙ ap (λ ms. l
 pub not_twice : {X : Type 0} (ls : List Line) (w : Cells) → said w ≡ ls → are_distinct ls ≡ false → X
 not_twice ls w e f = true_false (sym (distinct_said w) ∙ ap are_distinct e ∙ f)
 
-pub made_well : (ls : List Line) (s : Cells) → list_all (is_sound ls) ls ≡ true → AllByRecursion IsMade ls → are_distinct ls ≡ true → s ≡ cells_put ls ls empty → IsWellFormed s
+pub made_well : (ls : List Line) (s : Cells) → list_all (is_sound ls) ls ≡ true → AllByRecursion IsMade ls → are_distinct ls ≡ true →
+    s ≡ cells_put ls ls empty → IsWellFormed s
 made_well ls s sound made distinct is = well_made ls s sound made (λ c. ap (λ t. get t c) is ∙ built ls distinct c)
 
 pub comes_back : (ls : List Line) (s w : Cells) → are_distinct ls ≡ true → s ≡ cells_put ls ls empty → IsWellFormed w → said w ≡ ls → s ≡ w

@@ -15,7 +15,8 @@ one_more a true v None = refl
 one_more a true v (Some w) = refl
 one_more a false v o = refl
 
-mapped : {V W : Type 0} (f : W → V) (a : Option W) (b : Bool) (w : W) → or_else (option_map f a) (cond b (Some (f w)) None) ≡ option_map f (or_else a (cond b (Some w) None))
+mapped : {V W : Type 0} (f : W → V) (a : Option W) (b : Bool) (w : W) →
+    or_else (option_map f a) (cond b (Some (f w)) None) ≡ option_map f (or_else a (cond b (Some w) None))
 mapped f None true w = refl
 mapped f (Some v) true w = refl
 mapped f a false w = refl
@@ -27,7 +28,8 @@ one_or r false v = refl
 
 module _ {K V : Type 0} (order : K → K → Ordering) where
   -- one more pair ahead of others
-  pub head : (e : K × V) (es : List (K × V)) (c : K) (b : Bool) (o : Option V) → eq_by_cmp order c e.0 ≡ b → last_of order es c ≡ o → last_of order (e ∷ es) c ≡ or_else o (cond b (Some e.1) None)
+  pub head : (e : K × V) (es : List (K × V)) (c : K) (b : Bool) (o : Option V) → eq_by_cmp order c e.0 ≡ b → last_of order es c ≡ o →
+      last_of order (e ∷ es) c ≡ or_else o (cond b (Some e.1) None)
   head e es c b o f h = ap (λ t. or_else (last_of order es c) (cond t (Some e.1) None)) f ∙ ap (λ x. or_else x (cond b (Some e.1) None)) h
 
   pub never : {I : Type 0} (g : I → K × V) (is : List I) (c : K) → ((i : I) → eq_by_cmp order c (g i).0 ≡ false) → last_of order (map g is) c ≡ None
@@ -35,7 +37,8 @@ module _ {K V : Type 0} (order : K → K → Ordering) where
   never g (i ∷ is) c h = head (g i) (map g is) c false None (h i) (never g is c h)
 
   -- pairs of one value, by the index of the key
-  pub alike : {I : Type 0} (cmp : I → I → Ordering) (make : I → K) (v : V) (is : List I) (c : K) (i : I) → ((j : I) → eq_by_cmp order c (make j) ≡ eq_by_cmp cmp i j)
+  pub alike : {I : Type 0} (cmp : I → I → Ordering) (make : I → K) (v : V) (is : List I) (c : K) (i : I) →
+      ((j : I) → eq_by_cmp order c (make j) ≡ eq_by_cmp cmp i j)
       → last_of order (map (λ j. (make j, v)) is) c ≡ cond (list_any (eq_by_cmp cmp i) is) (Some v) None
   alike cmp make v [] c i h = refl
   alike cmp make v (j ∷ is) c i h =
@@ -44,7 +47,8 @@ module _ {K V : Type 0} (order : K → K → Ordering) where
       ∙ one_or (list_any (eq_by_cmp cmp i) is) (eq_by_cmp cmp i j) v
 
   -- pairs of which each has a value of its own
-  pub by_index : {I W : Type 0} (cmp : I → I → Ordering) (make : I → K) (f : W → V) (ps : List (I × W)) (c : K) (i : I) → ((j : I) → eq_by_cmp order c (make j) ≡ eq_by_cmp cmp i j)
+  pub by_index : {I W : Type 0} (cmp : I → I → Ordering) (make : I → K) (f : W → V) (ps : List (I × W)) (c : K) (i : I) →
+      ((j : I) → eq_by_cmp order c (make j) ≡ eq_by_cmp cmp i j)
       → last_of order (map (λ (p : I × W). (make p.0, f p.1)) ps) c ≡ option_map f (last_of cmp ps i)
   by_index cmp make f [] c i h = refl
   by_index cmp make f (p ∷ ps) c i h =

@@ -1,5 +1,6 @@
 -- One more line in front of others whose arrays are made.
-use Rattle.std.proofs.Common.{◌≡◌, ℕ, suc, ◌<◌, ℤ, Bool, true, false, cond, List, ◌∷◌, map, drop, length, get_or, Option, Some, None, is_some, refl, sym, ap, ◌∙◌, subst}
+use Rattle.std.proofs.Common.{◌≡◌, ℕ, suc, ◌<◌, ℤ, Bool, true, false, cond, List, ◌∷◌, map, drop, length, get_or, Option, Some, None, is_some, refl, sym, ap}
+use Rattle.std.proofs.Common.{◌∙◌, subst}
 use Rattle.std.proofs.lemmas.List.{drop-map}
 use Rattle.wb_book.specs.Cells.{Name, is_same_name}
 use Rattle.wb_text.specs.Said.{Line, array, name_of, first_line_of, line_of}
@@ -14,8 +15,10 @@ use Rattle.wb_text.specs.FromLines.Laid.{IsColumn, IsArrayTold, AreArraysTold}
 abbrev pub NoArray : List Line → Line → Type 0
 NoArray ls l = (o : Option Pieced) → o ≡ None → IsArrayTold ls (Some l) o
 
-pub other_line : (ls more : List Line) (l : Line) (es fs : List (Name × Pieced)) → NoArray ls l → fs ≡ es → first_line_of (name_of l) more ≡ None → AreArraysTold ls more es → AreArraysTold ls (l ∷ more) fs
-other_line ls more l es fs none same new told b = subst (λ (xs : List (Name × Pieced)). IsArrayTold ls (first_line_of b (l ∷ more)) (array_in xs b)) (sym same) (by (is_same_name b (name_of l)) refl)
+pub other_line : (ls more : List Line) (l : Line) (es fs : List (Name × Pieced)) → NoArray ls l → fs ≡ es → first_line_of (name_of l) more ≡ None →
+    AreArraysTold ls more es → AreArraysTold ls (l ∷ more) fs
+other_line ls more l es fs none same new told b = subst (λ (xs : List (Name × Pieced)). IsArrayTold ls (first_line_of b (l ∷ more)) (array_in xs b)) (sym same)
+    (by (is_same_name b (name_of l)) refl)
   where
     nothing_told : (o : Option Line) → o ≡ None → IsArrayTold ls o (array_in es b) → array_in es b ≡ None
     nothing_told None e h = h
@@ -43,13 +46,15 @@ rest_distinct : (ls : List Line) (k : ℕ) (b : Bool) → are_distinct (drop k l
 rest_distinct ls k true is distinct = refl
 rest_distinct ls k false is distinct = let no : true ≡ false = sym distinct ∙ not_distinct ls k is in cc
 
-pub alone : (xs : List ObjectLine) (k j : ℕ) (x : ObjectLine) → k < length xs → j ≡ suc k → x ≡ get_or xs k x → are_distinct (map line_of xs) ≡ true → first_line_of (name_of (line_of x)) (map line_of (drop j xs)) ≡ None
+pub alone : (xs : List ObjectLine) (k j : ℕ) (x : ObjectLine) → k < length xs → j ≡ suc k → x ≡ get_or xs k x → are_distinct (map line_of xs) ≡ true →
+    first_line_of (name_of (line_of x)) (map line_of (drop j xs)) ≡ None
 alone xs k j x low next this distinct =
     let rest : are_distinct (drop k (map line_of xs)) ≡ true = rest_distinct (map line_of xs) k (are_distinct (drop k (map line_of xs))) refl distinct in
     alone_by (map line_of xs) (map line_of (drop j xs)) (line_of x) (first_line_of (name_of (line_of x)) (map line_of (drop j xs))) refl
     (sym (ap are_distinct (drop-map line_of k xs) ∙ ap (λ (ys : List ObjectLine). are_distinct (map line_of ys)) (drop_at xs k j x low next this)) ∙ rest)
 
-pub line_more : (xs : List ObjectLine) (k j i : ℕ) (x : ObjectLine) (ls : List Line) (es : List (Name × Pieced)) → k < length xs → j ≡ suc k → i ≡ k → x ≡ get_or xs k x
+pub line_more : (xs : List ObjectLine) (k j i : ℕ) (x : ObjectLine) (ls : List Line) (es : List (Name × Pieced)) → k < length xs → j ≡ suc k → i ≡ k →
+    x ≡ get_or xs k x
     → AreArraysTold ls (line_of x ∷ map line_of (drop j xs)) es → AreArraysTold ls (map line_of (drop i xs)) es
 line_more xs k j i x ls es low next same this told =
     subst (λ (ys : List ObjectLine). AreArraysTold ls (map line_of ys) es) (sym (ap (λ t. drop t xs) same ∙ drop_at xs k j x low next this)) told

@@ -1,5 +1,6 @@
 -- What the lines of a well-formed workbook tell of its cells is what stands in them.
-use Rattle.std.proofs.Common.{◌≡◌, ℕ, suc, ℤ, pos, Bool, true, false, ◌||◌, cond, List, [], ◌∷◌, length, Option, Some, None, is_some, option_map, unwrap_or, refl, sym, ap, ◌∙◌, subst}
+use Rattle.std.proofs.Common.{◌≡◌, ℕ, suc, ℤ, pos, Bool, true, false, ◌||◌, cond, List, [], ◌∷◌, length, Option, Some, None, is_some, option_map, unwrap_or}
+use Rattle.std.proofs.Common.{refl, sym, ap, ◌∙◌, subst}
 use Rattle.std.specs.Cmp.{Equal-is}
 use Rattle.std.specs.FinMap.{get}
 use Rattle.std.specs.List.{filter_map, cons_option, zip}
@@ -19,7 +20,8 @@ use Rattle.wb_book.specs.Kinds.{kind_of}
 use Rattle.wb_book.specs.Locales.{mapping_in}
 use Rattle.wb_book.specs.Readers.{indices_at}
 use Rattle.wb_book.specs.Shapes.{Range, indices}
-use Rattle.wb_book.specs.WellFormed.{IsWellFormed, IsShape, HasMapping, IsMember, MayHave, IsImplicit, IsElement, domain_in, domain_at, array_in, ranges_in, inside_of, use_of, has, present_if, is_index_of_array}
+use Rattle.wb_book.specs.WellFormed.{IsWellFormed, IsShape, HasMapping, IsMember, MayHave, IsImplicit, IsElement, domain_in, domain_at, array_in, ranges_in}
+use Rattle.wb_book.specs.WellFormed.{inside_of, use_of, has, present_if, is_index_of_array}
 use Rattle.wb_text.specs.Lines.{indices_in, number_in, element_at, elements_at, implicit_in}
 use Rattle.wb_text.specs.Said.{Line, first_line_of, domain_said, said_in, said}
 use Rattle.wb_text.proofs.LineOfName.{line_of_name}
@@ -50,7 +52,8 @@ column_length f [] h = refl
 column_length f (i ∷ is) h =
     ap suc (column_length f is h.1) ∙ sym (ap (λ o. length (cons_option o (filter_map f is))) (there_is (f i) h.0).1)
 
-one_last : (f : Index → Option ℤ) (i j : Index) (b : Bool) (z : ℤ) → f j ≡ Some z → or_else (cond b (f i) None) (cond (is_same_index i j) (Some z) None) ≡ cond (is_same_index i j || b) (f i) None
+one_last : (f : Index → Option ℤ) (i j : Index) (b : Bool) (z : ℤ) → f j ≡ Some z →
+    or_else (cond b (f i) None) (cond (is_same_index i j) (Some z) None) ≡ cond (is_same_index i j || b) (f i) None
 one_last f i j b z e =
     elim (is_same_index i j) as (λ t. is_same_index i j ≡ t → or_else (cond b (f i) None) (cond t (Some z) None) ≡ cond (t || b) (f i) None) [
       | true ↦ λ t.
@@ -63,7 +66,8 @@ one_last f i j b z e =
     either true = refl
     either false = refl
 
-pub column_last : (f : Index → Option ℤ) (is : List Index) (i : Index) → HasEach f is → last_of index_cmp (zip is (filter_map f is)) i ≡ cond (has is i) (f i) None
+pub column_last : (f : Index → Option ℤ) (is : List Index) (i : Index) → HasEach f is →
+    last_of index_cmp (zip is (filter_map f is)) i ≡ cond (has is i) (f i) None
 column_last f [] i h = refl
 column_last f (j ∷ is) i h =
     let one = there_is (f j) h.0 in
@@ -98,7 +102,8 @@ module _ (w : Cells) (well : IsWellFormed w) where
 
   -- ---- the domain of an array
 
-  domain_kind : (d : Name) (o : Option DomainKind) (kind : Kind) → domain_at w d ≡ o → option_map kind_of o ≡ Some kind → kind_told ls (first_line_of d ls) ≡ kind
+  domain_kind : (d : Name) (o : Option DomainKind) (kind : Kind) → domain_at w d ≡ o → option_map kind_of o ≡ Some kind →
+      kind_told ls (first_line_of d ls) ≡ kind
   domain_kind d None kind is e = none_some kind e
   domain_kind d (Some (domains.Rectangular rank)) kind is e =
       ap (kind_told ls) (line_of_domain d (domains.Rectangular rank) is) ∙ ap Rectangular (rank_known w d rank well is) ∙ some_same (Rectangular rank) kind e
@@ -106,7 +111,8 @@ module _ (w : Cells) (well : IsWellFormed w) where
       ap (kind_told ls) (line_of_domain d (domains.Sparse parent rank) is)
       ∙ ap Sparse (rank_line parent rank (well.objects d _ (domain_object (get w (Object d)) (domains.Sparse parent rank) is)))
       ∙ some_same (Sparse rank) kind e
-  domain_kind d (Some (domains.Associative type)) kind is e = ap (kind_told ls) (line_of_domain d (domains.Associative type) is) ∙ some_same (Associative type) kind e
+  domain_kind d (Some (domains.Associative type)) kind is e = ap (kind_told ls) (line_of_domain d (domains.Associative type) is) ∙
+      some_same (Associative type) kind e
 
   pub kind_line : (d : Name) (kind : Kind) → option_map kind_of (domain_at w d) ≡ Some kind → kind_told ls (first_line_of d ls) ≡ kind
   kind_line d kind e = domain_kind d (domain_at w d) kind refl e
@@ -125,12 +131,15 @@ module _ (w : Cells) (well : IsWellFormed w) where
       let shape = shape_of d rank is in
       ap (λ v. indices (unwrap_or (ranges_in v) [])) shape.1 ∙ sym (ap (λ v. unwrap_or (option_map indices (ranges_in v)) []) shape.1)
 
-  domain_indices : (d : Name) (o : Option DomainKind) (kind : Kind) → domain_at w d ≡ o → option_map kind_of o ≡ Some kind → indices_told (first_line_of d ls) ≡ indices_in w d kind
+  domain_indices : (d : Name) (o : Option DomainKind) (kind : Kind) → domain_at w d ≡ o → option_map kind_of o ≡ Some kind →
+      indices_told (first_line_of d ls) ≡ indices_in w d kind
   domain_indices d None kind is e = none_some kind e
   domain_indices d (Some (domains.Rectangular rank)) kind is e =
       ap indices_told (line_of_domain d (domains.Rectangular rank) is) ∙ indices_by d rank is ∙ ap (indices_in w d) (some_same (Rectangular rank) kind e)
-  domain_indices d (Some (domains.Sparse parent rank)) kind is e = ap indices_told (line_of_domain d (domains.Sparse parent rank) is) ∙ ap (indices_in w d) (some_same (Sparse rank) kind e)
-  domain_indices d (Some (domains.Associative type)) kind is e = ap indices_told (line_of_domain d (domains.Associative type) is) ∙ ap (indices_in w d) (some_same (Associative type) kind e)
+  domain_indices d (Some (domains.Sparse parent rank)) kind is e = ap indices_told (line_of_domain d (domains.Sparse parent rank) is) ∙
+      ap (indices_in w d) (some_same (Sparse rank) kind e)
+  domain_indices d (Some (domains.Associative type)) kind is e = ap indices_told (line_of_domain d (domains.Associative type) is) ∙
+      ap (indices_in w d) (some_same (Associative type) kind e)
 
   pub indices_line : (d : Name) (kind : Kind) → option_map kind_of (domain_at w d) ≡ Some kind → indices_told (first_line_of d ls) ≡ indices_in w d kind
   indices_line d kind e = domain_indices d (domain_at w d) kind refl e
@@ -139,8 +148,10 @@ module _ (w : Cells) (well : IsWellFormed w) where
 
   object_back : (n : Name) (o : Option Value) → get w (Object n) ≡ o → told_by ls (said_in w n o) (Object n) ≡ o
   object_back n None e = refl
-  object_back n (Some (values.Domain (domains.Rectangular rank))) e = ap (λ k. Some (values.Domain (domains.Rectangular k))) (rank_known w n rank well (ap domain_in e))
-  object_back n (Some (values.Domain (domains.Sparse parent rank))) e = ap (λ k. Some (values.Domain (domains.Sparse parent k))) (rank_line parent rank (well.objects n _ e))
+  object_back n (Some (values.Domain (domains.Rectangular rank))) e =
+      ap (λ k. Some (values.Domain (domains.Rectangular k))) (rank_known w n rank well (ap domain_in e))
+  object_back n (Some (values.Domain (domains.Sparse parent rank))) e =
+      ap (λ k. Some (values.Domain (domains.Sparse parent k))) (rank_line parent rank (well.objects n _ e))
   object_back n (Some (values.Domain (domains.Associative type))) e = refl
   object_back n (Some (values.Array d kind)) e = ap (λ k. Some (values.Array d k)) (kind_line d kind (well.objects n _ e))
   object_back n (Some v) e = absurd (well.objects n _ e)
@@ -153,7 +164,8 @@ module _ (w : Cells) (well : IsWellFormed w) where
   shape_back n (Some (values.Array d kind)) h = sym h
   shape_back n (Some v) h = sym h
 
-  inside_back : (n : Name) (i : Index) (o : Option Value) → IsShape (domain_in o) (get w (Shape n)) → told_by ls (said_in w n o) (In n i) ≡ inside_of (ranges_in (get w (Shape n))) i
+  inside_back : (n : Name) (i : Index) (o : Option Value) → IsShape (domain_in o) (get w (Shape n)) →
+      told_by ls (said_in w n o) (In n i) ≡ inside_of (ranges_in (get w (Shape n))) i
   inside_back n i None h = sym (ap (λ v. inside_of (ranges_in v) i) h)
   inside_back n i (Some (values.Domain (domains.Rectangular rank))) h =
       ap (λ v. present_if (has (indices (unwrap_or (ranges_in v) [])) i)) h.1 ∙ sym (ap (λ v. inside_of (ranges_in v) i) h.1)
@@ -170,7 +182,8 @@ module _ (w : Cells) (well : IsWellFormed w) where
   none_back kind i None never h = refl
   none_back kind i (Some v) never h = absurd (never h.1)
 
-  member_back : (n : Name) (i : Index) (o : Option Value) → IsMember w (domain_in o) i (get w (Member n i)) → told_by ls (said_in w n o) (Member n i) ≡ get w (Member n i)
+  member_back : (n : Name) (i : Index) (o : Option Value) → IsMember w (domain_in o) i (get w (Member n i)) →
+      told_by ls (said_in w n o) (Member n i) ≡ get w (Member n i)
   member_back n i None h = none_back None i (get w (Member n i)) (λ x. x) h
   member_back n i (Some (values.Domain (domains.Rectangular rank))) h = none_back (Some (domains.Rectangular rank)) i (get w (Member n i)) (λ x. x) h
   member_back n i (Some (values.Domain (domains.Sparse parent rank))) h =
@@ -198,12 +211,14 @@ module _ (w : Cells) (well : IsWellFormed w) where
 
   -- ---- arrays
 
-  implicit_kind : (n d : Name) (kind : Kind) → IsImplicit (Some (d, kind)) (get w (Implicit n)) → Some (values.Number (implicit_told kind (implicit_in w n kind))) ≡ get w (Implicit n)
+  implicit_kind : (n d : Name) (kind : Kind) → IsImplicit (Some (d, kind)) (get w (Implicit n)) →
+      Some (values.Number (implicit_told kind (implicit_in w n kind))) ≡ get w (Implicit n)
   implicit_kind n d (Rectangular rank) h = sym h
   implicit_kind n d (Sparse rank) h = ap (λ v. Some (values.Number (unwrap_or (number_in v) (pos 0)))) h.1 ∙ sym h.1
   implicit_kind n d (Associative type) h = sym h
 
-  implicit_back : (n : Name) (o : Option Value) → get w (Object n) ≡ o → IsImplicit (array_in o) (get w (Implicit n)) → told_by ls (said_in w n o) (Implicit n) ≡ get w (Implicit n)
+  implicit_back : (n : Name) (o : Option Value) → get w (Object n) ≡ o → IsImplicit (array_in o) (get w (Implicit n)) →
+      told_by ls (said_in w n o) (Implicit n) ≡ get w (Implicit n)
   implicit_back n None e h = sym h
   implicit_back n (Some (values.Domain (domains.Rectangular rank))) e h = sym h
   implicit_back n (Some (values.Domain (domains.Sparse parent rank))) e h = sym h
@@ -216,13 +231,16 @@ module _ (w : Cells) (well : IsWellFormed w) where
   column n d kind e = all_there w n d kind well (ap array_in e)
 
   element_array : (n d : Name) (kind : Kind) (i : Index) → get w (Object n) ≡ Some (values.Array d kind)
-      → option_map (λ z. values.Number z) (last_of index_cmp (zip (indices_told (first_line_of d ls)) (elements_at w n (indices_in w d kind))) i) ≡ get w (Element n i)
+      → option_map (λ z. values.Number z) (last_of index_cmp (zip (indices_told (first_line_of d ls)) (elements_at w n (indices_in w d kind))) i) ≡ get w
+      (Element n i)
   element_array n d kind i e =
-      ap (λ is. option_map (λ z. values.Number z) (last_of index_cmp (zip is (elements_at w n (indices_in w d kind))) i)) (indices_line d kind (well.objects n _ e))
+      ap (λ is. option_map (λ z. values.Number z) (last_of index_cmp (zip is (elements_at w n (indices_in w d kind))) i))
+      (indices_line d kind (well.objects n _ e))
       ∙ ap (option_map (λ z. values.Number z)) (column_last (element_at w n) (indices_in w d kind) i (column n d kind e))
       ∙ number_back (has (indices_in w d kind) i) (get w (Element n i)) (element_by w n d kind i (has (indices_in w d kind) i) well (ap array_in e) refl)
 
-  element_back : (n : Name) (i : Index) (o : Option Value) → get w (Object n) ≡ o → IsElement (is_index_of_array w (array_in o) i) (get w (Element n i)) → told_by ls (said_in w n o) (Element n i) ≡ get w (Element n i)
+  element_back : (n : Name) (i : Index) (o : Option Value) → get w (Object n) ≡ o → IsElement (is_index_of_array w (array_in o) i) (get w (Element n i)) →
+      told_by ls (said_in w n o) (Element n i) ≡ get w (Element n i)
   element_back n i None e h = sym h
   element_back n i (Some (values.Domain (domains.Rectangular rank))) e h = sym h
   element_back n i (Some (values.Domain (domains.Sparse parent rank))) e h = sym h

@@ -1,5 +1,6 @@
 -- What a well-formed workbook says is sound, and its lines are of different names.
-use Rattle.std.proofs.Common.{◌≡◌, ℕ, ◌==◌, Bool, true, false, ◌&&◌, cond, List, [], ◌∷◌, length, Option, Some, None, is_some, unwrap_or, refl, sym, ap, ◌∙◌, subst, eqb-true}
+use Rattle.std.proofs.Common.{◌≡◌, ℕ, ◌==◌, Bool, true, false, ◌&&◌, cond, List, [], ◌∷◌, length, Option, Some, None, is_some, unwrap_or, refl, sym, ap, ◌∙◌}
+use Rattle.std.proofs.Common.{subst, eqb-true}
 use Rattle.std.proofs.lemmas.Bool.{eq-eqb}
 use Rattle.std.specs.Cmp.Lexicographic.{slice_cmp}
 use Rattle.std.specs.FinMap.{get}
@@ -61,10 +62,13 @@ fourth_of_six false b c d g h e = cc
 
 rank_of_mapping : (rank : ℕ) (m : LayoutMap) → is_layout rank m ≡ true → is_of_rank rank m ≡ true
 rank_of_mapping rank whole e = refl
-rank_of_mapping rank (block m) e = turned (length m.grid) rank (third_of_five (is_rank rank) (length m.box == rank) (length m.grid == rank) (is_box m.box) (is_grid m.grid) e)
-rank_of_mapping rank (cyclic m) e = turned (length m.grid) rank (third_of_four (is_rank rank) (length m.start == rank) (length m.grid == rank) (is_grid m.grid) e)
+rank_of_mapping rank (block m) e = turned (length m.grid) rank
+    (third_of_five (is_rank rank) (length m.box == rank) (length m.grid == rank) (is_box m.box) (is_grid m.grid) e)
+rank_of_mapping rank (cyclic m) e = turned (length m.grid) rank
+    (third_of_four (is_rank rank) (length m.start == rank) (length m.grid == rank) (is_grid m.grid) e)
 rank_of_mapping rank (block_cyclic m) e =
-    turned (length m.grid) rank (fourth_of_six (is_rank rank) (length m.start == rank) (length m.size == rank) (length m.grid == rank) (are_positive m.size) (is_grid m.grid) e)
+    turned (length m.grid) rank (fourth_of_six (is_rank rank) (length m.start == rank) (length m.size == rank) (length m.grid == rank) (are_positive m.size)
+    (is_grid m.grid) e)
 
 -- ---- members
 
@@ -80,16 +84,19 @@ module _ (w : Cells) (well : IsWellFormed w) where
   member_may : (d : Name) (kind : DomainKind) (i : Index) → domain_at w d ≡ Some kind → is_some (get w (Member d i)) ≡ true → MayHave w (Some kind) i
   member_may d kind i is there = subst (λ k. MayHave w k i) is (has_members w (domain_at w d) i (get w (Member d i)) (well.members d i) there)
 
-  inside_known : (parent : Name) (rank : ℕ) (i : Index) → domain_at w parent ≡ Some (domains.Rectangular rank) → get w (In parent i) ≡ Some Present → has (indices (ranges_at w well parent)) i ≡ true
+  inside_known : (parent : Name) (rank : ℕ) (i : Index) → domain_at w parent ≡ Some (domains.Rectangular rank) → get w (In parent i) ≡ Some Present →
+      has (indices (ranges_at w well parent)) i ≡ true
   inside_known parent rank i is e =
       let shape = shape_of w well parent rank is in
       ap (λ v. has (indices (unwrap_or (ranges_in v) [])) i) shape.1
       ∙ present_known (has (indices shape.0) i) (sym (ap (λ v. inside_of (ranges_in v) i) shape.1) ∙ sym (well.insides parent i) ∙ e)
 
-  sparse_within : (d parent : Name) (rank : ℕ) → domain_at w d ≡ Some (domains.Sparse parent rank) → domain_at w parent ≡ Some (domains.Rectangular rank) → list_all (has (indices (ranges_at w well parent))) (members w d) ≡ true
+  sparse_within : (d parent : Name) (rank : ℕ) → domain_at w d ≡ Some (domains.Sparse parent rank) → domain_at w parent ≡ Some (domains.Rectangular rank) →
+      list_all (has (indices (ranges_at w well parent))) (members w d) ≡ true
   sparse_within d parent rank is over =
       each_passes (has (indices (ranges_at w well parent))) (members w d)
-      (members_each (λ i. has (indices (ranges_at w well parent)) i ≡ true) w d (λ i there. inside_known parent rank i over (member_may d (domains.Sparse parent rank) i is there)))
+      (members_each (λ i. has (indices (ranges_at w well parent)) i ≡ true) w d
+      (λ i there. inside_known parent rank i over (member_may d (domains.Sparse parent rank) i is there)))
 
   associative_keys : (d : Name) (type : KeyType) → domain_at w d ≡ Some (domains.Associative type) → list_all (is_key (Associative type)) (members w d) ≡ true
   associative_keys d type is =

@@ -1,5 +1,6 @@
 -- What loops over lines come to.
-use Rattle.std.proofs.Common.{◌≡◌, ℕ, zero, suc, ◌<◌, ◌≤◌, Bool, true, false, ◌&&◌, cond, List, [], ◌∷◌, map, take, drop, length, get_or, slice_get, Option, Some, None, is_some, option_and_then, refl, sym, ap, ◌∙◌, subst, arith, drop-cons}
+use Rattle.std.proofs.Common.{◌≡◌, ℕ, zero, suc, ◌<◌, ◌≤◌, Bool, true, false, ◌&&◌, cond, List, [], ◌∷◌, map, take, drop, length, get_or, slice_get, Option}
+use Rattle.std.proofs.Common.{Some, None, is_some, option_and_then, refl, sym, ap, ◌∙◌, subst, arith, drop-cons}
 use Rattle.std.proofs.lemmas.List.{take_all, drop-map}
 use Rattle.std.proofs.lemmas.List.Folds.{list_all-map}
 use Rattle.std.specs.BTreeMap.{BTreeMap, Updates}
@@ -20,13 +21,16 @@ each_of : (P : Line → Type 0) (xs : List ObjectLine) → AllByRecursion (λ x.
 each_of P [] h = tt
 each_of P (x ∷ xs) h = (h.0, each_of P xs h.1)
 
-pub all_lines : (P : Line → Type 0) (xs : List ObjectLine) (n : ℕ) → length xs ≤ n → AllByRecursion (λ x. P (line_of x)) (take n xs) → AllByRecursion P (map line_of xs)
+pub all_lines : (P : Line → Type 0) (xs : List ObjectLine) (n : ℕ) → length xs ≤ n → AllByRecursion (λ x. P (line_of x)) (take n xs) →
+    AllByRecursion P (map line_of xs)
 all_lines P xs n h k = each_of P xs (subst (AllByRecursion (λ x. P (line_of x))) (take_all n xs h) k)
 
-pub all_pass : (p : Line → Bool) (xs : List ObjectLine) (n : ℕ) → length xs ≤ n → list_all (λ x. p (line_of x)) (take n xs) ≡ true → list_all p (map line_of xs) ≡ true
+pub all_pass : (p : Line → Bool) (xs : List ObjectLine) (n : ℕ) → length xs ≤ n → list_all (λ x. p (line_of x)) (take n xs) ≡ true →
+    list_all p (map line_of xs) ≡ true
 all_pass p xs n h k = list_all-map p line_of xs ∙ sym (ap (list_all (λ x. p (line_of x))) (take_all n xs h)) ∙ k
 
-pub one_fails : (p : Line → Bool) (xs : List ObjectLine) (i : ℕ) (x : ObjectLine) → i < length xs → x ≡ get_or xs i x → p (line_of x) ≡ false → list_all p (map line_of xs) ≡ false
+pub one_fails : (p : Line → Bool) (xs : List ObjectLine) (i : ℕ) (x : ObjectLine) → i < length xs → x ≡ get_or xs i x → p (line_of x) ≡ false →
+    list_all p (map line_of xs) ≡ false
 one_fails p [] i x h this f = absurd (omega arith)
 one_fails p (y ∷ xs) zero x h this f = ap (λ z. p (line_of z) && list_all p (map line_of xs)) (sym this) ∙ ap (λ b. b && list_all p (map line_of xs)) f
 one_fails p (y ∷ xs) (suc i) x h this f =
@@ -43,7 +47,8 @@ pub not_distinct : (ls : List Line) (k : ℕ) → are_distinct (drop k ls) ≡ f
 not_distinct [] zero f = f
 not_distinct [] (suc k) f = f
 not_distinct (l ∷ ls) zero f = f
-not_distinct (l ∷ ls) (suc k) f = ap (cond (is_some (first_line_of (name_of l) ls)) false) (not_distinct ls k f) ∙ either (is_some (first_line_of (name_of l) ls))
+not_distinct (l ∷ ls) (suc k) f = ap (cond (is_some (first_line_of (name_of l) ls)) false) (not_distinct ls k f) ∙
+    either (is_some (first_line_of (name_of l) ls))
   where
     either : (b : Bool) → cond b false false ≡ false
     either true = refl
@@ -58,7 +63,8 @@ once l ls e d = ap (λ b. cond b false (are_distinct ls)) e ∙ d
 pub turned : (n m : Name) → is_same_name n m ≡ is_same_name m n
 turned n m = (eq_by_cmp_equiv nat_list_cmp_total).symm n m
 
-chosen : (b : Bool) (lines : List Line) (p : ℕ) (o : Option ℕ) (l : Line) (r : Option Line) → slice_get lines p ≡ Some l → option_and_then (slice_get lines) o ≡ r → option_and_then (slice_get lines) (cond b (Some p) o) ≡ cond b (Some l) r
+chosen : (b : Bool) (lines : List Line) (p : ℕ) (o : Option ℕ) (l : Line) (r : Option Line) → slice_get lines p ≡ Some l →
+    option_and_then (slice_get lines) o ≡ r → option_and_then (slice_get lines) (cond b (Some p) o) ≡ cond b (Some l) r
 chosen true lines p o l r e f = e
 chosen false lines p o l r e f = f
 
@@ -67,7 +73,8 @@ some_either true p o l r e = refl
 some_either false p o l r e = e
 
 -- a line that is put in ahead of those that are found
-pub found_more : (lines ls : List Line) (l : Line) (m n : BTreeMap Name ℕ) (p : ℕ) → slice_get lines p ≡ Some l → Finds m lines ls → Updates (slice_cmp nat_cmp) m n (name_of l) (Some p) → Finds n lines (l ∷ ls)
+pub found_more : (lines ls : List Line) (l : Line) (m n : BTreeMap Name ℕ) (p : ℕ) → slice_get lines p ≡ Some l → Finds m lines ls →
+    Updates (slice_cmp nat_cmp) m n (name_of l) (Some p) → Finds n lines (l ∷ ls)
 found_more lines ls l m n p there found is = record {
   line = λ q.
       ap (option_and_then (slice_get lines)) (is.0 q ∙ ap (λ b. cond b (Some p) (tree.get (slice_cmp nat_cmp) m q)) (turned (name_of l) q))
@@ -95,23 +102,29 @@ pub record IsRead (xs : List ObjectLine) (k j : ℕ) (x : ObjectLine) (q : Name)
   pub named : q ≡ name_of (line_of x)
   pub found : Finds m (map line_of xs) (map line_of (drop j xs))
 
-pub is_read : (xs : List ObjectLine) (k j : ℕ) (x : ObjectLine) (q : Name) (m : BTreeMap Name ℕ) → k < length xs → j ≡ suc k → x ≡ get_or xs k x → q ≡ name_of (line_of x) → Finds m (map line_of xs) (map line_of (drop j xs)) → IsRead xs k j x q m
+pub is_read : (xs : List ObjectLine) (k j : ℕ) (x : ObjectLine) (q : Name) (m : BTreeMap Name ℕ) → k < length xs → j ≡ suc k → x ≡ get_or xs k x →
+    q ≡ name_of (line_of x) → Finds m (map line_of xs) (map line_of (drop j xs)) → IsRead xs k j x q m
 is_read xs k j x q m a b d e f = record { low = a; next = b; this = d; named = e; found = f }
 
-pub next_found : (xs : List ObjectLine) (k j i : ℕ) (x : ObjectLine) (q : Name) (m n : BTreeMap Name ℕ) → IsRead xs k j x q m → i ≡ k → Updates (slice_cmp nat_cmp) m n q (Some k) → Finds n (map line_of xs) (map line_of (drop i xs))
+pub next_found : (xs : List ObjectLine) (k j i : ℕ) (x : ObjectLine) (q : Name) (m n : BTreeMap Name ℕ) → IsRead xs k j x q m → i ≡ k →
+    Updates (slice_cmp nat_cmp) m n q (Some k) → Finds n (map line_of xs) (map line_of (drop i xs))
 next_found xs k j i x q m n h same is =
     subst (λ (ys : List ObjectLine). Finds n (map line_of xs) (map line_of ys)) (sym (ap (λ t. drop t xs) same ∙ drop_at xs k j x h.low h.next h.this))
-    (found_more (map line_of xs) (map line_of (drop j xs)) (line_of x) m n k (place_line xs k x h.low h.this) h.found (subst (λ (r : Name). Updates (slice_cmp nat_cmp) m n r (Some k)) h.named is))
+    (found_more (map line_of xs) (map line_of (drop j xs)) (line_of x) m n k (place_line xs k x h.low h.this) h.found
+    (subst (λ (r : Name). Updates (slice_cmp nat_cmp) m n r (Some k)) h.named is))
 
-there_is : (xs : List ObjectLine) (k j : ℕ) (x : ObjectLine) (q : Name) (m : BTreeMap Name ℕ) → IsRead xs k j x q m → is_some (first_line_of (name_of (line_of x)) (map line_of (drop j xs))) ≡ is_some (tree.get (slice_cmp nat_cmp) m q)
+there_is : (xs : List ObjectLine) (k j : ℕ) (x : ObjectLine) (q : Name) (m : BTreeMap Name ℕ) → IsRead xs k j x q m →
+    is_some (first_line_of (name_of (line_of x)) (map line_of (drop j xs))) ≡ is_some (tree.get (slice_cmp nat_cmp) m q)
 there_is xs k j x q m h = sym (h.found.there (name_of (line_of x))) ∙ ap (λ r. is_some (tree.get (slice_cmp nat_cmp) m r)) (sym h.named)
 
-pub next_distinct : (xs : List ObjectLine) (k j i : ℕ) (x : ObjectLine) (q : Name) (m : BTreeMap Name ℕ) → IsRead xs k j x q m → i ≡ k → tree.get (slice_cmp nat_cmp) m q ≡ None → are_distinct (map line_of (drop j xs)) ≡ true → are_distinct (map line_of (drop i xs)) ≡ true
+pub next_distinct : (xs : List ObjectLine) (k j i : ℕ) (x : ObjectLine) (q : Name) (m : BTreeMap Name ℕ) → IsRead xs k j x q m → i ≡ k →
+    tree.get (slice_cmp nat_cmp) m q ≡ None → are_distinct (map line_of (drop j xs)) ≡ true → are_distinct (map line_of (drop i xs)) ≡ true
 next_distinct xs k j i x q m h same new before =
     ap (λ t. are_distinct (map line_of (drop t xs))) same ∙ ap (λ (ys : List ObjectLine). are_distinct (map line_of ys)) (drop_at xs k j x h.low h.next h.this)
     ∙ once (line_of x) (map line_of (drop j xs)) (there_is xs k j x q m h ∙ ap is_some new) before
 
-pub name_again : (xs : List ObjectLine) (k j p : ℕ) (x : ObjectLine) (q : Name) (m : BTreeMap Name ℕ) → IsRead xs k j x q m → tree.get (slice_cmp nat_cmp) m q ≡ Some p → are_distinct (map line_of xs) ≡ false
+pub name_again : (xs : List ObjectLine) (k j p : ℕ) (x : ObjectLine) (q : Name) (m : BTreeMap Name ℕ) → IsRead xs k j x q m →
+    tree.get (slice_cmp nat_cmp) m q ≡ Some p → are_distinct (map line_of xs) ≡ false
 name_again xs k j p x q m h old =
     not_distinct (map line_of xs) k
     (ap are_distinct (drop-map line_of k xs) ∙ ap (λ (ys : List ObjectLine). are_distinct (map line_of ys)) (drop_at xs k j x h.low h.next h.this)

@@ -34,14 +34,16 @@ module _ (s : Cells) (c : Cell) (v : Value) where
       ∙ by x (eq_by_cmp cell_cmp x c) refl
       ∙ sym (get-put x)
     where
-      by : (x : Cell) (b : Bool) → eq_by_cmp cell_cmp x c ≡ b → cond (eq_by_cmp cell_cmp x c) (Some v) (cond (is_stored x) (get s x) None) ≡ cond (is_stored x) (cond (eq_by_cmp cell_cmp x c) (Some v) (get s x)) None
+      by : (x : Cell) (b : Bool) → eq_by_cmp cell_cmp x c ≡ b → cond (eq_by_cmp cell_cmp x c) (Some v) (cond (is_stored x) (get s x) None) ≡ cond (is_stored x)
+          (cond (eq_by_cmp cell_cmp x c) (Some v) (get s x)) None
       by x true same = rw (same, same_stored x c true same st) refl
       by x false other = rw other refl
 
   stored-other : is_stored c ≡ false → stored_cells (insert s c v) ≡ stored_cells s
   stored-other st = same_states cell_order _ _ λ x. get-put x ∙ by x (eq_by_cmp cell_cmp x c) refl ∙ sym (get-stored_cells s x)
     where
-      by : (x : Cell) (b : Bool) → eq_by_cmp cell_cmp x c ≡ b → cond (is_stored x) (cond (eq_by_cmp cell_cmp x c) (Some v) (get s x)) None ≡ cond (is_stored x) (get s x) None
+      by : (x : Cell) (b : Bool) → eq_by_cmp cell_cmp x c ≡ b → cond (is_stored x) (cond (eq_by_cmp cell_cmp x c) (Some v) (get s x)) None ≡ cond (is_stored x)
+          (get s x) None
       by x true same = rw (same_stored x c false same st) refl
       by x false other = rw other refl
 

@@ -1,5 +1,6 @@
 -- Cells as sound lines tell of them are well formed.
-use Rattle.std.proofs.Common.{◌≡◌, ℕ, ℤ, pos, ◌≤◌, Bool, true, false, ◌||◌, cond, List, [], ◌∷◌, length, Option, Some, None, is_some, option_map, refl, sym, ap, ◌∙◌, subst, le-leb, eqb-true, ◌==◌, arith, rules}
+use Rattle.std.proofs.Common.{◌≡◌, ℕ, ℤ, pos, ◌≤◌, Bool, true, false, ◌||◌, cond, List, [], ◌∷◌, length, Option, Some, None, is_some, option_map, refl, sym, ap}
+use Rattle.std.proofs.Common.{◌∙◌, subst, le-leb, eqb-true, ◌==◌, arith, rules}
 use Rattle.std.specs.Prelude.{FitsSigned, IfSome}
 use Rattle.std.proofs.lemmas.List.Elements.{recursion_from_All}
 use Rattle.std.specs.Int.{w64}
@@ -22,7 +23,8 @@ use Rattle.wb_book.specs.Kinds.{kind_of, is_key, IsIndex}
 use Rattle.wb_book.specs.Layouts.{is_of_rank, IsMapping, IsLayout}
 use Rattle.wb_book.specs.Names.{is_name}
 use Rattle.wb_book.specs.Shapes.{indices}
-use Rattle.wb_book.specs.WellFormed.{IsWellFormed, IsObject, IsShape, HasMapping, IsMember, MayHave, IsImplicit, IsElement, domain_in, array_in, ranges_in, inside_of, use_of, has, present_if, index_cell, is_index_of_array}
+use Rattle.wb_book.specs.WellFormed.{IsWellFormed, IsObject, IsShape, HasMapping, IsMember, MayHave, IsImplicit, IsElement, domain_in, array_in, ranges_in}
+use Rattle.wb_book.specs.WellFormed.{inside_of, use_of, has, present_if, index_cell, is_index_of_array}
 use Rattle.wb_text.specs.Said.{Line, rectangular, sparse, associative, array, name_of, first_line_of}
 use Rattle.wb_text.proofs.Readable.{both}
 use Rattle.wb_text.proofs.ReadIndices.{some_same}
@@ -73,21 +75,24 @@ listed_is P (j ∷ is) i h e = same_either P i j (has is i) e h.0 (λ t. listed_
 
 -- ---- the tests of lines
 
-parent_kind : (ls : List Line) (p : Name) (is : List Index) (o : Option Line) → are_within (ranges_told o) is ≡ true → domain_in (told_by ls o (Object p)) ≡ Some (domains.Rectangular (rank_told o))
+parent_kind : (ls : List Line) (p : Name) (is : List Index) (o : Option Line) → are_within (ranges_told o) is ≡ true →
+    domain_in (told_by ls o (Object p)) ≡ Some (domains.Rectangular (rank_told o))
 parent_kind ls p is None e = cc
 parent_kind ls p is (Some (rectangular d rs m)) e = refl
 parent_kind ls p is (Some (sparse d parent js)) e = cc
 parent_kind ls p is (Some (associative d type js)) e = cc
 parent_kind ls p is (Some (array a d xs irv)) e = cc
 
-parent_inside : (ls : List Line) (p : Name) (is : List Index) (i : Index) (o : Option Line) → are_within (ranges_told o) is ≡ true → has is i ≡ true → told_by ls o (In p i) ≡ Some values.Present
+parent_inside : (ls : List Line) (p : Name) (is : List Index) (i : Index) (o : Option Line) → are_within (ranges_told o) is ≡ true → has is i ≡ true →
+    told_by ls o (In p i) ≡ Some values.Present
 parent_inside ls p is i None e h = cc
 parent_inside ls p is i (Some (rectangular d rs m)) e h = ap present_if (listed_passes (has (indices rs)) is i e h)
 parent_inside ls p is i (Some (sparse d parent js)) e h = cc
 parent_inside ls p is i (Some (associative d type js)) e h = cc
 parent_inside ls p is i (Some (array a d xs irv)) e h = cc
 
-kind_there : (ls : List Line) (d : Name) (o : Option Line) → is_domain o ≡ true → option_map kind_of (domain_in (told_by ls o (Object d))) ≡ Some (kind_told ls o)
+kind_there : (ls : List Line) (d : Name) (o : Option Line) → is_domain o ≡ true →
+    option_map kind_of (domain_in (told_by ls o (Object d))) ≡ Some (kind_told ls o)
 kind_there ls d None e = cc
 kind_there ls d (Some (rectangular f rs m)) e = refl
 kind_there ls d (Some (sparse f parent is)) e = refl
@@ -98,7 +103,8 @@ is_there : (b : Bool) → is_some (present_if b) ≡ b
 is_there true = refl
 is_there false = refl
 
-index_there : (ls : List Line) (d : Name) (i : Index) (o : Option Line) → is_domain o ≡ true → is_some (told_by ls o (index_cell (kind_told ls o) d i)) ≡ has (indices_told o) i
+index_there : (ls : List Line) (d : Name) (i : Index) (o : Option Line) → is_domain o ≡ true →
+    is_some (told_by ls o (index_cell (kind_told ls o) d i)) ≡ has (indices_told o) i
 index_there ls d i None e = cc
 index_there ls d i (Some (rectangular f rs m)) e = is_there (has (indices rs) i)
 index_there ls d i (Some (sparse f parent is)) e = is_there (has is i)
@@ -126,10 +132,12 @@ number_more true true (Some y) x is fits = is
 number_more false true None x is fits = (x, refl, fits)
 number_more false true (Some y) x is fits = none_some _ (sym is)
 
-element_there : (is : List Index) (xs : List ℤ) (i : Index) → length is ≡ length xs → AllByRecursion (FitsSigned w64) xs → IsElement (has is i) (option_map (λ z. values.Number z) (last_of index_cmp (zip is xs) i))
+element_there : (is : List Index) (xs : List ℤ) (i : Index) → length is ≡ length xs → AllByRecursion (FitsSigned w64) xs →
+    IsElement (has is i) (option_map (λ z. values.Number z) (last_of index_cmp (zip is xs) i))
 element_there [] xs i e h = refl
 element_there (j ∷ is) [] i e h = absurd (omega (arith, e))
-element_there (j ∷ is) (x ∷ xs) i e h = number_more (has is i) (is_same_index i j) (last_of index_cmp (zip is xs) i) x (element_there is xs i (omega (arith, e)) h.1) h.0
+element_there (j ∷ is) (x ∷ xs) i e h = number_more (has is i) (is_same_index i j) (last_of index_cmp (zip is xs) i) x
+    (element_there is xs i (omega (arith, e)) h.1) h.0
 
 -- ---- each cell
 
@@ -175,7 +183,8 @@ use_told ls d n (Some (array a f xs irv)) = cond_else (is_same_name d f) (values
 zero_fits : FitsSigned w64 (pos 0)
 zero_fits = search rules
 
-implicit_kind : (d : Name) (kind : Kind) (irv : Option ℤ) → IfSome irv (FitsSigned w64) → IsImplicit (Some (d, kind)) (Some (values.Number (implicit_told kind irv)))
+implicit_kind : (d : Name) (kind : Kind) (irv : Option ℤ) → IfSome irv (FitsSigned w64) →
+    IsImplicit (Some (d, kind)) (Some (values.Number (implicit_told kind irv)))
 implicit_kind d (Rectangular rank) irv h = refl
 implicit_kind d (Sparse rank) None h = (pos 0, refl, zero_fits)
 implicit_kind d (Sparse rank) (Some z) h = (z, refl, h)
@@ -196,7 +205,8 @@ cell_told ls d i (Associative type) = refl
 
 -- ---- the workbook
 
-module _ (ls : List Line) (s : Cells) (distinct : list_all (is_sound ls) ls ≡ true) (made : AllByRecursion IsMade ls) (as_told : (c : Cell) → get s c ≡ told ls c) where
+module _ (ls : List Line) (s : Cells) (distinct : list_all (is_sound ls) ls ≡ true) (made : AllByRecursion IsMade ls)
+    (as_told : (c : Cell) → get s c ≡ told ls c) where
   fit : (n : Name) → Of (IsFit ls n) (first_line_of n ls)
   fit n = fit_in ls ls n distinct made
 
@@ -208,7 +218,8 @@ module _ (ls : List Line) (s : Cells) (distinct : list_all (is_sound ls) ls ≡ 
   object_made n (Some (associative d type is)) v h e = subst (IsObject s) (some_same _ v e) tt
   object_made n (Some (array a d xs irv)) v h e =
       subst (IsObject s) (some_same _ v e)
-      (ap (λ w. option_map kind_of (domain_in w)) (as_told (Object d)) ∙ kind_there ls d (first_line_of d ls) (both (is_domain (first_line_of d ls)) _ h.sound).0)
+      (ap (λ w. option_map kind_of (domain_in w)) (as_told (Object d)) ∙
+      kind_there ls d (first_line_of d ls) (both (is_domain (first_line_of d ls)) _ h.sound).0)
 
   member_if : (kind : Option DomainKind) (i : Index) (b : Bool) → (b ≡ true → MayHave s kind i) → IsMember s kind i (present_if b)
   member_if kind i true h = (refl, h refl)
@@ -218,12 +229,15 @@ module _ (ls : List Line) (s : Cells) (distinct : list_all (is_sound ls) ls ≡ 
   member_made n i None h = tt
   member_made n i (Some (rectangular d rs m)) h = tt
   member_made n i (Some (sparse d parent is)) h =
-      member_if (Some (domains.Sparse parent (rank_told (first_line_of parent ls)))) i (has is i) (λ there. as_told (In parent i) ∙ parent_inside ls parent is i (first_line_of parent ls) h.sound there)
+      member_if (Some (domains.Sparse parent (rank_told (first_line_of parent ls)))) i (has is i)
+      (λ there. as_told (In parent i) ∙ parent_inside ls parent is i (first_line_of parent ls) h.sound there)
   member_made n i (Some (associative d type is)) h =
-      member_if (Some (domains.Associative type)) i (has is i) (λ there. (listed_passes (is_key (Associative type)) is i h.sound there, listed_is IsIndex is i (recursion_from_All IsIndex is h.made.1) there))
+      member_if (Some (domains.Associative type)) i (has is i) (λ there.
+      (listed_passes (is_key (Associative type)) is i h.sound there, listed_is IsIndex is i (recursion_from_All IsIndex is h.made.1) there))
   member_made n i (Some (array a d xs irv)) h = tt
 
-  element_made : (n : Name) (i : Index) (o : Option Line) → Of (IsFit ls n) o → IsElement (is_index_of_array s (array_in (told_by ls o (Object n))) i) (told_by ls o (Element n i))
+  element_made : (n : Name) (i : Index) (o : Option Line) → Of (IsFit ls n) o →
+      IsElement (is_index_of_array s (array_in (told_by ls o (Object n))) i) (told_by ls o (Element n i))
   element_made n i None h = refl
   element_made n i (Some (rectangular d rs m)) h = refl
   element_made n i (Some (sparse d parent is)) h = refl
@@ -232,7 +246,8 @@ module _ (ls : List Line) (s : Cells) (distinct : list_all (is_sound ls) ls ≡ 
       let over : Option Line = first_line_of d ls in
       let tests = both (is_domain (first_line_of d ls)) (length (indices_told (first_line_of d ls)) == length xs) h.sound in
       let index : is_some (get s (index_cell (kind_told ls (first_line_of d ls)) d i)) ≡ has (indices_told (first_line_of d ls)) i =
-      ap is_some (as_told (index_cell (kind_told ls (first_line_of d ls)) d i)) ∙ ap is_some (cell_told ls d i (kind_told ls (first_line_of d ls))) ∙ index_there ls d i (first_line_of d ls) tests.0 in
+      ap is_some (as_told (index_cell (kind_told ls (first_line_of d ls)) d i)) ∙ ap is_some (cell_told ls d i (kind_told ls (first_line_of d ls))) ∙
+      index_there ls d i (first_line_of d ls) tests.0 in
       subst (λ b. IsElement b (option_map (λ z. values.Number z) (last_of index_cmp (zip (indices_told (first_line_of d ls)) xs) i))) (sym index)
       (element_there (indices_told (first_line_of d ls)) xs i (eqb-true _ _ tests.1) (recursion_from_All (FitsSigned w64) xs h.made.1))
 

@@ -1,5 +1,6 @@
 -- What the literals of a well-formed workbook's lines stand for is within the limits, and the indices of each set are alike.
-use Rattle.std.proofs.Common.{◌≡◌, ◌==◌, ℕ, ℤ, nat_eq, Bool, true, false, List, [], ◌∷◌, Option, Some, None, is_some, unwrap_or, length, refl, sym, ap, ◌∙◌, subst, eq-eqb, eqb-true, arith}
+use Rattle.std.proofs.Common.{◌≡◌, ◌==◌, ℕ, ℤ, nat_eq, Bool, true, false, List, [], ◌∷◌, Option, Some, None, is_some, unwrap_or, length, refl, sym, ap, ◌∙◌}
+use Rattle.std.proofs.Common.{subst, eq-eqb, eqb-true, arith}
 use Rattle.std.specs.FinMap.{get}
 use Rattle.std.specs.List.{cons_option, filter_map}
 use Rattle.wb_rect.specs.Product.{IsRectangle}
@@ -53,7 +54,8 @@ may_have : (s : Cells) (kind : Option DomainKind) (i : Index) (o : Option Value)
 may_have s kind i None m e = true_false e
 may_have s kind i (Some v) m e = m.1
 
-member_may : (s : Cells) (d : Name) (kind : DomainKind) (i : Index) → IsWellFormed s → domain_at s d ≡ Some kind → is_some (get s (Member d i)) ≡ true → MayHave s (Some kind) i
+member_may : (s : Cells) (d : Name) (kind : DomainKind) (i : Index) → IsWellFormed s → domain_at s d ≡ Some kind → is_some (get s (Member d i)) ≡ true →
+    MayHave s (Some kind) i
 member_may s d kind i w is there = subst (λ k. MayHave s k i) is (may_have s (domain_at s d) i (get s (Member d i)) (w.members d i) there)
 
 -- ---- sparse domains
@@ -65,21 +67,25 @@ present_known : (b : Bool) → present_if b ≡ Some values.Present → b ≡ tr
 present_known true e = refl
 present_known false e = cc
 
-rank_by : (b : Bool) (rs : List (List ℤ)) (is : List ℤ) (rank : ℕ) → nat_eq (length is) rank ≡ b → length rs ≡ rank → has (indices rs) (Point is) ≡ true → b ≡ true
+rank_by : (b : Bool) (rs : List (List ℤ)) (is : List ℤ) (rank : ℕ) → nat_eq (length is) rank ≡ b → length rs ≡ rank → has (indices rs) (Point is) ≡ true →
+    b ≡ true
 rank_by true rs is rank e f h = refl
-rank_by false rs is rank e f h = true_false (has_none_of_other_rank rs is (λ same. let g = ap (nat_eq (length is)) (sym f) in let t = eq-eqb (length is) (length rs) same in cc) ∙ h)
+rank_by false rs is rank e f h = true_false (has_none_of_other_rank rs is
+    (λ same. let g = ap (nat_eq (length is)) (sym f) in let t = eq-eqb (length is) (length rs) same in cc) ∙ h)
 
 rank_of : (rank : ℕ) (rs : List (List ℤ)) (i : Index) → IsRectangle rank rs → has (indices rs) i ≡ true → is_point rank i ≡ true
 rank_of rank rs (Text t) r h = true_false (has_no_text rs t ∙ h)
 rank_of rank rs (Point is) r h = rank_by (length is == rank) rs is rank refl r.dimensions h
 
-inside_rank : (s : Cells) (parent : Name) (rank : ℕ) (i : Index) → IsWellFormed s → domain_at s parent ≡ Some (Rectangular rank) → get s (In parent i) ≡ Some values.Present → is_point rank i ≡ true
+inside_rank : (s : Cells) (parent : Name) (rank : ℕ) (i : Index) → IsWellFormed s → domain_at s parent ≡ Some (Rectangular rank) →
+    get s (In parent i) ≡ Some values.Present → is_point rank i ≡ true
 inside_rank s parent rank i w is e =
     let shape = shape_at s parent rank w is in
     let rs = shape.0 in
     rank_of rank rs i shape.2 (present_known (has (indices rs) i) (sym (ap (λ v. inside_of (ranges_in v) i) shape.1) ∙ sym (w.insides parent i) ∙ e))
 
-sparse_alike : (s : Cells) (d parent : Name) (rank : ℕ) → IsWellFormed s → domain_at s d ≡ Some (Sparse parent rank) → domain_at s parent ≡ Some (Rectangular rank) → AreAlike (members s d)
+sparse_alike : (s : Cells) (d parent : Name) (rank : ℕ) → IsWellFormed s → domain_at s d ≡ Some (Sparse parent rank) →
+    domain_at s parent ≡ Some (Rectangular rank) → AreAlike (members s d)
 sparse_alike s d parent rank w is within =
     let r = (shape_at s parent rank w within).2 in
     points rank r.at_least_one r.at_most_three (each_of_rank rank (members s d) (sparse_members s d parent rank w is within)
@@ -103,8 +109,11 @@ associative_alike s d types.Text w is =
 rectangular_meant : (s : Cells) (d : Name) (rank : ℕ) → IsWellFormed s → domain_at s d ≡ Some (Rectangular rank) → IsMeant (domain_said s d (Rectangular rank))
 rectangular_meant s d rank w is =
     let shape = shape_at s d rank w is in
-    let mapping : HasMapping (Some (Rectangular rank)) (get s (Mapping d)) = subst (λ k. HasMapping k (get s (Mapping d))) is (w.mappings d) in
-    (rank, subst (λ v. IsRectangle rank (unwrap_or (ranges_in v) [])) (sym shape.1) shape.2, subst (λ v. IsMapping rank (unwrap_or (mapping_in v) whole)) (sym mapping.1) mapping.2)
+    let mapping : HasMapping (Some (Rectangular rank)) (get s (Mapping d)) = subst (λ k. HasMapping k (get s (Mapping d))) is (w.mappings d) in (
+      rank,
+      subst (λ v. IsRectangle rank (unwrap_or (ranges_in v) [])) (sym shape.1) shape.2,
+      subst (λ v. IsMapping rank (unwrap_or (mapping_in v) whole)) (sym mapping.1) mapping.2,
+    )
 
 domain_meant : (s : Cells) (d : Name) (kind : DomainKind) → IsWellFormed s → get s (Object d) ≡ Some (values.Domain kind) → IsMeant (domain_said s d kind)
 domain_meant s d (Rectangular rank) w e = rectangular_meant s d rank w (ap domain_in e)

@@ -1,5 +1,6 @@
 -- Names at the front of a text.
-use Rattle.std.proofs.Common.{◌≡◌, ℕ, ◌<◌, ◌≤◌, Bool, true, false, ◌&&◌, ◌||◌, ◌==◌, nat_le, List, [], ◌∷◌, ◌++◌, length, drop, Some, None, option_map, option_and_then, position, refl, sym, ap, ◌∙◌, eq-eqb, ne_eqb, eqb-true, lt-ltb, arith}
+use Rattle.std.proofs.Common.{◌≡◌, ℕ, ◌<◌, ◌≤◌, Bool, true, false, ◌&&◌, ◌||◌, ◌==◌, nat_le, List, [], ◌∷◌, ◌++◌, length, drop, Some, None, option_map}
+use Rattle.std.proofs.Common.{option_and_then, position, refl, sym, ap, ◌∙◌, eq-eqb, ne_eqb, eqb-true, lt-ltb, arith}
 use Rattle.std.proofs.Math.Seq.{take-append_seam, drop-append_seam}
 use Rattle.std.proofs.lemmas.Bool.{leb-true}
 use Rattle.std.proofs.lemmas.List.{length-append}

@@ -1,5 +1,6 @@
 -- The parts of a line at the front of a text: what was read, and what follows it.
-use Rattle.std.specs.Prelude.{ℕ, ℤ, List, length, take, drop, codes, nat_eq, Bool, ◌&&◌, Option, Some, None, option_map, option_and_then, position, if◌then◌else◌}
+use Rattle.std.specs.Prelude.{ℕ, ℤ, List, length, take, drop, codes, nat_eq, Bool, ◌&&◌, Option, Some, None, option_map, option_and_then, position}
+use Rattle.std.specs.Prelude.{if◌then◌else◌}
 use Rattle.std.specs.Option.{option_map_or}
 use Rattle.std.specs.Result.{result_ok}
 use Rattle.std.specs.Str.Lossy.{utf8_valid_len}

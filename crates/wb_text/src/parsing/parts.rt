@@ -1,6 +1,7 @@
 //! The parts of a line at the front of a text.
 ghost use Rattle.std.specs.Prelude.{◌≡◌, ℕ, ◌≤◌, ◌<◌, length, position, take, drop, Some, None, IfOk, IfSome, codes, option_map, option_and_then};
-ghost use Rattle.wb_text.specs.Parsed.Parts.{is_space, name_of, name_up_to, name_at, names_at, type_at, typed_at, ranges_at, layout_at, members_at, elements_at, last_integer_at, implicit_at};
+ghost use Rattle.wb_text.specs.Parsed.Parts.{is_space, name_of, name_up_to, name_at, names_at, type_at, typed_at, ranges_at, layout_at, members_at};
+ghost use Rattle.wb_text.specs.Parsed.Parts.{elements_at, last_integer_at, implicit_at};
 
 use std::alloc::{AllocError, Global};
 use wb_book::{AnyIndex, AnyLayout, AnyRect, KeyType, Name};

@@ -23,7 +23,8 @@ fn put_array(
     line: &ObjectLine,
 ) -> Result<(), NoMemory>
     requires { Finds places.now (map line_of lines.now) (map line_of lines.now) }
-    ensures { OnOk result ((more : List Line) → first_line_of (name_of (line_of line.now)) more ≡ None → AreArraysTold (map line_of lines.now) more arrays.old.entries → AreArraysTold (map line_of lines.now) (line_of line.now ∷ more) arrays.new.entries) }
+    ensures { OnOk result ((more : List Line) → first_line_of (name_of (line_of line.now)) more ≡ None →
+        AreArraysTold (map line_of lines.now) more arrays.old.entries → AreArraysTold (map line_of lines.now) (line_of line.now ∷ more) arrays.new.entries) }
 {
     match line {
         ObjectLine::Rectangular(_, _, _) => Ok(()),

@@ -8,7 +8,8 @@ ghost use Rattle.wb_book.specs.declared.cells.kind.Kind.TheVariants.{Associative
 ghost use Rattle.wb_text.specs.Said.{first_line_of, line_of};
 ghost use Rattle.wb_text.specs.FromLines.Found.{Finds};
 ghost use Rattle.wb_text.specs.FromLines.Inserted.{inserted};
-ghost use Rattle.wb_text.specs.FromLines.Told.{ranges_told, rank_told, kind_told, indices_told, implicit_told, is_domain, are_within, is_sound, rectangular_stored, sparse_cells, associative_cells, array_stored, stored_told};
+ghost use Rattle.wb_text.specs.FromLines.Told.{ranges_told, rank_told, kind_told, indices_told, implicit_told, is_domain, are_within, is_sound};
+ghost use Rattle.wb_text.specs.FromLines.Told.{rectangular_stored, sparse_cells, associative_cells, array_stored, stored_told};
 
 use crate::ObjectLine;
 use crate::workbook::finding::find;

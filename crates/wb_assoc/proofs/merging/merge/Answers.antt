@@ -20,6 +20,7 @@ returns g c =
     ∙ ap (λ zs. c.loop-i.keys.items ++ zs) rest
     ∙ c.loop-i.invariant.all in
     rw all (record {
-      members = λ k. members-merged g.K.Ord.cmp g.met.K.Ord.total g.met.K.Key.exact c.args.kept c.args.xs.now c.args.ys.now k c.requires.first c.requires.second;
+      members = λ k. members-merged g.K.Ord.cmp g.met.K.Ord.total g.met.K.Key.exact c.args.kept c.args.xs.now c.args.ys.now k c.requires.first
+          c.requires.second;
       ascending = sorted-merged g.K.Ord.cmp g.met.K.Ord.total g.met.K.Key.exact c.args.kept c.args.xs.now c.args.ys.now c.requires.first c.requires.second;
     })

@@ -10,7 +10,8 @@ overflow_mul-at c =
     let n = get_or c.args.grid.now c.loop-k.k (pos 0) in
     let f : SFits w64 n = search rules in
     let e : pos c.unsigned-count.result ≡ n = simp to_z-of_z at c.unsigned-count.ensures in
-    let h : IsEntry n c.loop-k.at = entry_at c.args.grid.now _ (block_cyclic_coordinates (drop c.loop-k.k c.args.start.now) (drop c.loop-k.k c.args.size.now) (drop c.loop-k.k c.args.grid.now) (drop c.loop-k.k c.args.index.now)) c.loop-k.k c.loop-k.at c.loop-k.invariant.placed (omega arith) in
+    let h : IsEntry n c.loop-k.at = entry_at c.args.grid.now _ (block_cyclic_coordinates (drop c.loop-k.k c.args.start.now) (drop c.loop-k.k c.args.size.now)
+    (drop c.loop-k.k c.args.grid.now) (drop c.loop-k.k c.args.index.now)) c.loop-k.k c.loop-k.at c.loop-k.invariant.placed (omega arith) in
     let r : IsRoom c.unsigned-count.result c.loop-k.at 0 = h.room c.unsigned-count.result 0 e (omega (arith, ints, h.positive)) in
     omega (arith, r.scaled)
 
@@ -19,8 +20,10 @@ overflow_add-at c =
     let n = get_or c.args.grid.now c.loop-k.k (pos 0) in
     let f : SFits w64 n = search rules in
     let e : pos c.unsigned-count.result ≡ n = simp to_z-of_z at c.unsigned-count.ensures in
-    let h : IsEntry n c.loop-k.at = entry_at c.args.grid.now _ (block_cyclic_coordinates (drop c.loop-k.k c.args.start.now) (drop c.loop-k.k c.args.size.now) (drop c.loop-k.k c.args.grid.now) (drop c.loop-k.k c.args.index.now)) c.loop-k.k c.loop-k.at c.loop-k.invariant.placed (omega arith) in
-    let r : IsRoom c.unsigned-count.result c.loop-k.at c.block_cyclic_coordinate.result = h.room c.unsigned-count.result c.block_cyclic_coordinate.result e c.block_cyclic_coordinate.ensures.below in
+    let h : IsEntry n c.loop-k.at = entry_at c.args.grid.now _ (block_cyclic_coordinates (drop c.loop-k.k c.args.start.now) (drop c.loop-k.k c.args.size.now)
+    (drop c.loop-k.k c.args.grid.now) (drop c.loop-k.k c.args.index.now)) c.loop-k.k c.loop-k.at c.loop-k.invariant.placed (omega arith) in
+    let r : IsRoom c.unsigned-count.result c.loop-k.at c.block_cyclic_coordinate.result =
+    h.room c.unsigned-count.result c.block_cyclic_coordinate.result e c.block_cyclic_coordinate.ensures.below in
     omega (arith, r.next)
 
 pub loop-k-preserved : goal.loop-k-preserved
@@ -34,7 +37,8 @@ loop-k-preserved c =
     let b : pos c.unsigned.result ≡ get_or c.args.size.now c.loop-k.k (pos 0) = simp to_z-of_z at c.unsigned.ensures in
     let v = simp to_z-of_z at c.block_cyclic_coordinate.ensures.value in
     record {
-      placed = block_cyclic_more c.args.start.now c.args.size.now c.args.grid.now c.args.index.now _ c.loop-k.k c.unsigned.result c.unsigned-count.result c.loop-k.at c.block_cyclic_coordinate.result
+      placed = block_cyclic_more c.args.start.now c.args.size.now c.args.grid.now c.args.index.now _ c.loop-k.k c.unsigned.result c.unsigned-count.result
+          c.loop-k.at c.block_cyclic_coordinate.result
           c.loop-k.invariant.placed (omega arith) (omega arith) (omega arith) (omega arith) b e v c.block_cyclic_coordinate.ensures.below;
       filled = positive_after c.args.size.now c.loop-k.k c.loop-k.invariant.filled (omega arith);
     }

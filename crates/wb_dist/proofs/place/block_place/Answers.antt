@@ -10,7 +10,8 @@ overflow_mul-at c =
     let n = get_or c.args.grid.now c.loop-k.k (pos 0) in
     let f : SFits w64 n = search rules in
     let e : pos c.unsigned-count.result ≡ n = simp to_z-of_z at c.unsigned-count.ensures in
-    let h : IsEntry n c.loop-k.at = entry_at c.args.grid.now _ (block_coordinates (drop c.loop-k.k c.args.low.now) (drop c.loop-k.k c.args.high.now) (drop c.loop-k.k c.args.grid.now) (drop c.loop-k.k c.args.index.now)) c.loop-k.k c.loop-k.at c.loop-k.invariant (omega arith) in
+    let h : IsEntry n c.loop-k.at = entry_at c.args.grid.now _ (block_coordinates (drop c.loop-k.k c.args.low.now) (drop c.loop-k.k c.args.high.now)
+    (drop c.loop-k.k c.args.grid.now) (drop c.loop-k.k c.args.index.now)) c.loop-k.k c.loop-k.at c.loop-k.invariant (omega arith) in
     let r : IsRoom c.unsigned-count.result c.loop-k.at 0 = h.room c.unsigned-count.result 0 e (omega (arith, ints, h.positive)) in
     omega (arith, r.scaled)
 
@@ -19,7 +20,8 @@ block_coordinate-requires-clause-few c =
     let n = get_or c.args.grid.now c.loop-k.k (pos 0) in
     let f : SFits w64 n = search rules in
     let e : pos c.unsigned-count.result ≡ n = simp to_z-of_z at c.unsigned-count.ensures in
-    let h : IsEntry n c.loop-k.at = entry_at c.args.grid.now _ (block_coordinates (drop c.loop-k.k c.args.low.now) (drop c.loop-k.k c.args.high.now) (drop c.loop-k.k c.args.grid.now) (drop c.loop-k.k c.args.index.now)) c.loop-k.k c.loop-k.at c.loop-k.invariant (omega arith) in
+    let h : IsEntry n c.loop-k.at = entry_at c.args.grid.now _ (block_coordinates (drop c.loop-k.k c.args.low.now) (drop c.loop-k.k c.args.high.now)
+    (drop c.loop-k.k c.args.grid.now) (drop c.loop-k.k c.args.index.now)) c.loop-k.k c.loop-k.at c.loop-k.invariant (omega arith) in
     let r : IsRoom c.unsigned-count.result c.loop-k.at 0 = h.room c.unsigned-count.result 0 e (omega (arith, ints, h.positive)) in
     r.few
 
@@ -28,8 +30,10 @@ overflow_add-at c =
     let n = get_or c.args.grid.now c.loop-k.k (pos 0) in
     let f : SFits w64 n = search rules in
     let e : pos c.unsigned-count.result ≡ n = simp to_z-of_z at c.unsigned-count.ensures in
-    let h : IsEntry n c.loop-k.at = entry_at c.args.grid.now _ (block_coordinates (drop c.loop-k.k c.args.low.now) (drop c.loop-k.k c.args.high.now) (drop c.loop-k.k c.args.grid.now) (drop c.loop-k.k c.args.index.now)) c.loop-k.k c.loop-k.at c.loop-k.invariant (omega arith) in
-    let r : IsRoom c.unsigned-count.result c.loop-k.at c.block_coordinate.result = h.room c.unsigned-count.result c.block_coordinate.result e c.block_coordinate.ensures.below in
+    let h : IsEntry n c.loop-k.at = entry_at c.args.grid.now _ (block_coordinates (drop c.loop-k.k c.args.low.now) (drop c.loop-k.k c.args.high.now)
+    (drop c.loop-k.k c.args.grid.now) (drop c.loop-k.k c.args.index.now)) c.loop-k.k c.loop-k.at c.loop-k.invariant (omega arith) in
+    let r : IsRoom c.unsigned-count.result c.loop-k.at c.block_coordinate.result =
+    h.room c.unsigned-count.result c.block_coordinate.result e c.block_coordinate.ensures.below in
     omega (arith, r.next)
 
 pub loop-k-preserved : goal.loop-k-preserved

@@ -10,7 +10,8 @@ overflow_mul-at c =
     let n = get_or c.args.grid.now c.loop-k.k (pos 0) in
     let f : SFits w64 n = search rules in
     let e : pos c.unsigned-count.result ≡ n = simp to_z-of_z at c.unsigned-count.ensures in
-    let h : IsEntry n c.loop-k.at = entry_at c.args.grid.now _ (cyclic_coordinates (drop c.loop-k.k c.args.start.now) (drop c.loop-k.k c.args.grid.now) (drop c.loop-k.k c.args.index.now)) c.loop-k.k c.loop-k.at c.loop-k.invariant (omega arith) in
+    let h : IsEntry n c.loop-k.at = entry_at c.args.grid.now _ (cyclic_coordinates (drop c.loop-k.k c.args.start.now) (drop c.loop-k.k c.args.grid.now)
+    (drop c.loop-k.k c.args.index.now)) c.loop-k.k c.loop-k.at c.loop-k.invariant (omega arith) in
     let r : IsRoom c.unsigned-count.result c.loop-k.at 0 = h.room c.unsigned-count.result 0 e (omega (arith, ints, h.positive)) in
     omega (arith, r.scaled)
 
@@ -19,8 +20,10 @@ overflow_add-at c =
     let n = get_or c.args.grid.now c.loop-k.k (pos 0) in
     let f : SFits w64 n = search rules in
     let e : pos c.unsigned-count.result ≡ n = simp to_z-of_z at c.unsigned-count.ensures in
-    let h : IsEntry n c.loop-k.at = entry_at c.args.grid.now _ (cyclic_coordinates (drop c.loop-k.k c.args.start.now) (drop c.loop-k.k c.args.grid.now) (drop c.loop-k.k c.args.index.now)) c.loop-k.k c.loop-k.at c.loop-k.invariant (omega arith) in
-    let r : IsRoom c.unsigned-count.result c.loop-k.at c.cyclic_coordinate.result = h.room c.unsigned-count.result c.cyclic_coordinate.result e c.cyclic_coordinate.ensures.below in
+    let h : IsEntry n c.loop-k.at = entry_at c.args.grid.now _ (cyclic_coordinates (drop c.loop-k.k c.args.start.now) (drop c.loop-k.k c.args.grid.now)
+    (drop c.loop-k.k c.args.index.now)) c.loop-k.k c.loop-k.at c.loop-k.invariant (omega arith) in
+    let r : IsRoom c.unsigned-count.result c.loop-k.at c.cyclic_coordinate.result =
+    h.room c.unsigned-count.result c.cyclic_coordinate.result e c.cyclic_coordinate.ensures.below in
     omega (arith, r.next)
 
 pub loop-k-preserved : goal.loop-k-preserved

@@ -14,7 +14,8 @@ loop-before-preserved c =
     let there = ap (λ e. Some (one_of e c.in-Some.in_force)) c.as_edit.ensures ∙ c.in-Some.ensures in
     let old = string_bytes c.args.out.now in
     record {
-      lines = c.in_ok-push_edit-in-Some.ensures.line ∙ ap (λ t. t ++ edit_line x) c.loop-before.invariant.lines ∙ append_assoc old (flat_map edit_line (take k es)) (edit_line x)
+      lines = c.in_ok-push_edit-in-Some.ensures.line ∙ ap (λ t. t ++ edit_line x) c.loop-before.invariant.lines ∙
+          append_assoc old (flat_map edit_line (take k es)) (edit_line x)
           ∙ ap (λ t. old ++ t) (sym (lines_more es k x there));
       json = json_more es k x there c.loop-before.invariant.json c.in_ok-push_edit-in-Some.ensures.json;
     }

@@ -38,7 +38,8 @@ lines-preserved g c =
         so_far.1 ++ ended reply.0,
         Consumes-trans _ _ _ so_far.0 taken.0 so_far.2 taken.1,
         Appends-trans _ _ _ so_far.1 _ written reply.2,
-        running_line g.M.Machine.answers _ _ _ so_far.0 taken.0 so_far.1 text.0 reply.0 _ c.lines.buffer c.next_line.new.buffer so_far.4 text.1 c.in-Ok.ensures.fresh.1 reply.1,
+        running_line g.M.Machine.answers _ _ _ so_far.0 taken.0 so_far.1 text.0 reply.0 _ c.lines.buffer c.next_line.new.buffer so_far.4 text.1
+            c.in-Ok.ensures.fresh.1 reply.1,
       ),
       c.next_line.ensures.end c.lines.invariant.1,
       counts_more _ _ _ _ _ _ c.lines.invariant.2 c.next_line.ensures.counted,
@@ -70,7 +71,8 @@ returns-in-Err-NoMemory-answer_line g c =
     let is_line : c.in-Ok.line ≡ End → ⊥ = search rules in
     let text = text_of c.in-Ok.line c.lines.buffer c.next_line.new.buffer taken.0 taken.2 is_line in
     let part = c.in-Err-NoMemory-answer_line.ensures.err text.0 (subst (λ (b : List ℕ). IsText c.in-Ok.line b text.0) (sym c.line.ensures) text.2) in
-    let sent = running_unsent g.M.Machine.answers _ _ _ so_far.0 taken.0 so_far.1 text.0 _ c.lines.buffer c.next_line.new.buffer _ _ _ so_far.4 text.1 written part in
+    let sent = running_unsent g.M.Machine.answers _ _ _ so_far.0 taken.0 so_far.1 text.0 _ c.lines.buffer c.next_line.new.buffer _ _ _ so_far.4 text.1 written
+    part in
     record {
       serves = (
         so_far.0 ++ taken.0,
@@ -94,7 +96,12 @@ returns-in-Err-ReadFault-clause-serves g c =
     let broken = (rw c.in-Err-ReadFault.field-0-is at (c.in-Err-ReadFault.ensures.err so_far.4.fault)).1 in (
       so_far.0 ++ broken.0,
       Consumes-trans _ _ _ so_far.0 broken.0 so_far.2 broken.1,
-      (so_far.1, written, running_fault g.M.Machine.answers _ _ so_far.0 broken.0 so_far.1 broken.2.1.0 _ c.lines.buffer c.next_line.new.buffer so_far.4 broken.2.0.0 broken.2.1.1 broken.2.1.2 broken.2.0.1),
+      (
+        so_far.1,
+        written,
+        running_fault g.M.Machine.answers _ _ so_far.0 broken.0 so_far.1 broken.2.1.0 _ c.lines.buffer c.next_line.new.buffer so_far.4
+            broken.2.0.0 broken.2.1.1 broken.2.1.2 broken.2.0.1,
+      ),
     )
 
 pub returns-in-Err-TooManyReads-clause-serves : goal.returns-in-Err-TooManyReads-clause-serves
@@ -104,7 +111,12 @@ returns-in-Err-TooManyReads-clause-serves g c =
     let broken = (rw c.in-Err-TooManyReads.field-0-is at (c.in-Err-TooManyReads.ensures.err so_far.4.fault)).1 in (
       so_far.0 ++ broken.0,
       Consumes-trans _ _ _ so_far.0 broken.0 so_far.2 broken.1,
-      (so_far.1, written, running_fault g.M.Machine.answers _ _ so_far.0 broken.0 so_far.1 broken.2.1.0 _ c.lines.buffer c.next_line.new.buffer so_far.4 broken.2.0.0 broken.2.1.1 broken.2.1.2 broken.2.0.1),
+      (
+        so_far.1,
+        written,
+        running_fault g.M.Machine.answers _ _ so_far.0 broken.0 so_far.1 broken.2.1.0 _ c.lines.buffer c.next_line.new.buffer so_far.4
+            broken.2.0.0 broken.2.1.1 broken.2.1.2 broken.2.0.1,
+      ),
     )
 
 pub returns-in-Err-NoMemory-clause-serves : goal.returns-in-Err-NoMemory-clause-serves
@@ -134,9 +146,11 @@ returns-in-Ok-End-clause-written g c =
 pub returns-in-Err-ReadFault-clause-written : goal.returns-in-Err-ReadFault-clause-written
 returns-in-Err-ReadFault-clause-written g c =
     let broken = (rw c.in-Err-ReadFault.field-0-is at (c.in-Err-ReadFault.ensures.err c.lines.invariant.0.4.fault)).1 in
-    flushed_at (g.W.Sink.flushed c.flush_before_wait.new.writer) c.lines.buffer c.next_line.new.buffer broken.0 broken.2.1.0 (search rules) broken.2.1.2 broken.2.1.1 broken.2.0.1
+    flushed_at (g.W.Sink.flushed c.flush_before_wait.new.writer) c.lines.buffer c.next_line.new.buffer broken.0 broken.2.1.0 (search rules) broken.2.1.2
+    broken.2.1.1 broken.2.0.1
 
 pub returns-in-Err-TooManyReads-clause-written : goal.returns-in-Err-TooManyReads-clause-written
 returns-in-Err-TooManyReads-clause-written g c =
     let broken = (rw c.in-Err-TooManyReads.field-0-is at (c.in-Err-TooManyReads.ensures.err c.lines.invariant.0.4.fault)).1 in
-    flushed_at (g.W.Sink.flushed c.flush_before_wait.new.writer) c.lines.buffer c.next_line.new.buffer broken.0 broken.2.1.0 (search rules) broken.2.1.2 broken.2.1.1 broken.2.0.1
+    flushed_at (g.W.Sink.flushed c.flush_before_wait.new.writer) c.lines.buffer c.next_line.new.buffer broken.0 broken.2.1.0 (search rules) broken.2.1.2
+    broken.2.1.1 broken.2.0.1

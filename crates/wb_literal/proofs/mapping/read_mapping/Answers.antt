@@ -6,4 +6,5 @@ use Rattle.wb_literal.proofs.MappingGrammar.{mapping_exact}
 use Rattle.wb_literal.proofs.mapping.read_mapping.Goals as goal
 
 pub returns-clause-spelling : goal.returns-clause-spelling
-returns-clause-spelling c r = subst (λ (o : Option MappingLiteral). (o ≡ Some r) ↔ IsMapping c.args.text.now r) (sym (c.whole_mapping.ensures ∙ ap mapping_of c.as_bytes.ensures.value)) (mapping_exact c.args.text.now r)
+returns-clause-spelling c r = subst (λ (o : Option MappingLiteral). (o ≡ Some r) ↔ IsMapping c.args.text.now r)
+    (sym (c.whole_mapping.ensures ∙ ap mapping_of c.as_bytes.ensures.value)) (mapping_exact c.args.text.now r)

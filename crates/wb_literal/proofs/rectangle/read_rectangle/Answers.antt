@@ -6,4 +6,5 @@ use Rattle.wb_literal.proofs.RectangleGrammar.{rectangle_exact}
 use Rattle.wb_literal.proofs.rectangle.read_rectangle.Goals as goal
 
 pub returns-clause-spelling : goal.returns-clause-spelling
-returns-clause-spelling c r = subst (λ (o : Option RectangleLiteral). (o ≡ Some r) ↔ IsRectangle c.args.text.now r) (sym (c.whole_rectangle.ensures ∙ ap rectangle_of c.as_bytes.ensures.value)) (rectangle_exact c.args.text.now r)
+returns-clause-spelling c r = subst (λ (o : Option RectangleLiteral). (o ≡ Some r) ↔ IsRectangle c.args.text.now r)
+    (sym (c.whole_rectangle.ensures ∙ ap rectangle_of c.as_bytes.ensures.value)) (rectangle_exact c.args.text.now r)

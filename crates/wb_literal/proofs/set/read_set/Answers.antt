@@ -7,5 +7,7 @@ use Rattle.wb_literal.proofs.SetGrammar.{set_exact}
 use Rattle.wb_literal.proofs.set.read_set.Goals as goal
 
 pub returns-clause-spelling : goal.returns-clause-spelling
-returns-clause-spelling c = IfOk-weaker c.whole_set.result (λ r. option_map items r ≡ set_literal_of c.as_bytes.result.now) (λ r. (x : Items) → (option_map items r ≡ Some x) ↔ IsSet c.args.text.now x)
-    (λ r e x. subst (λ (o : Option Items). (o ≡ Some x) ↔ IsSet c.args.text.now x) (sym (e ∙ ap set_literal_of c.as_bytes.ensures.value)) (set_exact c.args.text.now x)) c.whole_set.ensures
+returns-clause-spelling c = IfOk-weaker c.whole_set.result (λ r. option_map items r ≡ set_literal_of c.as_bytes.result.now)
+    (λ r. (x : Items) → (option_map items r ≡ Some x) ↔ IsSet c.args.text.now x)
+    (λ r e x. subst (λ (o : Option Items). (o ≡ Some x) ↔ IsSet c.args.text.now x) (sym (e ∙ ap set_literal_of c.as_bytes.ensures.value))
+    (set_exact c.args.text.now x)) c.whole_set.ensures

@@ -6,5 +6,6 @@ use Rattle.wb_log.proofs.blockers.first_to_block_redo.Given as goal
 abbrev pub invariant-loop-x : goal.invariant-loop-x
 invariant-loop-x l = record {
   count : l.number ≡ l.from + l.x-index;
-  ahead : first_from (blocks_redo (footprint l.reads l.delta)) l.number (kept_all (drop l.x-index l.later)) ≡ first_from (blocks_redo (footprint l.reads l.delta)) l.from (kept_all l.later);
+  ahead : first_from (blocks_redo (footprint l.reads l.delta)) l.number (kept_all (drop l.x-index l.later)) ≡ first_from
+      (blocks_redo (footprint l.reads l.delta)) l.from (kept_all l.later);
 }

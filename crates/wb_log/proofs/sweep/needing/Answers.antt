@@ -8,7 +8,8 @@ use Rattle.wb_log.proofs.sweep.needing.Goals as goal
 pub loop-next-init : goal.loop-next-init
 loop-next-init c =
     let es = c.args.entries.now in
-    let first = first_swept (by_number es) c.args.number (length es) c.new-waiting.result c.add.new.self c.requires.positive c.requires.in_log c.new-waiting.ensures c.in-Ok.ensures.ok in
+    let first = first_swept (by_number es) c.args.number (length es) c.new-waiting.result c.add.new.self c.requires.positive c.requires.in_log
+    c.new-waiting.ensures c.in-Ok.ensures.ok in
     rw c.new-found.ensures.items first
 
 pub loop-next-preserved : goal.loop-next-preserved
@@ -17,12 +18,14 @@ loop-next-preserved c =
     let next = c.in-Some.next in
     let old = c.loop-next.found.items in
     let now : reverse c.push.new.self.items ≡ next ∷ reverse old = ap reverse c.in-Ok-push.ensures.items ∙ reverse-append old (next ∷ []) in
-    let step = next_swept (by_number es) c.args.number (length es) (reverse old) c.loop-next.last next c.loop-next.waiting c.take_least.new.self c.wait_for_those.new.waiting
+    let step = next_swept (by_number es) c.args.number (length es) (reverse old) c.loop-next.last next c.loop-next.waiting c.take_least.new.self
+    c.wait_for_those.new.waiting
     c.loop-next.invariant c.in-Some.ensures.least c.in-Some.ensures.taken c.in-Ok-wait_for_those.ensures (λ n need. within_log es n next need) in
     subst (λ (ns : List ℕ). Swept (by_number es) c.args.number (length es) ns next c.wait_for_those.new.waiting) (sym now) step
 
 pub returns : goal.returns
 returns c =
     let es = c.args.entries.now in
-    let found = all_swept (by_number es) c.args.number (length es) (reverse c.loop-next.found.items) c.loop-next.last c.loop-next.waiting c.loop-next.invariant c.in_default.ensures.least in
+    let found = all_swept (by_number es) c.args.number (length es) (reverse c.loop-next.found.items) c.loop-next.last c.loop-next.waiting c.loop-next.invariant
+    c.in_default.ensures.least in
     subst (λ (ns : List ℕ). AreFromFootprints (by_number es) c.args.number ns) (sym c.reverse.ensures.items) found

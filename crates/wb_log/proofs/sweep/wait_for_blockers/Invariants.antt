@@ -6,7 +6,8 @@ use Rattle.wb_log.proofs.Sweeps.{JoinedUpTo}
 use Rattle.wb_log.proofs.sweep.wait_for_blockers.Given as goal
 
 abbrev pub invariant-loop-number : goal.invariant-loop-number
-invariant-loop-number l = (footprints : ℕ → Option (Footprint workbook)) → IsIndexOf l.index footprints → JoinedUpTo l.initial.waiting l.waiting (λ n. blocks_undo l.before (footprints n)) l.after l.from
+invariant-loop-number l = (footprints : ℕ → Option (Footprint workbook)) → IsIndexOf l.index footprints →
+    JoinedUpTo l.initial.waiting l.waiting (λ n. blocks_undo l.before (footprints n)) l.after l.from
 
 abbrev pub decreases-loop-number : goal.decreases-loop-number
 decreases-loop-number l = 2 ^ 64 - l.from

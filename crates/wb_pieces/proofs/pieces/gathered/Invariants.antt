@@ -10,4 +10,5 @@ use Rattle.wb_pieces.proofs.pieces.gathered.Given as goal
 abbrev pub invariant-loop-piece : goal.invariant-loop-piece
 invariant-loop-piece g l =
     let cmp = g.I.Ord.cmp in
-    (q : _) → option_or (get cmp l.map q) (value_at cmp (flat_map (λ p. p) (lists_of (drop l.piece-index l.pieces))) q) ≡ value_at cmp (flat_map (λ p. p) (lists_of l.pieces)) q
+    (q : _) → option_or (get cmp l.map q) (value_at cmp (flat_map (λ p. p) (lists_of (drop l.piece-index l.pieces))) q) ≡ value_at cmp
+    (flat_map (λ p. p) (lists_of l.pieces)) q

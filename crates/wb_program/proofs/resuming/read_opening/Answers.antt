@@ -8,7 +8,8 @@ pub returns-then-has_end-clause-ok : goal.returns-then-has_end-clause-ok
 returns-then-has_end-clause-ok g c =
     let got = c.in-Ok-true.ensures.read in
     let left = g.R.Source.remaining in (
-      subst (Consumes (left c.args.reader.now) (left c.read_more.new.reader)) (sym got.2) (Consumes-trans _ _ _ c.loop.bytes.items got.0 c.loop.invariant.0 got.1),
+      subst (Consumes (left c.args.reader.now) (left c.read_more.new.reader)) (sym got.2)
+          (Consumes-trans _ _ _ c.loop.bytes.items got.0 c.loop.invariant.0 got.1),
       λ none. absurd (c.has_end.ensures c.if-has_end.true (subst HasNoEnd (sym c.deref.ensures.value) none)),
     )
 
@@ -21,7 +22,8 @@ pub loop-preserved : goal.loop-preserved
 loop-preserved g c =
     let got = c.in-Ok-true.ensures.read in
     let left = g.R.Source.remaining in (
-      subst (Consumes (left c.args.reader.now) (left c.read_more.new.reader)) (sym got.2) (Consumes-trans _ _ _ c.loop.bytes.items got.0 c.loop.invariant.0 got.1),
+      subst (Consumes (left c.args.reader.now) (left c.read_more.new.reader)) (sym got.2)
+          (Consumes-trans _ _ _ c.loop.bytes.items got.0 c.loop.invariant.0 got.1),
       search rules,
     )
 

@@ -32,7 +32,20 @@ returns-in-Ok-Some-clause-resumes g c =
       | inl s ↦ (
         front ++ s.0,
         reads_on _ _ _ bytes front c.in-Some.behind.now s.0 c.in-Ok.ensures.ok.0 bytes_are s.1,
-        (s.2.0, s.2.1, inl (record { opening = c.in-Ok-Some.history; front = front; asked = s.0; parts = refl; ends = parts.1; is_record = told; serves = s.2.2 })),
+        (
+          s.2.0,
+          s.2.1,
+          inl (record {
+            opening = c.in-Ok-Some.history;
+            front = front;
+            asked = s.0;
+            parts = refl;
+            ends = parts.1;
+            is_record = told;
+            serves =
+                s.2.2;
+          }),
+        ),
       )
       | inr s ↦ (
         bytes,

@@ -9,7 +9,8 @@ use Rattle.wb_journal.specs.Serving.{Held}
 use Rattle.wb_program.specs.Serving.{RepliesIfRead, NothingAsked, AnswersSeat}
 use Rattle.wb_program.proofs.seat.answer_line.Goals as goal
 
-stood : (opening : Past) (h : Held) (line : List ℕ) (r : Reply) (k : Held) → RepliesIfRead opening h (request line) r k ⊎ NothingAsked h r k → MayAnswer (AnswersSeat opening) h line k
+stood : (opening : Past) (h : Held) (line : List ℕ) (r : Reply) (k : Held) → RepliesIfRead opening h (request line) r k ⊎ NothingAsked h r k →
+    MayAnswer (AnswersSeat opening) h line k
 stood opening h line r k is = inr (reply_of r, record { reply = r; is_reply = is; is_text = refl })
 
 pub returns-clause-err : goal.returns-clause-err

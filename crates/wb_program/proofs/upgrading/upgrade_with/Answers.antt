@@ -19,7 +19,8 @@ returns-in-Ok-Some-clause-upgrades g c =
         told.1,
         inl (
           subst IsUpgraded c.deref.ensures.value some.0,
-          prints read bytes (string_bytes c.in-Ok-Some.text) c.as_str.result.now told.0 c.tell.result c.deref.ensures.value some.1 c.as_str.ensures.value told.2,
+          prints read bytes (string_bytes c.in-Ok-Some.text) c.as_str.result.now told.0 c.tell.result c.deref.ensures.value some.1 c.as_str.ensures.value
+              told.2,
         ),
       ),
     )

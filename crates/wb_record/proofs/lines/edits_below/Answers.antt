@@ -15,7 +15,8 @@ pub returns-in_default-marked_at-clause-read : goal.returns-in_default-marked_at
 returns-in_default-marked_at-clause-read c =
     let items = c.loop-before.edits.items in
     subst (λ xs. ReadsEdits c.args.bytes.now (Some xs)) (sym (ap marked c.reversed.ensures ∙ map_reverse pair_back items))
-    (all_read c.args.bytes.now c.loop-before.rest.now c.in-Some.before.now c.in-Some.line.now (marked items) c.loop-before.invariant.left c.in-Some.ensures (sym c.in_default-marked_at.ensures))
+    (all_read c.args.bytes.now c.loop-before.rest.now c.in-Some.before.now c.in-Some.line.now (marked items) c.loop-before.invariant.left c.in-Some.ensures
+    (sym c.in_default-marked_at.ensures))
 
 pub returns-in_default-marked_at-clause-asked : goal.returns-in_default-marked_at-clause-asked
 returns-in_default-marked_at-clause-asked c =
@@ -24,7 +25,8 @@ returns-in_default-marked_at-clause-asked c =
 
 pub returns-in_default-2-clause-read : goal.returns-in_default-2-clause-read
 returns-in_default-2-clause-read c =
-    no_edit c.args.bytes.now c.loop-before.rest.now c.in-Some.before.now c.in-Some.line.now c.in-Some-marked_at.request.now (marked c.loop-before.edits.items) c.in-Some-marked_at.in_force
+    no_edit c.args.bytes.now c.loop-before.rest.now c.in-Some.before.now c.in-Some.line.now c.in-Some-marked_at.request.now (marked c.loop-before.edits.items)
+    c.in-Some-marked_at.in_force
     c.loop-before.invariant.left c.in-Some.ensures (sym c.in-Some-marked_at.ensures) (λ e h. sym c.in_default-2.is ∙ c.in_ok-edit.ensures.read e h)
 
 pub loop-before-preserved : goal.loop-before-preserved
@@ -36,7 +38,8 @@ loop-before-preserved c =
     let is = subst (λ r. IfSome r (λ e. request line ≡ Ok (Change e))) c.in-Some-2.is c.in_ok-edit.ensures.asked in
     record {
       left = subst (λ xs. Left c.args.bytes.now c.in-Some.before.now xs) (sym more)
-          (left_next c.args.bytes.now c.loop-before.rest.now c.in-Some.before.now c.in-Some.line.now line (marked items) c.in-Some-marked_at.in_force c.in-Some-2.edit
+          (left_next c.args.bytes.now c.loop-before.rest.now c.in-Some.before.now c.in-Some.line.now line (marked items) c.in-Some-marked_at.in_force
+          c.in-Some-2.edit
           c.loop-before.invariant.left c.in-Some.ensures (sym c.in-Some-marked_at.ensures) (λ e h. sym c.in-Some-2.is ∙ c.in_ok-edit.ensures.read e h));
       asked = subst AreAsked (sym more) (asked_with (marked items) (pair_back one) c.loop-before.invariant.asked (line, is));
     }

@@ -11,7 +11,8 @@ loop-element-preserved g c =
     let x = c.loop-element-item.result in
     let fits : FitsSigned w64 x.1 = (search rules) in
     let fits_wide : FitsSigned w128 x.1 = let f = fits in omega (arith, ints) in
-    let same : to_z w128 (of_z w128 (to_z w64 (of_z w64 x.1))) ≡ x.1 = ap (λ (z : ℤ). to_z w128 (of_z w128 z)) (to_z-of_z w64 x.1 fits) ∙ to_z-of_z w128 x.1 fits_wide in
+    let same : to_z w128 (of_z w128 (to_z w64 (of_z w64 x.1))) ≡ x.1 = ap (λ (z : ℤ). to_z w128 (of_z w128 z)) (to_z-of_z w64 x.1 fits) ∙
+    to_z-of_z w128 x.1 fits_wide in
     let k = c.loop-element.element-index in
     record {
       value = c.joined-done.ensures ∙ ap (λ (z : ℤ). joined_in_128 c.args.op c.loop-element.done (Some z)) same

@@ -12,7 +12,8 @@ use Rattle.wb_resize.proofs.new_rectangles.left_out.Goals.{in-Some+in_ok-push_ou
 pub loop-p-preserved : goal.loop-p-preserved
 loop-p-preserved c =
     elim c.match-nth.branch [
-      | in-Some+in_ok-push_outside w ↦ let t = without_more (indices c.args.new.now) (indices c.args.old.now) c.loop-p.p w.in-Some.index w.in-Some.ensures in cc (w.left-is, w.in_ok-push_outside.ensures, c.loop-p.invariant)
+      | in-Some+in_ok-push_outside w ↦ let t = without_more (indices c.args.new.now) (indices c.args.old.now) c.loop-p.p w.in-Some.index w.in-Some.ensures in
+          cc (w.left-is, w.in_ok-push_outside.ensures, c.loop-p.invariant)
       | in_default w ↦ absurd (none_within (indices c.args.old.now) c.loop-p.p (omega (arith, c.size-p-end.ensures.count)) w.in_default.ensures)
     ]
 

@@ -9,4 +9,5 @@ pub returns-clause-same : goal.returns-clause-same
 returns-clause-same c = c.in_ok-kept.ensures ∙ without_same c.in_ok-set.set c.args.others.now c.args.listed.now c.in_ok-set.ensures.members
 
 pub returns-clause-once : goal.returns-clause-once
-returns-clause-once c = λ once. subst (λ (is : List Index). IsListedOnce is) (sym c.in_ok-kept.ensures) (IsListedOnce-without c.in_ok-set.set c.args.listed.now once)
+returns-clause-once c = λ once. subst (λ (is : List Index). IsListedOnce is) (sym c.in_ok-kept.ensures)
+    (IsListedOnce-without c.in_ok-set.set c.args.listed.now once)

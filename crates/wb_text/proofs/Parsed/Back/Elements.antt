@@ -48,7 +48,8 @@ integers_back (z ∷ zs) rest h =
     let go : List ℕ → Option (List ℤ × List ℕ) = λ inside. option_map_or (λ (rest : List ℕ). Some ([], rest)) (after (codes "]") inside) (filled_at inside) in
     ap integers_at (inside integer_at signed_decimal (λ z. z) IsWithin 93 bracket integer_again integer_unspaced (codes "[") z zs rest)
     ∙ ap go (skip_over [] text tt (integer_unspaced z (behind zs rest) h.0))
-    ∙ ap (λ (o : Option (List ℕ)). option_map_or (λ (rest : List ℕ). Some ([], rest)) o (filled_at text)) (starts_open (signed_decimal z) (behind zs rest) (integer_starts (signed_decimal z) z (integer_spelled z h.0)))
+    ∙ ap (λ (o : Option (List ℕ)). option_map_or (λ (rest : List ℕ). Some ([], rest)) o (filled_at text))
+    (starts_open (signed_decimal z) (behind zs rest) (integer_starts (signed_decimal z) z (integer_spelled z h.0)))
     ∙ filled_back z zs rest h
 
 pub elements_back : (zs : List ℤ) (rest : List ℕ) → AreWithin zs → elements_at (32 ∷ (integers_text zs ++ rest)) ≡ Some (zs, rest)
@@ -58,4 +59,5 @@ pub implicit_back : (irv : Option ℤ) (rest : List ℕ) → IsImplicit irv → 
 implicit_back None rest h = refl
 implicit_back (Some z) rest h =
     ap last_integer_at (append_assoc (signed_decimal z) (codes "\n") rest)
-    ∙ ap (option_and_then (λ (v : ℤ × List ℕ). option_and_then (λ (rest : List ℕ). Some (Some v.0, rest)) (after (codes "\n") v.1))) (integer_back z (10 ∷ rest) h refl)
+    ∙ ap (option_and_then (λ (v : ℤ × List ℕ). option_and_then (λ (rest : List ℕ). Some (Some v.0, rest)) (after (codes "\n") v.1)))
+    (integer_back z (10 ∷ rest) h refl)

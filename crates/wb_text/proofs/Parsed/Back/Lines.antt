@@ -1,5 +1,6 @@
 -- Lines are read back.
-use Rattle.std.proofs.Common.{◌≡◌, ℕ, zero, suc, ◌<◌, ◌≤◌, ℤ, true, false, List, [], ◌∷◌, ◌++◌, codes, length, Option, Some, option_map, refl, sym, ap, ◌∙◌, append_assoc, arith}
+use Rattle.std.proofs.Common.{◌≡◌, ℕ, zero, suc, ◌<◌, ◌≤◌, ℤ, true, false, List, [], ◌∷◌, ◌++◌, codes, length, Option, Some, option_map, refl, sym, ap, ◌∙◌}
+use Rattle.std.proofs.Common.{append_assoc, arith}
 use Rattle.std.proofs.lemmas.List.{length-append}
 use Rattle.std.specs.List.{flat_map}
 use Rattle.wb_rect.specs.Product.{IsRectangle}
@@ -44,15 +45,24 @@ array_parts a d t i rest = simp append_assoc
 
 -- ---- the four kinds of lines
 
-rectangular_back : (d : Name) (rs : List (List ℤ)) (m : LayoutMap) (rest : List ℕ) → is_name d ≡ true → IsMapped m → (rank : ℕ) → IsRectangle rank rs → IsMapping rank m
+rectangular_back : (d : Name) (rs : List (List ℤ)) (m : LayoutMap) (rest : List ℕ) → is_name d ≡ true → IsMapped m → (rank : ℕ) → IsRectangle rank rs →
+    IsMapping rank m
     → rectangular_at (d ++ (32 ∷ (rectangle_text rs ++ (32 ∷ (mapping_text m ++ (10 ∷ rest)))))) ≡ Some (rectangular d rs m, rest)
 rectangular_back d rs m rest named mapped rank r k =
-    rw (name_back d (rectangle_text rs ++ (32 ∷ (mapping_text m ++ (10 ∷ rest)))) named, ranges_back rank rs (32 ∷ (mapping_text m ++ (10 ∷ rest))) r, layout_back rank m (10 ∷ rest) k mapped) refl
+    rw (
+      name_back d (rectangle_text rs ++ (32 ∷ (mapping_text m ++ (10 ∷ rest)))) named,
+      ranges_back rank rs (32 ∷ (mapping_text m ++ (10 ∷ rest))) r,
+      layout_back rank m (10 ∷ rest) k mapped,
+    ) refl
 
 sparse_back : (d parent : Name) (is : List Index) (rest : List ℕ) → is_name d ≡ true → is_name parent ≡ true → AreAlike is
     → sparse_at (d ++ (codes " of " ++ (parent ++ (32 ∷ (set_text is ++ (10 ∷ rest)))))) ≡ Some (sparse d parent is, rest)
 sparse_back d parent is rest named other alike =
-    rw (name_back d (111 ∷ 102 ∷ 32 ∷ (parent ++ (32 ∷ (set_text is ++ (10 ∷ rest))))) named, name_back parent (set_text is ++ (10 ∷ rest)) other, members_back is rest alike) refl
+    rw (
+      name_back d (111 ∷ 102 ∷ 32 ∷ (parent ++ (32 ∷ (set_text is ++ (10 ∷ rest))))) named,
+      name_back parent (set_text is ++ (10 ∷ rest)) other,
+      members_back is rest alike,
+    ) refl
 
 integer_keys_back : (d : Name) (is : List Index) (rest : List ℕ) → is_name d ≡ true → AreAlike is
     → associative_at (d ++ (codes " of " ++ (codes "int" ++ (32 ∷ (set_text is ++ (10 ∷ rest)))))) ≡ Some (associative d Int is, rest)
@@ -68,18 +78,27 @@ array_back : (a d : Name) (xs : List ℤ) (irv : Option ℤ) (rest : List ℕ) �
     → array_at (a ++ (codes " over " ++ (d ++ (32 ∷ (integers_text xs ++ ((implicit_text irv ++ codes "\n") ++ rest)))))) ≡ Some (array a d xs irv, rest)
 array_back a d xs irv rest named other within implicit =
     let end : List ℕ = (implicit_text irv ++ codes "\n") ++ rest in
-    rw (name_back a (111 ∷ 118 ∷ 101 ∷ 114 ∷ 32 ∷ (d ++ (32 ∷ (integers_text xs ++ end)))) named, name_back d (integers_text xs ++ end) other, elements_back xs end within, implicit_back irv rest implicit) refl
+    rw (
+      name_back a (111 ∷ 118 ∷ 101 ∷ 114 ∷ 32 ∷ (d ++ (32 ∷ (integers_text xs ++ end)))) named,
+      name_back d (integers_text xs ++ end) other,
+      elements_back xs end within,
+      implicit_back irv rest implicit,
+    ) refl
 
 -- ---- lines
 
 pub line_back : (l : Line) (rest : List ℕ) → IsLine l → IsMeant l → line_at (line_text l ++ rest) ≡ Some (l, rest)
 line_back (rectangular d rs m) rest h k =
     ap (λ t. line_at (codes "rect " ++ t)) (rectangular_parts d (rectangle_text rs) (mapping_text m) rest) ∙ rectangular_back d rs m rest h.0 h.2 k.0 k.1 k.2
-line_back (sparse d parent is) rest h k = ap (λ t. line_at (codes "sparse " ++ t)) (sparse_parts d parent (set_text is) rest) ∙ sparse_back d parent is rest h.0 h.1 k
-line_back (associative d Int is) rest h k = ap (λ t. line_at (codes "assoc " ++ t)) (sparse_parts d (codes "int") (set_text is) rest) ∙ integer_keys_back d is rest h.0 k
-line_back (associative d Text is) rest h k = ap (λ t. line_at (codes "assoc " ++ t)) (sparse_parts d (codes "text") (set_text is) rest) ∙ text_keys_back d is rest h.0 k
+line_back (sparse d parent is) rest h k = ap (λ t. line_at (codes "sparse " ++ t)) (sparse_parts d parent (set_text is) rest) ∙
+    sparse_back d parent is rest h.0 h.1 k
+line_back (associative d Int is) rest h k = ap (λ t. line_at (codes "assoc " ++ t)) (sparse_parts d (codes "int") (set_text is) rest) ∙
+    integer_keys_back d is rest h.0 k
+line_back (associative d Text is) rest h k = ap (λ t. line_at (codes "assoc " ++ t)) (sparse_parts d (codes "text") (set_text is) rest) ∙
+    text_keys_back d is rest h.0 k
 line_back (array a d xs irv) rest h k =
-    ap (λ t. line_at (codes "array " ++ t)) (array_parts a d (integers_text xs) (implicit_text irv ++ codes "\n") rest) ∙ array_back a d xs irv rest h.0 h.1 h.2 h.3
+    ap (λ t. line_at (codes "array " ++ t)) (array_parts a d (integers_text xs) (implicit_text irv ++ codes "\n") rest) ∙
+    array_back a d xs irv rest h.0 h.1 h.2 h.3
 
 not_end : (l : Line) (rest : List ℕ) → is_end (line_text l ++ rest) ≡ false
 not_end (rectangular d rs m) rest = refl

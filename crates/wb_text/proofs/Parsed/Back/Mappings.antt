@@ -78,13 +78,29 @@ pub mapping_spelled : (rank : ℕ) (m : LayoutMap) → IsMapping rank m → IsMa
 unfolding literal_of_mapping
 mapping_spelled rank whole h w = refl
 mapping_spelled rank (block m) h w =
-    let p = block_parts (is_rank rank) (length m.box == rank) (length m.grid == rank) (is_box m.box) (is_grid m.grid) h.valid in
-    ([], rectangle_text m.box, last_grid_text m.grid, tt, rectangle_spelled m.box (short rank m.box h.in_limits) (recursion_from_All IsRange m.box h.in_limits.kept), last_grid_spelled m.grid (short_of rank m.grid p.0 p.2) w.1, refl)
+    let p = block_parts (is_rank rank) (length m.box == rank) (length m.grid == rank) (is_box m.box) (is_grid m.grid) h.valid in (
+      [],
+      rectangle_text m.box,
+      last_grid_text m.grid,
+      tt,
+      rectangle_spelled m.box (short rank m.box h.in_limits)
+          (recursion_from_All IsRange m.box h.in_limits.kept),
+      last_grid_spelled m.grid (short_of rank m.grid p.0 p.2) w.1,
+      refl,
+    )
 mapping_spelled rank (cyclic m) h w =
-    let p = cyclic_parts (is_rank rank) (length m.start == rank) (length m.grid == rank) (is_grid m.grid) h.valid in
-    ([], point_text m.start, last_grid_text m.grid, tt, point_spelled m.start (short_of rank m.start p.0 p.1) (point_within m.start w.0), last_grid_spelled m.grid (short_of rank m.grid p.0 p.2) w.1, refl)
+    let p = cyclic_parts (is_rank rank) (length m.start == rank) (length m.grid == rank) (is_grid m.grid) h.valid in (
+      [],
+      point_text m.start,
+      last_grid_text m.grid,
+      tt,
+      point_spelled m.start (short_of rank m.start p.0 p.1) (point_within m.start w.0),
+      last_grid_spelled m.grid (short_of rank m.grid p.0 p.2) w.1,
+      refl,
+    )
 mapping_spelled rank (block_cyclic m) h w =
-    let p = block_cyclic_parts (is_rank rank) (length m.start == rank) (length m.size == rank) (length m.grid == rank) (are_positive m.size) (is_grid m.grid) h.valid in (
+    let p = block_cyclic_parts (is_rank rank) (length m.start == rank) (length m.size == rank) (length m.grid == rank) (are_positive m.size) (is_grid m.grid)
+    h.valid in (
       [],
       point_text m.start,
       44 ∷ 32 ∷ [],
@@ -103,13 +119,22 @@ unfolding literal_of_mapping
 mapping_back rank whole h = refl
 mapping_back rank (block m) h =
     let p = block_parts (is_rank rank) (length m.box == rank) (length m.grid == rank) (is_box m.box) (is_grid m.grid) h.valid in
-    rw (domain_back m.box (short rank m.box h.in_limits) (recursion_from_All IsRange m.box h.in_limits.kept) h.in_limits.size, counts_back m.grid (short_of rank m.grid p.0 p.2)) (judged_back rank (block m) m.grid h.valid p.2)
+    rw (
+      domain_back m.box (short rank m.box h.in_limits) (recursion_from_All IsRange m.box h.in_limits.kept) h.in_limits.size,
+      counts_back m.grid (short_of rank m.grid p.0 p.2),
+    ) (judged_back rank (block m) m.grid h.valid p.2)
 mapping_back rank (cyclic m) h =
     let p = cyclic_parts (is_rank rank) (length m.start == rank) (length m.grid == rank) (is_grid m.grid) h.valid in
-    rw (coordinates_back m.start (short_of rank m.start p.0 p.1), counts_back m.grid (short_of rank m.grid p.0 p.2)) (judged_back rank (cyclic m) m.grid h.valid p.2)
+    rw (coordinates_back m.start (short_of rank m.start p.0 p.1), counts_back m.grid (short_of rank m.grid p.0 p.2))
+    (judged_back rank (cyclic m) m.grid h.valid p.2)
 mapping_back rank (block_cyclic m) h =
-    let p = block_cyclic_parts (is_rank rank) (length m.start == rank) (length m.size == rank) (length m.grid == rank) (are_positive m.size) (is_grid m.grid) h.valid in
-    rw (coordinates_back m.start (short_of rank m.start p.0 p.1), coordinates_back m.size (short_of rank m.size p.0 p.2), counts_back m.grid (short_of rank m.grid p.0 p.3)) (judged_back rank (block_cyclic m) m.grid h.valid p.3)
+    let p = block_cyclic_parts (is_rank rank) (length m.start == rank) (length m.size == rank) (length m.grid == rank) (are_positive m.size) (is_grid m.grid)
+    h.valid in
+    rw (
+      coordinates_back m.start (short_of rank m.start p.0 p.1),
+      coordinates_back m.size (short_of rank m.size p.0 p.2),
+      counts_back m.grid (short_of rank m.grid p.0 p.3),
+    ) (judged_back rank (block_cyclic m) m.grid h.valid p.3)
 
 pub layout_back : (rank : ℕ) (m : LayoutMap) (rest : List ℕ) → IsMapping rank m → IsMapped m → layout_at (32 ∷ (mapping_text m ++ rest)) ≡ Some (m, rest)
 layout_back rank m rest h w = rw (mapping_read (mapping_text m) rest (literal_of_mapping m) (mapping_spelled rank m h w), mapping_back rank m h) refl

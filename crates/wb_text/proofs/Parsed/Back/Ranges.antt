@@ -1,5 +1,6 @@
 -- Rectangles are read back.
-use Rattle.std.proofs.Common.{◌≡◌, ◌≢◌, ℕ, ◌≤◌, ℤ, pos, List, [], ◌∷◌, ◌++◌, map, codes, length, true, false, Some, None, Ok, if◌then◌else◌, refl, sym, ap, ◌∙◌, arith, le-leb}
+use Rattle.std.proofs.Common.{◌≡◌, ◌≢◌, ℕ, ◌≤◌, ℤ, pos, List, [], ◌∷◌, ◌++◌, map, codes, length, true, false, Some, None, Ok, if◌then◌else◌, refl, sym, ap, ◌∙◌}
+use Rattle.std.proofs.Common.{arith, le-leb}
 use Rattle.std.proofs.lemmas.Bool.Decides.{Decides-int_eq}
 use Rattle.std.proofs.lemmas.List.Elements.{recursion_from_All}
 use Rattle.std.specs.List.{AllByRecursion}
@@ -74,7 +75,8 @@ rectangle_spelled rs = by_length (λ rs. AllByRecursion IsRange rs → grammar.I
     each [] h = tt
     each (r ∷ rs) h = (h.0, each rs h.1)
 
-    spelled : (a : List ℤ) (rs : List (List ℤ)) → AllByRecursion IsRange (a ∷ rs) → grammar.IsEnclosed (codes "{") (codes "}") grammar.IsRange (rectangle_text (a ∷ rs)) (map literal_of (a ∷ rs))
+    spelled : (a : List ℤ) (rs : List (List ℤ)) → AllByRecursion IsRange (a ∷ rs) →
+        grammar.IsEnclosed (codes "{") (codes "}") grammar.IsRange (rectangle_text (a ∷ rs)) (map literal_of (a ∷ rs))
     spelled a rs h = enclosed_spelled grammar.IsRange text_of_range literal_of IsRange literal_spelled (codes "{") (codes "}") a rs (h.0, each rs h.1)
 
 pub domain_back : (rs : List (List ℤ)) → IsShort rs → AllByRecursion IsRange rs → length (product rs) ≤ 65536 → domain_within (literal_of_all rs) ≡ Ok rs

@@ -1,5 +1,7 @@
 -- Sets are read back: indices of one rank, or texts.
-use Rattle.std.proofs.Common.{◌≡◌, ◌≢◌, ℕ, zero, suc, ◌+◌, ◌≤◌, ℤ, pos, Bool, true, false, nat_le, nat_eq, List, [], ◌∷◌, ◌++◌, map, codes, length, drop, Option, Some, None, option_map, option_and_then, position, inl, inr, refl, sym, ap, ◌∙◌, subst, append_assoc, ne_eqb, eq-eqb, arith}
+use Rattle.std.proofs.Common.{◌≡◌, ◌≢◌, ℕ, zero, suc, ◌+◌, ◌≤◌, ℤ, pos, Bool, true, false, nat_le, nat_eq, List, [], ◌∷◌, ◌++◌, map, codes, length, drop}
+use Rattle.std.proofs.Common.{Option, Some, None, option_map, option_and_then, position, inl, inr, refl, sym, ap, ◌∙◌, subst, append_assoc, ne_eqb, eq-eqb}
+use Rattle.std.proofs.Common.{arith}
 use Rattle.std.proofs.Math.Seq.{take-append_seam, drop-append-add}
 use Rattle.std.specs.Fmt.{signed_decimal}
 use Rattle.std.specs.List.{list_all, flat_map}
@@ -10,7 +12,8 @@ use Rattle.wb_book.specs.declared.values.index.Index.TheVariants.{Point, Text}
 use Rattle.wb_literal.specs.Integer.{integer_at}
 use Rattle.wb_literal.specs.Index.{index_at}
 use Rattle.wb_literal.specs.Tokens.{after, close_at}
-use Rattle.wb_literal.specs.Set.{Items, nothing, integers, pairs, triples, texts, items_at, listed_at, as_pair, pair_at, as_triple, triple_at, is_quote, label_of, quoted_at, text_at, indices_at, texts_at, filled_at, set_at}
+use Rattle.wb_literal.specs.Set.{Items, nothing, integers, pairs, triples, texts, items_at, listed_at, as_pair, pair_at, as_triple, triple_at, is_quote}
+use Rattle.wb_literal.specs.Set.{label_of, quoted_at, text_at, indices_at, texts_at, filled_at, set_at}
 use Rattle.wb_literal.specs.declared.index.IndexLiteral.{IndexLiteral}
 use Rattle.wb_literal.proofs.DigitsBack.{integer_back}
 use Rattle.wb_literal.proofs.IndexGrammar.{index_read}
@@ -68,10 +71,25 @@ record Opens (quote : Bool) (bytes : List ℕ) : Type 0 where
 
 number_opens : (text rest : List ℕ) → Starts text → Opens false (text ++ rest)
 number_opens [] rest h = absurd h
-number_opens (b ∷ text) rest (inl e) = record { first = b; more = text ++ rest; is = refl; space = λ x. omega (arith, x, e); close = λ x. omega (arith, x, e); quoted = ne_eqb b 34 (λ x. omega (arith, x, e)) }
+number_opens (b ∷ text) rest (inl e) = record {
+  first = b;
+  more = text ++ rest;
+  is = refl;
+  space = λ x. omega (arith, x, e);
+  close = λ x. omega (arith, x, e);
+  quoted = ne_eqb b 34 (λ x. omega (arith, x, e));
+}
 number_opens (b ∷ text) rest (inr h) =
     let low = h.0 in let high = h.1 in
-    record { first = b; more = text ++ rest; is = refl; space = λ x. omega (arith, x, low); close = λ x. omega (arith, x, high); quoted = ne_eqb b 34 (λ x. omega (arith, x, low)) }
+    record {
+      first = b;
+      more = text ++ rest;
+      is = refl;
+      space = λ x. omega (arith, x, low);
+      close = λ x. omega (arith, x, high);
+      quoted =
+          ne_eqb b 34 (λ x. omega (arith, x, low));
+    }
 
 parenthesis_opens : (rest : List ℕ) → Opens false (40 ∷ rest)
 parenthesis_opens rest = record { first = 40; more = rest; is = refl; space = λ x. omega (arith, x); close = λ x. omega (arith, x); quoted = refl }
@@ -93,7 +111,8 @@ opens_unspaced quote bytes o = subst NoSpace (sym o.is) o.space
 short_point : (rank : ℕ) (is : List ℤ) → 1 ≤ rank → rank ≤ 3 → length is ≡ rank → IsShort is
 short_point rank is low high e = record { some = omega (arith, low, e); few = omega (arith, high, e) }
 
-index_back : (rank : ℕ) (is : List ℤ) (rest : List ℕ) → 1 ≤ rank → rank ≤ 3 → length is ≡ rank → AreWithin is → Ends rest → index_at (point_text is ++ rest) ≡ Some (index_of is, rest)
+index_back : (rank : ℕ) (is : List ℤ) (rest : List ℕ) → 1 ≤ rank → rank ≤ 3 → length is ≡ rank → AreWithin is → Ends rest →
+    index_at (point_text is ++ rest) ≡ Some (index_of is, rest)
 index_back rank is rest low high e h f = index_read (point_text is) rest (index_of is) (point_spelled is (short_point rank is low high e) h) f
 
 point_unspaced : (rank : ℕ) → 1 ≤ rank → rank ≤ 3 → (i : Index) (rest : List ℕ) → IsOfRank rank i → NoSpace (index_text i ++ rest)
@@ -164,33 +183,39 @@ text_unspaced (Text t) rest h = opens_unspaced true (34 ∷ ((t ++ (34 ∷ [])) 
 abbrev behind : List Index → List ℕ → List ℕ
 behind is rest = flat_map (further index_text) is ++ (125 ∷ rest)
 
-listed_by : {X : Type 0} (at : List ℕ → Option (X × List ℕ)) (bytes rest : List ℕ) (xs : List X) → items_at at (length bytes) bytes ≡ Some (xs, 125 ∷ rest) → listed_at at bytes ≡ Some (xs, rest)
+listed_by : {X : Type 0} (at : List ℕ → Option (X × List ℕ)) (bytes rest : List ℕ) (xs : List X) → items_at at (length bytes) bytes ≡ Some (xs, 125 ∷ rest) →
+    listed_at at bytes ≡ Some (xs, rest)
 listed_by {X} at bytes rest xs e = ap (option_and_then (λ (x : List X × List ℕ). option_map (λ (rest : List ℕ). (x.0, rest)) (close_at (codes "}") x.1))) e
 
 unquoted : (bytes : List ℕ) → Opens false bytes → after (34 ∷ []) bytes ≡ None
 unquoted bytes o = ap (after (34 ∷ [])) o.is ∙ not_after 34 o.first [] o.more (λ x. let t = eq-eqb o.first 34 x in let f = o.quoted in cc)
 
 -- the first index tells which ones follow
-filled_points : (is : List ℤ) (rest : List ℕ) → IsShort is → AreWithin is → Ends rest → filled_at (point_text is ++ rest) ≡ indices_at (index_of is) (point_text is ++ rest)
+filled_points : (is : List ℤ) (rest : List ℕ) → IsShort is → AreWithin is → Ends rest →
+    filled_at (point_text is ++ rest) ≡ indices_at (index_of is) (point_text is ++ rest)
 filled_points is rest s h f =
     let text : List ℕ = point_text is ++ rest in
-    ap (λ (o : Option (List ℕ)). option_map_or (λ _. texts_at text) o (option_and_then (λ (first : IndexLiteral × List ℕ). indices_at first.0 text) (index_at text))) (unquoted text (point_opens is rest s h))
+    ap (λ (o : Option (List ℕ)). option_map_or (λ _. texts_at text) o
+    (option_and_then (λ (first : IndexLiteral × List ℕ). indices_at first.0 text) (index_at text))) (unquoted text (point_opens is rest s h))
     ∙ ap (option_and_then (λ (first : IndexLiteral × List ℕ). indices_at first.0 text)) (index_read (point_text is) rest (index_of is) (point_spelled is s h) f)
 
-singles_kind : (is : List ℤ) (text : List ℕ) → length is ≡ 1 → indices_at (index_of is) text ≡ option_map (λ (x : List ℤ × List ℕ). (integers x.0, x.1)) (listed_at integer_at text)
+singles_kind : (is : List ℤ) (text : List ℕ) → length is ≡ 1 →
+    indices_at (index_of is) text ≡ option_map (λ (x : List ℤ × List ℕ). (integers x.0, x.1)) (listed_at integer_at text)
 unfolding index_of
 singles_kind [] text e = absurd (omega (arith, e))
 singles_kind (i ∷ []) text e = refl
 singles_kind (i ∷ j ∷ is) text e = absurd (omega (arith, e))
 
-pairs_kind : (is : List ℤ) (text : List ℕ) → length is ≡ 2 → indices_at (index_of is) text ≡ option_map (λ (x : List (List ℤ) × List ℕ). (pairs x.0, x.1)) (listed_at pair_at text)
+pairs_kind : (is : List ℤ) (text : List ℕ) → length is ≡ 2 →
+    indices_at (index_of is) text ≡ option_map (λ (x : List (List ℤ) × List ℕ). (pairs x.0, x.1)) (listed_at pair_at text)
 unfolding index_of
 pairs_kind [] text e = absurd (omega (arith, e))
 pairs_kind (i ∷ []) text e = absurd (omega (arith, e))
 pairs_kind (i ∷ j ∷ []) text e = refl
 pairs_kind (i ∷ j ∷ k ∷ is) text e = absurd (omega (arith, e))
 
-triples_kind : (is : List ℤ) (text : List ℕ) → length is ≡ 3 → indices_at (index_of is) text ≡ option_map (λ (x : List (List ℤ) × List ℕ). (triples x.0, x.1)) (listed_at triple_at text)
+triples_kind : (is : List ℤ) (text : List ℕ) → length is ≡ 3 →
+    indices_at (index_of is) text ≡ option_map (λ (x : List (List ℤ) × List ℕ). (triples x.0, x.1)) (listed_at triple_at text)
 unfolding index_of
 triples_kind [] text e = absurd (omega (arith, e))
 triples_kind (i ∷ []) text e = absurd (omega (arith, e))
@@ -203,7 +228,8 @@ record IsKind {L : Type 0} (rank : ℕ) (at : List ℕ → Option (L × List ℕ
   low : 1 ≤ rank
   high : rank ≤ 3
   back : (i : Index) (rest : List ℕ) → IsOfRank rank i → Ends rest → at (index_text i ++ rest) ≡ Some (literal i, rest)
-  told : (is : List ℤ) (text : List ℕ) → length is ≡ rank → indices_at (index_of is) text ≡ option_map (λ (x : List L × List ℕ). (items x.0, x.1)) (listed_at at text)
+  told : (is : List ℤ) (text : List ℕ) → length is ≡ rank → indices_at (index_of is) text ≡ option_map (λ (x : List L × List ℕ). (items x.0, x.1))
+      (listed_at at text)
   lists : (is : List Index) → Each (IsOfRank rank) is → listed_in (items (map literal is)) ≡ is
 
 -- the set and what follows it
@@ -212,11 +238,14 @@ pub record SetBack (is : List Index) (rest : List ℕ) : Type 0 where
   pub read : set_at (set_text is ++ rest) ≡ Some (items, rest)
   pub lists : listed_in items ≡ is
 
-set_by : (quote : Bool) (bytes rest : List ℕ) (items : Items) → Opens quote bytes → filled_at bytes ≡ Some (items, rest) → set_at (123 ∷ bytes) ≡ Some (items, rest)
+set_by : (quote : Bool) (bytes rest : List ℕ) (items : Items) → Opens quote bytes → filled_at bytes ≡ Some (items, rest) →
+    set_at (123 ∷ bytes) ≡ Some (items, rest)
 set_by quote bytes rest items o e =
-    let go : List ℕ → Option (Items × List ℕ) = λ inside. option_map_or (λ (rest : List ℕ). Some (nothing, rest)) (after (codes "}") inside) (filled_at inside) in
+    let go : List ℕ → Option (Items × List ℕ) = λ inside. option_map_or (λ (rest : List ℕ). Some (nothing, rest)) (after (codes "}") inside) (filled_at inside)
+    in
     ap go (skip_over [] bytes tt (opens_unspaced quote bytes o))
-    ∙ ap (λ (z : Option (List ℕ)). option_map_or (λ (rest : List ℕ). Some (nothing, rest)) z (filled_at bytes)) (ap (after (125 ∷ [])) o.is ∙ not_after 125 o.first [] o.more o.close)
+    ∙ ap (λ (z : Option (List ℕ)). option_map_or (λ (rest : List ℕ). Some (nothing, rest)) z (filled_at bytes))
+    (ap (after (125 ∷ [])) o.is ∙ not_after 125 o.first [] o.more o.close)
     ∙ e
 
 points_back : {L : Type 0} (rank : ℕ) (at : List ℕ → Option (L × List ℕ)) (literal : Index → L) (items : List L → Items) → IsKind rank at literal items
@@ -227,12 +256,14 @@ points_back {L} rank at literal items k (Point ns) is rest h =
     let short = short_point rank ns k.low k.high h.0.0 in
     let text : List ℕ = point_text ns ++ behind is rest in
     let ends : Ends (behind is rest) = tail_ends at index_text literal (IsOfRank rank) 125 brace k.back unspaced is rest in
-    let listed : listed_at at text ≡ Some (map literal (Point ns ∷ is), rest) = listed_by at text rest (map literal (Point ns ∷ is)) (all_back at index_text literal (IsOfRank rank) 125 brace k.back unspaced (Point ns) is rest h) in
+    let listed : listed_at at text ≡ Some (map literal (Point ns ∷ is), rest) =
+    listed_by at text rest (map literal (Point ns ∷ is)) (all_back at index_text literal (IsOfRank rank) 125 brace k.back unspaced (Point ns) is rest h) in
     let filled : filled_at text ≡ Some (items (map literal (Point ns ∷ is)), rest) =
     filled_points ns (behind is rest) short h.0.1 ends ∙ k.told ns text h.0.0 ∙ ap (option_map (λ (x : List L × List ℕ). (items x.0, x.1))) listed in
     record {
       items = items (map literal (Point ns ∷ is));
-      read = ap set_at (inside at index_text literal (IsOfRank rank) 125 brace k.back unspaced (codes "{") (Point ns) is rest) ∙ set_by false text rest (items (map literal (Point ns ∷ is))) (point_opens ns (behind is rest) short h.0.1) filled;
+      read = ap set_at (inside at index_text literal (IsOfRank rank) 125 brace k.back unspaced (codes "{") (Point ns) is rest) ∙
+          set_by false text rest (items (map literal (Point ns ∷ is))) (point_opens ns (behind is rest) short h.0.1) filled;
       lists = k.lists (Point ns ∷ is) h;
     }
 
@@ -246,11 +277,14 @@ texts_back : (i : Index) (is : List Index) (rest : List ℕ) → Each IsOfText (
 texts_back (Point ns) is rest h = absurd h.0
 texts_back (Text t) is rest h =
     let text : List ℕ = 34 ∷ ((t ++ (34 ∷ [])) ++ behind is rest) in
-    let listed : listed_at text_at text ≡ Some (map label (Text t ∷ is), rest) = listed_by text_at text rest (map label (Text t ∷ is)) (all_back text_at index_text label IsOfText 125 brace text_back text_unspaced (Text t) is rest h) in
+    let listed : listed_at text_at text ≡ Some (map label (Text t ∷ is), rest) =
+    listed_by text_at text rest (map label (Text t ∷ is)) (all_back text_at index_text label IsOfText 125 brace text_back text_unspaced (Text t) is rest h)
+    in
     record {
       items = texts (map label (Text t ∷ is));
       read = ap set_at (inside text_at index_text label IsOfText 125 brace text_back text_unspaced (codes "{") (Text t) is rest)
-          ∙ set_by true text rest (texts (map label (Text t ∷ is))) (quote_opens ((t ++ (34 ∷ [])) ++ behind is rest)) (ap (option_map (λ (x : List (List ℕ) × List ℕ). (texts x.0, x.1))) listed);
+          ∙ set_by true text rest (texts (map label (Text t ∷ is))) (quote_opens ((t ++ (34 ∷ [])) ++ behind is rest))
+          (ap (option_map (λ (x : List (List ℕ) × List ℕ). (texts x.0, x.1))) listed);
       lists = labels_are (Text t ∷ is) h;
     }
 

@@ -24,8 +24,10 @@ use Rattle.wb_text.proofs.ReadIndices.{AreWithin}
 pub integer_spelled : (z : ℤ) → IsWithin z → IsInteger (signed_decimal z) z
 integer_spelled z h = (integer_whole (signed_decimal z) z).0 (ap integer_at (sym (append-nil (signed_decimal z))) ∙ integer_back z [] h tt)
 
-pub range_spelled : (low high : ℤ) (stride : Option ℤ) → IsWithin low → IsWithin high → IsStride stride → IsRange (range_text low high stride) (record { low = low; upper = To high; stride = unaligned stride })
-range_spelled low high stride l h s = (range_exact (range_text low high stride) (record { low = low; upper = To high; stride = unaligned stride })).0 (range_back low high stride l h s)
+pub range_spelled : (low high : ℤ) (stride : Option ℤ) → IsWithin low → IsWithin high → IsStride stride →
+    IsRange (range_text low high stride) (record { low = low; upper = To high; stride = unaligned stride })
+range_spelled low high stride l h s = (range_exact (range_text low high stride) (record { low = low; upper = To high; stride = unaligned stride })).0
+    (range_back low high stride l h s)
 
 -- ---- lists
 
@@ -33,7 +35,8 @@ range_spelled low high stride l h s = (range_exact (range_text low high stride) 
 pub comma_spelled : IsComma (44 ∷ 32 ∷ [])
 comma_spelled = ([], 32 ∷ [], tt, (refl, tt), refl)
 
-module _ {X L : Type 0} (Item : List ℕ → L → Type 0) (text : X → List ℕ) (literal : X → L) (Is : X → Type 0) (spelled : (x : X) → Is x → Item (text x) (literal x)) where
+module _ {X L : Type 0} (Item : List ℕ → L → Type 0) (text : X → List ℕ) (literal : X → L) (Is : X → Type 0)
+    (spelled : (x : X) → Is x → Item (text x) (literal x)) where
   pub more_spelled : (xs : List X) → Each Is xs → AreMore Item (flat_map (further text) xs) (map literal xs)
   more_spelled [] h = refl
   more_spelled (x ∷ xs) h = (44 ∷ 32 ∷ [], text x, flat_map (further text) xs, comma_spelled, spelled x h.0, more_spelled xs h.1, refl)
@@ -41,10 +44,12 @@ module _ {X L : Type 0} (Item : List ℕ → L → Type 0) (text : X → List �
   pub listed_spelled : (x : X) (xs : List X) → Each Is (x ∷ xs) → AreListed Item (join_by text (codes ", ") (x ∷ xs)) (map literal (x ∷ xs))
   listed_spelled x xs h = (text x, flat_map (further text) xs, spelled x h.0, more_spelled xs h.1, refl)
 
-  pub enclosed_spelled : (left right : List ℕ) (x : X) (xs : List X) → Each Is (x ∷ xs) → IsEnclosed left right Item (enclosed left right text (x ∷ xs)) (map literal (x ∷ xs))
+  pub enclosed_spelled : (left right : List ℕ) (x : X) (xs : List X) → Each Is (x ∷ xs) →
+      IsEnclosed left right Item (enclosed left right text (x ∷ xs)) (map literal (x ∷ xs))
   enclosed_spelled left right x xs h = ([], join_by text (codes ", ") (x ∷ xs), [], tt, listed_spelled x xs h, tt, refl)
 
-integers_spelled : (left right : List ℕ) (z : ℤ) (zs : List ℤ) → AreWithin (z ∷ zs) → IsEnclosed left right IsInteger (enclosed left right signed_decimal (z ∷ zs)) (map (λ z. z) (z ∷ zs))
+integers_spelled : (left right : List ℕ) (z : ℤ) (zs : List ℤ) → AreWithin (z ∷ zs) →
+    IsEnclosed left right IsInteger (enclosed left right signed_decimal (z ∷ zs)) (map (λ z. z) (z ∷ zs))
 integers_spelled = enclosed_spelled IsInteger signed_decimal (λ z. z) IsWithin integer_spelled
 
 -- ---- lists of one to three
@@ -55,7 +60,8 @@ pub record IsShort {X : Type 0} (xs : List X) : Type 0 where
   pub few : length xs ≤ 3
 
 -- a fact of every list of one to three
-pub by_length : {X : Type 0} (P : List X → Type 0) → ((x : X) → P (x ∷ [])) → ((x y : X) → P (x ∷ y ∷ [])) → ((x y z : X) → P (x ∷ y ∷ z ∷ [])) → (xs : List X) → IsShort xs → P xs
+pub by_length : {X : Type 0} (P : List X → Type 0) → ((x : X) → P (x ∷ [])) → ((x y : X) → P (x ∷ y ∷ [])) → ((x y z : X) → P (x ∷ y ∷ z ∷ [])) →
+    (xs : List X) → IsShort xs → P xs
 by_length P a b c [] h = let s = h.some in absurd (omega (arith, s))
 by_length P a b c (x ∷ []) h = a x
 by_length P a b c (x ∷ y ∷ []) h = b x y

@@ -12,7 +12,8 @@ loop-index-preserved c =
     let below : c.loop-index.index-index < length c.args.indices.now = omega arith in
     elim c.match-element_at.branch [
       | in-Some+in_ok-push w ↦
-          let t = given_more h c.args.indices.now c.loop-index.index-index c.index-item.result (Some w.in-Some.element) below (w.in-Some.ensures ∙ ap h c.index-item.is) in
+          let t = given_more h c.args.indices.now c.loop-index.index-index c.index-item.result (Some w.in-Some.element) below
+          (w.in-Some.ensures ∙ ap h c.index-item.is) in
           let fits : SFits w64 w.in-Some.element = search rules in
           rw (w.elements-is, w.in_ok-push.ensures.items, c.loop-index.invariant, to_z-of_z w64 w.in-Some.element fits) (sym t)
       | in_default w ↦

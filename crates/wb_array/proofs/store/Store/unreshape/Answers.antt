@@ -9,4 +9,5 @@ returns-in-Ok-clause-undoes g c = λ before held left agree q.
     let es = g.Self.Store.contents c.args.self.now in
     let old = g.Self.Dom.Domain.indices c.args.old.now in
     let new = g.Self.Dom.Domain.indices c.args.new.now in
-    c.in-Ok.ensures.elements q ∙ ap (λ ds. restored cmp es ds old new q) left ∙ restored-undoes cmp g.met.Self.Index.Key.exact es before old new c.requires.holds held agree q
+    c.in-Ok.ensures.elements q ∙ ap (λ ds. restored cmp es ds old new q) left ∙
+    restored-undoes cmp g.met.Self.Index.Key.exact es before old new c.requires.holds held agree q

@@ -10,6 +10,9 @@ use Rattle.wb_book.proofs.book.families.member_count.Goals as goal
 pub returns : goal.returns
 returns c =
     let p = Members c.args.domain in
-    let walk = YieldsList-from_take_while _ (named p) (YieldsList-at c.take_while.ensures.source (YieldsList-from_rest c.range.result refl)) c.take_while.ensures.closure c.take_while.ensures.done (λ x b q k. search (rules, tests)) in
-    let found = family_found p c.first.result c.first.ensures (λ n. refl) (λ d n. refl) c.args.cells.now c.range.result c.range.ensures.ordered (c.range.ensures.between tt) in
-    count_from_yields_List c.take_while.result _ c.count.ensures.ran walk ∙ ap (λ xs. length xs) found ∙ length-members (state_of c.args.cells.now) c.args.domain
+    let walk = YieldsList-from_take_while _ (named p) (YieldsList-at c.take_while.ensures.source (YieldsList-from_rest c.range.result refl))
+    c.take_while.ensures.closure c.take_while.ensures.done (λ x b q k. search (rules, tests)) in
+    let found = family_found p c.first.result c.first.ensures (λ n. refl) (λ d n. refl) c.args.cells.now c.range.result c.range.ensures.ordered
+    (c.range.ensures.between tt) in
+    count_from_yields_List c.take_while.result _ c.count.ensures.ran walk ∙ ap (λ xs. length xs) found ∙
+    length-members (state_of c.args.cells.now) c.args.domain

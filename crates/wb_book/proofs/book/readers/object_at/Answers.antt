@@ -11,10 +11,12 @@ pub returns-in_err-nth : goal.returns-in_err-nth
 returns-in_err-nth c =
     let m = c.args.cells.now in
     let found = nth_from_yields_List c.nth.result _ c.args.p c.nth.ensures.ran (YieldsList-from_rest (keys m) c.keys.ensures.rest) in
-    c.from_residual.ensures ∙ sym (ap (λ o. option_and_then object_of (option_map deref o)) c.in_err-nth.was) ∙ object_found m c.args.p _ c.keys.ensures.ordered found
+    c.from_residual.ensures ∙ sym (ap (λ o. option_and_then object_of (option_map deref o)) c.in_err-nth.was) ∙
+    object_found m c.args.p _ c.keys.ensures.ordered found
 
 pub returns : goal.returns
 returns c =
     let m = c.args.cells.now in
     let found = nth_from_yields_List c.nth.result _ c.args.p c.nth.ensures.ran (YieldsList-from_rest (keys m) c.keys.ensures.rest) in
-    c.object_of.ensures ∙ sym (ap (λ o. option_and_then object_of (option_map deref o)) c.in_ok-nth.was) ∙ object_found m c.args.p _ c.keys.ensures.ordered found
+    c.object_of.ensures ∙ sym (ap (λ o. option_and_then object_of (option_map deref o)) c.in_ok-nth.was) ∙
+    object_found m c.args.p _ c.keys.ensures.ordered found

@@ -11,5 +11,6 @@ use Rattle.wb_book.proofs.book.readers.object_count.Goals as goal
 pub returns : goal.returns
 returns c =
     let m = c.args.cells.now in
-    let walk = YieldsList-from_take_while _ (takes object_of) (YieldsList-at c.take_while.ensures.source (YieldsList-from_rest (keys m) c.keys.ensures.rest)) c.take_while.ensures.closure c.take_while.ensures.done (λ x b q k. search (rules, tests)) in
+    let walk = YieldsList-from_take_while _ (takes object_of) (YieldsList-at c.take_while.ensures.source (YieldsList-from_rest (keys m) c.keys.ensures.rest))
+    c.take_while.ensures.closure c.take_while.ensures.done (λ x b q k. search (rules, tests)) in
     count_from_yields_List c.take_while.result _ c.count.ensures.ran walk ∙ length-prefix_len (takes object_of) (keys m) ∙ object_count m c.keys.ensures.ordered

@@ -16,7 +16,8 @@ loop-x-preserved c =
     let s = state_of c.loop-x.cells in
     let t = state_of c.set_one.new.cells in
     let old = c.loop-x.invariant in
-    let made : t ≡ apply (sets (get_or xs i x ∷ [])) s = subst (λ (y : Change Cell Value). t ≡ apply (sets (y ∷ [])) s) c.x-item.is c.in_ok-set_one.ensures.ok in
+    let made : t ≡ apply (sets (get_or xs i x ∷ [])) s = subst (λ (y : Change Cell Value). t ≡ apply (sets (y ∷ [])) s) c.x-item.is c.in_ok-set_one.ensures.ok
+    in
     record {
       ahead = set_step cell_order xs i x s t (apply (sets xs) (state_of c.args.cells.now)) c.loop-x-test.true made old.ahead;
       others = λ q e. ap (λ r. get r q) made ∙ set_others cell_order (get_or xs i x) s q (other_cell cell_order xs i x q c.loop-x-test.true e) ∙ old.others q e;

@@ -11,7 +11,8 @@ loop-x-preserved c =
     let i = c.loop-x.x-index in
     let xs = c.args.changes.now in
     let x = c.x-item.result in
-    let one : c.counted_one-count.result ≡ count_of (get_or xs i x ∷ []) = subst (λ (y : Change Cell Value). c.counted_one-count.result ≡ count_of (y ∷ [])) c.x-item.is c.counted_one-count.ensures.value in
+    let one : c.counted_one-count.result ≡ count_of (get_or xs i x ∷ []) =
+    subst (λ (y : Change Cell Value). c.counted_one-count.result ≡ count_of (y ∷ [])) c.x-item.is c.counted_one-count.ensures.value in
     record {
       ahead = count_step xs i x c.loop-x.count c.counted_one-count.result c.loop-x-test.true one c.loop-x.invariant.ahead;
       few = omega (arith, c.counted_one-count.ensures.few, c.loop-x.invariant.few);

@@ -10,4 +10,5 @@ returns-then-coordinates g c =
 
 pub returns : goal.returns
 returns g c =
-    same_from_decides c.contains.result _ (rw (c.copy_from_slice.ensures.after, c.coordinates-coordinates.ensures) at c.contains.ensures) (has_point c.args.rect.now c.args.point.now)
+    same_from_decides c.contains.result _ (rw (c.copy_from_slice.ensures.after, c.coordinates-coordinates.ensures) at c.contains.ensures)
+    (has_point c.args.rect.now c.args.point.now)

@@ -6,4 +6,5 @@ use Rattle.wb_book.proofs.values.rectangle.nth_in.Goals as goal
 
 pub returns : goal.returns
 returns g c =
-    ap Some (c.new.ensures ∙ ap Point c.of.ensures) ∙ sym (get-map Point (product c.args.rect.now) c.args.p ∙ ap (option_map Point) (sym c.nth.ensures ∙ c.in_ok-index.was))
+    ap Some (c.new.ensures ∙ ap Point c.of.ensures) ∙ sym (get-map Point (product c.args.rect.now) c.args.p ∙
+    ap (option_map Point) (sym c.nth.ensures ∙ c.in_ok-index.was))

@@ -25,7 +25,8 @@ returns-in_err-there c =
     let ss = c.domain_named.new.footprint in
     let us = c.read.new.footprint in
     let set : stopped (has_members kind) ≡ Ok tt = sym (c.stopped.ensures ∙ ap (λ j. stopped j) c.has_members.ensures) ∙ c.in_ok-stopped.was in
-    let fitting : stopped (fits (kind_of kind) i) ≡ Ok tt = sym (c.stopped-2.ensures ∙ ap (λ j. stopped j) (c.fits.ensures ∙ ap (λ k. fits k i) c.kind.ensures)) ∙ c.in_ok-stopped-2.was in
+    let fitting : stopped (fits (kind_of kind) i) ≡ Ok tt = sym (c.stopped-2.ensures ∙
+    ap (λ j. stopped j) (c.fits.ensures ∙ ap (λ k. fits k i) c.kind.ensures)) ∙ c.in_ok-stopped-2.was in
     rw (p.1, p.2) (reaches s d i (λ there kind. add_unless there d kind i) c.args.footprint.now ss us kind (Err why) c.in_ok-kind.ensures set fitting (
     stops (read (Member d i)) s ss us (λ there. add_unless there d kind i) why c.in_err-there.ensures))
 
@@ -39,6 +40,8 @@ returns c =
     let ss = c.domain_named.new.footprint in
     let us = c.add_unless.new.footprint in
     let set : stopped (has_members kind) ≡ Ok tt = sym (c.stopped.ensures ∙ ap (λ j. stopped j) c.has_members.ensures) ∙ c.in_ok-stopped.was in
-    let fitting : stopped (fits (kind_of kind) i) ≡ Ok tt = sym (c.stopped-2.ensures ∙ ap (λ j. stopped j) (c.fits.ensures ∙ ap (λ k. fits k i) c.kind.ensures)) ∙ c.in_ok-stopped-2.was in
+    let fitting : stopped (fits (kind_of kind) i) ≡ Ok tt = sym (c.stopped-2.ensures ∙
+    ap (λ j. stopped j) (c.fits.ensures ∙ ap (λ k. fits k i) c.kind.ensures)) ∙ c.in_ok-stopped-2.was in
     reaches s d i (λ there kind. add_unless there d kind i) c.args.footprint.now ss us kind r c.in_ok-kind.ensures set fitting (
-    goes_on (read (Member d i)) s ss c.read.new.footprint (λ there. add_unless there d kind i) c.in_ok-there.there r us c.in_ok-there.ensures c.add_unless.ensures)
+    goes_on (read (Member d i)) s ss c.read.new.footprint (λ there. add_unless there d kind i) c.in_ok-there.there r us c.in_ok-there.ensures
+    c.add_unless.ensures)

@@ -21,7 +21,8 @@ plan_all_results-requires c =
     let h = c.writes-writes.ensures.kept in
     let first = saw_array s a c.args.footprint.now c.array_named.new.footprint one c.in_ok-domain.ensures in
     let second = saw_array s b c.array_named.new.footprint c.array_named-2.new.footprint two c.in_ok-over.ensures in
-    same_indices s a b h (one_array s a b one.0 two.0 one.1 two.1 tt h first second (went_on (same_domain one.0 two.0) tt (sym (c.stopped.ensures ∙ ap (λ j. stopped j) c.same_domain.ensures) ∙ c.in_ok-stopped.was)))
+    same_indices s a b h (one_array s a b one.0 two.0 one.1 two.1 tt h first second
+    (went_on (same_domain one.0 two.0) tt (sym (c.stopped.ensures ∙ ap (λ j. stopped j) c.same_domain.ensures) ∙ c.in_ok-stopped.was)))
 
 pub returns : goal.returns
 returns c =
@@ -36,6 +37,9 @@ returns c =
     let us = c.plan_all_results.new.footprint in
     let r = c.plan_all_results.result in
     let last : Tree = all_results a how b in
-    goes_on (array_named a) s c.args.footprint.now rs (λ array. array_named b (λ source. over_one_domain array.0 source.0 (λ x. last))) one r us c.in_ok-domain.ensures (
+    goes_on (array_named a) s c.args.footprint.now rs (λ array. array_named b (λ source. over_one_domain array.0 source.0 (λ x. last))) one r us
+    c.in_ok-domain.ensures (
     goes_on (array_named b) s rs ss (λ source. over_one_domain one.0 source.0 (λ x. last)) two r us c.in_ok-over.ensures (
-    goes_on (over_one_domain one.0 two.0) s ss ss (λ x. last) tt r us (passes s ss (same_domain one.0 two.0) tt (sym (c.stopped.ensures ∙ ap (λ j. stopped j) c.same_domain.ensures) ∙ c.in_ok-stopped.was)) c.plan_all_results.ensures))
+    goes_on (over_one_domain one.0 two.0) s ss ss (λ x. last) tt r us
+    (passes s ss (same_domain one.0 two.0) tt (sym (c.stopped.ensures ∙ ap (λ j. stopped j) c.same_domain.ensures) ∙ c.in_ok-stopped.was))
+    c.plan_all_results.ensures))

@@ -27,7 +27,8 @@ returns-in_err-xs c =
     let a : Name = c.args.array in
     let b : Name = c.args.other in
     let how : Operation = c.args.how.now in
-    rw (p.1, p.2) (stops (elements a) c.args.book.now.cells c.args.footprint.now c.elements.new.footprint (λ xs. elements b (rest a how xs)) c.in_err-xs.field-0.0 c.in_err-xs.ensures.looks)
+    rw (p.1, p.2) (stops (elements a) c.args.book.now.cells c.args.footprint.now c.elements.new.footprint (λ xs. elements b (rest a how xs))
+    c.in_err-xs.field-0.0 c.in_err-xs.ensures.looks)
 
 pub returns-in_err-ys : goal.returns-in_err-ys
 returns-in_err-ys c =
@@ -38,7 +39,8 @@ returns-in_err-ys c =
     let how : Operation = c.args.how.now in
     let xs : List (Index × ℤ) = c.in_ok-xs.xs.items in
     let why = c.in_err-ys.field-0.0 in
-    rw (p.1, p.2) (goes_on (elements a) s c.args.footprint.now c.elements.new.footprint (λ xs. elements b (rest a how xs)) xs (Err why) c.elements-2.new.footprint c.in_ok-xs.ensures.looks (
+    rw (p.1, p.2) (goes_on (elements a) s c.args.footprint.now c.elements.new.footprint (λ xs. elements b (rest a how xs)) xs (Err why)
+    c.elements-2.new.footprint c.in_ok-xs.ensures.looks (
     stops (elements b) s c.elements.new.footprint c.elements-2.new.footprint (rest a how xs) why c.in_err-ys.ensures.looks))
 
 pub results-requires-clause-alike : goal.results-requires-clause-alike
@@ -46,7 +48,8 @@ results-requires-clause-alike c = rw (c.deref.ensures.value, c.deref-2.ensures.v
 
 pub results-requires-clause-ascending : goal.results-requires-clause-ascending
 results-requires-clause-ascending c =
-    rw c.deref.ensures.value (subst (λ (es : List (Index × ℤ)). T (is_sorted index_cmp es)) (sym c.in_ok-xs.ensures.seen) (elements_ascend c.args.book.now.cells c.args.array))
+    rw c.deref.ensures.value (subst (λ (es : List (Index × ℤ)). T (is_sorted index_cmp es)) (sym c.in_ok-xs.ensures.seen)
+    (elements_ascend c.args.book.now.cells c.args.array))
 
 pub returns-in_err-zs : goal.returns-in_err-zs
 returns-in_err-zs c =
@@ -59,8 +62,12 @@ returns-in_err-zs c =
     let ys : List (Index × ℤ) = c.in_ok-ys.ys.items in
     let why = c.in_err-zs.field-0.0 in
     let us = c.elements-2.new.footprint in
-    let judged : Judges (all_within (results how xs ys)) (Err why) = subst (λ (es : List (Index × ℤ)). Judges (all_within (results how es ys)) (Err why)) c.deref.ensures.value (subst (λ (es : List (Index × ℤ)). Judges (all_within (results how c.deref.result.now es)) (Err why)) c.deref-2.ensures.value c.in_err-zs.ensures) in
-    rw (p.1, p.2) (goes_on (elements a) s c.args.footprint.now c.elements.new.footprint (λ xs. elements b (rest a how xs)) xs (Err why) us c.in_ok-xs.ensures.looks (
+    let judged : Judges (all_within (results how xs ys)) (Err why) =
+    subst (λ (es : List (Index × ℤ)). Judges (all_within (results how es ys)) (Err why)) c.deref.ensures.value
+    (subst (λ (es : List (Index × ℤ)). Judges (all_within (results how c.deref.result.now es)) (Err why)) c.deref-2.ensures.value c.in_err-zs.ensures)
+    in
+    rw (p.1, p.2) (goes_on (elements a) s c.args.footprint.now c.elements.new.footprint (λ xs. elements b (rest a how xs)) xs (Err why) us
+    c.in_ok-xs.ensures.looks (
     goes_on (elements b) s c.elements.new.footprint us (rest a how xs) ys (Err why) us c.in_ok-ys.ensures.looks (
     refuses s us (all_within (results how xs ys)) (last a) why judged)))
 
@@ -68,7 +75,8 @@ pub number_changes-requires : goal.number_changes-requires
 number_changes-requires c =
     let xs : List (Index × ℤ) = c.deref.result.now in
     let ys : List (Index × ℤ) = c.deref-2.result.now in
-    let sorted : T (is_sorted index_cmp xs) = rw c.deref.ensures.value (subst (λ (es : List (Index × ℤ)). T (is_sorted index_cmp es)) (sym c.in_ok-xs.ensures.seen) (elements_ascend c.args.book.now.cells c.args.array)) in
+    let sorted : T (is_sorted index_cmp xs) = rw c.deref.ensures.value
+    (subst (λ (es : List (Index × ℤ)). T (is_sorted index_cmp es)) (sym c.in_ok-xs.ensures.seen) (elements_ascend c.args.book.now.cells c.args.array)) in
     rw c.deref-3.ensures.value (kept_ascend c.args.how.now xs ys c.in_ok-zs.zs.items sorted c.in_ok-zs.ensures)
 
 pub returns : goal.returns
@@ -82,7 +90,8 @@ returns c =
     let zs : List (Index × ℤ) = c.in_ok-zs.zs.items in
     let us = c.elements-2.new.footprint in
     let r = c.number_changes.result in
-    let made : all_within (results how xs ys) ≡ Ok zs = subst (λ (es : List (Index × ℤ)). all_within (results how es ys) ≡ Ok zs) c.deref.ensures.value (subst (λ (es : List (Index × ℤ)). all_within (results how c.deref.result.now es) ≡ Ok zs) c.deref-2.ensures.value c.in_ok-zs.ensures) in
+    let made : all_within (results how xs ys) ≡ Ok zs = subst (λ (es : List (Index × ℤ)). all_within (results how es ys) ≡ Ok zs) c.deref.ensures.value
+    (subst (λ (es : List (Index × ℤ)). all_within (results how c.deref.result.now es) ≡ Ok zs) c.deref-2.ensures.value c.in_ok-zs.ensures) in
     goes_on (elements a) s c.args.footprint.now c.elements.new.footprint (λ xs. elements b (rest a how xs)) xs r us c.in_ok-xs.ensures.looks (
     goes_on (elements b) s c.elements.new.footprint us (rest a how xs) ys r us c.in_ok-ys.ensures.looks (
     goes_on (results_within how xs ys) s us us (last a) zs r us (decides s us (all_within (results how xs ys)) zs made) (

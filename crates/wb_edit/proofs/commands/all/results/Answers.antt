@@ -18,7 +18,8 @@ returns-in_err-z c =
     let ys : List (Index × ℤ) = c.args.ys.now in
     let x : Index × ℤ = c.index-xs-p.result in
     let y : Index × ℤ = c.index-ys-p.result in
-    rw (p.1, p.2) (halted how xs ys c.requires.alike c.loop-p.p x y c.loop-p-test.true c.index-xs-p.is c.index-ys-p.is c.in_err-z.field-0.0 c.requires.ascending (sym c.result_at.ensures ∙ c.in_err-z.was))
+    rw (p.1, p.2) (halted how xs ys c.requires.alike c.loop-p.p x y c.loop-p-test.true c.index-xs-p.is c.index-ys-p.is c.in_err-z.field-0.0
+    c.requires.ascending (sym c.result_at.ensures ∙ c.in_err-z.was))
 
 pub loop-p-preserved : goal.loop-p-preserved
 loop-p-preserved c =
@@ -32,11 +33,14 @@ loop-p-preserved c =
     let z : ℤ = c.in_ok-z.z in
     let given : stopped (fits_integer (result_of how x.1 y.1)) ≡ Ok z = sym c.result_at.ensures ∙ c.in_ok-z.was in
     let within_64 = fits_after (result_of how x.1 y.1) z given in
-    let items : more ≡ (if is_ok c.push.result then made ++ (x.0, z) ∷ [] else made) = subst (λ (v : ℤ). more ≡ (if is_ok c.push.result then made ++ (x.0, v) ∷ [] else made)) (to_z-of_z w64 z within_64) c.push.ensures.items in
+    let items : more ≡ (if is_ok c.push.result then made ++ (x.0, z) ∷ [] else made) =
+    subst (λ (v : ℤ). more ≡ (if is_ok c.push.result then made ++ (x.0, v) ∷ [] else made)) (to_z-of_z w64 z within_64) c.push.ensures.items in
     let grown : more ≡ made ++ (x.0, z) ∷ [] = pushed c.push.result made more (x.0, z) (sym c.is_err.ensures.value ∙ c.if-is_err.false) items in
-    let next = next_result how xs ys c.requires.alike c.loop-p.p x y c.loop-p-test.true c.index-xs-p.is c.index-ys-p.is z made more given c.loop-p.invariant.made c.loop-p.invariant.within grown in
+    let next = next_result how xs ys c.requires.alike c.loop-p.p x y c.loop-p-test.true c.index-xs-p.is c.index-ys-p.is z made more given
+    c.loop-p.invariant.made c.loop-p.invariant.within grown in
     record { made = next.0; within = next.1 }
 
 pub returns : goal.returns
 returns c =
-    results_made c.args.how.now c.args.xs.now c.args.ys.now c.loop-p.made.items c.loop-p.p c.requires.alike c.requires.ascending (omega (arith, c.loop-p-test.false)) c.loop-p.invariant.made c.loop-p.invariant.within
+    results_made c.args.how.now c.args.xs.now c.args.ys.now c.loop-p.made.items c.loop-p.p c.requires.alike c.requires.ascending
+    (omega (arith, c.loop-p-test.false)) c.loop-p.invariant.made c.loop-p.invariant.within

@@ -30,7 +30,8 @@ returns-in_err-seen c =
 
 pub drop_changes-requires : goal.drop_changes-requires
 drop_changes-requires c =
-    rw c.deref.ensures.value (subst (λ (es : List (Index × ℤ)). T (is_sorted index_cmp es)) (sym c.in_ok-seen.ensures.seen) (elements_ascend c.args.book.now.cells c.args.array))
+    rw c.deref.ensures.value (subst (λ (es : List (Index × ℤ)). T (is_sorted index_cmp es)) (sym c.in_ok-seen.ensures.seen)
+    (elements_ascend c.args.book.now.cells c.args.array))
 
 pub returns : goal.returns
 returns c =
@@ -44,4 +45,5 @@ returns c =
     let r = c.drop_changes.result in
     goes_on (array_named a) s c.args.footprint.now rs (λ array. elements a (last array.0)) seen r us c.in_ok-domain.ensures (
     goes_on (elements a) s rs us (last seen.0) es r us c.in_ok-seen.ensures.looks (
-    ends (dropped_cells a seen.0 (keys_of es)) s us r (subst (λ (xs : List (Index × ℤ)). Makes (dropped_cells a seen.0 (keys_of xs)) r) c.deref.ensures.value c.drop_changes.ensures)))
+    ends (dropped_cells a seen.0 (keys_of es)) s us r (subst (λ (xs : List (Index × ℤ)). Makes (dropped_cells a seen.0 (keys_of xs)) r) c.deref.ensures.value
+    c.drop_changes.ensures)))

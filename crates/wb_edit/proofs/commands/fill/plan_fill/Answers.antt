@@ -26,7 +26,9 @@ returns c =
     let us = c.all_elements.new.footprint in
     let r = c.fill_changes.result in
     let xs : Changes = put_all (map (Element a) is) (Number c.args.value) in
-    goes_on (array_named a) s c.args.footprint.now rs (λ array. over_rectangle (length on) array.1 (λ x. all_elements a is (λ y. write xs))) (c.in_ok-_domain._domain, kind) r us c.in_ok-_domain.ensures (
-    goes_on (over_rectangle (length on) kind) s rs rs (λ x. all_elements a is (λ y. write xs)) tt r us (passes s rs (of_rank (length on) kind) tt (sym c.over_rectangle.ensures ∙ c.in_ok-over_rectangle.was)) (
+    goes_on (array_named a) s c.args.footprint.now rs (λ array. over_rectangle (length on) array.1 (λ x. all_elements a is (λ y. write xs)))
+    (c.in_ok-_domain._domain, kind) r us c.in_ok-_domain.ensures (
+    goes_on (over_rectangle (length on) kind) s rs rs (λ x. all_elements a is (λ y. write xs)) tt r us
+    (passes s rs (of_rank (length on) kind) tt (sym c.over_rectangle.ensures ∙ c.in_ok-over_rectangle.was)) (
     goes_on (all_elements a is) s rs us (λ y. write xs) tt r us c.in_ok-all_elements.ensures (
     ends xs s us r (simp to_z-of_z at c.fill_changes.ensures))))

@@ -12,5 +12,6 @@ returns c =
     let within : FitsSigned w64 c.args.value = c.ranges.value in
     let a = c.args.array in
     let es : List (Index × ℤ) = c.args.seen.now in
-    let made : c.all_become.new.delta ≡ all_become a (Fill c.args.value) es = (simp to_z-of_z at c.in_ok-all_become.ensures.ok) ∙ ap (λ xs. xs ++ all_become a (Fill c.args.value) es) c.new-delta.ensures in
+    let made : c.all_become.new.delta ≡ all_become a (Fill c.args.value) es = (simp to_z-of_z at c.in_ok-all_become.ensures.ok) ∙
+    ap (λ xs. xs ++ all_become a (Fill c.args.value) es) c.new-delta.ensures in
     made ∙ same_all a c.args.value es

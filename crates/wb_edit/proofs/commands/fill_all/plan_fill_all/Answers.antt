@@ -27,7 +27,8 @@ returns-in_err-seen c =
     let rs = c.array_named.new.footprint in
     let us = c.elements.new.footprint in
     let why = c.in_err-seen.field-0.0 in
-    rw (p.1, p.2) (goes_on (array_named a) s c.args.footprint.now rs (λ array. elements a last) c.in_ok-array_named.field-0 (Err why) us c.in_ok-array_named.ensures (
+    rw (p.1, p.2) (goes_on (array_named a) s c.args.footprint.now rs (λ array. elements a last) c.in_ok-array_named.field-0 (Err why) us
+    c.in_ok-array_named.ensures (
     stops (elements a) s rs us last why c.in_err-seen.ensures.looks))
 
 pub fill_changes-requires : goal.fill_changes-requires
@@ -48,4 +49,5 @@ returns c =
     let made : Makes (put_all (map (Element a) (keys_of c.deref.result.now)) (Number c.args.value)) r = simp to_z-of_z at c.fill_changes.ensures in
     goes_on (array_named a) s c.args.footprint.now rs (λ array. elements a last) c.in_ok-array_named.field-0 r us c.in_ok-array_named.ensures (
     goes_on (elements a) s rs us last es r us c.in_ok-seen.ensures.looks (
-    ends (put_all (map (Element a) (keys_of es)) (Number c.args.value)) s us r (subst (λ (xs : List (Index × ℤ)). Makes (put_all (map (Element a) (keys_of xs)) (Number c.args.value)) r) c.deref.ensures.value made)))
+    ends (put_all (map (Element a) (keys_of es)) (Number c.args.value)) s us r
+    (subst (λ (xs : List (Index × ℤ)). Makes (put_all (map (Element a) (keys_of xs)) (Number c.args.value)) r) c.deref.ensures.value made)))

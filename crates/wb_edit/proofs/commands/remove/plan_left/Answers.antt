@@ -31,7 +31,8 @@ resize_changes-requires-clause-once c =
     let s = c.args.book.now.cells in
     let d : Name = c.args.domain in
     let ns : List Name = arrays s d in
-    let shown : c.deref-2.result.now ≡ ns = c.deref-2.ensures.value ∙ c.in_ok-names.ensures.same ∙ ap (bound Array) (c.deref.ensures.value ∙ c.in_ok-users.ensures.seen) in
+    let shown : c.deref-2.result.now ≡ ns = c.deref-2.ensures.value ∙ c.in_ok-names.ensures.same ∙
+    ap (bound Array) (c.deref.ensures.value ∙ c.in_ok-users.ensures.seen) in
     let cleared : c.deref-3.result.now ≡ zeros ns = c.deref-3.ensures.value ∙ c.in_ok-cleared.ensures.same ∙ ap zeros shown in
     subst (λ (fs : List (Name × ℤ)). IsListedOnce (keys_of fs)) (sym cleared) (zeros_once s d)
 
@@ -45,6 +46,8 @@ returns c =
     let users : List (Name × Binding) = c.in_ok-users.users.items in
     let us = c.uses.new.footprint in
     let r = c.resize_changes.result in
-    let cleared : c.deref-3.result.now ≡ zeros (bound Array users) = c.deref-3.ensures.value ∙ c.in_ok-cleared.ensures.same ∙ ap zeros (c.deref-2.ensures.value ∙ c.in_ok-names.ensures.same ∙ ap (bound Array) c.deref.ensures.value) in
+    let cleared : c.deref-3.result.now ≡ zeros (bound Array users) = c.deref-3.ensures.value ∙ c.in_ok-cleared.ensures.same ∙
+    ap zeros (c.deref-2.ensures.value ∙ c.in_ok-names.ensures.same ∙ ap (bound Array) c.deref.ensures.value) in
     goes_on (uses d) s c.args.footprint.now us last users r us c.in_ok-users.ensures.looks (
-    ends (resized_cells (kind_of kind) d (zeros (bound Array users)) (i ∷ []) []) s us r (subst (λ (fs : List (Name × ℤ)). Makes (resized_cells (kind_of kind) d fs (i ∷ []) []) r) cleared c.resize_changes.ensures))
+    ends (resized_cells (kind_of kind) d (zeros (bound Array users)) (i ∷ []) []) s us r
+    (subst (λ (fs : List (Name × ℤ)). Makes (resized_cells (kind_of kind) d fs (i ∷ []) []) r) cleared c.resize_changes.ensures))

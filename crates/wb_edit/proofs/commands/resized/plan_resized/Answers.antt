@@ -26,4 +26,5 @@ returns c =
     let r = c.resize_changes.result in
     goes_on (all_in_parent kind new) s c.args.footprint.now ss (λ x. fills d kind last) tt r us c.in_ok-all_in_parent.ensures (
     goes_on (fills d kind) s ss us last brought r us c.in_ok-brought.ensures.looks (
-    ends (resized_cells (kind_of kind) d brought ls cs) s us r (subst (λ (fs : List (Name × ℤ)). Makes (resized_cells (kind_of kind) d fs ls cs) r) c.deref.ensures.value c.resize_changes.ensures)))
+    ends (resized_cells (kind_of kind) d brought ls cs) s us r (subst (λ (fs : List (Name × ℤ)). Makes (resized_cells (kind_of kind) d fs ls cs) r)
+    c.deref.ensures.value c.resize_changes.ensures)))

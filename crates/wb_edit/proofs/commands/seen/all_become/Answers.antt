@@ -14,7 +14,8 @@ change-requires c =
     let e : Index × ℤ = c.e-item.result in
     let a = c.args.array in
     let new = next_is_new a c.args.new.now c.args.delta.now es i e c.requires.fresh c.requires.ascending c.loop-e-test.true in
-    rw c.loop-e.invariant (subst (λ (x : Index × ℤ). changes cell_cmp (c.args.delta.now ++ all_become a c.args.new.now (take i es)) (Element a x.0) ≡ false) (sym c.e-item.is) new)
+    rw c.loop-e.invariant (subst (λ (x : Index × ℤ). changes cell_cmp (c.args.delta.now ++ all_become a c.args.new.now (take i es)) (Element a x.0) ≡ false)
+    (sym c.e-item.is) new)
 
 pub loop-e-preserved : goal.loop-e-preserved
 loop-e-preserved c =

@@ -9,7 +9,8 @@ pub change-requires : goal.change-requires
 change-requires c =
     let is = c.args.listed.now in
     let here : slice_get is c.loop-p.p ≡ Some c.in-Some.index = sym c.nth.ensures ∙ c.in-Some.is in
-    rw (c.cell_at.ensures, c.loop-p.invariant) (next_is_new c.args.indexed.now c.args.value.now c.args.delta.now is c.loop-p.p c.in-Some.index c.requires.once (c.requires.new c.loop-p.p c.in-Some.index here) here)
+    rw (c.cell_at.ensures, c.loop-p.invariant) (next_is_new c.args.indexed.now c.args.value.now c.args.delta.now is c.loop-p.p c.in-Some.index c.requires.once
+    (c.requires.new c.loop-p.p c.in-Some.index here) here)
 
 pub loop-p-preserved : goal.loop-p-preserved
 loop-p-preserved c =
@@ -22,7 +23,8 @@ loop-p-preserved c =
       | in-Some+in_ok-change-in-Some w ↦
           let i = w.in-Some.index in
           let here : slice_get is c.loop-p.p ≡ Some i = sym c.nth.ensures ∙ w.in-Some.is in
-          w.delta-is ∙ w.in_ok-change-in-Some.ensures.ok ∙ rw (w.cell_at.ensures, c.loop-p.invariant) (append_assoc old sofar (record { cell = f i; value = v } ∷ []) ∙ ap (λ xs. old ++ xs) (sym (grows c.args.indexed.now v is c.loop-p.p i here)))
+          w.delta-is ∙ w.in_ok-change-in-Some.ensures.ok ∙ rw (w.cell_at.ensures, c.loop-p.invariant)
+          (append_assoc old sofar (record { cell = f i; value = v } ∷ []) ∙ ap (λ xs. old ++ xs) (sym (grows c.args.indexed.now v is c.loop-p.p i here)))
       | in-None w ↦
           let low : c.loop-p.p < length is = omega arith in
           absurd (nothing_there is c.loop-p.p low (sym c.nth.ensures ∙ w.in-None.is))

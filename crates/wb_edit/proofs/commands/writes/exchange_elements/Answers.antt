@@ -16,7 +16,8 @@ exchange-requires-clause-new c = λ i.
     let k = c.loop-fill.fill-index in
     let f : Name × ℤ = c.fill-item.result in
     let new = next_array ls cs c.args.delta.now fs k f c.requires.new c.requires.once c.loop-fill-test.true i in
-    rw c.loop-fill.invariant (subst (λ (x : Name × ℤ). changes cell_cmp (c.args.delta.now ++ elements_exchanged (take k fs) ls cs) (Element x.0 i) ≡ false) (sym c.fill-item.is) new)
+    rw c.loop-fill.invariant (subst (λ (x : Name × ℤ). changes cell_cmp (c.args.delta.now ++ elements_exchanged (take k fs) ls cs) (Element x.0 i) ≡ false)
+    (sym c.fill-item.is) new)
 
 pub loop-fill-preserved : goal.loop-fill-preserved
 loop-fill-preserved c =

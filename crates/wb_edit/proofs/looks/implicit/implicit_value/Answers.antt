@@ -8,8 +8,10 @@ use Rattle.wb_edit.proofs.looks.implicit.implicit_value.Goals as goal
 pub returns-in_err-value : goal.returns-in_err-value
 returns-in_err-value c =
     let p = err_from_is_err_and c.from_residual.result c.from_residual.ensures.1 in
-    rw (p.1, p.2) (halts (read (Implicit c.args.array)) c.args.book.now.cells c.args.footprint.now c.read.new.footprint (λ v. judged (element_or_refusal v)) c.in_err-value.field-0.0 c.in_err-value.ensures)
+    rw (p.1, p.2) (halts (read (Implicit c.args.array)) c.args.book.now.cells c.args.footprint.now c.read.new.footprint (λ v. judged (element_or_refusal v))
+    c.in_err-value.field-0.0 c.in_err-value.ensures)
 
 pub returns : goal.returns
 returns c =
-    rw (c.stopped.ensures, c.element_or_refusal.ensures) (then_judged (read (Implicit c.args.array)) c.args.book.now.cells c.args.footprint.now c.read.new.footprint element_or_refusal c.in_ok-value.value c.in_ok-value.ensures)
+    rw (c.stopped.ensures, c.element_or_refusal.ensures) (then_judged (read (Implicit c.args.array)) c.args.book.now.cells c.args.footprint.now
+    c.read.new.footprint element_or_refusal c.in_ok-value.value c.in_ok-value.ensures)

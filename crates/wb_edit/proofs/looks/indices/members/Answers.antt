@@ -7,4 +7,5 @@ use Rattle.wb_edit.proofs.looks.indices.members.Goals as goal
 
 pub returns-in-Ok-keep-clause-once : goal.returns-in-Ok-keep-clause-once
 returns-in-Ok-keep-clause-once c =
-    subst IsListedOnce (sym (c.in-Ok-members_in.ensures ∙ ap (filter_map member_in) (c.deref.ensures.value ∙ c.in-Ok.ensures))) (members_once c.args.book.now.cells c.args.domain)
+    subst IsListedOnce (sym (c.in-Ok-members_in.ensures ∙ ap (filter_map member_in) (c.deref.ensures.value ∙ c.in-Ok.ensures)))
+    (members_once c.args.book.now.cells c.args.domain)

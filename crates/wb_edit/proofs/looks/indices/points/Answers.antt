@@ -9,10 +9,12 @@ pub returns-in_err-shape : goal.returns-in_err-shape
 returns-in_err-shape c =
     let p = err_from_is_err_and c.from_residual.result c.from_residual.ensures.1 in
     rw (p.1, p.2) (record {
-      looks = halts (read (Shape c.args.domain)) c.args.book.now.cells c.args.footprint.now c.read.new.footprint (λ v next. next (indices_of (ranges_in v))) c.in_err-shape.field-0.0 c.in_err-shape.ensures;
+      looks = halts (read (Shape c.args.domain)) c.args.book.now.cells c.args.footprint.now c.read.new.footprint (λ v next. next (indices_of (ranges_in v)))
+          c.in_err-shape.field-0.0 c.in_err-shape.ensures;
       once = tt;
     })
 
 pub returns-clause-looks : goal.returns-clause-looks
 returns-clause-looks c =
-    rw (c.indices_of.ensures.same, c.ranges_in.ensures) (then_shown (read (Shape c.args.domain)) c.args.book.now.cells c.args.footprint.now c.read.new.footprint (λ v. indices_of (ranges_in v)) c.in_ok-shape.shape c.in_ok-shape.ensures)
+    rw (c.indices_of.ensures.same, c.ranges_in.ensures) (then_shown (read (Shape c.args.domain)) c.args.book.now.cells c.args.footprint.now
+    c.read.new.footprint (λ v. indices_of (ranges_in v)) c.in_ok-shape.shape c.in_ok-shape.ensures)

@@ -14,4 +14,8 @@ returns-in-Ok c =
     let ss : List Pattern = c.keep.new.self in
     let kept : ss ≡ rs ++ Objects ∷ [] = c.in-Ok.ensures.ok in
     rw (c.stopped.ensures, c.is_empty.ensures) (then_judged (λ next. look Objects next) s rs ss is_empty (seen workbook Objects s)
-    (λ next. (refl, sym (append_assoc rs (Objects ∷ []) (reads (next (seen workbook Objects s)) s)) ∙ ap (λ xs. xs ++ reads (next (seen workbook Objects s)) s) (sym kept))))
+    (λ next. (
+      refl,
+      sym (append_assoc rs (Objects ∷ []) (reads (next (seen workbook Objects s)) s)) ∙
+          ap (λ xs. xs ++ reads (next (seen workbook Objects s)) s) (sym kept),
+    )))

@@ -8,8 +8,10 @@ use Rattle.wb_edit.proofs.looks.one_cell.domain_named.Goals as goal
 pub returns-in_err-object : goal.returns-in_err-object
 returns-in_err-object c =
     let p = err_from_is_err_and c.from_residual.result c.from_residual.ensures.1 in
-    rw (p.1, p.2) (halts (read (Object c.args.domain)) c.args.book.now.cells c.args.footprint.now c.read.new.footprint (λ v. judged (domain_kind v)) c.in_err-object.field-0.0 c.in_err-object.ensures)
+    rw (p.1, p.2) (halts (read (Object c.args.domain)) c.args.book.now.cells c.args.footprint.now c.read.new.footprint (λ v. judged (domain_kind v))
+    c.in_err-object.field-0.0 c.in_err-object.ensures)
 
 pub returns : goal.returns
 returns c =
-    rw (c.stopped.ensures, c.domain_kind.ensures) (then_judged (read (Object c.args.domain)) c.args.book.now.cells c.args.footprint.now c.read.new.footprint domain_kind c.in_ok-object.object c.in_ok-object.ensures)
+    rw (c.stopped.ensures, c.domain_kind.ensures) (then_judged (read (Object c.args.domain)) c.args.book.now.cells c.args.footprint.now c.read.new.footprint
+    domain_kind c.in_ok-object.object c.in_ok-object.ensures)

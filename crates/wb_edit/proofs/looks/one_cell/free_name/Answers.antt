@@ -8,8 +8,10 @@ use Rattle.wb_edit.proofs.looks.one_cell.free_name.Goals as goal
 pub returns-in_err-object : goal.returns-in_err-object
 returns-in_err-object c =
     let p = err_from_is_err_and c.from_residual.result c.from_residual.ensures.1 in
-    rw (p.1, p.2) (halts (read (Object c.args.name)) c.args.book.now.cells c.args.footprint.now c.read.new.footprint (λ v. judged (is_free v)) c.in_err-object.field-0.0 c.in_err-object.ensures)
+    rw (p.1, p.2) (halts (read (Object c.args.name)) c.args.book.now.cells c.args.footprint.now c.read.new.footprint (λ v. judged (is_free v))
+    c.in_err-object.field-0.0 c.in_err-object.ensures)
 
 pub returns : goal.returns
 returns c =
-    rw (c.stopped.ensures, c.is_free.ensures) (then_judged (read (Object c.args.name)) c.args.book.now.cells c.args.footprint.now c.read.new.footprint is_free c.in_ok-object.object c.in_ok-object.ensures)
+    rw (c.stopped.ensures, c.is_free.ensures) (then_judged (read (Object c.args.name)) c.args.book.now.cells c.args.footprint.now c.read.new.footprint is_free
+    c.in_ok-object.object c.in_ok-object.ensures)

@@ -18,8 +18,10 @@ loop-p-preserved c =
           let i : Index = w.in-Some.index in
           let here : slice_get is c.loop-p.p ≡ Some i = sym c.nth.ensures ∙ w.in-Some.is in
           record {
-            read = w.footprint-is ∙ w.in_ok-here-in-Some.ensures.read ∙ ap (λ rs. rs ++ one_of (Element a i) ∷ []) c.loop-p.invariant.read ∙ sym (reads_more (Element a) is c.loop-p.p i here c.args.footprint.now);
-            present = w.all-is ∙ w.both_answers-all.ensures ∙ rw (w.in_ok-here-in-Some.ensures.present, c.loop-p.invariant.present) (sym (all_more (Element a) is c.loop-p.p i here s));
+            read = w.footprint-is ∙ w.in_ok-here-in-Some.ensures.read ∙ ap (λ rs. rs ++ one_of (Element a i) ∷ []) c.loop-p.invariant.read ∙
+                sym (reads_more (Element a) is c.loop-p.p i here c.args.footprint.now);
+            present = w.all-is ∙ w.both_answers-all.ensures ∙ rw (w.in_ok-here-in-Some.ensures.present, c.loop-p.invariant.present)
+                (sym (all_more (Element a) is c.loop-p.p i here s));
           }
       | in-None w ↦
           let low : c.loop-p.p < length is = omega (arith, c.size-p-end.ensures.count) in
@@ -29,4 +31,5 @@ loop-p-preserved c =
 pub returns-clause-read : goal.returns-clause-read
 returns-clause-read c =
     let is : List Index = indices c.args.on.now in
-    c.loop-p.invariant.read ∙ ap (λ js. c.args.footprint.now ++ map one_of (map (Element c.args.array) js)) (whole is c.loop-p.p (omega (arith, c.size-p-end.ensures.count, c.loop-p-test.false)))
+    c.loop-p.invariant.read ∙ ap (λ js. c.args.footprint.now ++ map one_of (map (Element c.args.array) js))
+    (whole is c.loop-p.p (omega (arith, c.size-p-end.ensures.count, c.loop-p-test.false)))

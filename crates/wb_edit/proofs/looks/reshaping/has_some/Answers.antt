@@ -22,4 +22,5 @@ loop-index-preserved c =
 pub returns-clause-read : goal.returns-clause-read
 returns-clause-read c =
     let is : List Index = c.args.listed.now in
-    c.loop-index.invariant.read ∙ ap (λ (js : List Index). c.args.footprint.now ++ map one_of (map (Member c.args.domain) js)) (whole is c.loop-index.index-index (omega (arith, c.loop-index-test.false)))
+    c.loop-index.invariant.read ∙ ap (λ (js : List Index). c.args.footprint.now ++ map one_of (map (Member c.args.domain) js))
+    (whole is c.loop-index.index-index (omega (arith, c.loop-index-test.false)))

@@ -14,6 +14,8 @@ loop-domain-preserved c =
     let e : Name = c.domain-item.result in
     let s = c.args.book.now.cells in
     record {
-      read = c.in_ok-here.ensures.read ∙ ap (λ rs. rs ++ map one_of (map (Member e) is)) c.loop-domain.invariant.read ∙ sym (reads_more names is k e c.loop-domain-test.true c.domain-item.is c.args.footprint.now);
-      there = c.either_answer-any.ensures ∙ rw (c.in_ok-here.ensures.there, c.loop-domain.invariant.there) (sym (any_more names is k e c.loop-domain-test.true c.domain-item.is s));
+      read = c.in_ok-here.ensures.read ∙ ap (λ rs. rs ++ map one_of (map (Member e) is)) c.loop-domain.invariant.read ∙
+          sym (reads_more names is k e c.loop-domain-test.true c.domain-item.is c.args.footprint.now);
+      there = c.either_answer-any.ensures ∙ rw (c.in_ok-here.ensures.there, c.loop-domain.invariant.there)
+          (sym (any_more names is k e c.loop-domain-test.true c.domain-item.is s));
     }

@@ -14,4 +14,5 @@ returns c =
     let s = c.args.book.now.cells in
     let rs = c.args.footprint.now in
     let cs : List Cell = map (cell_at (Inside c.args.parent)) c.args.listed.now in
-    rw (c.stopped.ensures, c.inside_if.ensures, c.in_ok-all.ensures.there, c.in_ok-all.ensures.read) (then_judged (read_all cs) s rs (rs ++ map one_of cs) all_inside (map (get s) cs) (gives_all s cs rs))
+    rw (c.stopped.ensures, c.inside_if.ensures, c.in_ok-all.ensures.there, c.in_ok-all.ensures.read)
+    (then_judged (read_all cs) s rs (rs ++ map one_of cs) all_inside (map (get s) cs) (gives_all s cs rs))

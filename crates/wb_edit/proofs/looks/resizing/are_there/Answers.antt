@@ -14,6 +14,7 @@ loop-index-preserved c =
     let s = c.args.book.now.cells in
     let here : slice_get is p ≡ Some i = slice_get-get_or is p i c.loop-index-test.true ∙ ap Some (sym c.index-item.is) in
     record {
-      read = c.in_ok-here.ensures.read ∙ rw c.cell_at.ensures (ap (λ rs. rs ++ one_of (f i) ∷ []) c.loop-index.invariant.read) ∙ sym (reads_more f is p i here c.args.footprint.now);
+      read = c.in_ok-here.ensures.read ∙ rw c.cell_at.ensures (ap (λ rs. rs ++ one_of (f i) ∷ []) c.loop-index.invariant.read) ∙
+          sym (reads_more f is p i here c.args.footprint.now);
       there = c.both_answers-all.ensures ∙ rw (c.in_ok-here.ensures.present, c.cell_at.ensures, c.loop-index.invariant.there) (sym (all_more f is p i here s));
     }

@@ -19,7 +19,8 @@ pub returns-in_err-users-clause-looks : goal.returns-in_err-users-clause-looks
 returns-in_err-users-clause-looks c =
     let p = err_from_is_err_and c.from_residual.result c.from_residual.ensures.1 in
     let kind : DomainKind = c.args.kind.now in
-    rw (p.1, p.2) (halts (uses c.args.domain) c.args.book.now.cells c.args.footprint.now c.uses.new.footprint (λ users. defaults kind (bound Array users)) c.in_err-users.field-0.0 c.in_err-users.ensures.looks)
+    rw (p.1, p.2) (halts (uses c.args.domain) c.args.book.now.cells c.args.footprint.now c.uses.new.footprint (λ users. defaults kind (bound Array users))
+    c.in_err-users.field-0.0 c.in_err-users.ensures.looks)
 
 pub returns-clause-looks : goal.returns-clause-looks
 returns-clause-looks c =
@@ -30,7 +31,8 @@ returns-clause-looks c =
     let ss = c.uses.new.footprint in
     let us = c.defaults.new.footprint in
     let arrays : c.deref-2.result.now ≡ bound Array users = c.deref-2.ensures.value ∙ c.in_ok-names.ensures.same ∙ ap (bound Array) c.deref.ensures.value in
-    then_looks (uses d) s c.args.footprint.now ss (λ users. defaults kind (bound Array users)) users (items_of c.defaults.result) us c.in_ok-users.ensures.looks (
+    then_looks (uses d) s c.args.footprint.now ss (λ users. defaults kind (bound Array users)) users (items_of c.defaults.result) us
+    c.in_ok-users.ensures.looks (
     subst (λ (ns : List Name). Looks (defaults kind ns) s ss (items_of c.defaults.result) us) arrays c.defaults.ensures.looks)
 
 pub returns-clause-once : goal.returns-clause-once
@@ -38,5 +40,7 @@ returns-clause-once c =
     let s = c.args.book.now.cells in
     let d : Name = c.args.domain in
     let ns : List Name = arrays s d in
-    let arrays : c.deref-2.result.now ≡ ns = c.deref-2.ensures.value ∙ c.in_ok-names.ensures.same ∙ ap (bound Array) (c.deref.ensures.value ∙ c.in_ok-users.ensures.seen) in
-    once_by_keys c.defaults.result c.deref-2.result.now c.defaults.ensures.keys (subst (λ (ks : List Name). IsListedOnce ks) (sym arrays) (bound_once s d Array))
+    let arrays : c.deref-2.result.now ≡ ns = c.deref-2.ensures.value ∙ c.in_ok-names.ensures.same ∙
+    ap (bound Array) (c.deref.ensures.value ∙ c.in_ok-users.ensures.seen) in
+    once_by_keys c.defaults.result c.deref-2.result.now c.defaults.ensures.keys
+    (subst (λ (ks : List Name). IsListedOnce ks) (sym arrays) (bound_once s d Array))

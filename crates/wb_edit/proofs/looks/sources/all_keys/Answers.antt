@@ -17,4 +17,5 @@ loop-index-preserved c =
 pub returns : goal.returns
 returns c =
     let is : List Index = c.args.listed.now in
-    c.loop-index.invariant ∙ ap (λ (js : List Index). list_all (is_key c.args.kind) js) (whole is c.loop-index.index-index (omega (arith, c.loop-index-test.false)))
+    c.loop-index.invariant ∙ ap (λ (js : List Index). list_all (is_key c.args.kind) js)
+    (whole is c.loop-index.index-index (omega (arith, c.loop-index-test.false)))

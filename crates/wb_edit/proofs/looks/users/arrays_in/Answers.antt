@@ -7,5 +7,6 @@ use Rattle.wb_edit.proofs.looks.users.arrays_in.Goals as goal
 
 pub returns : goal.returns
 returns c =
-    let walk = YieldsList-from_filter_map _ (named Array) (YieldsList-at c.filter_map.ensures.source (YieldsList-from_slice c.args.users.now cc)) c.filter_map.ensures.closure (λ x r q k. (refl, k.met)) in
+    let walk = YieldsList-from_filter_map _ (named Array) (YieldsList-at c.filter_map.ensures.source (YieldsList-from_slice c.args.users.now cc))
+    c.filter_map.ensures.closure (λ x r q k. (refl, k.met)) in
     items_from_collect c.collect.result c.collect.ensures.ran walk

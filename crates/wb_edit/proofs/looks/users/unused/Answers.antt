@@ -10,9 +10,11 @@ use Rattle.wb_edit.proofs.looks.users.unused.Goals as goal
 pub returns-in_err-users : goal.returns-in_err-users
 returns-in_err-users c =
     let p = err_from_is_err_and c.from_residual.result c.from_residual.ensures.1 in
-    rw (p.1, p.2) (halts (uses c.args.domain) c.args.book.now.cells c.args.footprint.now c.uses.new.footprint (λ users. judged (is_unused users)) c.in_err-users.field-0.0 c.in_err-users.ensures.looks)
+    rw (p.1, p.2) (halts (uses c.args.domain) c.args.book.now.cells c.args.footprint.now c.uses.new.footprint (λ users. judged (is_unused users))
+    c.in_err-users.field-0.0 c.in_err-users.ensures.looks)
 
 pub returns : goal.returns
 returns c =
     let users : List (Name × Binding) = c.in_ok-users.users.items in
-    rw (c.stopped.ensures, c.is_unused.ensures, c.deref.ensures.value) (then_judged (uses c.args.domain) c.args.book.now.cells c.args.footprint.now c.uses.new.footprint is_unused users c.in_ok-users.ensures.looks)
+    rw (c.stopped.ensures, c.is_unused.ensures, c.deref.ensures.value)
+    (then_judged (uses c.args.domain) c.args.book.now.cells c.args.footprint.now c.uses.new.footprint is_unused users c.in_ok-users.ensures.looks)

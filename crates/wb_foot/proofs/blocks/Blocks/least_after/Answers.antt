@@ -9,4 +9,5 @@ loop-block-preserved c =
     let i = c.loop-block.block-index in
     let is = rw c.deref-block-items.ensures.value at c.block-item.is in
     let below = rw c.deref-block-items.ensures.value at c.loop-block-test.true in
-    least_more xs i c.args.after c.block-item.result below c.block-item.result is c.args.point.now c.or_first-first.result (c.or_first-first.ensures (in_blocks (take i xs) c.args.point.now) c.loop-block.invariant)
+    least_more xs i c.args.after c.block-item.result below c.block-item.result is c.args.point.now c.or_first-first.result
+    (c.or_first-first.ensures (in_blocks (take i xs) c.args.point.now) c.loop-block.invariant)

@@ -8,6 +8,8 @@ pub returns : goal.returns
 returns c = λ footprints h had.
     let f = footprint c.args.reads.now c.args.before.now in
     record {
-      touched = taken touched_by (λ q. refl) footprints (touched_at c.args.before.now) c.args.number (place_marked c.args.self.now.touched) (place_marked c.untouch_all.new.marks) f (λ q. refl) had h.touched c.untouch_all.ensures;
-      read = taken read_by (λ q. refl) footprints (read_at c.args.reads.now) c.args.number (place_marked c.args.self.now.read) (place_marked c.unread_all.new.marks) f (λ q. refl) had h.read c.unread_all.ensures;
+      touched = taken touched_by (λ q. refl) footprints (touched_at c.args.before.now) c.args.number (place_marked c.args.self.now.touched)
+          (place_marked c.untouch_all.new.marks) f (λ q. refl) had h.touched c.untouch_all.ensures;
+      read = taken read_by (λ q. refl) footprints (read_at c.args.reads.now) c.args.number (place_marked c.args.self.now.read)
+          (place_marked c.unread_all.new.marks) f (λ q. refl) had h.read c.unread_all.ensures;
     }

@@ -8,4 +8,5 @@ pub returns-in-Point : goal.returns-in-Point
 returns-in-Point c =
     let m = c.args.self.now in
     let p = c.in-Point.point in
-    rw (← c.in-Point.ensures) (c.earlier.ensures.least (marked (slice_cmp int_cmp) m.points p) (in_blocks m.blocks.list.items p) c.args.after c.least_after-alone.ensures c.least_after.ensures)
+    rw (← c.in-Point.ensures) (c.earlier.ensures.least (marked (slice_cmp int_cmp) m.points p) (in_blocks m.blocks.list.items p) c.args.after
+    c.least_after-alone.ensures c.least_after.ensures)

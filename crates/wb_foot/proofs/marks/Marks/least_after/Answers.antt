@@ -11,10 +11,12 @@ pub returns-then-eq : goal.returns-then-eq
 returns-then-eq g c =
     let s = rw c.in-Some.is at c.next.ensures.steps in
     let tie = sym (g.met.K.Ord.matches_eq c.in-Some.field-0.now.0 c.args.key) ∙ sym c.eq.ensures ∙ c.if-eq.true in
-    first_found g.K.Ord.cmp g.met.K.Ord.total c.args.self.now.set c.args.key c.args.after c.range.result _ c.in-Some.field-0.now (c.range.ensures.in_range tt) s tie
+    first_found g.K.Ord.cmp g.met.K.Ord.total c.args.self.now.set c.args.key c.args.after c.range.result _ c.in-Some.field-0.now (c.range.ensures.in_range tt)
+    s tie
 
 pub returns-else-eq : goal.returns-else-eq
 returns-else-eq g c =
     let s = rw c.in-Some.is at c.next.ensures.steps in
     let apart = sym (g.met.K.Ord.matches_eq c.in-Some.field-0.now.0 c.args.key) ∙ sym c.eq.ensures ∙ c.if-eq.false in
-    other_found g.K.Ord.cmp g.met.K.Ord.total c.args.self.now.set c.args.key c.args.after c.range.result _ c.in-Some.field-0.now (c.range.ensures.in_range tt) s apart
+    other_found g.K.Ord.cmp g.met.K.Ord.total c.args.self.now.set c.args.key c.args.after c.range.result _ c.in-Some.field-0.now (c.range.ensures.in_range tt)
+    s apart

@@ -9,7 +9,9 @@ loop-x-preserved c =
     record {
       ascending = c.push_above.ensures.ascending;
       long = ap length e ∙ length_push c.loop-x.points.items c.in-Some.point ∙ ap (λ k. k + 1) c.loop-x.invariant.long;
-      same = run_more c.args.changes.now c.loop-x.x-index c.x-item.result (omega arith) c.cell.result (c.cell.ensures ∙ ap (λ y. y.cell) c.x-item.is) c.args.self.now.kind c.args.self.now.name c.loop-x.points.items c.push_above.new.points.items c.in-Some.point c.in-Some.ensures e c.loop-x.invariant.same;
+      same = run_more c.args.changes.now c.loop-x.x-index c.x-item.result (omega arith) c.cell.result (c.cell.ensures ∙ ap (λ y. y.cell) c.x-item.is)
+          c.args.self.now.kind c.args.self.now.name c.loop-x.points.items c.push_above.new.points.items c.in-Some.point c.in-Some.ensures e
+          c.loop-x.invariant.same;
     }
 
 pub loop-x-init : goal.loop-x-init

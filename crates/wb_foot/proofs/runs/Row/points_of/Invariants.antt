@@ -6,4 +6,9 @@ use Rattle.wb_foot.specs.Footprints.{touched_at, run_touched}
 use Rattle.wb_foot.proofs.runs.Row.points_of.Given as goal
 
 abbrev pub invariant-loop-x : goal.invariant-loop-x
-invariant-loop-x l = record { ascending : IsStrictlySortedBy point_cmp l.points.items; long : length l.points.items ≡ l.x-index; same : (q : Place) → touched_at (take l.x-index l.changes) q ≡ run_touched l.self.kind l.self.name l.points.items q }
+invariant-loop-x l = record {
+  ascending : IsStrictlySortedBy point_cmp l.points.items;
+  long : length l.points.items ≡ l.x-index;
+  same : (q : Place) →
+      touched_at (take l.x-index l.changes) q ≡ run_touched l.self.kind l.self.name l.points.items q;
+}

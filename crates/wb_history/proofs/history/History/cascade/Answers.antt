@@ -13,7 +13,8 @@ use Rattle.wb_history.proofs.history.History.cascade.Goals as goal
 pub invariant_of-self : goal.invariant_of-self
 invariant_of-self g c =
     let fs = c.cascade_at.new.entries in
-    let same = whole_slice c.self.inside.entries.len fs (drop (length fs) c.self.inside.entries.items) (sym (c.cascade_at.auto.entries ∙ c.deref_mut.ensures.len)) in
+    let same = whole_slice c.self.inside.entries.len fs (drop (length fs) c.self.inside.entries.items)
+    (sym (c.cascade_at.auto.entries ∙ c.deref_mut.ensures.len)) in
     subst (λ gs. Keeps gs c.cascade_at.new.book.cells c.cascade_at.new.index) (sym same) (record {
       shows = c.cascade_at.ensures.kept;
       valid = c.cascade_at.ensures.valid;

@@ -9,8 +9,10 @@ use Rattle.wb_history.proofs.history.History.edit.Goals as goal
 pub invariant_of-self : goal.invariant_of-self
 invariant_of-self g c = record {
   shows = c.add.ensures.kept;
-  indexed = still_indexed c.self.inside.index c.self.inside.entries.items c.add.new.entries.items c.add.result c.self.invariant.indexed c.add.ensures.appended c.add.ensures.entries_stay;
-  valid = keeps_valid_more c.self.inside.entries.items c.add.new.entries.items c.args.edit c.add.result c.self.invariant.valid c.validity.ensures c.add.ensures.entries c.add.ensures.entries_stay;
+  indexed = still_indexed c.self.inside.index c.self.inside.entries.items c.add.new.entries.items c.add.result c.self.invariant.indexed c.add.ensures.appended
+      c.add.ensures.entries_stay;
+  valid = keeps_valid_more c.self.inside.entries.items c.add.new.entries.items c.args.edit c.add.result c.self.invariant.valid c.validity.ensures
+      c.add.ensures.entries c.add.ensures.entries_stay;
 }
 
 pub returns-clause-reply : goal.returns-clause-reply

@@ -15,14 +15,16 @@ returns-clause-reply g c =
     let h = c.redo_at.ensures.reply in
     let v = c.deref_mut.ensures.value in
     subst (λ p. ByNumber (RedoReply (meant p.entries)) c.args.number c.redo_at.result) c.self.view_is
-    (by_number (RedoReply (entries_meant c.self.inside.entries.items)) c.args.number c.redo_at.result some (subst (λ es. RedoReply (entries_meant es) (c.args.number - 1) c.redo_at.result) v h))
+    (by_number (RedoReply (entries_meant c.self.inside.entries.items)) c.args.number c.redo_at.result some
+    (subst (λ es. RedoReply (entries_meant es) (c.args.number - 1) c.redo_at.result) v h))
 
 pub invariant_of-self : goal.invariant_of-self
 invariant_of-self g c =
     let es = c.deref_mut.result.now in
     let fs = c.redo_at.new.entries in
     let valid : AreValid (numbered_entries es) = subst (λ gs. AreValid (numbered_entries gs)) (sym c.deref_mut.ensures.value) c.self.invariant.valid in
-    let same = whole_slice c.self.inside.entries.len fs (drop (length fs) c.self.inside.entries.items) (sym (c.redo_at.auto.entries ∙ c.deref_mut.ensures.len)) in
+    let same = whole_slice c.self.inside.entries.len fs (drop (length fs) c.self.inside.entries.items) (sym (c.redo_at.auto.entries ∙ c.deref_mut.ensures.len))
+    in
     subst (λ gs. Keeps gs c.redo_at.new.book.cells c.redo_at.new.index) (sym same) (record {
       shows = c.redo_at.ensures.kept;
       indexed = c.redo_at.ensures.indexed;

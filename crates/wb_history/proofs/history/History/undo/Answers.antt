@@ -12,7 +12,8 @@ invariant_of-self g c =
     let es = c.deref_mut.result.now in
     let fs = c.undo_at.new.entries in
     let valid : AreValid (numbered_entries es) = subst (λ gs. AreValid (numbered_entries gs)) (sym c.deref_mut.ensures.value) c.self.invariant.valid in
-    let same = whole_slice c.self.inside.entries.len fs (drop (length fs) c.self.inside.entries.items) (sym (c.undo_at.auto.entries ∙ c.deref_mut.ensures.len)) in
+    let same = whole_slice c.self.inside.entries.len fs (drop (length fs) c.self.inside.entries.items) (sym (c.undo_at.auto.entries ∙ c.deref_mut.ensures.len))
+    in
     subst (λ gs. Keeps gs c.undo_at.new.book.cells c.undo_at.new.index) (sym same) (record {
       shows = c.undo_at.ensures.kept;
       indexed = c.undo_at.ensures.indexed;
@@ -24,4 +25,5 @@ returns-clause-reply g c =
     let some : 0 < c.args.number = omega arith in
     let v = c.deref_mut.ensures.value in
     subst (λ p. ByNumber (UndoReply (meant p.entries)) c.args.number c.undo_at.result) c.self.view_is
-    (by_number (UndoReply (entries_meant c.self.inside.entries.items)) c.args.number c.undo_at.result some (subst (λ es. UndoReply (entries_meant es) (c.args.number - 1) c.undo_at.result) v c.undo_at.ensures.reply))
+    (by_number (UndoReply (entries_meant c.self.inside.entries.items)) c.args.number c.undo_at.result some
+    (subst (λ es. UndoReply (entries_meant es) (c.args.number - 1) c.undo_at.result) v c.undo_at.ensures.reply))

@@ -11,7 +11,8 @@ invariant_of-self g c =
     let es = c.deref_mut.result.now in
     let fs = c.undo_latest.new.entries in
     let valid : AreValid (numbered_entries es) = subst (λ gs. AreValid (numbered_entries gs)) (sym c.deref_mut.ensures.value) c.self.invariant.valid in
-    let same = whole_slice c.self.inside.entries.len fs (drop (length fs) c.self.inside.entries.items) (sym (c.undo_latest.auto.entries ∙ c.deref_mut.ensures.len)) in
+    let same = whole_slice c.self.inside.entries.len fs (drop (length fs) c.self.inside.entries.items)
+    (sym (c.undo_latest.auto.entries ∙ c.deref_mut.ensures.len)) in
     subst (λ gs. Keeps gs c.undo_latest.new.book.cells c.undo_latest.new.index) (sym same) (record {
       shows = c.undo_latest.ensures.kept;
       indexed = c.undo_latest.ensures.indexed;

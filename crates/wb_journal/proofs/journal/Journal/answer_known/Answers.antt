@@ -12,5 +12,6 @@ invariant_of-self-2 g c =
     let e = entry c.args.seat c.args.request c.in_ok-reply.reply in
     let told = c.in_ok-reply.ensures.ok in
     let entered : c.push_reserved.new.self.items ≡ before.entries.items ++ e ∷ [] = cc (c.push_reserved.ensures.items, c.reserve.ensures.items, told.2) in
-    let count : c.len.result ≡ length (of_seat c.args.seat before.entries.items) + 1 = omega (arith, knows.1, c.len.ensures, c.push_reserved-2.ensures.len, c.reserve-2.ensures.len) in
+    let count : c.len.result ≡ length (of_seat c.args.seat before.entries.items) + 1 =
+    omega (arith, knows.1, c.len.ensures, c.push_reserved-2.ensures.len, c.reserve-2.ensures.len) in
     rw entered (counts_more before.counts.items before.entries.items e c.len.result c.self.invariant knows.0 count)

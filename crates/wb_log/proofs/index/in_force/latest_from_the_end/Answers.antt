@@ -19,5 +19,6 @@ loop-at-preserved c =
     let is = slice_get-get_or es p x (omega arith) ∙ ap Some (sym c.index-entries-at.is) in
     record {
       within = omega arith;
-      none_later = still_none es p x is (sym c.is_in_force.ensures ∙ c.if-is_in_force.false) (λ q g low e. c.loop-at.invariant.none_later q g (omega (arith, low)) e);
+      none_later = still_none es p x is (sym c.is_in_force.ensures ∙ c.if-is_in_force.false)
+          (λ q g low e. c.loop-at.invariant.none_later q g (omega (arith, low)) e);
     }

@@ -15,7 +15,8 @@ returns-in-Ok-clause-reply c =
     let es = c.args.entries.now in
     let x = c.index-entries-at.result in
     let is = slice_get-get_or es c.args.at c.index-entries-at.result c.requires.in_log ∙ ap Some (sym c.index-entries-at.is) in
-    dependents_reply c.requires.kept.0 es c.args.at x c.requires.kept.1 is (sym c.is_in_force.ensures ∙ c.if-not-is_in_force.false) c.in-Ok.found.items c.in-Ok.ensures.found
+    dependents_reply c.requires.kept.0 es c.args.at x c.requires.kept.1 is (sym c.is_in_force.ensures ∙ c.if-not-is_in_force.false) c.in-Ok.found.items
+    c.in-Ok.ensures.found
 
 pub returns-in-Err-clause-why : goal.returns-in-Err-clause-why
 returns-in-Err-clause-why c =

@@ -22,12 +22,14 @@ loop-done-preserved g c =
     let i = c.loop-done.done in
     let number = get_or all i 0 in
     let one : i + 1 ≡ suc i = omega arith in
-    let now : take (i + 1) all ≡ take i all ++ number ∷ [] = ap (λ (j : ℕ). take j all) one ∙ take_more all i number (slice_get-get_or all i 0 c.loop-done-test.true) in
+    let now : take (i + 1) all ≡ take i all ++ number ∷ [] = ap (λ (j : ℕ). take j all) one ∙
+    take_more all i number (slice_get-get_or all i 0 c.loop-done-test.true) in
     let es = numbered_entries c.args.entries.now in
     let fs = numbered_entries c.loop-done.entries in
     let gs = numbered_entries c.undo_number.new.entries in
     let w = c.args.book.now.writes in
-    let step = one_undone es fs gs w c.loop-done.count c.loop-done.book.writes c.saturating_add-count.result c.undo_number.new.book.writes number c.in-Ok.more (take i all)
+    let step = one_undone es fs gs w c.loop-done.count c.loop-done.book.writes c.saturating_add-count.result c.undo_number.new.book.writes number c.in-Ok.more
+    (take i all)
     c.loop-done.invariant.undone c.in-Ok.ensures.reply c.in-Ok.ensures.entries c.saturating_add-count.ensures c.in-Ok.ensures.writes in
     record {
       within = omega arith;

@@ -14,5 +14,6 @@ pub returns-clause-writes : goal.returns-clause-writes
 returns-clause-writes g c =
     let u = c.undo_each-done in
     let some : 0 < u.result.0 = omega arith in
-    cascade_writes c.args.entries.now c.args.at c.args.listed.now u.result.0 c.args.book.now.writes u.result.1 u.new.book.writes (numbered_entries u.new.entries)
+    cascade_writes c.args.entries.now c.args.at c.args.listed.now u.result.0 c.args.book.now.writes u.result.1 u.new.book.writes
+    (numbered_entries u.new.entries)
     some u.ensures.within u.ensures.undone

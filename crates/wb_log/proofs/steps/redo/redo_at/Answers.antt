@@ -15,7 +15,8 @@ returns-in-Ok-put_in-clause-kept g c =
     let es = c.args.entries.now in
     let x = slice_index_or es c.args.at c.index-entries-at.result in
     let is = slice_get-get_or es c.args.at c.index-entries-at.result c.requires.in_log in
-    redone_kept c.args.book.now.cells es c.args.at x c.requires.kept is c.in-Ok.delta c.in-Ok.footprint c.in-Ok.count c.in-Ok.ensures.ok c.put_in.new.entry c.put_in.new.book.cells c.in-Ok-put_in.ensures.entry c.in-Ok-put_in.ensures.cells
+    redone_kept c.args.book.now.cells es c.args.at x c.requires.kept is c.in-Ok.delta c.in-Ok.footprint c.in-Ok.count c.in-Ok.ensures.ok c.put_in.new.entry
+    c.put_in.new.book.cells c.in-Ok-put_in.ensures.entry c.in-Ok-put_in.ensures.cells
 
 pub returns-in-Ok-put_in-clause-reply : goal.returns-in-Ok-put_in-clause-reply
 returns-in-Ok-put_in-clause-reply g c =
@@ -36,7 +37,8 @@ returns-in-Ok-put_in-clause-entries g c =
     let es = c.args.entries.now in
     let x = slice_index_or es c.args.at c.index-entries-at.result in
     let is = slice_get-get_or es c.args.at c.index-entries-at.result c.requires.in_log in
-    redone_numbers c.args.book.now.cells es c.args.at x c.requires.kept is c.in-Ok.delta c.in-Ok.footprint c.in-Ok.count c.in-Ok.ensures.ok c.put_in.new.entry c.in-Ok-put_in.ensures.entry
+    redone_numbers c.args.book.now.cells es c.args.at x c.requires.kept is c.in-Ok.delta c.in-Ok.footprint c.in-Ok.count c.in-Ok.ensures.ok c.put_in.new.entry
+    c.in-Ok-put_in.ensures.entry
 
 pub put_in-requires-clause-well_formed : goal.put_in-requires-clause-well_formed
 put_in-requires-clause-well_formed g c = λ _ _.
@@ -51,18 +53,21 @@ returns-in-Ok-put_in-clause-in_place g c =
     let s = c.args.book.now.cells in
     redoes_in_place s es (slice_set es c.args.at c.put_in.new.entry) c.requires.kept c.args.at (Ok c.in-Ok.count)
     (redone_reply s es c.args.at x c.requires.kept is c.in-Ok.delta c.in-Ok.footprint c.in-Ok.count c.in-Ok.ensures.ok)
-    (redone_numbers s es c.args.at x c.requires.kept is c.in-Ok.delta c.in-Ok.footprint c.in-Ok.count c.in-Ok.ensures.ok c.put_in.new.entry c.in-Ok-put_in.ensures.entry)
+    (redone_numbers s es c.args.at x c.requires.kept is c.in-Ok.delta c.in-Ok.footprint c.in-Ok.count c.in-Ok.ensures.ok c.put_in.new.entry
+    c.in-Ok-put_in.ensures.entry)
 
 pub returns-in-Ok-put_in-clause-indexed : goal.returns-in-Ok-put_in-clause-indexed
 returns-in-Ok-put_in-clause-indexed g c =
     let es = c.args.entries.now in
     let plan = c.in-Ok.ensures.ok in
-    set_indexed c.put_in.new.index es c.args.at c.put_in.new.entry c.requires.in_log (c.in-Ok-put_in.ensures.put (length es) (by_number es) c.in-Ok.ensures.indexed (no_kept es c.args.at plan.0 plan.1 plan.2))
+    set_indexed c.put_in.new.index es c.args.at c.put_in.new.entry c.requires.in_log
+    (c.in-Ok-put_in.ensures.put (length es) (by_number es) c.in-Ok.ensures.indexed (no_kept es c.args.at plan.0 plan.1 plan.2))
 
 pub returns-in-Err-put_in-clause-indexed : goal.returns-in-Err-put_in-clause-indexed
 returns-in-Err-put_in-clause-indexed g c =
     let es = c.args.entries.now in
     let x = slice_index_or es c.args.at c.index-entries-at.result in
     let is = slice_get-get_or es c.args.at c.index-entries-at.result c.requires.in_log in
-    let same : slice_set es c.args.at c.put_in.new.entry ≡ es = ap (slice_set es c.args.at) c.in-Err-put_in.ensures.entry_stays ∙ set_same es c.args.at x is es c.args.at x is in
+    let same : slice_set es c.args.at c.put_in.new.entry ≡ es = ap (slice_set es c.args.at) c.in-Err-put_in.ensures.entry_stays ∙
+    set_same es c.args.at x is es c.args.at x is in
     subst (λ fs. IsIndexed c.put_in.new.index fs) (sym same) (subst (λ i. IsIndexed i es) (sym c.in-Err-put_in.ensures.index_stays) c.in-Ok.ensures.indexed)

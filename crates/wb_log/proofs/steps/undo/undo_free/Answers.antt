@@ -11,14 +11,16 @@ returns-clause-kept g c =
     let es = c.args.entries.now in
     let x = slice_index_or es c.args.at c.index-entries-at.result in
     let is = slice_get-get_or es c.args.at c.index-entries-at.result c.requires.in_log in
-    undone_kept es c.args.at x is c.take_back.result c.take_back.new.entry c.args.book.now c.take_back.new.book c.requires.kept c.requires.free c.take_back.ensures.ok c.take_back.ensures.entry_stays c.take_back.ensures.book_stays
+    undone_kept es c.args.at x is c.take_back.result c.take_back.new.entry c.args.book.now c.take_back.new.book c.requires.kept c.requires.free
+    c.take_back.ensures.ok c.take_back.ensures.entry_stays c.take_back.ensures.book_stays
 
 pub returns-clause-reply : goal.returns-clause-reply
 returns-clause-reply g c =
     let es = c.args.entries.now in
     let x = slice_index_or es c.args.at c.index-entries-at.result in
     let is = slice_get-get_or es c.args.at c.index-entries-at.result c.requires.in_log in
-    undone_reply es c.args.at x is c.take_back.result c.take_back.new.entry c.args.book.now c.take_back.new.book c.requires.kept c.requires.free c.take_back.ensures.ok c.take_back.ensures.why
+    undone_reply es c.args.at x is c.take_back.result c.take_back.new.entry c.args.book.now c.take_back.new.book c.requires.kept c.requires.free
+    c.take_back.ensures.ok c.take_back.ensures.why
 
 pub returns-clause-entries : goal.returns-clause-entries
 returns-clause-entries g c =
@@ -39,7 +41,8 @@ returns-clause-set_back g c =
     let es = c.args.entries.now in
     let x = slice_index_or es c.args.at c.index-entries-at.result in
     let is = slice_get-get_or es c.args.at c.index-entries-at.result c.requires.in_log in
-    let reply = undone_reply es c.args.at x is c.take_back.result c.take_back.new.entry c.args.book.now c.take_back.new.book c.requires.kept c.requires.free c.take_back.ensures.ok c.take_back.ensures.why in
+    let reply = undone_reply es c.args.at x is c.take_back.result c.take_back.new.entry c.args.book.now c.take_back.new.book c.requires.kept c.requires.free
+    c.take_back.ensures.ok c.take_back.ensures.why in
     let now = undone_numbers es c.args.at x is c.take_back.result c.take_back.new.entry c.args.book.now c.take_back.new.book c.take_back.ensures.ok in
     sets_back c.args.book.now.cells es (slice_set es c.args.at c.take_back.new.entry) c.requires.kept c.args.at c.take_back.result reply now
 
@@ -48,7 +51,8 @@ returns-clause-others g c =
     let es = c.args.entries.now in
     let x = slice_index_or es c.args.at c.index-entries-at.result in
     let is = slice_get-get_or es c.args.at c.index-entries-at.result c.requires.in_log in
-    let reply = undone_reply es c.args.at x is c.take_back.result c.take_back.new.entry c.args.book.now c.take_back.new.book c.requires.kept c.requires.free c.take_back.ensures.ok c.take_back.ensures.why in
+    let reply = undone_reply es c.args.at x is c.take_back.result c.take_back.new.entry c.args.book.now c.take_back.new.book c.requires.kept c.requires.free
+    c.take_back.ensures.ok c.take_back.ensures.why in
     let now = undone_numbers es c.args.at x is c.take_back.result c.take_back.new.entry c.args.book.now c.take_back.new.book c.take_back.ensures.ok in
     leaves_others c.args.book.now.cells es (slice_set es c.args.at c.take_back.new.entry) c.requires.kept c.args.at c.take_back.result reply now
 
@@ -57,4 +61,5 @@ returns-clause-indexed g c =
     let es = c.args.entries.now in
     let x = slice_index_or es c.args.at c.index-entries-at.result in
     let is = slice_get-get_or es c.args.at c.index-entries-at.result c.requires.in_log in
-    undone_indexed es c.args.at x is c.requires.in_log c.args.index.now c.take_back.new.index c.take_back.result c.take_back.new.entry c.args.book.now c.take_back.new.book c.requires.indexed c.take_back.ensures.ok c.take_back.ensures.taken c.take_back.ensures.entry_stays c.take_back.ensures.index_stays
+    undone_indexed es c.args.at x is c.requires.in_log c.args.index.now c.take_back.new.index c.take_back.result c.take_back.new.entry c.args.book.now
+    c.take_back.new.book c.requires.indexed c.take_back.ensures.ok c.take_back.ensures.taken c.take_back.ensures.entry_stays c.take_back.ensures.index_stays

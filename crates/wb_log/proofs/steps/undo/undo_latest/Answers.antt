@@ -10,11 +10,16 @@ pub returns-in-None-clause-reply : goal.returns-in-None-clause-reply
 returns-in-None-clause-reply g c = none_in_force c.args.book.now.cells c.args.entries.now c.requires.kept c.in-None.ensures.latest
 
 pub returns-in-Ok-clause-reply : goal.returns-in-Ok-clause-reply
-returns-in-Ok-clause-reply g c =
-    (c.in-Some.at, add-one c.in-Some.at, latest_is_last c.args.book.now.cells c.args.entries.now c.in-Some.at c.requires.kept c.in-Some.ensures.latest, c.in-Ok.ensures.reply)
+returns-in-Ok-clause-reply g c = (
+  c.in-Some.at,
+  add-one c.in-Some.at,
+  latest_is_last c.args.book.now.cells c.args.entries.now c.in-Some.at c.requires.kept c.in-Some.ensures.latest,
+  c.in-Ok.ensures.reply,
+)
 
 pub returns-in-Err-clause-reply : goal.returns-in-Err-clause-reply
-returns-in-Err-clause-reply g c = latest_refused c.args.book.now.cells c.args.entries.now c.in-Some.at c.in-Err.why c.requires.kept c.in-Some.ensures.latest c.in-Err.ensures.reply
+returns-in-Err-clause-reply g c = latest_refused c.args.book.now.cells c.args.entries.now c.in-Some.at c.in-Err.why c.requires.kept c.in-Some.ensures.latest
+    c.in-Err.ensures.reply
 
 pub returns-in-Ok-clause-restored : goal.returns-in-Ok-clause-restored
 returns-in-Ok-clause-restored g c =

@@ -4,9 +4,13 @@ use Rattle.wb_pieces.proofs.pieces.Pieces.from_parts.Goals as goal
 
 pub invariant_of-result : goal.invariant_of-result
 invariant_of-result g c =
-    (is_split g.D.Index.Ord.cmp g.met.D.Index.Ord.total g.met.D.Index.Key.exact (g.M.Mapping.locale c.args.mapping.now) (g.M.Mapping.locale_count c.args.mapping.now) c.len.result (lists_of c.args.pieces.items) c.args.whole.now c.len.ensures.ascending c.requires.below c.requires.are_pieces c.len.ensures.count).1
+    (is_split g.D.Index.Ord.cmp g.met.D.Index.Ord.total g.met.D.Index.Key.exact (g.M.Mapping.locale c.args.mapping.now)
+    (g.M.Mapping.locale_count c.args.mapping.now) c.len.result (lists_of c.args.pieces.items) c.args.whole.now c.len.ensures.ascending c.requires.below
+    c.requires.are_pieces c.len.ensures.count).1
 
 pub returns : goal.returns
 returns g c =
-    let same = (is_split g.D.Index.Ord.cmp g.met.D.Index.Ord.total g.met.D.Index.Key.exact (g.M.Mapping.locale c.args.mapping.now) (g.M.Mapping.locale_count c.args.mapping.now) c.len.result (lists_of c.args.pieces.items) c.args.whole.now c.len.ensures.ascending c.requires.below c.requires.are_pieces c.len.ensures.count).0 in
+    let same = (is_split g.D.Index.Ord.cmp g.met.D.Index.Ord.total g.met.D.Index.Key.exact (g.M.Mapping.locale c.args.mapping.now)
+    (g.M.Mapping.locale_count c.args.mapping.now) c.len.result (lists_of c.args.pieces.items) c.args.whole.now c.len.ensures.ascending c.requires.below
+    c.requires.are_pieces c.len.ensures.count).0 in
     λ i. (same i, c.args.mapping.now)

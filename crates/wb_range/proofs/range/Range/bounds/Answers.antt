@@ -13,7 +13,8 @@ returns-then-self-lt0-clause-value c =
     let g : SFits w64 c.self.inside.stride = search rules in
     let h : SFits w64 c.at-last.result = search rules in
     let l = index_is _ _ _ _ _ _ c.self.view_is c.at-last.ensures in
-    let b : AreBoundsOf c.args.self.now c.at-last.result c.self.inside.first = bounds_down c.self.inside c.args.self.now c.at-last.result c.self.invariant c.self.view_is (omega (arith, ints)) c.if-self-eq0.false l.1 in
+    let b : AreBoundsOf c.args.self.now c.at-last.result c.self.inside.first =
+    bounds_down c.self.inside c.args.self.now c.at-last.result c.self.invariant c.self.view_is (omega (arith, ints)) c.if-self-eq0.false l.1 in
     simp to_z-of_z b.value
 
 pub returns-then-self-lt0-clause-spelled : goal.returns-then-self-lt0-clause-spelled
@@ -22,7 +23,8 @@ returns-then-self-lt0-clause-spelled c =
     let g : SFits w64 c.self.inside.stride = search rules in
     let h : SFits w64 c.at-last.result = search rules in
     let l = index_is _ _ _ _ _ _ c.self.view_is c.at-last.ensures in
-    let b : AreBoundsOf c.args.self.now c.at-last.result c.self.inside.first = bounds_down c.self.inside c.args.self.now c.at-last.result c.self.invariant c.self.view_is (omega (arith, ints)) c.if-self-eq0.false l.1 in
+    let b : AreBoundsOf c.args.self.now c.at-last.result c.self.inside.first =
+    bounds_down c.self.inside c.args.self.now c.at-last.result c.self.invariant c.self.view_is (omega (arith, ints)) c.if-self-eq0.false l.1 in
     simp to_z-of_z b.spelled
 
 pub returns-then-self-lt0-clause-within : goal.returns-then-self-lt0-clause-within
@@ -31,7 +33,8 @@ returns-then-self-lt0-clause-within c =
     let g : SFits w64 c.self.inside.stride = search rules in
     let h : SFits w64 c.at-last.result = search rules in
     let l = index_is _ _ _ _ _ _ c.self.view_is c.at-last.ensures in
-    let b : AreBoundsOf c.args.self.now c.at-last.result c.self.inside.first = bounds_down c.self.inside c.args.self.now c.at-last.result c.self.invariant c.self.view_is (omega (arith, ints)) c.if-self-eq0.false l.1 in
+    let b : AreBoundsOf c.args.self.now c.at-last.result c.self.inside.first =
+    bounds_down c.self.inside c.args.self.now c.at-last.result c.self.invariant c.self.view_is (omega (arith, ints)) c.if-self-eq0.false l.1 in
     simp to_z-of_z b.within
 
 pub returns-else-self-lt0-clause-value : goal.returns-else-self-lt0-clause-value
@@ -40,7 +43,8 @@ returns-else-self-lt0-clause-value c =
     let g : SFits w64 c.self.inside.stride = search rules in
     let h : SFits w64 c.at-last.result = search rules in
     let l = index_is _ _ _ _ _ _ c.self.view_is c.at-last.ensures in
-    let b : AreBoundsOf c.args.self.now c.self.inside.first c.at-last.result = bounds_up c.self.inside c.args.self.now c.at-last.result c.self.invariant c.self.view_is (omega (arith, ints)) c.if-self-eq0.false l.1 in
+    let b : AreBoundsOf c.args.self.now c.self.inside.first c.at-last.result =
+    bounds_up c.self.inside c.args.self.now c.at-last.result c.self.invariant c.self.view_is (omega (arith, ints)) c.if-self-eq0.false l.1 in
     simp to_z-of_z b.value
 
 pub returns-else-self-lt0-clause-spelled : goal.returns-else-self-lt0-clause-spelled
@@ -49,7 +53,8 @@ returns-else-self-lt0-clause-spelled c =
     let g : SFits w64 c.self.inside.stride = search rules in
     let h : SFits w64 c.at-last.result = search rules in
     let l = index_is _ _ _ _ _ _ c.self.view_is c.at-last.ensures in
-    let b : AreBoundsOf c.args.self.now c.self.inside.first c.at-last.result = bounds_up c.self.inside c.args.self.now c.at-last.result c.self.invariant c.self.view_is (omega (arith, ints)) c.if-self-eq0.false l.1 in
+    let b : AreBoundsOf c.args.self.now c.self.inside.first c.at-last.result =
+    bounds_up c.self.inside c.args.self.now c.at-last.result c.self.invariant c.self.view_is (omega (arith, ints)) c.if-self-eq0.false l.1 in
     simp to_z-of_z b.spelled
 
 pub returns-else-self-lt0-clause-within : goal.returns-else-self-lt0-clause-within
@@ -58,5 +63,6 @@ returns-else-self-lt0-clause-within c =
     let g : SFits w64 c.self.inside.stride = search rules in
     let h : SFits w64 c.at-last.result = search rules in
     let l = index_is _ _ _ _ _ _ c.self.view_is c.at-last.ensures in
-    let b : AreBoundsOf c.args.self.now c.self.inside.first c.at-last.result = bounds_up c.self.inside c.args.self.now c.at-last.result c.self.invariant c.self.view_is (omega (arith, ints)) c.if-self-eq0.false l.1 in
+    let b : AreBoundsOf c.args.self.now c.self.inside.first c.at-last.result =
+    bounds_up c.self.inside c.args.self.now c.at-last.result c.self.invariant c.self.view_is (omega (arith, ints)) c.if-self-eq0.false l.1 in
     simp to_z-of_z b.within

@@ -28,10 +28,12 @@ loop-p-preserved c =
     let fits : SFits w64 x = search rules in
     let within : p < length (zip is xs) = omega (arith, length-zip is xs) in
     let made : t ≡ insert s (Element a i) (Number x) = c.in_ok-put.ensures ∙ ap (λ z. insert s (Element a i) (Number z)) (to_z-of_z w64 x fits) in
-    put_more (λ (q : Index × ℤ). (Element a q.0, Number q.1)) (zip is xs) p (i, x) s t (inserted (element_cells a (zip is xs)) (state_of c.args.cells.now)) within
+    put_more (λ (q : Index × ℤ). (Element a q.0, Number q.1)) (zip is xs) p (i, x) s t (inserted (element_cells a (zip is xs)) (state_of c.args.cells.now))
+    within
     (pair_at is xs p i (pos 0) x low c.requires c.index-indices-p.is refl) made c.loop-p.invariant
 
 pub returns : goal.returns
 returns c =
     let ps = zip c.args.indices.now c.args.elements.now in
-    sym (at_drop_all (λ qs. inserted (element_cells c.args.array qs) (state_of c.loop-p.cells)) ps c.loop-p.p (omega (arith, length-zip c.args.indices.now c.args.elements.now))) ∙ c.loop-p.invariant
+    sym (at_drop_all (λ qs. inserted (element_cells c.args.array qs) (state_of c.loop-p.cells)) ps c.loop-p.p
+    (omega (arith, length-zip c.args.indices.now c.args.elements.now))) ∙ c.loop-p.invariant

@@ -9,5 +9,6 @@ use Rattle.wb_reading.proofs.text.told.put_lines.Given as goal
 abbrev pub invariant-loop-line : goal.invariant-loop-line
 invariant-loop-line l = record {
   sound : list_all (λ x. is_sound (map line_of l.lines) (line_of x)) (take l.line-index l.lines) ≡ true;
-  ahead : cells_put (map line_of l.lines) (map line_of (drop l.line-index l.lines)) (state_of l.cells) ≡ cells_put (map line_of l.lines) (map line_of l.lines) empty;
+  ahead : cells_put (map line_of l.lines) (map line_of (drop l.line-index l.lines)) (state_of l.cells) ≡ cells_put (map line_of l.lines) (map line_of l.lines)
+      empty;
 }

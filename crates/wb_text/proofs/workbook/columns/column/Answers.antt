@@ -14,7 +14,8 @@ use Rattle.wb_text.proofs.FromLines.Columnwise.{column_set}
 use Rattle.wb_text.proofs.workbook.columns.column.Goals as goal
 
 pub made-requires : goal.made-requires
-made-requires c = subst (λ (es : List (Index × ℤ)). IsStrictlySortedBy index_cmp (keys_of es)) (sym (c.as_slice.ensures.value ∙ c.new-none.ensures.items)) (ascending-nothing index_cmp)
+made-requires c = subst (λ (es : List (Index × ℤ)). IsStrictlySortedBy index_cmp (keys_of es)) (sym (c.as_slice.ensures.value ∙ c.new-none.ensures.items))
+    (ascending-nothing index_cmp)
 
 pub returns : goal.returns
 returns c =

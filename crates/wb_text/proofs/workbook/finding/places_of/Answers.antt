@@ -9,8 +9,10 @@ returns-in-Ok-Some-clause-distinct c =
     let j = length xs - c.loop-done.done in
     let low : k < length xs = omega arith in
     let next : j ≡ suc k = omega arith in
-    let read = is_read xs k j c.index-lines-place.result c.name_of.result c.loop-done.places low next c.index-lines-place.is c.name_of.ensures c.loop-done.invariant.finds in
-    sym (name_again xs k j c.in-Ok-Some.field-0-0 c.index-lines-place.result c.name_of.result c.loop-done.places read (sym c.in-Ok-Some.ensures.old ∙ c.in-Ok-Some.field-0-is))
+    let read = is_read xs k j c.index-lines-place.result c.name_of.result c.loop-done.places low next c.index-lines-place.is c.name_of.ensures
+    c.loop-done.invariant.finds in
+    sym (name_again xs k j c.in-Ok-Some.field-0-0 c.index-lines-place.result c.name_of.result c.loop-done.places read
+    (sym c.in-Ok-Some.ensures.old ∙ c.in-Ok-Some.field-0-is))
 
 pub loop-done-preserved : goal.loop-done-preserved
 loop-done-preserved c =
@@ -21,8 +23,10 @@ loop-done-preserved c =
     let low : k < length xs = omega arith in
     let next : j ≡ suc k = omega arith in
     let same : i ≡ k = omega arith in
-    let read = is_read xs k j c.index-lines-place.result c.name_of.result c.loop-done.places low next c.index-lines-place.is c.name_of.ensures c.loop-done.invariant.finds in
+    let read = is_read xs k j c.index-lines-place.result c.name_of.result c.loop-done.places low next c.index-lines-place.is c.name_of.ensures
+    c.loop-done.invariant.finds in
     record {
       finds = next_found xs k j i c.index-lines-place.result c.name_of.result c.loop-done.places c.insert.new.self read same c.in-Ok-None.ensures.updates;
-      distinct = next_distinct xs k j i c.index-lines-place.result c.name_of.result c.loop-done.places read same (sym c.in-Ok-None.ensures.old ∙ c.in-Ok-None.field-0-is) c.loop-done.invariant.distinct;
+      distinct = next_distinct xs k j i c.index-lines-place.result c.name_of.result c.loop-done.places read same
+          (sym c.in-Ok-None.ensures.old ∙ c.in-Ok-None.field-0-is) c.loop-done.invariant.distinct;
     }

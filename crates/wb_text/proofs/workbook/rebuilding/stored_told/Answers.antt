@@ -6,7 +6,8 @@ use Rattle.wb_text.proofs.workbook.rebuilding.stored_told.Goals as goal
 
 pub returns-then-not-branch-clause-sound : goal.returns-then-not-branch-clause-sound
 returns-then-not-branch-clause-sound c =
-    sym (one_fails (is_sound (map line_of c.args.lines.now)) c.args.lines.now c.loop-line.line-index c.line-item.result c.loop-line-test.true c.line-item.is (sym c.in_ok-put_stored.ensures.sound ∙ c.if-not-branch.true))
+    sym (one_fails (is_sound (map line_of c.args.lines.now)) c.args.lines.now c.loop-line.line-index c.line-item.result c.loop-line-test.true c.line-item.is
+    (sym c.in_ok-put_stored.ensures.sound ∙ c.if-not-branch.true))
 
 pub returns-clause-sound : goal.returns-clause-sound
 returns-clause-sound c =

@@ -9,5 +9,6 @@ use Rattle.wb_text.proofs.workbook.rebuilding.stored_told.Given as goal
 abbrev pub invariant-loop-line : goal.invariant-loop-line
 invariant-loop-line l = record {
   sound : list_all (λ x. is_sound (map line_of l.lines) (line_of x)) (take l.line-index l.lines) ≡ true;
-  ahead : stored_put (map line_of l.lines) (map line_of (drop l.line-index l.lines)) (state_of l.cells) ≡ stored_put (map line_of l.lines) (map line_of l.lines) empty;
+  ahead : stored_put (map line_of l.lines) (map line_of (drop l.line-index l.lines)) (state_of l.cells) ≡ stored_put (map line_of l.lines)
+      (map line_of l.lines) empty;
 }

@@ -19,8 +19,12 @@ returns c =
     let ws = c.plan_reshaped.new.footprint in
     let r = c.plan_reshaped.result in
     let last : List Range → Tree = λ old. judged (displacement_of c.args.how os old) (λ new. reshaped d old new) in
-    let ranked : stopped (same_rank c.args.rank (length os)) ≡ Ok tt = sym (c.stopped.ensures ∙ ap (λ j. stopped j) (c.same_rank.ensures ∙ ap (λ (xs : List ℤ). same_rank c.args.rank (length xs)) c.coordinates.ensures)) ∙ c.in_ok-stopped.was in
-    let made : stopped (displacement_of c.args.how os old) ≡ Ok c.in_ok-new.new = sym (c.stopped-2.ensures ∙ ap (λ j. stopped j) c.displacement_of.ensures) ∙ c.in_ok-new.was in
+    let ranked : stopped (same_rank c.args.rank (length os)) ≡ Ok tt =
+    sym (c.stopped.ensures ∙ ap (λ j. stopped j) (c.same_rank.ensures ∙ ap (λ (xs : List ℤ). same_rank c.args.rank (length xs)) c.coordinates.ensures)) ∙
+    c.in_ok-stopped.was in
+    let made : stopped (displacement_of c.args.how os old) ≡ Ok c.in_ok-new.new = sym (c.stopped-2.ensures ∙ ap (λ j. stopped j) c.displacement_of.ensures) ∙
+    c.in_ok-new.was in
     goes_on (judged (same_rank c.args.rank (length os))) s rs rs (λ x. shape d last) tt r ws (passes s rs (same_rank c.args.rank (length os)) tt ranked) (
     goes_on (shape d) s rs us last old r ws c.in_ok-old.ensures (
-    goes_on (judged (displacement_of c.args.how os old)) s us us (λ new. reshaped d old new) c.in_ok-new.new r ws (passes s us (displacement_of c.args.how os old) c.in_ok-new.new made) c.plan_reshaped.ensures))
+    goes_on (judged (displacement_of c.args.how os old)) s us us (λ new. reshaped d old new) c.in_ok-new.new r ws
+    (passes s us (displacement_of c.args.how os old) c.in_ok-new.new made) c.plan_reshaped.ensures))

@@ -23,7 +23,9 @@ returns c =
     let r = c.plan_reshaped.result in
     let last : List Range → List Range → Tree = λ old by. judged (slice_of old by) (λ new. reshaped d old new) in
     let made : stopped (slice_of old by) ≡ Ok c.in_ok-new.new = sym (c.stopped.ensures ∙ ap (λ j. stopped j) c.slice_of.ensures) ∙ c.in_ok-new.was in
-    goes_on (gives_rectangle c.args.rank given) s c.args.footprint.now ss (λ x. shape d (λ old. ranges_given given (last old))) tt r ws c.in_ok-gives_rectangle.ensures (
+    goes_on (gives_rectangle c.args.rank given) s c.args.footprint.now ss (λ x. shape d (λ old. ranges_given given (last old))) tt r ws
+    c.in_ok-gives_rectangle.ensures (
     goes_on (shape d) s ss us (λ old. ranges_given given (last old)) old r ws c.in_ok-old.ensures (
     goes_on (ranges_given given) s us vs (last old) by r ws c.in_ok-by.ensures (
-    goes_on (judged (slice_of old by)) s vs vs (λ new. reshaped d old new) c.in_ok-new.new r ws (passes s vs (slice_of old by) c.in_ok-new.new made) c.plan_reshaped.ensures)))
+    goes_on (judged (slice_of old by)) s vs vs (λ new. reshaped d old new) c.in_ok-new.new r ws (passes s vs (slice_of old by) c.in_ok-new.new made)
+    c.plan_reshaped.ensures)))

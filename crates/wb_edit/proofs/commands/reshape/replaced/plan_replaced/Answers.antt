@@ -27,7 +27,8 @@ rest d new ls cs users = none_there (bound Sparse users) ls (λ x. last d new ls
 pub returns-in_err-users : goal.returns-in_err-users
 returns-in_err-users c =
     let p = err_from_is_err_and c.from_residual.result c.from_residual.ensures.1 in
-    rw (p.1, p.2) (stops (uses c.args.domain) c.args.book.now.cells c.args.footprint.now c.uses.new.footprint (rest c.args.domain c.args.new.now c.args.leaving.now c.args.coming.now) c.in_err-users.field-0.0 c.in_err-users.ensures.looks)
+    rw (p.1, p.2) (stops (uses c.args.domain) c.args.book.now.cells c.args.footprint.now c.uses.new.footprint
+    (rest c.args.domain c.args.new.now c.args.leaving.now c.args.coming.now) c.in_err-users.field-0.0 c.in_err-users.ensures.looks)
 
 pub returns-in_err-none_there : goal.returns-in_err-none_there
 returns-in_err-none_there c =
@@ -50,7 +51,8 @@ pub replace_changes-requires-clause-once : goal.replace_changes-requires-clause-
 replace_changes-requires-clause-once c =
     let s = c.args.book.now.cells in
     let d : Name = c.args.domain in
-    let shown : c.deref-4.result.now ≡ arrays s d = c.deref-4.ensures.value ∙ c.in_ok-names.ensures.same ∙ ap (bound Array) (c.deref-3.ensures.value ∙ c.in_ok-users.ensures.seen) in
+    let shown : c.deref-4.result.now ≡ arrays s d = c.deref-4.ensures.value ∙ c.in_ok-names.ensures.same ∙
+    ap (bound Array) (c.deref-3.ensures.value ∙ c.in_ok-users.ensures.seen) in
     subst (λ (ns : List Name). IsListedOnce ns) (sym shown) (bound_once s d Array)
 
 pub returns : goal.returns
@@ -67,5 +69,7 @@ returns c =
     let inner : c.deref-2.result.now ≡ bound Sparse users = c.deref-2.ensures.value ∙ c.in_ok-inner.ensures.same ∙ ap (bound Sparse) c.deref.ensures.value in
     let shown : c.deref-4.result.now ≡ bound Array users = c.deref-4.ensures.value ∙ c.in_ok-names.ensures.same ∙ ap (bound Array) c.deref-3.ensures.value in
     goes_on (uses d) s c.args.footprint.now ss (rest d new ls cs) users r us c.in_ok-users.ensures.looks (
-    goes_on (none_there (bound Sparse users) ls) s ss us (λ x. last d new ls cs users) tt r us (subst (λ (ns : List Name). Looks (none_there ns ls) s ss (Ok tt) us) inner c.in_ok-none_there.ensures) (
-    ends (reshaped_cells d new (bound Array users) ls cs) s us r (subst (λ (ns : List Name). Makes (reshaped_cells d new ns ls cs) r) shown c.replace_changes.ensures)))
+    goes_on (none_there (bound Sparse users) ls) s ss us (λ x. last d new ls cs users) tt r us
+    (subst (λ (ns : List Name). Looks (none_there ns ls) s ss (Ok tt) us) inner c.in_ok-none_there.ensures) (
+    ends (reshaped_cells d new (bound Array users) ls cs) s us r
+    (subst (λ (ns : List Name). Makes (reshaped_cells d new ns ls cs) r) shown c.replace_changes.ensures)))

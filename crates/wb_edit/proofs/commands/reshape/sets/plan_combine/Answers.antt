@@ -38,7 +38,8 @@ returns-in_err-other c =
     let ss = c.gives_set.new.footprint in
     let next : List Index → List Index → Tree = λ old other. with_indices d kind old (combined c.args.how other old) in
     let tested = subst (λ (k : Kind). Looks (gives_set k given) s rs (Ok tt) ss) c.kind.ensures c.in_ok-gives_set.ensures in
-    rw (p.1, p.2) (stops_at_given s d (kind_of kind) given next rs ss c.members.new.footprint tested c.indices_given.new.footprint c.in_ok-old.old.items c.in_ok-old.ensures.looks c.in_err-other.field-0.0 c.in_err-other.ensures.looks)
+    rw (p.1, p.2) (stops_at_given s d (kind_of kind) given next rs ss c.members.new.footprint tested c.indices_given.new.footprint c.in_ok-old.old.items
+    c.in_ok-old.ensures.looks c.in_err-other.field-0.0 c.in_err-other.ensures.looks)
 
 pub returns : goal.returns
 returns c =

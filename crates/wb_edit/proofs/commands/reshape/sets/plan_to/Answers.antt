@@ -37,7 +37,8 @@ returns-in_err-new c =
     let ss = c.gives_set.new.footprint in
     let next : List Index → List Index → Tree = λ old new. with_indices d kind old new in
     let tested = subst (λ (k : Kind). Looks (gives_set k given) s rs (Ok tt) ss) c.kind.ensures c.in_ok-gives_set.ensures in
-    rw (p.1, p.2) (stops_at_given s d (kind_of kind) given next rs ss c.members.new.footprint tested c.indices_given.new.footprint c.in_ok-old.old.items c.in_ok-old.ensures.looks c.in_err-new.field-0.0 c.in_err-new.ensures.looks)
+    rw (p.1, p.2) (stops_at_given s d (kind_of kind) given next rs ss c.members.new.footprint tested c.indices_given.new.footprint c.in_ok-old.old.items
+    c.in_ok-old.ensures.looks c.in_err-new.field-0.0 c.in_err-new.ensures.looks)
 
 pub returns : goal.returns
 returns c =

@@ -9,10 +9,12 @@ use Rattle.wb_log.proofs.index.by_footprint.ByFootprint.first_to_block_redo.Goal
 pub returns-then-self-entries-clause-first : goal.returns-then-self-entries-clause-first
 returns-then-self-entries-clause-first c =
     let p = blocks_redo (footprint c.args.reads.now c.args.delta.now) in
-    c.first_to_block_redo.ensures ∙ ap (λ ls. first_from p (c.args.at + 2) (kept_all ls)) c.later_than-later.ensures ∙ ap (first_from p (c.args.at + 2)) (drop-map kept_in c.args.entries.now (c.args.at + 1))
+    c.first_to_block_redo.ensures ∙ ap (λ ls. first_from p (c.args.at + 2) (kept_all ls)) c.later_than-later.ensures ∙
+    ap (first_from p (c.args.at + 2)) (drop-map kept_in c.args.entries.now (c.args.at + 1))
 
 pub returns-clause-first : goal.returns-clause-first
 returns-clause-first c =
     let es = c.args.entries.now in
     let now = c.fill.new.self in
-    first_is es c.args.at (blocks_redo (footprint c.args.reads.now c.args.delta.now)) refl c.first_to_block_redo-2.result (c.first_to_block_redo-2.ensures (by_number es) (index_whole now.index es now.entered c.if-self-entries.false c.fill.ensures.indexed.index))
+    first_is es c.args.at (blocks_redo (footprint c.args.reads.now c.args.delta.now)) refl c.first_to_block_redo-2.result
+    (c.first_to_block_redo-2.ensures (by_number es) (index_whole now.index es now.entered c.if-self-entries.false c.fill.ensures.indexed.index))

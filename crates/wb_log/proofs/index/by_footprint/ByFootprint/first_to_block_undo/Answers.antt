@@ -8,10 +8,12 @@ use Rattle.wb_log.proofs.index.by_footprint.ByFootprint.first_to_block_undo.Goal
 pub returns-then-self-entries-clause-first : goal.returns-then-self-entries-clause-first
 returns-then-self-entries-clause-first c =
     let p = blocks_undo c.args.before.now in
-    c.first_to_block_undo.ensures ∙ ap (λ ls. first_from p (c.args.at + 2) (kept_all ls)) c.later_than-later.ensures ∙ ap (first_from p (c.args.at + 2)) (drop-map kept_in c.args.entries.now (c.args.at + 1))
+    c.first_to_block_undo.ensures ∙ ap (λ ls. first_from p (c.args.at + 2) (kept_all ls)) c.later_than-later.ensures ∙
+    ap (first_from p (c.args.at + 2)) (drop-map kept_in c.args.entries.now (c.args.at + 1))
 
 pub returns-clause-first : goal.returns-clause-first
 returns-clause-first c =
     let es = c.args.entries.now in
     let now = c.fill.new.self in
-    first_is es c.args.at (blocks_undo c.args.before.now) refl c.first_to_block_undo-2.result (c.first_to_block_undo-2.ensures.least (by_number es) (index_whole now.index es now.entered c.if-self-entries.false c.fill.ensures.indexed.index))
+    first_is es c.args.at (blocks_undo c.args.before.now) refl c.first_to_block_undo-2.result
+    (c.first_to_block_undo-2.ensures.least (by_number es) (index_whole now.index es now.entered c.if-self-entries.false c.fill.ensures.indexed.index))

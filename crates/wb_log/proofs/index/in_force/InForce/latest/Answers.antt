@@ -13,10 +13,12 @@ pub returns-in-Some-clause-latest : goal.returns-in-Some-clause-latest
 returns-in-Some-clause-latest c =
     let es = c.args.entries.now in
     let now = c.fill.new.self in
-    latest_some es c.in-Some.number (greatest_whole (numbered now.numbers) es now.entered (Some c.in-Some.number) c.if-self-entries.false c.fill.ensures.indexed.numbers c.in-Some.ensures)
+    latest_some es c.in-Some.number (greatest_whole (numbered now.numbers) es now.entered (Some c.in-Some.number) c.if-self-entries.false
+    c.fill.ensures.indexed.numbers c.in-Some.ensures)
 
 pub overflow_sub-result : goal.overflow_sub-result
 overflow_sub-result c =
     let es = c.args.entries.now in
     let now = c.fill.new.self in
-    latest_positive es c.in-Some.number (greatest_whole (numbered now.numbers) es now.entered (Some c.in-Some.number) c.if-self-entries.false c.fill.ensures.indexed.numbers c.in-Some.ensures)
+    latest_positive es c.in-Some.number (greatest_whole (numbered now.numbers) es now.entered (Some c.in-Some.number) c.if-self-entries.false
+    c.fill.ensures.indexed.numbers c.in-Some.ensures)

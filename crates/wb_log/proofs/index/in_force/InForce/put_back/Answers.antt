@@ -4,4 +4,5 @@ use Rattle.wb_foot.specs.Footprints.{with_footprint}
 use Rattle.wb_log.proofs.index.in_force.InForce.put_back.Goals as goal
 
 pub returns-then-is_err : goal.returns-then-is_err
-returns-then-is_err c = λ count footprints f h. c.new.ensures count (with_footprint footprints (c.args.at + 1) (Some f)) (not_0 c.args.at footprints (Some f) h.from_1)
+returns-then-is_err c = λ count footprints f h. c.new.ensures count (with_footprint footprints (c.args.at + 1) (Some f))
+    (not_0 c.args.at footprints (Some f) h.from_1)

@@ -18,7 +18,8 @@ unreachable-requires c =
     let text = c.as_str.result.now in
     let whole : IsBookText text = subst IsBookText (sym c.as_str.ensures.same) c.as_str.ensures.book in
     let ls : List Line = map line_of c.in-Ok-Some.lines.items in
-    let sound : are_sound ls ≡ true = sound_read text whole ls (subst (λ (o : Option (Vec ObjectLine)). ReadsLines text (option_map (λ v. map line_of v.items) o)) c.in-Ok-Some.field-0-is c.in-Ok-Some.ensures.whole) in
+    let sound : are_sound ls ≡ true = sound_read text whole ls (subst
+    (λ (o : Option (Vec ObjectLine)). ReadsLines text (option_map (λ v. map line_of v.items) o)) c.in-Ok-Some.field-0-is c.in-Ok-Some.ensures.whole) in
     let none = sym (ap is_some c.in-None.is) ∙ (c.in_ok-cells-in-Ok-Some.ensures).sound ∙ ap (λ xs. are_sound (map line_of xs)) c.deref.ensures.value ∙ sound in
     cc
 
@@ -27,6 +28,8 @@ returns-in-Some c =
     let text = c.as_str.result.now in
     let whole : IsBookText text = subst IsBookText (sym c.as_str.ensures.same) c.as_str.ensures.book in
     let ls : List Line = map line_of c.in-Ok-Some.lines.items in
-    subst (λ (r : Option (BTreeMap Cell Value)). IfSome r (λ m. state_of m ≡ cells_told (map line_of c.deref.result.now))) c.in-Some.is (c.in_ok-cells-in-Ok-Some.ensures).cells
+    subst (λ (r : Option (BTreeMap Cell Value)). IfSome r (λ m. state_of m ≡ cells_told (map line_of c.deref.result.now))) c.in-Some.is
+    (c.in_ok-cells-in-Ok-Some.ensures).cells
     ∙ ap (λ xs. cells_told (map line_of xs)) c.deref.ensures.value
-    ∙ cells_read text whole ls (subst (λ (o : Option (Vec ObjectLine)). ReadsLines text (option_map (λ v. map line_of v.items) o)) c.in-Ok-Some.field-0-is c.in-Ok-Some.ensures.whole) ∙ ap cells_in c.as_str.ensures.same
+    ∙ cells_read text whole ls (subst (λ (o : Option (Vec ObjectLine)). ReadsLines text (option_map (λ v. map line_of v.items) o)) c.in-Ok-Some.field-0-is
+    c.in-Ok-Some.ensures.whole) ∙ ap cells_in c.as_str.ensures.same
