@@ -87,7 +87,7 @@ class Domain(_Named):
         return self.book.change(requests.remap(self, map))
 
     def drop(self) -> "Edit":
-        """The end of a domain on which nothing stands."""
+        """Drops a domain on which nothing stands."""
         return self.book.change(requests.drop_domain(self))
 
     @property
