@@ -24,7 +24,7 @@ pub record IsByFootprint (by_footprint : ByFootprint) (count : ℕ) (footprints 
 pub record AreInForce (in_force : InForce) (count : ℕ) (footprints : Footprints) : Type 0 where
   pub from_1 : footprints 0 ≡ None
   pub within : in_force.entered ≤ count
-  pub numbered_entries : (k : ℕ) → numbered in_force.numbers k ≡ is_some (up_to in_force.entered footprints k)
+  pub numbers : (k : ℕ) → numbered in_force.numbers k ≡ is_some (up_to in_force.entered footprints k)
 
 -- The same of both: each index is of as much as has entered it.
 pub record Indexes (index : Index) (count : ℕ) (footprints : Footprints) : Type 0 where
