@@ -11,6 +11,7 @@ pub mod Keys
 pub mod TooLarge
 pub mod Failing
 pub mod Judged
+pub mod RefusedPlain
 pub mod Refused
 pub mod Listed
 pub mod Ranges
