@@ -10,9 +10,9 @@ ghost use Rattle.wb_journal.specs.Serving.{own_after, share_after, new_passes, A
 use crate::opening::Opening;
 use crate::shared::{Shared, serve};
 use std::alloc::Global;
-use std::hint::spin_loop;
 use std::sync::ledger::{Blank, Ledger, Share};
 use std::sync::{Mutex, MutexGuard, Wait};
+use std::thread::yield_now;
 use thiserror::Error;
 use wb_history::History;
 use wb_journal::{Cause, Counted, Journal, Pass};
@@ -118,13 +118,14 @@ impl<L: Opening> Desk<L> {
         }
     }
 
-    // Takes the lock. One request is answered sooner than a thread that sleeps is woken, so it looks a while before it sleeps.
+    // Takes the lock. One request is answered sooner than a thread that sleeps is woken, so it looks a while before it sleeps,
+    // and lets other threads run between two looks.
     fn taken<R: Wait>(&self, rt: &R) -> MutexGuard<'_, Shared<L>> {
         for _ in 0..LOOKS {
             if let Some(guard) = self.shared.try_lock() {
                 return guard;
             }
-            spin_loop();
+            yield_now();
         }
         self.shared.lock(rt)
     }
