@@ -117,12 +117,9 @@ impl Record {
     pub fn whole(alloc: Global, entry: Entry) -> Result<Record, NoMemory>
         ensures { IfOk result (λ x. x ≡ entry) }
     {
-        match Box::new(alloc, entry) {
-            Ok(entry) => Ok(Record {
-                form: Form::Whole(entry),
-            }),
-            Err(_) => Err(NoMemory),
-        }
+        Ok(Record {
+            form: Form::Whole(Box::new(alloc, entry)?),
+        })
     }
 
     // The entry in a box.

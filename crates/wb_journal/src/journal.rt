@@ -155,8 +155,5 @@ impl Journal {
 fn zeros(alloc: Global, count: usize) -> Result<Vec<usize>, NoMemory>
     ensures { IfOk result (λ v. (length v.items ≡ count) × ((k : ℕ) → k < count → slice_index v.items k ≡ 0)) }
 {
-    match Vec::from_elem(alloc, 0, count) {
-        Ok(zeros) => Ok(zeros),
-        Err(_) => Err(NoMemory),
-    }
+    Ok(Vec::from_elem(alloc, 0, count)?)
 }

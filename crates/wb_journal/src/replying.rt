@@ -173,17 +173,14 @@ fn opened(alloc: Global, seat: usize, request: Request) -> Result<Box<Entry>, No
     ensures { IfOk result (λ b. (b.value.seat ≡ seat) × (b.value.request ≡ request)) }
 {
     let reply = Reply::Refused(Refusal::NoMemory);
-    match Box::new(
+    Ok(Box::new(
         alloc,
         Entry {
             seat,
             request,
             reply,
         },
-    ) {
-        Ok(made) => Ok(made),
-        Err(_) => Err(NoMemory),
-    }
+    )?)
 }
 
 // The record of a request and its reply.

@@ -112,10 +112,7 @@ fn settled_text<L: Opening>(
 {
     let count = shared.entries();
     let text = shown(alloc, shared.history(), whole)?;
-    match format!(in alloc; "settled {count}\n{text}") {
-        Ok(text) => Ok(text),
-        Err(_) => Err(NoMemory),
-    }
+    Ok(format!(in alloc; "settled {count}\n{text}")?)
 }
 
 // Prints how many entries there are, and the workbook or the history: the exit status.

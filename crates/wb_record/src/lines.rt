@@ -85,10 +85,8 @@ fn reversed(mut edits: Vec<(Edit, bool)>) -> Vec<(Edit, bool)>
 fn keep(edits: &mut Vec<(Edit, bool)>, edit: Edit, in_force: bool) -> Result<(), NoMemory>
     ensures { OnOk result (edits.new.items ≡ edits.old.items ++ (edit, in_force) ∷ []) }
 {
-    match edits.push((edit, in_force)) {
-        Ok(()) => Ok(()),
-        Err(_) => Err(NoMemory),
-    }
+    edits.push((edit, in_force))?;
+    Ok(())
 }
 
 // The edits of the last lines, up to one without a mark.

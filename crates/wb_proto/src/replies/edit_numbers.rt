@@ -38,10 +38,7 @@ impl EditNumbers {
     pub fn copy(&self, alloc: Global) -> Result<EditNumbers, NoMemory>
         ensures { IfOk result (λ n. n ≡ self.now) }
     {
-        match Vec::from_slice(alloc, self.as_slice()) {
-            Ok(numbers) => Ok(EditNumbers::new(numbers)),
-            Err(_) => Err(NoMemory),
-        }
+        Ok(EditNumbers::new(Vec::from_slice(alloc, self.as_slice())?))
     }
 
     /// So many of the numbers, from the first.

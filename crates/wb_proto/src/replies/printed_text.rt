@@ -36,9 +36,6 @@ impl PrintedText {
     pub fn copy(&self, alloc: Global) -> Result<PrintedText, NoMemory>
         ensures { IfOk result (λ t. t ≡ self.now) }
     {
-        match String::from_str(alloc, self.as_str()) {
-            Ok(text) => Ok(PrintedText::new(text)),
-            Err(_) => Err(NoMemory),
-        }
+        Ok(PrintedText::new(String::from_str(alloc, self.as_str())?))
     }
 }

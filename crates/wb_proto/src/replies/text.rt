@@ -16,6 +16,9 @@ use std::alloc::{AllocError, Global};
 use wb_history::{Answer, Refusal};
 use wb_range::NoMemory;
 
+// Room for the reply to most lines and its line end, so that it need not grow.
+const SHORT: usize = 64;
+
 fn edit_code(refusal: wb_edit::Refusal) -> &'static str
     ensures { result.now ≡ edit_code refusal }
 {
@@ -142,7 +145,9 @@ fn numbers_text(
 ) -> Result<String, AllocError>
     ensures { IfOk result (λ s. string_bytes s ≡ numbers_text first.now a second.now b) }
 {
-    format!(in alloc; "{{\"{first}\":{a},\"{second}\":{b}}}")
+    let mut text = String::with_capacity(alloc, SHORT)?;
+    write!(text, "{{\"{first}\":{a},\"{second}\":{b}}}")?;
+    Ok(text)
 }
 
 // The object of how many edits there are and how many cells were set.
@@ -156,7 +161,9 @@ fn counts_text(alloc: Global, edits: u64, writes: u128) -> Result<String, AllocE
 fn value_text(alloc: Global, value: i64) -> Result<String, AllocError>
     ensures { IfOk result (λ s. string_bytes s ≡ value_text value) }
 {
-    format!(in alloc; "{{\"value\":{value}}}")
+    let mut text = String::with_capacity(alloc, SHORT)?;
+    write!(text, "{{\"value\":{value}}}")?;
+    Ok(text)
 }
 
 // The object of a number of indices.
@@ -230,8 +237,5 @@ fn text_of(alloc: Global, reply: &Reply) -> Result<String, AllocError>
 pub fn reply_text(alloc: Global, reply: &Reply) -> Result<String, NoMemory>
     ensures { IfOk result (λ s. string_bytes s ≡ reply_of reply.now) }
 {
-    match text_of(alloc, reply) {
-        Ok(text) => Ok(text),
-        Err(_) => Err(NoMemory),
-    }
+    Ok(text_of(alloc, reply)?)
 }
