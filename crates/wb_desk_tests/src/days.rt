@@ -10,7 +10,7 @@ use std::sync::ledger::Blank;
 use std::test::Fail;
 use std::thread::Threads;
 use wb_proto::{Reply, Request, read_request, reply_text};
-use wb_redist::{Mover, OneThread};
+use wb_redist::{Crew, Mover};
 use wb_shared::{Cause, Desk, DeskErr, Entry, Opening, Pass, Record, settle};
 
 pub const NEW_SET: &str = "{\"op\":\"assoc\",\"d\":\"N\",\"of\":\"int\"}";
@@ -217,7 +217,7 @@ fn plain_day(seats: usize, before: &[Move], work: Work, handed_in: usize) -> Day
 // is replaced; a pass that is renumbered to another seat, and to none; and numbers of seats that no desk can have.
 #[test]
 fn desk_of_two_seats(rt: HostRuntime) -> Result<(), Fail> {
-    let alone: OneThread<&HostRuntime> = OneThread::new();
+    let alone = Crew::alone(&rt);
     let replaced = [asked(0, NEW_SET, FIRST_EDIT), changed(0, Act::Replace)];
     let renumbered = [
         asked(0, NEW_SET, FIRST_EDIT),
@@ -242,7 +242,7 @@ fn desk_of_two_seats(rt: HostRuntime) -> Result<(), Fail> {
     ];
     for (one, end) in &days {
         assert_eq!(rt;
-            day_of::<Brand, HostRuntime, OneThread<&HostRuntime>>(
+            day_of::<Brand, HostRuntime, Crew<&HostRuntime>>(
                 &rt,
                 rt.alloc(),
                 Blank::new(16),
@@ -257,7 +257,7 @@ fn desk_of_two_seats(rt: HostRuntime) -> Result<(), Fail> {
 
 #[test]
 fn cross_read(rt: HostRuntime) -> Result<(), Fail> {
-    let alone: OneThread<&HostRuntime> = OneThread::new();
+    let alone = Crew::alone(&rt);
     let moves = [
         asked(0, NEW_RECTANGLE, "{\"edit\":1,\"n\":3}"),
         asked(1, SIZE_OF_RECTANGLE, "{\"size\":2}"),
@@ -270,7 +270,7 @@ fn cross_read(rt: HostRuntime) -> Result<(), Fail> {
         handed_in: 2,
     };
     assert_eq!(rt;
-        day_of::<Brand, HostRuntime, OneThread<&HostRuntime>>(
+        day_of::<Brand, HostRuntime, Crew<&HostRuntime>>(
             &rt,
             rt.alloc(),
             Blank::new(16),
@@ -285,7 +285,7 @@ fn cross_read(rt: HostRuntime) -> Result<(), Fail> {
 // One seat takes back what another set, with the copy that a third made of it.
 #[test]
 fn cascade_by_another_seat(rt: HostRuntime) -> Result<(), Fail> {
-    let alone: OneThread<&HostRuntime> = OneThread::new();
+    let alone = Crew::alone(&rt);
     let moves = [
         asked(0, NEW_RECTANGLE, "{\"edit\":1,\"n\":3}"),
         asked(
@@ -328,7 +328,7 @@ fn cascade_by_another_seat(rt: HostRuntime) -> Result<(), Fail> {
         handed_in: 3,
     };
     assert_eq!(rt;
-        day_of::<Brand, HostRuntime, OneThread<&HostRuntime>>(
+        day_of::<Brand, HostRuntime, Crew<&HostRuntime>>(
             &rt,
             rt.alloc(),
             Blank::new(16),
@@ -343,7 +343,7 @@ fn cascade_by_another_seat(rt: HostRuntime) -> Result<(), Fail> {
 // Four seats add a hundred numbers each to one set, and undo their own add of each number that 10 divides.
 #[test]
 fn mixed_load(rt: HostRuntime) -> Result<(), Fail> {
-    let alone: OneThread<&HostRuntime> = OneThread::new();
+    let alone = Crew::alone(&rt);
     let before = [asked(0, NEW_SET, FIRST_EDIT)];
     let after = [asked(0, SIZE_OF_SET, "{\"size\":360}")];
     let day = Day {
@@ -354,7 +354,7 @@ fn mixed_load(rt: HostRuntime) -> Result<(), Fail> {
         handed_in: 4,
     };
     assert_eq!(rt;
-        day_of::<Brand, HostRuntime, OneThread<&HostRuntime>>(
+        day_of::<Brand, HostRuntime, Crew<&HostRuntime>>(
             &rt,
             rt.alloc(),
             Blank::new(16),

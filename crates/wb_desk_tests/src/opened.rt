@@ -9,7 +9,7 @@ use std::sync::ledger::Blank;
 use std::test::Fail;
 use wb_history::History;
 use wb_proto::{answer_request, read_request};
-use wb_redist::{Mover, OneThread};
+use wb_redist::{Crew, Mover};
 use wb_shared::{Desk, DeskErr, Opening, settle};
 
 // A history of one edit, the set N.
@@ -65,10 +65,10 @@ fn of_17_seats<L: Opening>(alloc: Global, blank: Blank, history: History) -> Opt
 #[test]
 fn opened_at_a_history(rt: HostRuntime) -> Result<(), Fail> {
     let alloc = rt.alloc();
-    let alone: OneThread<&HostRuntime> = OneThread::new();
+    let alone = Crew::alone(&rt);
     let history = with_set(alloc, &alone).ok_or("history")?;
     assert_eq!(rt;
-        undone::<Brand, HostRuntime, OneThread<&HostRuntime>>(
+        undone::<Brand, HostRuntime, Crew<&HostRuntime>>(
             &rt,
             alloc,
             Blank::new(16),
@@ -83,7 +83,7 @@ fn opened_at_a_history(rt: HostRuntime) -> Result<(), Fail> {
 #[test]
 fn no_desk_of_17_seats(rt: HostRuntime) -> Result<(), Fail> {
     let alloc = rt.alloc();
-    let alone: OneThread<&HostRuntime> = OneThread::new();
+    let alone = Crew::alone(&rt);
     let history = with_set(alloc, &alone).ok_or("history")?;
     assert_eq!(rt;
         of_17_seats::<Brand>(alloc, Blank::new(16), history),

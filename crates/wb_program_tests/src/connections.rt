@@ -9,7 +9,7 @@ use std::thread;
 use std::thread::Threads;
 use wb_lines::{Input, Line, LineBuffer, Output, next_line};
 use wb_program::serve_on;
-use wb_redist::{Open, Workers};
+use wb_redist::Crew;
 
 const MAKE_X: &[u8] = b"{\"op\":\"domain\",\"d\":\"X\",\"is\":\"{1..1}\"}\n";
 
@@ -126,7 +126,7 @@ fn ends_well<R: Net<Listener = TcpListener, Stream = TcpStream> + Threads + Wait
     alloc: Global,
     first: First,
 ) -> io::Result<bool> {
-    let Ok(workers) = Workers::new(rt, 2, Open) else {
+    let Ok(workers) = Crew::new(rt, 2) else {
         return Ok(false);
     };
     let listener = TcpListener::bind(rt, "127.0.0.1:0")?;

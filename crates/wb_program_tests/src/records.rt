@@ -7,7 +7,7 @@ use std::process::Abort;
 use std::test::Fail;
 use wb_lines::{Input, Output};
 use wb_program::{PutBack, check_with, history_from, resume_with, run_with, serve_history};
-use wb_redist::{Mover, OneThread};
+use wb_redist::{Crew, Mover};
 
 const LINES: &[u8] =
     b"{\"op\":\"domain\",\"d\":\"D\",\"is\":\"{1..4}\"}\n{\"op\":\"array\",\"a\":\"A\",\"d\":\"D\"}\n{\"op\":\"set\",\"a\":\"A\",\"i\":4,\"v\":9}\n{\"op\":\"undo\"}\n{\"op\":\"history\"}\n";
@@ -108,7 +108,7 @@ fn judge<M: Mover>(
 #[test]
 fn history_text(rt: HostRuntime) -> Result<(), Fail> {
     let alloc = rt.alloc();
-    let alone: OneThread<&HostRuntime> = OneThread::new();
+    let alone = Crew::alone(&rt);
     let mut output = Vec::new(alloc);
     let status = run_with(
         alloc,
@@ -132,7 +132,7 @@ fn history_text(rt: HostRuntime) -> Result<(), Fail> {
 
 #[test]
 fn damaged_history_texts(rt: HostRuntime) -> Result<(), Fail> {
-    let alone: OneThread<&HostRuntime> = OneThread::new();
+    let alone = Crew::alone(&rt);
     for (old, new) in &DAMAGES {
         let text = damaged(rt.alloc(), old, new)?;
         judge(&rt, rt.alloc(), text.as_str(), 1, REFUSED, &alone)?;
@@ -165,7 +165,7 @@ fn resumed<M: Mover>(
 #[test]
 fn resumed_sessions(rt: HostRuntime) -> Result<(), Fail> {
     let alloc = rt.alloc();
-    let alone: OneThread<&HostRuntime> = OneThread::new();
+    let alone = Crew::alone(&rt);
     let all = format!(in alloc; "{TEXT}{MORE}")?;
     for place in 0..all.len() {
         resumed(&rt, alloc, all.as_bytes(), place, 0, MORE_REPLIES, &alone)?;
@@ -186,7 +186,7 @@ fn resumed_sessions(rt: HostRuntime) -> Result<(), Fail> {
 #[test]
 fn resumed_desk(rt: HostRuntime) -> Result<(), Fail> {
     let alloc = rt.alloc();
-    let alone: OneThread<&HostRuntime> = OneThread::new();
+    let alone = Crew::alone(&rt);
     let mut output = Vec::new(alloc);
     let listener = TcpListener::bind(&rt, "127.0.0.1:0")?;
     let port = listener.local_addr()?.port();

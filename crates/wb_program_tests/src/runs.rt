@@ -7,7 +7,7 @@ use std::test::Fail;
 use wb_command::{CommandErr, command_of};
 use wb_lines::{Input, Output};
 use wb_program::{check_with, run_with};
-use wb_redist::{Mover, OneThread};
+use wb_redist::{Crew, Mover};
 
 const FIRST_RUN: &[u8] =
     b"{\"op\":\"domain\",\"d\":\"D\",\"is\":\"{1..4}\"}\n{\"op\":\"array\",\"a\":\"A\",\"d\":\"D\"}\n{\"op\":\"set\",\"a\":\"A\",\"i\":4,\"v\":9}\n{\"op\":\"undo\"}\n{\"op\":\"get\",\"a\":\"A\",\"i\":4}\n";
@@ -25,7 +25,7 @@ fn goes_so<M: Mover>(rt: &impl Abort, alloc: Global, lines: &[u8], replies: &[u8
 
 #[test]
 fn first_run(rt: HostRuntime) {
-    let alone: OneThread<&HostRuntime> = OneThread::new();
+    let alone = Crew::alone(&rt);
     goes_so(&rt, rt.alloc(), FIRST_RUN, FIRST_REPLIES, &alone);
 }
 
@@ -104,7 +104,7 @@ fn judge<M: Mover>(rt: &impl Abort, alloc: Global, texts: &[Text], status: u8, m
 
 #[test]
 fn workbook_text(rt: HostRuntime) {
-    let alone: OneThread<&HostRuntime> = OneThread::new();
+    let alone = Crew::alone(&rt);
     judge(&rt, rt.alloc(), &WORKBOOKS, 0, &alone);
     judge(&rt, rt.alloc(), &OTHERS, 1, &alone);
 }

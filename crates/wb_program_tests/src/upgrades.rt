@@ -8,7 +8,7 @@ use std::process::Abort;
 use std::test::Fail;
 use wb_lines::{Input, Output};
 use wb_program::{PutBack, check_with, resume_with, upgrade_with};
-use wb_redist::{Mover, OneThread};
+use wb_redist::{Crew, Mover};
 
 const WORKBOOK: &[u8] =
     b"chapel-workbook 1\narray A over D [0, 0, 0, 9]\nrect D {1..4} none\nend\n";
@@ -103,7 +103,7 @@ fn judged<M: Mover>(alloc: Global, text: &[u8], mover: &M) -> Vec<u8> {
 
 #[test]
 fn upgraded_texts(rt: HostRuntime) {
-    let alone: OneThread<&HostRuntime> = OneThread::new();
+    let alone = Crew::alone(&rt);
     for (text, status, printed) in &ROWS {
         let (ended, output) = upgraded(rt.alloc(), text, &alone);
         assert_eq!(rt; ended, *status);
@@ -119,7 +119,7 @@ fn upgraded_texts(rt: HostRuntime) {
 // Each is the text of a history of one edit, with as many objects as the workbook.
 #[test]
 fn judged_after_an_upgrade(rt: HostRuntime) -> Result<(), Fail> {
-    let alone: OneThread<&HostRuntime> = OneThread::new();
+    let alone = Crew::alone(&rt);
     assert_eq!(rt; judged(rt.alloc(), HISTORY, &alone).as_slice(), HAS_TWO);
     for (text, printed) in &WORKBOOKS {
         let (ended, output) = upgraded(rt.alloc(), text, &alone);
@@ -138,7 +138,7 @@ fn judged_after_an_upgrade(rt: HostRuntime) -> Result<(), Fail> {
 #[test]
 fn resumed_after_an_upgrade(rt: HostRuntime) {
     let alloc = rt.alloc();
-    let alone: OneThread<&HostRuntime> = OneThread::new();
+    let alone = Crew::alone(&rt);
     let (_, text) = upgraded(alloc, WORKBOOK, &alone);
     let mut input = PutBack::new(alloc, Input::new(text.as_slice().chain(MORE)));
     let mut output = Vec::new(alloc);
@@ -151,7 +151,7 @@ fn resumed_after_an_upgrade(rt: HostRuntime) {
 #[test]
 fn failing_input(rt: HostRuntime) -> Result<(), Fail> {
     let alloc = rt.alloc();
-    let alone: OneThread<&HostRuntime> = OneThread::new();
+    let alone = Crew::alone(&rt);
     for place in 0..=WORKBOOK.len() {
         let front = WORKBOOK.get(..place).ok_or("a place")?;
         let mut input = Input::new(front.chain(Broken {}));
@@ -189,7 +189,7 @@ fn fails_at_each<M: Mover>(
 
 #[test]
 fn failing_output(rt: HostRuntime) -> Result<(), Fail> {
-    let alone: OneThread<&HostRuntime> = OneThread::new();
+    let alone = Crew::alone(&rt);
     fails_at_each(&rt, rt.alloc(), WORKBOOK, HISTORY, &alone)?;
     fails_at_each(&rt, rt.alloc(), b"", REFUSED, &alone)
 }

@@ -4,13 +4,15 @@
 //! Its tests are in the crate `wb_tests`.
 #![tactic(auto)]
 
+mod crew;
 mod mover;
 mod reduction;
 mod share;
 mod team;
 mod workers;
 
+pub use crew::Crew;
 pub use mover::{MoveErr, Mover, Way};
 pub use reduction::{Op, ReduceErr, reduce};
 pub use team::Team;
-pub use workers::{BadWorkers, Gate, OneThread, Open, Workers};
+pub use workers::{BadWorkers, Gate, Open, Workers};

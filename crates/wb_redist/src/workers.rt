@@ -2,7 +2,7 @@ ghost use Rattle.std.specs.Prelude.{◌≡◌, ◌≤◌, ◌↔◌, IsOk, IfOk}
 
 use crate::mover::{Mover, Way};
 use crate::team::Team;
-use std::marker::{Model, PhantomData};
+use std::marker::Model;
 use std::thread::Threads;
 use thiserror::Error;
 
@@ -24,31 +24,6 @@ pub struct Open;
 
 impl Gate for Open {
     fn arrive(&self, _worker: usize) {}
-}
-
-/// A mover that uses no thread but the caller's.
-#[derive(Drop)]
-pub struct OneThread<R> {
-    of: PhantomData<R>,
-}
-
-impl<R> OneThread<R> {
-    /// The mover; `R` is the runtime that other movers would start threads by.
-    pub fn new() -> OneThread<R> {
-        OneThread { of: PhantomData }
-    }
-}
-
-impl<R: Threads + Sync> Mover for OneThread<R> {
-    type R = R;
-
-    type G = Open;
-
-    ghost may_lack_threads = { λ m. ⊥ };
-
-    fn way(&self) -> Way<'_, R, Open> {
-        Way::Here
-    }
 }
 
 /// A mover that shares the locales of the new mapping out among workers, each

@@ -5,7 +5,7 @@ use std::alloc::Global;
 use std::process::Abort;
 use std::test::Fail;
 use wb_history::{History, Refusal};
-use wb_redist::{Mover, OneThread};
+use wb_redist::{Crew, Mover};
 
 const EDITS: [&str; 6] = [
     r#"{"op":"domain","d":"D","is":"{1..4}"}"#,
@@ -27,7 +27,7 @@ fn worked<M: Mover>(alloc: Global, mover: &M) -> Result<History, Fail> {
 #[test]
 fn cascade_of_copies(rt: HostRuntime) -> Result<(), Fail> {
     let alloc = rt.alloc();
-    let alone: OneThread<&HostRuntime> = OneThread::new();
+    let alone = Crew::alone(&rt);
     let mut history = worked(alloc, &alone)?;
     assert_eq!(rt; &history.dependents(3)?[..], &[5, 4, 3][..]);
     let (undone, count) = history.cascade(3, &alone)?;
@@ -44,7 +44,7 @@ fn cascade_of_copies(rt: HostRuntime) -> Result<(), Fail> {
 
 #[test]
 fn cascade_of_a_domain(rt: HostRuntime) -> Result<(), Fail> {
-    let alone: OneThread<&HostRuntime> = OneThread::new();
+    let alone = Crew::alone(&rt);
     let mut history = worked(rt.alloc(), &alone)?;
     let (undone, count) = history.cascade(1, &alone)?;
     assert_eq!(rt; &undone[..], &[6, 5, 4, 3, 2, 1][..]);
@@ -96,7 +96,7 @@ fn undone_in_turn<M: Mover>(
 
 #[test]
 fn cascade_while_growths_are_refused(rt: HostRuntime) -> Result<(), Fail> {
-    let alone: OneThread<&HostRuntime> = OneThread::new();
+    let alone = Crew::alone(&rt);
     let mut history = worked(rt.alloc(), &alone)?;
     undone_in_turn(&rt, &mut history, &alone, 3, &[5, 4, 3])?;
     assert_eq!(rt; history.in_force(6), Some(true));

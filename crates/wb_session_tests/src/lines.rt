@@ -9,7 +9,7 @@ use std::test::Fail;
 use wb_lines::{
     Input, Line, LineBuffer, LineFault, Output, SessionEnd, WriteFault, next_line, read_all, send,
 };
-use wb_redist::{Mover, OneThread};
+use wb_redist::{Crew, Mover};
 
 const LINES: &[u8] =
     b"{\"op\":\"domain\",\"d\":\"D\",\"is\":\"{1..4}\"}\n{\"op\":\"array\",\"a\":\"A\",\"d\":\"D\"}\n{\"op\":\"set\",\"a\":\"A\",\"i\":4,\"v\":9}\n{\"op\":\"undo\"}\n{\"op\":\"get\",\"a\":\"A\",\"i\":4}\n";
@@ -62,7 +62,7 @@ fn ends_so<M: Mover>(
 #[test]
 fn failing_reads(rt: HostRuntime) {
     let alloc = rt.alloc();
-    let alone: OneThread<&HostRuntime> = OneThread::new();
+    let alone = Crew::alone(&rt);
     for at in 0..LINES.len() {
         let whole = line_ends(&LINES[..at]);
         let mut output = Narrow::new(alloc, REPLIES.len(), true);
@@ -79,7 +79,7 @@ fn failing_reads(rt: HostRuntime) {
 #[test]
 fn failing_writes(rt: HostRuntime) {
     let alloc = rt.alloc();
-    let alone: OneThread<&HostRuntime> = OneThread::new();
+    let alone = Crew::alone(&rt);
     for limit in 0..REPLIES.len() {
         let whole = line_ends(&REPLIES[..limit]);
         for fails in [true, false] {
@@ -95,7 +95,7 @@ fn failing_writes(rt: HostRuntime) {
 #[test]
 fn flushes_before_it_waits(rt: HostRuntime) -> Result<(), Fail> {
     let alloc = rt.alloc();
-    let alone: OneThread<&HostRuntime> = OneThread::new();
+    let alone = Crew::alone(&rt);
     for (failing, limit, wanted, sent) in [
         (Some(79), REPLIES.len(), SessionEnd::ReadFault(2), 34),
         (None, 5, SessionEnd::WriteFault(1), 5),

@@ -12,7 +12,7 @@ use std::thread::Threads;
 use wb_book::{Inverse, Name};
 use wb_edit::laws::keeps_well_formed;
 use wb_edit::{Edit, plan};
-use wb_redist::{Gate, MoveErr, Mover, OneThread, Open, Way, Workers};
+use wb_redist::{Crew, Gate, MoveErr, Mover, Open, Way, Workers};
 use wb_shelf::{Book, Pairs};
 
 // A domain in two blocks, an array over it, and one over a part of it.
@@ -94,10 +94,10 @@ fn moves<M: Mover>(rt: &impl Abort, alloc: Global, mover: &M) -> Result<(), Fail
 
 #[test]
 fn pieces_by_any_workers(rt: HostRuntime) -> Result<(), Fail> {
-    let alone: OneThread<&HostRuntime> = OneThread::new();
+    let alone = Crew::alone(&rt);
     moves(&rt, rt.alloc(), &alone)?;
     for count in [1, 3, 64] {
-        moves(&rt, rt.alloc(), &Workers::new(&rt, count, Open)?)?;
+        moves(&rt, rt.alloc(), &Crew::new(&rt, count)?)?;
     }
     Ok(())
 }
@@ -161,7 +161,7 @@ impl<R: Threads + Sync> Mover for Threadless<R> {
 fn mover_without_threads(rt: HostRuntime) -> Result<(), Fail> {
     let alloc = rt.alloc();
     let none: Threadless<&HostRuntime> = Threadless { of: PhantomData };
-    let alone: OneThread<&HostRuntime> = OneThread::new();
+    let alone = Crew::alone(&rt);
     let edit = edit_of(alloc, REMAP)?;
     let mut book = book_of(alloc, MAPPED)?;
     let refused = made_at_last(alloc, &mut book, &edit, &none);

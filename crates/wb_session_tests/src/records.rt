@@ -9,7 +9,7 @@ use wb_history::{History, RestoreErr};
 use wb_proto::{Request, read_request};
 use wb_range::NoMemory;
 use wb_record::{HistoryErr, print_history, read_history};
-use wb_redist::{Mover, OneThread};
+use wb_redist::{Crew, Mover};
 
 const MADE: &str = r#"
 {"op":"domain","d":"D","is":"{1..4}"} -> {"edit":1,"n":3}
@@ -150,7 +150,7 @@ fn are_bad<M: Mover>(
 #[test]
 fn history_text(rt: HostRuntime) -> Result<(), Fail> {
     let alloc = rt.alloc();
-    let alone: OneThread<&HostRuntime> = OneThread::new();
+    let alone = Crew::alone(&rt);
     let made = text_of(&rt, alloc, MADE, &alone)?;
     let redo = "{\"op\":\"redo\",\"k\":3} -> {\"n\":1,\"redone\":3}";
     let counts = read_back(&rt, alloc, made.as_str(), redo, &alone)?;
@@ -199,7 +199,7 @@ fn restored<M: Mover>(
 
 #[test]
 fn restored_from_a_list(rt: HostRuntime) -> Result<(), Fail> {
-    let alone: OneThread<&HostRuntime> = OneThread::new();
+    let alone = Crew::alone(&rt);
     assert!(rt; restored(rt.alloc(), true, &alone)?.is_none());
     let out_of_force = restored(rt.alloc(), false, &alone)?;
     assert!(rt; out_of_force == Some((Some(false), true, false)));

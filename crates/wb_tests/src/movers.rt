@@ -15,7 +15,7 @@ use wb_pieces::Pieces;
 use wb_range::Range;
 use wb_rect::Rect;
 use wb_redist::{
-    BadWorkers, Gate, MoveErr, Mover, OneThread, Op, Open, ReduceErr, Way, Workers, reduce,
+    BadWorkers, Crew, Gate, MoveErr, Mover, Op, Open, ReduceErr, Way, Workers, reduce,
 };
 
 // The elements at 1, 2 .., in the pieces of the mapping. A refused growth is tried again once.
@@ -95,7 +95,7 @@ fn moves_the_tens<X: Mover>(rt: &impl Abort, alloc: Global, mover: &X) -> Result
 // One thread and 1, 3 and 64 workers make the same pieces.
 #[test]
 fn pieces_by_any_workers(rt: HostRuntime) -> Result<(), Fail> {
-    let alone: OneThread<&HostRuntime> = OneThread::new();
+    let alone = Crew::alone(&rt);
     moves_the_tens(&rt, rt.alloc(), &alone)?;
     for count in [0, 1, 3, 64, 65] {
         match Workers::new(&rt, count, Open) {
@@ -194,7 +194,7 @@ fn reductions_by<X: Mover>(
 #[test]
 fn reductions(rt: HostRuntime) -> Result<(), Fail> {
     let (empty, overflow) = (Err(ReduceErr::Empty), Err(ReduceErr::Overflow));
-    let alone: OneThread<&HostRuntime> = OneThread::new();
+    let alone = Crew::alone(&rt);
     let four = Workers::new(&rt, 4, Open)?;
     let none: Threadless<&HostRuntime> = Threadless { of: PhantomData };
     for (elements, wanted) in [

@@ -15,19 +15,13 @@ use wb_program::{
     BAD_COMMAND_LINE, DONE, INPUT_OR_OUTPUT_FAILED, NO_MEMORY, PutBack, check_with, history_from,
     resume_with, run_with, serve_history, serve_on, upgrade_with,
 };
-use wb_redist::{Mover, OneThread, Open, Workers};
+use wb_redist::{Crew, Mover};
 
 fn main(rt: HostRuntime) -> io::Result<ExitCode> {
     let done = match asked(&rt) {
-        Ok(Ok(asked)) => match workers_of(&asked) {
-            1 => {
-                let alone: OneThread<&HostRuntime> = OneThread::new();
-                do_asked(&rt, &rt, asked, &alone)
-            }
-            count => match Workers::new(&rt, count, Open) {
-                Ok(workers) => do_asked(&rt, &rt, asked, &workers),
-                Err(_) => Ok(BAD_COMMAND_LINE),
-            },
+        Ok(Ok(asked)) => match Crew::new(&rt, workers_of(&asked)) {
+            Ok(crew) => do_asked(&rt, &rt, asked, &crew),
+            Err(_) => Ok(BAD_COMMAND_LINE),
         },
         Ok(Err(status)) => Ok(status),
         Err(error) => Err(error),

@@ -18,7 +18,7 @@ use std::test::Fail;
 use wb_history::{Answer, History, Refusal};
 use wb_lines::{Input, Output, SessionEnd};
 use wb_proto::{Reply, Request, answer_request, reply_text, session};
-use wb_redist::{Mover, OneThread, Open, Workers};
+use wb_redist::{Crew, Mover};
 
 const NO_MEMORY: &str = "{\"error\":\"E90\",\"name\":\"no-memory\"}\n";
 
@@ -148,9 +148,9 @@ fn play_each<M: Mover>(rt: &impl Abort, alloc: Global, mover: &M) -> Result<(), 
 // By one thread and by four workers alike.
 #[test]
 fn worked_histories(rt: HostRuntime) -> Result<(), Fail> {
-    let alone: OneThread<&HostRuntime> = OneThread::new();
+    let alone = Crew::alone(&rt);
     play_each(&rt, rt.alloc(), &alone)?;
-    play_each(&rt, rt.alloc(), &Workers::new(&rt, 4, Open)?)
+    play_each(&rt, rt.alloc(), &Crew::new(&rt, 4)?)
 }
 
 // That a session over these bytes writes this text, having answered so many lines.
@@ -186,7 +186,7 @@ fn broken_lines(rt: HostRuntime) -> Result<(), Fail> {
         lines.push(b' ')?;
     }
     lines.extend_from_slice(b"\n{\"op\":\"size\",\"d\":\"D\"}\n{\"op\":\"pri")?;
-    let alone: OneThread<&HostRuntime> = OneThread::new();
+    let alone = Crew::alone(&rt);
     goes_so(&rt, alloc, lines.as_slice(), LONG_AMONG_OTHERS, 4, &alone);
     goes_so(&rt, alloc, NO_TEXT, NO_TEXT_REPLIES, 4, &alone);
     Ok(())
@@ -214,7 +214,7 @@ fn printed_book<M: Mover>(alloc: Global, mover: &M) -> Result<Reply, Fail> {
 #[test]
 fn texts_of_replies(rt: HostRuntime) -> Result<(), Fail> {
     let alloc = rt.alloc();
-    let alone: OneThread<&HostRuntime> = OneThread::new();
+    let alone = Crew::alone(&rt);
     let printed = printed_book(alloc, &alone)?;
     is_printed(
         &rt,
