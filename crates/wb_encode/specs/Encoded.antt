@@ -2,7 +2,7 @@
 use Rattle.std.specs.Prelude.{ℕ, pos, List, [], ◌∷◌, codes}
 use Rattle.serde_json.specs.Data.{Data, number as json_number, unsigned, string, object, Members, no_members, member}
 use Rattle.serde_json.specs.Written.{compact_text}
-use Rattle.wb_edit.specs.declared.edit.Edit.{Edit}
+use Rattle.wb_history.specs.wb_edit.specs.declared.edit.Edit.{Edit}
 use Rattle.wb_resize.specs.declared.operand.Operand.{Operand}
 use Rattle.wb_resize.specs.declared.operand.Operand.TheVariants.{Rectangle, Items, Named}
 use Rattle.wb_text.specs.Literals.{rectangle_text, set_text, mapping_text}

@@ -5,7 +5,7 @@ ghost use Rattle.serde_json.specs.Data.{depth};
 ghost use Rattle.serde_json.specs.Read.{read, max_depth};
 ghost use Rattle.serde_json.specs.View.{view};
 ghost use Rattle.serde_json.specs.Written.{compact_text, has_float};
-ghost use Rattle.wb_edit.specs.declared.edit.Edit.TheVariants.{Domain as new_domain_edit, Remap, Fill};
+ghost use Rattle.wb_history.specs.wb_edit.specs.declared.edit.Edit.TheVariants.{Domain as new_domain_edit, Remap, Fill};
 ghost use Rattle.wb_encode.specs.Encoded.{edit_data, edit_text};
 
 use crate::literals::{mapping_text, operation_word, rectangle_text, type_word};
@@ -17,7 +17,7 @@ use crate::sources::reshaped;
 use serde_json::Value;
 use std::alloc::{AllocError, Global};
 use wb_book::{AnyLayout, AnyRect, Name};
-use wb_edit::Edit;
+use wb_history::wb_edit::Edit;
 use wb_range::NoMemory;
 
 fn rectangular(alloc: Global, d: &Name, is: &AnyRect, map: &AnyLayout) -> Result<Value, AllocError>

@@ -14,3 +14,6 @@ pub use crate::edits::{edit_text, edit_value, line_of};
 pub use crate::literals::index_value;
 pub use crate::objects::{index_of_domain, of_domain};
 pub use crate::printed::print_history;
+pub use wb_history;
+pub use wb_history::{wb_edit, wb_log};
+pub use wb_text;

@@ -10,7 +10,7 @@ ghost use Rattle.wb_encode.specs.Table.{type_word, operation_word};
 use serde_json::{Value, json};
 use std::alloc::{AllocError, Global};
 use wb_book::{AnyIndex, AnyLayout, AnyRect, Index, KeyType};
-use wb_edit::Operation;
+use wb_history::wb_edit::Operation;
 use wb_resize::Operand;
 use wb_text::{push_any_layout, push_any_rect, push_set};
 

@@ -7,8 +7,8 @@ ghost use Rattle.wb_encode.specs.Text.{mark, edit_line, objects_text, history_te
 use crate::edits::edit_text;
 use std::alloc::{AllocError, Global};
 use std::fmt::Write;
-use wb_edit::Edit;
 use wb_history::History;
+use wb_history::wb_edit::Edit;
 use wb_range::NoMemory;
 use wb_shelf::Book;
 use wb_text::print_book;

@@ -1,3 +1,5 @@
+pub use Rattle.wb_log.specs.wb_edit
+pub use Rattle.wb_log
 pub use Rattle.wb_log.specs.Past
 pub use Rattle.wb_log.specs.Replies
 pub use Rattle.wb_log.specs.Cascades

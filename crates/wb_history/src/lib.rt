@@ -15,4 +15,5 @@ pub use crate::history::History;
 pub use crate::piece::Piece;
 pub use crate::query::{Answer, Query};
 pub use crate::restore::RestoreErr;
-pub use wb_log::{LentEdit, Refusal};
+pub use wb_log;
+pub use wb_log::{LentEdit, Refusal, wb_edit};

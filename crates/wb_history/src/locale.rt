@@ -5,8 +5,8 @@ ghost use Rattle.wb_history.specs.Locales.{where_answer, locale_answer};
 
 use crate::query::Answer;
 use wb_book::{AnyIndex, Cell, Name};
-use wb_edit::judgements;
 use wb_log::Refusal;
+use wb_log::wb_edit::judgements;
 use wb_shelf::Book;
 
 /// The locale of an index of a domain, or why it lies on none.
@@ -14,7 +14,7 @@ pub(crate) fn locale_of(
     book: &Book,
     domain: Name,
     index: AnyIndex,
-) -> Result<usize, wb_edit::Refusal>
+) -> Result<usize, wb_log::wb_edit::Refusal>
     ensures { result ≡ where_answer book.now.cells domain index }
 {
     let kind = judgements::domain_kind(book.get(&Cell::Object(domain)))?;
@@ -23,7 +23,9 @@ pub(crate) fn locale_of(
     Ok(book.locale_of(&domain, &index).unwrap_or(0))
 }
 
-pub(crate) fn locale_answer(found: Result<usize, wb_edit::Refusal>) -> Result<Answer, Refusal>
+pub(crate) fn locale_answer(
+    found: Result<usize, wb_log::wb_edit::Refusal>,
+) -> Result<Answer, Refusal>
     ensures { result ≡ locale_answer found }
 {
     match found {

@@ -10,8 +10,8 @@ use crate::query::Answer;
 use std::alloc::Global;
 use std::marker::Model;
 use wb_book::{AnyIndex, Cell, Name};
-use wb_edit::judgements;
 use wb_log::Refusal;
+use wb_log::wb_edit::judgements;
 use wb_range::NoMemory;
 use wb_shelf::{AsIndex, Book, Pairs};
 
@@ -48,10 +48,7 @@ impl Piece {
     pub fn copy(&self, alloc: Global) -> Result<Piece, NoMemory>
         ensures { IfOk result (λ p. p ≡ self.now) }
     {
-        match Vec::from_slice(alloc, self.pairs()) {
-            Ok(pairs) => Ok(Piece::new(pairs)),
-            Err(_) => Err(NoMemory),
-        }
+        Ok(Piece::new(Vec::from_slice(alloc, self.pairs())?))
     }
 
     /// Whether the pieces are equal.
@@ -92,9 +89,7 @@ fn listed<K: AsIndex>(alloc: Global, pairs: &[(K, i64)]) -> Result<Vec<(AnyIndex
 {
     let mut found = Vec::new(alloc);
     for (key, value) in pairs {
-        if found.push((key.any(), *value)).is_err() {
-            return Err(NoMemory);
-        }
+        found.push((key.any(), *value))?;
     }
     Ok(found)
 }
@@ -128,7 +123,7 @@ pub(crate) fn piece_answer(
         Err(why) => return Err(Refusal::Refused(why)),
     }
     match book.piece(&array, locale as usize) {
-        None => Err(Refusal::Refused(wb_edit::Refusal::OutOfDomain)),
+        None => Err(Refusal::Refused(wb_log::wb_edit::Refusal::OutOfDomain)),
         Some(pairs) => match piece_of(alloc, pairs) {
             Ok(piece) => Ok(Answer::Piece(piece)),
             Err(_) => Err(Refusal::NoMemory),

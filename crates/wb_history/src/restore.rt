@@ -5,8 +5,8 @@ ghost use Rattle.wb_history.specs.Restored.{one_of, marked, stopped, IsCounted, 
 use crate::history::History;
 use std::alloc::Global;
 use thiserror::Error;
-use wb_edit::Edit;
 use wb_log::Refusal;
+use wb_log::wb_edit::Edit;
 use wb_redist::Mover;
 
 /// Why a list of edits gives no history.

@@ -13,3 +13,5 @@ pub use crate::entry::{CountedEdits, Entry, Form, LentEntry, NewElement, ReadEle
 pub use crate::journal::Journal;
 pub use crate::pass::Pass;
 pub use crate::settling::Cause;
+pub use wb_proto;
+pub use wb_proto::wb_history;

@@ -1,7 +1,7 @@
 // One request answered by a history, with a record of it for the journal and another one for the pass.
 ghost use Rattle.std.specs.Prelude.{◌≡◌, Bool, true, false, None, Ok, IfOk, OnErr};
-ghost use Rattle.wb_history.specs.Cascades.{DependentsReply, OfNumber};
-ghost use Rattle.wb_history.specs.Past.{meant};
+ghost use Rattle.wb_proto.specs.wb_history.specs.Cascades.{DependentsReply, OfNumber};
+ghost use Rattle.wb_proto.specs.wb_history.specs.Past.{meant};
 ghost use Rattle.wb_proto.specs.Machine.{Step};
 ghost use Rattle.wb_proto.specs.declared.requests.request.Request.TheVariants.{Cascade};
 ghost use Rattle.wb_journal.specs.Entries.{is_told, is_entered, is_long, cascade_in};
@@ -10,7 +10,7 @@ ghost use Rattle.wb_journal.specs.Serving.{entry};
 
 use crate::entry::{Entry, Record, is_of_numbers, small_record};
 use std::alloc::Global;
-use wb_history::{History, Refusal};
+use wb_proto::wb_history::{History, Refusal};
 use wb_proto::{EditNumbers, Reply, Request, answer_request};
 use wb_range::NoMemory;
 use wb_redist::Mover;

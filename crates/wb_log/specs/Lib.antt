@@ -1,3 +1,4 @@
+pub use Rattle.wb_edit
 pub mod Past
 pub mod Replies
 pub mod Cascades

@@ -367,14 +367,8 @@ fn form_aside(alloc: Global, edit: Edit) -> Result<Form, NoMemory>
                 more,
                 was: None,
             };
-            match Box::new(alloc, copied) {
-                Ok(copied) => Ok(Form::Copy(copied)),
-                Err(_) => Err(NoMemory),
-            }
+            Ok(Form::Copy(Box::new(alloc, copied)?))
         }
-        edit => match Box::new(alloc, Entry { edit, kept: None }) {
-            Ok(entry) => Ok(Form::Whole(entry)),
-            Err(_) => Err(NoMemory),
-        },
+        edit => Ok(Form::Whole(Box::new(alloc, Entry { edit, kept: None })?)),
     }
 }

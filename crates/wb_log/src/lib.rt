@@ -16,3 +16,4 @@ pub use crate::entry::{
 };
 pub use crate::index::Index;
 pub use crate::refusal::Refusal;
+pub use wb_edit;

@@ -24,10 +24,7 @@ fn wait_for_blockers(
 {
     let mut from = after;
     while let Some(number) = index.first_to_block_undo(before, from) {
-        match waiting.add(number) {
-            Ok(()) => {}
-            Err(_) => return Err(NoMemory),
-        }
+        waiting.add(number)?;
         from = number;
     }
     Ok(())

@@ -2,7 +2,7 @@
 
 ghost use Rattle.std.specs.Prelude.{◌≡◌, ℕ, List, true, IfOk, string_bytes};
 ghost use Rattle.std.specs.Io.KnownBytes.{Appends, Consumes, IsAtEnd};
-ghost use Rattle.wb_reading.specs.Reading.{IsNoBook};
+ghost use Rattle.wb_record.specs.wb_reading.specs.Reading.{IsNoBook};
 ghost use Rattle.wb_program.specs.Checking.{IsVerdict, verdict_text, status_of_verdict, IsPrinted, Says, Judges, IsAnswered};
 ghost use Rattle.wb_program.specs.Running.{HasFailed};
 
@@ -11,7 +11,7 @@ use std::alloc::{AllocError, Global};
 use std::str::from_utf8;
 use wb_lines::{LineFault, Sink, Source, read_all, send};
 use wb_range::NoMemory;
-use wb_reading::{BookErr, read_book};
+use wb_record::wb_reading::{BookErr, read_book};
 use wb_record::{HistoryErr, read_history};
 use wb_redist::Mover;
 

@@ -16,13 +16,13 @@ use std::sync::Wait;
 use std::sync::ledger::Blank;
 use std::thread;
 use std::thread::Threads;
-use wb_encode::print_history;
-use wb_history::History;
 use wb_lines::{Input, Output, Sink};
 use wb_range::NoMemory;
+use wb_record::wb_encode::print_history;
+use wb_record::wb_history::History;
+use wb_record::wb_text::print_book;
 use wb_redist::Mover;
 use wb_shared::{Desk, DeskErr, Opening, Pass, Shared, settle};
-use wb_text::print_book;
 
 // Answers the lines of a connection at a seat until its end or a fault, and gives the pass back. Replies are gathered while
 // more lines lie ahead.

@@ -1,3 +1,10 @@
+pub use Rattle.wb_wire.specs.wb_edit
+pub use Rattle.wb_wire.specs.wb_encode
+pub use Rattle.wb_wire.specs.wb_history
+pub use Rattle.wb_wire.specs.wb_log
+pub use Rattle.wb_wire.specs.wb_proto
+pub use Rattle.wb_wire.specs.wb_reading
+pub use Rattle.wb_wire.specs.wb_text
 pub mod Text
 pub mod Lines
 pub mod Laws

@@ -14,9 +14,9 @@ use std::sync::ledger::{Blank, Ledger, Share};
 use std::sync::{Mutex, MutexGuard, Wait};
 use std::thread::yield_now;
 use thiserror::Error;
-use wb_history::History;
+use wb_journal::wb_history::History;
+use wb_journal::wb_proto::{Reply, Request};
 use wb_journal::{Cause, Counted, Journal, Pass};
-use wb_proto::{Reply, Request};
 use wb_range::NoMemory;
 use wb_redist::Mover;
 

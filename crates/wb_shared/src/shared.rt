@@ -10,9 +10,9 @@ use crate::opening::Opening;
 use std::alloc::Global;
 use std::marker::Model;
 use std::sync::ledger::Share;
-use wb_history::History;
+use wb_journal::wb_history::History;
+use wb_journal::wb_proto::{Reply, Request};
 use wb_journal::{Cause, Counted, Pass};
-use wb_proto::{Reply, Request};
 use wb_redist::Mover;
 
 /// The locked value of a desk: the history, the journal, each seat's number of entries, and the ledger's book.

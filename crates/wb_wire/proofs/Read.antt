@@ -8,14 +8,15 @@ use Rattle.wb_book.specs.Shapes.{Range}
 use Rattle.wb_book.specs.declared.values.index.Index.{Index}
 use Rattle.wb_book.specs.declared.values.index.Index.TheVariants.{Point}
 use Rattle.wb_book.specs.declared.cells.kind.KeyType.{KeyType}
-use Rattle.wb_edit.specs.declared.operation.Operation.{Operation}
+use Rattle.wb_proto.specs.wb_edit.specs.declared.operation.Operation.{Operation}
 use Rattle.wb_redist.specs.declared.reduction.Op.{Op}
-use Rattle.wb_edit.specs.declared.edit.Edit.{Edit}
-use Rattle.wb_edit.specs.declared.edit.Edit.TheVariants.{Domain, DomainOfSet, Remap, Reshape, Sparse, Assoc, DropDomain, Add, Remove, Array, Set, Irv, Copy}
-use Rattle.wb_edit.specs.declared.edit.Edit.TheVariants.{Fill, FillOfSet, FillAll, DropArray, All, Load}
-use Rattle.wb_history.specs.declared.query.Query.{Query}
-use Rattle.wb_history.specs.declared.query.Query.TheVariants.{Get, Size, Where, Piece, Reduce, State}
-use Rattle.wb_log.specs.declared.refusal.Refusal.{Refusal}
+use Rattle.wb_proto.specs.wb_edit.specs.declared.edit.Edit.{Edit}
+use Rattle.wb_proto.specs.wb_edit.specs.declared.edit.Edit.TheVariants.{Domain, DomainOfSet, Remap, Reshape, Sparse, Assoc}
+use Rattle.wb_proto.specs.wb_edit.specs.declared.edit.Edit.TheVariants.{DropDomain, Add, Remove, Array, Set, Irv, Copy}
+use Rattle.wb_proto.specs.wb_edit.specs.declared.edit.Edit.TheVariants.{Fill, FillOfSet, FillAll, DropArray, All, Load}
+use Rattle.wb_proto.specs.wb_history.specs.declared.query.Query.{Query}
+use Rattle.wb_proto.specs.wb_history.specs.declared.query.Query.TheVariants.{Get, Size, Where, Piece, Reduce, State}
+use Rattle.wb_proto.specs.wb_log.specs.declared.refusal.Refusal.{Refusal}
 use Rattle.wb_literal.specs.Domain as literals
 use Rattle.wb_literal.specs.Grammar as grammar
 use Rattle.wb_literal.specs.declared.mapping.MappingLiteral.{MappingLiteral}

@@ -10,11 +10,7 @@ pub fn keep_aside(alloc: Global, entries: &mut Vec<Record>, edit: Edit) -> Resul
     ensures ok { OnOk result (entries.new.items ≡ entries.old.items ++ record { edit = edit; kept = None } ∷ []) }
     ensures err { OnErr result (entries.new.items ≡ entries.old.items) }
 {
-    match Record::aside(alloc, edit) {
-        Err(why) => Err(why),
-        Ok(entry) => match entries.push(entry) {
-            Ok(()) => Ok(()),
-            Err(_) => Err(NoMemory),
-        },
-    }
+    let entry = Record::aside(alloc, edit)?;
+    entries.push(entry)?;
+    Ok(())
 }

@@ -8,8 +8,8 @@ use crate::requests::fields::{has_fields, text_field};
 use crate::requests::request::Request;
 use serde_json::Value;
 use std::alloc::Global;
-use wb_edit::Edit;
-use wb_history::Refusal;
+use wb_encode::wb_edit::Edit;
+use wb_encode::wb_history::Refusal;
 use wb_reading::{BookErr, BookText, read_text};
 
 fn text_of_book(alloc: Global, text: &str) -> Result<BookText, Refusal>
