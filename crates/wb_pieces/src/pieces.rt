@@ -1,4 +1,4 @@
-ghost use Rattle.std.specs.Prelude.{◌≡◌, ℕ, ℤ, ◌<◌, ◌≤◌, ◌↔◌, List, length, IfOk, IfSome, MatchOption, MatchResult, OnOk, OnErr, IfNone, Err, Some, None, []};
+ghost use Rattle.std.specs.Prelude.{◌≡◌, ℕ, ℤ, ◌<◌, ◌≤◌, ◌↔◌, true, List, length, IfOk, IfSome, MatchOption, MatchResult, OnOk, OnErr, IfNone, Err, Some, None, []};
 ghost use Rattle.std.specs.Prelude.{slice_index_or, slice_set};
 ghost use Rattle.std.specs.List.Sorted.{IsStrictlySortedBy};
 ghost use Rattle.std.specs.Map.{keys_of, set_value};
@@ -161,6 +161,31 @@ impl<D: Domain, M: Mapping<Index = D::Index>> Pieces<D, M> {
         list_at(self.pieces.as_slice(), locale)
     }
 
+    /// The element at `index`, as by `get`, and the place to pass for the index
+    /// after it: such a call makes no search where the index stands in its
+    /// piece at the place that was passed, or at the next one.
+    pub fn get_near(&self, index: D::Index, near: usize) -> (Option<i64>, usize)
+        ensures { result.0 ≡ value_at D.Index.cmp self.now.0 index }
+    {
+        value_near(self.list_of(self.mapping().locale_of(index)), index, near)
+    }
+
+    /// Replaces the element at `index`, if there is one, and gives the place
+    /// to pass for the index after it, as `get_near` does.
+    pub fn set_near(&mut self, index: D::Index, value: i64, near: usize) -> usize
+        ensures elements { self.new.0 ≡ set_value (is_at (D.Index.cmp index)) self.old.0 value }
+        ensures mapping { self.new.1 ≡ self.old.1 }
+    {
+        let locale = self.mapping().locale_of(index);
+        match place_near(self.list_of(locale), index, near) {
+            Some(place) => {
+                let _old = self.write(locale, place, (index, value));
+                place
+            }
+            None => near,
+        }
+    }
+
     // Replaces the pair at `place` of the piece of its own locale, and gives the
     // old element.
     fn write(&mut self, locale: usize, place: usize, pair: (D::Index, i64)) -> i64
@@ -257,6 +282,44 @@ fn value_in<I: Key>(pairs: &[(I, i64)], index: I) -> Option<i64>
     match place_in(pairs, index) {
         Some(place) => Some(pairs[place].1),
         None => None,
+    }
+}
+
+// The element at `index` among ascending pairs, and where it stands, or else `near`, where it is tried first.
+fn value_near<I: Key>(pairs: &[(I, i64)], index: I, near: usize) -> (Option<i64>, usize)
+    requires { IsStrictlySortedBy I.cmp (keys_of pairs.now) }
+    ensures { result.0 ≡ value_at I.cmp pairs.now index }
+{
+    match place_near(pairs, index, near) {
+        Some(place) => (Some(pairs[place].1), place),
+        None => (None, near),
+    }
+}
+
+// The place of `index` among ascending pairs, tried first at `near` and at the next place.
+fn place_near<I: Key>(pairs: &[(I, i64)], index: I, near: usize) -> Option<usize>
+    requires { IsStrictlySortedBy I.cmp (keys_of pairs.now) }
+    ensures found { IfSome result (λ p. (p < length pairs.now) × ((d : I × ℤ) → (slice_index_or pairs.now p d).0 ≡ index)) }
+    ensures absent { IfNone result (value_at I.cmp pairs.now index ≡ None) }
+{
+    let next = near.saturating_add(1);
+    if stands_at(pairs, index, near) {
+        return Some(near);
+    }
+    if stands_at(pairs, index, next) {
+        return Some(next);
+    }
+    place_in(pairs, index)
+}
+
+// Whether `index` stands at a place.
+fn stands_at<I: Key>(pairs: &[(I, i64)], index: I, place: usize) -> bool
+    ensures { result ≡ true → (place < length pairs.now) × ((d : I × ℤ) → (slice_index_or pairs.now place d).0 ≡ index) }
+{
+    if place < pairs.len() {
+        pairs[place].0.cmp(&index).is_eq()
+    } else {
+        false
     }
 }
 

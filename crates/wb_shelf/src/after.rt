@@ -109,10 +109,17 @@ pub(crate) fn values_before(
 ) -> Result<Vec<CellChange>, AllocError>
     ensures { IfOk result (λ v. v.items ≡ map (λ x. record { cell = x.cell; value = answer (stored_in cells.now.entries) (element_in arrays.now.entries) x.cell }) delta.now) }
 {
-    delta
-        .iter()
-        .map(|x| CellChange::new(x.cell(), keep::look(cells, arrays, &x.cell())))
-        .collect(alloc)
+    let mut before = Vec::with_capacity(alloc, delta.len())?;
+    let mut near = 0;
+    for change in delta {
+        let cell = change.cell();
+        let (value, place) = keep::look_near(cells, arrays, &cell, near);
+        if before.push(CellChange::new(cell, value)).is_err() {
+            return Err(AllocError);
+        }
+        near = place;
+    }
+    Ok(before)
 }
 
 /// The elements of an array after changes of them, by how it lies then; `None` where they are as they were.

@@ -60,28 +60,28 @@ impl Model for Elements {
 }
 
 impl Elements {
-    /// The element at an index.
-    pub fn get(&self, index: &AnyIndex) -> Option<i64>
-        ensures { result ≡ value_at index_cmp self.now.0 index.now }
+    /// The element at an index, and the place to pass for the index after it: from place to place there is no search.
+    pub fn get_near(&self, index: &AnyIndex, near: usize) -> (Option<i64>, usize)
+        ensures { result.0 ≡ value_at index_cmp self.now.0 index.now }
     {
         match &self.form {
-            Form::Line(pieces) => value_of(pieces, index),
-            Form::Plane(pieces) => value_of(pieces, index),
-            Form::Solid(pieces) => value_of(pieces, index),
-            Form::Text(pieces) => value_of(pieces, index),
+            Form::Line(pieces) => value_near(pieces, index, near),
+            Form::Plane(pieces) => value_near(pieces, index, near),
+            Form::Solid(pieces) => value_near(pieces, index, near),
+            Form::Text(pieces) => value_near(pieces, index, near),
         }
     }
 
-    /// Replaces the element at an index, if there is one.
-    pub fn set(&mut self, index: &AnyIndex, value: i64)
+    /// Replaces the element at an index, if there is one, and gives the place to pass for the index after it.
+    pub fn set_near(&mut self, index: &AnyIndex, value: i64, near: usize) -> usize
         ensures elements { self.new.0 ≡ set_value (is_at (index_cmp index.now)) self.old.0 value }
         ensures mapping { self.new.1 ≡ self.old.1 }
     {
         match &mut self.form {
-            Form::Line(pieces) => set_in(pieces, index, value),
-            Form::Plane(pieces) => set_in(pieces, index, value),
-            Form::Solid(pieces) => set_in(pieces, index, value),
-            Form::Text(pieces) => set_in(pieces, index, value),
+            Form::Line(pieces) => set_in(pieces, index, value, near),
+            Form::Plane(pieces) => set_in(pieces, index, value, near),
+            Form::Solid(pieces) => set_in(pieces, index, value, near),
+            Form::Text(pieces) => set_in(pieces, index, value, near),
         }
     }
 
@@ -336,7 +336,8 @@ fn set_in<D: Domain, M: Mapping<Index = D::Index>>(
     pieces: &mut Pieces<D, M>,
     index: &AnyIndex,
     value: i64,
-)
+    near: usize,
+) -> usize
 where
     D::Index: AsIndex,
     requires { AllOf D.Index.as_index D.Index.is_of pieces.old.0 }
@@ -345,10 +346,8 @@ where
     ensures kept { AllOf D.Index.as_index D.Index.is_of pieces.new.0 }
 {
     match D::Index::of(index) {
-        Some(key) => {
-            let _ = pieces.set(key, value);
-        }
-        None => {}
+        Some(key) => pieces.set_near(key, value, near),
+        None => near,
     }
 }
 
@@ -432,17 +431,18 @@ fn pairs_in<I: AsIndex>(
     Ok(pairs)
 }
 
-fn value_of<D: Domain, M: Mapping<Index = D::Index>>(
+fn value_near<D: Domain, M: Mapping<Index = D::Index>>(
     pieces: &Pieces<D, M>,
     index: &AnyIndex,
-) -> Option<i64>
+    near: usize,
+) -> (Option<i64>, usize)
 where
     D::Index: AsIndex,
     requires { AllOf D.Index.as_index D.Index.is_of pieces.now.0 }
-    ensures { result ≡ value_at index_cmp (indexed D.Index.as_index pieces.now.0) index.now }
+    ensures { result.0 ≡ value_at index_cmp (indexed D.Index.as_index pieces.now.0) index.now }
 {
     match D::Index::of(index) {
-        Some(key) => pieces.get(key),
-        None => None,
+        Some(key) => pieces.get_near(key, near),
+        None => (None, near),
     }
 }

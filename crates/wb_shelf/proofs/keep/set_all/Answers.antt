@@ -7,8 +7,8 @@ use Rattle.wb_shelf.proofs.ElementsSet.{set_there}
 use Rattle.wb_shelf.proofs.Same.{apply_more}
 use Rattle.wb_shelf.proofs.keep.set_all.Goals as goal
 
-pub set_one-requires : goal.set_one-requires
-set_one-requires c =
+pub set_one-near-requires : goal.set_one-near-requires
+set_one-near-requires c =
     let old = c.loop-change.invariant in
     set_there (element_in c.args.arrays.now.entries) (element_in c.loop-change.arrays.entries) c.args.delta.now c.loop-change.change-index c.change-item.result
     c.loop-change-test.true c.change-item.is c.requires old.there
@@ -20,9 +20,9 @@ loop-change-preserved c =
     let old = c.loop-change.invariant in
     let more = λ (s : Cells). apply_more xs k c.change-item.result s c.loop-change-test.true c.change-item.is in
     record {
-      agree = λ s agree. subst (λ (t : Cells). Agree c.set_one.new.arrays.entries t) (sym (more s))
-          (c.set_one.ensures.agree (apply (take k xs) s) (old.agree s agree));
-      names = c.set_one.ensures.names ∙ old.names;
-      lie = λ b. c.set_one.ensures.lie b ∙ old.lie b;
-      there = λ b i. c.set_one.ensures.there b i ∙ old.there b i;
+      agree = λ s agree. subst (λ (t : Cells). Agree c.set_one-near.new.arrays.entries t) (sym (more s))
+          (c.set_one-near.ensures.agree (apply (take k xs) s) (old.agree s agree));
+      names = c.set_one-near.ensures.names ∙ old.names;
+      lie = λ b. c.set_one-near.ensures.lie b ∙ old.lie b;
+      there = λ b i. c.set_one-near.ensures.there b i ∙ old.there b i;
     }

@@ -11,14 +11,14 @@ use Rattle.wb_shelf.proofs.arrays.elements.set_in.Goals as goal
 pub returns-in-Some-clause-elements : goal.returns-in-Some-clause-elements
 returns-in-Some-clause-elements g c =
     let f = g.D.Index.AsIndex.as_index in
-    ap (indexed f) (c.set.ensures.elements ∙ ap (λ (v : ℤ). set_value (is_at (g.D.Index.Ord.cmp c.in-Some.key)) c.args.pieces.now.0 v)
+    ap (indexed f) (c.set_near.ensures.elements ∙ ap (λ (v : ℤ). set_value (is_at (g.D.Index.Ord.cmp c.in-Some.key)) c.args.pieces.now.0 v)
     (to_z-of_z w64 c.args.value c.ranges.value))
     ∙ set_value-indexed g.D.Index.Ord.cmp f g.D.Index.AsIndex.is_of g.met.D.Index.AsIndex.alike c.args.pieces.now.0 c.in-Some.key c.args.value
     ∙ ap (λ (i : Index). set_value (is_at (index_cmp i)) (indexed f c.args.pieces.now.0) c.args.value) c.in-Some.ensures.value
 
 pub returns-in-Some-clause-kept : goal.returns-in-Some-clause-kept
 returns-in-Some-clause-kept g c =
-    rw c.set.ensures.elements (all_of-set_value g.D.Index.Ord.cmp g.D.Index.AsIndex.as_index g.D.Index.AsIndex.is_of
+    rw c.set_near.ensures.elements (all_of-set_value g.D.Index.Ord.cmp g.D.Index.AsIndex.as_index g.D.Index.AsIndex.is_of
     (is_at (g.D.Index.Ord.cmp c.in-Some.key)) c.args.pieces.now.0 _ c.requires)
 
 pub returns-in-None-clause-elements : goal.returns-in-None-clause-elements

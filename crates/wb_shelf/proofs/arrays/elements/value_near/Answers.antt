@@ -3,7 +3,7 @@ use Rattle.wb_array.specs.Elements.{value_at}
 use Rattle.wb_book.specs.Cells.{index_cmp}
 use Rattle.wb_shelf.specs.Piecewise.Indexed.{indexed}
 use Rattle.wb_shelf.proofs.Piecewise.Indexed.{value_at-indexed, value_at-none}
-use Rattle.wb_shelf.proofs.arrays.elements.value_of.Goals as goal
+use Rattle.wb_shelf.proofs.arrays.elements.value_near.Goals as goal
 
 pub returns-in-None : goal.returns-in-None
 returns-in-None g c = sym (value_at-none g.D.Index.Ord.cmp g.D.Index.AsIndex.as_index g.D.Index.AsIndex.is_of c.args.pieces.now.0 c.args.index.now
@@ -11,6 +11,6 @@ returns-in-None g c = sym (value_at-none g.D.Index.Ord.cmp g.D.Index.AsIndex.as_
 
 pub returns-in-Some : goal.returns-in-Some
 returns-in-Some g c =
-    c.get.ensures
+    c.get_near.ensures
     ∙ sym (value_at-indexed g.D.Index.Ord.cmp g.D.Index.AsIndex.as_index g.D.Index.AsIndex.is_of g.met.D.Index.AsIndex.alike c.args.pieces.now.0 c.in-Some.key)
     ∙ ap (value_at index_cmp (indexed g.D.Index.AsIndex.as_index c.args.pieces.now.0)) c.in-Some.ensures.value
