@@ -19,7 +19,6 @@ pub mod Resized
 pub mod Add
 pub mod Remove
 pub mod DropDomain
-pub mod OfSets
 pub mod ReshapeRectangle
 pub mod ReshapeSet
 pub mod Reshape

@@ -29,9 +29,10 @@ use Rattle.wb_book.specs.WellFormed.{IsWellFormed}
 use Rattle.wb_resize.specs.Dropped.{dropped_domain_cells}
 use Rattle.wb_resize.proofs.Fills.{arrays, zeros_once}
 use Rattle.wb_resize.proofs.Users.{users}
+use Rattle.wb_edit.specs.declared.asked_rectangle.AskedRectangle.TheVariants.{Ranges, Indices}
 use Rattle.wb_edit.specs.declared.commands.seen.NewValue.TheVariants.{Fill as fill_with, Clear}
 use Rattle.wb_edit.specs.declared.edit.Edit.TheVariants.{Domain, Remap, Sparse, Assoc, Array, Set, Irv, Copy, Fill, FillAll, DropArray, All, Add, Remove}
-use Rattle.wb_edit.specs.declared.edit.Edit.TheVariants.{DropDomain, Reshape, DomainOfSet, FillOfSet, Load}
+use Rattle.wb_edit.specs.declared.edit.Edit.TheVariants.{DropDomain, Reshape, Load}
 use Rattle.wb_edit.specs.declared.operation.Operation.{Operation}
 use Rattle.wb_edit.specs.declared.refusal.Refusal.TheVariants.{WrongKind}
 use Rattle.wb_edit.specs.Changed.{set_all, value_of}
@@ -143,7 +144,7 @@ copy_once s a i b j c =
     number_once s b source.0 source.1 j added (λ x.
     once_judged s (fits_integer (x +ℤ c)) last (λ y _. (refl, tt))))))))
 
-fill_once : (s : Cells) (a : Name) (on : List Range) (v : ℤ) → IsListedOnce (indices on) → Once (fill a on v) s
+fill_once : (s : Cells) (a : Name) (on : List Range) (v : ℤ) → IsListedOnce (indices on) → Once (fill a (Ranges on) v) s
 fill_once s a on v once =
     let last : Tree = write (put_all (map (Element a) (indices on)) (Number v)) in
     once_test s (Object a) array_kind (λ array. over_rectangle (length on) array.1 (λ x. all_elements a (indices on) (λ y. last))) (λ array _.
@@ -181,7 +182,7 @@ member_once s d i next once =
 
 -- ---- every command
 
-new_domain_once : (s : Cells) (d : Name) (rs : List Range) (m : LayoutMap) → IsListedOnce (indices rs) → Once (domain d rs m) s
+new_domain_once : (s : Cells) (d : Name) (rs : List Range) (m : LayoutMap) → IsListedOnce (indices rs) → Once (domain d (Ranges rs) m) s
 new_domain_once s d rs m once =
     let last : Tree = write (new_domain_changes d rs m) in
     once_test s (Object d) is_free (λ x. mapped (length rs) m (λ y. last)) (λ x _.
@@ -238,7 +239,8 @@ load_once s text =
     puts_once (entries (cells_in text)) (entries_sorted (cells_in text)))
 
 pub each_cell_once : EachCellOnce
-each_cell_once (Domain d rs m) s valid once h = new_domain_once s d rs m (rectangle_once (length rs) rs valid.1)
+each_cell_once (Domain d (Ranges rs) m) s valid once h = new_domain_once s d rs m (rectangle_once (length rs) rs valid.1)
+each_cell_once (Domain d Indices m) s valid once h = once_test s (Object d) is_free (λ x. refuse WrongKind) (λ x _. tt)
 each_cell_once (Remap d m) s valid once h = remap_once s d m
 each_cell_once (Sparse d parent) s valid once h = sparse_once s d parent
 each_cell_once (Assoc d type) s valid once h = assoc_once s d type
@@ -246,14 +248,13 @@ each_cell_once (Array a d) s valid once h = new_array_once s a d h
 each_cell_once (Set a i v) s valid once h = set_once s a i v
 each_cell_once (Irv a v) s valid once h = irv_once s a v
 each_cell_once (Copy a i b j c) s valid once h = copy_once s a i b j c
-each_cell_once (Fill a on v) s valid once h = fill_once s a on v once
+each_cell_once (Fill a (Ranges on) v) s valid once h = fill_once s a on v once
+each_cell_once (Fill a Indices v) s valid once h = once_test s (Object a) array_kind (λ over. refuse WrongKind) (λ over _. tt)
 each_cell_once (FillAll a v) s valid once h = fill_all_once s a v
 each_cell_once (DropArray a) s valid once h = drop_array_once s a
 each_cell_once (All a how b) s valid once h = all_once s a how b
 each_cell_once (Add d i) s valid once h = member_once s d i (λ there kind. add_unless there d kind i) (λ there kind. add_unless_once s there d kind i)
 each_cell_once (Remove d i) s valid once h = member_once s d i (λ there kind. remove_if there d kind i) (λ there kind. remove_if_once s there d kind i)
 each_cell_once (DropDomain d) s valid once h = drop_domain_once s d h
-each_cell_once (DomainOfSet d) s valid once h = once_test s (Object d) is_free (λ x. refuse WrongKind) (λ x _. tt)
-each_cell_once (FillOfSet a) s valid once h = once_test s (Object a) array_kind (λ over. refuse WrongKind) (λ over _. tt)
 each_cell_once (Reshape d source) s valid once h = reshape_once s d source valid once h
 each_cell_once (Load text) s valid once h = load_once s text

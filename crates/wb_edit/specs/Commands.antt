@@ -19,7 +19,7 @@ pub mod Add
 pub mod Remove
 pub mod Load
 pub mod Meaning
-pub use Rattle.wb_edit.specs.Commands.Domain.{new_domain_changes, domain, domain_of_set}
+pub use Rattle.wb_edit.specs.Commands.Domain.{new_domain_changes, domain}
 pub use Rattle.wb_edit.specs.Commands.Remap.{remap}
 pub use Rattle.wb_edit.specs.Commands.Sparse.{sparse}
 pub use Rattle.wb_edit.specs.Commands.Assoc.{assoc}
@@ -27,7 +27,7 @@ pub use Rattle.wb_edit.specs.Commands.Array.{new_array_changes, array}
 pub use Rattle.wb_edit.specs.Commands.Set.{set}
 pub use Rattle.wb_edit.specs.Commands.Irv.{irv}
 pub use Rattle.wb_edit.specs.Commands.Copy.{copy}
-pub use Rattle.wb_edit.specs.Commands.Fill.{fill, fill_of_set}
+pub use Rattle.wb_edit.specs.Commands.Fill.{fill}
 pub use Rattle.wb_edit.specs.Commands.FillAll.{fill_all}
 pub use Rattle.wb_edit.specs.Commands.DropArray.{dropped_cells, drop_array}
 pub use Rattle.wb_edit.specs.Commands.All.{number_cells, all_results, all}

@@ -1,4 +1,5 @@
--- Tests on the indices of a rectangle: whether an array may have them, and whether its elements at all of them are there.
+-- Tests on the rectangle that a command is asked for, and on its indices: whether an array may have them, and whether its
+-- elements at all of them are there.
 use Rattle.std.specs.Prelude.{ℕ, ◌==◌, Bool, true, false, List, [], ◌∷◌, map, Option, is_some, Result, Ok, Err}
 use Rattle.std.specs.List.{list_all}
 use Rattle.wb_book.specs.declared.cells.cell.Cell.{Cell}
@@ -8,11 +9,19 @@ use Rattle.wb_book.specs.declared.cells.kind.Kind.TheVariants.{Rectangular, Spar
 use Rattle.wb_book.specs.declared.cells.value.Value.{Value}
 use Rattle.wb_book.specs.declared.values.index.Index.{Index}
 use Rattle.wb_book.specs.Cells.{Name}
+use Rattle.wb_book.specs.Shapes.{Range}
+use Rattle.wb_edit.specs.declared.asked_rectangle.AskedRectangle.{AskedRectangle}
+use Rattle.wb_edit.specs.declared.asked_rectangle.AskedRectangle.TheVariants.{Ranges, Indices}
 use Rattle.wb_edit.specs.declared.refusal.Refusal.{Refusal}
 use Rattle.wb_edit.specs.declared.refusal.Refusal.TheVariants.{WrongKind, OutOfDomain}
 use Rattle.wb_edit.specs.Trees.{Look, ◌>>=◌, read, judged}
 
 -- ---- judgements
+
+-- the ranges of the rectangle that is asked for; a set in its place is of the wrong kind
+abbrev pub ranges_of : AskedRectangle → Result (List Range) Refusal
+ranges_of (Ranges rs) = Ok rs
+ranges_of Indices = Err WrongKind
 
 abbrev pub is_rectangular_of : ℕ → Kind → Bool
 is_rectangular_of rank (Rectangular r) = r == rank
@@ -40,6 +49,10 @@ read_all (c ∷ cs) next = do
   v ← read c
   vs ← read_all cs
   next (v ∷ vs)
+
+-- the ranges of the rectangle that is asked for: looks at nothing
+abbrev pub asked_ranges : AskedRectangle → Look (List Range)
+asked_ranges asked = judged (ranges_of asked)
 
 -- an array over a rectangular domain of the rank: looks at nothing
 abbrev pub over_rectangle : ℕ → Kind → Look (Unit {0})

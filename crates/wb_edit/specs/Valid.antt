@@ -7,16 +7,28 @@ use Rattle.wb_book.specs.Kinds.{IsIndex}
 use Rattle.wb_book.specs.Layouts.{IsLayout}
 use Rattle.wb_book.specs.Shapes.{indices}
 use Rattle.wb_book.specs.WellFormed.{IsRectangle}
+use Rattle.wb_edit.specs.declared.asked_rectangle.AskedRectangle.{AskedRectangle}
+use Rattle.wb_edit.specs.declared.asked_rectangle.AskedRectangle.TheVariants.{Ranges, Indices}
 use Rattle.wb_edit.specs.declared.edit.Edit.{Edit as Command}
 use Rattle.wb_edit.specs.ValidSources.{AreNewIndices, AreNewIndicesOnce}
 use Rattle.wb_reading.specs.Texts.Books.{IsBookText}
 use Rattle.wb_edit.specs.declared.edit.Edit.TheVariants.{Domain, Remap, Sparse, Assoc, Array, Set, Irv, Copy, Fill, FillAll, DropArray, All, Add, Remove}
-use Rattle.wb_edit.specs.declared.edit.Edit.TheVariants.{DropDomain, Reshape, DomainOfSet, FillOfSet, Load}
+use Rattle.wb_edit.specs.declared.edit.Edit.TheVariants.{DropDomain, Reshape, Load}
+
+-- the ranges that are asked for are those of a rectangular domain
+abbrev pub IsAsked : AskedRectangle → Type 0
+IsAsked (Ranges rs) = IsRectangle (length rs) rs
+IsAsked Indices = ⊤
+
+-- the indices of the rectangle that is asked for are listed once each
+abbrev pub IsAskedOnce : AskedRectangle → Type 0
+IsAskedOnce (Ranges rs) = IsListedOnce (indices rs)
+IsAskedOnce Indices = ⊤
 
 -- what a command has to be so that it keeps a workbook well formed; every value of the type `Edit` is
 abbrev pub IsValid : Command → Type 0
 -- the new name is a name, the ranges are those of a rectangular domain, and the mapping is one for some rank
-IsValid (Domain d rs m) = (is_name d ≡ true) × IsRectangle (length rs) rs × IsLayout m
+IsValid (Domain d asked m) = (is_name d ≡ true) × IsAsked asked × IsLayout m
 -- the mapping is one for some rank
 IsValid (Remap d m) = IsLayout m
 -- the new name is a name
@@ -32,7 +44,7 @@ IsValid (Irv a v) = FitsSigned w64 v
 -- the number is one of 64 bits
 IsValid (Copy a i b j c) = FitsSigned w64 c
 -- the number is one of 64 bits
-IsValid (Fill a on v) = FitsSigned w64 v
+IsValid (Fill a asked v) = FitsSigned w64 v
 -- the number is one of 64 bits
 IsValid (FillAll a v) = FitsSigned w64 v
 -- nothing is asked
@@ -47,15 +59,11 @@ IsValid (Remove d i) = ⊤
 IsValid (DropDomain d) = ⊤
 -- what is given is as it has to be
 IsValid (Reshape d source) = AreNewIndices source
--- nothing is asked
-IsValid (DomainOfSet d) = ⊤
--- nothing is asked
-IsValid (FillOfSet a) = ⊤
 -- the text is a workbook's
 IsValid (Load text) = IsBookText text
 
 -- The indices that a command carries are listed once each; those of every value of the type `Edit` are.
 abbrev pub ListsOnce : Command → Type 0
-ListsOnce (Fill a on v) = IsListedOnce (indices on)
+ListsOnce (Fill a asked v) = IsAskedOnce asked
 ListsOnce (Reshape d source) = AreNewIndicesOnce source
 ListsOnce _ = ⊤

@@ -1,10 +1,11 @@
 ghost use Rattle.std.specs.Prelude.{◌≡◌, IfOk};
-ghost use Rattle.wb_edit.specs.Valid.{IsValid, ListsOnce};
+ghost use Rattle.wb_edit.specs.Valid.{IsAsked, IsAskedOnce, IsValid, ListsOnce};
 ghost use Rattle.wb_edit.specs.ValidSources.{IsOperand, IsOperandOnce, AreNewIndices, AreNewIndicesOnce};
 
+use crate::asked_rectangle::AskedRectangle;
 use crate::operation::Operation;
 use std::alloc::Global;
-use wb_book::{AnyIndex, AnyLayout, AnyRect, KeyType, Name, index_validity, indices_validity};
+use wb_book::{AnyIndex, AnyLayout, KeyType, Name, index_validity, indices_validity};
 use wb_range::{Domain, NoMemory};
 use wb_reading::BookText;
 use wb_resize::{NewIndices, Operand};
@@ -14,9 +15,9 @@ use wb_resize::{NewIndices, Operand};
 /// What it tests, reads and writes is its `meaning` in `specs/Commands.antt`.
 #[derive(Drop)]
 pub enum Edit {
-    /// A new rectangular domain of this name, with these ranges and this mapping
+    /// A new rectangular domain of this name, with the ranges that are asked for and this mapping
     /// (Chapel Language Specification, Domains and Domain Maps).
-    Domain(Name, AnyRect, AnyLayout),
+    Domain(Name, AskedRectangle, AnyLayout),
     /// A new mapping of the rectangular domain of this name.
     Remap(Name, AnyLayout),
     /// A new sparse domain of the first name, with no index yet, in the rectangular domain of the second one
@@ -34,7 +35,7 @@ pub enum Edit {
     /// An element, the first name and index, becomes another one, the second name and index, plus a number.
     Copy(Name, AnyIndex, Name, AnyIndex, i64),
     /// One number as the elements of an array at the indices of a rectangle.
-    Fill(Name, AnyRect, i64),
+    Fill(Name, AskedRectangle, i64),
     /// One number as every element of an array.
     FillAll(Name, i64),
     /// The end of an array: it, and its elements, are no more.
@@ -52,10 +53,6 @@ pub enum Edit {
     /// A new value of the domain of this name, from a source of its kind (Chapel Language Specification, Domains: assignment,
     /// slicing, translate, expand, and set operations on associative domains).
     Reshape(Name, NewIndices),
-    /// A new rectangular domain of this name that is asked for with a set: it is always refused.
-    DomainOfSet(Name),
-    /// One number as the elements of an array, asked for with a set in place of a rectangle: it is always refused.
-    FillOfSet(Name),
     /// The workbook of a text, where there is no object yet.
     Load(BookText),
 }
@@ -66,9 +63,7 @@ impl Edit {
         ensures { IfOk result (λ e. e ≡ self.now) }
     {
         match self {
-            Edit::Domain(domain, ranges, mapping) => {
-                Ok(Edit::Domain(*domain, *ranges, *mapping))
-            }
+            Edit::Domain(domain, asked, mapping) => Ok(Edit::Domain(*domain, *asked, *mapping)),
             Edit::Remap(domain, mapping) => Ok(Edit::Remap(*domain, *mapping)),
             Edit::Sparse(domain, parent) => Ok(Edit::Sparse(*domain, *parent)),
             Edit::Assoc(domain, key) => Ok(Edit::Assoc(*domain, *key)),
@@ -86,8 +81,6 @@ impl Edit {
             Edit::Remove(domain, index) => Ok(Edit::Remove(*domain, *index)),
             Edit::DropDomain(domain) => Ok(Edit::DropDomain(*domain)),
             Edit::Reshape(domain, source) => Ok(Edit::Reshape(*domain, source.copy(alloc)?)),
-            Edit::DomainOfSet(domain) => Ok(Edit::DomainOfSet(*domain)),
-            Edit::FillOfSet(array) => Ok(Edit::FillOfSet(*array)),
             Edit::Load(text) => Ok(Edit::Load(text.copy(alloc)?)),
         }
     }
@@ -98,10 +91,10 @@ impl Edit {
         ensures { IsValid self.now }
     {
         match self {
-            Edit::Domain(domain, ranges, mapping) => {
+            Edit::Domain(domain, asked, mapping) => {
                 let _name = domain.as_bytes();
-                let rank = ranges.rank();
-                let _fits = mapping.is_of_rank(rank);
+                asked_validity(asked);
+                let _fits = mapping.is_of_rank(1);
             }
             Edit::Remap(_, mapping) => {
                 let _fits = mapping.is_of_rank(1);
@@ -135,8 +128,6 @@ impl Edit {
             Edit::Add(_, index) => index_validity(index),
             Edit::Remove(_, _) => {}
             Edit::DropDomain(_) => {}
-            Edit::DomainOfSet(_) => {}
-            Edit::FillOfSet(_) => {}
             Edit::Reshape(_, source) => source_validity(source),
             Edit::Load(text) => {
                 let _text = text.as_str();
@@ -149,9 +140,7 @@ impl Edit {
         ensures { ListsOnce self.now }
     {
         match self {
-            Edit::Fill(_, on, _) => {
-                let _once = on.size();
-            }
+            Edit::Fill(_, on, _) => asked_listing(on),
             Edit::Reshape(_, source) => source_listing(source),
             Edit::Domain(_, _, _) => {}
             Edit::Remap(_, _) => {}
@@ -167,10 +156,20 @@ impl Edit {
             Edit::Add(_, _) => {}
             Edit::Remove(_, _) => {}
             Edit::DropDomain(_) => {}
-            Edit::DomainOfSet(_) => {}
-            Edit::FillOfSet(_) => {}
             Edit::Load(_) => {}
         }
+    }
+}
+
+// Computes nothing. Callers learn that the rectangle that is asked for has each index once.
+fn asked_listing(asked: &AskedRectangle)
+    ensures { IsAskedOnce asked.now }
+{
+    match asked {
+        AskedRectangle::Ranges(ranges) => {
+            let _once = ranges.size();
+        }
+        AskedRectangle::Indices => {}
     }
 }
 
@@ -196,6 +195,18 @@ fn given_listing(given: &Operand)
             let _once = items.size();
         }
         Operand::Named(_) => {}
+    }
+}
+
+// Computes nothing. Callers learn what the ranges of the rectangle are that is asked for.
+fn asked_validity(asked: &AskedRectangle)
+    ensures { IsAsked asked.now }
+{
+    match asked {
+        AskedRectangle::Ranges(ranges) => {
+            let _rank = ranges.rank();
+        }
+        AskedRectangle::Indices => {}
     }
 }
 

@@ -4,6 +4,7 @@
 //! proved to do what the tree says, and [`laws`] what holds of every command.
 #![tactic(auto)]
 
+mod asked_rectangle;
 mod attempt_err;
 mod commands;
 mod edit;
@@ -16,6 +17,7 @@ mod planning;
 mod refusal;
 mod same;
 
+pub use crate::asked_rectangle::AskedRectangle;
 pub use crate::edit::Edit;
 pub use crate::footprint::Footprint;
 pub use crate::looks::implicit::{has_implicit, parent_in};

@@ -5,7 +5,7 @@ ghost use Rattle.wb_edit.specs.Plans.{Attempts, IsPlan};
 use crate::attempt_err::AttemptErr;
 use crate::commands::{
     add, all, array, assoc, copy, domain, drop_array, drop_domain, fill, fill_all, irv, load,
-    of_sets, remap, remove, reshape, set, sparse,
+    remap, remove, reshape, set, sparse,
 };
 use crate::edit::Edit;
 use crate::footprint::Footprint;
@@ -52,8 +52,8 @@ fn attempt(
     ensures { Attempts (meaning edit.now) book.now.cells footprint.old result footprint.new }
 {
     match edit {
-        Edit::Domain(name, ranges, mapping) => {
-            domain::plan_domain(alloc, book, footprint, *name, ranges, mapping)
+        Edit::Domain(name, asked, mapping) => {
+            domain::plan_domain(alloc, book, footprint, *name, asked, mapping)
         }
         Edit::Remap(domain, mapping) => remap::plan_remap(alloc, book, footprint, *domain, mapping),
         Edit::Sparse(name, parent) => sparse::plan_sparse(alloc, book, footprint, *name, *parent),
@@ -82,8 +82,6 @@ fn attempt(
         Edit::Add(domain, index) => add::plan_add(alloc, book, footprint, *domain, *index),
         Edit::Remove(domain, index) => remove::plan_remove(alloc, book, footprint, *domain, *index),
         Edit::DropDomain(domain) => drop_domain::plan_drop_domain(alloc, book, footprint, *domain),
-        Edit::DomainOfSet(domain) => of_sets::plan_domain_of_set(book, footprint, *domain),
-        Edit::FillOfSet(array) => of_sets::plan_fill_of_set(book, footprint, *array),
         Edit::Load(text) => load::plan_load(alloc, book, footprint, text),
         Edit::Reshape(domain, source) => {
             reshape::any::plan_reshape(alloc, book, footprint, *domain, source)

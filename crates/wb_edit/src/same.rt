@@ -2,8 +2,9 @@
 ghost use Rattle.std.specs.Prelude.{◌≡◌};
 ghost use Rattle.std.specs.Bool.{Decides};
 
+use crate::asked_rectangle::AskedRectangle;
 use crate::edit::Edit;
-use wb_book::{AnyIndex, AnyRect, Name};
+use wb_book::{AnyIndex, Name};
 
 fn are_same_names(one: &Name, other: &Name, two: &Name, another: &Name) -> bool
     ensures { Decides result ((one.now ≡ two.now) × (other.now ≡ another.now)) }
@@ -23,7 +24,7 @@ fn is_same_place(one: &Name, at: &AnyIndex, two: &Name, other: &AnyIndex) -> boo
     at.is_same(other)
 }
 
-fn is_same_part(one: &Name, on: &AnyRect, two: &Name, other: &AnyRect) -> bool
+fn is_same_part(one: &Name, on: &AskedRectangle, two: &Name, other: &AskedRectangle) -> bool
     ensures { Decides result ((one.now ≡ two.now) × (on.now ≡ other.now)) }
 {
     if !one.is_same(two) {
@@ -107,8 +108,6 @@ impl Edit {
                 }
                 b.is_same(y)
             }
-            (Edit::DomainOfSet(a), Edit::DomainOfSet(x)) => a.is_same(x),
-            (Edit::FillOfSet(a), Edit::FillOfSet(x)) => a.is_same(x),
             (Edit::Load(a), Edit::Load(x)) => a.is_same(x),
             _ => false,
         }

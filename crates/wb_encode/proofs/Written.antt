@@ -8,7 +8,7 @@ use Rattle.serde_json.specs.Written.{compact_text, has_float, items_have_float, 
 use Rattle.serde_json.specs.declared.value.Value.{Value}
 use Rattle.wb_book.specs.declared.values.index.Index.TheVariants.{Point, Text}
 use Rattle.wb_encode.specs.Values.{integer_data, point_data}
-use Rattle.wb_encode.specs.Table.{Meaning, word, name, integer, number, index, given, mapping, optional_mapping, book, some_set, some_mapping, some_integer}
+use Rattle.wb_encode.specs.Table.{Meaning, word, name, integer, number, index, given, mapping, optional_mapping, book, some_set}
 use Rattle.wb_encode.specs.Table.{Fields}
 use Rattle.wb_encode.specs.Encoded.{data_of, members_of}
 
@@ -40,8 +40,6 @@ whole_data (mapping m) = refl
 whole_data (optional_mapping m) = refl
 whole_data (book text) = refl
 whole_data some_set = refl
-whole_data some_mapping = refl
-whole_data some_integer = refl
 
 whole_members : (fs : Fields) → members_have_float (members_of fs) ≡ false
 whole_members [] = refl
@@ -75,8 +73,6 @@ flat_data (mapping m) = omega arith
 flat_data (optional_mapping m) = omega arith
 flat_data (book text) = omega arith
 flat_data some_set = omega arith
-flat_data some_mapping = omega arith
-flat_data some_integer = omega arith
 
 flat_members : (fs : Fields) → members_depth (members_of fs) ≤ 1
 flat_members [] = omega arith

@@ -1,5 +1,5 @@
 -- The canonical line of an edit's request: every field is written, keys ascending, literals canonical.
-use Rattle.std.specs.Prelude.{ℕ, pos, List, [], ◌∷◌, codes}
+use Rattle.std.specs.Prelude.{ℕ, List, [], ◌∷◌, codes}
 use Rattle.serde_json.specs.Data.{Data, number as json_number, unsigned, string, object, Members, no_members, member}
 use Rattle.serde_json.specs.Written.{compact_text}
 use Rattle.wb_history.specs.wb_edit.specs.declared.edit.Edit.{Edit}
@@ -7,7 +7,7 @@ use Rattle.wb_resize.specs.declared.operand.Operand.{Operand}
 use Rattle.wb_resize.specs.declared.operand.Operand.TheVariants.{Rectangle, Items, Named}
 use Rattle.wb_text.specs.Literals.{rectangle_text, set_text, mapping_text}
 use Rattle.wb_encode.specs.Values.{integer_data, index_data}
-use Rattle.wb_encode.specs.Table.{Meaning, word, name, integer, number, index, given, mapping, optional_mapping, book, some_set, some_mapping, some_integer}
+use Rattle.wb_encode.specs.Table.{Meaning, word, name, integer, number, index, given, mapping, optional_mapping, book, some_set}
 use Rattle.wb_encode.specs.Table.{Fields, edit_table}
 
 -- the canonical literal, or the name
@@ -28,8 +28,6 @@ data_of (mapping m) = string (mapping_text m)
 data_of (optional_mapping m) = string (mapping_text m)
 data_of (book text) = string text
 data_of some_set = string (codes "{}")
-data_of some_mapping = string (codes "none")
-data_of some_integer = integer_data (pos 0)
 
 abbrev pub members_of : Fields → Members
 members_of [] = no_members

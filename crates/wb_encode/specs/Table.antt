@@ -12,12 +12,13 @@ use Rattle.wb_resize.specs.declared.operand.Operand.TheVariants.{Rectangle}
 use Rattle.wb_resize.specs.declared.new_indices.Displacement.TheVariants.{Translate, Expand}
 use Rattle.wb_resize.specs.declared.new_indices.SetOperation.TheVariants.{Union, Intersection, Difference, SymmetricDifference}
 use Rattle.wb_resize.specs.declared.new_indices.NewIndices.TheVariants.{To, Slice, Displace, Combine}
+use Rattle.wb_history.specs.wb_edit.specs.declared.asked_rectangle.AskedRectangle.TheVariants.{Ranges, Indices}
 use Rattle.wb_history.specs.wb_edit.specs.declared.operation.Operation.{Operation}
 use Rattle.wb_history.specs.wb_edit.specs.declared.operation.Operation.TheVariants as operations
 use Rattle.wb_history.specs.wb_edit.specs.declared.edit.Edit.{Edit}
-use Rattle.wb_history.specs.wb_edit.specs.declared.edit.Edit.TheVariants.{Domain, DomainOfSet, Remap, Reshape, Sparse, Assoc}
+use Rattle.wb_history.specs.wb_edit.specs.declared.edit.Edit.TheVariants.{Domain, Remap, Reshape, Sparse, Assoc}
 use Rattle.wb_history.specs.wb_edit.specs.declared.edit.Edit.TheVariants.{DropDomain, Add, Remove, Array, Set, Irv, Copy}
-use Rattle.wb_history.specs.wb_edit.specs.declared.edit.Edit.TheVariants.{Fill, FillOfSet, FillAll, DropArray, All, Load}
+use Rattle.wb_history.specs.wb_edit.specs.declared.edit.Edit.TheVariants.{Fill, FillAll, DropArray, All, Load}
 
 -- What a value spells.
 pub data Meaning : Type 0 where
@@ -35,10 +36,8 @@ pub data Meaning : Type 0 where
   optional_mapping : LayoutMap → Meaning
   -- the text of a workbook
   book : List ℕ → Meaning
-  -- whichever set, mapping (in a member that may be missing) or integer
+  -- whichever set of indices
   some_set : Meaning
-  some_mapping : Meaning
-  some_integer : Meaning
 
 -- members of an object, each a key and what its value spells
 abbrev pub Fields : Type 0
@@ -60,8 +59,9 @@ operation_word operations.Product = codes "*"
 
 -- the members of each edit's request
 abbrev pub edit_table : Edit → Fields
-edit_table (Domain d is map) = (codes "d", name d) ∷ (codes "is", given (Rectangle is)) ∷ (codes "map", optional_mapping map) ∷ op (codes "domain") ∷ []
-edit_table (DomainOfSet d) = (codes "d", name d) ∷ (codes "is", some_set) ∷ (codes "map", some_mapping) ∷ op (codes "domain") ∷ []
+edit_table (Domain d (Ranges is) map) = (codes "d", name d) ∷ (codes "is", given (Rectangle is)) ∷ (codes "map", optional_mapping map) ∷ op
+    (codes "domain") ∷ []
+edit_table (Domain d Indices map) = (codes "d", name d) ∷ (codes "is", some_set) ∷ (codes "map", optional_mapping map) ∷ op (codes "domain") ∷ []
 edit_table (Sparse d parent) = (codes "d", name d) ∷ (codes "of", name parent) ∷ op (codes "sparse") ∷ []
 edit_table (Assoc d type) = (codes "d", name d) ∷ (codes "of", word (type_word type)) ∷ op (codes "assoc") ∷ []
 edit_table (DropDomain d) = (codes "d", name d) ∷ op (codes "drop_domain") ∷ []
@@ -79,8 +79,8 @@ edit_table (Remap d map) = (codes "d", name d) ∷ (codes "map", mapping map) �
 edit_table (Array a d) = (codes "a", name a) ∷ (codes "d", name d) ∷ op (codes "array") ∷ []
 edit_table (DropArray a) = (codes "a", name a) ∷ op (codes "drop_array") ∷ []
 edit_table (Set a i v) = (codes "a", name a) ∷ (codes "i", index i) ∷ op (codes "set") ∷ (codes "v", integer v) ∷ []
-edit_table (Fill a on v) = (codes "a", name a) ∷ (codes "on", given (Rectangle on)) ∷ op (codes "fill") ∷ (codes "v", integer v) ∷ []
-edit_table (FillOfSet a) = (codes "a", name a) ∷ (codes "on", some_set) ∷ op (codes "fill") ∷ (codes "v", some_integer) ∷ []
+edit_table (Fill a (Ranges on) v) = (codes "a", name a) ∷ (codes "on", given (Rectangle on)) ∷ op (codes "fill") ∷ (codes "v", integer v) ∷ []
+edit_table (Fill a Indices v) = (codes "a", name a) ∷ (codes "on", some_set) ∷ op (codes "fill") ∷ (codes "v", integer v) ∷ []
 edit_table (FillAll a v) = (codes "a", name a) ∷ op (codes "fill_all") ∷ (codes "v", integer v) ∷ []
 edit_table (Irv a v) = (codes "a", name a) ∷ op (codes "irv") ∷ (codes "v", integer v) ∷ []
 edit_table (Copy a i b j c) = (codes "a", name a) ∷ (codes "b", name b) ∷ (codes "c", integer c) ∷ (codes "i", index i) ∷ (codes "j", index j) ∷ op

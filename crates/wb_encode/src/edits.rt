@@ -5,6 +5,7 @@ ghost use Rattle.serde_json.specs.Data.{depth};
 ghost use Rattle.serde_json.specs.Read.{read, max_depth};
 ghost use Rattle.serde_json.specs.View.{view};
 ghost use Rattle.serde_json.specs.Written.{compact_text, has_float};
+ghost use Rattle.wb_history.specs.wb_edit.specs.declared.asked_rectangle.AskedRectangle.TheVariants.{Ranges, Indices};
 ghost use Rattle.wb_history.specs.wb_edit.specs.declared.edit.Edit.TheVariants.{Domain as new_domain_edit, Remap, Fill};
 ghost use Rattle.wb_encode.specs.Encoded.{edit_data, edit_text};
 
@@ -17,15 +18,41 @@ use crate::sources::reshaped;
 use serde_json::Value;
 use std::alloc::{AllocError, Global};
 use wb_book::{AnyLayout, AnyRect, Name};
-use wb_history::wb_edit::Edit;
+use wb_history::wb_edit::{AskedRectangle, Edit};
 use wb_range::NoMemory;
 
-fn rectangular(alloc: Global, d: &Name, is: &AnyRect, map: &AnyLayout) -> Result<Value, AllocError>
-    ensures { IfOk result (λ v. view v ≡ edit_data (new_domain_edit d.now is.now map.now)) }
+fn rectangular_on(
+    alloc: Global,
+    d: &Name,
+    is: &AnyRect,
+    map: &AnyLayout,
+) -> Result<Value, AllocError>
+    ensures { IfOk result (λ v. view v ≡ edit_data (new_domain_edit d.now (Ranges is.now) map.now)) }
 {
     let is = rectangle_text(alloc, is)?;
     let map = mapping_text(alloc, map)?;
     new_domain(alloc, d, &is, &map)
+}
+
+fn rectangular_on_set(alloc: Global, d: &Name, map: &AnyLayout) -> Result<Value, AllocError>
+    ensures { IfOk result (λ v. view v ≡ edit_data (new_domain_edit d.now Indices map.now)) }
+{
+    let map = mapping_text(alloc, map)?;
+    new_domain(alloc, d, "{}", &map)
+}
+
+fn rectangular(
+    alloc: Global,
+    d: &Name,
+    is: &AskedRectangle,
+    map: &AnyLayout,
+) -> Result<Value, AllocError>
+    ensures { IfOk result (λ v. view v ≡ edit_data (new_domain_edit d.now is.now map.now)) }
+{
+    match is {
+        AskedRectangle::Ranges(ranges) => rectangular_on(alloc, d, ranges, map),
+        AskedRectangle::Indices => rectangular_on_set(alloc, d, map),
+    }
 }
 
 fn remap(alloc: Global, d: &Name, map: &AnyLayout) -> Result<Value, AllocError>
@@ -35,11 +62,20 @@ fn remap(alloc: Global, d: &Name, map: &AnyLayout) -> Result<Value, AllocError>
     remapped(alloc, d, &map)
 }
 
-fn fill(alloc: Global, a: &Name, on: &AnyRect, v: i64) -> Result<Value, AllocError>
-    ensures { IfOk result (λ x. view x ≡ edit_data (Fill a.now on.now v)) }
+fn fill_on(alloc: Global, a: &Name, on: &AnyRect, v: i64) -> Result<Value, AllocError>
+    ensures { IfOk result (λ x. view x ≡ edit_data (Fill a.now (Ranges on.now) v)) }
 {
     let on = rectangle_text(alloc, on)?;
     filled(alloc, a, &on, v)
+}
+
+fn fill(alloc: Global, a: &Name, on: &AskedRectangle, v: i64) -> Result<Value, AllocError>
+    ensures { IfOk result (λ x. view x ≡ edit_data (Fill a.now on.now v)) }
+{
+    match on {
+        AskedRectangle::Ranges(ranges) => fill_on(alloc, a, ranges, v),
+        AskedRectangle::Indices => filled(alloc, a, "{}", v),
+    }
 }
 
 /// The canonical object of an edit's request.
@@ -48,7 +84,6 @@ pub fn edit_value(alloc: Global, edit: &Edit) -> Result<Value, AllocError>
 {
     match edit {
         Edit::Domain(d, is, map) => rectangular(alloc, d, is, map),
-        Edit::DomainOfSet(d) => new_domain(alloc, d, "{}", "none"),
         Edit::Remap(d, map) => remap(alloc, d, map),
         Edit::Sparse(d, parent) => domain_of(alloc, "sparse", d, parent.as_str()),
         Edit::Assoc(d, key) => domain_of(alloc, "assoc", d, type_word(*key)),
@@ -60,7 +95,6 @@ pub fn edit_value(alloc: Global, edit: &Edit) -> Result<Value, AllocError>
         Edit::DropArray(a) => of_array(alloc, "drop_array", a),
         Edit::Set(a, i, v) => new_element(alloc, a, i, *v),
         Edit::Fill(a, on, v) => fill(alloc, a, on, *v),
-        Edit::FillOfSet(a) => filled(alloc, a, "{}", 0),
         Edit::FillAll(a, v) => array_with(alloc, "fill_all", a, *v),
         Edit::Irv(a, v) => array_with(alloc, "irv", a, *v),
         Edit::Copy(a, i, b, j, c) => copied(alloc, a, i, b, j, *c),

@@ -5,9 +5,10 @@ use Rattle.std.specs.Str.{is_utf8}
 use Rattle.serde_json.specs.Data.{Data}
 use Rattle.serde_json.specs.Read.{read}
 use Rattle.wb_book.specs.Cells.{Name}
-use Rattle.wb_encode.specs.wb_edit.specs.declared.edit.Edit.TheVariants.{Domain as NewDomain, DomainOfSet, Remap, Reshape, Sparse}
+use Rattle.wb_encode.specs.wb_edit.specs.declared.asked_rectangle.AskedRectangle.TheVariants.{Ranges, Indices}
+use Rattle.wb_encode.specs.wb_edit.specs.declared.edit.Edit.TheVariants.{Domain as NewDomain, Remap, Reshape, Sparse}
 use Rattle.wb_encode.specs.wb_edit.specs.declared.edit.Edit.TheVariants.{Assoc, DropDomain, Add, Remove, Array, Set}
-use Rattle.wb_encode.specs.wb_edit.specs.declared.edit.Edit.TheVariants.{Irv, Copy, Fill, FillOfSet, FillAll, DropArray, All, Load}
+use Rattle.wb_encode.specs.wb_edit.specs.declared.edit.Edit.TheVariants.{Irv, Copy, Fill, FillAll, DropArray, All, Load}
 use Rattle.wb_encode.specs.wb_history.specs.declared.query.Query.TheVariants.{Get, Size, Where, Piece, Reduce, State}
 use Rattle.wb_encode.specs.wb_log.specs.declared.refusal.Refusal.{Refusal}
 use Rattle.wb_encode.specs.wb_log.specs.declared.refusal.Refusal.TheVariants.{BadRequest}
@@ -25,10 +26,10 @@ abbrev pub domain_with : Name → Domain → MappingLiteral → Result Request R
 domain_with name (rectangle r) spelled = do
   ranges ← domain_within r
   mapping ← mapping_within spelled
-  Ok (Change (NewDomain name ranges mapping))
+  Ok (Change (NewDomain name (Ranges ranges) mapping))
 domain_with name (set items) spelled = do
   mapping ← mapping_within spelled
-  Ok (Change (DomainOfSet name))
+  Ok (Change (NewDomain name Indices mapping))
 
 -- a new domain by its literal and that of its mapping, where there is one
 abbrev pub domain_by : Name → List ℕ → Option (List ℕ) → Result Request Refusal
@@ -153,8 +154,8 @@ set_of d = do
 abbrev pub fill_over : Name → Domain → ℤ → Result Request Refusal
 fill_over name (rectangle r) value = do
   ranges ← domain_within r
-  Ok (Change (Fill name ranges value))
-fill_over name (set items) value = Ok (Change (FillOfSet name))
+  Ok (Change (Fill name (Ranges ranges) value))
+fill_over name (set items) value = Ok (Change (Fill name Indices value))
 
 -- {"op":"fill","a":NAME,"on":LITERAL,"v":INTEGER}
 abbrev pub fill_of : Data → Result Request Refusal

@@ -7,7 +7,7 @@ use wb_proto::{Request, read_request};
 use wb_wire::{edit_text, request_text};
 
 // Lines, each with the canonical line of its request.
-const LINES: [(&str, &str); 17] = [
+const LINES: [(&str, &str); 19] = [
     (
         "{\"op\":\"domain\",\"d\":\"D\",\"is\":\"{1..4}\"}",
         "{\"d\":\"D\",\"is\":\"{1..4}\",\"map\":\"none\",\"op\":\"domain\"}",
@@ -23,6 +23,14 @@ const LINES: [(&str, &str); 17] = [
     (
         "{\"op\":\"domain\",\"d\":\"E\",\"is\":\"{ 0 ..<2,05..#3 by -2 }\",\"map\":\"blockDist( {1..8,1..1} , [2,1] )\"}",
         "{\"d\":\"E\",\"is\":\"{0..1, 5..7 by -2}\",\"map\":\"blockDist({1..8, 1..1}, [2, 1])\",\"op\":\"domain\"}",
+    ),
+    (
+        "{\"op\":\"domain\",\"d\":\"E\",\"is\":\"{2,1}\",\"map\":\"cyclicDist( 1 , [2] )\"}",
+        "{\"d\":\"E\",\"is\":\"{}\",\"map\":\"cyclicDist(1, [2])\",\"op\":\"domain\"}",
+    ),
+    (
+        "{\"op\":\"fill\",\"a\":\"A\",\"on\":\"{2,1}\",\"v\":5}",
+        "{\"a\":\"A\",\"on\":\"{}\",\"op\":\"fill\",\"v\":5}",
     ),
     (
         "{\"op\":\"reshape\",\"d\":\"T\",\"or\":\"{\\\"b\\\",\\\"a\\\",\\\"b\\\"}\"}",

@@ -26,7 +26,7 @@ use Rattle.wb_proto.specs.wb_text.proofs.Parsed.Back.Ranges.{literal_of_all, rec
 use Rattle.wb_proto.specs.wb_text.proofs.Parsed.Back.Sets as sets
 use Rattle.wb_proto.specs.wb_encode.specs.Values.{integer_data, point_data, index_data}
 use Rattle.wb_proto.specs.declared.requests.request.Request.{Request}
-use Rattle.wb_wire.specs.Table.{Meaning, word, name, integer, number, index, given, mapping, optional_mapping, book, some_set, some_mapping, some_integer}
+use Rattle.wb_wire.specs.Table.{Meaning, word, name, integer, number, index, given, mapping, optional_mapping, book, some_set}
 use Rattle.wb_wire.specs.Table.{Fields, table}
 use Rattle.wb_wire.specs.Spelled.{IsInteger, IsIndex, IsOperand, IsMapping, Spells, Says, without, HasFields, IsRequest}
 use Rattle.wb_wire.specs.Encoded.{given_text, data_of, members_of, request_data}
@@ -111,8 +111,6 @@ spelled (mapping m) h = mapping_given m h
 spelled (optional_mapping m) h = mapping_given m h
 spelled (book text) h = (refl, h)
 spelled some_set h = (codes "{}", nothing, refl, ([], tt, refl))
-spelled some_mapping h = (whole, mapping_given whole tt)
-spelled some_integer h = (pos 0, integer_spelled (pos 0) (omega arith))
 
 has_members : (fs : Fields) → AreProper fs → HasFields (members_of fs) fs
 has_members [] h = refl

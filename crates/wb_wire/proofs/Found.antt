@@ -8,9 +8,10 @@ use Rattle.serde_json.specs.Data.{Data, null, boolean, number as json_number, st
 use Rattle.serde_json.specs.Find.{get_member}
 use Rattle.wb_book.specs.Cells.{Name}
 use Rattle.wb_book.specs.declared.values.index.Index.TheVariants.{Point}
-use Rattle.wb_proto.specs.wb_edit.specs.declared.edit.Edit.TheVariants.{Domain, DomainOfSet, Remap, Reshape, Sparse, Assoc}
+use Rattle.wb_proto.specs.wb_edit.specs.declared.asked_rectangle.AskedRectangle.TheVariants.{Ranges, Indices}
+use Rattle.wb_proto.specs.wb_edit.specs.declared.edit.Edit.TheVariants.{Domain, Remap, Reshape, Sparse, Assoc}
 use Rattle.wb_proto.specs.wb_edit.specs.declared.edit.Edit.TheVariants.{DropDomain, Add, Remove, Array, Set, Irv, Copy}
-use Rattle.wb_proto.specs.wb_edit.specs.declared.edit.Edit.TheVariants.{Fill, FillOfSet, FillAll, DropArray, All, Load}
+use Rattle.wb_proto.specs.wb_edit.specs.declared.edit.Edit.TheVariants.{Fill, FillAll, DropArray, All, Load}
 use Rattle.wb_proto.specs.wb_history.specs.declared.query.Query.TheVariants.{Get, Size, Where, Piece, Reduce, State}
 use Rattle.wb_proto.specs.wb_log.specs.declared.refusal.Refusal.{Refusal}
 use Rattle.wb_proto.specs.wb_log.specs.declared.refusal.Refusal.TheVariants.{BadRequest}
@@ -35,13 +36,13 @@ use Rattle.wb_proto.specs.Requests.{assoc_of, add_of, remove_of, drop_domain_of,
 use Rattle.wb_proto.specs.Requests.{reduce_of, state_of}
 use Rattle.wb_proto.specs.declared.requests.request.Request.{Request}
 use Rattle.wb_proto.specs.declared.requests.request.Request.TheVariants.{Change, Undo, Redo, Cascade, Dependents, Ask, Print, History, Edits}
-use Rattle.wb_wire.specs.Table.{Meaning, word, name, integer, index, given, mapping, optional_mapping, book, some_set, some_mapping, Fields, op, table}
+use Rattle.wb_wire.specs.Table.{Meaning, word, name, integer, index, given, mapping, optional_mapping, book, some_set, Fields, op, table}
 use Rattle.wb_wire.specs.Spelled.{IsIndex, IsOperand, Says, HasFields, IsRequest}
 use Rattle.wb_wire.proofs.Members.{are_apart, is_needed, are_needed, AllSay, there, is_there, exactly, has_fields as has_fields_of}
 use Rattle.wb_wire.proofs.Values.{step, ok_same, no_ok, text_found, says_text, valued, word_found, name_found, index_found, integer_found, natural_found}
 use Rattle.wb_wire.proofs.Values.{type_found, operation_found, reduction_found}
 use Rattle.wb_wire.proofs.Spellings.{count_found, domain_found, rectangle_found, given_found, offsets_found, mapping_found, book_found, optional_found}
-use Rattle.wb_wire.proofs.Spellings.{optional_count, some_value, some_optional}
+use Rattle.wb_wire.proofs.Spellings.{optional_count}
 use Rattle.wb_wire.proofs.Steps.{one, two, two_of, three, five}
 
 -- what a reader reads of an object that names the op
@@ -221,18 +222,15 @@ fill_over_found : (ms : Members) (a : Name) (text : List ℕ) (v : ℤ) (l : lit
     → Says (get_member (codes "a") ms) (name a) → get_member (codes "on") ms ≡ Some (string text) → Says (get_member (codes "v") ms) (integer v) →
     grammar.IsDomain text l → fill_over a l v ≡ Ok r → HasFields ms (table r)
 fill_over_found ms a text v (literals.rectangle l) r s n named on value spelled e =
-    let x = step (domain_within l) (λ ranges. Ok (Change (Fill a ranges v))) r e in
-    as_table ms (Change (Fill a x.0 v)) r x.2 refl refl n (
+    let x = step (domain_within l) (λ ranges. Ok (Change (Fill a (Ranges ranges) v))) r e in
+    as_table ms (Change (Fill a (Ranges x.0) v)) r x.2 refl refl n (
       named,
       (says_text (get_member (codes "on") ms) (given (Rectangle x.0)) text on (text, l, refl, spelled, rectangle_found l x.0 x.1), (s, (value, tt))),
     )
 fill_over_found ms a text v (literals.set listed) r s n named on value spelled e =
-    as_table ms (Change (FillOfSet a)) r e refl refl n (
+    as_table ms (Change (Fill a Indices v)) r e refl refl n (
       named,
-      (
-        says_text (get_member (codes "on") ms) some_set text on (text, listed, refl, spelled),
-        (s, (some_value (get_member (codes "v") ms) v value, tt)),
-      ),
+      (says_text (get_member (codes "on") ms) some_set text on (text, listed, refl, spelled), (s, (value, tt))),
     )
 
 fill_found : IsFound (codes "fill") fill_of
@@ -272,16 +270,16 @@ domain_with_found : (ms : Members) (d : Name) (text : List ℕ) (t : Option (Lis
     grammar.IsDomain text l
     → text_if_there (get_member (codes "map") ms) ≡ Ok t → mapping_if_there t ≡ Ok m → domain_with d l m ≡ Ok r → HasFields ms (table r)
 domain_with_found ms d text t (literals.rectangle l) m r s n named is spelled there mapped e =
-    let x = step (domain_within l) (λ ranges. mapping_within m >>= (λ map. Ok (Change (Domain d ranges map)))) r e in
-    let y = step (mapping_within m) (λ map. Ok (Change (Domain d x.0 map))) r x.2 in
-    domain_fields ms (Change (Domain d x.0 y.0)) r d (given (Rectangle x.0)) (optional_mapping y.0) refl refl y.2 n named
+    let x = step (domain_within l) (λ ranges. mapping_within m >>= (λ map. Ok (Change (Domain d (Ranges ranges) map)))) r e in
+    let y = step (mapping_within m) (λ map. Ok (Change (Domain d (Ranges x.0) map))) r x.2 in
+    domain_fields ms (Change (Domain d (Ranges x.0) y.0)) r d (given (Rectangle x.0)) (optional_mapping y.0) refl refl y.2 n named
     (says_text (get_member (codes "is") ms) (given (Rectangle x.0)) text is (text, l, refl, spelled, rectangle_found l x.0 x.1))
     (optional_found (get_member (codes "map") ms) t m y.0 there mapped y.1) s
 domain_with_found ms d text t (literals.set listed) m r s n named is spelled there mapped e =
-    let y = step (mapping_within m) (λ map. Ok (Change (DomainOfSet d))) r e in
-    domain_fields ms (Change (DomainOfSet d)) r d some_set some_mapping refl refl y.2 n named
+    let y = step (mapping_within m) (λ map. Ok (Change (Domain d Indices map))) r e in
+    domain_fields ms (Change (Domain d Indices y.0)) r d some_set (optional_mapping y.0) refl refl y.2 n named
     (says_text (get_member (codes "is") ms) some_set text is (text, listed, refl, spelled))
-    (some_optional (get_member (codes "map") ms) y.0 (optional_found (get_member (codes "map") ms) t m y.0 there mapped y.1)) s
+    (optional_found (get_member (codes "map") ms) t m y.0 there mapped y.1) s
 
 domain_found_of : IsFound (codes "domain") domain_of
 domain_found_of ms r s e =

@@ -11,7 +11,7 @@ use Rattle.std.proofs.lemmas.Slice.Eq.{bytes_eq-Decides}
 use Rattle.serde_json.specs.Data.{Data, Members, no_members, member}
 use Rattle.serde_json.specs.Find.{get_member}
 use Rattle.wb_proto.specs.Fields.{member_count}
-use Rattle.wb_wire.specs.Table.{Meaning, word, name, integer, number, index, given, mapping, optional_mapping, book, some_set, some_mapping, some_integer}
+use Rattle.wb_wire.specs.Table.{Meaning, word, name, integer, number, index, given, mapping, optional_mapping, book, some_set}
 use Rattle.wb_wire.specs.Table.{Fields}
 use Rattle.wb_wire.specs.Spelled.{Says, without, HasFields}
 
@@ -157,7 +157,6 @@ no_other k (f ∷ fs) ms h a =
 
 abbrev pub is_needed : Meaning → Bool
 is_needed (optional_mapping m) = false
-is_needed some_mapping = false
 is_needed (word w) = true
 is_needed (name n) = true
 is_needed (integer z) = true
@@ -167,7 +166,6 @@ is_needed (given g) = true
 is_needed (mapping m) = true
 is_needed (book text) = true
 is_needed some_set = true
-is_needed some_integer = true
 
 abbrev pub are_needed : Fields → Bool
 are_needed [] = true
@@ -176,7 +174,6 @@ are_needed (f ∷ fs) = if is_needed f.1 then are_needed fs else false
 pub is_there : (o : Option Data) (x : Meaning) → is_needed x ≡ true → Says o x → there o ≡ 1
 is_there (Some d) x h s = refl
 is_there None (optional_mapping m) h s = true_false (sym h)
-is_there None some_mapping h s = true_false (sym h)
 is_there None (word w) h s = absurd s
 is_there None (name n) h s = absurd s
 is_there None (integer z) h s = absurd s
@@ -186,7 +183,6 @@ is_there None (given g) h s = absurd s
 is_there None (mapping m) h s = absurd s
 is_there None (book text) h s = absurd s
 is_there None some_set h s = absurd s
-is_there None some_integer h s = absurd s
 
 pub all_there : (fs : Fields) (ms : Members) → are_needed fs ≡ true → AllSay fs ms → count_there fs ms ≡ length fs
 all_there [] ms h a = refl

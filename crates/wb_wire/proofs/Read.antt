@@ -2,18 +2,19 @@
 use Rattle.std.proofs.Common.{◌≡◌, ◌+◌, ℕ, ℤ, true, List, [], ◌∷◌, codes, Option, Some, None, Result, Ok, refl, ap, ◌∙◌, arith}
 use Rattle.serde_json.specs.Data.{Data, string, object, Members}
 use Rattle.serde_json.specs.Find.{get_member}
-use Rattle.wb_dist.specs.Maps.{LayoutMap, whole}
+use Rattle.wb_dist.specs.Maps.{LayoutMap}
 use Rattle.wb_book.specs.Cells.{Name}
-use Rattle.wb_book.specs.Shapes.{Range}
 use Rattle.wb_book.specs.declared.values.index.Index.{Index}
 use Rattle.wb_book.specs.declared.values.index.Index.TheVariants.{Point}
 use Rattle.wb_book.specs.declared.cells.kind.KeyType.{KeyType}
 use Rattle.wb_proto.specs.wb_edit.specs.declared.operation.Operation.{Operation}
 use Rattle.wb_redist.specs.declared.reduction.Op.{Op}
+use Rattle.wb_proto.specs.wb_edit.specs.declared.asked_rectangle.AskedRectangle.{AskedRectangle}
+use Rattle.wb_proto.specs.wb_edit.specs.declared.asked_rectangle.AskedRectangle.TheVariants.{Ranges, Indices}
 use Rattle.wb_proto.specs.wb_edit.specs.declared.edit.Edit.{Edit}
-use Rattle.wb_proto.specs.wb_edit.specs.declared.edit.Edit.TheVariants.{Domain, DomainOfSet, Remap, Reshape, Sparse, Assoc}
+use Rattle.wb_proto.specs.wb_edit.specs.declared.edit.Edit.TheVariants.{Domain, Remap, Reshape, Sparse, Assoc}
 use Rattle.wb_proto.specs.wb_edit.specs.declared.edit.Edit.TheVariants.{DropDomain, Add, Remove, Array, Set, Irv, Copy}
-use Rattle.wb_proto.specs.wb_edit.specs.declared.edit.Edit.TheVariants.{Fill, FillOfSet, FillAll, DropArray, All, Load}
+use Rattle.wb_proto.specs.wb_edit.specs.declared.edit.Edit.TheVariants.{Fill, FillAll, DropArray, All, Load}
 use Rattle.wb_proto.specs.wb_history.specs.declared.query.Query.{Query}
 use Rattle.wb_proto.specs.wb_history.specs.declared.query.Query.TheVariants.{Get, Size, Where, Piece, Reduce, State}
 use Rattle.wb_proto.specs.wb_log.specs.declared.refusal.Refusal.{Refusal}
@@ -32,11 +33,11 @@ use Rattle.wb_proto.specs.Sources.{source_of}
 use Rattle.wb_proto.specs.Requests.{domain_with, domain_by, fill_over, by_op, request_of}
 use Rattle.wb_proto.specs.declared.requests.request.Request.{Request}
 use Rattle.wb_proto.specs.declared.requests.request.Request.TheVariants.{Change, Undo, Redo, Cascade, Dependents, Ask, Print, History, Edits}
-use Rattle.wb_wire.specs.Table.{Meaning, word, name, integer, index, given, mapping, optional_mapping, book, some_set, some_mapping, some_integer, Fields, op}
+use Rattle.wb_wire.specs.Table.{Meaning, word, name, integer, index, given, mapping, optional_mapping, book, some_set, Fields, op}
 use Rattle.wb_wire.specs.Table.{table}
 use Rattle.wb_wire.specs.Spelled.{Spells, Says, HasFields, IsRequest}
 use Rattle.wb_wire.proofs.Members.{is_free, is_needed, is_there, there, all_say, all_counted, counted, no_other}
-use Rattle.wb_wire.proofs.Values.{text_read, valued, word_read, name_read, index_read, integer_read, natural_read, type_read, operation_read, reduction_read}
+use Rattle.wb_wire.proofs.Values.{text_read, word_read, name_read, index_read, integer_read, natural_read, type_read, operation_read, reduction_read}
 use Rattle.wb_wire.proofs.Spellings.{count_read, domain_read, rectangle_read, given_read, offsets_read, literal_read, mapping_read, optional_read}
 use Rattle.wb_wire.proofs.Steps.{one_read, two_of, two_read, three_read, five_read}
 
@@ -240,21 +241,19 @@ fill_by ms a text v l r n s named on value spelled e =
     (text_read (get_member (codes "on") ms) text on)
     (integer_read (get_member (codes "v") ms) v value) (step_read (literal_domain text) (λ l. fill_over a l v) l (Ok r) (domain_read text l spelled) e))
 
-fill_read : (ms : Members) (a : Name) (on : List Range) (v : ℤ) → HasFields ms (table (Change (Fill a on v))) →
+fill_read : (ms : Members) (a : Name) (on : AskedRectangle) (v : ℤ) → HasFields ms (table (Change (Fill a on v))) →
     request_of (object ms) ≡ Ok (Change (Fill a on v))
-fill_read ms a on v h =
-    let s = all_say (table (Change (Fill a on v))) ms refl h in
+fill_read ms a (Ranges on) v h =
+    let r : Request = Change (Fill a (Ranges on) v) in
+    let s = all_say (table r) ms refl h in
     let x = said (get_member (codes "on") ms) (given (Rectangle on)) refl s.1.0 in
-    fill_by ms a x.2.0 v (literals.rectangle x.2.1) (Change (Fill a on v)) (counted (table (Change (Fill a on v))) ms refl refl h) s.1.1.0 s.0
-    (x.1 ∙ ap Some x.2.2) s.1.1.1.0 x.2.3 (rw (rectangle_read x.2.1 on x.2.4) refl)
-
-fill_of_set_read : (ms : Members) (a : Name) → HasFields ms (table (Change (FillOfSet a))) → request_of (object ms) ≡ Ok (Change (FillOfSet a))
-fill_of_set_read ms a h =
-    let s = all_say (table (Change (FillOfSet a))) ms refl h in
+    fill_by ms a x.2.0 v (literals.rectangle x.2.1) r (counted (table r) ms refl refl h) s.1.1.0 s.0 (x.1 ∙ ap Some x.2.2) s.1.1.1.0 x.2.3
+    (rw (rectangle_read x.2.1 on x.2.4) refl)
+fill_read ms a Indices v h =
+    let r : Request = Change (Fill a Indices v) in
+    let s = all_say (table r) ms refl h in
     let x = said (get_member (codes "on") ms) some_set refl s.1.0 in
-    let v = said (get_member (codes "v") ms) some_integer refl s.1.1.1.0 in
-    fill_by ms a x.2.0 v.2.0 (literals.set x.2.1) (Change (FillOfSet a)) (counted (table (Change (FillOfSet a))) ms refl refl h) s.1.1.0 s.0
-    (x.1 ∙ ap Some x.2.2) (valued (get_member (codes "v") ms) v.0 (integer v.2.0) v.1 v.2.1) x.2.3 refl
+    fill_by ms a x.2.0 v (literals.set x.2.1) r (counted (table r) ms refl refl h) s.1.1.0 s.0 (x.1 ∙ ap Some x.2.2) s.1.1.1.0 x.2.3 refl
 
 load_read : (ms : Members) (text : List ℕ) → HasFields ms (table (Change (Load text))) → request_of (object ms) ≡ Ok (Change (Load text))
 load_read ms text h =
@@ -296,27 +295,20 @@ domain_counted ms d is map needed h =
     let three = is_there (get_member (codes "op") ms) (word (codes "domain")) refl s.1.1.1.0 in
     omega (arith, n, one, two, three)
 
-new_domain_read : (ms : Members) (d : Name) (is : List Range) (m : LayoutMap) → HasFields ms (table (Change (Domain d is m))) →
+new_domain_read : (ms : Members) (d : Name) (is : AskedRectangle) (m : LayoutMap) → HasFields ms (table (Change (Domain d is m))) →
     request_of (object ms) ≡ Ok (Change (Domain d is m))
-new_domain_read ms d is m h =
-    let s = all_say (table (Change (Domain d is m))) ms refl h in
+new_domain_read ms d (Ranges is) m h =
+    let r : Request = Change (Domain d (Ranges is) m) in
+    let s = all_say (table r) ms refl h in
     let x = said (get_member (codes "is") ms) (given (Rectangle is)) refl s.1.0 in
-    domain_by_read ms d x.2.0 (literals.rectangle x.2.1) m (Change (Domain d is m)) (domain_counted ms d (given (Rectangle is)) (optional_mapping m) refl h)
-    s.1.1.1.0 s.0 (x.1 ∙ ap Some x.2.2) x.2.3 s.1.1.0
-    (λ l e. rw (rectangle_read x.2.1 is x.2.4, e) refl)
-
--- a mapping that is there, or none
-some_mapped : (o : Option Data) → Says o some_mapping → (m : LayoutMap) × Says o (optional_mapping m)
-some_mapped None s = (whole, refl)
-some_mapped (Some v) s = s
-
-domain_of_set_read : (ms : Members) (d : Name) → HasFields ms (table (Change (DomainOfSet d))) → request_of (object ms) ≡ Ok (Change (DomainOfSet d))
-domain_of_set_read ms d h =
-    let s = all_say (table (Change (DomainOfSet d))) ms refl h in
+    domain_by_read ms d x.2.0 (literals.rectangle x.2.1) m r (domain_counted ms d (given (Rectangle is)) (optional_mapping m) refl h) s.1.1.1.0 s.0
+    (x.1 ∙ ap Some x.2.2) x.2.3 s.1.1.0 (λ l e. rw (rectangle_read x.2.1 is x.2.4, e) refl)
+new_domain_read ms d Indices m h =
+    let r : Request = Change (Domain d Indices m) in
+    let s = all_say (table r) ms refl h in
     let x = said (get_member (codes "is") ms) some_set refl s.1.0 in
-    let m = some_mapped (get_member (codes "map") ms) s.1.1.0 in
-    domain_by_read ms d x.2.0 (literals.set x.2.1) m.0 (Change (DomainOfSet d)) (domain_counted ms d some_set some_mapping refl h) s.1.1.1.0 s.0
-    (x.1 ∙ ap Some x.2.2) x.2.3 m.1 (λ l e. rw e refl)
+    domain_by_read ms d x.2.0 (literals.set x.2.1) m r (domain_counted ms d some_set (optional_mapping m) refl h) s.1.1.1.0 s.0
+    (x.1 ∙ ap Some x.2.2) x.2.3 s.1.1.0 (λ l e. rw e refl)
 
 -- ---- reshape
 
@@ -444,7 +436,6 @@ undo_read ms (Some k) h =
 
 edit_read : (ms : Members) (e : Edit) → HasFields ms (table (Change e)) → request_of (object ms) ≡ Ok (Change e)
 edit_read ms (Domain d is m) h = new_domain_read ms d is m h
-edit_read ms (DomainOfSet d) h = domain_of_set_read ms d h
 edit_read ms (Remap d m) h = remap_read ms d m h
 edit_read ms (Sparse d parent) h = sparse_read ms d parent h
 edit_read ms (Assoc d type) h = assoc_read ms d type h
@@ -456,7 +447,6 @@ edit_read ms (Array a d) h = array_read ms a d h
 edit_read ms (DropArray a) h = drop_array_read ms a h
 edit_read ms (Set a i v) h = set_read ms a i v h
 edit_read ms (Fill a on v) h = fill_read ms a on v h
-edit_read ms (FillOfSet a) h = fill_of_set_read ms a h
 edit_read ms (FillAll a v) h = fill_all_read ms a v h
 edit_read ms (Irv a v) h = irv_read ms a v h
 edit_read ms (Copy a i b j c) h = copy_read ms a i b j c h

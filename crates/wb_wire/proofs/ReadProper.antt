@@ -11,7 +11,7 @@ use Rattle.wb_resize.specs.declared.operand.Operand.{Operand}
 use Rattle.wb_resize.specs.declared.operand.Operand.TheVariants.{Rectangle, Items as Listed, Named}
 use Rattle.wb_proto.specs.Requests.{request}
 use Rattle.wb_proto.specs.declared.requests.request.Request.{Request}
-use Rattle.wb_wire.specs.Table.{Meaning, word, name, integer, number, index, given, mapping, optional_mapping, book, some_set, some_mapping, some_integer}
+use Rattle.wb_wire.specs.Table.{Meaning, word, name, integer, number, index, given, mapping, optional_mapping, book, some_set}
 use Rattle.wb_wire.specs.Table.{Fields, table}
 use Rattle.wb_wire.specs.Spelled.{IsIndex, IsOperand, Spells, Says, without, HasFields}
 use Rattle.wb_wire.specs.Proper.{IsProperIndex, IsProperOperand, IsProper, AreProper, IsProperRequest}
@@ -57,13 +57,10 @@ spelled_is d (mapping m) f h = mapping_is h.0 h.1 m h.3 h.4
 spelled_is d (optional_mapping m) f h = mapping_is h.0 h.1 m h.3 h.4
 spelled_is d (book text) f h = h.1
 spelled_is d some_set f h = tt
-spelled_is d some_mapping f h = tt
-spelled_is d some_integer f h = tt
 
 -- a member that is missing is a mapping, which is then the one of a single locale
 missing_is : (x : Meaning) → Says None x → IsProper x
 missing_is (optional_mapping m) h = subst IsLayout (sym h) tt
-missing_is some_mapping h = tt
 missing_is (word w) h = absurd h
 missing_is (name n) h = absurd h
 missing_is (integer z) h = absurd h
@@ -73,7 +70,6 @@ missing_is (given g) h = absurd h
 missing_is (mapping m) h = absurd h
 missing_is (book text) h = absurd h
 missing_is some_set h = absurd h
-missing_is some_integer h = absurd h
 
 said_is : (o : Option Data) (x : Meaning) → ((d : Data) → o ≡ Some d → IsFit d) → Says o x → IsProper x
 said_is None x f h = missing_is x h

@@ -10,7 +10,8 @@ use Rattle.serde_json.specs.Find.{get_member, as_str}
 use Rattle.wb_dist.specs.Maps.{LayoutMap, whole}
 use Rattle.wb_book.specs.Cells.{Name}
 use Rattle.wb_book.specs.Shapes.{Range}
-use Rattle.wb_proto.specs.wb_edit.specs.declared.edit.Edit.TheVariants.{Domain as NewDomain, DomainOfSet, Remap, Reshape, Fill, Load}
+use Rattle.wb_proto.specs.wb_edit.specs.declared.asked_rectangle.AskedRectangle.TheVariants.{Ranges, Indices}
+use Rattle.wb_proto.specs.wb_edit.specs.declared.edit.Edit.TheVariants.{Domain as NewDomain, Remap, Reshape, Fill, Load}
 use Rattle.wb_proto.specs.wb_log.specs.declared.refusal.Refusal.{Refusal}
 use Rattle.wb_proto.specs.wb_log.specs.declared.refusal.Refusal.TheVariants.{BadRequest, BadLiteral}
 use Rattle.wb_literal.specs.Domain.{Domain, rectangle, set, domain_of as domain_of_text}
@@ -160,7 +161,7 @@ fill_judged ms s =
         λ e. all_fine ms o ks s c refl (count_found ms 4 tt n) (named, (fine ms o (codes "on") domain_reader refl tt (ap domain_in at ∙ e), (value, tt))) in
         by_domain (Judged ms) (literal_domain text) (λ l. fill_over a l v)
         (λ why e. bad why (unspelled_err (literal_domain text) why e))
-        (λ r e. bind_judged (Judged ms) (domain_within r) (λ ranges. Ok (Change (Fill a ranges v)))
+        (λ r e. bind_judged (Judged ms) (domain_within r) (λ ranges. Ok (Change (Fill a (Ranges ranges) v)))
         (λ why f. bad why (judged_err (literal_domain text) r why e f)) (λ ranges f. good (judged_ok (literal_domain text) r ranges e f)))
         (λ listed e. good (set_ok (literal_domain text) listed e))
 
@@ -206,7 +207,7 @@ module _ (ms : Members) (s : NamesOp ms (codes "domain")) where
       λ e. all_fine ms o ks s c refl (count_found ms 3 tt n) (named, (fine ms o (codes "is") domain_reader refl tt (ap domain_in at ∙ e), tt)) in
       by_domain (Judged ms) (literal_domain text) (λ l. domain_with d l Whole)
       (λ why e. bad why (unspelled_err (literal_domain text) why e))
-      (λ r e. bind_judged (Judged ms) (domain_within r) (λ ranges. Ok (Change (NewDomain d ranges whole)))
+      (λ r e. bind_judged (Judged ms) (domain_within r) (λ ranges. Ok (Change (NewDomain d (Ranges ranges) whole)))
       (λ why f. bad why (judged_err (literal_domain text) r why e f)) (λ ranges f. good (judged_ok (literal_domain text) r ranges e f)))
       (λ listed e. good (set_ok (literal_domain text) listed e))
 
@@ -256,16 +257,17 @@ module _ (ms : Members) (s : NamesOp ms (codes "domain")) where
       by_domain (Judged ms) (literal_domain text) (λ l. literal_mapping map >>= (λ m. domain_with d l m))
       unspelled
       (λ r e. bind_judged (Judged ms) (literal_mapping map) (λ m. domain_with d (rectangle r) m) map_unspelled (λ m f.
-      bind_judged (Judged ms) (domain_within r) (λ ranges. mapping_within m >>= (λ layout. Ok (Change (NewDomain d ranges layout))))
+      bind_judged (Judged ms) (domain_within r) (λ ranges. mapping_within m >>= (λ layout. Ok (Change (NewDomain d (Ranges ranges) layout))))
       (λ why w. let x = rectangle_err r why w in
       refused (codes "is") kinds.domain (string text) refl at too_large why x.0 (text, r, refl, domain_found text (rectangle r) e, x.1)
       (λ g y. domain_spelled_from text (rectangle r) g e (is_fails g y)) (λ g y. mapping_spelled_from map m g f (map_fails g y)))
       (λ ranges w. let fits = judged_ok (literal_domain text) r ranges e w in
-      bind_judged (Judged ms) (mapping_within m) (λ layout. Ok (Change (NewDomain d ranges layout))) (λ why y. map_bad fits why (mapping_err map m why f y))
+      bind_judged (Judged ms) (mapping_within m) (λ layout. Ok (Change (NewDomain d (Ranges ranges) layout)))
+      (λ why y. map_bad fits why (mapping_err map m why f y))
       (λ layout y. good fits layout (mapping_ok map m layout f y)))))
       (λ listed e. let fits = set_ok (literal_domain text) listed e in
       bind_judged (Judged ms) (literal_mapping map) (λ m. domain_with d (set listed) m) map_unspelled (λ m f.
-      bind_judged (Judged ms) (mapping_within m) (λ layout. Ok (Change (DomainOfSet d))) (λ why y. map_bad fits why (mapping_err map m why f y))
+      bind_judged (Judged ms) (mapping_within m) (λ layout. Ok (Change (NewDomain d Indices layout))) (λ why y. map_bad fits why (mapping_err map m why f y))
       (λ layout y. good fits layout (mapping_ok map m layout f y))))
     where
       literal_refusal : (t : List ℕ) (why : Refusal) → literal_domain t ≡ Err why → why ≡ BadLiteral

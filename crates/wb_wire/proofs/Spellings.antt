@@ -30,7 +30,7 @@ use Rattle.wb_proto.specs.Fields.{member_count, has_fields, has_fields_and, text
 use Rattle.wb_proto.specs.Literals.{literal_domain, literal_mapping, optional_mapping as mapping_if_there, text_of_book, within, domain_within, mapping_within}
 use Rattle.wb_proto.specs.Sources.{is_braced, given_within, given_literal, given_name, given_text, given_by, point_in, offsets_by}
 use Rattle.wb_proto.specs.wb_reading.specs.Texts.Books.{is_book_text}
-use Rattle.wb_wire.specs.Table.{integer, optional_mapping, some_mapping, some_integer}
+use Rattle.wb_wire.specs.Table.{optional_mapping}
 use Rattle.wb_wire.specs.Spelled.{IsIndex, IsOperand, IsMapping, Says}
 use Rattle.wb_wire.proofs.Members.{there}
 use Rattle.wb_wire.proofs.Values.{step, ok_same, no_ok, some_same, no_some, some_of_ok, some_step, str_found, chosen, mapped, index_found_of, index_read_of}
@@ -186,16 +186,6 @@ optional_read (Some d) ms m s = record {
   spelled = literal_read s.0 s.1 s.3;
   within = mapping_read s.1 m s.4;
 }
-
--- ---- whichever integer or mapping
-
-pub some_value : (o : Option Data) (z : ℤ) → Says o (integer z) → Says o some_integer
-some_value None z s = absurd s
-some_value (Some d) z s = (z, s)
-
-pub some_optional : (o : Option Data) (m : LayoutMap) → Says o (optional_mapping m) → Says o some_mapping
-some_optional None m s = tt
-some_optional (Some d) m s = (m, s)
 
 -- ---- offsets
 

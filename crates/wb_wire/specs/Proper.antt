@@ -13,7 +13,7 @@ use Rattle.wb_resize.specs.declared.operand.Operand.{Operand}
 use Rattle.wb_resize.specs.declared.operand.Operand.TheVariants.{Rectangle, Items, Named}
 use Rattle.wb_proto.specs.wb_reading.specs.Texts.Books.{is_book_text}
 use Rattle.wb_proto.specs.declared.requests.request.Request.{Request}
-use Rattle.wb_wire.specs.Table.{Meaning, word, name, integer, number, index, given, mapping, optional_mapping, book, some_set, some_mapping, some_integer}
+use Rattle.wb_wire.specs.Table.{Meaning, word, name, integer, number, index, given, mapping, optional_mapping, book, some_set}
 use Rattle.wb_wire.specs.Table.{Fields, table}
 
 abbrev pub AllWithin : List ℤ → Type 0
@@ -62,8 +62,6 @@ IsProper (mapping m) = IsLayout m
 IsProper (optional_mapping m) = IsLayout m
 IsProper (book text) = is_book_text text ≡ true
 IsProper some_set = Unit {0}
-IsProper some_mapping = Unit {0}
-IsProper some_integer = Unit {0}
 
 abbrev pub AreProper : Fields → Type 0
 AreProper [] = Unit {0}

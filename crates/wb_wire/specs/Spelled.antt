@@ -19,7 +19,7 @@ use Rattle.wb_resize.specs.declared.operand.Operand.{Operand}
 use Rattle.wb_resize.specs.declared.operand.Operand.TheVariants.{Rectangle, Items, Named}
 use Rattle.wb_proto.specs.wb_reading.specs.Texts.Books.{is_book_text}
 use Rattle.wb_proto.specs.declared.requests.request.Request.{Request}
-use Rattle.wb_wire.specs.Table.{Meaning, word, name, integer, number, index, given, mapping, optional_mapping, book, some_set, some_mapping, some_integer}
+use Rattle.wb_wire.specs.Table.{Meaning, word, name, integer, number, index, given, mapping, optional_mapping, book, some_set}
 use Rattle.wb_wire.specs.Table.{Fields, table}
 
 -- ---- what one value spells
@@ -64,13 +64,10 @@ Spells d (mapping m) = IsMapping d m
 Spells d (optional_mapping m) = IsMapping d m
 Spells d (book text) = (d ≡ string text) × (is_book_text text ≡ true)
 Spells d some_set = (text : List ℕ) × (listed : Listed) × (d ≡ string text) × grammar.IsSet text listed
-Spells d some_mapping = (m : LayoutMap) × IsMapping d m
-Spells d some_integer = (z : ℤ) × IsInteger d z
 
 -- what a missing member spells
 abbrev pub MayLack : Meaning → Type 0
 MayLack (optional_mapping m) = m ≡ whole
-MayLack some_mapping = Unit {0}
 MayLack (word w) = ⊥
 MayLack (name n) = ⊥
 MayLack (integer z) = ⊥
@@ -80,7 +77,6 @@ MayLack (given g) = ⊥
 MayLack (mapping m) = ⊥
 MayLack (book text) = ⊥
 MayLack some_set = ⊥
-MayLack some_integer = ⊥
 
 -- what a member spells, if there is one
 abbrev pub Says : Option Data → Meaning → Type 0

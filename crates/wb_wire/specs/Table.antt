@@ -8,7 +8,7 @@ use Rattle.wb_redist.specs.declared.reduction.Op.TheVariants as reductions
 use Rattle.wb_proto.specs.declared.requests.request.Request.{Request}
 use Rattle.wb_proto.specs.declared.requests.request.Request.TheVariants.{Change, Undo, Redo, Cascade, Dependents, Ask, Print, History, Edits}
 pub use Rattle.wb_proto.specs.wb_encode.specs.Table.{Meaning, word, name, integer, number, index}
-pub use Rattle.wb_proto.specs.wb_encode.specs.Table.{given, mapping, optional_mapping, book, some_set, some_mapping, some_integer}
+pub use Rattle.wb_proto.specs.wb_encode.specs.Table.{given, mapping, optional_mapping, book, some_set}
 pub use Rattle.wb_proto.specs.wb_encode.specs.Table.{Fields, op, type_word, operation_word}
 
 abbrev pub reduction_word : Op → List ℕ

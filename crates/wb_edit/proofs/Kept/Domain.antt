@@ -2,7 +2,7 @@
 use Rattle.std.proofs.Common.{◌≡◌, Bool, true, false, cond, ◌&&◌, List, length, Option, Some, None, option_map, refl, sym, ap, ◌∙◌}
 use Rattle.std.specs.FinMap.{get}
 use Rattle.selective_undo.specs.Changes.{apply}
-use Rattle.selective_undo.specs.Edit.{write}
+use Rattle.selective_undo.specs.Edit.{refuse, write}
 use Rattle.wb_dist.specs.Maps.{LayoutMap}
 use Rattle.wb_book.specs.declared.cells.cell.Cell.{Cell}
 use Rattle.wb_book.specs.declared.cells.cell.Cell.TheVariants.{Object, Shape, In, Member, Mapping, Use, Implicit, Element}
@@ -18,10 +18,14 @@ use Rattle.wb_book.specs.Cells.{Name, Cells, cell_cmp, cell_order, is_same_name}
 use Rattle.wb_book.specs.WellFormed.{IsWellFormed, IsRectangle, IsShape, IsMember, HasMapping, has, present_if, domain_in, array_in, ranges_in, inside_of}
 use Rattle.wb_book.specs.WellFormed.{use_of, domain_at, array_at, index_cell}
 use Rattle.wb_book.specs.Kinds.{kind_of}
+use Rattle.wb_edit.specs.declared.asked_rectangle.AskedRectangle.{AskedRectangle}
+use Rattle.wb_edit.specs.declared.asked_rectangle.AskedRectangle.TheVariants.{Ranges as Asked, Indices}
+use Rattle.wb_edit.specs.declared.refusal.Refusal.TheVariants.{WrongKind}
 use Rattle.wb_edit.specs.Commands.{domain, new_domain_changes}
+use Rattle.wb_edit.specs.Valid.{IsAsked}
 use Rattle.wb_edit.specs.Looks.{is_free}
 use Rattle.wb_edit.specs.Layouts.{for_rank, mapped}
-use Rattle.wb_edit.specs.Trees.{judged}
+use Rattle.wb_edit.specs.Trees.{Tree, judged}
 use Rattle.wb_edit.proofs.Layouts.{mapping_for}
 use Rattle.wb_resize.proofs.Gets.{after, after-column, after-beside, get-apply}
 use Rattle.wb_resize.proofs.States.{in_column, domain_of_array, of_kind, no_inside, no_member, IsMember-same, index_cell_same, indices_same, was_free, apart}
@@ -111,9 +115,12 @@ domain_added s t d rs m named rectangle fits h free k =
       ) (h.elements a i);
     }
 
-pub domain_kept : (s : Cells) (d : Name) (rs : List Range) (m : LayoutMap) → (is_name d ≡ true) × IsRectangle (length rs) rs × IsLayout m → IsWellFormed s →
-    Keeps (domain d rs m) s
-domain_kept s d rs m valid h =
+pub domain_kept : (s : Cells) (d : Name) (asked : AskedRectangle) (m : LayoutMap) → (is_name d ≡ true) × IsAsked asked × IsLayout m → IsWellFormed s →
+    Keeps (domain d asked m) s
+domain_kept s d Indices m valid h =
+    let last : Unit {0} → Tree = λ unit. refuse WrongKind in
+    keeps_read s (Object d) (λ v. judged (is_free v) last) (λ v is. keeps_judged s (is_free v) last h (λ unit found. h))
+domain_kept s d (Asked rs) m valid h =
     keeps_read s (Object d) (λ v. judged (is_free v) (λ x. mapped (length rs) m (λ y. write (new_domain_changes d rs m)))) (λ v is.
     keeps_judged s (is_free v) (λ x. mapped (length rs) m (λ y. write (new_domain_changes d rs m))) h (λ x ok.
     keeps_judged s (for_rank (length rs) m) (λ y. write (new_domain_changes d rs m)) h (λ y matched.

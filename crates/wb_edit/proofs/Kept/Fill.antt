@@ -4,15 +4,19 @@ use Rattle.std.specs.Int.{w64}
 use Rattle.std.specs.FinMap.{get}
 use Rattle.std.specs.List.{list_all}
 use Rattle.selective_undo.specs.Changes.{apply}
-use Rattle.selective_undo.specs.Edit.{write, written}
+use Rattle.selective_undo.specs.Edit.{refuse, write, written}
 use Rattle.wb_book.specs.declared.cells.cell.Cell.{Cell}
 use Rattle.wb_book.specs.declared.cells.cell.Cell.TheVariants.{Object, Element}
+use Rattle.wb_book.specs.declared.cells.kind.Kind.{Kind}
 use Rattle.wb_book.specs.declared.cells.value.Value.{Value}
 use Rattle.wb_book.specs.declared.cells.value.Value.TheVariants.{Number}
 use Rattle.wb_book.specs.declared.values.index.Index.{Index}
 use Rattle.wb_book.specs.Cells.{Name, Cells}
-use Rattle.wb_book.specs.Shapes.{Range, indices}
+use Rattle.wb_book.specs.Shapes.{indices}
 use Rattle.wb_book.specs.WellFormed.{IsWellFormed}
+use Rattle.wb_edit.specs.declared.asked_rectangle.AskedRectangle.{AskedRectangle}
+use Rattle.wb_edit.specs.declared.asked_rectangle.AskedRectangle.TheVariants.{Ranges, Indices}
+use Rattle.wb_edit.specs.declared.refusal.Refusal.TheVariants.{WrongKind}
 use Rattle.wb_edit.specs.Commands.{fill}
 use Rattle.wb_edit.specs.Trees.{Tree, judged}
 use Rattle.wb_edit.specs.Rectangles.{of_rank, over_rectangle, there_if, all_there, all_elements, read_all}
@@ -41,8 +45,11 @@ at_all s a v (i ∷ is) within there =
     let both = first_and (is_some (get s (Element a i))) (list_all is_some (map (get s) (map (Element a) is))) there in
     (both.0, within, at_all s a v is within both.1)
 
-pub fill_kept : (s : Cells) (a : Name) (on : List Range) (v : ℤ) → FitsSigned w64 v → IsWellFormed s → Keeps (fill a on v) s
-fill_kept s a on v within h =
+pub fill_kept : (s : Cells) (a : Name) (asked : AskedRectangle) (v : ℤ) → FitsSigned w64 v → IsWellFormed s → Keeps (fill a asked v) s
+fill_kept s a Indices v within h =
+    let last : Name × Kind → Tree = λ over. refuse WrongKind in
+    keeps_read s (Object a) (λ o. judged (array_kind o) last) (λ o is. keeps_judged s (array_kind o) last h (λ over found. h))
+fill_kept s a (Ranges on) v within h =
     let is : List Index = indices on in
     let last : Tree = write (put_all (map (Element a) is) (Number v)) in
     keeps_read s (Object a) (λ o. judged (array_kind o) (λ array. over_rectangle (length on) array.1 (λ x. all_elements a is (λ y. last)))) (λ o _.

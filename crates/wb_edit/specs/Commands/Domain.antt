@@ -1,16 +1,17 @@
 -- A new rectangular domain (Chapel Language Specification, Domains and Domain Maps).
 use Rattle.std.specs.Prelude.{List, ◌∷◌, map, length}
-use Rattle.selective_undo.specs.Edit.{refuse, write}
+use Rattle.selective_undo.specs.Edit.{write}
 use Rattle.wb_dist.specs.Maps.{LayoutMap}
 use Rattle.wb_book.specs.declared.cells.cell.Cell.TheVariants.{Object, Shape, In, Mapping}
 use Rattle.wb_book.specs.declared.cells.kind.DomainKind.TheVariants.{Rectangular}
 use Rattle.wb_book.specs.declared.cells.value.Value.TheVariants.{Domain, Ranges, Mapping, Present}
 use Rattle.wb_book.specs.Cells.{Name, Changes}
 use Rattle.wb_book.specs.Shapes.{Range, indices}
-use Rattle.wb_edit.specs.declared.refusal.Refusal.TheVariants.{WrongKind}
+use Rattle.wb_edit.specs.declared.asked_rectangle.AskedRectangle.{AskedRectangle}
 use Rattle.wb_edit.specs.Trees.{Tree, ◌>>=◌}
 use Rattle.wb_edit.specs.Looks.{free_name}
 use Rattle.wb_edit.specs.Layouts.{mapped}
+use Rattle.wb_edit.specs.Rectangles.{asked_ranges}
 use Rattle.wb_edit.specs.Writes.{set_to, put_all}
 
 -- what a new rectangular domain writes: the domain with its rank, its ranges, its mapping, and that each of its indices
@@ -22,15 +23,10 @@ new_domain_changes d rs m =
     ∷ set_to (Mapping d) (Mapping m)
     ∷ put_all (map (In d) (indices rs)) Present
 
--- a new rectangular domain: its name is free, and the mapping is for its rank
-abbrev pub domain : Name → List Range → LayoutMap → Tree
-domain d rs m = do
+-- a new rectangular domain: its name is free, a rectangle is asked for, and the mapping is for its rank
+abbrev pub domain : Name → AskedRectangle → LayoutMap → Tree
+domain d asked m = do
   unit ← free_name d
+  rs ← asked_ranges asked
   unit ← mapped (length rs) m
   write (new_domain_changes d rs m)
-
--- a rectangle that is asked for with a set, which is none: the name is free, and then the command is refused
-abbrev pub domain_of_set : Name → Tree
-domain_of_set d = do
-  unit ← free_name d
-  refuse WrongKind

@@ -1,9 +1,9 @@
 -- What each command means.
 use Rattle.wb_edit.specs.declared.edit.Edit.{Edit as Command}
 use Rattle.wb_edit.specs.declared.edit.Edit.TheVariants.{Domain, Remap, Sparse, Assoc, Array, Set, Irv, Copy, Fill, FillAll, DropArray, All, Add, Remove}
-use Rattle.wb_edit.specs.declared.edit.Edit.TheVariants.{DropDomain, Reshape, DomainOfSet, FillOfSet, Load}
+use Rattle.wb_edit.specs.declared.edit.Edit.TheVariants.{DropDomain, Reshape, Load}
 use Rattle.wb_edit.specs.Trees.{Tree}
-use Rattle.wb_edit.specs.Commands.Domain.{domain, domain_of_set}
+use Rattle.wb_edit.specs.Commands.Domain.{domain}
 use Rattle.wb_edit.specs.Commands.Remap.{remap}
 use Rattle.wb_edit.specs.Commands.Sparse.{sparse}
 use Rattle.wb_edit.specs.Commands.Assoc.{assoc}
@@ -11,7 +11,7 @@ use Rattle.wb_edit.specs.Commands.Array.{array}
 use Rattle.wb_edit.specs.Commands.Set.{set}
 use Rattle.wb_edit.specs.Commands.Irv.{irv}
 use Rattle.wb_edit.specs.Commands.Copy.{copy}
-use Rattle.wb_edit.specs.Commands.Fill.{fill, fill_of_set}
+use Rattle.wb_edit.specs.Commands.Fill.{fill}
 use Rattle.wb_edit.specs.Commands.FillAll.{fill_all}
 use Rattle.wb_edit.specs.Commands.DropArray.{drop_array}
 use Rattle.wb_edit.specs.Commands.All.{all}
@@ -23,7 +23,7 @@ use Rattle.wb_edit.specs.Commands.Load.{load}
 
 -- the tree of a command
 abbrev pub meaning : Command → Tree
-meaning (Domain d rs m) = domain d rs m
+meaning (Domain d asked m) = domain d asked m
 meaning (Remap d m) = remap d m
 meaning (Sparse d parent) = sparse d parent
 meaning (Assoc d type) = assoc d type
@@ -31,7 +31,7 @@ meaning (Array a d) = array a d
 meaning (Set a i v) = set a i v
 meaning (Irv a v) = irv a v
 meaning (Copy a i b j c) = copy a i b j c
-meaning (Fill a on v) = fill a on v
+meaning (Fill a asked v) = fill a asked v
 meaning (FillAll a v) = fill_all a v
 meaning (DropArray a) = drop_array a
 meaning (All a how b) = all a how b
@@ -39,6 +39,4 @@ meaning (Add d i) = add d i
 meaning (Remove d i) = remove d i
 meaning (DropDomain d) = drop_domain d
 meaning (Reshape d source) = reshape d source
-meaning (DomainOfSet d) = domain_of_set d
-meaning (FillOfSet a) = fill_of_set a
 meaning (Load text) = load text

@@ -2,11 +2,12 @@ ghost use Rattle.std.specs.Prelude.{◌≡◌};
 ghost use Rattle.wb_edit.specs.Commands.{domain, new_domain_changes};
 ghost use Rattle.wb_edit.specs.Plans.{Attempts, Makes};
 
+use crate::asked_rectangle::AskedRectangle;
 use crate::attempt_err::AttemptErr;
 use crate::commands::writes::{put, put_all};
 use crate::footprint::Footprint;
 use crate::indexed_cells::IndexedCells;
-use crate::looks::{layouts, one_cell};
+use crate::looks::{layouts, one_cell, rectangles};
 use std::alloc::Global;
 use wb_book::{AnyDomain, AnyLayout, AnyRect, Cell, Delta, DomainKind, Name, Value};
 use wb_shelf::Book;
@@ -17,14 +18,15 @@ pub(crate) fn plan_domain(
     book: &Book,
     footprint: &mut Footprint,
     name: Name,
-    ranges: &AnyRect,
+    asked: &AskedRectangle,
     mapping: &AnyLayout,
 ) -> Result<Delta, AttemptErr>
-    ensures { Attempts (domain name ranges.now mapping.now) book.now.cells footprint.old result footprint.new }
+    ensures { Attempts (domain name asked.now mapping.now) book.now.cells footprint.old result footprint.new }
 {
     one_cell::free_name(book, footprint, name)?;
-    layouts::for_rectangle(ranges, mapping)?;
-    domain_changes(alloc, name, ranges, mapping)
+    let rectangle = rectangles::asked_ranges(asked)?;
+    layouts::for_rectangle(&rectangle, mapping)?;
+    domain_changes(alloc, name, &rectangle, mapping)
 }
 
 fn domain_changes(

@@ -6,6 +6,7 @@ ghost use Rattle.wb_edit.specs.Commands.{fill};
 ghost use Rattle.wb_edit.specs.Plans.{Attempts, Makes};
 ghost use Rattle.wb_edit.specs.Writes.{put_all};
 
+use crate::asked_rectangle::AskedRectangle;
 use crate::attempt_err::AttemptErr;
 use crate::commands::writes::put_all;
 use crate::footprint::Footprint;
@@ -21,15 +22,16 @@ pub(crate) fn plan_fill(
     book: &Book,
     footprint: &mut Footprint,
     array: Name,
-    on: &AnyRect,
+    asked: &AskedRectangle,
     value: i64,
 ) -> Result<Delta, AttemptErr>
-    ensures { Attempts (fill array on.now value) book.now.cells footprint.old result footprint.new }
+    ensures { Attempts (fill array asked.now value) book.now.cells footprint.old result footprint.new }
 {
     let (_domain, kind) = one_cell::array_named(book, footprint, array)?;
-    rectangles::over_rectangle(on, kind)?;
-    rectangles::all_elements(book, footprint, array, on)?;
-    fill_changes(alloc, array, on, value)
+    let on = rectangles::asked_ranges(asked)?;
+    rectangles::over_rectangle(&on, kind)?;
+    rectangles::all_elements(book, footprint, array, &on)?;
+    fill_changes(alloc, array, &on, value)
 }
 
 fn fill_changes(alloc: Global, array: Name, on: &AnyRect, value: i64) -> Result<Delta, AttemptErr>

@@ -1,6 +1,5 @@
 //! The commands, each in a file named by its op: its tests in their order, and then the changes that it makes.
-//! `of_sets` has the two ops that are asked for with a set in place of a rectangle; `resized`, `seen` and `writes` are what
-//! several commands write.
+//! `resized`, `seen` and `writes` are what several commands write.
 
 pub mod add;
 pub mod all;
@@ -14,7 +13,6 @@ pub mod fill;
 pub mod fill_all;
 pub mod irv;
 pub mod load;
-pub mod of_sets;
 pub mod remap;
 pub mod remove;
 pub mod reshape;

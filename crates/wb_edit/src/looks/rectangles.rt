@@ -1,4 +1,5 @@
-//! Looks at the indices of a rectangle: whether an array may have them, and whether its elements at all of them are there.
+//! Looks at the rectangle that a command is asked for, and at its indices: whether an array may have them, and whether its
+//! elements at all of them are there.
 
 ghost use Rattle.std.specs.Prelude.{◌≡◌, List, [], ◌∷◌, ◌++◌, map, ◌&&◌, is_some, length, OnOk, IfOk, IfErr};
 ghost use Rattle.std.specs.FinMap.{get};
@@ -6,14 +7,32 @@ ghost use Rattle.std.specs.List.{list_all};
 ghost use Rattle.wb_book.specs.Shapes.{indices};
 ghost use Rattle.wb_book.specs.declared.cells.cell.Cell.TheVariants.{Element};
 ghost use Rattle.wb_edit.specs.Plans.{Looks, one_of, stopped};
-ghost use Rattle.wb_edit.specs.Rectangles.{is_rectangular_of, of_rank, there_if, all_elements};
+ghost use Rattle.wb_edit.specs.Rectangles.{ranges_of, is_rectangular_of, of_rank, there_if, all_elements};
 ghost use Rattle.wb_edit.specs.declared.attempt_err.AttemptErr.TheVariants.{NoMemory};
 
+use crate::asked_rectangle::AskedRectangle;
 use crate::attempt_err::{AttemptErr, stopped};
 use crate::footprint::Footprint;
 use crate::refusal::Refusal;
 use wb_book::{AnyCell, AnyRect, Cell, Kind, Name, Pattern};
 use wb_shelf::Book;
+
+/// The ranges of the rectangle that is asked for; `WrongKind` where a set is in its place.
+pub fn ranges_of(asked: &AskedRectangle) -> Result<AnyRect, Refusal>
+    ensures { result ≡ ranges_of asked.now }
+{
+    match asked {
+        AskedRectangle::Ranges(ranges) => Ok(*ranges),
+        AskedRectangle::Indices => Err(Refusal::WrongKind),
+    }
+}
+
+/// A rectangle is asked for, and no set.
+pub(crate) fn asked_ranges(asked: &AskedRectangle) -> Result<AnyRect, AttemptErr>
+    ensures { result ≡ stopped (ranges_of asked.now) }
+{
+    stopped(ranges_of(asked))
+}
 
 fn is_rectangular_of(rank: u8, kind: Kind) -> bool
     ensures { result ≡ is_rectangular_of rank kind }

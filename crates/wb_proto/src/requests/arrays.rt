@@ -13,7 +13,7 @@ use crate::requests::request::Request;
 use serde_json::Value;
 use std::alloc::Global;
 use wb_book::Name;
-use wb_encode::wb_edit::Edit;
+use wb_encode::wb_edit::{AskedRectangle, Edit};
 use wb_encode::wb_history::Refusal;
 use wb_literal::DomainLiteral;
 
@@ -54,9 +54,12 @@ fn fill_over(name: Name, literal: &DomainLiteral, number: i64) -> Result<Request
     match literal {
         DomainLiteral::Rectangle(rectangle) => {
             let ranges = domain_within(rectangle)?;
-            Ok(Request::Change(Edit::Fill(name, ranges, number)))
+            let asked = AskedRectangle::Ranges(ranges);
+            Ok(Request::Change(Edit::Fill(name, asked, number)))
         }
-        DomainLiteral::Set(_) => Ok(Request::Change(Edit::FillOfSet(name))),
+        DomainLiteral::Set(_) => {
+            Ok(Request::Change(Edit::Fill(name, AskedRectangle::Indices, number)))
+        }
     }
 }
 

@@ -15,7 +15,7 @@ use crate::requests::sources::source_of;
 use serde_json::Value;
 use std::alloc::Global;
 use wb_book::Name;
-use wb_encode::wb_edit::Edit;
+use wb_encode::wb_edit::{AskedRectangle, Edit};
 use wb_encode::wb_history::Refusal;
 use wb_literal::{DomainLiteral, MappingLiteral, RectangleLiteral};
 
@@ -29,7 +29,8 @@ fn rectangular(
 {
     let ranges = domain_within(literal)?;
     let mapping = mapping_within(spelled)?;
-    Ok(Request::Change(Edit::Domain(name, ranges, mapping)))
+    let asked = AskedRectangle::Ranges(ranges);
+    Ok(Request::Change(Edit::Domain(name, asked, mapping)))
 }
 
 // A new domain of what a literal spells.
@@ -43,8 +44,8 @@ fn domain_with(
     match literal {
         DomainLiteral::Rectangle(literal) => rectangular(name, literal, spelled),
         DomainLiteral::Set(_) => {
-            mapping_within(spelled)?;
-            Ok(Request::Change(Edit::DomainOfSet(name)))
+            let mapping = mapping_within(spelled)?;
+            Ok(Request::Change(Edit::Domain(name, AskedRectangle::Indices, mapping)))
         }
     }
 }
