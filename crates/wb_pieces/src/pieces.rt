@@ -216,7 +216,7 @@ impl<D: Domain, M: Mapping<Index = D::Index>> Store for Pieces<D, M> {
     }
 
     fn get(&self, index: D::Index) -> Option<i64> {
-        value_in(self.list_of(self.mapping().locale_of(index)), index)
+        self.get_near(index, 0).0
     }
 
     fn set(&mut self, index: D::Index, value: i64) -> Result<i64, OutOfDomain> {
@@ -272,17 +272,6 @@ fn write_at<I: Copy>(pieces: &mut Vec<Vec<(I, i64)>>, locale: usize, place: usiz
         (slice_set (slice_index_or (lists_of pieces.old.items) locale []) place pair) }
 {
     pieces[locale][place] = pair;
-}
-
-// The element at `index` among ascending pairs.
-fn value_in<I: Key>(pairs: &[(I, i64)], index: I) -> Option<i64>
-    requires { IsStrictlySortedBy I.cmp (keys_of pairs.now) }
-    ensures { result ≡ value_at I.cmp pairs.now index }
-{
-    match place_in(pairs, index) {
-        Some(place) => Some(pairs[place].1),
-        None => None,
-    }
 }
 
 // The element at `index` among ascending pairs, and where it stands, or else `near`, where it is tried first.

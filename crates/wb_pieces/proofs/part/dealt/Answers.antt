@@ -1,6 +1,6 @@
-use Rattle.std.proofs.Common.{rules, ◌≡◌, ◌+◌, ◌<◌, ◌∷◌, ℤ, length, drop, to_z, of_z, w64, arith, subst}
+use Rattle.std.proofs.Common.{rules, ◌≡◌, ◌+◌, ◌<◌, ◌∷◌, ℤ, drop, to_z, of_z, w64, arith, subst}
 use Rattle.wb_pieces.specs.Pieces.{lists_of}
-use Rattle.wb_pieces.proofs.Parts.{IsUnderway, length-lists_of, start, put, done}
+use Rattle.wb_pieces.proofs.Parts.{IsUnderway, length-lists_of, put, done}
 use Rattle.wb_pieces.proofs.Splits.{drop_at, drop_past}
 use Rattle.wb_pieces.proofs.part.dealt.Goals as goal
 
