@@ -41,10 +41,7 @@ impl<D: Domain, M: Mapping<Index = D::Index>> Pieces<D, M> {
     pub fn split(alloc: Global, mapping: &M, whole: &Bound<D>) -> Result<Pieces<D, M>, NoMemory>
         ensures { IfOk result (λ p. p ≡ (whole.now, mapping.now)) }
     {
-        let pieces = match part_of(alloc, mapping, whole.as_map(), 0, mapping.locales()) {
-            Ok(pieces) => pieces,
-            Err(refusal) => return Err(refusal),
-        };
+        let pieces = part_of(alloc, mapping, whole.as_map(), 0, mapping.locales())?;
         Ok(Pieces::from_parts(alloc, mapping, whole, pieces))
     }
 
@@ -57,10 +54,8 @@ impl<D: Domain, M: Mapping<Index = D::Index>> Pieces<D, M> {
         requires { IsStrictlySortedBy D.Index.cmp (keys_of pairs.now) }
         ensures { IfOk result (λ p. p ≡ (pairs.now, mapping.now)) }
     {
-        match dealt(alloc, mapping, pairs) {
-            Ok(pieces) => Ok(Pieces::from_lists(alloc, mapping, pairs, pieces)),
-            Err(_) => Err(NoMemory),
-        }
+        let pieces = dealt(alloc, mapping, pairs)?;
+        Ok(Pieces::from_lists(alloc, mapping, pairs, pieces))
     }
 
     // The pieces of pairs, which ascend, from the vectors that `dealt` made of them.
@@ -108,10 +103,8 @@ impl<D: Domain, M: Mapping<Index = D::Index>> Pieces<D, M> {
     pub fn gather(&self) -> Result<Bound<D>, NoMemory>
         ensures { IfOk result (λ b. b ≡ self.now.0) }
     {
-        match gathered(self.alloc, self.pieces.as_slice()) {
-            Ok(map) => Ok(Bound::from_map(self.alloc, map)),
-            Err(_) => Err(NoMemory),
-        }
+        let map = gathered(self.alloc, self.pieces.as_slice())?;
+        Ok(Bound::from_map(self.alloc, map))
     }
 
     /// Lends the pairs of locale `locale`, ascending by index; `None` where the
