@@ -46,6 +46,11 @@ drop_past [] (suc k) l = refl
 drop_past (x ∷ xs) zero l = absurd (omega arith)
 drop_past (x ∷ xs) (suc k) l = drop_past xs k (omega arith)
 
+-- where all indices have the one locale, its piece is the array
+pub all_on_one : {I : Type 0} (locale : I → ℕ) (es : List (I × ℤ)) → LieBelow locale 1 es → piece_of locale es 0 ≡ es
+all_on_one locale [] low = refl
+all_on_one locale (e ∷ es) low = rw (eq-eqb (locale e.0) 0 (omega (arith, low.0))) (ap (λ xs. e ∷ xs) (all_on_one locale es low.1))
+
 module _ {I : Type 0} (cmp : I → I → Ordering) where
   find-is : (es : List (I × ℤ)) (q : I) → find cmp q es ≡ value_at cmp es q
   find-is [] q = refl

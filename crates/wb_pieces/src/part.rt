@@ -1,39 +1,38 @@
 ghost use Rattle.std.specs.Prelude.{◌≡◌, ◌<◌, [], ◌∷◌, ◌++◌, OnOk, IfOk, vec_len, slice_index_or, slice_set};
 ghost use Rattle.std.specs.Prelude.{replicate};
-ghost use Rattle.wb_pieces.specs.Pieces.{pieces_from, pieces_of, lists_of, LieBelow};
+ghost use Rattle.wb_pieces.specs.Pieces.{pieces_from, lists_of, LieBelow};
 
 use std::alloc::{AllocError, Global};
-use std::collections::BTreeMap;
 use wb_range::{Key, Mapping, NoMemory};
 
-/// The pieces of `count` locales from `first` on, in one pass over the array:
-/// piece l has the pairs whose index has locale l, ascending by index.
+/// The pieces of `count` locales from `first` on, in one pass over the pairs of an array: piece l has those whose index
+/// has locale l, in their order.
 pub fn part_of<I: Key, M: Mapping<Index = I>>(
     alloc: Global,
     mapping: &M,
-    whole: &BTreeMap<I, i64>,
+    pairs: &[(I, i64)],
     first: usize,
     count: usize,
 ) -> Result<Vec<Vec<(I, i64)>>, NoMemory>
-    ensures pieces { IfOk result (λ v. lists_of v.items ≡ pieces_from (M.locale mapping.now) whole.now.entries first count) }
-    ensures below { OnOk result (LieBelow (M.locale mapping.now) (M.locale_count mapping.now) whole.now.entries) }
+    ensures pieces { IfOk result (λ v. lists_of v.items ≡ pieces_from (M.locale mapping.now) pairs.now first count) }
+    ensures below { OnOk result (LieBelow (M.locale mapping.now) (M.locale_count mapping.now) pairs.now) }
 {
-    distributed(alloc, mapping, whole, first, count).map_err(|_| NoMemory)
+    distributed(alloc, mapping, pairs, first, count).map_err(|_| NoMemory)
 }
 
 // The pieces of `count` locales from `first` on.
 fn distributed<I: Key, M: Mapping<Index = I>>(
     alloc: Global,
     mapping: &M,
-    whole: &BTreeMap<I, i64>,
+    pairs: &[(I, i64)],
     first: usize,
     count: usize,
 ) -> Result<Vec<Vec<(I, i64)>>, AllocError>
-    ensures pieces { IfOk result (λ v. lists_of v.items ≡ pieces_from (M.locale mapping.now) whole.now.entries first count) }
-    ensures below { OnOk result (LieBelow (M.locale mapping.now) (M.locale_count mapping.now) whole.now.entries) }
+    ensures pieces { IfOk result (λ v. lists_of v.items ≡ pieces_from (M.locale mapping.now) pairs.now first count) }
+    ensures below { OnOk result (LieBelow (M.locale mapping.now) (M.locale_count mapping.now) pairs.now) }
 {
     let mut pieces = empty_pieces(alloc, count)?;
-    for (index, value) in whole {
+    for (index, value) in pairs {
         let locale = mapping.locale_of(*index);
         if first <= locale {
             let place = locale - first;
@@ -41,23 +40,6 @@ fn distributed<I: Key, M: Mapping<Index = I>>(
                 push_at(&mut pieces, place, (*index, *value))?;
             }
         }
-    }
-    Ok(pieces)
-}
-
-/// The pieces of all locales, in one pass over the pairs of an array: piece l has those whose index has locale l, in
-/// their order.
-pub(crate) fn dealt<I: Key, M: Mapping<Index = I>>(
-    alloc: Global,
-    mapping: &M,
-    pairs: &[(I, i64)],
-) -> Result<Vec<Vec<(I, i64)>>, AllocError>
-    ensures pieces { IfOk result (λ v. lists_of v.items ≡ pieces_of (M.locale mapping.now) (M.locale_count mapping.now) pairs.now) }
-    ensures below { OnOk result (LieBelow (M.locale mapping.now) (M.locale_count mapping.now) pairs.now) }
-{
-    let mut pieces = empty_pieces(alloc, mapping.locales())?;
-    for (index, value) in pairs {
-        push_at(&mut pieces, mapping.locale_of(*index), (*index, *value))?;
     }
     Ok(pieces)
 }

@@ -1,4 +1,4 @@
-ghost use Rattle.std.specs.Prelude.{◌≡◌, ℕ, ℤ, ◌<◌, ◌≤◌, ◌↔◌, List, length, IfOk, IfSome, MatchOption, MatchResult, OnOk, OnErr, IfNone, Err, Some, None, []};
+ghost use Rattle.std.specs.Prelude.{◌≡◌, ◌≢◌, ℕ, ℤ, ◌<◌, ◌≤◌, ◌↔◌, List, length, IfOk, IfSome, MatchOption, MatchResult, OnOk, OnErr, IfNone, Err, Some, None, []};
 ghost use Rattle.std.specs.Prelude.{true, slice_index_or, slice_set};
 ghost use Rattle.std.specs.List.Sorted.{IsStrictlySortedBy};
 ghost use Rattle.std.specs.Map.{keys_of, set_value};
@@ -6,7 +6,7 @@ ghost use Rattle.std.specs.BTreeMap.{is_at};
 ghost use Rattle.wb_array.specs.Elements.{value_at};
 ghost use Rattle.wb_pieces.specs.Pieces.{piece_of, pieces_of, lists_of, merged, LieBelow};
 
-use crate::part::{dealt, part_of};
+use crate::part::part_of;
 use std::alloc::{AllocError, Global};
 use std::collections::BTreeMap;
 use std::marker::{Model, PhantomData};
@@ -41,8 +41,8 @@ impl<D: Domain, M: Mapping<Index = D::Index>> Pieces<D, M> {
     pub fn split(alloc: Global, mapping: &M, whole: &Bound<D>) -> Result<Pieces<D, M>, NoMemory>
         ensures { IfOk result (λ p. p ≡ (whole.now, mapping.now)) }
     {
-        let pieces = part_of(alloc, mapping, whole.as_map(), 0, mapping.locales())?;
-        Ok(Pieces::from_parts(alloc, mapping, whole, pieces))
+        let pairs = pairs_in(alloc, whole.as_map())?;
+        Pieces::of_pairs(alloc, mapping, pairs.as_slice())
     }
 
     /// The array of these pairs, which ascend, split by the mapping in one pass over them.
@@ -54,12 +54,12 @@ impl<D: Domain, M: Mapping<Index = D::Index>> Pieces<D, M> {
         requires { IsStrictlySortedBy D.Index.cmp (keys_of pairs.now) }
         ensures { IfOk result (λ p. p ≡ (pairs.now, mapping.now)) }
     {
-        let pieces = dealt(alloc, mapping, pairs)?;
+        let pieces = part_of(alloc, mapping, pairs, 0, mapping.locales())?;
         Ok(Pieces::from_lists(alloc, mapping, pairs, pieces))
     }
 
-    // The pieces of pairs, which ascend, from the vectors that `dealt` made of them.
-    fn from_lists(
+    /// The array of these pairs, which ascend, from the vectors that `part_of` made of them.
+    pub fn from_lists(
         alloc: Global,
         mapping: &M,
         pairs: &[(D::Index, i64)],
@@ -79,32 +79,36 @@ impl<D: Domain, M: Mapping<Index = D::Index>> Pieces<D, M> {
         }
     }
 
-    /// The pieces of an array, from the vectors that `part_of` made of it.
-    pub fn from_parts(
-        alloc: Global,
-        mapping: &M,
-        whole: &Bound<D>,
-        pieces: Vec<Vec<(D::Index, i64)>>,
-    ) -> Pieces<D, M>
-        requires are_pieces { lists_of pieces.items ≡ pieces_of (M.locale mapping.now) (M.locale_count mapping.now) whole.now }
-        requires below { LieBelow (M.locale mapping.now) (M.locale_count mapping.now) whole.now }
-        ensures { result ≡ (whole.now, mapping.now) }
-    {
-        Pieces {
-            pieces,
-            size: whole.len(),
-            mapping: *mapping,
-            alloc,
-            of: PhantomData,
-        }
-    }
-
     /// The whole array.
     pub fn gather(&self) -> Result<Bound<D>, NoMemory>
         ensures { IfOk result (λ b. b ≡ self.now.0) }
     {
         let map = gathered(self.alloc, self.pieces.as_slice())?;
         Ok(Bound::from_map(self.alloc, map))
+    }
+
+    /// Lends all pairs, ascending by index, where the mapping has one locale alone; `None` where it has another number.
+    pub fn only_piece(&self) -> Option<&[(D::Index, i64)]>
+        ensures cases { MatchOption result (M.locale_count self.now.1 ≢ 1) (λ s. (M.locale_count self.now.1 ≡ 1) × (s.now ≡ self.now.0)) }
+        ensures ascending { IfSome result (λ s. IsStrictlySortedBy D.Index.cmp (keys_of s.now)) }
+    {
+        if self.mapping().locales() != 1 {
+            return None;
+        }
+        Some(self.list_of(0))
+    }
+
+    /// A copy of all pairs, ascending by index. `NoMemory` where there is none for it.
+    pub fn all_pairs(&self) -> Result<Vec<(D::Index, i64)>, NoMemory>
+        ensures pairs { IfOk result (λ v. v.items ≡ self.now.0) }
+        ensures ascending { IfOk result (λ v. IsStrictlySortedBy D.Index.cmp (keys_of v.items)) }
+    {
+        if let Some(pairs) = self.only_piece() {
+            let copy = Vec::from_slice(self.alloc, pairs)?;
+            return Ok(copy);
+        }
+        let whole = self.gather()?;
+        pairs_in(self.alloc, whole.as_map())
     }
 
     /// Lends the pairs of locale `locale`, ascending by index; `None` where the
@@ -247,6 +251,18 @@ fn gathered<I: Key>(alloc: Global, pieces: &[Vec<(I, i64)>]) -> Result<BTreeMap<
     }
     let _ = map.len();
     Ok(map)
+}
+
+// The pairs of a map.
+fn pairs_in<I: Key>(alloc: Global, map: &BTreeMap<I, i64>) -> Result<Vec<(I, i64)>, NoMemory>
+    ensures pairs { IfOk result (λ v. v.items ≡ map.now.entries) }
+    ensures ascending { IfOk result (λ v. IsStrictlySortedBy I.cmp (keys_of v.items)) }
+{
+    let mut pairs = Vec::with_capacity(alloc, map.len())?;
+    for (index, value) in map {
+        pairs.push((*index, *value))?;
+    }
+    Ok(pairs)
 }
 
 // The pairs of one of the pieces.

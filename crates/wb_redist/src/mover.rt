@@ -1,4 +1,6 @@
 ghost use Rattle.std.specs.Prelude.{◌≡◌, ◌≢◌, IfOk, Err};
+ghost use Rattle.std.specs.List.Sorted.{IsStrictlySortedBy};
+ghost use Rattle.std.specs.Map.{keys_of};
 ghost use Rattle.wb_redist.specs.Ways.{OnNoThread};
 
 use crate::share::pieces_by_team;
@@ -74,10 +76,26 @@ fn alone<D: Domain, M: Mapping<Index = D::Index>>(
     ensures pieces { IfOk result (λ p. p ≡ (from.now.0, to.now)) }
     ensures no_thread { result ≢ Err MoveErr.NoThread }
 {
-    let Ok(whole) = from.gather() else {
-        return Err(MoveErr::NoMemory);
-    };
-    match Pieces::split(alloc, to, &whole) {
+    if let Some(pairs) = from.only_piece() {
+        return dealt(alloc, pairs, to);
+    }
+    match from.all_pairs() {
+        Ok(pairs) => dealt(alloc, pairs.as_slice(), to),
+        Err(_) => Err(MoveErr::NoMemory),
+    }
+}
+
+// The array of these pairs, which ascend, by the caller's thread.
+fn dealt<D: Domain, M: Mapping<Index = D::Index>>(
+    alloc: Global,
+    pairs: &[(D::Index, i64)],
+    to: &M,
+) -> Result<Pieces<D, M>, MoveErr>
+    requires { IsStrictlySortedBy D.Index.cmp (keys_of pairs.now) }
+    ensures pieces { IfOk result (λ p. p ≡ (pairs.now, to.now)) }
+    ensures no_thread { result ≢ Err MoveErr.NoThread }
+{
+    match Pieces::of_pairs(alloc, to, pairs) {
         Ok(pieces) => Ok(pieces),
         Err(_) => Err(MoveErr::NoMemory),
     }
@@ -95,11 +113,30 @@ where
     ensures pieces { IfOk result (λ p. p ≡ (from.now.0, to.now)) }
     ensures no_thread { result ≢ Err MoveErr.NoThread }
 {
-    let Ok(whole) = from.gather() else {
-        return Err(MoveErr::NoMemory);
-    };
-    match pieces_by_team(team, alloc, whole.as_map(), to) {
-        Ok(pieces) => Ok(Pieces::from_parts(alloc, to, &whole, pieces)),
+    if let Some(pairs) = from.only_piece() {
+        return dealt_by_team(team, alloc, pairs, to);
+    }
+    match from.all_pairs() {
+        Ok(pairs) => dealt_by_team(team, alloc, pairs.as_slice(), to),
+        Err(_) => Err(MoveErr::NoMemory),
+    }
+}
+
+// The array of these pairs, which ascend, by a team of workers.
+fn dealt_by_team<R: Threads + Sync, G: Gate + Sync, D: Domain, M: Mapping<Index = D::Index> + Sync>(
+    team: &Team<'_, R, G>,
+    alloc: Global,
+    pairs: &[(D::Index, i64)],
+    to: &M,
+) -> Result<Pieces<D, M>, MoveErr>
+where
+    D::Index: Send + Sync,
+    requires { IsStrictlySortedBy D.Index.cmp (keys_of pairs.now) }
+    ensures pieces { IfOk result (λ p. p ≡ (pairs.now, to.now)) }
+    ensures no_thread { result ≢ Err MoveErr.NoThread }
+{
+    match pieces_by_team(team, alloc, pairs, to) {
+        Ok(pieces) => Ok(Pieces::from_lists(alloc, to, pairs, pieces)),
         Err(_) => Err(MoveErr::NoMemory),
     }
 }

@@ -5,7 +5,6 @@ ghost use Rattle.wb_redist.specs.Shares.{first_locale, share_of, lists_joined};
 use crate::team::Team;
 use crate::workers::Gate;
 use std::alloc::Global;
-use std::collections::BTreeMap;
 use std::thread;
 use std::thread::Threads;
 use wb_pieces::part_of;
@@ -21,11 +20,11 @@ pub fn pieces_by_team<
 >(
     team: &Team<'_, R, G>,
     alloc: Global,
-    whole: &BTreeMap<I, i64>,
+    pairs: &[(I, i64)],
     to: &M,
 ) -> Result<Vec<Vec<(I, i64)>>, NoMemory>
-    ensures pieces { IfOk result (λ v. lists_of v.items ≡ pieces_of (M.locale to.now) (M.locale_count to.now) whole.now.entries) }
-    ensures below { OnOk result (LieBelow (M.locale to.now) (M.locale_count to.now) whole.now.entries) }
+    ensures pieces { IfOk result (λ v. lists_of v.items ≡ pieces_of (M.locale to.now) (M.locale_count to.now) pairs.now) }
+    ensures below { OnOk result (LieBelow (M.locale to.now) (M.locale_count to.now) pairs.now) }
 {
     let gate = team.gate;
     let workers = team.count;
@@ -35,12 +34,12 @@ pub fn pieces_by_team<
         workers,
         &|worker: usize| -> Result<Vec<Vec<(I, i64)>>, NoMemory>
             requires { worker < workers }
-            ensures pieces { IfOk result (λ v. lists_of v.items ≡ share_of (M.locale to.entry.now) whole.entry.now.entries (M.locale_count to.entry.now)
+            ensures pieces { IfOk result (λ v. lists_of v.items ≡ share_of (M.locale to.entry.now) pairs.entry.now (M.locale_count to.entry.now)
                 workers worker) }
-            ensures below { OnOk result (LieBelow (M.locale to.entry.now) (M.locale_count to.entry.now) whole.entry.now.entries) }
+            ensures below { OnOk result (LieBelow (M.locale to.entry.now) (M.locale_count to.entry.now) pairs.entry.now) }
         {
             gate.arrive(worker);
-            share(alloc, to, whole, workers, worker)
+            share(alloc, to, pairs, workers, worker)
         },
     );
     match made {
@@ -53,18 +52,18 @@ pub fn pieces_by_team<
 fn share<I: Key, M: Mapping<Index = I>>(
     alloc: Global,
     to: &M,
-    whole: &BTreeMap<I, i64>,
+    pairs: &[(I, i64)],
     workers: usize,
     worker: usize,
 ) -> Result<Vec<Vec<(I, i64)>>, NoMemory>
     requires { worker < workers }
-    ensures pieces { IfOk result (λ v. lists_of v.items ≡ share_of (M.locale to.now) whole.now.entries (M.locale_count to.now) workers worker) }
-    ensures below { OnOk result (LieBelow (M.locale to.now) (M.locale_count to.now) whole.now.entries) }
+    ensures pieces { IfOk result (λ v. lists_of v.items ≡ share_of (M.locale to.now) pairs.now (M.locale_count to.now) workers worker) }
+    ensures below { OnOk result (LieBelow (M.locale to.now) (M.locale_count to.now) pairs.now) }
 {
     let locales = to.locales();
     let first = first_of(locales, workers, worker);
     let end = first_of(locales, workers, worker + 1);
-    part_of(alloc, to, whole, first, end - first)
+    part_of(alloc, to, pairs, first, end - first)
 }
 
 // The first locale of a worker's share; the number of workers stands for the
