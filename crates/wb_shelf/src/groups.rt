@@ -51,10 +51,7 @@ impl Group {
     fn add(&mut self, index: AnyIndex, number: Option<i64>) -> Result<(), NoMemory>
         ensures { OnOk result (self.new ≡ self.old ++ (index, number) ∷ []) }
     {
-        match self.changes.push((index, number)) {
-            Ok(()) => Ok(()),
-            Err(_) => Err(NoMemory),
-        }
+        Ok(self.changes.push((index, number))?)
     }
 
     pub(crate) fn changes(&self) -> &[(AnyIndex, Option<i64>)]
