@@ -1,8 +1,8 @@
 //! What is known of the arrays after changes, before these are made.
 
 ghost use Rattle.std.specs.Prelude.{◌≡◌, ℕ, filter, map, Some, option_map, IfOk, Err};
-ghost use Rattle.std.specs.Prelude.{length};
 ghost use Rattle.std.specs.Cow.{cow_slice_items};
+ghost use Rattle.std.specs.List.{count_by};
 ghost use Rattle.wb_book.specs.declared.cells.cell.Cell.TheVariants.{Mapping as mapping_cell};
 ghost use Rattle.wb_dist.specs.Maps.{LayoutMap};
 ghost use Rattle.wb_book.specs.Locales.{mapping_in};
@@ -80,7 +80,7 @@ fn is_of_stored(change: &CellChange) -> bool
 }
 
 fn stored_count(delta: &[CellChange]) -> usize
-    ensures { result ≡ length (filter (λ x. is_stored x.cell) delta.now) }
+    ensures { result ≡ count_by (λ x. is_stored x.cell) delta.now }
 {
     delta.iter().filter(|x| is_of_stored(x)).count()
 }
