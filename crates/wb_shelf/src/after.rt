@@ -76,7 +76,7 @@ pub(crate) fn lies(cells: &BTreeMap<Cell, Value>, array: &Name) -> Option<(AnyLa
 fn is_of_stored(change: &CellChange) -> bool
     ensures { result ≡ is_stored change.now.cell }
 {
-    is_stored(&change.cell())
+    is_stored(change.as_cell())
 }
 
 fn stored_count(delta: &[CellChange]) -> usize

@@ -77,8 +77,7 @@ fn put_new_one(
     ensures there { OnOk result ((b : List ℕ) → eq_by_cmp cell_cmp (Object b) change.now.cell ≡ true →
         is_array (stored_in cells.now.entries (Object b)) ≡ true → IsSome (array_in arrays.new.entries b)) }
 {
-    let cell = change.cell();
-    match &cell {
+    match change.as_cell() {
         Cell::Object(name) => {
             if is_array(cells, name) {
                 return put_empty(alloc, arrays, name);
@@ -122,8 +121,7 @@ fn drop_one(
     ensures { (b : List ℕ) → array_in arrays.new.entries b ≡ cond
         (eq_by_cmp cell_cmp (Object b) change.now.cell && not (is_array (stored_in cells.now.entries (Object b)))) None (array_in arrays.old.entries b) }
 {
-    let cell = change.cell();
-    match &cell {
+    match change.as_cell() {
         Cell::Object(name) => {
             if is_array(cells, name) {
                 return;
