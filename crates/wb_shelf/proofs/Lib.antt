@@ -14,6 +14,8 @@ pub mod Built
 pub mod Present
 pub mod Resting
 pub mod Grown
+pub mod Lent
+pub mod SetBack
 pub mod Whole
 pub mod Answered
 pub mod Joining

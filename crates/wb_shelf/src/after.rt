@@ -1,6 +1,8 @@
 //! What is known of the arrays after changes, before these are made.
 
 ghost use Rattle.std.specs.Prelude.{◌≡◌, ℕ, filter, map, Some, option_map, IfOk, Err};
+ghost use Rattle.std.specs.Cow.{cow_slice_items};
+ghost use Rattle.std.specs.List.{count_by};
 ghost use Rattle.wb_book.specs.declared.cells.cell.Cell.TheVariants.{Mapping as mapping_cell};
 ghost use Rattle.wb_dist.specs.Maps.{LayoutMap};
 ghost use Rattle.wb_book.specs.Locales.{mapping_in};
@@ -12,6 +14,7 @@ use crate::arrays::Elements;
 use crate::groups::Group;
 use crate::keep;
 use std::alloc::{AllocError, Global};
+use std::borrow::CowSlice;
 use std::collections::BTreeMap;
 use wb_book::{AnyIndex, AnyLayout, Cell, CellChange, DomainKind, KeyType, Name, Value};
 use wb_range::NoMemory;
@@ -70,20 +73,36 @@ pub(crate) fn lies(cells: &BTreeMap<Cell, Value>, array: &Name) -> Option<(AnyLa
     }
 }
 
-/// The changes of stored cells among these.
-pub(crate) fn stored_changes(
-    alloc: Global,
-    delta: &[CellChange],
-) -> Result<Vec<CellChange>, NoMemory>
-    ensures { IfOk result (λ v. v.items ≡ filter (λ x. is_stored x.cell) delta.now) }
+fn is_of_stored(change: &CellChange) -> bool
+    ensures { result ≡ is_stored change.now.cell }
 {
-    let mut stored = Vec::new(alloc);
+    is_stored(change.as_cell())
+}
+
+fn stored_count(delta: &[CellChange]) -> usize
+    ensures { result ≡ count_by (λ x. is_stored x.cell) delta.now }
+{
+    delta.iter().filter(|x| is_of_stored(x)).count()
+}
+
+/// The changes of stored cells among these: lent where all are, and else copied.
+pub(crate) fn stored_changes<'a>(
+    alloc: Global,
+    delta: &'a [CellChange],
+) -> Result<CowSlice<'a, CellChange>, NoMemory>
+    ensures { IfOk result (λ v. cow_slice_items v ≡ filter (λ x. is_stored x.cell) delta.now) }
+{
+    let count = stored_count(delta);
+    if count == delta.len() {
+        return Ok(CowSlice::Borrowed(delta));
+    }
+    let mut stored = Vec::with_capacity(alloc, count)?;
     for change in delta {
-        if is_stored(&change.cell()) && stored.push(*change).is_err() {
-            return Err(NoMemory);
+        if is_of_stored(change) {
+            stored.push(*change)?;
         }
     }
-    Ok(stored)
+    Ok(CowSlice::Owned(stored))
 }
 
 fn is_stored(cell: &Cell) -> bool

@@ -1,12 +1,13 @@
 //! Changes are made whole or not at all.
 
-ghost use Rattle.std.specs.Prelude.{◌≡◌, ℕ, ℤ, ◌&&◌, List, Option, Some, None, false, true, not, cond, is_some, IsSome, IfOk, OnOk, OnErr, Err};
+ghost use Rattle.std.specs.Prelude.{◌≡◌, ℕ, ℤ, ◌&&◌, List, [], ◌∷◌, ◌++◌, Option, Some, None, false, true, not, cond, is_some, IsSome, IfOk, OnOk, OnErr, Err};
+ghost use Rattle.std.specs.List.{count_by};
 ghost use Rattle.std.specs.FinMap as map;
 ghost use Rattle.std.specs.Map.{keys_of};
 ghost use Rattle.std.specs.List.Sorted.{IsStrictlySortedBy};
 ghost use Rattle.std.specs.Cmp.Lexicographic.{slice_cmp};
 ghost use Rattle.std.specs.Ordering.{nat_cmp, eq_by_cmp};
-ghost use Rattle.selective_undo.specs.Changes.{apply, sets, clears, changes, AllOnce, HasRoom};
+ghost use Rattle.selective_undo.specs.Changes.{apply, inverse, sets, clears, changes, AllOnce, HasRoom};
 ghost use Rattle.wb_book.specs.declared.cells.cell.Cell.{Cell as cell_type};
 ghost use Rattle.wb_book.specs.declared.cells.cell.Cell.TheVariants.{Object};
 ghost use Rattle.wb_book.specs.declared.values.index.Index.{Index};
@@ -23,6 +24,7 @@ use crate::groups::Group;
 use crate::{after, groups, keep, moving};
 use std::alloc::Global;
 use std::collections::BTreeMap;
+use std::slice;
 use wb_book::{AnyIndex, AnyLayout, Cell, CellChange, Name, Value, store};
 use wb_range::NoMemory;
 use wb_redist::{MoveErr, Mover};
@@ -75,8 +77,7 @@ fn put_new_one(
     ensures there { OnOk result ((b : List ℕ) → eq_by_cmp cell_cmp (Object b) change.now.cell ≡ true →
         is_array (stored_in cells.now.entries (Object b)) ≡ true → IsSome (array_in arrays.new.entries b)) }
 {
-    let cell = change.cell();
-    match &cell {
+    match change.as_cell() {
         Cell::Object(name) => {
             if is_array(cells, name) {
                 return put_empty(alloc, arrays, name);
@@ -120,8 +121,7 @@ fn drop_one(
     ensures { (b : List ℕ) → array_in arrays.new.entries b ≡ cond
         (eq_by_cmp cell_cmp (Object b) change.now.cell && not (is_array (stored_in cells.now.entries (Object b)))) None (array_in arrays.old.entries b) }
 {
-    let cell = change.cell();
-    match &cell {
+    match change.as_cell() {
         Cell::Object(name) => {
             if is_array(cells, name) {
                 return;
@@ -148,6 +148,30 @@ fn drop_gone(
     let _ = arrays.len();
 }
 
+// Sets the cell of a change that gives it a value.
+fn set_one(cells: &mut BTreeMap<Cell, Value>, change: &CellChange) -> Result<(), NoMemory>
+    ensures others { (c : cell_type) → changes cell_cmp (sets (change.now ∷ [])) c ≡ false → map.get (state_of cells.new) c ≡ map.get (state_of cells.old) c }
+    ensures stays { (c : cell_type) → IsSome (map.get (state_of cells.old) c) → IsSome (map.get (state_of cells.new) c) }
+    ensures set { OnOk result (state_of cells.new ≡ apply (sets (change.now ∷ [])) (state_of cells.old)) }
+{
+    match change.value() {
+        Some(_) => store::set_present(cells, slice::from_ref(change)),
+        None => Ok(()),
+    }
+}
+
+/// Sets the cells that the changes give a value, and touches no other. It may stop midway.
+fn set_given(cells: &mut BTreeMap<Cell, Value>, stored: &[CellChange]) -> Result<(), NoMemory>
+    ensures others { (c : cell_type) → changes cell_cmp (sets stored.now) c ≡ false → map.get (state_of cells.new) c ≡ map.get (state_of cells.old) c }
+    ensures stays { (c : cell_type) → IsSome (map.get (state_of cells.old) c) → IsSome (map.get (state_of cells.new) c) }
+    ensures set { OnOk result (state_of cells.new ≡ apply (sets stored.now) (state_of cells.old)) }
+{
+    for change in stored {
+        set_one(cells, change)?;
+    }
+    Ok(())
+}
+
 /// What can fail of changes: sets the stored cells that they give a value, puts an array of each new name, and makes the
 /// arrays that are others afterwards. It may stop midway.
 fn prepared<V: Mover>(
@@ -158,7 +182,7 @@ fn prepared<V: Mover>(
     stored: &[CellChange],
     mover: &V,
 ) -> Result<Vec<(Name, Elements)>, MoveErr>
-    ensures others_cells { (c : cell_type) → changes cell_cmp stored.now c ≡ false → map.get (state_of cells.new) c ≡ map.get (state_of cells.old) c }
+    ensures others_cells { (c : cell_type) → changes cell_cmp (sets stored.now) c ≡ false → map.get (state_of cells.new) c ≡ map.get (state_of cells.old) c }
     ensures stays_cells { (c : cell_type) → IsSome (map.get (state_of cells.old) c) → IsSome (map.get (state_of cells.new) c) }
     ensures others { (b : List ℕ) → changes cell_cmp stored.now (Object b) ≡ false → array_in arrays.new.entries b ≡ array_in arrays.old.entries b }
     ensures stays { (b : List ℕ) (p : Pieced) → array_in arrays.old.entries b ≡ Some p → array_in arrays.new.entries b ≡ Some p }
@@ -169,7 +193,7 @@ fn prepared<V: Mover>(
     ensures built { IfOk result (λ v. AreAfter (lies_at (stored_in cells.new.entries)) arrays.new.entries groups.now.entries v.items) }
     ensures no_thread { result ≡ Err MoveErr.NoThread → V.may_lack_threads mover.now }
 {
-    if store::set_present(cells, stored).is_err() {
+    if set_given(cells, stored).is_err() {
         return Err(MoveErr::NoMemory);
     }
     if put_new(alloc, cells, arrays, stored).is_err() {
@@ -198,6 +222,45 @@ fn finish(
     moving::put_in(arrays, built);
     drop_gone(cells, arrays, stored);
     let _ = cells.len();
+}
+
+fn given_count(stored: &[CellChange]) -> usize
+    ensures { result ≡ count_by (λ x. is_some x.value) stored.now }
+{
+    stored.iter().filter(|x| x.value().is_some()).count()
+}
+
+// Adds the change that sets a cell to what it is now, where a change gives it a value.
+fn add_before(
+    cells: &BTreeMap<Cell, Value>,
+    change: &CellChange,
+    before: &mut Vec<CellChange>,
+) -> Result<(), NoMemory>
+    ensures { OnOk result (before.new.items ≡ before.old.items ++ inverse (sets (change.now ∷ [])) (state_of cells.now)) }
+{
+    match change.value() {
+        Some(_) => {
+            let cell = change.cell();
+            let value = cells.get(&cell).copied();
+            Ok(before.push(CellChange::new(cell, value))?)
+        }
+        None => Ok(()),
+    }
+}
+
+/// The changes that set the cells that changes give a value to what they are now.
+fn given_before(
+    alloc: Global,
+    cells: &BTreeMap<Cell, Value>,
+    stored: &[CellChange],
+) -> Result<Vec<CellChange>, NoMemory>
+    ensures { IfOk result (λ v. v.items ≡ inverse (sets stored.now) (state_of cells.now)) }
+{
+    let mut before = Vec::with_capacity(alloc, given_count(stored))?;
+    for change in stored {
+        add_before(cells, change, &mut before)?;
+    }
+    Ok(before)
 }
 
 /// Sets the stored cells back, and drops the arrays that were put.
@@ -245,7 +308,7 @@ pub(crate) fn change_all<V: Mover>(
         return Err(MoveErr::NoMemory);
     };
     let changed = stored.as_slice();
-    let Ok(before) = store::values_before(alloc, cells, changed) else {
+    let Ok(before) = given_before(alloc, cells, changed) else {
         return Err(MoveErr::NoMemory);
     };
     let back = before.as_slice();

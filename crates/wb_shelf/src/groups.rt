@@ -51,10 +51,7 @@ impl Group {
     fn add(&mut self, index: AnyIndex, number: Option<i64>) -> Result<(), NoMemory>
         ensures { OnOk result (self.new ≡ self.old ++ (index, number) ∷ []) }
     {
-        match self.changes.push((index, number)) {
-            Ok(()) => Ok(()),
-            Err(_) => Err(NoMemory),
-        }
+        Ok(self.changes.push((index, number))?)
     }
 
     pub(crate) fn changes(&self) -> &[(AnyIndex, Option<i64>)]
@@ -118,8 +115,7 @@ fn add_change(
     ensures stays { (b : List ℕ) → IsSome (group_in groups.old.entries b) → IsSome (group_in groups.new.entries b) }
     ensures object { OnOk result ((b : List ℕ) → eq_by_cmp cell_cmp (Object b) change.now.cell ≡ true → IsSome (group_in groups.new.entries b)) }
 {
-    let cell = change.cell();
-    match &cell {
+    match change.as_cell() {
         Cell::Element(name, index) => {
             let Some(number) = number_of(change.value()) else {
                 return Err(NoMemory);
@@ -165,10 +161,10 @@ fn name_all(
 fn leaves(cells: &BTreeMap<Cell, Value>, change: &CellChange) -> bool
     ensures { result ≡ leaves (stored_in cells.now.entries) change.now }
 {
-    let cell = change.cell();
-    match &cell {
+    let cell = change.as_cell();
+    match cell {
         Cell::Object(_) | Cell::Mapping(_) => {
-            !(change.value().is_some() && cells.contains_key(&cell))
+            !(change.value().is_some() && cells.contains_key(cell))
         }
         Cell::Shape(_)
         | Cell::In(_, _)

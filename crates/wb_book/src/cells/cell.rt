@@ -55,4 +55,11 @@ impl AnyCell {
     {
         self.cell
     }
+
+    /// The cell, without a copy of it.
+    pub fn as_cell(&self) -> &Cell
+        ensures { result.now ≡ self.now }
+    {
+        &self.cell
+    }
 }

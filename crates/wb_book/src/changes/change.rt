@@ -46,6 +46,13 @@ impl CellChange {
         self.cell.cell()
     }
 
+    /// The cell that changes, without a copy of it.
+    pub fn as_cell(&self) -> &Cell
+        ensures { result.now ≡ self.now.cell }
+    {
+        self.cell.as_cell()
+    }
+
     /// What the cell is to hold, if it is to be present.
     pub fn value(&self) -> Option<Value>
         ensures { result ≡ self.now.value }

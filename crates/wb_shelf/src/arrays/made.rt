@@ -162,10 +162,7 @@ fn push_number<I: Key>(
     ensures { OnOk result (pairs.new.items ≡ pairs.old.items ++ numbers_of ((key, value.now) ∷ [])) }
 {
     match *value {
-        Some(number) => match pairs.push((key, number)) {
-            Ok(()) => Ok(()),
-            Err(_) => Err(NoMemory),
-        },
+        Some(number) => Ok(pairs.push((key, number))?),
         None => Ok(()),
     }
 }

@@ -1,11 +1,12 @@
 use Rattle.std.proofs.Common.{◌≡◌, refl, sym, ap, subst, ◌∙◌}
-use Rattle.selective_undo.specs.Changes.{apply, AllOnce}
+use Rattle.selective_undo.specs.Changes.{apply, AllOnce, sets}
 use Rattle.selective_undo.proofs.AllOrNothing.{once-inverse, room-inverse, off_cells}
 use Rattle.wb_book.specs.Cells.{Changes, cell_cmp, cell_order, state_of}
 use Rattle.wb_shelf.specs.Joined.{stored_in}
 use Rattle.wb_shelf.specs.After.{lies_at}
 use Rattle.wb_shelf.proofs.Built.{built_ascending}
 use Rattle.wb_shelf.proofs.ElementsSet.{set_whole}
+use Rattle.wb_shelf.proofs.SetBack.{once_set}
 use Rattle.wb_shelf.proofs.Whole.{once_stored, made_cells, made_shelf, taken_back}
 use Rattle.wb_shelf.proofs.change.change_all.Goals as goal
 
@@ -53,20 +54,20 @@ take_back-requires-clause-once g c =
     let xs : Changes = c.as_slice-changed.result.now in
     let once : AllOnce cell_cmp xs = subst (λ (ys : Changes). AllOnce cell_cmp ys) (sym (c.as_slice-changed.ensures.value ∙ c.in-Ok.ensures))
     (once_stored c.args.delta.now c.requires.once) in
-    subst (λ (ys : Changes). AllOnce cell_cmp ys) (sym (c.as_slice-back.ensures.value ∙ c.in-Ok-values_before.ensures))
-    (once-inverse xs (state_of c.args.cells.now) once)
+    subst (λ (ys : Changes). AllOnce cell_cmp ys) (sym (c.as_slice-back.ensures.value ∙ c.in-Ok-given_before.ensures))
+    (once-inverse (sets xs) (state_of c.args.cells.now) (once_set xs once))
 
 pub take_back-requires-clause-room : goal.take_back-requires-clause-room
 take_back-requires-clause-room g c =
-    rw (c.as_slice-back.ensures.value, c.in-Ok-values_before.ensures)
-    (room-inverse c.as_slice-changed.result.now (state_of c.args.cells.now) (state_of c.prepared.new.cells) c.prepared.ensures.stays_cells)
+    rw (c.as_slice-back.ensures.value, c.in-Ok-given_before.ensures)
+    (room-inverse (sets c.as_slice-changed.result.now) (state_of c.args.cells.now) (state_of c.prepared.new.cells) c.prepared.ensures.stays_cells)
 
 pub returns-clause-err : goal.returns-clause-err
 returns-clause-err g c =
     let xs : Changes = c.as_slice-changed.result.now in
     let back : state_of c.take_back.new.cells ≡ state_of c.args.cells.now =
-    c.take_back.ensures.cells ∙ ap (λ (ys : Changes). apply ys (state_of c.prepared.new.cells)) (c.as_slice-back.ensures.value ∙ c.in-Ok-values_before.ensures)
-    ∙ off_cells cell_order xs (state_of c.args.cells.now) (state_of c.prepared.new.cells) c.prepared.ensures.others_cells in
+    c.take_back.ensures.cells ∙ ap (λ (ys : Changes). apply ys (state_of c.prepared.new.cells)) (c.as_slice-back.ensures.value ∙ c.in-Ok-given_before.ensures)
+    ∙ off_cells cell_order (sets xs) (state_of c.args.cells.now) (state_of c.prepared.new.cells) c.prepared.ensures.others_cells in
     (taken_back c.args.cells.now c.args.arrays.now c.args.delta.now c.requires.shelf xs (c.as_slice-changed.ensures.value ∙ c.in-Ok.ensures)
     c.take_back.new.cells c.prepared.new.arrays.entries c.take_back.new.arrays.entries back c.prepared.ensures.others c.prepared.ensures.stays
     c.take_back.ensures.arrays
@@ -76,8 +77,8 @@ pub returns-clause-shelf : goal.returns-clause-shelf
 returns-clause-shelf g c =
     let xs : Changes = c.as_slice-changed.result.now in
     let back : state_of c.take_back.new.cells ≡ state_of c.args.cells.now =
-    c.take_back.ensures.cells ∙ ap (λ (ys : Changes). apply ys (state_of c.prepared.new.cells)) (c.as_slice-back.ensures.value ∙ c.in-Ok-values_before.ensures)
-    ∙ off_cells cell_order xs (state_of c.args.cells.now) (state_of c.prepared.new.cells) c.prepared.ensures.others_cells in
+    c.take_back.ensures.cells ∙ ap (λ (ys : Changes). apply ys (state_of c.prepared.new.cells)) (c.as_slice-back.ensures.value ∙ c.in-Ok-given_before.ensures)
+    ∙ off_cells cell_order (sets xs) (state_of c.args.cells.now) (state_of c.prepared.new.cells) c.prepared.ensures.others_cells in
     (taken_back c.args.cells.now c.args.arrays.now c.args.delta.now c.requires.shelf xs (c.as_slice-changed.ensures.value ∙ c.in-Ok.ensures)
     c.take_back.new.cells c.prepared.new.arrays.entries c.take_back.new.arrays.entries back c.prepared.ensures.others c.prepared.ensures.stays
     c.take_back.ensures.arrays

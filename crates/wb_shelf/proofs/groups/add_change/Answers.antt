@@ -16,7 +16,7 @@ returns-in_ok-put_group-in-Element-clause-lead c = λ before lead.
     let gs = c.args.groups.now.entries in
     let x = c.args.change.now in
     let named = c.put_group.new.groups.entries in
-    let cell : x.cell ≡ Element c.in-Element.name c.in-Element.index = sym c.cell-cell.ensures ∙ c.in-Element.is in
+    let cell : x.cell ≡ Element c.in-Element.name c.in-Element.index = sym c.as_cell.ensures ∙ c.in-Element.is in
     let value : x.value ≡ option_map Number c.in-Some.number = sym c.value.ensures ∙ sym c.in-Some.ensures in
     on_ok_weaker c.add_to.result
     (λ made. added_leads before named c.add_to.new.groups.entries x c.in-Element.name c.in-Element.index c.in-Some.number cell value made
@@ -27,7 +27,7 @@ pub returns-in-Object-clause-lead : goal.returns-in-Object-clause-lead
 returns-in-Object-clause-lead c = λ before lead.
     let gs = c.args.groups.now.entries in
     let x = c.args.change.now in
-    let cell : x.cell ≡ Object c.in-Object.name = sym c.cell-cell.ensures ∙ c.in-Object.is in
+    let cell : x.cell ≡ Object c.in-Object.name = sym c.as_cell.ensures ∙ c.in-Object.is in
     on_ok_weaker c.put_group-in-Object.result
     (λ there. same_leads (before ++ x ∷ []) gs c.put_group-in-Object.new.groups.entries c.put_group-in-Object.ensures.same
     (object_leads before gs x (λ b i. ap (eq_by_cmp cell_cmp (Element b i)) cell) lead))
@@ -38,14 +38,14 @@ returns-in-Object-clause-object c =
     on_ok_weaker c.put_group-in-Object.result
     (λ there b e.
     subst (λ (n : Name). IsSome (group_in c.put_group-in-Object.new.groups.entries n))
-    (one_name c.in-Object.name b (sym (at_object c.args.change.now.cell c.in-Object.name b (sym c.cell-cell.ensures ∙ c.in-Object.is)) ∙ e)) there)
+    (one_name c.in-Object.name b (sym (at_object c.args.change.now.cell c.in-Object.name b (sym c.as_cell.ensures ∙ c.in-Object.is)) ∙ e)) there)
     c.put_group-in-Object.ensures.there
 
 pub returns-in_default : goal.returns-in_default
 returns-in_default c = record {
   lead = λ before lead.
       object_leads before c.args.groups.now.entries c.args.change.now
-      (λ b i. no_element_cell c.args.change.now.cell (λ a j e. c.in_default.not-Element a j (c.cell-cell.ensures ∙ e)) b i) lead;
+      (λ b i. no_element_cell c.args.change.now.cell (λ a j e. c.in_default.not-Element a j (c.as_cell.ensures ∙ e)) b i) lead;
   stays = λ b there. there;
-  object = λ b e. absurd (c.in_default.not-Object b (c.cell-cell.ensures ∙ sym (one_cell (Object b) c.args.change.now.cell e)));
+  object = λ b e. absurd (c.in_default.not-Object b (c.as_cell.ensures ∙ sym (one_cell (Object b) c.args.change.now.cell e)));
 }

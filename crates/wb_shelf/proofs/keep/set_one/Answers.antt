@@ -16,7 +16,7 @@ returns-clause-agree c = λ s agree.
     let a : Name = c.in-Element.array in
     let i : Index = c.in-Element.index in
     let v : ℤ = c.in-Some.number in
-    let cell : x.cell ≡ Element a i = sym c.cell-cell.ensures ∙ c.in-Element.is in
+    let cell : x.cell ≡ Element a i = sym c.as_cell.ensures ∙ c.in-Element.is in
     let number : number_in x.value ≡ Some v = ap number_in (sym c.value.ensures) ∙ sym c.number_in.ensures ∙ c.in-Some.is in
     let made : (b : Name) → array_in c.set_element.new.arrays.entries b ≡ cond (is_same_name a b) (with_element (array_in es b) i v) (array_in es b) =
     λ b. c.set_element.ensures.arrays b ∙ ap (λ (w : ℤ). cond (is_same_name a b) (with_element (array_in es b) i w) (array_in es b))
@@ -30,7 +30,7 @@ returns-clause-there c = λ b j.
     let a : Name = c.in-Element.array in
     let i : Index = c.in-Element.index in
     let v : ℤ = c.in-Some.number in
-    let cell : x.cell ≡ Element a i = sym c.cell-cell.ensures ∙ c.in-Element.is in
+    let cell : x.cell ≡ Element a i = sym c.as_cell.ensures ∙ c.in-Element.is in
     let made : array_in c.set_element.new.arrays.entries b ≡ cond (is_same_name a b) (with_element (array_in es b) i v) (array_in es b) =
     c.set_element.ensures.arrays b ∙ ap (λ (w : ℤ). cond (is_same_name a b) (with_element (array_in es b) i w) (array_in es b))
     (to_z-of_z w64 v (search rules)) in
