@@ -1,9 +1,10 @@
 //! Points in ascending order.
 
-ghost use Rattle.std.specs.Prelude.{◌≡◌, ◌++◌, [], ◌∷◌, false, IsTrue, if◌then◌else◌};
+ghost use Rattle.std.specs.Prelude.{◌≡◌, ◌++◌, [], ◌∷◌, false, IsTrue, IfSome, if◌then◌else◌};
 ghost use Rattle.std.specs.List.Sorted.{IsStrictlySortedBy};
 ghost use Rattle.wb_foot.specs.Points.{point_cmp, in_points};
 
+use std::alloc::Global;
 use std::marker::Model;
 use wb_book::Point;
 
@@ -76,6 +77,16 @@ fn is_above(points: &[Point], point: &Point) -> bool
         return true;
     }
     points[points.len() - 1].cmp(point).is_lt()
+}
+
+/// No points, with room for so many, if there is memory for them.
+pub(crate) fn with_room(alloc: Global, count: usize) -> Option<Vec<Point>>
+    ensures { IfSome result (λ points. points.items ≡ []) }
+{
+    match Vec::with_capacity(alloc, count) {
+        Ok(points) => Some(points),
+        Err(_) => None,
+    }
 }
 
 /// Adds a point above ascending ones, and says whether it did: not where it isn't above them or no memory is left.

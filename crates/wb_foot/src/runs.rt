@@ -10,7 +10,7 @@ ghost use Rattle.wb_foot.specs.Footprints.{touched_at, run_touched, read_at, run
 
 use crate::part::{Kind, Part, Slot};
 use crate::place::Place;
-use crate::points::{Points, push_above};
+use crate::points::{Points, push_above, with_room};
 use std::alloc::Global;
 use wb_book::{AnyIndex, Cell, CellChange, Index, Name, Pattern, Point};
 
@@ -27,17 +27,17 @@ pub struct Row {
 impl Row {
     /// Those of which the cell is one, if it has an index.
     pub(crate) fn of(cell: &Cell) -> Option<Row> {
-        match *cell {
+        match cell {
             Cell::In(name, _) => Some(Row {
-                name,
+                name: *name,
                 kind: Kind::Inside,
             }),
             Cell::Member(name, _) => Some(Row {
-                name,
+                name: *name,
                 kind: Kind::Members,
             }),
             Cell::Element(name, _) => Some(Row {
-                name,
+                name: *name,
                 kind: Kind::Elements,
             }),
             Cell::Object(_)
@@ -73,16 +73,16 @@ impl Row {
         ensures { IfSome result (λ p. cell.now ≡ cell_at self.now.kind self.now.name p) }
     {
         match self.kind {
-            Kind::Inside => match *cell {
-                Cell::In(name, index) => self.point_in(name, &index),
+            Kind::Inside => match cell {
+                Cell::In(name, index) => self.point_in(name, index),
                 _ => None,
             },
-            Kind::Members => match *cell {
-                Cell::Member(name, index) => self.point_in(name, &index),
+            Kind::Members => match cell {
+                Cell::Member(name, index) => self.point_in(name, index),
                 _ => None,
             },
-            Kind::Elements => match *cell {
-                Cell::Element(name, index) => self.point_in(name, &index),
+            Kind::Elements => match cell {
+                Cell::Element(name, index) => self.point_in(name, index),
                 _ => None,
             },
         }
@@ -100,8 +100,8 @@ impl Row {
     }
 
     // The point that an index is, under the name of the object.
-    fn point_in(&self, name: Name, index: &AnyIndex) -> Option<Point>
-        ensures { IfSome result (λ p. (name ≡ self.now.name) × (index.now ≡ at_point p)) }
+    fn point_in(&self, name: &Name, index: &AnyIndex) -> Option<Point>
+        ensures { IfSome result (λ p. (name.now ≡ self.now.name) × (index.now ≡ at_point p)) }
     {
         if !name.is_same(&self.name) {
             return None;
@@ -117,7 +117,7 @@ impl Row {
         ensures count { IfSome result (λ ps. length ps ≡ length changes.now) }
         ensures touched { IfSome result (λ ps. (q : Place) → touched_at changes.now q ≡ run_touched self.now.kind self.now.name ps q) }
     {
-        let mut points = Vec::new(alloc);
+        let mut points = with_room(alloc, changes.len())?;
         for x in changes {
             match self.point_of(&x.cell()) {
                 None => return None,
@@ -130,11 +130,12 @@ impl Row {
         }
         Some(Points::new(points))
     }
+
     /// The points of the cells that patterns name alone, if all do, all are of these and ascend.
     pub(crate) fn points_read(&self, alloc: Global, reads: &[Pattern]) -> Option<Points>
         ensures { IfSome result (λ ps. (q : Place) → read_at reads.now q ≡ run_read self.now.kind self.now.name ps q) }
     {
-        let mut points = Vec::new(alloc);
+        let mut points = with_room(alloc, reads.len())?;
         for x in reads {
             match self.point_read(x) {
                 None => return None,

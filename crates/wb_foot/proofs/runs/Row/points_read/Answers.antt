@@ -18,6 +18,6 @@ loop-x-preserved c =
 
 pub loop-x-init : goal.loop-x-init
 loop-x-init c = record {
-  ascending = rw c.new-points.ensures.items sorted_none;
-  same = λ q. rw c.new-points.ensures.items refl;
+  ascending = rw c.in_ok-points.ensures sorted_none;
+  same = λ q. rw c.in_ok-points.ensures refl;
 }
