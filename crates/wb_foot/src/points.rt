@@ -1,6 +1,6 @@
 //! Points in ascending order.
 
-ghost use Rattle.std.specs.Prelude.{◌≡◌, ◌++◌, [], ◌∷◌, false, IsTrue, IfSome, if◌then◌else◌};
+ghost use Rattle.std.specs.Prelude.{◌≡◌, ◌++◌, [], ◌∷◌, false, IsTrue, IfSome, length, if◌then◌else◌};
 ghost use Rattle.std.specs.List.Sorted.{IsStrictlySortedBy};
 ghost use Rattle.wb_foot.specs.Points.{point_cmp, in_points};
 
@@ -27,12 +27,21 @@ impl Model for Points {
 }
 
 impl Points {
-    /// These points.
+    /// These points, without the room that was left.
     pub fn new(points: Vec<Point>) -> Points
         requires { IsStrictlySortedBy point_cmp points.items }
         ensures { result ≡ points.items }
     {
+        let mut points = points;
+        points.shrink_to_fit();
         Points { points }
+    }
+
+    /// How many there are.
+    pub fn len(&self) -> usize
+        ensures { result ≡ length self.now }
+    {
+        self.points.len()
     }
 
     /// Whether the point is one of them, by a binary search where it lies between the first and the last.

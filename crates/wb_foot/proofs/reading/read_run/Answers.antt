@@ -1,0 +1,8 @@
+use Rattle.wb_foot.specs.Places.{place_marked, place_of, is_same_place}
+use Rattle.wb_foot.proofs.Setting.{on_err}
+use Rattle.wb_foot.proofs.InParts.{front_stays}
+use Rattle.wb_foot.proofs.reading.read_run.Goals as goal
+
+pub returns-in_err-read_part-clause-err : goal.returns-in_err-read_part-clause-err
+returns-in_err-read_part-clause-err c = on_err c.from_residual.result
+    (front_stays (λ r. is_same_place (place_of r)) c.args.number (place_marked c.args.marks.now) (place_marked c.read_part.new.marks) c.args.reads.now c.len-count.result c.in_err-read_part.ensures.err)
