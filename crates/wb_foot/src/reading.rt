@@ -1,16 +1,16 @@
 //! Marks for the patterns that an edit read.
 
-ghost use Rattle.std.specs.Prelude.{◌≡◌, ◌&&◌, ◌<◌, ◌≤◌, true, length, take, OnOk, OnErr, IfOk};
+ghost use Rattle.std.specs.Prelude.{◌≡◌, ◌&&◌, ◌<◌, ◌≤◌, true, length, take, OnOk, OnErr, IfOk, IfSome};
 ghost use Rattle.wb_foot.specs.Relation.{Sets, Stays, Clears};
-ghost use Rattle.wb_foot.specs.Places.{place_marked};
+ghost use Rattle.wb_foot.specs.Places.{place_of, is_same_place, place_marked};
 ghost use Rattle.wb_foot.specs.declared.place.Place.{Place};
-ghost use Rattle.wb_foot.specs.Footprints.{read_at, run_read};
+ghost use Rattle.wb_foot.specs.Footprints.{read_at, run_read, IsUnread};
 
 use crate::blocks::Block;
 use crate::ends::{end_of_reads, list_from};
 use crate::place::place_of;
 use crate::place_marks::PlaceMarks;
-use crate::runs::{LEAST, Run};
+use crate::runs::{LEAST, Row, Run};
 use wb_book::Pattern;
 use wb_range::NoMemory;
 
@@ -129,10 +129,49 @@ pub(crate) fn read_all(
     Ok(())
 }
 
+// Takes a number away from a pattern, and gives the row of its one cell if the number is seen to stand at none of it any more.
+fn unread_first(marks: &mut PlaceMarks, pattern: &Pattern, number: u64) -> Option<Row>
+    ensures pattern { Clears (place_marked marks.old) (place_marked marks.new) (is_same_place (place_of pattern.now)) number }
+    ensures row { IfSome result (λ row. IsUnread row.kind row.name marks.new number) }
+{
+    marks.take(&place_of(pattern), number);
+    match Row::of_read(pattern) {
+        None => None,
+        Some(row) => {
+            if marks.is_clear(row.name, row.kind, number) {
+                Some(row)
+            } else {
+                None
+            }
+        }
+    }
+}
+
+// Takes a number away from a pattern, which needs nothing where that names a cell of a row at which it doesn't stand. Gives
+// such a row.
+fn unread_next(
+    marks: &mut PlaceMarks,
+    clear: Option<Row>,
+    pattern: &Pattern,
+    number: u64,
+) -> Option<Row>
+    requires { IfSome clear (λ row. IsUnread row.kind row.name marks.old number) }
+    ensures pattern { Clears (place_marked marks.old) (place_marked marks.new) (is_same_place (place_of pattern.now)) number }
+    ensures row { IfSome result (λ row. IsUnread row.kind row.name marks.new number) }
+{
+    if let Some(row) = clear {
+        if let Some(_point) = row.point_read(pattern) {
+            return Some(row);
+        }
+    }
+    unread_first(marks, pattern, number)
+}
+
 pub(crate) fn unread_all(marks: &mut PlaceMarks, reads: &[Pattern], number: u64)
     ensures { Clears (place_marked marks.old) (place_marked marks.new) (read_at reads.now) number }
 {
+    let mut clear: Option<Row> = None;
     for x in reads {
-        marks.take(&place_of(x), number);
+        clear = unread_next(marks, clear, x, number);
     }
 }

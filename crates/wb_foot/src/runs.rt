@@ -26,7 +26,9 @@ pub struct Row {
 
 impl Row {
     /// Those of which the cell is one, if it has an index.
-    pub(crate) fn of(cell: &Cell) -> Option<Row> {
+    pub(crate) fn of(cell: &Cell) -> Option<Row>
+        ensures { IfSome result (λ row. (p : Coordinates) → family (cell_at row.kind row.name p) ≡ family cell.now) }
+    {
         match cell {
             Cell::In(name, _) => Some(Row {
                 name: *name,

@@ -16,7 +16,8 @@ loop-from-preserved c =
     let within = rw (c.list_from.ensures, length-drop) at c.in_ok-count.ensures.within in
     record {
       within = omega arith;
-      marked = part_more (λ r. is_same_place (place_of r)) c.args.number old mid new c.args.reads.now from c.loop-from.invariant.marked c.in_ok-count.count some;
+      marked = part_more (λ r. is_same_place (place_of r)) c.args.number old mid new c.args.reads.now from
+          c.loop-from.invariant.marked c.in_ok-count.count some;
     }
 
 pub returns-in_err-count-clause-err : goal.returns-in_err-count-clause-err
@@ -26,7 +27,8 @@ returns-in_err-count-clause-err c =
     let new = place_marked c.read_some.new.marks in
     let from = c.loop-from.from in
     let failed = rw c.list_from.ensures at c.in_err-count.ensures.err in
-    on_err c.from_residual.result (part_stays (λ r. is_same_place (place_of r)) c.args.number old mid new c.args.reads.now from c.loop-from.invariant.marked failed)
+    on_err c.from_residual.result
+    (part_stays (λ r. is_same_place (place_of r)) c.args.number old mid new c.args.reads.now from c.loop-from.invariant.marked failed)
 
 pub returns-clause-ok : goal.returns-clause-ok
 returns-clause-ok c =
