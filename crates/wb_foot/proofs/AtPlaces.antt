@@ -1,5 +1,5 @@
 -- What a write at the part of an object does to the marks of all places.
-use Rattle.std.proofs.Common.{◌≡◌, ℕ, Bool, true, false, ◌&&◌, ◌==◌, if◌then◌else◌, List, refl, sym, ap, ◌∙◌}
+use Rattle.std.proofs.Common.{◌≡◌, ℕ, Bool, true, false, ◌&&◌, ◌==◌, if◌then◌else◌, List, ap, ◌∙◌}
 use Rattle.std.specs.Ordering.{bool_cmp}
 use Rattle.wb_foot.specs.declared.part.Kind.{Kind}
 use Rattle.wb_foot.specs.declared.part.Part.{Part}

@@ -11,3 +11,4 @@ pub mod Taking
 pub mod Indexed
 pub mod RunPlaces
 pub mod InParts
+pub mod Gone

@@ -1,7 +1,9 @@
 -- The numbers at a key stand together in the order of the pairs: the first of them above a number is what lies there first.
-use Rattle.std.proofs.Common.{◌≡◌, ℕ, ◌<◌, Bool, true, false, cond, ◌&&◌, ◌==◌, List, [], ◌∷◌, Some, None, refl, sym, ◌∙◌, arith, IsTrue}
+use Rattle.std.proofs.Common.{◌≡◌, ℕ, ◌<◌, Bool, true, false, cond, ◌&&◌, ◌==◌, List, [], ◌∷◌, Some, None, refl, sym, ap, ◌∙◌, arith, IsTrue, length}
 use Rattle.std.proofs.lemmas.Bool.Decides.{nat_tests}
 use Rattle.std.specs.BTreeMap.{is_at}
+use Rattle.std.specs.List.{list_any}
+use Rattle.std.proofs.lemmas.List.{nil_from_length}
 use Rattle.std.specs.BTreeSet.{BTreeSet, contains, IsKeyRangeOf}
 use Rattle.std.specs.Cmp.{IsTotalOrder, nat_cmp_is}
 use Rattle.std.specs.Ordering.{nat_cmp, ordering_then, ordering_reverse, is_eq, is_gt, eq_by_cmp}
@@ -86,3 +88,6 @@ module _ {K : Type 0} (cmp : K → K → Ordering) (o : IsTotalOrder cmp) where
     other_found r t x h e apart =
         let at = rw e at h in
         λ n up. apart_from (has n) x n at.1.0.0 (λ tie. let yes = rw tie at apart in cc) (λ there. at.2 (key, n) (behind key after n up, tt) there)
+
+pub none_at_all : {K : Type 0} (cmp : K → K → Ordering) (m : Marks K) → length m.set.keys ≡ 0 → (k : K) (n : ℕ) → marked cmp m k n ≡ false
+none_at_all cmp m e k n = ap (list_any (is_at (pair_cmp cmp (k, n)))) (nil_from_length m.set.keys e)

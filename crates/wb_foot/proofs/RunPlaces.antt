@@ -6,7 +6,6 @@ use Rattle.std.proofs.lemmas.List.Folds.{list_any_more, list_any-append}
 use Rattle.wb_book.specs.declared.cells.cell.Cell.{Cell}
 use Rattle.wb_book.specs.declared.cells.pattern.Pattern.{Pattern}
 use Rattle.wb_book.specs.declared.cells.pattern.Pattern.TheVariants.{One}
-use Rattle.wb_book.specs.declared.values.index.Index.TheVariants as i
 use Rattle.wb_book.specs.Cells.{Name, Changes, is_same_name}
 use Rattle.wb_foot.specs.declared.part.Kind.{Kind}
 use Rattle.wb_foot.specs.declared.part.Kind.TheVariants as k
@@ -16,7 +15,7 @@ use Rattle.wb_foot.specs.declared.place.Place.{Place}
 use Rattle.wb_foot.specs.declared.place.Place.TheVariants.{Objects, Of}
 use Rattle.wb_foot.specs.Relation.{Sets, Stays}
 use Rattle.wb_foot.specs.Points.{Coordinates}
-use Rattle.wb_foot.specs.Parts.{is_same_part, in_run}
+use Rattle.wb_foot.specs.Parts.{part_at, is_same_part, in_run}
 use Rattle.wb_foot.specs.Places.{own, family, place_of, is_same_place, cell_at, in_places}
 use Rattle.wb_foot.specs.Footprints.{at_cell, touched_at, run_touched, read_at, run_read}
 use Rattle.wb_foot.proofs.Meeting.{any_or, any_like, any_none}
@@ -52,11 +51,6 @@ and_each : {X : Type 0} (c : Bool) (f : X → Bool) (xs : List X) → list_any (
 and_each true f xs = refl
 and_each false f xs = any_none xs
 
-abbrev part_at : Kind → Coordinates → Part
-part_at k.Inside p = part.In (i.Point p)
-part_at k.Members p = part.Member (i.Point p)
-part_at k.Elements p = part.Element (i.Point p)
-
 parts_in : (kind : Kind) (ps : List Coordinates) (x : Part) → list_any (λ p. is_same_part (part_at kind p) x) ps ≡ in_run kind ps x
 parts_in k.Inside ps (part.In j) = refl
 parts_in k.Inside ps (part.Slot s) = any_none ps
@@ -74,7 +68,7 @@ parts_in k.Elements ps (part.Member j) = any_none ps
 parts_in k.Elements ps (part.User u) = any_none ps
 parts_in k.Elements ps (part.Element j) = refl
 
-own_at : (kind : Kind) (d : Name) (p : Coordinates) → own (cell_at kind d p) ≡ Of d (part_at kind p)
+pub own_at : (kind : Kind) (d : Name) (p : Coordinates) → own (cell_at kind d p) ≡ Of d (part_at kind p)
 own_at k.Inside d p = refl
 own_at k.Members d p = refl
 own_at k.Elements d p = refl

@@ -72,7 +72,7 @@ not_taken true true x e = cc
 not_taken true false x e = refl
 not_taken false num x e = refl
 
-either : (h g : Bool) (P : Type 0) → (h ≡ true → P) → (g ≡ true → P) → h || g ≡ true → P
+pub either : (h g : Bool) (P : Type 0) → (h ≡ true → P) → (g ≡ true → P) → h || g ≡ true → P
 either true g P f k e = f refl
 either false g P f k e = k e
 

@@ -1,6 +1,6 @@
 -- An index is of footprints, one for some of the numbers: it has a mark at each place where one of them read or touched
 -- something.
-use Rattle.std.specs.Prelude.{◌≡◌, ℕ, Bool, false, ◌||◌, ◌==◌, List, Option, Some, None, if◌then◌else◌}
+use Rattle.std.specs.Prelude.{◌≡◌, ℕ, Bool, true, false, ◌||◌, ◌==◌, List, Option, Some, None, if◌then◌else◌}
 use Rattle.std.specs.List.{list_any}
 use Rattle.selective_undo.specs.Log.{Footprint}
 use Rattle.wb_book.specs.declared.cells.cell.Cell.{Cell}
@@ -11,6 +11,7 @@ use Rattle.wb_book.specs.Cells.{Name, Changes, cell_cmp}
 use Rattle.wb_edit.specs.Schema.{workbook}
 use Rattle.wb_foot.specs.declared.place.Place.{Place}
 use Rattle.wb_foot.specs.declared.foot_index.FootIndex.{FootIndex}
+use Rattle.wb_foot.specs.declared.place_marks.PlaceMarks.{PlaceMarks}
 use Rattle.wb_foot.specs.declared.part.Kind.{Kind}
 use Rattle.wb_foot.specs.Points.{Coordinates}
 use Rattle.wb_foot.specs.Places.{own, family, place_of, is_same_place, place_marked, cell_at}
@@ -38,6 +39,14 @@ run_read k d ps q = list_any (λ p. is_same_place (own (cell_at k d p)) q) ps
 -- whether one of the patterns is that of a place
 abbrev pub read_at : List Pattern → Place → Bool
 read_at rs q = list_any (λ r. is_same_place (place_of r) q) rs
+
+-- a number stands at no place of such cells, nor at that of their family
+abbrev pub IsUntouched : Kind → Name → PlaceMarks → ℕ → Type 0
+IsUntouched k d m n = (p : Coordinates) (q : Place) → at_cell (cell_at k d p) q ≡ true → place_marked m q n ≡ false
+
+-- it stands at no own place of theirs
+abbrev pub IsUnread : Kind → Name → PlaceMarks → ℕ → Type 0
+IsUnread k d m n = (p : Coordinates) (q : Place) → is_same_place (own (cell_at k d p)) q ≡ true → place_marked m q n ≡ false
 
 -- whether a footprint, where there is one, touched a place
 abbrev pub touched_by : Option (Footprint workbook) → Place → Bool

@@ -43,6 +43,12 @@ in_run Members ps (Member i) = in_index ps i
 in_run Elements ps (Element i) = in_index ps i
 in_run _ _ _ = false
 
+-- the part of its kind at a point
+abbrev pub part_at : Kind → Coordinates → Part
+part_at Inside p = In (Point p)
+part_at Members p = Member (Point p)
+part_at Elements p = Element (Point p)
+
 -- whether two parts are one
 abbrev pub is_same_part : Part → Part → Bool
 is_same_part (Slot s) (Slot t) = eq_by_cmp slot_cmp s t

@@ -1,6 +1,7 @@
 //! Blocks: many points of one object at which one number stands.
 
-ghost use Rattle.std.specs.Prelude.{◌≡◌, ℕ, Bool, ◌&&◌, ◌||◌, ◌==◌, true, false, ◌++◌, [], ◌∷◌, length, ◌<◌, IfSome, IfNone, slice_index_or, if◌then◌else◌};
+ghost use Rattle.std.specs.Prelude.{◌≡◌, ℕ, Bool, ◌&&◌, ◌||◌, ◌==◌, true, false, ◌++◌, [], ◌∷◌, length, ◌<◌};
+ghost use Rattle.std.specs.Prelude.{IfSome, IfNone, IsTrue, slice_index_or, if◌then◌else◌};
 ghost use Rattle.wb_foot.specs.Relation.{Sets, IsLeastAfter};
 ghost use Rattle.wb_foot.specs.Points.{Coordinates, in_points};
 ghost use Rattle.wb_foot.specs.Blocks.{in_blocks};
@@ -75,6 +76,16 @@ impl Blocks {
     {
         while let Some(place) = self.place_of(number) {
             self.list.remove(place);
+        }
+    }
+
+    /// Whether no block is of the number.
+    pub fn is_clear(&self, number: u64) -> bool
+        ensures { IsTrue result → (p : Coordinates) → in_blocks self.now.list.items p number ≡ false }
+    {
+        match self.place_of(number) {
+            Some(_) => false,
+            None => true,
         }
     }
 

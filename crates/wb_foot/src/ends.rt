@@ -1,9 +1,17 @@
-//! Where the parts of a list end that are marked together: a run that is long enough for a block, or some cells before one.
+//! How many of the first cells of a list are marked together, and whether they may be a run that is long enough for a block.
 
-ghost use Rattle.std.specs.Prelude.{◌+◌, ◌<◌, ◌≤◌, length};
+ghost use Rattle.std.specs.Prelude.{◌<◌, ◌≤◌, ◌≡◌, drop, length};
 
 use crate::runs::{LEAST, Row};
 use wb_book::{CellChange, Pattern, Point};
+
+/// The list from a place on.
+pub(crate) fn list_from<T>(list: &[T], from: usize) -> &[T]
+    requires { from < length list.now }
+    ensures { result.now ≡ drop from list.now }
+{
+    &list[from..]
+}
 
 // The point, if there is one and it is above another.
 fn above(low: &Point, point: Option<Point>) -> Option<Point> {
@@ -19,77 +27,78 @@ fn above(low: &Point, point: Option<Point>) -> Option<Point> {
     }
 }
 
-/// Where the part of a list of changes that begins at a place ends.
-pub(crate) fn end_of_changes(changes: &[CellChange], from: usize) -> usize
-    requires { from < length changes.now }
-    ensures after { from < result }
+/// How many of the first changed cells go together: all of few, and else as many as are of one row and ascend, up to those
+/// that make a run.
+pub(crate) fn end_of_changes(changes: &[CellChange]) -> usize
+    requires { 0 < length changes.now }
+    ensures some { 0 < result }
     ensures within { result ≤ length changes.now }
 {
-    if changes.len() - from < LEAST {
+    if changes.len() < LEAST {
         return changes.len();
     }
-    match Row::of(&changes[from].cell()) {
-        None => from + 1,
-        Some(row) => end_in_changes(&row, changes, from),
+    match Row::of(&changes[0].cell()) {
+        None => 1,
+        Some(row) => end_in_changes(&row, changes),
     }
 }
 
-// Where the changed cells from a place on cease to be of the row or to ascend, if enough of them may be of it for a block.
-fn end_in_changes(row: &Row, changes: &[CellChange], from: usize) -> usize
-    requires { from + 64 ≤ length changes.now }
-    ensures after { from < result }
+// How many are of the row and ascend, up to those that make a run, if the last of these may be of it.
+fn end_in_changes(row: &Row, changes: &[CellChange]) -> usize
+    requires { 64 ≤ length changes.now }
+    ensures some { 0 < result }
     ensures within { result ≤ length changes.now }
 {
-    if row.point_of(&changes[from + LEAST - 1].cell()).is_none() {
-        return from + 1;
+    if row.point_of(&changes[LEAST - 1].cell()).is_none() {
+        return 1;
     }
-    let Some(first) = row.point_of(&changes[from].cell()) else {
-        return from + 1;
+    let Some(first) = row.point_of(&changes[0].cell()) else {
+        return 1;
     };
     let mut last = first;
-    for i in from + 1..changes.len() {
+    for i in 1..LEAST {
         match above(&last, row.point_of(&changes[i].cell())) {
             None => return i,
             Some(next) => last = next,
         }
     }
-    changes.len()
+    LEAST
 }
 
-/// Where the part of a list of patterns that begins at a place ends.
-pub(crate) fn end_of_reads(reads: &[Pattern], from: usize) -> usize
-    requires { from < length reads.now }
-    ensures after { from < result }
+/// How many of the first patterns go together: all of few, and else as many as name one cell alone each, of one row and
+/// ascending, up to those that make a run.
+pub(crate) fn end_of_reads(reads: &[Pattern]) -> usize
+    requires { 0 < length reads.now }
+    ensures some { 0 < result }
     ensures within { result ≤ length reads.now }
 {
-    if reads.len() - from < LEAST {
+    if reads.len() < LEAST {
         return reads.len();
     }
-    match Row::of_read(&reads[from]) {
-        None => from + 1,
-        Some(row) => end_in_reads(&row, reads, from),
+    match Row::of_read(&reads[0]) {
+        None => 1,
+        Some(row) => end_in_reads(&row, reads),
     }
 }
 
-// Where the cells that patterns from a place on name alone cease to be of the row or to ascend, if enough of them may be
-// of it for a block.
-fn end_in_reads(row: &Row, reads: &[Pattern], from: usize) -> usize
-    requires { from + 64 ≤ length reads.now }
-    ensures after { from < result }
+// How many name cells of the row that ascend, up to those that make a run, if the last of these may do so.
+fn end_in_reads(row: &Row, reads: &[Pattern]) -> usize
+    requires { 64 ≤ length reads.now }
+    ensures some { 0 < result }
     ensures within { result ≤ length reads.now }
 {
-    if row.point_read(&reads[from + LEAST - 1]).is_none() {
-        return from + 1;
+    if row.point_read(&reads[LEAST - 1]).is_none() {
+        return 1;
     }
-    let Some(first) = row.point_read(&reads[from]) else {
-        return from + 1;
+    let Some(first) = row.point_read(&reads[0]) else {
+        return 1;
     };
     let mut last = first;
-    for i in from + 1..reads.len() {
+    for i in 1..LEAST {
         match above(&last, row.point_read(&reads[i])) {
             None => return i,
             Some(next) => last = next,
         }
     }
-    reads.len()
+    LEAST
 }

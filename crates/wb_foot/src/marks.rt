@@ -1,6 +1,6 @@
 //! Which numbers stand at which keys.
 
-ghost use Rattle.std.specs.Prelude.{◌≡◌, ℕ, false, true, OnOk, OnErr};
+ghost use Rattle.std.specs.Prelude.{◌≡◌, ℕ, false, true, IsTrue, OnOk, OnErr};
 ghost use Rattle.std.specs.Ordering.{eq_by_cmp};
 ghost use Rattle.wb_foot.specs.Relation.{Sets, IsLeastAfter};
 ghost use Rattle.wb_foot.specs.Marks.{marked};
@@ -24,6 +24,13 @@ impl<K: Copy + Ord> Marks<K> {
         Marks {
             set: BTreeSet::new(alloc),
         }
+    }
+
+    /// Whether no number stands at any key.
+    pub fn is_empty(&self) -> bool
+        ensures { IsTrue result → (k : K) (n : ℕ) → marked K.cmp self.now k n ≡ false }
+    {
+        self.set.is_empty()
     }
 
     /// Adds a number at a key.

@@ -1,9 +1,10 @@
 //! Points in ascending order.
 
-ghost use Rattle.std.specs.Prelude.{◌≡◌, ◌++◌, [], ◌∷◌, false, IsTrue, if◌then◌else◌};
+ghost use Rattle.std.specs.Prelude.{◌≡◌, ◌++◌, [], ◌∷◌, false, IsTrue, IfSome, length, if◌then◌else◌};
 ghost use Rattle.std.specs.List.Sorted.{IsStrictlySortedBy};
 ghost use Rattle.wb_foot.specs.Points.{point_cmp, in_points};
 
+use std::alloc::Global;
 use std::marker::Model;
 use wb_book::Point;
 
@@ -26,12 +27,21 @@ impl Model for Points {
 }
 
 impl Points {
-    /// These points.
+    /// These points, without the room that was left.
     pub fn new(points: Vec<Point>) -> Points
         requires { IsStrictlySortedBy point_cmp points.items }
         ensures { result ≡ points.items }
     {
+        let mut points = points;
+        points.shrink_to_fit();
         Points { points }
+    }
+
+    /// How many there are.
+    pub fn len(&self) -> usize
+        ensures { result ≡ length self.now }
+    {
+        self.points.len()
     }
 
     /// Whether the point is one of them, by a binary search where it lies between the first and the last.
@@ -76,6 +86,16 @@ fn is_above(points: &[Point], point: &Point) -> bool
         return true;
     }
     points[points.len() - 1].cmp(point).is_lt()
+}
+
+/// No points, with room for so many, if there is memory for them.
+pub(crate) fn with_room(alloc: Global, count: usize) -> Option<Vec<Point>>
+    ensures { IfSome result (λ points. points.items ≡ []) }
+{
+    match Vec::with_capacity(alloc, count) {
+        Ok(points) => Some(points),
+        Err(_) => None,
+    }
 }
 
 /// Adds a point above ascending ones, and says whether it did: not where it isn't above them or no memory is left.

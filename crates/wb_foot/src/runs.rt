@@ -1,6 +1,6 @@
 //! Runs: the elements, members or indices inside of one object, at ascending points.
 
-ghost use Rattle.std.specs.Prelude.{◌≡◌, ℕ, IfSome, length};
+ghost use Rattle.std.specs.Prelude.{◌≡◌, ℕ, ◌<◌, ◌≤◌, IfSome, length, take};
 ghost use Rattle.wb_book.specs.declared.values.index.Index.TheVariants.{Point as at_point};
 ghost use Rattle.wb_book.specs.declared.cells.pattern.Pattern.TheVariants.{One};
 ghost use Rattle.wb_foot.specs.declared.place.Place.{Place};
@@ -10,7 +10,7 @@ ghost use Rattle.wb_foot.specs.Footprints.{touched_at, run_touched, read_at, run
 
 use crate::part::{Kind, Part, Slot};
 use crate::place::Place;
-use crate::points::{Points, push_above};
+use crate::points::{Points, push_above, with_room};
 use std::alloc::Global;
 use wb_book::{AnyIndex, Cell, CellChange, Index, Name, Pattern, Point};
 
@@ -26,18 +26,20 @@ pub struct Row {
 
 impl Row {
     /// Those of which the cell is one, if it has an index.
-    pub(crate) fn of(cell: &Cell) -> Option<Row> {
-        match *cell {
+    pub(crate) fn of(cell: &Cell) -> Option<Row>
+        ensures { IfSome result (λ row. (p : Coordinates) → family (cell_at row.kind row.name p) ≡ family cell.now) }
+    {
+        match cell {
             Cell::In(name, _) => Some(Row {
-                name,
+                name: *name,
                 kind: Kind::Inside,
             }),
             Cell::Member(name, _) => Some(Row {
-                name,
+                name: *name,
                 kind: Kind::Members,
             }),
             Cell::Element(name, _) => Some(Row {
-                name,
+                name: *name,
                 kind: Kind::Elements,
             }),
             Cell::Object(_)
@@ -73,16 +75,16 @@ impl Row {
         ensures { IfSome result (λ p. cell.now ≡ cell_at self.now.kind self.now.name p) }
     {
         match self.kind {
-            Kind::Inside => match *cell {
-                Cell::In(name, index) => self.point_in(name, &index),
+            Kind::Inside => match cell {
+                Cell::In(name, index) => self.point_in(name, index),
                 _ => None,
             },
-            Kind::Members => match *cell {
-                Cell::Member(name, index) => self.point_in(name, &index),
+            Kind::Members => match cell {
+                Cell::Member(name, index) => self.point_in(name, index),
                 _ => None,
             },
-            Kind::Elements => match *cell {
-                Cell::Element(name, index) => self.point_in(name, &index),
+            Kind::Elements => match cell {
+                Cell::Element(name, index) => self.point_in(name, index),
                 _ => None,
             },
         }
@@ -100,8 +102,8 @@ impl Row {
     }
 
     // The point that an index is, under the name of the object.
-    fn point_in(&self, name: Name, index: &AnyIndex) -> Option<Point>
-        ensures { IfSome result (λ p. (name ≡ self.now.name) × (index.now ≡ at_point p)) }
+    fn point_in(&self, name: &Name, index: &AnyIndex) -> Option<Point>
+        ensures { IfSome result (λ p. (name.now ≡ self.now.name) × (index.now ≡ at_point p)) }
     {
         if !name.is_same(&self.name) {
             return None;
@@ -112,39 +114,111 @@ impl Row {
         }
     }
 
-    /// The points of the changed cells, if all are of these and ascend.
+    // For how many points room is made at first: for all where the last changed cell is of the row too.
+    fn room_for(&self, changes: &[CellChange]) -> usize {
+        match changes.last() {
+            None => 0,
+            Some(x) => {
+                if self.point_of(&x.cell()).is_some() {
+                    changes.len()
+                } else {
+                    LEAST
+                }
+            }
+        }
+    }
+
+    // The same where the last pattern names a cell of the row alone.
+    fn room_for_reads(&self, reads: &[Pattern]) -> usize {
+        match reads.last() {
+            None => 0,
+            Some(x) => {
+                if self.point_read(x).is_some() {
+                    reads.len()
+                } else {
+                    LEAST
+                }
+            }
+        }
+    }
+
+    /// The points of the changed cells from the first on, as far as these are of the row and ascend, if there is memory.
     pub(crate) fn points_of(&self, alloc: Global, changes: &[CellChange]) -> Option<Points>
-        ensures count { IfSome result (λ ps. length ps ≡ length changes.now) }
-        ensures touched { IfSome result (λ ps. (q : Place) → touched_at changes.now q ≡ run_touched self.now.kind self.now.name ps q) }
+        ensures within { IfSome result (λ ps. length ps ≤ length changes.now) }
+        ensures touched { IfSome result (λ ps. (q : Place) → touched_at (take (length ps) changes.now) q ≡ run_touched self.now.kind self.now.name ps q) }
     {
-        let mut points = Vec::new(alloc);
+        let mut points = with_room(alloc, self.room_for(changes))?;
         for x in changes {
             match self.point_of(&x.cell()) {
-                None => return None,
+                None => return Some(Points::new(points)),
                 Some(point) => {
                     if !push_above(&mut points, point) {
-                        return None;
+                        return Some(Points::new(points));
                     }
                 }
             }
         }
         Some(Points::new(points))
     }
-    /// The points of the cells that patterns name alone, if all do, all are of these and ascend.
+
+    /// The points of the cells that patterns from the first on name alone, as far as they do and the cells are of the row
+    /// and ascend, if there is memory.
     pub(crate) fn points_read(&self, alloc: Global, reads: &[Pattern]) -> Option<Points>
-        ensures { IfSome result (λ ps. (q : Place) → read_at reads.now q ≡ run_read self.now.kind self.now.name ps q) }
+        ensures within { IfSome result (λ ps. length ps ≤ length reads.now) }
+        ensures read { IfSome result (λ ps. (q : Place) → read_at (take (length ps) reads.now) q ≡ run_read self.now.kind self.now.name ps q) }
     {
-        let mut points = Vec::new(alloc);
+        let mut points = with_room(alloc, self.room_for_reads(reads))?;
         for x in reads {
             match self.point_read(x) {
-                None => return None,
+                None => return Some(Points::new(points)),
                 Some(point) => {
                     if !push_above(&mut points, point) {
-                        return None;
+                        return Some(Points::new(points));
                     }
                 }
             }
         }
         Some(Points::new(points))
+    }
+}
+
+/// Cells of one row at ascending points.
+#[derive(Drop)]
+pub struct Run {
+    pub(crate) row: Row,
+    pub(crate) points: Points,
+}
+
+impl Run {
+    /// The run that changed cells from the first on are, as far as it goes, if there is memory.
+    pub(crate) fn of_changes(alloc: Global, changes: &[CellChange]) -> Option<Run>
+        requires { 0 < length changes.now }
+        ensures some { IfSome result (λ run. 0 < length run.points) }
+        ensures within { IfSome result (λ run. length run.points ≤ length changes.now) }
+        ensures touched { IfSome result (λ run. (q : Place) →
+            touched_at (take (length run.points) changes.now) q ≡ run_touched run.row.kind run.row.name run.points q) }
+    {
+        let row = Row::of(&changes[0].cell())?;
+        let points = row.points_of(alloc, changes)?;
+        if points.len() == 0 {
+            return None;
+        }
+        Some(Run { row, points })
+    }
+
+    /// The run of the cells that patterns from the first on name alone, as far as it goes, if there is memory.
+    pub(crate) fn of_reads(alloc: Global, reads: &[Pattern]) -> Option<Run>
+        requires { 0 < length reads.now }
+        ensures some { IfSome result (λ run. 0 < length run.points) }
+        ensures within { IfSome result (λ run. length run.points ≤ length reads.now) }
+        ensures read { IfSome result (λ run. (q : Place) →
+            read_at (take (length run.points) reads.now) q ≡ run_read run.row.kind run.row.name run.points q) }
+    {
+        let row = Row::of_read(&reads[0])?;
+        let points = row.points_read(alloc, reads)?;
+        if points.len() == 0 {
+            return None;
+        }
+        Some(Run { row, points })
     }
 }

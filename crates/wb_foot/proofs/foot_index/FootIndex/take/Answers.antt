@@ -1,4 +1,4 @@
-use Rattle.std.proofs.Common.{Some, refl}
+use Rattle.std.proofs.Common.{refl}
 use Rattle.wb_foot.specs.Places.{place_marked}
 use Rattle.wb_foot.specs.Footprints.{touched_by, read_by, touched_at, read_at, footprint}
 use Rattle.wb_foot.proofs.Taking.{taken}

@@ -16,7 +16,7 @@ loop-x-preserved c =
 
 pub loop-x-init : goal.loop-x-init
 loop-x-init c = record {
-  ascending = rw c.new-points.ensures.items sorted_none;
-  long = rw c.new-points.ensures.items refl;
-  same = λ q. rw c.new-points.ensures.items refl;
+  ascending = rw c.in_ok-points.ensures sorted_none;
+  long = rw c.in_ok-points.ensures refl;
+  same = λ q. rw c.in_ok-points.ensures refl;
 }

@@ -1,8 +1,5 @@
 use Rattle.std.proofs.Common.{Some, sym, true, ◌&&◌, rules}
-use Rattle.wb_book.specs.Cells.{is_same_name}
-use Rattle.wb_foot.specs.Parts.{Spot, in_run}
-use Rattle.wb_foot.specs.Spots.{spot_marked, in_spots}
-use Rattle.wb_foot.proofs.Setting.{like}
+use Rattle.wb_foot.specs.Parts.{in_run}
 use Rattle.wb_foot.proofs.Named.{parts_set, parts_new, done_first}
 use Rattle.wb_foot.proofs.spots.SpotMarks.add_block.Goals as goal
 

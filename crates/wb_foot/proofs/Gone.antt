@@ -1,0 +1,94 @@
+-- Where a number stands at no cell of a row.
+use Rattle.std.proofs.Common.{◌≡◌, ℕ, Bool, true, false, ◌&&◌, ◌||◌, Option, Some, None, refl, sym, ap, ◌∙◌}
+use Rattle.std.specs.Ordering.{is_eq}
+use Rattle.std.specs.declared.cmp.Ordering.{Ordering}
+use Rattle.std.specs.declared.cmp.Ordering.TheVariants.{Less, Equal, Greater}
+use Rattle.wb_book.specs.declared.cells.cell.Cell.{Cell}
+use Rattle.wb_book.specs.declared.values.index.Index.{Index}
+use Rattle.wb_book.specs.declared.values.index.Index.TheVariants as i
+use Rattle.wb_book.specs.Cells.{Name, is_same_name, is_same_index, index_cmp, same_names, index_cmp-IsAntisymmetric}
+use Rattle.wb_foot.specs.declared.part.Kind.{Kind}
+use Rattle.wb_foot.specs.declared.part.Kind.TheVariants as k
+use Rattle.wb_foot.specs.declared.part.Part.{Part}
+use Rattle.wb_foot.specs.declared.part.Part.TheVariants as part
+use Rattle.wb_foot.specs.declared.place.Place.{Place}
+use Rattle.wb_foot.specs.declared.place.Place.TheVariants.{Objects, Of}
+use Rattle.wb_foot.specs.declared.place_marks.PlaceMarks.{PlaceMarks}
+use Rattle.wb_foot.specs.Relation.{Clears}
+use Rattle.wb_foot.specs.Points.{Coordinates}
+use Rattle.wb_foot.specs.Parts.{part_at, is_same_part}
+use Rattle.wb_foot.specs.Spots.{spot_marked}
+use Rattle.wb_foot.specs.Places.{own, family, is_same_place, place_marked, cell_at}
+use Rattle.wb_foot.specs.Footprints.{at_cell}
+use Rattle.wb_foot.proofs.Setting.{either}
+use Rattle.wb_foot.proofs.RunPlaces.{own_at}
+
+pub neither : (a b : Bool) → a ≡ false → b ≡ false → a || b ≡ false
+neither true b e f = cc
+neither false b e f = f
+
+or_last : (a b : Bool) → b ≡ true → a || b ≡ true
+or_last true b e = refl
+or_last false b e = e
+
+both : (a b : Bool) → a && b ≡ true → (a ≡ true) × (b ≡ true)
+both true b e = (refl, e)
+both false b e = cc
+
+equal_from : (p : Ordering) → is_eq p ≡ true → p ≡ Equal
+equal_from Less e = cc
+equal_from Equal e = refl
+equal_from Greater e = cc
+
+-- ---- what is one with the place of such a cell is that place
+
+same_index : (x y : Index) → is_same_index x y ≡ true → y ≡ x
+same_index x y e = sym (index_cmp-IsAntisymmetric x y (equal_from (index_cmp x y) e))
+
+same_part : (kind : Kind) (p : Coordinates) (x : Part) → is_same_part (part_at kind p) x ≡ true → x ≡ part_at kind p
+same_part k.Inside p (part.In j) e = ap part.In (same_index (i.Point p) j e)
+same_part k.Inside p (part.Slot s) e = cc
+same_part k.Inside p (part.Member j) e = cc
+same_part k.Inside p (part.User u) e = cc
+same_part k.Inside p (part.Element j) e = cc
+same_part k.Members p (part.Member j) e = ap part.Member (same_index (i.Point p) j e)
+same_part k.Members p (part.Slot s) e = cc
+same_part k.Members p (part.In j) e = cc
+same_part k.Members p (part.User u) e = cc
+same_part k.Members p (part.Element j) e = cc
+same_part k.Elements p (part.Element j) e = ap part.Element (same_index (i.Point p) j e)
+same_part k.Elements p (part.Slot s) e = cc
+same_part k.Elements p (part.In j) e = cc
+same_part k.Elements p (part.User u) e = cc
+same_part k.Elements p (part.Member j) e = cc
+
+module _ (m : PlaceMarks) (number : ℕ) (kind : Kind) (d : Name) (h : (p : Coordinates) → spot_marked m.spots (d, part_at kind p) number ≡ false) where
+  clear_at : (p : Coordinates) (q : Place) → is_same_place (Of d (part_at kind p)) q ≡ true → place_marked m q number ≡ false
+  clear_at p Objects here = cc
+  clear_at p (Of e x) here =
+      let parts = both (is_same_name d e) (is_same_part (part_at kind p) x) here in
+      let name : d ≡ e = same_names d e (equal_from _ parts.0) in
+      rw (← name, same_part kind p x parts.1) (h p)
+
+  pub place_clear : (p : Coordinates) (q : Place) → is_same_place (own (cell_at kind d p)) q ≡ true → place_marked m q number ≡ false
+  place_clear p q here = clear_at p q (ap (λ o. is_same_place o q) (sym (own_at kind d p)) ∙ here)
+
+-- ---- a row, and what is left to take away of it
+
+abbrev at_family : Option Place → Place → Bool
+at_family o q = elim o [ Some f ↦ is_same_place f q | None ↦ false ]
+
+module _ (m : Place → ℕ → Bool) (number : ℕ) where
+  -- from one of its cells it was taken away, and so from their family
+  pub row_gone : (kind : Kind) (d : Name) (x : Cell) → ((p : Coordinates) → family (cell_at kind d p) ≡ family x) →
+      ((p : Coordinates) (q : Place) → is_same_place (own (cell_at kind d p)) q ≡ true → m q number ≡ false) →
+      ((q : Place) → at_cell x q ≡ true → m q number ≡ false) → (p : Coordinates) (q : Place) → at_cell (cell_at kind d p) q ≡ true → m q number ≡ false
+  row_gone kind d x fam clear gone p q here =
+      let its = is_same_place (own (cell_at kind d p)) q in
+      let other = at_family (family (cell_at kind d p)) q in
+      either its other (m q number ≡ false) (clear p q)
+      (λ f. gone q (or_last (is_same_place (own x) q) (at_family (family x) q) (ap (λ o. at_family o q) (sym (fam p)) ∙ f))) here
+
+  -- nothing is to be done
+  pub still_clear : (h g : Place → Bool) → ((q : Place) → g q ≡ h q) → ((q : Place) → h q ≡ true → m q number ≡ false) → Clears m m g number
+  still_clear h g e gone = record { gone = λ q here. gone q (sym (e q) ∙ here); fewer = λ q was. was; others = λ q j other. refl }
