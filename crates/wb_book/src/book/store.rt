@@ -3,13 +3,12 @@
 ghost use Rattle.std.specs.Prelude.{◌≡◌, ℕ, ◌+◌, List, [], ◌∷◌, Some, None, false, IfOk, OnOk, OnErr, IsSome, length};
 ghost use Rattle.std.specs.FinMap as map;
 ghost use Rattle.std.specs.Ordering.{eq_by_cmp};
-ghost use Rattle.selective_undo.specs.Changes.{applied, apply, inverse, changes, AllOnce, RoomFor, HasRoom, sets, clears};
+ghost use Rattle.selective_undo.specs.Changes.{applied, apply, changes, AllOnce, RoomFor, HasRoom, sets, clears};
 ghost use Rattle.wb_book.specs.Cells.{cell_cmp, state_of};
 
 use crate::cells::cell::Cell;
 use crate::cells::value::Value;
 use crate::changes::change::CellChange;
-use std::alloc::{AllocError, Global};
 use std::collections::BTreeMap;
 use wb_range::NoMemory;
 
@@ -34,20 +33,6 @@ fn clear_cell(cells: &mut BTreeMap<Cell, Value>, cell: Cell)
     ensures { state_of cells.new ≡ map.remove (state_of cells.old) cell }
 {
     cells.remove(&cell);
-}
-
-/// The changes that set the cells to what they are now.
-pub fn values_before(
-    alloc: Global,
-    cells: &BTreeMap<Cell, Value>,
-    delta: &[CellChange],
-) -> Result<Vec<CellChange>, AllocError>
-    ensures { IfOk result (λ v. v.items ≡ inverse delta.now (state_of cells.now)) }
-{
-    delta
-        .iter()
-        .map(|x| CellChange::new(x.cell(), look(cells, x.cell())))
-        .collect(alloc)
 }
 
 /// Sets a cell, if the change gives it a value.
