@@ -81,8 +81,8 @@ pub fn merge<K: Key>(alloc: Global, xs: &[K], ys: &[K], kept: Kept) -> Result<Ve
 fn push_if<K: Key>(keys: &mut Vec<K>, key: K, keep: bool) -> Result<(), NoMemory>
     ensures { OnOk result ((ys : List K) → keys.new.items ++ ys ≡ keys.old.items ++ with_if keep key ys) }
 {
-    if keep && keys.push(key).is_err() {
-        return Err(NoMemory);
+    if keep {
+        keys.push(key)?;
     }
     Ok(())
 }
@@ -91,8 +91,8 @@ fn push_if<K: Key>(keys: &mut Vec<K>, key: K, keep: bool) -> Result<(), NoMemory
 fn append_if<K: Key>(keys: &mut Vec<K>, rest: &[K], keep: bool) -> Result<(), NoMemory>
     ensures { OnOk result (keys.new.items ≡ keys.old.items ++ all_if keep rest.now) }
 {
-    if keep && keys.extend_from_slice(rest).is_err() {
-        return Err(NoMemory);
+    if keep {
+        keys.extend_from_slice(rest)?;
     }
     Ok(())
 }

@@ -46,9 +46,6 @@ impl Footprint {
         ensures ok { OnOk result (self.new ≡ self.old ++ pattern ∷ []) }
         ensures err { OnErr result (self.new ≡ self.old) }
     {
-        match self.reads.push(pattern) {
-            Ok(()) => Ok(()),
-            Err(_) => Err(NoMemory),
-        }
+        Ok(self.reads.push(pattern)?)
     }
 }

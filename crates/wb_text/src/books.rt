@@ -35,10 +35,7 @@ pub(crate) fn objects(alloc: Global, book: &Book) -> Result<Vec<Name>, NoMemory>
     ensures { IfOk result (λ v. v.items ≡ objects book.now.cells) }
 {
     let shown = book.seen(alloc, &Pattern::Objects)?;
-    match objects_in(alloc, &shown) {
-        Ok(found) => Ok(found),
-        Err(_) => Err(NoMemory),
-    }
+    Ok(objects_in(alloc, &shown)?)
 }
 
 /// The indices of a sparse or associative domain, ascending.
@@ -46,10 +43,7 @@ pub(crate) fn members(alloc: Global, book: &Book, domain: &Name) -> Result<Vec<A
     ensures { IfOk result (λ v. v.items ≡ members book.now.cells domain.now) }
 {
     let shown = book.seen(alloc, &Pattern::Members(*domain))?;
-    match members_in(alloc, &shown) {
-        Ok(found) => Ok(found),
-        Err(_) => Err(NoMemory),
-    }
+    Ok(members_in(alloc, &shown)?)
 }
 
 // The indices of a rectangle, row by row.
@@ -101,10 +95,7 @@ fn points(alloc: Global, book: &Book, domain: &Name) -> Result<Vec<AnyIndex>, No
 {
     match ranges_at(book, domain) {
         None => Ok(Vec::new(alloc)),
-        Some(ranges) => match points_of(alloc, &ranges) {
-            Ok(points) => Ok(points),
-            Err(_) => Err(NoMemory),
-        },
+        Some(ranges) => Ok(points_of(alloc, &ranges)?),
     }
 }
 

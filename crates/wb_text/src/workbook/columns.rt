@@ -57,15 +57,12 @@ fn changes_of(
 ) -> Result<Vec<(AnyIndex, Option<i64>)>, NoMemory>
     ensures { IfOk result (λ v. v.items ≡ all_set (zip indices.now numbers.now)) }
 {
-    let found = indices
+    let changes = indices
         .iter()
         .zip(numbers.iter())
         .map(|x| (*x.0, Some(*x.1)))
-        .collect(alloc);
-    match found {
-        Ok(changes) => Ok(changes),
-        Err(_) => Err(NoMemory),
-    }
+        .collect(alloc)?;
+    Ok(changes)
 }
 
 /// The array over the domain of a name that has these elements, in the order of the domain's indices.
