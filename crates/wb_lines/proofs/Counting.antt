@@ -1,5 +1,5 @@
 -- How often a reader was read.
-use Rattle.std.proofs.Common.{◌≡◌, ℕ, ◌+◌, ◌-◌, ◌≤◌, arith}
+use Rattle.std.proofs.Common.{◌≡◌, ℕ, ◌+◌, arith}
 use Rattle.wb_lines.specs.Reading.{Reading, read_limit}
 use Rattle.wb_lines.specs.Causes.{RisesBy, CountsReads}
 

@@ -7,7 +7,7 @@ broken : (line rest : List ℕ) → IsUnbroken (ended line ++ rest) → ⊥
 broken [] rest h = h.0 refl
 broken (b ∷ line) rest h = broken line rest h.1
 
-no_line : (ahead got text : List ℕ) → BeginsWithLine ahead → ahead ++ got ≡ text → IsUnbroken text → ⊥
+pub no_line : (ahead got text : List ℕ) → BeginsWithLine ahead → ahead ++ got ≡ text → IsUnbroken text → ⊥
 no_line ahead got text begins e h =
     let split = sym e ∙ ap (λ x. x ++ got) begins.3 ∙ append_assoc (ended begins.0) begins.1 got in
     broken begins.0 (begins.1 ++ got) (subst IsUnbroken split h)

@@ -72,7 +72,8 @@ impl Model for LineBuffer {
 }
 
 impl LineBuffer {
-    ghost use Rattle.wb_lines.specs.Reading.{unread, TakesPart, IsSameReader, Refills, FaultLeaves};
+    ghost use Rattle.wb_lines.specs.Reading.{unread, TakesPart, IsSameReader, Refills, FaultLeaves, IsText};
+    ghost use Rattle.wb_lines.specs.Turns.{TakesLines};
 
     /// A buffer for a reader of which nothing was read. It takes no memory.
     pub fn new(alloc: Global) -> LineBuffer
@@ -103,6 +104,23 @@ impl LineBuffer {
         ensures { MatchBool result (BeginsWithLine self.now.ahead) (IsUnbroken self.now.ahead) }
     {
         newline_in(self.ahead()).is_some()
+    }
+
+    /// Takes the next line where it lies ahead with its end. It reads nothing, and where there is no such line, or no memory
+    /// for it, what lies ahead stays.
+    pub fn ready_line(&mut self) -> Option<Line>
+        ensures some { IfSome result (λ line. (text : List ℕ) × IsText line self.new.line text × TakesLines self.old self.new (text ∷ [])) }
+        ensures none { IfNone result (TakesLines self.old self.new []) }
+    {
+        if !self.has_line() {
+            return None;
+        }
+        self.begin();
+        match self.take_part() {
+            Ok(true) => Some(self.kind()),
+            Ok(false) => None,
+            Err(_) => None,
+        }
     }
 
     // Forgets the last line.

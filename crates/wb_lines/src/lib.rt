@@ -9,12 +9,14 @@ mod sending;
 mod session;
 mod sink;
 mod source;
+mod turns;
 mod whole;
 
 pub use buffer::{LINE_LIMIT, Line, LineBuffer, LineFault, READ_LIMIT, next_line};
-pub use machine::{Machine, SessionEnd};
+pub use machine::{Asks, LetsGo, Machine, SessionEnd};
 pub use sending::{WriteFault, send};
 pub use session::serve_lines;
 pub use sink::{Output, Sink};
 pub use source::{Input, ReadErr, Source};
+pub use turns::serve_turns;
 pub use whole::{read_all, read_more};

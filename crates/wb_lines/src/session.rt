@@ -13,11 +13,11 @@ use crate::sink::Sink;
 use crate::source::Source;
 use std::alloc::{AllocError, Global};
 
-const TOO_LONG: &[u8] = b"{\"error\":\"E91\",\"name\":\"line-too-long\"}";
+pub(crate) const TOO_LONG: &[u8] = b"{\"error\":\"E91\",\"name\":\"line-too-long\"}";
 
 // Why a line is not answered whole.
 #[derive(Clone, Copy)]
-enum Stop {
+pub(crate) enum Stop {
     WriteFault,
     NoMemory,
 }
@@ -80,7 +80,10 @@ fn answer_line<M: Machine<S>, S, F: Fn(&mut S, &[u8]) -> Result<Vec<u8>, AllocEr
 }
 
 // Sends on what a writer holds back, where the next line takes a read.
-fn flush_before_wait<W: Sink>(writer: &mut W, buffer: &LineBuffer) -> Result<(), WriteFault>
+pub(crate) fn flush_before_wait<W: Sink>(
+    writer: &mut W,
+    buffer: &LineBuffer,
+) -> Result<(), WriteFault>
     ensures bytes { Keeps (W.contents writer.old) (W.contents writer.new) }
     ensures flushed { OnOk result ((W.flushed writer.new ≡ true) ⊎ BeginsWithLine buffer.now.ahead) }
     ensures failed { OnErr result (W.failed writer.new ≡ true) }
@@ -95,7 +98,7 @@ fn flush_before_wait<W: Sink>(writer: &mut W, buffer: &LineBuffer) -> Result<(),
 }
 
 // Sends on what a writer holds back, if it can, where a session ends for another fault.
-fn flush_at_fault<W: Sink>(writer: &mut W)
+pub(crate) fn flush_at_fault<W: Sink>(writer: &mut W)
     ensures { Keeps (W.contents writer.old) (W.contents writer.new) }
 {
     let _ = writer.flush();

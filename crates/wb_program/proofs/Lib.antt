@@ -2,3 +2,4 @@ pub mod Statuses
 pub mod Opening
 pub mod Loading
 pub mod Sent
+pub mod Reading

@@ -29,6 +29,10 @@ RepliesIfRead opening h (Err why) r k = (r ≡ Refused why) × (k ≡ h)
 abbrev pub NothingAsked : Held → Reply → Held → Type 0
 NothingAsked h r k = (r ≡ Refused NoMemory) × (k ≡ h)
 
+-- what a line may be read as: its request, or why it is none, or that there was no memory to read it
+abbrev pub IsReadAs : List ℕ → Result Request Refusal → Type 0
+IsReadAs line asked = (request line ≡ asked) ⊎ (asked ≡ Err NoMemory)
+
 -- A line is answered with the text of a reply of the desk to the pass, which is another one then.
 pub record AnswersSeat (opening : Past) (h : Held) (line text : List ℕ) (k : Held) : Type 0 where
   pub reply : Reply

@@ -1,4 +1,5 @@
-//! Seats on connections of this machine: two-way talk, a connection that is cut within a line, and one that is never read.
+//! Seats on connections of this machine: two-way talk, a connection that is cut within a line, one that is never read, and one
+//! that sends many lines at once.
 
 use std::alloc::Global;
 use std::io::{self, Write};
@@ -31,6 +32,9 @@ const IS_THERE: &[u8] = b"{\"size\":1}";
 
 const LAST_LINES: &[u8] = b"\nrect X {1..1} none\nrect Y {1..1} none\nend\n";
 
+// How many lines of each kind are sent at once.
+const MANY: u32 = 500;
+
 // What the first seat does.
 #[derive(Clone, Copy)]
 enum First {
@@ -40,6 +44,9 @@ enum First {
     IsCut,
     // It makes X and an array, asks for their text 64 times, and never reads.
     NeverReads,
+    // It makes X and an array, and sets and asks for elements in many lines sent at once, with prints and a line that is none
+    // among them. Each reply has to come in its place.
+    SendsMany,
 }
 
 // Asks a line until its reply is that the domain is there, at most 100,000 times.
@@ -67,8 +74,56 @@ fn begin(stream: &mut TcpStream, first: First) -> io::Result<()> {
                 stream.write_all(PRINT)?;
             }
         }
+        First::SendsMany => {}
     }
     Ok(())
+}
+
+// The lines that are sent at once: an array of as many elements, each set to its index, and asked for.
+fn many_lines(alloc: Global) -> io::Result<Vec<u8>> {
+    let mut text = Vec::new(alloc);
+    text.extend_from_slice(MAKE_X)?;
+    write!(
+        text,
+        "{{\"op\":\"domain\",\"d\":\"M\",\"is\":\"{{1..{MANY}}}\"}}\n{{\"op\":\"array\",\"a\":\"N\",\"d\":\"M\"}}\n"
+    )?;
+    for k in 1..=MANY {
+        write!(text, "{{\"op\":\"set\",\"a\":\"N\",\"i\":{k},\"v\":{k}}}\n")?;
+    }
+    for k in 1..=MANY {
+        write!(text, "{{\"op\":\"get\",\"a\":\"N\",\"i\":{k}}}\n")?;
+        if k % 100 == 0 {
+            text.extend_from_slice(PRINT)?;
+            text.extend_from_slice(b"\n")?;
+        }
+    }
+    Ok(text)
+}
+
+// Whether the next reply begins so.
+fn begins(stream: &mut TcpStream, buffer: &mut LineBuffer, front: &[u8]) -> bool {
+    next_line(&mut Input::new(stream), buffer) == Ok(Line::Whole)
+        && buffer.line().starts_with(front)
+}
+
+// Sends many lines at once: whether each reply comes in its place.
+fn many_replies(alloc: Global, stream: TcpStream) -> io::Result<bool> {
+    let mut stream = stream;
+    let mut buffer = LineBuffer::new(alloc);
+    stream.write_all(many_lines(alloc)?.as_slice())?;
+    let mut well = true;
+    for _ in 0..3 + MANY {
+        well &= begins(&mut stream, &mut buffer, b"{\"edit\":");
+    }
+    for k in 1..=MANY {
+        let value = format!(in alloc; "{{\"value\":{k}}}")?;
+        well &= begins(&mut stream, &mut buffer, value.as_bytes());
+        if k % 100 == 0 {
+            well &= begins(&mut stream, &mut buffer, b"{\"text\":");
+            well &= begins(&mut stream, &mut buffer, b"{\"error\":\"E01\"");
+        }
+    }
+    Ok(well)
 }
 
 // Makes X, and waits for Y.
@@ -115,6 +170,14 @@ fn both_seats<R: Threads>(
         First::NeverReads => {
             begin(&mut one, first)?;
             second_seat(alloc, two)
+        }
+        First::SendsMany => {
+            let (came, other) = thread::join(
+                rt,
+                move || many_replies(alloc, one),
+                move || second_seat(alloc, two),
+            );
+            Ok(came? && other?)
         }
     }
 }
@@ -165,5 +228,11 @@ fn cut_connection(rt: HostRuntime) -> Result<(), Fail> {
 #[test]
 fn silent_connection(rt: HostRuntime) -> Result<(), Fail> {
     assert!(rt; ends_well(&rt, rt.alloc(), First::NeverReads)?);
+    Ok(())
+}
+
+#[test]
+fn many_at_once(rt: HostRuntime) -> Result<(), Fail> {
+    assert!(rt; ends_well(&rt, rt.alloc(), First::SendsMany)?);
     Ok(())
 }

@@ -8,7 +8,8 @@ ghost use Rattle.wb_shared.specs.Seats.{IsNumberOfSeats, IsSeatsErr};
 ghost use Rattle.wb_journal.specs.Serving.{own_after, share_after, new_passes, AnswersSome};
 
 use crate::opening::Opening;
-use crate::shared::{Shared, serve};
+use crate::shared::Shared;
+use crate::turn::Turn;
 use std::alloc::Global;
 use std::sync::ledger::{Blank, Ledger, Share};
 use std::sync::{Mutex, MutexGuard, Wait};
@@ -120,7 +121,7 @@ impl<L: Opening> Desk<L> {
 
     // Takes the lock. One request is answered sooner than a thread that sleeps is woken, so it looks a while before it sleeps,
     // and lets other threads run between two looks.
-    fn taken<R: Wait>(&self, rt: &R) -> MutexGuard<'_, Shared<L>> {
+    pub(crate) fn taken<R: Wait>(&self, rt: &R) -> MutexGuard<'_, Shared<L>> {
         for _ in 0..LOOKS {
             if let Some(guard) = self.shared.try_lock() {
                 return guard;
@@ -143,8 +144,7 @@ impl<L: Opening> Desk<L> {
         ensures own { pass.new.own ≡ own_after pass.old.seat pass.old.own request result }
         ensures share { pass.new.share ≡ share_after pass.old.share result }
     {
-        let mut guard = self.taken(rt);
-        serve(&mut guard, pass, request, mover)
+        Turn::at(self).call(rt, pass, request, mover)
     }
 }
 
