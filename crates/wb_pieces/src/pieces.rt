@@ -1,6 +1,5 @@
 ghost use Rattle.std.specs.Prelude.{◌≡◌, ◌≢◌, ℕ, ℤ, ◌<◌, ◌≤◌, ◌↔◌, List, length, IfOk, IfSome, MatchOption, MatchResult, OnOk, OnErr, IfNone, Err};
-ghost use Rattle.std.specs.Prelude.{Some, None, []};
-ghost use Rattle.std.specs.Prelude.{true, slice_index_or, slice_set};
+ghost use Rattle.std.specs.Prelude.{Some, None, [], true, slice_index_or, slice_set};
 ghost use Rattle.std.specs.List.Sorted.{IsStrictlySortedBy};
 ghost use Rattle.std.specs.Map.{keys_of, set_value};
 ghost use Rattle.std.specs.BTreeMap.{is_at};
