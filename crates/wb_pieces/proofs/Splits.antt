@@ -5,15 +5,19 @@ use Rattle.std.proofs.Common.{eqb}
 use Rattle.std.specs.declared.vec.Vec.{Vec}
 use Rattle.std.specs.declared.cmp.Ordering.{Ordering}
 use Rattle.std.specs.declared.cmp.Ordering.TheVariants.{Less, Equal}
-use Rattle.std.specs.Ordering.{is_eq, is_lt}
-use Rattle.std.specs.Cmp.{IsTotalOrder}
+use Rattle.std.specs.Ordering.{is_eq, is_lt, eq_by_cmp}
+use Rattle.std.specs.Cmp.{IsTotalOrder, eq_by_cmp_equiv}
 use Rattle.std.specs.FinMap.{IsAntisymmetric, entries, from_entries, entries_sorted, get-entries, get-from_entries, find, is_sorted}
 use Rattle.std.specs.FinMap.Entries.{same_entries, below_all}
 use Rattle.std.specs.List.{range_with_len, flat_map, list_any, AllByRecursion}
 use Rattle.std.specs.List.Sorted.{IsStrictlySortedBy}
 use Rattle.std.specs.Option.{option_or}
-use Rattle.std.specs.Map.{keys_of}
+use Rattle.std.specs.Map.{keys_of, update, update_all}
+use Rattle.std.specs.BTreeMap.{BTreeMap, IsFromIterResult}
 use Rattle.std.proofs.lemmas.Bool.{true≢false, cases_lt}
+use Rattle.std.proofs.lemmas.List.{append_assoc, append-nil}
+use Rattle.std.proofs.lemmas.Map.Keys.{IsDistinct-from_sorted}
+use Rattle.std.proofs.lemmas.Map.Made.{update_all_distinct}
 use Rattle.wb_array.specs.Elements.{value_at}
 use Rattle.std.proofs.lemmas.List.Kept.{IsStrictlySortedBy-filter}
 use Rattle.std.proofs.lemmas.List.FromFn.{length-map-range_with_len, get_or-map-range_with_len}
@@ -45,6 +49,19 @@ drop_past [] zero l = refl
 drop_past [] (suc k) l = refl
 drop_past (x ∷ xs) zero l = absurd (omega arith)
 drop_past (x ∷ xs) (suc k) l = drop_past xs k (omega arith)
+
+-- pieces one behind the other
+module _ {I Z : Type 0} (vs : List (Vec (I × ℤ) Z)) where
+  pub chained_more : (k : ℕ) (x : Vec (I × ℤ) Z) (old new whole : List (I × ℤ)) → k < length vs → x ≡ get_or vs k x → new ≡ old ++ x.items →
+      old ++ flat_map (λ p. p) (lists_of (drop k vs)) ≡ whole → new ++ flat_map (λ p. p) (lists_of (drop (k + 1) vs)) ≡ whole
+  chained_more k x old new whole l is more h =
+      let left = λ (ws : List (Vec (I × ℤ) Z)). old ++ flat_map (λ p. p) (lists_of ws) in
+      rw more (append_assoc old x.items (flat_map (λ p. p) (lists_of (drop (k + 1) vs))) ∙ ap left (sym (drop_at vs k x l is)) ∙ h)
+
+  pub chained_all : (k : ℕ) (old whole : List (I × ℤ)) → length vs ≤ k → old ++ flat_map (λ p. p) (lists_of (drop k vs)) ≡ whole → old ≡ whole
+  chained_all k old whole l h =
+      let left = λ (ws : List (Vec (I × ℤ) Z)). old ++ flat_map (λ p. p) (lists_of ws) in
+      sym (append-nil old) ∙ ap left (sym (drop_past vs k l)) ∙ h
 
 -- where all indices have the one locale, its piece is the array
 pub all_on_one : {I : Type 0} (locale : I → ℕ) (es : List (I × ℤ)) → LieBelow locale 1 es → piece_of locale es 0 ≡ es
@@ -223,30 +240,52 @@ module _ {I : Type 0} (cmp : I → I → Ordering) where
       IsStrictlySortedBy cmp (keys_of (piece_of locale es l))
   piece-ascending locale es l h = rw (keys_of-piece locale es l) (IsStrictlySortedBy-filter cmp (λ k. eqb (locale k) l) (keys_of es) h)
 
-  -- one more piece is gathered
-  pub gather_more : (o : Option ℤ) (xs ys : List (I × ℤ)) (q : I) →
-      option_or o (value_at cmp (xs ++ ys) q) ≡ option_or (option_or o (value_at cmp xs q)) (value_at cmp ys q)
-  gather_more o xs ys q = rw (value_at-append xs ys q) (by o (value_at cmp xs q) (value_at cmp ys q))
-    where
-      by : (a b c : Option ℤ) → option_or a (option_or b c) ≡ option_or (option_or a b) c
-      by None b c = refl
-      by (Some v) b c = refl
+  -- a map that is made of all pieces at once
+  update_all-append : (f : I → Option ℤ) (xs ys : List (I × ℤ)) (q : I) →
+      update_all (eq_by_cmp cmp) f (xs ++ ys) q ≡ update_all (eq_by_cmp cmp) (update_all (eq_by_cmp cmp) f xs) ys q
+  update_all-append f [] ys q = refl
+  update_all-append f (e ∷ xs) ys q = update_all-append (update (eq_by_cmp cmp) f e.0 (Some e.1)) xs ys q
 
-  -- the pieces from place k on are left to be gathered
-  module _ {Z : Type 0} (vs : List (Vec (I × ℤ) Z)) where
-    pub gathered_more : (k : ℕ) (x : Vec (I × ℤ) Z) (o n all : Option ℤ) (q : I) → k < length vs → x ≡ get_or vs k x →
-        n ≡ option_or o (value_at cmp x.items q) → option_or o (value_at cmp (flat_map (λ p. p) (lists_of (drop k vs))) q) ≡ all →
-        option_or n (value_at cmp (flat_map (λ p. p) (lists_of (drop (k + 1) vs))) q) ≡ all
-    gathered_more k x o n all q l is new h =
-        let left = λ (ws : List (Vec (I × ℤ) Z)). option_or o (value_at cmp (flat_map (λ p. p) (lists_of ws)) q) in
-        rw new (sym (gather_more o x.items (flat_map (λ p. p) (lists_of (drop (k + 1) vs))) q) ∙ ap left (sym (drop_at vs k x l is)) ∙ h)
-
-    pub gathered_all : (k : ℕ) (o all : Option ℤ) (q : I) → length vs ≤ k → option_or o (value_at cmp (flat_map (λ p. p) (lists_of (drop k vs))) q) ≡ all →
-        o ≡ all
-    gathered_all k o all q l h =
-        let left = λ (ws : List (Vec (I × ℤ) Z)). option_or o (value_at cmp (flat_map (λ p. p) (lists_of ws)) q) in
-        by o ∙ ap left (sym (drop_past vs k l)) ∙ h
+  module _ (total : IsTotalOrder cmp) (exact : IsAntisymmetric cmp) (locale : I → ℕ) where
+    all_at_once : (es : List (I × ℤ)) → IsStrictlySortedBy cmp (keys_of es) → (ls : List ℕ) (f : I → Option ℤ) (q : I) →
+        update_all (eq_by_cmp cmp) f (flat_map (λ p. p) (map (piece_of locale es) ls)) q ≡ cond (list_any (eqb (locale q)) ls)
+        (option_or (value_at cmp es q) (f q)) (f q)
+    all_at_once es h [] f q = refl
+    all_at_once es h (l ∷ ls) f q =
+        let piece = piece_of locale es l in
+        let distinct = IsDistinct-from_sorted cmp (keys_of piece) (piece-ascending locale es l h) in
+        let one : update_all (eq_by_cmp cmp) f piece q ≡ option_or (cond (eqb (locale q) l) (value_at cmp es q) None) (f q) =
+        update_all_distinct (eq_by_cmp_equiv total) (eq_by_cmp cmp) (λ x y. refl) f piece q distinct ∙
+        ap (λ v. option_or v (f q)) (value_at-piece exact locale es l q) in
+        update_all-append f piece (flat_map (λ p. p) (map (piece_of locale es) ls)) q ∙
+        all_at_once es h ls (update_all (eq_by_cmp cmp) f piece) q ∙
+        ap (λ o. cond (list_any (eqb (locale q)) ls) (option_or (value_at cmp es q) o) o) one ∙
+        by (eqb (locale q) l) (list_any (eqb (locale q)) ls) (value_at cmp es q) (f q)
       where
-        by : (a : Option ℤ) → a ≡ option_or a None
-        by None = refl
-        by (Some v) = refl
+        by : (a b : Bool) (v o : Option ℤ) →
+            cond b (option_or v (option_or (cond a v None) o)) (option_or (cond a v None) o) ≡ cond (a || b) (option_or v o) o
+        by true true None o = refl
+        by true true (Some v) o = refl
+        by true false v o = refl
+        by false true v o = refl
+        by false false v o = refl
+
+    collected_at : (n : ℕ) (es : List (I × ℤ)) (q : I) → IsStrictlySortedBy cmp (keys_of es) → LieBelow locale n es →
+        update_all (eq_by_cmp cmp) (λ k. None) (flat_map (λ p. p) (pieces_of locale n es)) q ≡ value_at cmp es q
+    collected_at n es q h below =
+        all_at_once es h (range_with_len 0 n) (λ k. None) q ∙ by (list_any (eqb (locale q)) (range_with_len 0 n)) (value_at cmp es q) ∙
+        sym (value_at-pieces exact locale es (range_with_len 0 n) q) ∙ value_at-split exact locale n es q below
+      where
+        by : (b : Bool) (v : Option ℤ) → cond b (option_or v None) None ≡ cond b v None
+        by true None = refl
+        by true (Some v) = refl
+        by false v = refl
+
+    pub collected_is : (n size : ℕ) (ps : List (List (I × ℤ))) (m : BTreeMap I ℤ) → IsSplit cmp locale n size ps →
+        IsFromIterResult cmp (flat_map (λ p. p) ps) m → m.entries ≡ merged cmp ps
+    collected_is n size ps m u made =
+        let es = merged cmp ps in
+        let all = λ (q : I) (xs : List (List (I × ℤ))). update_all (eq_by_cmp cmp) (λ k. None) (flat_map (λ p. p) xs) q in
+        let there = λ (q : I) (xs : List (List (I × ℤ))). value_at cmp (flat_map (λ p. p) xs) q in
+        sym (merged_is total exact ps m.entries made.1 (λ q. ap (there q) u.pieces ∙ value_at-split exact locale n es q u.below ∙
+        sym (made.0 q ∙ ap (all q) u.pieces ∙ collected_at n es q (merged-ascending total ps) u.below)))

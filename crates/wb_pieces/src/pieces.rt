@@ -2,15 +2,16 @@ ghost use Rattle.std.specs.Prelude.{◌≡◌, ◌≢◌, ℕ, ℤ, ◌<◌, ◌
 ghost use Rattle.std.specs.Prelude.{Some, None, [], true, slice_index_or, slice_set};
 ghost use Rattle.std.specs.List.Sorted.{IsStrictlySortedBy};
 ghost use Rattle.std.specs.Map.{keys_of, set_value};
-ghost use Rattle.std.specs.BTreeMap.{is_at};
+ghost use Rattle.std.specs.List.{flat_map};
+ghost use Rattle.std.specs.BTreeMap.{is_at, IsFromIterResult};
 ghost use Rattle.wb_array.specs.Elements.{value_at};
-ghost use Rattle.wb_pieces.specs.Pieces.{piece_of, pieces_of, lists_of, merged, LieBelow};
+ghost use Rattle.wb_pieces.specs.Pieces.{piece_of, pieces_of, lists_of, LieBelow};
 
 use crate::part::part_of;
 use std::alloc::{AllocError, Global};
 use std::collections::BTreeMap;
 use std::marker::{Model, PhantomData};
-use wb_array::{Bound, Dropped, OutOfDomain, Store, put_absent};
+use wb_array::{Bound, Dropped, OutOfDomain, Store};
 use wb_dist::PieceErr;
 use wb_range::{Domain, Key, Mapping, NoMemory};
 
@@ -241,16 +242,23 @@ impl<D: Domain, M: Mapping<Index = D::Index>> Store for Pieces<D, M> {
     }
 }
 
-// The pairs of all pieces in one map.
+// The pairs of all pieces in one map, which is made of all at once.
 fn gathered<I: Key>(alloc: Global, pieces: &[Vec<(I, i64)>]) -> Result<BTreeMap<I, i64>, AllocError>
-    ensures { IfOk result (λ m. m.entries ≡ merged I.cmp (lists_of pieces.now)) }
+    ensures { IfOk result (IsFromIterResult I.cmp (flat_map (λ p. p) (lists_of pieces.now))) }
 {
-    let mut map = BTreeMap::new(alloc);
+    let pairs = chained(alloc, pieces)?;
+    pairs.into_iter().collect(alloc)
+}
+
+// The pairs of all pieces, one piece behind the other.
+fn chained<I: Copy>(alloc: Global, pieces: &[Vec<(I, i64)>]) -> Result<Vec<(I, i64)>, AllocError>
+    ensures { IfOk result (λ v. v.items ≡ flat_map (λ p. p) (lists_of pieces.now)) }
+{
+    let mut pairs = Vec::new(alloc);
     for piece in pieces {
-        put_absent(&mut map, piece)?;
+        pairs.extend_from_slice(piece)?;
     }
-    let _ = map.len();
-    Ok(map)
+    Ok(pairs)
 }
 
 // The pairs of a map.
