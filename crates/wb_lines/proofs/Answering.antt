@@ -147,30 +147,12 @@ module _ {M P : Type 0} (answers : M → List ℕ → List ℕ → M → Type 0)
   answering_stops m n k before mid after asked t held left count e a h =
       stop_by m n k before mid after asked a.answered a.rest a.text t left count a.all (subst (λ ts. AreTaken reads a.rest ts) e a.taken) a.replies a.written h
 
-  -- a turn whose lines were taken, and then answered; what was held is let go
-  pub turn_ok : {E : Type 0} (m n k : M) (before after : Option (List ℕ)) (line : Line) (kept : List ℕ) (old mid : Reading) (held : List (Option P))
+  -- a turn whose lines were taken, and then answered
+  pub turn_ok : {E : Type 0} (m n : M) (before after : Option (List ℕ)) (line : Line) (kept : List ℕ) (old mid : Reading) (held : List (Option P))
       (r : Result ℕ E) (more : List (List ℕ)) → TakesLines old mid more → ((first : List ℕ) → IsText line kept first → AreTaken reads (first ∷ more) held)
-      → k ≡ n
       → IfOk r (λ count. (asked : List (List ℕ)) → AreTaken reads asked held → (text : List ℕ) × Appends before after text
       × AnswersAll answers m asked text count n)
       → IfOk r (λ count. (first : List ℕ) → IsText line kept first → (behind : List (List ℕ)) × TakesLines old mid behind
-      × ((text : List ℕ) × Appends before after text × AnswersAll answers m (first ∷ behind) text count k))
-  turn_ok m n k before after line kept old mid held (Ok count) more t h e a =
-      λ first is.
-      let told = a (first ∷ more) (h first is) in
-      (more, t, (told.0, told.1, subst (λ s. AnswersAll answers m (first ∷ more) told.0 count s) (sym e) told.2))
-  turn_ok m n k before after line kept old mid held (Err x) more t h e a = tt
-
-  -- and one that was not answered to its end
-  pub turn_err : {B : Type 0} (m n k : M) (before after : Option (List ℕ)) (line : Line) (kept : List ℕ) (old mid : Reading) (held : List (Option P))
-      (r : Result ℕ (ℕ × B)) (more : List (List ℕ)) → TakesLines old mid more
-      → ((first : List ℕ) → IsText line kept first → AreTaken reads (first ∷ more) held) → k ≡ n
-      → IfErr r (λ halt. (asked : List (List ℕ)) → AreTaken reads asked held → (text : List ℕ) × Appends before after text
-      × AnswersSome answers m asked text halt.0 n)
-      → IfErr r (λ halt. (first : List ℕ) → IsText line kept first → (behind : List (List ℕ)) × TakesLines old mid behind
-      × ((text : List ℕ) × Appends before after text × AnswersSome answers m (first ∷ behind) text halt.0 k))
-  turn_err m n k before after line kept old mid held (Ok count) more t h e a = tt
-  turn_err m n k before after line kept old mid held (Err halt) more t h e a =
-      λ first is.
-      let told = a (first ∷ more) (h first is) in
-      (more, t, (told.0, told.1, subst (λ s. AnswersSome answers m (first ∷ more) told.0 halt.0 s) (sym e) told.2))
+      × ((text : List ℕ) × Appends before after text × AnswersAll answers m (first ∷ behind) text count n))
+  turn_ok m n before after line kept old mid held (Ok count) more t h a = λ first is. (more, t, a (first ∷ more) (h first is))
+  turn_ok m n before after line kept old mid held (Err x) more t h a = tt

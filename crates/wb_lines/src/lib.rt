@@ -13,7 +13,7 @@ mod turns;
 mod whole;
 
 pub use buffer::{LINE_LIMIT, Line, LineBuffer, LineFault, READ_LIMIT, next_line};
-pub use machine::{Asks, LetsGo, Machine, SessionEnd};
+pub use machine::{Asks, Machine, SessionEnd};
 pub use sending::{WriteFault, send};
 pub use session::serve_lines;
 pub use sink::{Output, Sink};

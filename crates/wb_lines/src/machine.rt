@@ -1,4 +1,4 @@
-ghost use Rattle.std.specs.Prelude.{◌≡◌, ℕ, List};
+ghost use Rattle.std.specs.Prelude.{ℕ, List};
 
 /// How a session ended, each with the number of lines that were answered whole.
 #[derive(Clone, Copy, Debug, PartialEq, Eq)]
@@ -24,11 +24,4 @@ pub trait Machine<S> {
 /// What a line may be read as, before it is answered in a state. It has no code either.
 pub trait Asks<P> {
     ghost reads: { List ℕ → P → Type 0 };
-}
-
-/// A state that may hold something, as a lock, from one line to the next. What it holds is no part of what contracts see.
-pub trait LetsGo {
-    /// Lets go what is held.
-    fn let_go(&mut self)
-        ensures { self.new ≡ self.old };
 }

@@ -9,7 +9,7 @@ ghost use Rattle.wb_lines.specs.Turns.{TakesLines, ReadsBy, AnswersReadBy, IsTak
 ghost use Rattle.wb_lines.specs.declared.machine.SessionEnd.{SessionEnd};
 
 use crate::buffer::{Line, LineBuffer, LineFault, next_line};
-use crate::machine::{Asks, LetsGo, Machine, SessionEnd};
+use crate::machine::{Asks, Machine, SessionEnd};
 use crate::sending::send;
 use crate::session::{Stop, TOO_LONG, flush_at_fault, flush_before_wait};
 use crate::sink::Sink;
@@ -102,23 +102,32 @@ fn reply_to<M: Machine<S> + Asks<P>, S, P, F: Fn(&mut S, P) -> Result<Vec<u8>, A
 }
 
 // Lets go what is held, where to write so many bytes may have to wait.
-fn let_go_before<S: LetsGo, W: Sink>(state: &mut S, writer: &W, count: usize)
-    ensures { state.new ≡ state.old }
+fn let_go_before<H: Fn(), W: Sink>(let_go: &H, writer: &W, count: usize)
+    requires { H.IsAlwaysCallable let_go.now }
 {
     if !writer.has_room(count) {
-        state.let_go();
+        let_go();
     }
 }
 
 // Answers a line that was taken: the reply and a line end.
 fn answer_line<
     M: Machine<S> + Asks<P>,
-    S: LetsGo,
+    S,
     P,
     F: Fn(&mut S, P) -> Result<Vec<u8>, AllocError>,
+    H: Fn(),
     W: Sink,
->(alloc: Global, state: &mut S, answer: &F, writer: &mut W, asked: Option<P>) -> Result<(), Stop>
+>(
+    alloc: Global,
+    state: &mut S,
+    answer: &F,
+    let_go: &H,
+    writer: &mut W,
+    asked: Option<P>,
+) -> Result<(), Stop>
     requires callable { F.IsAlwaysCallable answer.now }
+    requires free { H.IsAlwaysCallable let_go.now }
     requires answers { AnswersReadBy F.Fn answer.now M.reads M.answers }
     ensures ok { OnOk result ((line : List ℕ) → IsTaken M.reads line asked → (reply : List ℕ)
         × AnswersLine M.answers state.old line reply state.new
@@ -137,7 +146,7 @@ fn answer_line<
     if reply.push(b'\n').is_err() {
         return Err(Stop::NoMemory);
     }
-    let_go_before(state, writer, reply.len());
+    let_go_before(let_go, writer, reply.len());
     match send(writer, reply.as_slice()) {
         Ok(()) => Ok(()),
         Err(_) => Err(Stop::WriteFault),
@@ -148,18 +157,21 @@ fn answer_line<
 // the writer has no room for. Says how many were answered whole.
 fn answer_turn<
     M: Machine<S> + Asks<P>,
-    S: LetsGo,
+    S,
     P: Drop,
     F: Fn(&mut S, P) -> Result<Vec<u8>, AllocError>,
+    H: Fn(),
     W: Sink,
 >(
     alloc: Global,
     state: &mut S,
     answer: &F,
+    let_go: &H,
     writer: &mut W,
     turn: &mut VecDeque<Option<P>>,
 ) -> Result<u64, (u64, Stop)>
     requires callable { F.IsAlwaysCallable answer.now }
+    requires free { H.IsAlwaysCallable let_go.now }
     requires answers { AnswersReadBy F.Fn answer.now M.reads M.answers }
     requires short { length turn.old.items ≤ 256 }
     ensures ok { IfOk result (λ count. (asked : List (List ℕ)) → AreTaken M.reads asked turn.old.items → (text : List ℕ)
@@ -172,7 +184,7 @@ fn answer_turn<
 {
     let mut answered = 0;
     while let Some(asked) = turn.pop_front() {
-        match answer_line::<M, S, P, F, W>(alloc, state, answer, writer, asked) {
+        match answer_line::<M, S, P, F, H, W>(alloc, state, answer, let_go, writer, asked) {
             Ok(()) => answered += 1,
             Err(stop) => return Err((answered, stop)),
         }
@@ -183,16 +195,18 @@ fn answer_turn<
 // Answers the line that was read last, and those that lie ahead, up to the limit of a turn.
 fn serve_turn<
     M: Machine<S> + Asks<P>,
-    S: LetsGo,
+    S,
     P: Drop,
     G: Fn(&[u8]) -> P,
     F: Fn(&mut S, P) -> Result<Vec<u8>, AllocError>,
+    H: Fn(),
     W: Sink,
 >(
     alloc: Global,
     state: &mut S,
     parse: &G,
     answer: &F,
+    let_go: &H,
     writer: &mut W,
     buffer: &mut LineBuffer,
     line: Line,
@@ -200,6 +214,7 @@ fn serve_turn<
     requires readable { G.IsAlwaysCallable parse.now }
     requires reads { ReadsBy G.Fn parse.now M.reads }
     requires callable { F.IsAlwaysCallable answer.now }
+    requires free { H.IsAlwaysCallable let_go.now }
     requires answers { AnswersReadBy F.Fn answer.now M.reads M.answers }
     ensures ok { IfOk result (λ count. (first : List ℕ) → IsText line buffer.old.line first → (more : List (List ℕ))
         × TakesLines buffer.old buffer.new more
@@ -215,26 +230,36 @@ fn serve_turn<
     if take_turn::<M, P, G>(buffer, parse, line, &mut turn).is_err() {
         return Err((0, Stop::NoMemory));
     }
-    let answered = answer_turn::<M, S, P, F, W>(alloc, state, answer, writer, &mut turn);
-    state.let_go();
+    let answered = answer_turn::<M, S, P, F, H, W>(alloc, state, answer, let_go, writer, &mut turn);
+    let_go();
     answered
 }
 
 /// Answers each line that is read, in order, until the end of input or a fault, as `serve_lines` does. Lines that lie ahead
-/// are first read, each by itself, and then answered in one turn, in which what the state takes hold of stays held. Nothing
-/// is held while a line is read, the writer is flushed, or a reply is sent that the writer has no room for.
+/// are first read, each by itself, and then answered in one turn, in which what `answer` takes hold of stays held:
+/// it is let go, by `let_go`, before a line is read, the writer is flushed, or a reply is sent that the writer has no room for.
 pub fn serve_turns<
     M: Machine<S> + Asks<P>,
-    S: LetsGo,
+    S,
     P: Drop,
     G: Fn(&[u8]) -> P,
     F: Fn(&mut S, P) -> Result<Vec<u8>, AllocError>,
+    H: Fn(),
     R: Source,
     W: Sink,
->(alloc: Global, state: &mut S, parse: &G, answer: &F, reader: &mut R, writer: &mut W) -> SessionEnd
+>(
+    alloc: Global,
+    state: &mut S,
+    parse: &G,
+    answer: &F,
+    let_go: &H,
+    reader: &mut R,
+    writer: &mut W,
+) -> SessionEnd
     requires readable { G.IsAlwaysCallable parse.now }
     requires reads { ReadsBy G.Fn parse.now M.reads }
     requires callable { F.IsAlwaysCallable answer.now }
+    requires free { H.IsAlwaysCallable let_go.now }
     requires answers { AnswersReadBy F.Fn answer.now M.reads M.answers }
     ensures serves { (read : List ℕ) × Consumes (R.remaining reader.old) (R.remaining reader.new) read
         × ((text : List ℕ) × Appends (W.contents writer.old) (W.contents writer.new) text
@@ -251,11 +276,12 @@ pub fn serve_turns<
         match next_line(reader, &mut buffer) {
             Ok(Line::End) => return SessionEnd::Done(answered),
             Ok(line) => {
-                match serve_turn::<M, S, P, G, F, W>(
+                match serve_turn::<M, S, P, G, F, H, W>(
                     alloc,
                     state,
                     parse,
                     answer,
+                    let_go,
                     writer,
                     &mut buffer,
                     line,

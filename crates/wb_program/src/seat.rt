@@ -8,44 +8,20 @@ ghost use Rattle.wb_record.specs.wb_proto.specs.Requests.{request};
 ghost use Rattle.wb_program.specs.Serving.{RepliesIfRead, NothingAsked, AnswersSeat, IsReadAs};
 
 use std::alloc::{AllocError, Global};
-use std::marker::{Model, PhantomData};
+use std::marker::PhantomData;
 use std::sync::Wait;
-use wb_lines::{Asks, LetsGo, Machine, Sink, Source, serve_turns};
+use wb_lines::{Asks, Machine, Sink, Source, serve_turns};
 use wb_record::wb_history::Refusal;
 use wb_record::wb_proto::{Reply, Request, read_request, reply_text};
 use wb_redist::Mover;
 use wb_shared::{Desk, Opening, Pass, Turn};
-
-// A pass at work at a desk, with its turn there. Contracts see the pass.
-#[derive(Drop)]
-struct AtWork<'d, L: Opening, R, M> {
-    rt: &'d R,
-    alloc: Global,
-    mover: &'d M,
-    pass: Pass<L>,
-    turn: Turn<'d, L>,
-}
-
-impl<'d, L: Opening, R, M> Model for AtWork<'d, L, R, M> {
-    ghost use Rattle.wb_shared.specs.wb_journal.specs.Serving.{Held};
-
-    ghost Value = { Held };
-
-    ghost view = { λ a. a.pass };
-}
-
-impl<'d, L: Opening, R, M> LetsGo for AtWork<'d, L, R, M> {
-    fn let_go(&mut self) {
-        self.turn.let_go();
-    }
-}
 
 // What a seat at a desk of this name may answer.
 struct Seat<L> {
     of: PhantomData<L>,
 }
 
-impl<'d, L: Opening, R, M> Machine<AtWork<'d, L, R, M>> for Seat<L> {
+impl<L: Opening> Machine<Pass<L>> for Seat<L> {
     ghost answers = { AnswersSeat L.opening };
 }
 
@@ -54,32 +30,73 @@ impl<L: Opening> Asks<Result<Request, Refusal>> for Seat<L> {
 }
 
 // The reply to a line that was read: that of the desk to its request, or why it is none.
-fn reply_to<'d, L: Opening, R: Wait, M: Mover>(
-    seat: &mut AtWork<'d, L, R, M>,
+fn reply_to<L: Opening, R: Wait, M: Mover>(
+    rt: &R,
+    turn: &Turn<'_, L>,
+    pass: &mut Pass<L>,
     asked: Result<Request, Refusal>,
+    mover: &M,
 ) -> Reply
-    ensures { (line : List ℕ) → IsReadAs line asked → RepliesIfRead L.opening seat.old (request line) result seat.new ⊎ NothingAsked seat.old result seat.new }
+    ensures { (line : List ℕ) → IsReadAs line asked → RepliesIfRead L.opening pass.old (request line) result pass.new ⊎ NothingAsked pass.old result pass.new }
 {
     match asked {
-        Ok(request) => seat.turn.call(seat.rt, &mut seat.pass, request, seat.mover),
+        Ok(request) => turn.call(rt, pass, request, mover),
         Err(why) => Reply::Refused(why),
     }
 }
 
 // The text of the reply to a line that was read.
-fn answer_asked<'d, L: Opening, R: Wait, M: Mover>(
-    seat: &mut AtWork<'d, L, R, M>,
+fn answer_asked<L: Opening, R: Wait, M: Mover>(
+    rt: &R,
+    alloc: Global,
+    turn: &Turn<'_, L>,
+    pass: &mut Pass<L>,
     asked: Result<Request, Refusal>,
+    mover: &M,
 ) -> Result<Vec<u8>, AllocError>
-    ensures ok { IfOk result (λ reply. (line : List ℕ) → IsReadAs line asked → AnswersSeat L.opening seat.old line reply.items seat.new) }
-    ensures err { OnErr result ((line : List ℕ) → IsReadAs line asked → MayAnswer (AnswersSeat L.opening) seat.old line seat.new) }
+    ensures ok { IfOk result (λ reply. (line : List ℕ) → IsReadAs line asked → AnswersSeat L.opening pass.old line reply.items pass.new) }
+    ensures err { OnErr result ((line : List ℕ) → IsReadAs line asked → MayAnswer (AnswersSeat L.opening) pass.old line pass.new) }
 {
-    let alloc = seat.alloc;
-    let reply = reply_to(seat, asked);
+    let reply = reply_to(rt, turn, pass, asked, mover);
     match reply_text(alloc, &reply) {
         Ok(text) => Ok(text.into_bytes()),
         Err(_) => Err(AllocError),
     }
+}
+
+// As `serve_seat`, by a turn at the desk.
+fn serve_in_turns<L: Opening, R: Wait, I: Source, O: Sink, M: Mover>(
+    rt: &R,
+    alloc: Global,
+    turn: &Turn<'_, L>,
+    pass: Pass<L>,
+    reader: &mut I,
+    writer: &mut O,
+    mover: &M,
+) -> Pass<L>
+    ensures { (end : SessionEnd)
+        × ReadsUntil end (I.remaining reader.new) (I.failed reader.new) (I.reads reader.old) (I.reads reader.new)
+        × WritesUntil end (O.flushed writer.new) (O.failed writer.new)
+        × ((read : List ℕ) × Consumes (I.remaining reader.old) (I.remaining reader.new) read
+        × ((text : List ℕ) × Appends (O.contents writer.old) (O.contents writer.new) text
+        × Serves (AnswersSeat L.opening) end pass read text result)) }
+{
+    let mut pass = pass;
+    let parse = |line: &[u8]| -> Result<Request, Refusal>
+        ensures { IsReadAs line.now result }
+    { read_request(alloc, line) };
+    let answer = |pass: &mut Pass<L>, asked: Result<Request, Refusal>| -> Result<
+        Vec<u8>,
+        AllocError,
+    >
+        ensures ok { IfOk result (λ reply. (line : List ℕ) → IsReadAs line asked → AnswersSeat L.opening pass.old line reply.items pass.new) }
+        ensures err { OnErr result ((line : List ℕ) → IsReadAs line asked → MayAnswer (AnswersSeat L.opening) pass.old line pass.new) }
+    { answer_asked(rt, alloc, turn, pass, asked, mover) };
+    let let_go = || turn.let_go();
+    let _ = serve_turns::<Seat<L>, Pass<L>, Result<Request, Refusal>, _, _, _, I, O>(
+        alloc, &mut pass, &parse, &answer, &let_go, reader, writer,
+    );
+    pass
 }
 
 /// Answers each line that is read at a seat of a desk, in order, until the end of input or a fault, and gives the pass
@@ -101,23 +118,8 @@ pub fn serve_seat<L: Opening, R: Wait, I: Source, O: Sink, M: Mover>(
         × ((text : List ℕ) × Appends (O.contents writer.old) (O.contents writer.new) text
         × Serves (AnswersSeat L.opening) end pass read text result)) }
 {
-    let mut seat = AtWork {
-        rt,
-        alloc,
-        mover,
-        pass,
-        turn: Turn::at(desk),
-    };
-    let parse = |line: &[u8]| -> Result<Request, Refusal>
-        ensures { IsReadAs line.now result }
-    { read_request(alloc, line) };
-    let _ = serve_turns::<Seat<L>, AtWork<'_, L, R, M>, Result<Request, Refusal>, _, _, I, O>(
-        alloc,
-        &mut seat,
-        &parse,
-        &answer_asked::<L, R, M>,
-        reader,
-        writer,
-    );
-    seat.pass
+    let turn = Turn::at(desk);
+    let pass = serve_in_turns(rt, alloc, &turn, pass, reader, writer, mover);
+    turn.end();
+    pass
 }

@@ -144,7 +144,10 @@ impl<L: Opening> Desk<L> {
         ensures own { pass.new.own ≡ own_after pass.old.seat pass.old.own request result }
         ensures share { pass.new.share ≡ share_after pass.old.share result }
     {
-        Turn::at(self).call(rt, pass, request, mover)
+        let turn = Turn::at(self);
+        let reply = turn.call(rt, pass, request, mover);
+        turn.end();
+        reply
     }
 }
 

@@ -6,27 +6,30 @@ ghost use Rattle.wb_journal.specs.Serving.{own_after, share_after, AnswersSome};
 use crate::desk::Desk;
 use crate::opening::Opening;
 use crate::shared::{Shared, serve};
+use std::cell::Cell;
 use std::sync::{MutexGuard, Wait};
 use wb_journal::Pass;
 use wb_journal::wb_proto::{Reply, Request};
 use wb_redist::Mover;
 
-/// A turn at a desk. It takes the desk's lock for its first request, and holds it until it is let go.
-#[derive(Drop)]
+/// A turn at a desk. It takes the desk's lock for its first request, and holds it until it is let go. It has to be ended.
 pub struct Turn<'d, L: Opening> {
     desk: &'d Desk<L>,
-    held: Option<MutexGuard<'d, Shared<L>>>,
+    held: Cell<Option<MutexGuard<'d, Shared<L>>>>,
 }
 
 impl<'d, L: Opening> Turn<'d, L> {
     /// A turn that does not hold the lock yet.
     pub fn at(desk: &'d Desk<L>) -> Turn<'d, L> {
-        Turn { desk, held: None }
+        Turn {
+            desk,
+            held: Cell::new(None),
+        }
     }
 
     /// Answers one request of a pass under the lock, which stays held.
     pub fn call<M: Mover>(
-        &mut self,
+        &self,
         rt: &impl Wait,
         pass: &mut Pass<L>,
         request: Request,
@@ -42,12 +45,18 @@ impl<'d, L: Opening> Turn<'d, L> {
             None => self.desk.taken(rt),
         };
         let reply = serve(&mut guard, pass, request, mover);
-        self.held = Some(guard);
+        self.held.set(Some(guard));
         reply
     }
 
     /// Lets the lock go, if it is held.
-    pub fn let_go(&mut self) {
-        self.held = None;
+    pub fn let_go(&self) {
+        self.held.set(None);
+    }
+
+    /// Ends the turn, and with it lets the lock go.
+    pub fn end(self) {
+        let Turn { desk: _, held } = self;
+        let _ = held.into_inner();
     }
 }

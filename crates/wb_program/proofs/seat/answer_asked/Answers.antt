@@ -15,4 +15,4 @@ stood opening h line r k is = inr (reply_of r, record { reply = r; is_reply = is
 
 pub returns-clause-err : goal.returns-clause-err
 returns-clause-err g c = λ line is.
-    stood g.L.Opening.opening c.args.seat.now line c.reply_to-reply.result c.reply_to-reply.new.seat (c.reply_to-reply.ensures line is)
+    stood g.L.Opening.opening c.args.pass.now line c.reply_to-reply.result c.reply_to-reply.new.pass (c.reply_to-reply.ensures line is)
