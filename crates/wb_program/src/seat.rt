@@ -81,10 +81,12 @@ fn serve_in_turns<L: Opening, R: Wait, I: Source, O: Sink, M: Mover>(
         × ((text : List ℕ) × Appends (O.contents writer.old) (O.contents writer.new) text
         × Serves (AnswersSeat L.opening) end pass read text result)) }
 {
+    // (each of the three functions borrows variables of its own)
     let mut pass = pass;
+    let to_read = alloc;
     let parse = |line: &[u8]| -> Result<Request, Refusal>
         ensures { IsReadAs line.now result }
-    { read_request(alloc, line) };
+    { read_request(to_read, line) };
     let answer = |pass: &mut Pass<L>, asked: Result<Request, Refusal>| -> Result<
         Vec<u8>,
         AllocError,
@@ -92,7 +94,8 @@ fn serve_in_turns<L: Opening, R: Wait, I: Source, O: Sink, M: Mover>(
         ensures ok { IfOk result (λ reply. (line : List ℕ) → IsReadAs line asked → AnswersSeat L.opening pass.old line reply.items pass.new) }
         ensures err { OnErr result ((line : List ℕ) → IsReadAs line asked → MayAnswer (AnswersSeat L.opening) pass.old line pass.new) }
     { answer_asked(rt, alloc, turn, pass, asked, mover) };
-    let let_go = || turn.let_go();
+    let held = turn;
+    let let_go = || held.let_go();
     let _ = serve_turns::<Seat<L>, Pass<L>, Result<Request, Refusal>, _, _, _, I, O>(
         alloc, &mut pass, &parse, &answer, &let_go, reader, writer,
     );
