@@ -10,7 +10,7 @@ pub mod Leading
 pub mod Objects
 pub mod Users
 pub mod Families
-pub mod Counts
+pub mod Runs
 pub mod Members
 pub mod Lying
 pub mod TwoRanks

@@ -1,5 +1,5 @@
 -- What a map of the cells shows, and how its methods change that.
-use Rattle.std.proofs.Common.{if◌then◌else◌, ◌≡◌, cond, Bool, true, false, ◌||◌, List, [], ◌∷◌, ◌++◌, refl, sym, ap, ◌∙◌, Some, None}
+use Rattle.std.proofs.Common.{◌≡◌, Result, Ok, Err, OnOk, OnErr, cond, true, false, ◌||◌, List, [], ◌∷◌, ◌++◌, refl, sym, ap, ◌∙◌, Some, None}
 use Rattle.std.specs.Ordering.{eq_by_cmp}
 use Rattle.std.specs.Cmp.{eq_by_cmp_equiv}
 use Rattle.std.specs.Map.{lookup}
@@ -48,7 +48,7 @@ once-push (y ∷ xs) x once new =
     (last_of xs x y.cell ∙ rw (once.0, (eq_by_cmp_equiv cell_order.total).symm y.cell x.cell, parts.0) refl, once-push xs x once.1 parts.1)
 
 -- a change was added, or none was
-pub once_pushed : (b : Bool) (xs ys : Changes) (x : Change Cell Value) → ys ≡ (if b then xs ++ x ∷ [] else xs) → AllOnce cell_cmp xs →
-    changes cell_cmp xs x.cell ≡ false → AllOnce cell_cmp ys
-once_pushed true xs ys x is once new = rw is (once-push xs x once new)
-once_pushed false xs ys x is once new = rw is once
+pub once_pushed : {E : Type 0} (r : Result (Unit {0}) E) (xs ys : Changes) (x : Change Cell Value) → OnOk r (ys ≡ xs ++ x ∷ []) → OnErr r (ys ≡ xs) →
+    AllOnce cell_cmp xs → changes cell_cmp xs x.cell ≡ false → AllOnce cell_cmp ys
+once_pushed (Ok u) xs ys x ok err once new = rw ok (once-push xs x once new)
+once_pushed (Err e) xs ys x ok err once new = rw err once

@@ -5,6 +5,7 @@ pub mod Shapes
 pub mod Kinds
 pub mod Layouts
 pub mod Cells
+pub mod Runs
 pub mod WellFormed
 pub mod Locales
 pub mod Readers

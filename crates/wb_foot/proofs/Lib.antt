@@ -11,4 +11,5 @@ pub mod Taking
 pub mod Indexed
 pub mod RunPlaces
 pub mod InParts
+pub mod InRuns
 pub mod Gone

@@ -7,7 +7,7 @@ ghost use Rattle.wb_foot.specs.Footprints.{Footprints, IsIndexOf};
 
 use crate::foot_index::FootIndex;
 use std::alloc::Global;
-use wb_book::CellChange;
+use wb_book::Changes;
 use wb_range::NoMemory;
 
 impl FootIndex {
@@ -15,7 +15,7 @@ impl FootIndex {
     pub fn blockers(
         &self,
         alloc: Global,
-        before: &[CellChange],
+        before: &Changes,
         after: u64,
     ) -> Result<Vec<u64>, NoMemory>
         ensures { IfOk result (λ v. (footprints : Footprints) → IsIndexOf self.now footprints →

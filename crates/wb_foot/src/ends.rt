@@ -1,9 +1,9 @@
-//! How many of the first cells of a list are marked together, and whether they may be a run that is long enough for a block.
+//! How many of the first patterns of a list are marked together, and whether they may be a run that is long enough for a block.
 
 ghost use Rattle.std.specs.Prelude.{◌<◌, ◌≤◌, ◌≡◌, drop, length};
 
 use crate::runs::{LEAST, Row};
-use wb_book::{CellChange, Pattern, Point};
+use wb_book::{Pattern, Point};
 
 /// The list from a place on.
 pub(crate) fn list_from<T>(list: &[T], from: usize) -> &[T]
@@ -25,44 +25,6 @@ fn above(low: &Point, point: Option<Point>) -> Option<Point> {
             }
         }
     }
-}
-
-/// How many of the first changed cells go together: all of few, and else as many as are of one row and ascend, up to those
-/// that make a run.
-pub(crate) fn end_of_changes(changes: &[CellChange]) -> usize
-    requires { 0 < length changes.now }
-    ensures some { 0 < result }
-    ensures within { result ≤ length changes.now }
-{
-    if changes.len() < LEAST {
-        return changes.len();
-    }
-    match Row::of(&changes[0].cell()) {
-        None => 1,
-        Some(row) => end_in_changes(&row, changes),
-    }
-}
-
-// How many are of the row and ascend, up to those that make a run, if the last of these may be of it.
-fn end_in_changes(row: &Row, changes: &[CellChange]) -> usize
-    requires { 64 ≤ length changes.now }
-    ensures some { 0 < result }
-    ensures within { result ≤ length changes.now }
-{
-    if row.point_of(&changes[LEAST - 1].cell()).is_none() {
-        return 1;
-    }
-    let Some(first) = row.point_of(&changes[0].cell()) else {
-        return 1;
-    };
-    let mut last = first;
-    for i in 1..LEAST {
-        match above(&last, row.point_of(&changes[i].cell())) {
-            None => return i,
-            Some(next) => last = next,
-        }
-    }
-    LEAST
 }
 
 /// How many of the first patterns go together: all of few, and else as many as name one cell alone each, of one row and

@@ -7,7 +7,7 @@ use crate::place_marks::PlaceMarks;
 use crate::reading::{read_all, unread_all};
 use crate::touching::{touch_all, untouch_all};
 use std::alloc::Global;
-use wb_book::{CellChange, Pattern};
+use wb_book::{Changes, Pattern};
 use wb_range::NoMemory;
 
 /// An index of footprints by the cells that they read and touched. It owns none: its contracts speak of those that it
@@ -30,12 +30,7 @@ impl FootIndex {
     }
 
     /// Adds a footprint at a number that has none, or nothing where no memory is left.
-    pub fn add(
-        &mut self,
-        number: u64,
-        reads: &[Pattern],
-        before: &[CellChange],
-    ) -> Result<(), NoMemory>
+    pub fn add(&mut self, number: u64, reads: &[Pattern], before: &Changes) -> Result<(), NoMemory>
         ensures ok { OnOk result ((footprints : Footprints) → IsIndexOf self.old footprints → footprints number ≡ None →
             IsIndexOf self.new (with_footprint footprints number (Some (footprint reads.now before.now)))) }
         ensures err { OnErr result ((footprints : Footprints) → IsIndexOf self.old footprints → footprints number ≡ None → IsIndexOf self.new footprints) }
@@ -53,7 +48,7 @@ impl FootIndex {
     }
 
     /// Takes away the footprint at a number. It takes no memory.
-    pub fn take(&mut self, number: u64, reads: &[Pattern], before: &[CellChange])
+    pub fn take(&mut self, number: u64, reads: &[Pattern], before: &Changes)
         ensures { (footprints : Footprints) → IsIndexOf self.old footprints → footprints number ≡ Some (footprint reads.now before.now) →
             IsIndexOf self.new (with_footprint footprints number None) }
     {

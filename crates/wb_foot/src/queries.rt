@@ -9,7 +9,7 @@ ghost use Rattle.wb_foot.specs.Places.{place_of};
 use crate::earlier::earlier;
 use crate::foot_index::FootIndex;
 use crate::place::{family, own, place_of};
-use wb_book::{Cell, CellChange, Pattern};
+use wb_book::{Cell, Changes, Pattern};
 
 impl FootIndex {
     /// The least number above `after` whose footprint read or touched the cell.
@@ -35,13 +35,15 @@ impl FootIndex {
     }
 
     /// The least number above `after` whose footprint needs one that wrote the cells.
-    pub fn first_to_block_undo(&self, before: &[CellChange], after: u64) -> Option<u64>
+    pub fn first_to_block_undo(&self, before: &Changes, after: u64) -> Option<u64>
         ensures least { (footprints : Footprints) → IsIndexOf self.now footprints → IsLeastAfter (λ n. blocks_undo before.now (footprints n)) after result }
         ensures above { IfSome result (λ j. after < j) }
     {
         let mut first = None;
-        for x in before {
-            first = earlier(first, self.met_after(&x.cell(), after));
+        let mut near = 0;
+        for at in 0..before.len() {
+            let cell = before.cell_near(at, &mut near);
+            first = earlier(first, self.met_after(&cell, after));
         }
         first
     }
@@ -59,12 +61,7 @@ impl FootIndex {
 
     /// The least number above `after` whose footprint needs, or is needed by, one with these reads and changes. With no
     /// changes it is the least whose footprint touched a cell that one of the patterns names.
-    pub fn first_to_block_redo(
-        &self,
-        reads: &[Pattern],
-        delta: &[CellChange],
-        after: u64,
-    ) -> Option<u64>
+    pub fn first_to_block_redo(&self, reads: &[Pattern], delta: &Changes, after: u64) -> Option<u64>
         ensures { (footprints : Footprints) → IsIndexOf self.now footprints →
             IsLeastAfter (λ n. blocks_redo (footprint reads.now delta.now) (footprints n)) after result }
     {

@@ -3,6 +3,7 @@
 ghost use Rattle.std.specs.Prelude.{◌≡◌, ℕ, ◌<◌, ◌≤◌, IfSome, length, take};
 ghost use Rattle.wb_book.specs.declared.values.index.Index.TheVariants.{Point as at_point};
 ghost use Rattle.wb_book.specs.declared.cells.pattern.Pattern.TheVariants.{One};
+ghost use Rattle.wb_book.specs.Runs.{changes_in};
 ghost use Rattle.wb_foot.specs.declared.place.Place.{Place};
 ghost use Rattle.wb_foot.specs.Points.{Coordinates};
 ghost use Rattle.wb_foot.specs.Places.{cell_at, family};
@@ -12,7 +13,7 @@ use crate::part::{Kind, Part, Slot};
 use crate::place::Place;
 use crate::points::{Points, push_above, with_room};
 use std::alloc::Global;
-use wb_book::{AnyIndex, Cell, CellChange, Index, Name, Pattern, Point};
+use wb_book::{AnyIndex, Cell, ChangeRun, Index, Name, Pattern, Point};
 
 /// So many cells at least go into one block.
 pub(crate) const LEAST: usize = 64;
@@ -114,21 +115,7 @@ impl Row {
         }
     }
 
-    // For how many points room is made at first: for all where the last changed cell is of the row too.
-    fn room_for(&self, changes: &[CellChange]) -> usize {
-        match changes.last() {
-            None => 0,
-            Some(x) => {
-                if self.point_of(&x.cell()).is_some() {
-                    changes.len()
-                } else {
-                    LEAST
-                }
-            }
-        }
-    }
-
-    // The same where the last pattern names a cell of the row alone.
+    // For how many points room is made at first: for all where the last pattern names a cell of the row alone.
     fn room_for_reads(&self, reads: &[Pattern]) -> usize {
         match reads.last() {
             None => 0,
@@ -143,13 +130,15 @@ impl Row {
     }
 
     /// The points of the changed cells from the first on, as far as these are of the row and ascend, if there is memory.
-    pub(crate) fn points_of(&self, alloc: Global, changes: &[CellChange]) -> Option<Points>
-        ensures within { IfSome result (λ ps. length ps ≤ length changes.now) }
-        ensures touched { IfSome result (λ ps. (q : Place) → touched_at (take (length ps) changes.now) q ≡ run_touched self.now.kind self.now.name ps q) }
+    pub(crate) fn points_of(&self, alloc: Global, changes: &ChangeRun) -> Option<Points>
+        ensures within { IfSome result (λ ps. length ps ≤ length (changes_in changes.now.form)) }
+        ensures touched { IfSome result (λ ps. (q : Place) →
+            touched_at (take (length ps) (changes_in changes.now.form)) q ≡ run_touched self.now.kind self.now.name ps q) }
     {
-        let mut points = with_room(alloc, self.room_for(changes))?;
-        for x in changes {
-            match self.point_of(&x.cell()) {
+        let mut points = with_room(alloc, changes.len())?;
+        for at in 0..changes.len() {
+            let cell = changes.cell(at);
+            match self.point_of(&cell) {
                 None => return Some(Points::new(points)),
                 Some(point) => {
                     if !push_above(&mut points, point) {
@@ -190,17 +179,18 @@ pub struct Run {
 }
 
 impl Run {
-    /// The run that changed cells from the first on are, as far as it goes, if there is memory.
-    pub(crate) fn of_changes(alloc: Global, changes: &[CellChange]) -> Option<Run>
-        requires { 0 < length changes.now }
+    /// The run that changed cells are, if all are of one row and ascend, and there is memory.
+    pub(crate) fn of_changes(alloc: Global, changes: &ChangeRun) -> Option<Run>
         ensures some { IfSome result (λ run. 0 < length run.points) }
-        ensures within { IfSome result (λ run. length run.points ≤ length changes.now) }
         ensures touched { IfSome result (λ run. (q : Place) →
-            touched_at (take (length run.points) changes.now) q ≡ run_touched run.row.kind run.row.name run.points q) }
+            touched_at (changes_in changes.now.form) q ≡ run_touched run.row.kind run.row.name run.points q) }
     {
-        let row = Row::of(&changes[0].cell())?;
+        if changes.len() == 0 {
+            return None;
+        }
+        let row = Row::of(&changes.cell(0))?;
         let points = row.points_of(alloc, changes)?;
-        if points.len() == 0 {
+        if points.len() < changes.len() {
             return None;
         }
         Some(Run { row, points })

@@ -64,7 +64,7 @@ lent_edit (LentOne e) = e.now
 
 -- the footprint that is lent
 abbrev pub lent_footprint : LentFootprint → Footprint workbook
-lent_footprint (OfSet rs b) = footprint rs (b ∷ [])
-lent_footprint (OfCopy rs b) = footprint rs (b ∷ [])
-lent_footprint (OfIrv rs b) = footprint rs (b ∷ [])
+lent_footprint (OfSet rs b) = footprint rs b
+lent_footprint (OfCopy rs b) = footprint rs b
+lent_footprint (OfIrv rs b) = footprint rs b
 lent_footprint (LentKept k) = footprint k.now.footprint k.now.inverse

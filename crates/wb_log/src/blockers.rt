@@ -10,12 +10,19 @@ ghost use Rattle.wb_edit.specs.Schema.{workbook};
 ghost use Rattle.wb_log.specs.Kept.{footprint, kept_in, kept_all};
 
 use crate::entry::Record;
-use wb_book::{Cell, CellChange, Pattern};
+use crate::steps::making::is_same;
+use wb_book::{Cell, Changes, Pattern};
 
-fn is_changed(wrote: &[CellChange], cell: &Cell) -> bool
+fn is_changed(wrote: &Changes, cell: &Cell) -> bool
     ensures { result ≡ changes cell_cmp wrote.now cell.now }
 {
-    wrote.iter().any(|x| *cell == x.cell())
+    let mut near = 0;
+    for at in 0..wrote.len() {
+        if is_same(cell, &wrote.cell_near(at, &mut near)) {
+            return true;
+        }
+    }
+    false
 }
 
 fn is_covered(reads: &[Pattern], cell: &Cell) -> bool
@@ -24,20 +31,27 @@ fn is_covered(reads: &[Pattern], cell: &Cell) -> bool
     reads.iter().any(|p| p.matches(*cell))
 }
 
-fn meets(reads: &[Pattern], wrote: &[CellChange], cell: &Cell) -> bool
+fn meets(reads: &[Pattern], wrote: &Changes, cell: &Cell) -> bool
     ensures { result ≡ (changes cell_cmp wrote.now cell.now || covers workbook reads.now cell.now) }
 {
     is_changed(wrote, cell) || is_covered(reads, cell)
 }
 
 /// Whether an edit that read `reads` and wrote `wrote` reads or writes one of the cells.
-fn meets_any(reads: &[Pattern], wrote: &[CellChange], cells: &[CellChange]) -> bool
+fn meets_any(reads: &[Pattern], wrote: &Changes, cells: &Changes) -> bool
     ensures { result ≡ meets_any (footprint reads.now wrote.now) cells.now }
 {
-    cells.iter().any(|x| meets(reads, wrote, &x.cell()))
+    let mut near = 0;
+    for at in 0..cells.len() {
+        let cell = cells.cell_near(at, &mut near);
+        if meets(reads, wrote, &cell) {
+            return true;
+        }
+    }
+    false
 }
 
-fn blocks_undo(x: &Record, before: &[CellChange]) -> bool
+fn blocks_undo(x: &Record, before: &Changes) -> bool
     ensures { result ≡ blocks_undo before.now (kept_in x.now) }
 {
     match x.kept() {
@@ -46,7 +60,7 @@ fn blocks_undo(x: &Record, before: &[CellChange]) -> bool
     }
 }
 
-fn blocks_redo(x: &Record, reads: &[Pattern], delta: &[CellChange]) -> bool
+fn blocks_redo(x: &Record, reads: &[Pattern], delta: &Changes) -> bool
     ensures { result ≡ blocks_redo (footprint reads.now delta.now) (kept_in x.now) }
 {
     match x.kept() {
@@ -61,7 +75,7 @@ fn blocks_redo(x: &Record, reads: &[Pattern], delta: &[CellChange]) -> bool
 }
 
 /// The number of the first edit in force that needs one that wrote the cells.
-pub(crate) fn first_to_block_undo(later: &[Record], from: u64, before: &[CellChange]) -> Option<u64>
+pub(crate) fn first_to_block_undo(later: &[Record], from: u64, before: &Changes) -> Option<u64>
     requires { from + length later.now < 2 ^ 64 }
     ensures { result ≡ first_from (blocks_undo before.now) from (kept_all later.now) }
 {
@@ -80,7 +94,7 @@ pub(crate) fn first_to_block_redo(
     later: &[Record],
     from: u64,
     reads: &[Pattern],
-    delta: &[CellChange],
+    delta: &Changes,
 ) -> Option<u64>
     requires { from + length later.now < 2 ^ 64 }
     ensures { result ≡ first_from (blocks_redo (footprint reads.now delta.now)) from (kept_all later.now) }

@@ -11,8 +11,7 @@ ghost use Rattle.wb_log.specs.Records.{element_reads, copy_reads, implicit_reads
 
 use std::alloc::Global;
 use std::marker::Model;
-use std::slice::from_ref;
-use wb_book::{AnyCell, AnyIndex, Cell, CellChange, Inverse, Name, Pattern, Value};
+use wb_book::{AnyCell, AnyIndex, Cell, CellChange, Changes, Inverse, Name, Pattern, Value};
 use wb_edit::{Edit, Footprint};
 use wb_range::NoMemory;
 
@@ -109,9 +108,9 @@ impl<'a> LentEdit<'a> {
 /// What is kept of an edit in force, lent, or made for the moment.
 #[derive(Drop)]
 pub enum LentFootprint<'a> {
-    Set([Pattern; 2], CellChange),
-    Copy([Pattern; 4], CellChange),
-    Irv([Pattern; 1], CellChange),
+    Set([Pattern; 2], Inverse),
+    Copy([Pattern; 4], Inverse),
+    Irv([Pattern; 1], Inverse),
     Lent(&'a Kept),
 }
 
@@ -129,24 +128,25 @@ impl<'a> LentFootprint<'a> {
     }
 
     /// The cells that the edit wrote, each once, with what they were.
-    pub fn before(&self) -> &[CellChange]
+    pub fn before(&self) -> &Changes
         ensures same { result.now ≡ (lent_footprint self.now).touched }
         ensures once { AllOnce cell_cmp (lent_footprint self.now).touched }
     {
         match self {
-            LentFootprint::Set(_, before) => from_ref(before),
-            LentFootprint::Copy(_, before) => from_ref(before),
-            LentFootprint::Irv(_, before) => from_ref(before),
+            LentFootprint::Set(_, inverse) => inverse.before(),
+            LentFootprint::Copy(_, inverse) => inverse.before(),
+            LentFootprint::Irv(_, inverse) => inverse.before(),
             LentFootprint::Lent(kept) => kept.inverse.before(),
         }
     }
 }
 
 // What sets a cell back that held a number.
-fn number_before(changed: Cell, was: &i64) -> CellChange
-    ensures { result ∷ [] ≡ before_of changed was.now }
+fn number_before(changed: Cell, was: &i64) -> Inverse
+    ensures { result ≡ before_of changed was.now }
 {
-    CellChange::new(changed, Some(Value::Number(*was)))
+    let change = CellChange::new(changed, Some(Value::Number(*was)));
+    Inverse::new(Changes::one(change))
 }
 
 // The pattern of what stands under a name, and that of an element.

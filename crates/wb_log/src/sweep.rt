@@ -8,14 +8,14 @@ ghost use Rattle.wb_log.specs.Needed.{AreFromFootprints, Joined, JoinedAfter};
 
 use crate::entry::Record;
 use std::alloc::Global;
-use wb_book::CellChange;
+use wb_book::Changes;
 use wb_foot::{FootIndex, Numbers};
 use wb_range::NoMemory;
 
 /// The later edits wait that need one that wrote the cells.
 fn wait_for_blockers(
     index: &FootIndex,
-    before: &[CellChange],
+    before: &Changes,
     after: u64,
     waiting: &mut Numbers,
 ) -> Result<(), NoMemory>

@@ -4,11 +4,17 @@
 use std::alloc::{AllocError, Global};
 use std::process::Abort;
 use std::test::Fail;
-use wb_book::{AnyCell, AnyIndex, Cell, CellChange, Index, Name, Pattern, Point};
+use wb_book::{AnyCell, AnyIndex, Cell, CellChange, Changes, Index, Name, Pattern, Point};
 use wb_foot::FootIndex;
+use wb_range::NoMemory;
 
 fn element(array: Name, i: i64) -> Cell {
     Cell::Element(array, AnyIndex::new(Index::Point(Point::single(i))))
+}
+
+// The change that makes a cell absent.
+fn cleared(cell: Cell) -> CellChange {
+    CellChange::new(cell, None)
 }
 
 fn read(cell: Cell) -> Pattern {
@@ -21,7 +27,7 @@ fn add(
     index: &mut FootIndex,
     number: u64,
     reads: &[Pattern],
-    before: &[CellChange],
+    before: &Changes,
 ) -> Result<(), Fail> {
     if index.add(number, reads, before).is_ok() {
         return Ok(());
@@ -35,8 +41,8 @@ fn add(
 #[test]
 fn footprint_index_of_a_copy(rt: HostRuntime) -> Result<(), Fail> {
     let array = Name::new("A")?;
-    let set = [CellChange::new(element(array, 1), None)];
-    let copied = [CellChange::new(element(array, 2), None)];
+    let set = Changes::one(cleared(element(array, 1)));
+    let copied = Changes::one(cleared(element(array, 2)));
     let reads_of_set = [read(Cell::Object(array)), read(element(array, 1))];
     let reads_of_copy = [
         read(Cell::Object(array)),
@@ -50,19 +56,23 @@ fn footprint_index_of_a_copy(rt: HostRuntime) -> Result<(), Fail> {
     assert!(rt; index.first_to_block_undo(&set, 2) == Some(3));
     assert!(rt; index.first_to_block_undo(&set, 3) == Some(4));
     assert!(rt; index.blockers(rt.alloc(), &set, 3)?.as_slice() == [4].as_slice());
-    assert!(rt; index.first_to_block_redo(&elements, &[], 3) == Some(4));
+    assert!(rt; index.first_to_block_redo(&elements, &Changes::new(), 3) == Some(4));
     index.take(4, &reads_of_copy, &copied);
     assert!(rt; index.first_to_block_undo(&set, 3).is_none());
-    assert!(rt; index.first_to_block_redo(&elements, &[], 3).is_none());
+    assert!(rt;
+        index
+            .first_to_block_redo(&elements, &Changes::new(), 3)
+            .is_none()
+    );
     Ok(())
 }
 
 // A change of an array itself and of its elements 1 to 80.
-fn changes_of_many(alloc: Global, array: Name) -> Result<Vec<CellChange>, AllocError> {
-    let mut changes = Vec::new(alloc);
-    changes.push(CellChange::new(Cell::Object(array), None))?;
+fn changes_of_many(alloc: Global, array: Name) -> Result<Changes, NoMemory> {
+    let mut changes = Changes::new();
+    changes.push(alloc, cleared(Cell::Object(array)))?;
     for i in 1..81 {
-        changes.push(CellChange::new(element(array, i), None))?;
+        changes.push(alloc, cleared(element(array, i)))?;
     }
     Ok(changes)
 }
@@ -85,10 +95,10 @@ fn is_found(
     by_undo: Option<u64>,
     by_redo: Option<u64>,
 ) -> bool {
-    let set = [CellChange::new(element(array, i), None)];
+    let set = Changes::one(cleared(element(array, i)));
     let seen = [read(element(array, i))];
     index.first_to_block_undo(&set, 6) == by_undo
-        && index.first_to_block_redo(&seen, &[], 6) == by_redo
+        && index.first_to_block_redo(&seen, &Changes::new(), 6) == by_redo
 }
 
 // Whether they are so at the elements 1 to 80, and nothing blocks at those beside them.
@@ -112,15 +122,15 @@ fn footprint_index_of_blocks(rt: HostRuntime) -> Result<(), Fail> {
     let target = Name::new("B")?;
     let reads = reads_of_many(rt.alloc(), source)?;
     let before = changes_of_many(rt.alloc(), target)?;
-    let inside = [CellChange::new(element(source, 80), None)];
-    let beside = [CellChange::new(element(source, 81), None)];
+    let inside = Changes::one(cleared(element(source, 80)));
+    let beside = Changes::one(cleared(element(source, 81)));
     let mut index = FootIndex::new(rt.alloc());
-    add(&rt, &mut index, 7, reads.as_slice(), before.as_slice())?;
+    add(&rt, &mut index, 7, reads.as_slice(), &before)?;
     assert!(rt; is_found_inside(&index, source, Some(7), None));
     assert!(rt; is_found_inside(&index, target, Some(7), Some(7)));
     assert!(rt; index.blockers(rt.alloc(), &inside, 6)?.as_slice() == [7].as_slice());
     assert!(rt; index.blockers(rt.alloc(), &beside, 6)?.is_empty());
-    index.take(7, reads.as_slice(), before.as_slice());
+    index.take(7, reads.as_slice(), &before);
     assert!(rt; is_found_inside(&index, source, None, None));
     assert!(rt; is_found_inside(&index, target, None, None));
     Ok(())

@@ -4,6 +4,7 @@ pub mod Joined
 pub mod Stored
 pub mod Kept
 pub mod Written
+pub mod Places
 pub mod Same
 pub mod ElementsSet
 pub mod Moved
@@ -14,7 +15,6 @@ pub mod Built
 pub mod Present
 pub mod Resting
 pub mod Grown
-pub mod Lent
 pub mod SetBack
 pub mod Whole
 pub mod Answered

@@ -1,11 +1,16 @@
 //! What is known of the arrays after changes, before these are made.
 
-ghost use Rattle.std.specs.Prelude.{◌≡◌, ℕ, filter, map, Some, option_map, IfOk, Err};
-ghost use Rattle.std.specs.Cow.{cow_slice_items};
+ghost use Rattle.std.specs.Prelude.{◌≡◌, ◌<◌, ℕ, [], ◌∷◌, ◌++◌, length, get_or, filter, map, Some, option_map, IfSome, IfOk, OnOk, Err};
 ghost use Rattle.std.specs.List.{count_by};
-ghost use Rattle.wb_book.specs.declared.cells.cell.Cell.TheVariants.{Mapping as mapping_cell};
+ghost use Rattle.selective_undo.specs.declared.Change.{Change};
+ghost use Rattle.wb_book.specs.declared.cells.cell.Cell.{Cell as cell_type};
+ghost use Rattle.wb_book.specs.declared.cells.value.Value.{Value as value_type};
+ghost use Rattle.wb_book.specs.declared.cells.cell.Cell.TheVariants.{Mapping as mapping_cell, Element as element_cell};
+ghost use Rattle.wb_book.specs.declared.cells.value.Value.TheVariants.{Number as number_value};
 ghost use Rattle.wb_dist.specs.Maps.{LayoutMap};
 ghost use Rattle.wb_book.specs.Locales.{mapping_in};
+ghost use Rattle.wb_book.specs.declared.values.index.Index.{Index as index_type};
+ghost use Rattle.wb_book.specs.Runs.{cell_of, value_of, indexed_change};
 ghost use Rattle.wb_shelf.specs.Joined.{answer, stored_in, element_in, is_stored};
 ghost use Rattle.wb_shelf.specs.Kept.{Pieced, array_in};
 ghost use Rattle.wb_shelf.specs.After.{kind_lies, domain_lies, lies_at, IsAfter, AreAfter};
@@ -13,10 +18,12 @@ ghost use Rattle.wb_shelf.specs.After.{kind_lies, domain_lies, lies_at, IsAfter,
 use crate::arrays::Elements;
 use crate::groups::Group;
 use crate::keep;
-use std::alloc::{AllocError, Global};
-use std::borrow::CowSlice;
+use std::alloc::Global;
 use std::collections::BTreeMap;
-use wb_book::{AnyIndex, AnyLayout, Cell, CellChange, DomainKind, KeyType, Name, Value};
+use wb_book::{
+    AnyIndex, AnyLayout, Cell, CellChange, Changes, DomainKind, IndexedChange, KeyType, Name, Row,
+    Value,
+};
 use wb_range::NoMemory;
 use wb_redist::{MoveErr, Mover};
 
@@ -79,30 +86,53 @@ fn is_of_stored(change: &CellChange) -> bool
     is_stored(change.as_cell())
 }
 
-fn stored_count(delta: &[CellChange]) -> usize
-    ensures { result ≡ count_by (λ x. is_stored x.cell) delta.now }
+// Whether the change at a place of a list is of a stored cell. `near` is a run to look at first.
+fn is_stored_at(delta: &Changes, at: usize, near: &mut usize) -> bool
+    requires { at < length delta.now }
+    ensures { (x : Change cell_type value_type) → x ≡ get_or delta.now at x → result ≡ is_stored x.cell }
 {
-    delta.iter().filter(|x| is_of_stored(x)).count()
+    match delta.indexed_near(at, near) {
+        Some(change) => is_row_stored(&change.row),
+        None => is_of_stored(&delta.change_near(at, near)),
+    }
 }
 
-/// The changes of stored cells among these: lent where all are, and else copied.
-pub(crate) fn stored_changes<'a>(
-    alloc: Global,
-    delta: &'a [CellChange],
-) -> Result<CowSlice<'a, CellChange>, NoMemory>
-    ensures { IfOk result (λ v. cow_slice_items v ≡ filter (λ x. is_stored x.cell) delta.now) }
+// Whether the cells of a row are stored.
+fn is_row_stored(row: &Row) -> bool
+    ensures { (i : index_type) → result ≡ is_stored (cell_of row.now i) }
 {
-    let count = stored_count(delta);
-    if count == delta.len() {
-        return Ok(CowSlice::Borrowed(delta));
+    match row {
+        Row::Inside(_) => false,
+        Row::Members(_) => true,
+        Row::Elements(_) => false,
     }
-    let mut stored = Vec::with_capacity(alloc, count)?;
-    for change in delta {
-        if is_of_stored(change) {
-            stored.push(*change)?;
+}
+
+fn stored_count(delta: &Changes) -> usize
+    ensures { result ≡ count_by (λ x. is_stored x.cell) delta.now }
+{
+    let mut count = 0;
+    let mut near = 0;
+    for at in 0..delta.len() {
+        if is_stored_at(delta, at, &mut near) {
+            count += 1;
         }
     }
-    Ok(CowSlice::Owned(stored))
+    count
+}
+
+/// The changes of stored cells among these.
+pub(crate) fn stored_changes(alloc: Global, delta: &Changes) -> Result<Vec<CellChange>, NoMemory>
+    ensures { IfOk result (λ v. v.items ≡ filter (λ x. is_stored x.cell) delta.now) }
+{
+    let mut stored = Vec::with_capacity(alloc, stored_count(delta))?;
+    let mut near = 0;
+    for at in 0..delta.len() {
+        if is_stored_at(delta, at, &mut near) {
+            stored.push(delta.change_near(at, &mut near))?;
+        }
+    }
+    Ok(stored)
 }
 
 fn is_stored(cell: &Cell) -> bool
@@ -119,24 +149,150 @@ fn is_stored(cell: &Cell) -> bool
     }
 }
 
+// The change that sets a cell to what it is now, and the place to pass for the cell after it.
+fn value_before(
+    cells: &BTreeMap<Cell, Value>,
+    arrays: &BTreeMap<Name, Elements>,
+    change: &CellChange,
+    near: usize,
+) -> (CellChange, usize)
+    ensures { result.0 ≡ record {
+      cell = change.now.cell;
+      value =
+          answer (stored_in cells.now.entries) (element_in arrays.now.entries) change.now.cell;
+    } }
+{
+    let cell = change.cell();
+    match change.as_cell() {
+        Cell::Element(array, index) => {
+            let (number, place) = keep::element(arrays, array, index, near);
+            (CellChange::of_number(cell, number), place)
+        }
+        Cell::Object(_)
+        | Cell::Shape(_)
+        | Cell::In(_, _)
+        | Cell::Member(_, _)
+        | Cell::Mapping(_)
+        | Cell::Use(_, _)
+        | Cell::Implicit(_) => {
+            let (value, place) = keep::look_near(cells, arrays, &cell, near);
+            (CellChange::new(cell, value), place)
+        }
+    }
+}
+
+// Adds the change that sets the cell at a place of a list to what it is now, and gives the place to pass for the cell after it.
+// `near` is a run to look at first.
+fn add_value(
+    alloc: Global,
+    cells: &BTreeMap<Cell, Value>,
+    arrays: &BTreeMap<Name, Elements>,
+    delta: &Changes,
+    at: usize,
+    near: &mut usize,
+    before: &mut Changes,
+    place: usize,
+) -> Result<usize, NoMemory>
+    requires { at < length delta.now }
+    ensures { (x : Change cell_type value_type) → x ≡ get_or delta.now at x → OnOk result (before.new ≡ before.old ++ record {
+      cell = x.cell;
+      value = answer (stored_in cells.now.entries) (element_in arrays.now.entries) x.cell;
+    } ∷ []) }
+{
+    match delta.indexed_near(at, near) {
+        Some(change) => add_indexed(alloc, cells, arrays, &change, before, place),
+        None => {
+            let (was, next) = value_before(cells, arrays, &delta.change_near(at, near), place);
+            before.push(alloc, was)?;
+            Ok(next)
+        }
+    }
+}
+
+// The number by which a cell that has an index is told to hold what it holds now, and the place to pass for the cell after it;
+// `None` where no number tells it.
+fn number_before(
+    cells: &BTreeMap<Cell, Value>,
+    arrays: &BTreeMap<Name, Elements>,
+    change: &IndexedChange,
+    near: usize,
+) -> Option<(Option<i64>, usize)>
+    ensures { IfSome result (λ r. option_map (value_of change.now.row) r.0 ≡
+        answer (stored_in cells.now.entries) (element_in arrays.now.entries) (cell_of change.now.row change.now.index)) }
+{
+    match &change.row {
+        Row::Inside(domain) => Some((keep::number_inside(cells, domain, &change.index), near)),
+        Row::Members(domain) => match cells.get(&Cell::Member(*domain, change.index)) {
+            None => Some((None, near)),
+            Some(Value::Present) => Some((Some(0), near)),
+            Some(
+                Value::Domain(_)
+                | Value::Array(_, _)
+                | Value::Ranges(_)
+                | Value::Mapping(_)
+                | Value::Bound(_)
+                | Value::Number(_),
+            ) => None,
+        },
+        Row::Elements(array) => Some(keep::element(arrays, array, &change.index, near)),
+    }
+}
+
+fn add_indexed(
+    alloc: Global,
+    cells: &BTreeMap<Cell, Value>,
+    arrays: &BTreeMap<Name, Elements>,
+    change: &IndexedChange,
+    before: &mut Changes,
+    near: usize,
+) -> Result<usize, NoMemory>
+    ensures { OnOk result (before.new ≡ before.old ++ record {
+      cell = (indexed_change change.now).cell;
+      value = answer (stored_in cells.now.entries) (element_in arrays.now.entries) (indexed_change change.now).cell;
+    } ∷ []) }
+{
+    match number_before(cells, arrays, change, near) {
+        Some((number, place)) => {
+            let was = IndexedChange {
+                row: change.row,
+                index: change.index,
+                number,
+            };
+            before.push_indexed(alloc, &was)?;
+            Ok(place)
+        }
+        None => {
+            let (was, place) = value_before(cells, arrays, &change.change(), near);
+            before.push(alloc, was)?;
+            Ok(place)
+        }
+    }
+}
+
 /// The changes that set the cells to what they are now.
 pub(crate) fn values_before(
     alloc: Global,
     cells: &BTreeMap<Cell, Value>,
     arrays: &BTreeMap<Name, Elements>,
-    delta: &[CellChange],
-) -> Result<Vec<CellChange>, AllocError>
-    ensures { IfOk result (λ v. v.items ≡ map (λ x. record { cell = x.cell; value = answer (stored_in cells.now.entries) (element_in arrays.now.entries) x.cell }) delta.now) }
+    delta: &Changes,
+) -> Result<Changes, NoMemory>
+    ensures { IfOk result (λ v. v ≡
+        map (λ x. record { cell = x.cell; value = answer (stored_in cells.now.entries) (element_in arrays.now.entries) x.cell }) delta.now) }
 {
-    let mut before = Vec::with_capacity(alloc, delta.len())?;
+    let mut before = Changes::new();
     let mut near = 0;
-    for change in delta {
-        let cell = change.cell();
-        let (value, place) = keep::look_near(cells, arrays, &cell, near);
-        if before.push(CellChange::new(cell, value)).is_err() {
-            return Err(AllocError);
-        }
-        near = place;
+    let mut place = 0;
+    for at in 0..delta.len() {
+        place = add_value(
+            alloc,
+            cells,
+            arrays,
+            delta,
+            at,
+            &mut near,
+            &mut before,
+            place,
+        )?;
     }
     Ok(before)
 }

@@ -25,7 +25,7 @@ use crate::{after, groups, keep, moving};
 use std::alloc::Global;
 use std::collections::BTreeMap;
 use std::slice;
-use wb_book::{AnyIndex, AnyLayout, Cell, CellChange, Name, Value, store};
+use wb_book::{AnyIndex, AnyLayout, Cell, CellChange, Changes, Name, Value, store};
 use wb_range::NoMemory;
 use wb_redist::{MoveErr, Mover};
 
@@ -289,7 +289,7 @@ pub(crate) fn change_all<V: Mover>(
     alloc: Global,
     cells: &mut BTreeMap<Cell, Value>,
     arrays: &mut BTreeMap<Name, Elements>,
-    delta: &[CellChange],
+    delta: &Changes,
     mover: &V,
 ) -> Result<(), MoveErr>
     requires once { AllOnce cell_cmp delta.now }

@@ -1,6 +1,6 @@
 //! Changes by the arrays that they concern.
 
-ghost use Rattle.std.specs.Prelude.{◌≡◌, ℕ, List, [], ◌∷◌, ◌++◌, Option, None, true, false, cond, option_map, IsSome, IfOk, IfSome, OnOk};
+ghost use Rattle.std.specs.Prelude.{◌≡◌, ◌<◌, ℕ, List, [], ◌∷◌, ◌++◌, Option, None, true, false, cond, length, get_or, option_map, IsSome, IfOk, IfSome, OnOk};
 ghost use Rattle.std.specs.List.{list_all};
 ghost use Rattle.std.specs.List.Sorted.{IsStrictlySortedBy};
 ghost use Rattle.std.specs.Map.{keys_of};
@@ -13,6 +13,8 @@ ghost use Rattle.wb_book.specs.declared.cells.cell.Cell.TheVariants.{Object};
 ghost use Rattle.wb_book.specs.declared.cells.value.Value.{Value as value_type};
 ghost use Rattle.wb_book.specs.declared.cells.value.Value.TheVariants.{Number as number_value};
 ghost use Rattle.wb_book.specs.Cells.{cell_cmp, is_same_name};
+ghost use Rattle.wb_book.specs.declared.values.index.Index.{Index};
+ghost use Rattle.wb_book.specs.Runs.{cell_of, indexed_change};
 ghost use Rattle.wb_shelf.specs.Joined.{stored_in};
 ghost use Rattle.wb_shelf.specs.Groups.{group_in, changes_in, LeadTo, leaves};
 ghost use Rattle.wb_shelf.specs.Kept.{array_in};
@@ -21,7 +23,7 @@ use crate::arrays::Elements;
 use std::alloc::Global;
 use std::collections::BTreeMap;
 use std::marker::Model;
-use wb_book::{AnyIndex, Cell, CellChange, Name, Value};
+use wb_book::{AnyIndex, Cell, CellChange, Changes, IndexedChange, Name, Row, Value};
 use wb_range::NoMemory;
 
 /// Changes of the elements of an array: to a number, or to absent.
@@ -128,15 +130,59 @@ fn add_change(
     }
 }
 
+// The same of a change of a cell that has an index.
+fn add_indexed(
+    alloc: Global,
+    groups: &mut BTreeMap<Name, Group>,
+    change: &IndexedChange,
+) -> Result<(), NoMemory>
+    ensures lead { (before : List (Change cell_type value_type)) → ((b : List ℕ) → LeadTo before b (changes_in groups.old.entries b)) →
+        OnOk result ((b : List ℕ) → LeadTo (before ++ indexed_change change.now ∷ []) b (changes_in groups.new.entries b)) }
+    ensures stays { (b : List ℕ) → IsSome (group_in groups.old.entries b) → IsSome (group_in groups.new.entries b) }
+    ensures object { (b : List ℕ) → eq_by_cmp cell_cmp (Object b) (indexed_change change.now).cell ≡ false }
+{
+    match &change.row {
+        Row::Inside(_) => Ok(()),
+        Row::Members(_) => Ok(()),
+        Row::Elements(name) => {
+            put_group(alloc, groups, name)?;
+            add_to(groups, name, &change.index, change.number)
+        }
+    }
+}
+
+// The same of the change at a place of a list. `near` is a run to look at first.
+fn add_change_at(
+    alloc: Global,
+    groups: &mut BTreeMap<Name, Group>,
+    delta: &Changes,
+    at: usize,
+    near: &mut usize,
+) -> Result<(), NoMemory>
+    requires { at < length delta.now }
+    ensures lead { (x : Change cell_type value_type) → x ≡ get_or delta.now at x → (before : List (Change cell_type value_type)) →
+        ((b : List ℕ) → LeadTo before b (changes_in groups.old.entries b)) →
+        OnOk result ((b : List ℕ) → LeadTo (before ++ x ∷ []) b (changes_in groups.new.entries b)) }
+    ensures stays { (b : List ℕ) → IsSome (group_in groups.old.entries b) → IsSome (group_in groups.new.entries b) }
+    ensures object { (x : Change cell_type value_type) → x ≡ get_or delta.now at x →
+        OnOk result ((b : List ℕ) → eq_by_cmp cell_cmp (Object b) x.cell ≡ true → IsSome (group_in groups.new.entries b)) }
+{
+    match delta.indexed_near(at, near) {
+        Some(change) => add_indexed(alloc, groups, &change),
+        None => add_change(alloc, groups, &delta.change_near(at, near)),
+    }
+}
+
 // The changes of elements by their arrays; each object that changes is named as well. `NoMemory` also where an element is
 // set to what is no number.
-fn grouped(alloc: Global, delta: &[CellChange]) -> Result<BTreeMap<Name, Group>, NoMemory>
+fn grouped(alloc: Global, delta: &Changes) -> Result<BTreeMap<Name, Group>, NoMemory>
     ensures lead { IfOk result (λ m. (b : List ℕ) → LeadTo delta.now b (changes_in m.entries b)) }
     ensures objects { IfOk result (λ m. (b : List ℕ) → changes cell_cmp delta.now (Object b) ≡ true → IsSome (group_in m.entries b)) }
 {
     let mut groups = BTreeMap::new(alloc);
-    for change in delta {
-        add_change(alloc, &mut groups, change)?;
+    let mut near = 0;
+    for at in 0..delta.len() {
+        add_change_at(alloc, &mut groups, delta, at, &mut near)?;
     }
     Ok(groups)
 }
@@ -175,10 +221,39 @@ fn leaves(cells: &BTreeMap<Cell, Value>, change: &CellChange) -> bool
     }
 }
 
-fn are_left(cells: &BTreeMap<Cell, Value>, delta: &[CellChange]) -> bool
+// The same of the change at a place of a list. `near` is a run to look at first.
+fn leaves_at(cells: &BTreeMap<Cell, Value>, delta: &Changes, at: usize, near: &mut usize) -> bool
+    requires { at < length delta.now }
+    ensures { (x : Change cell_type value_type) → x ≡ get_or delta.now at x → result ≡ leaves (stored_in cells.now.entries) x }
+{
+    match delta.indexed_near(at, near) {
+        Some(change) => are_row_left(&change.row),
+        None => leaves(cells, &delta.change_near(at, near)),
+    }
+}
+
+// No cell of a row is an object or a mapping.
+fn are_row_left(row: &Row) -> bool
+    ensures { (stored : cell_type → Option value_type) (i : Index) (v : Option value_type) →
+        result ≡ leaves stored (record { cell = cell_of row.now i; value = v }) }
+{
+    match row {
+        Row::Inside(_) => true,
+        Row::Members(_) => true,
+        Row::Elements(_) => true,
+    }
+}
+
+fn are_left(cells: &BTreeMap<Cell, Value>, delta: &Changes) -> bool
     ensures { result ≡ list_all (leaves (stored_in cells.now.entries)) delta.now }
 {
-    delta.iter().all(|x| leaves(cells, x))
+    let mut near = 0;
+    for at in 0..delta.len() {
+        if !leaves_at(cells, delta, at, &mut near) {
+            return false;
+        }
+    }
+    true
 }
 
 /// The changes of elements by their arrays. Named are all arrays that may become others: where no object and no mapping
@@ -187,7 +262,7 @@ pub(crate) fn concerned(
     alloc: Global,
     cells: &BTreeMap<Cell, Value>,
     arrays: &BTreeMap<Name, Elements>,
-    delta: &[CellChange],
+    delta: &Changes,
 ) -> Result<BTreeMap<Name, Group>, NoMemory>
     ensures lead { IfOk result (λ m. (b : List ℕ) → LeadTo delta.now b (changes_in m.entries b)) }
     ensures objects { IfOk result (λ m. (b : List ℕ) → changes cell_cmp delta.now (Object b) ≡ true → IsSome (group_in m.entries b)) }

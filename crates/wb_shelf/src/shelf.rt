@@ -14,7 +14,7 @@ use std::alloc::Global;
 use std::collections::BTreeMap;
 use std::marker::Model;
 use std::mem;
-use wb_book::{AnyIndex, Cell, CellChange, Delta, Inverse, Name, Pattern, Value, counted};
+use wb_book::{AnyIndex, Cell, Changes, Delta, Inverse, Name, Pattern, Value};
 use wb_range::NoMemory;
 use wb_redist::{MoveErr, Mover};
 
@@ -90,7 +90,7 @@ impl Book {
     }
 
     // Makes the changes, or none where the mover refuses or no memory is left.
-    fn change<V: Mover>(&mut self, changes: &[CellChange], mover: &V) -> Result<(), MoveErr>
+    fn change<V: Mover>(&mut self, changes: &Changes, mover: &V) -> Result<(), MoveErr>
         requires once { AllOnce cell_cmp changes.now }
         requires formed { IsWellFormed (apply changes.now self.old.cells) }
         ensures cells { OnOk result (self.new.cells ≡ apply changes.now self.old.cells) }
@@ -132,7 +132,7 @@ impl Book {
     }
 
     /// Sets the cells back to what they were before, each cell once, or none where the mover refuses or no memory is left.
-    pub fn revert<V: Mover>(&mut self, before: &[CellChange], mover: &V) -> Result<(), MoveErr>
+    pub fn revert<V: Mover>(&mut self, before: &Changes, mover: &V) -> Result<(), MoveErr>
         requires once { AllOnce cell_cmp before.now }
         requires well_formed { IsWellFormed (apply before.now self.old.cells) }
         ensures cells { OnOk result (self.new.cells ≡ apply before.now self.old.cells) }
@@ -142,7 +142,7 @@ impl Book {
     {
         match self.change(before, mover) {
             Ok(()) => {
-                self.writes = self.writes.saturating_add(counted(before) as u128);
+                self.writes = self.writes.saturating_add(before.count() as u128);
                 Ok(())
             }
             Err(why) => Err(why),

@@ -58,6 +58,13 @@ impl AnyValue {
         AnyValue { value }
     }
 
+    /// The value, without a copy of it.
+    pub fn as_value(&self) -> &Value
+        ensures { result.now ≡ self.now }
+    {
+        &self.value
+    }
+
     /// The value.
     pub fn value(&self) -> Value
         ensures { result ≡ self.now }

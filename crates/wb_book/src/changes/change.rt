@@ -1,4 +1,5 @@
-ghost use Rattle.std.specs.Prelude.{◌≡◌, ◌≤◌, [], ◌∷◌};
+ghost use Rattle.std.specs.Prelude.{◌≡◌, ◌≤◌, [], ◌∷◌, option_map};
+ghost use Rattle.wb_book.specs.declared.cells.value.Value.TheVariants.{Number};
 ghost use Rattle.wb_book.specs.Cells.{is_counted, count_of};
 
 use crate::cells::cell::{AnyCell, Cell};
@@ -53,6 +54,32 @@ impl CellChange {
         self.cell.as_cell()
     }
 
+    /// The change of a cell to a number, or to absent.
+    pub fn of_number(cell: Cell, number: Option<i64>) -> CellChange
+        ensures { result ≡ record { cell = cell; value = option_map Number number } }
+    {
+        match number {
+            Some(number) => CellChange {
+                cell: AnyCell::new(cell),
+                value: Some(AnyValue::new(Value::Number(number))),
+            },
+            None => CellChange {
+                cell: AnyCell::new(cell),
+                value: None,
+            },
+        }
+    }
+
+    /// What the cell is to hold, if it is to be present, without a copy of it.
+    pub fn as_value(&self) -> Option<&Value>
+        ensures { option_map (λ v. v.now) result ≡ self.now.value }
+    {
+        match &self.value {
+            Some(value) => Some(value.as_value()),
+            None => None,
+        }
+    }
+
     /// What the cell is to hold, if it is to be present.
     pub fn value(&self) -> Option<Value>
         ensures { result ≡ self.now.value }
@@ -70,21 +97,10 @@ fn is_counted(cell: Cell) -> bool
     !matches!(&cell, Cell::In(_, _))
 }
 
-// 1 for a change of another cell than `In`, else 0.
-fn counted_one(change: &CellChange) -> usize
+/// 1 for a change of another cell than `In`, else 0.
+pub(crate) fn counted_one(change: &CellChange) -> usize
     ensures value { result ≡ count_of (change.now ∷ []) }
     ensures few { result ≤ 1 }
 {
     if is_counted(change.cell()) { 1 } else { 0 }
-}
-
-/// How many of the changes are to other cells than `In`.
-pub fn counted(changes: &[CellChange]) -> usize
-    ensures { result ≡ count_of changes.now }
-{
-    let mut count = 0;
-    for x in changes {
-        count += counted_one(x);
-    }
-    count
 }

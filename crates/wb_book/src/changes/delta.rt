@@ -4,7 +4,9 @@ ghost use Rattle.wb_book.specs.Cells.{cell_cmp, count_of};
 
 use crate::cells::cell::Cell;
 use crate::cells::value::Value;
-use crate::changes::change::{CellChange, counted};
+use crate::changes::change::CellChange;
+use crate::changes::indexed::IndexedChange;
+use crate::changes::list::Changes;
 use std::alloc::Global;
 use std::marker::Model;
 use wb_range::NoMemory;
@@ -12,7 +14,8 @@ use wb_range::NoMemory;
 /// Changes to cells, each cell once. Contracts see their list.
 #[derive(Drop)]
 pub struct Delta {
-    changes: Vec<CellChange>,
+    alloc: Global,
+    changes: Changes,
 }
 
 impl Model for Delta {
@@ -25,9 +28,9 @@ impl Model for Delta {
 
     ghost Value = { List (Change Cell held.Value) };
 
-    ghost view = { λ a. a.changes.items };
+    ghost view = { λ a. a.changes };
 
-    ghost invariant = { λ a. AllOnce cell_cmp a.changes.items };
+    ghost invariant = { λ a. AllOnce cell_cmp a.changes };
 }
 
 impl Delta {
@@ -36,7 +39,8 @@ impl Delta {
         ensures { result ≡ [] }
     {
         Delta {
-            changes: Vec::new(alloc),
+            alloc,
+            changes: Changes::new(),
         }
     }
 
@@ -46,24 +50,37 @@ impl Delta {
         ensures ok { OnOk result (self.new ≡ self.old ++ record { cell = cell; value = value } ∷ []) }
         ensures err { OnErr result (self.new ≡ self.old) }
     {
-        match self.changes.push(CellChange::new(cell, value)) {
-            Ok(()) => Ok(()),
-            Err(_) => Err(NoMemory),
-        }
+        put_in(self.alloc, &mut self.changes, &cell, &value)
     }
 
     /// How many cells change; the cells `In`, which follow from the shapes, are not counted.
     pub fn count(&self) -> usize
         ensures { result ≡ count_of self.now }
     {
-        counted(self.changes.as_slice())
+        self.changes.count()
     }
 
     /// The changes, in the order in which they were put.
-    pub fn changes(&self) -> &[CellChange]
+    pub fn changes(&self) -> &Changes
         ensures same { result.now ≡ self.now }
         ensures once { AllOnce cell_cmp self.now }
     {
-        self.changes.as_slice()
+        &self.changes
+    }
+}
+
+// Adds the change of a cell behind others, by its index if it has one.
+fn put_in(
+    alloc: Global,
+    changes: &mut Changes,
+    cell: &Cell,
+    value: &Option<Value>,
+) -> Result<(), NoMemory>
+    ensures ok { OnOk result (changes.new ≡ changes.old ++ record { cell = cell.now; value = value.now } ∷ []) }
+    ensures err { OnErr result (changes.new ≡ changes.old) }
+{
+    match IndexedChange::of(cell, value) {
+        Some(change) => changes.push_indexed(alloc, &change),
+        None => changes.push(alloc, CellChange::new(*cell, *value)),
     }
 }

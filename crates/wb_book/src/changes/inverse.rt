@@ -2,13 +2,13 @@ ghost use Rattle.std.specs.Prelude.{◌≡◌, ℕ, List, length};
 ghost use Rattle.selective_undo.specs.Changes.{AllOnce};
 ghost use Rattle.wb_book.specs.Cells.{cell_cmp, count_of};
 
-use crate::changes::change::{CellChange, counted};
+use crate::changes::list::Changes;
 use std::marker::Model;
 
 /// What the cells of a delta were before it, each cell once. Contracts see the changes that set them back.
 #[derive(Drop)]
 pub struct Inverse {
-    before: Vec<CellChange>,
+    before: Changes,
 }
 
 impl Model for Inverse {
@@ -21,16 +21,16 @@ impl Model for Inverse {
 
     ghost Value = { List (Change Cell held.Value) };
 
-    ghost view = { λ a. a.before.items };
+    ghost view = { λ a. a.before };
 
-    ghost invariant = { λ a. AllOnce cell_cmp a.before.items };
+    ghost invariant = { λ a. AllOnce cell_cmp a.before };
 }
 
 impl Inverse {
     /// What the cells were, each cell once.
-    pub fn new(before: Vec<CellChange>) -> Inverse
-        requires { AllOnce cell_cmp before.items }
-        ensures { result ≡ before.items }
+    pub fn new(before: Changes) -> Inverse
+        requires { AllOnce cell_cmp before }
+        ensures { result ≡ before }
     {
         Inverse { before }
     }
@@ -39,14 +39,14 @@ impl Inverse {
     pub fn count(&self) -> usize
         ensures { result ≡ count_of self.now }
     {
-        counted(self.before.as_slice())
+        self.before.count()
     }
 
     /// The cells with what they were, in the order of the delta.
-    pub fn before(&self) -> &[CellChange]
+    pub fn before(&self) -> &Changes
         ensures same { result.now ≡ self.now }
         ensures once { AllOnce cell_cmp self.now }
     {
-        self.before.as_slice()
+        &self.before
     }
 }

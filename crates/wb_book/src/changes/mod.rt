@@ -2,4 +2,9 @@
 
 pub mod change;
 pub mod delta;
+pub mod indexed;
 pub mod inverse;
+pub mod list;
+pub mod packed;
+pub mod row;
+pub mod run;

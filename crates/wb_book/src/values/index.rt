@@ -1,4 +1,5 @@
-ghost use Rattle.std.specs.Prelude.{◌≡◌, []};
+ghost use Rattle.std.specs.Prelude.{◌≡◌, [], None, true, false, IfSome};
+ghost use Rattle.wb_book.specs.Kinds.{is_point};
 ghost use Rattle.std.specs.Bool.{Decides};
 ghost use Rattle.wb_book.specs.declared.values.index.Index.TheVariants.{Point as point_index};
 
@@ -82,5 +83,25 @@ fn is_text(text: &Label, index: &Index) -> bool
     match index {
         Index::Point(_) => false,
         Index::Text(other) => text.as_str() == other.as_str(),
+    }
+}
+
+/// The coordinates of a point of rank `R`.
+pub fn coordinates_of<const R: usize>(index: &AnyIndex) -> Option<[i64; R]>
+    ensures value { IfSome result (λ k. point_index k ≡ index.now) }
+    ensures formed { IfSome result (λ k. is_point R index.now ≡ true) }
+    ensures none { result ≡ None → is_point R index.now ≡ false }
+{
+    match index.index() {
+        Index::Text(_) => None,
+        Index::Point(point) => {
+            let coordinates = point.coordinates();
+            if coordinates.len() != R {
+                return None;
+            }
+            let mut at = [0; R];
+            at.copy_from_slice(coordinates);
+            Some(at)
+        }
     }
 }

@@ -11,7 +11,7 @@ use crate::blockers;
 use crate::entry::Record;
 use crate::sweep::needing;
 use std::alloc::Global;
-use wb_book::{CellChange, Pattern};
+use wb_book::{Changes, Pattern};
 use wb_foot::FootIndex;
 use wb_range::NoMemory;
 
@@ -71,7 +71,7 @@ impl ByFootprint {
         &mut self,
         entries: &[Record],
         at: usize,
-        before: &[CellChange],
+        before: &Changes,
     ) -> Option<u64>
         requires in_log { at < length entries.now }
         requires few { length entries.now < 2 ^ 63 }
@@ -93,7 +93,7 @@ impl ByFootprint {
         entries: &[Record],
         at: usize,
         reads: &[Pattern],
-        delta: &[CellChange],
+        delta: &Changes,
     ) -> Option<u64>
         requires in_log { at < length entries.now }
         requires few { length entries.now < 2 ^ 63 }
@@ -125,7 +125,7 @@ impl ByFootprint {
     }
 
     /// The edit at a place is out of force.
-    pub fn take(&mut self, at: usize, reads: &[Pattern], before: &[CellChange])
+    pub fn take(&mut self, at: usize, reads: &[Pattern], before: &Changes)
         requires { at < 2 ^ 63 }
         ensures { (count : ℕ) (footprints : Footprints) → IsByFootprint self.old count footprints →
             footprints (at + 1) ≡ Some (footprint reads.now before.now) → IsByFootprint self.new count (with_footprint footprints (at + 1) None) }
@@ -136,7 +136,7 @@ impl ByFootprint {
     }
 
     /// The edit at a place is in force again. Where no memory is left for it, none has entered.
-    pub fn put_back(&mut self, at: usize, reads: &[Pattern], before: &[CellChange])
+    pub fn put_back(&mut self, at: usize, reads: &[Pattern], before: &Changes)
         requires { at < 2 ^ 63 }
         ensures { (count : ℕ) (footprints : Footprints) → IsByFootprint self.old count footprints → footprints (at + 1) ≡ None →
             IsByFootprint self.new count (with_footprint footprints (at + 1) (Some (footprint reads.now before.now))) }

@@ -12,7 +12,7 @@ ghost use Rattle.wb_log.specs.Indexed.{Indexes};
 use crate::index::by_footprint::ByFootprint;
 use crate::index::in_force::InForce;
 use std::alloc::Global;
-use wb_book::{CellChange, Pattern};
+use wb_book::{Changes, Pattern};
 
 /// Indexes over the edits in force.
 #[derive(Drop)]
@@ -33,7 +33,7 @@ impl Index {
     }
 
     /// The edit at a place, which was in force, no longer is.
-    pub fn take(&mut self, at: usize, reads: &[Pattern], before: &[CellChange])
+    pub fn take(&mut self, at: usize, reads: &[Pattern], before: &Changes)
         requires { at < 2 ^ 63 }
         ensures { (count : ℕ) (footprints : Footprints) → Indexes self.old count footprints → footprints (at + 1) ≡ Some (footprint reads.now before.now) →
             Indexes self.new count (with_footprint footprints (at + 1) None) }
@@ -43,7 +43,7 @@ impl Index {
     }
 
     /// The edit at a place, which was out of force, is in force again.
-    pub fn put_back(&mut self, at: usize, reads: &[Pattern], before: &[CellChange])
+    pub fn put_back(&mut self, at: usize, reads: &[Pattern], before: &Changes)
         requires { at < 2 ^ 63 }
         ensures { (count : ℕ) (footprints : Footprints) → Indexes self.old count footprints → footprints (at + 1) ≡ None →
             Indexes self.new count (with_footprint footprints (at + 1) (Some (footprint reads.now before.now))) }

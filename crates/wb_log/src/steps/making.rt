@@ -10,13 +10,14 @@ ghost use Rattle.wb_log.specs.Records.{shown, kept_of, number_before};
 
 use crate::entry::{Entry, Form, Kept, Record};
 use std::alloc::Global;
-use wb_book::{Cell, CellChange, Delta, Pattern, Value};
+use wb_book::{Cell, Changes, Delta, Pattern, Value};
 use wb_edit::{Edit, Footprint};
 use wb_range::NoMemory;
 use wb_redist::Mover;
 use wb_shelf::Book;
 
-fn is_same(a: &Cell, b: &Cell) -> bool
+// Whether the cells are one.
+pub(crate) fn is_same(a: &Cell, b: &Cell) -> bool
     ensures { result ≡ eq_by_cmp cell_cmp a.now b.now }
 {
     *a == *b
@@ -47,13 +48,14 @@ fn are_same(reads: &[Pattern], others: &[Pattern]) -> bool
     true
 }
 
-fn changes_one(changes: &[CellChange], target: &Cell) -> bool
+fn changes_one(changes: &Changes, target: &Cell) -> bool
     ensures { result ≡ true → (s : Cells) → inverse changes.now s ≡ record { cell = target.now; value = get s target.now } ∷ [] }
 {
     if changes.len() != 1 {
         return false;
     }
-    is_same(&changes[0].cell(), target)
+    let mut near = 0;
+    is_same(&changes.cell_near(0, &mut near), target)
 }
 
 // What number a cell held, where all that a plan does is to change it, and these are all the patterns that it read.

@@ -15,7 +15,7 @@ use crate::index::Index;
 use crate::refusal::Refusal;
 use crate::steps::making::make;
 use std::alloc::Global;
-use wb_book::Delta;
+use wb_book::{Changes, Delta};
 use wb_edit::{Footprint, PlanErr, plan};
 use wb_range::NoMemory;
 use wb_redist::Mover;
@@ -92,9 +92,10 @@ fn refused_blocker(
     ensures first { result ≡ redo_blocker entries.now at footprint.now [] }
     ensures indexed { IsIndexed index.new entries.now }
 {
+    let none = Changes::new();
     index
         .by_footprint
-        .first_to_block_redo(entries, at, footprint.reads(), &[])
+        .first_to_block_redo(entries, at, footprint.reads(), &none)
 }
 
 /// Why an edit whose plan stopped is not redone.

@@ -9,7 +9,6 @@ ghost use Rattle.wb_log.specs.Replies.{UndoReply, LastReply, SetsBack, LeavesOth
 use crate::entry::Record;
 use crate::index::Index;
 use crate::refusal::Refusal;
-use wb_book::counted;
 use wb_redist::Mover;
 use wb_shelf::Book;
 
@@ -57,7 +56,7 @@ fn take_back<M: Mover>(
             Err(_) => return Err(Refusal::NoMemory),
             Ok(()) => {
                 index.take(at, kept.reads(), kept.before());
-                counted(kept.before())
+                kept.before().count()
             }
         },
     };

@@ -1,3 +1,4 @@
+use Rattle.wb_book.specs.Runs.{changes_in}
 use Rattle.wb_foot.specs.Places.{place_marked}
 use Rattle.wb_foot.proofs.Setting.{on_err}
 use Rattle.wb_foot.proofs.RunPlaces.{row_alone, row_done, row_failed}
@@ -8,7 +9,7 @@ returns-in_err-add-in-Some-clause-err c =
     let row = c.args.run.row in
     let set = rw c.if-not-add_block.false at c.add_block.ensures in
     on_err c.from_residual.result (row_failed (place_marked c.args.marks.now) (place_marked c.add_block.new.self) (place_marked c.add.new.self) c.args.number
-    row.name row.kind c.args.run.points c.args.before.now c.requires.some c.requires.touched set c.in-Some.place
+    row.name row.kind c.args.run.points (changes_in c.args.before.now.form) c.requires.some c.requires.touched set c.in-Some.place
     c.in-Some.ensures c.in_err-add-in-Some.ensures.err)
 
 pub returns-in-None-clause-ok : goal.returns-in-None-clause-ok
@@ -16,12 +17,12 @@ returns-in-None-clause-ok c =
     let row = c.args.run.row in
     let set = rw c.if-not-add_block.false at c.add_block.ensures in
     row_alone (place_marked c.args.marks.now) (place_marked c.add_block.new.self) (place_marked c.add_block.new.self) c.args.number row.name row.kind
-    c.args.run.points c.args.before.now c.requires.some c.requires.touched set c.in-None.ensures
+    c.args.run.points (changes_in c.args.before.now.form) c.requires.some c.requires.touched set c.in-None.ensures
 
 pub returns-in_ok-add-in-Some-clause-ok : goal.returns-in_ok-add-in-Some-clause-ok
 returns-in_ok-add-in-Some-clause-ok c =
     let row = c.args.run.row in
     let set = rw c.if-not-add_block.false at c.add_block.ensures in
     row_done (place_marked c.args.marks.now) (place_marked c.add_block.new.self) (place_marked c.add.new.self) c.args.number row.name row.kind c.args.run.points
-    c.args.before.now c.requires.some c.requires.touched set c.in-Some.place c.in-Some.ensures
+    (changes_in c.args.before.now.form) c.requires.some c.requires.touched set c.in-Some.place c.in-Some.ensures
     c.in_ok-add-in-Some.ensures.ok

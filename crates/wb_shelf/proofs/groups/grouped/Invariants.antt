@@ -5,8 +5,8 @@ use Rattle.wb_book.specs.Cells.{cell_cmp}
 use Rattle.wb_shelf.specs.Groups.{LeadTo, group_in, changes_in}
 use Rattle.wb_shelf.proofs.groups.grouped.Given as goal
 
-abbrev pub invariant-loop-change : goal.invariant-loop-change
-invariant-loop-change l = record {
-  lead : (b : List ℕ) → LeadTo (take l.change-index l.delta) b (changes_in l.groups.entries b);
-  objects : (b : List ℕ) → changes cell_cmp (take l.change-index l.delta) (Object b) ≡ true → IsSome (group_in l.groups.entries b);
+abbrev pub invariant-loop-at : goal.invariant-loop-at
+invariant-loop-at l = record {
+  lead : (b : List ℕ) → LeadTo (take l.at l.delta) b (changes_in l.groups.entries b);
+  objects : (b : List ℕ) → changes cell_cmp (take l.at l.delta) (Object b) ≡ true → IsSome (group_in l.groups.entries b);
 }

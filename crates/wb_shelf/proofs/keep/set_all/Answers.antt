@@ -1,28 +1,31 @@
-use Rattle.std.proofs.Common.{take, sym, subst, ◌∙◌}
+use Rattle.std.proofs.Common.{◌<◌, length, take, sym, subst, ◌∙◌, arith}
 use Rattle.selective_undo.specs.Changes.{apply}
 use Rattle.wb_book.specs.Cells.{Cells}
 use Rattle.wb_shelf.specs.Joined.{element_in}
 use Rattle.wb_shelf.specs.Kept.{Agree}
 use Rattle.wb_shelf.proofs.ElementsSet.{set_there}
+use Rattle.wb_shelf.proofs.Places.{some_item}
 use Rattle.wb_shelf.proofs.Same.{apply_more}
 use Rattle.wb_shelf.proofs.keep.set_all.Goals as goal
 
-pub set_one-near-requires : goal.set_one-near-requires
-set_one-near-requires c =
-    let old = c.loop-change.invariant in
-    set_there (element_in c.args.arrays.now.entries) (element_in c.loop-change.arrays.entries) c.args.delta.now c.loop-change.change-index c.change-item.result
-    c.loop-change-test.true c.change-item.is c.requires old.there
-
-pub loop-change-preserved : goal.loop-change-preserved
-loop-change-preserved c =
-    let k = c.loop-change.change-index in
+pub set_at-place-requires-clause-set : goal.set_at-place-requires-clause-set
+set_at-place-requires-clause-set c = λ x is.
+    let k = c.loop-at.at in
     let xs = c.args.delta.now in
-    let old = c.loop-change.invariant in
-    let more = λ (s : Cells). apply_more xs k c.change-item.result s c.loop-change-test.true c.change-item.is in
+    let low : k < length xs = omega (arith, c.loop-at-test.true, c.len-at-end.ensures) in
+    set_there (element_in c.args.arrays.now.entries) (element_in c.loop-at.arrays.entries) xs k x low is c.requires c.loop-at.invariant.there
+
+pub loop-at-preserved : goal.loop-at-preserved
+loop-at-preserved c =
+    let k = c.loop-at.at in
+    let xs = c.args.delta.now in
+    let low : k < length xs = omega (arith, c.loop-at-test.true, c.len-at-end.ensures) in
+    let item = some_item xs k low in
+    let old = c.loop-at.invariant in
     record {
-      agree = λ s agree. subst (λ (t : Cells). Agree c.set_one-near.new.arrays.entries t) (sym (more s))
-          (c.set_one-near.ensures.agree (apply (take k xs) s) (old.agree s agree));
-      names = c.set_one-near.ensures.names ∙ old.names;
-      lie = λ b. c.set_one-near.ensures.lie b ∙ old.lie b;
-      there = λ b i. c.set_one-near.ensures.there b i ∙ old.there b i;
+      agree = λ s agree. subst (λ (t : Cells). Agree c.set_at-place.new.arrays.entries t) (sym (apply_more xs k item.0 s low item.1))
+          (c.set_at-place.ensures.agree item.0 item.1 (apply (take k xs) s) (old.agree s agree));
+      names = c.set_at-place.ensures.names ∙ old.names;
+      lie = λ b. c.set_at-place.ensures.lie b ∙ old.lie b;
+      there = λ b i. c.set_at-place.ensures.there b i ∙ old.there b i;
     }

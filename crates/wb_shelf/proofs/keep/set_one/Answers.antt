@@ -17,7 +17,7 @@ returns-clause-agree c = λ s agree.
     let i : Index = c.in-Element.index in
     let v : ℤ = c.in-Some.number in
     let cell : x.cell ≡ Element a i = sym c.as_cell.ensures ∙ c.in-Element.is in
-    let number : number_in x.value ≡ Some v = ap number_in (sym c.value.ensures) ∙ sym c.number_in.ensures ∙ c.in-Some.is in
+    let number : number_in x.value ≡ Some v = sym c.number_in.ensures ∙ c.in-Some.is in
     let made : (b : Name) → array_in c.set_element.new.arrays.entries b ≡ cond (is_same_name a b) (with_element (array_in es b) i v) (array_in es b) =
     λ b. c.set_element.ensures.arrays b ∙ ap (λ (w : ℤ). cond (is_same_name a b) (with_element (array_in es b) i w) (array_in es b))
     (to_z-of_z w64 v (search rules)) in

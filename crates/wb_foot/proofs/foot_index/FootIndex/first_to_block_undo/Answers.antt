@@ -1,21 +1,30 @@
-use Rattle.std.proofs.Common.{sym, ◌∙◌, ap, arith, take}
+use Rattle.std.proofs.Common.{◌<◌, ◌≤◌, None, length, sym, ◌∙◌, ap, arith, take}
+use Rattle.std.proofs.lemmas.List.{take_all}
+use Rattle.selective_undo.specs.declared.Change.{Change}
+use Rattle.wb_book.specs.declared.cells.cell.Cell.{Cell}
+use Rattle.wb_book.specs.declared.cells.value.Value.{Value}
 use Rattle.selective_undo.specs.Log.{blocks_undo}
 use Rattle.wb_foot.specs.Footprints.{any_met, met_by}
-use Rattle.std.proofs.lemmas.List.{take_all}
 use Rattle.wb_foot.proofs.Meeting.{least_like, undo_more, undo_met}
 use Rattle.wb_foot.proofs.foot_index.FootIndex.first_to_block_undo.Goals as goal
 
-pub loop-x-preserved : goal.loop-x-preserved
-loop-x-preserved c = record {
-  least = λ footprints h. undo_more footprints c.args.after c.args.before.now c.loop-x.x-index c.x-item.result (omega arith) c.cell.result
-      (c.cell.ensures ∙ ap (λ y. y.cell) c.x-item.is) c.earlier-first.result
-      (c.earlier-first.ensures.least (λ n. any_met (footprints n) (take c.loop-x.x-index c.args.before.now)) (λ n. met_by (footprints n) c.cell.result)
-      c.args.after (c.loop-x.invariant.least footprints h) (c.met_after.ensures.least footprints h));
-  above = c.earlier-first.ensures.above c.args.after c.loop-x.invariant.above c.met_after.ensures.above;
-}
+pub loop-at-preserved : goal.loop-at-preserved
+loop-at-preserved c =
+    let xs = c.args.before.now in
+    let i = c.loop-at.at in
+    let low : i < length xs = omega (arith, c.loop-at-test.true, c.len-at-end.ensures) in
+    let cell = c.cell_near-cell.result in
+    let d : Change Cell Value = record { cell = cell; value = None } in
+    record {
+      least = λ footprints h. undo_more footprints c.args.after xs i d low cell (c.cell_near-cell.ensures d) c.earlier-first.result
+          (c.earlier-first.ensures.least (λ n. any_met (footprints n) (take i xs)) (λ n. met_by (footprints n) cell)
+          c.args.after (c.loop-at.invariant.least footprints h) (c.met_after.ensures.least footprints h));
+      above = c.earlier-first.ensures.above c.args.after c.loop-at.invariant.above c.met_after.ensures.above;
+    }
 
 pub returns-clause-least : goal.returns-clause-least
-returns-clause-least c = λ footprints h. least_like (λ n. any_met (footprints n) (take c.loop-x.x-index c.args.before.now))
-    (λ n. blocks_undo c.args.before.now (footprints n)) c.args.after c.loop-x.first
-    (λ n. undo_met c.args.before.now (footprints n) ∙ ap (any_met (footprints n)) (sym (take_all c.loop-x.x-index c.args.before.now (omega arith))))
-    (c.loop-x.invariant.least footprints h)
+returns-clause-least c =
+    let xs = c.args.before.now in
+    let high : length xs ≤ c.loop-at.at = omega (arith, c.loop-at-test.false, c.len-at-end.ensures) in
+    λ footprints h. least_like (λ n. any_met (footprints n) (take c.loop-at.at xs)) (λ n. blocks_undo xs (footprints n)) c.args.after c.loop-at.first
+    (λ n. undo_met xs (footprints n) ∙ ap (any_met (footprints n)) (sym (take_all c.loop-at.at xs high))) (c.loop-at.invariant.least footprints h)

@@ -13,13 +13,3 @@ returns-in-Some-first_to_block_undo-clause-refusal c =
       refusal_is es c.args.at x (lent_footprint c.in-Some.kept) c.before-in-Some.result.now (Some c.in-Some-first_to_block_undo.by)
           (sym c.kept.ensures ∙ ap (option_map lent_footprint) c.in-Some.is) c.before-in-Some.ensures.same c.in-Some-first_to_block_undo.ensures.first,
     )
-
-pub returns-in-None-first_to_block_undo-clause-refusal : goal.returns-in-None-first_to_block_undo-clause-refusal
-returns-in-None-first_to_block_undo-clause-refusal c =
-    let es = c.args.entries.now in
-    let x = c.index-entries-at.result in (
-      x,
-      slice_get-get_or es c.args.at x c.requires.in_log ∙ ap Some (sym c.index-entries-at.is),
-      refusal_is es c.args.at x (lent_footprint c.in-Some.kept) c.before-in-Some.result.now None
-          (sym c.kept.ensures ∙ ap (option_map lent_footprint) c.in-Some.is) c.before-in-Some.ensures.same c.in-None-first_to_block_undo.ensures.first,
-    )

@@ -1,0 +1,7 @@
+use Rattle.std.proofs.Common.{◌≡◌, false, take}
+use Rattle.selective_undo.specs.Changes.{changes}
+use Rattle.wb_book.specs.Cells.{cell_cmp}
+use Rattle.wb_log.proofs.blockers.is_changed.Given as goal
+
+abbrev pub invariant-loop-at : goal.invariant-loop-at
+invariant-loop-at l = changes cell_cmp (take l.at l.wrote) l.cell ≡ false

@@ -1,6 +1,0 @@
-use Rattle.std.proofs.Common.{ap, ◌∙◌, []}
-use Rattle.wb_log.specs.Kept.{redo_blocker}
-use Rattle.wb_log.proofs.steps.redo.refused_blocker.Goals as goal
-
-pub returns-clause-first : goal.returns-clause-first
-returns-clause-first c = c.first_to_block_redo.ensures.first ∙ ap (λ rs. redo_blocker c.args.entries.now c.args.at rs []) c.reads.ensures
