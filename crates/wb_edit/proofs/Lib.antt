@@ -16,3 +16,4 @@ pub mod Sets
 pub mod Loading
 pub mod Kept
 pub mod Once
+pub mod Runs

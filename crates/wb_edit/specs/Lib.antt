@@ -15,6 +15,7 @@ pub mod Reshaping
 pub mod Sources
 pub mod Commands
 pub mod Plans
+pub mod Reads
 pub mod Changed
 pub mod ValidSources
 pub mod Valid

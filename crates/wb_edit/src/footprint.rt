@@ -1,5 +1,7 @@
 ghost use Rattle.std.specs.Prelude.{◌≡◌, List, [], ◌∷◌, ◌++◌, OnOk, OnErr};
+ghost use Rattle.wb_edit.specs.Reads.{all_read};
 
+use crate::read_run::{ReadRun, put};
 use smallvec::SmallVec;
 use std::alloc::Global;
 use std::marker::Model;
@@ -9,19 +11,25 @@ use wb_range::NoMemory;
 /// So many patterns take no memory of their own.
 const FEW: usize = 2;
 
+/// So many are kept as they are; those behind them go into runs.
+const MOST: usize = 8;
+
 /// The footprint of an edit: what it read, in order. Contracts see the list of its patterns.
 #[derive(Drop)]
 pub struct Footprint {
-    reads: SmallVec<Pattern, FEW>,
+    alloc: Global,
+    first: SmallVec<Pattern, FEW>,
+    rest: Vec<ReadRun>,
 }
 
 impl Model for Footprint {
-    ghost use Rattle.std.specs.Prelude.{List};
+    ghost use Rattle.std.specs.Prelude.{List, ◌++◌};
     ghost use Rattle.wb_book.specs.declared.cells.pattern.Pattern.{Pattern};
+    ghost use Rattle.wb_edit.specs.Reads.{all_read};
 
     ghost Value = { List Pattern };
 
-    ghost view = { λ a. a.reads.items };
+    ghost view = { λ a. a.first.items ++ all_read a.rest.items };
 }
 
 impl Footprint {
@@ -30,15 +38,17 @@ impl Footprint {
         ensures { result ≡ [] }
     {
         Footprint {
-            reads: SmallVec::new(alloc),
+            alloc,
+            first: SmallVec::new(alloc),
+            rest: Vec::new(alloc),
         }
     }
 
-    /// The patterns that were read, in order.
-    pub fn reads(&self) -> &[Pattern]
-        ensures { result.now ≡ self.now }
+    /// The patterns that were read first, and the runs of those behind them, in order.
+    pub fn parts(&self) -> (&[Pattern], &[ReadRun])
+        ensures { self.now ≡ result.0.now ++ all_read result.1.now }
     {
-        self.reads.as_slice()
+        (self.first.as_slice(), self.rest.as_slice())
     }
 
     /// Keeps that a pattern was read, after the others; `NoMemory` where none is left, and then nothing is kept.
@@ -46,6 +56,9 @@ impl Footprint {
         ensures ok { OnOk result (self.new ≡ self.old ++ pattern ∷ []) }
         ensures err { OnErr result (self.new ≡ self.old) }
     {
-        Ok(self.reads.push(pattern)?)
+        if self.rest.is_empty() && self.first.len() < MOST {
+            return Ok(self.first.push(pattern)?);
+        }
+        put(self.alloc, &mut self.rest, &pattern)
     }
 }

@@ -14,6 +14,7 @@ pub mod laws;
 mod looks;
 mod operation;
 mod planning;
+mod read_run;
 mod refusal;
 mod same;
 
@@ -25,4 +26,5 @@ pub use crate::looks::judgements;
 pub use crate::looks::numbers::element_or_refusal;
 pub use crate::operation::Operation;
 pub use crate::planning::{PlanErr, plan};
+pub use crate::read_run::ReadRun;
 pub use crate::refusal::Refusal;

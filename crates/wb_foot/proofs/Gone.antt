@@ -19,7 +19,9 @@ use Rattle.wb_foot.specs.Points.{Coordinates}
 use Rattle.wb_foot.specs.Parts.{part_at, is_same_part}
 use Rattle.wb_foot.specs.Spots.{spot_marked}
 use Rattle.wb_foot.specs.Places.{own, family, is_same_place, place_marked, cell_at}
-use Rattle.wb_foot.specs.Footprints.{at_cell}
+use Rattle.wb_foot.specs.declared.marking.Marking.{Marking}
+use Rattle.wb_foot.specs.declared.marking.Marking.TheVariants.{Own, Families}
+use Rattle.wb_foot.specs.Footprints.{family_by, at_cell}
 use Rattle.wb_foot.proofs.Setting.{either}
 use Rattle.wb_foot.proofs.RunPlaces.{own_at}
 
@@ -78,16 +80,21 @@ module _ (m : PlaceMarks) (number : ℕ) (kind : Kind) (d : Name) (h : (p : Coor
 abbrev at_family : Option Place → Place → Bool
 at_family o q = elim o [ Some f ↦ is_same_place f q | None ↦ false ]
 
+one_family : (by : Marking) (x y : Cell) → family x ≡ family y → family_by by x ≡ family_by by y
+one_family Own x y e = refl
+one_family Families x y e = e
+
 module _ (m : Place → ℕ → Bool) (number : ℕ) where
   -- from one of its cells it was taken away, and so from their family
-  pub row_gone : (kind : Kind) (d : Name) (x : Cell) → ((p : Coordinates) → family (cell_at kind d p) ≡ family x) →
+  pub row_gone : (by : Marking) (kind : Kind) (d : Name) (x : Cell) → ((p : Coordinates) → family (cell_at kind d p) ≡ family x) →
       ((p : Coordinates) (q : Place) → is_same_place (own (cell_at kind d p)) q ≡ true → m q number ≡ false) →
-      ((q : Place) → at_cell x q ≡ true → m q number ≡ false) → (p : Coordinates) (q : Place) → at_cell (cell_at kind d p) q ≡ true → m q number ≡ false
-  row_gone kind d x fam clear gone p q here =
+      ((q : Place) → at_cell by x q ≡ true → m q number ≡ false) → (p : Coordinates) (q : Place) → at_cell by (cell_at kind d p) q ≡ true → m q number ≡ false
+  row_gone by kind d x fam clear gone p q here =
       let its = is_same_place (own (cell_at kind d p)) q in
-      let other = at_family (family (cell_at kind d p)) q in
+      let other = at_family (family_by by (cell_at kind d p)) q in
+      let same = one_family by (cell_at kind d p) x (fam p) in
       either its other (m q number ≡ false) (clear p q)
-      (λ f. gone q (or_last (is_same_place (own x) q) (at_family (family x) q) (ap (λ o. at_family o q) (sym (fam p)) ∙ f))) here
+      (λ f. gone q (or_last (is_same_place (own x) q) (at_family (family_by by x) q) (ap (λ o. at_family o q) (sym same) ∙ f))) here
 
   -- nothing is to be done
   pub still_clear : (h g : Place → Bool) → ((q : Place) → g q ≡ h q) → ((q : Place) → h q ≡ true → m q number ≡ false) → Clears m m g number

@@ -13,3 +13,4 @@ pub mod RunPlaces
 pub mod InParts
 pub mod InRuns
 pub mod Gone
+pub mod ReadPlaces

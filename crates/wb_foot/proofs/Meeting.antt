@@ -1,7 +1,9 @@
 -- Footprints and places: what a footprint read or touched, by the marks that it has.
-use Rattle.std.proofs.Common.{◌≡◌, ℕ, Bool, true, false, ◌||◌, Option, Some, None, List, [], ◌∷◌, refl, sym, ◌∙◌, length, take, suc, ◌+◌, ◌<◌, get_or, add-one}
+use Rattle.std.proofs.Common.{◌≡◌, ℕ, Bool, true, false, ◌||◌, Option, Some, None, List, [], ◌∷◌}
+use Rattle.std.proofs.Common.{◌++◌, map, refl, sym, ap, ◌∙◌, length, take, suc, ◌+◌, ◌<◌, get_or, add-one}
 use Rattle.std.specs.Prelude.{IfSome}
 use Rattle.std.specs.List.{list_any}
+use Rattle.std.proofs.lemmas.List.Folds.{list_any-append}
 use Rattle.std.specs.Ordering.{eq_by_cmp}
 use Rattle.std.proofs.lemmas.Cmp.{eq_by_cmp_equiv}
 use Rattle.selective_undo.specs.Changes.{changes}
@@ -23,6 +25,7 @@ use Rattle.wb_foot.specs.declared.place.Place.{Place}
 use Rattle.wb_foot.specs.declared.place.Place.TheVariants.{Objects, Of}
 use Rattle.wb_foot.specs.declared.foot_index.FootIndex.{FootIndex}
 use Rattle.wb_foot.specs.Relation.{IsLeastAfter}
+use Rattle.wb_foot.specs.declared.marking.Marking.TheVariants.{Families}
 use Rattle.wb_foot.specs.Parts.{slot_cmp, is_same_part}
 use Rattle.wb_foot.specs.Places.{place_marked}
 use Rattle.wb_foot.specs.Footprints.{IsIndexOf, any_met}
@@ -49,6 +52,10 @@ module _ {X : Type 0} where
   pub any_none : (xs : List X) → list_any (λ x. false) xs ≡ false
   any_none [] = refl
   any_none (x ∷ xs) = any_none xs
+
+pub any_map : {X Y : Type 0} (f : Y → Bool) (g : X → Y) (xs : List X) → list_any f (map g xs) ≡ list_any (λ x. f (g x)) xs
+any_map f g [] = refl
+any_map f g (x ∷ xs) = rw (any_map f g xs) refl
 
 pub any_swap : {X Y : Type 0} (r : X → Y → Bool) (xs : List X) (ys : List Y) →
     list_any (λ x. list_any (r x) ys) xs ≡ list_any (λ y. list_any (λ x. r x y) xs) ys
@@ -103,13 +110,13 @@ same_family : (o : Option Place) (q : Place) → at_family (λ f. is_same_place 
 same_family None q = refl
 same_family (Some f) q = same_places q f
 
-at_named : (q : Pattern) (y : Cell) → matches q y ≡ at_cell y (place_of q)
+at_named : (q : Pattern) (y : Cell) → matches q y ≡ at_cell Families y (place_of q)
 at_named q y = named q y ∙ rw (same_places (place_of q) (own y), same_family (family y) (place_of q))
 
 -- ---- what a footprint touched and read, at places
 
 pub touched_named : (q : Pattern) (xs : Changes) → list_any (λ x. matches q x.cell) xs ≡ touched_at xs (place_of q)
-touched_named q xs = any_like (λ x. matches q x.cell) (λ x. at_cell x.cell (place_of q)) xs (λ x. at_named q x.cell)
+touched_named q xs = any_like (λ x. matches q x.cell) (λ x. at_cell Families x.cell (place_of q)) xs (λ x. at_named q x.cell)
 
 family_read : (o : Option Place) (rs : List Pattern) → list_any (λ r. at_family (λ f. is_same_place (place_of r) f) o) rs ≡ at_family (read_at rs) o
 family_read None rs = any_none rs
@@ -209,3 +216,17 @@ module _ (footprints : ℕ → Option (Footprint workbook)) (after : ℕ) where
   touch_more rs i d below q e r h = rw add-one (least_like (λ n. touched_under (footprints n) (take i rs) || touched_by (footprints n) (place_of q))
       (λ n. touched_under (footprints n) (take (suc i) rs)) after r
       (λ n. sym (rw e (more_any (λ y (o : Option (Footprint workbook)). touched_by o (place_of y)) rs i d below (footprints n)))) h)
+
+  pub cells_more : (xs : Changes) (i : ℕ) (d : _) → i < length xs → (q : Place) → q ≡ own (get_or xs i d).cell → (r : Option ℕ) →
+      IsLeastAfter (λ n. list_any (λ x. touched_by (footprints n) (own x.cell)) (take i xs) || touched_by (footprints n) q) after r →
+      IsLeastAfter (λ n. list_any (λ x. touched_by (footprints n) (own x.cell)) (take (i + 1) xs)) after r
+  cells_more xs i d below q e r h = rw add-one (least_like
+      (λ n. list_any (λ x. touched_by (footprints n) (own x.cell)) (take i xs) || touched_by (footprints n) q)
+      (λ n. list_any (λ x. touched_by (footprints n) (own x.cell)) (take (suc i) xs)) after r
+      (λ n. sym (rw e (more_any (λ x (o : Option (Footprint workbook)). touched_by o (own x.cell)) xs i d below (footprints n)))) h)
+
+  pub under_both : (xs ys zs : List Pattern) → zs ≡ xs ++ ys → (r : Option ℕ) →
+      IsLeastAfter (λ n. touched_under (footprints n) xs || touched_under (footprints n) ys) after r →
+      IsLeastAfter (λ n. touched_under (footprints n) zs) after r
+  under_both xs ys zs e r h = least_like (λ n. touched_under (footprints n) xs || touched_under (footprints n) ys) (λ n. touched_under (footprints n) zs)
+      after r (λ n. ap (touched_under (footprints n)) e ∙ list_any-append (λ y. touched_by (footprints n) (place_of y)) xs ys) h

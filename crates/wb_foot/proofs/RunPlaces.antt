@@ -4,8 +4,6 @@ use Rattle.std.proofs.Common.{ap, ◌∙◌, arith}
 use Rattle.std.specs.List.{list_any}
 use Rattle.std.proofs.lemmas.List.Folds.{list_any_more, list_any-append}
 use Rattle.wb_book.specs.declared.cells.cell.Cell.{Cell}
-use Rattle.wb_book.specs.declared.cells.pattern.Pattern.{Pattern}
-use Rattle.wb_book.specs.declared.cells.pattern.Pattern.TheVariants.{One}
 use Rattle.wb_book.specs.Cells.{Name, Changes, is_same_name}
 use Rattle.wb_foot.specs.declared.part.Kind.{Kind}
 use Rattle.wb_foot.specs.declared.part.Kind.TheVariants as k
@@ -16,8 +14,9 @@ use Rattle.wb_foot.specs.declared.place.Place.TheVariants.{Objects, Of}
 use Rattle.wb_foot.specs.Relation.{Sets, Stays}
 use Rattle.wb_foot.specs.Points.{Coordinates}
 use Rattle.wb_foot.specs.Parts.{part_at, is_same_part, in_run}
-use Rattle.wb_foot.specs.Places.{own, family, place_of, is_same_place, cell_at, in_places}
-use Rattle.wb_foot.specs.Footprints.{at_cell, touched_at, run_touched, read_at, run_read}
+use Rattle.wb_foot.specs.Places.{own, is_same_place, cell_at, in_places}
+use Rattle.wb_foot.specs.declared.marking.Marking.{Marking}
+use Rattle.wb_foot.specs.Footprints.{family_by, at_cell, marked_at, run_marked}
 use Rattle.wb_foot.proofs.Meeting.{any_or, any_like, any_none}
 use Rattle.wb_foot.proofs.Setting.{then_sets, like, then_stays, stays_none}
 
@@ -25,27 +24,15 @@ or_false : (a : Bool) → a || false ≡ a
 or_false true = refl
 or_false false = refl
 
-pub run_more : (xs : Changes) (j : ℕ) (d : _) → j < length xs → (x : Cell) → x ≡ (get_or xs j d).cell →
+pub run_more : (m : Marking) (xs : Changes) (j : ℕ) (d : _) → j < length xs → (x : Cell) → x ≡ (get_or xs j d).cell →
     (kind : Kind) (name : Name) (ps qs : List Coordinates) (p : Coordinates) → x ≡ cell_at kind name p → qs ≡ ps ++ p ∷ [] →
-    ((q : Place) → touched_at (take j xs) q ≡ run_touched kind name ps q) → (q : Place) → touched_at (take (j + 1) xs) q ≡ run_touched kind name qs q
-run_more xs j d below x e kind name ps qs p is more h q =
-    list_any_more (λ y. at_cell y.cell q) xs j d below
-    ∙ ap (λ b. b || at_cell (get_or xs j d).cell q) (h q)
-    ∙ ap (λ y. run_touched kind name ps q || at_cell y q) (sym e ∙ is)
-    ∙ sym (ap (λ l. run_touched kind name l q) more ∙ list_any-append (λ y. at_cell (cell_at kind name y) q) ps (p ∷ []) ∙
-    ap (λ b. run_touched kind name ps q || b) (or_false (at_cell (cell_at kind name p) q)))
-
--- the same of what patterns read, by the cells' own places
-pub read_run_more : (rs : List Pattern) (j : ℕ) (d : Pattern) → j < length rs → (r : Pattern) → r ≡ get_or rs j d →
-    (kind : Kind) (name : Name) (ps qs : List Coordinates) (p : Coordinates) → r ≡ One (cell_at kind name p) → qs ≡ ps ++ p ∷ [] →
-    ((q : Place) → read_at (take j rs) q ≡ run_read kind name ps q) → (q : Place) → read_at (take (j + 1) rs) q ≡ run_read kind name qs q
-read_run_more rs j d below r e kind name ps qs p is more h q =
-    let last = is_same_place (own (cell_at kind name p)) q in
-    let grown = list_any-append (λ y. is_same_place (own (cell_at kind name y)) q) ps (p ∷ []) in
-    list_any_more (λ y. is_same_place (place_of y) q) rs j d below
-    ∙ ap (λ b. b || is_same_place (place_of (get_or rs j d)) q) (h q)
-    ∙ ap (λ y. run_read kind name ps q || is_same_place (place_of y) q) (sym e ∙ is)
-    ∙ sym (ap (λ l. run_read kind name l q) more ∙ grown ∙ ap (λ b. run_read kind name ps q || b) (or_false last))
+    ((q : Place) → marked_at m (take j xs) q ≡ run_marked m kind name ps q) → (q : Place) → marked_at m (take (j + 1) xs) q ≡ run_marked m kind name qs q
+run_more m xs j d below x e kind name ps qs p is more h q =
+    list_any_more (λ y. at_cell m y.cell q) xs j d below
+    ∙ ap (λ b. b || at_cell m (get_or xs j d).cell q) (h q)
+    ∙ ap (λ y. run_marked m kind name ps q || at_cell m y q) (sym e ∙ is)
+    ∙ sym (ap (λ l. run_marked m kind name l q) more ∙ list_any-append (λ y. at_cell m (cell_at kind name y) q) ps (p ∷ []) ∙
+    ap (λ b. run_marked m kind name ps q || b) (or_false (at_cell m (cell_at kind name p) q)))
 
 and_each : {X : Type 0} (c : Bool) (f : X → Bool) (xs : List X) → list_any (λ x. c && f x) xs ≡ (c && list_any f xs)
 and_each true f xs = refl
@@ -89,12 +76,12 @@ always b [] l = let no : ⊥ = omega arith in absurd no
 always true (x ∷ xs) l = refl
 always false (x ∷ xs) l = any_none xs
 
-pub run_is : (d : Name) (kind : Kind) (ps : List Coordinates) (o : Option Place) → ((p : Coordinates) → o ≡ family (cell_at kind d p)) → 0 < length ps →
-    (q : Place) → run_touched kind d ps q ≡ (in_places d kind ps q || at_family o q)
-run_is d kind ps o h some q =
-    any_or (λ p. is_same_place (own (cell_at kind d p)) q) (λ p. at_family (family (cell_at kind d p)) q) ps
-    ∙ ap (λ b. b || list_any (λ p. at_family (family (cell_at kind d p)) q) ps) (owns_in d kind ps q)
-    ∙ ap (λ b. in_places d kind ps q || b) (any_like (λ p. at_family (family (cell_at kind d p)) q) (λ p. at_family o q) ps
+pub run_is : (m : Marking) (d : Name) (kind : Kind) (ps : List Coordinates) (o : Option Place) → ((p : Coordinates) → o ≡ family_by m (cell_at kind d p)) →
+    0 < length ps → (q : Place) → run_marked m kind d ps q ≡ (in_places d kind ps q || at_family o q)
+run_is m d kind ps o h some q =
+    any_or (λ p. is_same_place (own (cell_at kind d p)) q) (λ p. at_family (family_by m (cell_at kind d p)) q) ps
+    ∙ ap (λ b. b || list_any (λ p. at_family (family_by m (cell_at kind d p)) q) ps) (owns_in d kind ps q)
+    ∙ ap (λ b. in_places d kind ps q || b) (any_like (λ p. at_family (family_by m (cell_at kind d p)) q) (λ p. at_family o q) ps
     (λ p. ap (λ f. at_family f q) (sym (h p))) ∙ always (at_family o q) ps some)
 
 pub length_push : (ps : List Coordinates) (p : Coordinates) → length (ps ++ p ∷ []) ≡ length ps + 1
@@ -103,27 +90,22 @@ length_push (x ∷ ps) p = let rest = length_push ps p in omega arith
 
 -- ---- marks of a run
 
-module _ (o m : Place → ℕ → Bool) (number : ℕ) (d : Name) (kind : Kind) (ps : List Coordinates) (rs : List Pattern) where
-  pub read_row_done : ((q : Place) → read_at rs q ≡ run_read kind d ps q) → (done : Bool) →
-      Sets o m (λ q. done && in_places d kind ps q) number true → Sets o m (λ q. done && read_at rs q) number true
-  read_row_done t done = like o m (λ q. done && in_places d kind ps q) (λ q. done && read_at rs q) number true
-      (λ q. ap (λ b. done && b) (sym (t q ∙ owns_in d kind ps q)))
-
-module _ (o m n : Place → ℕ → Bool) (number : ℕ) where
-  module _ (d : Name) (kind : Kind) (ps : List Coordinates) (xs : Changes) (some : 0 < length ps) (t : (q : Place) → touched_at xs q ≡ run_touched kind d ps q)
+module _ (by : Marking) (o m n : Place → ℕ → Bool) (number : ℕ) where
+  module _ (d : Name) (kind : Kind) (ps : List Coordinates) (xs : Changes) (some : 0 < length ps) (t : (q : Place) →
+      marked_at by xs q ≡ run_marked by kind d ps q)
       (h : Sets o m (in_places d kind ps) number true) where
-    pub row_alone : ((p : Coordinates) → None ≡ family (cell_at kind d p)) → Sets o m (touched_at xs) number true
-    row_alone fam = like o m (in_places d kind ps) (touched_at xs) number true
-        (λ q. sym (t q ∙ run_is d kind ps None fam some q ∙ or_false (in_places d kind ps q))) h
+    pub row_alone : ((p : Coordinates) → None ≡ family_by by (cell_at kind d p)) → Sets o m (marked_at by xs) number true
+    row_alone fam = like o m (in_places d kind ps) (marked_at by xs) number true
+        (λ q. sym (t q ∙ run_is by d kind ps None fam some q ∙ or_false (in_places d kind ps q))) h
 
-    module _ (f : Place) (fam : (p : Coordinates) → Some f ≡ family (cell_at kind d p)) where
-      whole : (q : Place) → (in_places d kind ps q || is_same_place f q) ≡ touched_at xs q
-      whole q = sym (t q ∙ run_is d kind ps (Some f) fam some q)
+    module _ (f : Place) (fam : (p : Coordinates) → Some f ≡ family_by by (cell_at kind d p)) where
+      whole : (q : Place) → (in_places d kind ps q || is_same_place f q) ≡ marked_at by xs q
+      whole q = sym (t q ∙ run_is by d kind ps (Some f) fam some q)
 
-      pub row_done : Sets m n (is_same_place f) number true → Sets o n (touched_at xs) number true
-      row_done k = like o n (λ q. in_places d kind ps q || is_same_place f q) (touched_at xs) number true whole
+      pub row_done : Sets m n (is_same_place f) number true → Sets o n (marked_at by xs) number true
+      row_done k = like o n (λ q. in_places d kind ps q || is_same_place f q) (marked_at by xs) number true whole
           (then_sets o m n (in_places d kind ps) (is_same_place f) number true h k)
 
-      pub row_failed : ((q : Place) (j : ℕ) → n q j ≡ m q j) → Stays o n (touched_at xs) number
-      row_failed same = then_stays o m n (in_places d kind ps) (is_same_place f) (touched_at xs) number true h (stays_none m n (is_same_place f) number same)
+      pub row_failed : ((q : Place) (j : ℕ) → n q j ≡ m q j) → Stays o n (marked_at by xs) number
+      row_failed same = then_stays o m n (in_places d kind ps) (is_same_place f) (marked_at by xs) number true h (stays_none m n (is_same_place f) number same)
           (λ q j out. ap (λ b. b && (number == j)) (whole q) ∙ out)

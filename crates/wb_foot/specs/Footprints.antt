@@ -13,6 +13,8 @@ use Rattle.wb_foot.specs.declared.place.Place.{Place}
 use Rattle.wb_foot.specs.declared.foot_index.FootIndex.{FootIndex}
 use Rattle.wb_foot.specs.declared.place_marks.PlaceMarks.{PlaceMarks}
 use Rattle.wb_foot.specs.declared.part.Kind.{Kind}
+use Rattle.wb_foot.specs.declared.marking.Marking.{Marking}
+use Rattle.wb_foot.specs.declared.marking.Marking.TheVariants.{Own, Families}
 use Rattle.wb_foot.specs.Points.{Coordinates}
 use Rattle.wb_foot.specs.Places.{own, family, place_of, is_same_place, place_marked, cell_at}
 
@@ -20,33 +22,34 @@ use Rattle.wb_foot.specs.Places.{own, family, place_of, is_same_place, place_mar
 abbrev pub Footprints : Type 0
 Footprints = ℕ → Option (Footprint workbook)
 
--- whether a place is that of a cell, or of its family
-abbrev pub at_cell : Cell → Place → Bool
-at_cell c q = is_same_place (own c) q || elim (family c) [ Some f ↦ is_same_place f q | None ↦ false ]
+-- the place of the family of a cell, if cells are marked at that too
+abbrev pub family_by : Marking → Cell → Option Place
+family_by Own c = None
+family_by Families c = family c
 
--- whether changes touch a place
+-- whether a cell is marked at a place
+abbrev pub at_cell : Marking → Cell → Place → Bool
+at_cell m c q = is_same_place (own c) q || elim (family_by m c) [ Some f ↦ is_same_place f q | None ↦ false ]
+
+-- whether one of the cells of changes is
+abbrev pub marked_at : Marking → Changes → Place → Bool
+marked_at m xs q = list_any (λ x. at_cell m x.cell q) xs
+
+-- whether one of the cells of one kind of one object at some points is
+abbrev pub run_marked : Marking → Kind → Name → List Coordinates → Place → Bool
+run_marked m k d ps q = list_any (λ p. at_cell m (cell_at k d p) q) ps
+
+-- whether changes touch a place: that of a cell, or of its family
 abbrev pub touched_at : Changes → Place → Bool
-touched_at xs q = list_any (λ x. at_cell x.cell q) xs
-
--- whether the cells of one kind of one object at some points have it
-abbrev pub run_touched : Kind → Name → List Coordinates → Place → Bool
-run_touched k d ps q = list_any (λ p. at_cell (cell_at k d p) q) ps
-
--- whether it is the own place of one of them
-abbrev pub run_read : Kind → Name → List Coordinates → Place → Bool
-run_read k d ps q = list_any (λ p. is_same_place (own (cell_at k d p)) q) ps
+touched_at xs q = marked_at Families xs q
 
 -- whether one of the patterns is that of a place
 abbrev pub read_at : List Pattern → Place → Bool
 read_at rs q = list_any (λ r. is_same_place (place_of r) q) rs
 
--- a number stands at no place of such cells, nor at that of their family
-abbrev pub IsUntouched : Kind → Name → PlaceMarks → ℕ → Type 0
-IsUntouched k d m n = (p : Coordinates) (q : Place) → at_cell (cell_at k d p) q ≡ true → place_marked m q n ≡ false
-
--- it stands at no own place of theirs
-abbrev pub IsUnread : Kind → Name → PlaceMarks → ℕ → Type 0
-IsUnread k d m n = (p : Coordinates) (q : Place) → is_same_place (own (cell_at k d p)) q ≡ true → place_marked m q n ≡ false
+-- a number stands at no place at which such a cell is marked
+abbrev pub IsUnmarked : Marking → Kind → Name → PlaceMarks → ℕ → Type 0
+IsUnmarked m k d marks n = (p : Coordinates) (q : Place) → at_cell m (cell_at k d p) q ≡ true → place_marked marks q n ≡ false
 
 -- whether a footprint, where there is one, touched a place
 abbrev pub touched_by : Option (Footprint workbook) → Place → Bool

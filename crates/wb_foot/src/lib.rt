@@ -7,10 +7,11 @@
 
 mod blockers;
 mod blocks;
+mod cell_lists;
 mod earlier;
-mod ends;
 mod foot_index;
 mod index_marks;
+mod marking;
 mod marks;
 mod name_marks;
 mod numbers;
@@ -22,7 +23,6 @@ mod queries;
 mod reading;
 mod runs;
 mod spots;
-mod touching;
 
 pub use crate::foot_index::FootIndex;
 pub use crate::numbers::Numbers;

@@ -1,7 +1,8 @@
 //! The first edits that stand in the way of an undo or a redo.
 
-ghost use Rattle.std.specs.Prelude.{◌≡◌, ◌<◌, IfSome};
+ghost use Rattle.std.specs.Prelude.{◌≡◌, ◌<◌, [], ◌∷◌, ◌++◌, IfSome};
 ghost use Rattle.selective_undo.specs.Log.{blocks_undo, blocks_redo};
+ghost use Rattle.wb_edit.specs.Reads.{all_read, read_in, patterns_of};
 ghost use Rattle.wb_foot.specs.Relation.{IsLeastAfter};
 ghost use Rattle.wb_foot.specs.Footprints.{Footprints, IsIndexOf, footprint, met_by, touched_by, touched_under};
 ghost use Rattle.wb_foot.specs.Places.{place_of};
@@ -10,6 +11,7 @@ use crate::earlier::earlier;
 use crate::foot_index::FootIndex;
 use crate::place::{family, own, place_of};
 use wb_book::{Cell, Changes, Pattern};
+use wb_edit::ReadRun;
 
 impl FootIndex {
     /// The least number above `after` whose footprint read or touched the cell.
@@ -59,15 +61,77 @@ impl FootIndex {
         first
     }
 
+    /// The same of the patterns of cells.
+    fn first_to_touch_cells(&self, cells: &Changes, after: u64) -> Option<u64>
+        ensures { (footprints : Footprints) → IsIndexOf self.now footprints →
+            IsLeastAfter (λ n. touched_under (footprints n) (patterns_of cells.now)) after result }
+    {
+        let mut first = None;
+        let mut near = 0;
+        for at in 0..cells.len() {
+            let place = own(&cells.cell_near(at, &mut near));
+            first = earlier(first, self.touched.least_after(&place, after));
+        }
+        first
+    }
+
+    /// The same of one pattern.
+    fn first_to_touch_one(&self, pattern: &Pattern, after: u64) -> Option<u64>
+        ensures { (footprints : Footprints) → IsIndexOf self.now footprints →
+            IsLeastAfter (λ n. touched_under (footprints n) (pattern.now ∷ [])) after result }
+    {
+        self.touched_after(pattern, after)
+    }
+
+    /// The same of the patterns of a run.
+    fn first_to_touch_run(&self, run: &ReadRun, after: u64) -> Option<u64>
+        ensures { (footprints : Footprints) → IsIndexOf self.now footprints →
+            IsLeastAfter (λ n. touched_under (footprints n) (read_in run.now)) after result }
+    {
+        match run {
+            ReadRun::Single(pattern) => self.first_to_touch_one(pattern, after),
+            ReadRun::Cells(cells) => self.first_to_touch_cells(cells, after),
+        }
+    }
+
+    /// The same of the patterns of runs.
+    fn first_to_touch_runs(&self, runs: &[ReadRun], after: u64) -> Option<u64>
+        ensures { (footprints : Footprints) → IsIndexOf self.now footprints →
+            IsLeastAfter (λ n. touched_under (footprints n) (all_read runs.now)) after result }
+    {
+        let mut first = None;
+        for run in runs {
+            first = earlier(first, self.first_to_touch_run(run, after));
+        }
+        first
+    }
+
+    /// The same of patterns, and of those of runs behind them.
+    fn first_to_touch_all(&self, reads: &[Pattern], runs: &[ReadRun], after: u64) -> Option<u64>
+        ensures { (footprints : Footprints) → IsIndexOf self.now footprints →
+            IsLeastAfter (λ n. touched_under (footprints n) (reads.now ++ all_read runs.now)) after result }
+    {
+        earlier(
+            self.first_to_touch(reads, after),
+            self.first_to_touch_runs(runs, after),
+        )
+    }
+
     /// The least number above `after` whose footprint needs, or is needed by, one with these reads and changes. With no
     /// changes it is the least whose footprint touched a cell that one of the patterns names.
-    pub fn first_to_block_redo(&self, reads: &[Pattern], delta: &Changes, after: u64) -> Option<u64>
+    pub fn first_to_block_redo(
+        &self,
+        reads: &[Pattern],
+        runs: &[ReadRun],
+        delta: &Changes,
+        after: u64,
+    ) -> Option<u64>
         ensures { (footprints : Footprints) → IsIndexOf self.now footprints →
-            IsLeastAfter (λ n. blocks_redo (footprint reads.now delta.now) (footprints n)) after result }
+            IsLeastAfter (λ n. blocks_redo (footprint (reads.now ++ all_read runs.now) delta.now) (footprints n)) after result }
     {
         earlier(
             self.first_to_block_undo(delta, after),
-            self.first_to_touch(reads, after),
+            self.first_to_touch_all(reads, runs, after),
         )
     }
 }

@@ -11,3 +11,4 @@ pub mod Sweeps
 pub mod Depending
 pub mod Undoings
 pub mod Shortest
+pub mod Covered

@@ -1,17 +1,20 @@
 //! The least later edit that stands in the way of an undo or a redo, found by testing one after another: where no memory is
 //! left for the index.
 
-ghost use Rattle.std.specs.Prelude.{◌≡◌, ℕ, ◌+◌, ◌^◌, ◌<◌, ◌||◌, length, map};
+ghost use Rattle.std.specs.Prelude.{◌≡◌, ℕ, ◌+◌, ◌^◌, ◌<◌, ◌||◌, [], ◌∷◌, ◌++◌, length, map};
 ghost use Rattle.selective_undo.specs.Changes.{changes};
 ghost use Rattle.selective_undo.specs.Edit.{covers};
 ghost use Rattle.selective_undo.specs.Log.{meets_any, blocks_undo, blocks_redo, first_from};
 ghost use Rattle.wb_book.specs.Cells.{cell_cmp};
+ghost use Rattle.wb_edit.specs.Reads.{all_read, read_in, patterns_of};
 ghost use Rattle.wb_edit.specs.Schema.{workbook};
 ghost use Rattle.wb_log.specs.Kept.{footprint, kept_in, kept_all};
+ghost use Rattle.wb_log.specs.Records.{lent_footprint};
 
-use crate::entry::Record;
+use crate::entry::{LentFootprint, Record};
 use crate::steps::making::is_same;
 use wb_book::{Cell, Changes, Pattern};
+use wb_edit::ReadRun;
 
 fn is_changed(wrote: &Changes, cell: &Cell) -> bool
     ensures { result ≡ changes cell_cmp wrote.now cell.now }
@@ -31,24 +34,74 @@ fn is_covered(reads: &[Pattern], cell: &Cell) -> bool
     reads.iter().any(|p| p.matches(*cell))
 }
 
-fn meets(reads: &[Pattern], wrote: &Changes, cell: &Cell) -> bool
-    ensures { result ≡ (changes cell_cmp wrote.now cell.now || covers workbook reads.now cell.now) }
+// Whether the pattern, alone, names the cell.
+fn is_named(pattern: &Pattern, cell: &Cell) -> bool
+    ensures { result ≡ covers workbook (pattern.now ∷ []) cell.now }
 {
-    is_changed(wrote, cell) || is_covered(reads, cell)
+    pattern.matches(*cell)
 }
 
-/// Whether an edit that read `reads` and wrote `wrote` reads or writes one of the cells.
-fn meets_any(reads: &[Pattern], wrote: &Changes, cells: &Changes) -> bool
-    ensures { result ≡ meets_any (footprint reads.now wrote.now) cells.now }
+// Whether the cell is one of those.
+fn is_listed(cells: &Changes, cell: &Cell) -> bool
+    ensures { result ≡ covers workbook (patterns_of cells.now) cell.now }
 {
-    let mut near = 0;
-    for at in 0..cells.len() {
-        let cell = cells.cell_near(at, &mut near);
-        if meets(reads, wrote, &cell) {
+    is_changed(cells, cell)
+}
+
+// Whether a pattern of a run names the cell.
+fn is_covered_in(run: &ReadRun, cell: &Cell) -> bool
+    ensures { result ≡ covers workbook (read_in run.now) cell.now }
+{
+    match run {
+        ReadRun::Single(pattern) => is_named(pattern, cell),
+        ReadRun::Cells(cells) => is_listed(cells, cell),
+    }
+}
+
+fn is_covered_by(runs: &[ReadRun], cell: &Cell) -> bool
+    ensures { result ≡ covers workbook (all_read runs.now) cell.now }
+{
+    for run in runs {
+        if is_covered_in(run, cell) {
             return true;
         }
     }
     false
+}
+
+// Whether one of the patterns, or of those of the runs behind them, names the cell.
+fn is_read(reads: &[Pattern], runs: &[ReadRun], cell: &Cell) -> bool
+    ensures { result ≡ covers workbook (reads.now ++ all_read runs.now) cell.now }
+{
+    is_covered(reads, cell) || is_covered_by(runs, cell)
+}
+
+fn meets(reads: &[Pattern], runs: &[ReadRun], wrote: &Changes, cell: &Cell) -> bool
+    ensures { result ≡ (changes cell_cmp wrote.now cell.now || covers workbook (reads.now ++ all_read runs.now) cell.now) }
+{
+    is_changed(wrote, cell) || is_read(reads, runs, cell)
+}
+
+// Whether an edit that read these patterns and wrote `wrote` reads or writes one of the cells.
+fn meets_any(reads: &[Pattern], runs: &[ReadRun], wrote: &Changes, cells: &Changes) -> bool
+    ensures { result ≡ meets_any (footprint (reads.now ++ all_read runs.now) wrote.now) cells.now }
+{
+    let mut near = 0;
+    for at in 0..cells.len() {
+        let cell = cells.cell_near(at, &mut near);
+        if meets(reads, runs, wrote, &cell) {
+            return true;
+        }
+    }
+    false
+}
+
+// The same of an edit of which that is kept.
+fn is_met(kept: &LentFootprint<'_>, cells: &Changes) -> bool
+    ensures { result ≡ meets_any (lent_footprint kept.now) cells.now }
+{
+    let (reads, runs) = kept.reads();
+    meets_any(reads, runs, kept.before(), cells)
 }
 
 fn blocks_undo(x: &Record, before: &Changes) -> bool
@@ -56,20 +109,20 @@ fn blocks_undo(x: &Record, before: &Changes) -> bool
 {
     match x.kept() {
         None => false,
-        Some(kept) => meets_any(kept.reads(), kept.before(), before),
+        Some(kept) => is_met(&kept, before),
     }
 }
 
-fn blocks_redo(x: &Record, reads: &[Pattern], delta: &Changes) -> bool
-    ensures { result ≡ blocks_redo (footprint reads.now delta.now) (kept_in x.now) }
+fn blocks_redo(x: &Record, reads: &[Pattern], runs: &[ReadRun], delta: &Changes) -> bool
+    ensures { result ≡ blocks_redo (footprint (reads.now ++ all_read runs.now) delta.now) (kept_in x.now) }
 {
     match x.kept() {
         None => false,
         Some(kept) => {
-            if meets_any(kept.reads(), kept.before(), delta) {
+            if is_met(&kept, delta) {
                 return true;
             }
-            meets_any(reads, delta, kept.before())
+            meets_any(reads, runs, delta, kept.before())
         }
     }
 }
@@ -94,14 +147,15 @@ pub(crate) fn first_to_block_redo(
     later: &[Record],
     from: u64,
     reads: &[Pattern],
+    runs: &[ReadRun],
     delta: &Changes,
 ) -> Option<u64>
     requires { from + length later.now < 2 ^ 64 }
-    ensures { result ≡ first_from (blocks_redo (footprint reads.now delta.now)) from (kept_all later.now) }
+    ensures { result ≡ first_from (blocks_redo (footprint (reads.now ++ all_read runs.now) delta.now)) from (kept_all later.now) }
 {
     let mut number = from;
     for x in later {
-        if blocks_redo(x, reads, delta) {
+        if blocks_redo(x, reads, runs, delta) {
             return Some(number);
         }
         number += 1;

@@ -1,18 +1,19 @@
 //! The entries of a history, and the records in which they are kept.
 
-ghost use Rattle.std.specs.Prelude.{◌≡◌, [], ◌∷◌, None, IfOk, is_some, option_map};
+ghost use Rattle.std.specs.Prelude.{◌≡◌, [], ◌∷◌, ◌++◌, None, IfOk, is_some, option_map};
 ghost use Rattle.selective_undo.specs.Changes.{AllOnce};
 ghost use Rattle.wb_book.specs.declared.cells.cell.Cell.TheVariants as cell;
 ghost use Rattle.wb_book.specs.declared.cells.pattern.Pattern.TheVariants as pattern;
 ghost use Rattle.wb_book.specs.Cells.{cell_cmp};
 ghost use Rattle.wb_edit.specs.declared.edit.Edit.TheVariants as command;
+ghost use Rattle.wb_edit.specs.Reads.{all_read};
 ghost use Rattle.wb_log.specs.Kept.{kept_in};
 ghost use Rattle.wb_log.specs.Records.{element_reads, copy_reads, implicit_reads, number_before as before_of, lent_edit, lent_footprint, shown, kept_of};
 
 use std::alloc::Global;
 use std::marker::Model;
 use wb_book::{AnyCell, AnyIndex, Cell, CellChange, Changes, Inverse, Name, Pattern, Value};
-use wb_edit::{Edit, Footprint};
+use wb_edit::{Edit, Footprint, ReadRun};
 use wb_range::NoMemory;
 
 /// What an edit in force read, and what takes it back.
@@ -115,15 +116,15 @@ pub enum LentFootprint<'a> {
 }
 
 impl<'a> LentFootprint<'a> {
-    /// The patterns that the edit read, in order.
-    pub fn reads(&self) -> &[Pattern]
-        ensures { result.now ≡ (lent_footprint self.now).reads }
+    /// The patterns that the edit read first, and the runs of those behind them, in order.
+    pub fn reads(&self) -> (&[Pattern], &[ReadRun])
+        ensures { (lent_footprint self.now).reads ≡ result.0.now ++ all_read result.1.now }
     {
         match self {
-            LentFootprint::Set(reads, _) => reads,
-            LentFootprint::Copy(reads, _) => reads,
-            LentFootprint::Irv(reads, _) => reads,
-            LentFootprint::Lent(kept) => kept.footprint.reads(),
+            LentFootprint::Set(reads, _) => (reads, &[]),
+            LentFootprint::Copy(reads, _) => (reads, &[]),
+            LentFootprint::Irv(reads, _) => (reads, &[]),
+            LentFootprint::Lent(kept) => kept.footprint.parts(),
         }
     }
 

@@ -1,10 +1,11 @@
 //! The index of footprints, where an element is set and a copy of it goes to another, and where many elements are copied at
 //! once.
 
-use std::alloc::{AllocError, Global};
+use std::alloc::Global;
 use std::process::Abort;
 use std::test::Fail;
 use wb_book::{AnyCell, AnyIndex, Cell, CellChange, Changes, Index, Name, Pattern, Point};
+use wb_edit::ReadRun;
 use wb_foot::FootIndex;
 use wb_range::NoMemory;
 
@@ -27,14 +28,15 @@ fn add(
     index: &mut FootIndex,
     number: u64,
     reads: &[Pattern],
+    runs: &[ReadRun],
     before: &Changes,
 ) -> Result<(), Fail> {
-    if index.add(number, reads, before).is_ok() {
+    if index.add(number, reads, runs, before).is_ok() {
         return Ok(());
     }
     let blocker = index.first_to_block_undo(before, number.saturating_sub(1));
     assert!(rt; blocker.is_none());
-    index.add(number, reads, before)?;
+    index.add(number, reads, runs, before)?;
     Ok(())
 }
 
@@ -50,24 +52,24 @@ fn footprint_index_of_a_copy(rt: HostRuntime) -> Result<(), Fail> {
         read(element(array, 1)),
     ];
     let mut index = FootIndex::new(rt.alloc());
-    add(&rt, &mut index, 3, &reads_of_set, &set)?;
-    add(&rt, &mut index, 4, &reads_of_copy, &copied)?;
+    add(&rt, &mut index, 3, &reads_of_set, &[], &set)?;
+    add(&rt, &mut index, 4, &reads_of_copy, &[], &copied)?;
     let elements = [Pattern::Elements(array)];
     assert!(rt; index.first_to_block_undo(&set, 2) == Some(3));
     assert!(rt; index.first_to_block_undo(&set, 3) == Some(4));
     assert!(rt; index.blockers(rt.alloc(), &set, 3)?.as_slice() == [4].as_slice());
-    assert!(rt; index.first_to_block_redo(&elements, &Changes::new(), 3) == Some(4));
-    index.take(4, &reads_of_copy, &copied);
+    assert!(rt; index.first_to_block_redo(&elements, &[], &Changes::new(), 3) == Some(4));
+    index.take(4, &reads_of_copy, &[], &copied);
     assert!(rt; index.first_to_block_undo(&set, 3).is_none());
     assert!(rt;
         index
-            .first_to_block_redo(&elements, &Changes::new(), 3)
+            .first_to_block_redo(&elements, &[], &Changes::new(), 3)
             .is_none()
     );
     Ok(())
 }
 
-// A change of an array itself and of its elements 1 to 80.
+// Changes that clear an array itself and its elements 1 to 80.
 fn changes_of_many(alloc: Global, array: Name) -> Result<Changes, NoMemory> {
     let mut changes = Changes::new();
     changes.push(alloc, cleared(Cell::Object(array)))?;
@@ -75,16 +77,6 @@ fn changes_of_many(alloc: Global, array: Name) -> Result<Changes, NoMemory> {
         changes.push(alloc, cleared(element(array, i)))?;
     }
     Ok(changes)
-}
-
-// Reads of an array itself and of its elements 1 to 80.
-fn reads_of_many(alloc: Global, array: Name) -> Result<Vec<Pattern>, AllocError> {
-    let mut reads = Vec::new(alloc);
-    reads.push(read(Cell::Object(array)))?;
-    for i in 1..81 {
-        reads.push(read(element(array, i)))?;
-    }
-    Ok(reads)
 }
 
 // Whether an undo that sets an element back is blocked by the one number, and a redo that reads it by the other.
@@ -98,7 +90,7 @@ fn is_found(
     let set = Changes::one(cleared(element(array, i)));
     let seen = [read(element(array, i))];
     index.first_to_block_undo(&set, 6) == by_undo
-        && index.first_to_block_redo(&seen, &Changes::new(), 6) == by_redo
+        && index.first_to_block_redo(&seen, &[], &Changes::new(), 6) == by_redo
 }
 
 // Whether they are so at the elements 1 to 80, and nothing blocks at those beside them.
@@ -120,17 +112,17 @@ fn is_found_inside(
 fn footprint_index_of_blocks(rt: HostRuntime) -> Result<(), Fail> {
     let source = Name::new("A")?;
     let target = Name::new("B")?;
-    let reads = reads_of_many(rt.alloc(), source)?;
+    let runs = [ReadRun::Cells(changes_of_many(rt.alloc(), source)?)];
     let before = changes_of_many(rt.alloc(), target)?;
     let inside = Changes::one(cleared(element(source, 80)));
     let beside = Changes::one(cleared(element(source, 81)));
     let mut index = FootIndex::new(rt.alloc());
-    add(&rt, &mut index, 7, reads.as_slice(), &before)?;
+    add(&rt, &mut index, 7, &[], &runs, &before)?;
     assert!(rt; is_found_inside(&index, source, Some(7), None));
     assert!(rt; is_found_inside(&index, target, Some(7), Some(7)));
     assert!(rt; index.blockers(rt.alloc(), &inside, 6)?.as_slice() == [7].as_slice());
     assert!(rt; index.blockers(rt.alloc(), &beside, 6)?.is_empty());
-    index.take(7, reads.as_slice(), &before);
+    index.take(7, &[], &runs, &before);
     assert!(rt; is_found_inside(&index, source, None, None));
     assert!(rt; is_found_inside(&index, target, None, None));
     Ok(())

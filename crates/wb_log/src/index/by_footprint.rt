@@ -2,16 +2,18 @@
 
 ghost use Rattle.std.specs.Prelude.{◌≡◌, ℕ, ◌+◌, ◌^◌, ◌<◌, length, drop, Some, None, OnOk, OnErr, IfOk};
 ghost use Rattle.selective_undo.specs.Log.{blocks_undo, blocks_redo, first_from};
-ghost use Rattle.wb_foot.specs.Footprints.{Footprints, footprint, with_footprint};
+ghost use Rattle.wb_foot.specs.Footprints.{Footprints, IsIndexOf, footprint, with_footprint};
 ghost use Rattle.wb_log.specs.Indexed.{IsByFootprint};
 ghost use Rattle.wb_log.specs.Kept.{by_number, kept_in, kept_all};
+ghost use Rattle.wb_log.specs.Records.{lent_footprint};
 ghost use Rattle.wb_log.specs.Needed.{AreFromFootprints};
 
 use crate::blockers;
-use crate::entry::Record;
+use crate::entry::{LentFootprint, Record};
 use crate::sweep::needing;
 use std::alloc::Global;
-use wb_book::{Changes, Pattern};
+use wb_book::Changes;
+use wb_edit::Footprint;
 use wb_foot::FootIndex;
 use wb_range::NoMemory;
 
@@ -45,7 +47,7 @@ impl ByFootprint {
     {
         if let Some(kept) = entry.kept() {
             let number = self.entered as u64 + 1;
-            self.index.add(number, kept.reads(), kept.before())?;
+            add_kept(&mut self.index, number, &kept)?;
         }
         self.entered += 1;
         Ok(())
@@ -92,21 +94,23 @@ impl ByFootprint {
         &mut self,
         entries: &[Record],
         at: usize,
-        reads: &[Pattern],
+        read: &Footprint,
         delta: &Changes,
     ) -> Option<u64>
         requires in_log { at < length entries.now }
         requires few { length entries.now < 2 ^ 63 }
         requires indexed { IsByFootprint self.old (length entries.now) (by_number entries.now) }
-        ensures first { result ≡ first_from (blocks_redo (footprint reads.now delta.now)) (at + 2) (drop (at + 1) (kept_all entries.now)) }
+        ensures first { result ≡ first_from (blocks_redo (footprint read.now delta.now)) (at + 2) (drop (at + 1) (kept_all entries.now)) }
         ensures indexed { IsByFootprint self.new (length entries.now) (by_number entries.now) }
     {
         self.fill(entries);
+        let (reads, runs) = read.parts();
         if self.entered < entries.len() {
             let later = later_than(entries, at);
-            return blockers::first_to_block_redo(later, at as u64 + 2, reads, delta);
+            return blockers::first_to_block_redo(later, at as u64 + 2, reads, runs, delta);
         }
-        self.index.first_to_block_redo(reads, delta, at as u64 + 1)
+        self.index
+            .first_to_block_redo(reads, runs, delta, at as u64 + 1)
     }
 
     /// The numbers of the edits that have to be undone with the one at a place, from the greatest down.
@@ -125,29 +129,48 @@ impl ByFootprint {
     }
 
     /// The edit at a place is out of force.
-    pub fn take(&mut self, at: usize, reads: &[Pattern], before: &Changes)
+    pub fn take(&mut self, at: usize, kept: &LentFootprint<'_>)
         requires { at < 2 ^ 63 }
         ensures { (count : ℕ) (footprints : Footprints) → IsByFootprint self.old count footprints →
-            footprints (at + 1) ≡ Some (footprint reads.now before.now) → IsByFootprint self.new count (with_footprint footprints (at + 1) None) }
+            footprints (at + 1) ≡ Some (lent_footprint kept.now) → IsByFootprint self.new count (with_footprint footprints (at + 1) None) }
     {
         if at < self.entered {
-            self.index.take(at as u64 + 1, reads, before);
+            take_kept(&mut self.index, at as u64 + 1, kept);
         }
     }
 
     /// The edit at a place is in force again. Where no memory is left for it, none has entered.
-    pub fn put_back(&mut self, at: usize, reads: &[Pattern], before: &Changes)
+    pub fn put_back(&mut self, at: usize, kept: &LentFootprint<'_>)
         requires { at < 2 ^ 63 }
         ensures { (count : ℕ) (footprints : Footprints) → IsByFootprint self.old count footprints → footprints (at + 1) ≡ None →
-            IsByFootprint self.new count (with_footprint footprints (at + 1) (Some (footprint reads.now before.now))) }
+            IsByFootprint self.new count (with_footprint footprints (at + 1) (Some (lent_footprint kept.now))) }
     {
         if at >= self.entered {
             return;
         }
-        if self.index.add(at as u64 + 1, reads, before).is_err() {
+        if add_kept(&mut self.index, at as u64 + 1, kept).is_err() {
             *self = ByFootprint::new(self.alloc);
         }
     }
+}
+
+// Adds what is kept of an edit at its number, which has no footprint.
+fn add_kept(index: &mut FootIndex, number: u64, kept: &LentFootprint<'_>) -> Result<(), NoMemory>
+    ensures ok { OnOk result ((footprints : Footprints) → IsIndexOf index.old footprints → footprints number ≡ None →
+        IsIndexOf index.new (with_footprint footprints number (Some (lent_footprint kept.now)))) }
+    ensures err { OnErr result ((footprints : Footprints) → IsIndexOf index.old footprints → footprints number ≡ None → IsIndexOf index.new footprints) }
+{
+    let (reads, runs) = kept.reads();
+    index.add(number, reads, runs, kept.before())
+}
+
+// Takes away what is kept of an edit at its number.
+fn take_kept(index: &mut FootIndex, number: u64, kept: &LentFootprint<'_>)
+    ensures { (footprints : Footprints) → IsIndexOf index.old footprints → footprints number ≡ Some (lent_footprint kept.now) →
+        IsIndexOf index.new (with_footprint footprints number None) }
+{
+    let (reads, runs) = kept.reads();
+    index.take(number, reads, runs, kept.before());
 }
 
 fn later_than(entries: &[Record], at: usize) -> &[Record]

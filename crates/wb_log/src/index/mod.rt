@@ -6,13 +6,14 @@ mod by_footprint;
 mod in_force;
 
 ghost use Rattle.std.specs.Prelude.{◌≡◌, ℕ, ◌+◌, ◌^◌, ◌<◌, Some, None};
-ghost use Rattle.wb_foot.specs.Footprints.{Footprints, footprint, with_footprint};
+ghost use Rattle.wb_foot.specs.Footprints.{Footprints, with_footprint};
 ghost use Rattle.wb_log.specs.Indexed.{Indexes};
+ghost use Rattle.wb_log.specs.Records.{lent_footprint};
 
+use crate::entry::LentFootprint;
 use crate::index::by_footprint::ByFootprint;
 use crate::index::in_force::InForce;
 use std::alloc::Global;
-use wb_book::{Changes, Pattern};
 
 /// Indexes over the edits in force.
 #[derive(Drop)]
@@ -33,22 +34,22 @@ impl Index {
     }
 
     /// The edit at a place, which was in force, no longer is.
-    pub fn take(&mut self, at: usize, reads: &[Pattern], before: &Changes)
+    pub fn take(&mut self, at: usize, kept: &LentFootprint<'_>)
         requires { at < 2 ^ 63 }
-        ensures { (count : ℕ) (footprints : Footprints) → Indexes self.old count footprints → footprints (at + 1) ≡ Some (footprint reads.now before.now) →
+        ensures { (count : ℕ) (footprints : Footprints) → Indexes self.old count footprints → footprints (at + 1) ≡ Some (lent_footprint kept.now) →
             Indexes self.new count (with_footprint footprints (at + 1) None) }
     {
-        self.by_footprint.take(at, reads, before);
+        self.by_footprint.take(at, kept);
         self.in_force.take(at);
     }
 
     /// The edit at a place, which was out of force, is in force again.
-    pub fn put_back(&mut self, at: usize, reads: &[Pattern], before: &Changes)
+    pub fn put_back(&mut self, at: usize, kept: &LentFootprint<'_>)
         requires { at < 2 ^ 63 }
         ensures { (count : ℕ) (footprints : Footprints) → Indexes self.old count footprints → footprints (at + 1) ≡ None →
-            Indexes self.new count (with_footprint footprints (at + 1) (Some (footprint reads.now before.now))) }
+            Indexes self.new count (with_footprint footprints (at + 1) (Some (lent_footprint kept.now))) }
     {
-        self.by_footprint.put_back(at, reads, before);
+        self.by_footprint.put_back(at, kept);
         self.in_force.put_back(at);
     }
 }

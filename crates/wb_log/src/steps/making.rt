@@ -68,7 +68,8 @@ fn old_number(
 ) -> Option<i64>
     ensures { IfSome result (λ was. (footprint.now ≡ reads.now) × (inverse delta.now book.now.cells ≡ number_before target.now was)) }
 {
-    if !are_same(footprint.reads(), reads) {
+    let (first, rest) = footprint.parts();
+    if !rest.is_empty() || !are_same(first, reads) {
         return None;
     }
     if !changes_one(delta.changes(), target) {

@@ -76,7 +76,7 @@ fn plan_blocker(
 {
     index
         .by_footprint
-        .first_to_block_redo(entries, at, footprint.reads(), delta.changes())
+        .first_to_block_redo(entries, at, footprint, delta.changes())
 }
 
 /// The same of a plan that is refused.
@@ -95,7 +95,7 @@ fn refused_blocker(
     let none = Changes::new();
     index
         .by_footprint
-        .first_to_block_redo(entries, at, footprint.reads(), &none)
+        .first_to_block_redo(entries, at, footprint, &none)
 }
 
 /// Why an edit whose plan stopped is not redone.
@@ -145,7 +145,7 @@ fn put_in<M: Mover>(
         Err(why) => Err(why),
         Ok(()) => match entry.kept() {
             Some(kept) => {
-                index.put_back(at, kept.reads(), kept.before());
+                index.put_back(at, &kept);
                 Ok(())
             }
             None => unreachable!(),

@@ -55,7 +55,7 @@ fn take_back<M: Mover>(
         Some(kept) => match book.revert(kept.before(), mover) {
             Err(_) => return Err(Refusal::NoMemory),
             Ok(()) => {
-                index.take(at, kept.reads(), kept.before());
+                index.take(at, &kept);
                 kept.before().count()
             }
         },

@@ -1,4 +1,4 @@
-use Rattle.std.proofs.Common.{◌≡◌, ◌<◌, ◌||◌, Bool, false, true, None, length, get_or, sym, ap, ◌∙◌, arith}
+use Rattle.std.proofs.Common.{◌≡◌, ◌<◌, ◌||◌, ◌++◌, Bool, false, true, None, length, get_or, sym, ap, ◌∙◌, arith}
 use Rattle.std.proofs.lemmas.List.Folds.{list_any_more, list_any_at}
 use Rattle.selective_undo.specs.Changes.{changes}
 use Rattle.selective_undo.specs.Edit.{covers}
@@ -6,6 +6,7 @@ use Rattle.selective_undo.specs.declared.Change.{Change}
 use Rattle.wb_book.specs.declared.cells.cell.Cell.{Cell}
 use Rattle.wb_book.specs.declared.cells.value.Value.{Value}
 use Rattle.wb_book.specs.Cells.{cell_cmp}
+use Rattle.wb_edit.specs.Reads.{all_read}
 use Rattle.wb_edit.specs.Schema.{workbook}
 use Rattle.wb_log.proofs.blockers.meets_any.Goals as goal
 
@@ -15,7 +16,7 @@ returns-then-meets c =
     let k = c.loop-at.at in
     let low : k < length xs = omega (arith, c.loop-at-test.true, c.len-at-end.ensures) in
     let d : Change Cell Value = record { cell = c.cell_near-cell.result; value = None } in
-    let is_met : Cell → Bool = λ y. changes cell_cmp c.args.wrote.now y || covers workbook c.args.reads.now y in
+    let is_met : Cell → Bool = λ y. changes cell_cmp c.args.wrote.now y || covers workbook (c.args.reads.now ++ all_read c.args.runs.now) y in
     let here : is_met (get_or xs k d).cell ≡ true = ap is_met (sym (c.cell_near-cell.ensures d)) ∙ sym c.meets.ensures ∙ c.if-meets.true in
     sym (list_any_at (λ x. is_met x.cell) xs k d low here)
 
@@ -25,6 +26,6 @@ loop-at-preserved c =
     let k = c.loop-at.at in
     let low : k < length xs = omega (arith, c.loop-at-test.true, c.len-at-end.ensures) in
     let d : Change Cell Value = record { cell = c.cell_near-cell.result; value = None } in
-    let is_met : Cell → Bool = λ y. changes cell_cmp c.args.wrote.now y || covers workbook c.args.reads.now y in
+    let is_met : Cell → Bool = λ y. changes cell_cmp c.args.wrote.now y || covers workbook (c.args.reads.now ++ all_read c.args.runs.now) y in
     let not_here : is_met (get_or xs k d).cell ≡ false = ap is_met (sym (c.cell_near-cell.ensures d)) ∙ sym c.meets.ensures ∙ c.if-meets.false in
     list_any_more (λ x. is_met x.cell) xs k d low ∙ ap (λ (b : Bool). b || is_met (get_or xs k d).cell) c.loop-at.invariant ∙ not_here

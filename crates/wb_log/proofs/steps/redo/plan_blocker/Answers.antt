@@ -4,6 +4,4 @@ use Rattle.wb_log.proofs.steps.redo.plan_blocker.Goals as goal
 
 pub returns-clause-first : goal.returns-clause-first
 returns-clause-first c =
-    let es = c.args.entries.now in
-    c.first_to_block_redo.ensures.first ∙ ap (λ rs. redo_blocker es c.args.at rs c.changes.result.now) c.reads.ensures ∙
-    ap (redo_blocker es c.args.at c.args.footprint.now) c.changes.ensures.same
+    c.first_to_block_redo.ensures.first ∙ ap (redo_blocker c.args.entries.now c.args.at c.args.footprint.now) c.changes.ensures.same

@@ -1,9 +1,0 @@
-use Rattle.wb_foot.specs.Places.{place_marked}
-use Rattle.wb_foot.proofs.Gone.{row_gone}
-use Rattle.wb_foot.proofs.touching.untouch_first.Goals as goal
-
-pub returns-then-is_clear-clause-row : goal.returns-then-is_clear-clause-row
-returns-then-is_clear-clause-row c =
-    let row = c.in-Some.row in
-    row_gone (place_marked c.untouch.new.marks) c.args.number row.kind row.name c.args.cell.now c.in-Some.ensures (c.is_clear.ensures c.if-is_clear.true)
-    c.untouch.ensures.gone
