@@ -1,8 +1,9 @@
 -- Footprints and places: what a footprint read or touched, by the marks that it has.
 use Rattle.std.proofs.Common.{◌≡◌, ℕ, Bool, true, false, ◌||◌, Option, Some, None, List, [], ◌∷◌}
-use Rattle.std.proofs.Common.{◌++◌, map, refl, sym, ap, ◌∙◌, length, take, suc, ◌+◌, ◌<◌, get_or, add-one}
+use Rattle.std.proofs.Common.{◌++◌, map, refl, sym, ap, ◌∙◌, length, take, drop, suc, ◌+◌, ◌<◌, get_or, add-one, arith}
 use Rattle.std.specs.Prelude.{IfSome}
 use Rattle.std.specs.List.{list_any}
+use Rattle.std.proofs.lemmas.List.{take-append-drop}
 use Rattle.std.proofs.lemmas.List.Folds.{list_any-append}
 use Rattle.std.specs.Ordering.{eq_by_cmp}
 use Rattle.std.proofs.lemmas.Cmp.{eq_by_cmp_equiv}
@@ -164,6 +165,18 @@ least_above p after (Some j) h = h.0
 pub least_like : (p q : ℕ → Bool) (after : ℕ) (r : Option ℕ) → ((n : ℕ) → q n ≡ p n) → IsLeastAfter p after r → IsLeastAfter q after r
 least_like p q after None e h = λ n up. e n ∙ h n up
 least_like p q after (Some j) e h = (h.0, e j ∙ h.1, λ n up down. e n ∙ h.2 n up down)
+
+-- the number right above another is the least one of more
+pub soonest : (p q : ℕ → Bool) (after : ℕ) (r : Option ℕ) → r ≡ Some (after + 1) → ((n : ℕ) → p n ≡ true → q n ≡ true) →
+    IsLeastAfter p after r → IsLeastAfter q after r
+soonest p q after None e more h = cc
+soonest p q after (Some j) e more h =
+    let next : j ≡ after + 1 = cc in
+    (h.0, more j h.1, λ n up down. absurd (omega (arith, next, up, down)))
+
+pub any_in_front : {X : Type 0} (f : X → Bool) (xs : List X) (k : ℕ) → list_any f (take k xs) ≡ true → list_any f xs ≡ true
+any_in_front f xs k e = sym (ap (list_any f) (take-append-drop k xs)) ∙ list_any-append f (take k xs) (drop k xs) ∙
+    ap (λ b. b || list_any f (drop k xs)) e
 
 -- ---- undo and redo
 

@@ -7,7 +7,7 @@ ghost use Rattle.wb_foot.specs.Relation.{IsLeastAfter};
 ghost use Rattle.wb_foot.specs.Footprints.{Footprints, IsIndexOf, footprint, met_by, touched_by, touched_under};
 ghost use Rattle.wb_foot.specs.Places.{place_of};
 
-use crate::earlier::earlier;
+use crate::earlier::{earlier, is_next};
 use crate::foot_index::FootIndex;
 use crate::place::{family, own, place_of};
 use wb_book::{Cell, Changes, Pattern};
@@ -46,6 +46,9 @@ impl FootIndex {
         for at in 0..before.len() {
             let cell = before.cell_near(at, &mut near);
             first = earlier(first, self.met_after(&cell, after));
+            if is_next(first, after) {
+                return first;
+            }
         }
         first
     }
@@ -71,6 +74,9 @@ impl FootIndex {
         for at in 0..cells.len() {
             let place = own(&cells.cell_near(at, &mut near));
             first = earlier(first, self.touched.least_after(&place, after));
+            if is_next(first, after) {
+                return first;
+            }
         }
         first
     }
