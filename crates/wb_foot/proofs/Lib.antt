@@ -14,3 +14,4 @@ pub mod InParts
 pub mod InRuns
 pub mod Gone
 pub mod ReadPlaces
+pub mod AtPoints

@@ -178,6 +178,9 @@ pub any_in_front : {X : Type 0} (f : X → Bool) (xs : List X) (k : ℕ) → lis
 any_in_front f xs k e = sym (ap (list_any f) (take-append-drop k xs)) ∙ list_any-append f (take k xs) (drop k xs) ∙
     ap (λ b. b || list_any f (drop k xs)) e
 
+pub any_first : {X : Type 0} (f : X → Bool) (xs ys zs : List X) → zs ≡ xs ++ ys → list_any f xs ≡ true → list_any f zs ≡ true
+any_first f xs ys zs e h = ap (list_any f) e ∙ list_any-append f xs ys ∙ ap (λ b. b || list_any f ys) h
+
 -- ---- undo and redo
 
 pub undo_met : (xs : Changes) (o : Option (Footprint workbook)) → blocks_undo xs o ≡ any_met o xs
@@ -243,3 +246,8 @@ module _ (footprints : ℕ → Option (Footprint workbook)) (after : ℕ) where
       IsLeastAfter (λ n. touched_under (footprints n) zs) after r
   under_both xs ys zs e r h = least_like (λ n. touched_under (footprints n) xs || touched_under (footprints n) ys) (λ n. touched_under (footprints n) zs)
       after r (λ n. ap (touched_under (footprints n)) e ∙ list_any-append (λ y. touched_by (footprints n) (place_of y)) xs ys) h
+
+  pub met_both : (xs ys zs : Changes) → zs ≡ xs ++ ys → (r : Option ℕ) →
+      IsLeastAfter (λ n. any_met (footprints n) xs || any_met (footprints n) ys) after r → IsLeastAfter (λ n. any_met (footprints n) zs) after r
+  met_both xs ys zs e r h = least_like (λ n. any_met (footprints n) xs || any_met (footprints n) ys) (λ n. any_met (footprints n) zs)
+      after r (λ n. ap (any_met (footprints n)) e ∙ list_any-append (λ x. met_by (footprints n) x.cell) xs ys) h

@@ -1,8 +1,8 @@
 -- A run of cells: their own places, and that of their family.
-use Rattle.std.proofs.Common.{◌≡◌, ℕ, ◌<◌, ◌+◌, Bool, true, false, ◌&&◌, ◌||◌, ◌==◌, Option, Some, None, List, [], ◌∷◌, ◌++◌, length, take, get_or, refl, sym}
+use Rattle.std.proofs.Common.{◌≡◌, ℕ, ◌<◌, ◌+◌, Bool, true, false, ◌&&◌, ◌||◌, ◌==◌, Option, Some}
+use Rattle.std.proofs.Common.{None, List, [], ◌∷◌, ◌++◌, length, map, take, take-suc, add-one, get_or, refl, sym}
 use Rattle.std.proofs.Common.{ap, ◌∙◌, arith}
 use Rattle.std.specs.List.{list_any}
-use Rattle.std.proofs.lemmas.List.Folds.{list_any_more, list_any-append}
 use Rattle.wb_book.specs.declared.cells.cell.Cell.{Cell}
 use Rattle.wb_book.specs.Cells.{Name, Changes, is_same_name}
 use Rattle.wb_foot.specs.declared.part.Kind.{Kind}
@@ -16,23 +16,33 @@ use Rattle.wb_foot.specs.Points.{Coordinates}
 use Rattle.wb_foot.specs.Parts.{part_at, is_same_part, in_run}
 use Rattle.wb_foot.specs.Places.{own, is_same_place, cell_at, in_places}
 use Rattle.wb_foot.specs.declared.marking.Marking.{Marking}
-use Rattle.wb_foot.specs.Footprints.{family_by, at_cell, marked_at, run_marked}
-use Rattle.wb_foot.proofs.Meeting.{any_or, any_like, any_none}
+use Rattle.wb_foot.specs.Footprints.{family_by, marked_at, run_marked, cells_of, run_cells}
+use Rattle.wb_foot.proofs.Meeting.{any_or, any_like, any_none, any_map}
 use Rattle.wb_foot.proofs.Setting.{then_sets, like, then_stays, stays_none}
 
 or_false : (a : Bool) → a || false ≡ a
 or_false true = refl
 or_false false = refl
 
-pub run_more : (m : Marking) (xs : Changes) (j : ℕ) (d : _) → j < length xs → (x : Cell) → x ≡ (get_or xs j d).cell →
+map_behind : {X Y : Type 0} (f : X → Y) (xs ys : List X) → map f (xs ++ ys) ≡ map f xs ++ map f ys
+map_behind f [] ys = refl
+map_behind f (x ∷ xs) ys = ap (λ zs. f x ∷ zs) (map_behind f xs ys)
+
+pub one_cell_more : (xs : Changes) (j : ℕ) (d : _) → j < length xs → (x : Cell) → x ≡ (get_or xs j d).cell →
     (kind : Kind) (name : Name) (ps qs : List Coordinates) (p : Coordinates) → x ≡ cell_at kind name p → qs ≡ ps ++ p ∷ [] →
-    ((q : Place) → marked_at m (take j xs) q ≡ run_marked m kind name ps q) → (q : Place) → marked_at m (take (j + 1) xs) q ≡ run_marked m kind name qs q
-run_more m xs j d below x e kind name ps qs p is more h q =
-    list_any_more (λ y. at_cell m y.cell q) xs j d below
-    ∙ ap (λ b. b || at_cell m (get_or xs j d).cell q) (h q)
-    ∙ ap (λ y. run_marked m kind name ps q || at_cell m y q) (sym e ∙ is)
-    ∙ sym (ap (λ l. run_marked m kind name l q) more ∙ list_any-append (λ y. at_cell m (cell_at kind name y) q) ps (p ∷ []) ∙
-    ap (λ b. run_marked m kind name ps q || b) (or_false (at_cell m (cell_at kind name p) q)))
+    cells_of (take j xs) ≡ run_cells kind name ps → cells_of (take (j + 1) xs) ≡ run_cells kind name qs
+one_cell_more xs j d below x e kind name ps qs p is more h =
+    ap (λ i. cells_of (take i xs)) (add-one j)
+    ∙ ap cells_of (take-suc xs j d below)
+    ∙ map_behind (λ x. x.cell) (take j xs) (get_or xs j d ∷ [])
+    ∙ ap (λ cs. cs ++ (get_or xs j d).cell ∷ []) h
+    ∙ ap (λ c. run_cells kind name ps ++ c ∷ []) (sym e ∙ is)
+    ∙ sym (ap (run_cells kind name) more ∙ map_behind (cell_at kind name) ps (p ∷ []))
+
+-- what holds of one of the cells holds of one at one of the points
+pub any_cell : (f : Cell → Bool) (xs : Changes) (kind : Kind) (name : Name) (ps : List Coordinates) → cells_of xs ≡ run_cells kind name ps →
+    list_any (λ x. f x.cell) xs ≡ list_any (λ p. f (cell_at kind name p)) ps
+any_cell f xs kind name ps e = sym (any_map f (λ x. x.cell) xs) ∙ ap (list_any f) e ∙ any_map f (cell_at kind name) ps
 
 and_each : {X : Type 0} (c : Bool) (f : X → Bool) (xs : List X) → list_any (λ x. c && f x) xs ≡ (c && list_any f xs)
 and_each true f xs = refl
@@ -71,7 +81,7 @@ owns_in d kind ps q = any_like (λ p. is_same_place (own (cell_at kind d p)) q) 
 abbrev at_family : Option Place → Place → Bool
 at_family o q = elim o [ Some f ↦ is_same_place f q | None ↦ false ]
 
-always : {X : Type 0} (b : Bool) (xs : List X) → 0 < length xs → list_any (λ x. b) xs ≡ b
+pub always : {X : Type 0} (b : Bool) (xs : List X) → 0 < length xs → list_any (λ x. b) xs ≡ b
 always b [] l = let no : ⊥ = omega arith in absurd no
 always true (x ∷ xs) l = refl
 always false (x ∷ xs) l = any_none xs

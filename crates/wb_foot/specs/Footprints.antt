@@ -1,6 +1,6 @@
 -- An index is of footprints, one for some of the numbers: it has a mark at each place where one of them read or touched
 -- something.
-use Rattle.std.specs.Prelude.{◌≡◌, ℕ, Bool, true, false, ◌||◌, ◌==◌, List, Option, Some, None, if◌then◌else◌}
+use Rattle.std.specs.Prelude.{◌≡◌, ℕ, Bool, true, false, ◌||◌, ◌==◌, List, map, Option, Some, None, if◌then◌else◌}
 use Rattle.std.specs.List.{list_any}
 use Rattle.selective_undo.specs.Log.{Footprint}
 use Rattle.wb_book.specs.declared.cells.cell.Cell.{Cell}
@@ -34,6 +34,14 @@ at_cell m c q = is_same_place (own c) q || elim (family_by m c) [ Some f ↦ is_
 -- whether one of the cells of changes is
 abbrev pub marked_at : Marking → Changes → Place → Bool
 marked_at m xs q = list_any (λ x. at_cell m x.cell q) xs
+
+-- the cells of changes
+abbrev pub cells_of : Changes → List Cell
+cells_of xs = map (λ x. x.cell) xs
+
+-- the cells of one kind of one object at some points
+abbrev pub run_cells : Kind → Name → List Coordinates → List Cell
+run_cells k d ps = map (cell_at k d) ps
 
 -- whether one of the cells of one kind of one object at some points is
 abbrev pub run_marked : Marking → Kind → Name → List Coordinates → Place → Bool

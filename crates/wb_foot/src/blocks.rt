@@ -2,6 +2,7 @@
 
 ghost use Rattle.std.specs.Prelude.{◌≡◌, ℕ, Bool, ◌&&◌, ◌||◌, ◌==◌, true, false, ◌++◌, [], ◌∷◌, length, ◌<◌};
 ghost use Rattle.std.specs.Prelude.{IfSome, IfNone, IsTrue, slice_index_or, if◌then◌else◌};
+ghost use Rattle.std.specs.List.{list_any};
 ghost use Rattle.wb_foot.specs.Relation.{Sets, IsLeastAfter};
 ghost use Rattle.wb_foot.specs.Points.{Coordinates, in_points};
 ghost use Rattle.wb_foot.specs.Blocks.{in_blocks};
@@ -35,6 +36,25 @@ impl Block {
             }
         }
         if !self.points.contains(point) {
+            return first;
+        }
+        Some(self.number)
+    }
+
+    /// The same where the number stands at one of several points.
+    fn or_first_in(&self, first: Option<u64>, points: &Points, after: u64) -> Option<u64>
+        ensures { (p : ℕ → Bool) → IsLeastAfter p after first →
+            IsLeastAfter (λ n. p n || (list_any (in_points self.now.points) points.now && (self.now.number == n))) after result }
+    {
+        if self.number <= after {
+            return first;
+        }
+        if let Some(least) = first {
+            if least <= self.number {
+                return first;
+            }
+        }
+        if !self.points.meets(points) {
             return first;
         }
         Some(self.number)
@@ -111,6 +131,18 @@ impl Blocks {
         let mut first = None;
         for block in &self.list {
             first = block.or_first(first, point, after);
+        }
+        first
+    }
+
+    /// The least number above `after` at one of several points, block by block: one of a number that can't be the least is
+    /// not looked into.
+    pub fn least_in(&self, points: &Points, after: u64) -> Option<u64>
+        ensures { IsLeastAfter (λ n. list_any (λ p. in_blocks self.now.list.items p n) points.now) after result }
+    {
+        let mut first = None;
+        for block in &self.list {
+            first = block.or_first_in(first, points, after);
         }
         first
     }

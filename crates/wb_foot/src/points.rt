@@ -1,6 +1,7 @@
 //! Points in ascending order.
 
 ghost use Rattle.std.specs.Prelude.{◌≡◌, ◌++◌, [], ◌∷◌, false, IsTrue, IfSome, length, if◌then◌else◌};
+ghost use Rattle.std.specs.List.{list_any};
 ghost use Rattle.std.specs.List.Sorted.{IsStrictlySortedBy};
 ghost use Rattle.wb_foot.specs.Points.{point_cmp, in_points};
 
@@ -44,6 +45,20 @@ impl Points {
         self.points.len()
     }
 
+    /// The points, ascending.
+    pub fn as_slice(&self) -> &[Point]
+        ensures { result.now ≡ self.now }
+    {
+        self.points.as_slice()
+    }
+
+    /// Whether one of the others is one of them. It goes through the others up to the first that is.
+    pub fn meets(&self, others: &Points) -> bool
+        ensures { result ≡ list_any (in_points self.now) others.now }
+    {
+        is_one_among(self.points.as_slice(), others.as_slice())
+    }
+
     /// Whether the point is one of them, by a binary search where it lies between the first and the last.
     pub fn contains(&self, point: &Point) -> bool
         ensures { result ≡ in_points self.now point.now }
@@ -61,6 +76,19 @@ fn is_among(points: &[Point], point: &Point) -> bool
         return false;
     }
     points.binary_search(point).is_ok()
+}
+
+// Whether one of the others is one of ascending points.
+fn is_one_among(points: &[Point], others: &[Point]) -> bool
+    requires { IsStrictlySortedBy point_cmp points.now }
+    ensures { result ≡ list_any (in_points points.now) others.now }
+{
+    for point in others {
+        if is_among(points, point) {
+            return true;
+        }
+    }
+    false
 }
 
 // Whether the point is below the first of ascending ones or above the last: it is none of them then.

@@ -1,16 +1,20 @@
 //! The first edits that stand in the way of an undo or a redo.
 
-ghost use Rattle.std.specs.Prelude.{◌≡◌, ◌<◌, [], ◌∷◌, ◌++◌, IfSome};
+ghost use Rattle.std.specs.Prelude.{◌≡◌, ◌<◌, [], ◌∷◌, ◌++◌, length, IfSome};
 ghost use Rattle.selective_undo.specs.Log.{blocks_undo, blocks_redo};
 ghost use Rattle.wb_edit.specs.Reads.{all_read, read_in, patterns_of};
 ghost use Rattle.wb_foot.specs.Relation.{IsLeastAfter};
-ghost use Rattle.wb_foot.specs.Footprints.{Footprints, IsIndexOf, footprint, met_by, touched_by, touched_under};
-ghost use Rattle.wb_foot.specs.Places.{place_of};
+ghost use Rattle.wb_foot.specs.Footprints.{Footprints, IsIndexOf, footprint, any_met, met_by, touched_by, touched_under};
+ghost use Rattle.wb_foot.specs.Places.{place_of, cell_at};
+ghost use Rattle.wb_book.specs.Runs.{changes_in, all_changes, in_first};
+ghost use Rattle.std.specs.List.{list_any};
 
 use crate::earlier::{earlier, is_next};
 use crate::foot_index::FootIndex;
+use crate::marking::Marking;
 use crate::place::{family, own, place_of};
-use wb_book::{Cell, Changes, Pattern};
+use crate::runs::{LEAST, Run};
+use wb_book::{Cell, CellChange, ChangeRun, Changes, Pattern};
 use wb_edit::ReadRun;
 
 impl FootIndex {
@@ -36,21 +40,93 @@ impl FootIndex {
         self.touched.least_after(&place_of(pattern), after)
     }
 
-    /// The least number above `after` whose footprint needs one that wrote the cells.
-    pub fn first_to_block_undo(&self, before: &Changes, after: u64) -> Option<u64>
-        ensures least { (footprints : Footprints) → IsIndexOf self.now footprints → IsLeastAfter (λ n. blocks_undo before.now (footprints n)) after result }
+    /// The least number above `after` whose footprint read or touched one of the cells of a run.
+    fn met_at_points(&self, run: &Run, after: u64) -> Option<u64>
+        requires { 0 < length run.now.points }
+        ensures least { (footprints : Footprints) → IsIndexOf self.now footprints →
+            IsLeastAfter (λ n. list_any (λ p. met_by (footprints n) (cell_at run.now.row.kind run.now.row.name p)) run.now.points) after result }
+        ensures above { IfSome result (λ j. after < j) }
+    {
+        let touched = self.touched.least_in(&run.row, &run.points, after);
+        let first = earlier(touched, self.read.least_in(&run.row, &run.points, after));
+        match run.row.family(Marking::Families) {
+            Some(family) => earlier(first, self.read.least_after(&family, after)),
+            None => first,
+        }
+    }
+
+    /// The least number above `after` whose footprint read or touched one of the cells, asked one by one.
+    fn met_each(&self, cells: &ChangeRun, after: u64) -> Option<u64>
+        ensures least { (footprints : Footprints) → IsIndexOf self.now footprints →
+            IsLeastAfter (λ n. any_met (footprints n) (changes_in cells.now.form)) after result }
         ensures above { IfSome result (λ j. after < j) }
     {
         let mut first = None;
-        let mut near = 0;
-        for at in 0..before.len() {
-            let cell = before.cell_near(at, &mut near);
+        for at in 0..cells.len() {
+            let cell = cells.cell(at);
             first = earlier(first, self.met_after(&cell, after));
             if is_next(first, after) {
                 return first;
             }
         }
         first
+    }
+
+    /// The same: of few, and of cells that do not ascend, one by one; of others all together, but for the first, which may be met
+    /// by the number right above already.
+    fn met_in(&self, cells: &ChangeRun, after: u64) -> Option<u64>
+        ensures least { (footprints : Footprints) → IsIndexOf self.now footprints →
+            IsLeastAfter (λ n. any_met (footprints n) (changes_in cells.now.form)) after result }
+        ensures above { IfSome result (λ j. after < j) }
+    {
+        if cells.len() < LEAST {
+            return self.met_each(cells, after);
+        }
+        let first = self.met_after(&cells.cell(0), after);
+        if is_next(first, after) {
+            return first;
+        }
+        match Run::of_cells(self.touched.alloc, cells) {
+            None => self.met_each(cells, after),
+            Some(run) => self.met_at_points(&run, after),
+        }
+    }
+
+    /// The same of runs.
+    fn met_in_runs(&self, runs: &[ChangeRun], after: u64) -> Option<u64>
+        ensures least { (footprints : Footprints) → IsIndexOf self.now footprints →
+            IsLeastAfter (λ n. any_met (footprints n) (all_changes runs.now)) after result }
+        ensures above { IfSome result (λ j. after < j) }
+    {
+        let mut first = None;
+        for run in runs {
+            first = earlier(first, self.met_in(run, after));
+            if is_next(first, after) {
+                return first;
+            }
+        }
+        first
+    }
+
+    /// The same of a change that may be there.
+    fn met_first(&self, first: &Option<CellChange>, after: u64) -> Option<u64>
+        ensures least { (footprints : Footprints) → IsIndexOf self.now footprints →
+            IsLeastAfter (λ n. any_met (footprints n) (in_first first.now)) after result }
+        ensures above { IfSome result (λ j. after < j) }
+    {
+        match first {
+            None => None,
+            Some(x) => self.met_after(x.as_cell(), after),
+        }
+    }
+
+    /// The least number above `after` whose footprint needs one that wrote the cells.
+    pub fn first_to_block_undo(&self, before: &Changes, after: u64) -> Option<u64>
+        ensures least { (footprints : Footprints) → IsIndexOf self.now footprints → IsLeastAfter (λ n. blocks_undo before.now (footprints n)) after result }
+        ensures above { IfSome result (λ j. after < j) }
+    {
+        let (first, runs) = before.parts();
+        earlier(self.met_first(&first, after), self.met_in_runs(runs, after))
     }
 
     /// The least number above `after` whose footprint touched a cell that one of the patterns names.

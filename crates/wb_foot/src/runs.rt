@@ -7,7 +7,7 @@ ghost use Rattle.wb_foot.specs.declared.marking.Marking.{Marking};
 ghost use Rattle.wb_foot.specs.declared.place.Place.{Place};
 ghost use Rattle.wb_foot.specs.Points.{Coordinates};
 ghost use Rattle.wb_foot.specs.Places.{cell_at, family};
-ghost use Rattle.wb_foot.specs.Footprints.{family_by, marked_at, run_marked};
+ghost use Rattle.wb_foot.specs.Footprints.{family_by, marked_at, run_marked, cells_of, run_cells};
 
 use crate::marking::Marking;
 use crate::part::{Kind, Part, Slot};
@@ -109,8 +109,7 @@ impl Row {
     /// The points of the cells from the first on, as far as these are of the row and ascend, if there is memory.
     pub(crate) fn points_of(&self, alloc: Global, cells: &ChangeRun) -> Option<Points>
         ensures within { IfSome result (λ ps. length ps ≤ length (changes_in cells.now.form)) }
-        ensures marked { IfSome result (λ ps. (m : Marking) (q : Place) →
-            marked_at m (take (length ps) (changes_in cells.now.form)) q ≡ run_marked m self.now.kind self.now.name ps q) }
+        ensures cells { IfSome result (λ ps. cells_of (take (length ps) (changes_in cells.now.form)) ≡ run_cells self.now.kind self.now.name ps) }
     {
         let mut points = with_room(alloc, cells.len())?;
         for at in 0..cells.len() {
@@ -139,6 +138,7 @@ impl Run {
     /// The run that cells are, if all are of one row and ascend, and there is memory.
     pub(crate) fn of_cells(alloc: Global, cells: &ChangeRun) -> Option<Run>
         ensures some { IfSome result (λ run. 0 < length run.points) }
+        ensures cells { IfSome result (λ run. cells_of (changes_in cells.now.form) ≡ run_cells run.row.kind run.row.name run.points) }
         ensures marked { IfSome result (λ run. (m : Marking) (q : Place) →
             marked_at m (changes_in cells.now.form) q ≡ run_marked m run.row.kind run.row.name run.points q) }
     {

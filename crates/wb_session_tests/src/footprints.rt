@@ -116,12 +116,18 @@ fn footprint_index_of_blocks(rt: HostRuntime) -> Result<(), Fail> {
     let before = changes_of_many(rt.alloc(), target)?;
     let inside = Changes::one(cleared(element(source, 80)));
     let beside = Changes::one(cleared(element(source, 81)));
+    let last = Changes::one(cleared(element(target, 80)));
     let mut index = FootIndex::new(rt.alloc());
     add(&rt, &mut index, 7, &[], &runs, &before)?;
     assert!(rt; is_found_inside(&index, source, Some(7), None));
     assert!(rt; is_found_inside(&index, target, Some(7), Some(7)));
     assert!(rt; index.blockers(rt.alloc(), &inside, 6)?.as_slice() == [7].as_slice());
     assert!(rt; index.blockers(rt.alloc(), &beside, 6)?.is_empty());
+    add(&rt, &mut index, 8, &[], &[], &last)?;
+    assert!(rt; index.first_to_block_undo(&before, 6) == Some(7));
+    assert!(rt; index.first_to_block_undo(&before, 7) == Some(8));
+    assert!(rt; index.first_to_block_undo(&before, 8).is_none());
+    index.take(8, &[], &[], &last);
     index.take(7, &[], &runs, &before);
     assert!(rt; is_found_inside(&index, source, None, None));
     assert!(rt; is_found_inside(&index, target, None, None));
