@@ -31,7 +31,7 @@ family_by Families c = family c
 abbrev pub at_cell : Marking → Cell → Place → Bool
 at_cell m c q = is_same_place (own c) q || elim (family_by m c) [ Some f ↦ is_same_place f q | None ↦ false ]
 
--- whether one of the cells of changes is
+-- whether one of the cells of changes is marked at a place
 abbrev pub marked_at : Marking → Changes → Place → Bool
 marked_at m xs q = list_any (λ x. at_cell m x.cell q) xs
 
@@ -43,7 +43,7 @@ cells_of xs = map (λ x. x.cell) xs
 abbrev pub run_cells : Kind → Name → List Coordinates → List Cell
 run_cells k d ps = map (cell_at k d) ps
 
--- whether one of the cells of one kind of one object at some points is
+-- whether one of the cells of one kind of one object at some points is marked at a place
 abbrev pub run_marked : Marking → Kind → Name → List Coordinates → Place → Bool
 run_marked m k d ps q = list_any (λ p. at_cell m (cell_at k d p) q) ps
 
