@@ -14,3 +14,4 @@ pub mod Runs
 pub mod Members
 pub mod Lying
 pub mod TwoRanks
+pub mod Counted

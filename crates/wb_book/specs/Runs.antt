@@ -1,5 +1,5 @@
 -- Lists of changes that are kept in runs.
-use Rattle.std.specs.Prelude.{◌≡◌, ⊤, ℕ, ◌+◌, ◌<◌, ◌≤◌, ℤ, List, [], ◌∷◌, ◌++◌, length, map, Option, Some, None, option_map}
+use Rattle.std.specs.Prelude.{if◌then◌else◌, ◌≡◌, ⊤, Bool, ℕ, ◌+◌, ◌<◌, ◌≤◌, ℤ, List, [], ◌∷◌, ◌++◌, length, map, Option, Some, None, option_map}
 use Rattle.std.specs.List.{flat_map}
 use Rattle.std.specs.Global.{Vec}
 use Rattle.selective_undo.specs.declared.Change.{Change}
@@ -11,11 +11,12 @@ use Rattle.wb_book.specs.declared.changes.indexed.IndexedChange.{IndexedChange}
 use Rattle.wb_book.specs.declared.changes.row.Row.{Row}
 use Rattle.wb_book.specs.declared.changes.row.Row.TheVariants.{Inside, Members, Elements}
 use Rattle.wb_book.specs.declared.changes.run.Form.{Form}
-use Rattle.wb_book.specs.declared.changes.run.Form.TheVariants.{One, Line, Plane, Solid}
+use Rattle.wb_book.specs.declared.changes.run.Form.TheVariants.{One, Line, Plane, Solid, Rectangle}
 use Rattle.wb_book.specs.declared.changes.run.ChangeRun.{ChangeRun}
 use Rattle.wb_book.specs.declared.values.index.Index.{Index}
 use Rattle.wb_book.specs.declared.values.index.Index.TheVariants.{Point}
-use Rattle.wb_book.specs.Cells.{Changes, count_of}
+use Rattle.wb_book.specs.Cells.{Changes, Name, count_of}
+use Rattle.wb_book.specs.Shapes.{indices}
 
 -- the cell of an index
 abbrev pub cell_of : Row → Index → Cell
@@ -40,12 +41,21 @@ packed_changes row es = map (change_at row) es
 abbrev pub indexed_change : IndexedChange → Change Cell Value
 indexed_change e = record { cell = cell_of e.row e.index; value = option_map (value_of e.row) e.number }
 
+-- an index comes to a rectangular domain, or leaves it
+abbrev pub inside_change : Name → Bool → Index → Change Cell Value
+inside_change d comes i = record { cell = In d i; value = if comes then Some Present else None }
+
+-- every index of a rectangle comes to a rectangular domain, or leaves it
+abbrev pub inside_changes : Name → List (List ℤ) → Bool → Changes
+inside_changes d rs comes = map (inside_change d comes) (indices rs)
+
 -- the changes of a run
 abbrev pub changes_in : Form → Changes
 changes_in (One x) = x ∷ []
 changes_in (Line p) = packed_changes p.row p.changes.items
 changes_in (Plane p) = packed_changes p.row p.changes.items
 changes_in (Solid p) = packed_changes p.row p.changes.items
+changes_in (Rectangle r) = inside_changes r.domain r.ranges r.comes
 
 -- those of runs, one after another
 abbrev pub all_changes : List ChangeRun → Changes

@@ -108,6 +108,22 @@ impl Changes {
         self.push(alloc, change.change())
     }
 
+    /// Adds the changes of a run behind the others, of which there are some, or nothing where no memory is left.
+    pub fn push_run(&mut self, alloc: Global, form: Form) -> Result<(), NoMemory>
+        requires { 0 < length self.old }
+        ensures ok { OnOk result (self.new ≡ self.old ++ changes_in form) }
+        ensures err { OnErr result (self.new ≡ self.old) }
+    {
+        let Some(len) = self.len.checked_add(form.len()) else {
+            return Err(NoMemory);
+        };
+        let counted = self.counted + form.count();
+        put_form(alloc, &mut self.runs, self.len, form)?;
+        self.len = len;
+        self.counted = counted;
+        Ok(())
+    }
+
     /// How many changes there are.
     pub fn len(&self) -> usize
         ensures { result ≡ length self.now }
@@ -124,7 +140,8 @@ impl Changes {
 
     /// The first change, and the runs of those behind it.
     pub fn parts(&self) -> (Option<CellChange>, &[ChangeRun])
-        ensures { self.now ≡ in_first result.0 ++ all_changes result.1.now }
+        ensures all { self.now ≡ in_first result.0 ++ all_changes result.1.now }
+        ensures begun { result.0 ≡ None → result.1.now ≡ [] }
     {
         let runs = match &self.runs {
             None => &[],
@@ -325,6 +342,39 @@ fn put(
     }
 }
 
+// Adds a run that has a place of the list, behind the others.
+fn put_form(
+    alloc: Global,
+    runs: &mut Option<Vec<ChangeRun>>,
+    start: usize,
+    form: Form,
+) -> Result<(), NoMemory>
+    ensures ok { OnOk result (all_changes (runs_in runs.new) ≡ all_changes (runs_in runs.old) ++ changes_in form) }
+    ensures err { OnErr result (all_changes (runs_in runs.new) ≡ all_changes (runs_in runs.old)) }
+    ensures started { (n : ℕ) → AreStarted n (runs_in runs.old) → start ≡ n + length (all_changes (runs_in runs.old)) → AreStarted n (runs_in runs.new) }
+{
+    match runs {
+        None => {
+            let mut list = Vec::new(alloc);
+            add_run(&mut list, start, form)?;
+            *runs = Some(list);
+            Ok(())
+        }
+        Some(list) => add_run(list, start, form),
+    }
+}
+
+fn add_run(runs: &mut Vec<ChangeRun>, start: usize, form: Form) -> Result<(), NoMemory>
+    ensures ok { OnOk result (all_changes runs.new.items ≡ all_changes runs.old.items ++ changes_in form) }
+    ensures err { OnErr result (runs.new.items ≡ runs.old.items) }
+    ensures started { (n : ℕ) → AreStarted n runs.old.items → start ≡ n + length (all_changes runs.old.items) → AreStarted n runs.new.items }
+{
+    match runs.push(ChangeRun { start, form }) {
+        Ok(()) => Ok(()),
+        Err(_) => Err(NoMemory),
+    }
+}
+
 // Adds a run of one change.
 fn put_run(
     alloc: Global,
@@ -337,10 +387,7 @@ fn put_run(
     ensures started { (n : ℕ) → AreStarted n runs.old.items → start ≡ n + length (all_changes runs.old.items) → AreStarted n runs.new.items }
 {
     let form = Form::of(alloc, change)?;
-    match runs.push(ChangeRun { start, form }) {
-        Ok(()) => Ok(()),
-        Err(_) => Err(NoMemory),
-    }
+    add_run(runs, start, form)
 }
 
 // Adds a change to the last run, if it may be packed with that.

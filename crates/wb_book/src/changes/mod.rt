@@ -6,5 +6,6 @@ pub mod indexed;
 pub mod inverse;
 pub mod list;
 pub mod packed;
+pub mod rectangle;
 pub mod row;
 pub mod run;

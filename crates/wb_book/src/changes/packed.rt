@@ -4,6 +4,7 @@ ghost use Rattle.std.specs.Prelude.{◌≡◌, ◌<◌, ◌≤◌, [], ◌∷◌
 ghost use Rattle.selective_undo.specs.declared.Change.{Change};
 ghost use Rattle.wb_book.specs.declared.cells.cell.Cell.{Cell as cell_type};
 ghost use Rattle.wb_book.specs.declared.cells.value.Value.{Value as value_type};
+ghost use Rattle.wb_book.specs.Cells.{count_of};
 ghost use Rattle.wb_book.specs.Runs.{change_at, indexed_change, packed_changes};
 ghost use Rattle.wb_book.specs.declared.values.index.Index.TheVariants.{Point as at_point};
 
@@ -86,6 +87,39 @@ fn indexed_at<const R: usize>(row: &Row, entry: &([i64; R], Option<i64>)) -> Ind
 }
 
 impl<const R: usize> Packed<R> {
+    /// Changes of cells of a row, each by its point and a number.
+    pub fn new(row: Row, changes: Vec<([i64; R], Option<i64>)>) -> Packed<R>
+        ensures row { result.row ≡ row }
+        ensures changes { result.changes.items ≡ changes.entry.items }
+    {
+        Packed { row, changes }
+    }
+
+    /// The cells of which those that change are.
+    pub fn row(&self) -> &Row
+        ensures { result.now ≡ self.now.row }
+    {
+        &self.row
+    }
+
+    /// The changes, each by its point and a number.
+    pub fn changes(&self) -> &[([i64; R], Option<i64>)]
+        ensures { result.now ≡ self.now.changes.items }
+    {
+        self.changes.as_slice()
+    }
+
+    // How many of the cells are counted: all but `In`.
+    pub(crate) fn count(&self) -> usize
+        ensures { result ≡ count_of (packed_changes self.now.row self.now.changes.items) }
+    {
+        match &self.row {
+            Row::Inside(_) => 0,
+            Row::Members(_) => self.changes.len(),
+            Row::Elements(_) => self.changes.len(),
+        }
+    }
+
     /// One change, if it is one of such a row.
     pub(crate) fn of(
         alloc: Global,

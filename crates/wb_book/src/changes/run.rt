@@ -5,12 +5,14 @@ ghost use Rattle.std.specs.Bool.{Decides};
 ghost use Rattle.selective_undo.specs.declared.Change.{Change};
 ghost use Rattle.wb_book.specs.declared.cells.cell.Cell.{Cell as cell_type};
 ghost use Rattle.wb_book.specs.declared.cells.value.Value.{Value as value_type};
+ghost use Rattle.wb_book.specs.Cells.{count_of};
 ghost use Rattle.wb_book.specs.Runs.{changes_in, indexed_change, HasPlace};
 
 use crate::cells::cell::Cell;
-use crate::changes::change::CellChange;
+use crate::changes::change::{CellChange, counted_one};
 use crate::changes::indexed::IndexedChange;
 use crate::changes::packed::Packed;
+use crate::changes::rectangle::RectangleChanges;
 use crate::changes::row::Row;
 use std::alloc::Global;
 use wb_range::NoMemory;
@@ -26,6 +28,8 @@ pub enum Form {
     Plane(Packed<2>),
     /// Changes at triples.
     Solid(Packed<3>),
+    /// Every index of a rectangle comes to a domain, or leaves it.
+    Rectangle(RectangleChanges),
 }
 
 /// Changes that stand one after another in a list, from a place on.
@@ -66,6 +70,7 @@ impl Form {
             Form::Line(line) => line.add(change),
             Form::Plane(plane) => plane.add(change),
             Form::Solid(solid) => solid.add(change),
+            Form::Rectangle(_) => Ok(false),
         }
     }
 }
@@ -82,21 +87,52 @@ impl Form {
             Form::Line(line) => line.add_indexed(change),
             Form::Plane(plane) => plane.add_indexed(change),
             Form::Solid(solid) => solid.add_indexed(change),
+            Form::Rectangle(_) => Ok(false),
+        }
+    }
+}
+
+impl Form {
+    /// How many changes there are.
+    pub fn len(&self) -> usize
+        ensures { result ≡ length (changes_in self.now) }
+    {
+        match self {
+            Form::One(_) => 1,
+            Form::Line(line) => line.len(),
+            Form::Plane(plane) => plane.len(),
+            Form::Solid(solid) => solid.len(),
+            Form::Rectangle(rectangle) => rectangle.len(),
+        }
+    }
+
+    // How many of the cells are counted: all but `In`.
+    pub(crate) fn count(&self) -> usize
+        ensures { result ≡ count_of (changes_in self.now) }
+    {
+        match self {
+            Form::One(change) => counted_one(change),
+            Form::Line(line) => line.count(),
+            Form::Plane(plane) => plane.count(),
+            Form::Solid(solid) => solid.count(),
+            Form::Rectangle(_) => 0,
         }
     }
 }
 
 impl ChangeRun {
+    /// How the changes are kept.
+    pub fn form(&self) -> &Form
+        ensures { result.now ≡ self.now.form }
+    {
+        &self.form
+    }
+
     /// How many changes there are.
     pub fn len(&self) -> usize
         ensures { result ≡ length (changes_in self.now.form) }
     {
-        match &self.form {
-            Form::One(_) => 1,
-            Form::Line(line) => line.len(),
-            Form::Plane(plane) => plane.len(),
-            Form::Solid(solid) => solid.len(),
-        }
+        self.form.len()
     }
 
     /// The change at a place, counted from the first of the run.
@@ -109,6 +145,7 @@ impl ChangeRun {
             Form::Line(line) => line.change(at),
             Form::Plane(plane) => plane.change(at),
             Form::Solid(solid) => solid.change(at),
+            Form::Rectangle(rectangle) => rectangle.change(at),
         }
     }
 
@@ -122,6 +159,7 @@ impl ChangeRun {
             Form::Line(line) => line.cell(at),
             Form::Plane(plane) => plane.cell(at),
             Form::Solid(solid) => solid.cell(at),
+            Form::Rectangle(rectangle) => rectangle.cell(at),
         }
     }
 
@@ -135,6 +173,7 @@ impl ChangeRun {
             Form::Line(line) => Some(line.indexed(at)),
             Form::Plane(plane) => Some(plane.indexed(at)),
             Form::Solid(solid) => Some(solid.indexed(at)),
+            Form::Rectangle(rectangle) => Some(rectangle.indexed(at)),
         }
     }
 
