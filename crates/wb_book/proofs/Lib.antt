@@ -15,3 +15,4 @@ pub mod Members
 pub mod Lying
 pub mod TwoRanks
 pub mod Counted
+pub mod Rectangles

@@ -34,7 +34,7 @@ clear-state_of m n k is =
     ∙ sym (get-remove cell_order.total (state_of m) k c ∙ ap (cond (eq_by_cmp cell_cmp c k) None) (get-state_of m c))
 
 -- a change of a cell that is not there yet
-last_of : (xs : Changes) (x : Change Cell Value) (c : Cell) → changes cell_cmp (xs ++ x ∷ []) c ≡ changes cell_cmp xs c || eq_by_cmp cell_cmp c x.cell
+pub last_of : (xs : Changes) (x : Change Cell Value) (c : Cell) → changes cell_cmp (xs ++ x ∷ []) c ≡ changes cell_cmp xs c || eq_by_cmp cell_cmp c x.cell
 last_of [] x c = elim (eq_by_cmp cell_cmp c x.cell) as (λ b. b || false ≡ b) [ true ↦ refl | false ↦ refl ]
 last_of (y ∷ xs) x c =
     ap (λ b. eq_by_cmp cell_cmp c y.cell || b) (last_of xs x c)

@@ -1,12 +1,19 @@
-ghost use Rattle.std.specs.Prelude.{◌≡◌, ℕ, List, [], ◌∷◌, ◌++◌, length, Some, None, false, OnOk, OnErr};
+ghost use Rattle.std.specs.Prelude.{◌≡◌, ◌<◌, ℕ, List, [], ◌∷◌, ◌++◌, length, Some, None, false, OnOk, OnErr};
 ghost use Rattle.selective_undo.specs.Changes.{changes, AllOnce};
 ghost use Rattle.wb_book.specs.Cells.{cell_cmp, count_of};
+ghost use Rattle.wb_book.specs.Runs.{indexed_change, inside_changes};
+ghost use Rattle.wb_book.specs.declared.cells.cell.Cell.TheVariants.{In};
+ghost use Rattle.wb_book.specs.declared.values.index.Index.{Index};
 
 use crate::cells::cell::Cell;
 use crate::cells::value::Value;
 use crate::changes::change::CellChange;
 use crate::changes::indexed::IndexedChange;
 use crate::changes::list::Changes;
+use crate::changes::rectangle::RectangleChanges;
+use crate::changes::run::Form;
+use crate::values::name::Name;
+use crate::values::rectangle::AnyRect;
 use std::alloc::Global;
 use std::marker::Model;
 use wb_range::NoMemory;
@@ -51,6 +58,33 @@ impl Delta {
         ensures err { OnErr result (self.new ≡ self.old) }
     {
         put_in(self.alloc, &mut self.changes, &cell, &value)
+    }
+
+    /// Adds a change of a cell that has an index and is not there yet.
+    pub fn put_indexed(&mut self, change: &IndexedChange) -> Result<(), NoMemory>
+        requires { changes cell_cmp self.old (indexed_change change.now).cell ≡ false }
+        ensures ok { OnOk result (self.new ≡ self.old ++ indexed_change change.now ∷ []) }
+        ensures err { OnErr result (self.new ≡ self.old) }
+    {
+        self.changes.push_indexed(self.alloc, change)
+    }
+
+    /// Adds, behind some changes, that every index of a rectangle comes to a domain or leaves it, none of which is there yet.
+    /// However many there are, they take the room of their ranges.
+    pub fn put_inside(
+        &mut self,
+        domain: Name,
+        ranges: &AnyRect,
+        comes: bool,
+    ) -> Result<(), NoMemory>
+        requires some { 0 < length self.old }
+        requires fresh { (i : Index) → changes cell_cmp self.old (In domain i) ≡ false }
+        ensures ok { OnOk result (self.new ≡ self.old ++ inside_changes domain ranges.now comes) }
+        ensures err { OnErr result (self.new ≡ self.old) }
+    {
+        let _once = ranges.size();
+        let inside = RectangleChanges::new(domain, *ranges, comes);
+        self.changes.push_run(self.alloc, Form::Rectangle(inside))
     }
 
     /// How many cells change; the cells `In`, which follow from the shapes, are not counted.

@@ -110,6 +110,7 @@ impl<const R: usize> Packed<R> {
     }
 
     // How many of the cells are counted: all but `In`.
+    #[tactic(auto, using(crate::proofs::Counted::none_inside, crate::proofs::Counted::all_members, crate::proofs::Counted::all_elements))]
     pub(crate) fn count(&self) -> usize
         ensures { result ≡ count_of (packed_changes self.now.row self.now.changes.items) }
     {

@@ -107,6 +107,7 @@ impl Form {
     }
 
     // How many of the cells are counted: all but `In`.
+    #[tactic(auto, using(crate::proofs::Counted::none_in_rectangle))]
     pub(crate) fn count(&self) -> usize
         ensures { result ≡ count_of (changes_in self.now) }
     {

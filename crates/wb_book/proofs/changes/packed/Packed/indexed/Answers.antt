@@ -1,9 +1,7 @@
-use Rattle.std.proofs.Common.{◌≡◌, ℕ, ℤ, List, Option, Some, None, length, get_or, slice_get, refl, ap, sym, ◌∙◌, arith}
+use Rattle.std.proofs.Common.{Some, length, slice_get, refl, ap, sym, ◌∙◌, arith}
 use Rattle.std.proofs.lemmas.List.{length-map}
 use Rattle.std.proofs.lemmas.Option.{slice_get-map, slice_get_read, get_or_from_slice_get}
-use Rattle.std.specs.Prelude.{IfSome, option_map}
-use Rattle.wb_book.specs.declared.changes.indexed.IndexedChange.{IndexedChange}
-use Rattle.wb_book.specs.declared.changes.row.Row.{Row}
+use Rattle.std.specs.Prelude.{option_map}
 use Rattle.wb_book.specs.Runs.{change_at, indexed_change, packed_changes}
 use Rattle.wb_book.proofs.changes.packed.Packed.indexed.Goals as goal
 
