@@ -13,6 +13,7 @@ pub mod Exchanges
 pub mod Fills
 pub mod Memberships
 pub mod Sets
+pub mod Combined
 pub mod Loading
 pub mod Kept
 pub mod Once

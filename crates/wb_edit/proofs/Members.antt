@@ -54,9 +54,11 @@ ascending d ((Use f n, v) ∷ es) sorted of = let no : ⊥ = cc in absurd no
 ascending d ((Implicit n, v) ∷ es) sorted of = let no : ⊥ = cc in absurd no
 ascending d ((Element f j, v) ∷ es) sorted of = let no : ⊥ = cc in absurd no
 
+pub members_ascending : (s : Cells) (d : Name) → IsStrictlySortedBy index_cmp (filter_map member_in (seen s (Members d)))
+members_ascending s d = ascending d (seen s (Members d)) (seen_sorted s (Members d)) (seen_named s (Members d))
+
 pub members_once : (s : Cells) (d : Name) → IsListedOnce (filter_map member_in (seen s (Members d)))
-members_once s d = IsListedOnce-sorted index_cmp index_laws.total-law index_cmp-IsAntisymmetric _
-    (ascending d (seen s (Members d)) (seen_sorted s (Members d)) (seen_named s (Members d)))
+members_once s d = IsListedOnce-sorted index_cmp index_laws.total-law index_cmp-IsAntisymmetric _ (members_ascending s d)
 
 -- ---- exactly those that are there
 
@@ -78,6 +80,9 @@ listed d i ((Use f n, v) ∷ es) of = let no : ⊥ = cc in absurd no
 listed d i ((Implicit n, v) ∷ es) of = let no : ⊥ = cc in absurd no
 listed d i ((Element f j, v) ∷ es) of = let no : ⊥ = cc in absurd no
 
+pub members_has : (s : Cells) (d : Name) (i : Index) → is_some (get s (Member d i)) ≡ has (filter_map member_in (seen s (Members d))) i
+members_has s d i = ap is_some (sym (find_seen s (Members d) (Member d i) (itself d))) ∙ listed d i (seen s (Members d)) (seen_named s (Members d))
+
 present : (s : Cells) (kind : Option DomainKind) (i : Index) (v : Option Value) (b : Bool) → IsMember s kind i v → is_some v ≡ b → v ≡ present_if b
 present s kind i None true m e = cc
 present s kind i None false m e = refl
@@ -86,7 +91,4 @@ present s kind i (Some v) false m e = cc
 
 pub members_found : (s : Cells) (d : Name) (kind : Option DomainKind) (i : Index) → IsMember s kind i (get s (Member d i)) →
     get s (Member d i) ≡ present_if (has (filter_map member_in (seen s (Members d))) i)
-members_found s d kind i m =
-    present s kind i (get s (Member d i)) _ m (
-    ap is_some (sym (find_seen s (Members d) (Member d i) (itself d)))
-    ∙ listed d i (seen s (Members d)) (seen_named s (Members d)))
+members_found s d kind i m = present s kind i (get s (Member d i)) _ m (members_has s d i)

@@ -12,7 +12,6 @@ use Rattle.wb_book.specs.declared.values.index.Index.{Index}
 use Rattle.wb_book.specs.Cells.{index_cmp}
 use Rattle.wb_book.specs.WellFormed.{has}
 use Rattle.wb_resize.specs.Resized.{without}
-use Rattle.wb_resize.specs.Sources.{among}
 use Rattle.wb_resize.proofs.States.{same_index}
 
 pub index_total : IsTotalOrder index_cmp
@@ -45,9 +44,6 @@ filter_same p q h (x ∷ xs) = ap (λ b. cond b (x ∷ filter p xs) (filter p xs
 
 pub without_same : (xs ys zs : List Index) → ((k : Index) → Contains xs k ↔ Contains ys k) → without xs zs ≡ without ys zs
 without_same xs ys zs h = filter_same (λ i. not (has xs i)) (λ i. not (has ys i)) (λ i. ap not (has_same xs ys h i)) zs
-
-pub among_same : (xs ys zs : List Index) → ((k : Index) → Contains xs k ↔ Contains ys k) → among xs zs ≡ among ys zs
-among_same xs ys zs h = filter_same (has xs) (has ys) (has_same xs ys h) zs
 
 within : {X : Type 0} (xs : List X) (p : ℕ) → p < length xs → None ≡ slice_get xs p → ⊥
 within [] p h e = omega arith

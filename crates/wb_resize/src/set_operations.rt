@@ -1,12 +1,11 @@
-//! What two sets of indices make.
+//! Lists of indices as sets.
 
-ghost use Rattle.std.specs.Prelude.{◌≡◌, ◌++◌, true, is_some, IfOk, OnOk};
+ghost use Rattle.std.specs.Prelude.{◌≡◌, true, is_some, IfOk};
 ghost use Rattle.wb_book.specs.WellFormed.{has};
 ghost use Rattle.wb_range.specs.Domain.{IsListedOnce};
 ghost use Rattle.wb_resize.specs.Resized.{without};
-ghost use Rattle.wb_resize.specs.Sources.{among, combined, ascending};
+ghost use Rattle.wb_resize.specs.Sources.{ascending};
 
-use crate::new_indices::SetOperation;
 use std::alloc::Global;
 use wb_assoc::Assoc;
 use wb_book::AnyIndex;
@@ -61,26 +60,6 @@ fn kept_outside(
     Ok(kept)
 }
 
-// Those of `listed` that are in a set.
-fn kept_inside(
-    alloc: Global,
-    set: &Assoc<AnyIndex>,
-    listed: &[AnyIndex],
-) -> Result<Vec<AnyIndex>, NoMemory>
-    ensures { IfOk result (λ v. v.items ≡ among set.now listed.now) }
-{
-    let mut kept = Vec::new(alloc);
-    let mut near = 0;
-    for index in listed {
-        let found = place_near(set, index, near);
-        if found.is_some() && kept.push(*index).is_err() {
-            return Err(NoMemory);
-        }
-        near = after(found, near);
-    }
-    Ok(kept)
-}
-
 /// The indices of `listed` that are not among the others, in their order.
 ///
 /// It takes the time of a sort of the others, and a binary search for each of `listed` that doesn't stand in the set right
@@ -96,66 +75,6 @@ pub fn without(
     let set = Assoc::from_slice(alloc, others)?;
     let kept = kept_outside(alloc, &set, listed)?;
     Ok(kept)
-}
-
-/// The indices of `listed` that are among the others too, in their order.
-///
-/// It takes the time of a sort of the others, and a binary search for each of `listed` that doesn't stand in the set right
-/// behind the one before it.
-pub fn among(
-    alloc: Global,
-    others: &[AnyIndex],
-    listed: &[AnyIndex],
-) -> Result<Vec<AnyIndex>, NoMemory>
-    ensures same { IfOk result (λ v. v.items ≡ among others.now listed.now) }
-    ensures once { IfOk result (λ v. IsListedOnce listed.now → IsListedOnce v.items) }
-{
-    let set = Assoc::from_slice(alloc, others)?;
-    let kept = kept_inside(alloc, &set, listed)?;
-    Ok(kept)
-}
-
-/// The indices that two lists of indices make as sets: first those of the old ones, then those that only the given ones have
-/// (Chapel Language Specification, Domains: set operations on associative domains).
-///
-/// It takes the time of a sort of both lists.
-pub fn combined(
-    alloc: Global,
-    how: SetOperation,
-    given: &[AnyIndex],
-    old: &[AnyIndex],
-) -> Result<Vec<AnyIndex>, NoMemory>
-    ensures same { IfOk result (λ v. v.items ≡ combined how given.now old.now) }
-    ensures once { IfOk result (λ v. IsListedOnce given.now → IsListedOnce old.now → IsListedOnce v.items) }
-{
-    match how {
-        SetOperation::Union => {
-            let mut all = Vec::from_slice(alloc, old)?;
-            append_outside(alloc, &mut all, old, given)?;
-            Ok(all)
-        }
-        SetOperation::Intersection => among(alloc, given, old),
-        SetOperation::Difference => without(alloc, given, old),
-        SetOperation::SymmetricDifference => {
-            let mut all = without(alloc, given, old)?;
-            append_outside(alloc, &mut all, old, given)?;
-            Ok(all)
-        }
-    }
-}
-
-// Appends those of `listed` that are not among the others.
-fn append_outside(
-    alloc: Global,
-    all: &mut Vec<AnyIndex>,
-    others: &[AnyIndex],
-    listed: &[AnyIndex],
-) -> Result<(), NoMemory>
-    ensures { OnOk result (all.new.items ≡ all.old.items ++ without others.now listed.now) }
-{
-    let fresh = without(alloc, others, listed)?;
-    all.extend_from_slice(&fresh)?;
-    Ok(())
 }
 
 /// The set of these indices, which may stand in any order and more than once.

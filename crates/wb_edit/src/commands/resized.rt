@@ -2,11 +2,13 @@
 
 ghost use Rattle.std.specs.Prelude.{◌≡◌};
 ghost use Rattle.std.specs.Map.{keys_of};
+ghost use Rattle.selective_undo.specs.Edit.{write};
 ghost use Rattle.wb_range.specs.Domain.{IsListedOnce};
 ghost use Rattle.wb_book.specs.Kinds.{kind_of};
 ghost use Rattle.wb_edit.specs.Changed.{AreApart};
 ghost use Rattle.wb_edit.specs.Commands.{resized};
 ghost use Rattle.wb_edit.specs.Plans.{Attempts, Makes};
+ghost use Rattle.wb_edit.specs.Resizing.{fills};
 ghost use Rattle.wb_resize.specs.Resized.{resized_cells};
 
 use crate::attempt_err::AttemptErr;
@@ -34,6 +36,25 @@ pub(crate) fn plan_resized(
     ensures { Attempts (resized domain kind.now new.now leaving.now coming.now) book.now.cells footprint.old result footprint.new }
 {
     all_in_parent(book, footprint, kind, new)?;
+    plan_exchanged(alloc, book, footprint, domain, kind, leaving, coming)
+}
+
+/// Indices leave a sparse or associative domain, and others, which it may have, come to it.
+pub(crate) fn plan_exchanged(
+    alloc: Global,
+    book: &Book,
+    footprint: &mut Footprint,
+    domain: Name,
+    kind: &AnyDomain,
+    leaving: &[AnyIndex],
+    coming: &[AnyIndex],
+) -> Result<Delta, AttemptErr>
+    requires leaving { IsListedOnce leaving.now }
+    requires coming { IsListedOnce coming.now }
+    requires apart { AreApart leaving.now coming.now }
+    ensures { Attempts (fills domain kind.now (λ brought. write (resized_cells (kind_of kind.now) domain brought leaving.now coming.now)))
+        book.now.cells footprint.old result footprint.new }
+{
     let brought = fills(alloc, book, footprint, domain, kind)?;
     resize_changes(alloc, domain, kind, &brought, leaving, coming)
 }

@@ -1,7 +1,11 @@
 //! Looks at the indices of a domain.
 
-ghost use Rattle.std.specs.Prelude.{◌≡◌, IfOk};
+ghost use Rattle.std.specs.Prelude.{◌≡◌, [], ◌∷◌, ◌++◌, IfOk, IfErr, OnOk};
+ghost use Rattle.std.specs.List.Sorted.{IsStrictlySortedBy};
 ghost use Rattle.wb_range.specs.Domain.{IsListedOnce};
+ghost use Rattle.wb_book.specs.Cells.{index_cmp};
+ghost use Rattle.wb_book.specs.Readers as readers;
+ghost use Rattle.wb_book.specs.declared.cells.pattern.Pattern.TheVariants.{Members};
 ghost use Rattle.wb_edit.specs.Looks.{members, points, indices_of, domain_indices};
 ghost use Rattle.wb_edit.specs.Plans.{Looks, found_members, indices_in, shown_indices};
 
@@ -11,6 +15,7 @@ use crate::looks::judgements;
 use crate::looks::one_cell::read;
 use std::alloc::Global;
 use wb_book::{AnyDomain, AnyIndex, AnyRect, Cell, DomainKind, Name, Pattern, members_in};
+use wb_range::NoMemory;
 use wb_shelf::Book;
 
 /// The indices of a domain, in its order.
@@ -22,6 +27,33 @@ pub(crate) enum Indices {
     Listed(Vec<AnyIndex>),
 }
 
+/// All indices of a sparse or associative domain are looked at, whether or not they are listed.
+pub(crate) fn look_at_members(footprint: &mut Footprint, domain: Name) -> Result<(), AttemptErr>
+    ensures read { OnOk result (footprint.new ≡ footprint.old ++ Members domain ∷ []) }
+    ensures only { IfErr result (λ e. e ≡ AttemptErr.NoMemory) }
+{
+    match footprint.keep(Pattern::Members(domain)) {
+        Ok(()) => Ok(()),
+        Err(_) => Err(AttemptErr::NoMemory),
+    }
+}
+
+/// The indices that a sparse or associative domain has, ascending.
+pub(crate) fn listed_members(
+    alloc: Global,
+    book: &Book,
+    domain: Name,
+) -> Result<Vec<AnyIndex>, NoMemory>
+    ensures same { IfOk result (λ v. v.items ≡ readers.members book.now.cells domain) }
+    ensures ascending { IfOk result (λ v. IsStrictlySortedBy index_cmp v.items) }
+{
+    let shown = book.seen(alloc, &Pattern::Members(domain))?;
+    match members_in(alloc, &shown) {
+        Ok(found) => Ok(found),
+        Err(_) => Err(NoMemory),
+    }
+}
+
 /// The indices of a sparse or associative domain.
 pub(crate) fn members(
     alloc: Global,
@@ -31,16 +63,11 @@ pub(crate) fn members(
 ) -> Result<Vec<AnyIndex>, AttemptErr>
     ensures looks { Looks (members domain) book.now.cells footprint.old (found_members result) footprint.new }
     ensures once { IfOk result (λ v. IsListedOnce v.items) }
+    ensures ascending { IfOk result (λ v. IsStrictlySortedBy index_cmp v.items) }
 {
-    let pattern = Pattern::Members(domain);
-    let Ok(shown) = book.seen(alloc, &pattern) else {
-        return Err(AttemptErr::NoMemory);
-    };
-    let Ok(found) = members_in(alloc, &shown) else {
-        return Err(AttemptErr::NoMemory);
-    };
-    match footprint.keep(pattern) {
-        Ok(()) => Ok(found),
+    look_at_members(footprint, domain)?;
+    match listed_members(alloc, book, domain) {
+        Ok(found) => Ok(found),
         Err(_) => Err(AttemptErr::NoMemory),
     }
 }

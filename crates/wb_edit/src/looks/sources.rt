@@ -2,6 +2,8 @@
 
 ghost use Rattle.std.specs.Prelude.{◌≡◌, IfOk, IfErr};
 ghost use Rattle.std.specs.List.{list_all};
+ghost use Rattle.std.specs.List.Sorted.{IsStrictlySortedBy};
+ghost use Rattle.wb_book.specs.Cells.{index_cmp};
 ghost use Rattle.wb_book.specs.Kinds.{is_key};
 ghost use Rattle.wb_range.specs.Domain.{IsListedOnce};
 ghost use Rattle.wb_edit.specs.Plans.{Looks, found_members};
@@ -207,6 +209,7 @@ pub(crate) fn gives_set(
 fn listed(alloc: Global, items: &Assoc<AnyIndex>) -> Result<Vec<AnyIndex>, AttemptErr>
     ensures same { IfOk result (λ v. v.items ≡ items.now) }
     ensures once { IfOk result (λ v. IsListedOnce v.items) }
+    ensures ascending { IfOk result (λ v. IsStrictlySortedBy index_cmp v.items) }
     ensures only { IfErr result (λ e. e ≡ NoMemory) }
 {
     let _once = items.size();
@@ -225,6 +228,7 @@ pub(crate) fn indices_given(
 ) -> Result<Vec<AnyIndex>, AttemptErr>
     ensures looks { Looks (indices_given given.now) book.now.cells footprint.old (found_members result) footprint.new }
     ensures once { IfOk result (λ v. IsListedOnce v.items) }
+    ensures ascending { IfOk result (λ v. IsStrictlySortedBy index_cmp v.items) }
 {
     match given {
         Operand::Rectangle(_) => Err(AttemptErr::Refused(Refusal::WrongKind)),

@@ -30,8 +30,8 @@ fn plan_reshape_kind(
         DomainKind::Sparse(_, _) => plan_reshape_sparse(
             alloc, book, footprint, domain, kind, source,
         ),
-        DomainKind::Associative(_) => {
-            plan_reshape_associative(alloc, book, footprint, domain, kind, source)
+        DomainKind::Associative(key) => {
+            plan_reshape_associative(alloc, book, footprint, domain, key, source)
         }
     }
 }

@@ -2,6 +2,7 @@
 
 pub mod any;
 pub mod no_source;
+pub mod operations;
 pub mod rectangles;
 pub mod replaced;
 pub mod sets;

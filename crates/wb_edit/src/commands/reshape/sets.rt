@@ -1,20 +1,22 @@
 //! New indices of a sparse or associative domain, by their source.
 
 ghost use Rattle.wb_range.specs.Domain.{IsListedOnce};
+ghost use Rattle.wb_book.specs.declared.cells.kind.DomainKind.TheVariants.{Associative};
 ghost use Rattle.wb_edit.specs.Plans.{Attempts};
-ghost use Rattle.wb_edit.specs.Commands.Reshape.{with_indices, to_set, combine_set, reshape_sparse, reshape_associative};
+ghost use Rattle.wb_edit.specs.Commands.Reshape.{with_indices, to_set, reshape_sparse, reshape_associative};
 
 use crate::attempt_err::AttemptErr;
 use crate::commands::reshape::no_source::plan_no_source;
+use crate::commands::reshape::operations::plan_combine;
 use crate::commands::resized::plan_resized;
 use crate::footprint::Footprint;
 use crate::looks::indices::members;
 use crate::looks::sources::{gives_set, indices_given};
 use crate::refusal::Refusal;
 use std::alloc::Global;
-use wb_book::{AnyDomain, AnyIndex, Delta, Name};
-use wb_resize::set_operations::{combined, without};
-use wb_resize::{NewIndices, Operand, SetOperation};
+use wb_book::{AnyDomain, AnyIndex, Delta, DomainKind, KeyType, Name};
+use wb_resize::set_operations::without;
+use wb_resize::{NewIndices, Operand};
 use wb_shelf::Book;
 
 // A domain with some indices gets others.
@@ -57,27 +59,6 @@ fn plan_to(
     plan_with_indices(alloc, book, footprint, domain, kind, &old, &new)
 }
 
-// The indices become what they and those that are given make.
-fn plan_combine(
-    alloc: Global,
-    book: &Book,
-    footprint: &mut Footprint,
-    domain: Name,
-    kind: &AnyDomain,
-    how: SetOperation,
-    given: &Operand,
-) -> Result<Delta, AttemptErr>
-    ensures { Attempts (combine_set domain kind.now how given.now) book.now.cells footprint.old result footprint.new }
-{
-    gives_set(book, footprint, kind.kind(), given)?;
-    let old = members(alloc, book, footprint, domain)?;
-    let other = indices_given(alloc, book, footprint, given)?;
-    let Ok(new) = combined(alloc, how, &other, &old) else {
-        return Err(AttemptErr::NoMemory);
-    };
-    plan_with_indices(alloc, book, footprint, domain, kind, &old, &new)
-}
-
 /// A new value of a sparse domain.
 pub(crate) fn plan_reshape_sparse(
     alloc: Global,
@@ -97,23 +78,26 @@ pub(crate) fn plan_reshape_sparse(
     }
 }
 
-/// A new value of an associative domain.
+/// A new value of an associative domain with indices of a type.
 pub(crate) fn plan_reshape_associative(
     alloc: Global,
     book: &Book,
     footprint: &mut Footprint,
     domain: Name,
-    kind: &AnyDomain,
+    key: KeyType,
     source: &NewIndices,
 ) -> Result<Delta, AttemptErr>
-    ensures { Attempts (reshape_associative domain kind.now source.now) book.now.cells footprint.old result footprint.new }
+    ensures { Attempts (reshape_associative domain (Associative key) source.now) book.now.cells footprint.old result footprint.new }
 {
     match source {
-        NewIndices::To(given) => plan_to(alloc, book, footprint, domain, kind, given),
+        NewIndices::To(given) => {
+            let kind = AnyDomain::new(DomainKind::Associative(key));
+            plan_to(alloc, book, footprint, domain, &kind, given)
+        }
         NewIndices::Slice(given) => plan_no_source(book, footprint, given),
         NewIndices::Displace(_, _) => Err(AttemptErr::Refused(Refusal::WrongKind)),
         NewIndices::Combine(how, given) => {
-            plan_combine(alloc, book, footprint, domain, kind, *how, given)
+            plan_combine(alloc, book, footprint, domain, key, *how, given)
         }
     }
 }
