@@ -14,6 +14,7 @@ pub mod Fills
 pub mod Memberships
 pub mod Sets
 pub mod Combined
+pub mod Inside
 pub mod Loading
 pub mod Kept
 pub mod Once

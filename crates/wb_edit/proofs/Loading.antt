@@ -1,5 +1,5 @@
 -- What a loaded workbook writes, and where.
-use Rattle.std.proofs.Common.{◌≡◌, ℕ, Bool, true, false, cond, T, List, [], ◌∷◌, ◌++◌, Option, Some, None, Result, Ok, Err, slice_get, refl, sym, ap, subst}
+use Rattle.std.proofs.Common.{◌≡◌, true, false, cond, T, List, [], ◌∷◌, ◌++◌, Option, Some, None, Result, Ok, Err, slice_get, refl, sym, ap, subst}
 use Rattle.std.proofs.Common.{◌∙◌, Ordering}
 use Rattle.std.specs.BTreeMap.{BTreeMap}
 use Rattle.std.specs.BTreeMap as tree
@@ -12,7 +12,7 @@ use Rattle.std.specs.Ordering.{eq_by_cmp, is_eq, is_lt}
 use Rattle.std.specs.declared.cmp.Ordering.TheVariants.{Less, Equal, Greater}
 use Rattle.selective_undo.specs.declared.Change.{Change}
 use Rattle.selective_undo.specs.Changes.{apply, changes, AllOnce}
-use Rattle.selective_undo.specs.Edit.{seen, write}
+use Rattle.selective_undo.specs.Edit.{seen}
 use Rattle.selective_undo.proofs.Changes.{same_states}
 use Rattle.selective_undo.proofs.Evaluation.{entries-retain_keys}
 use Rattle.selective_undo.proofs.Locality.{or_neither}

@@ -1,9 +1,12 @@
 //! Cells that belong to indices: one for each index of a domain.
 
-ghost use Rattle.std.specs.Prelude.{◌≡◌};
+ghost use Rattle.std.specs.Prelude.{◌≡◌, IfSome, option_map};
+ghost use Rattle.wb_book.specs.Runs.{cell_of, value_of};
+ghost use Rattle.wb_book.specs.WellFormed.{index_cell};
+ghost use Rattle.wb_book.specs.declared.values.index.Index.{Index};
 ghost use Rattle.wb_edit.specs.Plans.{cell_at};
 
-use wb_book::{AnyIndex, Cell, Kind, Name};
+use wb_book::{AnyIndex, Cell, Kind, Name, Row, Value};
 
 /// A cell for each index of a domain.
 #[derive(Clone, Copy)]
@@ -24,5 +27,52 @@ pub(crate) fn cell_at(indexed: &IndexedCells, index: AnyIndex) -> Cell
         IndexedCells::Inside(domain) => Cell::In(*domain, index),
         IndexedCells::Elements(array) => Cell::Element(*array, index),
         IndexedCells::Membership(kind, domain) => kind.index_cell(*domain, index),
+    }
+}
+
+// The row of the cells that say which indices are in a domain of a kind.
+fn membership(kind: &Kind, domain: Name) -> Row
+    ensures { (i : Index) → cell_of result i ≡ index_cell kind.now domain i }
+{
+    match kind {
+        Kind::Rectangular(_) => Row::Inside(domain),
+        Kind::Sparse(_) => Row::Members(domain),
+        Kind::Associative(_) => Row::Members(domain),
+    }
+}
+
+/// The row of these cells.
+pub(crate) fn row_of(indexed: &IndexedCells) -> Row
+    ensures { (i : Index) → cell_of result i ≡ cell_at indexed.now i }
+{
+    match indexed {
+        IndexedCells::Inside(domain) => Row::Inside(*domain),
+        IndexedCells::Elements(array) => Row::Elements(*array),
+        IndexedCells::Membership(kind, domain) => membership(kind, *domain),
+    }
+}
+
+/// A number by which a value stands in one of the cells of a row, or that none does, if the value may stand there.
+pub(crate) fn number_in(row: &Row, value: &Option<Value>) -> Option<Option<i64>>
+    ensures { IfSome result (λ n. option_map (value_of row.now) n ≡ value.now) }
+{
+    match value {
+        None => Some(None),
+        Some(Value::Number(number)) => match row {
+            Row::Inside(_) | Row::Members(_) => None,
+            Row::Elements(_) => Some(Some(*number)),
+        },
+        Some(Value::Present) => match row {
+            Row::Inside(_) => Some(Some(0)),
+            Row::Members(_) => Some(Some(0)),
+            Row::Elements(_) => None,
+        },
+        Some(
+            Value::Domain(_)
+            | Value::Array(_, _)
+            | Value::Ranges(_)
+            | Value::Mapping(_)
+            | Value::Bound(_),
+        ) => None,
     }
 }

@@ -1,17 +1,18 @@
 //! Changes of all the elements that a look showed.
 
-ghost use Rattle.std.specs.Prelude.{◌≡◌, [], ◌∷◌, ◌++◌, false, T, OnOk, IfErr};
+ghost use Rattle.std.specs.Prelude.{◌≡◌, [], ◌∷◌, ◌++◌, false, T, option_map, OnOk, IfErr};
 ghost use Rattle.std.specs.FinMap.{is_sorted};
 ghost use Rattle.selective_undo.specs.Changes.{changes};
 ghost use Rattle.wb_book.specs.Cells.{cell_cmp, index_cmp};
 ghost use Rattle.wb_book.specs.declared.cells.cell.Cell.TheVariants.{Element};
+ghost use Rattle.wb_book.specs.declared.cells.value.Value.TheVariants.{Number};
 ghost use Rattle.wb_book.specs.declared.values.index.Index.{Index};
 ghost use Rattle.wb_edit.specs.Changed.{value_of, all_become};
 ghost use Rattle.wb_edit.specs.declared.attempt_err.AttemptErr.TheVariants.{NoMemory};
 
 use crate::attempt_err::AttemptErr;
-use crate::commands::writes::change;
-use wb_book::{AnyIndex, Cell, Delta, Name, Value};
+use crate::commands::writes::change_indexed;
+use wb_book::{AnyIndex, Delta, IndexedChange, Name, Row};
 
 /// What elements become.
 #[derive(Clone, Copy)]
@@ -24,12 +25,13 @@ pub(crate) enum NewValue {
     Clear,
 }
 
-fn value_of(new: &NewValue, element: &(AnyIndex, i64)) -> Option<Value>
-    ensures { result ≡ value_of new.now element.now.1 }
+// The number that an element becomes, if it is to be there.
+fn number_of(new: &NewValue, element: &(AnyIndex, i64)) -> Option<i64>
+    ensures { option_map (λ x. Number x) result ≡ value_of new.now element.now.1 }
 {
     match new {
-        NewValue::Fill(value) => Some(Value::Number(*value)),
-        NewValue::Listed => Some(Value::Number(element.1)),
+        NewValue::Fill(value) => Some(*value),
+        NewValue::Listed => Some(element.1),
         NewValue::Clear => None,
     }
 }
@@ -47,7 +49,12 @@ pub(crate) fn all_become(
     ensures only { IfErr result (λ e. e ≡ NoMemory) }
 {
     for e in elements {
-        change(delta, Cell::Element(array, e.0), value_of(new, e))?;
+        let change = IndexedChange {
+            row: Row::Elements(array),
+            index: e.0,
+            number: number_of(new, e),
+        };
+        change_indexed(delta, &change)?;
     }
     Ok(())
 }

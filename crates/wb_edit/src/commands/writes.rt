@@ -1,12 +1,13 @@
 //! Changes in the making.
 
-ghost use Rattle.std.specs.Prelude.{◌≡◌, ℕ, List, [], ◌∷◌, ◌++◌, false, map, slice_get, Some, OnOk, IfErr};
+ghost use Rattle.std.specs.Prelude.{◌≡◌, ◌<◌, ℕ, List, [], ◌∷◌, ◌++◌, false, length, map, slice_get, Some, OnOk, IfErr};
 ghost use Rattle.std.specs.Map.{keys_of};
 ghost use Rattle.selective_undo.specs.Changes.{changes};
 ghost use Rattle.wb_book.specs.Cells.{cell_cmp};
+ghost use Rattle.wb_book.specs.Runs.{indexed_change, inside_changes};
 ghost use Rattle.wb_book.specs.Shapes.{indices};
 ghost use Rattle.wb_book.specs.WellFormed.{index_cell};
-ghost use Rattle.wb_book.specs.declared.cells.cell.Cell.TheVariants.{Element};
+ghost use Rattle.wb_book.specs.declared.cells.cell.Cell.TheVariants.{In, Element};
 ghost use Rattle.wb_book.specs.declared.cells.value.Value.TheVariants.{Number};
 ghost use Rattle.wb_book.specs.declared.values.index.Index.{Index};
 ghost use Rattle.wb_range.specs.Domain.{IsListedOnce};
@@ -17,9 +18,9 @@ ghost use Rattle.wb_resize.specs.Resized.{exchanged, elements_exchanged, resized
 ghost use Rattle.wb_edit.specs.declared.attempt_err.AttemptErr.TheVariants.{NoMemory};
 
 use crate::attempt_err::AttemptErr;
-use crate::indexed_cells::{IndexedCells, cell_at};
+use crate::indexed_cells::{IndexedCells, cell_at, number_in, row_of};
 use crate::looks::indices::Indices;
-use wb_book::{AnyIndex, AnyRect, Cell, Delta, Kind, Name, Value};
+use wb_book::{AnyIndex, AnyRect, Cell, Delta, IndexedChange, Kind, Name, Value};
 
 /// Adds that a cell, which is not there yet, becomes a value, or absent.
 pub(crate) fn change(delta: &mut Delta, cell: Cell, value: Option<Value>) -> Result<(), AttemptErr>
@@ -42,6 +43,36 @@ pub(crate) fn put(delta: &mut Delta, cell: Cell, value: Value) -> Result<(), Att
     change(delta, cell, Some(value))
 }
 
+/// Adds a change of a cell that has an index and is not there yet.
+pub(crate) fn change_indexed(delta: &mut Delta, change: &IndexedChange) -> Result<(), AttemptErr>
+    requires { changes cell_cmp delta.old (indexed_change change.now).cell ≡ false }
+    ensures ok { OnOk result (delta.new ≡ delta.old ++ indexed_change change.now ∷ []) }
+    ensures only { IfErr result (λ e. e ≡ NoMemory) }
+{
+    match delta.put_indexed(change) {
+        Ok(()) => Ok(()),
+        Err(_) => Err(AttemptErr::NoMemory),
+    }
+}
+
+// Adds that the cell of an index, which is not there yet, becomes a value, or absent.
+fn change_at(
+    delta: &mut Delta,
+    indexed: &IndexedCells,
+    index: AnyIndex,
+    value: &Option<Value>,
+) -> Result<(), AttemptErr>
+    requires { changes cell_cmp delta.old (cell_at indexed.now index) ≡ false }
+    ensures ok { OnOk result (delta.new ≡ delta.old ++ record { cell = cell_at indexed.now index; value = value.now } ∷ []) }
+    ensures only { IfErr result (λ e. e ≡ NoMemory) }
+{
+    let row = row_of(indexed);
+    match number_in(&row, value) {
+        Some(number) => change_indexed(delta, &IndexedChange { row, index, number }),
+        None => change(delta, cell_at(indexed, index), *value),
+    }
+}
+
 /// Adds that the cell of each index, none of which is there yet, becomes a value, or absent.
 fn become_all(
     delta: &mut Delta,
@@ -56,7 +87,7 @@ fn become_all(
     for p in 0..ranges.size() {
         match ranges.nth(p) {
             Some(index) => {
-                change(delta, cell_at(indexed, index), *value)?;
+                change_at(delta, indexed, index, value)?;
             }
             None => {}
         }
@@ -76,6 +107,24 @@ pub(crate) fn put_all(
     ensures only { IfErr result (λ e. e ≡ NoMemory) }
 {
     become_all(delta, indexed, ranges, &Some(*value))
+}
+
+/// Adds, behind some changes, that all indices of a rectangle come to a domain or leave it, of which none is there yet.
+pub(crate) fn become_inside(
+    delta: &mut Delta,
+    domain: Name,
+    ranges: &AnyRect,
+    comes: bool,
+) -> Result<(), AttemptErr>
+    requires some { 0 < length delta.old }
+    requires new { (i : Index) → changes cell_cmp delta.old (In domain i) ≡ false }
+    ensures ok { OnOk result (delta.new ≡ delta.old ++ inside_changes domain ranges.now comes) }
+    ensures only { IfErr result (λ e. e ≡ NoMemory) }
+{
+    match delta.put_inside(domain, ranges, comes) {
+        Ok(()) => Ok(()),
+        Err(_) => Err(AttemptErr::NoMemory),
+    }
 }
 
 /// The domain of a name, with its kind.
@@ -106,7 +155,7 @@ fn become_listed(
     for p in 0..listed.len() {
         match nth(listed, p) {
             Some(index) => {
-                change(delta, cell_at(indexed, index), *value)?;
+                change_at(delta, indexed, index, value)?;
             }
             None => {}
         }

@@ -1,14 +1,15 @@
-use Rattle.std.proofs.Common.{◌≡◌, ℤ, List, [], ◌∷◌, ◌++◌, take, sym, ap, subst, ◌∙◌, append_assoc, false}
+use Rattle.std.proofs.Common.{◌≡◌, ℤ, List, [], ◌∷◌, ◌++◌, Option, take, sym, ap, subst, ◌∙◌, append_assoc, false}
 use Rattle.selective_undo.specs.Changes.{changes}
 use Rattle.wb_book.specs.declared.cells.cell.Cell.TheVariants.{Element}
+use Rattle.wb_book.specs.declared.cells.value.Value.{Value}
 use Rattle.wb_book.specs.declared.values.index.Index.{Index}
 use Rattle.wb_book.specs.Cells.{Changes, cell_cmp}
 use Rattle.wb_edit.specs.Changed.{all_become}
 use Rattle.wb_edit.proofs.Becoming.{next_is_new, becomes_more}
 use Rattle.wb_edit.proofs.commands.seen.all_become.Goals as goal
 
-pub change-requires : goal.change-requires
-change-requires c =
+pub change_indexed-requires : goal.change_indexed-requires
+change_indexed-requires c =
     let es : List (Index × ℤ) = c.args.elements.now in
     let i = c.loop-e.e-index in
     let e : Index × ℤ = c.e-item.result in
@@ -26,7 +27,8 @@ loop-e-preserved c =
     let new = c.args.new.now in
     let old : Changes = c.args.delta.now in
     let before : Changes = all_become a new (take i es) in
-    c.in_ok-change.ensures.ok ∙ rw (c.value_of.ensures, c.loop-e.invariant) (
+    c.in_ok-change_indexed.ensures.ok
+    ∙ ap (λ (v : Option Value). c.loop-e.delta ++ record { cell = Element a e.0; value = v } ∷ []) c.number_of.ensures ∙ rw c.loop-e.invariant (
     append_assoc old before (all_become a new (e ∷ []))
     ∙ ap (λ (x : Index × ℤ). old ++ (before ++ all_become a new (x ∷ []))) c.e-item.is
     ∙ ap (λ xs. old ++ xs) (sym (becomes_more a new es i e c.loop-e-test.true)))
