@@ -15,3 +15,4 @@ pub mod InRuns
 pub mod Gone
 pub mod ReadPlaces
 pub mod AtPoints
+pub mod AtMarks
