@@ -16,3 +16,4 @@ pub mod Gone
 pub mod ReadPlaces
 pub mod AtPoints
 pub mod AtMarks
+pub mod Rows

@@ -7,3 +7,4 @@ pub mod Parts
 pub mod Spots
 pub mod Places
 pub mod Footprints
+pub mod Rows

@@ -1,4 +1,4 @@
-use Rattle.std.proofs.Common.{ℕ, Bool, Option, ◌<◌, ◌≤◌, length, take, refl, sym, subst, arith}
+use Rattle.std.proofs.Common.{ℕ, Bool, Option, ◌≤◌, length, take, refl, sym, subst, arith}
 use Rattle.std.specs.List.{list_any}
 use Rattle.std.specs.Ordering.{eq_by_cmp}
 use Rattle.wb_foot.specs.Relation.{IsLeastAfter}

@@ -1,5 +1,4 @@
 use Rattle.std.proofs.Common.{sym}
-use Rattle.std.specs.List.{list_any}
 use Rattle.wb_foot.specs.Places.{own, cell_at, place_marked}
 use Rattle.wb_foot.specs.Footprints.{touched_by}
 use Rattle.wb_foot.proofs.AtPoints.{same_least}
