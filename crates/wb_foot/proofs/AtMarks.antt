@@ -111,7 +111,8 @@ module _ (f : Coordinates → ℕ → Bool) (after : ℕ) where
   next_least ps at j p k number s l is low high none below r h =
       past ps (at + 1) j p r low high
       (λ i n from to up. none (get_or ps i p) n
-      (subst (λ (q : Coordinates). pair_cmp point_cmp (q, after) (get_or ps i p, n) ≡ Less) (sym is) (pair_up ps at i p after n s (omega arith) (omega arith) up))
+      (subst (λ (q : Coordinates). pair_cmp point_cmp (q, after) (get_or ps i p, n) ≡ Less) (sym is)
+      (pair_up ps at i p after n s (omega arith) (omega arith) up))
       (pair_less (get_or ps i p) k n number (below i p from to)))
       (one_more f ps at after p l p is r h)
 

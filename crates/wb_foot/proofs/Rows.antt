@@ -45,14 +45,6 @@ map_behind f [] ys = refl
 map_behind f (x ∷ xs) ys = ap (λ zs. f x ∷ zs) (map_behind f xs ys)
 
 -- one more of a list
-pub one_point_more : {X Y : Type 0} (g : X → Y) (xs : List X) (i : ℕ) (d : X) → i < length xs → (x : X) → x ≡ get_or xs i d → (ps qs : List Y) (p : Y) → p ≡ g x →
-    qs ≡ ps ++ p ∷ [] → ps ≡ map g (take i xs) → qs ≡ map g (take (i + 1) xs)
-one_point_more g xs i d below x e ps qs p is more h =
-    more
-    ∙ ap (λ ys. ys ++ p ∷ []) h
-    ∙ ap (λ y. map g (take i xs) ++ y ∷ []) (is ∙ ap g e)
-    ∙ sym (ap (λ n. map g (take n xs)) (add-one i) ∙ ap (map g) (take-suc xs i d below) ∙ map_behind g (take i xs) (get_or xs i d ∷ []))
-
 pub one_index_more : {X Y : Type 0} (g : Y → X) (xs : List X) (i : ℕ) (ps qs : List Y) (p : Y) → slice_get xs i ≡ Some (g p) → qs ≡ ps ++ p ∷ [] →
     map g ps ≡ take i xs → map g qs ≡ take (i + 1) xs
 one_index_more g xs i ps qs p e more h =
@@ -116,7 +108,8 @@ module _ (o m n : Place → ℕ → Bool) (number : ℕ) where
 
 module _ (o : Place → ℕ → Bool) (number : ℕ) (by : Marking) where
   pub none_cleared : (xs : Changes) → length xs ≡ 0 → Clears o o (marked_at by xs) number
-  none_cleared xs e = clears_like o o (λ q. false) (marked_at by xs) number (λ q. sym (ap (λ l. marked_at by l q) (nil_from_length xs e))) (clears_none o number)
+  none_cleared xs e = clears_like o o (λ q. false) (marked_at by xs) number (λ q. sym (ap (λ l. marked_at by l q) (nil_from_length xs e)))
+      (clears_none o number)
 
   pub change_cleared : (n : Place → ℕ → Bool) (first : Option (Change Cell Value)) (x : Change Cell Value) (y : Cell) → first ≡ Some x → y ≡ x.cell →
       Clears o n (at_cell by y) number → Clears o n (marked_at by (in_first first)) number

@@ -11,7 +11,8 @@ returns-clause-ok c =
     let mid = place_marked c.mark_first.new.marks in
     let new = place_marked c.mark_runs.new.marks in
     on_ok_weaker c.mark_runs.result
-    (λ h. both_set (λ x. at_cell c.args.marking x.cell) c.args.number _ _ c.args.cells.now c.parts-first.ensures.all old mid new c.in_ok-mark_first.ensures.ok h)
+    (λ h. both_set (λ x. at_cell c.args.marking x.cell) c.args.number _ _ c.args.cells.now c.parts-first.ensures.all old mid new
+    c.in_ok-mark_first.ensures.ok h)
     c.mark_runs.ensures.ok
 
 pub returns-clause-err : goal.returns-clause-err
