@@ -1,6 +1,7 @@
 pub mod Relation
 pub mod Marks
 pub mod Numbers
+pub mod Slots
 pub mod Points
 pub mod Blocks
 pub mod Parts

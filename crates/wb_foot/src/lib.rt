@@ -22,6 +22,7 @@ mod points;
 mod queries;
 mod reading;
 mod runs;
+mod slot_marks;
 mod spots;
 
 pub use crate::foot_index::FootIndex;
