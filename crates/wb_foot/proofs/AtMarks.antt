@@ -102,6 +102,14 @@ module _ (f : Coordinates → ℕ → Bool) (after : ℕ) where
       (least_above_like (λ n. list_any (λ p. f p n) (take at ps)) (λ n. list_any (λ p. f p n) (take (at + (j - at)) ps)) after r
       (λ n up. any_past (λ p. f p n) ps d at (j - at) (omega arith) (λ i from to. h i n from (omega arith) up)) g)
 
+  -- past one point at which nothing stands
+  pub past_one : (ps : List Coordinates) (at : ℕ) (p : Coordinates) (r : Option ℕ) → at < length ps → p ≡ get_or ps at p →
+      ((n : ℕ) → after < n → f p n ≡ false) →
+      IsLeastAfter (λ n. list_any (λ q. f q n) (take at ps)) after r → IsLeastAfter (λ n. list_any (λ q. f q n) (take (at + 1) ps)) after r
+  past_one ps at p r low is none h = past ps at (at + 1) p r (omega arith) (omega arith)
+      (λ i n from to up. let here : at ≡ i = omega arith in
+      subst (λ (j : ℕ). f (get_or ps j p) n ≡ false) here (subst (λ (q : Coordinates). f q n ≡ false) is (none n up))) h
+
   -- one point, and those behind it up to the mark
   pub next_least : (ps : List Coordinates) (at j : ℕ) (p k : Coordinates) (number : ℕ) → IsStrictlySortedBy point_cmp ps → at < length ps →
       p ≡ get_or ps at p → at + 1 ≤ j → j ≤ length ps →

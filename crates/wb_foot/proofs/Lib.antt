@@ -17,3 +17,4 @@ pub mod ReadPlaces
 pub mod AtPoints
 pub mod AtMarks
 pub mod Rows
+pub mod Singles

@@ -3,6 +3,7 @@ pub mod Marks
 pub mod Numbers
 pub mod Slots
 pub mod Points
+pub mod PointMarks
 pub mod Blocks
 pub mod Parts
 pub mod Spots

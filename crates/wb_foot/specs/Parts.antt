@@ -15,6 +15,7 @@ use Rattle.wb_foot.specs.declared.index_marks.IndexMarks.{IndexMarks}
 use Rattle.wb_foot.specs.declared.name_marks.NameMarks.{NameMarks}
 use Rattle.wb_foot.specs.Marks.{marked}
 use Rattle.wb_foot.specs.Slots.{slot_cmp, slot_marked}
+use Rattle.wb_foot.specs.PointMarks.{point_marked}
 use Rattle.wb_foot.specs.Points.{Coordinates}
 use Rattle.wb_foot.specs.Blocks.{in_blocks}
 
@@ -24,7 +25,7 @@ Spot = Name × Part
 
 -- whether a number stands at an index: alone, or in a block
 abbrev pub index_marked : IndexMarks → Index → ℕ → Bool
-index_marked m (Point p) n = marked (slice_cmp int_cmp) m.points p n || in_blocks m.blocks.list.items p n
+index_marked m (Point p) n = point_marked m.points p n || in_blocks m.blocks.list.items p n
 index_marked m (Text t) n = marked (slice_cmp nat_cmp) m.texts t n
 
 -- whether an index is one of some points

@@ -18,6 +18,7 @@ mod numbers;
 mod part;
 mod place;
 mod place_marks;
+mod point_marks;
 mod points;
 mod queries;
 mod reading;

@@ -6,7 +6,7 @@ use Rattle.wb_foot.specs.Marks.{marked}
 use Rattle.wb_foot.specs.Points.{Coordinates, point_cmp}
 use Rattle.wb_foot.proofs.AtPoints.{all_least}
 use Rattle.wb_foot.proofs.AtMarks.{least_here, next_least, none_left}
-use Rattle.wb_foot.proofs.index_marks.least_alone.Goals as goal
+use Rattle.wb_foot.proofs.point_marks.least_other.Goals as goal
 
 pub loop-at-preserved : goal.loop-at-preserved
 loop-at-preserved c =

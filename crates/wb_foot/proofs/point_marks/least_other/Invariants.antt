@@ -3,7 +3,7 @@ use Rattle.std.specs.List.{list_any}
 use Rattle.wb_foot.specs.Relation.{IsLeastAfter}
 use Rattle.wb_foot.specs.Marks.{marked}
 use Rattle.wb_foot.specs.Points.{point_cmp}
-use Rattle.wb_foot.proofs.index_marks.least_alone.Given as goal
+use Rattle.wb_foot.proofs.point_marks.least_other.Given as goal
 
 abbrev pub invariant-loop-at : goal.invariant-loop-at
 invariant-loop-at l = record {
