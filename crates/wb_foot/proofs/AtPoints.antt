@@ -1,9 +1,9 @@
 -- The least number at one of several points.
 use Rattle.std.proofs.Common.{◌≡◌, ℕ, ◌<◌, ◌≤◌, ◌+◌, Bool, true, false, ◌&&◌, ◌||◌, ◌==◌, Option}
-use Rattle.std.proofs.Common.{None, List, [], length, take, get_or, refl, sym, ap, ◌∙◌}
+use Rattle.std.proofs.Common.{None, List, [], ◌++◌, length, take, get_or, refl, sym, ap, ◌∙◌}
 use Rattle.std.specs.List.{list_any}
 use Rattle.std.proofs.lemmas.List.{take_all}
-use Rattle.std.proofs.lemmas.List.Folds.{list_any_more}
+use Rattle.std.proofs.lemmas.List.Folds.{list_any_more, list_any-append}
 use Rattle.wb_foot.specs.declared.blocks.Block.{Block}
 use Rattle.wb_foot.specs.Relation.{IsLeastAfter}
 use Rattle.wb_foot.specs.Points.{Coordinates, in_points}
@@ -50,6 +50,12 @@ module _ {A : Type 0} where
       IsLeastAfter (λ n. list_any (λ q. f q n) (take i ps)) after r → IsLeastAfter (λ n. list_any (λ q. f q n) ps) after r
   all_least f ps i after r l h = least_like (λ n. list_any (λ q. f q n) (take i ps)) (λ n. list_any (λ q. f q n) ps) after r
       (λ n. ap (list_any (λ q. f q n)) (sym (take_all i ps l))) h
+
+  -- at one of two lists
+  pub joined_least : (f : A → ℕ → Bool) (xs ys zs : List A) → zs ≡ xs ++ ys → (after : ℕ) (r : Option ℕ) →
+      IsLeastAfter (λ n. list_any (λ x. f x n) xs || list_any (λ x. f x n) ys) after r → IsLeastAfter (λ n. list_any (λ x. f x n) zs) after r
+  joined_least f xs ys zs e after r h = least_like (λ n. list_any (λ x. f x n) xs || list_any (λ x. f x n) ys) (λ n. list_any (λ x. f x n) zs) after r
+      (λ n. ap (list_any (λ x. f x n)) e ∙ list_any-append (λ x. f x n) xs ys) h
 
 pub none_least : (ps : List Coordinates) (after : ℕ) → IsLeastAfter (λ n. list_any (λ p. in_blocks [] p n) ps) after None
 none_least ps after = λ n up. any_none ps

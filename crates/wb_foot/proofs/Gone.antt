@@ -14,7 +14,6 @@ use Rattle.wb_foot.specs.declared.part.Part.TheVariants as part
 use Rattle.wb_foot.specs.declared.place.Place.{Place}
 use Rattle.wb_foot.specs.declared.place.Place.TheVariants.{Objects, Of}
 use Rattle.wb_foot.specs.declared.place_marks.PlaceMarks.{PlaceMarks}
-use Rattle.wb_foot.specs.Relation.{Clears}
 use Rattle.wb_foot.specs.Points.{Coordinates}
 use Rattle.wb_foot.specs.Parts.{part_at, is_same_part}
 use Rattle.wb_foot.specs.Spots.{spot_marked}
@@ -95,7 +94,3 @@ module _ (m : Place → ℕ → Bool) (number : ℕ) where
       let same = one_family by (cell_at kind d p) x (fam p) in
       either its other (m q number ≡ false) (clear p q)
       (λ f. gone q (or_last (is_same_place (own x) q) (at_family (family_by by x) q) (ap (λ o. at_family o q) (sym same) ∙ f))) here
-
-  -- nothing is to be done
-  pub still_clear : (h g : Place → Bool) → ((q : Place) → g q ≡ h q) → ((q : Place) → h q ≡ true → m q number ≡ false) → Clears m m g number
-  still_clear h g e gone = record { gone = λ q here. gone q (sym (e q) ∙ here); fewer = λ q was. was; others = λ q j other. refl }

@@ -9,6 +9,7 @@ use Rattle.wb_foot.specs.declared.blocks.Block.{Block}
 use Rattle.wb_foot.specs.declared.index_marks.IndexMarks.{IndexMarks}
 use Rattle.wb_foot.specs.Relation.{Sets}
 use Rattle.wb_foot.specs.Marks.{marked}
+use Rattle.wb_foot.specs.PointMarks.{point_marked}
 use Rattle.wb_foot.specs.Points.{Coordinates, in_points}
 use Rattle.wb_foot.specs.Blocks.{in_blocks}
 use Rattle.wb_foot.specs.Parts.{index_marked, in_index}
@@ -38,7 +39,7 @@ module _ (old new : IndexMarks) (b : Block) (points : new.points ≡ old.points)
       index_marked new i n ≡ (if (done && in_index b.points i) && (b.number == n) then true else index_marked old i n)
   added_at true e (Point p) n =
       rw (points, e, list_any-append (λ (x : Block). in_points x.points p && (x.number == n)) old.blocks.list.items (b ∷ []))
-      (with_hit (marked (slice_cmp int_cmp) old.points p n) (in_blocks old.blocks.list.items p n) (in_points b.points p && (b.number == n)))
+      (with_hit (point_marked old.points p n) (in_blocks old.blocks.list.items p n) (in_points b.points p && (b.number == n)))
   added_at false e (Point p) n = rw (points, e) refl
   added_at done e (Text t) n = ap (λ m. marked (slice_cmp nat_cmp) m t n) texts ∙
       sym (unless ((done && in_index b.points (Text t)) && (b.number == n)) true (marked (slice_cmp nat_cmp) old.texts t n)

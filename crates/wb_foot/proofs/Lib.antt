@@ -15,3 +15,6 @@ pub mod InRuns
 pub mod Gone
 pub mod ReadPlaces
 pub mod AtPoints
+pub mod AtMarks
+pub mod Rows
+pub mod Singles

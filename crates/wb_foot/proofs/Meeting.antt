@@ -27,7 +27,8 @@ use Rattle.wb_foot.specs.declared.place.Place.TheVariants.{Objects, Of}
 use Rattle.wb_foot.specs.declared.foot_index.FootIndex.{FootIndex}
 use Rattle.wb_foot.specs.Relation.{IsLeastAfter}
 use Rattle.wb_foot.specs.declared.marking.Marking.TheVariants.{Families}
-use Rattle.wb_foot.specs.Parts.{slot_cmp, is_same_part}
+use Rattle.wb_foot.specs.Parts.{is_same_part}
+use Rattle.wb_foot.specs.Slots.{slot_cmp}
 use Rattle.wb_foot.specs.Places.{place_marked}
 use Rattle.wb_foot.specs.Footprints.{IsIndexOf, any_met}
 use Rattle.wb_foot.specs.Places.{own, family, place_of, is_same_place, is_family}

@@ -43,13 +43,13 @@ pair_total {K} cmp o = then_total (on_total {K = K × ℕ} (λ p. p.0) o) (on_to
 
 module _ {K : Type 0} (cmp : K → K → Ordering) (o : IsTotalOrder cmp) where
   -- a greater number stands behind a lesser one at the same key
-  behind : (key : K) (m n : ℕ) → m < n → pair_cmp cmp (key, m) (key, n) ≡ Less
+  pub behind : (key : K) (m n : ℕ) → m < n → pair_cmp cmp (key, m) (key, n) ≡ Less
   behind key m n up = rw (tied_itself o key) (sym (nat_cmp_is m n Less up))
 
   before : (x key : K) (m n : ℕ) → cmp x key ≡ Equal → n < m → pair_cmp cmp (x, m) (key, n) ≡ Greater
   before x key m n tie down = rw tie (sym (nat_cmp_is m n Greater down))
 
-  above : (x key : K) (m n : ℕ) → cmp x key ≡ Equal → pair_cmp cmp (key, m) (x, n) ≡ Less → m < n
+  pub above : (x key : K) (m n : ℕ) → cmp x key ≡ Equal → pair_cmp cmp (key, m) (x, n) ≡ Less → m < n
   above x key m n tie less =
       let tied : nat_cmp m n ≡ Less = rw (tied_back o x key tie) at less in
       ranked m n Less (sym tied)
@@ -88,6 +88,29 @@ module _ {K : Type 0} (cmp : K → K → Ordering) (o : IsTotalOrder cmp) where
     other_found r t x h e apart =
         let at = rw e at h in
         λ n up. apart_from (has n) x n at.1.0.0 (λ tie. let yes = rw tie at apart in cc) (λ there. at.2 (key, n) (behind key after n up, tt) there)
+
+    -- the first behind a pair: nothing is between
+
+    pub none_at : (r : List (K × ℕ)) → IsBehind r → r ≡ [] → (k : K) (n : ℕ) → pair_cmp cmp (key, after) (k, n) ≡ Less →
+        contains (pair_cmp cmp) s (k, n) ≡ false
+    none_at r h e k n up = h.5 e (k, n) (up, tt)
+
+    pub mark_at : (r t : List (K × ℕ)) (x : K × ℕ) → IsBehind r → r ≡ x ∷ t →
+        (pair_cmp cmp (key, after) x ≡ Less) × (contains (pair_cmp cmp) s x ≡ true)
+    mark_at r t x h e = let at = rw e at h in (at.1.0.0, at.1.1)
+
+    not_before : (b : Bool) (x q : K × ℕ) → pair_cmp cmp q x ≡ Less → (IsTrue b → is_gt (pair_cmp cmp x q) ≡ false) → b ≡ false
+    not_before false x q down least = refl
+    not_before true x q down least =
+        let low : is_gt (pair_cmp cmp x q) ≡ false = least (refl) in
+        let high : is_gt (pair_cmp cmp x q) ≡ true = ap is_gt ((pair_total cmp o).antisymm x q ∙ ap ordering_reverse down) in
+        cc
+
+    pub none_before : (r t : List (K × ℕ)) (x : K × ℕ) → IsBehind r → r ≡ x ∷ t → (k : K) (n : ℕ) → pair_cmp cmp (key, after) (k, n) ≡ Less →
+        pair_cmp cmp (k, n) x ≡ Less → contains (pair_cmp cmp) s (k, n) ≡ false
+    none_before r t x h e k n up down =
+        let at = rw e at h in
+        not_before (contains (pair_cmp cmp) s (k, n)) x (k, n) down (λ there. at.2 (k, n) (up, tt) there)
 
 pub none_at_all : {K : Type 0} (cmp : K → K → Ordering) (m : Marks K) → length m.set.keys ≡ 0 → (k : K) (n : ℕ) → marked cmp m k n ≡ false
 none_at_all cmp m e k n = ap (list_any (is_at (pair_cmp cmp (k, n)))) (nil_from_length m.set.keys e)

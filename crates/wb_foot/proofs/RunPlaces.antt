@@ -1,6 +1,6 @@
 -- A run of cells: their own places, and that of their family.
-use Rattle.std.proofs.Common.{◌≡◌, ℕ, ◌<◌, ◌+◌, Bool, true, false, ◌&&◌, ◌||◌, ◌==◌, Option, Some}
-use Rattle.std.proofs.Common.{None, List, [], ◌∷◌, ◌++◌, length, map, take, take-suc, add-one, get_or, refl, sym}
+use Rattle.std.proofs.Common.{◌≡◌, ℕ, ◌<◌, Bool, true, false, ◌&&◌, ◌||◌, ◌==◌, Option, Some}
+use Rattle.std.proofs.Common.{None, List, [], ◌∷◌, length, refl, sym}
 use Rattle.std.proofs.Common.{ap, ◌∙◌, arith}
 use Rattle.std.specs.List.{list_any}
 use Rattle.wb_book.specs.declared.cells.cell.Cell.{Cell}
@@ -23,21 +23,6 @@ use Rattle.wb_foot.proofs.Setting.{then_sets, like, then_stays, stays_none}
 or_false : (a : Bool) → a || false ≡ a
 or_false true = refl
 or_false false = refl
-
-map_behind : {X Y : Type 0} (f : X → Y) (xs ys : List X) → map f (xs ++ ys) ≡ map f xs ++ map f ys
-map_behind f [] ys = refl
-map_behind f (x ∷ xs) ys = ap (λ zs. f x ∷ zs) (map_behind f xs ys)
-
-pub one_cell_more : (xs : Changes) (j : ℕ) (d : _) → j < length xs → (x : Cell) → x ≡ (get_or xs j d).cell →
-    (kind : Kind) (name : Name) (ps qs : List Coordinates) (p : Coordinates) → x ≡ cell_at kind name p → qs ≡ ps ++ p ∷ [] →
-    cells_of (take j xs) ≡ run_cells kind name ps → cells_of (take (j + 1) xs) ≡ run_cells kind name qs
-one_cell_more xs j d below x e kind name ps qs p is more h =
-    ap (λ i. cells_of (take i xs)) (add-one j)
-    ∙ ap cells_of (take-suc xs j d below)
-    ∙ map_behind (λ x. x.cell) (take j xs) (get_or xs j d ∷ [])
-    ∙ ap (λ cs. cs ++ (get_or xs j d).cell ∷ []) h
-    ∙ ap (λ c. run_cells kind name ps ++ c ∷ []) (sym e ∙ is)
-    ∙ sym (ap (run_cells kind name) more ∙ map_behind (cell_at kind name) ps (p ∷ []))
 
 -- what holds of one of the cells holds of one at one of the points
 pub any_cell : (f : Cell → Bool) (xs : Changes) (kind : Kind) (name : Name) (ps : List Coordinates) → cells_of xs ≡ run_cells kind name ps →
@@ -93,10 +78,6 @@ run_is m d kind ps o h some q =
     ∙ ap (λ b. b || list_any (λ p. at_family (family_by m (cell_at kind d p)) q) ps) (owns_in d kind ps q)
     ∙ ap (λ b. in_places d kind ps q || b) (any_like (λ p. at_family (family_by m (cell_at kind d p)) q) (λ p. at_family o q) ps
     (λ p. ap (λ f. at_family f q) (sym (h p))) ∙ always (at_family o q) ps some)
-
-pub length_push : (ps : List Coordinates) (p : Coordinates) → length (ps ++ p ∷ []) ≡ length ps + 1
-length_push [] p = refl
-length_push (x ∷ ps) p = let rest = length_push ps p in omega arith
 
 -- ---- marks of a run
 

@@ -1,9 +1,12 @@
 pub mod Relation
 pub mod Marks
 pub mod Numbers
+pub mod Slots
 pub mod Points
+pub mod PointMarks
 pub mod Blocks
 pub mod Parts
 pub mod Spots
 pub mod Places
 pub mod Footprints
+pub mod Rows

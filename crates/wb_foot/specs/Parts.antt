@@ -7,8 +7,6 @@ use Rattle.std.specs.declared.cmp.Ordering.{Ordering}
 use Rattle.wb_book.specs.declared.values.index.Index.{Index}
 use Rattle.wb_book.specs.declared.values.index.Index.TheVariants.{Point, Text}
 use Rattle.wb_book.specs.Cells.{Name, is_same_name, is_same_index}
-use Rattle.wb_foot.specs.contracts.part.SlotOrd.TheImpl as slots
-use Rattle.wb_foot.specs.declared.part.Slot as slot
 use Rattle.wb_foot.specs.declared.part.Kind.{Kind}
 use Rattle.wb_foot.specs.declared.part.Kind.TheVariants.{Inside, Members, Elements}
 use Rattle.wb_foot.specs.declared.part.Part.{Part}
@@ -16,6 +14,8 @@ use Rattle.wb_foot.specs.declared.part.Part.TheVariants.{Slot, In, Member, User,
 use Rattle.wb_foot.specs.declared.index_marks.IndexMarks.{IndexMarks}
 use Rattle.wb_foot.specs.declared.name_marks.NameMarks.{NameMarks}
 use Rattle.wb_foot.specs.Marks.{marked}
+use Rattle.wb_foot.specs.Slots.{slot_cmp, slot_marked}
+use Rattle.wb_foot.specs.PointMarks.{point_marked}
 use Rattle.wb_foot.specs.Points.{Coordinates}
 use Rattle.wb_foot.specs.Blocks.{in_blocks}
 
@@ -23,13 +23,9 @@ use Rattle.wb_foot.specs.Blocks.{in_blocks}
 abbrev pub Spot : Type 0
 Spot = Name × Part
 
--- the order in which the cells and families of one object are declared
-abbrev pub slot_cmp : slot.Slot → slot.Slot → Ordering
-slot_cmp = (slots.ghosts).cmp
-
 -- whether a number stands at an index: alone, or in a block
 abbrev pub index_marked : IndexMarks → Index → ℕ → Bool
-index_marked m (Point p) n = marked (slice_cmp int_cmp) m.points p n || in_blocks m.blocks.list.items p n
+index_marked m (Point p) n = point_marked m.points p n || in_blocks m.blocks.list.items p n
 index_marked m (Text t) n = marked (slice_cmp nat_cmp) m.texts t n
 
 -- whether an index is one of some points
@@ -60,7 +56,7 @@ is_same_part _ _ = false
 
 -- whether a number stands at a part
 abbrev pub part_marked : NameMarks → Part → ℕ → Bool
-part_marked m (Slot s) n = marked slot_cmp m.slots s n
+part_marked m (Slot s) n = slot_marked m.slots s n
 part_marked m (In i) n = index_marked m.inside i n
 part_marked m (Member i) n = index_marked m.members i n
 part_marked m (User u) n = marked (slice_cmp nat_cmp) m.users u n

@@ -1,10 +1,12 @@
 //! Marks for the cells of a list of changes.
 
-ghost use Rattle.std.specs.Prelude.{◌≡◌, ◌&&◌, ◌<◌, true, length, OnOk, OnErr, IfOk, IfSome};
+ghost use Rattle.std.specs.Prelude.{◌≡◌, ◌&&◌, ◌<◌, true, length, IsTrue, OnOk, OnErr, IfOk};
 ghost use Rattle.wb_foot.specs.Relation.{Sets, Stays, Clears};
-ghost use Rattle.wb_foot.specs.Places.{place_marked};
+ghost use Rattle.wb_foot.specs.Points.{Coordinates};
+ghost use Rattle.wb_foot.specs.Places.{cell_at, family, place_marked};
 ghost use Rattle.wb_foot.specs.declared.place.Place.{Place};
 ghost use Rattle.wb_book.specs.Runs.{changes_in, all_changes, in_first};
+ghost use Rattle.wb_foot.specs.Rows.{AreOfRow};
 ghost use Rattle.wb_foot.specs.Footprints.{at_cell, marked_at, run_marked, IsUnmarked};
 
 use crate::blocks::Block;
@@ -169,51 +171,78 @@ pub(crate) fn mark_all(
     mark_runs(marks, marking, runs, number)
 }
 
-// Takes a number away from a cell, and gives the row of the cell if the number is seen to stand at none of it any more.
-fn unmark_first(marks: &mut PlaceMarks, marking: Marking, cell: &Cell, number: u64) -> Option<Row>
-    ensures cell { Clears (place_marked marks.old) (place_marked marks.new) (at_cell marking cell.now) number }
-    ensures row { IfSome result (λ row. IsUnmarked marking row.kind row.name marks.new number) }
+// Takes a number away from the cells of a run one by one.
+fn unmark_each(marks: &mut PlaceMarks, marking: Marking, cells: &ChangeRun, number: u64)
+    ensures { Clears (place_marked marks.old) (place_marked marks.new) (marked_at marking (changes_in cells.now.form)) number }
 {
-    unmark(marks, marking, cell, number);
-    match Row::of(cell) {
-        None => None,
-        Some(row) => {
-            if marks.is_clear(row.name, row.kind, number) {
-                Some(row)
-            } else {
-                None
-            }
-        }
+    for at in 0..cells.len() {
+        let cell = cells.cell(at);
+        unmark(marks, marking, &cell, number);
     }
 }
 
-// Takes a number away from a cell, which needs nothing where the cell is of a row at which it doesn't stand. Gives such a row.
-fn unmark_next(
+// Takes a number away from a cell of a row, and says whether it is seen to stand at none of the row any more.
+fn unmark_first(
     marks: &mut PlaceMarks,
     marking: Marking,
-    clear: Option<Row>,
+    row: &Row,
     cell: &Cell,
     number: u64,
-) -> Option<Row>
-    requires { IfSome clear (λ row. IsUnmarked marking row.kind row.name marks.old number) }
+) -> bool
+    requires { (p : Coordinates) → family (cell_at row.now.kind row.now.name p) ≡ family cell.now }
     ensures cell { Clears (place_marked marks.old) (place_marked marks.new) (at_cell marking cell.now) number }
-    ensures row { IfSome result (λ row. IsUnmarked marking row.kind row.name marks.new number) }
+    ensures row { IsTrue result → IsUnmarked marking row.now.kind row.now.name marks.new number }
 {
-    if let Some(row) = clear {
-        if let Some(_point) = row.point_of(cell) {
-            return Some(row);
-        }
+    unmark(marks, marking, cell, number);
+    marks.is_clear(row.name, row.kind, number)
+}
+
+// Takes a number away from the cells of a run: from the first, and from the others where it may stand at one.
+fn unmark_row(marks: &mut PlaceMarks, marking: Marking, row: &Row, cells: &ChangeRun, number: u64)
+    requires { AreOfRow row.now.kind row.now.name (changes_in cells.now.form) }
+    ensures { Clears (place_marked marks.old) (place_marked marks.new) (marked_at marking (changes_in cells.now.form)) number }
+{
+    if cells.len() == 0 {
+        return;
     }
-    unmark_first(marks, marking, cell, number)
+    if unmark_first(marks, marking, row, &cells.cell(0), number) {
+        return;
+    }
+    unmark_each(marks, marking, cells, number);
+}
+
+// Takes a number away from the cells of a run.
+fn unmark_run(marks: &mut PlaceMarks, marking: Marking, cells: &ChangeRun, number: u64)
+    ensures { Clears (place_marked marks.old) (place_marked marks.new) (marked_at marking (changes_in cells.now.form)) number }
+{
+    match Row::of_form(cells.form()) {
+        None => unmark_each(marks, marking, cells, number),
+        Some(row) => unmark_row(marks, marking, &row, cells, number),
+    }
+}
+
+fn unmark_runs(marks: &mut PlaceMarks, marking: Marking, runs: &[ChangeRun], number: u64)
+    ensures { Clears (place_marked marks.old) (place_marked marks.new) (marked_at marking (all_changes runs.now)) number }
+{
+    for run in runs {
+        unmark_run(marks, marking, run, number);
+    }
+}
+
+// Takes a number away from the cell of a change, if there is one.
+fn unmark_change(marks: &mut PlaceMarks, marking: Marking, first: &Option<CellChange>, number: u64)
+    ensures { Clears (place_marked marks.old) (place_marked marks.new) (marked_at marking (in_first first.now)) number }
+{
+    match first {
+        None => {}
+        Some(x) => unmark(marks, marking, x.as_cell(), number),
+    }
 }
 
 pub(crate) fn unmark_all(marks: &mut PlaceMarks, marking: Marking, cells: &Changes, number: u64)
     ensures { Clears (place_marked marks.old) (place_marked marks.new) (marked_at marking cells.now) number }
 {
-    let mut clear: Option<Row> = None;
-    let mut near = 0;
-    for at in 0..cells.len() {
-        let cell = cells.cell_near(at, &mut near);
-        clear = unmark_next(marks, marking, clear, &cell, number);
-    }
+    let (first, runs) = cells.parts();
+    unmark_change(marks, marking, &first, number);
+    unmark_runs(marks, marking, runs, number);
 }

@@ -18,10 +18,12 @@ mod numbers;
 mod part;
 mod place;
 mod place_marks;
+mod point_marks;
 mod points;
 mod queries;
 mod reading;
 mod runs;
+mod slot_marks;
 mod spots;
 
 pub use crate::foot_index::FootIndex;

@@ -1,9 +1,10 @@
 //! Which numbers stand at which keys.
 
-ghost use Rattle.std.specs.Prelude.{◌≡◌, ℕ, false, true, IsTrue, OnOk, OnErr};
+ghost use Rattle.std.specs.Prelude.{◌≡◌, ℕ, false, true, IsTrue, IfNone, IfSome, OnOk, OnErr};
 ghost use Rattle.std.specs.Ordering.{eq_by_cmp};
+ghost use Rattle.std.specs.declared.cmp.Ordering.TheVariants.{Less};
 ghost use Rattle.wb_foot.specs.Relation.{Sets, IsLeastAfter};
-ghost use Rattle.wb_foot.specs.Marks.{marked};
+ghost use Rattle.wb_foot.specs.Marks.{marked, pair_cmp};
 
 use std::alloc::Global;
 use std::collections::BTreeSet;
@@ -59,6 +60,20 @@ impl<K: Copy + Ord> Marks<K> {
         match self.set.range(from).next() {
             None => None,
             Some((found, number)) => { if *found == key { Some(*number) } else { None } }
+        }
+    }
+    /// The first mark behind a key and a number: marks go by their keys, and those at one key by their numbers.
+    pub fn first_behind(&self, key: K, after: u64) -> Option<(K, u64)>
+        ensures behind { IfSome result (λ r. pair_cmp K.cmp (key, after) r ≡ Less) }
+        ensures mark { IfSome result (λ r. marked K.cmp self.now r.0 r.1 ≡ true) }
+        ensures first { IfSome result (λ r. (k : K) (n : ℕ) → pair_cmp K.cmp (key, after) (k, n) ≡ Less → pair_cmp K.cmp (k, n) r ≡ Less →
+            marked K.cmp self.now k n ≡ false) }
+        ensures none { IfNone result ((k : K) (n : ℕ) → pair_cmp K.cmp (key, after) (k, n) ≡ Less → marked K.cmp self.now k n ≡ false) }
+    {
+        let from = (Bound::Excluded((key, after)), Bound::Unbounded);
+        match self.set.range(from).next() {
+            None => None,
+            Some((found, number)) => Some((*found, *number)),
         }
     }
 }

@@ -1,9 +1,10 @@
 //! Points in ascending order.
 
-ghost use Rattle.std.specs.Prelude.{◌≡◌, ◌++◌, [], ◌∷◌, false, IsTrue, IfSome, length, if◌then◌else◌};
+ghost use Rattle.std.specs.Prelude.{◌≡◌, ℕ, ◌<◌, ◌≤◌, ◌++◌, [], ◌∷◌, false, IsTrue, IfSome, length, slice_index_or, if◌then◌else◌};
 ghost use Rattle.std.specs.List.{list_any};
 ghost use Rattle.std.specs.List.Sorted.{IsStrictlySortedBy};
-ghost use Rattle.wb_foot.specs.Points.{point_cmp, in_points};
+ghost use Rattle.std.specs.declared.cmp.Ordering.TheVariants.{Less};
+ghost use Rattle.wb_foot.specs.Points.{Coordinates, point_cmp, in_points};
 
 use std::alloc::Global;
 use std::marker::Model;
@@ -47,7 +48,8 @@ impl Points {
 
     /// The points, ascending.
     pub fn as_slice(&self) -> &[Point]
-        ensures { result.now ≡ self.now }
+        ensures value { result.now ≡ self.now }
+        ensures ascending { IsStrictlySortedBy point_cmp self.now }
     {
         self.points.as_slice()
     }
@@ -64,6 +66,49 @@ impl Points {
         ensures { result ≡ in_points self.now point.now }
     {
         is_among(self.points.as_slice(), point)
+    }
+
+    /// The first place, from another one on, whose point is not below a point.
+    pub fn place_from(&self, from: usize, point: &Point) -> usize
+        requires { from ≤ length self.now }
+        ensures from { from ≤ result }
+        ensures within { result ≤ length self.now }
+        ensures below { (i : ℕ) (d : Coordinates) → from ≤ i → i < result → point_cmp (slice_index_or self.now i d) point.now ≡ Less }
+    {
+        place_among(self.points.as_slice(), from, point)
+    }
+}
+
+// The first place, from another one on, whose point is not below a point.
+fn place_among(points: &[Point], from: usize, point: &Point) -> usize
+    requires ascending { IsStrictlySortedBy point_cmp points.now }
+    requires from { from ≤ length points.now }
+    ensures from { from ≤ result }
+    ensures within { result ≤ length points.now }
+    ensures below { (i : ℕ) (d : Coordinates) → from ≤ i → i < result → point_cmp (slice_index_or points.now i d) point.now ≡ Less }
+{
+    if from == points.len() {
+        return from;
+    }
+    if !points[from].cmp(point).is_lt() {
+        return from;
+    }
+    let place = place_in(points, point);
+    if place < from {
+        return from;
+    }
+    place
+}
+
+// The first place whose point is not below a point.
+fn place_in(points: &[Point], point: &Point) -> usize
+    requires { IsStrictlySortedBy point_cmp points.now }
+    ensures within { result ≤ length points.now }
+    ensures below { (i : ℕ) (d : Coordinates) → i < result → point_cmp (slice_index_or points.now i d) point.now ≡ Less }
+{
+    match points.binary_search(point) {
+        Ok(place) => place,
+        Err(place) => place,
     }
 }
 

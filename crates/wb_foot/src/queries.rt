@@ -5,7 +5,7 @@ ghost use Rattle.selective_undo.specs.Log.{blocks_undo, blocks_redo};
 ghost use Rattle.wb_edit.specs.Reads.{all_read, read_in, patterns_of};
 ghost use Rattle.wb_foot.specs.Relation.{IsLeastAfter};
 ghost use Rattle.wb_foot.specs.Footprints.{Footprints, IsIndexOf, footprint, any_met, met_by, touched_by, touched_under};
-ghost use Rattle.wb_foot.specs.Places.{place_of, cell_at};
+ghost use Rattle.wb_foot.specs.Places.{own, place_of, cell_at};
 ghost use Rattle.wb_book.specs.Runs.{changes_in, all_changes, in_first};
 ghost use Rattle.std.specs.List.{list_any};
 
@@ -140,21 +140,92 @@ impl FootIndex {
         first
     }
 
-    /// The same of the patterns of cells.
-    fn first_to_touch_cells(&self, cells: &Changes, after: u64) -> Option<u64>
+    /// The least number above `after` whose footprint touched the cell.
+    fn touched_at(&self, cell: &Cell, after: u64) -> Option<u64>
+        ensures { (footprints : Footprints) → IsIndexOf self.now footprints → IsLeastAfter (λ n. touched_by (footprints n) (own cell.now)) after result }
+    {
+        self.touched.least_after(&own(cell), after)
+    }
+
+    /// The least number above `after` whose footprint touched one of the cells of a run.
+    fn touched_at_points(&self, run: &Run, after: u64) -> Option<u64>
         ensures { (footprints : Footprints) → IsIndexOf self.now footprints →
-            IsLeastAfter (λ n. touched_under (footprints n) (patterns_of cells.now)) after result }
+            IsLeastAfter (λ n. list_any (λ p. touched_by (footprints n) (own (cell_at run.now.row.kind run.now.row.name p))) run.now.points) after result }
+    {
+        self.touched.least_in(&run.row, &run.points, after)
+    }
+
+    /// The least number above `after` whose footprint touched one of the cells, asked one by one.
+    fn touched_each(&self, cells: &ChangeRun, after: u64) -> Option<u64>
+        ensures { (footprints : Footprints) → IsIndexOf self.now footprints →
+            IsLeastAfter (λ n. list_any (λ x. touched_by (footprints n) (own x.cell)) (changes_in cells.now.form)) after result }
     {
         let mut first = None;
-        let mut near = 0;
         for at in 0..cells.len() {
-            let place = own(&cells.cell_near(at, &mut near));
-            first = earlier(first, self.touched.least_after(&place, after));
+            let cell = cells.cell(at);
+            first = earlier(first, self.touched_at(&cell, after));
             if is_next(first, after) {
                 return first;
             }
         }
         first
+    }
+
+    /// The same: of few, and of cells that do not ascend, one by one; of others all together, but for the first, which may be touched
+    /// by the number right above already.
+    fn touched_in(&self, cells: &ChangeRun, after: u64) -> Option<u64>
+        ensures { (footprints : Footprints) → IsIndexOf self.now footprints →
+            IsLeastAfter (λ n. list_any (λ x. touched_by (footprints n) (own x.cell)) (changes_in cells.now.form)) after result }
+    {
+        if cells.len() < LEAST {
+            return self.touched_each(cells, after);
+        }
+        let first = self.touched_at(&cells.cell(0), after);
+        if is_next(first, after) {
+            return first;
+        }
+        match Run::of_cells(self.touched.alloc, cells) {
+            None => self.touched_each(cells, after),
+            Some(run) => self.touched_at_points(&run, after),
+        }
+    }
+
+    /// The same of runs.
+    fn touched_in_runs(&self, runs: &[ChangeRun], after: u64) -> Option<u64>
+        ensures { (footprints : Footprints) → IsIndexOf self.now footprints →
+            IsLeastAfter (λ n. list_any (λ x. touched_by (footprints n) (own x.cell)) (all_changes runs.now)) after result }
+    {
+        let mut first = None;
+        for run in runs {
+            first = earlier(first, self.touched_in(run, after));
+            if is_next(first, after) {
+                return first;
+            }
+        }
+        first
+    }
+
+    /// The same of a change that may be there.
+    fn touched_first(&self, first: &Option<CellChange>, after: u64) -> Option<u64>
+        ensures { (footprints : Footprints) → IsIndexOf self.now footprints →
+            IsLeastAfter (λ n. list_any (λ x. touched_by (footprints n) (own x.cell)) (in_first first.now)) after result }
+    {
+        match first {
+            None => None,
+            Some(x) => self.touched_at(x.as_cell(), after),
+        }
+    }
+
+    /// The same of the patterns of cells.
+    fn first_to_touch_cells(&self, cells: &Changes, after: u64) -> Option<u64>
+        ensures { (footprints : Footprints) → IsIndexOf self.now footprints →
+            IsLeastAfter (λ n. touched_under (footprints n) (patterns_of cells.now)) after result }
+    {
+        let (first, runs) = cells.parts();
+        earlier(
+            self.touched_first(&first, after),
+            self.touched_in_runs(runs, after),
+        )
     }
 
     /// The same of one pattern.

@@ -1,12 +1,15 @@
 //! Runs: the elements, members or indices inside of one object, at ascending points.
 
-ghost use Rattle.std.specs.Prelude.{◌≡◌, ◌<◌, ◌≤◌, IfSome, length, take};
+ghost use Rattle.std.specs.Prelude.{◌≡◌, ◌<◌, ◌≤◌, IfSome, Some, length, map};
+ghost use Rattle.std.specs.List.{slice_get};
 ghost use Rattle.wb_book.specs.declared.values.index.Index.TheVariants.{Point as at_point};
-ghost use Rattle.wb_book.specs.Runs.{changes_in};
+ghost use Rattle.wb_book.specs.Runs.{cell_of, changes_in, packed_changes, inside_changes};
+ghost use Rattle.wb_book.specs.Shapes.{indices};
 ghost use Rattle.wb_foot.specs.declared.marking.Marking.{Marking};
 ghost use Rattle.wb_foot.specs.declared.place.Place.{Place};
 ghost use Rattle.wb_foot.specs.Points.{Coordinates};
 ghost use Rattle.wb_foot.specs.Places.{cell_at, family};
+ghost use Rattle.wb_foot.specs.Rows.{AreOfRow};
 ghost use Rattle.wb_foot.specs.Footprints.{family_by, marked_at, run_marked, cells_of, run_cells};
 
 use crate::marking::Marking;
@@ -14,7 +17,9 @@ use crate::part::{Kind, Part, Slot};
 use crate::place::Place;
 use crate::points::{Points, push_above, with_room};
 use std::alloc::Global;
-use wb_book::{AnyIndex, Cell, ChangeRun, Index, Name, Point};
+use wb_book::{
+    AnyRect, ChangeRun, Form, Index, Name, Packed, Point, RectangleChanges, Row as ChangeRow,
+};
 
 /// So many cells at least go into one block.
 pub(crate) const LEAST: usize = 64;
@@ -27,28 +32,39 @@ pub struct Row {
 }
 
 impl Row {
-    /// Those of which the cell is one, if it has an index.
-    pub(crate) fn of(cell: &Cell) -> Option<Row>
-        ensures { IfSome result (λ row. (p : Coordinates) → family (cell_at row.kind row.name p) ≡ family cell.now) }
+    /// Those of a row of changes.
+    pub(crate) fn of(row: &ChangeRow) -> Row
+        ensures { (p : Coordinates) → cell_at result.kind result.name p ≡ cell_of row.now (at_point p) }
     {
-        match cell {
-            Cell::In(name, _) => Some(Row {
+        match row {
+            ChangeRow::Inside(name) => Row {
                 name: *name,
                 kind: Kind::Inside,
-            }),
-            Cell::Member(name, _) => Some(Row {
+            },
+            ChangeRow::Members(name) => Row {
                 name: *name,
                 kind: Kind::Members,
-            }),
-            Cell::Element(name, _) => Some(Row {
+            },
+            ChangeRow::Elements(name) => Row {
                 name: *name,
                 kind: Kind::Elements,
+            },
+        }
+    }
+
+    /// Those of which the cells of a run are.
+    pub(crate) fn of_form(form: &Form) -> Option<Row>
+        ensures { IfSome result (λ row. AreOfRow row.kind row.name (changes_in form.now)) }
+    {
+        match form {
+            Form::One(_) => None,
+            Form::Line(line) => Some(Row::of(line.row())),
+            Form::Plane(plane) => Some(Row::of(plane.row())),
+            Form::Solid(solid) => Some(Row::of(solid.row())),
+            Form::Rectangle(rectangle) => Some(Row {
+                name: *rectangle.domain(),
+                kind: Kind::Inside,
             }),
-            Cell::Object(_)
-            | Cell::Shape(_)
-            | Cell::Mapping(_)
-            | Cell::Use(_, _)
-            | Cell::Implicit(_) => None,
         }
     }
 
@@ -72,59 +88,6 @@ impl Row {
             Kind::Elements => Some(Place::Of(self.name, Part::Slot(Slot::Elements))),
         }
     }
-
-    /// The point of the cell, if it is one of these.
-    pub(crate) fn point_of(&self, cell: &Cell) -> Option<Point>
-        ensures { IfSome result (λ p. cell.now ≡ cell_at self.now.kind self.now.name p) }
-    {
-        match self.kind {
-            Kind::Inside => match cell {
-                Cell::In(name, index) => self.point_in(name, index),
-                _ => None,
-            },
-            Kind::Members => match cell {
-                Cell::Member(name, index) => self.point_in(name, index),
-                _ => None,
-            },
-            Kind::Elements => match cell {
-                Cell::Element(name, index) => self.point_in(name, index),
-                _ => None,
-            },
-        }
-    }
-
-    // The point that an index is, under the name of the object.
-    fn point_in(&self, name: &Name, index: &AnyIndex) -> Option<Point>
-        ensures { IfSome result (λ p. (name.now ≡ self.now.name) × (index.now ≡ at_point p)) }
-    {
-        if !name.is_same(&self.name) {
-            return None;
-        }
-        match index.index() {
-            Index::Point(point) => Some(point),
-            Index::Text(_) => None,
-        }
-    }
-
-    /// The points of the cells from the first on, as far as these are of the row and ascend, if there is memory.
-    pub(crate) fn points_of(&self, alloc: Global, cells: &ChangeRun) -> Option<Points>
-        ensures within { IfSome result (λ ps. length ps ≤ length (changes_in cells.now.form)) }
-        ensures cells { IfSome result (λ ps. cells_of (take (length ps) (changes_in cells.now.form)) ≡ run_cells self.now.kind self.now.name ps) }
-    {
-        let mut points = with_room(alloc, cells.len())?;
-        for at in 0..cells.len() {
-            let cell = cells.cell(at);
-            match self.point_of(&cell) {
-                None => return Some(Points::new(points)),
-                Some(point) => {
-                    if !push_above(&mut points, point) {
-                        return Some(Points::new(points));
-                    }
-                }
-            }
-        }
-        Some(Points::new(points))
-    }
 }
 
 /// Cells of one row at ascending points.
@@ -142,14 +105,104 @@ impl Run {
         ensures marked { IfSome result (λ run. (m : Marking) (q : Place) →
             marked_at m (changes_in cells.now.form) q ≡ run_marked m run.row.kind run.row.name run.points q) }
     {
-        if cells.len() == 0 {
+        let run = Run::of_form(alloc, cells.form())?;
+        if run.points.len() == 0 {
             return None;
         }
-        let row = Row::of(&cells.cell(0))?;
-        let points = row.points_of(alloc, cells)?;
-        if points.len() < cells.len() {
+        Some(run)
+    }
+
+    // The same, though of no cells too.
+    fn of_form(alloc: Global, form: &Form) -> Option<Run>
+        ensures { IfSome result (λ run. cells_of (changes_in form.now) ≡ run_cells run.row.kind run.row.name run.points) }
+    {
+        match form {
+            Form::One(_) => None,
+            Form::Line(line) => packed_run(alloc, line),
+            Form::Plane(plane) => packed_run(alloc, plane),
+            Form::Solid(solid) => packed_run(alloc, solid),
+            Form::Rectangle(rectangle) => rectangle_run(alloc, rectangle),
+        }
+    }
+}
+
+// The run that packed cells are, if they ascend and there is memory.
+fn packed_run<const R: usize>(alloc: Global, packed: &Packed<R>) -> Option<Run>
+    requires { R ≤ 3 }
+    ensures { IfSome result (λ run. cells_of (packed_changes packed.now.row packed.now.changes.items) ≡ run_cells run.row.kind run.row.name run.points) }
+{
+    let points = packed_points(alloc, packed.changes())?;
+    Some(Run {
+        row: Row::of(packed.row()),
+        points,
+    })
+}
+
+// The points of packed changes, if they ascend and there is memory.
+fn packed_points<const R: usize>(
+    alloc: Global,
+    changes: &[([i64; R], Option<i64>)],
+) -> Option<Points>
+    requires { R ≤ 3 }
+    ensures { IfSome result (λ ps. ps ≡ map (λ e. e.0) changes.now) }
+{
+    let mut points = with_room(alloc, changes.len())?;
+    for change in changes {
+        let point = point_of(&change.0)?;
+        if !push_above(&mut points, point) {
             return None;
         }
-        Some(Run { row, points })
+    }
+    Some(Points::new(points))
+}
+
+// The point with these coordinates, of which there are 1 to 3.
+fn point_of(coordinates: &[i64]) -> Option<Point>
+    ensures { IfSome result (λ p. p ≡ coordinates.now) }
+{
+    match coordinates {
+        [i] => Some(Point::single(*i)),
+        [i, j] => Some(Point::pair(*i, *j)),
+        [i, j, k] => Some(Point::triple(*i, *j, *k)),
+        _ => None,
+    }
+}
+
+// The run that the indices of a rectangle are, if they ascend and there is memory.
+fn rectangle_run(alloc: Global, rectangle: &RectangleChanges) -> Option<Run>
+    ensures { IfSome result (λ run. cells_of (inside_changes rectangle.now.domain rectangle.now.ranges rectangle.now.comes)
+        ≡ run_cells run.row.kind run.row.name run.points) }
+{
+    let points = rectangle_points(alloc, rectangle.ranges())?;
+    Some(Run {
+        row: Row {
+            name: *rectangle.domain(),
+            kind: Kind::Inside,
+        },
+        points,
+    })
+}
+
+// The points of a rectangle, if they ascend and there is memory.
+fn rectangle_points(alloc: Global, ranges: &AnyRect) -> Option<Points>
+    ensures { IfSome result (λ ps. map at_point ps ≡ indices ranges.now) }
+{
+    let mut points = with_room(alloc, ranges.size())?;
+    for at in 0..ranges.size() {
+        let point = point_in(ranges, at)?;
+        if !push_above(&mut points, point) {
+            return None;
+        }
+    }
+    Some(Points::new(points))
+}
+
+// The point at a place of a rectangle.
+fn point_in(ranges: &AnyRect, at: usize) -> Option<Point>
+    ensures { IfSome result (λ p. slice_get (indices ranges.now) at ≡ Some (at_point p)) }
+{
+    match ranges.nth(at)?.index() {
+        Index::Point(point) => Some(point),
+        Index::Text(_) => None,
     }
 }
