@@ -86,7 +86,7 @@ pub element_set : (element : Name → Index → Option ℤ) (x : Change Cell Val
 element_set element x a i cell set =
     both_true (is_some (number_in x.value)) (is_some (element a i)) (ap (λ (c : Cell). sets_at element c x.value) (sym cell) ∙ set)
 
-same_test : (element other : Name → Index → Option ℤ) (c : Cell) (v : Option Value) →
+pub same_test : (element other : Name → Index → Option ℤ) (c : Cell) (v : Option Value) →
     ((b : Name) (i : Index) → is_some (other b i) ≡ is_some (element b i)) → sets_at other c v ≡ sets_at element c v
 same_test element other (Element a i) v same = ap (λ (t : Bool). is_some (number_in v) && t) (same a i)
 same_test element other (Object n) v same = refl

@@ -10,6 +10,9 @@ pub mod ElementsSet
 pub mod Moved
 pub mod Seen
 pub mod Leads
+pub mod Entries
+pub mod EntriesSet
+pub mod Told
 pub mod Applied
 pub mod Built
 pub mod Present

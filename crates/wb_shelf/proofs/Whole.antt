@@ -30,7 +30,7 @@ use Rattle.wb_book.specs.Kinds.{kind_of}
 use Rattle.wb_book.specs.Locales.{mapping_in}
 use Rattle.wb_book.specs.WellFormed.{IsWellFormed, HasMapping, domain_at, array_at, array_in as object_in}
 use Rattle.wb_book.proofs.Shown.{get-state_of}
-use Rattle.wb_shelf.specs.Joined.{is_stored, stored_in, element_in}
+use Rattle.wb_shelf.specs.Joined.{is_stored, stored_in, element_in, with_answer}
 use Rattle.wb_shelf.specs.After.{lies_at, IsAfter, AreAfter, is_array}
 use Rattle.wb_shelf.specs.Groups.{Group, group_in, changes_in, LeadTo, leaves}
 use Rattle.wb_shelf.specs.Kept.{Pieced, array_in, Agree}
@@ -83,10 +83,6 @@ clears_there (x ∷ xs) u c there =
           ∙ get-put cell_order y u c in
           rest ∙ not_cleared (eq_by_cmp cell_cmp c x.cell) (get u c) (subst (λ (o : Option Value). IsSome o) rest h)
     ] there
-
--- a cell with what it was
-abbrev pub with_answer : (Cell → Option Value) → Change Cell Value → Change Cell Value
-with_answer answers x = record { cell = x.cell; value = answers x.cell }
 
 -- changes of the same cells to other values
 abbrev pub told_by : (Change Cell Value → Option Value) → Change Cell Value → Change Cell Value

@@ -1,17 +1,18 @@
 //! What is known of the arrays after changes, before these are made.
 
-ghost use Rattle.std.specs.Prelude.{◌≡◌, ◌<◌, ℕ, [], ◌∷◌, ◌++◌, length, get_or, filter, map, Some, option_map, IfSome, IfOk, OnOk, Err};
+ghost use Rattle.std.specs.Prelude.{◌≡◌, ◌<◌, ℕ, ℤ, List, [], ◌∷◌, ◌++◌, true, false, length, filter, map, Option, Some, option_map, IfSome, IfOk, OnOk, Err};
 ghost use Rattle.std.specs.List.{count_by};
 ghost use Rattle.selective_undo.specs.declared.Change.{Change};
 ghost use Rattle.wb_book.specs.declared.cells.cell.Cell.{Cell as cell_type};
 ghost use Rattle.wb_book.specs.declared.cells.value.Value.{Value as value_type};
-ghost use Rattle.wb_book.specs.declared.cells.cell.Cell.TheVariants.{Mapping as mapping_cell, Element as element_cell};
-ghost use Rattle.wb_book.specs.declared.cells.value.Value.TheVariants.{Number as number_value};
+ghost use Rattle.wb_book.specs.declared.cells.cell.Cell.TheVariants.{Mapping as mapping_cell, Shape as shape_cell};
+ghost use Rattle.wb_book.specs.declared.changes.row.Row.TheVariants.{Elements as element_row};
+ghost use Rattle.wb_book.specs.WellFormed.{ranges_in};
 ghost use Rattle.wb_dist.specs.Maps.{LayoutMap};
 ghost use Rattle.wb_book.specs.Locales.{mapping_in};
 ghost use Rattle.wb_book.specs.declared.values.index.Index.{Index as index_type};
-ghost use Rattle.wb_book.specs.Runs.{cell_of, value_of, indexed_change};
-ghost use Rattle.wb_shelf.specs.Joined.{answer, stored_in, element_in, is_stored};
+ghost use Rattle.wb_book.specs.Runs.{cell_of, changes_in, all_changes, packed_changes, inside_changes};
+ghost use Rattle.wb_shelf.specs.Joined.{answer, stored_in, element_in, is_stored, with_answer};
 ghost use Rattle.wb_shelf.specs.Kept.{Pieced, array_in};
 ghost use Rattle.wb_shelf.specs.After.{kind_lies, domain_lies, lies_at, IsAfter, AreAfter};
 
@@ -21,8 +22,8 @@ use crate::keep;
 use std::alloc::Global;
 use std::collections::BTreeMap;
 use wb_book::{
-    AnyIndex, AnyLayout, Cell, CellChange, Changes, DomainKind, IndexedChange, KeyType, Name, Row,
-    Value,
+    AnyIndex, AnyLayout, AnyRect, Cell, CellChange, ChangeRun, Changes, DomainKind, Form, KeyType,
+    Name, Packed, RectangleChanges, Row, Value,
 };
 use wb_range::NoMemory;
 use wb_redist::{MoveErr, Mover};
@@ -86,14 +87,17 @@ fn is_of_stored(change: &CellChange) -> bool
     is_stored(change.as_cell())
 }
 
-// Whether the change at a place of a list is of a stored cell. `near` is a run to look at first.
-fn is_stored_at(delta: &Changes, at: usize, near: &mut usize) -> bool
-    requires { at < length delta.now }
-    ensures { (x : Change cell_type value_type) → x ≡ get_or delta.now at x → result ≡ is_stored x.cell }
+// Whether the changes of a run are of stored cells: all are, or none is.
+fn are_stored(form: &Form) -> bool
+    ensures all { result ≡ true → filter (λ x. is_stored x.cell) (changes_in form.now) ≡ changes_in form.now }
+    ensures none { result ≡ false → filter (λ x. is_stored x.cell) (changes_in form.now) ≡ [] }
 {
-    match delta.indexed_near(at, near) {
-        Some(change) => is_row_stored(&change.row),
-        None => is_of_stored(&delta.change_near(at, near)),
+    match form {
+        Form::One(change) => is_of_stored(change),
+        Form::Line(packed) => is_row_stored(packed.row()),
+        Form::Plane(packed) => is_row_stored(packed.row()),
+        Form::Solid(packed) => is_row_stored(packed.row()),
+        Form::Rectangle(_) => false,
     }
 }
 
@@ -108,17 +112,73 @@ fn is_row_stored(row: &Row) -> bool
     }
 }
 
+// How many of the changes of a run are of stored cells.
+fn stored_in_run(run: &ChangeRun) -> usize
+    ensures { result ≡ count_by (λ x. is_stored x.cell) (changes_in run.now.form) }
+{
+    if are_stored(run.form()) { run.len() } else { 0 }
+}
+
+fn stored_one(change: &CellChange) -> usize
+    ensures { result ≡ count_by (λ x. is_stored x.cell) (change.now ∷ []) }
+{
+    if is_of_stored(change) { 1 } else { 0 }
+}
+
+// How many of the changes of runs are of stored cells.
+fn stored_in_runs(runs: &[ChangeRun]) -> usize
+    requires { length (all_changes runs.now) < 18446744073709551616 }
+    ensures { result ≡ count_by (λ x. is_stored x.cell) (all_changes runs.now) }
+{
+    let mut count = 0;
+    for run in runs {
+        count += stored_in_run(run);
+    }
+    count
+}
+
 fn stored_count(delta: &Changes) -> usize
     ensures { result ≡ count_by (λ x. is_stored x.cell) delta.now }
 {
-    let mut count = 0;
-    let mut near = 0;
-    for at in 0..delta.len() {
-        if is_stored_at(delta, at, &mut near) {
-            count += 1;
-        }
+    let _fits = delta.len();
+    let (first, runs) = delta.parts();
+    match first {
+        None => 0,
+        Some(first) => stored_one(&first) + stored_in_runs(runs),
     }
-    count
+}
+
+// Adds a change to the others, if it is of a stored cell.
+fn add_stored(stored: &mut Vec<CellChange>, change: &CellChange) -> Result<(), NoMemory>
+    ensures { OnOk result (stored.new.items ≡ stored.old.items ++ filter (λ x. is_stored x.cell) (change.now ∷ [])) }
+{
+    if is_of_stored(change) {
+        stored.push(*change)?;
+    }
+    Ok(())
+}
+
+// Adds the changes of a run to the others, if they are of stored cells.
+fn add_stored_run(stored: &mut Vec<CellChange>, run: &ChangeRun) -> Result<(), NoMemory>
+    ensures { OnOk result (stored.new.items ≡ stored.old.items ++ filter (λ x. is_stored x.cell) (changes_in run.now.form)) }
+{
+    if !are_stored(run.form()) {
+        return Ok(());
+    }
+    for at in 0..run.len() {
+        stored.push(run.change(at))?;
+    }
+    Ok(())
+}
+
+// Adds the changes of runs to the others, as far as they are of stored cells.
+fn add_stored_runs(stored: &mut Vec<CellChange>, runs: &[ChangeRun]) -> Result<(), NoMemory>
+    ensures { OnOk result (stored.new.items ≡ stored.old.items ++ filter (λ x. is_stored x.cell) (all_changes runs.now)) }
+{
+    for run in runs {
+        add_stored_run(stored, run)?;
+    }
+    Ok(())
 }
 
 /// The changes of stored cells among these.
@@ -126,12 +186,12 @@ pub(crate) fn stored_changes(alloc: Global, delta: &Changes) -> Result<Vec<CellC
     ensures { IfOk result (λ v. v.items ≡ filter (λ x. is_stored x.cell) delta.now) }
 {
     let mut stored = Vec::with_capacity(alloc, stored_count(delta))?;
-    let mut near = 0;
-    for at in 0..delta.len() {
-        if is_stored_at(delta, at, &mut near) {
-            stored.push(delta.change_near(at, &mut near))?;
-        }
-    }
+    let (first, runs) = delta.parts();
+    let Some(first) = first else {
+        return Ok(stored);
+    };
+    add_stored(&mut stored, &first)?;
+    add_stored_runs(&mut stored, runs)?;
     Ok(stored)
 }
 
@@ -149,124 +209,190 @@ fn is_stored(cell: &Cell) -> bool
     }
 }
 
-// The change that sets a cell to what it is now, and the place to pass for the cell after it.
+// The change that sets a cell to what it is now.
 fn value_before(
     cells: &BTreeMap<Cell, Value>,
     arrays: &BTreeMap<Name, Elements>,
     change: &CellChange,
-    near: usize,
-) -> (CellChange, usize)
-    ensures { result.0 ≡ record {
-      cell = change.now.cell;
-      value =
-          answer (stored_in cells.now.entries) (element_in arrays.now.entries) change.now.cell;
-    } }
+) -> CellChange
+    ensures { result ≡ with_answer (answer (stored_in cells.now.entries) (element_in arrays.now.entries)) change.now }
 {
     let cell = change.cell();
-    match change.as_cell() {
-        Cell::Element(array, index) => {
-            let (number, place) = keep::element(arrays, array, index, near);
-            (CellChange::of_number(cell, number), place)
-        }
-        Cell::Object(_)
-        | Cell::Shape(_)
-        | Cell::In(_, _)
-        | Cell::Member(_, _)
-        | Cell::Mapping(_)
-        | Cell::Use(_, _)
-        | Cell::Implicit(_) => {
-            let (value, place) = keep::look_near(cells, arrays, &cell, near);
-            (CellChange::new(cell, value), place)
-        }
+    CellChange::new(cell, keep::look(cells, arrays, &cell))
+}
+
+// The ranges of a domain, if it has some.
+fn ranges_in(cells: &BTreeMap<Cell, Value>, domain: &Name) -> Option<AnyRect>
+    ensures { result ≡ ranges_in (stored_in cells.now.entries (shape_cell domain.now)) }
+{
+    match cells.get(&Cell::Shape(*domain)) {
+        Some(Value::Ranges(ranges)) => Some(*ranges),
+        _ => None,
     }
 }
 
-// Adds the change that sets the cell at a place of a list to what it is now, and gives the place to pass for the cell after it.
-// `near` is a run to look at first.
-fn add_value(
+// Whether the indices of a rectangle, which come to a domain or leave it, come to it by the changes that set them to what they
+// are now: either all of them are in the domain, or none is. `None` where neither is known.
+fn rectangle_before(cells: &BTreeMap<Cell, Value>, rectangle: &RectangleChanges) -> Option<bool>
+    ensures { IfSome result (λ b. (element : List ℕ → index_type → Option ℤ) →
+        map (with_answer (answer (stored_in cells.now.entries) element)) (inside_changes rectangle.now.domain rectangle.now.ranges rectangle.now.comes) ≡
+        inside_changes rectangle.now.domain rectangle.now.ranges b) }
+{
+    match ranges_in(cells, rectangle.domain()) {
+        Some(ranges) => {
+            if ranges.is_same(rectangle.ranges()) {
+                Some(true)
+            } else {
+                None
+            }
+        }
+        None => Some(false),
+    }
+}
+
+// The array of a row of elements.
+fn array_of(row: &Row) -> Option<Name>
+    ensures { IfSome result (λ a. row.now ≡ element_row a) }
+{
+    match row {
+        Row::Inside(_) => None,
+        Row::Members(_) => None,
+        Row::Elements(array) => Some(*array),
+    }
+}
+
+// The changes that set elements at integers to what they are now, as a run; `None` where the cells are no elements.
+fn line_before(
+    alloc: Global,
+    arrays: &BTreeMap<Name, Elements>,
+    packed: &Packed<1>,
+) -> Result<Option<Form>, NoMemory>
+    ensures { IfOk result (λ o. IfSome o (λ f. (stored : cell_type → Option value_type) →
+        changes_in f ≡ map (with_answer (answer stored (element_in arrays.now.entries))) (packed_changes packed.now.row packed.now.changes.items))) }
+{
+    let Some(array) = array_of(packed.row()) else {
+        return Ok(None);
+    };
+    match keep::elements_at(alloc, arrays, &array, packed.changes()) {
+        Ok(found) => Ok(Some(Form::Line(Packed::new(Row::Elements(array), found)))),
+        Err(why) => Err(why),
+    }
+}
+
+// The same at pairs.
+fn plane_before(
+    alloc: Global,
+    arrays: &BTreeMap<Name, Elements>,
+    packed: &Packed<2>,
+) -> Result<Option<Form>, NoMemory>
+    ensures { IfOk result (λ o. IfSome o (λ f. (stored : cell_type → Option value_type) →
+        changes_in f ≡ map (with_answer (answer stored (element_in arrays.now.entries))) (packed_changes packed.now.row packed.now.changes.items))) }
+{
+    let Some(array) = array_of(packed.row()) else {
+        return Ok(None);
+    };
+    match keep::elements_at(alloc, arrays, &array, packed.changes()) {
+        Ok(found) => Ok(Some(Form::Plane(Packed::new(Row::Elements(array), found)))),
+        Err(why) => Err(why),
+    }
+}
+
+// The same at triples.
+fn solid_before(
+    alloc: Global,
+    arrays: &BTreeMap<Name, Elements>,
+    packed: &Packed<3>,
+) -> Result<Option<Form>, NoMemory>
+    ensures { IfOk result (λ o. IfSome o (λ f. (stored : cell_type → Option value_type) →
+        changes_in f ≡ map (with_answer (answer stored (element_in arrays.now.entries))) (packed_changes packed.now.row packed.now.changes.items))) }
+{
+    let Some(array) = array_of(packed.row()) else {
+        return Ok(None);
+    };
+    match keep::elements_at(alloc, arrays, &array, packed.changes()) {
+        Ok(found) => Ok(Some(Form::Solid(Packed::new(Row::Elements(array), found)))),
+        Err(why) => Err(why),
+    }
+}
+
+// The changes that set the cells of a run to what they are now, as a run; `None` where they are to be told one by one.
+fn form_before(
     alloc: Global,
     cells: &BTreeMap<Cell, Value>,
     arrays: &BTreeMap<Name, Elements>,
-    delta: &Changes,
-    at: usize,
-    near: &mut usize,
-    before: &mut Changes,
-    place: usize,
-) -> Result<usize, NoMemory>
-    requires { at < length delta.now }
-    ensures { (x : Change cell_type value_type) → x ≡ get_or delta.now at x → OnOk result (before.new ≡ before.old ++ record {
-      cell = x.cell;
-      value = answer (stored_in cells.now.entries) (element_in arrays.now.entries) x.cell;
-    } ∷ []) }
+    form: &Form,
+) -> Result<Option<Form>, NoMemory>
+    ensures { IfOk result (λ o. IfSome o (λ f.
+        changes_in f ≡ map (with_answer (answer (stored_in cells.now.entries) (element_in arrays.now.entries))) (changes_in form.now))) }
 {
-    match delta.indexed_near(at, near) {
-        Some(change) => add_indexed(alloc, cells, arrays, &change, before, place),
-        None => {
-            let (was, next) = value_before(cells, arrays, &delta.change_near(at, near), place);
-            before.push(alloc, was)?;
-            Ok(next)
-        }
-    }
-}
-
-// The number by which a cell that has an index is told to hold what it holds now, and the place to pass for the cell after it;
-// `None` where no number tells it.
-fn number_before(
-    cells: &BTreeMap<Cell, Value>,
-    arrays: &BTreeMap<Name, Elements>,
-    change: &IndexedChange,
-    near: usize,
-) -> Option<(Option<i64>, usize)>
-    ensures { IfSome result (λ r. option_map (value_of change.now.row) r.0 ≡
-        answer (stored_in cells.now.entries) (element_in arrays.now.entries) (cell_of change.now.row change.now.index)) }
-{
-    match &change.row {
-        Row::Inside(domain) => Some((keep::number_inside(cells, domain, &change.index), near)),
-        Row::Members(domain) => match cells.get(&Cell::Member(*domain, change.index)) {
-            None => Some((None, near)),
-            Some(Value::Present) => Some((Some(0), near)),
-            Some(
-                Value::Domain(_)
-                | Value::Array(_, _)
-                | Value::Ranges(_)
-                | Value::Mapping(_)
-                | Value::Bound(_)
-                | Value::Number(_),
-            ) => None,
+    match form {
+        Form::One(_) => Ok(None),
+        Form::Line(packed) => line_before(alloc, arrays, packed),
+        Form::Plane(packed) => plane_before(alloc, arrays, packed),
+        Form::Solid(packed) => solid_before(alloc, arrays, packed),
+        Form::Rectangle(rectangle) => match rectangle_before(cells, rectangle) {
+            Some(comes) => Ok(Some(Form::Rectangle(RectangleChanges::new(
+                *rectangle.domain(),
+                *rectangle.ranges(),
+                comes,
+            )))),
+            None => Ok(None),
         },
-        Row::Elements(array) => Some(keep::element(arrays, array, &change.index, near)),
     }
 }
 
-fn add_indexed(
+// Adds the changes that set the cells of a run to what they are now, one by one.
+fn add_each_before(
     alloc: Global,
     cells: &BTreeMap<Cell, Value>,
     arrays: &BTreeMap<Name, Elements>,
-    change: &IndexedChange,
+    changes: &ChangeRun,
     before: &mut Changes,
-    near: usize,
-) -> Result<usize, NoMemory>
-    ensures { OnOk result (before.new ≡ before.old ++ record {
-      cell = (indexed_change change.now).cell;
-      value = answer (stored_in cells.now.entries) (element_in arrays.now.entries) (indexed_change change.now).cell;
-    } ∷ []) }
+) -> Result<(), NoMemory>
+    ensures { OnOk result (before.new ≡ before.old ++
+        map (with_answer (answer (stored_in cells.now.entries) (element_in arrays.now.entries))) (changes_in changes.now.form)) }
 {
-    match number_before(cells, arrays, change, near) {
-        Some((number, place)) => {
-            let was = IndexedChange {
-                row: change.row,
-                index: change.index,
-                number,
-            };
-            before.push_indexed(alloc, &was)?;
-            Ok(place)
-        }
-        None => {
-            let (was, place) = value_before(cells, arrays, &change.change(), near);
-            before.push(alloc, was)?;
-            Ok(place)
-        }
+    for at in 0..changes.len() {
+        before.push(alloc, value_before(cells, arrays, &changes.change(at)))?;
     }
+    Ok(())
+}
+
+// The same, as a run where that can be.
+fn add_run_before(
+    alloc: Global,
+    cells: &BTreeMap<Cell, Value>,
+    arrays: &BTreeMap<Name, Elements>,
+    run: &ChangeRun,
+    before: &mut Changes,
+) -> Result<(), NoMemory>
+    requires { 0 < length before.old }
+    ensures { OnOk result (before.new ≡ before.old ++
+        map (with_answer (answer (stored_in cells.now.entries) (element_in arrays.now.entries))) (changes_in run.now.form)) }
+{
+    match form_before(alloc, cells, arrays, run.form()) {
+        Ok(Some(form)) => before.push_run(alloc, form),
+        Ok(None) => add_each_before(alloc, cells, arrays, run, before),
+        Err(why) => Err(why),
+    }
+}
+
+// The same of runs, one after another.
+fn add_runs_before(
+    alloc: Global,
+    cells: &BTreeMap<Cell, Value>,
+    arrays: &BTreeMap<Name, Elements>,
+    runs: &[ChangeRun],
+    before: &mut Changes,
+) -> Result<(), NoMemory>
+    requires { 0 < length before.old }
+    ensures { OnOk result (before.new ≡ before.old ++
+        map (with_answer (answer (stored_in cells.now.entries) (element_in arrays.now.entries))) (all_changes runs.now)) }
+{
+    for run in runs {
+        add_run_before(alloc, cells, arrays, run, before)?;
+    }
+    Ok(())
 }
 
 /// The changes that set the cells to what they are now.
@@ -279,21 +405,12 @@ pub(crate) fn values_before(
     ensures { IfOk result (λ v. v ≡
         map (λ x. record { cell = x.cell; value = answer (stored_in cells.now.entries) (element_in arrays.now.entries) x.cell }) delta.now) }
 {
-    let mut before = Changes::new();
-    let mut near = 0;
-    let mut place = 0;
-    for at in 0..delta.len() {
-        place = add_value(
-            alloc,
-            cells,
-            arrays,
-            delta,
-            at,
-            &mut near,
-            &mut before,
-            place,
-        )?;
-    }
+    let (first, runs) = delta.parts();
+    let Some(first) = first else {
+        return Ok(Changes::new());
+    };
+    let mut before = Changes::one(value_before(cells, arrays, &first));
+    add_runs_before(alloc, cells, arrays, runs, &mut before)?;
     Ok(before)
 }
 

@@ -13,17 +13,18 @@ ghost use Rattle.wb_book.specs.declared.cells.cell.Cell.TheVariants.{Object};
 ghost use Rattle.wb_book.specs.declared.cells.value.Value.{Value as value_type};
 ghost use Rattle.wb_book.specs.declared.cells.value.Value.TheVariants.{Number as number_value};
 ghost use Rattle.wb_book.specs.Cells.{cell_cmp, is_same_name};
-ghost use Rattle.wb_book.specs.declared.values.index.Index.{Index};
-ghost use Rattle.wb_book.specs.Runs.{cell_of, indexed_change};
+ghost use Rattle.wb_book.specs.Runs.{changes_in as run_changes, all_changes};
+ghost use Rattle.wb_shelf.specs.Entries.{row_changes};
+ghost use Rattle.wb_shelf.specs.Piecewise.Marked.{as_changes};
 ghost use Rattle.wb_shelf.specs.Joined.{stored_in};
 ghost use Rattle.wb_shelf.specs.Groups.{group_in, changes_in, LeadTo, leaves};
 ghost use Rattle.wb_shelf.specs.Kept.{array_in};
 
-use crate::arrays::Elements;
+use crate::arrays::{AsIndex, Elements};
 use std::alloc::Global;
 use std::collections::BTreeMap;
 use std::marker::Model;
-use wb_book::{AnyIndex, Cell, CellChange, Changes, IndexedChange, Name, Row, Value};
+use wb_book::{AnyIndex, Cell, CellChange, ChangeRun, Changes, Form, Name, Row, Value};
 use wb_range::NoMemory;
 
 /// Changes of the elements of an array: to a number, or to absent.
@@ -54,6 +55,15 @@ impl Group {
         ensures { OnOk result (self.new ≡ self.old ++ (index, number) ∷ []) }
     {
         Ok(self.changes.push((index, number))?)
+    }
+
+    fn add_all<I: AsIndex>(&mut self, changes: &[(I, Option<i64>)]) -> Result<(), NoMemory>
+        ensures { OnOk result (self.new ≡ self.old ++ as_changes I.as_index changes.now) }
+    {
+        for (index, number) in changes {
+            self.changes.push((index.any(), *number))?;
+        }
+        Ok(())
     }
 
     pub(crate) fn changes(&self) -> &[(AnyIndex, Option<i64>)]
@@ -130,47 +140,75 @@ fn add_change(
     }
 }
 
-// The same of a change of a cell that has an index.
-fn add_indexed(
+// Adds changes of elements to those of an array that is named.
+fn add_all<I: AsIndex>(
+    groups: &mut BTreeMap<Name, Group>,
+    name: &Name,
+    changes: &[(I, Option<i64>)],
+) -> Result<(), NoMemory>
+    requires { IsSome (group_in groups.old.entries name.now) }
+    ensures stays { (b : List ℕ) → IsSome (group_in groups.old.entries b) → IsSome (group_in groups.new.entries b) }
+    ensures added { OnOk result ((b : List ℕ) → changes_in groups.new.entries b ≡ cond (is_same_name name.now b)
+        (changes_in groups.old.entries b ++ as_changes I.as_index changes.now) (changes_in groups.old.entries b)) }
+{
+    match groups.get_mut(name) {
+        Some(group) => group.add_all(changes),
+        None => unreachable!(),
+    }
+}
+
+// The same of changes of cells of a row.
+fn add_entries<I: AsIndex>(
     alloc: Global,
     groups: &mut BTreeMap<Name, Group>,
-    change: &IndexedChange,
+    row: &Row,
+    changes: &[(I, Option<i64>)],
 ) -> Result<(), NoMemory>
     ensures lead { (before : List (Change cell_type value_type)) → ((b : List ℕ) → LeadTo before b (changes_in groups.old.entries b)) →
-        OnOk result ((b : List ℕ) → LeadTo (before ++ indexed_change change.now ∷ []) b (changes_in groups.new.entries b)) }
+        OnOk result ((b : List ℕ) → LeadTo (before ++ row_changes I.as_index row.now changes.now) b (changes_in groups.new.entries b)) }
     ensures stays { (b : List ℕ) → IsSome (group_in groups.old.entries b) → IsSome (group_in groups.new.entries b) }
-    ensures object { (b : List ℕ) → eq_by_cmp cell_cmp (Object b) (indexed_change change.now).cell ≡ false }
 {
-    match &change.row {
+    match row {
         Row::Inside(_) => Ok(()),
         Row::Members(_) => Ok(()),
         Row::Elements(name) => {
             put_group(alloc, groups, name)?;
-            add_to(groups, name, &change.index, change.number)
+            add_all(groups, name, changes)
         }
     }
 }
 
-// The same of the change at a place of a list. `near` is a run to look at first.
-fn add_change_at(
+// The same of the changes of a run.
+fn add_run(alloc: Global, groups: &mut BTreeMap<Name, Group>, form: &Form) -> Result<(), NoMemory>
+    ensures lead { (before : List (Change cell_type value_type)) → ((b : List ℕ) → LeadTo before b (changes_in groups.old.entries b)) →
+        OnOk result ((b : List ℕ) → LeadTo (before ++ run_changes form.now) b (changes_in groups.new.entries b)) }
+    ensures stays { (b : List ℕ) → IsSome (group_in groups.old.entries b) → IsSome (group_in groups.new.entries b) }
+    ensures object { OnOk result ((b : List ℕ) → changes cell_cmp (run_changes form.now) (Object b) ≡ true → IsSome (group_in groups.new.entries b)) }
+{
+    match form {
+        Form::One(change) => add_change(alloc, groups, change),
+        Form::Line(packed) => add_entries(alloc, groups, packed.row(), packed.changes()),
+        Form::Plane(packed) => add_entries(alloc, groups, packed.row(), packed.changes()),
+        Form::Solid(packed) => add_entries(alloc, groups, packed.row(), packed.changes()),
+        Form::Rectangle(_) => Ok(()),
+    }
+}
+
+// The same of the changes of runs, one after another.
+fn add_runs(
     alloc: Global,
     groups: &mut BTreeMap<Name, Group>,
-    delta: &Changes,
-    at: usize,
-    near: &mut usize,
+    runs: &[ChangeRun],
 ) -> Result<(), NoMemory>
-    requires { at < length delta.now }
-    ensures lead { (x : Change cell_type value_type) → x ≡ get_or delta.now at x → (before : List (Change cell_type value_type)) →
-        ((b : List ℕ) → LeadTo before b (changes_in groups.old.entries b)) →
-        OnOk result ((b : List ℕ) → LeadTo (before ++ x ∷ []) b (changes_in groups.new.entries b)) }
+    ensures lead { (before : List (Change cell_type value_type)) → ((b : List ℕ) → LeadTo before b (changes_in groups.old.entries b)) →
+        OnOk result ((b : List ℕ) → LeadTo (before ++ all_changes runs.now) b (changes_in groups.new.entries b)) }
     ensures stays { (b : List ℕ) → IsSome (group_in groups.old.entries b) → IsSome (group_in groups.new.entries b) }
-    ensures object { (x : Change cell_type value_type) → x ≡ get_or delta.now at x →
-        OnOk result ((b : List ℕ) → eq_by_cmp cell_cmp (Object b) x.cell ≡ true → IsSome (group_in groups.new.entries b)) }
+    ensures object { OnOk result ((b : List ℕ) → changes cell_cmp (all_changes runs.now) (Object b) ≡ true → IsSome (group_in groups.new.entries b)) }
 {
-    match delta.indexed_near(at, near) {
-        Some(change) => add_indexed(alloc, groups, &change),
-        None => add_change(alloc, groups, &delta.change_near(at, near)),
+    for run in runs {
+        add_run(alloc, groups, run.form())?;
     }
+    Ok(())
 }
 
 // The changes of elements by their arrays; each object that changes is named as well. `NoMemory` also where an element is
@@ -180,10 +218,12 @@ fn grouped(alloc: Global, delta: &Changes) -> Result<BTreeMap<Name, Group>, NoMe
     ensures objects { IfOk result (λ m. (b : List ℕ) → changes cell_cmp delta.now (Object b) ≡ true → IsSome (group_in m.entries b)) }
 {
     let mut groups = BTreeMap::new(alloc);
-    let mut near = 0;
-    for at in 0..delta.len() {
-        add_change_at(alloc, &mut groups, delta, at, &mut near)?;
-    }
+    let (first, runs) = delta.parts();
+    let Some(first) = first else {
+        return Ok(groups);
+    };
+    add_change(alloc, &mut groups, &first)?;
+    add_runs(alloc, &mut groups, runs)?;
     Ok(groups)
 }
 
@@ -221,39 +261,42 @@ fn leaves(cells: &BTreeMap<Cell, Value>, change: &CellChange) -> bool
     }
 }
 
-// The same of the change at a place of a list. `near` is a run to look at first.
-fn leaves_at(cells: &BTreeMap<Cell, Value>, delta: &Changes, at: usize, near: &mut usize) -> bool
-    requires { at < length delta.now }
-    ensures { (x : Change cell_type value_type) → x ≡ get_or delta.now at x → result ≡ leaves (stored_in cells.now.entries) x }
+// The same of each change of a run. No cell of a row, and none of a rectangle, is an object or a mapping.
+fn run_leaves(cells: &BTreeMap<Cell, Value>, form: &Form) -> bool
+    ensures { result ≡ list_all (leaves (stored_in cells.now.entries)) (run_changes form.now) }
 {
-    match delta.indexed_near(at, near) {
-        Some(change) => are_row_left(&change.row),
-        None => leaves(cells, &delta.change_near(at, near)),
+    match form {
+        Form::One(change) => leaves(cells, change),
+        Form::Line(_) => true,
+        Form::Plane(_) => true,
+        Form::Solid(_) => true,
+        Form::Rectangle(_) => true,
     }
 }
 
-// No cell of a row is an object or a mapping.
-fn are_row_left(row: &Row) -> bool
-    ensures { (stored : cell_type → Option value_type) (i : Index) (v : Option value_type) →
-        result ≡ leaves stored (record { cell = cell_of row.now i; value = v }) }
+// The same of each change of runs.
+fn runs_leave(cells: &BTreeMap<Cell, Value>, runs: &[ChangeRun]) -> bool
+    ensures { result ≡ list_all (leaves (stored_in cells.now.entries)) (all_changes runs.now) }
 {
-    match row {
-        Row::Inside(_) => true,
-        Row::Members(_) => true,
-        Row::Elements(_) => true,
+    for run in runs {
+        if !run_leaves(cells, run.form()) {
+            return false;
+        }
     }
+    true
 }
 
 fn are_left(cells: &BTreeMap<Cell, Value>, delta: &Changes) -> bool
     ensures { result ≡ list_all (leaves (stored_in cells.now.entries)) delta.now }
 {
-    let mut near = 0;
-    for at in 0..delta.len() {
-        if !leaves_at(cells, delta, at, &mut near) {
-            return false;
-        }
+    let (first, runs) = delta.parts();
+    let Some(first) = first else {
+        return true;
+    };
+    if !leaves(cells, &first) {
+        return false;
     }
-    true
+    runs_leave(cells, runs)
 }
 
 /// The changes of elements by their arrays. Named are all arrays that may become others: where no object and no mapping

@@ -11,6 +11,8 @@ ghost use Rattle.wb_shelf.specs.Piecewise.Indexed.{indexed, AllOf};
 ghost use Rattle.wb_redist.specs.Reductions.{IsReduced};
 ghost use Rattle.wb_book.specs.declared.values.index.Index.{Index as any_index};
 
+pub(crate) mod typed;
+
 use crate::arrays::key::AsIndex;
 use crate::arrays::made::made;
 use crate::arrays::piece::{Pairs, points_on, texts_on};
@@ -332,7 +334,7 @@ fn solid_of(to: &AnyLayout) -> Layout<3>
     }
 }
 
-fn set_in<D: Domain, M: Mapping<Index = D::Index>>(
+pub(crate) fn set_in<D: Domain, M: Mapping<Index = D::Index>>(
     pieces: &mut Pieces<D, M>,
     index: &AnyIndex,
     value: i64,

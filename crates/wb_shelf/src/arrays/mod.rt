@@ -4,6 +4,7 @@ mod key;
 mod made;
 mod piece;
 
+pub(crate) use crate::arrays::elements::typed::PieceKey;
 pub use crate::arrays::elements::{Elements, Form};
 pub use crate::arrays::key::AsIndex;
 pub use crate::arrays::piece::Pairs;

@@ -1,4 +1,4 @@
-use Rattle.std.proofs.Common.{◌≡◌, Some, sym, ap, ◌∙◌}
+use Rattle.std.proofs.Common.{◌≡◌, [], ◌∷◌, Some, sym, ap, ◌∙◌}
 use Rattle.std.proofs.lemmas.Result.{on_ok_weaker}
 use Rattle.wb_shelf.specs.Groups.{Group, group_in}
 use Rattle.wb_shelf.proofs.Leads.{group_stays, group_added, group_set}
@@ -20,5 +20,5 @@ returns-clause-added c =
     on_ok_weaker c.add.result
     (λ is. group_added gs _ c.args.name.now c.add.new.self
     (λ b. ap (λ es. group_in es b) (c.get_mut.follows.holds c.add.new.self).0 ∙ group_set gs c.args.name.now c.add.new.self p found b)
-    p (c.args.index.now, c.args.number) found is)
+    p ((c.args.index.now, c.args.number) ∷ []) found is)
     c.add.ensures

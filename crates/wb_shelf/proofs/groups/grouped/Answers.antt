@@ -1,27 +1,15 @@
-use Rattle.std.proofs.Common.{◌<◌, ◌≤◌, length, take, arith}
-use Rattle.wb_book.specs.Cells.{Changes}
-use Rattle.wb_shelf.specs.Groups.{changes_in}
-use Rattle.wb_shelf.proofs.Leads.{lead_more, lead_all, objects_more}
-use Rattle.wb_shelf.proofs.Places.{some_item}
+use Rattle.std.proofs.Common.{List, [], ◌∷◌, sym, subst}
+use Rattle.wb_book.specs.Cells.{Name, Changes}
+use Rattle.wb_shelf.specs.Groups.{Group, LeadTo, changes_in}
+use Rattle.wb_shelf.proofs.Entries.{begins}
 use Rattle.wb_shelf.proofs.groups.grouped.Goals as goal
-
-pub loop-at-preserved : goal.loop-at-preserved
-loop-at-preserved c =
-    let k = c.loop-at.at in
-    let xs : Changes = c.args.delta.now in
-    let low : k < length xs = omega (arith, c.loop-at-test.true, c.len-at-end.ensures) in
-    let item = some_item xs k low in
-    let x = item.0 in
-    let is = item.1 in
-    let old = c.loop-at.invariant in
-    record {
-      lead = λ b. lead_more xs k x b (changes_in c.add_change_at.new.groups.entries b) low is
-          (c.in_ok-add_change_at.ensures.lead x is (take k xs) old.lead b);
-      objects = λ b. objects_more xs k x b c.loop-at.groups.entries c.add_change_at.new.groups.entries low is (c.add_change_at.ensures.stays b)
-          (c.in_ok-add_change_at.ensures.object x is b) (old.objects b);
-    }
 
 pub returns-clause-lead : goal.returns-clause-lead
 returns-clause-lead c = λ b.
-    let high : length c.args.delta.now ≤ c.loop-at.at = omega (arith, c.loop-at-test.false, c.len-at-end.ensures) in
-    lead_all c.args.delta.now c.loop-at.at b (changes_in c.loop-at.groups.entries b) high (c.loop-at.invariant.lead b)
+    let x = c.in-Some.first in
+    let rs = c.parts-first.result.1.now in
+    let none : (n : Name) → LeadTo [] n (changes_in c.new-groups.result.entries n) =
+    subst (λ (gs : List (Name × Group)). (n : Name) → LeadTo [] n (changes_in gs n)) (sym c.new-groups.ensures.empty) (λ n s o i is. is) in
+    subst (λ (ys : Changes). LeadTo ys b (changes_in c.add_runs.new.groups.entries b))
+    (sym (begins c.args.delta.now c.parts-first.result.0 rs c.parts-first.ensures.all x c.in-Some.is))
+    (c.in_ok-add_runs.ensures.lead (x ∷ []) (c.in_ok-add_change.ensures.lead [] none) b)

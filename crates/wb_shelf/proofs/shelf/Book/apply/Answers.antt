@@ -4,10 +4,10 @@ use Rattle.selective_undo.specs.declared.Change.{Change}
 use Rattle.wb_book.specs.declared.cells.cell.Cell.{Cell}
 use Rattle.wb_book.specs.declared.cells.value.Value.{Value}
 use Rattle.wb_book.specs.Cells.{Changes, Contents, cell_cmp}
-use Rattle.wb_shelf.specs.Joined.{answer, stored_in, element_in}
+use Rattle.wb_shelf.specs.Joined.{answer, stored_in, element_in, with_answer}
 use Rattle.wb_shelf.specs.Shelf.{cells_of}
 use Rattle.wb_shelf.proofs.Kept.{get-cells_of}
-use Rattle.wb_shelf.proofs.Whole.{with_answer, told_by, once_told, inverse_is}
+use Rattle.wb_shelf.proofs.Whole.{told_by, once_told, inverse_is}
 use Rattle.wb_shelf.proofs.shelf.Book.apply.Goals as goal
 
 pub new-requires : goal.new-requires
