@@ -1,7 +1,6 @@
 -- Elements of an array were set in place.
-use Rattle.std.proofs.Common.{◌≡◌, ℕ, ◌<◌, ℤ, Bool, true, false, true≢false, cond, ◌&&◌, List, [], ◌∷◌, length, get_or, Option, Some, None, is_some, IsSome}
+use Rattle.std.proofs.Common.{◌≡◌, ℤ, Bool, true, false, cond, ◌&&◌, List, [], ◌∷◌, Option, Some, None, is_some, IsSome}
 use Rattle.std.proofs.Common.{refl, sym, ap, subst, ◌∙◌}
-use Rattle.std.proofs.lemmas.List.Folds.{list_all_at}
 use Rattle.std.specs.List.{list_all}
 use Rattle.std.specs.Ordering.{eq_by_cmp}
 use Rattle.std.specs.BTreeMap.{BTreeMap}
@@ -96,18 +95,6 @@ same_test element other (Member n i) v same = refl
 same_test element other (Mapping n) v same = refl
 same_test element other (Use n m) v same = refl
 same_test element other (Implicit n) v same = refl
-
-all_here : {X : Type 0} (p : X → Bool) (xs : List X) (k : ℕ) (d : X) → k < length xs → list_all p xs ≡ true → p (get_or xs k d) ≡ true
-all_here p xs k d low all = by (p (get_or xs k d)) refl
-  where
-    by : (t : Bool) → p (get_or xs k d) ≡ t → t ≡ true
-    by true e = refl
-    by false e = absurd (true≢false (sym all ∙ list_all_at p xs k d low e))
-
-pub set_there : (element other : Name → Index → Option ℤ) (xs : Changes) (k : ℕ) (x : Change Cell Value) → k < length xs → x ≡ get_or xs k x →
-    list_all (is_set element) xs ≡ true → ((b : Name) (i : Index) → is_some (other b i) ≡ is_some (element b i)) → is_set other x ≡ true
-set_there element other xs k x low is set same =
-    same_test element other x.cell x.value same ∙ ap (is_set element) is ∙ all_here (is_set element) xs k x low set
 
 number_is : (o : Option Value) (v : ℤ) → number_in o ≡ Some v → o ≡ Some (Number v)
 number_is None v e = cc

@@ -1,5 +1,6 @@
 -- Changes that stand in runs, and changes of the cells of one row.
-use Rattle.std.proofs.Common.{◌≡◌, ℕ, zero, suc, length-append, ◌+◌, ◌<◌, ◌≤◌, ℤ, Bool, true, false, cond, List, [], ◌∷◌, ◌++◌, length, map, take, get_or, Option, Some, None, append_assoc}
+use Rattle.std.proofs.Common.{◌≡◌, ℕ, zero, suc, length-append, ◌+◌, ◌<◌, ◌≤◌, ℤ, Bool, true, false}
+use Rattle.std.proofs.Common.{cond, List, [], ◌∷◌, ◌++◌, length, map, take, get_or, Option, Some, append_assoc}
 use Rattle.std.proofs.Common.{Result, Ok, Err, ◌||◌, IsSome, arith, true≢false, filter, refl, sym, ap, subst, ◌∙◌}
 use Rattle.std.specs.List.{list_all, list_any, count_by}
 use Rattle.std.specs.Prelude.{OnOk}
@@ -174,10 +175,6 @@ module _ (delta : Changes) (first : Option (Change Cell Value)) (rs : List Chang
   pub begins : (x : Change Cell Value) → first ≡ Some x → delta ≡ x ∷ all_changes rs
   begins x is = all ∙ ap (λ (o : Option (Change Cell Value)). in_first o ++ all_changes rs) is
 
-  pub begins_not : (first ≡ None → rs ≡ []) → first ≡ None → delta ≡ []
-  begins_not begun none =
-      all ∙ ap (λ (o : Option (Change Cell Value)). in_first o ++ all_changes rs) none ∙ ap all_changes (begun none)
-
 pub all_runs : (rs : List ChangeRun) (k : ℕ) → length rs ≤ k → all_changes (take k rs) ≡ all_changes rs
 all_runs rs k high = ap all_changes (take_all k rs high)
 
@@ -186,7 +183,8 @@ pub object_more : (xs ys zs : Changes) (b : Name) (gs hs : List (Name × Group))
     changes cell_cmp zs (Object b) ≡ true → IsSome (group_in hs b)
 object_more xs ys zs b gs hs is stays old now e =
     by (changes cell_cmp xs (Object b)) refl
-    (sym (ap (λ (us : Changes). changes cell_cmp us (Object b)) is ∙ list_any-append (λ (x : Change Cell Value). eq_by_cmp cell_cmp (Object b) x.cell) xs ys) ∙ e)
+    (sym (ap (λ (us : Changes). changes cell_cmp us (Object b)) is
+    ∙ list_any-append (λ (x : Change Cell Value). eq_by_cmp cell_cmp (Object b) x.cell) xs ys) ∙ e)
   where
     by : (t : Bool) → changes cell_cmp xs (Object b) ≡ t → t || changes cell_cmp ys (Object b) ≡ true → IsSome (group_in hs b)
     by true f h = stays (old f)

@@ -206,14 +206,6 @@ module _ {I : Type 0} (f : I → Index) where
         ap (option_map Number) (elements_made b j ∙ sym (chosen (is_same_name a b) (element_in es b j) j))
         ∙ row_leads f a xs [] b [] nothing s (element_in es b j) j (agree b j)
 
-    pub lie_made : (b : Name) → option_map (λ p. p.1) (array_in fs b) ≡ option_map (λ p. p.1) (array_in es b)
-    lie_made b = ap (option_map (λ p. p.1)) (made b) ∙ by (is_same_name a b) (array_in es b)
-      where
-        by : (t : Bool) (o : Option Pieced) → option_map (λ p. p.1) (cond t (with_elements f o xs) o) ≡ option_map (λ p. p.1) o
-        by false o = refl
-        by true None = refl
-        by true (Some p) = refl
-
 -- ---- changes of which none sets what is there
 
 pub only_none : {X Y : Type 0} (p : X → Bool) (g : Y → X) → ((y : Y) → p (g y) ≡ false) → (ys : List Y) → list_all p (map g ys) ≡ true → map g ys ≡ []

@@ -4,7 +4,6 @@ pub mod Joined
 pub mod Stored
 pub mod Kept
 pub mod Written
-pub mod Places
 pub mod Same
 pub mod ElementsSet
 pub mod Moved

@@ -1,5 +1,5 @@
 -- What is kept are the cells that it agrees with.
-use Rattle.std.proofs.Common.{◌≡◌, ℕ, ◌+◌, ◌<◌, ℤ, Bool, true, false, cond, ◌&&◌, List, [], ◌∷◌, ◌++◌, length, take, get_or, Option, Some, None, is_some}
+use Rattle.std.proofs.Common.{◌≡◌, ℤ, Bool, true, false, cond, ◌&&◌, List, [], ◌∷◌, ◌++◌, Option, Some, None, is_some}
 use Rattle.std.proofs.Common.{IsSome, refl, sym, ap, subst, ◌∙◌}
 use Rattle.std.specs.declared.cmp.Ordering.{Ordering}
 use Rattle.std.specs.declared.cmp.Ordering.TheVariants.{Less, Equal, Greater}
@@ -24,7 +24,6 @@ use Rattle.wb_shelf.specs.Joined.{is_stored, stored_in, element_in, answer}
 use Rattle.wb_shelf.proofs.Joined.{IsKept, get-joined}
 use Rattle.wb_shelf.specs.Kept.{Pieced, array_in, with_element, Agree}
 use Rattle.wb_shelf.specs.Shelf.{cells_of}
-use Rattle.std.proofs.lemmas.List.{take_more}
 use Rattle.wb_shelf.proofs.Written.{element_in-written, one_name, one_index}
 
 -- the stored cells and the elements are those of well-formed cells: then what is kept are these cells
@@ -66,12 +65,6 @@ agree_step es fs s a i v there is agree b j =
 pub apply-last : (xs : Changes) (x : Change Cell Value) (s : Cells) → apply (xs ++ x ∷ []) s ≡ applied x (apply xs s)
 apply-last [] x s = refl
 apply-last (y ∷ xs) x s = apply-last xs x (applied y s)
-
-pub apply_more : (xs : Changes) (k : ℕ) (x : Change Cell Value) (s : Cells) → k < length xs → x ≡ get_or xs k x →
-    apply (take (k + 1) xs) s ≡ applied x (apply (take k xs) s)
-apply_more xs k x s low is =
-    let more : take (k + 1) xs ≡ take k xs ++ x ∷ [] = take_more xs k x low ∙ ap (λ (y : Change Cell Value). take k xs ++ y ∷ []) (sym is) in
-    ap (λ ys. apply ys s) more ∙ apply-last (take k xs) x s
 
 pub there_more : (es fs : List (Name × Pieced)) (a b : Name) (i j : Index) (v : ℤ) → IsSome (element_in es a i) →
     array_in fs b ≡ cond (is_same_name a b) (with_element (array_in es b) i v) (array_in es b) → is_some (element_in fs b j) ≡ is_some (element_in es b j)

@@ -26,7 +26,8 @@ use Rattle.wb_shelf.specs.Joined.{answer, with_answer}
 pub row_told : {I : Type 0} (f : I → Index) (stored : Cell → Option Value) (element : Name → Index → Option ℤ) (a : Name) (xs : List (I × Option ℤ)) →
     row_changes f (Elements a) (read_at f (element a) xs) ≡ map (with_answer (answer stored element)) (row_changes f (Elements a) xs)
 row_told f stored element a [] = refl
-row_told f stored element a (x ∷ xs) = let first : Change Cell Value = record { cell = Element a (f x.0); value = option_map (λ (z : ℤ). Number z) (element a (f x.0)) } in
+row_told f stored element a (x ∷ xs) =
+    let first : Change Cell Value = record { cell = Element a (f x.0); value = option_map (λ (z : ℤ). Number z) (element a (f x.0)) } in
     ap (λ (ys : Changes). first ∷ ys) (row_told f stored element a xs)
 
 abbrev value_told : Name → Index → Option Value → Change Cell Value

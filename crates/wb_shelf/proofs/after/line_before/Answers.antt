@@ -1,4 +1,4 @@
-use Rattle.std.proofs.Common.{sym, ap, ◌∙◌}
+use Rattle.std.proofs.Common.{sym, ◌∙◌}
 use Rattle.wb_shelf.specs.Joined.{element_in}
 use Rattle.wb_shelf.proofs.Told.{packed_told}
 use Rattle.wb_shelf.proofs.after.line_before.Goals as goal

@@ -1,12 +1,10 @@
-use Rattle.std.proofs.Common.{◌++◌, List, ℕ, true, IsSome, refl, sym, ap, subst, ◌∙◌}
+use Rattle.std.proofs.Common.{◌++◌, List, ℕ, refl, sym, ap, subst, ◌∙◌}
 use Rattle.std.specs.Prelude.{OnOk}
-use Rattle.selective_undo.specs.Changes.{changes}
-use Rattle.wb_book.specs.declared.cells.cell.Cell.TheVariants.{Object}
 use Rattle.wb_book.specs.declared.changes.row.Row.{Row}
-use Rattle.wb_book.specs.Cells.{Changes, cell_cmp}
+use Rattle.wb_book.specs.Cells.{Changes}
 use Rattle.wb_book.specs.Runs.{changes_in as run_changes, packed_changes, inside_change}
 use Rattle.wb_book.specs.Shapes.{indices}
-use Rattle.wb_shelf.specs.Groups.{LeadTo, changes_in, group_in}
+use Rattle.wb_shelf.specs.Groups.{LeadTo, changes_in}
 use Rattle.wb_shelf.proofs.Entries.{apart_all, never_named, never_inside, on_ok_ever}
 use Rattle.wb_shelf.proofs.groups.add_run.Goals as goal
 
@@ -24,29 +22,34 @@ returns-in-Line-clause-lead c = λ before lead.
 
 pub returns-in-Line-clause-object : goal.returns-in-Line-clause-object
 returns-in-Line-clause-object c =
-    on_ok_ever c.add_entries.result (λ b e. absurd (never_named c.args.form.now c.in-Line.packed.row c.in-Line.packed.changes.items b (ap run_changes c.in-Line.is) e))
+    on_ok_ever c.add_entries.result (λ b e. absurd (never_named c.args.form.now c.in-Line.packed.row c.in-Line.packed.changes.items b
+    (ap run_changes c.in-Line.is) e))
 
 pub returns-in-Plane-clause-lead : goal.returns-in-Plane-clause-lead
 returns-in-Plane-clause-lead c = λ before lead.
-    subst (λ (ys : Changes). OnOk c.add_entries-in-Plane.result ((b : List ℕ) → LeadTo (before ++ ys) b (changes_in c.add_entries-in-Plane.new.groups.entries b)))
+    subst (λ (ys : Changes). OnOk c.add_entries-in-Plane.result
+    ((b : List ℕ) → LeadTo (before ++ ys) b (changes_in c.add_entries-in-Plane.new.groups.entries b)))
     (ap (λ (r : Row). packed_changes r c.changes-in-Plane.result.now) c.row-in-Plane.ensures
     ∙ ap (packed_changes c.in-Plane.packed.row) c.changes-in-Plane.ensures ∙ sym (ap run_changes c.in-Plane.is))
     (c.add_entries-in-Plane.ensures.lead before lead)
 
 pub returns-in-Plane-clause-object : goal.returns-in-Plane-clause-object
 returns-in-Plane-clause-object c =
-    on_ok_ever c.add_entries-in-Plane.result (λ b e. absurd (never_named c.args.form.now c.in-Plane.packed.row c.in-Plane.packed.changes.items b (ap run_changes c.in-Plane.is) e))
+    on_ok_ever c.add_entries-in-Plane.result (λ b e. absurd (never_named c.args.form.now c.in-Plane.packed.row c.in-Plane.packed.changes.items b
+    (ap run_changes c.in-Plane.is) e))
 
 pub returns-in-Solid-clause-lead : goal.returns-in-Solid-clause-lead
 returns-in-Solid-clause-lead c = λ before lead.
-    subst (λ (ys : Changes). OnOk c.add_entries-in-Solid.result ((b : List ℕ) → LeadTo (before ++ ys) b (changes_in c.add_entries-in-Solid.new.groups.entries b)))
+    subst (λ (ys : Changes). OnOk c.add_entries-in-Solid.result
+    ((b : List ℕ) → LeadTo (before ++ ys) b (changes_in c.add_entries-in-Solid.new.groups.entries b)))
     (ap (λ (r : Row). packed_changes r c.changes-in-Solid.result.now) c.row-in-Solid.ensures
     ∙ ap (packed_changes c.in-Solid.packed.row) c.changes-in-Solid.ensures ∙ sym (ap run_changes c.in-Solid.is))
     (c.add_entries-in-Solid.ensures.lead before lead)
 
 pub returns-in-Solid-clause-object : goal.returns-in-Solid-clause-object
 returns-in-Solid-clause-object c =
-    on_ok_ever c.add_entries-in-Solid.result (λ b e. absurd (never_named c.args.form.now c.in-Solid.packed.row c.in-Solid.packed.changes.items b (ap run_changes c.in-Solid.is) e))
+    on_ok_ever c.add_entries-in-Solid.result (λ b e. absurd (never_named c.args.form.now c.in-Solid.packed.row c.in-Solid.packed.changes.items b
+    (ap run_changes c.in-Solid.is) e))
 
 pub returns-in-Rectangle-clause-lead : goal.returns-in-Rectangle-clause-lead
 returns-in-Rectangle-clause-lead c = λ before lead b.

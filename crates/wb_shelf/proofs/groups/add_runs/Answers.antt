@@ -1,10 +1,10 @@
-use Rattle.std.proofs.Common.{◌≡◌, ◌++◌, List, ℕ, true, IsSome, take, append_assoc, true≢false, arith, sym, ap, subst, ◌∙◌}
+use Rattle.std.proofs.Common.{◌++◌, take, append_assoc, true≢false, arith, sym, ap, subst, ◌∙◌}
 use Rattle.std.proofs.lemmas.List.{append-nil}
 use Rattle.selective_undo.specs.Changes.{changes}
 use Rattle.wb_book.specs.declared.cells.cell.Cell.TheVariants.{Object}
 use Rattle.wb_book.specs.Cells.{Changes, cell_cmp}
 use Rattle.wb_book.specs.Runs.{changes_in as run_changes, all_changes}
-use Rattle.wb_shelf.specs.Groups.{LeadTo, changes_in, group_in}
+use Rattle.wb_shelf.specs.Groups.{LeadTo, changes_in}
 use Rattle.wb_shelf.proofs.Entries.{run_more, all_runs, object_more}
 use Rattle.wb_shelf.proofs.groups.add_runs.Goals as goal
 

@@ -3,7 +3,6 @@ use Rattle.std.specs.List.{list_all}
 use Rattle.wb_book.specs.Runs.{changes_in}
 use Rattle.wb_shelf.specs.Joined.{stored_in}
 use Rattle.wb_shelf.specs.Groups.{leaves}
-use Rattle.wb_shelf.proofs.Entries.{all_runs}
 use Rattle.wb_shelf.proofs.EntriesSet.{run_fails, pass_more}
 use Rattle.wb_shelf.proofs.groups.runs_leave.Goals as goal
 

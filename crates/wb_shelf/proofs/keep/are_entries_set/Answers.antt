@@ -1,10 +1,8 @@
-use Rattle.std.proofs.Common.{ℤ, Option, List, length, ◌≡◌, Some, None, nat_eq, refl, sym, ap, ◌∙◌}
+use Rattle.std.proofs.Common.{◌≡◌, Some, None, refl, sym, ap, ◌∙◌}
 use Rattle.std.specs.List.{list_all}
-use Rattle.wb_book.specs.declared.changes.row.Row.{Row}
-use Rattle.wb_book.specs.declared.values.index.Index.{Index}
-use Rattle.wb_shelf.specs.Entries.{row_changes, element_at}
+use Rattle.wb_shelf.specs.Entries.{row_changes}
 use Rattle.wb_shelf.specs.Joined.{element_in}
-use Rattle.wb_shelf.specs.Kept.{Pieced, array_in, is_set}
+use Rattle.wb_shelf.specs.Kept.{array_in, is_set}
 use Rattle.wb_shelf.proofs.EntriesSet.{none_set, sets_found, sets_none}
 use Rattle.wb_shelf.proofs.keep.are_entries_set.Goals as goal
 
@@ -12,13 +10,15 @@ pub returns-in-Inside : goal.returns-in-Inside
 returns-in-Inside g c =
     let p = is_set (element_in c.args.arrays.now.entries) in
     let f = g.I.AsIndex.as_index in
-    c.is_empty.ensures ∙ none_set p _ (λ y. refl) c.args.changes.now ∙ ap (λ r. list_all p (row_changes f r c.args.changes.now)) (sym c.in-Inside.is)
+    c.is_empty.ensures ∙ none_set p _ (λ y. refl) c.args.changes.now
+    ∙ ap (λ r. list_all p (row_changes f r c.args.changes.now)) (sym c.in-Inside.is)
 
 pub returns-in-Members : goal.returns-in-Members
 returns-in-Members g c =
     let p = is_set (element_in c.args.arrays.now.entries) in
     let f = g.I.AsIndex.as_index in
-    c.is_empty-in-Members.ensures ∙ none_set p _ (λ y. refl) c.args.changes.now ∙ ap (λ r. list_all p (row_changes f r c.args.changes.now)) (sym c.in-Members.is)
+    c.is_empty-in-Members.ensures ∙ none_set p _ (λ y. refl) c.args.changes.now
+    ∙ ap (λ r. list_all p (row_changes f r c.args.changes.now)) (sym c.in-Members.is)
 
 pub returns-in-Some : goal.returns-in-Some
 returns-in-Some g c =

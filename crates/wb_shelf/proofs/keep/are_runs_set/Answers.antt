@@ -3,7 +3,6 @@ use Rattle.std.specs.List.{list_all}
 use Rattle.wb_book.specs.Runs.{changes_in}
 use Rattle.wb_shelf.specs.Joined.{element_in}
 use Rattle.wb_shelf.specs.Kept.{is_set}
-use Rattle.wb_shelf.proofs.Entries.{all_runs}
 use Rattle.wb_shelf.proofs.EntriesSet.{run_fails, pass_more}
 use Rattle.wb_shelf.proofs.keep.are_runs_set.Goals as goal
 

@@ -1,4 +1,4 @@
-use Rattle.std.proofs.Common.{List, ℕ, take, sym, ap, subst, ◌∙◌}
+use Rattle.std.proofs.Common.{take, sym, ap, subst, ◌∙◌}
 use Rattle.std.specs.List.{list_all}
 use Rattle.selective_undo.specs.Changes.{apply}
 use Rattle.wb_book.specs.Cells.{Cells}

@@ -1,7 +1,6 @@
 use Rattle.std.proofs.Common.{◌≡◌, true, take}
 use Rattle.std.specs.List.{list_all}
 use Rattle.wb_shelf.specs.Entries.{element_at, sets_one}
-use Rattle.wb_shelf.specs.Piecewise.Indexed.{indexed}
 use Rattle.wb_shelf.proofs.arrays.elements.typed.are_set_by.Given as goal
 
 abbrev pub invariant-loop-change : goal.invariant-loop-change

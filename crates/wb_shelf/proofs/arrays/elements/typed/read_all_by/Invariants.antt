@@ -1,6 +1,5 @@
 use Rattle.std.proofs.Common.{◌≡◌, take}
 use Rattle.wb_shelf.specs.Entries.{element_at, read_at}
-use Rattle.wb_shelf.specs.Piecewise.Indexed.{indexed}
 use Rattle.wb_shelf.proofs.arrays.elements.typed.read_all_by.Given as goal
 
 abbrev pub invariant-loop-change : goal.invariant-loop-change

@@ -1,4 +1,4 @@
-use Rattle.std.proofs.Common.{Option, ℤ, sym, ap, ◌∙◌}
+use Rattle.std.proofs.Common.{sym, ◌∙◌}
 use Rattle.wb_shelf.proofs.Piecewise.Indexed.{value_at-indexed}
 use Rattle.wb_shelf.proofs.arrays.elements.typed.read_near.Goals as goal
 

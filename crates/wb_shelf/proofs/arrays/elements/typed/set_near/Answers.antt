@@ -1,4 +1,4 @@
-use Rattle.std.proofs.Common.{rules, ℤ, Option, w64, refl, sym, ap, ◌∙◌}
+use Rattle.std.proofs.Common.{rules, ℤ, Option, w64, sym, ap, ◌∙◌}
 use Rattle.std.specs.Map.{set_value}
 use Rattle.std.specs.BTreeMap.{is_at}
 use Rattle.std.proofs.lemmas.Int.{to_z-of_z}
