@@ -1,13 +1,16 @@
-//! The index of footprints, where an element is set and a copy of it goes to another, and where many elements are copied at
-//! once.
+//! The index of footprints, where an element is set and a copy of it goes to another, where many elements are copied at once,
+//! where indices of two ranks stand in arrays of one name, and where a whole rectangle comes to a domain.
 
 use std::alloc::Global;
 use std::process::Abort;
 use std::test::Fail;
-use wb_book::{AnyCell, AnyIndex, Cell, CellChange, Changes, Index, Name, Pattern, Point};
+use wb_book::{
+    AnyCell, AnyIndex, AnyRect, Cell, CellChange, Changes, Form, Index, Name, Pattern, Point,
+    RectangleChanges,
+};
 use wb_edit::ReadRun;
 use wb_foot::FootIndex;
-use wb_range::NoMemory;
+use wb_range::{NoMemory, Range};
 
 fn element(array: Name, i: i64) -> Cell {
     Cell::Element(array, AnyIndex::new(Index::Point(Point::single(i))))
@@ -131,5 +134,51 @@ fn footprint_index_of_blocks(rt: HostRuntime) -> Result<(), Fail> {
     index.take(7, &[], &runs, &before);
     assert!(rt; is_found_inside(&index, source, None, None));
     assert!(rt; is_found_inside(&index, target, None, None));
+    Ok(())
+}
+
+#[test]
+fn footprint_index_of_two_ranks(rt: HostRuntime) -> Result<(), Fail> {
+    let array = Name::new("A")?;
+    let pair = Cell::Element(array, AnyIndex::new(Index::Point(Point::pair(1, 2))));
+    let single = Changes::one(cleared(element(array, 1)));
+    let paired = Changes::one(cleared(pair));
+    let mut index = FootIndex::new(rt.alloc());
+    add(&rt, &mut index, 3, &[], &[], &single)?;
+    add(&rt, &mut index, 4, &[], &[], &paired)?;
+    assert!(rt; index.first_to_block_undo(&single, 2) == Some(3));
+    assert!(rt; index.first_to_block_undo(&single, 3).is_none());
+    assert!(rt; index.first_to_block_undo(&paired, 2) == Some(4));
+    assert!(rt; index.first_to_block_undo(&paired, 4).is_none());
+    index.take(3, &[], &[], &single);
+    assert!(rt; index.first_to_block_undo(&single, 2).is_none());
+    assert!(rt; index.first_to_block_undo(&paired, 2) == Some(4));
+    Ok(())
+}
+
+// The change by which an index is in a domain no more.
+fn leaves(domain: Name, i: i64) -> Changes {
+    let index = AnyIndex::new(Index::Point(Point::single(i)));
+    Changes::one(cleared(Cell::In(domain, index)))
+}
+
+#[test]
+fn footprint_index_of_a_rectangle(rt: HostRuntime) -> Result<(), Fail> {
+    let domain = Name::new("D")?;
+    let ranges = AnyRect::from_range(Range::new(1, 100, 1, None)?)?;
+    let mut came = Changes::one(cleared(Cell::Object(domain)));
+    came.push_run(
+        rt.alloc(),
+        Form::Rectangle(RectangleChanges::new(domain, ranges, true)),
+    )?;
+    assert!(rt; came.len() == 101 && came.count() == 1);
+    let mut index = FootIndex::new(rt.alloc());
+    add(&rt, &mut index, 3, &[], &[], &came)?;
+    assert!(rt; index.first_to_block_undo(&leaves(domain, 1), 2) == Some(3));
+    assert!(rt; index.first_to_block_undo(&leaves(domain, 100), 2) == Some(3));
+    assert!(rt; index.first_to_block_undo(&leaves(domain, 101), 2).is_none());
+    index.take(3, &[], &[], &came);
+    assert!(rt; index.first_to_block_undo(&leaves(domain, 50), 2).is_none());
+    assert!(rt; index.first_to_block_undo(&came, 2).is_none());
     Ok(())
 }
