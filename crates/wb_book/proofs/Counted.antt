@@ -1,10 +1,8 @@
 -- How many of the changes of a row are counted.
-use Rattle.std.proofs.Common.{◌≡◌, Bool, ℤ, List, [], ◌∷◌, length, map, zero, suc, Option, refl, ap}
+use Rattle.std.proofs.Common.{◌≡◌, ℤ, List, [], ◌∷◌, length, zero, suc, Option, refl, ap}
 use Rattle.wb_book.specs.declared.changes.row.Row.TheVariants.{Inside, Members, Elements}
 use Rattle.wb_book.specs.Cells.{Name, count_of}
-use Rattle.wb_book.specs.Runs.{packed_changes, inside_change, inside_changes}
-use Rattle.wb_book.specs.Shapes.{indices}
-use Rattle.wb_book.specs.declared.values.index.Index.{Index}
+use Rattle.wb_book.specs.Runs.{packed_changes}
 
 pub none_inside : (d : Name) (es : List (List ℤ × Option ℤ)) → count_of (packed_changes (Inside d) es) ≡ zero
 none_inside d [] = refl
@@ -17,10 +15,3 @@ all_members d (e ∷ es) = ap suc (all_members d es)
 pub all_elements : (a : Name) (es : List (List ℤ × Option ℤ)) → count_of (packed_changes (Elements a) es) ≡ length es
 all_elements a [] = refl
 all_elements a (e ∷ es) = ap suc (all_elements a es)
-
-none_of_indices : (d : Name) (comes : Bool) (is : List Index) → count_of (map (inside_change d comes) is) ≡ zero
-none_of_indices d comes [] = refl
-none_of_indices d comes (i ∷ is) = none_of_indices d comes is
-
-pub none_in_rectangle : (d : Name) (rs : List (List ℤ)) (comes : Bool) → count_of (inside_changes d rs comes) ≡ zero
-none_in_rectangle d rs comes = none_of_indices d comes (indices rs)

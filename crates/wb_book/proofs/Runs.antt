@@ -126,42 +126,42 @@ pub started_pushed : (b : Bool) (rs ss : List ChangeRun) (r : ChangeRun) (n : �
 started_pushed true rs ss r n is e h = rw is (one_started rs r n e h)
 started_pushed false rs ss r n is e h = rw is h
 
--- what a run has at its place, the list has there, where one change stands before the runs
-pub item_in : (rs : List ChangeRun) (k p : ℕ) (r : ChangeRun) (x : Change Cell Value) → AreStarted 1 rs → slice_get rs k ≡ Some r → HasPlace r p →
-    x ≡ get_or (changes_in r.form) (p - r.start) x → x ≡ get_or (all_changes rs) (p - 1) x
-item_in rs k p r x h at has is =
-    let start = started_at 1 rs k r h at in
+-- what a run has at its place, the list has there, where n changes stand before the runs
+item_in : (n : ℕ) (rs : List ChangeRun) (k p : ℕ) (r : ChangeRun) (x : Change Cell Value) → AreStarted n rs → slice_get rs k ≡ Some r → HasPlace r p →
+    x ≡ get_or (changes_in r.form) (p - r.start) x → x ≡ get_or (all_changes rs) (p - n) x
+item_in n rs k p r x h at has is =
+    let start = started_at n rs k r h at in
     let i = p - r.start in
     let low : i < length (changes_in r.form) = omega (arith, has.0, has.1) in
     let here = slice_get_read (changes_in r.form) (length (changes_in r.form)) i x refl low is in
-    sym (get_or_from_slice_get (all_changes rs) (p - 1) x x (stands_in rs k i (p - 1) r x at here (omega (arith, start, has.0))))
+    sym (get_or_from_slice_get (all_changes rs) (p - n) x x (stands_in rs k i (p - n) r x at here (omega (arith, start, has.0))))
 
 -- the same whatever stands for what is not there
-pub stands_at : (rs : List ChangeRun) (k p : ℕ) (r : ChangeRun) (d : Change Cell Value) → AreStarted 1 rs → slice_get rs k ≡ Some r → HasPlace r p →
-    p < 1 + length (all_changes rs) → get_or (changes_in r.form) (p - r.start) d ≡ get_or (all_changes rs) (p - 1) d
-stands_at rs k p r d h at has within =
+pub stands_at : (n : ℕ) (rs : List ChangeRun) (k p : ℕ) (r : ChangeRun) (d : Change Cell Value) → AreStarted n rs → slice_get rs k ≡ Some r → HasPlace r p →
+    p < n + length (all_changes rs) → get_or (changes_in r.form) (p - r.start) d ≡ get_or (all_changes rs) (p - n) d
+stands_at n rs k p r d h at has within =
     let i = p - r.start in
     let x = get_or (changes_in r.form) i d in
     let low : i < length (changes_in r.form) = omega (arith, has.0, has.1) in
-    let start = started_at 1 rs k r h at in
-    item_in rs k p r x h at has (get_or_default (changes_in r.form) i d x low)
-    ∙ get_or_default (all_changes rs) (p - 1) x d (omega (arith, start, has.0, within))
+    let start = started_at n rs k r h at in
+    item_in n rs k p r x h at has (get_or_default (changes_in r.form) i d x low)
+    ∙ get_or_default (all_changes rs) (p - n) x d (omega (arith, start, has.0, within))
 
 -- a place behind the runs before one, which isn't its own, is behind it
-pub past_run : (rs : List ChangeRun) (k p : ℕ) (r : ChangeRun) → AreStarted 1 rs → slice_get rs k ≡ Some r → (HasPlace r p → ⊥) →
-    1 + length (all_changes (take k rs)) ≤ p → 1 + length (all_changes (take (k + 1) rs)) ≤ p
-past_run rs k p r h at none behind =
-    let start = started_at 1 rs k r h at in
+past_run : (n : ℕ) (rs : List ChangeRun) (k p : ℕ) (r : ChangeRun) → AreStarted n rs → slice_get rs k ≡ Some r → (HasPlace r p → ⊥) →
+    n + length (all_changes (take k rs)) ≤ p → n + length (all_changes (take (k + 1) rs)) ≤ p
+past_run n rs k p r h at none behind =
+    let start = started_at n rs k r h at in
     let more = one_run_more rs k r at in
     let same : length (all_changes (take (k + 1) rs)) ≡ length (all_changes (take (suc k) rs)) = ap (λ j. length (all_changes (take j rs))) (add-one k) in
     let far : r.start + length (changes_in r.form) < suc p = lt_of_not-le (λ low. none (omega (arith, start, behind), omega (arith, low))) in
     omega (arith, start, more, same, far)
 
 -- the same of the run of a number
-pub past_number : (rs : List ChangeRun) (k p : ℕ) → AreStarted 1 rs → k < length rs → ((r : ChangeRun) → slice_get rs k ≡ Some r → HasPlace r p → ⊥) →
-    1 + length (all_changes (take k rs)) ≤ p → 1 + length (all_changes (take (k + 1) rs)) ≤ p
-past_number rs k p h low none behind =
+pub past_number : (n : ℕ) (rs : List ChangeRun) (k p : ℕ) → AreStarted n rs → k < length rs → ((r : ChangeRun) → slice_get rs k ≡ Some r → HasPlace r p → ⊥) →
+    n + length (all_changes (take k rs)) ≤ p → n + length (all_changes (take (k + 1) rs)) ≤ p
+past_number n rs k p h low none behind =
     elim (slice_get_cases rs k).1 [
-      | inl found ↦ past_run rs k p found.0 h found.2 (none found.0 found.2) behind
+      | inl found ↦ past_run n rs k p found.0 h found.2 (none found.0 found.2) behind
       | inr past ↦ absurd (omega (arith, past.0, low))
     ]

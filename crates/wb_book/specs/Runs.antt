@@ -1,6 +1,6 @@
 -- Lists of changes that are kept in runs.
-use Rattle.std.specs.Prelude.{if◌then◌else◌, ◌≡◌, ⊤, Bool, ℕ, ◌+◌, ◌<◌, ◌≤◌, ℤ, List, [], ◌∷◌, ◌++◌, length, map, Option, Some, None, option_map}
-use Rattle.std.specs.List.{flat_map}
+use Rattle.std.specs.Prelude.{◌≡◌, ⊤, ℕ, ◌+◌, ◌<◌, ◌≤◌, ℤ, List, [], ◌∷◌, ◌++◌, length, map, Option, Some, None, option_map}
+use Rattle.std.specs.List.{flat_map, zip}
 use Rattle.std.specs.Global.{Vec}
 use Rattle.selective_undo.specs.declared.Change.{Change}
 use Rattle.wb_book.specs.declared.cells.cell.Cell.{Cell}
@@ -11,12 +11,12 @@ use Rattle.wb_book.specs.declared.changes.indexed.IndexedChange.{IndexedChange}
 use Rattle.wb_book.specs.declared.changes.row.Row.{Row}
 use Rattle.wb_book.specs.declared.changes.row.Row.TheVariants.{Inside, Members, Elements}
 use Rattle.wb_book.specs.declared.changes.run.Form.{Form}
-use Rattle.wb_book.specs.declared.changes.run.Form.TheVariants.{One, Line, Plane, Solid, Rectangle}
+use Rattle.wb_book.specs.declared.changes.run.Form.TheVariants.{One, Line, Plane, Solid, Rectangle, Numbers}
 use Rattle.wb_book.specs.declared.changes.run.ChangeRun.{ChangeRun}
 use Rattle.wb_book.specs.declared.values.index.Index.{Index}
 use Rattle.wb_book.specs.declared.values.index.Index.TheVariants.{Point}
-use Rattle.wb_book.specs.Cells.{Changes, Name, count_of}
-use Rattle.wb_book.specs.Shapes.{indices}
+use Rattle.wb_book.specs.Cells.{Changes, count_of}
+use Rattle.wb_rect.specs.Product.{product}
 
 -- the cell of an index
 abbrev pub cell_of : Row → Index → Cell
@@ -41,13 +41,13 @@ packed_changes row es = map (change_at row) es
 abbrev pub indexed_change : IndexedChange → Change Cell Value
 indexed_change e = record { cell = cell_of e.row e.index; value = option_map (value_of e.row) e.number }
 
--- an index comes to a rectangular domain, or leaves it
-abbrev pub inside_change : Name → Bool → Index → Change Cell Value
-inside_change d comes i = record { cell = In d i; value = if comes then Some Present else None }
+-- the same number, or none, at each index of a rectangle
+abbrev pub rectangle_entries : List (List ℤ) → Option ℤ → List (List ℤ × Option ℤ)
+rectangle_entries rs n = map (λ p. (p, n)) (product rs)
 
--- every index of a rectangle comes to a rectangular domain, or leaves it
-abbrev pub inside_changes : Name → List (List ℤ) → Bool → Changes
-inside_changes d rs comes = map (inside_change d comes) (indices rs)
+-- numbers at the indices of a rectangle, the first at the first index and so on
+abbrev pub numbered_entries : List (List ℤ) → List ℤ → List (List ℤ × Option ℤ)
+numbered_entries rs ns = zip (product rs) (map (λ n. Some n) ns)
 
 -- the changes of a run
 abbrev pub changes_in : Form → Changes
@@ -55,7 +55,8 @@ changes_in (One x) = x ∷ []
 changes_in (Line p) = packed_changes p.row p.changes.items
 changes_in (Plane p) = packed_changes p.row p.changes.items
 changes_in (Solid p) = packed_changes p.row p.changes.items
-changes_in (Rectangle r) = inside_changes r.domain r.ranges r.comes
+changes_in (Rectangle r) = packed_changes r.row (rectangle_entries r.ranges r.number)
+changes_in (Numbers r) = packed_changes r.row (numbered_entries r.ranges r.numbers.items)
 
 -- those of runs, one after another
 abbrev pub all_changes : List ChangeRun → Changes
@@ -82,9 +83,8 @@ AreStarted n (r ∷ rs) = (r.start ≡ n) × AreStarted (n + length (changes_in 
 abbrev pub HasPlace : ChangeRun → ℕ → Type 0
 HasPlace r at = (r.start ≤ at) × (at < r.start + length (changes_in r.form))
 
--- the list is counted, and has a first change where it has any
+-- the list is counted
 pub record IsList (first : Option (Change Cell Value)) (runs : Option (Vec ChangeRun)) (n k : ℕ) : Type 0 where
   pub all : n ≡ length (changes_of first runs)
   pub counted : k ≡ count_of (changes_of first runs)
-  pub begun : first ≡ None → runs_in runs ≡ []
   pub started : AreStarted (length (in_first first)) (runs_in runs)

@@ -1,8 +1,7 @@
-ghost use Rattle.std.specs.Prelude.{◌≡◌, ◌<◌, ℕ, List, [], ◌∷◌, ◌++◌, length, Some, None, false, OnOk, OnErr};
+ghost use Rattle.std.specs.Prelude.{◌≡◌, List, [], ◌∷◌, ◌++◌, false, OnOk, OnErr};
 ghost use Rattle.selective_undo.specs.Changes.{changes, AllOnce};
 ghost use Rattle.wb_book.specs.Cells.{cell_cmp, count_of};
-ghost use Rattle.wb_book.specs.Runs.{indexed_change, inside_changes};
-ghost use Rattle.wb_book.specs.declared.cells.cell.Cell.TheVariants.{In};
+ghost use Rattle.wb_book.specs.Runs.{cell_of, indexed_change, packed_changes, rectangle_entries, numbered_entries};
 ghost use Rattle.wb_book.specs.declared.values.index.Index.{Index};
 
 use crate::cells::cell::Cell;
@@ -10,9 +9,10 @@ use crate::cells::value::Value;
 use crate::changes::change::CellChange;
 use crate::changes::indexed::IndexedChange;
 use crate::changes::list::Changes;
+use crate::changes::numbers::RectangleNumbers;
 use crate::changes::rectangle::RectangleChanges;
+use crate::changes::row::Row;
 use crate::changes::run::Form;
-use crate::values::name::Name;
 use crate::values::rectangle::AnyRect;
 use std::alloc::Global;
 use std::marker::Model;
@@ -69,22 +69,38 @@ impl Delta {
         self.changes.push_indexed(self.alloc, change)
     }
 
-    /// Adds, behind some changes, that every index of a rectangle comes to a domain or leaves it, none of which is there yet.
-    /// However many there are, they take the room of their ranges.
-    pub fn put_inside(
+    /// Adds that the cells of a row at every index of a rectangle, none of which is there yet, become what a number stands
+    /// for, or absent. However many there are, they take the room of their ranges.
+    pub fn put_rectangle(
         &mut self,
-        domain: Name,
+        row: &Row,
         ranges: &AnyRect,
-        comes: bool,
+        number: Option<i64>,
     ) -> Result<(), NoMemory>
-        requires some { 0 < length self.old }
-        requires fresh { (i : Index) → changes cell_cmp self.old (In domain i) ≡ false }
-        ensures ok { OnOk result (self.new ≡ self.old ++ inside_changes domain ranges.now comes) }
+        requires { (i : Index) → changes cell_cmp self.old (cell_of row.now i) ≡ false }
+        ensures ok { OnOk result (self.new ≡ self.old ++ packed_changes row.now (rectangle_entries ranges.now number)) }
         ensures err { OnErr result (self.new ≡ self.old) }
     {
         let _once = ranges.size();
-        let inside = RectangleChanges::new(domain, *ranges, comes);
-        self.changes.push_run(self.alloc, Form::Rectangle(inside))
+        let made = RectangleChanges::new(*row, *ranges, number);
+        self.changes.push_run(self.alloc, Form::Rectangle(made))
+    }
+
+    /// Adds that the cells of a row at the indices of a rectangle, none of which is there yet, become what numbers stand for,
+    /// the first at the first index and so on. They take the room of the numbers.
+    pub fn put_numbers(
+        &mut self,
+        row: &Row,
+        ranges: &AnyRect,
+        numbers: Vec<i64>,
+    ) -> Result<(), NoMemory>
+        requires { (i : Index) → changes cell_cmp self.old (cell_of row.now i) ≡ false }
+        ensures ok { OnOk result (self.new ≡ self.old ++ packed_changes row.now (numbered_entries ranges.now numbers.entry.items)) }
+        ensures err { OnErr result (self.new ≡ self.old) }
+    {
+        let _once = ranges.size();
+        let made = RectangleNumbers::new(*row, *ranges, numbers);
+        self.changes.push_run(self.alloc, Form::Numbers(made))
     }
 
     /// How many cells change; the cells `In`, which follow from the shapes, are not counted.

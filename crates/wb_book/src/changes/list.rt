@@ -20,8 +20,8 @@ use std::alloc::Global;
 use std::marker::Model;
 use wb_range::NoMemory;
 
-/// A list of changes. The first needs no memory; those behind it that have an index and are of one row, one after another,
-/// are kept by their points. Contracts see the list.
+/// A list of changes. A first one that stands alone needs no memory; others that have an index and are of one row, one after
+/// another, are kept by their points, and those of a rectangle by its ranges. Contracts see the list.
 #[derive(Drop)]
 pub struct Changes {
     first: Option<CellChange>,
@@ -81,7 +81,7 @@ impl Changes {
             return Err(NoMemory);
         };
         let counted = self.counted + counted_one(&change);
-        if self.first.is_none() {
+        if self.first.is_none() && self.runs.is_none() {
             self.first = Some(change);
         } else {
             put(alloc, &mut self.runs, self.len, &change)?;
@@ -108,9 +108,8 @@ impl Changes {
         self.push(alloc, change.change())
     }
 
-    /// Adds the changes of a run behind the others, of which there are some, or nothing where no memory is left.
+    /// Adds the changes of a run behind the others, or nothing where no memory is left.
     pub fn push_run(&mut self, alloc: Global, form: Form) -> Result<(), NoMemory>
-        requires { 0 < length self.old }
         ensures ok { OnOk result (self.new ≡ self.old ++ changes_in form) }
         ensures err { OnErr result (self.new ≡ self.old) }
     {
@@ -138,10 +137,9 @@ impl Changes {
         self.counted
     }
 
-    /// The first change, and the runs of those behind it.
+    /// The first change, if it stands alone, and the runs of the others.
     pub fn parts(&self) -> (Option<CellChange>, &[ChangeRun])
-        ensures all { self.now ≡ in_first result.0 ++ all_changes result.1.now }
-        ensures begun { result.0 ≡ None → result.1.now ≡ [] }
+        ensures { self.now ≡ in_first result.0 ++ all_changes result.1.now }
     {
         let runs = match &self.runs {
             None => &[],
@@ -150,55 +148,19 @@ impl Changes {
         (self.first, runs)
     }
 
-    /// The change at a place. `near` is a run to look at first, and becomes the one to look at for the place behind this one.
-    pub fn change_near(&self, at: usize, near: &mut usize) -> CellChange
-        requires { at < length self.now }
-        ensures { result ≡ get_or self.now at result }
-    {
-        match &self.first {
-            None => unreachable!(),
-            Some(first) => {
-                if at == 0 {
-                    return *first;
-                }
-                match &self.runs {
-                    None => unreachable!(),
-                    Some(runs) => change_in(runs.as_slice(), at, near),
-                }
-            }
-        }
-    }
-
     /// The cell that changes at a place.
     pub fn cell_near(&self, at: usize, near: &mut usize) -> Cell
         requires { at < length self.now }
         ensures { (d : Change cell_type value_type) → result ≡ (get_or self.now at d).cell }
     {
         match &self.first {
-            None => unreachable!(),
+            None => cell_behind(&self.runs, 0, at, near),
             Some(first) => {
                 if at == 0 {
                     return first.cell();
                 }
-                match &self.runs {
-                    None => unreachable!(),
-                    Some(runs) => cell_in(runs.as_slice(), at, near),
-                }
+                cell_behind(&self.runs, 1, at, near)
             }
-        }
-    }
-
-    /// The change at a place, if it is packed.
-    pub fn indexed_near(&self, at: usize, near: &mut usize) -> Option<IndexedChange>
-        requires { at < length self.now }
-        ensures { IfSome result (λ e. indexed_change e ≡ get_or self.now at (indexed_change e)) }
-    {
-        if self.first.is_none() || at == 0 {
-            return None;
-        }
-        match &self.runs {
-            None => None,
-            Some(runs) => indexed_in(runs.as_slice(), at, near),
         }
     }
 }
@@ -242,50 +204,39 @@ fn counted_of(row: &Row) -> usize
     }
 }
 
-// The change at a place of the list, behind the first one. `near` is a run to look at first, and becomes the run of the place.
-fn change_in(runs: &[ChangeRun], at: usize, near: &mut usize) -> CellChange
-    requires started { AreStarted 1 runs.now }
-    requires behind { 1 ≤ at }
-    requires within { at < 1 + length (all_changes runs.now) }
-    ensures { result ≡ get_or (all_changes runs.now) (at - 1) result }
+// The cell that changes at a place of the list, of which so many stand before the runs. `near` is a run to look at first, and
+// becomes the run of the place.
+fn cell_behind(runs: &Option<Vec<ChangeRun>>, before: usize, at: usize, near: &mut usize) -> Cell
+    requires started { AreStarted before (runs_in runs.now) }
+    requires behind { before ≤ at }
+    requires within { at < before + length (all_changes (runs_in runs.now)) }
+    ensures { (d : Change cell_type value_type) → result ≡ (get_or (all_changes (runs_in runs.now)) (at - before) d).cell }
 {
-    let number = run_of(runs, at, *near);
-    *near = number;
-    let run = &runs[number];
-    run.change(at - run.start)
+    match runs {
+        None => unreachable!(),
+        Some(runs) => cell_in(runs.as_slice(), before, at, near),
+    }
 }
 
-// The cell that changes there.
-fn cell_in(runs: &[ChangeRun], at: usize, near: &mut usize) -> Cell
-    requires started { AreStarted 1 runs.now }
-    requires behind { 1 ≤ at }
-    requires within { at < 1 + length (all_changes runs.now) }
-    ensures { (d : Change cell_type value_type) → result ≡ (get_or (all_changes runs.now) (at - 1) d).cell }
+// The same of runs.
+fn cell_in(runs: &[ChangeRun], before: usize, at: usize, near: &mut usize) -> Cell
+    requires started { AreStarted before runs.now }
+    requires behind { before ≤ at }
+    requires within { at < before + length (all_changes runs.now) }
+    ensures { (d : Change cell_type value_type) → result ≡ (get_or (all_changes runs.now) (at - before) d).cell }
 {
-    let number = run_of(runs, at, *near);
+    let number = run_of(runs, before, at, *near);
     *near = number;
     let run = &runs[number];
     run.cell(at - run.start)
 }
 
-// The change there, where it is packed.
-fn indexed_in(runs: &[ChangeRun], at: usize, near: &mut usize) -> Option<IndexedChange>
-    requires started { AreStarted 1 runs.now }
-    requires behind { 1 ≤ at }
-    requires within { at < 1 + length (all_changes runs.now) }
-    ensures { IfSome result (λ e. indexed_change e ≡ get_or (all_changes runs.now) (at - 1) (indexed_change e)) }
-{
-    let number = run_of(runs, at, *near);
-    *near = number;
-    let run = &runs[number];
-    run.indexed(at - run.start)
-}
-
-// The number of the run that has a place of the list, behind the first one. It is looked for from a run on, and then from the first.
-fn run_of(runs: &[ChangeRun], at: usize, near: usize) -> usize
-    requires started { AreStarted 1 runs.now }
-    requires behind { 1 ≤ at }
-    requires within { at < 1 + length (all_changes runs.now) }
+// The number of the run that has a place of the list, of which so many stand before the runs. It is looked for from a run on,
+// and then from the first.
+fn run_of(runs: &[ChangeRun], before: usize, at: usize, near: usize) -> usize
+    requires started { AreStarted before runs.now }
+    requires behind { before ≤ at }
+    requires within { at < before + length (all_changes runs.now) }
     ensures number { result < length runs.now }
     ensures place { (r : change_run) → slice_get runs.now result ≡ Some r → HasPlace r at }
 {

@@ -5,6 +5,7 @@ pub mod delta;
 pub mod indexed;
 pub mod inverse;
 pub mod list;
+pub mod numbers;
 pub mod packed;
 pub mod rectangle;
 pub mod row;

@@ -74,18 +74,6 @@ fn indexed_entry<const R: usize>(
     Some((point, change.number))
 }
 
-// The change that a point and a number stand for.
-fn indexed_at<const R: usize>(row: &Row, entry: &([i64; R], Option<i64>)) -> IndexedChange
-    requires { R ≤ 3 }
-    ensures { indexed_change result ≡ change_at row.now entry.now }
-{
-    IndexedChange {
-        row: *row,
-        index: index_at(&entry.0),
-        number: entry.1,
-    }
-}
-
 impl<const R: usize> Packed<R> {
     /// Changes of cells of a row, each by its point and a number.
     pub fn new(row: Row, changes: Vec<([i64; R], Option<i64>)>) -> Packed<R>
@@ -172,16 +160,6 @@ impl<const R: usize> Packed<R> {
             return Err(NoMemory);
         }
         Ok(true)
-    }
-
-    /// The change at a place, by its index.
-    pub(crate) fn indexed(&self, at: usize) -> IndexedChange
-        requires rank { R ≤ 3 }
-        requires place { at < length (packed_changes self.now.row self.now.changes.items) }
-        ensures { indexed_change result ≡ get_or (packed_changes self.now.row self.now.changes.items) at (indexed_change result) }
-    {
-        let changes = self.changes.as_slice();
-        indexed_at(&self.row, &changes[at])
     }
 
     /// The cell that changes at a place.

@@ -1,68 +1,46 @@
-//! Every index of a rectangle comes to a rectangular domain, or leaves it.
+//! The same number, or none, at each index of a rectangle.
 
 ghost use Rattle.std.specs.Prelude.{◌≡◌, ◌<◌, length, get_or};
 ghost use Rattle.selective_undo.specs.declared.Change.{Change};
 ghost use Rattle.wb_book.specs.declared.cells.cell.Cell.{Cell as cell_type};
 ghost use Rattle.wb_book.specs.declared.cells.value.Value.{Value as value_type};
-ghost use Rattle.wb_book.specs.Runs.{inside_change, inside_changes, indexed_change};
+ghost use Rattle.wb_book.specs.Cells.{count_of};
+ghost use Rattle.wb_book.specs.Runs.{packed_changes, rectangle_entries};
+ghost use Rattle.wb_book.specs.Shapes.{indices};
+ghost use Rattle.std.specs.Prelude.{slice_get, Some};
 
 use crate::cells::cell::Cell;
-use crate::cells::value::Value;
 use crate::changes::change::CellChange;
-use crate::changes::indexed::IndexedChange;
 use crate::changes::row::Row;
 use crate::values::index::AnyIndex;
-use crate::values::name::Name;
 use crate::values::rectangle::AnyRect;
 
-/// Every index of a rectangle comes to a rectangular domain, or leaves it. However many there are, they take the room of
-/// their ranges.
+/// Changes of the cells of a row at every index of a rectangle, to the same number each, or to absent. However many there
+/// are, they take the room of their ranges.
 #[derive(Clone, Copy)]
 pub struct RectangleChanges {
-    pub(crate) domain: Name,
+    pub(crate) row: Row,
     pub(crate) ranges: AnyRect,
-    pub(crate) comes: bool,
-}
-
-// The change by which an index comes to a domain, or leaves it.
-fn inside_change(domain: &Name, comes: bool, index: AnyIndex) -> CellChange
-    ensures { result ≡ inside_change domain.now comes index }
-{
-    if comes {
-        CellChange::new(Cell::In(*domain, index), Some(Value::Present))
-    } else {
-        CellChange::new(Cell::In(*domain, index), None)
-    }
-}
-
-// The number by which it is told that an index comes, or that it leaves.
-fn indexed_inside(domain: &Name, comes: bool, index: AnyIndex) -> IndexedChange
-    ensures { indexed_change result ≡ inside_change domain.now comes index }
-{
-    IndexedChange {
-        row: Row::Inside(*domain),
-        index,
-        number: if comes { Some(0) } else { None },
-    }
+    pub(crate) number: Option<i64>,
 }
 
 impl RectangleChanges {
-    /// Every index of the ranges comes to the domain, or leaves it.
-    pub fn new(domain: Name, ranges: AnyRect, comes: bool) -> RectangleChanges
-        ensures { result ≡ record { domain = domain; ranges = ranges; comes = comes } }
+    /// The cells of the row at every index of the ranges become what the number stands for, or absent.
+    pub fn new(row: Row, ranges: AnyRect, number: Option<i64>) -> RectangleChanges
+        ensures { result ≡ record { row = row; ranges = ranges; number = number } }
     {
         RectangleChanges {
-            domain,
+            row,
             ranges,
-            comes,
+            number,
         }
     }
 
-    /// The domain.
-    pub fn domain(&self) -> &Name
-        ensures { result.now ≡ self.now.domain }
+    /// The cells of which those that change are.
+    pub fn row(&self) -> &Row
+        ensures { result.now ≡ self.now.row }
     {
-        &self.domain
+        &self.row
     }
 
     /// The ranges of the indices.
@@ -72,54 +50,56 @@ impl RectangleChanges {
         &self.ranges
     }
 
-    /// Whether the indices come to the domain; else they leave it.
-    pub fn comes(&self) -> bool
-        ensures { result ≡ self.now.comes }
+    /// The number that each becomes, if they are to be there.
+    pub fn number(&self) -> Option<i64>
+        ensures { result ≡ self.now.number }
     {
-        self.comes
+        self.number
     }
 
     /// How many changes there are.
     pub(crate) fn len(&self) -> usize
-        ensures { result ≡ length (inside_changes self.now.domain self.now.ranges self.now.comes) }
+        ensures { result ≡ length (packed_changes self.now.row (rectangle_entries self.now.ranges self.now.number)) }
     {
         self.ranges.size()
     }
 
-    // The index at a place.
-    fn index(&self, at: usize) -> AnyIndex
-        requires { at < length (inside_changes self.now.domain self.now.ranges self.now.comes) }
-        ensures { (d : Change cell_type value_type) →
-            inside_change self.now.domain self.now.comes result ≡ get_or (inside_changes self.now.domain self.now.ranges self.now.comes) at d }
+    // How many of the cells are counted: all but `In`.
+    pub(crate) fn count(&self) -> usize
+        ensures { result ≡ count_of (packed_changes self.now.row (rectangle_entries self.now.ranges self.now.number)) }
     {
-        match self.ranges.nth(at) {
-            Some(index) => index,
-            None => unreachable!(),
+        match &self.row {
+            Row::Inside(_) => 0,
+            Row::Members(_) => self.len(),
+            Row::Elements(_) => self.len(),
         }
     }
 
     /// The change at a place.
     pub(crate) fn change(&self, at: usize) -> CellChange
-        requires { at < length (inside_changes self.now.domain self.now.ranges self.now.comes) }
-        ensures { result ≡ get_or (inside_changes self.now.domain self.now.ranges self.now.comes) at result }
+        requires { at < length (packed_changes self.now.row (rectangle_entries self.now.ranges self.now.number)) }
+        ensures { result ≡ get_or (packed_changes self.now.row (rectangle_entries self.now.ranges self.now.number)) at result }
     {
-        inside_change(&self.domain, self.comes, self.index(at))
+        self.row.change(index_in(&self.ranges, at), self.number)
     }
 
     /// The cell that changes at a place.
     pub(crate) fn cell(&self, at: usize) -> Cell
-        requires { at < length (inside_changes self.now.domain self.now.ranges self.now.comes) }
+        requires { at < length (packed_changes self.now.row (rectangle_entries self.now.ranges self.now.number)) }
         ensures { (d : Change cell_type value_type) →
-            result ≡ (get_or (inside_changes self.now.domain self.now.ranges self.now.comes) at d).cell }
+            result ≡ (get_or (packed_changes self.now.row (rectangle_entries self.now.ranges self.now.number)) at d).cell }
     {
-        Cell::In(self.domain, self.index(at))
+        self.row.cell(index_in(&self.ranges, at))
     }
+}
 
-    /// The change at a place, by its index.
-    pub(crate) fn indexed(&self, at: usize) -> IndexedChange
-        requires { at < length (inside_changes self.now.domain self.now.ranges self.now.comes) }
-        ensures { indexed_change result ≡ get_or (inside_changes self.now.domain self.now.ranges self.now.comes) at (indexed_change result) }
-    {
-        indexed_inside(&self.domain, self.comes, self.index(at))
+/// The index at a place of a rectangle.
+pub(crate) fn index_in(ranges: &AnyRect, at: usize) -> AnyIndex
+    requires { at < length (indices ranges.now) }
+    ensures { slice_get (indices ranges.now) at ≡ Some result }
+{
+    match ranges.nth(at) {
+        Some(index) => index,
+        None => unreachable!(),
     }
 }

@@ -60,7 +60,7 @@ impl Row {
     }
 
     /// A number by which a value stands in one of these cells, or that none does, if the value may stand there.
-    pub(crate) fn number(&self, value: &Option<Value>) -> Option<Option<i64>>
+    pub fn number(&self, value: &Option<Value>) -> Option<Option<i64>>
         ensures { IfSome result (λ n. option_map (value_of self.now) n ≡ value.now) }
     {
         match value {

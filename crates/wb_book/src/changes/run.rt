@@ -1,6 +1,6 @@
 //! Changes that stand one after another, packed where they may be.
 
-ghost use Rattle.std.specs.Prelude.{◌≡◌, ◌<◌, [], ◌∷◌, ◌++◌, true, false, length, get_or, Ok, OnErr, IfOk, IfSome};
+ghost use Rattle.std.specs.Prelude.{◌≡◌, ◌<◌, [], ◌∷◌, ◌++◌, true, false, length, get_or, Ok, OnErr, IfOk};
 ghost use Rattle.std.specs.Bool.{Decides};
 ghost use Rattle.selective_undo.specs.declared.Change.{Change};
 ghost use Rattle.wb_book.specs.declared.cells.cell.Cell.{Cell as cell_type};
@@ -11,6 +11,7 @@ ghost use Rattle.wb_book.specs.Runs.{changes_in, indexed_change, HasPlace};
 use crate::cells::cell::Cell;
 use crate::changes::change::{CellChange, counted_one};
 use crate::changes::indexed::IndexedChange;
+use crate::changes::numbers::RectangleNumbers;
 use crate::changes::packed::Packed;
 use crate::changes::rectangle::RectangleChanges;
 use crate::changes::row::Row;
@@ -28,8 +29,10 @@ pub enum Form {
     Plane(Packed<2>),
     /// Changes at triples.
     Solid(Packed<3>),
-    /// Every index of a rectangle comes to a domain, or leaves it.
+    /// The same number, or none, at each index of a rectangle.
     Rectangle(RectangleChanges),
+    /// A number at each index of a rectangle.
+    Numbers(RectangleNumbers),
 }
 
 /// Changes that stand one after another in a list, from a place on.
@@ -71,6 +74,7 @@ impl Form {
             Form::Plane(plane) => plane.add(change),
             Form::Solid(solid) => solid.add(change),
             Form::Rectangle(_) => Ok(false),
+            Form::Numbers(_) => Ok(false),
         }
     }
 }
@@ -88,6 +92,7 @@ impl Form {
             Form::Plane(plane) => plane.add_indexed(change),
             Form::Solid(solid) => solid.add_indexed(change),
             Form::Rectangle(_) => Ok(false),
+            Form::Numbers(_) => Ok(false),
         }
     }
 }
@@ -103,11 +108,11 @@ impl Form {
             Form::Plane(plane) => plane.len(),
             Form::Solid(solid) => solid.len(),
             Form::Rectangle(rectangle) => rectangle.len(),
+            Form::Numbers(rectangle) => rectangle.len(),
         }
     }
 
     // How many of the cells are counted: all but `In`.
-    #[tactic(auto, using(crate::proofs::Counted::none_in_rectangle))]
     pub(crate) fn count(&self) -> usize
         ensures { result ≡ count_of (changes_in self.now) }
     {
@@ -116,7 +121,8 @@ impl Form {
             Form::Line(line) => line.count(),
             Form::Plane(plane) => plane.count(),
             Form::Solid(solid) => solid.count(),
-            Form::Rectangle(_) => 0,
+            Form::Rectangle(rectangle) => rectangle.count(),
+            Form::Numbers(rectangle) => rectangle.count(),
         }
     }
 }
@@ -147,6 +153,7 @@ impl ChangeRun {
             Form::Plane(plane) => plane.change(at),
             Form::Solid(solid) => solid.change(at),
             Form::Rectangle(rectangle) => rectangle.change(at),
+            Form::Numbers(rectangle) => rectangle.change(at),
         }
     }
 
@@ -161,20 +168,7 @@ impl ChangeRun {
             Form::Plane(plane) => plane.cell(at),
             Form::Solid(solid) => solid.cell(at),
             Form::Rectangle(rectangle) => rectangle.cell(at),
-        }
-    }
-
-    // The change at a place, if it is packed.
-    pub(crate) fn indexed(&self, at: usize) -> Option<IndexedChange>
-        requires { at < length (changes_in self.now.form) }
-        ensures { IfSome result (λ e. indexed_change e ≡ get_or (changes_in self.now.form) at (indexed_change e)) }
-    {
-        match &self.form {
-            Form::One(_) => None,
-            Form::Line(line) => Some(line.indexed(at)),
-            Form::Plane(plane) => Some(plane.indexed(at)),
-            Form::Solid(solid) => Some(solid.indexed(at)),
-            Form::Rectangle(rectangle) => Some(rectangle.indexed(at)),
+            Form::Numbers(rectangle) => rectangle.cell(at),
         }
     }
 

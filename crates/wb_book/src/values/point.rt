@@ -75,8 +75,8 @@ impl Point {
         }
     }
 
-    // The point with these coordinates.
-    pub(crate) fn of(coordinates: &[i64]) -> Point
+    /// The point with these coordinates, of which there are at most 3.
+    pub fn of(coordinates: &[i64]) -> Point
         requires { length coordinates.now ≤ 3 }
         ensures { result ≡ coordinates.now }
     {

@@ -12,5 +12,5 @@ pub returns-then-has_place-3-clause-place : goal.returns-then-has_place-3-clause
 returns-then-has_place-3-clause-place c = λ r e. (c.has_place-in-loop-number.ensures.place r e).0 c.if-has_place-3.true
 
 pub loop-number-preserved : goal.loop-number-preserved
-loop-number-preserved c = past_number c.args.runs.now c.loop-number.number c.args.at c.requires.started c.loop-number-test.true
+loop-number-preserved c = past_number c.args.before c.args.runs.now c.loop-number.number c.args.at c.requires.started c.loop-number-test.true
     (λ r e. not_from_Decides c.has_place-in-loop-number.result (c.has_place-in-loop-number.ensures.place r e) c.if-has_place-3.false) c.loop-number.invariant

@@ -4,4 +4,4 @@ use Rattle.wb_book.proofs.changes.list.run_of.Given as goal
 
 -- the place is none of the runs that were passed
 abbrev pub invariant-loop-number : goal.invariant-loop-number
-invariant-loop-number l = 1 + length (all_changes (take l.number l.runs)) ≤ l.at
+invariant-loop-number l = l.before + length (all_changes (take l.number l.runs)) ≤ l.at
