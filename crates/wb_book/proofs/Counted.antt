@@ -15,3 +15,12 @@ all_members d (e ∷ es) = ap suc (all_members d es)
 pub all_elements : (a : Name) (es : List (List ℤ × Option ℤ)) → count_of (packed_changes (Elements a) es) ≡ length es
 all_elements a [] = refl
 all_elements a (e ∷ es) = ap suc (all_elements a es)
+
+-- all that there are
+pub members_counted : (d : Name) (es : List (List ℤ × Option ℤ)) → count_of (packed_changes (Members d) es) ≡ length (packed_changes (Members d) es)
+members_counted d [] = refl
+members_counted d (e ∷ es) = ap suc (members_counted d es)
+
+pub elements_counted : (a : Name) (es : List (List ℤ × Option ℤ)) → count_of (packed_changes (Elements a) es) ≡ length (packed_changes (Elements a) es)
+elements_counted a [] = refl
+elements_counted a (e ∷ es) = ap suc (elements_counted a es)

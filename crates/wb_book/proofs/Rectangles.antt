@@ -1,10 +1,11 @@
 -- Changes at the indices of a rectangle: what stands at a place of them, and that they change each cell once.
-use Rattle.std.proofs.Common.{◌≡◌, ℕ, zero, suc, ◌<◌, Bool, ℤ, false, List, [], ◌∷◌, ◌++◌, map, Result, Ok, Err, OnOk, OnErr, Option, Some, refl, sym, ap, ◌∙◌}
+use Rattle.std.proofs.Common.{◌≡◌, ℕ, zero, suc, ◌<◌, ◌≤◌, ℤ, false, List, [], ◌∷◌, ◌++◌, map, Result, Ok, Err, OnOk, OnErr, Option, Some, refl, sym, ap, ◌∙◌}
 use Rattle.std.proofs.Common.{length, slice_get, subst, append_assoc, arith, min}
 use Rattle.std.specs.List.{zip}
 use Rattle.std.specs.Prelude.{option_map}
 use Rattle.std.specs.Ordering.{eq_by_cmp}
 use Rattle.std.specs.Cmp.{Equal-is}
+use Rattle.std.proofs.Math.Nat.{min-eq_left, min-eq_right, min-le_left, min-le_right}
 use Rattle.std.proofs.lemmas.List.{length-map}
 use Rattle.std.proofs.lemmas.Option.{slice_get-map}
 use Rattle.std.proofs.lemmas.Slice.Zip.{length-zip}
@@ -14,6 +15,7 @@ use Rattle.selective_undo.proofs.Log.{get-map}
 use Rattle.wb_range.specs.Domain.{IsListedOnce}
 use Rattle.wb_rect.specs.Product.{product}
 use Rattle.wb_book.specs.declared.cells.cell.Cell.{Cell}
+use Rattle.wb_book.specs.declared.cells.cell.Cell.TheVariants.{In, Member, Element}
 use Rattle.wb_book.specs.declared.changes.row.Row.{Row}
 use Rattle.wb_book.specs.declared.changes.row.Row.TheVariants.{Inside, Members, Elements}
 use Rattle.wb_book.specs.declared.values.index.Index.{Index}
@@ -36,6 +38,23 @@ length_numbered row rs ns =
     length-map (numbered_entries rs ns) (change_at row) ∙ length-zip (product rs) (map (λ n. Some n) ns)
     ∙ ap (λ k. min k (length (map (λ n. Some n) ns))) (sym (length-map (product rs) Point))
     ∙ ap (min (length (indices rs))) (length-map ns (λ n. Some n))
+
+pub numbered_short : (row : Row) (rs : List (List ℤ)) (ns : List ℤ) → length ns ≤ length (indices rs) →
+    length ns ≡ length (packed_changes row (numbered_entries rs ns))
+numbered_short row rs ns few = sym (length_numbered row rs ns ∙ min-eq_right few)
+
+pub numbered_full : (row : Row) (rs : List (List ℤ)) (ns : List ℤ) → length (indices rs) ≤ length ns →
+    length (indices rs) ≡ length (packed_changes row (numbered_entries rs ns))
+numbered_full row rs ns many = sym (length_numbered row rs ns ∙ min-eq_left many)
+
+-- there are as many indices, and as many numbers, at least
+pub numbered_within : (row : Row) (rs : List (List ℤ)) (ns : List ℤ) (at : ℕ) → at < length (packed_changes row (numbered_entries rs ns)) →
+    (at < length (indices rs)) × (at < length ns)
+numbered_within row rs ns at within =
+    let n = length (indices rs) in
+    let m = length ns in
+    let e = length_numbered row rs ns in
+    (omega (arith, within, e, min-le_left n m), omega (arith, within, e, min-le_right n m))
 
 -- ---- places
 
@@ -80,9 +99,9 @@ unlike : (c d : Cell) → (c ≡ d → ⊥) → eq_by_cmp cell_cmp c d ≡ false
 unlike c d other = not_true _ λ e. other (cell_order.strict c d ((Equal-is (cell_cmp c d)).0 e))
 
 differs : (row : Row) (p q : List ℤ) → (q ≡ p → ⊥) → eq_by_cmp cell_cmp (cell_of row (Point q)) (cell_of row (Point p)) ≡ false
-differs (Inside d) p q other = unlike _ _ λ e. other cc
-differs (Members d) p q other = unlike _ _ λ e. other cc
-differs (Elements a) p q other = unlike _ _ λ e. other cc
+differs (Inside d) p q other = unlike _ _ λ (e : In d (Point q) ≡ In d (Point p)). other cc
+differs (Members d) p q other = unlike _ _ λ (e : Member d (Point q) ≡ Member d (Point p)). other cc
+differs (Elements a) p q other = unlike _ _ λ (e : Element a (Point q) ≡ Element a (Point p)). other cc
 
 nothing_behind : (xs : Changes) → xs ≡ xs ++ []
 nothing_behind [] = refl

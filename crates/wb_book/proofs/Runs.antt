@@ -1,7 +1,8 @@
 -- Changes that are kept in runs.
 use Rattle.std.proofs.Common.{if◌then◌else◌, ◌≡◌, Bool, add-one, ℕ, zero, suc, ◌+◌, ◌-◌, ◌<◌, ◌≤◌, List, [], ◌∷◌, ◌++◌}
 use Rattle.std.proofs.Common.{Some, true, false, cond, length, take, set, get_or, slice_get, append_assoc, length-append, add-zero, refl, sym, ap, ◌∙◌, arith}
-use Rattle.std.proofs.Common.{inl, inr}
+use Rattle.std.proofs.Common.{inl, inr, Option}
+use Rattle.std.specs.Global.{Vec}
 use Rattle.std.specs.List.{filter}
 use Rattle.std.proofs.Math.Nat.{lt_of_not-le}
 use Rattle.std.proofs.lemmas.List.{get_or_default}
@@ -11,7 +12,7 @@ use Rattle.wb_book.specs.declared.changes.run.ChangeRun.{ChangeRun}
 use Rattle.wb_book.specs.declared.cells.cell.Cell.{Cell}
 use Rattle.wb_book.specs.declared.cells.value.Value.{Value}
 use Rattle.wb_book.specs.Cells.{Changes, is_counted, count_of}
-use Rattle.wb_book.specs.Runs.{changes_in, all_changes, AreStarted, HasPlace}
+use Rattle.wb_book.specs.Runs.{changes_in, all_changes, in_first, runs_in, changes_of, AreStarted, HasPlace, IsList}
 
 nothing_behind : (ys : Changes) → ys ++ [] ≡ ys
 nothing_behind [] = refl
@@ -20,6 +21,31 @@ nothing_behind (y ∷ ys) = ap (λ zs. y ∷ zs) (nothing_behind ys)
 pub all-append : (rs ss : List ChangeRun) → all_changes (rs ++ ss) ≡ all_changes rs ++ all_changes ss
 all-append [] ss = refl
 all-append (r ∷ rs) ss = ap (λ xs. changes_in r.form ++ xs) (all-append rs ss) ∙ sym (append_assoc (changes_in r.form) (all_changes rs) (all_changes ss))
+
+-- what came behind the runs came behind the list
+pub all_behind : (first rs ss xs : Changes) → ss ≡ rs ++ xs → first ++ ss ≡ (first ++ rs) ++ xs
+all_behind first rs ss xs e = ap (λ ys. first ++ ys) e ∙ sym (append_assoc first rs xs)
+
+count-append : (xs ys : Changes) → count_of (xs ++ ys) ≡ count_of xs + count_of ys
+count-append [] ys = omega arith
+count-append (x ∷ xs) ys =
+    let counted : Changes → Changes = filter (λ y. is_counted y.cell) in
+    elim (is_counted x.cell) as
+    (λ b. length (cond b (x ∷ counted (xs ++ ys)) (counted (xs ++ ys))) ≡ length (cond b (x ∷ counted xs) (counted xs)) + count_of ys)
+    [ true ↦ omega (arith, count-append xs ys) | false ↦ count-append xs ys ]
+
+-- the list with xs behind it
+pub pushed : (first : Option (Change Cell Value)) (old new : Option (Vec ChangeRun)) (xs : Changes) (n k m j : ℕ) → IsList first old n k →
+    all_changes (runs_in new) ≡ all_changes (runs_in old) ++ xs → m ≡ n + length xs → j ≡ k + count_of xs →
+    AreStarted (length (in_first first)) (runs_in new) → IsList first new m j
+pushed first old new xs n k m j h e more counts begun =
+    let is = all_behind (in_first first) (all_changes (runs_in old)) (all_changes (runs_in new)) xs e in
+    let before = changes_of first old in
+    record {
+      all = more ∙ ap (λ i. i + length xs) h.all ∙ sym (length-append before xs) ∙ sym (ap length is);
+      counted = counts ∙ ap (λ i. i + count_of xs) h.counted ∙ sym (count-append before xs) ∙ sym (ap count_of is);
+      started = begun;
+    }
 
 -- the last run became another one, with xs behind its changes
 pub last_more : (rs : List ChangeRun) (s t : ChangeRun) (xs : Changes) (n : ℕ) → suc n ≡ length rs → s ≡ get_or rs n s →

@@ -95,7 +95,7 @@ impl Delta {
         numbers: Vec<i64>,
     ) -> Result<(), NoMemory>
         requires { (i : Index) → changes cell_cmp self.old (cell_of row.now i) ≡ false }
-        ensures ok { OnOk result (self.new ≡ self.old ++ packed_changes row.now (numbered_entries ranges.now numbers.entry.items)) }
+        ensures ok { OnOk result (self.new ≡ self.old ++ packed_changes row.now (numbered_entries ranges.now numbers.items)) }
         ensures err { OnErr result (self.new ≡ self.old) }
     {
         let _once = ranges.size();

@@ -1,6 +1,6 @@
 //! A number at each index of a rectangle.
 
-ghost use Rattle.std.specs.Prelude.{◌≡◌, ◌<◌, length, get_or};
+ghost use Rattle.std.specs.Prelude.{◌≡◌, ◌<◌, length, get_or, slice_get};
 ghost use Rattle.selective_undo.specs.declared.Change.{Change};
 ghost use Rattle.wb_book.specs.declared.cells.cell.Cell.{Cell as cell_type};
 ghost use Rattle.wb_book.specs.declared.cells.value.Value.{Value as value_type};
@@ -27,7 +27,7 @@ impl RectangleNumbers {
     pub fn new(row: Row, ranges: AnyRect, numbers: Vec<i64>) -> RectangleNumbers
         ensures row { result.row ≡ row }
         ensures ranges { result.ranges ≡ ranges }
-        ensures numbers { result.numbers.items ≡ numbers.entry.items }
+        ensures numbers { result.numbers.items ≡ numbers.items }
     {
         RectangleNumbers {
             row,
@@ -70,6 +70,7 @@ impl RectangleNumbers {
     }
 
     // How many of the cells are counted: all but `In`.
+    #[tactic(auto, using(crate::proofs::Counted::none_inside, crate::proofs::Counted::members_counted, crate::proofs::Counted::elements_counted))]
     pub(crate) fn count(&self) -> usize
         ensures { result ≡ count_of (packed_changes self.now.row (numbered_entries self.now.ranges self.now.numbers.items)) }
     {
@@ -85,9 +86,8 @@ impl RectangleNumbers {
         requires { at < length (packed_changes self.now.row (numbered_entries self.now.ranges self.now.numbers.items)) }
         ensures { result ≡ get_or (packed_changes self.now.row (numbered_entries self.now.ranges self.now.numbers.items)) at result }
     {
-        let numbers = self.numbers.as_slice();
-        self.row
-            .change(index_in(&self.ranges, at), Some(numbers[at]))
+        let number = number_in(self.numbers.as_slice(), at);
+        self.row.change(index_in(&self.ranges, at), number)
     }
 
     /// The cell that changes at a place.
@@ -98,4 +98,11 @@ impl RectangleNumbers {
     {
         self.row.cell(index_in(&self.ranges, at))
     }
+}
+
+// The number at a place.
+fn number_in(numbers: &[i64], at: usize) -> Option<i64>
+    ensures { result ≡ slice_get numbers.now at }
+{
+    numbers.get(at).copied()
 }

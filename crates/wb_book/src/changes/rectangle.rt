@@ -65,6 +65,7 @@ impl RectangleChanges {
     }
 
     // How many of the cells are counted: all but `In`.
+    #[tactic(auto, using(crate::proofs::Counted::none_inside, crate::proofs::Counted::members_counted, crate::proofs::Counted::elements_counted))]
     pub(crate) fn count(&self) -> usize
         ensures { result ≡ count_of (packed_changes self.now.row (rectangle_entries self.now.ranges self.now.number)) }
     {
