@@ -9,7 +9,7 @@ use Rattle.std.specs.List.Sorted.{IsStrictlySortedBy}
 use Rattle.std.specs.Map.{keys_of}
 use Rattle.std.proofs.lemmas.List.{map-set}
 use Rattle.std.proofs.lemmas.Map.Made.{keys_of-zip}
-use Rattle.wb_pieces.specs.Pieces.{piece_of, pieces_of, lists_of, LieBelow, merged, IsSplit}
+use Rattle.wb_pieces.specs.Pieces.{pieces_of, lists_of, LieBelow, merged, IsSplit}
 use Rattle.wb_pieces.proofs.Splits.{all_on_one, is_split, merged-ascending}
 
 pub within : (ns : List ℤ) (k : ℕ) (d e : ℤ) → k < length ns → get_or ns k d ≡ get_or ns k e

@@ -188,6 +188,7 @@ impl<D: Domain, M: Mapping<Index = D::Index>> Pieces<D, M> {
     pub fn fill(&mut self, number: &i64) -> bool
         ensures done { result ≡ true → self.new.0 ≡ map (λ e. (e.0, number.now)) self.old.0 }
         ensures left { result ≡ false → self.new.0 ≡ self.old.0 }
+        ensures indices { keys_of self.new.0 ≡ keys_of self.old.0 }
         ensures mapping { self.new.1 ≡ self.old.1 }
     {
         if self.mapping().locales() != 1 {
@@ -201,7 +202,9 @@ impl<D: Domain, M: Mapping<Index = D::Index>> Pieces<D, M> {
     /// numbers; says whether it did.
     pub fn set_all(&mut self, numbers: &[i64]) -> bool
         ensures done { result ≡ true → self.new.0 ≡ zip (keys_of self.old.0) numbers.now }
+        ensures many { result ≡ true → length numbers.now ≡ length self.old.0 }
         ensures left { result ≡ false → self.new.0 ≡ self.old.0 }
+        ensures indices { keys_of self.new.0 ≡ keys_of self.old.0 }
         ensures mapping { self.new.1 ≡ self.old.1 }
     {
         if self.mapping().locales() != 1 {

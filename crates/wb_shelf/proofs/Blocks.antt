@@ -1,6 +1,6 @@
 -- Changes of elements at the indices of a rectangle.
-use Rattle.std.proofs.Common.{◌≡◌, ℕ, zero, suc, ◌+◌, ◌<◌, ◌≤◌, ℤ, Bool, true, false, cond, ◌&&◌, List, [], ◌∷◌, ◌++◌, length, map, take, get_or, Option, Some, None}
-use Rattle.std.proofs.Common.{is_some, min, slice_get, refl, sym, ap, subst, ◌∙◌, arith, true≢false}
+use Rattle.std.proofs.Common.{◌≡◌, ℕ, zero, suc, ◌+◌, ◌<◌, ℤ, Bool, true, false, cond, ◌&&◌, List, [], ◌∷◌, ◌++◌, length, map, take, get_or, Option, Some, None}
+use Rattle.std.proofs.Common.{is_some, min, slice_get, refl, sym, ap, subst, ◌∙◌, arith}
 use Rattle.std.specs.declared.cmp.Ordering.{Ordering}
 use Rattle.std.specs.declared.cmp.Ordering.TheVariants.{Less}
 use Rattle.std.specs.BTreeMap.{is_at}
@@ -8,26 +8,26 @@ use Rattle.std.specs.Cmp.{IsTotalOrder, eq_by_cmp_equiv, tied_itself}
 use Rattle.std.specs.List.{AllByRecursion, list_all, zip}
 use Rattle.std.specs.List.Sorted.{IsStrictlySortedBy}
 use Rattle.std.specs.Map.{keys_of, set_value}
-use Rattle.std.specs.Option.{option_map}
 use Rattle.std.specs.Ordering.{is_eq}
-use Rattle.std.proofs.lemmas.List.{length-map, get_or-map, take_more, take_all, map-append}
+use Rattle.std.proofs.lemmas.List.{length-map, get_or-map, take_more}
 use Rattle.std.proofs.lemmas.List.Folds.{list_all-append}
+use Rattle.std.proofs.lemmas.Map.{keys-set_value}
 use Rattle.std.proofs.lemmas.Slice.Zip.{length-zip}
-use Rattle.selective_undo.specs.declared.Change.{Change}
 use Rattle.wb_book.specs.contracts.values.index.IndexOrd.TheImpl.Laws as index_laws
-use Rattle.wb_book.specs.declared.changes.row.Row.{Row}
 use Rattle.wb_book.specs.declared.values.index.Index.{Index}
 use Rattle.wb_book.specs.declared.values.index.Index.TheVariants.{Point}
-use Rattle.wb_book.specs.Cells.{Changes, index_cmp, is_same_index}
-use Rattle.wb_book.specs.Runs.{packed_changes, rectangle_entries, numbered_entries}
+use Rattle.wb_book.specs.Cells.{index_cmp, is_same_index}
+use Rattle.wb_book.specs.Runs.{rectangle_entries, numbered_entries}
 use Rattle.wb_book.specs.Shapes.{indices}
 use Rattle.wb_rect.specs.Product.{product}
 use Rattle.wb_shelf.specs.Blocks.{IsWhole}
 use Rattle.wb_shelf.specs.Entries.{element_at, sets_one, with_one, with_all}
-use Rattle.wb_shelf.specs.Piecewise.Changed.{all_set}
+use Rattle.wb_shelf.specs.Piecewise.Changed.{changed_at, all_set}
 use Rattle.wb_shelf.specs.Piecewise.Indexed.{indexed, AllOf}
 use Rattle.wb_shelf.specs.Piecewise.Marked.{as_changes}
+use Rattle.wb_shelf.specs.Piecewise.Seen.{AreRanged}
 use Rattle.wb_shelf.proofs.EntriesSet.{with_all-more}
+use Rattle.wb_shelf.proofs.Piecewise.Changed.{all_there, or_nothing}
 
 -- ---- what stands at a place
 
@@ -53,18 +53,28 @@ pub same_entry : (rs : List (List ℤ)) (n : Option ℤ) (k : ℕ) (i : Index) �
     (i, n) ≡ get_or (as_changes Point (rectangle_entries rs n)) k (i, n)
 same_entry rs n k i at = same_go (product rs) n k i at
 
-each_go : (ps : List (List ℤ)) (ns : List ℤ) (k : ℕ) (i : Index) (n : ℤ) → k < length ns → slice_get (map Point ps) k ≡ Some i → n ≡ get_or ns k n →
-    (i, Some n) ≡ get_or (as_changes Point (zip ps (map (λ m. Some m) ns))) k (i, Some n)
-each_go [] ns k i n low at is = cc
-each_go (p ∷ ps) [] k i n low at is = absurd (omega (arith, low))
-each_go (p ∷ ps) (m ∷ ns) zero i n low at is =
+each_go : (ps : List (List ℤ)) (ns : List ℤ) (k : ℕ) (i : Index) (o : Option ℤ) → k < length (zip ps (map (λ n. Some n) ns)) →
+    slice_get (map Point ps) k ≡ Some i → o ≡ slice_get ns k → (i, o) ≡ get_or (as_changes Point (zip ps (map (λ n. Some n) ns))) k (i, o)
+each_go [] ns k i o low at is = absurd (omega (arith, low))
+each_go (p ∷ ps) [] k i o low at is = absurd (omega (arith, low))
+each_go (p ∷ ps) (m ∷ ns) zero i o low at is =
     let here : Point p ≡ i = cc in
-    ap (λ (j : Index). (j, Some n)) (sym here) ∙ ap (λ (v : ℤ). (Point p, Some v)) is
-each_go (p ∷ ps) (m ∷ ns) (suc k) i n low at is = each_go ps ns k i n (omega (arith, low)) at is
+    let there : o ≡ Some m = is in
+    ap (λ (j : Index). (j, o)) (sym here) ∙ ap (λ (v : Option ℤ). (Point p, v)) there
+each_go (p ∷ ps) (m ∷ ns) (suc k) i o low at is = each_go ps ns k i o (omega (arith, low)) at is
 
-pub each_entry : (rs : List (List ℤ)) (ns : List ℤ) (k : ℕ) (i : Index) (n : ℤ) → k < length ns → slice_get (indices rs) k ≡ Some i → n ≡ get_or ns k n →
-    (i, Some n) ≡ get_or (as_changes Point (numbered_entries rs ns)) k (i, Some n)
-each_entry rs ns k i n low at is = each_go (product rs) ns k i n low at is
+pub each_entry : (rs : List (List ℤ)) (ns : List ℤ) (k : ℕ) (i : Index) (o : Option ℤ) → k < length (numbered_entries rs ns) →
+    slice_get (indices rs) k ≡ Some i → o ≡ slice_get ns k → (i, o) ≡ get_or (as_changes Point (numbered_entries rs ns)) k (i, o)
+each_entry rs ns k i o low at is = each_go (product rs) ns k i o low at is
+
+pub none_at : {X : Type 0} (xs : List X) (k : ℕ) → slice_get xs k ≡ None → k < length xs → ⊥
+none_at [] k none low = omega (arith, low)
+none_at (x ∷ xs) zero none low = cc
+none_at (x ∷ xs) (suc k) none low = none_at xs k none (omega (arith, low))
+
+pub many_changes : (es : List (List ℤ × Option ℤ)) → length (as_changes Point es) ≡ length es
+many_changes [] = refl
+many_changes (e ∷ es) = ap suc (many_changes es)
 
 pub many_same : (rs : List (List ℤ)) (n : Option ℤ) → length (indices rs) ≡ length (rectangle_entries rs n)
 many_same rs n = length-map (product rs) Point ∙ sym (length-map (product rs) (λ p. (p, n)))
@@ -92,7 +102,7 @@ either : (t : Bool) (v : ℤ) (o : Option ℤ) → is_some o ≡ true → is_som
 either true v o some = refl
 either false v o some = some
 
-itself : (i j : Index) → i ≡ j → is_same_index i j ≡ true
+pub itself : (i j : Index) → i ≡ j → is_same_index i j ≡ true
 itself i j e = subst (λ (k : Index). is_same_index i k ≡ true) e (ap is_eq (tied_itself index_laws.total-law i))
 
 there : (es : List (Index × ℤ)) (ps : List (List ℤ)) (ns : List ℤ) (element : Index → Option ℤ) →
@@ -195,6 +205,25 @@ write_entry es k old now new low so_far made =
     let x = at_place es k low in
     made x.0 x.1 ∙ ap (λ fs. with_one fs (Point x.0.0) x.0.1) so_far ∙ sym (with_all-more Point es k x.0 old low x.1)
 
+pub keys-with_all : {I : Type 0} (f : I → Index) (xs : List (I × Option ℤ)) (es : List (Index × ℤ)) → keys_of (with_all f es xs) ≡ keys_of es
+keys-with_all f [] es = refl
+keys-with_all f (x ∷ xs) es = keys-with_all f xs (with_one es (f x.0) x.1) ∙ by x.1
+  where
+    by : (o : Option ℤ) → keys_of (with_one es (f x.0) o) ≡ keys_of es
+    by None = refl
+    by (Some v) = keys-set_value (is_at (index_cmp (f x.0))) es v
+
+pub still_ranged : (o : Option (List (List ℤ))) (es fs : List (Index × ℤ)) → keys_of fs ≡ keys_of es → AreRanged o es → AreRanged o fs
+still_ranged None es fs same ranged = tt
+still_ranged (Some rs) es fs same ranged = same ∙ ranged
+
+-- elements that are made where none were
+pub fresh_after : (es old : List (Index × ℤ)) (xs : List (List ℤ × Option ℤ)) → IsStrictlySortedBy index_cmp (keys_of es) → all_set es ≡ as_changes Point xs →
+    length old ≡ 0 → (i : Index) → element_at es i ≡ changed_at (as_changes Point xs) (element_at old i) i
+fresh_after es [] xs sorted are none i =
+    sym (ap (λ ys. changed_at ys None i) (sym are) ∙ all_there es None i sorted ∙ or_nothing (element_at es i))
+fresh_after es (e ∷ old) xs sorted are none i = absurd (omega (arith, none))
+
 -- ---- elements that are made
 
 keys_set : (es : List (Index × ℤ)) → keys_of es ≡ map (λ (e : Index × Option ℤ). e.0) (all_set es)
@@ -270,6 +299,19 @@ module _ {K : Type 0} (cmp : K → K → Ordering) (total : IsTotalOrder cmp) (e
   all_last : (P : K → Type 0) (es : List (K × ℤ)) → AllByRecursion P (keys_of es) → P e.0 → AllByRecursion P (keys_of (es ++ e ∷ []))
   all_last P [] all here = (here, tt)
   all_last P (x ∷ es) all here = (all.0, all_last P es all.1 here)
+
+  within : {X : Type 0} (xs : List X) (k : ℕ) (d c : X) → k < length xs → get_or xs k d ≡ get_or xs k c
+  within [] k d c low = absurd (omega (arith, low))
+  within (x ∷ xs) zero d c low = refl
+  within (x ∷ xs) (suc k) d c low = within xs k d c (omega (arith, low))
+
+  pub last_less : (es : List (K × ℤ)) (last : ℕ) (r : K × ℤ) → suc last ≡ length es → r ≡ get_or es last r → cmp r.0 e.0 ≡ Less →
+      (k : ℕ) (d : K × ℤ) → suc k ≡ length es → cmp (get_or es k d).0 e.0 ≡ Less
+  last_less es last r many is less k d at =
+      let same : k ≡ last = omega (arith, many, at) in
+      let low : k < length es = omega (arith, at) in
+      let this : get_or es k d ≡ r = within es k d r low ∙ ap (λ (j : ℕ). get_or es j r) same ∙ sym is in
+      ap (λ (x : K × ℤ). cmp x.0 e.0) this ∙ less
 
   -- a key above the last one goes behind the others
   pub sorted_last : (es : List (K × ℤ)) → IsStrictlySortedBy cmp (keys_of es) → ((k : ℕ) (d : K × ℤ) → suc k ≡ length es → cmp (get_or es k d).0 e.0 ≡ Less) →

@@ -11,9 +11,10 @@ ghost use Rattle.wb_book.specs.WellFormed.{ranges_in};
 ghost use Rattle.wb_dist.specs.Maps.{LayoutMap};
 ghost use Rattle.wb_book.specs.Locales.{mapping_in};
 ghost use Rattle.wb_book.specs.declared.values.index.Index.{Index as index_type};
-ghost use Rattle.wb_book.specs.Runs.{cell_of, changes_in, all_changes, packed_changes, rectangle_entries};
+ghost use Rattle.wb_book.specs.Runs.{cell_of, changes_in, all_changes, packed_changes, rectangle_entries, numbered_entries};
 ghost use Rattle.wb_shelf.specs.Joined.{answer, stored_in, element_in, is_stored, with_answer};
 ghost use Rattle.wb_shelf.specs.Kept.{Pieced, array_in};
+ghost use Rattle.wb_shelf.specs.Entries.{element_at};
 ghost use Rattle.wb_shelf.specs.Piecewise.Marked.{as_changes};
 ghost use Rattle.wb_book.specs.declared.values.index.Index.TheVariants.{Point as point_index};
 ghost use Rattle.wb_shelf.specs.After.{kind_lies, domain_lies, lies_at, IsAfter, AreAfter};
@@ -244,20 +245,37 @@ fn inside_before(cells: &BTreeMap<Cell, Value>, domain: &Name, ranges: &AnyRect)
     match ranges_in(cells, domain) {
         Some(there) => {
             if there.is_same(ranges) {
-                Some(Form::Rectangle(RectangleChanges::new(
-                    Row::Inside(*domain),
-                    *ranges,
-                    Some(0),
-                )))
+                Some(Form::Rectangle(RectangleChanges::new(Row::Inside(*domain), *ranges, Some(0))))
             } else {
                 None
             }
         }
-        None => Some(Form::Rectangle(RectangleChanges::new(
-            Row::Inside(*domain),
+        None => Some(Form::Rectangle(RectangleChanges::new(Row::Inside(*domain), *ranges, None))),
+    }
+}
+
+// The changes that set the elements at the indices of a rectangle to what they are now, as a run; `None` where the elements are
+// not known to be those.
+fn known_before(
+    alloc: Global,
+    elements: &Elements,
+    array: &Name,
+    ranges: &AnyRect,
+) -> Result<Option<Form>, NoMemory>
+    ensures { IfOk result (λ o. IfSome o (λ f. (stored : cell_type → Option value_type) (element : List ℕ → index_type → Option ℤ) (n : Option ℤ) →
+        ((i : index_type) → element array.now i ≡ element_at elements.now.0 i) →
+        changes_in f ≡ map (with_answer (answer stored element)) (packed_changes (element_row array.now) (rectangle_entries ranges.now n)))) }
+{
+    if !elements.has_ranges(ranges) {
+        return Ok(None);
+    }
+    match elements.numbers(alloc) {
+        Ok(numbers) => Ok(Some(Form::Numbers(RectangleNumbers::new(
+            Row::Elements(*array),
             *ranges,
-            None,
-        ))),
+            numbers,
+        )))),
+        Err(why) => Err(why),
     }
 }
 
@@ -273,23 +291,13 @@ fn elements_before(
         changes_in f ≡ map (with_answer (answer stored (element_in arrays.now.entries))) (packed_changes (element_row array.now)
         (rectangle_entries ranges.now n)))) }
 {
-    let Some(elements) = arrays.get(array) else {
-        return Ok(Some(Form::Rectangle(RectangleChanges::new(
+    match arrays.get(array) {
+        Some(elements) => known_before(alloc, elements, array, ranges),
+        None => Ok(Some(Form::Rectangle(RectangleChanges::new(
             Row::Elements(*array),
             *ranges,
             None,
-        ))));
-    };
-    if !elements.has_ranges(ranges) {
-        return Ok(None);
-    }
-    match elements.numbers(alloc) {
-        Ok(numbers) => Ok(Some(Form::Numbers(RectangleNumbers::new(
-            Row::Elements(*array),
-            *ranges,
-            numbers,
         )))),
-        Err(why) => Err(why),
     }
 }
 
@@ -310,6 +318,39 @@ fn rectangle_before(
         Row::Members(_) => Ok(None),
         Row::Elements(array) => elements_before(alloc, arrays, array, ranges),
     }
+}
+
+// The same of changes at the indices of a rectangle to the same number, or to absent.
+fn same_before(
+    alloc: Global,
+    cells: &BTreeMap<Cell, Value>,
+    arrays: &BTreeMap<Name, Elements>,
+    block: &RectangleChanges,
+) -> Result<Option<Form>, NoMemory>
+    ensures { IfOk result (λ o. IfSome o (λ f.
+        changes_in f ≡ map (with_answer (answer (stored_in cells.now.entries) (element_in arrays.now.entries))) (packed_changes block.now.row
+        (rectangle_entries block.now.ranges block.now.number)))) }
+{
+    rectangle_before(alloc, cells, arrays, block.row(), block.ranges())
+}
+
+// The same of changes to a number each.
+fn each_before(
+    alloc: Global,
+    cells: &BTreeMap<Cell, Value>,
+    arrays: &BTreeMap<Name, Elements>,
+    block: &RectangleNumbers,
+) -> Result<Option<Form>, NoMemory>
+    ensures { IfOk result (λ o. IfSome o (λ f.
+        changes_in f ≡ map (with_answer (answer (stored_in cells.now.entries) (element_in arrays.now.entries))) (packed_changes block.now.row
+        (numbered_entries block.now.ranges block.now.numbers.items)))) }
+{
+    let ranges = block.ranges();
+    let count = block.numbers().len();
+    if count < ranges.size() {
+        return Ok(None);
+    }
+    rectangle_before(alloc, cells, arrays, block.row(), ranges)
 }
 
 // The array of a row of elements.
@@ -392,25 +433,8 @@ fn form_before(
         Form::Line(packed) => line_before(alloc, arrays, packed),
         Form::Plane(packed) => plane_before(alloc, arrays, packed),
         Form::Solid(packed) => solid_before(alloc, arrays, packed),
-        Form::Rectangle(rectangle) => rectangle_before(
-            alloc,
-            cells,
-            arrays,
-            rectangle.row(),
-            rectangle.ranges(),
-        ),
-        Form::Numbers(rectangle) => {
-            if rectangle.numbers().len() < rectangle.ranges().size() {
-                return Ok(None);
-            }
-            rectangle_before(
-                alloc,
-                cells,
-                arrays,
-                rectangle.row(),
-                rectangle.ranges(),
-            )
-        }
+        Form::Rectangle(block) => same_before(alloc, cells, arrays, block),
+        Form::Numbers(block) => each_before(alloc, cells, arrays, block),
     }
 }
 
@@ -530,7 +554,10 @@ fn after_block<V: Mover, B: Block>(
 {
     if elements.len() == 0 {
         match Elements::of_block(alloc, block, &lies.0, lies.1) {
-            Ok(Some(fresh)) => return Ok(Some(fresh)),
+            Ok(Some(fresh)) => {
+                let _ascending = fresh.len();
+                return Ok(Some(fresh));
+            }
             Ok(None) => {}
             Err(_) => return Err(MoveErr::NoMemory),
         }

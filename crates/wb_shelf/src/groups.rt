@@ -86,12 +86,7 @@ impl Group {
         into_list(alloc, kept)
     }
 
-    fn add(
-        &mut self,
-        alloc: Global,
-        index: AnyIndex,
-        number: Option<i64>,
-    ) -> Result<(), NoMemory>
+    fn add(&mut self, alloc: Global, index: AnyIndex, number: Option<i64>) -> Result<(), NoMemory>
         ensures { OnOk result (self.new ≡ self.old ++ (index, number) ∷ []) }
     {
         let mut list = self.take(alloc)?;

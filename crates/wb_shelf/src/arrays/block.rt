@@ -1,6 +1,6 @@
 //! Changes at the indices of a rectangle, whether to one number or to a number each.
 
-ghost use Rattle.std.specs.Prelude.{◌≡◌, ◌<◌, ℤ, List, Option, true, false, length, get_or, IfOk};
+ghost use Rattle.std.specs.Prelude.{◌≡◌, ◌<◌, ℤ, List, Option, true, false, length, min, get_or, slice_get, IfOk};
 ghost use Rattle.wb_book.specs.declared.changes.row.Row.{Row as row_type};
 ghost use Rattle.wb_book.specs.declared.values.index.Index.TheVariants.{Point as point_index};
 ghost use Rattle.wb_book.specs.Runs.{rectangle_entries, numbered_entries};
@@ -85,7 +85,10 @@ impl Block for RectangleChanges {
     }
 
     fn is_whole(&self) -> bool {
-        self.number().is_some()
+        match self.number() {
+            Some(_) => true,
+            None => false,
+        }
     }
 
     fn write(&self, elements: &mut Elements) -> bool {
@@ -97,12 +100,21 @@ impl Block for RectangleChanges {
     }
 
     fn copied(&self, _alloc: Global) -> Result<Kept, NoMemory> {
-        Ok(Kept::Same(RectangleChanges::new(
-            *self.row(),
-            *self.ranges(),
-            self.number(),
-        )))
+        Ok(Kept::Same(RectangleChanges::new(*self.row(), *self.ranges(), self.number())))
     }
+}
+
+// The number at a place.
+fn number_at(numbers: &[i64], at: usize) -> Option<i64>
+    ensures { result ≡ slice_get numbers.now at }
+{
+    numbers.get(at).copied()
+}
+
+fn lesser(one: usize, other: usize) -> usize
+    ensures { result ≡ min one other }
+{
+    if one < other { one } else { other }
 }
 
 impl Block for RectangleNumbers {
@@ -121,15 +133,12 @@ impl Block for RectangleNumbers {
     }
 
     fn many(&self) -> usize {
-        let size = self.ranges().size();
-        let count = self.numbers().len();
-        if count < size { count } else { size }
+        lesser(self.ranges().size(), self.numbers().len())
     }
 
     fn entry(&self, at: usize) -> (AnyIndex, Option<i64>) {
-        let number = self.numbers()[at];
         match self.ranges().nth(at) {
-            Some(index) => (index, Some(number)),
+            Some(index) => (index, number_at(self.numbers(), at)),
             None => unreachable!(),
         }
     }
@@ -145,10 +154,6 @@ impl Block for RectangleNumbers {
 
     fn copied(&self, alloc: Global) -> Result<Kept, NoMemory> {
         let numbers = Vec::from_slice(alloc, self.numbers())?;
-        Ok(Kept::Each(RectangleNumbers::new(
-            *self.row(),
-            *self.ranges(),
-            numbers,
-        )))
+        Ok(Kept::Each(RectangleNumbers::new(*self.row(), *self.ranges(), numbers)))
     }
 }

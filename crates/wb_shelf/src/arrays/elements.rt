@@ -11,6 +11,7 @@ ghost use Rattle.wb_shelf.specs.Piecewise.Changed.{changed_at, all_set};
 ghost use Rattle.wb_shelf.specs.Piecewise.Lent.{lent, piece_in};
 ghost use Rattle.wb_shelf.specs.Piecewise.Indexed.{indexed, AllOf};
 ghost use Rattle.wb_shelf.specs.Piecewise.Marked.{as_changes};
+ghost use Rattle.wb_shelf.specs.Piecewise.Seen.{seen_of, IsKept};
 ghost use Rattle.wb_redist.specs.Reductions.{IsReduced};
 ghost use Rattle.wb_book.specs.declared.values.index.Index.{Index as any_index};
 ghost use Rattle.wb_book.specs.declared.values.index.Index.TheVariants.{Point as point_index};
@@ -86,12 +87,7 @@ impl Elements {
         ensures elements { self.new.0 ≡ set_value (is_at (index_cmp index.now)) self.old.0 value }
         ensures mapping { self.new.1 ≡ self.old.1 }
     {
-        match &mut self.form {
-            Form::Line(pieces) => set_in(pieces, index, value, near),
-            Form::Plane(pieces) => set_in(pieces, index, value, near),
-            Form::Solid(pieces) => set_in(pieces, index, value, near),
-            Form::Text(pieces) => set_in(pieces, index, value, near),
-        }
+        set_form(&mut self.form, index, value, near)
     }
 
     /// The rank of the indices, 0 for texts.
@@ -252,26 +248,17 @@ impl Elements {
         ensures left { result ≡ false → self.new.0 ≡ self.old.0 }
         ensures mapping { self.new.1 ≡ self.old.1 }
     {
-        match &mut self.form {
-            Form::Line(pieces) => fill_in(pieces, number),
-            Form::Plane(pieces) => fill_in(pieces, number),
-            Form::Solid(pieces) => fill_in(pieces, number),
-            Form::Text(pieces) => fill_in(pieces, number),
-        }
+        fill_form(&mut self.form, number)
     }
 
     /// Replaces all elements, one after another, if there are as many numbers and there is a short way; says whether it did.
     pub fn set_numbers(&mut self, numbers: &[i64]) -> bool
         ensures done { result ≡ true → self.new.0 ≡ zip (keys_of self.old.0) numbers.now }
+        ensures many { result ≡ true → length numbers.now ≡ length self.old.0 }
         ensures left { result ≡ false → self.new.0 ≡ self.old.0 }
         ensures mapping { self.new.1 ≡ self.old.1 }
     {
-        match &mut self.form {
-            Form::Line(pieces) => set_numbers_in(pieces, numbers),
-            Form::Plane(pieces) => set_numbers_in(pieces, numbers),
-            Form::Solid(pieces) => set_numbers_in(pieces, numbers),
-            Form::Text(pieces) => set_numbers_in(pieces, numbers),
-        }
+        number_form(&mut self.form, numbers)
     }
 
     /// The elements without their indices, in their order.
@@ -397,6 +384,53 @@ impl Elements {
             Form::Solid(pieces) => pairs_of(alloc, pieces),
             Form::Text(pieces) => pairs_of(alloc, pieces),
         }
+    }
+}
+
+fn set_form(form: &mut Form, index: &AnyIndex, value: i64, near: usize) -> usize
+    requires { IsKept form.old }
+    ensures elements { (seen_of form.new).0 ≡ set_value (is_at (index_cmp index.now)) (seen_of form.old).0 value }
+    ensures mapping { (seen_of form.new).1 ≡ (seen_of form.old).1 }
+    ensures kept { IsKept form.new }
+{
+    match form {
+        Form::Line(pieces) => set_in(pieces, index, value, near),
+        Form::Plane(pieces) => set_in(pieces, index, value, near),
+        Form::Solid(pieces) => set_in(pieces, index, value, near),
+        Form::Text(pieces) => set_in(pieces, index, value, near),
+    }
+}
+
+fn fill_form(form: &mut Form, number: &i64) -> bool
+    requires { IsKept form.old }
+    ensures done { result ≡ true → (seen_of form.new).0 ≡ map (λ e. (e.0, number.now)) (seen_of form.old).0 }
+    ensures left { result ≡ false → (seen_of form.new).0 ≡ (seen_of form.old).0 }
+    ensures mapping { (seen_of form.new).1 ≡ (seen_of form.old).1 }
+    ensures kept { IsKept form.new }
+    ensures names { keys_of (seen_of form.new).0 ≡ keys_of (seen_of form.old).0 }
+{
+    match form {
+        Form::Line(pieces) => fill_in(pieces, number),
+        Form::Plane(pieces) => fill_in(pieces, number),
+        Form::Solid(pieces) => fill_in(pieces, number),
+        Form::Text(pieces) => fill_in(pieces, number),
+    }
+}
+
+fn number_form(form: &mut Form, numbers: &[i64]) -> bool
+    requires { IsKept form.old }
+    ensures done { result ≡ true → (seen_of form.new).0 ≡ zip (keys_of (seen_of form.old).0) numbers.now }
+    ensures many { result ≡ true → length numbers.now ≡ length (seen_of form.old).0 }
+    ensures left { result ≡ false → (seen_of form.new).0 ≡ (seen_of form.old).0 }
+    ensures mapping { (seen_of form.new).1 ≡ (seen_of form.old).1 }
+    ensures kept { IsKept form.new }
+    ensures names { keys_of (seen_of form.new).0 ≡ keys_of (seen_of form.old).0 }
+{
+    match form {
+        Form::Line(pieces) => set_numbers_in(pieces, numbers),
+        Form::Plane(pieces) => set_numbers_in(pieces, numbers),
+        Form::Solid(pieces) => set_numbers_in(pieces, numbers),
+        Form::Text(pieces) => set_numbers_in(pieces, numbers),
     }
 }
 
@@ -537,6 +571,7 @@ where
     D::Index: AsIndex,
     requires { AllOf D.Index.as_index D.Index.is_of pieces.old.0 }
     ensures done { result ≡ true → indexed D.Index.as_index pieces.new.0 ≡ zip (keys_of (indexed D.Index.as_index pieces.old.0)) numbers.now }
+    ensures many { result ≡ true → length numbers.now ≡ length (indexed D.Index.as_index pieces.old.0) }
     ensures left { result ≡ false → indexed D.Index.as_index pieces.new.0 ≡ indexed D.Index.as_index pieces.old.0 }
     ensures mapping { pieces.new.1 ≡ pieces.old.1 }
     ensures kept { AllOf D.Index.as_index D.Index.is_of pieces.new.0 }

@@ -3,6 +3,7 @@
 ghost use Rattle.std.specs.Prelude.{◌≡◌, ◌<◌, [], ◌∷◌, ◌++◌, Some, true, length, get_or, IfOk, IfSome};
 ghost use Rattle.std.specs.List.Sorted.{IsStrictlySortedBy};
 ghost use Rattle.std.specs.Map.{keys_of};
+ghost use Rattle.std.specs.declared.cmp.Ordering.TheVariants.{Less};
 ghost use Rattle.wb_book.specs.declared.values.index.Index.TheVariants.{Point as point_index};
 ghost use Rattle.wb_shelf.specs.Piecewise.Changed.{all_set};
 ghost use Rattle.wb_shelf.specs.Piecewise.Indexed.{indexed, AllOf};
@@ -11,6 +12,7 @@ ghost use Rattle.wb_shelf.specs.Piecewise.Marked.{as_changes};
 use crate::arrays::block::Block;
 use crate::arrays::key::AsIndex;
 use std::alloc::Global;
+use std::cmp::Ordering;
 use wb_pieces::Pieces;
 use wb_range::{Domain, Key, Mapping, NoMemory};
 
@@ -46,10 +48,11 @@ fn filled_pairs<I: AsIndex, B: Block>(
     ensures kept { IfOk result (λ o. IfSome o (λ v. AllOf I.as_index I.is_of v.items)) }
     ensures ascending { IfOk result (λ o. IfSome o (λ v. IsStrictlySortedBy I.cmp (keys_of v.items))) }
 {
-    let Ok(mut pairs) = Vec::with_capacity(alloc, block.many()) else {
+    let count = block.many();
+    let Ok(mut pairs) = Vec::with_capacity(alloc, count) else {
         return Err(NoMemory);
     };
-    for at in 0..block.many() {
+    for at in 0..count {
         let Some(pair) = pair_at(block, at) else {
             return Ok(None);
         };
@@ -88,5 +91,15 @@ fn goes_behind<I: Key>(pairs: &[(I, i64)], pair: &(I, i64)) -> bool
     if count == 0 {
         return true;
     }
-    pairs[count - 1].0.cmp(&pair.0).is_lt()
+    let last = count - 1;
+    is_above(&pairs[last], &pair.0)
+}
+
+fn is_above<I: Key>(pair: &(I, i64), key: &I) -> bool
+    ensures { result ≡ true → I.cmp pair.now.0 key.now ≡ Less }
+{
+    match pair.0.cmp(key) {
+        Ordering::Less => true,
+        Ordering::Equal | Ordering::Greater => false,
+    }
 }

@@ -13,7 +13,9 @@ ghost use Rattle.wb_shelf.specs.Shelf.{piece_at};
 use crate::arrays::Pairs;
 use crate::looks;
 use crate::shelf::Book;
-use wb_book::{AnyIndex, AnyRect, Name, index_at, locale_at, object_at, object_count, size_at, user_at};
+use wb_book::{
+    AnyIndex, AnyRect, Name, index_at, locale_at, object_at, object_count, size_at, user_at,
+};
 use wb_range::NoMemory;
 use wb_redist::{Mover, Op, ReduceErr};
 
