@@ -2,3 +2,4 @@ pub mod Splits
 pub mod Parts
 pub mod Places
 pub mod Writes
+pub mod Replaced

@@ -1,8 +1,8 @@
 ghost use Rattle.std.specs.Prelude.{◌≡◌, ◌≢◌, ℕ, ℤ, ◌<◌, ◌≤◌, ◌↔◌, List, length, IfOk, IfSome, MatchOption, MatchResult, OnOk, OnErr, IfNone, Err};
-ghost use Rattle.std.specs.Prelude.{Some, None, [], true, slice_index_or, slice_set};
+ghost use Rattle.std.specs.Prelude.{Some, None, [], map, true, false, slice_index_or, slice_set};
 ghost use Rattle.std.specs.List.Sorted.{IsStrictlySortedBy};
 ghost use Rattle.std.specs.Map.{keys_of, set_value};
-ghost use Rattle.std.specs.List.{flat_map};
+ghost use Rattle.std.specs.List.{flat_map, zip};
 ghost use Rattle.std.specs.BTreeMap.{is_at, IsFromIterResult};
 ghost use Rattle.wb_array.specs.Elements.{value_at};
 ghost use Rattle.wb_pieces.specs.Pieces.{piece_of, pieces_of, lists_of, LieBelow};
@@ -184,6 +184,39 @@ impl<D: Domain, M: Mapping<Index = D::Index>> Pieces<D, M> {
         }
     }
 
+    /// Replaces all elements by one number, where the mapping has one locale alone; says whether it did.
+    pub fn fill(&mut self, number: &i64) -> bool
+        ensures done { result ≡ true → self.new.0 ≡ map (λ e. (e.0, number.now)) self.old.0 }
+        ensures left { result ≡ false → self.new.0 ≡ self.old.0 }
+        ensures indices { keys_of self.new.0 ≡ keys_of self.old.0 }
+        ensures mapping { self.new.1 ≡ self.old.1 }
+    {
+        if self.mapping().locales() != 1 {
+            return false;
+        }
+        fill_first(&mut self.pieces, number);
+        true
+    }
+
+    /// Replaces all elements, in the order of their indices, where the mapping has one locale alone and there are as many
+    /// numbers; says whether it did.
+    pub fn set_all(&mut self, numbers: &[i64]) -> bool
+        ensures done { result ≡ true → self.new.0 ≡ zip (keys_of self.old.0) numbers.now }
+        ensures many { result ≡ true → length numbers.now ≡ length self.old.0 }
+        ensures left { result ≡ false → self.new.0 ≡ self.old.0 }
+        ensures indices { keys_of self.new.0 ≡ keys_of self.old.0 }
+        ensures mapping { self.new.1 ≡ self.old.1 }
+    {
+        if self.mapping().locales() != 1 {
+            return false;
+        }
+        if self.size != numbers.len() {
+            return false;
+        }
+        set_first(&mut self.pieces, numbers);
+        true
+    }
+
     // Replaces the pair at `place` of the piece of its own locale, and gives the
     // old element.
     fn write(&mut self, locale: usize, place: usize, pair: (D::Index, i64)) -> i64
@@ -289,6 +322,44 @@ fn write_at<I: Copy>(pieces: &mut Vec<Vec<(I, i64)>>, locale: usize, place: usiz
         (slice_set (slice_index_or (lists_of pieces.old.items) locale []) place pair) }
 {
     pieces[locale][place] = pair;
+}
+
+// Replaces the numbers of the first piece by one.
+fn fill_first<I: Copy>(pieces: &mut Vec<Vec<(I, i64)>>, number: &i64)
+    requires { 0 < length pieces.old.items }
+    ensures { lists_of pieces.new.items ≡ slice_set (lists_of pieces.old.items) 0
+        (map (λ e. (e.0, number.now)) (slice_index_or (lists_of pieces.old.items) 0 [])) }
+{
+    fill_pairs(pieces[0].as_mut_slice(), number);
+}
+
+// Replaces the numbers of pairs by one.
+fn fill_pairs<I: Copy>(pairs: &mut [(I, i64)], number: &i64)
+    ensures { pairs.new ≡ map (λ e. (e.0, number.now)) pairs.old }
+{
+    for pair in pairs.iter_mut() {
+        pair.1 = *number;
+    }
+}
+
+// Replaces the numbers of the first piece.
+fn set_first<I: Copy>(pieces: &mut Vec<Vec<(I, i64)>>, numbers: &[i64])
+    requires some { 0 < length pieces.old.items }
+    requires many { length (slice_index_or (lists_of pieces.old.items) 0 []) ≡ length numbers.now }
+    ensures { lists_of pieces.new.items ≡ slice_set (lists_of pieces.old.items) 0
+        (zip (keys_of (slice_index_or (lists_of pieces.old.items) 0 [])) numbers.now) }
+{
+    set_pairs(pieces[0].as_mut_slice(), numbers);
+}
+
+// Replaces the numbers of pairs.
+fn set_pairs<I: Copy>(pairs: &mut [(I, i64)], numbers: &[i64])
+    requires { length pairs.old ≡ length numbers.now }
+    ensures { pairs.new ≡ zip (keys_of pairs.old) numbers.now }
+{
+    for at in 0..pairs.len() {
+        pairs[at].1 = numbers[at];
+    }
 }
 
 // The element at `index` among ascending pairs, and where it stands, or else `near`, where it is tried first.

@@ -1,6 +1,6 @@
 -- Changes that stand in runs, and changes of the cells of one row.
 use Rattle.std.proofs.Common.{◌≡◌, ℕ, zero, suc, length-append, ◌+◌, ◌<◌, ◌≤◌, ℤ, Bool, true, false}
-use Rattle.std.proofs.Common.{cond, List, [], ◌∷◌, ◌++◌, length, map, take, get_or, Option, Some, append_assoc}
+use Rattle.std.proofs.Common.{cond, List, [], ◌∷◌, ◌++◌, length, map, take, get_or, Option, Some, None, append_assoc}
 use Rattle.std.proofs.Common.{Result, Ok, Err, ◌||◌, IsSome, arith, true≢false, filter, refl, sym, ap, subst, ◌∙◌}
 use Rattle.std.specs.List.{list_all, list_any, count_by}
 use Rattle.std.specs.Prelude.{OnOk}
@@ -22,8 +22,7 @@ use Rattle.wb_book.specs.declared.changes.row.Row.TheVariants.{Inside, Members, 
 use Rattle.wb_book.specs.declared.changes.run.Form.{Form}
 use Rattle.wb_book.specs.declared.values.index.Index.{Index}
 use Rattle.wb_book.specs.Cells.{Name, Changes, cell_cmp, is_same_name}
-use Rattle.wb_book.specs.Runs.{cell_of, change_at, packed_changes, inside_change, inside_changes, changes_in, in_first, all_changes}
-use Rattle.wb_book.specs.Shapes.{indices}
+use Rattle.wb_book.specs.Runs.{cell_of, change_at, packed_changes, changes_in, in_first, all_changes}
 use Rattle.wb_book.specs.declared.values.index.Index.TheVariants.{Point}
 use Rattle.wb_book.proofs.Runs.{all-append}
 use Rattle.wb_shelf.specs.Entries.{row_changes}
@@ -157,14 +156,6 @@ never_named form row es n is e =
     let all : changes cell_cmp (packed_changes row es) (Object n) ≡ true = ap (λ ys. changes cell_cmp ys (Object n)) (sym is) ∙ e in
     true≢false (sym all ∙ none)
 
-pub never_inside : (form : Form) (d : Name) (rs : List (List ℤ)) (comes : Bool) (n : Name) → changes_in form ≡ inside_changes d rs comes →
-    changes cell_cmp (changes_in form) (Object n) ≡ true → ⊥
-never_inside form d rs comes n is e =
-    let none : changes cell_cmp (inside_changes d rs comes) (Object n) ≡ false =
-    none_pass (λ (x : Change Cell Value). eq_by_cmp cell_cmp (Object n) x.cell) (inside_change d comes) (λ y. refl) (indices rs) in
-    let all : changes cell_cmp (inside_changes d rs comes) (Object n) ≡ true = ap (λ ys. changes cell_cmp ys (Object n)) (sym is) ∙ e in
-    true≢false (sym all ∙ none)
-
 pub on_ok_ever : {T E P : Type 0} (r : Result T E) → P → OnOk r P
 on_ok_ever (Ok x) p = p
 on_ok_ever (Err e) p = tt
@@ -174,6 +165,13 @@ on_ok_ever (Err e) p = tt
 module _ (delta : Changes) (first : Option (Change Cell Value)) (rs : List ChangeRun) (all : delta ≡ in_first first ++ all_changes rs) where
   pub begins : (x : Change Cell Value) → first ≡ Some x → delta ≡ x ∷ all_changes rs
   begins x is = all ∙ ap (λ (o : Option (Change Cell Value)). in_first o ++ all_changes rs) is
+
+  pub only_runs : ((x : Change Cell Value) → first ≡ Some x → ⊥) → delta ≡ all_changes rs
+  only_runs none = all ∙ ap (λ (o : Option (Change Cell Value)). in_first o ++ all_changes rs) (by first none)
+    where
+      by : (o : Option (Change Cell Value)) → ((x : Change Cell Value) → o ≡ Some x → ⊥) → o ≡ None
+      by None gone = refl
+      by (Some x) gone = absurd (gone x refl)
 
 pub all_runs : (rs : List ChangeRun) (k : ℕ) → length rs ≤ k → all_changes (take k rs) ≡ all_changes rs
 all_runs rs k high = ap all_changes (take_all k rs high)

@@ -11,6 +11,7 @@ pub mod Seen
 pub mod Leads
 pub mod Entries
 pub mod EntriesSet
+pub mod Blocks
 pub mod Told
 pub mod Applied
 pub mod Built

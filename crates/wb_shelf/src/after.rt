@@ -6,24 +6,27 @@ ghost use Rattle.selective_undo.specs.declared.Change.{Change};
 ghost use Rattle.wb_book.specs.declared.cells.cell.Cell.{Cell as cell_type};
 ghost use Rattle.wb_book.specs.declared.cells.value.Value.{Value as value_type};
 ghost use Rattle.wb_book.specs.declared.cells.cell.Cell.TheVariants.{Mapping as mapping_cell, Shape as shape_cell};
-ghost use Rattle.wb_book.specs.declared.changes.row.Row.TheVariants.{Elements as element_row};
+ghost use Rattle.wb_book.specs.declared.changes.row.Row.TheVariants.{Inside as inside_row, Elements as element_row};
 ghost use Rattle.wb_book.specs.WellFormed.{ranges_in};
 ghost use Rattle.wb_dist.specs.Maps.{LayoutMap};
 ghost use Rattle.wb_book.specs.Locales.{mapping_in};
 ghost use Rattle.wb_book.specs.declared.values.index.Index.{Index as index_type};
-ghost use Rattle.wb_book.specs.Runs.{cell_of, changes_in, all_changes, packed_changes, inside_changes};
+ghost use Rattle.wb_book.specs.Runs.{cell_of, changes_in, all_changes, packed_changes, rectangle_entries, numbered_entries};
 ghost use Rattle.wb_shelf.specs.Joined.{answer, stored_in, element_in, is_stored, with_answer};
 ghost use Rattle.wb_shelf.specs.Kept.{Pieced, array_in};
+ghost use Rattle.wb_shelf.specs.Entries.{element_at};
+ghost use Rattle.wb_shelf.specs.Piecewise.Marked.{as_changes};
+ghost use Rattle.wb_book.specs.declared.values.index.Index.TheVariants.{Point as point_index};
 ghost use Rattle.wb_shelf.specs.After.{kind_lies, domain_lies, lies_at, IsAfter, AreAfter};
 
-use crate::arrays::Elements;
-use crate::groups::Group;
+use crate::arrays::{Block, Elements, Kept};
+use crate::groups::{Group, list_of};
 use crate::keep;
 use std::alloc::Global;
 use std::collections::BTreeMap;
 use wb_book::{
     AnyIndex, AnyLayout, AnyRect, Cell, CellChange, ChangeRun, Changes, DomainKind, Form, KeyType,
-    Name, Packed, RectangleChanges, Row, Value,
+    Name, Packed, RectangleChanges, RectangleNumbers, Row, Value,
 };
 use wb_range::NoMemory;
 use wb_redist::{MoveErr, Mover};
@@ -97,7 +100,8 @@ fn are_stored(form: &Form) -> bool
         Form::Line(packed) => is_row_stored(packed.row()),
         Form::Plane(packed) => is_row_stored(packed.row()),
         Form::Solid(packed) => is_row_stored(packed.row()),
-        Form::Rectangle(_) => false,
+        Form::Rectangle(rectangle) => is_row_stored(rectangle.row()),
+        Form::Numbers(rectangle) => is_row_stored(rectangle.row()),
     }
 }
 
@@ -143,7 +147,7 @@ fn stored_count(delta: &Changes) -> usize
     let _fits = delta.len();
     let (first, runs) = delta.parts();
     match first {
-        None => 0,
+        None => stored_in_runs(runs),
         Some(first) => stored_one(&first) + stored_in_runs(runs),
     }
 }
@@ -188,6 +192,7 @@ pub(crate) fn stored_changes(alloc: Global, delta: &Changes) -> Result<Vec<CellC
     let mut stored = Vec::with_capacity(alloc, stored_count(delta))?;
     let (first, runs) = delta.parts();
     let Some(first) = first else {
+        add_stored_runs(&mut stored, runs)?;
         return Ok(stored);
     };
     add_stored(&mut stored, &first)?;
@@ -231,23 +236,121 @@ fn ranges_in(cells: &BTreeMap<Cell, Value>, domain: &Name) -> Option<AnyRect>
     }
 }
 
-// Whether the indices of a rectangle, which come to a domain or leave it, come to it by the changes that set them to what they
-// are now: either all of them are in the domain, or none is. `None` where neither is known.
-fn rectangle_before(cells: &BTreeMap<Cell, Value>, rectangle: &RectangleChanges) -> Option<bool>
-    ensures { IfSome result (λ b. (element : List ℕ → index_type → Option ℤ) →
-        map (with_answer (answer (stored_in cells.now.entries) element)) (inside_changes rectangle.now.domain rectangle.now.ranges rectangle.now.comes) ≡
-        inside_changes rectangle.now.domain rectangle.now.ranges b) }
+// The changes that set the cells `In` of a domain at the indices of a rectangle to what they are now, as a run: either all of
+// them are in the domain, or none is. `None` where neither is known.
+fn inside_before(cells: &BTreeMap<Cell, Value>, domain: &Name, ranges: &AnyRect) -> Option<Form>
+    ensures { IfSome result (λ f. (element : List ℕ → index_type → Option ℤ) (n : Option ℤ) →
+        changes_in f ≡ map (with_answer (answer (stored_in cells.now.entries) element)) (packed_changes (inside_row domain.now) (rectangle_entries ranges.now n))) }
 {
-    match ranges_in(cells, rectangle.domain()) {
-        Some(ranges) => {
-            if ranges.is_same(rectangle.ranges()) {
-                Some(true)
+    match ranges_in(cells, domain) {
+        Some(there) => {
+            if there.is_same(ranges) {
+                Some(Form::Rectangle(RectangleChanges::new(Row::Inside(*domain), *ranges, Some(0))))
             } else {
                 None
             }
         }
-        None => Some(false),
+        None => Some(Form::Rectangle(RectangleChanges::new(Row::Inside(*domain), *ranges, None))),
     }
+}
+
+// The changes that set the elements at the indices of a rectangle to what they are now, as a run; `None` where the elements are
+// not known to be those.
+fn known_before(
+    alloc: Global,
+    elements: &Elements,
+    array: &Name,
+    ranges: &AnyRect,
+) -> Result<Option<Form>, NoMemory>
+    ensures { IfOk result (λ o. IfSome o (λ f. (stored : cell_type → Option value_type) (element : List ℕ → index_type → Option ℤ) (n : Option ℤ) →
+        ((i : index_type) → element array.now i ≡ element_at elements.now.0 i) →
+        changes_in f ≡ map (with_answer (answer stored element)) (packed_changes (element_row array.now) (rectangle_entries ranges.now n)))) }
+{
+    if !elements.has_ranges(ranges) {
+        return Ok(None);
+    }
+    match elements.numbers(alloc) {
+        Ok(numbers) => Ok(Some(Form::Numbers(RectangleNumbers::new(
+            Row::Elements(*array),
+            *ranges,
+            numbers,
+        )))),
+        Err(why) => Err(why),
+    }
+}
+
+// The changes that set the elements of an array at the indices of a rectangle to what they are now, as a run; `None` where they
+// are to be told one by one.
+fn elements_before(
+    alloc: Global,
+    arrays: &BTreeMap<Name, Elements>,
+    array: &Name,
+    ranges: &AnyRect,
+) -> Result<Option<Form>, NoMemory>
+    ensures { IfOk result (λ o. IfSome o (λ f. (stored : cell_type → Option value_type) (n : Option ℤ) →
+        changes_in f ≡ map (with_answer (answer stored (element_in arrays.now.entries))) (packed_changes (element_row array.now)
+        (rectangle_entries ranges.now n)))) }
+{
+    match arrays.get(array) {
+        Some(elements) => known_before(alloc, elements, array, ranges),
+        None => Ok(Some(Form::Rectangle(RectangleChanges::new(
+            Row::Elements(*array),
+            *ranges,
+            None,
+        )))),
+    }
+}
+
+// The same of the cells of a row.
+fn rectangle_before(
+    alloc: Global,
+    cells: &BTreeMap<Cell, Value>,
+    arrays: &BTreeMap<Name, Elements>,
+    row: &Row,
+    ranges: &AnyRect,
+) -> Result<Option<Form>, NoMemory>
+    ensures { IfOk result (λ o. IfSome o (λ f. (n : Option ℤ) →
+        changes_in f ≡ map (with_answer (answer (stored_in cells.now.entries) (element_in arrays.now.entries))) (packed_changes row.now
+        (rectangle_entries ranges.now n)))) }
+{
+    match row {
+        Row::Inside(domain) => Ok(inside_before(cells, domain, ranges)),
+        Row::Members(_) => Ok(None),
+        Row::Elements(array) => elements_before(alloc, arrays, array, ranges),
+    }
+}
+
+// The same of changes at the indices of a rectangle to the same number, or to absent.
+fn same_before(
+    alloc: Global,
+    cells: &BTreeMap<Cell, Value>,
+    arrays: &BTreeMap<Name, Elements>,
+    block: &RectangleChanges,
+) -> Result<Option<Form>, NoMemory>
+    ensures { IfOk result (λ o. IfSome o (λ f.
+        changes_in f ≡ map (with_answer (answer (stored_in cells.now.entries) (element_in arrays.now.entries))) (packed_changes block.now.row
+        (rectangle_entries block.now.ranges block.now.number)))) }
+{
+    rectangle_before(alloc, cells, arrays, block.row(), block.ranges())
+}
+
+// The same of changes to a number each.
+fn each_before(
+    alloc: Global,
+    cells: &BTreeMap<Cell, Value>,
+    arrays: &BTreeMap<Name, Elements>,
+    block: &RectangleNumbers,
+) -> Result<Option<Form>, NoMemory>
+    ensures { IfOk result (λ o. IfSome o (λ f.
+        changes_in f ≡ map (with_answer (answer (stored_in cells.now.entries) (element_in arrays.now.entries))) (packed_changes block.now.row
+        (numbered_entries block.now.ranges block.now.numbers.items)))) }
+{
+    let ranges = block.ranges();
+    let count = block.numbers().len();
+    if count < ranges.size() {
+        return Ok(None);
+    }
+    rectangle_before(alloc, cells, arrays, block.row(), ranges)
 }
 
 // The array of a row of elements.
@@ -330,14 +433,8 @@ fn form_before(
         Form::Line(packed) => line_before(alloc, arrays, packed),
         Form::Plane(packed) => plane_before(alloc, arrays, packed),
         Form::Solid(packed) => solid_before(alloc, arrays, packed),
-        Form::Rectangle(rectangle) => match rectangle_before(cells, rectangle) {
-            Some(comes) => Ok(Some(Form::Rectangle(RectangleChanges::new(
-                *rectangle.domain(),
-                *rectangle.ranges(),
-                comes,
-            )))),
-            None => Ok(None),
-        },
+        Form::Rectangle(block) => same_before(alloc, cells, arrays, block),
+        Form::Numbers(block) => each_before(alloc, cells, arrays, block),
     }
 }
 
@@ -366,7 +463,6 @@ fn add_run_before(
     run: &ChangeRun,
     before: &mut Changes,
 ) -> Result<(), NoMemory>
-    requires { 0 < length before.old }
     ensures { OnOk result (before.new ≡ before.old ++
         map (with_answer (answer (stored_in cells.now.entries) (element_in arrays.now.entries))) (changes_in run.now.form)) }
 {
@@ -385,7 +481,6 @@ fn add_runs_before(
     runs: &[ChangeRun],
     before: &mut Changes,
 ) -> Result<(), NoMemory>
-    requires { 0 < length before.old }
     ensures { OnOk result (before.new ≡ before.old ++
         map (with_answer (answer (stored_in cells.now.entries) (element_in arrays.now.entries))) (all_changes runs.now)) }
 {
@@ -407,7 +502,9 @@ pub(crate) fn values_before(
 {
     let (first, runs) = delta.parts();
     let Some(first) = first else {
-        return Ok(Changes::new());
+        let mut before = Changes::new();
+        add_runs_before(alloc, cells, arrays, runs, &mut before)?;
+        return Ok(before);
     };
     let mut before = Changes::one(value_before(cells, arrays, &first));
     add_runs_before(alloc, cells, arrays, runs, &mut before)?;
@@ -444,22 +541,67 @@ pub(crate) fn after_one<V: Mover>(
     }
 }
 
+// The same of changes at the indices of a rectangle.
+fn after_block<V: Mover, B: Block>(
+    alloc: Global,
+    block: &B,
+    elements: &Elements,
+    lies: &(AnyLayout, u8),
+    mover: &V,
+) -> Result<Option<Elements>, MoveErr>
+    ensures after { IfOk result (IsAfter (as_changes point_index (B.entries block.now)) lies.now elements.now) }
+    ensures no_thread { result ≡ Err MoveErr.NoThread → V.may_lack_threads mover.now }
+{
+    if elements.len() == 0 {
+        match Elements::of_block(alloc, block, &lies.0, lies.1) {
+            Ok(Some(fresh)) => {
+                let _ascending = fresh.len();
+                return Ok(Some(fresh));
+            }
+            Ok(None) => {}
+            Err(_) => return Err(MoveErr::NoMemory),
+        }
+    }
+    let Ok(changes) = list_of(alloc, block) else {
+        return Err(MoveErr::NoMemory);
+    };
+    after_one(alloc, changes.as_slice(), elements, lies, mover)
+}
+
+// The same of changes that are kept for an array.
+fn after_group<V: Mover>(
+    alloc: Global,
+    group: &Group,
+    elements: &Elements,
+    lies: &(AnyLayout, u8),
+    mover: &V,
+) -> Result<Option<Elements>, MoveErr>
+    ensures after { IfOk result (IsAfter group.now lies.now elements.now) }
+    ensures no_thread { result ≡ Err MoveErr.NoThread → V.may_lack_threads mover.now }
+{
+    match group.kept() {
+        Kept::Listed(changes) => after_one(alloc, changes.as_slice(), elements, lies, mover),
+        Kept::Same(block) => after_block(alloc, block, elements, lies, mover),
+        Kept::Each(block) => after_block(alloc, block, elements, lies, mover),
+    }
+}
+
 // The array of a name after changes of its elements, as `after_one`, by how it lies by the stored cells.
 fn after_named<V: Mover>(
     alloc: Global,
     cells: &BTreeMap<Cell, Value>,
     arrays: &BTreeMap<Name, Elements>,
     name: &Name,
-    changes: &[(AnyIndex, Option<i64>)],
+    group: &Group,
     mover: &V,
 ) -> Result<Option<Elements>, MoveErr>
     ensures after { IfOk result (λ o. (p : Pieced) (l : LayoutMap × ℕ) → array_in arrays.now.entries name.now ≡ Some p →
-        lies_at (stored_in cells.now.entries) name.now ≡ Some l → IsAfter changes.now l p o) }
+        lies_at (stored_in cells.now.entries) name.now ≡ Some l → IsAfter group.now l p o) }
     ensures no_thread { result ≡ Err MoveErr.NoThread → V.may_lack_threads mover.now }
 {
     match arrays.get(name) {
         Some(elements) => match lies(cells, name) {
-            Some(lies) => after_one(alloc, changes, elements, &lies, mover),
+            Some(lies) => after_group(alloc, group, elements, &lies, mover),
             None => Ok(None),
         },
         None => Ok(None),
@@ -479,7 +621,7 @@ pub(crate) fn built<V: Mover>(
 {
     let mut built = Vec::new(alloc);
     for (name, group) in groups {
-        let fresh = after_named(alloc, cells, arrays, name, group.changes(), mover)?;
+        let fresh = after_named(alloc, cells, arrays, name, group, mover)?;
         match fresh {
             Some(fresh) => {
                 if built.push((*name, fresh)).is_err() {

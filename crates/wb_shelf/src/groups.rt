@@ -13,33 +13,60 @@ ghost use Rattle.wb_book.specs.declared.cells.cell.Cell.TheVariants.{Object};
 ghost use Rattle.wb_book.specs.declared.cells.value.Value.{Value as value_type};
 ghost use Rattle.wb_book.specs.declared.cells.value.Value.TheVariants.{Number as number_value};
 ghost use Rattle.wb_book.specs.Cells.{cell_cmp, is_same_name};
-ghost use Rattle.wb_book.specs.Runs.{changes_in as run_changes, all_changes};
+ghost use Rattle.wb_book.specs.Runs.{changes_in as run_changes, all_changes, packed_changes};
+ghost use Rattle.wb_book.specs.declared.values.index.Index.TheVariants.{Point as point_index};
+ghost use Rattle.wb_shelf.specs.Blocks.{listed};
 ghost use Rattle.wb_shelf.specs.Entries.{row_changes};
 ghost use Rattle.wb_shelf.specs.Piecewise.Marked.{as_changes};
 ghost use Rattle.wb_shelf.specs.Joined.{stored_in};
 ghost use Rattle.wb_shelf.specs.Groups.{group_in, changes_in, LeadTo, leaves};
 ghost use Rattle.wb_shelf.specs.Kept.{array_in};
 
-use crate::arrays::{AsIndex, Elements};
+use crate::arrays::{AsIndex, Block, Elements, Kept, list_block};
 use std::alloc::Global;
 use std::collections::BTreeMap;
 use std::marker::Model;
+use std::mem;
 use wb_book::{AnyIndex, Cell, CellChange, ChangeRun, Changes, Form, Name, Row, Value};
 use wb_range::NoMemory;
 
 /// Changes of the elements of an array: to a number, or to absent.
 #[derive(Drop)]
 pub(crate) struct Group {
-    changes: Vec<(AnyIndex, Option<i64>)>,
+    kept: Kept,
 }
 
 impl Model for Group {
     ghost use Rattle.std.specs.Prelude.{List, Option, ℤ};
     ghost use Rattle.wb_book.specs.declared.values.index.Index.{Index};
+    ghost use Rattle.wb_shelf.specs.Blocks.{listed};
 
     ghost Value = { List (Index × Option ℤ) };
 
-    ghost view = { λ a. a.changes.items };
+    ghost view = { λ a. listed a.kept };
+}
+
+/// The changes, each by its index.
+pub(crate) fn list_of<B: Block>(
+    alloc: Global,
+    block: &B,
+) -> Result<Vec<(AnyIndex, Option<i64>)>, NoMemory>
+    ensures { IfOk result (λ v. v.items ≡ as_changes point_index (B.entries block.now)) }
+{
+    let mut list = Vec::with_capacity(alloc, block.many())?;
+    list_block(&mut list, block)?;
+    Ok(list)
+}
+
+// Changes that are kept, each by its index.
+fn into_list(alloc: Global, kept: Kept) -> Result<Vec<(AnyIndex, Option<i64>)>, NoMemory>
+    ensures { IfOk result (λ v. v.items ≡ listed kept) }
+{
+    match kept {
+        Kept::Listed(list) => Ok(list),
+        Kept::Same(block) => list_of(alloc, &block),
+        Kept::Each(block) => list_of(alloc, &block),
+    }
 }
 
 impl Group {
@@ -47,30 +74,71 @@ impl Group {
         ensures { result ≡ [] }
     {
         Group {
-            changes: Vec::new(alloc),
+            kept: Kept::Listed(Vec::new(alloc)),
         }
     }
 
-    fn add(&mut self, index: AnyIndex, number: Option<i64>) -> Result<(), NoMemory>
+    // The changes, each by its index; none is left.
+    fn take(&mut self, alloc: Global) -> Result<Vec<(AnyIndex, Option<i64>)>, NoMemory>
+        ensures { IfOk result (λ v. v.items ≡ self.old) }
+    {
+        let kept = mem::replace(&mut self.kept, Kept::Listed(Vec::new(alloc)));
+        into_list(alloc, kept)
+    }
+
+    fn add(&mut self, alloc: Global, index: AnyIndex, number: Option<i64>) -> Result<(), NoMemory>
         ensures { OnOk result (self.new ≡ self.old ++ (index, number) ∷ []) }
     {
-        Ok(self.changes.push((index, number))?)
-    }
-
-    fn add_all<I: AsIndex>(&mut self, changes: &[(I, Option<i64>)]) -> Result<(), NoMemory>
-        ensures { OnOk result (self.new ≡ self.old ++ as_changes I.as_index changes.now) }
-    {
-        for (index, number) in changes {
-            self.changes.push((index.any(), *number))?;
-        }
+        let mut list = self.take(alloc)?;
+        list.push((index, number))?;
+        self.kept = Kept::Listed(list);
         Ok(())
     }
 
-    pub(crate) fn changes(&self) -> &[(AnyIndex, Option<i64>)]
-        ensures { result.now ≡ self.now }
+    fn add_all<I: AsIndex>(
+        &mut self,
+        alloc: Global,
+        changes: &[(I, Option<i64>)],
+    ) -> Result<(), NoMemory>
+        ensures { OnOk result (self.new ≡ self.old ++ as_changes I.as_index changes.now) }
     {
-        self.changes.as_slice()
+        let mut list = self.take(alloc)?;
+        push_all(&mut list, changes)?;
+        self.kept = Kept::Listed(list);
+        Ok(())
     }
+
+    fn add_block<B: Block>(&mut self, alloc: Global, block: &B) -> Result<(), NoMemory>
+        ensures { OnOk result (self.new ≡ self.old ++ as_changes point_index (B.entries block.now)) }
+    {
+        let mut list = self.take(alloc)?;
+        if list.is_empty() {
+            self.kept = block.copied(alloc)?;
+            return Ok(());
+        }
+        list_block(&mut list, block)?;
+        self.kept = Kept::Listed(list);
+        Ok(())
+    }
+
+    pub(crate) fn kept(&self) -> &Kept
+        ensures { listed result.now ≡ self.now }
+    {
+        &self.kept
+    }
+}
+
+// Adds changes to a list, each by its index.
+fn push_all<I: AsIndex>(
+    list: &mut Vec<(AnyIndex, Option<i64>)>,
+    changes: &[(I, Option<i64>)],
+) -> Result<(), NoMemory>
+    ensures { OnOk result (list.new.items ≡ list.old.items ++ as_changes I.as_index changes.now) }
+{
+    for (index, number) in changes {
+        list.push((index.any(), *number))?;
+    }
+    Ok(())
 }
 
 // Names an array, if it isn't named yet.
@@ -90,6 +158,7 @@ fn put_group(alloc: Global, groups: &mut BTreeMap<Name, Group>, name: &Name) -> 
 
 // Adds a change to those of an array that is named.
 fn add_to(
+    alloc: Global,
     groups: &mut BTreeMap<Name, Group>,
     name: &Name,
     index: &AnyIndex,
@@ -101,7 +170,7 @@ fn add_to(
         (changes_in groups.old.entries b ++ (index.now, number) ∷ []) (changes_in groups.old.entries b)) }
 {
     match groups.get_mut(name) {
-        Some(group) => group.add(*index, number),
+        Some(group) => group.add(alloc, *index, number),
         None => unreachable!(),
     }
 }
@@ -133,7 +202,7 @@ fn add_change(
                 return Err(NoMemory);
             };
             put_group(alloc, groups, name)?;
-            add_to(groups, name, index, number)
+            add_to(alloc, groups, name, index, number)
         }
         Cell::Object(name) => put_group(alloc, groups, name),
         _ => Ok(()),
@@ -142,6 +211,7 @@ fn add_change(
 
 // Adds changes of elements to those of an array that is named.
 fn add_all<I: AsIndex>(
+    alloc: Global,
     groups: &mut BTreeMap<Name, Group>,
     name: &Name,
     changes: &[(I, Option<i64>)],
@@ -152,7 +222,7 @@ fn add_all<I: AsIndex>(
         (changes_in groups.old.entries b ++ as_changes I.as_index changes.now) (changes_in groups.old.entries b)) }
 {
     match groups.get_mut(name) {
-        Some(group) => group.add_all(changes),
+        Some(group) => group.add_all(alloc, changes),
         None => unreachable!(),
     }
 }
@@ -173,7 +243,45 @@ fn add_entries<I: AsIndex>(
         Row::Members(_) => Ok(()),
         Row::Elements(name) => {
             put_group(alloc, groups, name)?;
-            add_all(groups, name, changes)
+            add_all(alloc, groups, name, changes)
+        }
+    }
+}
+
+// Adds changes of elements at the indices of a rectangle to those of an array that is named.
+fn add_over<B: Block>(
+    alloc: Global,
+    groups: &mut BTreeMap<Name, Group>,
+    name: &Name,
+    block: &B,
+) -> Result<(), NoMemory>
+    requires { IsSome (group_in groups.old.entries name.now) }
+    ensures stays { (b : List ℕ) → IsSome (group_in groups.old.entries b) → IsSome (group_in groups.new.entries b) }
+    ensures added { OnOk result ((b : List ℕ) → changes_in groups.new.entries b ≡ cond (is_same_name name.now b)
+        (changes_in groups.old.entries b ++ as_changes point_index (B.entries block.now)) (changes_in groups.old.entries b)) }
+{
+    match groups.get_mut(name) {
+        Some(group) => group.add_block(alloc, block),
+        None => unreachable!(),
+    }
+}
+
+// The same of changes of cells of a row at the indices of a rectangle.
+fn add_block<B: Block>(
+    alloc: Global,
+    groups: &mut BTreeMap<Name, Group>,
+    block: &B,
+) -> Result<(), NoMemory>
+    ensures lead { (before : List (Change cell_type value_type)) → ((b : List ℕ) → LeadTo before b (changes_in groups.old.entries b)) →
+        OnOk result ((b : List ℕ) → LeadTo (before ++ packed_changes (B.row_of block.now) (B.entries block.now)) b (changes_in groups.new.entries b)) }
+    ensures stays { (b : List ℕ) → IsSome (group_in groups.old.entries b) → IsSome (group_in groups.new.entries b) }
+{
+    match block.of_row() {
+        Row::Inside(_) => Ok(()),
+        Row::Members(_) => Ok(()),
+        Row::Elements(name) => {
+            put_group(alloc, groups, &name)?;
+            add_over(alloc, groups, &name, block)
         }
     }
 }
@@ -190,7 +298,8 @@ fn add_run(alloc: Global, groups: &mut BTreeMap<Name, Group>, form: &Form) -> Re
         Form::Line(packed) => add_entries(alloc, groups, packed.row(), packed.changes()),
         Form::Plane(packed) => add_entries(alloc, groups, packed.row(), packed.changes()),
         Form::Solid(packed) => add_entries(alloc, groups, packed.row(), packed.changes()),
-        Form::Rectangle(_) => Ok(()),
+        Form::Rectangle(block) => add_block(alloc, groups, block),
+        Form::Numbers(block) => add_block(alloc, groups, block),
     }
 }
 
@@ -220,6 +329,7 @@ fn grouped(alloc: Global, delta: &Changes) -> Result<BTreeMap<Name, Group>, NoMe
     let mut groups = BTreeMap::new(alloc);
     let (first, runs) = delta.parts();
     let Some(first) = first else {
+        add_runs(alloc, &mut groups, runs)?;
         return Ok(groups);
     };
     add_change(alloc, &mut groups, &first)?;
@@ -271,6 +381,7 @@ fn run_leaves(cells: &BTreeMap<Cell, Value>, form: &Form) -> bool
         Form::Plane(_) => true,
         Form::Solid(_) => true,
         Form::Rectangle(_) => true,
+        Form::Numbers(_) => true,
     }
 }
 
@@ -291,7 +402,7 @@ fn are_left(cells: &BTreeMap<Cell, Value>, delta: &Changes) -> bool
 {
     let (first, runs) = delta.parts();
     let Some(first) = first else {
-        return true;
+        return runs_leave(cells, runs);
     };
     if !leaves(cells, &first) {
         return false;

@@ -101,7 +101,7 @@ set_more xs k x o i low is =
 
 -- ---- all are set
 
-none_above : (k : Index) (es : List (Index × ℤ)) → AllByRecursion (λ y. index_cmp k y ≡ Less) (keys_of es) → value_at index_cmp es k ≡ None
+pub none_above : (k : Index) (es : List (Index × ℤ)) → AllByRecursion (λ y. index_cmp k y ≡ Less) (keys_of es) → value_at index_cmp es k ≡ None
 none_above k [] all = refl
 none_above k (e ∷ es) all = rw all.0 (none_above k es all.1)
 

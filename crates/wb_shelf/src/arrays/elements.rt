@@ -1,18 +1,25 @@
-ghost use Rattle.std.specs.Prelude.{◌≡◌, ◌≤◌, true, length, option_map, Err, IfOk, IfSome};
+ghost use Rattle.std.specs.Prelude.{◌≡◌, ◌≤◌, true, false, length, map, option_map, Err, IfOk, IfSome};
+ghost use Rattle.std.specs.List.{zip};
 ghost use Rattle.wb_book.specs.Layouts.{is_of_rank};
 ghost use Rattle.std.specs.List.Sorted.{IsStrictlySortedBy};
 ghost use Rattle.std.specs.Map.{set_value, keys_of};
 ghost use Rattle.std.specs.BTreeMap.{is_at};
 ghost use Rattle.wb_array.specs.Elements.{value_at};
 ghost use Rattle.wb_book.specs.Cells.{index_cmp};
-ghost use Rattle.wb_shelf.specs.Piecewise.Changed.{changed_at};
+ghost use Rattle.wb_book.specs.Shapes.{indices};
+ghost use Rattle.wb_shelf.specs.Piecewise.Changed.{changed_at, all_set};
 ghost use Rattle.wb_shelf.specs.Piecewise.Lent.{lent, piece_in};
 ghost use Rattle.wb_shelf.specs.Piecewise.Indexed.{indexed, AllOf};
+ghost use Rattle.wb_shelf.specs.Piecewise.Marked.{as_changes};
+ghost use Rattle.wb_shelf.specs.Piecewise.Seen.{seen_of, IsKept};
 ghost use Rattle.wb_redist.specs.Reductions.{IsReduced};
 ghost use Rattle.wb_book.specs.declared.values.index.Index.{Index as any_index};
+ghost use Rattle.wb_book.specs.declared.values.index.Index.TheVariants.{Point as point_index};
 
 pub(crate) mod typed;
 
+use crate::arrays::block::Block;
+use crate::arrays::filled::filled;
 use crate::arrays::key::AsIndex;
 use crate::arrays::made::made;
 use crate::arrays::piece::{Pairs, points_on, texts_on};
@@ -21,7 +28,7 @@ use std::collections::BTreeMap;
 use std::marker::Model;
 use wb_array::Store;
 use wb_assoc::{Assoc, Label};
-use wb_book::{AnyIndex, AnyLayout, Laid};
+use wb_book::{AnyIndex, AnyLayout, AnyRect, Laid};
 use wb_dist::{Distribution, Home, Layout};
 use wb_pieces::Pieces;
 use wb_range::{Domain, Mapping, NoMemory};
@@ -41,10 +48,11 @@ pub enum Form {
     Text(Pieces<Assoc<Label>, Home<Label>>),
 }
 
-/// The elements of an array, kept in pieces.
+/// The elements of an array, kept in pieces. Where they were made at the indices of a rectangle, the ranges of that are known.
 #[derive(Drop)]
 pub struct Elements {
     form: Form,
+    ranges: Option<AnyRect>,
 }
 
 impl Model for Elements {
@@ -54,11 +62,11 @@ impl Model for Elements {
 
     ghost Value = { List (Index × ℤ) × (LayoutMap × ℕ) };
 
-    ghost use Rattle.wb_shelf.specs.Piecewise.Seen.{seen_of, IsKept};
+    ghost use Rattle.wb_shelf.specs.Piecewise.Seen.{seen_of, AreElements};
 
     ghost view = { λ a. seen_of a.form };
 
-    ghost invariant = { λ a. IsKept a.form };
+    ghost invariant = { λ a. AreElements a.form a.ranges };
 }
 
 impl Elements {
@@ -79,12 +87,7 @@ impl Elements {
         ensures elements { self.new.0 ≡ set_value (is_at (index_cmp index.now)) self.old.0 value }
         ensures mapping { self.new.1 ≡ self.old.1 }
     {
-        match &mut self.form {
-            Form::Line(pieces) => set_in(pieces, index, value, near),
-            Form::Plane(pieces) => set_in(pieces, index, value, near),
-            Form::Solid(pieces) => set_in(pieces, index, value, near),
-            Form::Text(pieces) => set_in(pieces, index, value, near),
-        }
+        set_form(&mut self.form, index, value, near)
     }
 
     /// The rank of the indices, 0 for texts.
@@ -148,18 +151,21 @@ impl Elements {
             Form::Line(pieces) => match mover.move_pieces(alloc, pieces, &line_of(to)) {
                 Ok(pieces) => Ok(Elements {
                     form: Form::Line(pieces),
+                    ranges: self.ranges,
                 }),
                 Err(why) => Err(why),
             },
             Form::Plane(pieces) => match mover.move_pieces(alloc, pieces, &plane_of(to)) {
                 Ok(pieces) => Ok(Elements {
                     form: Form::Plane(pieces),
+                    ranges: self.ranges,
                 }),
                 Err(why) => Err(why),
             },
             Form::Solid(pieces) => match mover.move_pieces(alloc, pieces, &solid_of(to)) {
                 Ok(pieces) => Ok(Elements {
                     form: Form::Solid(pieces),
+                    ranges: self.ranges,
                 }),
                 Err(why) => Err(why),
             },
@@ -183,18 +189,21 @@ impl Elements {
             let pieces = made(alloc, old, changes, &line_of(to))?;
             return Ok(Elements {
                 form: Form::Line(pieces),
+                ranges: None,
             });
         }
         if rank == 2 && to.is_of_rank(2) {
             let pieces = made(alloc, old, changes, &plane_of(to))?;
             return Ok(Elements {
                 form: Form::Plane(pieces),
+                ranges: None,
             });
         }
         if rank == 3 && to.is_of_rank(3) {
             let pieces = made(alloc, old, changes, &solid_of(to))?;
             return Ok(Elements {
                 form: Form::Solid(pieces),
+                ranges: None,
             });
         }
         match to.laid() {
@@ -203,12 +212,113 @@ impl Elements {
                     let pieces = made(alloc, old, changes, &Home::new())?;
                     return Ok(Elements {
                         form: Form::Text(pieces),
+                        ranges: None,
                     });
                 }
                 Err(NoMemory)
             }
             _ => Err(NoMemory),
         }
+    }
+
+    /// The ranges of the rectangle at whose indices the elements stand, one after another, if they are known.
+    pub fn ranges(&self) -> Option<AnyRect>
+        ensures { IfSome result (λ rs. keys_of self.now.0 ≡ indices rs) }
+    {
+        let _ = &self.form;
+        self.ranges
+    }
+
+    /// Whether the elements are known to stand at the indices of a rectangle, one after another. It may miss that, but not the
+    /// other way round.
+    pub fn has_ranges(&self, ranges: &AnyRect) -> bool
+        ensures same { result ≡ true → keys_of self.now.0 ≡ indices ranges.now }
+        ensures ascending { IsStrictlySortedBy index_cmp (keys_of self.now.0) }
+    {
+        let _ascending = self.len();
+        match self.ranges() {
+            Some(known) => known.is_same(ranges),
+            None => false,
+        }
+    }
+
+    /// Replaces all elements by a number, if there is a short way; says whether it did.
+    pub fn fill(&mut self, number: &i64) -> bool
+        ensures done { result ≡ true → self.new.0 ≡ map (λ e. (e.0, number.now)) self.old.0 }
+        ensures left { result ≡ false → self.new.0 ≡ self.old.0 }
+        ensures mapping { self.new.1 ≡ self.old.1 }
+    {
+        fill_form(&mut self.form, number)
+    }
+
+    /// Replaces all elements, one after another, if there are as many numbers and there is a short way; says whether it did.
+    pub fn set_numbers(&mut self, numbers: &[i64]) -> bool
+        ensures done { result ≡ true → self.new.0 ≡ zip (keys_of self.old.0) numbers.now }
+        ensures many { result ≡ true → length numbers.now ≡ length self.old.0 }
+        ensures left { result ≡ false → self.new.0 ≡ self.old.0 }
+        ensures mapping { self.new.1 ≡ self.old.1 }
+    {
+        number_form(&mut self.form, numbers)
+    }
+
+    /// The elements without their indices, in their order.
+    pub fn numbers(&self, alloc: Global) -> Result<Vec<i64>, NoMemory>
+        ensures { IfOk result (λ v. v.items ≡ map (λ e. e.1) self.now.0) }
+    {
+        match &self.form {
+            Form::Line(pieces) => numbers_of(alloc, pieces),
+            Form::Plane(pieces) => numbers_of(alloc, pieces),
+            Form::Solid(pieces) => numbers_of(alloc, pieces),
+            Form::Text(pieces) => numbers_of(alloc, pieces),
+        }
+    }
+
+    /// Elements by a mapping, for indices of a rank: at each index of a rectangle the number that is set there. `None` where
+    /// that can't be done in a short way.
+    pub(crate) fn of_block<B: Block>(
+        alloc: Global,
+        block: &B,
+        to: &AnyLayout,
+        rank: u8,
+    ) -> Result<Option<Elements>, NoMemory>
+        ensures elements { IfOk result (λ o. IfSome o (λ e. all_set e.0 ≡ as_changes point_index (B.entries block.now))) }
+        ensures lies { IfOk result (λ o. IfSome o (λ e. e.1 ≡ (to.now, rank))) }
+    {
+        if !block.is_whole() {
+            return Ok(None);
+        }
+        let ranges = block.over();
+        if rank == 1 && to.is_of_rank(1) {
+            return match filled(alloc, block, &line_of(to)) {
+                Ok(Some(pieces)) => Ok(Some(Elements {
+                    form: Form::Line(pieces),
+                    ranges: Some(ranges),
+                })),
+                Ok(None) => Ok(None),
+                Err(why) => Err(why),
+            };
+        }
+        if rank == 2 && to.is_of_rank(2) {
+            return match filled(alloc, block, &plane_of(to)) {
+                Ok(Some(pieces)) => Ok(Some(Elements {
+                    form: Form::Plane(pieces),
+                    ranges: Some(ranges),
+                })),
+                Ok(None) => Ok(None),
+                Err(why) => Err(why),
+            };
+        }
+        if rank == 3 && to.is_of_rank(3) {
+            return match filled(alloc, block, &solid_of(to)) {
+                Ok(Some(pieces)) => Ok(Some(Elements {
+                    form: Form::Solid(pieces),
+                    ranges: Some(ranges),
+                })),
+                Ok(None) => Ok(None),
+                Err(why) => Err(why),
+            };
+        }
+        Ok(None)
     }
 
     /// How many elements there are. They stand in the order of their indices.
@@ -274,6 +384,53 @@ impl Elements {
             Form::Solid(pieces) => pairs_of(alloc, pieces),
             Form::Text(pieces) => pairs_of(alloc, pieces),
         }
+    }
+}
+
+fn set_form(form: &mut Form, index: &AnyIndex, value: i64, near: usize) -> usize
+    requires { IsKept form.old }
+    ensures elements { (seen_of form.new).0 ≡ set_value (is_at (index_cmp index.now)) (seen_of form.old).0 value }
+    ensures mapping { (seen_of form.new).1 ≡ (seen_of form.old).1 }
+    ensures kept { IsKept form.new }
+{
+    match form {
+        Form::Line(pieces) => set_in(pieces, index, value, near),
+        Form::Plane(pieces) => set_in(pieces, index, value, near),
+        Form::Solid(pieces) => set_in(pieces, index, value, near),
+        Form::Text(pieces) => set_in(pieces, index, value, near),
+    }
+}
+
+fn fill_form(form: &mut Form, number: &i64) -> bool
+    requires { IsKept form.old }
+    ensures done { result ≡ true → (seen_of form.new).0 ≡ map (λ e. (e.0, number.now)) (seen_of form.old).0 }
+    ensures left { result ≡ false → (seen_of form.new).0 ≡ (seen_of form.old).0 }
+    ensures mapping { (seen_of form.new).1 ≡ (seen_of form.old).1 }
+    ensures kept { IsKept form.new }
+    ensures names { keys_of (seen_of form.new).0 ≡ keys_of (seen_of form.old).0 }
+{
+    match form {
+        Form::Line(pieces) => fill_in(pieces, number),
+        Form::Plane(pieces) => fill_in(pieces, number),
+        Form::Solid(pieces) => fill_in(pieces, number),
+        Form::Text(pieces) => fill_in(pieces, number),
+    }
+}
+
+fn number_form(form: &mut Form, numbers: &[i64]) -> bool
+    requires { IsKept form.old }
+    ensures done { result ≡ true → (seen_of form.new).0 ≡ zip (keys_of (seen_of form.old).0) numbers.now }
+    ensures many { result ≡ true → length numbers.now ≡ length (seen_of form.old).0 }
+    ensures left { result ≡ false → (seen_of form.new).0 ≡ (seen_of form.old).0 }
+    ensures mapping { (seen_of form.new).1 ≡ (seen_of form.old).1 }
+    ensures kept { IsKept form.new }
+    ensures names { keys_of (seen_of form.new).0 ≡ keys_of (seen_of form.old).0 }
+{
+    match form {
+        Form::Line(pieces) => set_numbers_in(pieces, numbers),
+        Form::Plane(pieces) => set_numbers_in(pieces, numbers),
+        Form::Solid(pieces) => set_numbers_in(pieces, numbers),
+        Form::Text(pieces) => set_numbers_in(pieces, numbers),
     }
 }
 
@@ -391,6 +548,63 @@ where
     }
     let whole = pieces.gather()?;
     pairs_in(alloc, whole.as_map())
+}
+
+fn fill_in<D: Domain, M: Mapping<Index = D::Index>>(pieces: &mut Pieces<D, M>, number: &i64) -> bool
+where
+    D::Index: AsIndex,
+    requires { AllOf D.Index.as_index D.Index.is_of pieces.old.0 }
+    ensures done { result ≡ true → indexed D.Index.as_index pieces.new.0 ≡ map (λ e. (e.0, number.now)) (indexed D.Index.as_index pieces.old.0) }
+    ensures left { result ≡ false → indexed D.Index.as_index pieces.new.0 ≡ indexed D.Index.as_index pieces.old.0 }
+    ensures mapping { pieces.new.1 ≡ pieces.old.1 }
+    ensures kept { AllOf D.Index.as_index D.Index.is_of pieces.new.0 }
+    ensures names { keys_of (indexed D.Index.as_index pieces.new.0) ≡ keys_of (indexed D.Index.as_index pieces.old.0) }
+{
+    pieces.fill(number)
+}
+
+fn set_numbers_in<D: Domain, M: Mapping<Index = D::Index>>(
+    pieces: &mut Pieces<D, M>,
+    numbers: &[i64],
+) -> bool
+where
+    D::Index: AsIndex,
+    requires { AllOf D.Index.as_index D.Index.is_of pieces.old.0 }
+    ensures done { result ≡ true → indexed D.Index.as_index pieces.new.0 ≡ zip (keys_of (indexed D.Index.as_index pieces.old.0)) numbers.now }
+    ensures many { result ≡ true → length numbers.now ≡ length (indexed D.Index.as_index pieces.old.0) }
+    ensures left { result ≡ false → indexed D.Index.as_index pieces.new.0 ≡ indexed D.Index.as_index pieces.old.0 }
+    ensures mapping { pieces.new.1 ≡ pieces.old.1 }
+    ensures kept { AllOf D.Index.as_index D.Index.is_of pieces.new.0 }
+    ensures names { keys_of (indexed D.Index.as_index pieces.new.0) ≡ keys_of (indexed D.Index.as_index pieces.old.0) }
+{
+    pieces.set_all(numbers)
+}
+
+fn numbers_of<D: Domain, M: Mapping<Index = D::Index>>(
+    alloc: Global,
+    pieces: &Pieces<D, M>,
+) -> Result<Vec<i64>, NoMemory>
+where
+    D::Index: AsIndex,
+    ensures { IfOk result (λ v. v.items ≡ map (λ e. e.1) (indexed D.Index.as_index pieces.now.0)) }
+{
+    if let Some(all) = only_piece(pieces) {
+        return numbers_on::<D::Index>(alloc, all);
+    }
+    let whole = pieces.all_pairs()?;
+    numbers_on::<D::Index>(alloc, whole.as_slice())
+}
+
+fn numbers_on<I: AsIndex>(alloc: Global, pairs: &[(I, i64)]) -> Result<Vec<i64>, NoMemory>
+    ensures { IfOk result (λ v. v.items ≡ map (λ e. e.1) (indexed I.as_index pairs.now)) }
+{
+    let mut numbers = Vec::with_capacity(alloc, pairs.len())?;
+    for (_, number) in pairs {
+        if numbers.push(*number).is_err() {
+            return Err(NoMemory);
+        }
+    }
+    Ok(numbers)
 }
 
 // All pairs, where one locale has them.

@@ -1,6 +1,8 @@
 //! What a workbook answers about its objects, its domains, and where their indices lie.
 
-ghost use Rattle.std.specs.Prelude.{◌≡◌, is_some, length, option_map, slice_get, Err};
+ghost use Rattle.std.specs.Prelude.{◌≡◌, is_some, length, map, option_map, slice_get, IfOk, IfSome, Err};
+ghost use Rattle.std.specs.Map.{keys_of};
+ghost use Rattle.wb_book.specs.Shapes.{indices};
 ghost use Rattle.wb_book.specs.Locales.{is_index_at, locale_at};
 ghost use Rattle.wb_book.specs.Readers.{objects, users, size_at, index_at, elements};
 ghost use Rattle.wb_book.specs.WellFormed.{IsWellFormed, domain_at};
@@ -11,7 +13,10 @@ ghost use Rattle.wb_shelf.specs.Shelf.{piece_at};
 use crate::arrays::Pairs;
 use crate::looks;
 use crate::shelf::Book;
-use wb_book::{AnyIndex, Name, index_at, locale_at, object_at, object_count, size_at, user_at};
+use wb_book::{
+    AnyIndex, AnyRect, Name, index_at, locale_at, object_at, object_count, size_at, user_at,
+};
+use wb_range::NoMemory;
 use wb_redist::{Mover, Op, ReduceErr};
 
 impl Book {
@@ -77,6 +82,23 @@ impl Book {
     {
         let _ = &self.cells;
         looks::piece(&self.arrays, array, locale)
+    }
+
+    /// The ranges of the rectangle at whose indices the elements of the array of a name stand, one after another in that order,
+    /// if they are known.
+    pub fn rectangle(&self, array: &Name) -> Option<AnyRect>
+        ensures { IfSome result (λ rs. keys_of (elements self.now.cells array.now) ≡ indices rs) }
+    {
+        let _ = &self.cells;
+        looks::ranges(&self.arrays, array)
+    }
+
+    /// The elements of the array of a name without their indices, in the order of these; `NoMemory` where none is left.
+    pub fn numbers(&self, array: &Name) -> Result<Vec<i64>, NoMemory>
+        ensures { IfOk result (λ v. v.items ≡ map (λ e. e.1) (elements self.now.cells array.now)) }
+    {
+        let _ = &self.cells;
+        looks::numbers(self.alloc, &self.arrays, array)
     }
 
     /// The sum, the least or the greatest of the elements of the array of a name, the same by every mover: `Empty` exactly

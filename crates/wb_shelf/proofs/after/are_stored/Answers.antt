@@ -1,13 +1,9 @@
-use Rattle.std.proofs.Common.{filter, refl, sym, ap, ◌∙◌}
-use Rattle.selective_undo.specs.declared.Change.{Change}
-use Rattle.wb_book.specs.declared.cells.cell.Cell.{Cell}
-use Rattle.wb_book.specs.declared.cells.value.Value.{Value}
+use Rattle.std.proofs.Common.{sym, ap, ◌∙◌}
 use Rattle.wb_book.specs.declared.changes.row.Row.{Row}
-use Rattle.wb_book.specs.Runs.{cell_of, changes_in, inside_change}
-use Rattle.wb_book.specs.Shapes.{indices}
+use Rattle.wb_book.specs.Runs.{cell_of, changes_in, rectangle_entries, numbered_entries}
 use Rattle.wb_book.specs.declared.values.index.Index.TheVariants.{Point}
 use Rattle.wb_shelf.specs.Joined.{is_stored}
-use Rattle.wb_shelf.proofs.Entries.{row_kept, row_dropped, none_kept}
+use Rattle.wb_shelf.proofs.Entries.{row_kept, row_dropped}
 use Rattle.wb_shelf.proofs.after.are_stored.Goals as goal
 
 pub returns-in-Line-clause-all : goal.returns-in-Line-clause-all
@@ -46,8 +42,30 @@ returns-in-Solid-clause-none c =
     (λ x. is_stored x.cell) c.is_row_stored-in-Solid.result
     (λ e. sym (c.is_row_stored-in-Solid.ensures (Point e.0) ∙ ap (λ (r : Row). is_stored (cell_of r (Point e.0))) c.row-in-Solid.ensures))
 
+pub returns-in-Rectangle-clause-all : goal.returns-in-Rectangle-clause-all
+returns-in-Rectangle-clause-all c =
+    let r = c.in-Rectangle.rectangle in
+    row_kept c.args.form.now r.row (rectangle_entries r.ranges r.number) (ap changes_in c.in-Rectangle.is)
+    (λ x. is_stored x.cell) c.is_row_stored-in-Rectangle.result
+    (λ e. sym (c.is_row_stored-in-Rectangle.ensures (Point e.0) ∙ ap (λ (r : Row). is_stored (cell_of r (Point e.0))) c.row-in-Rectangle.ensures))
+
 pub returns-in-Rectangle-clause-none : goal.returns-in-Rectangle-clause-none
-returns-in-Rectangle-clause-none c = λ _.
-    let r = c.in-Rectangle.field-0 in
-    ap (λ f. filter (λ (x : Change Cell Value). is_stored x.cell) (changes_in f)) c.in-Rectangle.is
-    ∙ none_kept (λ (x : Change Cell Value). is_stored x.cell) (inside_change r.domain r.comes) (λ i. refl) (indices r.ranges)
+returns-in-Rectangle-clause-none c =
+    let r = c.in-Rectangle.rectangle in
+    row_dropped c.args.form.now r.row (rectangle_entries r.ranges r.number) (ap changes_in c.in-Rectangle.is)
+    (λ x. is_stored x.cell) c.is_row_stored-in-Rectangle.result
+    (λ e. sym (c.is_row_stored-in-Rectangle.ensures (Point e.0) ∙ ap (λ (r : Row). is_stored (cell_of r (Point e.0))) c.row-in-Rectangle.ensures))
+
+pub returns-in-Numbers-clause-all : goal.returns-in-Numbers-clause-all
+returns-in-Numbers-clause-all c =
+    let r = c.in-Numbers.rectangle in
+    row_kept c.args.form.now r.row (numbered_entries r.ranges r.numbers.items) (ap changes_in c.in-Numbers.is)
+    (λ x. is_stored x.cell) c.is_row_stored-in-Numbers.result
+    (λ e. sym (c.is_row_stored-in-Numbers.ensures (Point e.0) ∙ ap (λ (r : Row). is_stored (cell_of r (Point e.0))) c.row-in-Numbers.ensures))
+
+pub returns-in-Numbers-clause-none : goal.returns-in-Numbers-clause-none
+returns-in-Numbers-clause-none c =
+    let r = c.in-Numbers.rectangle in
+    row_dropped c.args.form.now r.row (numbered_entries r.ranges r.numbers.items) (ap changes_in c.in-Numbers.is)
+    (λ x. is_stored x.cell) c.is_row_stored-in-Numbers.result
+    (λ e. sym (c.is_row_stored-in-Numbers.ensures (Point e.0) ∙ ap (λ (r : Row). is_stored (cell_of r (Point e.0))) c.row-in-Numbers.ensures))

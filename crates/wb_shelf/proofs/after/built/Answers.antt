@@ -21,7 +21,7 @@ loop-name-preserved-else-is_err g c =
     let pushed : c.push.new.self.items ≡ c.loop-name.built.items ++ (n, q) ∷ [] = (search rules) in
     let after : (p : Pieced) (l : LayoutMap × ℕ) → array_in es n ≡ Some p → lies n ≡ Some l → IsAfter xs l p (Some q) =
     λ p l found is. subst (λ (o : Option Pieced). IsAfter xs l p o) c.in-Some-fresh.is
-    (subst (λ (ys : Group). IsAfter ys l p c.in_ok-fresh.fresh) c.changes.ensures (c.in_ok-fresh.ensures.after p l found is)) in
+    (c.in_ok-fresh.ensures.after p l found is) in
     let ahead : (ys : List (Name × Pieced)) → AreAfter lies es ((n, xs) ∷ c.next.new.self) ys → AreAfter lies es gs (c.loop-name.built.items ++ ys) =
     λ ys later. c.loop-name.invariant ys (subst (λ (hs : List (Name × Group)). AreAfter lies es hs ys) (sym rest) later) in
     walk_pushes lies es gs c.next.new.self n xs q c.loop-name.built.items c.push.new.self.items pushed after ahead
@@ -36,7 +36,7 @@ loop-name-preserved g c =
     let rest : c.loop-name.name-iterator ≡ (n, xs) ∷ c.next.new.self = (search rules) in
     let after : (p : Pieced) (l : LayoutMap × ℕ) → array_in es n ≡ Some p → lies n ≡ Some l → IsAfter xs l p None =
     λ p l found is. subst (λ (o : Option Pieced). IsAfter xs l p o) c.in-None-fresh.is
-    (subst (λ (ys : Group). IsAfter ys l p c.in_ok-fresh.fresh) c.changes.ensures (c.in_ok-fresh.ensures.after p l found is)) in
+    (c.in_ok-fresh.ensures.after p l found is) in
     let ahead : (ys : List (Name × Pieced)) → AreAfter lies es ((n, xs) ∷ c.next.new.self) ys → AreAfter lies es gs (c.loop-name.built.items ++ ys) =
     λ ys later. c.loop-name.invariant ys (subst (λ (hs : List (Name × Group)). AreAfter lies es hs ys) (sym rest) later) in
     walk_passes lies es gs c.next.new.self n xs c.loop-name.built.items after ahead

@@ -1,11 +1,10 @@
-use Rattle.std.proofs.Common.{◌++◌, List, ℕ, refl, sym, ap, subst, ◌∙◌}
+use Rattle.std.proofs.Common.{◌++◌, List, ℕ, sym, ap, subst, ◌∙◌}
 use Rattle.std.specs.Prelude.{OnOk}
 use Rattle.wb_book.specs.declared.changes.row.Row.{Row}
 use Rattle.wb_book.specs.Cells.{Changes}
-use Rattle.wb_book.specs.Runs.{changes_in as run_changes, packed_changes, inside_change}
-use Rattle.wb_book.specs.Shapes.{indices}
+use Rattle.wb_book.specs.Runs.{changes_in as run_changes, packed_changes, rectangle_entries, numbered_entries}
 use Rattle.wb_shelf.specs.Groups.{LeadTo, changes_in}
-use Rattle.wb_shelf.proofs.Entries.{apart_all, never_named, never_inside, on_ok_ever}
+use Rattle.wb_shelf.proofs.Entries.{never_named, on_ok_ever}
 use Rattle.wb_shelf.proofs.groups.add_run.Goals as goal
 
 pub returns-in-One-clause-lead : goal.returns-in-One-clause-lead
@@ -52,12 +51,21 @@ returns-in-Solid-clause-object c =
     (ap run_changes c.in-Solid.is) e))
 
 pub returns-in-Rectangle-clause-lead : goal.returns-in-Rectangle-clause-lead
-returns-in-Rectangle-clause-lead c = λ before lead b.
-    let r = c.in-Rectangle.field-0 in
-    subst (λ (ys : Changes). LeadTo (before ++ ys) b (changes_in c.args.groups.now.entries b)) (sym (ap run_changes c.in-Rectangle.is))
-    (apart_all (inside_change r.domain r.comes) (indices r.ranges) before b (changes_in c.args.groups.now.entries b) (λ y i. refl) (lead b))
+returns-in-Rectangle-clause-lead c = λ before lead.
+    subst (λ (ys : Changes). OnOk c.add_block.result ((b : List ℕ) → LeadTo (before ++ ys) b (changes_in c.add_block.new.groups.entries b)))
+    (sym (ap run_changes c.in-Rectangle.is)) (c.add_block.ensures.lead before lead)
 
 pub returns-in-Rectangle-clause-object : goal.returns-in-Rectangle-clause-object
-returns-in-Rectangle-clause-object c = λ b e.
-    let r = c.in-Rectangle.field-0 in
-    absurd (never_inside c.args.form.now r.domain r.ranges r.comes b (ap run_changes c.in-Rectangle.is) e)
+returns-in-Rectangle-clause-object c =
+    let r = c.in-Rectangle.block in
+    on_ok_ever c.add_block.result (λ b e. absurd (never_named c.args.form.now r.row (rectangle_entries r.ranges r.number) b (ap run_changes c.in-Rectangle.is) e))
+
+pub returns-in-Numbers-clause-lead : goal.returns-in-Numbers-clause-lead
+returns-in-Numbers-clause-lead c = λ before lead.
+    subst (λ (ys : Changes). OnOk c.add_block-in-Numbers.result ((b : List ℕ) → LeadTo (before ++ ys) b (changes_in c.add_block-in-Numbers.new.groups.entries b)))
+    (sym (ap run_changes c.in-Numbers.is)) (c.add_block-in-Numbers.ensures.lead before lead)
+
+pub returns-in-Numbers-clause-object : goal.returns-in-Numbers-clause-object
+returns-in-Numbers-clause-object c =
+    let r = c.in-Numbers.block in
+    on_ok_ever c.add_block-in-Numbers.result (λ b e. absurd (never_named c.args.form.now r.row (numbered_entries r.ranges r.numbers.items) b (ap run_changes c.in-Numbers.is) e))

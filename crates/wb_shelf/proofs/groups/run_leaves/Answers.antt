@@ -1,7 +1,6 @@
-use Rattle.std.proofs.Common.{refl, sym, ap, ◌∙◌}
+use Rattle.std.proofs.Common.{sym, ap, ◌∙◌}
 use Rattle.std.specs.List.{list_all}
-use Rattle.wb_book.specs.Runs.{changes_in, change_at, inside_change}
-use Rattle.wb_book.specs.Shapes.{indices}
+use Rattle.wb_book.specs.Runs.{changes_in, change_at, rectangle_entries, numbered_entries}
 use Rattle.wb_book.specs.declared.values.index.Index.TheVariants.{Point}
 use Rattle.wb_shelf.specs.Joined.{stored_in}
 use Rattle.wb_shelf.specs.Groups.{leaves}
@@ -33,4 +32,12 @@ pub returns-in-Rectangle : goal.returns-in-Rectangle
 returns-in-Rectangle c =
     let p = leaves (stored_in c.args.cells.now.entries) in
     let r = c.in-Rectangle.field-0 in
-    sym (ap (λ f. list_all p (changes_in f)) c.in-Rectangle.is ∙ all_pass p (inside_change r.domain r.comes) (λ i. refl) (indices r.ranges))
+    sym (ap (λ f. list_all p (changes_in f)) c.in-Rectangle.is
+    ∙ all_pass p (change_at r.row) (λ e. leaves_row (stored_in c.args.cells.now.entries) r.row (Point e.0) _) (rectangle_entries r.ranges r.number))
+
+pub returns-in-Numbers : goal.returns-in-Numbers
+returns-in-Numbers c =
+    let p = leaves (stored_in c.args.cells.now.entries) in
+    let r = c.in-Numbers.field-0 in
+    sym (ap (λ f. list_all p (changes_in f)) c.in-Numbers.is
+    ∙ all_pass p (change_at r.row) (λ e. leaves_row (stored_in c.args.cells.now.entries) r.row (Point e.0) _) (numbered_entries r.ranges r.numbers.items))

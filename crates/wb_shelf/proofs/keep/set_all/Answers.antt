@@ -8,11 +8,11 @@ use Rattle.wb_shelf.proofs.Entries.{begins}
 use Rattle.wb_shelf.proofs.EntriesSet.{same_tests}
 use Rattle.wb_shelf.proofs.keep.set_all.Goals as goal
 
-pub set_runs-requires : goal.set_runs-requires
-set_runs-requires c =
+pub set_runs-requires-2 : goal.set_runs-requires-2
+set_runs-requires-2 c =
     let element = element_in c.args.arrays.now.entries in
     let x = c.in-Some.first in
     let rs = c.parts-first.result.1.now in
-    let all = ap (list_all (is_set element)) (sym (begins c.args.delta.now c.parts-first.result.0 rs c.parts-first.ensures.all x c.in-Some.is)) ∙ c.requires in
+    let all = ap (list_all (is_set element)) (sym (begins c.args.delta.now c.parts-first.result.0 rs c.parts-first.ensures x c.in-Some.is)) ∙ c.requires in
     same_tests element (element_in c.set_one.new.arrays.entries) c.set_one.ensures.there (all_changes rs)
     ∙ (both_true (is_set element x) (list_all (is_set element) (all_changes rs)) all).1

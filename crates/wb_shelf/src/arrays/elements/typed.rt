@@ -4,6 +4,8 @@ ghost use Rattle.std.specs.Prelude.{◌≡◌, IfOk};
 ghost use Rattle.std.specs.List.{list_all};
 ghost use Rattle.wb_shelf.specs.Entries.{element_at, sets_one, with_one, with_all, read_one, read_at};
 ghost use Rattle.wb_shelf.specs.Piecewise.Indexed.{indexed, AllOf};
+ghost use Rattle.wb_shelf.specs.Piecewise.Seen.{seen_of, IsKept};
+ghost use Rattle.wb_book.specs.declared.values.index.Index.TheVariants.{Point as point_index};
 
 use crate::arrays::elements::{Elements, Form, set_in};
 use crate::arrays::key::AsIndex;
@@ -40,12 +42,7 @@ impl PieceKey for [i64; 1] {
     }
 
     fn set_all(elements: &mut Elements, changes: &[([i64; 1], Option<i64>)]) {
-        match &mut elements.form {
-            Form::Line(pieces) => set_all_in(pieces, changes),
-            Form::Plane(pieces) => set_others_in(pieces, changes),
-            Form::Solid(pieces) => set_others_in(pieces, changes),
-            Form::Text(pieces) => set_others_in(pieces, changes),
-        }
+        set_line(&mut elements.form, changes)
     }
 
     fn read_all(
@@ -71,12 +68,7 @@ impl PieceKey for [i64; 2] {
     }
 
     fn set_all(elements: &mut Elements, changes: &[([i64; 2], Option<i64>)]) {
-        match &mut elements.form {
-            Form::Line(pieces) => set_others_in(pieces, changes),
-            Form::Plane(pieces) => set_all_in(pieces, changes),
-            Form::Solid(pieces) => set_others_in(pieces, changes),
-            Form::Text(pieces) => set_others_in(pieces, changes),
-        }
+        set_plane(&mut elements.form, changes)
     }
 
     fn read_all(
@@ -100,12 +92,7 @@ impl PieceKey for [i64; 3] {
     }
 
     fn set_all(elements: &mut Elements, changes: &[([i64; 3], Option<i64>)]) {
-        match &mut elements.form {
-            Form::Line(pieces) => set_others_in(pieces, changes),
-            Form::Plane(pieces) => set_others_in(pieces, changes),
-            Form::Solid(pieces) => set_all_in(pieces, changes),
-            Form::Text(pieces) => set_others_in(pieces, changes),
-        }
+        set_solid(&mut elements.form, changes)
     }
 
     fn read_all(
@@ -117,6 +104,48 @@ impl PieceKey for [i64; 3] {
             Form::Solid(pieces) => read_all_in(alloc, pieces, changes),
             Form::Line(_) | Form::Plane(_) | Form::Text(_) => read_all_by(alloc, elements, changes),
         }
+    }
+}
+
+fn set_line(form: &mut Form, changes: &[([i64; 1], Option<i64>)])
+    requires { IsKept form.old }
+    ensures elements { (seen_of form.new).0 ≡ with_all point_index (seen_of form.old).0 changes.now }
+    ensures mapping { (seen_of form.new).1 ≡ (seen_of form.old).1 }
+    ensures kept { IsKept form.new }
+{
+    match form {
+        Form::Line(pieces) => set_all_in(pieces, changes),
+        Form::Plane(pieces) => set_others_in(pieces, changes),
+        Form::Solid(pieces) => set_others_in(pieces, changes),
+        Form::Text(pieces) => set_others_in(pieces, changes),
+    }
+}
+
+fn set_plane(form: &mut Form, changes: &[([i64; 2], Option<i64>)])
+    requires { IsKept form.old }
+    ensures elements { (seen_of form.new).0 ≡ with_all point_index (seen_of form.old).0 changes.now }
+    ensures mapping { (seen_of form.new).1 ≡ (seen_of form.old).1 }
+    ensures kept { IsKept form.new }
+{
+    match form {
+        Form::Line(pieces) => set_others_in(pieces, changes),
+        Form::Plane(pieces) => set_all_in(pieces, changes),
+        Form::Solid(pieces) => set_others_in(pieces, changes),
+        Form::Text(pieces) => set_others_in(pieces, changes),
+    }
+}
+
+fn set_solid(form: &mut Form, changes: &[([i64; 3], Option<i64>)])
+    requires { IsKept form.old }
+    ensures elements { (seen_of form.new).0 ≡ with_all point_index (seen_of form.old).0 changes.now }
+    ensures mapping { (seen_of form.new).1 ≡ (seen_of form.old).1 }
+    ensures kept { IsKept form.new }
+{
+    match form {
+        Form::Line(pieces) => set_others_in(pieces, changes),
+        Form::Plane(pieces) => set_others_in(pieces, changes),
+        Form::Solid(pieces) => set_all_in(pieces, changes),
+        Form::Text(pieces) => set_others_in(pieces, changes),
     }
 }
 
