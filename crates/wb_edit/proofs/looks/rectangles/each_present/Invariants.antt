@@ -4,7 +4,7 @@ use Rattle.std.specs.List.{list_all}
 use Rattle.wb_book.specs.declared.cells.cell.Cell.TheVariants.{Element}
 use Rattle.wb_book.specs.Shapes.{indices}
 use Rattle.wb_edit.specs.Plans.{one_of}
-use Rattle.wb_edit.proofs.looks.rectangles.are_present.Given as goal
+use Rattle.wb_edit.proofs.looks.rectangles.each_present.Given as goal
 
 -- the elements at the indices so far were looked at
 abbrev pub invariant-loop-p : goal.invariant-loop-p

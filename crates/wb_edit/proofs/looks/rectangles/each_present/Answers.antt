@@ -5,8 +5,8 @@ use Rattle.wb_book.specs.declared.values.index.Index.{Index}
 use Rattle.wb_edit.specs.Plans.{one_of}
 use Rattle.wb_edit.proofs.IndexedCells.{nothing_there}
 use Rattle.wb_edit.proofs.Rectangles.{whole, reads_more, all_more}
-use Rattle.wb_edit.proofs.looks.rectangles.are_present.Goals.{in-Some+in_ok-here-in-Some, in-None}
-use Rattle.wb_edit.proofs.looks.rectangles.are_present.Goals as goal
+use Rattle.wb_edit.proofs.looks.rectangles.each_present.Goals.{in-Some+in_ok-here-in-Some, in-None}
+use Rattle.wb_edit.proofs.looks.rectangles.each_present.Goals as goal
 
 pub loop-p-preserved : goal.loop-p-preserved
 loop-p-preserved c =
