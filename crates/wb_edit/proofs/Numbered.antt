@@ -118,13 +118,14 @@ and-false : (b : Bool) → (b && false) ≡ false
 and-false true = refl
 and-false false = refl
 
+both_true : (a b d : Bool) → (a && b) ≡ true → (b ≡ true → d ≡ true) → (a && d) ≡ true
+both_true true b d e f = f e
+both_true false b d e f = cc
+
 within_more : (zs : List ℤ) (z : ℤ) → list_all is_i64 zs ≡ true → is_i64 z ≡ true → list_all is_i64 (zs ++ z ∷ []) ≡ true
 within_more [] z before here = rw here refl
-within_more (x ∷ zs) z before here = more (is_i64 x) before
-  where
-    more : (b : Bool) → (b && list_all is_i64 zs) ≡ true → (b && list_all is_i64 (zs ++ z ∷ [])) ≡ true
-    more true e = within_more zs z e here
-    more false e = cc
+within_more (x ∷ zs) z before here =
+    both_true (is_i64 x) (list_all is_i64 zs) (list_all is_i64 (zs ++ z ∷ [])) before (λ e. within_more zs z e here)
 
 not_within : (how : Operation) (xs ys : List ℤ) (p : ℕ) (d e : ℤ) → p < length xs → p < length ys → is_i64 (result_of how (get_or xs p d) (get_or ys p e)) ≡ false →
     list_all is_i64 (made_of how xs ys) ≡ false
