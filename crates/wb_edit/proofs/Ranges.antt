@@ -1,10 +1,8 @@
 -- Changes at every index of a rectangle, by its ranges and cell by cell.
-use Rattle.std.proofs.Common.{◌≡◌, ℤ, List, [], ◌∷◌, map, Option, Some, option_map, refl, ap, ◌∙◌}
+use Rattle.std.proofs.Common.{◌≡◌, ℤ, List, [], ◌∷◌, map, Option, Some, option_map, refl, ap}
 use Rattle.std.specs.List.{zip}
-use Rattle.wb_book.specs.declared.cells.cell.Cell.{Cell}
 use Rattle.wb_book.specs.declared.changes.row.Row.{Row}
 use Rattle.wb_book.specs.declared.changes.row.Row.TheVariants.{Elements}
-use Rattle.wb_book.specs.declared.values.index.Index.{Index}
 use Rattle.wb_book.specs.declared.values.index.Index.TheVariants.{Point}
 use Rattle.wb_book.specs.Cells.{Name}
 use Rattle.wb_book.specs.Runs.{cell_of, value_of, change_at, packed_changes, rectangle_entries, numbered_entries}
@@ -44,8 +42,3 @@ numbers_at a (p ∷ ps) (n ∷ ns) = ap (λ xs. change_at (Elements a) (p, Some 
 -- each element becomes the number beside its index
 pub numbers_set : (a : Name) (rs : List Range) (ns : List ℤ) → packed_changes (Elements a) (numbered_entries rs ns) ≡ number_cells a (zip (indices rs) ns)
 numbers_set a rs ns = numbers_at a (product rs) ns
-
--- the same cells
-pub same_cells : (f g : Index → Cell) → ((i : Index) → f i ≡ g i) → (is : List Index) → map f is ≡ map g is
-same_cells f g same [] = refl
-same_cells f g same (i ∷ is) = ap (λ c. c ∷ map f is) (same i) ∙ ap (λ cs. g i ∷ cs) (same_cells f g same is)

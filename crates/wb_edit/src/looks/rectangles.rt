@@ -16,7 +16,7 @@ use crate::asked_rectangle::AskedRectangle;
 use crate::attempt_err::{AttemptErr, stopped};
 use crate::footprint::Footprint;
 use crate::refusal::Refusal;
-use wb_book::{AnyCell, AnyRect, Cell, Kind, Name, Pattern, Row};
+use wb_book::{AnyCell, AnyIndex, AnyRect, Cell, Kind, Name, Pattern, Row};
 use wb_shelf::Book;
 
 /// The ranges of the rectangle that is asked for; `WrongKind` where a set is in its place.
@@ -101,6 +101,13 @@ fn has_ranges(book: &Book, array: Name, on: &AnyRect) -> bool
     }
 }
 
+// Whether an array has an element at an index.
+fn has_element(book: &Book, array: Name, index: AnyIndex) -> bool
+    ensures { result ≡ is_some (get book.now.cells (Element array index)) }
+{
+    book.get(&Cell::Element(array, index)).is_some()
+}
+
 // Whether an array has an element at each index of a rectangle, one after another.
 fn each_present(book: &Book, array: Name, on: &AnyRect) -> bool
     ensures { result ≡ list_all is_some (map (get book.now.cells) (map (Element array) (indices on.now))) }
@@ -109,7 +116,7 @@ fn each_present(book: &Book, array: Name, on: &AnyRect) -> bool
     for p in 0..on.size() {
         match on.nth(p) {
             Some(index) => {
-                let here = book.get(&Cell::Element(array, index)).is_some();
+                let here = has_element(book, array, index);
                 all = both_answers(all, here);
             }
             None => {}
