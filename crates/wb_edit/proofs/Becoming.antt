@@ -1,5 +1,5 @@
 -- Changes of elements that were seen touch each cell once.
-use Rattle.std.proofs.Common.{◌≡◌, ℕ, zero, suc, ◌+◌, ◌<◌, true, false, T, ℤ, List, [], ◌∷◌, ◌++◌, map, take, length, get_or, refl, ap, ◌∙◌, arith, add-one}
+use Rattle.std.proofs.Common.{◌≡◌, ℕ, zero, suc, ◌+◌, ◌<◌, true, false, T, ℤ, List, [], ◌∷◌, ◌++◌, take, length, get_or, refl, ap, ◌∙◌, arith, add-one}
 use Rattle.std.proofs.Common.{Ordering}
 use Rattle.std.proofs.Math.Seq.{take-suc}
 use Rattle.std.specs.FinMap.{is_sorted}
