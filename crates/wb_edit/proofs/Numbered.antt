@@ -40,7 +40,8 @@ refused a (Err stop) (Refused why) e = let same : stop ≡ why = cc in ap Err sa
 refused a j NoMemory e = tt
 
 -- what was kept makes the changes
-pub kept : (a : Name) (j : Result (List (Index × ℤ)) Refusal) (zs : List (Index × ℤ)) (r : Result Changes AttemptErr) → j ≡ Ok zs → Makes (number_cells a zs) r →
+pub kept : (a : Name) (j : Result (List (Index × ℤ)) Refusal) (zs : List (Index × ℤ)) (r : Result Changes AttemptErr) → j ≡ Ok zs →
+    Makes (number_cells a zs) r →
     Judges (numbered a j) r
 kept a j zs (Ok xs) e is = ap (numbered a) e ∙ ap Ok (sym is)
 kept a j zs (Err (Refused why)) e is = let no : ⊥ = cc in absurd no
@@ -85,7 +86,8 @@ module _ (how : Operation) (xs ys : List (Index × ℤ)) (alike : keys_of xs ≡
   judged_by_numbers b e = ap all_within (results_are how xs ys alike s) ∙ ap (λ k. all_kept_if k (side_by_side how xs ys)) (within_is how xs ys ∙ e)
 
   -- numbers within 64 bits stand at the indices
-  pub numbers_kept : (zs : List ℤ) → numbers_within (made_of how (numbers_of xs) (numbers_of ys)) ≡ Ok zs → all_within (results how xs ys) ≡ Ok (zip (keys_of xs) zs)
+  pub numbers_kept : (zs : List ℤ) → numbers_within (made_of how (numbers_of xs) (numbers_of ys)) ≡ Ok zs →
+      all_within (results how xs ys) ≡ Ok (zip (keys_of xs) zs)
   numbers_kept zs e =
       let made = made_of how (numbers_of xs) (numbers_of ys) in
       let is = kept_with (list_all is_i64 made) made zs e in
@@ -127,7 +129,8 @@ within_more [] z before here = rw here refl
 within_more (x ∷ zs) z before here =
     both_true (is_i64 x) (list_all is_i64 zs) (list_all is_i64 (zs ++ z ∷ [])) before (λ e. within_more zs z e here)
 
-not_within : (how : Operation) (xs ys : List ℤ) (p : ℕ) (d e : ℤ) → p < length xs → p < length ys → is_i64 (result_of how (get_or xs p d) (get_or ys p e)) ≡ false →
+not_within : (how : Operation) (xs ys : List ℤ) (p : ℕ) (d e : ℤ) → p < length xs → p < length ys →
+    is_i64 (result_of how (get_or xs p d) (get_or ys p e)) ≡ false →
     list_all is_i64 (made_of how xs ys) ≡ false
 not_within how [] ys p d e low below out = absurd (omega (arith, low))
 not_within how (x ∷ xs) [] p d e low below out = absurd (omega (arith, below))

@@ -1,6 +1,6 @@
 //! Changes of all the elements that a look showed.
 
-ghost use Rattle.std.specs.Prelude.{◌≡◌, [], ◌∷◌, ◌++◌, false, T, Some, OnOk, IfErr};
+ghost use Rattle.std.specs.Prelude.{◌≡◌, ◌++◌, false, T, Some, OnOk, IfErr};
 ghost use Rattle.std.specs.FinMap.{is_sorted};
 ghost use Rattle.selective_undo.specs.Changes.{changes};
 ghost use Rattle.wb_book.specs.Cells.{cell_cmp, index_cmp};
