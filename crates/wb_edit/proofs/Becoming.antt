@@ -1,10 +1,9 @@
 -- Changes of elements that were seen touch each cell once.
-use Rattle.std.proofs.Common.{◌≡◌, ℕ, zero, suc, ◌+◌, ◌<◌, true, false, T, ℤ, List, [], ◌∷◌, ◌++◌, map, take, length, get_or, refl, ap, ◌∙◌, arith, add-one}
+use Rattle.std.proofs.Common.{◌≡◌, ℕ, zero, suc, ◌+◌, ◌<◌, true, false, T, ℤ, List, [], ◌∷◌, ◌++◌, take, length, get_or, refl, ap, ◌∙◌, arith, add-one}
 use Rattle.std.proofs.Common.{Ordering}
 use Rattle.std.proofs.Math.Seq.{take-suc}
 use Rattle.std.specs.FinMap.{is_sorted}
 use Rattle.std.specs.FinMap.Entries.{below_all}
-use Rattle.std.specs.Map.{keys_of}
 use Rattle.std.specs.Ordering.{eq_by_cmp, is_eq, is_lt}
 use Rattle.std.specs.declared.cmp.Ordering.TheVariants.{Less, Equal, Greater}
 use Rattle.selective_undo.specs.Changes.{changes}
@@ -13,10 +12,8 @@ use Rattle.wb_book.specs.declared.cells.cell.Cell.TheVariants.{Element}
 use Rattle.wb_book.specs.declared.cells.value.Value.TheVariants.{Number}
 use Rattle.wb_book.specs.declared.values.index.Index.{Index}
 use Rattle.wb_book.specs.Cells.{Name, Changes, cell_cmp, cell_order, index_cmp}
-use Rattle.wb_edit.specs.declared.commands.seen.NewValue.{NewValue}
-use Rattle.wb_edit.specs.declared.commands.seen.NewValue.TheVariants.{Fill, Clear}
-use Rattle.wb_edit.specs.Changed.{value_of, all_become}
-use Rattle.wb_edit.specs.Writes.{put_all, clear_all}
+use Rattle.wb_edit.specs.Commands.{number_cells}
+use Rattle.wb_edit.specs.Writes.{set_to}
 use Rattle.wb_edit.proofs.IndexedCells.{changes-append, map-append}
 use Rattle.wb_edit.proofs.Elements.{index_order}
 use Rattle.wb_resize.proofs.Gets.{same_key}
@@ -41,38 +38,28 @@ other_cell a k i above = not_true _ λ e.
     less_and_equal (index_cmp k i) above (ap (λ j. eq_by_cmp index_cmp k j) index ∙ is_itself index_order k)
 
 -- the element at a place has none of the cells before it
-none_before : (a : Name) (new : NewValue) (es : List (Index × ℤ)) (i : ℕ) (d : Index × ℤ) → T (is_sorted index_cmp es) → i < length es →
-    changes cell_cmp (all_become a new (take i es)) (Element a (get_or es i d).0) ≡ false
-none_before a new [] i d s low = absurd (omega (arith, low))
-none_before a new (e ∷ es) zero d s low = refl
-none_before a new (e ∷ es) (suc i) d s low =
+none_before : (a : Name) (es : List (Index × ℤ)) (i : ℕ) (d : Index × ℤ) → T (is_sorted index_cmp es) → i < length es →
+    changes cell_cmp (number_cells a (take i es)) (Element a (get_or es i d).0) ≡ false
+none_before a [] i d s low = absurd (omega (arith, low))
+none_before a (e ∷ es) zero d s low = refl
+none_before a (e ∷ es) (suc i) d s low =
     let below : i < length es = omega (arith, low) in
     let parts : T (below_all index_cmp e.0 es) × T (is_sorted index_cmp es) = (first _ _ s, second _ _ s) in
     let here : eq_by_cmp cell_cmp (Element a (get_or es i d).0) (Element a e.0) ≡ false =
     other_cell a e.0 (get_or es i d).0 (below_at e.0 es i d parts.0 below) in
-    let rest = none_before a new es i d parts.1 below in
+    let rest = none_before a es i d parts.1 below in
     rw (here, rest) refl
 
-pub next_is_new : (a : Name) (new : NewValue) (old : Changes) (es : List (Index × ℤ)) (i : ℕ) (d : Index × ℤ) →
+pub next_is_new : (a : Name) (old : Changes) (es : List (Index × ℤ)) (i : ℕ) (d : Index × ℤ) →
     ((j : Index) → changes cell_cmp old (Element a j) ≡ false) → T (is_sorted index_cmp es) → i < length es
-    → changes cell_cmp (old ++ all_become a new (take i es)) (Element a (get_or es i d).0) ≡ false
-next_is_new a new old es i d fresh s low =
-    changes-append old (all_become a new (take i es)) (Element a (get_or es i d).0) ∙ rw (fresh (get_or es i d).0, none_before a new es i d s low) refl
+    → changes cell_cmp (old ++ number_cells a (take i es)) (Element a (get_or es i d).0) ≡ false
+next_is_new a old es i d fresh s low =
+    changes-append old (number_cells a (take i es)) (Element a (get_or es i d).0) ∙ rw (fresh (get_or es i d).0, none_before a es i d s low) refl
 
 -- one more element
-pub becomes_more : (a : Name) (new : NewValue) (es : List (Index × ℤ)) (i : ℕ) (d : Index × ℤ) → i < length es →
-    all_become a new (take (i + 1) es) ≡ all_become a new (take i es) ++ all_become a new (get_or es i d ∷ [])
-becomes_more a new es i d low =
-    ap (λ n. all_become a new (take n es)) (add-one i)
-    ∙ ap (all_become a new) (take-suc es i d low)
-    ∙ map-append (λ e. record { cell = Element a e.0; value = value_of new e.1 }) (take i es) (get_or es i d ∷ [])
-
--- ---- in the words of the commands
-
-pub same_all : (a : Name) (v : ℤ) (es : List (Index × ℤ)) → all_become a (Fill v) es ≡ put_all (map (Element a) (keys_of es)) (Number v)
-same_all a v [] = refl
-same_all a v (e ∷ es) = ap (λ xs. record { cell = Element a e.0; value = value_of (Fill v) e.1 } ∷ xs) (same_all a v es)
-
-pub all_absent : (a : Name) (es : List (Index × ℤ)) → all_become a Clear es ≡ clear_all (map (Element a) (keys_of es))
-all_absent a [] = refl
-all_absent a (e ∷ es) = ap (λ xs. record { cell = Element a e.0; value = value_of Clear e.1 } ∷ xs) (all_absent a es)
+pub becomes_more : (a : Name) (es : List (Index × ℤ)) (i : ℕ) (d : Index × ℤ) → i < length es →
+    number_cells a (take (i + 1) es) ≡ number_cells a (take i es) ++ number_cells a (get_or es i d ∷ [])
+becomes_more a es i d low =
+    ap (λ n. number_cells a (take n es)) (add-one i)
+    ∙ ap (number_cells a) (take-suc es i d low)
+    ∙ map-append (λ e. set_to (Element a e.0) (Number e.1)) (take i es) (get_or es i d ∷ [])

@@ -1,13 +1,19 @@
 -- The elements of an array, by what a workbook holds.
 use Rattle.std.proofs.Common.{◌≡◌, true, false, cond, T, ℤ, List, [], ◌∷◌, Option, Some, None, option_map, is_some, refl, sym, ap, subst, ◌∙◌, Ordering}
+use Rattle.std.proofs.Common.{◌++◌, map, append_assoc}
 use Rattle.std.specs.Cmp.Lexicographic.{slice_cmp}
 use Rattle.std.specs.FinMap.{get, find, is_sorted, entries, entries_sorted, get-entries}
 use Rattle.std.specs.FinMap.Entries.{below_all, where_key}
-use Rattle.std.specs.List.{AllByRecursion, filter_map, cons_option}
+use Rattle.std.specs.List.{AllByRecursion, filter_map, cons_option, list_all}
+use Rattle.std.specs.List.Sorted.{IsStrictlySortedBy}
+use Rattle.std.specs.Map.{keys_of}
 use Rattle.std.specs.Option.{option_and_then}
 use Rattle.std.specs.Ordering.{is_eq, is_lt, nat_cmp, ordering_then}
 use Rattle.std.specs.declared.cmp.Ordering.TheVariants.{Less, Equal, Greater}
+use Rattle.wb_range.specs.Domain.{IsListedOnce}
+use Rattle.wb_assoc.proofs.Ascending.{IsListedOnce-sorted}
 use Rattle.wb_book.specs.declared.cells.cell.Cell.{Cell}
+use Rattle.wb_book.specs.declared.cells.pattern.Pattern.{Pattern}
 use Rattle.wb_book.specs.declared.cells.cell.Cell.TheVariants.{Element}
 use Rattle.wb_book.specs.declared.cells.pattern.Pattern.TheVariants.{Elements}
 use Rattle.wb_book.specs.declared.cells.value.Value.{Value}
@@ -17,6 +23,9 @@ use Rattle.wb_book.specs.Cells.{Name, Cells, cell_cmp, index_cmp, cell_order, in
 use Rattle.wb_book.specs.contracts.values.index.IndexOrd.TheImpl.Laws as laws
 use Rattle.wb_book.specs.Readers.{element_in, elements}
 use Rattle.selective_undo.specs.Changes.{IsOrder}
+use Rattle.selective_undo.specs.Edit.{reads}
+use Rattle.wb_edit.specs.Elements as looks
+use Rattle.wb_edit.specs.Plans.{Gives}
 use Rattle.selective_undo.proofs.Evaluation.{entries-retain_keys}
 use Rattle.wb_resize.proofs.States.{same_name}
 use Rattle.wb_resize.proofs.Sorted.{both, first, second, none_below, of_entries}
@@ -144,3 +153,41 @@ was_some (Some v) x e = refl
 pub elements_there : (s : Cells) (a : Name) → AllByRecursion (λ e. is_some (get s (Element a e.0)) ≡ true) (elements s a)
 elements_there s a = of_entries index_order (λ i x. is_some (get s (Element a i)) ≡ true) (elements s a) (elements_ascend s a)
     (λ i x there. was_some (get s (Element a i)) x (sym (find_element s a i) ∙ there))
+
+-- ---- their indices
+
+less : (o : Ordering) → T (is_lt o) → o ≡ Less
+less Less p = refl
+less Equal p = absurd p
+less Greater p = absurd p
+
+above : (i : Index) (es : List (Index × ℤ)) → T (below_all index_cmp i es) → AllByRecursion (λ j. index_cmp i j ≡ Less) (keys_of es)
+above i [] s = tt
+above i (e ∷ es) s = (less (index_cmp i e.0) (first _ _ s), above i es (second _ _ s))
+
+keys_ascend : (es : List (Index × ℤ)) → T (is_sorted index_cmp es) → IsStrictlySortedBy index_cmp (keys_of es)
+unfolding IsStrictlySortedBy
+keys_ascend [] s = tt
+keys_ascend (e ∷ es) s = (above e.0 es (first _ _ s), keys_ascend es (second _ _ s))
+
+-- each index once
+pub elements_once : (s : Cells) (a : Name) → IsListedOnce (keys_of (elements s a))
+elements_once s a = IsListedOnce-sorted index_cmp laws.total-law index_cmp-IsAntisymmetric _ (keys_ascend (elements s a) (elements_ascend s a))
+
+all_there : (s : Cells) (a : Name) (es : List (Index × ℤ)) → AllByRecursion (λ e. is_some (get s (Element a e.0)) ≡ true) es →
+    list_all is_some (map (get s) (map (Element a) (keys_of es))) ≡ true
+all_there s a [] there = refl
+all_there s a (e ∷ es) there = let rest = all_there s a es there.1 in rw (there.0, rest) refl
+
+-- each of them is there, by the indices
+pub indices_there : (s : Cells) (a : Name) (is : List Index) → keys_of (elements s a) ≡ is → list_all is_some (map (get s) (map (Element a) is)) ≡ true
+indices_there s a is same = subst (λ (js : List Index). list_all is_some (map (get s) (map (Element a) js)) ≡ true) same
+    (all_there s a (elements s a) (elements_there s a))
+
+-- ---- the look at them
+
+pub gives_elements : (s : Cells) (a : Name) (rs ss : List Pattern) → ss ≡ rs ++ Elements a ∷ [] → Gives (looks.elements a) s rs (elements s a) ss
+gives_elements s a rs ss kept = λ next. (
+  refl,
+  sym (append_assoc rs (Elements a ∷ []) (reads (next (elements s a)) s)) ∙ ap (λ xs. xs ++ reads (next (elements s a)) s) (sym kept),
+)

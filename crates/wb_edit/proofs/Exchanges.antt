@@ -120,12 +120,6 @@ own_apart (Rectangular rank) d i = refl
 own_apart (Sparse parent rank) d i = refl
 own_apart (Associative type) d i = refl
 
--- there is something of a domain besides its indices
-pub own_some : (kind : DomainKind) (d : Name) → 0 < length (clear_all (cells_beside_indices d kind))
-own_some (Rectangular rank) d = omega arith
-own_some (Sparse parent rank) d = omega arith
-own_some (Associative type) d = omega arith
-
 -- ---- the indices that leave and those that come, by two lists of indices
 
 has_at : (xs : List Index) (p : ℕ) (i : Index) → slice_get xs p ≡ Some i → has xs i ≡ true

@@ -14,8 +14,9 @@ pub mod Fills
 pub mod Memberships
 pub mod Sets
 pub mod Combined
-pub mod Inside
 pub mod Loading
 pub mod Kept
 pub mod Once
 pub mod Runs
+pub mod Ranges
+pub mod Numbered

@@ -30,12 +30,11 @@ use Rattle.wb_resize.specs.Dropped.{dropped_domain_cells}
 use Rattle.wb_resize.proofs.Fills.{arrays, zeros_once}
 use Rattle.wb_resize.proofs.Users.{users}
 use Rattle.wb_edit.specs.declared.asked_rectangle.AskedRectangle.TheVariants.{Ranges, Indices}
-use Rattle.wb_edit.specs.declared.commands.seen.NewValue.TheVariants.{Fill as fill_with, Clear}
 use Rattle.wb_edit.specs.declared.edit.Edit.TheVariants.{Domain, Remap, Sparse, Assoc, Array, Set, Irv, Copy, Fill, FillAll, DropArray, All, Add, Remove}
 use Rattle.wb_edit.specs.declared.edit.Edit.TheVariants.{DropDomain, Reshape, Load}
 use Rattle.wb_edit.specs.declared.operation.Operation.{Operation}
 use Rattle.wb_edit.specs.declared.refusal.Refusal.TheVariants.{WrongKind}
-use Rattle.wb_edit.specs.Changed.{set_all, value_of}
+use Rattle.wb_edit.specs.Changed.{set_all}
 use Rattle.wb_edit.specs.Commands.{new_domain_changes, domain, remap, sparse, assoc, new_array_changes, array, set, irv, copy, fill, fill_all, dropped_cells}
 use Rattle.wb_edit.specs.Commands.{drop_array, number_cells, all_results, all, drop_domain, add_unless, remove_if, book_cells, load}
 use Rattle.wb_edit.specs.Elements.{elements, same_domain, results, all_within, over_one_domain}
@@ -52,9 +51,8 @@ use Rattle.wb_edit.specs.Schema.{workbook}
 use Rattle.wb_edit.specs.Looks.{is_free, domain_kind, array_kind, is_there, fits, domain_named, array_named, index_fits, element, domain_indices}
 use Rattle.wb_edit.specs.Users.{is_unused, unused}
 use Rattle.wb_edit.specs.Writes.{set_to, put_all, clear_all}
-use Rattle.wb_edit.proofs.Becoming.{same_all, all_absent}
 use Rattle.wb_edit.proofs.IndexedCells.{elsewhere}
-use Rattle.wb_edit.proofs.Elements.{elements_ascend}
+use Rattle.wb_edit.proofs.Elements.{elements_ascend, elements_once}
 use Rattle.wb_edit.proofs.Loading.{puts_once}
 use Rattle.wb_edit.proofs.SideBySide.{kept_ascend}
 use Rattle.wb_edit.proofs.Once.IndexedCells.{once_indexed, once_resized, once_ended, once_seen}
@@ -94,14 +92,13 @@ fill_all_once : (s : Cells) (a : Name) (v : ℤ) → Once (fill_all a v) s
 fill_all_once s a v =
     let es : List (Index × ℤ) = readers.elements s a in
     once_test s (Object a) array_kind (λ array. elements a (λ es. write (put_all (map (Element a) (keys_of es)) (Number v)))) (λ array _.
-    subst (AllOnce cell_cmp) (same_all a v es) (once_seen a (λ e. value_of (fill_with v) e.1) es (elements_ascend s a)))
+    once_indexed (Element a) (λ i j e. cc) (Some (Number v)) (keys_of es) (elements_once s a))
 
 drop_array_once : (s : Cells) (a : Name) → Once (drop_array a) s
 drop_array_once s a =
     let es : List (Index × ℤ) = readers.elements s a in
     let apart = not_among a None (keys_of es) in
-    let own : AllOnce cell_cmp (clear_all (map (Element a) (keys_of es))) =
-    subst (AllOnce cell_cmp) (all_absent a es) (once_seen a (λ e. value_of Clear e.1) es (elements_ascend s a)) in
+    let own : AllOnce cell_cmp (clear_all (map (Element a) (keys_of es))) = once_indexed (Element a) (λ i j e. cc) None (keys_of es) (elements_once s a) in
     once_test s (Object a) array_kind (λ array. elements a (λ es. write (dropped_cells a array.0 (keys_of es)))) (λ array _.
     (apart (Object a) (λ i. refl), (apart (Use array.0 a) (λ i. refl), (apart (Implicit a) (λ i. refl), own))))
 

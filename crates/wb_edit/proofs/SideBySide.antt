@@ -252,11 +252,11 @@ kept_ascend how xs ys zs s e = subst (λ es. T (is_sorted index_cmp es))
 
 -- ---- the loop
 
-went_with : (b : Bool) (w z : ℤ) → stopped (kept_if b w) ≡ Ok z → (b ≡ true) × (w ≡ z)
+pub went_with : (b : Bool) (w z : ℤ) → stopped (kept_if b w) ≡ Ok z → (b ≡ true) × (w ≡ z)
 went_with true w z e = let same : w ≡ z = cc in (refl, same)
 went_with false w z e = cc
 
-halted_with : (b : Bool) (w : ℤ) (why : AttemptErr) → stopped (kept_if b w) ≡ Err why → (b ≡ false) × (Refused Overflow ≡ why)
+pub halted_with : (b : Bool) (w : ℤ) (why : AttemptErr) → stopped (kept_if b w) ≡ Err why → (b ≡ false) × (Refused Overflow ≡ why)
 halted_with true w why e = cc
 halted_with false w why e = let same : Refused Overflow ≡ why = cc in (refl, same)
 

@@ -1,6 +1,7 @@
 -- All elements of an array at once: a look at the family of them, and what those of two arrays make.
 use Rattle.std.specs.Prelude.{Bool, true, false, ℤ, pos, ◌+ℤ◌, ◌-ℤ◌, ◌*ℤ◌, List, [], ◌∷◌, map, Result, Ok, Err}
 use Rattle.std.specs.List.{filter_map, list_all}
+use Rattle.std.specs.Map.{keys_of}
 use Rattle.selective_undo.specs.Edit.{look}
 use Rattle.wb_book.specs.declared.cells.pattern.Pattern.TheVariants.{Elements}
 use Rattle.wb_book.specs.declared.values.index.Index.{Index}
@@ -16,6 +17,10 @@ use Rattle.wb_edit.specs.Numbers.{is_i64}
 -- the elements of an array, each after its index, in the order of the indices: looks at the family of them, at once
 abbrev pub elements : Name → Look (List (Index × ℤ))
 elements a next = look (Elements a) (λ seen. next (filter_map element_in seen))
+
+-- their indices alone: the same look
+abbrev pub element_indices : Name → Look (List Index)
+element_indices a next = elements a (λ es. next (keys_of es))
 
 -- ---- two arrays
 

@@ -1,11 +1,14 @@
-ghost use Rattle.std.specs.Prelude.{◌≡◌, List, [], ◌∷◌, ◌++◌, OnOk, OnErr};
+ghost use Rattle.std.specs.Prelude.{◌≡◌, List, [], ◌∷◌, ◌++◌, map, OnOk, OnErr};
+ghost use Rattle.wb_book.specs.Runs.{cell_of};
+ghost use Rattle.wb_book.specs.Shapes.{indices};
+ghost use Rattle.wb_edit.specs.Plans.{one_of};
 ghost use Rattle.wb_edit.specs.Reads.{all_read};
 
-use crate::read_run::{ReadRun, put};
+use crate::read_run::{ReadRun, put, put_rectangle};
 use smallvec::SmallVec;
 use std::alloc::Global;
 use std::marker::Model;
-use wb_book::Pattern;
+use wb_book::{AnyRect, Pattern, Row};
 use wb_range::NoMemory;
 
 /// So many patterns take no memory of their own.
@@ -60,5 +63,14 @@ impl Footprint {
             return Ok(self.first.push(pattern)?);
         }
         put(self.alloc, &mut self.rest, &pattern)
+    }
+
+    /// Keeps that the cells of a row at every index of a rectangle were read, after the other patterns; `NoMemory` where none
+    /// is left, and then nothing is kept. However many there are, they take the room of their ranges.
+    pub(crate) fn keep_rectangle(&mut self, row: &Row, ranges: &AnyRect) -> Result<(), NoMemory>
+        ensures ok { OnOk result (self.new ≡ self.old ++ map one_of (map (cell_of row.now) (indices ranges.now))) }
+        ensures err { OnErr result (self.new ≡ self.old) }
+    {
+        put_rectangle(self.alloc, &mut self.rest, row, ranges)
     }
 }

@@ -1,12 +1,12 @@
 //! Cells that belong to indices: one for each index of a domain.
 
-ghost use Rattle.std.specs.Prelude.{◌≡◌, IfSome, option_map};
-ghost use Rattle.wb_book.specs.Runs.{cell_of, value_of};
+ghost use Rattle.std.specs.Prelude.{◌≡◌};
+ghost use Rattle.wb_book.specs.Runs.{cell_of};
 ghost use Rattle.wb_book.specs.WellFormed.{index_cell};
 ghost use Rattle.wb_book.specs.declared.values.index.Index.{Index};
 ghost use Rattle.wb_edit.specs.Plans.{cell_at};
 
-use wb_book::{AnyIndex, Cell, Kind, Name, Row, Value};
+use wb_book::{AnyIndex, Cell, Kind, Name, Row};
 
 /// A cell for each index of a domain.
 #[derive(Clone, Copy)]
@@ -49,30 +49,5 @@ pub(crate) fn row_of(indexed: &IndexedCells) -> Row
         IndexedCells::Inside(domain) => Row::Inside(*domain),
         IndexedCells::Elements(array) => Row::Elements(*array),
         IndexedCells::Membership(kind, domain) => membership(kind, *domain),
-    }
-}
-
-/// A number by which a value stands in one of the cells of a row, or that none does, if the value may stand there.
-pub(crate) fn number_in(row: &Row, value: &Option<Value>) -> Option<Option<i64>>
-    ensures { IfSome result (λ n. option_map (value_of row.now) n ≡ value.now) }
-{
-    match value {
-        None => Some(None),
-        Some(Value::Number(number)) => match row {
-            Row::Inside(_) | Row::Members(_) => None,
-            Row::Elements(_) => Some(Some(*number)),
-        },
-        Some(Value::Present) => match row {
-            Row::Inside(_) => Some(Some(0)),
-            Row::Members(_) => Some(Some(0)),
-            Row::Elements(_) => None,
-        },
-        Some(
-            Value::Domain(_)
-            | Value::Array(_, _)
-            | Value::Ranges(_)
-            | Value::Mapping(_)
-            | Value::Bound(_),
-        ) => None,
     }
 }

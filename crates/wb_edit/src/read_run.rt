@@ -1,11 +1,16 @@
 //! What was read, one pattern after another, packed where it may be.
 
-ghost use Rattle.std.specs.Prelude.{◌≡◌, [], ◌∷◌, ◌++◌, true, false, Ok, OnOk, OnErr};
+ghost use Rattle.std.specs.Prelude.{◌≡◌, [], ◌∷◌, ◌++◌, true, false, map, Ok, OnOk, OnErr, IfOk};
+ghost use Rattle.wb_book.specs.Runs.{cell_of};
+ghost use Rattle.wb_book.specs.Shapes.{indices};
 ghost use Rattle.wb_book.specs.declared.cells.pattern.Pattern.TheVariants.{One};
+ghost use Rattle.wb_edit.specs.Plans.{one_of};
 ghost use Rattle.wb_edit.specs.Reads.{all_read, read_in, patterns_of};
 
 use std::alloc::Global;
-use wb_book::{Cell, CellChange, Changes, IndexedChange, Pattern};
+use wb_book::{
+    AnyRect, Cell, CellChange, Changes, Form, IndexedChange, Pattern, RectangleChanges, Row,
+};
 use wb_range::NoMemory;
 
 /// Patterns that were read one after another.
@@ -91,4 +96,29 @@ pub(crate) fn put(alloc: Global, runs: &mut Vec<ReadRun>, pattern: &Pattern) -> 
             put_run(runs, ReadRun::Single(*pattern))
         }
     }
+}
+
+// The cells of a row at every index of a rectangle, as a list of cells.
+fn rectangle_cells(alloc: Global, row: &Row, ranges: &AnyRect) -> Result<Changes, NoMemory>
+    ensures { IfOk result (λ cells. patterns_of cells ≡ map one_of (map (cell_of row.now) (indices ranges.now))) }
+{
+    let mut cells = Changes::new();
+    let cleared = RectangleChanges::new(*row, *ranges, None);
+    cells.push_run(alloc, Form::Rectangle(cleared))?;
+    Ok(cells)
+}
+
+/// Adds the patterns of the cells of a row at every index of a rectangle behind the others, or nothing where no memory is left.
+/// However many there are, they take the room of their ranges.
+pub(crate) fn put_rectangle(
+    alloc: Global,
+    runs: &mut Vec<ReadRun>,
+    row: &Row,
+    ranges: &AnyRect,
+) -> Result<(), NoMemory>
+    ensures ok { OnOk result (all_read runs.new.items ≡ all_read runs.old.items ++ map one_of (map (cell_of row.now) (indices ranges.now))) }
+    ensures err { OnErr result (all_read runs.new.items ≡ all_read runs.old.items) }
+{
+    let cells = rectangle_cells(alloc, row, ranges)?;
+    put_run(runs, ReadRun::Cells(cells))
 }

@@ -1,22 +1,24 @@
-ghost use Rattle.std.specs.Prelude.{◌≡◌, T, map, length};
+ghost use Rattle.std.specs.Prelude.{◌≡◌, T, length};
 ghost use Rattle.std.specs.FinMap.{is_sorted};
+ghost use Rattle.std.specs.List.{zip};
 ghost use Rattle.std.specs.Map.{keys_of};
 ghost use Rattle.wb_book.specs.Cells.{index_cmp};
 ghost use Rattle.wb_book.specs.Readers as readers;
-ghost use Rattle.wb_edit.specs.Changed.{Judges, items_of};
+ghost use Rattle.wb_book.specs.Shapes.{indices};
+ghost use Rattle.wb_edit.specs.Changed.{Judges, items_of, numbered, made_of, numbers_within};
 ghost use Rattle.wb_edit.specs.Commands.{all, all_results, number_cells};
 ghost use Rattle.wb_edit.specs.Elements.{result_of, results, all_within};
 ghost use Rattle.wb_edit.specs.Numbers.{fits_integer};
 ghost use Rattle.wb_edit.specs.Plans.{Attempts, Makes, stopped};
 
 use crate::attempt_err::{AttemptErr, stopped};
-use crate::commands::seen::{NewValue, all_become};
+use crate::commands::seen::put_elements;
 use crate::footprint::Footprint;
 use crate::looks::{elements, numbers, one_cell};
 use crate::operation::Operation;
 use crate::refusal::Refusal;
 use std::alloc::Global;
-use wb_book::{AnyIndex, Delta, Name};
+use wb_book::{AnyIndex, AnyRect, Delta, Name, Row};
 use wb_shelf::Book;
 
 /// Each element of an array becomes what it and another array's element at the same index make.
@@ -49,8 +51,68 @@ fn plan_all_results(
     requires { keys_of (readers.elements book.now.cells array) ≡ keys_of (readers.elements book.now.cells other) }
     ensures { Attempts (all_results array how.now other) book.now.cells footprint.old result footprint.new }
 {
-    let xs = elements::elements(book, footprint, array)?;
-    let ys = elements::elements(book, footprint, other)?;
+    elements::look_at_elements(footprint, array)?;
+    elements::look_at_elements(footprint, other)?;
+    all_changes(alloc, book, array, how, other)
+}
+
+// What the elements of two arrays at the same indices make: by numbers alone where the indices are those of a rectangle.
+fn all_changes(
+    alloc: Global,
+    book: &Book,
+    array: Name,
+    how: &Operation,
+    other: Name,
+) -> Result<Delta, AttemptErr>
+    requires { keys_of (readers.elements book.now.cells array) ≡ keys_of (readers.elements book.now.cells other) }
+    ensures { Judges (numbered array (all_within (results how.now (readers.elements book.now.cells array) (readers.elements book.now.cells other)))) result }
+{
+    match book.rectangle(&array) {
+        Some(ranges) => changes_by_numbers(alloc, book, array, how, other, &ranges),
+        None => changes_by_elements(alloc, book, array, how, other),
+    }
+}
+
+// The same, where the indices are those of ranges.
+fn changes_by_numbers(
+    alloc: Global,
+    book: &Book,
+    array: Name,
+    how: &Operation,
+    other: Name,
+    ranges: &AnyRect,
+) -> Result<Delta, AttemptErr>
+    requires alike { keys_of (readers.elements book.now.cells array) ≡ keys_of (readers.elements book.now.cells other) }
+    requires within { keys_of (readers.elements book.now.cells array) ≡ indices ranges.now }
+    ensures { Judges (numbered array (all_within (results how.now (readers.elements book.now.cells array) (readers.elements book.now.cells other)))) result }
+{
+    let Ok(xs) = book.numbers(&array) else {
+        return Err(AttemptErr::NoMemory);
+    };
+    let Ok(ys) = book.numbers(&other) else {
+        return Err(AttemptErr::NoMemory);
+    };
+    let zs = numbers_made(alloc, how, &xs, &ys)?;
+    rectangle_changes(alloc, array, ranges, zs)
+}
+
+// The same, element by element.
+fn changes_by_elements(
+    alloc: Global,
+    book: &Book,
+    array: Name,
+    how: &Operation,
+    other: Name,
+) -> Result<Delta, AttemptErr>
+    requires { keys_of (readers.elements book.now.cells array) ≡ keys_of (readers.elements book.now.cells other) }
+    ensures { Judges (numbered array (all_within (results how.now (readers.elements book.now.cells array) (readers.elements book.now.cells other)))) result }
+{
+    let Ok(xs) = book.elements(&array) else {
+        return Err(AttemptErr::NoMemory);
+    };
+    let Ok(ys) = book.elements(&other) else {
+        return Err(AttemptErr::NoMemory);
+    };
     let zs = results(alloc, how, &xs, &ys)?;
     number_changes(alloc, array, &zs)
 }
@@ -101,6 +163,51 @@ fn results(
     Ok(made)
 }
 
+// What the numbers at each place of two lists make.
+fn numbers_made(
+    alloc: Global,
+    how: &Operation,
+    xs: &[i64],
+    ys: &[i64],
+) -> Result<Vec<i64>, AttemptErr>
+    requires { length xs.now ≡ length ys.now }
+    ensures { Judges (numbers_within (made_of how.now xs.now ys.now)) (items_of result) }
+{
+    let Ok(mut made) = Vec::with_capacity(alloc, xs.len()) else {
+        return Err(AttemptErr::NoMemory);
+    };
+    for p in 0..xs.len() {
+        let z = number_made(how, &xs[p], &ys[p])?;
+        if made.push(z).is_err() {
+            return Err(AttemptErr::NoMemory);
+        }
+    }
+    Ok(made)
+}
+
+// What two numbers make.
+fn number_made(how: &Operation, x: &i64, y: &i64) -> Result<i64, AttemptErr>
+    ensures { result ≡ stopped (fits_integer (result_of how.now x.now y.now)) }
+{
+    stopped(result_of(how, *x, *y))
+}
+
+// The elements of an array at the indices of ranges become numbers, one after another.
+fn rectangle_changes(
+    alloc: Global,
+    array: Name,
+    ranges: &AnyRect,
+    numbers: Vec<i64>,
+) -> Result<Delta, AttemptErr>
+    ensures { Makes (number_cells array (zip (indices ranges.now) numbers.items)) result }
+{
+    let mut delta = Delta::new(alloc);
+    match delta.put_numbers(&Row::Elements(array), ranges, numbers) {
+        Ok(()) => Ok(delta),
+        Err(_) => Err(AttemptErr::NoMemory),
+    }
+}
+
 fn number_changes(
     alloc: Global,
     array: Name,
@@ -110,6 +217,6 @@ fn number_changes(
     ensures { Makes (number_cells array elements.now) result }
 {
     let mut delta = Delta::new(alloc);
-    all_become(&mut delta, array, elements, &NewValue::Listed)?;
+    put_elements(&mut delta, array, elements)?;
     Ok(delta)
 }

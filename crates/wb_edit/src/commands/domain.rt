@@ -4,8 +4,9 @@ ghost use Rattle.wb_edit.specs.Plans.{Attempts, Makes};
 
 use crate::asked_rectangle::AskedRectangle;
 use crate::attempt_err::AttemptErr;
-use crate::commands::writes::{become_inside, put};
+use crate::commands::writes::{put, put_all};
 use crate::footprint::Footprint;
+use crate::indexed_cells::IndexedCells;
 use crate::looks::{layouts, one_cell, rectangles};
 use std::alloc::Global;
 use wb_book::{AnyDomain, AnyLayout, AnyRect, Cell, Delta, DomainKind, Name, Value};
@@ -41,6 +42,11 @@ fn domain_changes(
     put(&mut delta, Cell::Object(name), Value::Domain(kind))?;
     put(&mut delta, Cell::Shape(name), Value::Ranges(*ranges))?;
     put(&mut delta, Cell::Mapping(name), Value::Mapping(*mapping))?;
-    become_inside(&mut delta, name, ranges, true)?;
+    put_all(
+        &mut delta,
+        &IndexedCells::Inside(name),
+        ranges,
+        &Value::Present,
+    )?;
     Ok(delta)
 }

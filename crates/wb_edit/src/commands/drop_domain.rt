@@ -1,24 +1,19 @@
-ghost use Rattle.std.specs.Prelude.{◌≡◌, ◌<◌, [], ◌∷◌, ◌++◌, false, length, map, OnOk, IfErr};
-ghost use Rattle.selective_undo.specs.Changes.{changes};
+ghost use Rattle.std.specs.Prelude.{◌≡◌, [], ◌∷◌};
 ghost use Rattle.wb_range.specs.Domain.{IsListedOnce};
-ghost use Rattle.wb_book.specs.Cells.{cell_cmp};
-ghost use Rattle.wb_book.specs.WellFormed.{index_cell};
-ghost use Rattle.wb_book.specs.declared.cells.cell.Cell.TheVariants.{Object, Shape, In, Mapping, Use};
-ghost use Rattle.wb_book.specs.declared.values.index.Index.{Index};
+ghost use Rattle.wb_book.specs.declared.cells.cell.Cell.TheVariants.{Object, Shape, Mapping, Use};
 ghost use Rattle.wb_edit.specs.Commands.{drop_domain, dropped_domain_cells, cells_beside_indices};
 ghost use Rattle.wb_edit.specs.Plans.{Attempts, Makes, indices_in};
 ghost use Rattle.wb_edit.specs.Writes.{clear_all};
-ghost use Rattle.wb_edit.specs.declared.attempt_err.AttemptErr.TheVariants.{NoMemory};
 
 use crate::attempt_err::AttemptErr;
-use crate::commands::writes::{become_found, become_inside, change};
+use crate::commands::writes::{become_found, change};
 use crate::footprint::Footprint;
 use crate::indexed_cells::IndexedCells;
 use crate::looks::indices::{Indices, domain_indices};
 use crate::looks::one_cell;
 use crate::looks::users::unused;
 use std::alloc::Global;
-use wb_book::{AnyDomain, Cell, Delta, DomainKind, Kind, Name};
+use wb_book::{AnyDomain, Cell, Delta, DomainKind, Name};
 use wb_shelf::Book;
 
 /// The end of a domain.
@@ -46,39 +41,9 @@ fn drop_changes(
     ensures { Makes (dropped_domain_cells domain kind.now (indices_in found.now)) result }
 {
     let mut delta = own_changes(alloc, domain, kind)?;
-    all_leave(&mut delta, kind.kind(), domain, found)?;
+    let indices = IndexedCells::Membership(kind.kind(), domain);
+    become_found(&mut delta, &indices, found, &None)?;
     Ok(delta)
-}
-
-// Adds, behind some changes, that the indices that were found leave a domain of a kind, of which none is there yet.
-fn all_leave(delta: &mut Delta, kind: Kind, domain: Name, found: &Indices) -> Result<(), AttemptErr>
-    requires some { 0 < length delta.old }
-    requires once { IsListedOnce (indices_in found.now) }
-    requires new { (i : Index) → changes cell_cmp delta.old (index_cell kind domain i) ≡ false }
-    ensures ok { OnOk result (delta.new ≡ delta.old ++ clear_all (map (index_cell kind domain) (indices_in found.now))) }
-    ensures only { IfErr result (λ e. e ≡ NoMemory) }
-{
-    match kind {
-        Kind::Rectangular(_) => rectangle_leaves(delta, domain, found),
-        Kind::Sparse(_) | Kind::Associative(_) => {
-            let members = IndexedCells::Membership(kind, domain);
-            become_found(delta, &members, found, &None)
-        }
-    }
-}
-
-// The same of a rectangular domain, by its ranges where these were found.
-fn rectangle_leaves(delta: &mut Delta, domain: Name, found: &Indices) -> Result<(), AttemptErr>
-    requires some { 0 < length delta.old }
-    requires once { IsListedOnce (indices_in found.now) }
-    requires new { (i : Index) → changes cell_cmp delta.old (In domain i) ≡ false }
-    ensures ok { OnOk result (delta.new ≡ delta.old ++ clear_all (map (In domain) (indices_in found.now))) }
-    ensures only { IfErr result (λ e. e ≡ NoMemory) }
-{
-    match found {
-        Indices::Product(ranges) => become_inside(delta, domain, ranges, false),
-        Indices::Listed(_) => become_found(delta, &IndexedCells::Inside(domain), found, &None),
-    }
 }
 
 // What there is of a domain besides its indices becomes absent.

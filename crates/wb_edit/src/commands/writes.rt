@@ -1,13 +1,13 @@
 //! Changes in the making.
 
-ghost use Rattle.std.specs.Prelude.{◌≡◌, ◌<◌, ℕ, List, [], ◌∷◌, ◌++◌, false, length, map, slice_get, Some, OnOk, IfErr};
+ghost use Rattle.std.specs.Prelude.{◌≡◌, ℕ, List, [], ◌∷◌, ◌++◌, false, map, slice_get, Some, option_map, OnOk, IfErr};
 ghost use Rattle.std.specs.Map.{keys_of};
 ghost use Rattle.selective_undo.specs.Changes.{changes};
 ghost use Rattle.wb_book.specs.Cells.{cell_cmp};
-ghost use Rattle.wb_book.specs.Runs.{indexed_change, inside_changes};
+ghost use Rattle.wb_book.specs.Runs.{cell_of, value_of, indexed_change};
 ghost use Rattle.wb_book.specs.Shapes.{indices};
 ghost use Rattle.wb_book.specs.WellFormed.{index_cell};
-ghost use Rattle.wb_book.specs.declared.cells.cell.Cell.TheVariants.{In, Element};
+ghost use Rattle.wb_book.specs.declared.cells.cell.Cell.TheVariants.{Element};
 ghost use Rattle.wb_book.specs.declared.cells.value.Value.TheVariants.{Number};
 ghost use Rattle.wb_book.specs.declared.values.index.Index.{Index};
 ghost use Rattle.wb_range.specs.Domain.{IsListedOnce};
@@ -18,9 +18,9 @@ ghost use Rattle.wb_resize.specs.Resized.{exchanged, elements_exchanged, resized
 ghost use Rattle.wb_edit.specs.declared.attempt_err.AttemptErr.TheVariants.{NoMemory};
 
 use crate::attempt_err::AttemptErr;
-use crate::indexed_cells::{IndexedCells, cell_at, number_in, row_of};
+use crate::indexed_cells::{IndexedCells, cell_at, row_of};
 use crate::looks::indices::Indices;
-use wb_book::{AnyIndex, AnyRect, Cell, Delta, IndexedChange, Kind, Name, Value};
+use wb_book::{AnyIndex, AnyRect, Cell, Delta, IndexedChange, Kind, Name, Row, Value};
 
 /// Adds that a cell, which is not there yet, becomes a value, or absent.
 pub(crate) fn change(delta: &mut Delta, cell: Cell, value: Option<Value>) -> Result<(), AttemptErr>
@@ -67,14 +67,32 @@ fn change_at(
     ensures only { IfErr result (λ e. e ≡ NoMemory) }
 {
     let row = row_of(indexed);
-    match number_in(&row, value) {
+    match row.number(value) {
         Some(number) => change_indexed(delta, &IndexedChange { row, index, number }),
         None => change(delta, cell_at(indexed, index), *value),
     }
 }
 
-/// Adds that the cell of each index, none of which is there yet, becomes a value, or absent.
-fn become_all(
+// Adds that the cells of a row at every index of a rectangle, none of which is there yet, become what a number stands for, or
+// absent. However many there are, they take the room of their ranges.
+fn become_rectangle(
+    delta: &mut Delta,
+    row: &Row,
+    ranges: &AnyRect,
+    number: Option<i64>,
+) -> Result<(), AttemptErr>
+    requires { (i : Index) → changes cell_cmp delta.old (cell_of row.now i) ≡ false }
+    ensures ok { OnOk result (delta.new ≡ delta.old ++ set_all (map (cell_of row.now) (indices ranges.now)) (option_map (value_of row.now) number)) }
+    ensures only { IfErr result (λ e. e ≡ NoMemory) }
+{
+    match delta.put_rectangle(row, ranges, number) {
+        Ok(()) => Ok(()),
+        Err(_) => Err(AttemptErr::NoMemory),
+    }
+}
+
+// Adds that the cell of each index, none of which is there yet, becomes a value, or absent, one after another.
+fn become_each(
     delta: &mut Delta,
     indexed: &IndexedCells,
     ranges: &AnyRect,
@@ -95,6 +113,25 @@ fn become_all(
     Ok(())
 }
 
+/// Adds that the cell of each index, none of which is there yet, becomes a value, or absent: by the ranges where the value may
+/// stand in these cells.
+fn become_all(
+    delta: &mut Delta,
+    indexed: &IndexedCells,
+    ranges: &AnyRect,
+    value: &Option<Value>,
+) -> Result<(), AttemptErr>
+    requires { (i : Index) → changes cell_cmp delta.old (cell_at indexed.now i) ≡ false }
+    ensures ok { OnOk result (delta.new ≡ delta.old ++ set_all (map (cell_at indexed.now) (indices ranges.now)) value.now) }
+    ensures only { IfErr result (λ e. e ≡ NoMemory) }
+{
+    let row = row_of(indexed);
+    match row.number(value) {
+        Some(number) => become_rectangle(delta, &row, ranges, number),
+        None => become_each(delta, indexed, ranges, value),
+    }
+}
+
 /// Adds that the cell of each index, none of which is there yet, gets a value.
 pub(crate) fn put_all(
     delta: &mut Delta,
@@ -107,24 +144,6 @@ pub(crate) fn put_all(
     ensures only { IfErr result (λ e. e ≡ NoMemory) }
 {
     become_all(delta, indexed, ranges, &Some(*value))
-}
-
-/// Adds, behind some changes, that all indices of a rectangle come to a domain or leave it, of which none is there yet.
-pub(crate) fn become_inside(
-    delta: &mut Delta,
-    domain: Name,
-    ranges: &AnyRect,
-    comes: bool,
-) -> Result<(), AttemptErr>
-    requires some { 0 < length delta.old }
-    requires new { (i : Index) → changes cell_cmp delta.old (In domain i) ≡ false }
-    ensures ok { OnOk result (delta.new ≡ delta.old ++ inside_changes domain ranges.now comes) }
-    ensures only { IfErr result (λ e. e ≡ NoMemory) }
-{
-    match delta.put_inside(domain, ranges, comes) {
-        Ok(()) => Ok(()),
-        Err(_) => Err(AttemptErr::NoMemory),
-    }
 }
 
 /// The domain of a name, with its kind.

@@ -1,9 +1,11 @@
 //! Looks at the rectangle that a command is asked for, and at its indices: whether an array may have them, and whether its
 //! elements at all of them are there.
 
-ghost use Rattle.std.specs.Prelude.{◌≡◌, List, [], ◌∷◌, ◌++◌, map, ◌&&◌, is_some, length, OnOk, IfOk, IfErr};
+ghost use Rattle.std.specs.Prelude.{◌≡◌, List, [], ◌∷◌, ◌++◌, map, ◌&&◌, true, is_some, length, OnOk, IfOk, IfErr};
 ghost use Rattle.std.specs.FinMap.{get};
 ghost use Rattle.std.specs.List.{list_all};
+ghost use Rattle.std.specs.Map.{keys_of};
+ghost use Rattle.wb_book.specs.Readers.{elements};
 ghost use Rattle.wb_book.specs.Shapes.{indices};
 ghost use Rattle.wb_book.specs.declared.cells.cell.Cell.TheVariants.{Element};
 ghost use Rattle.wb_edit.specs.Plans.{Looks, one_of, stopped};
@@ -14,7 +16,7 @@ use crate::asked_rectangle::AskedRectangle;
 use crate::attempt_err::{AttemptErr, stopped};
 use crate::footprint::Footprint;
 use crate::refusal::Refusal;
-use wb_book::{AnyCell, AnyRect, Cell, Kind, Name, Pattern};
+use wb_book::{AnyCell, AnyIndex, AnyRect, Cell, Kind, Name, Pattern, Row};
 use wb_shelf::Book;
 
 /// The ranges of the rectangle that is asked for; `WrongKind` where a set is in its place.
@@ -89,6 +91,51 @@ pub(crate) fn is_present(
     }
 }
 
+// Whether an array has its elements at the indices of these ranges, in their order. It may miss that.
+fn has_ranges(book: &Book, array: Name, on: &AnyRect) -> bool
+    ensures { result ≡ true → keys_of (elements book.now.cells array) ≡ indices on.now }
+{
+    match book.rectangle(&array) {
+        Some(ranges) => ranges.is_same(on),
+        None => false,
+    }
+}
+
+// Whether an array has an element at an index.
+fn has_element(book: &Book, array: Name, index: AnyIndex) -> bool
+    ensures { result ≡ is_some (get book.now.cells (Element array index)) }
+{
+    book.get(&Cell::Element(array, index)).is_some()
+}
+
+// Whether an array has an element at each index of a rectangle, one after another.
+fn each_present(book: &Book, array: Name, on: &AnyRect) -> bool
+    ensures { result ≡ list_all is_some (map (get book.now.cells) (map (Element array) (indices on.now))) }
+{
+    let mut all = true;
+    for p in 0..on.size() {
+        match on.nth(p) {
+            Some(index) => {
+                let here = has_element(book, array, index);
+                all = both_answers(all, here);
+            }
+            None => {}
+        }
+    }
+    all
+}
+
+// Whether an array has an element at each index of a rectangle.
+fn all_present(book: &Book, array: Name, on: &AnyRect) -> bool
+    ensures { result ≡ list_all is_some (map (get book.now.cells) (map (Element array) (indices on.now))) }
+{
+    if has_ranges(book, array, on) {
+        return true;
+    }
+    each_present(book, array, on)
+}
+
+// The same; they are looked at.
 fn are_present(
     book: &Book,
     footprint: &mut Footprint,
@@ -99,17 +146,10 @@ fn are_present(
     ensures present { IfOk result (λ b. b ≡ list_all is_some (map (get book.now.cells) (map (Element array) (indices on.now)))) }
     ensures only { IfErr result (λ e. e ≡ NoMemory) }
 {
-    let mut all = true;
-    for p in 0..on.size() {
-        match on.nth(p) {
-            Some(index) => {
-                let here = is_present(book, footprint, &Cell::Element(array, index))?;
-                all = both_answers(all, here);
-            }
-            None => {}
-        }
+    match footprint.keep_rectangle(&Row::Elements(array), on) {
+        Ok(()) => Ok(all_present(book, array, on)),
+        Err(_) => Err(AttemptErr::NoMemory),
     }
-    Ok(all)
 }
 
 /// Both of two answers.

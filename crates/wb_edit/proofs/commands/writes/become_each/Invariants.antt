@@ -2,7 +2,7 @@ use Rattle.std.proofs.Common.{◌≡◌, ◌++◌, map, take}
 use Rattle.wb_book.specs.Shapes.{indices}
 use Rattle.wb_edit.specs.Plans.{cell_at}
 use Rattle.wb_edit.specs.Changed.{set_all}
-use Rattle.wb_edit.proofs.commands.writes.become_all.Given as goal
+use Rattle.wb_edit.proofs.commands.writes.become_each.Given as goal
 
 -- the cells of the indices so far are there
 abbrev pub invariant-loop-p : goal.invariant-loop-p

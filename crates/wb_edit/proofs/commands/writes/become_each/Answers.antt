@@ -3,8 +3,8 @@ use Rattle.wb_book.specs.Shapes.{indices}
 use Rattle.wb_edit.specs.Plans.{cell_at}
 use Rattle.wb_edit.specs.Changed.{set_all}
 use Rattle.wb_edit.proofs.IndexedCells.{next_is_new, grows, nothing_there}
-use Rattle.wb_edit.proofs.commands.writes.become_all.Goals.{in-Some+in_ok-change_at-in-Some, in-None}
-use Rattle.wb_edit.proofs.commands.writes.become_all.Goals as goal
+use Rattle.wb_edit.proofs.commands.writes.become_each.Goals.{in-Some+in_ok-change_at-in-Some, in-None}
+use Rattle.wb_edit.proofs.commands.writes.become_each.Goals as goal
 
 pub change_at-requires : goal.change_at-requires
 change_at-requires c =
