@@ -1,0 +1,14 @@
+use Rattle.std.proofs.Common.{◌≡◌, ℕ, ◌+◌, ◌-◌, ◌<◌, ◌||◌, take, length, sym, ap, subst, ◌∙◌, arith}
+use Rattle.std.specs.List.{list_any}
+use Rattle.std.proofs.lemmas.List.Folds.{list_any-append}
+use Rattle.wb_book.specs.Runs.{changes_in, all_changes}
+use Rattle.wb_foot.specs.Footprints.{marked_family}
+use Rattle.wb_foot.proofs.Families.{once_more}
+use Rattle.wb_foot.proofs.families.is_seen.Goals as goal
+
+pub returns : goal.returns
+returns c = λ yes m n.
+    let i = c.args.at - 1 in
+    let e : i + 1 ≡ c.args.at = omega (arith, c.if-at-eq0.false) in
+    once_more (λ x. marked_family m x.cell n) c.args.runs.now i c.args.at c.index-runs-at.result c.index-runs-at-2.result e c.requires c.index-runs-at.is
+    c.index-runs-at-2.is (c.are_same_family.ensures yes m n)
