@@ -84,11 +84,11 @@ or_out : (a b : Bool) → a ≡ false → b ≡ false → a || b ≡ false
 or_out true b e f = cc
 or_out false b e f = f
 
-or_in : (a b : Bool) → a ≡ true → a || b ≡ true
+pub or_in : (a b : Bool) → a ≡ true → a || b ≡ true
 or_in true b e = refl
 or_in false b e = cc
 
-or_last : (a b : Bool) → b ≡ true → a || b ≡ true
+pub or_last : (a b : Bool) → b ≡ true → a || b ≡ true
 or_last true b e = refl
 or_last false b e = e
 

@@ -229,7 +229,7 @@ module _ (f : Coordinates → ℕ → Bool) (after : ℕ) where
 
 -- ---- into an empty set
 
-same_from : (a b : Bool) → (a ≡ true → b ≡ true) → (b ≡ true → a ≡ true) → a ≡ b
+pub same_from : (a b : Bool) → (a ≡ true → b ≡ true) → (b ≡ true → a ≡ true) → a ≡ b
 same_from true b f g = sym (f refl)
 same_from false true f g = g refl
 same_from false false f g = refl

@@ -20,5 +20,5 @@ pub mod Rows
 pub mod Singles
 pub mod Added
 pub mod Joining
-pub mod Families
+pub mod OneFamily
 pub mod SortedPoints

@@ -4,7 +4,7 @@ use Rattle.wb_book.specs.declared.cells.cell.Cell.{Cell}
 use Rattle.wb_book.specs.declared.cells.value.Value.{Value}
 use Rattle.wb_book.specs.Runs.{changes_in}
 use Rattle.wb_foot.specs.Places.{place_marked}
-use Rattle.wb_foot.proofs.Families.{of_one_family}
+use Rattle.wb_foot.proofs.OneFamily.{of_one_family}
 use Rattle.wb_foot.proofs.Meeting.{at_family}
 use Rattle.wb_foot.proofs.families.are_same_family.Goals as goal
 

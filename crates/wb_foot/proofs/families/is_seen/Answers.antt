@@ -3,7 +3,7 @@ use Rattle.std.specs.List.{list_any}
 use Rattle.std.proofs.lemmas.List.Folds.{list_any-append}
 use Rattle.wb_book.specs.Runs.{changes_in, all_changes}
 use Rattle.wb_foot.specs.Footprints.{marked_family}
-use Rattle.wb_foot.proofs.Families.{once_more}
+use Rattle.wb_foot.proofs.OneFamily.{once_more}
 use Rattle.wb_foot.proofs.families.is_seen.Goals as goal
 
 pub returns : goal.returns

@@ -9,9 +9,9 @@ returns-in-None-clause-none c =
     let f : Coordinates → ℕ → Bool = λ q n. marked point_cmp c.args.marks.now q n in
     let ps = c.args.points.now in
     let is = rw c.as_slice-list.ensures.value at c.index-list-at.is in
-    let all = rw c.as_slice-list.ensures.value at c.len.ensures in
-    let high : c.len.result ≤ length ps = omega (arith, all) in
-    none_after f c.args.after ps c.args.at c.len.result c.index-list-at.result c.as_slice-list.ensures.ascending c.requires is high c.in-None.ensures.none
+    let high : length c.as_slice-list.result.now ≤ length ps = rw c.as_slice-list.ensures.value (omega arith) in
+    none_after f c.args.after ps c.args.at (length c.as_slice-list.result.now) c.index-list-at.result c.as_slice-list.ensures.ascending c.requires is high
+    c.in-None.ensures.none
 
 pub returns-in-Some-clause-none : goal.returns-in-Some-clause-none
 returns-in-Some-clause-none c =

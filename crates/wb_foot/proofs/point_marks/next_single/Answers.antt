@@ -18,16 +18,15 @@ returns-in-None-first_behind-clause-none c =
     let i = c.in-Some.coordinate in
     let single : p ≡ i ∷ [] = is_single p i (sym c.coordinate_of.ensures ∙ c.in-Some.is) in
     let is = rw c.as_slice-list.ensures.value at c.index-list-at.is in
-    let all = rw c.as_slice-list.ensures.value at c.len.ensures in
-    let high : c.len.result ≤ length ps = omega (arith, all) in
+    let high : length c.as_slice-list.result.now ≤ length ps = rw c.as_slice-list.ensures.value (omega arith) in
     let none : (q : Coordinates) (n : ℕ) → pair_cmp point_cmp (p, c.args.after) (q, n) ≡ Less → f q n ≡ false =
     subst (λ (x : Coordinates). (q : Coordinates) (n : ℕ) → pair_cmp point_cmp (x, c.args.after) (q, n) ≡ Less → f q n ≡ false) (sym single)
     (none_behind m i c.args.after (subst (λ (v : ℤ). (x : ℤ) (n : ℕ) → pair_cmp int_cmp (v, c.args.after) (x, n) ≡ Less → marked int_cmp m x n ≡ false)
     (to_z-of_z w64 i (search rules)) c.in-None-first_behind.ensures.none)) in
-    none_after f c.args.after ps c.args.at c.len.result p c.as_slice-list.ensures.ascending c.requires is high none
+    none_after f c.args.after ps c.args.at (length c.as_slice-list.result.now) p c.as_slice-list.ensures.ascending c.requires is high none
 
-pub returns-in-Some-clause-none : goal.returns-in-Some-clause-none
-returns-in-Some-clause-none c =
+pub returns-in-Some-first_behind-clause-none : goal.returns-in-Some-first_behind-clause-none
+returns-in-Some-first_behind-clause-none c =
     let m = c.args.marks.now in
     let f : Coordinates → ℕ → Bool = at_single m in
     let after = c.args.after in

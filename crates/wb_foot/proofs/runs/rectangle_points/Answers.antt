@@ -1,4 +1,5 @@
-use Rattle.std.proofs.Common.{◌≡◌, map, take, refl, sym, ap, ◌∙◌}
+use Rattle.std.proofs.Common.{◌≡◌, ◌≤◌, map, length, refl, sym, ap, ◌∙◌, arith}
+use Rattle.std.proofs.lemmas.List.{take_all}
 use Rattle.std.specs.List.{list_any}
 use Rattle.wb_book.specs.declared.values.index.Index.TheVariants.{Point}
 use Rattle.wb_book.specs.Shapes.{indices}
@@ -15,5 +16,7 @@ loop-at-preserved c = one_index_more Point (indices c.args.ranges.now) c.loop-at
 
 pub returns : goal.returns
 returns c = λ f.
-    let all : map Point c.loop-at.points.items ≡ indices c.args.ranges.now = grind arith in
+    let is = indices c.args.ranges.now in
+    let high : length is ≤ c.loop-at.at = omega (arith, c.loop-at-test.false, c.size-at-end.ensures) in
+    let all : map Point c.loop-at.points.items ≡ is = c.loop-at.invariant ∙ take_all c.loop-at.at is high in
     c.sorted.ensures (λ p. f (Point p)) ∙ sym (any_map f Point c.loop-at.points.items) ∙ ap (list_any f) all

@@ -15,5 +15,5 @@ loop-at-preserved c = c.in_ok-join_family_at.ensures c.args.waiting.now c.loop-a
 pub returns : goal.returns
 returns c =
     let f : Change Cell Value → ℕ → Bool = λ x n. marked_family c.args.self.now x.cell n in
-    let high : length c.args.runs.now ≤ c.loop-at.at = omega (arith, c.loop-at-test.false, c.len-at-end.ensures) in
+    let high : length c.args.runs.now ≤ c.loop-at.at = omega (arith, c.loop-at-test.false) in
     runs_joined f c.args.after c.args.waiting.now c.args.runs.now c.loop-at.waiting c.loop-at.at high c.loop-at.invariant

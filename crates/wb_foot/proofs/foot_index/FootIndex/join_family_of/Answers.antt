@@ -7,7 +7,7 @@ use Rattle.wb_book.specs.declared.cells.cell.Cell.{Cell}
 use Rattle.wb_book.specs.declared.cells.value.Value.{Value}
 use Rattle.wb_book.specs.Runs.{changes_in}
 use Rattle.wb_foot.specs.Footprints.{marked_family}
-use Rattle.wb_foot.proofs.Families.{of_one_family}
+use Rattle.wb_foot.proofs.OneFamily.{of_one_family}
 use Rattle.wb_foot.proofs.Joining.{none_joined, joined_like}
 use Rattle.wb_foot.proofs.foot_index.FootIndex.join_family_of.Goals as goal
 

@@ -1,6 +1,8 @@
 -- The cells of a run are of one family.
-use Rattle.std.proofs.Common.{◌≡◌, ℕ, ℤ, ◌+◌, ◌<◌, Bool, ◌||◌, false, true, List, [], ◌∷◌, Option, None, map, length, take, get_or, refl, sym, ap, subst, ◌∙◌, arith}
+use Rattle.std.proofs.Common.{◌≡◌, ℕ, ℤ, ◌+◌, ◌<◌, Bool, ◌||◌, true, false, List, [], ◌∷◌, Option, None, map, length, take, get_or, refl, sym, ap, subst, ◌∙◌, arith}
+use Rattle.std.specs.Cmp.Lexicographic.{slice_cmp}
 use Rattle.std.specs.List.{list_any}
+use Rattle.std.specs.Ordering.{nat_cmp, eq_by_cmp}
 use Rattle.std.proofs.lemmas.List.Folds.{list_any-append}
 use Rattle.selective_undo.specs.declared.Change.{Change}
 use Rattle.wb_book.specs.declared.cells.cell.Cell.{Cell}
@@ -11,6 +13,7 @@ use Rattle.wb_book.specs.declared.changes.run.ChangeRun.{ChangeRun}
 use Rattle.wb_book.specs.declared.changes.run.Form.{Form}
 use Rattle.wb_book.specs.declared.changes.run.Form.TheVariants.{One, Line, Plane, Solid, Rectangle}
 use Rattle.wb_book.specs.declared.values.index.Index.TheVariants.{Point}
+use Rattle.wb_book.specs.Cells.{Name, same_names}
 use Rattle.wb_book.specs.Runs.{cell_of, change_at, packed_changes, inside_change, changes_in, all_changes}
 use Rattle.wb_book.specs.Shapes.{indices}
 use Rattle.wb_foot.specs.declared.foot_index.FootIndex.{FootIndex}
@@ -19,8 +22,12 @@ use Rattle.wb_foot.specs.Places.{family, place_marked}
 use Rattle.wb_foot.specs.Footprints.{marked_family}
 use Rattle.wb_foot.proofs.Joining.{more_runs}
 use Rattle.wb_foot.proofs.Meeting.{any_like, any_map, at_family}
+use Rattle.wb_foot.proofs.Ranges.{equal_from}
 use Rattle.wb_foot.proofs.ReadPlaces.{or_false}
 use Rattle.wb_foot.proofs.RunPlaces.{always}
+
+pub one_name : (d e : Name) → eq_by_cmp (slice_cmp nat_cmp) d e ≡ true → d ≡ e
+one_name d e is = same_names d e (equal_from (slice_cmp nat_cmp d e) is)
 
 module _ (g : Option Place → Bool) where
   -- changes made alike, each of one family
