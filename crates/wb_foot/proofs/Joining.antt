@@ -181,9 +181,11 @@ more_runs rs i r l is = all_more (λ (x : ChangeRun). changes_in x.form) rs i r 
 module _ (f : Change Cell Value → ℕ → Bool) (after : ℕ) (old : Numbers) (rs : List ChangeRun) where
   -- of one run more
   pub run_joined : (now new : Numbers) (i : ℕ) (r : ChangeRun) → i < length rs → r ≡ get_or rs i r →
-      JoinedAfter old now (λ n. list_any (λ x. f x n) (all_changes (take i rs))) after → JoinedAfter now new (λ n. list_any (λ x. f x n) (changes_in r.form)) after →
+      JoinedAfter old now (λ n. list_any (λ x. f x n) (all_changes (take i rs))) after →
+      JoinedAfter now new (λ n. list_any (λ x. f x n) (changes_in r.form)) after →
       JoinedAfter old new (λ n. list_any (λ x. f x n) (all_changes (take (i + 1) rs))) after
-  run_joined now new i r l is = lists_joined f after old now new (all_changes (take i rs)) (changes_in r.form) (all_changes (take (i + 1) rs)) (more_runs rs i r l is)
+  run_joined now new i r l is = lists_joined f after old now new (all_changes (take i rs)) (changes_in r.form) (all_changes (take (i + 1) rs))
+      (more_runs rs i r l is)
 
   pub runs_joined : (new : Numbers) (i : ℕ) → length rs ≤ i → JoinedAfter old new (λ n. list_any (λ x. f x n) (all_changes (take i rs))) after →
       JoinedAfter old new (λ n. list_any (λ x. f x n) (all_changes rs)) after
@@ -219,7 +221,8 @@ module _ (f : Coordinates → ℕ → Bool) (after : ℕ) where
       (pair_less (get_or ps i d) k n number (below i d (omega arith) up))
 
   -- nothing stands behind the last mark
-  pub none_after : (ps : List Coordinates) (at j : ℕ) (p : Coordinates) → IsStrictlySortedBy point_cmp ps → at < length ps → p ≡ get_or ps at p → j ≤ length ps →
+  pub none_after : (ps : List Coordinates) (at j : ℕ) (p : Coordinates) → IsStrictlySortedBy point_cmp ps → at < length ps → p ≡ get_or ps at p →
+      j ≤ length ps →
       ((q : Coordinates) (n : ℕ) → pair_cmp point_cmp (p, after) (q, n) ≡ Less → f q n ≡ false) →
       (i n : ℕ) (d : Coordinates) → at < i → i < j → after < n → f (get_or ps i d) n ≡ false
   none_after ps at j p s l is high none i n d low up above =

@@ -1,5 +1,6 @@
 -- The cells of a run are of one family.
-use Rattle.std.proofs.Common.{◌≡◌, ℕ, ℤ, ◌+◌, ◌<◌, Bool, ◌||◌, true, false, List, [], ◌∷◌, Option, None, map, length, take, get_or, refl, sym, ap, subst, ◌∙◌, arith}
+use Rattle.std.proofs.Common.{◌≡◌, ℕ, ℤ, ◌+◌, ◌<◌, Bool, ◌||◌, true, false, List, [], ◌∷◌, Option, None, map, length, take, get_or, refl, sym, ap}
+use Rattle.std.proofs.Common.{subst, ◌∙◌, arith}
 use Rattle.std.specs.Cmp.Lexicographic.{slice_cmp}
 use Rattle.std.specs.List.{list_any}
 use Rattle.std.specs.Ordering.{nat_cmp, eq_by_cmp}
@@ -66,7 +67,8 @@ twice false true = refl
 twice false false = refl
 
 pub once_more : (t : Change Cell Value → Bool) (rs : List ChangeRun) (i j : ℕ) (a b : ChangeRun) → i + 1 ≡ j → j < length rs → a ≡ get_or rs i a →
-    b ≡ get_or rs j b → list_any t (changes_in b.form) ≡ list_any t (changes_in a.form) → list_any t (all_changes (take (j + 1) rs)) ≡ list_any t (all_changes (take j rs))
+    b ≡ get_or rs j b → list_any t (changes_in b.form) ≡ list_any t (changes_in a.form) →
+    list_any t (all_changes (take (j + 1) rs)) ≡ list_any t (all_changes (take j rs))
 once_more t rs i j a b e l is_a is_b same =
     let front = list_any t (all_changes (take i rs)) in
     let before : list_any t (all_changes (take j rs)) ≡ (front || list_any t (changes_in a.form)) =

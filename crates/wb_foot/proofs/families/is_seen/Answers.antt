@@ -1,7 +1,4 @@
-use Rattle.std.proofs.Common.{◌≡◌, ℕ, ◌+◌, ◌-◌, ◌<◌, ◌||◌, take, length, sym, ap, subst, ◌∙◌, arith}
-use Rattle.std.specs.List.{list_any}
-use Rattle.std.proofs.lemmas.List.Folds.{list_any-append}
-use Rattle.wb_book.specs.Runs.{changes_in, all_changes}
+use Rattle.std.proofs.Common.{◌≡◌, ◌+◌, ◌-◌, arith}
 use Rattle.wb_foot.specs.Footprints.{marked_family}
 use Rattle.wb_foot.proofs.OneFamily.{once_more}
 use Rattle.wb_foot.proofs.families.is_seen.Goals as goal

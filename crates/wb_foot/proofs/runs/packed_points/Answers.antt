@@ -5,5 +5,5 @@ use Rattle.wb_foot.proofs.runs.packed_points.Goals as goal
 
 pub returns : goal.returns
 returns g c = λ f.
-    c.sorted.ensures f ∙ ap (list_any f) (c.loop-change.invariant ∙ ap (map (λ (e : List ℤ × Option ℤ). e.0)) (take_all c.loop-change.change-index c.args.changes.now
-    (omega arith)))
+    let all = take_all c.loop-change.change-index c.args.changes.now (omega arith) in
+    c.sorted.ensures f ∙ ap (list_any f) (c.loop-change.invariant ∙ ap (map (λ (e : List ℤ × Option ℤ). e.0)) all)

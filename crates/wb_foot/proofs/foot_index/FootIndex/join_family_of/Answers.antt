@@ -26,6 +26,6 @@ returns c =
     let some : 0 < length (changes_in form) = omega (arith, c.if-len-eq0.false, c.len.ensures) in
     let d : Change Cell Value = record { cell = c.cell.result; value = None } in
     on_ok_weaker c.join_family.result
-    (λ h. joined_like c.args.waiting.now c.join_family.new.waiting (marked_family m c.cell.result) (λ n. list_any (λ x. marked_family m x.cell n) (changes_in form))
-    c.args.after (λ n. of_one_family m n form d c.cell.result some (c.cell.ensures d)) h)
+    (λ h. joined_like c.args.waiting.now c.join_family.new.waiting (marked_family m c.cell.result)
+    (λ n. list_any (λ x. marked_family m x.cell n) (changes_in form)) c.args.after (λ n. of_one_family m n form d c.cell.result some (c.cell.ensures d)) h)
     c.join_family.ensures
