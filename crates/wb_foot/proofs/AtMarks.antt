@@ -34,11 +34,11 @@ below_gap ps p q s l h i d low =
 
 -- ---- pairs of a point and a number
 
-pair_less : (p q : Coordinates) (m n : ℕ) → point_cmp p q ≡ Less → pair_cmp point_cmp (p, m) (q, n) ≡ Less
+pub pair_less : (p q : Coordinates) (m n : ℕ) → point_cmp p q ≡ Less → pair_cmp point_cmp (p, m) (q, n) ≡ Less
 pair_less p q m n e = ap (λ o. ordering_then o (nat_cmp m n)) e
 
 -- the pairs at a place, and at those above it
-pair_up : (ps : List Coordinates) (at i : ℕ) (d : Coordinates) (after n : ℕ) → IsStrictlySortedBy point_cmp ps → at ≤ i → i < length ps → after < n →
+pub pair_up : (ps : List Coordinates) (at i : ℕ) (d : Coordinates) (after n : ℕ) → IsStrictlySortedBy point_cmp ps → at ≤ i → i < length ps → after < n →
     pair_cmp point_cmp (get_or ps at d, after) (get_or ps i d, n) ≡ Less
 pair_up ps at i d after n s low below up = by (i - at) refl
   where
@@ -66,7 +66,7 @@ least_above_like : (p q : ℕ → Bool) (after : ℕ) (r : Option ℕ) → ((n :
 least_above_like p q after None e h = λ n up. e n up ∙ h n up
 least_above_like p q after (Some j) e h = (h.0, e j h.0 ∙ h.1, λ n up down. e n up ∙ h.2 n up down)
 
-any_past : {A : Type 0} (g : A → Bool) (ps : List A) (d : A) (at k : ℕ) → at + k ≤ length ps → ((i : ℕ) → at ≤ i → i < at + k → g (get_or ps i d) ≡ false) →
+pub any_past : {A : Type 0} (g : A → Bool) (ps : List A) (d : A) (at k : ℕ) → at + k ≤ length ps → ((i : ℕ) → at ≤ i → i < at + k → g (get_or ps i d) ≡ false) →
     list_any g (take (at + k) ps) ≡ list_any g (take at ps)
 any_past g ps d at zero l h = let e : at + 0 ≡ at = omega arith in ap (λ i. list_any g (take i ps)) e
 any_past g ps d at (suc k) l h =

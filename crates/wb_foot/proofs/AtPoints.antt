@@ -18,7 +18,7 @@ and_false : (a : Bool) → a && false ≡ false
 and_false true = refl
 and_false false = refl
 
-and_last : {X : Type 0} (c : Bool) (f : X → Bool) (xs : List X) → list_any (λ x. f x && c) xs ≡ (list_any f xs && c)
+pub and_last : {X : Type 0} (c : Bool) (f : X → Bool) (xs : List X) → list_any (λ x. f x && c) xs ≡ (list_any f xs && c)
 and_last true f xs = any_like (λ x. f x && true) f xs (λ x. and_true (f x)) ∙ sym (and_true (list_any f xs))
 and_last false f xs = any_like (λ x. f x && false) (λ x. false) xs (λ x. and_false (f x)) ∙ any_none xs ∙ sym (and_false (list_any f xs))
 

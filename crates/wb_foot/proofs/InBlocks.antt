@@ -43,7 +43,7 @@ among xs p (Err q) s l h =
 number_is : (m n : ℕ) → (m == n) ≡ true → m ≡ n
 number_is m n e = grind (arith, nat_tests)
 
--- ---- one more point above all
+-- ---- points below another
 
 pub all_below : (xs : List Coordinates) (p d : Coordinates) (i : ℕ) → IsStrictlySortedBy point_cmp xs → i + 1 ≡ length xs →
     point_cmp (get_or xs i d) p ≡ Less → AllByRecursion (λ y. point_cmp y p ≡ Less) xs
@@ -56,33 +56,9 @@ all_below (x ∷ y ∷ ys) p d (suc i) s e h =
     let rest = all_below (y ∷ ys) p d i s.1 (omega arith) h in
     (points_total.trans x y p s.0.0 rest.0, rest)
 
-push_all : {X : Type 0} (P : X → Type 0) (xs : List X) (y : X) → AllByRecursion P xs → P y → AllByRecursion P (xs ++ y ∷ [])
-push_all P [] y a h = (h, tt)
-push_all P (x ∷ xs) y a h = (a.0, push_all P xs y a.1 h)
-
-pub sorted_none : IsStrictlySortedBy point_cmp []
-unfolding IsStrictlySortedBy
-sorted_none = tt
-
-pub sorted_push : (xs : List Coordinates) (p : Coordinates) → IsStrictlySortedBy point_cmp xs → AllByRecursion (λ y. point_cmp y p ≡ Less) xs →
-    IsStrictlySortedBy point_cmp (xs ++ p ∷ [])
-unfolding IsStrictlySortedBy
-sorted_push [] p s a = (tt, tt)
-sorted_push (x ∷ xs) p s a = (push_all (λ y. point_cmp x y ≡ Less) xs p s.0 a.0, sorted_push xs p s.1 a.1)
-
-pub alone : (xs : List Coordinates) (p : Coordinates) → (length xs == 0) ≡ true → IsStrictlySortedBy point_cmp (xs ++ p ∷ [])
-unfolding IsStrictlySortedBy
-alone [] p e = (tt, tt)
-alone (x ∷ xs) p e = let no : length (x ∷ xs) ≡ 0 = number_is (length (x ∷ xs)) 0 e in let bad : ⊥ = omega arith in absurd bad
-
 before_last : (n : ℕ) → (n == 0) ≡ false → (n - 1) + 1 ≡ n
 before_last zero e = cc
 before_last (suc n) e = omega arith
-
-pub above_all : (xs : List Coordinates) (p x : Coordinates) → IsStrictlySortedBy point_cmp xs → (length xs == 0) ≡ false → x ≡ get_or xs (length xs - 1) x →
-    point_cmp x p ≡ Less → IsStrictlySortedBy point_cmp (xs ++ p ∷ [])
-above_all xs p x s some is less = sorted_push xs p s (all_below xs p x (length xs - 1) s (before_last (length xs) some)
-    (ap (λ y. point_cmp y p) (sym is) ∙ less))
 
 pub less_of : (o : Ordering) → is_lt o ≡ true → o ≡ Less
 less_of Less e = refl
@@ -108,11 +84,11 @@ or_out : (a b : Bool) → a ≡ false → b ≡ false → a || b ≡ false
 or_out true b e f = cc
 or_out false b e f = f
 
-or_in : (a b : Bool) → a ≡ true → a || b ≡ true
+pub or_in : (a b : Bool) → a ≡ true → a || b ≡ true
 or_in true b e = refl
 or_in false b e = cc
 
-or_last : (a b : Bool) → b ≡ true → a || b ≡ true
+pub or_last : (a b : Bool) → b ≡ true → a || b ≡ true
 or_last true b e = refl
 or_last false b e = e
 

@@ -18,3 +18,7 @@ pub mod AtPoints
 pub mod AtMarks
 pub mod Rows
 pub mod Singles
+pub mod Added
+pub mod Joining
+pub mod OneFamily
+pub mod SortedPoints

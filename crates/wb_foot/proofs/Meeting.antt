@@ -105,7 +105,7 @@ same_places Objects (Of e y) = refl
 same_places (Of d x) Objects = refl
 same_places (Of d x) (Of e y) = rw (same_parts x y, (eq_by_cmp_equiv nat_list_cmp_total).symm d e)
 
-abbrev at_family : (Place → Bool) → Option Place → Bool
+abbrev pub at_family : (Place → Bool) → Option Place → Bool
 at_family t o = elim o [ Some f ↦ t f | None ↦ false ]
 
 same_family : (o : Option Place) (q : Place) → at_family (λ f. is_same_place q f) o ≡ at_family (λ f. is_same_place f q) o

@@ -16,7 +16,7 @@ use Rattle.wb_foot.specs.declared.marks.Marks.{Marks}
 use Rattle.wb_foot.specs.Relation.{Sets, IsLeastAfter}
 use Rattle.wb_foot.specs.Marks.{pair_cmp, marked}
 
-equal_from : (p : Ordering) → is_eq p ≡ true → p ≡ Equal
+pub equal_from : (p : Ordering) → is_eq p ≡ true → p ≡ Equal
 equal_from Less e = cc
 equal_from Equal e = refl
 equal_from Greater e = cc

@@ -86,7 +86,7 @@ module _ (o n : Place → ℕ → Bool) (number : ℕ) where
       ((p : Coordinates) (q : Place) → at_cell by (cell_at kind d p) q ≡ true → n q number ≡ false) → Clears o n (marked_at by xs) number
   row_cleared by kind d xs x h g clear = record {
     gone = λ q here. any_gone (λ p. at_cell by (cell_at kind d p) q) (n q number ≡ false) (λ p. clear p q) h.0
-        (sym (any_cell (λ c. at_cell by c q) xs kind d h.0 h.1) ∙ here);
+        (sym (any_cell (λ c. at_cell by c q) xs kind d h.0 (λ f. ap (list_any f) h.1)) ∙ here);
     fewer = g.fewer;
     others = g.others;
   }

@@ -16,7 +16,8 @@ use Rattle.wb_foot.specs.Points.{Coordinates}
 use Rattle.wb_foot.specs.Parts.{part_at, is_same_part, in_run}
 use Rattle.wb_foot.specs.Places.{own, is_same_place, cell_at, in_places}
 use Rattle.wb_foot.specs.declared.marking.Marking.{Marking}
-use Rattle.wb_foot.specs.Footprints.{family_by, marked_at, run_marked, cells_of, run_cells}
+use Rattle.wb_foot.specs.Rows.{AreAt}
+use Rattle.wb_foot.specs.Footprints.{family_by, marked_at, run_marked}
 use Rattle.wb_foot.proofs.Meeting.{any_or, any_like, any_none, any_map}
 use Rattle.wb_foot.proofs.Setting.{then_sets, like, then_stays, stays_none}
 
@@ -25,9 +26,9 @@ or_false true = refl
 or_false false = refl
 
 -- what holds of one of the cells holds of one at one of the points
-pub any_cell : (f : Cell → Bool) (xs : Changes) (kind : Kind) (name : Name) (ps : List Coordinates) → cells_of xs ≡ run_cells kind name ps →
+pub any_cell : (f : Cell → Bool) (xs : Changes) (kind : Kind) (name : Name) (ps : List Coordinates) → AreAt kind name ps xs →
     list_any (λ x. f x.cell) xs ≡ list_any (λ p. f (cell_at kind name p)) ps
-any_cell f xs kind name ps e = sym (any_map f (λ x. x.cell) xs) ∙ ap (list_any f) e ∙ any_map f (cell_at kind name) ps
+any_cell f xs kind name ps e = sym (any_map f (λ x. x.cell) xs) ∙ e f ∙ any_map f (cell_at kind name) ps
 
 and_each : {X : Type 0} (c : Bool) (f : X → Bool) (xs : List X) → list_any (λ x. c && f x) xs ≡ (c && list_any f xs)
 and_each true f xs = refl

@@ -91,6 +91,18 @@ met_by (Some f) c = changes cell_cmp f.touched c || covers workbook f.reads c
 abbrev pub touched_under : Option (Footprint workbook) → List Pattern → Bool
 touched_under o rs = list_any (λ r. touched_by o (place_of r)) rs
 
+-- whether a number is marked at the own place of a cell: it touched the cell, or read it by itself
+abbrev pub marked_own : FootIndex → Cell → ℕ → Bool
+marked_own m c n = place_marked m.touched (own c) n || place_marked m.read (own c) n
+
+-- whether it is marked at the place of the family of a cell, if patterns name that: it read the family
+abbrev pub marked_family : FootIndex → Cell → ℕ → Bool
+marked_family m c n = elim (family c) [ Some f ↦ place_marked m.read f n | None ↦ false ]
+
+-- whether it is marked at the one or the other
+abbrev pub marked_met : FootIndex → Cell → ℕ → Bool
+marked_met m c n = marked_own m c n || marked_family m c n
+
 -- whether it read or touched one of some cells
 abbrev pub any_met : Option (Footprint workbook) → Changes → Bool
 any_met o xs = list_any (λ x. met_by o x.cell) xs

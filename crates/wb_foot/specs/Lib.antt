@@ -1,6 +1,6 @@
+pub mod Numbers
 pub mod Relation
 pub mod Marks
-pub mod Numbers
 pub mod Slots
 pub mod Points
 pub mod PointMarks

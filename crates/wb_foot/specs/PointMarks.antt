@@ -1,5 +1,5 @@
 -- Which numbers stand at which points: those of one coordinate stand apart, where they take less room.
-use Rattle.std.specs.Prelude.{ℕ, ℤ, Bool, false, ◌||◌, List, [], ◌∷◌, Option, Some, None}
+use Rattle.std.specs.Prelude.{ℕ, ℤ, Bool, false, ◌||◌, [], ◌∷◌, Option, Some, None}
 use Rattle.std.specs.Ordering.{int_cmp}
 use Rattle.wb_foot.specs.declared.marks.Marks.{Marks}
 use Rattle.wb_foot.specs.declared.point_marks.PointMarks.{PointMarks}

@@ -1,16 +1,214 @@
-//! All edits that stand in the way of an undo.
+//! All edits that stand in the way of an undo, found in one pass over its cells.
 
-ghost use Rattle.std.specs.Prelude.{◌≡◌, IfOk};
+ghost use Rattle.std.specs.Prelude.{◌≡◌, ◌+◌, ◌<◌, OnOk, IfOk, length, take};
+ghost use Rattle.std.specs.List.{list_any};
 ghost use Rattle.selective_undo.specs.Log.{blocks_undo};
-ghost use Rattle.wb_foot.specs.Relation.{AreAllAfter};
-ghost use Rattle.wb_foot.specs.Footprints.{Footprints, IsIndexOf};
+ghost use Rattle.wb_book.specs.Runs.{changes_in, all_changes, in_first};
+ghost use Rattle.wb_foot.specs.declared.numbers.Numbers.{Numbers};
+ghost use Rattle.wb_foot.specs.Relation.{AreAllAfter, JoinedAfter};
+ghost use Rattle.wb_foot.specs.Places.{cell_at};
+ghost use Rattle.wb_foot.specs.Footprints.{Footprints, IsIndexOf, marked_own, marked_family, marked_met};
 
+use crate::families::is_seen;
 use crate::foot_index::FootIndex;
+use crate::numbers::Numbers;
+use crate::place::{family, own};
+use crate::runs::{LEAST, Run};
 use std::alloc::Global;
-use wb_book::Changes;
+use wb_book::{Cell, CellChange, ChangeRun, Changes};
 use wb_range::NoMemory;
 
 impl FootIndex {
+    /// Those above `after` at the own place of the cell join the numbers that wait.
+    fn join_own(&self, cell: &Cell, after: u64, waiting: &mut Numbers) -> Result<(), NoMemory>
+        ensures { OnOk result (JoinedAfter waiting.old waiting.new (marked_own self.now cell.now) after) }
+    {
+        let place = own(cell);
+        self.touched.join_after(&place, after, waiting)?;
+        self.read.join_after(&place, after, waiting)
+    }
+
+    /// The same of the cells of a run, asked together.
+    fn join_own_together(
+        &self,
+        run: &Run,
+        after: u64,
+        waiting: &mut Numbers,
+    ) -> Result<(), NoMemory>
+        ensures { OnOk result (JoinedAfter waiting.old waiting.new
+            (λ n. list_any (λ p. marked_own self.now (cell_at run.now.row.kind run.now.row.name p) n) run.now.points) after) }
+    {
+        self.touched.join_in(&run.row, &run.points, after, waiting)?;
+        self.read.join_in(&run.row, &run.points, after, waiting)
+    }
+
+    /// The same of the cells of a run, asked one by one.
+    fn join_own_each(
+        &self,
+        cells: &ChangeRun,
+        after: u64,
+        waiting: &mut Numbers,
+    ) -> Result<(), NoMemory>
+        ensures { OnOk result (JoinedAfter waiting.old waiting.new
+            (λ n. list_any (λ x. marked_own self.now x.cell n) (changes_in cells.now.form)) after) }
+    {
+        for at in 0..cells.len() {
+            let cell = cells.cell(at);
+            self.join_own(&cell, after, waiting)?;
+        }
+        Ok(())
+    }
+
+    /// The same of the cells of a run: of few one by one, of others all together.
+    fn join_own_in(
+        &self,
+        cells: &ChangeRun,
+        after: u64,
+        waiting: &mut Numbers,
+    ) -> Result<(), NoMemory>
+        ensures { OnOk result (JoinedAfter waiting.old waiting.new
+            (λ n. list_any (λ x. marked_own self.now x.cell n) (changes_in cells.now.form)) after) }
+    {
+        if cells.len() < LEAST {
+            return self.join_own_each(cells, after, waiting);
+        }
+        match Run::of_cells(self.touched.alloc, cells) {
+            None => self.join_own_each(cells, after, waiting),
+            Some(run) => self.join_own_together(&run, after, waiting),
+        }
+    }
+
+    /// The same of the cells of runs.
+    fn join_own_all(
+        &self,
+        runs: &[ChangeRun],
+        after: u64,
+        waiting: &mut Numbers,
+    ) -> Result<(), NoMemory>
+        ensures { OnOk result (JoinedAfter waiting.old waiting.new
+            (λ n. list_any (λ x. marked_own self.now x.cell n) (all_changes runs.now)) after) }
+    {
+        for run in runs {
+            self.join_own_in(run, after, waiting)?;
+        }
+        Ok(())
+    }
+
+    /// Those above `after` that read the family of the cell join the numbers that wait.
+    fn join_family(&self, cell: &Cell, after: u64, waiting: &mut Numbers) -> Result<(), NoMemory>
+        ensures { OnOk result (JoinedAfter waiting.old waiting.new (marked_family self.now cell.now) after) }
+    {
+        match family(cell) {
+            Some(place) => self.read.join_after(&place, after, waiting),
+            None => Ok(()),
+        }
+    }
+
+    /// The same of the cells of a run, which are of one family.
+    fn join_family_of(
+        &self,
+        cells: &ChangeRun,
+        after: u64,
+        waiting: &mut Numbers,
+    ) -> Result<(), NoMemory>
+        ensures { OnOk result (JoinedAfter waiting.old waiting.new
+            (λ n. list_any (λ x. marked_family self.now x.cell n) (changes_in cells.now.form)) after) }
+    {
+        if cells.len() == 0 {
+            return Ok(());
+        }
+        self.join_family(&cells.cell(0), after, waiting)
+    }
+
+    /// The same of the cells of one run more, behind others: nothing is asked where they are of the family of those before.
+    fn join_family_at(
+        &self,
+        runs: &[ChangeRun],
+        at: usize,
+        after: u64,
+        waiting: &mut Numbers,
+    ) -> Result<(), NoMemory>
+        requires { at < length runs.now }
+        ensures { OnOk result ((old : Numbers) →
+            JoinedAfter old waiting.old (λ n. list_any (λ x. marked_family self.now x.cell n) (all_changes (take at runs.now))) after →
+            JoinedAfter old waiting.new (λ n. list_any (λ x. marked_family self.now x.cell n) (all_changes (take (at + 1) runs.now))) after) }
+    {
+        if is_seen(runs, at) {
+            return Ok(());
+        }
+        self.join_family_of(&runs[at], after, waiting)
+    }
+
+    /// The same of the cells of runs.
+    fn join_families(
+        &self,
+        runs: &[ChangeRun],
+        after: u64,
+        waiting: &mut Numbers,
+    ) -> Result<(), NoMemory>
+        ensures { OnOk result (JoinedAfter waiting.old waiting.new
+            (λ n. list_any (λ x. marked_family self.now x.cell n) (all_changes runs.now)) after) }
+    {
+        for at in 0..runs.len() {
+            self.join_family_at(runs, at, after, waiting)?;
+        }
+        Ok(())
+    }
+
+    /// Those above `after` at the own place of the change's cell, or at that of its family, join the numbers that wait.
+    fn join_first(
+        &self,
+        first: &Option<CellChange>,
+        after: u64,
+        waiting: &mut Numbers,
+    ) -> Result<(), NoMemory>
+        ensures { OnOk result (JoinedAfter waiting.old waiting.new
+            (λ n. list_any (λ x. marked_met self.now x.cell n) (in_first first.now)) after) }
+    {
+        match first {
+            None => Ok(()),
+            Some(x) => self.join_met(x.as_cell(), after, waiting),
+        }
+    }
+
+    /// The same of a cell.
+    fn join_met(&self, cell: &Cell, after: u64, waiting: &mut Numbers) -> Result<(), NoMemory>
+        ensures { OnOk result (JoinedAfter waiting.old waiting.new (marked_met self.now cell.now) after) }
+    {
+        self.join_own(cell, after, waiting)?;
+        self.join_family(cell, after, waiting)
+    }
+
+    /// The same of the cells of runs.
+    fn join_runs(
+        &self,
+        runs: &[ChangeRun],
+        after: u64,
+        waiting: &mut Numbers,
+    ) -> Result<(), NoMemory>
+        ensures { OnOk result (JoinedAfter waiting.old waiting.new
+            (λ n. list_any (λ x. marked_met self.now x.cell n) (all_changes runs.now)) after) }
+    {
+        self.join_own_all(runs, after, waiting)?;
+        self.join_families(runs, after, waiting)
+    }
+
+    /// All numbers above `after` whose footprints need one that wrote the cells join those that wait, in one pass over the
+    /// cells. Where memory runs out, some of them may have.
+    pub fn join_blockers(
+        &self,
+        before: &Changes,
+        after: u64,
+        waiting: &mut Numbers,
+    ) -> Result<(), NoMemory>
+        ensures { OnOk result ((footprints : Footprints) → IsIndexOf self.now footprints →
+            JoinedAfter waiting.old waiting.new (λ n. blocks_undo before.now (footprints n)) after) }
+    {
+        let (first, runs) = before.parts();
+        self.join_first(&first, after, waiting)?;
+        self.join_runs(runs, after, waiting)
+    }
+
     /// All numbers above `after` whose footprints need one that wrote the cells, ascending.
     pub fn blockers(
         &self,
@@ -21,15 +219,8 @@ impl FootIndex {
         ensures { IfOk result (λ v. (footprints : Footprints) → IsIndexOf self.now footprints →
             AreAllAfter (λ n. blocks_undo before.now (footprints n)) after v.items) }
     {
-        let mut found = Vec::new(alloc);
-        let mut from = after;
-        while let Some(number) = self.first_to_block_undo(before, from) {
-            match found.push(number) {
-                Ok(()) => {}
-                Err(_) => return Err(NoMemory),
-            }
-            from = number;
-        }
-        Ok(found)
+        let mut waiting = Numbers::new(alloc);
+        self.join_blockers(before, after, &mut waiting)?;
+        waiting.above(alloc, after)
     }
 }

@@ -1,15 +1,17 @@
 //! Blocks: many points of one object at which one number stands.
 
 ghost use Rattle.std.specs.Prelude.{◌≡◌, ℕ, Bool, ◌&&◌, ◌||◌, ◌==◌, true, false, ◌++◌, [], ◌∷◌, length, ◌<◌};
-ghost use Rattle.std.specs.Prelude.{IfSome, IfNone, IsTrue, slice_index_or, if◌then◌else◌};
+ghost use Rattle.std.specs.Prelude.{IfSome, IfNone, OnOk, IsTrue, slice_index_or, if◌then◌else◌};
 ghost use Rattle.std.specs.List.{list_any};
-ghost use Rattle.wb_foot.specs.Relation.{Sets, IsLeastAfter};
+ghost use Rattle.wb_foot.specs.Relation.{Sets, IsLeastAfter, JoinedAfter};
 ghost use Rattle.wb_foot.specs.Points.{Coordinates, in_points};
 ghost use Rattle.wb_foot.specs.Blocks.{in_blocks};
 
+use crate::numbers::Numbers;
 use crate::points::Points;
 use std::alloc::Global;
 use wb_book::Point;
+use wb_range::NoMemory;
 
 // So many blocks at most stand side by side: a question goes through all of them.
 const MOST: usize = 64;
@@ -58,6 +60,33 @@ impl Block {
             return first;
         }
         Some(self.number)
+    }
+
+    /// The number, where it is above `after` and stands at the point, joins those that wait.
+    fn join(&self, point: &Point, after: u64, waiting: &mut Numbers) -> Result<(), NoMemory>
+        ensures { OnOk result (JoinedAfter waiting.old waiting.new (λ n. in_points self.now.points point.now && (self.now.number == n)) after) }
+    {
+        if self.number <= after {
+            return Ok(());
+        }
+        if !self.points.contains(point) {
+            return Ok(());
+        }
+        waiting.add(self.number)
+    }
+
+    /// The same where the number stands at one of several points.
+    fn join_in(&self, points: &Points, after: u64, waiting: &mut Numbers) -> Result<(), NoMemory>
+        ensures { OnOk result (JoinedAfter waiting.old waiting.new
+            (λ n. list_any (in_points self.now.points) points.now && (self.now.number == n)) after) }
+    {
+        if self.number <= after {
+            return Ok(());
+        }
+        if !self.points.meets(points) {
+            return Ok(());
+        }
+        waiting.add(self.number)
     }
 }
 
@@ -145,5 +174,36 @@ impl Blocks {
             first = block.or_first_in(first, points, after);
         }
         first
+    }
+
+    /// Those above `after` at a point join the numbers that wait.
+    pub fn join_after(
+        &self,
+        point: &Point,
+        after: u64,
+        waiting: &mut Numbers,
+    ) -> Result<(), NoMemory>
+        ensures { OnOk result (JoinedAfter waiting.old waiting.new (in_blocks self.now.list.items point.now) after) }
+    {
+        for block in &self.list {
+            block.join(point, after, waiting)?;
+        }
+        Ok(())
+    }
+
+    /// Those above `after` at one of several points join the numbers that wait, each block once.
+    pub fn join_in(
+        &self,
+        points: &Points,
+        after: u64,
+        waiting: &mut Numbers,
+    ) -> Result<(), NoMemory>
+        ensures { OnOk result (JoinedAfter waiting.old waiting.new
+            (λ n. list_any (λ p. in_blocks self.now.list.items p n) points.now) after) }
+    {
+        for block in &self.list {
+            block.join_in(points, after, waiting)?;
+        }
+        Ok(())
     }
 }

@@ -9,6 +9,7 @@ mod blockers;
 mod blocks;
 mod cell_lists;
 mod earlier;
+mod families;
 mod foot_index;
 mod index_marks;
 mod marking;

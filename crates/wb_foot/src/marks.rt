@@ -3,9 +3,10 @@
 ghost use Rattle.std.specs.Prelude.{◌≡◌, ℕ, false, true, IsTrue, IfNone, IfSome, OnOk, OnErr};
 ghost use Rattle.std.specs.Ordering.{eq_by_cmp};
 ghost use Rattle.std.specs.declared.cmp.Ordering.TheVariants.{Less};
-ghost use Rattle.wb_foot.specs.Relation.{Sets, IsLeastAfter};
+ghost use Rattle.wb_foot.specs.Relation.{Sets, IsLeastAfter, JoinedAfter};
 ghost use Rattle.wb_foot.specs.Marks.{marked, pair_cmp};
 
+use crate::numbers::Numbers;
 use std::alloc::Global;
 use std::collections::BTreeSet;
 use std::ops::Bound;
@@ -62,6 +63,19 @@ impl<K: Copy + Ord> Marks<K> {
             Some((found, number)) => { if *found == key { Some(*number) } else { None } }
         }
     }
+
+    /// Those above `after` at a key join the numbers that wait.
+    pub fn join_after(&self, key: K, after: u64, waiting: &mut Numbers) -> Result<(), NoMemory>
+        ensures { OnOk result (JoinedAfter waiting.old waiting.new (marked K.cmp self.now key) after) }
+    {
+        let mut from = after;
+        while let Some(number) = self.least_after(key, from) {
+            waiting.add(number)?;
+            from = number;
+        }
+        Ok(())
+    }
+
     /// The first mark behind a key and a number: marks go by their keys, and those at one key by their numbers.
     pub fn first_behind(&self, key: K, after: u64) -> Option<(K, u64)>
         ensures behind { IfSome result (λ r. pair_cmp K.cmp (key, after) r ≡ Less) }

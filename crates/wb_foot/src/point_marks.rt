@@ -1,15 +1,16 @@
 //! Which numbers stand at which points.
 
-ghost use Rattle.std.specs.Prelude.{◌≡◌, ℕ, ◌||◌, false, true, Some, None, IsTrue, OnOk, OnErr, if◌then◌else◌};
+ghost use Rattle.std.specs.Prelude.{◌≡◌, ℕ, ◌<◌, ◌≤◌, ◌||◌, false, true, Some, None, IsTrue, OnOk, OnErr, length, slice_index_or, if◌then◌else◌};
 ghost use Rattle.std.specs.List.{list_any};
 ghost use Rattle.std.specs.Ordering.{eq_by_cmp, int_cmp};
 ghost use Rattle.wb_foot.specs.Marks.{marked};
 ghost use Rattle.wb_foot.specs.Points.{Coordinates, point_cmp};
 ghost use Rattle.wb_foot.specs.PointMarks.{at_single, point_marked, single_of};
-ghost use Rattle.wb_foot.specs.Relation.{Sets, IsLeastAfter};
+ghost use Rattle.wb_foot.specs.Relation.{Sets, IsLeastAfter, JoinedAfter};
 
 use crate::earlier::earlier;
 use crate::marks::Marks;
+use crate::numbers::Numbers;
 use crate::points::Points;
 use std::alloc::Global;
 use wb_book::Point;
@@ -84,6 +85,33 @@ impl PointMarks {
             least_other(&self.others, points, after),
         )
     }
+
+    /// Those above `after` at a point join the numbers that wait.
+    pub fn join_after(
+        &self,
+        point: Point,
+        after: u64,
+        waiting: &mut Numbers,
+    ) -> Result<(), NoMemory>
+        ensures { OnOk result (JoinedAfter waiting.old waiting.new (point_marked self.now point) after) }
+    {
+        join_at_single(&self.single, &point, after, waiting)?;
+        self.others.join_after(point, after, waiting)
+    }
+
+    /// Those above `after` at one of several points join the numbers that wait: all at a point, and then those at the next
+    /// that may have any.
+    pub fn join_in(
+        &self,
+        points: &Points,
+        after: u64,
+        waiting: &mut Numbers,
+    ) -> Result<(), NoMemory>
+        ensures { OnOk result (JoinedAfter waiting.old waiting.new (λ n. list_any (λ p. point_marked self.now p n) points.now) after) }
+    {
+        join_single(&self.single, points, after, waiting)?;
+        join_others(&self.others, points, after, waiting)
+    }
 }
 
 // The coordinate of a point that has one alone.
@@ -155,4 +183,90 @@ fn number_at(mark: &(Point, u64), point: &Point) -> Option<u64>
     ensures { result ≡ (if eq_by_cmp point_cmp mark.now.0 point.now then Some mark.now.1 else None) }
 {
     if mark.0 == *point { Some(mark.1) } else { None }
+}
+
+// Those above `after` at a point of one coordinate join the numbers that wait; none at another point.
+fn join_at_single(
+    marks: &Marks<i64>,
+    point: &Point,
+    after: u64,
+    waiting: &mut Numbers,
+) -> Result<(), NoMemory>
+    ensures { OnOk result (JoinedAfter waiting.old waiting.new (at_single marks.now point.now) after) }
+{
+    match coordinate_of(point) {
+        Some(coordinate) => marks.join_after(coordinate, after, waiting),
+        None => Ok(()),
+    }
+}
+
+// The first place behind one at whose point a number above `after` may stand, of those kept by their one coordinate.
+fn next_single(marks: &Marks<i64>, points: &Points, at: usize, after: u64) -> usize
+    requires { at < length points.now }
+    ensures behind { at < result }
+    ensures within { result ≤ length points.now }
+    ensures none { (i n : ℕ) (d : Coordinates) → at < i → i < result → after < n → at_single marks.now (slice_index_or points.now i d) n ≡ false }
+{
+    let list = points.as_slice();
+    let point = list[at];
+    match coordinate_of(&point) {
+        None => at + 1,
+        Some(coordinate) => match marks.first_behind(coordinate, after) {
+            None => list.len(),
+            Some(mark) => points.place_from(at + 1, &Point::single(mark.0)),
+        },
+    }
+}
+
+// Those above `after` at one of several points join the numbers that wait, of those kept by their one coordinate.
+fn join_single(
+    marks: &Marks<i64>,
+    points: &Points,
+    after: u64,
+    waiting: &mut Numbers,
+) -> Result<(), NoMemory>
+    ensures { OnOk result (JoinedAfter waiting.old waiting.new (λ n. list_any (λ p. at_single marks.now p n) points.now) after) }
+{
+    let list = points.as_slice();
+    let mut at = 0;
+    while at < list.len() {
+        let point = list[at];
+        join_at_single(marks, &point, after, waiting)?;
+        at = next_single(marks, points, at, after);
+    }
+    Ok(())
+}
+
+// The first place behind one at whose point a number above `after` may stand, of the others.
+fn next_other(marks: &Marks<Point>, points: &Points, at: usize, after: u64) -> usize
+    requires { at < length points.now }
+    ensures behind { at < result }
+    ensures within { result ≤ length points.now }
+    ensures none { (i n : ℕ) (d : Coordinates) → at < i → i < result → after < n → marked point_cmp marks.now (slice_index_or points.now i d) n ≡ false }
+{
+    let list = points.as_slice();
+    let point = list[at];
+    match marks.first_behind(point, after) {
+        None => list.len(),
+        Some(mark) => points.place_from(at + 1, &mark.0),
+    }
+}
+
+// Those above `after` at one of several points join the numbers that wait, of the others.
+fn join_others(
+    marks: &Marks<Point>,
+    points: &Points,
+    after: u64,
+    waiting: &mut Numbers,
+) -> Result<(), NoMemory>
+    ensures { OnOk result (JoinedAfter waiting.old waiting.new (λ n. list_any (λ p. marked point_cmp marks.now p n) points.now) after) }
+{
+    let list = points.as_slice();
+    let mut at = 0;
+    while at < list.len() {
+        let point = list[at];
+        marks.join_after(point, after, waiting)?;
+        at = next_other(marks, points, at, after);
+    }
+    Ok(())
 }

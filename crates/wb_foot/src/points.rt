@@ -1,6 +1,6 @@
 //! Points in ascending order.
 
-ghost use Rattle.std.specs.Prelude.{◌≡◌, ℕ, ◌<◌, ◌≤◌, ◌++◌, [], ◌∷◌, false, IsTrue, IfSome, length, slice_index_or, if◌then◌else◌};
+ghost use Rattle.std.specs.Prelude.{◌≡◌, ℕ, ◌<◌, ◌≤◌, Bool, [], false, IsTrue, IfSome, length, slice_index_or};
 ghost use Rattle.std.specs.List.{list_any};
 ghost use Rattle.std.specs.List.Sorted.{IsStrictlySortedBy};
 ghost use Rattle.std.specs.declared.cmp.Ordering.TheVariants.{Less};
@@ -29,12 +29,14 @@ impl Model for Points {
 }
 
 impl Points {
-    /// These points, without the room that was left.
-    pub fn new(points: Vec<Point>) -> Points
-        requires { IsStrictlySortedBy point_cmp points.items }
-        ensures { result ≡ points.items }
+    /// These points in ascending order, each once, without the room that was left: a test that finds one of these finds one
+    /// of those. Where they ascend or descend already, it takes two passes.
+    pub fn sorted(points: Vec<Point>) -> Points
+        ensures { (f : Coordinates → Bool) → list_any f result ≡ list_any f points.items }
     {
         let mut points = points;
+        points.sort_unstable();
+        points.dedup();
         points.shrink_to_fit();
         Points { points }
     }
@@ -150,17 +152,6 @@ fn is_outside(points: &[Point], point: &Point) -> bool
     points[points.len() - 1].cmp(point).is_lt()
 }
 
-// Whether the point is above all of ascending ones.
-fn is_above(points: &[Point], point: &Point) -> bool
-    requires { IsStrictlySortedBy point_cmp points.now }
-    ensures { IsTrue result → IsStrictlySortedBy point_cmp (points.now ++ point.now ∷ []) }
-{
-    if points.is_empty() {
-        return true;
-    }
-    points[points.len() - 1].cmp(point).is_lt()
-}
-
 /// No points, with room for so many, if there is memory for them.
 pub(crate) fn with_room(alloc: Global, count: usize) -> Option<Vec<Point>>
     ensures { IfSome result (λ points. points.items ≡ []) }
@@ -168,20 +159,5 @@ pub(crate) fn with_room(alloc: Global, count: usize) -> Option<Vec<Point>>
     match Vec::with_capacity(alloc, count) {
         Ok(points) => Some(points),
         Err(_) => None,
-    }
-}
-
-/// Adds a point above ascending ones, and says whether it did: not where it isn't above them or no memory is left.
-pub(crate) fn push_above(points: &mut Vec<Point>, point: Point) -> bool
-    requires { IsStrictlySortedBy point_cmp points.old.items }
-    ensures ascending { IsStrictlySortedBy point_cmp points.new.items }
-    ensures items { points.new.items ≡ (if result then points.old.items ++ point ∷ [] else points.old.items) }
-{
-    if !is_above(points.as_slice(), &point) {
-        return false;
-    }
-    match points.push(point) {
-        Ok(()) => true,
-        Err(_) => false,
     }
 }

@@ -1,7 +1,8 @@
-//! Runs: the elements, members or indices inside of one object, at ascending points.
+//! Runs: the elements, members or indices inside of one object, by their points in ascending order.
 
-ghost use Rattle.std.specs.Prelude.{◌≡◌, ◌<◌, ◌≤◌, IfSome, Some, length, map};
-ghost use Rattle.std.specs.List.{slice_get};
+ghost use Rattle.std.specs.Prelude.{◌≡◌, ◌<◌, ◌≤◌, Bool, IfSome, Some, length, map};
+ghost use Rattle.std.specs.List.{slice_get, list_any};
+ghost use Rattle.wb_book.specs.declared.values.index.Index.{Index};
 ghost use Rattle.wb_book.specs.declared.values.index.Index.TheVariants.{Point as at_point};
 ghost use Rattle.wb_book.specs.Runs.{cell_of, changes_in, packed_changes, inside_changes};
 ghost use Rattle.wb_book.specs.Shapes.{indices};
@@ -9,13 +10,13 @@ ghost use Rattle.wb_foot.specs.declared.marking.Marking.{Marking};
 ghost use Rattle.wb_foot.specs.declared.place.Place.{Place};
 ghost use Rattle.wb_foot.specs.Points.{Coordinates};
 ghost use Rattle.wb_foot.specs.Places.{cell_at, family};
-ghost use Rattle.wb_foot.specs.Rows.{AreOfRow};
-ghost use Rattle.wb_foot.specs.Footprints.{family_by, marked_at, run_marked, cells_of, run_cells};
+ghost use Rattle.wb_foot.specs.Rows.{AreOfRow, AreAt};
+ghost use Rattle.wb_foot.specs.Footprints.{family_by, marked_at, run_marked};
 
 use crate::marking::Marking;
 use crate::part::{Kind, Part, Slot};
 use crate::place::Place;
-use crate::points::{Points, push_above, with_room};
+use crate::points::{Points, with_room};
 use std::alloc::Global;
 use wb_book::{
     AnyRect, ChangeRun, Form, Index, Name, Packed, Point, RectangleChanges, Row as ChangeRow,
@@ -90,7 +91,7 @@ impl Row {
     }
 }
 
-/// Cells of one row at ascending points.
+/// Cells of one row, by their points in ascending order.
 #[derive(Drop)]
 pub struct Run {
     pub(crate) row: Row,
@@ -98,10 +99,10 @@ pub struct Run {
 }
 
 impl Run {
-    /// The run that cells are, if all are of one row and ascend, and there is memory.
+    /// The run that cells are, in whichever order, if all are of one row, and there is memory.
     pub(crate) fn of_cells(alloc: Global, cells: &ChangeRun) -> Option<Run>
         ensures some { IfSome result (λ run. 0 < length run.points) }
-        ensures cells { IfSome result (λ run. cells_of (changes_in cells.now.form) ≡ run_cells run.row.kind run.row.name run.points) }
+        ensures cells { IfSome result (λ run. AreAt run.row.kind run.row.name run.points (changes_in cells.now.form)) }
         ensures marked { IfSome result (λ run. (m : Marking) (q : Place) →
             marked_at m (changes_in cells.now.form) q ≡ run_marked m run.row.kind run.row.name run.points q) }
     {
@@ -114,7 +115,7 @@ impl Run {
 
     // The same, though of no cells too.
     fn of_form(alloc: Global, form: &Form) -> Option<Run>
-        ensures { IfSome result (λ run. cells_of (changes_in form.now) ≡ run_cells run.row.kind run.row.name run.points) }
+        ensures { IfSome result (λ run. AreAt run.row.kind run.row.name run.points (changes_in form.now)) }
     {
         match form {
             Form::One(_) => None,
@@ -126,10 +127,10 @@ impl Run {
     }
 }
 
-// The run that packed cells are, if they ascend and there is memory.
+// The run that packed cells are, if there is memory.
 fn packed_run<const R: usize>(alloc: Global, packed: &Packed<R>) -> Option<Run>
     requires { R ≤ 3 }
-    ensures { IfSome result (λ run. cells_of (packed_changes packed.now.row packed.now.changes.items) ≡ run_cells run.row.kind run.row.name run.points) }
+    ensures { IfSome result (λ run. AreAt run.row.kind run.row.name run.points (packed_changes packed.now.row packed.now.changes.items)) }
 {
     let points = packed_points(alloc, packed.changes())?;
     Some(Run {
@@ -138,22 +139,23 @@ fn packed_run<const R: usize>(alloc: Global, packed: &Packed<R>) -> Option<Run>
     })
 }
 
-// The points of packed changes, if they ascend and there is memory.
+// The points of packed changes, if there is memory.
 fn packed_points<const R: usize>(
     alloc: Global,
     changes: &[([i64; R], Option<i64>)],
 ) -> Option<Points>
     requires { R ≤ 3 }
-    ensures { IfSome result (λ ps. ps ≡ map (λ e. e.0) changes.now) }
+    ensures { IfSome result (λ ps. (f : Coordinates → Bool) → list_any f ps ≡ list_any f (map (λ e. e.0) changes.now)) }
 {
     let mut points = with_room(alloc, changes.len())?;
     for change in changes {
         let point = point_of(&change.0)?;
-        if !push_above(&mut points, point) {
-            return None;
+        match points.push(point) {
+            Ok(()) => {}
+            Err(_) => return None,
         }
     }
-    Some(Points::new(points))
+    Some(Points::sorted(points))
 }
 
 // The point with these coordinates, of which there are 1 to 3.
@@ -168,10 +170,10 @@ fn point_of(coordinates: &[i64]) -> Option<Point>
     }
 }
 
-// The run that the indices of a rectangle are, if they ascend and there is memory.
+// The run that the indices of a rectangle are, if there is memory.
 fn rectangle_run(alloc: Global, rectangle: &RectangleChanges) -> Option<Run>
-    ensures { IfSome result (λ run. cells_of (inside_changes rectangle.now.domain rectangle.now.ranges rectangle.now.comes)
-        ≡ run_cells run.row.kind run.row.name run.points) }
+    ensures { IfSome result (λ run. AreAt run.row.kind run.row.name run.points
+        (inside_changes rectangle.now.domain rectangle.now.ranges rectangle.now.comes)) }
 {
     let points = rectangle_points(alloc, rectangle.ranges())?;
     Some(Run {
@@ -183,18 +185,19 @@ fn rectangle_run(alloc: Global, rectangle: &RectangleChanges) -> Option<Run>
     })
 }
 
-// The points of a rectangle, if they ascend and there is memory.
+// The points of a rectangle, if there is memory.
 fn rectangle_points(alloc: Global, ranges: &AnyRect) -> Option<Points>
-    ensures { IfSome result (λ ps. map at_point ps ≡ indices ranges.now) }
+    ensures { IfSome result (λ ps. (f : Index → Bool) → list_any (λ p. f (at_point p)) ps ≡ list_any f (indices ranges.now)) }
 {
     let mut points = with_room(alloc, ranges.size())?;
     for at in 0..ranges.size() {
         let point = point_in(ranges, at)?;
-        if !push_above(&mut points, point) {
-            return None;
+        match points.push(point) {
+            Ok(()) => {}
+            Err(_) => return None,
         }
     }
-    Some(Points::new(points))
+    Some(Points::sorted(points))
 }
 
 // The point at a place of a rectangle.

@@ -3,7 +3,7 @@
 ghost use Rattle.std.specs.Prelude.{◌≡◌, ℕ, false, true, OnOk, OnErr};
 ghost use Rattle.std.specs.Ordering.{eq_by_cmp};
 ghost use Rattle.wb_foot.specs.declared.part.Slot as slot;
-ghost use Rattle.wb_foot.specs.Relation.{Sets, IsLeastAfter};
+ghost use Rattle.wb_foot.specs.Relation.{Sets, IsLeastAfter, JoinedAfter};
 ghost use Rattle.wb_foot.specs.Slots.{slot_cmp, slot_marked};
 
 use crate::numbers::Numbers;
@@ -82,6 +82,21 @@ impl SlotMarks {
             Slot::Members => self.members.least_after(after),
             Slot::Uses => self.uses.least_after(after),
             Slot::Elements => self.elements.least_after(after),
+        }
+    }
+
+    /// Those above `after` at a slot join the numbers that wait.
+    pub fn join_after(&self, slot: Slot, after: u64, waiting: &mut Numbers) -> Result<(), NoMemory>
+        ensures { OnOk result (JoinedAfter waiting.old waiting.new (slot_marked self.now slot) after) }
+    {
+        match slot {
+            Slot::Object => self.object.join_after(after, waiting),
+            Slot::Shape => self.shape.join_after(after, waiting),
+            Slot::Mapping => self.mapping.join_after(after, waiting),
+            Slot::Implicit => self.implicit.join_after(after, waiting),
+            Slot::Members => self.members.join_after(after, waiting),
+            Slot::Uses => self.uses.join_after(after, waiting),
+            Slot::Elements => self.elements.join_after(after, waiting),
         }
     }
 }

@@ -2,7 +2,6 @@
 use Rattle.std.proofs.Common.{if◌then◌else◌, ◌≡◌, ℕ, ◌<◌, ◌≤◌, ◌==◌, Bool, true, false, true≢false, List, [], ◌∷◌, Some, None, length, Result, Ok, Err, OnOk}
 use Rattle.std.proofs.Common.{arith, refl, sym, ap, ◌∙◌, subst, ◌⊎◌, inl, inr}
 use Rattle.std.proofs.lemmas.Bool.{cases_eq}
-use Rattle.std.proofs.lemmas.Bool.Decides.{nat_tests}
 use Rattle.selective_undo.specs.History.{Has, Falls}
 use Rattle.selective_undo.specs.Log.{Footprint, blocks_undo}
 use Rattle.selective_undo.proofs.Log.{cases_lt}
@@ -12,70 +11,12 @@ use Rattle.wb_foot.specs.declared.numbers.Numbers.{Numbers}
 use Rattle.wb_foot.specs.declared.foot_index.FootIndex.{FootIndex}
 use Rattle.wb_foot.specs.Footprints.{Footprints, IsIndexOf}
 use Rattle.wb_foot.specs.Numbers.{numbered}
-use Rattle.wb_foot.specs.Relation.{IsLeast, IsLeastAfter}
+use Rattle.wb_foot.specs.Relation.{IsLeast, JoinedAfter}
+use Rattle.wb_foot.proofs.Added.{at_self, at_other, added_here, added_from}
 use Rattle.wb_log.specs.declared.entry.Entry as kept
 use Rattle.wb_log.specs.Kept.{by_number}
 use Rattle.wb_log.proofs.Entered.{none_past}
-use Rattle.wb_log.specs.Needed.{NeedsKept, FromFootprints, itself, through, AreFromFootprints, Joined, JoinedAfter}
-
--- ---- one number after another comes in
-
-at_self : (a : ℕ) → (a == a) ≡ true
-at_self a = grind (arith, nat_tests)
-
-at_other : (a b : ℕ) → (a ≡ b → ⊥) → (a == b) ≡ false
-at_other a b apart = grind (arith, nat_tests)
-
--- what a set has once a number came in
-module _ (old new : Numbers) (j : ℕ) (is : (n : ℕ) → numbered new n ≡ (if j == n then true else numbered old n)) where
-  pub added_here : numbered new j ≡ true
-  added_here = is j ∙ ap (λ b. if b then true else numbered old j) (at_self j)
-
-  pub added_stays : (n : ℕ) → numbered old n ≡ true → numbered new n ≡ true
-  added_stays n had = is n ∙ elim (j == n) as (λ b. (if b then true else numbered old n) ≡ true) [ true ↦ refl | false ↦ had ]
-
-  pub added_from : (n : ℕ) → numbered new n ≡ true → (numbered old n ≡ true) ⊎ (j ≡ n)
-  added_from n has = elim (cases_eq j n) [
-    | inl same ↦ inr same
-    | inr apart ↦ inl (sym (is n ∙ ap (λ b. if b then true else numbered old n) (at_other j n apart)) ∙ has)
-  ]
-
--- the numbers up to `last` that pass have come in
-pub record JoinedUpTo (old new : Numbers) (p : ℕ → Bool) (after last : ℕ) : Type 0 where
-  pub order : after ≤ last
-  pub from : (n : ℕ) → numbered new n ≡ true → (numbered old n ≡ true) ⊎ ((after < n) × (p n ≡ true))
-  pub stay : (n : ℕ) → numbered old n ≡ true → numbered new n ≡ true
-  pub all : (n : ℕ) → after < n → n ≤ last → p n ≡ true → numbered new n ≡ true
-
-pub none_joined : (old : Numbers) (p : ℕ → Bool) (after : ℕ) → JoinedUpTo old old p after after
-none_joined old p after = record { order = omega arith; from = λ n has. inl has; stay = λ n has. has; all = λ n low up is. absurd (omega (arith, low, up)) }
-
-pub one_joined : (old now new : Numbers) (p : ℕ → Bool) (after last j : ℕ) → JoinedUpTo old now p after last → IsLeastAfter p last (Some j) →
-    ((n : ℕ) → numbered new n ≡ (if j == n then true else numbered now n)) → JoinedUpTo old new p after j
-one_joined old now new p after last j h (up, passes, least) is =
-    record {
-      order = omega (arith, up, h.order);
-      from = λ n has. elim (added_from now new j is n has) [
-        | inl had ↦ h.from n had
-        | inr same ↦ inr (subst (λ (m : ℕ). (after < m) × (p m ≡ true)) same (omega (arith, up, h.order), passes))
-      ];
-      stay = λ n had. added_stays now new j is n (h.stay n had);
-      all = λ n low high met. elim (cases_lt last n) [
-        | inr old_one ↦ added_stays now new j is n (h.all n low old_one met)
-        | inl later ↦ elim (cases_lt n j) [
-          | inl below ↦ absurd (true≢false (sym met ∙ least n later below))
-          | inr above ↦ let same : j ≡ n = omega (arith, above, high) in subst (λ (m : ℕ). numbered new m ≡ true) same (added_here now new j is)
-        ]
-      ];
-    }
-
-pub all_joined : (old now : Numbers) (p : ℕ → Bool) (after last : ℕ) → JoinedUpTo old now p after last → IsLeastAfter p last None → JoinedAfter old now p after
-all_joined old now p after last h none =
-    record {
-      from = h.from;
-      stay = h.stay;
-      all = λ n low met. elim (cases_lt last n) [ inr up ↦ h.all n low up met | inl later ↦ absurd (true≢false (sym met ∙ none n later)) ];
-    }
+use Rattle.wb_log.specs.Needed.{NeedsKept, FromFootprints, itself, through, AreFromFootprints, Joined}
 
 -- ---- those that need one number
 

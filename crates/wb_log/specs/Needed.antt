@@ -1,5 +1,5 @@
 -- Dependents by what is kept of the edits, by their numbers.
-use Rattle.std.specs.Prelude.{◌≡◌, ℕ, ◌<◌, Bool, true, List, Some, ◌⊎◌, ◌↔◌}
+use Rattle.std.specs.Prelude.{◌≡◌, ℕ, ◌<◌, true, List, Some, ◌⊎◌, ◌↔◌}
 use Rattle.selective_undo.specs.History.{Has, Falls}
 use Rattle.selective_undo.specs.Log.{Footprint, blocks_undo}
 use Rattle.wb_edit.specs.Schema.{workbook}
@@ -28,9 +28,3 @@ pub record Joined (old new : Numbers) (footprints : Footprints) (m : ℕ) : Type
   pub from : (n : ℕ) → numbered new n ≡ true → (numbered old n ≡ true) ⊎ NeedsKept footprints n m
   pub stay : (n : ℕ) → numbered old n ≡ true → numbered new n ≡ true
   pub all : (n : ℕ) → NeedsKept footprints n m → numbered new n ≡ true
-
--- Those came in that are later than a number and pass, and no others.
-pub record JoinedAfter (old new : Numbers) (p : ℕ → Bool) (after : ℕ) : Type 0 where
-  pub from : (n : ℕ) → numbered new n ≡ true → (numbered old n ≡ true) ⊎ ((after < n) × (p n ≡ true))
-  pub stay : (n : ℕ) → numbered old n ≡ true → numbered new n ≡ true
-  pub all : (n : ℕ) → after < n → p n ≡ true → numbered new n ≡ true

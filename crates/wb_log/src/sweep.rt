@@ -1,34 +1,15 @@
-//! Which edits have to be undone with one, found by one sweep over the index: from each that is found to those that need it.
+//! Which edits have to be undone with one, found by one sweep over the index: from each that is found to those that need it,
+//! all of them by one pass over its cells.
 
-ghost use Rattle.std.specs.Prelude.{◌≡◌, ℕ, ◌<◌, ◌≤◌, ◌^◌, length, OnOk, IfOk};
-ghost use Rattle.selective_undo.specs.Log.{blocks_undo};
-ghost use Rattle.wb_foot.specs.Footprints.{Footprints, IsIndexOf};
+ghost use Rattle.std.specs.Prelude.{◌<◌, ◌≤◌, ◌^◌, length, OnOk, IfOk};
+ghost use Rattle.wb_foot.specs.Footprints.{IsIndexOf};
 ghost use Rattle.wb_log.specs.Kept.{by_number};
-ghost use Rattle.wb_log.specs.Needed.{AreFromFootprints, Joined, JoinedAfter};
+ghost use Rattle.wb_log.specs.Needed.{AreFromFootprints, Joined};
 
 use crate::entry::Record;
 use std::alloc::Global;
-use wb_book::Changes;
 use wb_foot::{FootIndex, Numbers};
 use wb_range::NoMemory;
-
-/// The later edits wait that need one that wrote the cells.
-fn wait_for_blockers(
-    index: &FootIndex,
-    before: &Changes,
-    after: u64,
-    waiting: &mut Numbers,
-) -> Result<(), NoMemory>
-    ensures { OnOk result ((footprints : Footprints) → IsIndexOf index.now footprints →
-        JoinedAfter waiting.old waiting.new (λ n. blocks_undo before.now (footprints n)) after) }
-{
-    let mut from = after;
-    while let Some(number) = index.first_to_block_undo(before, from) {
-        waiting.add(number)?;
-        from = number;
-    }
-    Ok(())
-}
 
 /// The edits wait that need the one of a number.
 fn wait_for_those(
@@ -44,7 +25,7 @@ fn wait_for_those(
 {
     match entries[(number - 1) as usize].kept() {
         None => Ok(()),
-        Some(kept) => wait_for_blockers(index, kept.before(), number, waiting),
+        Some(kept) => index.join_blockers(kept.before(), number, waiting),
     }
 }
 

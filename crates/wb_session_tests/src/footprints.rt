@@ -1,5 +1,6 @@
 //! The index of footprints, where an element is set and a copy of it goes to another, where many elements are copied at once,
-//! where indices of two ranks stand in arrays of one name, and where a whole rectangle comes to a domain.
+//! where indices of two ranks stand in arrays of one name, where elements are cleared downward, and where a whole rectangle comes
+//! to a domain.
 
 use std::alloc::Global;
 use std::process::Abort;
@@ -9,7 +10,7 @@ use wb_book::{
     RectangleChanges,
 };
 use wb_edit::ReadRun;
-use wb_foot::FootIndex;
+use wb_foot::{FootIndex, Numbers};
 use wb_range::{NoMemory, Range};
 
 fn element(array: Name, i: i64) -> Cell {
@@ -127,6 +128,7 @@ fn footprint_index_of_blocks(rt: HostRuntime) -> Result<(), Fail> {
     assert!(rt; index.blockers(rt.alloc(), &inside, 6)?.as_slice() == [7].as_slice());
     assert!(rt; index.blockers(rt.alloc(), &beside, 6)?.is_empty());
     add(&rt, &mut index, 8, &[], &[], &last)?;
+    assert!(rt; index.blockers(rt.alloc(), &before, 6)?.as_slice() == [7, 8].as_slice());
     assert!(rt; index.first_to_block_undo(&before, 6) == Some(7));
     assert!(rt; index.first_to_block_undo(&before, 7) == Some(8));
     assert!(rt; index.first_to_block_undo(&before, 8).is_none());
@@ -153,6 +155,39 @@ fn footprint_index_of_two_ranks(rt: HostRuntime) -> Result<(), Fail> {
     index.take(3, &[], &[], &single);
     assert!(rt; index.first_to_block_undo(&single, 2).is_none());
     assert!(rt; index.first_to_block_undo(&paired, 2) == Some(4));
+    Ok(())
+}
+
+// Changes that clear the elements 100 to 1 of an array, downward.
+fn changes_downward(alloc: Global, array: Name) -> Result<Changes, NoMemory> {
+    let mut changes = Changes::one(cleared(Cell::Object(array)));
+    for i in 0..100 {
+        changes.push(alloc, cleared(element(array, 100 - i)))?;
+    }
+    Ok(changes)
+}
+
+#[test]
+fn footprint_index_of_a_descending_run(rt: HostRuntime) -> Result<(), Fail> {
+    let array = Name::new("A")?;
+    let downward = changes_downward(rt.alloc(), array)?;
+    let first = Changes::one(cleared(element(array, 100)));
+    let last = Changes::one(cleared(element(array, 1)));
+    let beside = Changes::one(cleared(element(array, 101)));
+    let elements = [Pattern::Elements(array)];
+    let mut index = FootIndex::new(rt.alloc());
+    add(&rt, &mut index, 3, &[], &[], &downward)?;
+    add(&rt, &mut index, 4, &[], &[], &first)?;
+    add(&rt, &mut index, 5, &elements, &[], &beside)?;
+    add(&rt, &mut index, 6, &[], &[], &last)?;
+    let mut waiting = Numbers::new(rt.alloc());
+    waiting.add(4)?;
+    index.join_blockers(&downward, 3, &mut waiting)?;
+    assert!(rt; waiting.above(rt.alloc(), 0)?.as_slice() == [4, 5, 6].as_slice());
+    assert!(rt; index.first_to_block_undo(&last, 2) == Some(3));
+    assert!(rt; index.first_to_block_undo(&beside, 2) == Some(5));
+    index.take(3, &[], &[], &downward);
+    assert!(rt; index.first_to_block_undo(&last, 2) == Some(5));
     Ok(())
 }
 

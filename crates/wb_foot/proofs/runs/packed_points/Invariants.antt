@@ -1,10 +1,5 @@
 use Rattle.std.proofs.Common.{◌≡◌, map, take}
-use Rattle.std.specs.List.Sorted.{IsStrictlySortedBy}
-use Rattle.wb_foot.specs.Points.{point_cmp}
 use Rattle.wb_foot.proofs.runs.packed_points.Given as goal
 
 abbrev pub invariant-loop-change : goal.invariant-loop-change
-invariant-loop-change g l = record {
-  ascending : IsStrictlySortedBy point_cmp l.points.items;
-  items : l.points.items ≡ map (λ e. e.0) (take l.change-index l.changes);
-}
+invariant-loop-change g l = l.points.items ≡ map (λ e. e.0) (take l.change-index l.changes)

@@ -28,5 +28,5 @@ returns-in-Some c =
     let f = lent_footprint c.in-Some.kept in
     let there = subst (λ (m : ℕ). by_number es m ≡ Some f) here (kept_here es (n - 1) x is ∙ sym c.kept.ensures ∙ ap (option_map lent_footprint) c.in-Some.is)
     in
-    on_ok_needing c.wait_for_blockers.result c.args.index.now c.args.waiting.now c.wait_for_blockers.new.waiting (by_number es) n f c.before-in-Some.result.now
-    there c.before-in-Some.ensures.same c.requires.indexed c.wait_for_blockers.ensures
+    on_ok_needing c.join_blockers.result c.args.index.now c.args.waiting.now c.join_blockers.new.waiting (by_number es) n f c.before-in-Some.result.now
+    there c.before-in-Some.ensures.same c.requires.indexed c.join_blockers.ensures

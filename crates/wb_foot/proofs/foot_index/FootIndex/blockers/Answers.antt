@@ -1,14 +1,18 @@
+use Rattle.std.proofs.lemmas.Result.{IfOk-weaker}
+use Rattle.wb_foot.specs.Footprints.{Footprints, IsIndexOf}
+use Rattle.wb_foot.specs.Numbers.{numbered}
+use Rattle.wb_foot.specs.Relation.{AreAllAfter}
 use Rattle.selective_undo.specs.Log.{blocks_undo}
-use Rattle.wb_foot.proofs.AllFirsts.{one_more, all_found}
+use Rattle.wb_foot.proofs.Joining.{only_joined, all_above_like}
 use Rattle.wb_foot.proofs.foot_index.FootIndex.blockers.Goals as goal
 
-pub loop-number-preserved : goal.loop-number-preserved
-loop-number-preserved c = λ footprints h.
-    let found = c.in-Some.ensures.least footprints h in
-    rw c.in-Ok.ensures.items (one_more (λ n. blocks_undo c.args.before.now (footprints n)) c.loop-number.found.items c.args.after c.loop-number.from
-    c.in-Some.number (c.loop-number.invariant footprints h) found)
-
 pub returns : goal.returns
-returns c = λ footprints h.
-    all_found (λ n. blocks_undo c.args.before.now (footprints n)) c.loop-number.found.items c.args.after c.loop-number.from
-    (c.loop-number.invariant footprints h) (c.in_default.ensures.least footprints h)
+returns c =
+    let new = c.join_blockers.new.waiting in
+    let xs = c.args.before.now in
+    IfOk-weaker c.above.result (λ v. AreAllAfter (numbered new) c.args.after v.items)
+    (λ v. (footprints : Footprints) → IsIndexOf c.args.self.now footprints → AreAllAfter (λ n. blocks_undo xs (footprints n)) c.args.after v.items)
+    (λ v all. λ footprints h. all_above_like (numbered new) (λ n. blocks_undo xs (footprints n)) c.args.after v.items
+    (only_joined c.new-waiting.result new (λ n. blocks_undo xs (footprints n)) c.args.after c.new-waiting.ensures
+    (c.in_ok-join_blockers.ensures footprints h)) all)
+    c.above.ensures

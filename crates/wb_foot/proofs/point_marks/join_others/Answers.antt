@@ -1,0 +1,28 @@
+use Rattle.std.proofs.Common.{ℕ, Bool, ◌≤◌, false, length, refl, arith}
+use Rattle.wb_foot.specs.Marks.{marked}
+use Rattle.wb_foot.specs.Points.{Coordinates, point_cmp}
+use Rattle.wb_foot.proofs.Joining.{none_joined, walked, all_joined}
+use Rattle.wb_foot.proofs.point_marks.join_others.Goals as goal
+
+pub loop-at-init : goal.loop-at-init
+loop-at-init c = record { within = omega arith; joined = none_joined c.args.waiting.now (λ n. false) c.args.after (λ n up. refl) }
+
+pub loop-at-preserved : goal.loop-at-preserved
+loop-at-preserved c =
+    let f : Coordinates → ℕ → Bool = λ q n. marked point_cmp c.args.marks.now q n in
+    let is = rw c.as_slice-list.ensures.value at c.index-list-at.is in
+    let below = rw c.as_slice-list.ensures.value at c.loop-at-test.true in
+    record {
+      within = c.next_other-at.ensures.within;
+      joined = walked f c.args.after c.args.waiting.now c.loop-at.waiting c.join_after.new.waiting c.args.points.now c.loop-at.at c.next_other-at.result
+          c.index-list-at.result below is c.next_other-at.ensures.behind c.next_other-at.ensures.within c.next_other-at.ensures.none
+          c.loop-at.invariant.joined c.in_ok-join_after.ensures;
+    }
+
+pub returns : goal.returns
+returns c =
+    let f : Coordinates → ℕ → Bool = λ q n. marked point_cmp c.args.marks.now q n in
+    let ps = c.args.points.now in
+    let test = rw c.as_slice-list.ensures.value at c.loop-at-test.false in
+    let high : length ps ≤ c.loop-at.at = omega (arith, test) in
+    all_joined f c.args.after c.args.waiting.now c.loop-at.waiting ps c.loop-at.at high c.loop-at.invariant.joined
