@@ -1,5 +1,5 @@
 -- The cells of a run are of one family.
-use Rattle.std.proofs.Common.{◌≡◌, ℕ, ℤ, ◌+◌, ◌<◌, Bool, ◌||◌, true, false, List, [], ◌∷◌, Option, None, map, length, take, get_or, refl, sym, ap}
+use Rattle.std.proofs.Common.{◌≡◌, ℕ, ℤ, ◌+◌, ◌<◌, Bool, ◌||◌, true, false, List, [], ◌∷◌, Option, map, length, take, get_or, refl, sym, ap}
 use Rattle.std.proofs.Common.{subst, ◌∙◌, arith}
 use Rattle.std.specs.Cmp.Lexicographic.{slice_cmp}
 use Rattle.std.specs.List.{list_any}
@@ -12,11 +12,10 @@ use Rattle.wb_book.specs.declared.changes.row.Row.{Row}
 use Rattle.wb_book.specs.declared.changes.row.Row.TheVariants.{Inside, Members, Elements}
 use Rattle.wb_book.specs.declared.changes.run.ChangeRun.{ChangeRun}
 use Rattle.wb_book.specs.declared.changes.run.Form.{Form}
-use Rattle.wb_book.specs.declared.changes.run.Form.TheVariants.{One, Line, Plane, Solid, Rectangle}
+use Rattle.wb_book.specs.declared.changes.run.Form.TheVariants.{One, Line, Plane, Solid, Rectangle, Numbers}
 use Rattle.wb_book.specs.declared.values.index.Index.TheVariants.{Point}
 use Rattle.wb_book.specs.Cells.{Name, same_names}
-use Rattle.wb_book.specs.Runs.{cell_of, change_at, packed_changes, inside_change, changes_in, all_changes}
-use Rattle.wb_book.specs.Shapes.{indices}
+use Rattle.wb_book.specs.Runs.{cell_of, change_at, packed_changes, rectangle_entries, numbered_entries, changes_in, all_changes}
 use Rattle.wb_foot.specs.declared.foot_index.FootIndex.{FootIndex}
 use Rattle.wb_foot.specs.declared.place.Place.{Place}
 use Rattle.wb_foot.specs.Places.{family, place_marked}
@@ -53,7 +52,8 @@ module _ (g : Option Place → Bool) where
   one_family (Line p) d c some first = in_row p.row p.changes.items d c some first
   one_family (Plane p) d c some first = in_row p.row p.changes.items d c some first
   one_family (Solid p) d c some first = in_row p.row p.changes.items d c some first
-  one_family (Rectangle r) d c some first = made_alike (inside_change r.domain r.comes) (g None) (λ i. refl) (indices r.ranges) d c some first
+  one_family (Rectangle r) d c some first = in_row r.row (rectangle_entries r.ranges r.number) d c some first
+  one_family (Numbers r) d c some first = in_row r.row (numbered_entries r.ranges r.numbers.items) d c some first
 
 pub of_one_family : (m : FootIndex) (n : ℕ) (form : Form) (d : Change Cell Value) (c : Cell) → 0 < length (changes_in form) →
     c ≡ (get_or (changes_in form) 0 d).cell → list_any (λ x. marked_family m x.cell n) (changes_in form) ≡ marked_family m c n

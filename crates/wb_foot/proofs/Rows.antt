@@ -9,9 +9,12 @@ use Rattle.selective_undo.specs.declared.Change.{Change}
 use Rattle.wb_book.specs.declared.cells.cell.Cell.{Cell}
 use Rattle.wb_book.specs.declared.cells.value.Value.{Value}
 use Rattle.wb_book.specs.declared.changes.row.Row.{Row}
+use Rattle.wb_book.specs.declared.values.index.Index.{Index}
 use Rattle.wb_book.specs.declared.values.index.Index.TheVariants.{Point}
 use Rattle.wb_book.specs.Cells.{Name, Changes}
-use Rattle.wb_book.specs.Runs.{cell_of, packed_changes, inside_change, inside_changes, in_first}
+use Rattle.wb_book.specs.Runs.{cell_of, packed_changes, in_first}
+use Rattle.wb_book.specs.Shapes.{indices}
+use Rattle.wb_rect.specs.Product.{product}
 use Rattle.wb_foot.specs.declared.marking.Marking.{Marking}
 use Rattle.wb_foot.specs.declared.part.Kind.{Kind}
 use Rattle.wb_foot.specs.declared.part.Kind.TheVariants as k
@@ -20,7 +23,8 @@ use Rattle.wb_foot.specs.Relation.{Clears}
 use Rattle.wb_foot.specs.Points.{Coordinates}
 use Rattle.wb_foot.specs.Places.{family, cell_at}
 use Rattle.wb_foot.specs.Footprints.{at_cell, marked_at, cells_of, run_cells}
-use Rattle.wb_foot.specs.Rows.{AreOfRow}
+use Rattle.wb_foot.specs.Rows.{AreOfRow, AreAt}
+use Rattle.wb_foot.proofs.Meeting.{any_map}
 use Rattle.wb_foot.proofs.Setting.{either, then_clears, clears_like, clears_none}
 use Rattle.wb_foot.proofs.ReadPlaces.{or_false}
 use Rattle.wb_foot.proofs.RunPlaces.{any_cell}
@@ -33,12 +37,28 @@ packed_cells row kind name h [] = refl
 packed_cells row kind name h (e ∷ es) =
     ap (λ c. c ∷ cells_of (packed_changes row es)) (sym (h e.0)) ∙ ap (λ cs. cell_at kind name e.0 ∷ cs) (packed_cells row kind name h es)
 
-pub inside_cells : (d : Name) (comes : Bool) (ps : List Coordinates) → cells_of (map (inside_change d comes) (map Point ps)) ≡ run_cells k.Inside d ps
-inside_cells d comes [] = refl
-inside_cells d comes (p ∷ ps) = ap (λ cs. cell_at k.Inside d p ∷ cs) (inside_cells d comes ps)
+any_alike : {X : Type 0} (f g : X → Bool) → ((x : X) → f x ≡ g x) → (xs : List X) → list_any f xs ≡ list_any g xs
+any_alike f g h [] = refl
+any_alike f g h (x ∷ xs) = ap (λ b. b || list_any f xs) (h x) ∙ ap (λ b. g x || b) (any_alike f g h xs)
 
-pub inside_row : (d : Name) (rs : List (List ℤ)) (comes : Bool) → AreOfRow k.Inside d (inside_changes d rs comes)
-inside_row d rs comes = (_, inside_cells d comes _)
+-- where changes are at the indices of a rectangle, and points are those, the cells are at the points
+pub cells_at : (row : Row) (kind : Kind) (name : Name) → ((p : Coordinates) → cell_at kind name p ≡ cell_of row (Point p)) →
+    (es : List (List ℤ × Option ℤ)) (rs : List (List ℤ)) (ps : List Coordinates) → map (λ e. e.0) es ≡ product rs →
+    ((f : Index → Bool) → list_any (λ p. f (Point p)) ps ≡ list_any f (indices rs)) → AreAt kind name ps (packed_changes row es)
+cells_at row kind name h es rs ps firsts points = λ f.
+    let at = cell_at kind name in
+    let own : Index → Bool = λ i. f (cell_of row i) in
+    ap (list_any f) (packed_cells row kind name h es ∙ ap (run_cells kind name) firsts)
+    ∙ any_map f at (product rs)
+    ∙ any_alike (λ p. f (at p)) (λ p. own (Point p)) (λ p. ap f (h p)) (product rs)
+    ∙ sym (any_map own Point (product rs))
+    ∙ sym (points own)
+    ∙ any_alike (λ p. own (Point p)) (λ p. f (at p)) (λ p. ap f (sym (h p))) ps
+    ∙ sym (any_map f at ps)
+
+pub firsts_of_rectangle : (n : Option ℤ) (ps : List Coordinates) → map (λ (e : List ℤ × Option ℤ). e.0) (map (λ p. (p, n)) ps) ≡ ps
+firsts_of_rectangle n [] = refl
+firsts_of_rectangle n (p ∷ ps) = ap (λ qs. p ∷ qs) (firsts_of_rectangle n ps)
 
 map_behind : {X Y : Type 0} (f : X → Y) (xs ys : List X) → map f (xs ++ ys) ≡ map f xs ++ map f ys
 map_behind f [] ys = refl

@@ -1,10 +1,10 @@
 //! Runs: the elements, members or indices inside of one object, by their points in ascending order.
 
-ghost use Rattle.std.specs.Prelude.{◌≡◌, ◌<◌, ◌≤◌, Bool, IfSome, Some, length, map};
+ghost use Rattle.std.specs.Prelude.{◌≡◌, ◌<◌, ◌≤◌, Bool, IfSome, IsTrue, Some, length, map};
 ghost use Rattle.std.specs.List.{slice_get, list_any};
 ghost use Rattle.wb_book.specs.declared.values.index.Index.{Index};
 ghost use Rattle.wb_book.specs.declared.values.index.Index.TheVariants.{Point as at_point};
-ghost use Rattle.wb_book.specs.Runs.{cell_of, changes_in, packed_changes, inside_changes};
+ghost use Rattle.wb_book.specs.Runs.{cell_of, changes_in, packed_changes, rectangle_entries, numbered_entries};
 ghost use Rattle.wb_book.specs.Shapes.{indices};
 ghost use Rattle.wb_foot.specs.declared.marking.Marking.{Marking};
 ghost use Rattle.wb_foot.specs.declared.place.Place.{Place};
@@ -19,7 +19,8 @@ use crate::place::Place;
 use crate::points::{Points, with_room};
 use std::alloc::Global;
 use wb_book::{
-    AnyRect, ChangeRun, Form, Index, Name, Packed, Point, RectangleChanges, Row as ChangeRow,
+    AnyRect, ChangeRun, Form, Index, Name, Packed, Point, RectangleChanges, RectangleNumbers,
+    Row as ChangeRow,
 };
 
 /// So many cells at least go into one block.
@@ -62,10 +63,8 @@ impl Row {
             Form::Line(line) => Some(Row::of(line.row())),
             Form::Plane(plane) => Some(Row::of(plane.row())),
             Form::Solid(solid) => Some(Row::of(solid.row())),
-            Form::Rectangle(rectangle) => Some(Row {
-                name: *rectangle.domain(),
-                kind: Kind::Inside,
-            }),
+            Form::Rectangle(rectangle) => Some(Row::of(rectangle.row())),
+            Form::Numbers(rectangle) => Some(Row::of(rectangle.row())),
         }
     }
 
@@ -123,6 +122,7 @@ impl Run {
             Form::Plane(plane) => packed_run(alloc, plane),
             Form::Solid(solid) => packed_run(alloc, solid),
             Form::Rectangle(rectangle) => rectangle_run(alloc, rectangle),
+            Form::Numbers(rectangle) => numbers_run(alloc, rectangle),
         }
     }
 }
@@ -170,17 +170,36 @@ fn point_of(coordinates: &[i64]) -> Option<Point>
     }
 }
 
-// The run that the indices of a rectangle are, if there is memory.
+// The run that the cells at the indices of a rectangle are, if there is memory.
 fn rectangle_run(alloc: Global, rectangle: &RectangleChanges) -> Option<Run>
     ensures { IfSome result (λ run. AreAt run.row.kind run.row.name run.points
-        (inside_changes rectangle.now.domain rectangle.now.ranges rectangle.now.comes)) }
+        (packed_changes rectangle.now.row (rectangle_entries rectangle.now.ranges rectangle.now.number))) }
 {
     let points = rectangle_points(alloc, rectangle.ranges())?;
     Some(Run {
-        row: Row {
-            name: *rectangle.domain(),
-            kind: Kind::Inside,
-        },
+        row: Row::of(rectangle.row()),
+        points,
+    })
+}
+
+// Whether there is a number for each index of a rectangle, and no more.
+fn is_full(rectangle: &RectangleNumbers) -> bool
+    ensures { IsTrue result → length rectangle.now.numbers.items ≡ length (indices rectangle.now.ranges) }
+{
+    rectangle.numbers().len() == rectangle.ranges().size()
+}
+
+// The run that the cells at the indices of a rectangle are that get a number each, if each does and there is memory.
+fn numbers_run(alloc: Global, rectangle: &RectangleNumbers) -> Option<Run>
+    ensures { IfSome result (λ run. AreAt run.row.kind run.row.name run.points
+        (packed_changes rectangle.now.row (numbered_entries rectangle.now.ranges rectangle.now.numbers.items))) }
+{
+    if !is_full(rectangle) {
+        return None;
+    }
+    let points = rectangle_points(alloc, rectangle.ranges())?;
+    Some(Run {
+        row: Row::of(rectangle.row()),
         points,
     })
 }

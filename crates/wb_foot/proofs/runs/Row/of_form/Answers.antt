@@ -1,9 +1,8 @@
-use Rattle.std.proofs.Common.{map, sym, ap, ◌∙◌}
+use Rattle.std.proofs.Common.{map, ap, ◌∙◌}
 use Rattle.wb_book.specs.declared.values.index.Index.TheVariants.{Point}
-use Rattle.wb_book.specs.Runs.{cell_of, changes_in}
-use Rattle.wb_foot.specs.declared.part.Kind.TheVariants.{Inside}
-use Rattle.wb_foot.specs.Footprints.{cells_of, run_cells}
-use Rattle.wb_foot.proofs.Rows.{packed_cells, inside_row}
+use Rattle.wb_book.specs.Runs.{cell_of, changes_in, rectangle_entries, numbered_entries}
+use Rattle.wb_foot.specs.Footprints.{cells_of}
+use Rattle.wb_foot.proofs.Rows.{packed_cells}
 use Rattle.wb_foot.proofs.runs.Row.of_form.Goals as goal
 
 pub returns-in-Line : goal.returns-in-Line
@@ -33,5 +32,17 @@ returns-in-Solid c =
 pub returns-in-Rectangle : goal.returns-in-Rectangle
 returns-in-Rectangle c =
     let r = c.in-Rectangle.rectangle in
-    let row = inside_row r.domain r.ranges r.comes in
-    (row.0, ap (λ f. cells_of (changes_in f)) c.in-Rectangle.is ∙ row.1 ∙ ap (λ d. run_cells Inside d row.0) (sym c.domain.ensures))
+    let es = rectangle_entries r.ranges r.number in (
+      map (λ e. e.0) es,
+      ap (λ f. cells_of (changes_in f)) c.in-Rectangle.is ∙ packed_cells r.row c.of-in-Rectangle.result.kind c.of-in-Rectangle.result.name
+          (λ x. c.of-in-Rectangle.ensures x ∙ ap (λ y. cell_of y (Point x)) c.row-in-Rectangle.ensures) es,
+    )
+
+pub returns-in-Numbers : goal.returns-in-Numbers
+returns-in-Numbers c =
+    let r = c.in-Numbers.rectangle in
+    let es = numbered_entries r.ranges r.numbers.items in (
+      map (λ e. e.0) es,
+      ap (λ f. cells_of (changes_in f)) c.in-Numbers.is ∙ packed_cells r.row c.of-in-Numbers.result.kind c.of-in-Numbers.result.name
+          (λ x. c.of-in-Numbers.ensures x ∙ ap (λ y. cell_of y (Point x)) c.row-in-Numbers.ensures) es,
+    )

@@ -1,0 +1,20 @@
+use Rattle.std.proofs.Common.{Some, length, map, sym, ap, ◌∙◌}
+use Rattle.std.specs.List.{list_any}
+use Rattle.std.proofs.lemmas.List.{length-map}
+use Rattle.std.proofs.lemmas.Slice.Zip.{firsts-zip}
+use Rattle.wb_book.specs.declared.values.index.Index.TheVariants.{Point}
+use Rattle.wb_book.specs.Runs.{cell_of, numbered_entries}
+use Rattle.wb_book.specs.Shapes.{indices}
+use Rattle.wb_rect.specs.Product.{product}
+use Rattle.wb_foot.proofs.Rows.{cells_at}
+use Rattle.wb_foot.proofs.runs.numbers_run.Goals as goal
+
+pub returns-in_ok-points : goal.returns-in_ok-points
+returns-in_ok-points c =
+    let r = c.args.rectangle.now in
+    let row = c.of.result in
+    let ns = r.numbers.items in
+    let all = length-map ns (λ n. Some n) ∙ c.is_full.ensures c.if-not-is_full.false ∙ length-map (product r.ranges) Point in
+    cells_at r.row row.kind row.name (λ p. c.of.ensures p ∙ ap (λ x. cell_of x (Point p)) c.row.ensures) (numbered_entries r.ranges ns) r.ranges
+    c.in_ok-points.points (firsts-zip (product r.ranges) (map (λ n. Some n) ns) all)
+    (λ f. c.in_ok-points.ensures f ∙ ap (λ rs. list_any f (indices rs)) c.ranges-2.ensures)
