@@ -11,7 +11,7 @@ returns-clause-ok c =
     let mid = place_marked c.mark_first.new.marks in
     let new = place_marked c.mark_runs.new.marks in
     on_ok_weaker c.mark_runs.result
-    (λ h. both_set (λ x. at_cell c.args.marking x.cell) c.args.number _ _ c.args.cells.now c.parts-first.ensures.all old mid new
+    (λ h. both_set (λ x. at_cell c.args.marking x.cell) c.args.number _ _ c.args.cells.now c.parts-first.ensures old mid new
     c.in_ok-mark_first.ensures.ok h)
     c.mark_runs.ensures.ok
 
@@ -21,11 +21,11 @@ returns-clause-err c =
     let mid = place_marked c.mark_first.new.marks in
     let new = place_marked c.mark_runs.new.marks in
     on_err_weaker c.mark_runs.result
-    (λ h. second_stays (λ x. at_cell c.args.marking x.cell) c.args.number _ _ c.args.cells.now c.parts-first.ensures.all old mid new
+    (λ h. second_stays (λ x. at_cell c.args.marking x.cell) c.args.number _ _ c.args.cells.now c.parts-first.ensures old mid new
     c.in_ok-mark_first.ensures.ok h)
     c.mark_runs.ensures.err
 
 pub returns-in_err-mark_first-clause-err : goal.returns-in_err-mark_first-clause-err
 returns-in_err-mark_first-clause-err c =
-    on_err c.from_residual.result (first_stays (λ x. at_cell c.args.marking x.cell) c.args.number _ _ c.args.cells.now c.parts-first.ensures.all
+    on_err c.from_residual.result (first_stays (λ x. at_cell c.args.marking x.cell) c.args.number _ _ c.args.cells.now c.parts-first.ensures
     (place_marked c.args.marks.now) (place_marked c.mark_first.new.marks) c.in_err-mark_first.ensures.err)

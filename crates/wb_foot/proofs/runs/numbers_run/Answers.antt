@@ -9,8 +9,8 @@ use Rattle.wb_rect.specs.Product.{product}
 use Rattle.wb_foot.proofs.Rows.{cells_at}
 use Rattle.wb_foot.proofs.runs.numbers_run.Goals as goal
 
-pub returns-in_ok-points : goal.returns-in_ok-points
-returns-in_ok-points c =
+pub returns : goal.returns
+returns c =
     let r = c.args.rectangle.now in
     let row = c.of.result in
     let ns = r.numbers.items in

@@ -17,5 +17,5 @@ returns c = λ footprints h.
     let met : Change Cell Value → ℕ → Bool = λ x n. touched_by (footprints n) (own x.cell) in
     least_like (λ n. list_any (λ x. met x n) xs) (λ n. touched_under (footprints n) (patterns_of xs)) c.args.after c.earlier.result
     (λ n. any_map (λ p. touched_by (footprints n) (place_of p)) (λ x. One x.cell) xs)
-    (joined_least met _ _ xs c.parts-first.ensures.all c.args.after c.earlier.result
+    (joined_least met _ _ xs c.parts-first.ensures c.args.after c.earlier.result
     (c.earlier.ensures.least _ _ c.args.after (c.touched_first.ensures footprints h) (c.touched_in_runs.ensures footprints h)))

@@ -21,6 +21,6 @@ returns c =
     c.args.after
     (λ n. undo_met xs (footprints n) ∙ any_like (λ x. met_by (footprints n) x.cell) (λ x. f x n) xs
     (λ x. met_marked m footprints h n x.cell (own x.cell) (family x.cell) refl refl))
-    (lists_joined f c.args.after c.args.waiting.now c.join_first.new.waiting c.join_runs.new.waiting _ _ xs c.parts-first.ensures.all
+    (lists_joined f c.args.after c.args.waiting.now c.join_first.new.waiting c.join_runs.new.waiting _ _ xs c.parts-first.ensures
     c.in_ok-join_first.ensures g))
     c.join_runs.ensures
