@@ -1,13 +1,13 @@
 //! The index of footprints, where an element is set and a copy of it goes to another, where many elements are copied at once,
 //! where indices of two ranks stand in arrays of one name, where elements are cleared downward, and where a whole rectangle comes
-//! to a domain.
+//! to a domain, or numbers come to one of an array.
 
 use std::alloc::Global;
 use std::process::Abort;
 use std::test::Fail;
 use wb_book::{
     AnyCell, AnyIndex, AnyRect, Cell, CellChange, Changes, Form, Index, Name, Pattern, Point,
-    RectangleChanges,
+    RectangleChanges, RectangleNumbers, Row,
 };
 use wb_edit::ReadRun;
 use wb_foot::{FootIndex, Numbers};
@@ -204,7 +204,7 @@ fn footprint_index_of_a_rectangle(rt: HostRuntime) -> Result<(), Fail> {
     let mut came = Changes::one(cleared(Cell::Object(domain)));
     came.push_run(
         rt.alloc(),
-        Form::Rectangle(RectangleChanges::new(domain, ranges, true)),
+        Form::Rectangle(RectangleChanges::new(Row::Inside(domain), ranges, Some(0))),
     )?;
     assert!(rt; came.len() == 101 && came.count() == 1);
     let mut index = FootIndex::new(rt.alloc());
@@ -215,5 +215,34 @@ fn footprint_index_of_a_rectangle(rt: HostRuntime) -> Result<(), Fail> {
     index.take(3, &[], &[], &came);
     assert!(rt; index.first_to_block_undo(&leaves(domain, 50), 2).is_none());
     assert!(rt; index.first_to_block_undo(&came, 2).is_none());
+    Ok(())
+}
+
+#[test]
+fn footprint_index_of_numbers(rt: HostRuntime) -> Result<(), Fail> {
+    let array = Name::new("A")?;
+    let ranges = AnyRect::from_range(Range::new(1, 100, 1, None)?)?;
+    let mut numbers = Vec::new(rt.alloc());
+    for number in 0..100 {
+        numbers.push(number)?;
+    }
+    let mut came = Changes::new();
+    came.push_run(
+        rt.alloc(),
+        Form::Numbers(RectangleNumbers::new(Row::Elements(array), ranges, numbers)),
+    )?;
+    came.push(rt.alloc(), cleared(Cell::Object(array)))?;
+    assert!(rt; came.len() == 101 && came.count() == 101);
+    let mut index = FootIndex::new(rt.alloc());
+    add(&rt, &mut index, 3, &[], &[], &came)?;
+    let last = Changes::one(cleared(element(array, 100)));
+    assert!(rt; index.first_to_block_undo(&last, 2) == Some(3));
+    assert!(rt;
+        index
+            .first_to_block_undo(&Changes::one(cleared(element(array, 101))), 2)
+            .is_none()
+    );
+    index.take(3, &[], &[], &came);
+    assert!(rt; index.first_to_block_undo(&last, 2).is_none());
     Ok(())
 }
