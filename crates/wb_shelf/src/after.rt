@@ -240,7 +240,8 @@ fn ranges_in(cells: &BTreeMap<Cell, Value>, domain: &Name) -> Option<AnyRect>
 // them are in the domain, or none is. `None` where neither is known.
 fn inside_before(cells: &BTreeMap<Cell, Value>, domain: &Name, ranges: &AnyRect) -> Option<Form>
     ensures { IfSome result (λ f. (element : List ℕ → index_type → Option ℤ) (n : Option ℤ) →
-        changes_in f ≡ map (with_answer (answer (stored_in cells.now.entries) element)) (packed_changes (inside_row domain.now) (rectangle_entries ranges.now n))) }
+        changes_in f ≡ map (with_answer (answer (stored_in cells.now.entries) element)) (packed_changes (inside_row domain.now)
+        (rectangle_entries ranges.now n))) }
 {
     match ranges_in(cells, domain) {
         Some(there) => {

@@ -24,7 +24,8 @@ pub returns-in_ok-put_group-in-Elements-clause-lead : goal.returns-in_ok-put_gro
 returns-in_ok-put_group-in-Elements-clause-lead g c = λ before lead.
     let es = (g.B.Block.entries c.args.block.now) in
     on_ok_weaker c.add_over.result
-    (λ made b. subst (λ (r : Row). LeadTo (before ++ packed_changes r es) b (changes_in c.add_over.new.groups.entries b)) (sym c.in-Elements.is ∙ c.of_row.ensures)
+    (λ made b. subst (λ (r : Row). LeadTo (before ++ packed_changes r es) b (changes_in c.add_over.new.groups.entries b))
+    (sym c.in-Elements.is ∙ c.of_row.ensures)
     (rows_lead Point c.in-Elements.name es before c.args.groups.now.entries c.put_group.new.groups.entries c.add_over.new.groups.entries
     c.put_group.ensures.same made lead b))
     c.add_over.ensures.added

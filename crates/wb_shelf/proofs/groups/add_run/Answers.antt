@@ -58,14 +58,17 @@ returns-in-Rectangle-clause-lead c = λ before lead.
 pub returns-in-Rectangle-clause-object : goal.returns-in-Rectangle-clause-object
 returns-in-Rectangle-clause-object c =
     let r = c.in-Rectangle.block in
-    on_ok_ever c.add_block.result (λ b e. absurd (never_named c.args.form.now r.row (rectangle_entries r.ranges r.number) b (ap run_changes c.in-Rectangle.is) e))
+    on_ok_ever c.add_block.result
+    (λ b e. absurd (never_named c.args.form.now r.row (rectangle_entries r.ranges r.number) b (ap run_changes c.in-Rectangle.is) e))
 
 pub returns-in-Numbers-clause-lead : goal.returns-in-Numbers-clause-lead
 returns-in-Numbers-clause-lead c = λ before lead.
-    subst (λ (ys : Changes). OnOk c.add_block-in-Numbers.result ((b : List ℕ) → LeadTo (before ++ ys) b (changes_in c.add_block-in-Numbers.new.groups.entries b)))
+    subst (λ (ys : Changes). OnOk c.add_block-in-Numbers.result
+    ((b : List ℕ) → LeadTo (before ++ ys) b (changes_in c.add_block-in-Numbers.new.groups.entries b)))
     (sym (ap run_changes c.in-Numbers.is)) (c.add_block-in-Numbers.ensures.lead before lead)
 
 pub returns-in-Numbers-clause-object : goal.returns-in-Numbers-clause-object
 returns-in-Numbers-clause-object c =
     let r = c.in-Numbers.block in
-    on_ok_ever c.add_block-in-Numbers.result (λ b e. absurd (never_named c.args.form.now r.row (numbered_entries r.ranges r.numbers.items) b (ap run_changes c.in-Numbers.is) e))
+    on_ok_ever c.add_block-in-Numbers.result
+    (λ b e. absurd (never_named c.args.form.now r.row (numbered_entries r.ranges r.numbers.items) b (ap run_changes c.in-Numbers.is) e))

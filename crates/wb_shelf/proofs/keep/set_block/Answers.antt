@@ -16,7 +16,8 @@ returns-in-Inside-clause-agree g c = λ s agree.
     let es = c.args.arrays.now.entries in
     let xs = g.B.Block.entries c.args.block.now in
     let row = Inside c.in-Inside.field-0 in
-    let same : packed_changes (g.B.Block.row_of c.args.block.now) xs ≡ packed_changes row xs = ap (λ (r : Row). packed_changes r xs) (sym c.of_row.ensures ∙ c.in-Inside.is) in
+    let same : packed_changes (g.B.Block.row_of c.args.block.now) xs ≡ packed_changes row xs =
+    ap (λ (r : Row). packed_changes r xs) (sym c.of_row.ensures ∙ c.in-Inside.is) in
     let none : packed_changes row xs ≡ [] =
     only_none (is_set (element_in es)) _ (λ y. refl) xs (ap (list_all (is_set (element_in es))) (sym same) ∙ c.requires) in
     subst (λ (ys : Changes). Agree es (apply ys s)) (sym (same ∙ none)) agree
@@ -26,7 +27,8 @@ returns-in-Members-clause-agree g c = λ s agree.
     let es = c.args.arrays.now.entries in
     let xs = g.B.Block.entries c.args.block.now in
     let row = Members c.in-Members.field-0 in
-    let same : packed_changes (g.B.Block.row_of c.args.block.now) xs ≡ packed_changes row xs = ap (λ (r : Row). packed_changes r xs) (sym c.of_row.ensures ∙ c.in-Members.is) in
+    let same : packed_changes (g.B.Block.row_of c.args.block.now) xs ≡ packed_changes row xs =
+    ap (λ (r : Row). packed_changes r xs) (sym c.of_row.ensures ∙ c.in-Members.is) in
     let none : packed_changes row xs ≡ [] =
     only_none (is_set (element_in es)) _ (λ y. refl) xs (ap (list_all (is_set (element_in es))) (sym same) ∙ c.requires) in
     subst (λ (ys : Changes). Agree es (apply ys s)) (sym (same ∙ none)) agree
