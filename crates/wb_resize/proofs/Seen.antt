@@ -19,10 +19,10 @@ AreNamed p es = AllByRecursion (λ e. matches p e.0 ≡ true) es
 
 filter_passes : (p : Cell → Bool) (es : List (Cell × Value)) → AllByRecursion (λ e. p e.0 ≡ true) (filter (λ e. p e.0) es)
 filter_passes p [] = tt
-filter_passes p (e ∷ es) = elim (p e.0) as (λ b. p e.0 ≡ b → AllByRecursion (λ x. p x.0 ≡ true) (cond b (e ∷ filter (λ x. p x.0) es) (filter (λ x. p x.0) es))) [
-  | true ↦ λ is. (is, filter_passes p es)
-  | false ↦ λ is. filter_passes p es
-] refl
+filter_passes p (e ∷ es) =
+    elim (p e.0) as
+    (λ b. p e.0 ≡ b → AllByRecursion (λ x. p x.0 ≡ true) (cond b (e ∷ filter (λ x. p x.0) es) (filter (λ x. p x.0) es)))
+    [ true ↦ λ is. (is, filter_passes p es) | false ↦ λ is. filter_passes p es ] refl
 
 pub seen_named : (s : Cells) (p : Pattern) → AreNamed p (seen s p)
 seen_named s p = subst (AreNamed p) (sym (entries-retain_keys cell_order s (matches p))) (filter_passes (matches p) (entries s))

@@ -24,4 +24,5 @@ returns c = λ d.
     let k = c.run_of-number.result in
     let r = c.index-runs-number.result in
     let at = slice_get_read rs (length rs) k r refl c.run_of-number.ensures.number c.index-runs-number.is in
-    c.cell.ensures d ∙ ap (λ x. x.cell) (stands_at c.args.before rs k c.args.at r d c.requires.started at (c.run_of-number.ensures.place r at) c.requires.within)
+    let has = c.run_of-number.ensures.place r at in
+    c.cell.ensures d ∙ ap (λ x. x.cell) (stands_at c.args.before rs k c.args.at r d c.requires.started at has c.requires.within)
