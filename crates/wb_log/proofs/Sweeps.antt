@@ -1,6 +1,6 @@
 -- A sweep over what is kept, from each number that is found to those that need it.
-use Rattle.std.proofs.Common.{if◌then◌else◌, ◌≡◌, ℕ, ◌<◌, ◌≤◌, ◌==◌, Bool, true, false, true≢false, List, [], ◌∷◌, Some, None, length, Result, Ok, Err, OnOk}
-use Rattle.std.proofs.Common.{arith, refl, sym, ap, ◌∙◌, subst, ◌⊎◌, inl, inr}
+use Rattle.std.proofs.Common.{if◌then◌else◌, ◌≡◌, ℕ, ◌<◌, ◌≤◌, ◌==◌, true, false, true≢false, List, [], ◌∷◌, Some, None, length, Result, Ok, Err, OnOk}
+use Rattle.std.proofs.Common.{arith, sym, ap, ◌∙◌, subst, ◌⊎◌, inl, inr}
 use Rattle.std.proofs.lemmas.Bool.{cases_eq}
 use Rattle.selective_undo.specs.History.{Has, Falls}
 use Rattle.selective_undo.specs.Log.{Footprint, blocks_undo}
