@@ -22,3 +22,4 @@ pub mod Added
 pub mod Joining
 pub mod OneFamily
 pub mod SortedPoints
+pub mod Through

@@ -9,4 +9,5 @@ pub mod Parts
 pub mod Spots
 pub mod Places
 pub mod Footprints
+pub mod Swept
 pub mod Rows

@@ -8,12 +8,14 @@ ghost use Rattle.wb_foot.specs.declared.numbers.Numbers.{Numbers};
 ghost use Rattle.wb_foot.specs.Relation.{AreAllAfter, JoinedAfter};
 ghost use Rattle.wb_foot.specs.Places.{cell_at};
 ghost use Rattle.wb_foot.specs.Footprints.{Footprints, IsIndexOf, marked_own, marked_family, marked_met};
+ghost use Rattle.wb_foot.specs.Swept.{AreSwept};
 
 use crate::families::is_seen;
 use crate::foot_index::FootIndex;
 use crate::numbers::Numbers;
 use crate::place::{family, own};
 use crate::runs::{LEAST, Run};
+use crate::swept::SweptCells;
 use std::alloc::Global;
 use wb_book::{Cell, CellChange, ChangeRun, Changes};
 use wb_range::NoMemory;
@@ -161,17 +163,39 @@ impl FootIndex {
         first: &Option<CellChange>,
         after: u64,
         waiting: &mut Numbers,
+        swept: &mut SweptCells,
     ) -> Result<(), NoMemory>
-        ensures { OnOk result (JoinedAfter waiting.old waiting.new
+        requires { AreSwept self.now swept.old waiting.old after }
+        ensures joined { OnOk result (JoinedAfter waiting.old waiting.new
             (λ n. list_any (λ x. marked_met self.now x.cell n) (in_first first.now)) after) }
+        ensures swept { OnOk result (AreSwept self.now swept.new waiting.new after) }
     {
         match first {
             None => Ok(()),
-            Some(x) => self.join_met(x.as_cell(), after, waiting),
+            Some(x) => self.join_once(x.as_cell(), after, waiting, swept),
         }
     }
 
-    /// The same of a cell.
+    /// The same of a cell, which is not asked for where the sweep went through it before.
+    fn join_once(
+        &self,
+        cell: &Cell,
+        after: u64,
+        waiting: &mut Numbers,
+        swept: &mut SweptCells,
+    ) -> Result<(), NoMemory>
+        requires { AreSwept self.now swept.old waiting.old after }
+        ensures joined { OnOk result (JoinedAfter waiting.old waiting.new (marked_met self.now cell.now) after) }
+        ensures swept { OnOk result (AreSwept self.now swept.new waiting.new after) }
+    {
+        if swept.has(cell) {
+            return Ok(());
+        }
+        self.join_met(cell, after, waiting)?;
+        swept.add(cell)
+    }
+
+    /// The same of a cell that is asked for.
     fn join_met(&self, cell: &Cell, after: u64, waiting: &mut Numbers) -> Result<(), NoMemory>
         ensures { OnOk result (JoinedAfter waiting.old waiting.new (marked_met self.now cell.now) after) }
     {
@@ -194,18 +218,22 @@ impl FootIndex {
     }
 
     /// All numbers above `after` whose footprints need one that wrote the cells join those that wait, in one pass over the
-    /// cells. Where memory runs out, some of them may have.
+    /// cells; a first cell that a sweep went through before is not asked for again, since what met it waits. Where memory runs
+    /// out, some of them may have.
     pub fn join_blockers(
         &self,
         before: &Changes,
         after: u64,
         waiting: &mut Numbers,
+        swept: &mut SweptCells,
     ) -> Result<(), NoMemory>
-        ensures { OnOk result ((footprints : Footprints) → IsIndexOf self.now footprints →
+        requires { AreSwept self.now swept.old waiting.old after }
+        ensures joined { OnOk result ((footprints : Footprints) → IsIndexOf self.now footprints →
             JoinedAfter waiting.old waiting.new (λ n. blocks_undo before.now (footprints n)) after) }
+        ensures swept { OnOk result (AreSwept self.now swept.new waiting.new after) }
     {
         let (first, runs) = before.parts();
-        self.join_first(&first, after, waiting)?;
+        self.join_first(&first, after, waiting, swept)?;
         self.join_runs(runs, after, waiting)
     }
 
@@ -220,7 +248,8 @@ impl FootIndex {
             AreAllAfter (λ n. blocks_undo before.now (footprints n)) after v.items) }
     {
         let mut waiting = Numbers::new(alloc);
-        self.join_blockers(before, after, &mut waiting)?;
+        let mut swept = SweptCells::new(alloc);
+        self.join_blockers(before, after, &mut waiting, &mut swept)?;
         waiting.above(alloc, after)
     }
 }

@@ -26,6 +26,8 @@ mod reading;
 mod runs;
 mod slot_marks;
 mod spots;
+mod swept;
 
 pub use crate::foot_index::FootIndex;
 pub use crate::numbers::Numbers;
+pub use crate::swept::SweptCells;

@@ -11,7 +11,9 @@ use Rattle.wb_foot.specs.declared.numbers.Numbers.{Numbers}
 use Rattle.wb_foot.specs.declared.foot_index.FootIndex.{FootIndex}
 use Rattle.wb_foot.specs.Footprints.{Footprints, IsIndexOf}
 use Rattle.wb_foot.specs.Numbers.{numbered}
+use Rattle.wb_foot.specs.declared.swept.SweptCells.{SweptCells}
 use Rattle.wb_foot.specs.Relation.{IsLeast, JoinedAfter}
+use Rattle.wb_foot.specs.Swept.{AreSwept}
 use Rattle.wb_foot.proofs.Added.{at_self, at_other, added_here, added_from}
 use Rattle.wb_log.specs.declared.entry.Entry as kept
 use Rattle.wb_log.specs.Kept.{by_number}
@@ -140,3 +142,12 @@ all_swept footprints k size ns last w h none = (h.falls, λ n. (h.found n, λ d.
     all : (n : ℕ) → FromFootprints footprints k n → Has ns n
     all n itself = here k h.begun
     all n (through need d) = here n (h.closed _ n (all _ d) need)
+
+-- the cells that the sweep went through, once the least that waits was taken
+pub cells_taken : (m : FootIndex) (s : SweptCells) (w v : Numbers) (last j : ℕ) → AreSwept m s w last → last < j →
+    ((n : ℕ) → numbered v n ≡ (if j == n then false else numbered w n)) → AreSwept m s v j
+cells_taken m s w v last j h low taken = record {
+  waits = λ c k n is up met.
+      let apart : j ≡ n → ⊥ = λ same. omega (arith, up, same) in
+      taken n ∙ ap (λ b. if b then false else numbered w n) (at_other j n apart) ∙ h.waits c k n is (omega (arith, low, up)) met;
+}

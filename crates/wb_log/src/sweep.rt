@@ -1,14 +1,15 @@
 //! Which edits have to be undone with one, found by one sweep over the index: from each that is found to those that need it,
-//! all of them by one pass over its cells.
+//! all of them by one pass over its cells, in which a cell that stood alone before is not asked for again.
 
 ghost use Rattle.std.specs.Prelude.{◌<◌, ◌≤◌, ◌^◌, length, OnOk, IfOk};
 ghost use Rattle.wb_foot.specs.Footprints.{IsIndexOf};
+ghost use Rattle.wb_foot.specs.Swept.{AreSwept};
 ghost use Rattle.wb_log.specs.Kept.{by_number};
 ghost use Rattle.wb_log.specs.Needed.{AreFromFootprints, Joined};
 
 use crate::entry::Record;
 use std::alloc::Global;
-use wb_foot::{FootIndex, Numbers};
+use wb_foot::{FootIndex, Numbers, SweptCells};
 use wb_range::NoMemory;
 
 /// The edits wait that need the one of a number.
@@ -17,15 +18,18 @@ fn wait_for_those(
     entries: &[Record],
     number: u64,
     waiting: &mut Numbers,
+    swept: &mut SweptCells,
 ) -> Result<(), NoMemory>
     requires positive { 0 < number }
     requires in_log { number ≤ length entries.now }
     requires indexed { IsIndexOf index.now (by_number entries.now) }
-    ensures { OnOk result (Joined waiting.old waiting.new (by_number entries.now) number) }
+    requires swept { AreSwept index.now swept.old waiting.old number }
+    ensures joined { OnOk result (Joined waiting.old waiting.new (by_number entries.now) number) }
+    ensures swept { OnOk result (AreSwept index.now swept.new waiting.new number) }
 {
     match entries[(number - 1) as usize].kept() {
         None => Ok(()),
-        Some(kept) => index.join_blockers(kept.before(), number, waiting),
+        Some(kept) => index.join_blockers(kept.before(), number, waiting, swept),
     }
 }
 
@@ -47,6 +51,7 @@ pub(crate) fn needing(
         Ok(()) => {}
         Err(_) => return Err(NoMemory),
     }
+    let mut swept = SweptCells::new(alloc);
     let mut found = Vec::new(alloc);
     let mut last = 0;
     while let Some(next) = waiting.take_least() {
@@ -54,7 +59,7 @@ pub(crate) fn needing(
             Ok(()) => {}
             Err(_) => return Err(NoMemory),
         }
-        match wait_for_those(index, entries, next, &mut waiting) {
+        match wait_for_those(index, entries, next, &mut waiting, &mut swept) {
             Ok(()) => {}
             Err(_) => return Err(NoMemory),
         }

@@ -10,7 +10,7 @@ use wb_book::{
     RectangleChanges, RectangleNumbers, Row,
 };
 use wb_edit::ReadRun;
-use wb_foot::{FootIndex, Numbers};
+use wb_foot::{FootIndex, Numbers, SweptCells};
 use wb_range::{NoMemory, Range};
 
 fn element(array: Name, i: i64) -> Cell {
@@ -181,8 +181,9 @@ fn footprint_index_of_a_descending_run(rt: HostRuntime) -> Result<(), Fail> {
     add(&rt, &mut index, 5, &elements, &[], &beside)?;
     add(&rt, &mut index, 6, &[], &[], &last)?;
     let mut waiting = Numbers::new(rt.alloc());
+    let mut swept = SweptCells::new(rt.alloc());
     waiting.add(4)?;
-    index.join_blockers(&downward, 3, &mut waiting)?;
+    index.join_blockers(&downward, 3, &mut waiting, &mut swept)?;
     assert!(rt; waiting.above(rt.alloc(), 0)?.as_slice() == [4, 5, 6].as_slice());
     assert!(rt; index.first_to_block_undo(&last, 2) == Some(3));
     assert!(rt; index.first_to_block_undo(&beside, 2) == Some(5));

@@ -6,8 +6,8 @@ use Rattle.wb_log.proofs.Entered.{kept_here}
 use Rattle.wb_log.proofs.Sweeps.{none_needs, on_ok_needing}
 use Rattle.wb_log.proofs.sweep.wait_for_those.Goals as goal
 
-pub returns-in-None : goal.returns-in-None
-returns-in-None c =
+pub returns-in-None-clause-joined : goal.returns-in-None-clause-joined
+returns-in-None-clause-joined c =
     let es = c.args.entries.now in
     let n = c.args.number in
     let low : n - 1 < length es = omega (arith, c.requires.positive, c.requires.in_log) in
@@ -17,8 +17,8 @@ returns-in-None c =
     let off = kept_here es (n - 1) x is ∙ sym c.kept.ensures ∙ ap (option_map lent_footprint) c.in-None.is in
     none_needs c.args.waiting.now (by_number es) n (subst (λ (m : ℕ). by_number es m ≡ None) here off)
 
-pub returns-in-Some : goal.returns-in-Some
-returns-in-Some c =
+pub returns-in-Some-clause-joined : goal.returns-in-Some-clause-joined
+returns-in-Some-clause-joined c =
     let es = c.args.entries.now in
     let n = c.args.number in
     let low : n - 1 < length es = omega (arith, c.requires.positive, c.requires.in_log) in
@@ -29,4 +29,4 @@ returns-in-Some c =
     let there = subst (λ (m : ℕ). by_number es m ≡ Some f) here (kept_here es (n - 1) x is ∙ sym c.kept.ensures ∙ ap (option_map lent_footprint) c.in-Some.is)
     in
     on_ok_needing c.join_blockers.result c.args.index.now c.args.waiting.now c.join_blockers.new.waiting (by_number es) n f c.before-in-Some.result.now
-    there c.before-in-Some.ensures.same c.requires.indexed c.join_blockers.ensures
+    there c.before-in-Some.ensures.same c.requires.indexed c.join_blockers.ensures.joined

@@ -14,5 +14,5 @@ returns c =
     (λ v. (footprints : Footprints) → IsIndexOf c.args.self.now footprints → AreAllAfter (λ n. blocks_undo xs (footprints n)) c.args.after v.items)
     (λ v all. λ footprints h. all_above_like (numbered new) (λ n. blocks_undo xs (footprints n)) c.args.after v.items
     (only_joined c.new-waiting.result new (λ n. blocks_undo xs (footprints n)) c.args.after c.new-waiting.ensures
-    (c.in_ok-join_blockers.ensures footprints h)) all)
+    (c.in_ok-join_blockers.ensures.joined footprints h)) all)
     c.above.ensures

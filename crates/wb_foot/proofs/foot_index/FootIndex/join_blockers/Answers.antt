@@ -9,10 +9,11 @@ use Rattle.wb_foot.specs.Places.{own, family}
 use Rattle.wb_foot.specs.Footprints.{marked_met, met_by}
 use Rattle.wb_foot.proofs.Joining.{joined_like, lists_joined}
 use Rattle.wb_foot.proofs.Meeting.{any_like, met_marked, undo_met}
+use Rattle.wb_foot.proofs.Through.{swept_stays}
 use Rattle.wb_foot.proofs.foot_index.FootIndex.join_blockers.Goals as goal
 
-pub returns : goal.returns
-returns c =
+pub returns-clause-joined : goal.returns-clause-joined
+returns-clause-joined c =
     let m = c.args.self.now in
     let xs = c.args.before.now in
     let f : Change Cell Value → ℕ → Bool = λ x n. marked_met m x.cell n in
@@ -22,5 +23,12 @@ returns c =
     (λ n. undo_met xs (footprints n) ∙ any_like (λ x. met_by (footprints n) x.cell) (λ x. f x n) xs
     (λ x. met_marked m footprints h n x.cell (own x.cell) (family x.cell) refl refl))
     (lists_joined f c.args.after c.args.waiting.now c.join_first.new.waiting c.join_runs.new.waiting _ _ xs c.parts-first.ensures
-    c.in_ok-join_first.ensures g))
+    c.in_ok-join_first.ensures.joined g))
+    c.join_runs.ensures
+
+pub returns-clause-swept : goal.returns-clause-swept
+returns-clause-swept c =
+    on_ok_weaker c.join_runs.result
+    (λ g. swept_stays c.args.self.now c.join_first.new.swept c.join_first.new.waiting c.join_runs.new.waiting c.args.after c.in_ok-join_first.ensures.swept
+    g.stay)
     c.join_runs.ensures
