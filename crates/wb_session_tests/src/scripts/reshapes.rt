@@ -24,6 +24,22 @@ const RESHAPE_DROPS_AND_BRINGS_BACK: &str = r#"
 {"op":"get","a":"A","i":4} -> {"value":9}
 "#;
 
+// Of four elements two stay, two go and two come; the undo brings the two back.
+const REALLOCATION_OF_FOUR: &str = r#"
+{"op":"domain","d":"D","is":"{1..4}"} -> {"edit":1,"n":3}
+{"op":"array","a":"A","d":"D"} -> {"edit":2,"n":7}
+{"op":"set","a":"A","i":1,"v":1} -> {"edit":3,"n":1}
+{"op":"set","a":"A","i":2,"v":2} -> {"edit":4,"n":1}
+{"op":"set","a":"A","i":3,"v":3} -> {"edit":5,"n":1}
+{"op":"set","a":"A","i":4,"v":4} -> {"edit":6,"n":1}
+{"op":"reshape","d":"D","to":"{3..6}"} -> {"edit":7,"n":5}
+{"op":"print"} -> {"text":"chapel-workbook 1\narray A over D [3, 4, 0, 0]\nrect D {3..6} none\nend\n"}
+{"op":"get","a":"A","i":1} -> {"error":"E06","name":"out-of-domain"}
+{"op":"undo"} -> {"n":5,"undone":7}
+{"op":"print"} -> {"text":"chapel-workbook 1\narray A over D [1, 2, 3, 4]\nrect D {1..4} none\nend\n"}
+{"op":"set","a":"A","i":5,"v":9} -> {"error":"E06","name":"out-of-domain"}
+"#;
+
 // An earlier reshape is undone where a later edit wrote nothing that came with it.
 const UNDO_OF_AN_EARLIER_RESHAPE: &str = r#"
 {"op":"domain","d":"D","is":"{1..4}"} -> {"edit":1,"n":3}
@@ -257,10 +273,11 @@ const REFUSED_FILLS_AND_OVERFLOW: &str = r#"
 "#;
 
 /// Each script, over a history of its own.
-pub const SCRIPTS: [Script; 17] = [
+pub const SCRIPTS: [Script; 18] = [
     ("", REFUSED_FILLS_AND_OVERFLOW, 6, 21),
     ("", EMPTY_RECTANGLES, 3, 16),
     ("", RESHAPE_DROPS_AND_BRINGS_BACK, 4, 17),
+    ("", REALLOCATION_OF_FOUR, 7, 24),
     ("", UNDO_OF_AN_EARLIER_RESHAPE, 4, 17),
     ("", RESHAPE_IN_USE, 4, 14),
     ("", BLOCKED_BY_A_RESHAPE, 4, 14),
