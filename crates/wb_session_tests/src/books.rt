@@ -1,14 +1,10 @@
 //! Tests of what no clause says of a book and of what makes its domains: that a call succeeds while memory is left. A call
 //! that lacked memory is made again.
 
-use crate::movers::made_at_last;
-use crate::records::edit_of;
 use std::alloc::Global;
 use std::test::Fail;
-use wb_book::{AnyIndex, AnyRect, Index, Name, Point};
-use wb_range::{NoMemory, Range};
+use wb_book::{AnyIndex, Index, Name, Point};
 use wb_reading::{BookErr, read_book};
-use wb_redist::Crew;
 use wb_resize::set_operations::sorted_set;
 use wb_resize::{NewIndices, Operand, SetOperation};
 use wb_shelf::Book;
@@ -75,38 +71,6 @@ fn elements_of_an_array(rt: HostRuntime) -> Result<(), Fail> {
         Err(_) => book.elements(&array)?,
     };
     assert!(rt; elements.as_slice() == [(at(3), 7), (at(6), 10)].as_slice());
-    Ok(())
-}
-
-// An array over a rectangle, filled.
-const FILLED: [&str; 3] = [
-    r#"{"op":"domain","d":"D","is":"{1..3}","map":"none"}"#,
-    r#"{"op":"array","a":"A","d":"D"}"#,
-    r#"{"op":"fill_all","a":"A","v":5}"#,
-];
-
-// The elements of an array without their indices.
-fn numbers_of(book: &Book, array: &Name) -> Result<Vec<i64>, NoMemory> {
-    match book.numbers(array) {
-        Err(_) => book.numbers(array),
-        numbers => numbers,
-    }
-}
-
-#[test]
-fn array_over_a_rectangle(rt: HostRuntime) -> Result<(), Fail> {
-    let alone = Crew::alone(&rt);
-    let mut book = Book::new(rt.alloc());
-    for line in FILLED {
-        made_at_last(rt.alloc(), &mut book, &edit_of(rt.alloc(), line)?, &alone)?;
-    }
-    let array = Name::new("A")?;
-    let ranges = AnyRect::from_range(Range::new(1, 3, 1, None)?)?;
-    match book.rectangle(&array) {
-        Some(found) => assert!(rt; found.is_same(&ranges)),
-        None => return Err(Fail::new("a rectangle")),
-    }
-    assert!(rt; numbers_of(&book, &array)?.as_slice() == [5, 5, 5].as_slice());
     Ok(())
 }
 

@@ -162,7 +162,7 @@ fn footprint_index_of_two_ranks(rt: HostRuntime) -> Result<(), Fail> {
 fn changes_downward(alloc: Global, array: Name) -> Result<Changes, NoMemory> {
     let mut changes = Changes::one(cleared(Cell::Object(array)));
     for i in 0..100 {
-        changes.push(alloc, cleared(element(array, 100 - i)))?;
+        changes.push(alloc, cleared(element(array, 100_i64.saturating_sub(i))))?;
     }
     Ok(changes)
 }

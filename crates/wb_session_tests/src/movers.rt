@@ -71,7 +71,7 @@ fn made<M: Mover>(
 }
 
 // Makes an edit. A refused growth is tried again once.
-pub(crate) fn made_at_last<M: Mover>(
+fn made_at_last<M: Mover>(
     alloc: Global,
     book: &mut Book,
     edit: &Edit,
