@@ -598,12 +598,14 @@ where
 fn numbers_on<I: AsIndex>(alloc: Global, pairs: &[(I, i64)]) -> Result<Vec<i64>, NoMemory>
     ensures { IfOk result (λ v. v.items ≡ map (λ e. e.1) (indexed I.as_index pairs.now)) }
 {
-    let mut numbers = Vec::with_capacity(alloc, pairs.len())?;
-    for (_, number) in pairs {
-        if numbers.push(*number).is_err() {
-            return Err(NoMemory);
-        }
-    }
+    let numbers = pairs
+        .iter()
+        .map(
+            |pair: &(I, i64)| -> i64
+                ensures { result ≡ pair.now.1 }
+            { pair.1 },
+        )
+        .collect(alloc)?;
     Ok(numbers)
 }
 
