@@ -1,5 +1,5 @@
 -- What two arrays over one domain make, by their numbers alone.
-use Rattle.std.proofs.Common.{◌≡◌, ℕ, zero, suc, ◌+◌, ◌<◌, ◌≤◌, Bool, true, false, ◌&&◌, T, ℤ, List, [], ◌∷◌, ◌++◌, map, take, length, get_or, Result, Ok, Err}
+use Rattle.std.proofs.Common.{◌≡◌, ℕ, zero, suc, ◌+◌, ◌<◌, ◌≤◌, Bool, true, false, ◌&&◌, T, ℤ, List, [], ◌∷◌, ◌++◌, map, take, length, get_or, set, Result, Ok, Err}
 use Rattle.std.proofs.Common.{refl, sym, ap, subst, ◌∙◌, arith, add-one, append-nil}
 use Rattle.std.specs.FinMap.{is_sorted}
 use Rattle.std.specs.List.{list_all, zip}
@@ -104,6 +104,40 @@ module _ (how : Operation) (xs ys : List (Index × ℤ)) (alike : keys_of xs ≡
 
 -- ---- the loop
 
+-- up to a place what the numbers make, and from there on the first ones
+abbrev pub made_up_to : Operation → ℕ → (xs ys : List ℤ) → List ℤ
+made_up_to how zero xs ys = xs
+made_up_to how (suc p) [] ys = []
+made_up_to how (suc p) (x ∷ xs) [] = x ∷ xs
+made_up_to how (suc p) (x ∷ xs) (y ∷ ys) = result_of how x y ∷ made_up_to how p xs ys
+
+-- at the place itself nothing was made yet
+pub not_made : (how : Operation) (p : ℕ) (xs ys : List ℤ) (d : ℤ) → length xs ≡ length ys → get_or (made_up_to how p xs ys) p d ≡ get_or xs p d
+not_made how zero xs ys d alike = refl
+not_made how (suc p) [] ys d alike = refl
+not_made how (suc p) (x ∷ xs) [] d alike = absurd (omega (arith, alike))
+not_made how (suc p) (x ∷ xs) (y ∷ ys) d alike = not_made how p xs ys d (omega (arith, alike))
+
+pub length-made_up_to : (how : Operation) (p : ℕ) (xs ys : List ℤ) → length (made_up_to how p xs ys) ≡ length xs
+length-made_up_to how zero xs ys = refl
+length-made_up_to how (suc p) [] ys = refl
+length-made_up_to how (suc p) (x ∷ xs) [] = refl
+length-made_up_to how (suc p) (x ∷ xs) (y ∷ ys) = ap suc (length-made_up_to how p xs ys)
+
+one_made : (how : Operation) (p : ℕ) (xs ys : List ℤ) (d e : ℤ) → p < length xs → p < length ys →
+    set (made_up_to how p xs ys) p (result_of how (get_or xs p d) (get_or ys p e)) ≡ made_up_to how (suc p) xs ys
+one_made how p [] ys d e low below = absurd (omega (arith, low))
+one_made how p (x ∷ xs) [] d e low below = absurd (omega (arith, below))
+one_made how zero (x ∷ xs) (y ∷ ys) d e low below = refl
+one_made how (suc p) (x ∷ xs) (y ∷ ys) d e low below = ap (λ zs. result_of how x y ∷ zs) (one_made how p xs ys d e (omega (arith, low)) (omega (arith, below)))
+
+made_up_to_end : (how : Operation) (p : ℕ) (xs ys : List ℤ) → length xs ≡ length ys → length ys ≤ p → made_up_to how p xs ys ≡ made_of how xs ys
+made_up_to_end how zero [] ys alike past = refl
+made_up_to_end how zero (x ∷ xs) ys alike past = absurd (omega (arith, alike, past))
+made_up_to_end how (suc p) [] ys alike past = refl
+made_up_to_end how (suc p) (x ∷ xs) [] alike past = absurd (omega (arith, alike))
+made_up_to_end how (suc p) (x ∷ xs) (y ∷ ys) alike past = ap (λ zs. result_of how x y ∷ zs) (made_up_to_end how p xs ys (omega (arith, alike)) (omega (arith, past)))
+
 made_at : (how : Operation) (xs ys : List ℤ) (p : ℕ) (d e : ℤ) → p < length xs → p < length ys →
     take (suc p) (made_of how xs ys) ≡ take p (made_of how xs ys) ++ result_of how (get_or xs p d) (get_or ys p e) ∷ []
 made_at how [] ys p d e low below = absurd (omega (arith, low))
@@ -144,16 +178,19 @@ module _ (how : Operation) (xs ys : List ℤ) (alike : length xs ≡ length ys) 
   value : result_of how x y ≡ result_of how (get_or xs p d) (get_or ys p e)
   value = ap (λ n. result_of how n y) here ∙ ap (λ n. result_of how (get_or xs p d) n) there
 
-  pub next_number : (z : ℤ) (made more : List ℤ) → stopped (fits_integer (result_of how x y)) ≡ Ok z → made ≡ take p (made_of how xs ys) →
-      list_all is_i64 made ≡ true → more ≡ made ++ z ∷ [] → (more ≡ take (p + 1) (made_of how xs ys)) × (list_all is_i64 more ≡ true)
+  pub next_number : (z : ℤ) (made more : List ℤ) → stopped (fits_integer (result_of how x y)) ≡ Ok z → made ≡ made_up_to how p xs ys →
+      list_all is_i64 (take p (made_of how xs ys)) ≡ true → more ≡ set made p z
+      → (more ≡ made_up_to how (p + 1) xs ys) × (list_all is_i64 (take (p + 1) (made_of how xs ys)) ≡ true)
   next_number z made more given sofar within_64 is =
       let w : ℤ = result_of how x y in
       let below : p < length ys = omega (arith, low, alike) in
       let one = went_with (is_i64 w) w z given in
-      let same : more ≡ made ++ w ∷ [] = is ∙ ap (λ v. made ++ v ∷ []) (sym one.1) in (
-        same ∙ ap (λ zs. zs ++ w ∷ []) sofar ∙ ap (λ v. take p (made_of how xs ys) ++ v ∷ []) value ∙ sym (made_at how xs ys p d e low below)
-            ∙ ap (λ n. take n (made_of how xs ys)) (sym (add-one p)),
-        ap (list_all is_i64) same ∙ within_more made w within_64 one.0,
+      let new : w ≡ result_of how (get_or xs p d) (get_or ys p e) = value in
+      let put : set made p z ≡ set (made_up_to how p xs ys) p (result_of how (get_or xs p d) (get_or ys p e)) = (λ i. set (sofar i) p ((sym one.1 ∙ new) i)) in
+      let longer : take p (made_of how xs ys) ++ w ∷ [] ≡ take (p + 1) (made_of how xs ys) =
+          ap (λ v. take p (made_of how xs ys) ++ v ∷ []) new ∙ sym (made_at how xs ys p d e low below) ∙ ap (λ n. take n (made_of how xs ys)) (sym (add-one p)) in (
+        is ∙ put ∙ one_made how p xs ys d e low below ∙ ap (λ n. made_up_to how n xs ys) (sym (add-one p)),
+        sym (ap (list_all is_i64) longer) ∙ within_more (take p (made_of how xs ys)) w within_64 one.0,
       )
 
   pub halted : (why : AttemptErr) → stopped (fits_integer (result_of how x y)) ≡ Err why → Judges (numbers_within (made_of how xs ys)) (Err why)
@@ -164,9 +201,10 @@ module _ (how : Operation) (xs ys : List ℤ) (alike : length xs ≡ length ys) 
       let none : list_all is_i64 (made_of how xs ys) ≡ false = not_within how xs ys p d e low below (ap is_i64 (sym value) ∙ out.0) in
       subst (λ stop. Judges (numbers_within (made_of how xs ys)) (Err stop)) out.1 (ap (λ b. numbers_if b (made_of how xs ys)) none)
 
-pub all_made : (how : Operation) (xs ys made : List ℤ) (p : ℕ) → length xs ≡ length ys → length xs ≤ p → made ≡ take p (made_of how xs ys) →
-    list_all is_i64 made ≡ true → numbers_within (made_of how xs ys) ≡ Ok made
+pub all_made : (how : Operation) (xs ys made : List ℤ) (p : ℕ) → length xs ≡ length ys → length ys ≤ p → made ≡ made_up_to how p xs ys →
+    list_all is_i64 (take p (made_of how xs ys)) ≡ true → numbers_within (made_of how xs ys) ≡ Ok made
 all_made how xs ys made p alike past is within_64 =
     let size = length-made how xs ys alike in
-    let whole_made : made ≡ made_of how xs ys = is ∙ whole (made_of how xs ys) p (omega (arith, past, size)) in
-    ap numbers_within (sym whole_made) ∙ ap (λ b. numbers_if b made) within_64
+    let all : take p (made_of how xs ys) ≡ made_of how xs ys = whole (made_of how xs ys) p (omega (arith, past, size, alike)) in
+    let whole_made : made ≡ made_of how xs ys = is ∙ made_up_to_end how p xs ys alike past in
+    ap numbers_within (sym whole_made) ∙ ap (λ b. numbers_if b made) (ap (list_all is_i64) whole_made ∙ sym (ap (list_all is_i64) all) ∙ within_64)

@@ -12,6 +12,7 @@ pub mod Leads
 pub mod Entries
 pub mod EntriesSet
 pub mod Blocks
+pub mod Ranged
 pub mod Told
 pub mod Applied
 pub mod Built

@@ -5,7 +5,9 @@ ghost use Rattle.std.specs.List.{count_by};
 ghost use Rattle.selective_undo.specs.declared.Change.{Change};
 ghost use Rattle.wb_book.specs.declared.cells.cell.Cell.{Cell as cell_type};
 ghost use Rattle.wb_book.specs.declared.cells.value.Value.{Value as value_type};
-ghost use Rattle.wb_book.specs.declared.cells.cell.Cell.TheVariants.{Mapping as mapping_cell, Shape as shape_cell};
+ghost use Rattle.wb_book.specs.declared.cells.cell.Cell.TheVariants.{Mapping as mapping_cell, Object as object_cell, Shape as shape_cell};
+ghost use Rattle.wb_book.specs.declared.cells.kind.Kind.{Kind};
+ghost use Rattle.wb_book.specs.declared.cells.value.Value.TheVariants.{Array as array_value};
 ghost use Rattle.wb_book.specs.declared.changes.row.Row.TheVariants.{Inside as inside_row, Elements as element_row};
 ghost use Rattle.wb_book.specs.WellFormed.{ranges_in};
 ghost use Rattle.wb_dist.specs.Maps.{LayoutMap};
@@ -587,6 +589,36 @@ fn after_group<V: Mover>(
     }
 }
 
+// The ranges of the domain of an array, where that is rectangular.
+fn ranges_over(cells: &BTreeMap<Cell, Value>, array: &Name) -> Option<AnyRect>
+    ensures { (d : List ℕ) (k : Kind) → stored_in cells.now.entries (object_cell array.now) ≡ Some (array_value d k) →
+        result ≡ ranges_in (stored_in cells.now.entries (shape_cell d)) }
+{
+    match cells.get(&Cell::Object(*array)) {
+        Some(Value::Array(domain, _)) => ranges_in(cells, domain),
+        _ => None,
+    }
+}
+
+// An array that was made, with the ranges of its domain noted, where it stands at their indices.
+fn noted(
+    alloc: Global,
+    cells: &BTreeMap<Cell, Value>,
+    name: &Name,
+    made: Option<Elements>,
+) -> Option<Elements>
+    ensures { result ≡ made }
+{
+    let mut made = made?;
+    if made.ranges().is_some() {
+        return Some(made);
+    }
+    if let Some(ranges) = ranges_over(cells, name) {
+        made.note_ranges(alloc, &ranges);
+    }
+    Some(made)
+}
+
 // The array of a name after changes of its elements, as `after_one`, by how it lies by the stored cells.
 fn after_named<V: Mover>(
     alloc: Global,
@@ -602,7 +634,10 @@ fn after_named<V: Mover>(
 {
     match arrays.get(name) {
         Some(elements) => match lies(cells, name) {
-            Some(lies) => after_group(alloc, group, elements, &lies, mover),
+            Some(lies) => {
+                let made = after_group(alloc, group, elements, &lies, mover)?;
+                Ok(noted(alloc, cells, name, made))
+            }
             None => Ok(None),
         },
         None => Ok(None),

@@ -92,7 +92,7 @@ fn changes_by_numbers(
     let Ok(ys) = book.numbers(&other) else {
         return Err(AttemptErr::NoMemory);
     };
-    let zs = numbers_made(alloc, how, &xs, &ys)?;
+    let zs = numbers_made(how, xs, &ys)?;
     rectangle_changes(alloc, array, ranges, zs)
 }
 
@@ -163,24 +163,14 @@ fn results(
     Ok(made)
 }
 
-// What the numbers at each place of two lists make.
-fn numbers_made(
-    alloc: Global,
-    how: &Operation,
-    xs: &[i64],
-    ys: &[i64],
-) -> Result<Vec<i64>, AttemptErr>
-    requires { length xs.now ≡ length ys.now }
-    ensures { Judges (numbers_within (made_of how.now xs.now ys.now)) (items_of result) }
+// What the numbers at each place of two lists make, in the room of the first.
+fn numbers_made(how: &Operation, xs: Vec<i64>, ys: &[i64]) -> Result<Vec<i64>, AttemptErr>
+    requires { length xs.items ≡ length ys.now }
+    ensures { Judges (numbers_within (made_of how.now xs.items ys.now)) (items_of result) }
 {
-    let Ok(mut made) = Vec::with_capacity(alloc, xs.len()) else {
-        return Err(AttemptErr::NoMemory);
-    };
-    for p in 0..xs.len() {
-        let z = number_made(how, &xs[p], &ys[p])?;
-        if made.push(z).is_err() {
-            return Err(AttemptErr::NoMemory);
-        }
+    let mut made = xs;
+    for p in 0..ys.len() {
+        made[p] = number_made(how, &made[p], &ys[p])?;
     }
     Ok(made)
 }

@@ -23,6 +23,7 @@ use crate::arrays::filled::filled;
 use crate::arrays::key::AsIndex;
 use crate::arrays::made::made;
 use crate::arrays::piece::{Pairs, points_on, texts_on};
+use crate::arrays::ranged::are_at;
 use std::alloc::Global;
 use std::collections::BTreeMap;
 use std::marker::Model;
@@ -239,6 +240,26 @@ impl Elements {
         match self.ranges() {
             Some(known) => known.is_same(ranges),
             None => false,
+        }
+    }
+
+    // Whether the elements stand at the indices of a rectangle, one after another. It may miss that, for want of memory.
+    fn stand_at(&self, alloc: Global, ranges: &AnyRect) -> bool
+        ensures { result ≡ true → keys_of self.now.0 ≡ indices ranges.now }
+    {
+        match self.pairs(alloc) {
+            Ok(pairs) => are_at(pairs.as_slice(), ranges),
+            Err(_) => false,
+        }
+    }
+
+    /// Notes the ranges of a rectangle, if the elements stand at its indices, one after another. It may miss that, for want of
+    /// memory.
+    pub(crate) fn note_ranges(&mut self, alloc: Global, ranges: &AnyRect)
+        ensures { self.new ≡ self.old }
+    {
+        if self.stand_at(alloc, ranges) {
+            self.ranges = Some(*ranges);
         }
     }
 
@@ -580,6 +601,7 @@ where
     pieces.set_all(numbers)
 }
 
+#[tactic(auto, using(crate::proofs::Ranged::numbers_indexed))]
 fn numbers_of<D: Domain, M: Mapping<Index = D::Index>>(
     alloc: Global,
     pieces: &Pieces<D, M>,
@@ -589,24 +611,23 @@ where
     ensures { IfOk result (λ v. v.items ≡ map (λ e. e.1) (indexed D.Index.as_index pieces.now.0)) }
 {
     if let Some(all) = only_piece(pieces) {
-        return numbers_on::<D::Index>(alloc, all);
+        return numbers_on(alloc, all);
     }
     let whole = pieces.all_pairs()?;
-    numbers_on::<D::Index>(alloc, whole.as_slice())
+    numbers_on(alloc, whole.as_slice())
 }
 
-fn numbers_on<I: AsIndex>(alloc: Global, pairs: &[(I, i64)]) -> Result<Vec<i64>, NoMemory>
-    ensures { IfOk result (λ v. v.items ≡ map (λ e. e.1) (indexed I.as_index pairs.now)) }
+fn numbers_on<I>(alloc: Global, pairs: &[(I, i64)]) -> Result<Vec<i64>, NoMemory>
+    ensures { IfOk result (λ v. v.items ≡ map (λ e. e.1) pairs.now) }
 {
-    let numbers = pairs
-        .iter()
-        .map(
-            |pair: &(I, i64)| -> i64
-                ensures { result ≡ pair.now.1 }
-            { pair.1 },
-        )
-        .collect(alloc)?;
+    let numbers = pairs.iter().map(|pair| number_of(pair)).collect(alloc)?;
     Ok(numbers)
+}
+
+fn number_of<I>(pair: &(I, i64)) -> i64
+    ensures { result ≡ pair.now.1 }
+{
+    pair.1
 }
 
 // All pairs, where one locale has them.

@@ -6,6 +6,7 @@ mod kept;
 mod key;
 mod made;
 mod piece;
+mod ranged;
 mod walk;
 
 pub(crate) use crate::arrays::block::Block;

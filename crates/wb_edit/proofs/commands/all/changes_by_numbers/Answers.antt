@@ -17,8 +17,8 @@ use Rattle.wb_edit.proofs.commands.all.changes_by_numbers.Goals as goal
 pub numbers_made-requires : goal.numbers_made-requires
 numbers_made-requires c =
     let s = c.args.book.now.cells in
-    ap length (c.deref.ensures.value ∙ c.in-Ok.ensures) ∙ same_length (elements s c.args.array) (elements s c.args.other) c.requires.alike
-    ∙ sym (ap length (c.deref-2.ensures.value ∙ c.in-Ok-numbers.ensures))
+    ap length c.in-Ok.ensures ∙ same_length (elements s c.args.array) (elements s c.args.other) c.requires.alike
+    ∙ sym (ap length (c.deref.ensures.value ∙ c.in-Ok-numbers.ensures))
 
 pub returns-in_err-zs : goal.returns-in_err-zs
 returns-in_err-zs c =
@@ -30,8 +30,8 @@ returns-in_err-zs c =
     let ys : List (Index × ℤ) = elements s c.args.other in
     let why = c.in_err-zs.field-0.0 in
     let judged : Judges (numbers_within (made_of how (numbers_of xs) (numbers_of ys))) (Err why) =
-    subst (λ (ns : List ℤ). Judges (numbers_within (made_of how ns (numbers_of ys))) (Err why)) (c.deref.ensures.value ∙ c.in-Ok.ensures)
-    (subst (λ (ns : List ℤ). Judges (numbers_within (made_of how c.deref.result.now ns)) (Err why)) (c.deref-2.ensures.value ∙ c.in-Ok-numbers.ensures)
+    subst (λ (ns : List ℤ). Judges (numbers_within (made_of how ns (numbers_of ys))) (Err why)) c.in-Ok.ensures
+    (subst (λ (ns : List ℤ). Judges (numbers_within (made_of how c.in-Ok.xs.items ns)) (Err why)) (c.deref.ensures.value ∙ c.in-Ok-numbers.ensures)
     c.in_err-zs.ensures) in
     rw (p.1, p.2) (refused a (all_within (results how xs ys)) why (numbers_refused how xs ys c.requires.alike (elements_ascend s a) why judged))
 
@@ -45,8 +45,8 @@ returns c =
     let zs : List ℤ = c.in_ok-zs.zs.items in
     let r = c.rectangle_changes.result in
     let made : numbers_within (made_of how (numbers_of xs) (numbers_of ys)) ≡ Ok zs =
-    subst (λ (ns : List ℤ). numbers_within (made_of how ns (numbers_of ys)) ≡ Ok zs) (c.deref.ensures.value ∙ c.in-Ok.ensures)
-    (subst (λ (ns : List ℤ). numbers_within (made_of how c.deref.result.now ns) ≡ Ok zs) (c.deref-2.ensures.value ∙ c.in-Ok-numbers.ensures)
+    subst (λ (ns : List ℤ). numbers_within (made_of how ns (numbers_of ys)) ≡ Ok zs) c.in-Ok.ensures
+    (subst (λ (ns : List ℤ). numbers_within (made_of how c.in-Ok.xs.items ns) ≡ Ok zs) (c.deref.ensures.value ∙ c.in-Ok-numbers.ensures)
     c.in_ok-zs.ensures) in
     kept a (all_within (results how xs ys)) (zip (keys_of xs) zs) r (numbers_kept how xs ys c.requires.alike (elements_ascend s a) zs made)
     (subst (λ (is : List Index). Makes (number_cells a (zip is zs)) r) (sym c.requires.within) c.rectangle_changes.ensures)
