@@ -4,6 +4,7 @@ ghost use Rattle.std.specs.Prelude.{◌≡◌, ◌<◌, ◌≤◌, Bool, IfSome,
 ghost use Rattle.std.specs.List.{slice_get, list_any};
 ghost use Rattle.wb_book.specs.declared.values.index.Index.{Index};
 ghost use Rattle.wb_book.specs.declared.values.index.Index.TheVariants.{Point as at_point};
+ghost use Rattle.wb_book.specs.Ranks.{ranges_of};
 ghost use Rattle.wb_book.specs.Runs.{cell_of, changes_in, packed_changes, rectangle_entries, numbered_entries};
 ghost use Rattle.wb_book.specs.Shapes.{indices};
 ghost use Rattle.wb_foot.specs.declared.marking.Marking.{Marking};
@@ -19,9 +20,11 @@ use crate::place::Place;
 use crate::points::{Points, with_room};
 use std::alloc::Global;
 use wb_book::{
-    AnyRect, ChangeRun, Form, Index, Name, Packed, Point, RectangleChanges, RectangleNumbers,
+    AnyRect, ChangeRun, Form, Name, Packed, Point, Ranked, RectangleChanges, RectangleNumbers,
     Row as ChangeRow,
 };
+use wb_range::Domain;
+use wb_rect::Rect;
 
 /// So many cells at least go into one block.
 pub(crate) const LEAST: usize = 64;
@@ -149,25 +152,12 @@ fn packed_points<const R: usize>(
 {
     let mut points = with_room(alloc, changes.len())?;
     for change in changes {
-        let point = point_of(&change.0)?;
-        match points.push(point) {
+        match points.push(Point::of(&change.0)) {
             Ok(()) => {}
             Err(_) => return None,
         }
     }
     Some(Points::sorted(points))
-}
-
-// The point with these coordinates, of which there are 1 to 3.
-fn point_of(coordinates: &[i64]) -> Option<Point>
-    ensures { IfSome result (λ p. p ≡ coordinates.now) }
-{
-    match coordinates {
-        [i] => Some(Point::single(*i)),
-        [i, j] => Some(Point::pair(*i, *j)),
-        [i, j, k] => Some(Point::triple(*i, *j, *k)),
-        _ => None,
-    }
 }
 
 // The run that the cells at the indices of a rectangle are, if there is memory.
@@ -209,8 +199,9 @@ fn rectangle_points(alloc: Global, ranges: &AnyRect) -> Option<Points>
     ensures { IfSome result (λ ps. (f : Index → Bool) → list_any (λ p. f (at_point p)) ps ≡ list_any f (indices ranges.now)) }
 {
     let mut points = with_room(alloc, ranges.size())?;
+    let ranked = ranges.ranked();
     for at in 0..ranges.size() {
-        let point = point_in(ranges, at)?;
+        let point = point_in(&ranked, at)?;
         match points.push(point) {
             Ok(()) => {}
             Err(_) => return None,
@@ -220,11 +211,21 @@ fn rectangle_points(alloc: Global, ranges: &AnyRect) -> Option<Points>
 }
 
 // The point at a place of a rectangle.
-fn point_in(ranges: &AnyRect, at: usize) -> Option<Point>
-    ensures { IfSome result (λ p. slice_get (indices ranges.now) at ≡ Some (at_point p)) }
+fn point_in(ranked: &Ranked, at: usize) -> Option<Point>
+    ensures { IfSome result (λ p. slice_get (indices (ranges_of ranked.now)) at ≡ Some (at_point p)) }
 {
-    match ranges.nth(at)?.index() {
-        Index::Point(point) => Some(point),
-        Index::Text(_) => None,
+    match ranked {
+        Ranked::Line(rect) => point_at(rect, at),
+        Ranked::Plane(rect) => point_at(rect, at),
+        Ranked::Solid(rect) => point_at(rect, at),
     }
+}
+
+// The same, by the rank.
+fn point_at<const R: usize>(rect: &Rect<R>, at: usize) -> Option<Point>
+    requires { R ≤ 3 }
+    ensures { IfSome result (λ p. slice_get (indices rect.now) at ≡ Some (at_point p)) }
+{
+    let index = rect.nth(at)?;
+    Some(Point::of(&index))
 }

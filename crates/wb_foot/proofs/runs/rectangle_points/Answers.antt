@@ -1,6 +1,6 @@
 use Rattle.std.proofs.Common.{◌≡◌, ◌≤◌, map, length, refl, sym, ap, ◌∙◌, arith}
 use Rattle.std.proofs.lemmas.List.{take_all}
-use Rattle.std.specs.List.{list_any}
+use Rattle.std.specs.List.{slice_get, list_any}
 use Rattle.wb_book.specs.declared.values.index.Index.TheVariants.{Point}
 use Rattle.wb_book.specs.Shapes.{indices}
 use Rattle.wb_foot.proofs.Meeting.{any_map}
@@ -12,7 +12,7 @@ loop-at-init c = rw c.in_ok-points.ensures refl
 
 pub loop-at-preserved : goal.loop-at-preserved
 loop-at-preserved c = one_index_more Point (indices c.args.ranges.now) c.loop-at.at c.loop-at.points.items c.push.new.self.items c.in_ok-point.point
-    c.in_ok-point.ensures c.in-Ok.ensures.items c.loop-at.invariant
+    (ap (λ rs. slice_get (indices rs) c.loop-at.at) (sym c.ranked-ranked.ensures) ∙ c.in_ok-point.ensures) c.in-Ok.ensures.items c.loop-at.invariant
 
 pub returns : goal.returns
 returns c = λ f.
