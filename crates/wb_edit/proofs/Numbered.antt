@@ -188,7 +188,7 @@ module _ (how : Operation) (xs ys : List ℤ) (alike : length xs ≡ length ys) 
       let new : w ≡ result_of how (get_or xs p d) (get_or ys p e) = value in
       let put : set made p z ≡ set (made_up_to how p xs ys) p (result_of how (get_or xs p d) (get_or ys p e)) = (λ i. set (sofar i) p ((sym one.1 ∙ new) i)) in
       let longer : take p (made_of how xs ys) ++ w ∷ [] ≡ take (p + 1) (made_of how xs ys) =
-          ap (λ v. take p (made_of how xs ys) ++ v ∷ []) new ∙ sym (made_at how xs ys p d e low below) ∙ ap (λ n. take n (made_of how xs ys)) (sym (add-one p)) in (
+      ap (λ v. take p (made_of how xs ys) ++ v ∷ []) new ∙ sym (made_at how xs ys p d e low below) ∙ ap (λ n. take n (made_of how xs ys)) (sym (add-one p)) in (
         is ∙ put ∙ one_made how p xs ys d e low below ∙ ap (λ n. made_up_to how n xs ys) (sym (add-one p)),
         sym (ap (list_all is_i64) longer) ∙ within_more (take p (made_of how xs ys)) w within_64 one.0,
       )

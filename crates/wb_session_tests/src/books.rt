@@ -71,6 +71,11 @@ fn elements_of_an_array(rt: HostRuntime) -> Result<(), Fail> {
         Err(_) => book.elements(&array)?,
     };
     assert!(rt; elements.as_slice() == [(at(3), 7), (at(6), 10)].as_slice());
+    let numbers = match book.numbers(&array) {
+        Ok(numbers) => numbers,
+        Err(_) => book.numbers(&array)?,
+    };
+    assert!(rt; numbers.as_slice() == [7, 10].as_slice());
     Ok(())
 }
 
