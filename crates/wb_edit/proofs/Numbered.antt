@@ -1,6 +1,6 @@
 -- What two arrays over one domain make, by their numbers alone.
-use Rattle.std.proofs.Common.{◌≡◌, ℕ, zero, suc, ◌+◌, ◌<◌, ◌≤◌, Bool, true, false, ◌&&◌, T, ℤ, List, [], ◌∷◌, ◌++◌, map, take, length, get_or, set, Result, Ok, Err}
-use Rattle.std.proofs.Common.{refl, sym, ap, subst, ◌∙◌, arith, add-one, append-nil}
+use Rattle.std.proofs.Common.{◌≡◌, ℕ, zero, suc, ◌+◌, ◌<◌, ◌≤◌, Bool, true, false, ◌&&◌, T, ℤ, List, [], ◌∷◌, ◌++◌, map, take, length, get_or, set, Result, Ok}
+use Rattle.std.proofs.Common.{Err, refl, sym, ap, subst, ◌∙◌, arith, add-one, append-nil}
 use Rattle.std.specs.FinMap.{is_sorted}
 use Rattle.std.specs.List.{list_all, zip}
 use Rattle.std.specs.Map.{keys_of}
@@ -136,7 +136,8 @@ made_up_to_end how zero [] ys alike past = refl
 made_up_to_end how zero (x ∷ xs) ys alike past = absurd (omega (arith, alike, past))
 made_up_to_end how (suc p) [] ys alike past = refl
 made_up_to_end how (suc p) (x ∷ xs) [] alike past = absurd (omega (arith, alike))
-made_up_to_end how (suc p) (x ∷ xs) (y ∷ ys) alike past = ap (λ zs. result_of how x y ∷ zs) (made_up_to_end how p xs ys (omega (arith, alike)) (omega (arith, past)))
+made_up_to_end how (suc p) (x ∷ xs) (y ∷ ys) alike past = ap (λ zs. result_of how x y ∷ zs)
+    (made_up_to_end how p xs ys (omega (arith, alike)) (omega (arith, past)))
 
 made_at : (how : Operation) (xs ys : List ℤ) (p : ℕ) (d e : ℤ) → p < length xs → p < length ys →
     take (suc p) (made_of how xs ys) ≡ take p (made_of how xs ys) ++ result_of how (get_or xs p d) (get_or ys p e) ∷ []

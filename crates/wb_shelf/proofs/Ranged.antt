@@ -8,7 +8,8 @@ use Rattle.wb_shelf.specs.Piecewise.Indexed.{indexed}
 -- one element more that stands where it should
 pub one_key_more : {K V : Type 0} (es : List (K × V)) (ks : List K) (i : ℕ) (d : K × V) → i < length es → slice_get ks i ≡ Some (get_or es i d).0 →
     keys_of (take i es) ≡ take i ks → keys_of (take (i + 1) es) ≡ take (i + 1) ks
-one_key_more {K} {V} es ks i d low here so_far = ap (λ n. keys_of (take n es)) (add-one i) ∙ next es ks i low here so_far ∙ ap (λ n. take n ks) (sym (add-one i))
+one_key_more {K} {V} es ks i d low here so_far =
+    ap (λ n. keys_of (take n es)) (add-one i) ∙ next es ks i low here so_far ∙ ap (λ n. take n ks) (sym (add-one i))
   where
     next : (es : List (K × V)) (ks : List K) (i : ℕ) → i < length es → slice_get ks i ≡ Some (get_or es i d).0 →
         keys_of (take i es) ≡ take i ks → keys_of (take (suc i) es) ≡ take (suc i) ks
