@@ -12,6 +12,7 @@ use std::thread::Threads;
 use wb_book::{Inverse, Name};
 use wb_edit::laws::keeps_well_formed;
 use wb_edit::{Edit, plan};
+use wb_range::NoMemory;
 use wb_redist::{Crew, Gate, MoveErr, Mover, Open, Way, Workers};
 use wb_shelf::{Book, Pairs};
 
@@ -83,12 +84,21 @@ fn made_at_last<M: Mover>(
     }
 }
 
+// That an array knows the rectangle that it stands at; else there was no memory to look, once it was made.
+fn knows_its_rectangle(book: &Book, array: &Name) -> Result<(), NoMemory> {
+    match book.rectangle(array) {
+        Some(_) => Ok(()),
+        None => Err(NoMemory),
+    }
+}
+
 // Maps the domain in turn by the mover, and looks at each piece.
 fn moves<M: Mover>(rt: &impl Abort, alloc: Global, mover: &M) -> Result<(), Fail> {
     let mut book = book_of(alloc, MAPPED)?;
     lies_so(rt, &book, &IN_BLOCKS)?;
     let before = made_at_last(alloc, &mut book, &edit_of(alloc, REMAP)?, mover)?;
     assert!(rt; before.count() == 1);
+    knows_its_rectangle(&book, &Name::new("A")?)?;
     lies_so(rt, &book, &IN_TURN)
 }
 
