@@ -1,7 +1,7 @@
 //! What a history is written as: the canonical line of each edit's request (`specs/Table.antt` has its members), and the
 //! text of a whole history.
 //!
-//! Its tests are in the crate `wb_session_tests`.
+//! Its tests are in the crate `wb_tests`.
 #![tactic(auto)]
 
 mod edits;

@@ -1,6 +1,6 @@
 //! Numbered edits over one workbook: each can be undone and redone by its number.
 //!
-//! Its tests are in the crate `wb_session_tests`.
+//! Its tests are in the crate `wb_tests`.
 #![tactic(auto)]
 
 mod history;

@@ -3,7 +3,7 @@
 //! A reader gives what was written: bounds, counts, strides, lists. What it means, and the limits that it has to
 //! keep, come after it.
 //!
-//! Its tests are in the crate `wb_session_tests`.
+//! Its tests are in the crate `wb_tests`.
 #![tactic(auto)]
 
 mod domain;

@@ -1,7 +1,7 @@
 //! The entries of a history, with what is kept of each edit in force; the index over them; and the steps of a history: an
 //! edit at the end, an undo or a redo at a place.
 //!
-//! Its tests are in the crate `wb_session_tests`.
+//! Its tests are in the crate `wb_tests`.
 #![tactic(auto)]
 
 mod blockers;

@@ -1,3 +1,4 @@
+pub use Rattle.wb_shared
 pub mod Running
 pub mod Checking
 pub mod Resuming

@@ -1,17 +1,9 @@
-//! Runs of the program, as tests: its command line, a session, texts of workbooks and of none, texts made those of histories, and
-//! seats on connections.
+//! Days of a desk and runs of the program, as tests of the crates from `wb_shared` to `wb_program` through their public calls.
 //!
-//! They are the tests of `wb_command` and `wb_program`. A crate with tests is proved twice, so these crates have none of
-//! their own.
+//! A crate with tests is proved twice, so these crates have none of their own.
 #![tactic(auto)]
 
 #[cfg(test)]
-mod connections;
+mod desk;
 #[cfg(test)]
-mod records;
-#[cfg(test)]
-mod runs;
-#[cfg(test)]
-mod texts;
-#[cfg(test)]
-mod upgrades;
+mod program;

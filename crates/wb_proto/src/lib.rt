@@ -1,6 +1,6 @@
 //! Requests and replies as JSON lines, and sessions that answer one with the other.
 //!
-//! Its tests are in the crate `wb_session_tests`.
+//! Its tests are in the crate `wb_tests`.
 #![tactic(auto)]
 
 mod replies;

@@ -24,7 +24,7 @@ use Rattle.wb_book.specs.Kinds.{kind_of}
 use Rattle.wb_book.specs.Locales.{mapping_in}
 use Rattle.wb_book.specs.WellFormed.{IsWellFormed, IsElement, IsObject, HasMapping, is_index_of_array, domain_at, domain_in, array_at, array_in as object_in}
 use Rattle.wb_book.proofs.Shown.{get-state_of}
-use Rattle.wb_shelf.specs.Piecewise.Changed.{changed_at}
+use Rattle.wb_elements.specs.Piecewise.Changed.{changed_at}
 use Rattle.wb_shelf.specs.Joined.{is_stored, stored_in, AllStored}
 use Rattle.wb_shelf.specs.Kept.{Pieced, array_in, Agree}
 use Rattle.wb_shelf.specs.After.{kind_lies, object_lies, lies_at, IsAfter}

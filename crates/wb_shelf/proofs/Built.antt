@@ -14,7 +14,7 @@ use Rattle.wb_book.specs.Cells.{Name, index_cmp, is_same_name}
 use Rattle.wb_shelf.specs.After.{IsAfter, AreAfter, with_array}
 use Rattle.wb_shelf.specs.Groups.{Group, group_in, changes_of}
 use Rattle.wb_shelf.specs.Kept.{Pieced, array_in}
-use Rattle.wb_shelf.specs.Piecewise.Changed.{changed_at}
+use Rattle.wb_elements.specs.Piecewise.Changed.{changed_at}
 use Rattle.wb_shelf.proofs.Moved.{none_above}
 use Rattle.wb_shelf.proofs.Written.{one_name}
 

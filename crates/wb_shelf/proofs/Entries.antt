@@ -25,9 +25,9 @@ use Rattle.wb_book.specs.Cells.{Name, Changes, cell_cmp, is_same_name}
 use Rattle.wb_book.specs.Runs.{cell_of, change_at, packed_changes, changes_in, in_first, all_changes}
 use Rattle.wb_book.specs.declared.values.index.Index.TheVariants.{Point}
 use Rattle.wb_book.proofs.Runs.{all-append}
-use Rattle.wb_shelf.specs.Entries.{row_changes}
+use Rattle.wb_elements.specs.Entries.{row_changes}
 use Rattle.wb_shelf.specs.Groups.{Group, LeadTo, leaves, group_in, changes_in as changes_in_groups}
-use Rattle.wb_shelf.specs.Piecewise.Marked.{as_changes}
+use Rattle.wb_elements.specs.Piecewise.Marked.{as_changes}
 use Rattle.wb_shelf.proofs.Leads.{apart_leads, same_leads, element_leads, other_array}
 use Rattle.wb_shelf.proofs.Written.{one_name}
 

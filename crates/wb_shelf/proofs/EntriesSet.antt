@@ -23,12 +23,12 @@ use Rattle.wb_book.specs.declared.changes.run.ChangeRun.{ChangeRun}
 use Rattle.wb_book.specs.declared.values.index.Index.{Index}
 use Rattle.wb_book.specs.Cells.{Name, Cells, Changes, is_same_name, is_same_index}
 use Rattle.wb_book.specs.Runs.{changes_in, all_changes}
-use Rattle.wb_shelf.specs.Entries.{row_changes, element_at, sets_one, with_one, with_all}
+use Rattle.wb_elements.specs.Entries.{row_changes, element_at, sets_one, with_one, with_all}
 use Rattle.wb_shelf.specs.Groups.{LeadTo}
 use Rattle.wb_shelf.specs.Joined.{element_in}
 use Rattle.wb_shelf.specs.Kept.{Pieced, array_in, with_elements, Agree, number_in, is_set}
-use Rattle.wb_shelf.specs.Piecewise.Changed.{changed_at}
-use Rattle.wb_shelf.specs.Piecewise.Marked.{as_changes}
+use Rattle.wb_elements.specs.Piecewise.Changed.{changed_at}
+use Rattle.wb_elements.specs.Piecewise.Marked.{as_changes}
 use Rattle.wb_shelf.proofs.ElementsSet.{both_true, same_test}
 use Rattle.wb_shelf.proofs.Entries.{row_leads, run_more}
 use Rattle.wb_shelf.proofs.Written.{one_index, one_name}
@@ -88,16 +88,6 @@ module _ {I : Type 0} (f : I → Index) where
   there_all (x ∷ xs) es j set =
       let parts = both_true (sets_one f (element_at es) x) (list_all (sets_one f (element_at es)) xs) set in
       there_all xs (with_one es (f x.0) x.1) j (still es x xs set) ∙ there_one es (f x.0) x.1 j parts.0
-
-  pub with_all-last : (xs : List (I × Option ℤ)) (x : I × Option ℤ) (es : List (Index × ℤ)) →
-      with_all f es (xs ++ x ∷ []) ≡ with_one (with_all f es xs) (f x.0) x.1
-  with_all-last [] x es = refl
-  with_all-last (y ∷ xs) x es = with_all-last xs x (with_one es (f y.0) y.1)
-
-  pub with_all-more : (xs : List (I × Option ℤ)) (k : ℕ) (x : I × Option ℤ) (es : List (Index × ℤ)) → k < length xs → x ≡ get_or xs k x →
-      with_all f es (take (k + 1) xs) ≡ with_one (with_all f es (take k xs)) (f x.0) x.1
-  with_all-more xs k x es low is =
-      ap (with_all f es) (take_more xs k x low ∙ ap (λ (y : I × Option ℤ). take k xs ++ y ∷ []) (sym is)) ∙ with_all-last (take k xs) x es
 
   number_there : (o : Option ℤ) → is_some (number_in (option_map Number o)) ≡ is_some o
   number_there None = refl

@@ -1,4 +1,3 @@
-pub mod Piecewise
 pub mod JoinedGroups
 pub mod Joined
 pub mod Stored
@@ -11,8 +10,6 @@ pub mod Seen
 pub mod Leads
 pub mod Entries
 pub mod EntriesSet
-pub mod Blocks
-pub mod Ranged
 pub mod Told
 pub mod Applied
 pub mod Built

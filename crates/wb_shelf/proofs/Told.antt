@@ -25,10 +25,10 @@ use Rattle.wb_rect.specs.Product.{product}
 use Rattle.wb_book.specs.Runs.{cell_of, value_of, changes_in, packed_changes, rectangle_entries, numbered_entries}
 use Rattle.wb_book.specs.Shapes.{indices}
 use Rattle.wb_book.specs.WellFormed.{has, present_if, inside_of, ranges_in}
-use Rattle.wb_shelf.specs.Entries.{row_changes, read_at, element_at}
+use Rattle.wb_elements.specs.Entries.{row_changes, read_at, element_at}
 use Rattle.wb_shelf.specs.Joined.{answer, with_answer}
-use Rattle.wb_shelf.proofs.Blocks.{itself}
-use Rattle.wb_shelf.proofs.Piecewise.Changed.{one_index, none_above}
+use Rattle.wb_elements.proofs.Blocks.{itself}
+use Rattle.wb_elements.proofs.Piecewise.Changed.{one_index, none_above}
 
 -- elements that were read tell it
 pub row_told : {I : Type 0} (f : I → Index) (stored : Cell → Option Value) (element : Name → Index → Option ℤ) (a : Name) (xs : List (I × Option ℤ)) →

@@ -14,7 +14,7 @@ use Rattle.wb_book.specs.declared.values.index.Index.{Index}
 use Rattle.wb_book.specs.Cells.{Name, index_cmp}
 use Rattle.wb_book.specs.Locales.{mapping_in}
 use Rattle.wb_book.specs.WellFormed.{domain_in, array_in}
-use Rattle.wb_shelf.specs.Piecewise.Changed.{changed_at}
+use Rattle.wb_elements.specs.Piecewise.Changed.{changed_at}
 use Rattle.wb_shelf.specs.Groups.{Group}
 use Rattle.wb_shelf.specs.Kept.{Pieced, array_in as kept_in}
 

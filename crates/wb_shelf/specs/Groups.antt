@@ -13,7 +13,7 @@ use Rattle.wb_book.specs.declared.cells.value.Value.{Value}
 use Rattle.wb_book.specs.declared.cells.value.Value.TheVariants.{Number}
 use Rattle.wb_book.specs.declared.values.index.Index.{Index}
 use Rattle.wb_book.specs.Cells.{Name, Cells, Changes}
-use Rattle.wb_shelf.specs.Piecewise.Changed.{changed_at}
+use Rattle.wb_elements.specs.Piecewise.Changed.{changed_at}
 
 -- changes of the elements of an array
 abbrev pub Group : Type 0

@@ -16,12 +16,11 @@ ghost use Rattle.wb_book.specs.declared.values.index.Index.{Index as index_type}
 ghost use Rattle.wb_book.specs.Runs.{cell_of, changes_in, all_changes, packed_changes, rectangle_entries, numbered_entries};
 ghost use Rattle.wb_shelf.specs.Joined.{answer, stored_in, element_in, is_stored, with_answer};
 ghost use Rattle.wb_shelf.specs.Kept.{Pieced, array_in};
-ghost use Rattle.wb_shelf.specs.Entries.{element_at};
-ghost use Rattle.wb_shelf.specs.Piecewise.Marked.{as_changes};
+ghost use Rattle.wb_elements.specs.Entries.{element_at};
+ghost use Rattle.wb_elements.specs.Piecewise.Marked.{as_changes};
 ghost use Rattle.wb_book.specs.declared.values.index.Index.TheVariants.{Point as point_index};
 ghost use Rattle.wb_shelf.specs.After.{kind_lies, domain_lies, lies_at, IsAfter, AreAfter};
 
-use crate::arrays::{Block, Elements, Kept};
 use crate::groups::{Group, list_of};
 use crate::keep;
 use std::alloc::Global;
@@ -30,6 +29,7 @@ use wb_book::{
     AnyIndex, AnyLayout, AnyRect, Cell, CellChange, ChangeRun, Changes, DomainKind, Form, KeyType,
     Name, Packed, RectangleChanges, RectangleNumbers, Row, Value,
 };
+use wb_elements::{Block, Elements, Kept};
 use wb_range::NoMemory;
 use wb_redist::{MoveErr, Mover};
 

@@ -19,13 +19,13 @@ ghost use Rattle.wb_shelf.specs.Kept.{Pieced, array_in};
 ghost use Rattle.wb_shelf.specs.Moved.{put_over};
 ghost use Rattle.wb_shelf.specs.Shelf.{cells_of, IsShelf};
 
-use crate::arrays::Elements;
 use crate::groups::Group;
 use crate::{after, groups, keep, moving};
 use std::alloc::Global;
 use std::collections::BTreeMap;
 use std::slice;
 use wb_book::{AnyIndex, AnyLayout, Cell, CellChange, Changes, Name, Value, store};
+use wb_elements::Elements;
 use wb_range::NoMemory;
 use wb_redist::{MoveErr, Mover};
 

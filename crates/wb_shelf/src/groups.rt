@@ -15,19 +15,19 @@ ghost use Rattle.wb_book.specs.declared.cells.value.Value.TheVariants.{Number as
 ghost use Rattle.wb_book.specs.Cells.{cell_cmp, is_same_name};
 ghost use Rattle.wb_book.specs.Runs.{changes_in as run_changes, all_changes, packed_changes};
 ghost use Rattle.wb_book.specs.declared.values.index.Index.TheVariants.{Point as point_index};
-ghost use Rattle.wb_shelf.specs.Blocks.{listed};
-ghost use Rattle.wb_shelf.specs.Entries.{row_changes};
-ghost use Rattle.wb_shelf.specs.Piecewise.Marked.{as_changes};
+ghost use Rattle.wb_elements.specs.Blocks.{listed};
+ghost use Rattle.wb_elements.specs.Entries.{row_changes};
+ghost use Rattle.wb_elements.specs.Piecewise.Marked.{as_changes};
 ghost use Rattle.wb_shelf.specs.Joined.{stored_in};
 ghost use Rattle.wb_shelf.specs.Groups.{group_in, changes_in, LeadTo, leaves};
 ghost use Rattle.wb_shelf.specs.Kept.{array_in};
 
-use crate::arrays::{AsIndex, Block, Elements, Kept, list_block};
 use std::alloc::Global;
 use std::collections::BTreeMap;
 use std::marker::Model;
 use std::mem;
 use wb_book::{AnyIndex, Cell, CellChange, ChangeRun, Changes, Form, Name, Row, Value};
+use wb_elements::{AsIndex, Block, Elements, Kept, list_block};
 use wb_range::NoMemory;
 
 /// Changes of the elements of an array: to a number, or to absent.
@@ -39,7 +39,7 @@ pub(crate) struct Group {
 impl Model for Group {
     ghost use Rattle.std.specs.Prelude.{List, Option, ℤ};
     ghost use Rattle.wb_book.specs.declared.values.index.Index.{Index};
-    ghost use Rattle.wb_shelf.specs.Blocks.{listed};
+    ghost use Rattle.wb_elements.specs.Blocks.{listed};
 
     ghost Value = { List (Index × Option ℤ) };
 

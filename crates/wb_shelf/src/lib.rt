@@ -2,7 +2,6 @@
 #![tactic(auto)]
 
 mod after;
-mod arrays;
 mod change;
 mod groups;
 mod keep;
@@ -10,5 +9,5 @@ mod looks;
 mod moving;
 mod shelf;
 
-pub use crate::arrays::{AsIndex, Elements, Form, Pairs};
 pub use crate::shelf::Book;
+pub use wb_elements::{AsIndex, Elements, Form, Pairs};

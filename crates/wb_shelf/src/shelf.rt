@@ -8,13 +8,13 @@ ghost use Rattle.std.specs.FinMap as map;
 mod parts;
 mod readers;
 
-use crate::arrays::Elements;
 use crate::{after, change, keep, looks};
 use std::alloc::Global;
 use std::collections::BTreeMap;
 use std::marker::Model;
 use std::mem;
 use wb_book::{AnyIndex, Cell, Changes, Delta, Inverse, Name, Pattern, Value};
+use wb_elements::Elements;
 use wb_range::NoMemory;
 use wb_redist::{MoveErr, Mover};
 

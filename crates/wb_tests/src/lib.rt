@@ -1,20 +1,11 @@
-//! Worked examples of index sets, mappings and arrays, as tests through public calls alone.
+//! Tests of the crates from `wb_range` to `wb_record`, through their public calls: index sets, mappings and arrays; books, the
+//! index of footprints, literals, texts, worked histories as request lines with their replies, undo with dependents, and
+//! sessions over devices that fail.
 //!
-//! They are the tests of the crates from `wb_range` to `wb_redist`. A crate with tests is proved twice, so these crates
-//! have none of their own.
+//! A crate with tests is proved twice, so these crates have none of their own.
 #![tactic(auto)]
 
 #[cfg(test)]
-mod arrays;
+mod index_sets;
 #[cfg(test)]
-mod mappings;
-#[cfg(test)]
-mod movers;
-#[cfg(test)]
-mod ranges;
-#[cfg(test)]
-mod rectangles;
-#[cfg(test)]
-mod rows;
-#[cfg(test)]
-mod sets;
+mod sessions;

@@ -3,7 +3,7 @@
 //! Every literal in it is canonical. `specs/Literals.antt` has the texts of the literals, and `specs/Lines.antt` those
 //! of the lines and of the workbook; [`laws`] has what the text tells.
 //!
-//! Its tests are in the crate `wb_session_tests`.
+//! Its tests are in the crate `wb_tests`.
 #![tactic(auto)]
 
 mod books;

@@ -1,7 +1,7 @@
 //! The lines of requests, apart from how they are read: which members each request has and what their values spell
 //! (`specs/Table.antt` and `specs/Spelled.antt`), and the canonical line of each request.
 //!
-//! Its tests are in the crate `wb_session_tests`.
+//! Its tests are in the crate `wb_tests`.
 #![tactic(auto)]
 
 pub mod laws;

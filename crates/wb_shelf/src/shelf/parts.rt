@@ -4,11 +4,11 @@ ghost use Rattle.std.specs.Prelude.{◌≡◌};
 ghost use Rattle.wb_book.specs.Cells.{Cells};
 ghost use Rattle.wb_shelf.specs.Parts.{AreParts};
 
-use crate::arrays::Elements;
 use crate::shelf::Book;
 use std::alloc::Global;
 use std::collections::BTreeMap;
 use wb_book::{Cell, Name, Value};
+use wb_elements::Elements;
 
 impl Book {
     /// The workbook of these stored cells and arrays, which were set by no change. Who reads a workbook's text makes each

@@ -6,16 +6,16 @@ ghost use Rattle.wb_book.specs.Shapes.{indices};
 ghost use Rattle.wb_book.specs.Locales.{is_index_at, locale_at};
 ghost use Rattle.wb_book.specs.Readers.{objects, users, size_at, index_at, elements};
 ghost use Rattle.wb_book.specs.WellFormed.{IsWellFormed, domain_at};
-ghost use Rattle.wb_shelf.specs.Piecewise.Lent.{lent};
+ghost use Rattle.wb_elements.specs.Piecewise.Lent.{lent};
 ghost use Rattle.wb_redist.specs.Reductions.{IsReduced};
 ghost use Rattle.wb_shelf.specs.Shelf.{piece_at};
 
-use crate::arrays::Pairs;
 use crate::looks;
 use crate::shelf::Book;
 use wb_book::{
     AnyIndex, AnyRect, Name, index_at, locale_at, object_at, object_count, size_at, user_at,
 };
+use wb_elements::Pairs;
 use wb_range::NoMemory;
 use wb_redist::{Mover, Op, ReduceErr};
 

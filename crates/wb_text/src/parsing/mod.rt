@@ -3,7 +3,7 @@
 //! What `wb_text` writes is read: `specs/Parts.antt` and `specs/Lines.antt` have the readers as functions, and
 //! `ReadsLines` says that the lines of each workbook's text are read.
 //!
-//! Its tests are in the crate `wb_session_tests`.
+//! Its tests are in the crate `wb_tests`.
 mod lines;
 mod parts;
 mod text;

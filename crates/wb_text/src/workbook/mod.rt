@@ -4,7 +4,7 @@
 //! `specs/Told.antt` has the cells that lines tell of, `specs/Laid.antt` how their arrays lie, and `specs/Rebuilt.antt` the
 //! law that a well-formed workbook comes back from what its lines say.
 //!
-//! Its tests are in the crate `wb_session_tests`.
+//! Its tests are in the crate `wb_tests`.
 mod arrays;
 mod columns;
 mod finding;

@@ -1,8 +1,8 @@
 use Rattle.std.proofs.Common.{◌≡◌, length, sym, ◌∙◌}
 use Rattle.wb_book.specs.declared.values.index.Index.TheVariants.{Point}
-use Rattle.wb_shelf.specs.Piecewise.Changed.{all_set}
-use Rattle.wb_shelf.specs.Piecewise.Marked.{as_changes}
-use Rattle.wb_shelf.proofs.Blocks.{fresh_after}
+use Rattle.wb_elements.specs.Piecewise.Changed.{all_set}
+use Rattle.wb_elements.specs.Piecewise.Marked.{as_changes}
+use Rattle.wb_elements.proofs.Blocks.{fresh_after}
 use Rattle.wb_shelf.proofs.after.after_block.Goals as goal
 
 pub returns-in-Ok-Some-clause-after : goal.returns-in-Ok-Some-clause-after

@@ -2,7 +2,7 @@ use Rattle.std.proofs.Common.{◌≡◌, Some, None, Option, sym, ap, ◌∙◌}
 use Rattle.std.specs.Option.{option_and_then}
 use Rattle.wb_book.specs.declared.changes.rectangle.RectangleChanges.{RectangleChanges}
 use Rattle.wb_book.specs.Runs.{packed_changes, rectangle_entries}
-use Rattle.wb_shelf.specs.Entries.{element_at}
+use Rattle.wb_elements.specs.Entries.{element_at}
 use Rattle.wb_shelf.specs.Joined.{element_in}
 use Rattle.wb_shelf.specs.Kept.{Pieced, array_in}
 use Rattle.wb_shelf.proofs.Told.{absent_told, known_told}

@@ -4,10 +4,10 @@ use Rattle.std.specs.Map.{keys_of}
 use Rattle.wb_array.specs.Elements.{value_at}
 use Rattle.wb_book.specs.declared.values.index.Index.{Index}
 use Rattle.wb_book.specs.Cells.{index_cmp}
-use Rattle.wb_shelf.specs.Piecewise.Changed.{changed_at}
+use Rattle.wb_elements.specs.Piecewise.Changed.{changed_at}
 use Rattle.wb_shelf.specs.Kept.{array_in}
 use Rattle.wb_shelf.proofs.Grown.{none_there, put_stays, put_elements}
-use Rattle.wb_shelf.proofs.Kept.{ascending-nothing}
+use Rattle.wb_elements.proofs.Ascending.{ascending-nothing}
 use Rattle.wb_shelf.proofs.change.put_empty.Goals as goal
 
 pub made-requires : goal.made-requires

@@ -5,7 +5,7 @@ use Rattle.wb_book.specs.declared.cells.cell.Cell.TheVariants.{Element}
 use Rattle.wb_book.specs.declared.changes.row.Row.{Row}
 use Rattle.wb_book.specs.Cells.{cell_cmp}
 use Rattle.wb_book.specs.Runs.{cell_of}
-use Rattle.wb_shelf.specs.Entries.{row_changes}
+use Rattle.wb_elements.specs.Entries.{row_changes}
 use Rattle.wb_shelf.specs.Groups.{LeadTo, changes_in}
 use Rattle.wb_shelf.proofs.Entries.{apart_all, rows_lead}
 use Rattle.wb_shelf.proofs.groups.add_entries.Goals as goal

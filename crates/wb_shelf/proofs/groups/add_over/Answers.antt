@@ -2,7 +2,7 @@ use Rattle.std.proofs.Common.{◌≡◌, Some, sym, ap, ◌∙◌}
 use Rattle.std.proofs.lemmas.Result.{on_ok_weaker}
 use Rattle.wb_book.specs.declared.values.index.Index.TheVariants.{Point}
 use Rattle.wb_shelf.specs.Groups.{Group, group_in}
-use Rattle.wb_shelf.specs.Piecewise.Marked.{as_changes}
+use Rattle.wb_elements.specs.Piecewise.Marked.{as_changes}
 use Rattle.wb_shelf.proofs.Leads.{group_stays, group_added, group_set}
 use Rattle.wb_shelf.proofs.groups.add_over.Goals as goal
 

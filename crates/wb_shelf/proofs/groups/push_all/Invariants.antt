@@ -1,5 +1,5 @@
 use Rattle.std.proofs.Common.{◌≡◌, ◌++◌, take}
-use Rattle.wb_shelf.specs.Piecewise.Marked.{as_changes}
+use Rattle.wb_elements.specs.Piecewise.Marked.{as_changes}
 use Rattle.wb_shelf.proofs.groups.push_all.Given as goal
 
 abbrev pub invariant-loop-index : goal.invariant-loop-index

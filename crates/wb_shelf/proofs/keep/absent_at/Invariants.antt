@@ -1,5 +1,5 @@
 use Rattle.std.proofs.Common.{◌≡◌, None, take}
-use Rattle.wb_shelf.specs.Entries.{read_at}
+use Rattle.wb_elements.specs.Entries.{read_at}
 use Rattle.wb_shelf.proofs.keep.absent_at.Given as goal
 
 abbrev pub invariant-loop-index : goal.invariant-loop-index

@@ -1,6 +1,6 @@
 use Rattle.std.proofs.Common.{◌≡◌, Some, None, refl, sym, ap, ◌∙◌}
 use Rattle.std.specs.List.{list_all}
-use Rattle.wb_shelf.specs.Entries.{row_changes}
+use Rattle.wb_elements.specs.Entries.{row_changes}
 use Rattle.wb_shelf.specs.Joined.{element_in}
 use Rattle.wb_shelf.specs.Kept.{array_in, is_set}
 use Rattle.wb_shelf.proofs.EntriesSet.{none_set, sets_found, sets_none}

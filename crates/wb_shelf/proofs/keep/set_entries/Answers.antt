@@ -4,7 +4,7 @@ use Rattle.selective_undo.specs.Changes.{apply}
 use Rattle.wb_book.specs.declared.changes.row.Row.{Row}
 use Rattle.wb_book.specs.declared.changes.row.Row.TheVariants.{Inside, Members, Elements}
 use Rattle.wb_book.specs.Cells.{Changes}
-use Rattle.wb_shelf.specs.Entries.{row_changes}
+use Rattle.wb_elements.specs.Entries.{row_changes}
 use Rattle.wb_shelf.specs.Joined.{element_in}
 use Rattle.wb_shelf.specs.Kept.{Agree, is_set}
 use Rattle.wb_shelf.proofs.EntriesSet.{only_none, agree_made, there_made}

@@ -2,7 +2,7 @@ use Rattle.std.proofs.Common.{◌≡◌, Some, None, sym, ap, ◌∙◌}
 use Rattle.std.specs.BTreeMap.{BTreeMap}
 use Rattle.wb_book.specs.declared.values.index.Index.TheVariants.{Point}
 use Rattle.wb_book.specs.Cells.{Name}
-use Rattle.wb_shelf.specs.Entries.{with_all}
+use Rattle.wb_elements.specs.Entries.{with_all}
 use Rattle.wb_shelf.specs.Kept.{Pieced, array_in}
 use Rattle.wb_shelf.proofs.EntriesSet.{array_written, array_absent}
 use Rattle.wb_shelf.proofs.keep.set_over.Goals as goal

@@ -3,7 +3,7 @@ use Rattle.std.specs.List.Sorted.{IsStrictlySortedBy}
 use Rattle.std.specs.Map.{keys_of}
 use Rattle.wb_book.specs.Cells.{index_cmp}
 use Rattle.wb_shelf.specs.Kept.{Pieced, array_in, pairs_of}
-use Rattle.wb_shelf.proofs.Kept.{ascending-nothing}
+use Rattle.wb_elements.proofs.Ascending.{ascending-nothing}
 use Rattle.wb_shelf.proofs.looks.piece.Goals as goal
 
 pub returns-in-None-clause-ascending : goal.returns-in-None-clause-ascending

@@ -3,7 +3,7 @@ use Rattle.std.specs.FinMap.{get-empty}
 use Rattle.wb_book.specs.Cells.{cell_cmp}
 use Rattle.wb_book.specs.declared.cells.cell.Cell.TheVariants.{Object}
 use Rattle.wb_book.proofs.Empty.{empty_is_well_formed}
-use Rattle.wb_shelf.proofs.Kept.{ascending-nothing}
+use Rattle.wb_elements.proofs.Ascending.{ascending-nothing}
 use Rattle.wb_shelf.proofs.shelf.Book.new.Goals as goal
 
 pub invariant_of-result : goal.invariant_of-result

@@ -7,7 +7,7 @@ use Rattle.wb_book.specs.declared.values.index.Index.{Index}
 use Rattle.wb_book.specs.Cells.{index_cmp}
 use Rattle.wb_shelf.specs.Piecewise.Changed.{changed_at, all_set}
 use Rattle.wb_text.specs.FromLines.Told.{indices_told}
-use Rattle.wb_shelf.proofs.Kept.{ascending-nothing}
+use Rattle.wb_elements.proofs.Ascending.{ascending-nothing}
 use Rattle.wb_shelf.proofs.Seen.{both_ok}
 use Rattle.wb_text.specs.Said.{first_line_of, line_of}
 use Rattle.wb_text.proofs.FromLines.Columnwise.{column_set}

@@ -1,0 +1,19 @@
+use Rattle.std.proofs.Common.{ℤ, cond, Option, sym, ap, ◌∙◌}
+use Rattle.wb_book.specs.declared.values.index.Index.{Index}
+use Rattle.wb_book.specs.Cells.{is_same_index}
+use Rattle.wb_elements.specs.Piecewise.Marked.{marked_at}
+use Rattle.wb_elements.proofs.Piecewise.Changed.{changed_more}
+use Rattle.wb_elements.proofs.made.mark_all.Goals as goal
+
+pub loop-index-preserved : goal.loop-index-preserved
+loop-index-preserved g c =
+    let f = g.I.AsIndex.as_index in
+    let x : Index × Option ℤ = c.loop-index-item.result in
+    record {
+      elements = λ i.
+          c.in_ok-mark_one.ensures.elements i
+          ∙ ap (cond (is_same_index i x.0) x.1) (c.loop-index.invariant.elements i)
+          ∙ sym (changed_more c.args.changes.now c.loop-index.index-index x (marked_at f c.args.marks.now.items i) i c.loop-index-test.true
+          c.loop-index-item.is);
+      kept = c.in_ok-mark_one.ensures.kept;
+    }

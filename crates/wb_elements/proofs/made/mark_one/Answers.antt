@@ -1,0 +1,37 @@
+use Rattle.std.proofs.Common.{rules, ◌≡◌, ℤ, Bool, true, false, cond, Option, None, [], ◌∷◌, ◌++◌, refl, sym, ap, ◌∙◌}
+use Rattle.wb_book.specs.declared.values.index.Index.{Index}
+use Rattle.wb_book.specs.Cells.{is_same_index}
+use Rattle.wb_elements.specs.Piecewise.Marked.{marked_at}
+use Rattle.wb_elements.proofs.Piecewise.Changed.{one_index}
+use Rattle.wb_elements.proofs.Piecewise.Marked.{marked-last, all_marked-last, marked-none}
+use Rattle.wb_elements.proofs.made.mark_one.Goals as goal
+
+pub returns-in-Ok-clause-elements : goal.returns-in-Ok-clause-elements
+returns-in-Ok-clause-elements g c = λ i.
+    let f = g.I.AsIndex.as_index in
+    let ms = c.args.marks.now.items in
+    let w : Option ℤ = c.args.value.now in
+    let pushed : c.push.new.self.items ≡ ms ++ (c.in-Some.key, w) ∷ [] = search rules in
+    ap (λ xs. marked_at f xs i) pushed
+    ∙ marked-last f ms (c.in-Some.key, w) i
+    ∙ ap (λ (j : Index). cond (is_same_index i j) w (marked_at f ms i)) c.in-Some.ensures.value
+
+pub returns-in-Ok-clause-kept : goal.returns-in-Ok-clause-kept
+returns-in-Ok-clause-kept g c =
+    let f = g.I.AsIndex.as_index in
+    let ms = c.args.marks.now.items in
+    let w : Option ℤ = c.args.value.now in
+    let pushed : c.push.new.self.items ≡ ms ++ (c.in-Some.key, w) ∷ [] = search rules in
+    let here : g.I.AsIndex.is_of (f c.in-Some.key) ≡ true = ap g.I.AsIndex.is_of c.in-Some.ensures.value ∙ c.in-Some.ensures.formed in
+    rw pushed (all_marked-last f g.I.AsIndex.is_of ms (c.in-Some.key, w) c.requires here)
+
+nothing_there : (x y : Index) (o w : Option ℤ) (t : Bool) → is_same_index x y ≡ t → w ≡ None → (x ≡ y → o ≡ None) → o ≡ cond t w o
+nothing_there x y o w true e none gone = gone (one_index x y e) ∙ sym none
+nothing_there x y o w false e none gone = refl
+
+pub returns-in-None-value-clause-elements : goal.returns-in-None-value-clause-elements
+returns-in-None-value-clause-elements g c = λ i.
+    let f = g.I.AsIndex.as_index in
+    let ms = c.args.marks.now.items in
+    nothing_there i c.args.index.now (marked_at f ms i) c.args.value.now (is_same_index i c.args.index.now) refl c.in-None-value.is
+    (λ same. ap (marked_at f ms) same ∙ marked-none f g.I.AsIndex.is_of ms None c.args.index.now c.requires (c.in-None.ensures.none refl))

@@ -1,0 +1,35 @@
+-- How the elements of an array are seen, whatever the kind of its domain.
+use Rattle.std.specs.Prelude.{◌≡◌, ℕ, ℤ, List, Option, Some, None}
+use Rattle.std.specs.Map.{keys_of}
+use Rattle.wb_book.specs.declared.values.index.Index.{Index}
+use Rattle.wb_book.specs.declared.values.index.Index.TheVariants.{Point, Text}
+use Rattle.wb_book.specs.Kinds.{is_point, is_text}
+use Rattle.wb_book.specs.Shapes.{indices}
+use Rattle.wb_dist.specs.Maps.{LayoutMap, whole}
+use Rattle.wb_elements.specs.declared.elements.Form.{Form}
+use Rattle.wb_elements.specs.declared.elements.Form.TheVariants.{Line, Plane, Solid, Text as Texts}
+pub use Rattle.wb_elements.specs.Piecewise.Indexed.{indexed, AllOf}
+
+-- the elements with their indices, the mapping that they lie by, and the rank of the indices: 0 for texts
+abbrev pub seen_of : Form → List (Index × ℤ) × (LayoutMap × ℕ)
+seen_of (Line p) = (indexed Point p.0, (p.1, 1))
+seen_of (Plane p) = (indexed Point p.0, (p.1, 2))
+seen_of (Solid p) = (indexed Point p.0, (p.1, 3))
+seen_of (Texts p) = (indexed Text p.0, (whole, 0))
+
+-- the indices have the form that they are kept in
+abbrev pub IsKept : Form → Type 0
+IsKept (Line p) = AllOf Point (is_point 1) p.0
+IsKept (Plane p) = AllOf Point (is_point 2) p.0
+IsKept (Solid p) = AllOf Point (is_point 3) p.0
+IsKept (Texts p) = AllOf Text is_text p.0
+
+-- the indices are those of the ranges that are known, in their order
+abbrev pub AreRanged : Option (List (List ℤ)) → List (Index × ℤ) → Type 0
+AreRanged None es = Unit {0}
+AreRanged (Some rs) es = keys_of es ≡ indices rs
+
+-- what is kept of the elements of an array
+pub record AreElements (form : Form) (ranges : Option (List (List ℤ))) : Type 0 where
+  pub kept : IsKept form
+  pub ranged : AreRanged ranges (seen_of form).0

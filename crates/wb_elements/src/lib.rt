@@ -1,0 +1,22 @@
+//! The elements of an array of a workbook, kept in pieces, whatever the kind of its domain.
+//!
+//! Its tests are in the crate `wb_tests`.
+#![tactic(auto)]
+
+mod block;
+mod elements;
+mod filled;
+mod kept;
+mod key;
+mod made;
+mod piece;
+mod ranged;
+mod walk;
+
+pub use crate::block::Block;
+pub use crate::elements::typed::PieceKey;
+pub use crate::elements::{Elements, Form};
+pub use crate::kept::Kept;
+pub use crate::key::AsIndex;
+pub use crate::piece::Pairs;
+pub use crate::walk::{is_block_there, list_block, write_block};

@@ -1,0 +1,58 @@
+//! The pieces of the elements of an array, lent.
+
+ghost use Rattle.std.specs.Prelude.{◌≡◌, true, option_map};
+ghost use Rattle.wb_book.specs.Kinds.{is_point, is_text};
+ghost use Rattle.wb_book.specs.Layouts.{is_of_rank};
+ghost use Rattle.wb_book.specs.declared.values.index.Index.TheVariants.{Point as point_index, Text as text_index};
+ghost use Rattle.wb_dist.specs.Maps.{whole};
+ghost use Rattle.wb_elements.specs.Piecewise.Indexed.{indexed, AllOf};
+ghost use Rattle.wb_elements.specs.Piecewise.Lent.{piece_in};
+
+use wb_assoc::{Assoc, Label};
+use wb_dist::{Home, Layout};
+use wb_pieces::Pieces;
+use wb_range::Mapping;
+use wb_rect::Rect;
+
+/// The elements of one locale, each after its index, ascending, lent by the form of their indices.
+#[derive(Clone, Copy, Drop)]
+pub enum Pairs<'a> {
+    /// Integers.
+    Line(&'a [([i64; 1], i64)]),
+    /// Pairs.
+    Plane(&'a [([i64; 2], i64)]),
+    /// Triples.
+    Solid(&'a [([i64; 3], i64)]),
+    /// Texts.
+    Text(&'a [(Label, i64)]),
+}
+
+// Computes nothing. Callers learn that a mapping is for its rank.
+fn rank_validity<const R: usize>(mapping: &Layout<R>)
+    ensures { is_of_rank R mapping.now ≡ true }
+{
+    let _good = mapping.locales();
+}
+
+/// The pairs of a locale at indices that are points.
+pub(crate) fn points_on<const R: usize>(
+    pieces: &Pieces<Rect<R>, Layout<R>>,
+    locale: usize,
+) -> Option<&[([i64; R], i64)]>
+    requires { AllOf point_index (is_point R) pieces.now.0 }
+    ensures { option_map (λ s. indexed point_index s.now) result ≡ piece_in pieces.now.1 (indexed point_index pieces.now.0) locale }
+{
+    rank_validity(&pieces.mapping());
+    pieces.pairs(locale)
+}
+
+/// The pairs of a locale at indices that are texts.
+pub(crate) fn texts_on(
+    pieces: &Pieces<Assoc<Label>, Home<Label>>,
+    locale: usize,
+) -> Option<&[(Label, i64)]>
+    requires { AllOf text_index is_text pieces.now.0 }
+    ensures { option_map (λ s. indexed text_index s.now) result ≡ piece_in whole (indexed text_index pieces.now.0) locale }
+{
+    pieces.pairs(locale)
+}

@@ -1,0 +1,4 @@
+//! Days of a desk: `wb_shared`.
+mod days;
+mod opened;
+mod threads;

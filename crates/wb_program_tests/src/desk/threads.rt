@@ -1,0 +1,105 @@
+//! All seats of a desk at once, each in a thread of its own.
+
+use crate::desk::days::ask;
+use std::alloc::Global;
+use std::sync::Wait;
+use std::thread;
+use std::thread::Threads;
+use wb_program::wb_shared::wb_journal::wb_history::Answer;
+use wb_program::wb_shared::wb_journal::wb_proto::Reply;
+use wb_program::wb_shared::{Desk, Opening, Pass};
+use wb_redist::Mover;
+
+/// What each seat does.
+#[derive(Clone, Copy, Debug, PartialEq, Eq)]
+pub(crate) enum Work {
+    /// Nothing.
+    Nothing,
+    /// It makes a domain and an array of its own, sets 48 elements, and reads the last one back.
+    Sets,
+    /// It adds a hundred numbers of its own to the set N, and undoes its own add of each number that 10 divides.
+    Adds,
+}
+
+// The line that a seat asks in one of its rounds, or nothing where it is done.
+fn line_of(alloc: Global, work: Work, seat: usize, round: u32) -> Option<String> {
+    match work {
+        Work::Nothing => None,
+        Work::Sets if round == 0 => {
+            format!(in alloc; "{{\"op\":\"domain\",\"d\":\"D{seat}\",\"is\":\"{{1..48}}\"}}").ok()
+        }
+        Work::Sets if round == 1 => {
+            format!(in alloc; "{{\"op\":\"array\",\"a\":\"A{seat}\",\"d\":\"D{seat}\"}}").ok()
+        }
+        Work::Sets if round < 50 => {
+            let place = round - 1;
+            format!(in alloc;
+                "{{\"op\":\"set\",\"a\":\"A{seat}\",\"i\":{place},\"v\":{place}}}"
+            ).ok()
+        }
+        Work::Sets if round == 50 => {
+            format!(in alloc; "{{\"op\":\"get\",\"a\":\"A{seat}\",\"i\":48}}").ok()
+        }
+        Work::Sets => None,
+        Work::Adds if round < 100 => {
+            let value = seat % 16 * 100 + round as usize;
+            format!(in alloc; "{{\"op\":\"add\",\"d\":\"N\",\"i\":{value}}}").ok()
+        }
+        Work::Adds => None,
+    }
+}
+
+// Does the work of one seat. Its pass, or nothing where a reply was another one.
+fn worked<L: Opening, R: Wait, M: Mover>(
+    rt: &R,
+    alloc: Global,
+    desk: &Desk<L>,
+    pass: Pass<L>,
+    work: Work,
+    mover: &M,
+) -> Option<Pass<L>> {
+    let mut pass = pass;
+    for round in 0..100u32 {
+        let Some(line) = line_of(alloc, work, pass.seat(), round) else {
+            return Some(pass);
+        };
+        match ask(rt, alloc, desk, &mut pass, line.as_str(), mover) {
+            Reply::Edited(number, _) if work == Work::Adds && round % 10 == 0 => {
+                let undo = format!(in alloc; "{{\"op\":\"undo\",\"k\":{number}}}").ok()?;
+                let reply = ask(rt, alloc, desk, &mut pass, undo.as_str(), mover);
+                let Reply::Undone(_, _) = reply else {
+                    return None;
+                };
+            }
+            Reply::Edited(_, _) => {}
+            Reply::Answered(Answer::Value(48)) => {}
+            _ => return None,
+        }
+    }
+    Some(pass)
+}
+
+/// Does the work of every seat, each in a thread of its own: the passes, or nothing where one of them did not end well.
+pub(crate) fn all_at_once<L: Opening + Send + Sync, R: Threads + Wait + Sync, M: Mover + Sync>(
+    rt: &R,
+    alloc: Global,
+    desk: &Desk<L>,
+    passes: Vec<Pass<L>>,
+    work: Work,
+    mover: &M,
+) -> Option<Vec<Pass<L>>> {
+    thread::scope(thread::scope_env(), rt, |scope| -> Option<Vec<Pass<L>>> {
+        let mut handles = Vec::new(alloc);
+        for pass in passes {
+            let handle = scope
+                .spawn(move || worked(rt, alloc, desk, pass, work, mover))
+                .ok()?;
+            handles.push(handle).ok()?;
+        }
+        let mut back = Vec::new(alloc);
+        for handle in handles {
+            back.push(handle.join(rt)?).ok()?;
+        }
+        Some(back)
+    })
+}

@@ -1,0 +1,7 @@
+//! Runs of the program: its command line, a session, texts of workbooks and of none, texts made those of histories, and seats on
+//! connections: `wb_command` and `wb_program`.
+mod connections;
+mod records;
+mod runs;
+mod texts;
+mod upgrades;

@@ -1,9 +1,0 @@
-use Rattle.std.proofs.Common.{refl}
-use Rattle.wb_book.specs.declared.values.index.Index.TheVariants.{Text}
-use Rattle.wb_book.specs.Kinds.{is_text}
-use Rattle.wb_dist.specs.Maps.{whole}
-use Rattle.wb_shelf.proofs.Piecewise.Lent.{piece_is}
-use Rattle.wb_shelf.proofs.arrays.piece.texts_on.Goals as goal
-
-pub returns : goal.returns
-returns c = piece_is Text is_text (λ k. 0) whole (λ k e. refl) c.pairs.result c.args.pieces.now.0 c.args.locale c.requires c.pairs.ensures.cases

@@ -1,5 +1,0 @@
-use Rattle.wb_array.specs.Elements.{HoldsExactly}
-use Rattle.wb_tests.proofs.arrays.numbered.Given as goal
-
-abbrev pub invariant-loop-p : goal.invariant-loop-p
-invariant-loop-p g l = HoldsExactly g.D.Index.Ord.cmp l.whole (g.D.Domain.indices l.domain)

@@ -1,0 +1,104 @@
+//! Undo with dependents, worked by hand: an element that is set and copied on, and another that is set alone.
+
+use crate::sessions::records::edit_of;
+use std::alloc::Global;
+use std::process::Abort;
+use std::test::Fail;
+use wb_record::wb_history::{History, Refusal};
+use wb_redist::{Crew, Mover};
+
+const EDITS: [&str; 6] = [
+    r#"{"op":"domain","d":"D","is":"{1..4}"}"#,
+    r#"{"op":"array","a":"A","d":"D"}"#,
+    r#"{"op":"set","a":"A","i":1,"v":5}"#,
+    r#"{"op":"copy","a":"A","i":2,"b":"A","j":1,"c":1}"#,
+    r#"{"op":"copy","a":"A","i":3,"b":"A","j":2,"c":1}"#,
+    r#"{"op":"set","a":"A","i":4,"v":8}"#,
+];
+
+fn worked<M: Mover>(alloc: Global, mover: &M) -> Result<History, Fail> {
+    let mut history = History::new(alloc);
+    for line in EDITS {
+        history.edit(edit_of(alloc, line)?, mover)?;
+    }
+    Ok(history)
+}
+
+#[test]
+fn cascade_of_copies(rt: HostRuntime) -> Result<(), Fail> {
+    let alloc = rt.alloc();
+    let alone = Crew::alone(&rt);
+    let mut history = worked(alloc, &alone)?;
+    assert_eq!(rt; &history.dependents(3)?[..], &[5, 4, 3][..]);
+    let (undone, count) = history.cascade(3, &alone)?;
+    assert_eq!(rt; &undone[..], &[5, 4, 3][..]);
+    assert_eq!(rt; count, 3);
+    assert_eq!(rt; history.in_force(6), Some(true));
+    assert!(rt; matches!(history.cascade(3, &alone), Err(Refusal::NotInForce)));
+    assert!(rt; matches!(history.cascade(9, &alone), Err(Refusal::NoSuchEdit)));
+    let (undone, count) = history.cascade(6, &alone)?;
+    assert_eq!(rt; &undone[..], &[6][..]);
+    assert_eq!(rt; count, 1);
+    Ok(())
+}
+
+#[test]
+fn cascade_of_a_domain(rt: HostRuntime) -> Result<(), Fail> {
+    let alone = Crew::alone(&rt);
+    let mut history = worked(rt.alloc(), &alone)?;
+    let (undone, count) = history.cascade(1, &alone)?;
+    assert_eq!(rt; &undone[..], &[6, 5, 4, 3, 2, 1][..]);
+    assert_eq!(rt; count, 14);
+    Ok(())
+}
+
+// That of the edits of these numbers just those are out of force that are undone.
+fn are_out(rt: &impl Abort, history: &History, numbers: &[u64], undone: &[u64]) {
+    for number in numbers {
+        assert_eq!(rt; history.in_force(*number), Some(!undone.contains(number)));
+    }
+}
+
+// So often an undo is asked for.
+const TRIES: usize = 16;
+
+// Undoes an edit, whose dependents are these. Where a growth is refused, nothing else than what is answered has changed,
+// and the edit is undone with those that are left.
+fn undone_in_turn<M: Mover>(
+    rt: &impl Abort,
+    history: &mut History,
+    mover: &M,
+    number: u64,
+    dependents: &[u64],
+) -> Result<(), Fail> {
+    let mut left = dependents;
+    for _ in 0..TRIES {
+        if left.is_empty() {
+            return Ok(());
+        }
+        let before = history.book().writes();
+        match history.cascade(number, mover) {
+            Ok((undone, count)) => {
+                assert!(rt; !undone.is_empty() && left.starts_with(&undone[..]));
+                assert!(rt; history.book().writes() == before.saturating_add(count as u128));
+                are_out(rt, history, left, &undone[..]);
+                left = left.get(undone.len()..).unwrap_or(&[]);
+            }
+            Err(why) => {
+                assert!(rt; matches!(why, Refusal::NoMemory));
+                assert!(rt; history.book().writes() == before);
+                are_out(rt, history, left, &[]);
+            }
+        }
+    }
+    Err(Fail::new("an undo that comes to no end"))
+}
+
+#[test]
+fn cascade_while_growths_are_refused(rt: HostRuntime) -> Result<(), Fail> {
+    let alone = Crew::alone(&rt);
+    let mut history = worked(rt.alloc(), &alone)?;
+    undone_in_turn(&rt, &mut history, &alone, 3, &[5, 4, 3])?;
+    assert_eq!(rt; history.in_force(6), Some(true));
+    undone_in_turn(&rt, &mut history, &alone, 1, &[6, 2, 1])
+}
