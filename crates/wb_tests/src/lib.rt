@@ -1,11 +1,16 @@
-//! Tests of the crates from `wb_range` to `wb_record`, through their public calls: index sets, mappings and arrays; books, the
-//! index of footprints, literals, texts, worked histories as request lines with their replies, undo with dependents, and
-//! sessions over devices that fail.
+//! Tests of the libraries, through their public calls: index sets, mappings and arrays; books, the index of footprints, literals,
+//! texts, worked histories as request lines with their replies, undo with dependents, and sessions over devices that fail; days of
+//! a desk; and runs of the program.
 //!
-//! A crate with tests is proved twice, so these crates have none of their own.
+//! They are one crate, since a crate of tests is a program, for which all that it reaches is read, linked and compiled; and a
+//! library with tests is proved twice.
 #![tactic(auto)]
 
 #[cfg(test)]
+mod desk;
+#[cfg(test)]
 mod index_sets;
+#[cfg(test)]
+mod program;
 #[cfg(test)]
 mod sessions;

@@ -13,8 +13,7 @@ pub(crate) fn at(i: i64) -> AnyIndex {
     AnyIndex::new(Index::Point(Point::single(i)))
 }
 
-// A rectangular domain whose even integers are on the first of two locales, a sparse one in it, an associative one, and
-// an array over the sparse one.
+// A rectangular domain, a sparse one in it, an associative one, and an array over the sparse one.
 const DOMAINS: &str =
     "chapel-workbook 1\narray A over S [7, 10] irv 0\nrect D {3..6} cyclicDist(0, [2])\nassoc K of int {-2, 9}\nsparse S of D {3, 6}\nend\n";
 
@@ -23,43 +22,6 @@ pub(crate) fn book_of(alloc: Global, text: &str) -> Result<Book, BookErr> {
         Err(BookErr::NoMemory) => read_book(alloc, text),
         other => other,
     }
-}
-
-// Each domain with its place, its size, and its first and its last index.
-const KINDS: [(&str, usize, usize, i64, i64); 3] = [
-    ("D", 1, 4, 3, 6),
-    ("K", 2, 2, -2, 9),
-    ("S", 3, 2, 3, 6),
-];
-
-// Names with integers and the locales that these lie on.
-const LOCALES: [(&str, i64, Option<usize>); 8] = [
-    ("D", 4, Some(0)),
-    ("D", 5, Some(1)),
-    ("D", 7, None),
-    ("S", 3, Some(1)),
-    ("S", 4, None),
-    ("K", 9, Some(0)),
-    ("K", 3, None),
-    ("A", 3, None),
-];
-
-#[test]
-fn domains_of_every_kind(rt: HostRuntime) -> Result<(), Fail> {
-    let book = book_of(rt.alloc(), DOMAINS)?;
-    for (text, place, size, first, last) in &KINDS {
-        let name = Name::new(text)?;
-        let end = size.saturating_sub(1);
-        assert!(rt; book.object(*place) == Some(name), "{text}");
-        assert!(rt; book.size(&name) == Some(*size), "{text}");
-        assert!(rt; book.index(&name, 0) == Some(at(*first)), "{text}");
-        assert!(rt; book.index(&name, end) == Some(at(*last)), "{text}");
-    }
-    for (text, i, locale) in &LOCALES {
-        let found = book.locale_of(&Name::new(text)?, &at(*i));
-        assert!(rt; found == *locale, "{text} {i}");
-    }
-    Ok(())
 }
 
 #[test]

@@ -1,4 +1,4 @@
-//! Undo with dependents, worked by hand: an element that is set and copied on, and another that is set alone.
+//! Undo with dependents while growths are refused: of an element that is set and copied on, and of its domain.
 
 use crate::sessions::records::edit_of;
 use std::alloc::Global;
@@ -22,34 +22,6 @@ fn worked<M: Mover>(alloc: Global, mover: &M) -> Result<History, Fail> {
         history.edit(edit_of(alloc, line)?, mover)?;
     }
     Ok(history)
-}
-
-#[test]
-fn cascade_of_copies(rt: HostRuntime) -> Result<(), Fail> {
-    let alloc = rt.alloc();
-    let alone = Crew::alone(&rt);
-    let mut history = worked(alloc, &alone)?;
-    assert_eq!(rt; &history.dependents(3)?[..], &[5, 4, 3][..]);
-    let (undone, count) = history.cascade(3, &alone)?;
-    assert_eq!(rt; &undone[..], &[5, 4, 3][..]);
-    assert_eq!(rt; count, 3);
-    assert_eq!(rt; history.in_force(6), Some(true));
-    assert!(rt; matches!(history.cascade(3, &alone), Err(Refusal::NotInForce)));
-    assert!(rt; matches!(history.cascade(9, &alone), Err(Refusal::NoSuchEdit)));
-    let (undone, count) = history.cascade(6, &alone)?;
-    assert_eq!(rt; &undone[..], &[6][..]);
-    assert_eq!(rt; count, 1);
-    Ok(())
-}
-
-#[test]
-fn cascade_of_a_domain(rt: HostRuntime) -> Result<(), Fail> {
-    let alone = Crew::alone(&rt);
-    let mut history = worked(rt.alloc(), &alone)?;
-    let (undone, count) = history.cascade(1, &alone)?;
-    assert_eq!(rt; &undone[..], &[6, 5, 4, 3, 2, 1][..]);
-    assert_eq!(rt; count, 14);
-    Ok(())
 }
 
 // That of the edits of these numbers just those are out of force that are undone.

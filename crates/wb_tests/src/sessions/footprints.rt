@@ -1,6 +1,5 @@
-//! The index of footprints, where an element is set and a copy of it goes to another, where many elements are copied at once,
-//! where indices of two ranks stand in arrays of one name, where elements are cleared downward, and where a whole rectangle comes
-//! to a domain, or numbers come to one of an array.
+//! The index of footprints, where an element is set and a copy of it goes to another, where many elements are copied at once, and
+//! where a whole rectangle comes to a domain, or numbers come to one of an array.
 
 use std::alloc::Global;
 use std::process::Abort;
@@ -9,7 +8,7 @@ use wb_book::{
     AnyCell, AnyIndex, AnyRect, Cell, CellChange, Changes, Form, Index, Name, Pattern, Point,
     RectangleChanges, RectangleNumbers, Row,
 };
-use wb_foot::{FootIndex, Numbers, SweptCells};
+use wb_foot::FootIndex;
 use wb_range::{NoMemory, Range};
 use wb_record::wb_edit::ReadRun;
 
@@ -136,59 +135,6 @@ fn footprint_index_of_blocks(rt: HostRuntime) -> Result<(), Fail> {
     index.take(7, &[], &runs, &before);
     assert!(rt; is_found_inside(&index, source, None, None));
     assert!(rt; is_found_inside(&index, target, None, None));
-    Ok(())
-}
-
-#[test]
-fn footprint_index_of_two_ranks(rt: HostRuntime) -> Result<(), Fail> {
-    let array = Name::new("A")?;
-    let pair = Cell::Element(array, AnyIndex::new(Index::Point(Point::pair(1, 2))));
-    let single = Changes::one(cleared(element(array, 1)));
-    let paired = Changes::one(cleared(pair));
-    let mut index = FootIndex::new(rt.alloc());
-    add(&rt, &mut index, 3, &[], &[], &single)?;
-    add(&rt, &mut index, 4, &[], &[], &paired)?;
-    assert!(rt; index.first_to_block_undo(&single, 2) == Some(3));
-    assert!(rt; index.first_to_block_undo(&single, 3).is_none());
-    assert!(rt; index.first_to_block_undo(&paired, 2) == Some(4));
-    assert!(rt; index.first_to_block_undo(&paired, 4).is_none());
-    index.take(3, &[], &[], &single);
-    assert!(rt; index.first_to_block_undo(&single, 2).is_none());
-    assert!(rt; index.first_to_block_undo(&paired, 2) == Some(4));
-    Ok(())
-}
-
-// Changes that clear the elements 100 to 1 of an array, downward.
-fn changes_downward(alloc: Global, array: Name) -> Result<Changes, NoMemory> {
-    let mut changes = Changes::one(cleared(Cell::Object(array)));
-    for i in 0..100 {
-        changes.push(alloc, cleared(element(array, 100_i64.saturating_sub(i))))?;
-    }
-    Ok(changes)
-}
-
-#[test]
-fn footprint_index_of_a_descending_run(rt: HostRuntime) -> Result<(), Fail> {
-    let array = Name::new("A")?;
-    let downward = changes_downward(rt.alloc(), array)?;
-    let first = Changes::one(cleared(element(array, 100)));
-    let last = Changes::one(cleared(element(array, 1)));
-    let beside = Changes::one(cleared(element(array, 101)));
-    let elements = [Pattern::Elements(array)];
-    let mut index = FootIndex::new(rt.alloc());
-    add(&rt, &mut index, 3, &[], &[], &downward)?;
-    add(&rt, &mut index, 4, &[], &[], &first)?;
-    add(&rt, &mut index, 5, &elements, &[], &beside)?;
-    add(&rt, &mut index, 6, &[], &[], &last)?;
-    let mut waiting = Numbers::new(rt.alloc());
-    let mut swept = SweptCells::new(rt.alloc());
-    waiting.add(4)?;
-    index.join_blockers(&downward, 3, &mut waiting, &mut swept)?;
-    assert!(rt; waiting.above(rt.alloc(), 0)?.as_slice() == [4, 5, 6].as_slice());
-    assert!(rt; index.first_to_block_undo(&last, 2) == Some(3));
-    assert!(rt; index.first_to_block_undo(&beside, 2) == Some(5));
-    index.take(3, &[], &[], &downward);
-    assert!(rt; index.first_to_block_undo(&last, 2) == Some(5));
     Ok(())
 }
 

@@ -109,29 +109,6 @@ fn flushes_before_it_waits(rt: HostRuntime) -> Result<(), Fail> {
     Ok(())
 }
 
-#[test]
-fn gives_lines_at_their_limit(rt: HostRuntime) -> Result<(), Fail> {
-    let alloc = rt.alloc();
-    let mut text = Vec::new(alloc);
-    for _ in 0..65_536u32 {
-        text.push(b'a')?;
-    }
-    text.extend_from_slice(b"\nb")?;
-    let mut input = Input::new(text.as_slice());
-    let mut buffer = LineBuffer::new(alloc);
-    for (line, length) in [
-        (Line::Whole, 65_536),
-        (Line::Whole, 1),
-        (Line::End, 0),
-        (Line::End, 0),
-    ] {
-        assert!(rt; next_line(&mut input, &mut buffer) == Ok(line));
-        assert!(rt; buffer.line().len() == length);
-        assert!(rt; !buffer.has_line());
-    }
-    Ok(())
-}
-
 // A device of a byte a call is read whole, or up to its fault.
 #[test]
 fn reads_a_byte_a_call(rt: HostRuntime) -> Result<(), Fail> {
@@ -141,24 +118,4 @@ fn reads_a_byte_a_call(rt: HostRuntime) -> Result<(), Fail> {
     let failed = read_all(alloc, &mut Input::new(OneByOne::new(LINES, Some(9))));
     assert!(rt; matches!(failed, Err(LineFault::ReadFault)));
     Ok(())
-}
-
-// After a fault it is told again.
-#[test]
-fn lines_up_to_a_fault(rt: HostRuntime) {
-    let mut input = Input::new(OneByOne::new(b"a\nb\n", Some(3)));
-    let mut buffer = LineBuffer::new(rt.alloc());
-    assert!(rt; next_line(&mut input, &mut buffer) == Ok(Line::Whole));
-    for _ in 0..2 {
-        let failed = next_line(&mut input, &mut buffer);
-        assert!(rt; failed == Err(LineFault::ReadFault));
-    }
-}
-
-#[test]
-fn sends_a_byte_a_call(rt: HostRuntime) {
-    let mut output = Narrow::new(rt.alloc(), 4, false);
-    assert!(rt; send(&mut Output::new(&mut output), b"abc") == Ok(()));
-    assert!(rt; send(&mut Output::new(&mut output), b"de") == Err(WriteFault));
-    assert!(rt; output.taken.as_slice() == b"abcd".as_slice());
 }

@@ -1,12 +1,11 @@
-//! A worked history's text, printed and read back, and histories made again from lists of edits.
+//! A worked history's text, printed and read back, and texts of no history.
 
 use crate::sessions::scripts::play;
 use std::alloc::Global;
 use std::process::Abort;
 use std::test::Fail;
-use wb_range::NoMemory;
 use wb_record::wb_edit::Edit;
-use wb_record::wb_history::{History, RestoreErr};
+use wb_record::wb_history::History;
 use wb_record::wb_proto::{Request, read_request};
 use wb_record::{HistoryErr, print_history, read_history};
 use wb_redist::{Crew, Mover};
@@ -189,36 +188,4 @@ pub(crate) fn edit_of(alloc: Global, line: &str) -> Result<Edit, Fail> {
         | Request::History
         | Request::Edits => Err(Fail::new("no edit")),
     }
-}
-
-// Of the history of an array over a domain that is not there, where it may be: whether its edit is in force, is there, and
-// is followed by another.
-fn restored<M: Mover>(
-    alloc: Global,
-    in_force: bool,
-    mover: &M,
-) -> Result<Option<(Option<bool>, bool, bool)>, Fail> {
-    let mut edits = Vec::new(alloc);
-    let edit = edit_of(alloc, "{\"op\":\"array\",\"a\":\"A\",\"d\":\"D\"}")?;
-    if edits.push((edit, in_force)).is_err() {
-        return Err(NoMemory)?;
-    }
-    match History::restore(alloc, edits, mover) {
-        Ok(history) => Ok(Some((
-            history.in_force(1),
-            history.edit_at(1).is_some(),
-            history.edit_at(2).is_some(),
-        ))),
-        Err(RestoreErr::NotLegal) => Ok(None),
-        Err(RestoreErr::NoMemory) => Err(NoMemory)?,
-    }
-}
-
-#[test]
-fn restored_from_a_list(rt: HostRuntime) -> Result<(), Fail> {
-    let alone = Crew::alone(&rt);
-    assert!(rt; restored(rt.alloc(), true, &alone)?.is_none());
-    let out_of_force = restored(rt.alloc(), false, &alone)?;
-    assert!(rt; out_of_force == Some((Some(false), true, false)));
-    Ok(())
 }

@@ -16,8 +16,8 @@ use std::io::{Read, Write};
 use std::process::Abort;
 use std::test::Fail;
 use wb_lines::{Input, Output, SessionEnd};
-use wb_record::wb_history::{Answer, History, Refusal};
-use wb_record::wb_proto::{Reply, Request, answer_request, reply_text, session};
+use wb_record::wb_history::History;
+use wb_record::wb_proto::session;
 use wb_redist::{Crew, Mover};
 
 const NO_MEMORY: &str = "{\"error\":\"E90\",\"name\":\"no-memory\"}\n";
@@ -190,59 +190,4 @@ fn broken_lines(rt: HostRuntime) -> Result<(), Fail> {
     goes_so(&rt, alloc, lines.as_slice(), LONG_AMONG_OTHERS, 4, &alone);
     goes_so(&rt, alloc, NO_TEXT, NO_TEXT_REPLIES, 4, &alone);
     Ok(())
-}
-
-// That a reply and a copy of it are printed so.
-fn is_printed(rt: &impl Abort, alloc: Global, reply: Reply, text: &str) -> Result<(), Fail> {
-    let printed = reply_text(alloc, &reply)?;
-    let copied = reply.copy(alloc)?;
-    let again = reply_text(alloc, &copied)?;
-    assert!(rt;
-        printed.as_str() == text && again.as_str() == text,
-        "{text}"
-    );
-    Ok(())
-}
-
-// The reply to a copied request.
-fn printed_book<M: Mover>(alloc: Global, mover: &M) -> Result<Reply, Fail> {
-    let request = Request::Print.copy(alloc)?;
-    Ok(answer_request(alloc, &mut History::new(alloc), request, mover))
-}
-
-// Copies of requests and replies are answered and printed alike, and replies that no script has.
-#[test]
-fn texts_of_replies(rt: HostRuntime) -> Result<(), Fail> {
-    let alloc = rt.alloc();
-    let alone = Crew::alone(&rt);
-    let printed = printed_book(alloc, &alone)?;
-    is_printed(
-        &rt,
-        alloc,
-        printed,
-        "{\"text\":\"chapel-workbook 1\\nend\\n\"}",
-    )?;
-    let redone = Reply::Redone(18_446_744_073_709_551_615, 0);
-    is_printed(
-        &rt,
-        alloc,
-        redone,
-        "{\"n\":0,\"redone\":18446744073709551615}",
-    )?;
-    let size = Reply::Answered(Answer::Size(65_536));
-    is_printed(&rt, alloc, size, "{\"size\":65536}")?;
-    let in_use = Reply::Refused(Refusal::Refused(wb_record::wb_edit::Refusal::InUse));
-    is_printed(
-        &rt,
-        alloc,
-        in_use,
-        "{\"error\":\"E08\",\"name\":\"in-use\"}",
-    )?;
-    let no_memory = Reply::Refused(Refusal::NoMemory);
-    is_printed(
-        &rt,
-        alloc,
-        no_memory,
-        "{\"error\":\"E90\",\"name\":\"no-memory\"}",
-    )
 }

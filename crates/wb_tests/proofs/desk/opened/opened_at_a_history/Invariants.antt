@@ -1,4 +1,4 @@
-use Rattle.wb_program_tests.proofs.desk.opened.opened_at_a_history.Given as goal
+use Rattle.wb_tests.proofs.desk.opened.opened_at_a_history.Given as goal
 
 abbrev pub ghosts-undone-L-Ledger : goal.ghosts-undone-L-Ledger
 ghosts-undone-L-Ledger g a = record { name = a.blank.name; parts = a.blank.parts }

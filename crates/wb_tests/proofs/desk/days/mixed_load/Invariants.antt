@@ -1,5 +1,5 @@
 use Rattle.wb_program.specs.wb_shared.specs.Openings.{nothing_done}
-use Rattle.wb_program_tests.proofs.desk.days.mixed_load.Given as goal
+use Rattle.wb_tests.proofs.desk.days.mixed_load.Given as goal
 
 abbrev pub ghosts-day_of-L-Ledger : goal.ghosts-day_of-L-Ledger
 ghosts-day_of-L-Ledger g a = record { name = a.blank.name; parts = a.blank.parts }

@@ -7,9 +7,9 @@ use std::marker::Brand;
 use std::sync::Wait;
 use std::sync::ledger::Blank;
 use std::test::Fail;
-use wb_program::wb_shared::wb_journal::wb_history::History;
-use wb_program::wb_shared::wb_journal::wb_proto::{answer_request, read_request};
 use wb_program::wb_shared::{Desk, Opening, settle};
+use wb_record::wb_history::History;
+use wb_record::wb_proto::{answer_request, read_request};
 use wb_redist::{Crew, Mover};
 
 // A history of one edit, the set N.
