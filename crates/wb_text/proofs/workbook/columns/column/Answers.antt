@@ -1,4 +1,4 @@
-use Rattle.std.proofs.Common.{ℤ, List, map, sym, ap, subst, ◌∙◌}
+use Rattle.std.proofs.Common.{ℤ, List, [], map, sym, ap, subst, ◌∙◌}
 use Rattle.std.specs.List.{zip}
 use Rattle.std.specs.List.Sorted.{IsStrictlySortedBy}
 use Rattle.std.specs.Map.{keys_of}
@@ -7,15 +7,18 @@ use Rattle.wb_book.specs.declared.values.index.Index.{Index}
 use Rattle.wb_book.specs.Cells.{index_cmp}
 use Rattle.wb_shelf.specs.Piecewise.Changed.{changed_at, all_set}
 use Rattle.wb_text.specs.FromLines.Told.{indices_told}
-use Rattle.wb_elements.proofs.Ascending.{ascending-nothing}
 use Rattle.wb_shelf.proofs.Seen.{both_ok}
 use Rattle.wb_text.specs.Said.{first_line_of, line_of}
 use Rattle.wb_text.proofs.FromLines.Columnwise.{column_set}
 use Rattle.wb_text.proofs.workbook.columns.column.Goals as goal
 
+nothing_ascends : IsStrictlySortedBy index_cmp []
+unfolding IsStrictlySortedBy
+nothing_ascends = tt
+
 pub made-requires : goal.made-requires
 made-requires c = subst (λ (es : List (Index × ℤ)). IsStrictlySortedBy index_cmp (keys_of es)) (sym (c.as_slice.ensures.value ∙ c.new-none.ensures.items))
-    (ascending-nothing index_cmp)
+    nothing_ascends
 
 pub returns : goal.returns
 returns c =
