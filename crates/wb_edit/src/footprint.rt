@@ -18,11 +18,17 @@ const FEW: usize = 2;
 const MOST: usize = 8;
 
 /// The footprint of an edit: what it read, in order. Contracts see the list of its patterns.
-#[derive(Drop)]
 pub struct Footprint {
     alloc: Global,
     first: SmallVec<Pattern, FEW>,
     rest: Vec<ReadRun>,
+}
+
+// In a function of its own, so that a crate above need not prove anew how each field is let go.
+impl Drop for Footprint {
+    fn drop(self) {
+        let Footprint { alloc: _, first: _, rest: _ } = self;
+    }
 }
 
 impl Model for Footprint {

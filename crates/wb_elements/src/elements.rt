@@ -50,10 +50,16 @@ pub enum Form {
 }
 
 /// The elements of an array, kept in pieces. Where they were made at the indices of a rectangle, the ranges of that are known.
-#[derive(Drop)]
 pub struct Elements {
     form: Form,
     ranges: Option<AnyRect>,
+}
+
+// In a function of its own, so that a crate above need not prove anew how each field is let go.
+impl Drop for Elements {
+    fn drop(self) {
+        let Elements { form: _, ranges: _ } = self;
+    }
 }
 
 impl Model for Elements {

@@ -15,10 +15,16 @@ use wb_range::NoMemory;
 
 /// An index of footprints by the cells that they read and touched. It owns none: its contracts speak of those that it
 /// is of.
-#[derive(Drop)]
 pub struct FootIndex {
     pub(crate) touched: PlaceMarks,
     pub(crate) read: PlaceMarks,
+}
+
+// In a function of its own, so that a crate above need not prove anew how each field is let go.
+impl Drop for FootIndex {
+    fn drop(self) {
+        let FootIndex { touched: _, read: _ } = self;
+    }
 }
 
 impl FootIndex {

@@ -22,12 +22,18 @@ use wb_redist::Mover;
 use wb_shelf::Book;
 
 /// A workbook, and the edits that made it, each in force or out of force.
-#[derive(Drop)]
 pub struct History {
     alloc: Global,
     book: Book,
     entries: Vec<Record>,
     index: Index,
+}
+
+// In a function of its own, so that a crate above need not prove anew how each field is let go.
+impl Drop for History {
+    fn drop(self) {
+        let History { alloc: _, book: _, entries: _, index: _ } = self;
+    }
 }
 
 impl Model for History {

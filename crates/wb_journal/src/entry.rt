@@ -79,9 +79,15 @@ pub enum Form {
 }
 
 /// An entry, kept in the form that takes the least room. Contracts see the entry.
-#[derive(Drop)]
 pub struct Record {
     form: Form,
+}
+
+// In a function of its own, so that a crate above need not prove anew how each field is let go.
+impl Drop for Record {
+    fn drop(self) {
+        let Record { form: _ } = self;
+    }
 }
 
 impl Model for Record {

@@ -18,11 +18,17 @@ use wb_range::NoMemory;
 use wb_redist::Mover;
 
 /// A history, and the journal of all that was asked of it and replied since the opening. Contracts see it as a course.
-#[derive(Drop)]
 pub struct Journal {
     history: History,
     entries: Vec<Record>,
     counts: Vec<usize>,
+}
+
+// In a function of its own, so that a crate above need not prove anew how each field is let go.
+impl Drop for Journal {
+    fn drop(self) {
+        let Journal { history: _, entries: _, counts: _ } = self;
+    }
 }
 
 impl Model for Journal {

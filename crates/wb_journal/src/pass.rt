@@ -7,11 +7,17 @@ use std::marker::Model;
 use std::sync::ledger::{Ledger, Share};
 
 /// One seat's pass: the list of its own entries, and its share of the desk's ledger, which has as many units.
-#[derive(Drop)]
 pub struct Pass<L: Ledger> {
     pub(crate) seat: usize,
     pub(crate) own: Vec<Record>,
     pub(crate) share: Share<L>,
+}
+
+// In a function of its own, so that a crate above need not prove anew how each field is let go.
+impl<L: Ledger> Drop for Pass<L> {
+    fn drop(self) {
+        let Pass { seat: _, own: _, share: _ } = self;
+    }
 }
 
 impl<L: Ledger> Model for Pass<L> {
@@ -43,7 +49,8 @@ impl<L: Ledger> Pass<L> {
         ensures own { result.1.items ≡ self.own }
         ensures share { (result.2.amount ≡ self.share) × (result.2.amount ≡ length self.own) × (result.2.parts ≡ 1) }
     {
-        (self.seat, self.own, self.share)
+        let Pass { seat, own, share } = self;
+        (seat, own, share)
     }
 
     /// The seat.

@@ -16,11 +16,17 @@ use wb_journal::{Cause, Counted, Pass};
 use wb_redist::Mover;
 
 /// The locked value of a desk: the history, the journal, each seat's number of entries, and the ledger's book.
-#[derive(Drop)]
 pub struct Shared<L: Opening> {
     pub(crate) alloc: Global,
     pub(crate) kept: Counted<L>,
     pub(crate) rest: Share<L>,
+}
+
+// In a function of its own, so that a crate above need not prove anew how each field is let go.
+impl<L: Opening> Drop for Shared<L> {
+    fn drop(self) {
+        let Shared { alloc: _, kept: _, rest: _ } = self;
+    }
 }
 
 impl<L: Opening> Model for Shared<L> {

@@ -19,12 +19,18 @@ use wb_range::NoMemory;
 use wb_redist::{MoveErr, Mover};
 
 /// A workbook: its cells, well formed, and how many were set so far.
-#[derive(Drop)]
 pub struct Book {
     alloc: Global,
     cells: BTreeMap<Cell, Value>,
     arrays: BTreeMap<Name, Elements>,
     writes: u128,
+}
+
+// In a function of its own, so that a crate above need not prove anew how each field is let go.
+impl Drop for Book {
+    fn drop(self) {
+        let Book { alloc: _, cells: _, arrays: _, writes: _ } = self;
+    }
 }
 
 impl Model for Book {

@@ -22,12 +22,18 @@ use wb_range::NoMemory;
 
 /// A list of changes. A first one that stands alone needs no memory; others that have an index and are of one row, one after
 /// another, are kept by their points, and those of a rectangle by its ranges. Contracts see the list.
-#[derive(Drop)]
 pub struct Changes {
     first: Option<CellChange>,
     runs: Option<Vec<ChangeRun>>,
     len: usize,
     counted: usize,
+}
+
+// In a function of its own, so that a crate above need not prove anew how each field is let go.
+impl Drop for Changes {
+    fn drop(self) {
+        let Changes { first: _, runs: _, len: _, counted: _ } = self;
+    }
 }
 
 impl Model for Changes {

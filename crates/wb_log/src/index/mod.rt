@@ -16,10 +16,16 @@ use crate::index::in_force::InForce;
 use std::alloc::Global;
 
 /// Indexes over the edits in force.
-#[derive(Drop)]
 pub struct Index {
     pub by_footprint: ByFootprint,
     pub in_force: InForce,
+}
+
+// In a function of its own, so that a crate above need not prove anew how each field is let go.
+impl Drop for Index {
+    fn drop(self) {
+        let Index { by_footprint: _, in_force: _ } = self;
+    }
 }
 
 impl Index {
