@@ -1,3 +1,6 @@
+pub use Rattle.wb_reading.specs.wb_shelf
+pub use Rattle.wb_reading.specs.wb_text
+pub use Rattle.wb_reading
 pub mod Schema
 pub mod Trees
 pub mod Looks

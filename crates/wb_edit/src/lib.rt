@@ -28,3 +28,5 @@ pub use crate::operation::Operation;
 pub use crate::planning::{PlanErr, plan};
 pub use crate::read_run::ReadRun;
 pub use crate::refusal::Refusal;
+pub use wb_reading;
+pub use wb_reading::{wb_shelf, wb_text};

@@ -15,5 +15,4 @@ pub use crate::literals::index_value;
 pub use crate::objects::{index_of_domain, of_domain};
 pub use crate::printed::print_history;
 pub use wb_history;
-pub use wb_history::{wb_edit, wb_log};
-pub use wb_text;
+pub use wb_history::{wb_edit, wb_log, wb_reading, wb_text};

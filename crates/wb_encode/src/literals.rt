@@ -3,7 +3,7 @@ ghost use Rattle.std.specs.Prelude.{◌≡◌, map, IfOk, string_bytes};
 ghost use Rattle.serde_json.specs.Data.{array};
 ghost use Rattle.serde_json.specs.View.{view, items_of};
 ghost use Rattle.wb_encode.specs.Values.{integer_data, point_data, index_data};
-ghost use Rattle.wb_text.specs.Literals.{rectangle_text, set_text, mapping_text};
+ghost use Rattle.wb_history.specs.wb_text.specs.Literals.{rectangle_text, set_text, mapping_text};
 ghost use Rattle.wb_encode.specs.Encoded.{given_text};
 ghost use Rattle.wb_encode.specs.Table.{type_word, operation_word};
 
@@ -12,7 +12,7 @@ use std::alloc::{AllocError, Global};
 use wb_book::{AnyIndex, AnyLayout, AnyRect, Index, KeyType};
 use wb_history::wb_edit::Operation;
 use wb_resize::Operand;
-use wb_text::{push_any_layout, push_any_rect, push_set};
+use wb_history::wb_text::{push_any_layout, push_any_rect, push_set};
 
 /// The canonical literal of a rectangle.
 pub(crate) fn rectangle_text(alloc: Global, ranges: &AnyRect) -> Result<String, AllocError>

@@ -1,3 +1,7 @@
+pub use Rattle.wb_edit.specs.wb_reading
+pub use Rattle.wb_edit.specs.wb_shelf
+pub use Rattle.wb_edit.specs.wb_text
+pub use Rattle.wb_edit
 pub mod Numbers
 pub mod Relation
 pub mod Marks

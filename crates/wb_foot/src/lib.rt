@@ -31,3 +31,5 @@ mod swept;
 pub use crate::foot_index::FootIndex;
 pub use crate::numbers::Numbers;
 pub use crate::swept::SweptCells;
+pub use wb_edit;
+pub use wb_edit::{wb_reading, wb_shelf, wb_text};

@@ -1,4 +1,7 @@
 pub use Rattle.wb_log.specs.wb_edit
+pub use Rattle.wb_log.specs.wb_reading
+pub use Rattle.wb_log.specs.wb_shelf
+pub use Rattle.wb_log.specs.wb_text
 pub use Rattle.wb_log
 pub use Rattle.wb_log.specs.Past
 pub use Rattle.wb_log.specs.Replies

@@ -19,7 +19,7 @@ use wb_log::wb_edit::Edit;
 use wb_log::{Index, LentEdit, Record, Refusal, steps};
 use wb_range::NoMemory;
 use wb_redist::Mover;
-use wb_shelf::Book;
+use wb_log::wb_shelf::Book;
 
 /// A workbook, and the edits that made it, each in force or out of force.
 pub struct History {

@@ -7,7 +7,7 @@ use crate::query::Answer;
 use wb_book::{AnyIndex, Cell, Name};
 use wb_log::Refusal;
 use wb_log::wb_edit::judgements;
-use wb_shelf::Book;
+use wb_log::wb_shelf::Book;
 
 /// The locale of an index of a domain, or why it lies on none.
 pub(crate) fn locale_of(

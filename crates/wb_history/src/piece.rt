@@ -2,8 +2,8 @@
 
 ghost use Rattle.std.specs.Prelude.{◌≡◌, IfOk};
 ghost use Rattle.std.specs.Bool.{Decides};
-ghost use Rattle.wb_shelf.specs.Piecewise.Indexed.{indexed};
-ghost use Rattle.wb_shelf.specs.Piecewise.Lent.{lent};
+ghost use Rattle.wb_log.specs.wb_shelf.specs.Piecewise.Indexed.{indexed};
+ghost use Rattle.wb_log.specs.wb_shelf.specs.Piecewise.Lent.{lent};
 ghost use Rattle.wb_history.specs.Pieces.{piece_of, piece_answer, OrNoMemory};
 
 use crate::query::Answer;
@@ -13,7 +13,7 @@ use wb_book::{AnyIndex, Cell, Name};
 use wb_log::Refusal;
 use wb_log::wb_edit::judgements;
 use wb_range::NoMemory;
-use wb_shelf::{AsIndex, Book, Pairs};
+use wb_log::wb_shelf::{AsIndex, Book, Pairs};
 
 /// The elements of an array on one locale, each after its index, ascending by index. Contracts see the list of them.
 #[derive(Debug, Drop)]

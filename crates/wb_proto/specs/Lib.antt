@@ -2,7 +2,7 @@ pub use Rattle.wb_encode.specs.wb_edit
 pub use Rattle.wb_encode
 pub use Rattle.wb_encode.specs.wb_history
 pub use Rattle.wb_encode.specs.wb_log
-pub use Rattle.wb_reading
+pub use Rattle.wb_encode.specs.wb_reading
 pub use Rattle.wb_encode.specs.wb_text
 pub mod Answers
 pub mod Fields

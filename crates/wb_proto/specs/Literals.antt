@@ -16,7 +16,7 @@ use Rattle.wb_literal.specs.Mapping.{mapping_of}
 use Rattle.wb_literal.specs.declared.mapping.MappingLiteral.{MappingLiteral}
 use Rattle.wb_literal.specs.declared.mapping.MappingLiteral.TheVariants.{Whole}
 use Rattle.wb_literal.specs.declared.rectangle.RectangleLiteral.{RectangleLiteral}
-use Rattle.wb_reading.specs.Texts.Books.{is_book_text}
+use Rattle.wb_encode.specs.wb_reading.specs.Texts.Books.{is_book_text}
 
 -- ---- what is spelled
 

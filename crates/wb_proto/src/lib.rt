@@ -16,5 +16,4 @@ pub use crate::requests::request::Request;
 pub use crate::serving::lines::session;
 pub use crate::serving::steps::answer_request;
 pub use wb_encode;
-pub use wb_encode::{wb_edit, wb_history, wb_log, wb_text};
-pub use wb_reading;
+pub use wb_encode::{wb_edit, wb_history, wb_log, wb_reading, wb_text};

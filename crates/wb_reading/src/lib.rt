@@ -16,7 +16,9 @@ pub use crate::text::{BookText, laws};
 use std::alloc::Global;
 use thiserror::Error;
 use wb_range::NoMemory;
-use wb_shelf::Book;
+pub use wb_text;
+pub use wb_text::wb_shelf;
+use wb_text::wb_shelf::Book;
 use wb_text::{ObjectLine, print_book, read_lines, rebuild};
 
 /// Why a text is not read.

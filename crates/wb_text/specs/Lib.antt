@@ -1,3 +1,4 @@
+pub use Rattle.wb_shelf
 pub mod Literals
 pub mod Lines
 pub mod Said

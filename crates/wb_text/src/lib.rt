@@ -26,3 +26,4 @@ pub use crate::said::ObjectLine;
 pub use crate::workbook::{
     indices_of, places_of, points_of, put, put_presents, put_stored, rebuild,
 };
+pub use wb_shelf;

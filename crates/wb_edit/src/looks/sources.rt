@@ -25,7 +25,7 @@ use wb_range::Domain;
 use wb_rect::RectErr;
 use wb_resize::new_rectangles::displaced;
 use wb_resize::{Displacement, Operand};
-use wb_shelf::Book;
+use wb_reading::wb_shelf::Book;
 
 /// That there are so many dimensions as a domain of the rank has; `WrongKind` where there are not.
 pub fn same_rank(rank: usize, dimensions: usize) -> Result<(), Refusal>

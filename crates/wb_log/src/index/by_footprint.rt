@@ -13,7 +13,7 @@ use crate::entry::{LentFootprint, Record};
 use crate::sweep::needing;
 use std::alloc::Global;
 use wb_book::Changes;
-use wb_edit::Footprint;
+use wb_foot::wb_edit::Footprint;
 use wb_foot::FootIndex;
 use wb_range::NoMemory;
 

@@ -3,8 +3,8 @@ ghost use Rattle.selective_undo.specs.Changes.{apply};
 ghost use Rattle.selective_undo.specs.Edit.{outcome, reads};
 ghost use Rattle.wb_book.specs.Cells.{written_more, count_of};
 ghost use Rattle.wb_book.specs.WellFormed.{IsWellFormed};
-ghost use Rattle.wb_edit.specs.Commands.{meaning};
-ghost use Rattle.wb_edit.specs.Valid.{IsValid};
+ghost use Rattle.wb_foot.specs.wb_edit.specs.Commands.{meaning};
+ghost use Rattle.wb_foot.specs.wb_edit.specs.Valid.{IsValid};
 ghost use Rattle.wb_log.specs.declared.entry.Entry.{Entry};
 ghost use Rattle.wb_log.specs.Kept.{Shows, entries_meant, numbered_entries, plan_refusal};
 ghost use Rattle.wb_log.specs.Past.{AreValid};
@@ -15,10 +15,10 @@ use crate::refusal::Refusal;
 use crate::steps::making::make;
 use std::alloc::Global;
 use wb_book::Delta;
-use wb_edit::{Edit, Footprint, PlanErr, plan};
+use wb_foot::wb_edit::{Edit, Footprint, PlanErr, plan};
 use wb_range::NoMemory;
 use wb_redist::Mover;
-use wb_shelf::Book;
+use wb_foot::wb_shelf::Book;
 
 /// Makes an edit, and keeps it as the last.
 pub fn add<M: Mover>(

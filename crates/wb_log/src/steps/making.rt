@@ -11,10 +11,10 @@ ghost use Rattle.wb_log.specs.Records.{shown, kept_of, number_before};
 use crate::entry::{Entry, Form, Kept, Record};
 use std::alloc::Global;
 use wb_book::{Cell, Changes, Delta, Pattern, Value};
-use wb_edit::{Edit, Footprint};
+use wb_foot::wb_edit::{Edit, Footprint};
 use wb_range::NoMemory;
 use wb_redist::Mover;
-use wb_shelf::Book;
+use wb_foot::wb_shelf::Book;
 
 // Whether the cells are one.
 pub(crate) fn is_same(a: &Cell, b: &Cell) -> bool

@@ -2,8 +2,8 @@ ghost use Rattle.std.specs.Prelude.{◌≡◌, ℕ, ◌+◌, ◌^◌, ◌<◌, l
 ghost use Rattle.selective_undo.specs.Changes.{apply, inverse};
 ghost use Rattle.wb_book.specs.Cells.{written_more, count_of};
 ghost use Rattle.wb_book.specs.WellFormed.{IsWellFormed};
-ghost use Rattle.wb_edit.specs.Commands.{meaning};
-ghost use Rattle.wb_edit.specs.Plans.{IsPlan};
+ghost use Rattle.wb_foot.specs.wb_edit.specs.Commands.{meaning};
+ghost use Rattle.wb_foot.specs.wb_edit.specs.Plans.{IsPlan};
 ghost use Rattle.wb_foot.specs.Footprints.{Footprints, with_footprint};
 ghost use Rattle.wb_log.specs.Indexed.{Indexes, IsIndexed};
 ghost use Rattle.wb_log.specs.Kept.{kept_in, Shows, PlansAgain, redo_blocker, stopped_refusal, entries_meant, numbered_entries};
@@ -16,10 +16,10 @@ use crate::refusal::Refusal;
 use crate::steps::making::make;
 use std::alloc::Global;
 use wb_book::{Changes, Delta};
-use wb_edit::{Footprint, PlanErr, plan};
+use wb_foot::wb_edit::{Footprint, PlanErr, plan};
 use wb_range::NoMemory;
 use wb_redist::Mover;
-use wb_shelf::Book;
+use wb_foot::wb_shelf::Book;
 
 /// What an entry's edit would change in a workbook.
 fn plan_of(alloc: Global, book: &Book, entry: &Record) -> Result<(Delta, Footprint, usize), PlanErr>

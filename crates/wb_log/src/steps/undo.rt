@@ -10,7 +10,7 @@ use crate::entry::Record;
 use crate::index::Index;
 use crate::refusal::Refusal;
 use wb_redist::Mover;
-use wb_shelf::Book;
+use wb_foot::wb_shelf::Book;
 
 /// Whether an edit may not be undone.
 fn undo_refusal(entries: &[Record], index: &mut Index, at: usize) -> Option<Refusal>

@@ -8,8 +8,8 @@ use std::sync::Wait;
 use std::sync::ledger::Blank;
 use std::test::Fail;
 use wb_program::wb_shared::{Desk, Opening, settle};
-use wb_record::wb_history::History;
-use wb_record::wb_proto::{answer_request, read_request};
+use wb_program::wb_history::History;
+use wb_program::wb_record::wb_proto::{answer_request, read_request};
 use wb_redist::{Crew, Mover};
 
 // A history of one edit, the set N.

@@ -6,8 +6,8 @@ use std::sync::Wait;
 use std::thread;
 use std::thread::Threads;
 use wb_program::wb_shared::{Desk, Opening, Pass};
-use wb_record::wb_history::Answer;
-use wb_record::wb_proto::Reply;
+use wb_program::wb_history::Answer;
+use wb_program::wb_record::wb_proto::Reply;
 use wb_redist::Mover;
 
 /// What each seat does.

@@ -1,8 +1,11 @@
-//! Texts of workbooks made texts of histories, which are judged and gone on from; texts of no workbook; and input that fails.
+//! Texts of workbooks made texts of histories, which are judged and gone on from; texts of no workbook; and input and output
+//! that fail.
 
 use crate::program::texts::{OTHERS, WORKBOOKS};
+use crate::sessions::devices::{AtLimit, Narrow};
 use std::alloc::Global;
 use std::io::{self, ErrorKind, Read, Write};
+use std::process::Abort;
 use std::test::Fail;
 use wb_lines::{Input, Output};
 use wb_program::{PutBack, check_with, resume_with, upgrade_with};
@@ -130,4 +133,32 @@ fn failing_input(rt: HostRuntime) -> Result<(), Fail> {
         assert!(rt; output.is_empty());
     }
     Ok(())
+}
+
+// Output that fails behind each front of what is to be printed, or at its flush.
+fn fails_at_each<M: Mover>(
+    rt: &impl Abort,
+    alloc: Global,
+    text: &[u8],
+    printed: &[u8],
+    mover: &M,
+) -> Result<(), Fail> {
+    for limit in 0..=printed.len() {
+        let mut input = Input::new(text);
+        let mut output = Narrow::new(alloc, limit, AtLimit::FailsAtAll);
+        let status = upgrade_with(alloc, &mut input, &mut Output::new(&mut output), mover);
+        assert_eq!(rt; status, 3);
+        assert_eq!(rt;
+            output.taken.as_slice(),
+            printed.get(..limit).ok_or("a front")?
+        );
+    }
+    Ok(())
+}
+
+#[test]
+fn failing_output(rt: HostRuntime) -> Result<(), Fail> {
+    let alone = Crew::alone(&rt);
+    fails_at_each(&rt, rt.alloc(), WORKBOOK, HISTORY, &alone)?;
+    fails_at_each(&rt, rt.alloc(), b"", REFUSED, &alone)
 }

@@ -3,8 +3,8 @@
 use std::alloc::Global;
 use std::process::Abort;
 use std::test::Fail;
-use wb_record::wb_reading::read_book;
-use wb_record::wb_text::print_book;
+use wb_program::wb_record::wb_reading::read_book;
+use wb_program::wb_record::wb_text::print_book;
 
 const EACH_KIND: &str =
     "chapel-workbook 1\narray A over D [0, 0, 0, 9]\narray B over S [7, 8] irv 7\narray C over N []\nrect D {1..4} cyclicDist(1, [2])\nassoc N of int {}\nsparse S of D {2, 4}\nassoc T of text {\"a\", \"b, }\"}\nend\n";

@@ -4,10 +4,10 @@
 use std::alloc::Global;
 use std::test::Fail;
 use wb_book::{AnyIndex, Index, Name, Point};
-use wb_record::wb_reading::{BookErr, read_book};
+use wb_program::wb_record::wb_reading::{BookErr, read_book};
+use wb_program::wb_history::wb_shelf::Book;
 use wb_resize::set_operations::sorted_set;
 use wb_resize::{NewIndices, Operand, SetOperation};
-use wb_shelf::Book;
 
 pub(crate) fn at(i: i64) -> AnyIndex {
     AnyIndex::new(Index::Point(Point::single(i)))

@@ -4,7 +4,7 @@ use crate::sessions::records::edit_of;
 use std::alloc::Global;
 use std::process::Abort;
 use std::test::Fail;
-use wb_record::wb_history::{History, Refusal};
+use wb_program::wb_history::{History, Refusal};
 use wb_redist::{Crew, Mover};
 
 const EDITS: [&str; 6] = [

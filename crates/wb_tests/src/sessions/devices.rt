@@ -44,20 +44,31 @@ impl<'a> Read for OneByOne<'a> {
     }
 }
 
-// Takes one byte a call, up to a limit, and then fails or takes nothing.
+// What a writer does that has taken all it takes.
+#[derive(Clone, Copy, Debug, PartialEq, Eq)]
+pub enum AtLimit {
+    // It takes no byte, and says so.
+    TakesNothing,
+    // It fails at each write.
+    FailsToWrite,
+    // It fails at each write and at each flush.
+    FailsAtAll,
+}
+
+// Takes one byte a call, up to a limit.
 #[derive(Drop)]
 pub struct Narrow {
     pub taken: Vec<u8>,
     limit: usize,
-    fails: bool,
+    then: AtLimit,
 }
 
 impl Narrow {
-    pub fn new(alloc: Global, limit: usize, fails: bool) -> Narrow {
+    pub fn new(alloc: Global, limit: usize, then: AtLimit) -> Narrow {
         Narrow {
             taken: Vec::new(alloc),
             limit,
-            fails,
+            then,
         }
     }
 }
@@ -65,10 +76,11 @@ impl Narrow {
 impl Write for Narrow {
     fn write(&mut self, buf: &[u8]) -> io::Result<usize> {
         if self.taken.len() >= self.limit {
-            return if self.fails {
-                Err(io::Error::from(ErrorKind::BrokenPipe))
-            } else {
-                Ok(0)
+            return match self.then {
+                AtLimit::TakesNothing => Ok(0),
+                AtLimit::FailsToWrite | AtLimit::FailsAtAll => {
+                    Err(io::Error::from(ErrorKind::BrokenPipe))
+                }
             };
         }
         match buf.first() {
@@ -81,6 +93,9 @@ impl Write for Narrow {
     }
 
     fn flush(&mut self) -> io::Result<()> {
+        if self.then == AtLimit::FailsAtAll && self.taken.len() >= self.limit {
+            return Err(io::Error::from(ErrorKind::BrokenPipe));
+        }
         Ok(())
     }
 }

@@ -8,9 +8,9 @@ use wb_book::{
     AnyCell, AnyIndex, AnyRect, Cell, CellChange, Changes, Form, Index, Name, Pattern, Point,
     RectangleChanges, RectangleNumbers, Row,
 };
-use wb_foot::FootIndex;
 use wb_range::{NoMemory, Range};
-use wb_record::wb_edit::ReadRun;
+use wb_program::wb_record::wb_edit::ReadRun;
+use wb_program::wb_record::wb_log::wb_foot::FootIndex;
 
 fn element(array: Name, i: i64) -> Cell {
     Cell::Element(array, AnyIndex::new(Index::Point(Point::single(i))))

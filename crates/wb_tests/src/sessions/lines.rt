@@ -1,6 +1,6 @@
 //! Lines and sessions over devices that give or take a byte a call, fail, or hold bytes back.
 
-use crate::sessions::devices::{Narrow, OneByOne};
+use crate::sessions::devices::{AtLimit, Narrow, OneByOne};
 use crate::sessions::scripts::ended;
 use std::alloc::Global;
 use std::io::BufWriter;
@@ -65,12 +65,12 @@ fn failing_reads(rt: HostRuntime) {
     let alone = Crew::alone(&rt);
     for at in 0..LINES.len() {
         let whole = line_ends(&LINES[..at]);
-        let mut output = Narrow::new(alloc, REPLIES.len(), true);
+        let mut output = Narrow::new(alloc, REPLIES.len(), AtLimit::FailsToWrite);
         let end = SessionEnd::ReadFault(whole);
         let sent = reply_length(whole);
         ends_so(&rt, alloc, Some(at), &mut output, end, sent, whole, &alone);
     }
-    let mut output = Narrow::new(alloc, REPLIES.len(), true);
+    let mut output = Narrow::new(alloc, REPLIES.len(), AtLimit::FailsToWrite);
     let end = SessionEnd::Done(5);
     ends_so(&rt, alloc, None, &mut output, end, 82, 5, &alone);
 }
@@ -82,8 +82,8 @@ fn failing_writes(rt: HostRuntime) {
     let alone = Crew::alone(&rt);
     for limit in 0..REPLIES.len() {
         let whole = line_ends(&REPLIES[..limit]);
-        for fails in [true, false] {
-            let mut output = Narrow::new(alloc, limit, fails);
+        for then in [AtLimit::FailsToWrite, AtLimit::TakesNothing] {
+            let mut output = Narrow::new(alloc, limit, then);
             let end = SessionEnd::WriteFault(whole);
             let answered = whole.wrapping_add(1);
             ends_so(&rt, alloc, None, &mut output, end, limit, answered, &alone);
@@ -100,11 +100,34 @@ fn flushes_before_it_waits(rt: HostRuntime) -> Result<(), Fail> {
         (Some(79), REPLIES.len(), SessionEnd::ReadFault(2), 34),
         (None, 5, SessionEnd::WriteFault(1), 5),
     ] {
-        let mut output = BufWriter::new(alloc, Narrow::new(alloc, limit, true))?;
+        let narrow = Narrow::new(alloc, limit, AtLimit::FailsToWrite);
+        let mut output = BufWriter::new(alloc, narrow)?;
         let input = OneByOne::new(LINES, failing);
         let (end, _) = ended(alloc, input, &mut output, &alone);
         assert!(rt; end == wanted);
         assert!(rt; REPLIES.get(..sent) == Some(output.get_ref().taken.as_slice()));
+    }
+    Ok(())
+}
+
+// A line may have 65,536 bytes, and the last one needs no end.
+#[test]
+fn gives_lines_at_their_limit(rt: HostRuntime) -> Result<(), Fail> {
+    let alloc = rt.alloc();
+    let mut text = Vec::new(alloc);
+    text.resize(65_536, b'a')?;
+    text.extend_from_slice(b"\nb")?;
+    let mut input = Input::new(text.as_slice());
+    let mut buffer = LineBuffer::new(alloc);
+    for (line, length) in [
+        (Line::Whole, 65_536),
+        (Line::Whole, 1),
+        (Line::End, 0),
+        (Line::End, 0),
+    ] {
+        assert!(rt; next_line(&mut input, &mut buffer) == Ok(line));
+        assert!(rt; buffer.line().len() == length);
+        assert!(rt; !buffer.has_line());
     }
     Ok(())
 }

@@ -2,7 +2,7 @@
 mod book_texts;
 mod books;
 mod cascades;
-mod devices;
+pub mod devices;
 mod footprints;
 mod lines;
 mod literals;

@@ -7,9 +7,9 @@ use std::marker::PhantomData;
 use std::test::Fail;
 use wb_book::Name;
 use wb_range::NoMemory;
-use wb_record::wb_history::History;
+use wb_program::wb_history::History;
+use wb_program::wb_history::wb_shelf::Book;
 use wb_redist::Crew;
-use wb_shelf::Book;
 
 const MADE: &str = r#"
 {"op":"domain","d":"D","is":"{0..5}","map":"blockDist({0..5}, [2])"} -> {"edit":1,"n":3}

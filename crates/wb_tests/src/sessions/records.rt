@@ -4,10 +4,10 @@ use crate::sessions::scripts::play;
 use std::alloc::Global;
 use std::process::Abort;
 use std::test::Fail;
-use wb_record::wb_edit::Edit;
-use wb_record::wb_history::History;
-use wb_record::wb_proto::{Request, read_request};
-use wb_record::{HistoryErr, print_history, read_history};
+use wb_program::wb_record::wb_edit::Edit;
+use wb_program::wb_history::History;
+use wb_program::wb_record::wb_proto::{Request, read_request};
+use wb_program::wb_record::{HistoryErr, print_history, read_history};
 use wb_redist::{Crew, Mover};
 
 const MADE: &str = r#"

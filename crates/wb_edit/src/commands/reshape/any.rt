@@ -11,7 +11,7 @@ use crate::looks::one_cell::domain_named;
 use std::alloc::Global;
 use wb_book::{AnyDomain, Delta, DomainKind, Name};
 use wb_resize::NewIndices;
-use wb_shelf::Book;
+use wb_reading::wb_shelf::Book;
 
 fn plan_reshape_kind(
     alloc: Global,

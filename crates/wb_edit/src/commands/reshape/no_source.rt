@@ -9,7 +9,7 @@ use crate::looks::one_cell::domain_named;
 use crate::refusal::Refusal;
 use wb_book::Delta;
 use wb_resize::Operand;
-use wb_shelf::Book;
+use wb_reading::wb_shelf::Book;
 
 /// There is no such source for the domain; a name that is given is tested first.
 pub(crate) fn plan_no_source(

@@ -14,7 +14,7 @@ use std::alloc::Global;
 use wb_book::{AnyRect, Delta, Name, Point};
 use wb_resize::new_rectangles::left_out;
 use wb_resize::{Displacement, NewIndices, Operand};
-use wb_shelf::Book;
+use wb_reading::wb_shelf::Book;
 
 // A rectangular domain with some ranges gets new ones.
 fn plan_reshaped(
