@@ -13,7 +13,7 @@ use wb_program::wb_shared::{Cause, Desk, DeskErr, Entry, Opening, Pass, Record, 
 use wb_program::wb_record::wb_proto::{Reply, Request, read_request, reply_text};
 use wb_redist::{Crew, Mover};
 
-pub const NEW_SET: &str = "{\"op\":\"assoc\",\"d\":\"N\",\"of\":\"int\"}";
+const NEW_SET: &str = "{\"op\":\"assoc\",\"d\":\"N\",\"of\":\"int\"}";
 
 const FIRST_EDIT: &str = "{\"edit\":1,\"n\":1}";
 
@@ -21,14 +21,14 @@ const NEW_RECTANGLE: &str = "{\"op\":\"domain\",\"d\":\"D\",\"is\":\"{1..2}\"}";
 
 const SIZE_OF_RECTANGLE: &str = "{\"op\":\"size\",\"d\":\"D\"}";
 
-pub const SIZE_OF_SET: &str = "{\"op\":\"size\",\"d\":\"N\"}";
+const SIZE_OF_SET: &str = "{\"op\":\"size\",\"d\":\"N\"}";
 
 const STRANGE: &str = "{\"error\":\"E92\",\"name\":\"strange-pass\"}";
 
 // What is done with a pass: a line is asked and has this reply, the pass gets the number of another seat, or its first
 // request is replaced.
 #[derive(Clone, Copy)]
-pub enum Act {
+enum Act {
     Ask(&'static str, &'static str),
     Renumber(usize),
     Replace,
@@ -36,14 +36,14 @@ pub enum Act {
 
 // What is done with the pass at a place.
 #[derive(Clone, Copy)]
-pub struct Move {
+struct Move {
     place: usize,
     act: Act,
 }
 
 // Why a day ends early.
 #[derive(Clone, Copy, Debug, PartialEq, Eq)]
-pub enum Early {
+enum Early {
     NoDesk(DeskErr),
     OtherReply,
     NoPass,
@@ -137,7 +137,7 @@ fn done<L: Opening, R: Wait, M: Mover>(
 }
 
 // Does each of these, in order.
-pub fn all_done<L: Opening, R: Wait, M: Mover>(
+fn all_done<L: Opening, R: Wait, M: Mover>(
     rt: &R,
     alloc: Global,
     desk: &Desk<L>,
@@ -190,7 +190,7 @@ fn day_of<L: Opening + Send + Sync, R: Threads + Wait + Sync, M: Mover + Sync>(
     }
 }
 
-pub const fn asked(place: usize, line: &'static str, told: &'static str) -> Move {
+const fn asked(place: usize, line: &'static str, told: &'static str) -> Move {
     Move {
         place,
         act: Act::Ask(line, told),

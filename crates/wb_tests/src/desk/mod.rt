@@ -1,4 +1,3 @@
 //! Days of a desk: `wb_shared`.
 mod days;
-mod opened;
 mod threads;

@@ -18,9 +18,7 @@ use wb_rect::Rect;
 // The moves take an array from a domain to another and back: the first element and that of new indices, the mapping, the
 // domains, an index outside the old one, and those to look at. The answer is what setting a 9 outside gave, the elements
 // over the new domain, the pairs that were lost, the elements over the old domain again, and how many there are. `piece`
-// is the pairs of a locale, whose elements count up from 1. `walk` goes over indices, each from the place of the one
-// before: the elements there, the same once each was set to a number, and then the pairs of locale 0. `replace` sets all to
-// a number, and then to a number each: whether it could be done, and the pairs of locale 0.
+// is the pairs of a locale, whose elements count up from 1.
 const ROWS: &str = r"
 move 1 0 block 2 5 1 _ 2 1 4 1 _ 3 6 1 _ 5 6 1 2 3 4 5 7 -> Err(OutOfDomain) [None, None, Some(3), Some(4), Some(0), None] [([1], 1), ([2], 2)] [Some(1), Some(2), Some(3), Some(4), None, None] 4
 move_sparse 7 5 1 1 2 2 1 4 1 _ 1 4 1 _ 2 1 1 2 3 1 4 1 _ 1 4 1 _ 2 2 3 4 4 4 4 2 1 1 4 4 -> Err(OutOfDomain) [None, Some(5)] [([1, 1], 7)] [Some(7), None] 2
@@ -31,11 +29,6 @@ piece 1 0 cyclic 1 4 1 10 1 _ 4 -> Err(NoLocale)
 piece 1 0 block 1 10 1 _ 4 1 10 1 _ 1 -> Ok([([4], 4), ([5], 5)])
 piece 1 0 block 1 10 1 _ 4 1 10 1 _ 3 -> Ok([([9], 9), ([10], 10)])
 piece 1 0 block 1 10 1 _ 4 1 10 1 _ 4 -> Err(NoLocale)
-walk 1 0 block 1 10 1 _ 4 1 10 1 _ 5 2 3 4 5 11 -> [Some(2), Some(3), Some(4), Some(5), None] [Some(0), Some(0), Some(0), Some(0), None] Ok([([1], 1), ([2], 0), ([3], 0)])
-replace 1 7 cyclic 1 1 1 3 1 _ 3 4 5 6 -> true Ok([([1], 7), ([2], 7), ([3], 7)]) true Ok([([1], 4), ([2], 5), ([3], 6)])
-replace 1 7 cyclic 1 1 1 3 1 _ 2 4 5 -> true Ok([([1], 7), ([2], 7), ([3], 7)]) false Ok([([1], 7), ([2], 7), ([3], 7)])
-replace 1 7 cyclic 1 2 1 3 1 _ 3 4 5 6 -> false Ok([([1], 1), ([3], 3)]) false Ok([([1], 1), ([3], 3)])
-walk 1 7 cyclic 1 4 1 10 1 _ 5 1 2 5 6 10 -> [Some(1), Some(2), Some(5), Some(6), Some(10)] [Some(7), Some(7), Some(7), Some(7), Some(7)] Ok([([1], 7), ([5], 7), ([9], 9)])
 ";
 
 // The elements count up from the first, in the order of the domain.
@@ -160,63 +153,6 @@ fn piece(alloc: Global, first: i64, words: &mut Words<'_>) -> Result<String, Fai
     shown(alloc, &array.piece(words.number()))
 }
 
-// The elements at indices one after another, each looked for from the place of the one before.
-fn walked(
-    alloc: Global,
-    array: &Pieces<Rect<1>, Layout<1>>,
-    indices: &[[i64; 1]],
-) -> Result<String, Fail> {
-    let mut elements = Vec::new(alloc);
-    let mut near = 0;
-    for i in indices {
-        let (element, place) = array.get_near(*i, near);
-        elements.push(element)?;
-        near = place;
-    }
-    shown(alloc, &elements.as_slice())
-}
-
-// Sets the elements at indices one after another, each looked for from the place of the one before.
-fn set_on_the_way(array: &mut Pieces<Rect<1>, Layout<1>>, indices: &[[i64; 1]], element: i64) {
-    let mut near = 0;
-    for i in indices {
-        near = array.set_near(*i, element, near);
-    }
-}
-
-fn walk(
-    alloc: Global,
-    (first, element): (i64, i64),
-    words: &mut Words<'_>,
-) -> Result<String, Fail> {
-    let layout: Layout<1> = layout(words)?;
-    let domain: Rect<1> = rectangle(words)?;
-    let looks = words.indices(alloc)?;
-    let mut array = Pieces::split(alloc, &layout, &numbered(alloc, &domain, first)?)?;
-    let before = walked(alloc, &array, looks.as_slice())?;
-    set_on_the_way(&mut array, looks.as_slice(), element);
-    let after = elements(alloc, &array, looks.as_slice())?;
-    let pairs = shown(alloc, &array.piece(0))?;
-    Ok(format!(in alloc; "{before} {after} {pairs}")?)
-}
-
-// All elements replaced by a number, and then by a number each.
-fn replace(
-    alloc: Global,
-    (first, number): (i64, i64),
-    words: &mut Words<'_>,
-) -> Result<String, Fail> {
-    let layout: Layout<1> = layout(words)?;
-    let domain: Rect<1> = rectangle(words)?;
-    let numbers = integers(alloc, words)?;
-    let mut array = Pieces::split(alloc, &layout, &numbered(alloc, &domain, first)?)?;
-    let filled = array.fill(&number);
-    let same = shown(alloc, &array.piece(0))?;
-    let set = array.set_all(numbers.as_slice());
-    let each = shown(alloc, &array.piece(0))?;
-    Ok(format!(in alloc; "{filled} {same} {set} {each}")?)
-}
-
 #[derive(Drop)]
 struct Arrays;
 
@@ -227,8 +163,6 @@ impl Subject for Arrays {
             "move" => by_rectangles(alloc, given, words),
             "move_sparse" => by_sparse_sets(alloc, given, words),
             "move_integers" => by_integer_sets(alloc, given, words),
-            "walk" => walk(alloc, given, words),
-            "replace" => replace(alloc, given, words),
             _ => piece(alloc, given.0, words),
         }
     }

@@ -27,6 +27,85 @@ const MORE_REPLIES: &[u8] = b"{\"n\":1,\"redone\":3}\n{\"value\":9}\n";
 
 const REFUSED: &[u8] = b"refused\n";
 
+// Parts of that text, and what stands in their place in texts of no history.
+const DAMAGED: [(&str, &str); 57] = [
+    ("chapel-workbook 2", "chapel-workbook 1"),
+    ("chapel-workbook 2", "chapel-workbook 3"),
+    ("chapel-workbook 2", " chapel-workbook 2"),
+    ("chapel-workbook 2\n", ""),
+    ("2\n", "2\r\n"),
+    ("2\n", "2\n\n"),
+    ("array A over D [0, 0, 0, 0]\n", ""),
+    ("0]", "9]"),
+    ("rect D {1..4} none\n", ""),
+    (
+        "rect D {1..4} none\n",
+        "rect D {1..4} none\nrect D {1..4} none\n",
+    ),
+    (
+        "array A over D [0, 0, 0, 0]\nrect D {1..4} none\n",
+        "rect D {1..4} none\narray A over D [0, 0, 0, 0]\n",
+    ),
+    ("4} none", "4 } none"),
+    ("history 3", "history 2"),
+    ("history 3", "history 03"),
+    ("history 3", "history 4"),
+    ("history 3", "history -3"),
+    ("history 3", "History 3"),
+    ("history 3\n", ""),
+    ("- ", "+ "),
+    ("- ", "* "),
+    ("- ", "-  "),
+    ("- ", "-"),
+    ("- ", ""),
+    ("+ {\"d\"", "- {\"d\""),
+    (",\"map\":\"none\"", ""),
+    ("\"{1..4}\"", "\"{ 1..4}\""),
+    ("\"{1..4}\"", "\"{1..#4}\""),
+    ("\"i\":4", "\"i\":04"),
+    ("\"i\":4", "\"i\":[4]"),
+    ("\"v\":9", "\"v\": 9"),
+    ("\"v\":9", "\"v\":9.0"),
+    ("\"v\":9", "\"v\":9,\"v\":9"),
+    ("\"v\":9", "\"v\":9,\"w\":9"),
+    ("\"set\"", "\"sets\""),
+    ("\"set\"", "\"s\\u0065t\""),
+    (
+        "{\"a\":\"A\",\"i\":4,\"op\":\"set\",\"v\":9}",
+        "{\"op\":\"set\",\"a\":\"A\",\"i\":4,\"v\":9}",
+    ),
+    (
+        "{\"a\":\"A\",\"i\":4,\"op\":\"set\",\"v\":9}",
+        "{\"op\":\"undo\"}",
+    ),
+    (
+        "- {\"a\":\"A\",\"i\":4,\"op\":\"set\",\"v\":9}",
+        "+ {\"a\":\"Z\",\"op\":\"drop_array\"}",
+    ),
+    ("- {\"a\":\"A\",\"i\":4,\"op\":\"set\",\"v\":9}\n", ""),
+    ("end\n", "end"),
+    ("end\n", "end\n\n"),
+    ("end\n", "End\n"),
+    ("end\n", ""),
+    ("end\n", "end\nend\n"),
+    ("+ {\"a\"", "- {\"a\""),
+    ("- {", " - {"),
+    ("}\n- {", "}\n\n- {"),
+    ("[0, 0, 0, 0]", "[0, 0, 0]"),
+    ("{1..4} none", "{1..4}  none"),
+    ("{1..4} none", "{1..5} none"),
+    ("{1..4} none", "{1..4} cyclicDist(1, [2])"),
+    ("history 3", "history  3"),
+    ("history 3", "history"),
+    ("\"i\":4,\"op\":\"set\"", "\"op\":\"set\",\"i\":4"),
+    ("\"op\":\"array\"", "\"op\":\"\\u0061rray\""),
+    (
+        "- {\"a\":\"A\",\"i\":4,\"op\":\"set\",\"v\":9}",
+        "- {\"d\":\"D\",\"op\":\"size\"}",
+    ),
+    ("- {\"a\":\"A\",\"i\":4,\"op\":\"set\",\"v\":9}", ""),
+];
+
 // The text with one thing in the place of another.
 fn damaged(alloc: Global, old: &str, new: &str) -> Result<String, Fail> {
     let (before, behind) = TEXT.split_once(old).ok_or("it stands in the text")?;
@@ -67,8 +146,10 @@ fn history_text(rt: HostRuntime) -> Result<(), Fail> {
     assert!(rt; output.as_slice().ends_with(TOLD));
     judge(&rt, alloc, TEXT, 0, b"ok 2 3\n", &alone)?;
     judge(&rt, alloc, REDONE, 0, b"ok 2 3\n", &alone)?;
-    let other = damaged(alloc, "history 3", "history 4")?;
-    judge(&rt, alloc, other.as_str(), 1, REFUSED, &alone)?;
+    for (part, other) in &DAMAGED {
+        let text = damaged(alloc, part, other)?;
+        judge(&rt, alloc, text.as_str(), 1, REFUSED, &alone)?;
+    }
     judge(
         &rt,
         alloc,

@@ -6,7 +6,7 @@ pub type Text = (&'static [u8], &'static [u8]);
 const REFUSED: &[u8] = b"refused\n";
 
 /// Texts of workbooks.
-pub const WORKBOOKS: [Text; 6] = [
+pub const WORKBOOKS: [Text; 10] = [
     (b"chapel-workbook 1\nend\n", b"ok 0\n"),
     (
         b"chapel-workbook 1\narray A over D [0, 0, 0, 9]\nrect D {1..4} none\nend\n",
@@ -27,6 +27,22 @@ pub const WORKBOOKS: [Text; 6] = [
     (
         b"chapel-workbook 1\narray A over E []\narray C over T [1]\nrect E {1..0, 1..5} none\nrect G {1..1, 2..2, 3..3} none\nassoc T of text {\"x\"}\nend\n",
         b"ok 5\n",
+    ),
+    (
+        b"chapel-workbook 1\nrect D {1..4} none\nrect E {1..10 by -3, 1..0} none\nrect F {2..8 by 3, 7..7, -1..1} none\nend\n",
+        b"ok 3\n",
+    ),
+    (
+        b"chapel-workbook 1\nrect D {0..11} blockDist({1..10}, [4])\nrect E {0..1, 0..2} cyclicDist((0, -1), [2, 3])\nrect F {0..11} blockCycDist(1, 2, [3])\nend\n",
+        b"ok 3\n",
+    ),
+    (
+        b"chapel-workbook 1\nrect D {1..2, -5..0} none\nassoc N of int {1, 5}\nsparse S of D {(1, -5)}\nend\n",
+        b"ok 3\n",
+    ),
+    (
+        b"chapel-workbook 1\narray A over D [0, 0, 0, 9]\narray B over S [7, 8] irv 7\narray C over N []\nrect D {1..4} cyclicDist(1, [2])\nassoc N of int {}\nsparse S of D {2, 4}\nassoc T of text {\"a\", \"b, }\"}\nend\n",
+        b"ok 7\n",
     ),
 ];
 

@@ -1,10 +1,11 @@
 //! Undo with dependents while growths are refused: of an element that is set and copied on, and of its domain.
 
-use crate::sessions::records::edit_of;
 use std::alloc::Global;
 use std::process::Abort;
 use std::test::Fail;
 use wb_program::wb_history::{History, Refusal};
+use wb_program::wb_record::wb_edit::Edit;
+use wb_program::wb_record::wb_proto::{Request, read_request};
 use wb_redist::{Crew, Mover};
 
 const EDITS: [&str; 6] = [
@@ -15,6 +16,21 @@ const EDITS: [&str; 6] = [
     r#"{"op":"copy","a":"A","i":3,"b":"A","j":2,"c":1}"#,
     r#"{"op":"set","a":"A","i":4,"v":8}"#,
 ];
+
+// The edit that a line asks for.
+fn edit_of(alloc: Global, line: &str) -> Result<Edit, Fail> {
+    match read_request(alloc, line.as_bytes())? {
+        Request::Change(edit) => Ok(edit),
+        Request::Undo(_)
+        | Request::Redo(_)
+        | Request::Cascade(_)
+        | Request::Dependents(_)
+        | Request::Ask(_)
+        | Request::Print
+        | Request::History
+        | Request::Edits => Err(Fail::new("no edit")),
+    }
+}
 
 fn worked<M: Mover>(alloc: Global, mover: &M) -> Result<History, Fail> {
     let mut history = History::new(alloc);

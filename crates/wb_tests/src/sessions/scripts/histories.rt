@@ -275,8 +275,32 @@ const RUNS_OF_MANY_CELLS: &str = r#"
 {"op":"get","a":"A","i":101} -> {"error":"E06","name":"out-of-domain"}
 "#;
 
+// One array with another of so many elements that the index keeps what each read and wrote as blocks.
+const ARRAYS_OF_MANY_ELEMENTS: &str = r#"
+{"op":"domain","d":"D","is":"{1..100}"} -> {"edit":1,"n":3}
+{"op":"array","a":"A","d":"D"} -> {"edit":2,"n":103}
+{"op":"array","a":"B","d":"D"} -> {"edit":3,"n":103}
+{"op":"fill_all","a":"A","v":2} -> {"edit":4,"n":100}
+{"op":"fill_all","a":"B","v":3} -> {"edit":5,"n":100}
+{"op":"all","a":"A","how":"+","b":"B"} -> {"edit":6,"n":100}
+{"op":"get","a":"A","i":100} -> {"value":5}
+{"op":"set","a":"B","i":50,"v":9} -> {"edit":7,"n":1}
+{"op":"undo","k":6} -> {"n":100,"undone":6}
+{"op":"get","a":"A","i":100} -> {"value":2}
+{"op":"redo","k":6} -> {"by":7,"error":"E14","name":"blocked"}
+{"op":"undo","k":7} -> {"n":1,"undone":7}
+{"op":"redo","k":6} -> {"n":100,"redone":6}
+{"op":"get","a":"A","i":50} -> {"value":5}
+{"op":"undo","k":5} -> {"by":6,"error":"E14","name":"blocked"}
+{"op":"undo","k":4} -> {"by":6,"error":"E14","name":"blocked"}
+{"op":"undo","k":6} -> {"n":100,"undone":6}
+{"op":"undo","k":4} -> {"n":100,"undone":4}
+{"op":"get","a":"A","i":1} -> {"value":0}
+{"op":"get","a":"B","i":1} -> {"value":3}
+"#;
+
 /// Each script, over a history of its own.
-pub const SCRIPTS: [Script; 17] = [
+pub const SCRIPTS: [Script; 18] = [
     ("", UNDONE_AND_REDONE, 6, 44),
     (OPENING, REFUSED, 2, 10),
     (OPENING, SIZES, 3, 16),
@@ -294,4 +318,5 @@ pub const SCRIPTS: [Script; 17] = [
     (OPENING, COMBINED, 10, 47),
     (OPENING, NOT_COMBINED, 8, 30),
     ("", RUNS_OF_MANY_CELLS, 8, 1116),
+    ("", ARRAYS_OF_MANY_ELEMENTS, 7, 911),
 ];
