@@ -3,7 +3,6 @@ mod cascades;
 pub mod devices;
 mod footprints;
 mod lines;
-mod literals;
 mod movers;
 mod scripts;
 mod wire;

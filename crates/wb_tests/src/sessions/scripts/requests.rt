@@ -144,10 +144,45 @@ const REFUSED_LITERALS: &str = r#"
 {"op":"domain","d":"D","is":"{1..<-9223372036854775808}"} -> {"error":"E09","name":"too-large"}
 {"op":"domain","d":"D","is":"{1..#9223372036854775807}"} -> {"error":"E09","name":"too-large"}
 {"op":"domain","d":"D","is":"{1000000000000000000..#2}"} -> {"error":"E09","name":"too-large"}
+{"op":"domain","d":"D","is":"{1..9223372036854775808}"} -> {"error":"E02","name":"bad-literal"}
+{"op":"domain","d":"D","is":"{1..2 align 1}"} -> {"error":"E02","name":"bad-literal"}
+{"op":"domain","d":"D","is":"{1.. <2}"} -> {"error":"E02","name":"bad-literal"}
+{"op":"domain","d":"D","is":"{1..2,}"} -> {"error":"E02","name":"bad-literal"}
+{"op":"domain","d":"D","is":"{1..2 3..4}"} -> {"error":"E02","name":"bad-literal"}
+{"op":"domain","d":"D","is":" {1..2}"} -> {"error":"E02","name":"bad-literal"}
+{"op":"domain","d":"D","is":"{1..2"} -> {"error":"E02","name":"bad-literal"}
+{"op":"domain","d":"D","is":"{-9223372036854775808..1}"} -> {"error":"E09","name":"too-large"}
+"#;
+
+// Mappings and sets outside their grammar. What begins with no brace is no set, but a name.
+const REFUSED_MAPPINGS_AND_SETS: &str = r#"
+{"op":"remap","d":"D","map":"none "} -> {"error":"E02","name":"bad-literal"}
+{"op":"remap","d":"D","map":"blockDist({1..10}, [4]"} -> {"error":"E02","name":"bad-literal"}
+{"op":"remap","d":"D","map":"blockDist({1..10} [4])"} -> {"error":"E02","name":"bad-literal"}
+{"op":"remap","d":"D","map":"blockDist({1..10}, [])"} -> {"error":"E02","name":"bad-literal"}
+{"op":"remap","d":"D","map":"blockDist({}, [4])"} -> {"error":"E02","name":"bad-literal"}
+{"op":"remap","d":"D","map":"cyclicDist(1, 3)"} -> {"error":"E02","name":"bad-literal"}
+{"op":"remap","d":"D","map":"cyclicDist((1), [3])"} -> {"error":"E02","name":"bad-literal"}
+{"op":"remap","d":"D","map":"cyclicDist((1 2), [3])"} -> {"error":"E02","name":"bad-literal"}
+{"op":"remap","d":"D","map":"cyclicDist(+1, [3])"} -> {"error":"E02","name":"bad-literal"}
+{"op":"remap","d":"D","map":"blockCycDist(1, [3])"} -> {"error":"E02","name":"bad-literal"}
+{"op":"reshape","d":"N","or":"{1"} -> {"error":"E02","name":"bad-literal"}
+{"op":"reshape","d":"N","or":"{1,}"} -> {"error":"E02","name":"bad-literal"}
+{"op":"reshape","d":"N","or":"{,}"} -> {"error":"E02","name":"bad-literal"}
+{"op":"reshape","d":"N","or":" {1}"} -> {"error":"E01","name":"bad-request"}
+{"op":"reshape","d":"N","or":"{1} "} -> {"error":"E02","name":"bad-literal"}
+{"op":"reshape","d":"N","or":"{1, (1, 2)}"} -> {"error":"E02","name":"bad-literal"}
+{"op":"reshape","d":"N","or":"{(1, 2), (1, 2, 3)}"} -> {"error":"E02","name":"bad-literal"}
+{"op":"reshape","d":"N","or":"{1, \"a\"}"} -> {"error":"E02","name":"bad-literal"}
+{"op":"reshape","d":"N","or":"{\"a\", 1}"} -> {"error":"E02","name":"bad-literal"}
+{"op":"reshape","d":"N","or":"{\"a}"} -> {"error":"E02","name":"bad-literal"}
+{"op":"reshape","d":"N","or":"{\"a\\\"}"} -> {"error":"E02","name":"bad-literal"}
+{"op":"reshape","d":"N","or":"{\"0123456789012345678901234567890123456789012345678901234567890123 \"}"} -> {"error":"E02","name":"bad-literal"}
+{"op":"reshape","d":"N","or":"{9223372036854775808}"} -> {"error":"E02","name":"bad-literal"}
 "#;
 
 /// Each script, over a history of its own.
-pub const SCRIPTS: [Script; 7] = [
+pub const SCRIPTS: [Script; 8] = [
     ("", FIELDS_OF_THEIR_TYPES, 0, 0),
     ("", BOUNDS_OF_NAMES, 0, 0),
     ("", LITERALS_AFTER_FIELDS, 2, 6),
@@ -155,4 +190,5 @@ pub const SCRIPTS: [Script; 7] = [
     ("", SIZES_OF_LITERALS, 20, 104),
     ("", INDICES_OF_A_RECTANGLE, 3, 16),
     ("", REFUSED_LITERALS, 0, 0),
+    ("", REFUSED_MAPPINGS_AND_SETS, 0, 0),
 ];
