@@ -1,4 +1,4 @@
-//! Arrays moved to another mapping, by one thread, by several and by none, and what reductions make of them.
+//! Arrays moved to another mapping, by one thread, by several and by none.
 ghost use Rattle.std.specs.Prelude.{⊤};
 
 use crate::index_sets::mappings::layout;
@@ -14,9 +14,7 @@ use wb_dist::{BadMapping, Layout};
 use wb_pieces::Pieces;
 use wb_range::Range;
 use wb_rect::Rect;
-use wb_redist::{
-    BadWorkers, Crew, Gate, MoveErr, Mover, Op, Open, ReduceErr, Way, Workers, reduce,
-};
+use wb_redist::{BadWorkers, Crew, Gate, MoveErr, Mover, Open, Way, Workers};
 
 // The elements at 1, 2 .., in the pieces of the mapping. A refused growth is tried again once.
 fn pieces_of(
@@ -170,46 +168,5 @@ fn mover_without_threads(rt: HostRuntime) -> Result<(), Fail> {
     let from = tens(&rt, rt.alloc())?;
     let refused = mover.move_pieces(rt.alloc(), &from, &in_turn()?);
     assert!(rt; refused.err() == Some(MoveErr::NoThread));
-    Ok(())
-}
-
-// The sum, the least and the greatest of elements, dealt out in turn, by a mover.
-fn reductions_by<X: Mover>(
-    rt: &impl Abort,
-    alloc: Global,
-    mover: &X,
-    elements: &[i64],
-) -> Result<[Result<i64, ReduceErr>; 3], Fail> {
-    let layout = layout(&mut Words::of("cyclic 1 2"))?;
-    let pieces = pieces_of(rt, alloc, &layout, elements)?;
-    Ok([
-        reduce(mover, Op::Sum, &pieces),
-        reduce(mover, Op::Min, &pieces),
-        reduce(mover, Op::Max, &pieces),
-    ])
-}
-
-// Only the whole sum has to be an i64: where locale 0 has the greatest i64 and 1, locale 1 may bring the sum back. All
-// movers give the same, one that has no thread too.
-#[test]
-fn reductions(rt: HostRuntime) -> Result<(), Fail> {
-    let (empty, overflow) = (Err(ReduceErr::Empty), Err(ReduceErr::Overflow));
-    let alone = Crew::alone(&rt);
-    let four = Workers::new(&rt, 4, Open)?;
-    let none: Threadless<&HostRuntime> = Threadless { of: PhantomData };
-    for (elements, wanted) in [
-        ([10, 20, 30].as_slice(), [Ok(60), Ok(10), Ok(30)]),
-        ([].as_slice(), [Ok(0), empty, empty]),
-        ([i64::MAX, 0, 1].as_slice(), [overflow, Ok(0), Ok(i64::MAX)]),
-        (
-            [i64::MAX, -1, 1].as_slice(),
-            [Ok(i64::MAX), Ok(-1), Ok(i64::MAX)],
-        ),
-        ([i64::MIN, -1].as_slice(), [overflow, Ok(i64::MIN), Ok(-1)]),
-    ] {
-        assert_eq!(rt; reductions_by(&rt, rt.alloc(), &alone, elements)?, wanted);
-        assert_eq!(rt; reductions_by(&rt, rt.alloc(), &four, elements)?, wanted);
-        assert_eq!(rt; reductions_by(&rt, rt.alloc(), &none, elements)?, wanted);
-    }
     Ok(())
 }

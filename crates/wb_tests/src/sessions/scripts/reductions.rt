@@ -22,6 +22,7 @@ const REDUCTIONS: &str = r#"
 {"op":"array","a":"B","d":"S"} -> {"edit":8,"n":3}
 {"op":"irv","a":"B","v":5} -> {"edit":9,"n":1}
 {"op":"reduce","a":"B","how":"max"} -> {"error":"E18","name":"empty"}
+{"op":"reduce","a":"B","how":"+"} -> {"value":0}
 {"op":"add","d":"S","i":2} -> {"edit":10,"n":2}
 {"op":"reduce","a":"B","how":"+"} -> {"value":5}
 {"op":"domain","d":"E","is":"{1..2, 1..2}"} -> {"edit":11,"n":3}
