@@ -1,5 +1,4 @@
 //! Books, footprints, literals, texts, worked histories and sessions: the crates from `wb_book` to `wb_record`.
-mod cascades;
 pub mod devices;
 mod footprints;
 mod lines;
