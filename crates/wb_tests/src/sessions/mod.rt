@@ -1,4 +1,5 @@
-//! Books, footprints, literals, texts, worked histories and sessions: the crates from `wb_book` to `wb_record`.
+//! The index of footprints, worked histories, lines of requests and sessions: the crates from `wb_book` to `wb_record`.
+
 pub mod devices;
 mod footprints;
 mod lines;
