@@ -13,7 +13,6 @@ use wb_resize::{NewIndices, Operand};
 /// A command that changes a workbook, as it is asked for.
 ///
 /// What it tests, reads and writes is its `meaning` in `specs/Commands.antt`.
-#[derive(Drop)]
 pub enum Edit {
     /// A new rectangular domain of this name, with the ranges that are asked for and this mapping
     /// (Chapel Language Specification, Domains and Domain Maps).
@@ -55,6 +54,31 @@ pub enum Edit {
     Reshape(Name, NewIndices),
     /// The workbook of a text, where there is no object yet.
     Load(BookText),
+}
+
+// In a function of its own, so that a crate above need not prove anew how each field is let go.
+impl Drop for Edit {
+    fn drop(self) {
+        match self {
+            Edit::Domain(_, _, _)
+            | Edit::Remap(_, _)
+            | Edit::Sparse(_, _)
+            | Edit::Assoc(_, _)
+            | Edit::Array(_, _)
+            | Edit::Set(_, _, _)
+            | Edit::Irv(_, _)
+            | Edit::Copy(_, _, _, _, _)
+            | Edit::Fill(_, _, _)
+            | Edit::FillAll(_, _)
+            | Edit::DropArray(_)
+            | Edit::All(_, _, _)
+            | Edit::Add(_, _)
+            | Edit::Remove(_, _)
+            | Edit::DropDomain(_)
+            | Edit::Reshape(_, _)
+            | Edit::Load(_) => {}
+        }
+    }
 }
 
 impl Edit {

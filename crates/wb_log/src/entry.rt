@@ -353,29 +353,29 @@ impl Record {
 fn form_aside(alloc: Global, edit: Edit) -> Result<Form, NoMemory>
     ensures { IfOk result (λ f. shown f ≡ record { edit = edit; kept = None }) }
 {
-    match edit {
+    match &edit {
         Edit::Set(array, place, value) => Ok(Form::Set(Element {
-            array,
-            place,
-            value,
+            array: *array,
+            place: *place,
+            value: *value,
             was: None,
         })),
         Edit::Irv(array, value) => Ok(Form::Irv(Implicit {
-            array,
-            value,
+            array: *array,
+            value: *value,
             was: None,
         })),
         Edit::Copy(array, place, source, from, more) => {
             let copied = Copied {
-                array,
-                place,
-                source,
-                from,
-                more,
+                array: *array,
+                place: *place,
+                source: *source,
+                from: *from,
+                more: *more,
                 was: None,
             };
             Ok(Form::Copy(Box::new(alloc, copied)?))
         }
-        edit => Ok(Form::Whole(Box::new(alloc, Entry { edit, kept: None })?)),
+        _ => Ok(Form::Whole(Box::new(alloc, Entry { edit, kept: None })?)),
     }
 }
