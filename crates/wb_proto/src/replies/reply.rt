@@ -8,7 +8,7 @@ use wb_encode::wb_history::{Answer, Refusal};
 use wb_range::NoMemory;
 
 /// What a request is answered.
-#[derive(Debug, Drop)]
+#[derive(Debug)]
 pub enum Reply {
     /// The number of a new edit, and how many cells it changed.
     Edited(u64, usize),
@@ -29,6 +29,23 @@ pub enum Reply {
     Counted(u64, u128),
     /// Why nothing was done.
     Refused(Refusal),
+}
+
+// In a function of its own, so that a crate above need not prove anew how each field is let go.
+impl Drop for Reply {
+    fn drop(self) {
+        match self {
+            Reply::Edited(_, _)
+            | Reply::Undone(_, _)
+            | Reply::Cascaded(_, _)
+            | Reply::Redone(_, _)
+            | Reply::Listed(_)
+            | Reply::Answered(_)
+            | Reply::Printed(_)
+            | Reply::Counted(_, _)
+            | Reply::Refused(_) => {}
+        }
+    }
 }
 
 impl Reply {

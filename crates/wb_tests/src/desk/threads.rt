@@ -63,11 +63,12 @@ fn worked<L: Opening, R: Wait, M: Mover>(
         let Some(line) = line_of(alloc, work, pass.seat(), round) else {
             return Some(pass);
         };
-        match ask(rt, alloc, desk, &mut pass, line.as_str(), mover) {
+        let reply = ask(rt, alloc, desk, &mut pass, line.as_str(), mover);
+        match &reply {
             Reply::Edited(number, _) if work == Work::Adds && round % 10 == 0 => {
                 let undo = format!(in alloc; "{{\"op\":\"undo\",\"k\":{number}}}").ok()?;
-                let reply = ask(rt, alloc, desk, &mut pass, undo.as_str(), mover);
-                let Reply::Undone(_, _) = reply else {
+                let undone = ask(rt, alloc, desk, &mut pass, undo.as_str(), mover);
+                let Reply::Undone(_, _) = &undone else {
                     return None;
                 };
             }
