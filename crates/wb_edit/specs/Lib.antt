@@ -1,6 +1,4 @@
-pub use Rattle.wb_reading.specs.wb_shelf
-pub use Rattle.wb_reading.specs.wb_text
-pub use Rattle.wb_reading
+pub mod Below
 pub mod Schema
 pub mod Trees
 pub mod Looks

@@ -2,10 +2,10 @@
 use Rattle.std.specs.Prelude.{ℕ, List, [], ◌∷◌, codes}
 use Rattle.serde_json.specs.Data.{Data, number as json_number, unsigned, string, object, Members, no_members, member}
 use Rattle.serde_json.specs.Written.{compact_text}
-use Rattle.wb_history.specs.wb_edit.specs.declared.edit.Edit.{Edit}
+use Rattle.wb_history.specs.Below.wb_edit.edit.Edit.{Edit}
 use Rattle.wb_resize.specs.declared.operand.Operand.{Operand}
 use Rattle.wb_resize.specs.declared.operand.Operand.TheVariants.{Rectangle, Items, Named}
-use Rattle.wb_history.specs.wb_text.specs.Literals.{rectangle_text, set_text, mapping_text}
+use Rattle.wb_history.specs.Below.wb_text.Literals.{rectangle_text, set_text, mapping_text}
 use Rattle.wb_encode.specs.Values.{integer_data, index_data}
 use Rattle.wb_encode.specs.Table.{Meaning, word, name, integer, number, index, given, mapping, optional_mapping, book, some_set}
 use Rattle.wb_encode.specs.Table.{Fields, edit_table}

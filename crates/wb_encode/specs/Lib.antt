@@ -1,8 +1,4 @@
-pub use Rattle.wb_history.specs.wb_edit
-pub use Rattle.wb_history
-pub use Rattle.wb_history.specs.wb_log
-pub use Rattle.wb_history.specs.wb_reading
-pub use Rattle.wb_history.specs.wb_text
+pub mod Below
 pub mod Values
 pub mod Table
 pub mod Encoded

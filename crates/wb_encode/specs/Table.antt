@@ -12,13 +12,13 @@ use Rattle.wb_resize.specs.declared.operand.Operand.TheVariants.{Rectangle}
 use Rattle.wb_resize.specs.declared.new_indices.Displacement.TheVariants.{Translate, Expand}
 use Rattle.wb_resize.specs.declared.new_indices.SetOperation.TheVariants.{Union, Intersection, Difference, SymmetricDifference}
 use Rattle.wb_resize.specs.declared.new_indices.NewIndices.TheVariants.{To, Slice, Displace, Combine}
-use Rattle.wb_history.specs.wb_edit.specs.declared.asked_rectangle.AskedRectangle.TheVariants.{Ranges, Indices}
-use Rattle.wb_history.specs.wb_edit.specs.declared.operation.Operation.{Operation}
-use Rattle.wb_history.specs.wb_edit.specs.declared.operation.Operation.TheVariants as operations
-use Rattle.wb_history.specs.wb_edit.specs.declared.edit.Edit.{Edit}
-use Rattle.wb_history.specs.wb_edit.specs.declared.edit.Edit.TheVariants.{Domain, Remap, Reshape, Sparse, Assoc}
-use Rattle.wb_history.specs.wb_edit.specs.declared.edit.Edit.TheVariants.{DropDomain, Add, Remove, Array, Set, Irv, Copy}
-use Rattle.wb_history.specs.wb_edit.specs.declared.edit.Edit.TheVariants.{Fill, FillAll, DropArray, All, Load}
+use Rattle.wb_history.specs.Below.wb_edit.asked_rectangle.AskedRectangle.TheVariants.{Ranges, Indices}
+use Rattle.wb_history.specs.Below.wb_edit.operation.Operation.{Operation}
+use Rattle.wb_history.specs.Below.wb_edit.operation.Operation.TheVariants as operations
+use Rattle.wb_history.specs.Below.wb_edit.edit.Edit.{Edit}
+use Rattle.wb_history.specs.Below.wb_edit.edit.Edit.TheVariants.{Domain, Remap, Reshape, Sparse, Assoc}
+use Rattle.wb_history.specs.Below.wb_edit.edit.Edit.TheVariants.{DropDomain, Add, Remove, Array, Set, Irv, Copy}
+use Rattle.wb_history.specs.Below.wb_edit.edit.Edit.TheVariants.{Fill, FillAll, DropArray, All, Load}
 
 -- What a value spells.
 pub data Meaning : Type 0 where

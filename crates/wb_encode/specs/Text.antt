@@ -6,9 +6,9 @@ use Rattle.serde_json.specs.Read.{read}
 use Rattle.selective_undo.specs.History.{replay}
 use Rattle.wb_book.specs.Cells.{Cells}
 use Rattle.wb_book.specs.Readers.{objects}
-use Rattle.wb_history.specs.wb_edit.specs.declared.edit.Edit.{Edit}
+use Rattle.wb_history.specs.Below.wb_edit.edit.Edit.{Edit}
 use Rattle.wb_history.specs.Past.{Numbered, meant}
-use Rattle.wb_history.specs.wb_text.specs.Lines.{object_line}
+use Rattle.wb_history.specs.Below.wb_text.Lines.{object_line}
 use Rattle.wb_encode.specs.Encoded.{edit_data, edit_text}
 
 -- whether an edit is in force

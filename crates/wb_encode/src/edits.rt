@@ -5,8 +5,8 @@ ghost use Rattle.serde_json.specs.Data.{depth};
 ghost use Rattle.serde_json.specs.Read.{read, max_depth};
 ghost use Rattle.serde_json.specs.View.{view};
 ghost use Rattle.serde_json.specs.Written.{compact_text, has_float};
-ghost use Rattle.wb_history.specs.wb_edit.specs.declared.asked_rectangle.AskedRectangle.TheVariants.{Ranges, Indices};
-ghost use Rattle.wb_history.specs.wb_edit.specs.declared.edit.Edit.TheVariants.{Domain as new_domain_edit, Remap, Fill};
+ghost use Rattle.wb_history.specs.Below.wb_edit.asked_rectangle.AskedRectangle.TheVariants.{Ranges, Indices};
+ghost use Rattle.wb_history.specs.Below.wb_edit.edit.Edit.TheVariants.{Domain as new_domain_edit, Remap, Fill};
 ghost use Rattle.wb_encode.specs.Encoded.{edit_data, edit_text};
 
 use crate::literals::{mapping_text, operation_word, rectangle_text, type_word};

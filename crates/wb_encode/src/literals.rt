@@ -3,7 +3,7 @@ ghost use Rattle.std.specs.Prelude.{◌≡◌, map, IfOk, string_bytes};
 ghost use Rattle.serde_json.specs.Data.{array};
 ghost use Rattle.serde_json.specs.View.{view, items_of};
 ghost use Rattle.wb_encode.specs.Values.{integer_data, point_data, index_data};
-ghost use Rattle.wb_history.specs.wb_text.specs.Literals.{rectangle_text, set_text, mapping_text};
+ghost use Rattle.wb_history.specs.Below.wb_text.Literals.{rectangle_text, set_text, mapping_text};
 ghost use Rattle.wb_encode.specs.Encoded.{given_text};
 ghost use Rattle.wb_encode.specs.Table.{type_word, operation_word};
 

@@ -1,7 +1,7 @@
 // Requests for a new value of a domain, by where it comes from.
 ghost use Rattle.std.specs.Prelude.{◌≡◌, IfOk};
 ghost use Rattle.serde_json.specs.View.{view};
-ghost use Rattle.wb_history.specs.wb_edit.specs.declared.edit.Edit.TheVariants.{Reshape};
+ghost use Rattle.wb_history.specs.Below.wb_edit.edit.Edit.TheVariants.{Reshape};
 ghost use Rattle.wb_encode.specs.Encoded.{edit_data};
 ghost use Rattle.wb_resize.specs.declared.new_indices.NewIndices.TheVariants.{Displace as displace, Combine as combine};
 

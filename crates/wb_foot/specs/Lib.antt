@@ -1,7 +1,4 @@
-pub use Rattle.wb_edit.specs.wb_reading
-pub use Rattle.wb_edit.specs.wb_shelf
-pub use Rattle.wb_edit.specs.wb_text
-pub use Rattle.wb_edit
+pub mod Below
 pub mod Numbers
 pub mod Relation
 pub mod Marks

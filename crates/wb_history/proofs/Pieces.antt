@@ -19,11 +19,11 @@ use Rattle.wb_book.specs.Layouts.{locale_in}
 use Rattle.wb_book.specs.Locales.{mapping_in}
 use Rattle.wb_book.specs.Readers.{elements}
 use Rattle.wb_book.specs.WellFormed.{IsWellFormed, HasMapping, domain_at, domain_in, array_in}
-use Rattle.wb_log.specs.wb_edit.specs.declared.refusal.Refusal as why
-use Rattle.wb_log.specs.wb_edit.specs.declared.refusal.Refusal.TheVariants.{OutOfDomain}
-use Rattle.wb_log.specs.wb_edit.specs.Looks.{domain_kind, array_kind}
-use Rattle.wb_log.specs.wb_shelf.specs.Piecewise.Lent.{piece_in}
-use Rattle.wb_log.specs.wb_shelf.specs.Shelf.{mapping_of, lies_by, piece_at, piece_by}
+use Rattle.wb_log.specs.Below.wb_edit.refusal.Refusal as why
+use Rattle.wb_log.specs.Below.wb_edit.refusal.Refusal.TheVariants.{OutOfDomain}
+use Rattle.wb_log.specs.Below.wb_edit.Looks.{domain_kind, array_kind}
+use Rattle.wb_log.specs.Below.wb_shelf.Piecewise.Lent.{piece_in}
+use Rattle.wb_log.specs.Below.wb_shelf.Shelf.{mapping_of, lies_by, piece_at, piece_by}
 use Rattle.wb_history.specs.Pieces.{mapped_as, piece_from, piece_of}
 
 -- the elements on a locale, by the mapping of a domain, if it has one

@@ -4,8 +4,8 @@ use Rattle.std.specs.Prelude.{FitsSigned, OkIff, IfErr, MatchOption}
 use Rattle.std.specs.Int.{w64}
 use Rattle.std.proofs.lemmas.Bool.{lt-ltb}
 use Rattle.std.proofs.lemmas.Int.{ints}
-use Rattle.wb_log.specs.wb_edit.specs.Numbers.{is_i64, fits_integer}
-use Rattle.wb_log.specs.wb_edit.proofs.Sums.{is_i64-fits}
+use Rattle.wb_log.specs.Below.wb_edit.Numbers.{is_i64, fits_integer}
+use Rattle.wb_log.specs.Below.wb_edit.Sums.{is_i64-fits}
 use Rattle.wb_history.specs.Queries.{value_answer}
 use Rattle.wb_history.specs.Reductions.{reduced, made_answer}
 use Rattle.wb_redist.specs.declared.reduction.ReduceErr.{ReduceErr}

@@ -1,8 +1,4 @@
-pub use Rattle.wb_log.specs.wb_edit
-pub use Rattle.wb_log.specs.wb_reading
-pub use Rattle.wb_log.specs.wb_shelf
-pub use Rattle.wb_log.specs.wb_text
-pub use Rattle.wb_log
+pub mod Below
 pub use Rattle.wb_log.specs.Past
 pub use Rattle.wb_log.specs.Replies
 pub use Rattle.wb_log.specs.Cascades

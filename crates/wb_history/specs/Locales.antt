@@ -8,8 +8,8 @@ use Rattle.wb_book.specs.Cells.{Name, Cells}
 use Rattle.wb_book.specs.Kinds.{kind_of}
 use Rattle.wb_book.specs.Locales.{locale_at}
 use Rattle.wb_book.specs.WellFormed.{index_cell}
-use Rattle.wb_log.specs.wb_edit.specs.declared.refusal.Refusal as why
-use Rattle.wb_log.specs.wb_edit.specs.Looks.{domain_kind, fits, is_there}
+use Rattle.wb_log.specs.Below.wb_edit.refusal.Refusal as why
+use Rattle.wb_log.specs.Below.wb_edit.Looks.{domain_kind, fits, is_there}
 use Rattle.wb_history.specs.declared.query.Answer.{Answer}
 use Rattle.wb_history.specs.declared.query.Answer.TheVariants.{Locale}
 use Rattle.wb_log.specs.declared.refusal.Refusal.{Refusal}

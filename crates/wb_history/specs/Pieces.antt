@@ -10,9 +10,9 @@ use Rattle.wb_book.specs.declared.values.index.Index.{Index}
 use Rattle.wb_book.specs.Cells.{Name, Cells}
 use Rattle.wb_book.specs.Locales.{locale_by, locale_count_at}
 use Rattle.wb_book.specs.Readers.{elements}
-use Rattle.wb_log.specs.wb_edit.specs.declared.refusal.Refusal as why
-use Rattle.wb_log.specs.wb_edit.specs.declared.refusal.Refusal.TheVariants.{OutOfDomain}
-use Rattle.wb_log.specs.wb_edit.specs.Looks.{domain_kind, array_kind}
+use Rattle.wb_log.specs.Below.wb_edit.refusal.Refusal as why
+use Rattle.wb_log.specs.Below.wb_edit.refusal.Refusal.TheVariants.{OutOfDomain}
+use Rattle.wb_log.specs.Below.wb_edit.Looks.{domain_kind, array_kind}
 use Rattle.wb_history.specs.declared.query.Answer.{Answer}
 use Rattle.wb_history.specs.declared.query.Answer.TheVariants.{Piece}
 use Rattle.wb_log.specs.declared.refusal.Refusal.{Refusal}

@@ -8,10 +8,10 @@ use Rattle.wb_book.specs.declared.cells.value.Value.{Value}
 use Rattle.wb_book.specs.declared.values.index.Index.{Index}
 use Rattle.wb_book.specs.Cells.{Name, Cells}
 use Rattle.wb_book.specs.Readers.{size_at}
-use Rattle.wb_log.specs.wb_edit.specs.declared.refusal.Refusal as why
-use Rattle.wb_log.specs.wb_edit.specs.Implicit.{has_implicit, parent_in}
-use Rattle.wb_log.specs.wb_edit.specs.Numbers.{element_or_refusal}
-use Rattle.wb_log.specs.wb_edit.specs.Looks.{domain_kind, array_kind, is_there, fits}
+use Rattle.wb_log.specs.Below.wb_edit.refusal.Refusal as why
+use Rattle.wb_log.specs.Below.wb_edit.Implicit.{has_implicit, parent_in}
+use Rattle.wb_log.specs.Below.wb_edit.Numbers.{element_or_refusal}
+use Rattle.wb_log.specs.Below.wb_edit.Looks.{domain_kind, array_kind, is_there, fits}
 use Rattle.wb_history.specs.declared.query.Answer.{Answer}
 use Rattle.wb_history.specs.declared.query.Answer.TheVariants.{Value as ValueIs, Size as SizeIs, InForce}
 use Rattle.wb_history.specs.declared.query.Query.{Query}

@@ -6,10 +6,10 @@ use Rattle.wb_book.specs.declared.cells.cell.Cell.TheVariants.{Object}
 use Rattle.wb_book.specs.declared.cells.kind.Kind.{Kind}
 use Rattle.wb_book.specs.Cells.{Name, Cells}
 use Rattle.wb_book.specs.Readers.{elements}
-use Rattle.wb_log.specs.wb_edit.specs.declared.refusal.Refusal as why
-use Rattle.wb_log.specs.wb_edit.specs.declared.refusal.Refusal.TheVariants as refusals
-use Rattle.wb_log.specs.wb_edit.specs.Numbers.{fits_integer}
-use Rattle.wb_log.specs.wb_edit.specs.Looks.{array_kind}
+use Rattle.wb_log.specs.Below.wb_edit.refusal.Refusal as why
+use Rattle.wb_log.specs.Below.wb_edit.refusal.Refusal.TheVariants as refusals
+use Rattle.wb_log.specs.Below.wb_edit.Numbers.{fits_integer}
+use Rattle.wb_log.specs.Below.wb_edit.Looks.{array_kind}
 use Rattle.wb_history.specs.declared.query.Answer.{Answer}
 use Rattle.wb_history.specs.declared.query.Answer.TheVariants.{Value}
 use Rattle.wb_log.specs.declared.refusal.Refusal.{Refusal}

@@ -1,7 +1,7 @@
 ghost use Rattle.std.specs.Prelude.{◌≡◌, ℕ, ◌+◌, ◌-◌, ◌≤◌, length, take, [], ◌∷◌, ◌++◌, OnOk, OnErr, IfOk, IfErr, Ok, Err, true, false, option_map};
 ghost use Rattle.selective_undo.specs.History.{replay, IsLegal};
 ghost use Rattle.wb_book.specs.Cells.{written_more};
-ghost use Rattle.wb_log.specs.wb_edit.specs.Commands.{meaning};
+ghost use Rattle.wb_log.specs.Below.wb_edit.Commands.{meaning};
 ghost use Rattle.wb_log.specs.Cascades.{DependentsReply, CascadeReply, OfNumber, NoShorter, all_out_of_force, places, set_back};
 ghost use Rattle.wb_log.specs.Past.{meant, out_of_force, into_force, force_of};
 ghost use Rattle.wb_log.specs.Records.{lent_edit};

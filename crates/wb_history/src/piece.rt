@@ -2,8 +2,8 @@
 
 ghost use Rattle.std.specs.Prelude.{◌≡◌, IfOk};
 ghost use Rattle.std.specs.Bool.{Decides};
-ghost use Rattle.wb_log.specs.wb_shelf.specs.Piecewise.Indexed.{indexed};
-ghost use Rattle.wb_log.specs.wb_shelf.specs.Piecewise.Lent.{lent};
+ghost use Rattle.wb_log.specs.Below.wb_shelf.Piecewise.Indexed.{indexed};
+ghost use Rattle.wb_log.specs.Below.wb_shelf.Piecewise.Lent.{lent};
 ghost use Rattle.wb_history.specs.Pieces.{piece_of, piece_answer, OrNoMemory};
 
 use crate::query::Answer;

@@ -1,10 +1,10 @@
 -- Which replies leave the history.
 use Rattle.std.proofs.Common.{◌≡◌, ℕ, zero, suc, List, Bool, true, false, Option, Some, None, Ok, Err, MatchBool, Result, ap}
-use Rattle.wb_proto.specs.wb_history.specs.Past.{Past}
-use Rattle.wb_proto.specs.wb_history.specs.declared.query.Answer.{Answer}
-use Rattle.wb_proto.specs.wb_log.specs.declared.refusal.Refusal.{Refusal}
-use Rattle.wb_proto.specs.wb_log.specs.declared.refusal.Refusal.TheVariants.{NoSuchEdit}
-use Rattle.wb_proto.specs.wb_log.specs.Cascades.{DependentsReply, CascadeReply, OfNumber}
+use Rattle.wb_proto.specs.Below.wb_history.Past.{Past}
+use Rattle.wb_proto.specs.Below.wb_history.query.Answer.{Answer}
+use Rattle.wb_proto.specs.Below.wb_log.refusal.Refusal.{Refusal}
+use Rattle.wb_proto.specs.Below.wb_log.refusal.Refusal.TheVariants.{NoSuchEdit}
+use Rattle.wb_proto.specs.Below.wb_log.Cascades.{DependentsReply, CascadeReply, OfNumber}
 use Rattle.wb_proto.specs.Machine.{Step}
 use Rattle.wb_proto.specs.declared.replies.reply.Reply.{Reply}
 use Rattle.wb_proto.specs.declared.replies.reply.Reply.TheVariants.{Edited, Undone, Cascaded, Redone, Listed, Answered, Printed, Counted, Refused}

@@ -6,8 +6,8 @@ use Rattle.std.proofs.lemmas.Bool.Decides.{nat_tests}
 use Rattle.std.proofs.lemmas.Grind.{get_or-set_at}
 use Rattle.std.proofs.lemmas.List.{append-nil, length-set, get_or-set_other}
 use Rattle.std.proofs.lemmas.List.Elements.{filter-append, All-append, All-cons, All-nil}
-use Rattle.wb_proto.specs.wb_history.specs.Past.{Past}
-use Rattle.wb_proto.specs.wb_log.specs.declared.refusal.Refusal.TheVariants.{StrangePass}
+use Rattle.wb_proto.specs.Below.wb_history.Past.{Past}
+use Rattle.wb_proto.specs.Below.wb_log.refusal.Refusal.TheVariants.{StrangePass}
 use Rattle.wb_proto.specs.Machine.{Step}
 use Rattle.wb_proto.specs.declared.replies.reply.Reply.{Reply}
 use Rattle.wb_proto.specs.declared.replies.reply.Reply.TheVariants.{Refused}

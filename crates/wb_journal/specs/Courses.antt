@@ -2,7 +2,7 @@
 use Rattle.std.specs.Prelude.{◌≡◌, ℕ, ◌<◌, true, List, [], ◌∷◌, length, slice_index, refl}
 use Rattle.std.specs.List.{All}
 use Rattle.std.specs.Coded.{Coded, code_by, coded×, coded_list, coded_ℕ}
-use Rattle.wb_proto.specs.wb_history.specs.Past.{Past, past_code}
+use Rattle.wb_proto.specs.Below.wb_history.Past.{Past, past_code}
 use Rattle.wb_proto.specs.Machine.{Step}
 use Rattle.wb_journal.specs.contracts.entry.Entry as entry_row
 use Rattle.wb_journal.specs.declared.entry.Entry.{Entry}

@@ -1,9 +1,9 @@
 -- The entries of a journal: what each seat asked, and what it was replied.
 use Rattle.std.specs.Prelude.{ℕ, Bool, true, false, ◌==◌, List, filter, Option, Some, None}
-use Rattle.wb_proto.specs.wb_log.specs.declared.refusal.Refusal.{Refusal}
-use Rattle.wb_proto.specs.wb_log.specs.declared.refusal.Refusal.TheVariants.{BadRequest, BadLiteral, Refused as EditRefused}
-use Rattle.wb_proto.specs.wb_log.specs.declared.refusal.Refusal.TheVariants.{NoSuchEdit, NotInForce, InForce, Blocked}
-use Rattle.wb_proto.specs.wb_log.specs.declared.refusal.Refusal.TheVariants.{RefusedInPlace, NoMemory, StrangePass}
+use Rattle.wb_proto.specs.Below.wb_log.refusal.Refusal.{Refusal}
+use Rattle.wb_proto.specs.Below.wb_log.refusal.Refusal.TheVariants.{BadRequest, BadLiteral, Refused as EditRefused}
+use Rattle.wb_proto.specs.Below.wb_log.refusal.Refusal.TheVariants.{NoSuchEdit, NotInForce, InForce, Blocked}
+use Rattle.wb_proto.specs.Below.wb_log.refusal.Refusal.TheVariants.{RefusedInPlace, NoMemory, StrangePass}
 use Rattle.wb_proto.specs.declared.replies.reply.Reply.{Reply}
 use Rattle.wb_proto.specs.declared.replies.reply.Reply.TheVariants.{Edited, Undone, Cascaded, Redone, Listed, Answered, Printed, Counted, Refused}
 use Rattle.wb_proto.specs.declared.requests.request.Request.{Request}

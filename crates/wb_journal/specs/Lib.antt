@@ -1,5 +1,4 @@
-pub use Rattle.wb_proto.specs.wb_history
-pub use Rattle.wb_proto
+pub mod Below
 pub mod Entries
 pub mod Records
 pub mod Courses

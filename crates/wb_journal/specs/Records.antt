@@ -1,9 +1,9 @@
 -- What the records stand for in which entries are kept.
 use Rattle.std.specs.Prelude.{Bool, true, false, ◌&&◌}
-use Rattle.wb_proto.specs.wb_edit.specs.declared.edit.Edit as command
-use Rattle.wb_proto.specs.wb_edit.specs.declared.edit.Edit.TheVariants.{Set as SetTo}
-use Rattle.wb_proto.specs.wb_history.specs.declared.query.Query.TheVariants.{Get as GetOf}
-use Rattle.wb_proto.specs.wb_history.specs.declared.query.Answer.TheVariants.{Value}
+use Rattle.wb_proto.specs.Below.wb_edit.edit.Edit as command
+use Rattle.wb_proto.specs.Below.wb_edit.edit.Edit.TheVariants.{Set as SetTo}
+use Rattle.wb_proto.specs.Below.wb_history.query.Query.TheVariants.{Get as GetOf}
+use Rattle.wb_proto.specs.Below.wb_history.query.Answer.TheVariants.{Value}
 use Rattle.wb_proto.specs.declared.replies.reply.Reply.{Reply}
 use Rattle.wb_proto.specs.declared.replies.reply.Reply.TheVariants.{Edited, Answered, Counted}
 use Rattle.wb_proto.specs.declared.requests.request.Request.{Request}

@@ -1,8 +1,8 @@
 -- How a desk answers one request of a pass.
 use Rattle.std.specs.Prelude.{◌≡◌, ℕ, ◌+◌, ◌<◌, true, false, MatchBool, List, [], ◌∷◌, ◌++◌, length, zero, suc, refl}
 use Rattle.std.specs.Coded.{Coded, code_by, coded×, coded_list, coded_ℕ}
-use Rattle.wb_proto.specs.wb_history.specs.Past.{Past}
-use Rattle.wb_proto.specs.wb_log.specs.declared.refusal.Refusal.TheVariants.{StrangePass}
+use Rattle.wb_proto.specs.Below.wb_history.Past.{Past}
+use Rattle.wb_proto.specs.Below.wb_log.refusal.Refusal.TheVariants.{StrangePass}
 use Rattle.wb_proto.specs.Machine.{Step}
 use Rattle.wb_proto.specs.declared.replies.reply.Reply.{Reply}
 use Rattle.wb_proto.specs.declared.replies.reply.Reply.TheVariants.{Refused}

@@ -1,7 +1,7 @@
 //! A journal, and the ledger that counts its entries.
 
 ghost use Rattle.std.specs.Prelude.{◌≡◌, true, length};
-ghost use Rattle.wb_proto.specs.wb_history.specs.Past.{Past};
+ghost use Rattle.wb_proto.specs.Below.wb_history.Past.{Past};
 ghost use Rattle.wb_journal.specs.Entries.{leaves_all};
 ghost use Rattle.wb_journal.specs.Courses.{IsCourse};
 ghost use Rattle.wb_journal.specs.Serving.{IsStrange, AnswersCourse, own_after, share_after};

@@ -1,7 +1,7 @@
 // One request answered by a history, with a record of it for the journal and another one for the pass.
 ghost use Rattle.std.specs.Prelude.{◌≡◌, Bool, true, false, None, Ok, IfOk, OnErr};
-ghost use Rattle.wb_proto.specs.wb_history.specs.Cascades.{DependentsReply, OfNumber};
-ghost use Rattle.wb_proto.specs.wb_history.specs.Past.{meant};
+ghost use Rattle.wb_proto.specs.Below.wb_history.Cascades.{DependentsReply, OfNumber};
+ghost use Rattle.wb_proto.specs.Below.wb_history.Past.{meant};
 ghost use Rattle.wb_proto.specs.Machine.{Step};
 ghost use Rattle.wb_proto.specs.declared.requests.request.Request.TheVariants.{Cascade};
 ghost use Rattle.wb_journal.specs.Entries.{is_told, is_entered, is_long, cascade_in};

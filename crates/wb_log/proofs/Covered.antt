@@ -9,9 +9,9 @@ use Rattle.selective_undo.specs.Edit.{covers}
 use Rattle.wb_book.specs.declared.cells.cell.Cell.{Cell}
 use Rattle.wb_book.specs.declared.cells.pattern.Pattern.{Pattern}
 use Rattle.wb_book.specs.Cells.{Changes, cell_cmp, cell_cmp_total, matches}
-use Rattle.wb_foot.specs.wb_edit.specs.declared.read_run.ReadRun.{ReadRun}
-use Rattle.wb_foot.specs.wb_edit.specs.Reads.{patterns_of, read_in, all_read}
-use Rattle.wb_foot.specs.wb_edit.specs.Schema.{workbook}
+use Rattle.wb_foot.specs.Below.wb_edit.read_run.ReadRun.{ReadRun}
+use Rattle.wb_foot.specs.Below.wb_edit.Reads.{patterns_of, read_in, all_read}
+use Rattle.wb_foot.specs.Below.wb_edit.Schema.{workbook}
 
 or_false : (a : Bool) → a || false ≡ a
 or_false true = refl

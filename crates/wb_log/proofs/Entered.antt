@@ -6,7 +6,7 @@ use Rattle.std.proofs.lemmas.List.{length-append}
 use Rattle.selective_undo.specs.Log.{Footprint, first_from}
 use Rattle.selective_undo.proofs.Log.{set-map, append-map}
 use Rattle.wb_book.specs.Cells.{Contents}
-use Rattle.wb_foot.specs.wb_edit.specs.Schema.{workbook}
+use Rattle.wb_foot.specs.Below.wb_edit.Schema.{workbook}
 use Rattle.wb_foot.specs.declared.foot_index.FootIndex.{FootIndex}
 use Rattle.wb_foot.specs.Footprints.{Footprints, IsIndexOf, with_footprint}
 use Rattle.wb_foot.specs.Relation.{IsLeastAfter, IsGreatest}

@@ -11,12 +11,12 @@ use Rattle.selective_undo.proofs.Log.{get-map, set-map, kept_redo, redo_can, red
 use Rattle.wb_log.proofs.Entries.{history-log, kept-log, log_at}
 use Rattle.wb_book.specs.declared.cells.pattern.Pattern.{Pattern}
 use Rattle.wb_book.specs.Cells.{Cells, Changes, count_of, is_counted}
-use Rattle.wb_foot.specs.wb_edit.specs.Schema.{workbook}
-use Rattle.wb_foot.specs.wb_edit.specs.Commands.{meaning}
-use Rattle.wb_foot.specs.wb_edit.specs.Plans.{IsPlan}
-use Rattle.wb_foot.specs.wb_edit.specs.declared.refusal.Refusal as command_refusal
-use Rattle.wb_foot.specs.wb_edit.specs.declared.planning.PlanErr.{PlanErr}
-use Rattle.wb_foot.specs.wb_edit.specs.declared.planning.PlanErr.TheVariants.{Refused as PlanRefused, NoMemory as PlanNoMemory}
+use Rattle.wb_foot.specs.Below.wb_edit.Schema.{workbook}
+use Rattle.wb_foot.specs.Below.wb_edit.Commands.{meaning}
+use Rattle.wb_foot.specs.Below.wb_edit.Plans.{IsPlan}
+use Rattle.wb_foot.specs.Below.wb_edit.refusal.Refusal as command_refusal
+use Rattle.wb_foot.specs.Below.wb_edit.planning.PlanErr.{PlanErr}
+use Rattle.wb_foot.specs.Below.wb_edit.planning.PlanErr.TheVariants.{Refused as PlanRefused, NoMemory as PlanNoMemory}
 use Rattle.wb_log.specs.declared.entry.Entry as kept
 use Rattle.wb_log.specs.declared.entry.Kept.{Kept}
 use Rattle.wb_log.specs.declared.refusal.Refusal.{Refusal}

@@ -6,7 +6,7 @@ use Rattle.selective_undo.specs.History.{Has, Falls}
 use Rattle.selective_undo.specs.Log.{Footprint, blocks_undo}
 use Rattle.selective_undo.proofs.Log.{cases_lt}
 use Rattle.wb_book.specs.Cells.{Changes}
-use Rattle.wb_foot.specs.wb_edit.specs.Schema.{workbook}
+use Rattle.wb_foot.specs.Below.wb_edit.Schema.{workbook}
 use Rattle.wb_foot.specs.declared.numbers.Numbers.{Numbers}
 use Rattle.wb_foot.specs.declared.foot_index.FootIndex.{FootIndex}
 use Rattle.wb_foot.specs.Footprints.{Footprints, IsIndexOf}

@@ -9,10 +9,10 @@ use Rattle.selective_undo.specs.History.{replay, replay_from}
 use Rattle.wb_book.specs.Cells.{Cells, Changes, Contents, count_of, written_more}
 use Rattle.wb_book.specs.WellFormed.{IsWellFormed}
 use Rattle.wb_book.proofs.Empty.{empty_is_well_formed}
-use Rattle.wb_foot.specs.wb_edit.specs.declared.edit.Edit as command
-use Rattle.wb_foot.specs.wb_edit.specs.Commands.{meaning}
-use Rattle.wb_foot.specs.wb_edit.specs.Valid.{IsValid}
-use Rattle.wb_foot.specs.wb_edit.proofs.Kept.{keeps_well_formed}
+use Rattle.wb_foot.specs.Below.wb_edit.edit.Edit as command
+use Rattle.wb_foot.specs.Below.wb_edit.Commands.{meaning}
+use Rattle.wb_foot.specs.Below.wb_edit.Valid.{IsValid}
+use Rattle.wb_foot.specs.Below.wb_edit.Kept.{keeps_well_formed}
 use Rattle.wb_log.specs.declared.entry.Entry as kept
 use Rattle.wb_log.specs.declared.entry.Kept.{Kept}
 use Rattle.wb_log.specs.declared.refusal.Refusal.{Refusal}

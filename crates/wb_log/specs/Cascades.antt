@@ -5,7 +5,7 @@ use Rattle.selective_undo.specs.Edit.{Edit, Trace}
 use Rattle.selective_undo.specs.History as h
 use Rattle.selective_undo.specs.History.{undone, undo, traces, InForce, Dependent, CanUndoAll, Has, Falls}
 use Rattle.wb_book.specs.Cells.{count_of, written_more}
-use Rattle.wb_foot.specs.wb_edit.specs.Schema.{workbook}
+use Rattle.wb_foot.specs.Below.wb_edit.Schema.{workbook}
 use Rattle.wb_log.specs.declared.refusal.Refusal.{Refusal}
 use Rattle.wb_log.specs.declared.refusal.Refusal.TheVariants.{NoSuchEdit, NotInForce, NoMemory}
 use Rattle.wb_log.specs.Past.{Numbered, meant, out_of_force}

@@ -7,11 +7,11 @@ use Rattle.selective_undo.specs.Log.{Footprint, Logged, IsKept, blocks_undo, blo
 use Rattle.wb_book.specs.declared.cells.pattern.Pattern.{Pattern}
 use Rattle.wb_book.specs.Cells.{Cells, Changes, Contents, count_of, written_more}
 use Rattle.wb_book.specs.WellFormed.{IsWellFormed}
-use Rattle.wb_foot.specs.wb_edit.specs.declared.planning.PlanErr.{PlanErr}
-use Rattle.wb_foot.specs.wb_edit.specs.declared.planning.PlanErr.TheVariants.{Refused as PlanRefused, NoMemory as PlanNoMemory}
-use Rattle.wb_foot.specs.wb_edit.specs.declared.refusal.Refusal as command_refusal
-use Rattle.wb_foot.specs.wb_edit.specs.Schema.{workbook}
-use Rattle.wb_foot.specs.wb_edit.specs.Commands.{meaning}
+use Rattle.wb_foot.specs.Below.wb_edit.planning.PlanErr.{PlanErr}
+use Rattle.wb_foot.specs.Below.wb_edit.planning.PlanErr.TheVariants.{Refused as PlanRefused, NoMemory as PlanNoMemory}
+use Rattle.wb_foot.specs.Below.wb_edit.refusal.Refusal as command_refusal
+use Rattle.wb_foot.specs.Below.wb_edit.Schema.{workbook}
+use Rattle.wb_foot.specs.Below.wb_edit.Commands.{meaning}
 use Rattle.wb_foot.specs.Footprints.{Footprints}
 use Rattle.wb_log.specs.declared.entry.Entry as kept
 use Rattle.wb_log.specs.declared.entry.Kept.{Kept}

@@ -1,8 +1,4 @@
-pub use Rattle.wb_foot.specs.wb_edit
-pub use Rattle.wb_foot.specs.wb_reading
-pub use Rattle.wb_foot.specs.wb_shelf
-pub use Rattle.wb_foot.specs.wb_text
-pub use Rattle.wb_foot
+pub mod Below
 pub mod Past
 pub mod Replies
 pub mod Cascades

@@ -2,7 +2,7 @@
 use Rattle.std.specs.Prelude.{◌≡◌, ℕ, ◌<◌, true, List, Some, ◌⊎◌, ◌↔◌}
 use Rattle.selective_undo.specs.History.{Has, Falls}
 use Rattle.selective_undo.specs.Log.{Footprint, blocks_undo}
-use Rattle.wb_foot.specs.wb_edit.specs.Schema.{workbook}
+use Rattle.wb_foot.specs.Below.wb_edit.Schema.{workbook}
 use Rattle.wb_foot.specs.declared.numbers.Numbers.{Numbers}
 use Rattle.wb_foot.specs.Footprints.{Footprints}
 use Rattle.wb_foot.specs.Numbers.{numbered}

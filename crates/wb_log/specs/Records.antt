@@ -8,9 +8,9 @@ use Rattle.wb_book.specs.declared.cells.pattern.Pattern.{Pattern}
 use Rattle.wb_book.specs.declared.cells.pattern.Pattern.TheVariants.{One}
 use Rattle.wb_book.specs.declared.values.index.Index.{Index}
 use Rattle.wb_book.specs.Cells.{Name, Changes}
-use Rattle.wb_foot.specs.wb_edit.specs.Schema.{workbook}
-use Rattle.wb_foot.specs.wb_edit.specs.declared.edit.Edit as command
-use Rattle.wb_foot.specs.wb_edit.specs.declared.edit.Edit.TheVariants.{Set as SetTo, Copy as CopyTo, Irv as IrvTo}
+use Rattle.wb_foot.specs.Below.wb_edit.Schema.{workbook}
+use Rattle.wb_foot.specs.Below.wb_edit.edit.Edit as command
+use Rattle.wb_foot.specs.Below.wb_edit.edit.Edit.TheVariants.{Set as SetTo, Copy as CopyTo, Irv as IrvTo}
 use Rattle.wb_log.specs.declared.entry.Entry.{Entry}
 use Rattle.wb_log.specs.declared.entry.Kept.{Kept}
 use Rattle.wb_log.specs.declared.entry.Form.{Form}

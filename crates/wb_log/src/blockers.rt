@@ -6,8 +6,8 @@ ghost use Rattle.selective_undo.specs.Changes.{changes};
 ghost use Rattle.selective_undo.specs.Edit.{covers};
 ghost use Rattle.selective_undo.specs.Log.{meets_any, blocks_undo, blocks_redo, first_from};
 ghost use Rattle.wb_book.specs.Cells.{cell_cmp};
-ghost use Rattle.wb_foot.specs.wb_edit.specs.Reads.{all_read, read_in, patterns_of};
-ghost use Rattle.wb_foot.specs.wb_edit.specs.Schema.{workbook};
+ghost use Rattle.wb_foot.specs.Below.wb_edit.Reads.{all_read, read_in, patterns_of};
+ghost use Rattle.wb_foot.specs.Below.wb_edit.Schema.{workbook};
 ghost use Rattle.wb_log.specs.Kept.{footprint, kept_in, kept_all};
 ghost use Rattle.wb_log.specs.Records.{lent_footprint};
 

@@ -5,8 +5,8 @@ ghost use Rattle.selective_undo.specs.Changes.{AllOnce};
 ghost use Rattle.wb_book.specs.declared.cells.cell.Cell.TheVariants as cell;
 ghost use Rattle.wb_book.specs.declared.cells.pattern.Pattern.TheVariants as pattern;
 ghost use Rattle.wb_book.specs.Cells.{cell_cmp};
-ghost use Rattle.wb_foot.specs.wb_edit.specs.declared.edit.Edit.TheVariants as command;
-ghost use Rattle.wb_foot.specs.wb_edit.specs.Reads.{all_read};
+ghost use Rattle.wb_foot.specs.Below.wb_edit.edit.Edit.TheVariants as command;
+ghost use Rattle.wb_foot.specs.Below.wb_edit.Reads.{all_read};
 ghost use Rattle.wb_log.specs.Kept.{kept_in};
 ghost use Rattle.wb_log.specs.Records.{element_reads, copy_reads, implicit_reads, number_before as before_of, lent_edit, lent_footprint, shown, kept_of};
 

@@ -1,4 +1,4 @@
-pub use Rattle.wb_shared
+pub mod Below
 pub mod Running
 pub mod Checking
 pub mod Resuming

@@ -2,7 +2,7 @@
 
 ghost use Rattle.std.specs.Prelude.{◌≡◌, ℕ, List, true, IfOk, string_bytes};
 ghost use Rattle.std.specs.Io.KnownBytes.{Appends, Consumes, IsAtEnd};
-ghost use Rattle.wb_record.specs.wb_reading.specs.Reading.{IsNoBook};
+ghost use Rattle.wb_record.specs.Below.wb_reading.Reading.{IsNoBook};
 ghost use Rattle.wb_program.specs.Checking.{IsVerdict, verdict_text, status_of_verdict, IsPrinted, Says, Judges, IsAnswered};
 ghost use Rattle.wb_program.specs.Running.{HasFailed};
 

@@ -4,7 +4,7 @@ ghost use Rattle.std.specs.Io.KnownBytes.{Appends, Consumes};
 ghost use Rattle.wb_lines.specs.Causes.{ReadsUntil, WritesUntil};
 ghost use Rattle.wb_lines.specs.Session.{MayAnswer, Serves};
 ghost use Rattle.wb_lines.specs.declared.machine.SessionEnd.{SessionEnd};
-ghost use Rattle.wb_record.specs.wb_proto.specs.Requests.{request};
+ghost use Rattle.wb_record.specs.Below.wb_proto.Requests.{request};
 ghost use Rattle.wb_program.specs.Serving.{RepliesIfRead, NothingAsked, AnswersSeat, IsReadAs};
 
 use std::alloc::{AllocError, Global};

@@ -4,8 +4,8 @@ use Rattle.std.specs.Str.{IsUtf8, is_utf8}
 use Rattle.std.proofs.lemmas.Str.{IsUtf8-from_is_utf8, is_utf8-from_IsUtf8}
 use Rattle.serde_json.specs.Data.{Data}
 use Rattle.serde_json.specs.Read.{read}
-use Rattle.wb_encode.specs.wb_log.specs.declared.refusal.Refusal.{Refusal}
-use Rattle.wb_encode.specs.wb_log.specs.declared.refusal.Refusal.TheVariants.{BadRequest, NoMemory}
+use Rattle.wb_encode.specs.Below.wb_log.refusal.Refusal.{Refusal}
+use Rattle.wb_encode.specs.Below.wb_log.refusal.Refusal.TheVariants.{BadRequest, NoMemory}
 use Rattle.wb_proto.specs.Answers.{IsAnswer}
 use Rattle.wb_proto.specs.Requests.{request, request_of, of_json}
 

@@ -5,8 +5,8 @@ use Rattle.std.specs.List.{join_by}
 use Rattle.serde_json.proofs.OnLiterals.{serde_json_on_literals}
 use Rattle.serde_json.specs.Data.{number, unsigned}
 use Rattle.serde_json.specs.Written.{compact_text}
-use Rattle.wb_encode.specs.wb_history.specs.declared.query.Answer.{Answer}
-use Rattle.wb_encode.specs.wb_history.specs.declared.query.Answer.TheVariants.{Value, Size, Locale, InForce}
+use Rattle.wb_encode.specs.Below.wb_history.query.Answer.{Answer}
+use Rattle.wb_encode.specs.Below.wb_history.query.Answer.TheVariants.{Value, Size, Locale, InForce}
 use Rattle.wb_proto.specs.Printed.{numbers_text, undone_text, dependents_text, value_text, size_text, locale_text, in_force_text}
 use Rattle.wb_proto.specs.Pieces.{bracketed}
 use Rattle.wb_proto.specs.Replies.{answer_data, numbers_data, reply_of}

@@ -1,7 +1,7 @@
 -- Answers of what takes memory.
 use Rattle.std.specs.Prelude.{◌≡◌, ◌≢◌, Result, Ok, Err}
-use Rattle.wb_encode.specs.wb_log.specs.declared.refusal.Refusal.{Refusal}
-use Rattle.wb_encode.specs.wb_log.specs.declared.refusal.Refusal.TheVariants.{NoMemory}
+use Rattle.wb_encode.specs.Below.wb_log.refusal.Refusal.{Refusal}
+use Rattle.wb_encode.specs.Below.wb_log.refusal.Refusal.TheVariants.{NoMemory}
 
 -- the wanted answer, unless memory ran out
 abbrev pub IsAnswer : {X : Type 0} → (wanted result : Result X Refusal) → Type 0

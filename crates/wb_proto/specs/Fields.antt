@@ -12,12 +12,12 @@ use Rattle.wb_book.specs.declared.values.index.Index.{Index}
 use Rattle.wb_book.specs.declared.values.index.Index.TheVariants.{Point, Text}
 use Rattle.wb_book.specs.declared.cells.kind.KeyType.{KeyType}
 use Rattle.wb_book.specs.declared.cells.kind.KeyType.TheVariants.{Int, Text as TextKeys}
-use Rattle.wb_encode.specs.wb_edit.specs.declared.operation.Operation.{Operation}
-use Rattle.wb_encode.specs.wb_edit.specs.declared.operation.Operation.TheVariants.{Assign, Sum, Difference, Product}
+use Rattle.wb_encode.specs.Below.wb_edit.operation.Operation.{Operation}
+use Rattle.wb_encode.specs.Below.wb_edit.operation.Operation.TheVariants.{Assign, Sum, Difference, Product}
 use Rattle.wb_redist.specs.declared.reduction.Op.{Op}
 use Rattle.wb_redist.specs.declared.reduction.Op.TheVariants as reductions
-use Rattle.wb_encode.specs.wb_log.specs.declared.refusal.Refusal.{Refusal}
-use Rattle.wb_encode.specs.wb_log.specs.declared.refusal.Refusal.TheVariants.{BadRequest}
+use Rattle.wb_encode.specs.Below.wb_log.refusal.Refusal.{Refusal}
+use Rattle.wb_encode.specs.Below.wb_log.refusal.Refusal.TheVariants.{BadRequest}
 
 -- "by r, get x, and go on", unless r refuses
 infixr 10 ◌>>=◌

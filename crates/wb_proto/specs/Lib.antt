@@ -1,9 +1,4 @@
-pub use Rattle.wb_encode.specs.wb_edit
-pub use Rattle.wb_encode
-pub use Rattle.wb_encode.specs.wb_history
-pub use Rattle.wb_encode.specs.wb_log
-pub use Rattle.wb_encode.specs.wb_reading
-pub use Rattle.wb_encode.specs.wb_text
+pub mod Below
 pub mod Answers
 pub mod Fields
 pub mod Literals

@@ -4,9 +4,9 @@ use Rattle.std.specs.Prelude.{ℕ, List, Option, Some, None, Result, Ok, Err, if
 use Rattle.std.specs.Option.{ok_or}
 use Rattle.wb_dist.specs.Maps.{LayoutMap}
 use Rattle.wb_book.specs.Shapes.{Range}
-use Rattle.wb_encode.specs.wb_edit.specs.declared.refusal.Refusal.TheVariants as edits
-use Rattle.wb_encode.specs.wb_log.specs.declared.refusal.Refusal.{Refusal}
-use Rattle.wb_encode.specs.wb_log.specs.declared.refusal.Refusal.TheVariants.{BadLiteral, Refused}
+use Rattle.wb_encode.specs.Below.wb_edit.refusal.Refusal.TheVariants as edits
+use Rattle.wb_encode.specs.Below.wb_log.refusal.Refusal.{Refusal}
+use Rattle.wb_encode.specs.Below.wb_log.refusal.Refusal.TheVariants.{BadLiteral, Refused}
 use Rattle.wb_limits.specs.Literals as limits
 use Rattle.wb_limits.specs.Mappings as mapping_limits
 use Rattle.wb_limits.specs.declared.limit.LimitErr.{LimitErr}
@@ -16,7 +16,7 @@ use Rattle.wb_literal.specs.Mapping.{mapping_of}
 use Rattle.wb_literal.specs.declared.mapping.MappingLiteral.{MappingLiteral}
 use Rattle.wb_literal.specs.declared.mapping.MappingLiteral.TheVariants.{Whole}
 use Rattle.wb_literal.specs.declared.rectangle.RectangleLiteral.{RectangleLiteral}
-use Rattle.wb_encode.specs.wb_reading.specs.Texts.Books.{is_book_text}
+use Rattle.wb_encode.specs.Below.wb_reading.Books.{is_book_text}
 
 -- ---- what is spelled
 

@@ -3,16 +3,16 @@
 use Rattle.std.specs.Prelude.{◌≡◌, ◌-◌, ◌⊎◌, ℕ, List, [], ◌∷◌, ◌++◌, true, Some, None, Result, Ok, Err, length}
 use Rattle.selective_undo.specs.History.{replay}
 use Rattle.wb_book.specs.Cells.{written_more}
-use Rattle.wb_encode.specs.wb_edit.specs.Commands.{meaning}
-use Rattle.wb_encode.specs.wb_edit.specs.declared.edit.Edit.{Edit}
-use Rattle.wb_encode.specs.wb_history.specs.Past.{Past, meant, out_of_force, into_force}
-use Rattle.wb_encode.specs.wb_history.specs.Queries.{QueryReply}
-use Rattle.wb_encode.specs.wb_history.specs.Replies.{EditReply, UndoReply, LastReply, RedoReply, ByNumber}
-use Rattle.wb_encode.specs.wb_history.specs.Cascades.{DependentsReply, CascadeReply, OfNumber, all_out_of_force, places, set_back}
-use Rattle.wb_encode.specs.wb_history.specs.declared.query.Query.{Query}
-use Rattle.wb_encode.specs.wb_log.specs.declared.refusal.Refusal.{Refusal}
-use Rattle.wb_encode.specs.wb_log.specs.declared.refusal.Refusal.TheVariants.{NoMemory}
-use Rattle.wb_encode.specs.wb_text.specs.Lines.{book_text}
+use Rattle.wb_encode.specs.Below.wb_edit.Commands.{meaning}
+use Rattle.wb_encode.specs.Below.wb_edit.edit.Edit.{Edit}
+use Rattle.wb_encode.specs.Below.wb_history.Past.{Past, meant, out_of_force, into_force}
+use Rattle.wb_encode.specs.Below.wb_history.Queries.{QueryReply}
+use Rattle.wb_encode.specs.Below.wb_history.Replies.{EditReply, UndoReply, LastReply, RedoReply, ByNumber}
+use Rattle.wb_encode.specs.Below.wb_history.Cascades.{DependentsReply, CascadeReply, OfNumber, all_out_of_force, places, set_back}
+use Rattle.wb_encode.specs.Below.wb_history.query.Query.{Query}
+use Rattle.wb_encode.specs.Below.wb_log.refusal.Refusal.{Refusal}
+use Rattle.wb_encode.specs.Below.wb_log.refusal.Refusal.TheVariants.{NoMemory}
+use Rattle.wb_encode.specs.Below.wb_text.Lines.{book_text}
 use Rattle.wb_encode.specs.Text.{history_text}
 use Rattle.wb_proto.specs.Replies.{reply_of}
 use Rattle.wb_proto.specs.Requests.{request}

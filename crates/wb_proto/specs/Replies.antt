@@ -4,16 +4,16 @@ use Rattle.serde_json.specs.Data.{Data, boolean, number, unsigned, string, array
 use Rattle.serde_json.specs.Find.{of_integer}
 use Rattle.serde_json.specs.View.{items_of}
 use Rattle.serde_json.specs.Written.{compact_text}
-use Rattle.wb_encode.specs.wb_edit.specs.declared.refusal.Refusal as why
-use Rattle.wb_encode.specs.wb_edit.specs.declared.refusal.Refusal.TheVariants.{NameTaken, NoSuchName, WrongKind, OutOfDomain}
-use Rattle.wb_encode.specs.wb_edit.specs.declared.refusal.Refusal.TheVariants.{OutOfParent, InUse, TooLarge, Overflow}
-use Rattle.wb_encode.specs.wb_edit.specs.declared.refusal.Refusal.TheVariants.{BadMapping, NotEmpty, Empty}
-use Rattle.wb_encode.specs.wb_history.specs.declared.query.Answer.{Answer}
-use Rattle.wb_encode.specs.wb_history.specs.declared.query.Answer.TheVariants.{Value, Size, Locale, Piece, InForce as InForceIs}
-use Rattle.wb_encode.specs.wb_log.specs.declared.refusal.Refusal.{Refusal}
-use Rattle.wb_encode.specs.wb_log.specs.declared.refusal.Refusal.TheVariants.{BadRequest, BadLiteral, Refused, NoSuchEdit}
-use Rattle.wb_encode.specs.wb_log.specs.declared.refusal.Refusal.TheVariants.{NotInForce, InForce, Blocked, RefusedInPlace}
-use Rattle.wb_encode.specs.wb_log.specs.declared.refusal.Refusal.TheVariants.{NoMemory, StrangePass}
+use Rattle.wb_encode.specs.Below.wb_edit.refusal.Refusal as why
+use Rattle.wb_encode.specs.Below.wb_edit.refusal.Refusal.TheVariants.{NameTaken, NoSuchName, WrongKind, OutOfDomain}
+use Rattle.wb_encode.specs.Below.wb_edit.refusal.Refusal.TheVariants.{OutOfParent, InUse, TooLarge, Overflow}
+use Rattle.wb_encode.specs.Below.wb_edit.refusal.Refusal.TheVariants.{BadMapping, NotEmpty, Empty}
+use Rattle.wb_encode.specs.Below.wb_history.query.Answer.{Answer}
+use Rattle.wb_encode.specs.Below.wb_history.query.Answer.TheVariants.{Value, Size, Locale, Piece, InForce as InForceIs}
+use Rattle.wb_encode.specs.Below.wb_log.refusal.Refusal.{Refusal}
+use Rattle.wb_encode.specs.Below.wb_log.refusal.Refusal.TheVariants.{BadRequest, BadLiteral, Refused, NoSuchEdit}
+use Rattle.wb_encode.specs.Below.wb_log.refusal.Refusal.TheVariants.{NotInForce, InForce, Blocked, RefusedInPlace}
+use Rattle.wb_encode.specs.Below.wb_log.refusal.Refusal.TheVariants.{NoMemory, StrangePass}
 use Rattle.wb_proto.specs.Pieces.{piece_data}
 use Rattle.wb_proto.specs.declared.replies.reply.Reply.{Reply}
 use Rattle.wb_proto.specs.declared.replies.reply.Reply.TheVariants.{Edited, Undone, Cascaded, Redone, Listed, Answered, Printed, Counted, Refused as Refusing}

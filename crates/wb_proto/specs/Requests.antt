@@ -5,13 +5,13 @@ use Rattle.std.specs.Str.{is_utf8}
 use Rattle.serde_json.specs.Data.{Data}
 use Rattle.serde_json.specs.Read.{read}
 use Rattle.wb_book.specs.Cells.{Name}
-use Rattle.wb_encode.specs.wb_edit.specs.declared.asked_rectangle.AskedRectangle.TheVariants.{Ranges, Indices}
-use Rattle.wb_encode.specs.wb_edit.specs.declared.edit.Edit.TheVariants.{Domain as NewDomain, Remap, Reshape, Sparse}
-use Rattle.wb_encode.specs.wb_edit.specs.declared.edit.Edit.TheVariants.{Assoc, DropDomain, Add, Remove, Array, Set}
-use Rattle.wb_encode.specs.wb_edit.specs.declared.edit.Edit.TheVariants.{Irv, Copy, Fill, FillAll, DropArray, All, Load}
-use Rattle.wb_encode.specs.wb_history.specs.declared.query.Query.TheVariants.{Get, Size, Where, Piece, Reduce, State}
-use Rattle.wb_encode.specs.wb_log.specs.declared.refusal.Refusal.{Refusal}
-use Rattle.wb_encode.specs.wb_log.specs.declared.refusal.Refusal.TheVariants.{BadRequest}
+use Rattle.wb_encode.specs.Below.wb_edit.asked_rectangle.AskedRectangle.TheVariants.{Ranges, Indices}
+use Rattle.wb_encode.specs.Below.wb_edit.edit.Edit.TheVariants.{Domain as NewDomain, Remap, Reshape, Sparse}
+use Rattle.wb_encode.specs.Below.wb_edit.edit.Edit.TheVariants.{Assoc, DropDomain, Add, Remove, Array, Set}
+use Rattle.wb_encode.specs.Below.wb_edit.edit.Edit.TheVariants.{Irv, Copy, Fill, FillAll, DropArray, All, Load}
+use Rattle.wb_encode.specs.Below.wb_history.query.Query.TheVariants.{Get, Size, Where, Piece, Reduce, State}
+use Rattle.wb_encode.specs.Below.wb_log.refusal.Refusal.{Refusal}
+use Rattle.wb_encode.specs.Below.wb_log.refusal.Refusal.TheVariants.{BadRequest}
 use Rattle.wb_literal.specs.Domain.{Domain, rectangle, set}
 use Rattle.wb_literal.specs.declared.mapping.MappingLiteral.{MappingLiteral}
 use Rattle.wb_proto.specs.Fields.{◌>>=◌, field_count, has_fields, has_fields_and, text_field, optional_text, i64_field, u64_field, name_field, index_field}

@@ -1,4 +1,3 @@
-pub use Rattle.wb_text.specs.wb_shelf
-pub use Rattle.wb_text
+pub mod Below
 pub mod Texts
 pub mod Reading

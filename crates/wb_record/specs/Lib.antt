@@ -1,10 +1,4 @@
-pub use Rattle.wb_wire.specs.wb_edit
-pub use Rattle.wb_wire.specs.wb_encode
-pub use Rattle.wb_wire.specs.wb_history
-pub use Rattle.wb_wire.specs.wb_log
-pub use Rattle.wb_wire.specs.wb_proto
-pub use Rattle.wb_wire.specs.wb_reading
-pub use Rattle.wb_wire.specs.wb_text
+pub mod Below
 pub mod Text
 pub mod Lines
 pub mod Laws

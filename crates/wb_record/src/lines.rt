@@ -1,9 +1,9 @@
 //! The edits of a history's text, read from its last line up.
 ghost use Rattle.std.specs.Prelude.{◌≡◌, ℕ, ◌+◌, ◌<◌, List, [], ◌∷◌, ◌++◌, length, drop, reverse, IfOk, IfSome, OnOk, Some, Ok, option_map, codes};
-ghost use Rattle.wb_wire.specs.wb_edit.specs.declared.edit.Edit as command;
-ghost use Rattle.wb_wire.specs.wb_history.specs.Restored.{marked};
-ghost use Rattle.wb_wire.specs.wb_proto.specs.Requests.{request};
-ghost use Rattle.wb_wire.specs.wb_proto.specs.declared.requests.request.Request.TheVariants.{Change};
+ghost use Rattle.wb_wire.specs.Below.wb_edit.edit.Edit as command;
+ghost use Rattle.wb_wire.specs.Below.wb_history.Restored.{marked};
+ghost use Rattle.wb_wire.specs.Below.wb_proto.Requests.{request};
+ghost use Rattle.wb_wire.specs.Below.wb_proto.request.Request.TheVariants.{Change};
 ghost use Rattle.wb_record.specs.Text.{AreAsked};
 ghost use Rattle.wb_record.specs.Lines.{IsLastLine, marked_at, ReadsEdits, ReadsHistory};
 

@@ -1,7 +1,7 @@
 //! A history from its text.
 ghost use Rattle.std.specs.Prelude.{◌≡◌, List, IfOk, IfErr, IfSome, IfNone};
-ghost use Rattle.wb_wire.specs.wb_history.specs.Past.{Numbered};
-ghost use Rattle.wb_wire.specs.wb_history.specs.Restored.{IsCounted, marked};
+ghost use Rattle.wb_wire.specs.Below.wb_history.Past.{Numbered};
+ghost use Rattle.wb_wire.specs.Below.wb_history.Restored.{IsCounted, marked};
 ghost use Rattle.wb_record.specs.Text.{history_text, AreAsked, IsHistory, IsNoHistory};
 
 use crate::lines::read_edits;

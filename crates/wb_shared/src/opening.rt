@@ -5,7 +5,7 @@ use std::sync::ledger::Ledger;
 
 /// A desk's ledger, and with it the history that the desk is opened with.
 pub trait Opening: Ledger {
-    ghost use Rattle.wb_journal.specs.wb_history.specs.Past.{Past};
+    ghost use Rattle.wb_journal.specs.Below.wb_history.Past.{Past};
 
     ghost opening: { Past };
 }

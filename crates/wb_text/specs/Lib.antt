@@ -1,4 +1,4 @@
-pub use Rattle.wb_shelf
+pub mod Below
 pub mod Literals
 pub mod Lines
 pub mod Said

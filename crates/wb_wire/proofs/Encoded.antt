@@ -17,14 +17,14 @@ use Rattle.wb_literal.proofs.SetGrammar.{set_exact}
 use Rattle.wb_resize.specs.Sources.{ascending}
 use Rattle.wb_resize.specs.declared.operand.Operand.{Operand}
 use Rattle.wb_resize.specs.declared.operand.Operand.TheVariants.{Rectangle, Items, Named}
-use Rattle.wb_proto.specs.wb_text.specs.Literals.{rectangle_text, set_text, mapping_text}
-use Rattle.wb_proto.specs.wb_text.proofs.MappingWritten.{mapping_written}
-use Rattle.wb_proto.specs.wb_text.proofs.Readable.{Each}
-use Rattle.wb_proto.specs.wb_text.proofs.ReadIndices.{AreWithin}
-use Rattle.wb_proto.specs.wb_text.proofs.Parsed.Back.Mappings.{literal_of_mapping, mapping_spelled, mapping_back}
-use Rattle.wb_proto.specs.wb_text.proofs.Parsed.Back.Ranges.{literal_of_all, rectangle_spelled, domain_back, short}
-use Rattle.wb_proto.specs.wb_text.proofs.Parsed.Back.Sets as sets
-use Rattle.wb_proto.specs.wb_encode.specs.Values.{integer_data, point_data, index_data}
+use Rattle.wb_proto.specs.Below.wb_text.Literals.{rectangle_text, set_text, mapping_text}
+use Rattle.wb_proto.specs.Below.wb_text.MappingWritten.{mapping_written}
+use Rattle.wb_proto.specs.Below.wb_text.Readable.{Each}
+use Rattle.wb_proto.specs.Below.wb_text.ReadIndices.{AreWithin}
+use Rattle.wb_proto.specs.Below.wb_text.Parsed.Back.Mappings.{literal_of_mapping, mapping_spelled, mapping_back}
+use Rattle.wb_proto.specs.Below.wb_text.Parsed.Back.Ranges.{literal_of_all, rectangle_spelled, domain_back, short}
+use Rattle.wb_proto.specs.Below.wb_text.Parsed.Back.Sets as sets
+use Rattle.wb_proto.specs.Below.wb_encode.Values.{integer_data, point_data, index_data}
 use Rattle.wb_proto.specs.declared.requests.request.Request.{Request}
 use Rattle.wb_wire.specs.Table.{Meaning, word, name, integer, number, index, given, mapping, optional_mapping, book, some_set}
 use Rattle.wb_wire.specs.Table.{Fields, table}

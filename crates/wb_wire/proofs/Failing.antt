@@ -10,12 +10,12 @@ use Rattle.wb_book.specs.Cells.{Name}
 use Rattle.wb_book.specs.Names.{is_name}
 use Rattle.wb_book.specs.declared.cells.kind.KeyType.{KeyType}
 use Rattle.wb_book.specs.declared.cells.kind.KeyType.TheVariants as types
-use Rattle.wb_proto.specs.wb_edit.specs.declared.operation.Operation.{Operation}
-use Rattle.wb_proto.specs.wb_edit.specs.declared.operation.Operation.TheVariants as operations
+use Rattle.wb_proto.specs.Below.wb_edit.operation.Operation.{Operation}
+use Rattle.wb_proto.specs.Below.wb_edit.operation.Operation.TheVariants as operations
 use Rattle.wb_redist.specs.declared.reduction.Op.{Op}
 use Rattle.wb_redist.specs.declared.reduction.Op.TheVariants as reductions
-use Rattle.wb_proto.specs.wb_log.specs.declared.refusal.Refusal.{Refusal}
-use Rattle.wb_proto.specs.wb_log.specs.declared.refusal.Refusal.TheVariants.{BadRequest, BadLiteral}
+use Rattle.wb_proto.specs.Below.wb_log.refusal.Refusal.{Refusal}
+use Rattle.wb_proto.specs.Below.wb_log.refusal.Refusal.TheVariants.{BadRequest, BadLiteral}
 use Rattle.wb_literal.specs.Domain.{Domain, rectangle, set, domain_of}
 use Rattle.wb_literal.specs.Mapping.{mapping_of}
 use Rattle.wb_literal.specs.Grammar as grammar
@@ -32,7 +32,7 @@ use Rattle.wb_resize.specs.declared.operand.Operand.TheVariants.{Named}
 use Rattle.wb_proto.specs.Fields.{◌>>=◌, name_of, key_type_of, operation_of, reduction_of, index_of}
 use Rattle.wb_proto.specs.Literals.{literal_domain, literal_mapping, text_of_book, refusal_of_limit, within, domain_within, mapping_within}
 use Rattle.wb_proto.specs.Sources.{is_braced, given_within, given_literal, given_name, given_text, given_by, point_in, offsets_by}
-use Rattle.wb_proto.specs.wb_reading.specs.Texts.Books.{is_book_text}
+use Rattle.wb_proto.specs.Below.wb_reading.Books.{is_book_text}
 use Rattle.wb_wire.specs.Faults.{Fault, bad_request, bad_literal, too_large, bad_mapping, refusal_of, Plain, Kind, plain, IsBraced, IsBad, Fails}
 use Rattle.wb_wire.specs.Faults as kinds
 use Rattle.wb_wire.proofs.Values.{no_ok, some_of_ok, text_in, text_read, str_found, name_found, name_read, type_found, type_read, operation_found}

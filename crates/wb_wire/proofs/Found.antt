@@ -8,13 +8,13 @@ use Rattle.serde_json.specs.Data.{Data, null, boolean, number as json_number, st
 use Rattle.serde_json.specs.Find.{get_member}
 use Rattle.wb_book.specs.Cells.{Name}
 use Rattle.wb_book.specs.declared.values.index.Index.TheVariants.{Point}
-use Rattle.wb_proto.specs.wb_edit.specs.declared.asked_rectangle.AskedRectangle.TheVariants.{Ranges, Indices}
-use Rattle.wb_proto.specs.wb_edit.specs.declared.edit.Edit.TheVariants.{Domain, Remap, Reshape, Sparse, Assoc}
-use Rattle.wb_proto.specs.wb_edit.specs.declared.edit.Edit.TheVariants.{DropDomain, Add, Remove, Array, Set, Irv, Copy}
-use Rattle.wb_proto.specs.wb_edit.specs.declared.edit.Edit.TheVariants.{Fill, FillAll, DropArray, All, Load}
-use Rattle.wb_proto.specs.wb_history.specs.declared.query.Query.TheVariants.{Get, Size, Where, Piece, Reduce, State}
-use Rattle.wb_proto.specs.wb_log.specs.declared.refusal.Refusal.{Refusal}
-use Rattle.wb_proto.specs.wb_log.specs.declared.refusal.Refusal.TheVariants.{BadRequest}
+use Rattle.wb_proto.specs.Below.wb_edit.asked_rectangle.AskedRectangle.TheVariants.{Ranges, Indices}
+use Rattle.wb_proto.specs.Below.wb_edit.edit.Edit.TheVariants.{Domain, Remap, Reshape, Sparse, Assoc}
+use Rattle.wb_proto.specs.Below.wb_edit.edit.Edit.TheVariants.{DropDomain, Add, Remove, Array, Set, Irv, Copy}
+use Rattle.wb_proto.specs.Below.wb_edit.edit.Edit.TheVariants.{Fill, FillAll, DropArray, All, Load}
+use Rattle.wb_proto.specs.Below.wb_history.query.Query.TheVariants.{Get, Size, Where, Piece, Reduce, State}
+use Rattle.wb_proto.specs.Below.wb_log.refusal.Refusal.{Refusal}
+use Rattle.wb_proto.specs.Below.wb_log.refusal.Refusal.TheVariants.{BadRequest}
 use Rattle.wb_literal.specs.Domain as literals
 use Rattle.wb_literal.specs.Grammar as grammar
 use Rattle.wb_literal.specs.declared.mapping.MappingLiteral.{MappingLiteral}

@@ -5,8 +5,8 @@ use Rattle.std.specs.Prelude.{Contains}
 use Rattle.std.specs.List.{list_all}
 use Rattle.serde_json.specs.Data.{Data, string, object, Members}
 use Rattle.serde_json.specs.Find.{get_member}
-use Rattle.wb_proto.specs.wb_log.specs.declared.refusal.Refusal.{Refusal}
-use Rattle.wb_proto.specs.wb_log.specs.declared.refusal.Refusal.TheVariants.{BadRequest}
+use Rattle.wb_proto.specs.Below.wb_log.refusal.Refusal.{Refusal}
+use Rattle.wb_proto.specs.Below.wb_log.refusal.Refusal.TheVariants.{BadRequest}
 use Rattle.wb_proto.specs.Fields.{◌>>=◌, member_count, has_fields}
 use Rattle.wb_proto.specs.Replies.{code_of}
 use Rattle.wb_proto.specs.declared.requests.request.Request.{Request}

@@ -10,10 +10,10 @@ use Rattle.serde_json.specs.Find.{get_member, as_str}
 use Rattle.wb_dist.specs.Maps.{LayoutMap, whole}
 use Rattle.wb_book.specs.Cells.{Name}
 use Rattle.wb_book.specs.Shapes.{Range}
-use Rattle.wb_proto.specs.wb_edit.specs.declared.asked_rectangle.AskedRectangle.TheVariants.{Ranges, Indices}
-use Rattle.wb_proto.specs.wb_edit.specs.declared.edit.Edit.TheVariants.{Domain as NewDomain, Remap, Reshape, Fill, Load}
-use Rattle.wb_proto.specs.wb_log.specs.declared.refusal.Refusal.{Refusal}
-use Rattle.wb_proto.specs.wb_log.specs.declared.refusal.Refusal.TheVariants.{BadRequest, BadLiteral}
+use Rattle.wb_proto.specs.Below.wb_edit.asked_rectangle.AskedRectangle.TheVariants.{Ranges, Indices}
+use Rattle.wb_proto.specs.Below.wb_edit.edit.Edit.TheVariants.{Domain as NewDomain, Remap, Reshape, Fill, Load}
+use Rattle.wb_proto.specs.Below.wb_log.refusal.Refusal.{Refusal}
+use Rattle.wb_proto.specs.Below.wb_log.refusal.Refusal.TheVariants.{BadRequest, BadLiteral}
 use Rattle.wb_literal.specs.Domain.{Domain, rectangle, set, domain_of as domain_of_text}
 use Rattle.wb_literal.specs.Grammar as grammar
 use Rattle.wb_literal.specs.Mapping.{mapping_of}

@@ -1,8 +1,8 @@
 -- Each op that has no literal among its fields: what its reader reads is without a fault, and what it refuses is refused with the least.
 use Rattle.std.proofs.Common.{[], ◌∷◌, codes, Ok, refl}
 use Rattle.serde_json.specs.Data.{object}
-use Rattle.wb_proto.specs.wb_edit.specs.declared.edit.Edit.TheVariants.{Sparse, Assoc, DropDomain, Add, Remove, Array, Set, Irv, Copy, FillAll, DropArray, All}
-use Rattle.wb_proto.specs.wb_history.specs.declared.query.Query.TheVariants.{Get, Size, Where, Piece, Reduce, State}
+use Rattle.wb_proto.specs.Below.wb_edit.edit.Edit.TheVariants.{Sparse, Assoc, DropDomain, Add, Remove, Array, Set, Irv, Copy, FillAll, DropArray, All}
+use Rattle.wb_proto.specs.Below.wb_history.query.Query.TheVariants.{Get, Size, Where, Piece, Reduce, State}
 use Rattle.wb_proto.specs.Fields.{has_fields, name_field, index_field, i64_field, u64_field, key_type_field, operation_field, reduction_field}
 use Rattle.wb_proto.specs.Requests.{array_of, drop_array_of, set_of, fill_all_of, copy_of, irv_of, all_of, sparse_of, assoc_of, add_of, remove_of}
 use Rattle.wb_proto.specs.Requests.{drop_domain_of, redo_of, cascade_of, dependents_of, get_of, where_of, size_of, piece_of, reduce_of, state_of}

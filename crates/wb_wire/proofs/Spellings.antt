@@ -10,7 +10,7 @@ use Rattle.wb_book.specs.Names.{is_name, is_letter, is_name_part}
 use Rattle.wb_book.specs.Shapes.{Range}
 use Rattle.wb_book.specs.declared.values.index.Index.{Index}
 use Rattle.wb_book.specs.declared.values.index.Index.TheVariants.{Point, Text}
-use Rattle.wb_proto.specs.wb_log.specs.declared.refusal.Refusal.TheVariants.{BadRequest, BadLiteral}
+use Rattle.wb_proto.specs.Below.wb_log.refusal.Refusal.TheVariants.{BadRequest, BadLiteral}
 use Rattle.wb_literal.specs.Domain.{Domain, rectangle, set, domain_of}
 use Rattle.wb_literal.specs.Mapping.{mapping_of}
 use Rattle.wb_literal.specs.Grammar as grammar
@@ -29,7 +29,7 @@ use Rattle.wb_resize.specs.declared.operand.Operand.TheVariants.{Rectangle, Item
 use Rattle.wb_proto.specs.Fields.{member_count, has_fields, has_fields_and, text_if_there, name_of, index_of}
 use Rattle.wb_proto.specs.Literals.{literal_domain, literal_mapping, optional_mapping as mapping_if_there, text_of_book, within, domain_within, mapping_within}
 use Rattle.wb_proto.specs.Sources.{is_braced, given_within, given_literal, given_name, given_text, given_by, point_in, offsets_by}
-use Rattle.wb_proto.specs.wb_reading.specs.Texts.Books.{is_book_text}
+use Rattle.wb_proto.specs.Below.wb_reading.Books.{is_book_text}
 use Rattle.wb_wire.specs.Table.{optional_mapping}
 use Rattle.wb_wire.specs.Spelled.{IsIndex, IsOperand, IsMapping, Says}
 use Rattle.wb_wire.proofs.Members.{there}

@@ -1,6 +1,6 @@
 -- Readers of so many members, one after another: where the whole is read, each is, and the other way round.
 use Rattle.std.proofs.Common.{◌≡◌, Result, Ok, Err, refl}
-use Rattle.wb_proto.specs.wb_log.specs.declared.refusal.Refusal.{Refusal}
+use Rattle.wb_proto.specs.Below.wb_log.refusal.Refusal.{Refusal}
 use Rattle.wb_proto.specs.Fields.{◌>>=◌}
 
 module _ {R : Type 0} where

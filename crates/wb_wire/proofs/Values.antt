@@ -13,10 +13,10 @@ use Rattle.wb_book.specs.declared.values.index.Index.{Index}
 use Rattle.wb_book.specs.declared.values.index.Index.TheVariants.{Point, Text}
 use Rattle.wb_book.specs.declared.cells.kind.KeyType.{KeyType}
 use Rattle.wb_book.specs.declared.cells.kind.KeyType.TheVariants as types
-use Rattle.wb_proto.specs.wb_edit.specs.declared.operation.Operation.{Operation}
-use Rattle.wb_proto.specs.wb_edit.specs.declared.operation.Operation.TheVariants as operations
-use Rattle.wb_proto.specs.wb_log.specs.declared.refusal.Refusal.{Refusal}
-use Rattle.wb_proto.specs.wb_log.specs.declared.refusal.Refusal.TheVariants.{BadRequest}
+use Rattle.wb_proto.specs.Below.wb_edit.operation.Operation.{Operation}
+use Rattle.wb_proto.specs.Below.wb_edit.operation.Operation.TheVariants as operations
+use Rattle.wb_proto.specs.Below.wb_log.refusal.Refusal.{Refusal}
+use Rattle.wb_proto.specs.Below.wb_log.refusal.Refusal.TheVariants.{BadRequest}
 use Rattle.wb_redist.specs.declared.reduction.Op.{Op}
 use Rattle.wb_redist.specs.declared.reduction.Op.TheVariants as reductions
 use Rattle.wb_proto.specs.Fields.{◌>>=◌, name_of, integer_of, pair_of, triple_of, tuple_of, index_of, key_type_of, operation_of, reduction_of}

@@ -8,11 +8,11 @@ use Rattle.wb_book.specs.Names.{is_name}
 use Rattle.wb_book.specs.declared.values.index.Index.{Index}
 use Rattle.wb_book.specs.declared.values.index.Index.TheVariants.{Point}
 use Rattle.wb_book.specs.declared.cells.kind.KeyType.{KeyType}
-use Rattle.wb_proto.specs.wb_edit.specs.declared.operation.Operation.{Operation}
-use Rattle.wb_proto.specs.wb_edit.specs.declared.refusal.Refusal.TheVariants as edits
+use Rattle.wb_proto.specs.Below.wb_edit.operation.Operation.{Operation}
+use Rattle.wb_proto.specs.Below.wb_edit.refusal.Refusal.TheVariants as edits
 use Rattle.wb_redist.specs.declared.reduction.Op.{Op}
-use Rattle.wb_proto.specs.wb_log.specs.declared.refusal.Refusal.{Refusal}
-use Rattle.wb_proto.specs.wb_log.specs.declared.refusal.Refusal.TheVariants.{BadRequest, BadLiteral, Refused}
+use Rattle.wb_proto.specs.Below.wb_log.refusal.Refusal.{Refusal}
+use Rattle.wb_proto.specs.Below.wb_log.refusal.Refusal.TheVariants.{BadRequest, BadLiteral, Refused}
 use Rattle.wb_literal.specs.Domain.{Domain}
 use Rattle.wb_literal.specs.Grammar as grammar
 use Rattle.wb_literal.specs.declared.mapping.MappingLiteral.{MappingLiteral}
@@ -20,7 +20,7 @@ use Rattle.wb_literal.specs.declared.rectangle.RectangleLiteral.{RectangleLitera
 use Rattle.wb_limits.specs.Literals.{domain_within}
 use Rattle.wb_limits.specs.Mappings.{mapping_within}
 use Rattle.wb_limits.specs.declared.limit.LimitErr.TheVariants as limits
-use Rattle.wb_proto.specs.wb_reading.specs.Texts.Books.{is_book_text}
+use Rattle.wb_proto.specs.Below.wb_reading.Books.{is_book_text}
 use Rattle.wb_wire.specs.Table as table
 use Rattle.wb_wire.specs.Spelled.{Spells, without}
 

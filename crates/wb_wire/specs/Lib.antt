@@ -1,10 +1,4 @@
-pub use Rattle.wb_proto.specs.wb_edit
-pub use Rattle.wb_proto.specs.wb_encode
-pub use Rattle.wb_proto.specs.wb_history
-pub use Rattle.wb_proto.specs.wb_log
-pub use Rattle.wb_proto
-pub use Rattle.wb_proto.specs.wb_reading
-pub use Rattle.wb_proto.specs.wb_text
+pub mod Below
 pub mod Table
 pub mod Spelled
 pub mod Faults

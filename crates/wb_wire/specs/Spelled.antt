@@ -17,7 +17,7 @@ use Rattle.wb_limits.specs.Mappings.{mapping_within}
 use Rattle.wb_resize.specs.Sources.{ascending}
 use Rattle.wb_resize.specs.declared.operand.Operand.{Operand}
 use Rattle.wb_resize.specs.declared.operand.Operand.TheVariants.{Rectangle, Items, Named}
-use Rattle.wb_proto.specs.wb_reading.specs.Texts.Books.{is_book_text}
+use Rattle.wb_proto.specs.Below.wb_reading.Books.{is_book_text}
 use Rattle.wb_proto.specs.declared.requests.request.Request.{Request}
 use Rattle.wb_wire.specs.Table.{Meaning, word, name, integer, number, index, given, mapping, optional_mapping, book, some_set}
 use Rattle.wb_wire.specs.Table.{Fields, table}

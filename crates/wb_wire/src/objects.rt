@@ -2,7 +2,7 @@
 ghost use Rattle.std.specs.Prelude.{◌≡◌, [], ◌∷◌, codes, IfOk, string_bytes};
 ghost use Rattle.serde_json.specs.Data.{object, number, unsigned, string, member, no_members};
 ghost use Rattle.serde_json.specs.View.{view};
-ghost use Rattle.wb_proto.specs.wb_encode.specs.Values.{index_data};
+ghost use Rattle.wb_proto.specs.Below.wb_encode.Values.{index_data};
 
 use serde_json::{Value, json};
 use std::alloc::{AllocError, Global};

@@ -2,7 +2,7 @@
 
 ghost use Rattle.std.specs.Prelude.{◌≡◌, ℕ, ◌+◌, ◌^◌, ◌<◌, length, Some, None, OnOk, OnErr};
 ghost use Rattle.selective_undo.specs.Log.{Footprint};
-ghost use Rattle.wb_foot.specs.wb_edit.specs.Schema.{workbook};
+ghost use Rattle.wb_foot.specs.Below.wb_edit.Schema.{workbook};
 ghost use Rattle.wb_foot.specs.Footprints.{Footprints, with_footprint};
 ghost use Rattle.wb_log.specs.Indexed.{AreInForce};
 ghost use Rattle.wb_log.specs.Kept.{IsLatest, by_number, kept_in, kept_all};

@@ -2,8 +2,8 @@ ghost use Rattle.std.specs.Prelude.{◌≡◌, ℕ, ◌+◌, ◌^◌, ◌<◌, l
 ghost use Rattle.selective_undo.specs.Changes.{apply, inverse};
 ghost use Rattle.wb_book.specs.Cells.{written_more, count_of};
 ghost use Rattle.wb_book.specs.WellFormed.{IsWellFormed};
-ghost use Rattle.wb_foot.specs.wb_edit.specs.Commands.{meaning};
-ghost use Rattle.wb_foot.specs.wb_edit.specs.Plans.{IsPlan};
+ghost use Rattle.wb_foot.specs.Below.wb_edit.Commands.{meaning};
+ghost use Rattle.wb_foot.specs.Below.wb_edit.Plans.{IsPlan};
 ghost use Rattle.wb_foot.specs.Footprints.{Footprints, with_footprint};
 ghost use Rattle.wb_log.specs.Indexed.{Indexes, IsIndexed};
 ghost use Rattle.wb_log.specs.Kept.{kept_in, Shows, PlansAgain, redo_blocker, stopped_refusal, entries_meant, numbered_entries};

@@ -3,7 +3,7 @@ ghost use Rattle.std.specs.Prelude.{◌≡◌, codes, IfOk, string_bytes};
 ghost use Rattle.serde_json.specs.Data.{object, string, member, no_members};
 ghost use Rattle.serde_json.specs.View.{view};
 ghost use Rattle.serde_json.specs.Written.{compact_text};
-ghost use Rattle.wb_encode.specs.wb_log.specs.declared.refusal.Refusal.TheVariants.{Blocked};
+ghost use Rattle.wb_encode.specs.Below.wb_log.refusal.Refusal.TheVariants.{Blocked};
 ghost use Rattle.wb_proto.specs.Printed.{numbers_text, value_text, size_text, locale_text, in_force_text};
 ghost use Rattle.wb_proto.specs.Replies.{edit_code, edit_name, code_of, name_of, refusal_data, answer_data, reply_data, reply_of};
 ghost use Rattle.wb_proto.specs.declared.replies.reply.Reply.TheVariants.{Printed};

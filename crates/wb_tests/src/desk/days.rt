@@ -1,6 +1,6 @@
 //! Days of a desk: what is done there before, by all seats at once, and after, and how it is settled.
 ghost use Rattle.std.specs.Prelude.{◌≡◌};
-ghost use Rattle.wb_program.specs.wb_shared.specs.Openings.{nothing_done};
+ghost use Rattle.wb_program.specs.Below.wb_shared.Openings.{nothing_done};
 
 use crate::desk::threads::{Work, all_at_once};
 use std::alloc::Global;

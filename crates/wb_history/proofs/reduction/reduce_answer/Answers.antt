@@ -4,8 +4,8 @@ use Rattle.wb_book.specs.declared.cells.cell.Cell.TheVariants.{Object}
 use Rattle.wb_book.specs.declared.cells.kind.Kind.{Kind}
 use Rattle.wb_book.specs.Cells.{Name}
 use Rattle.wb_book.specs.Readers.{elements}
-use Rattle.wb_log.specs.wb_edit.specs.declared.refusal.Refusal as why
-use Rattle.wb_log.specs.wb_edit.specs.Looks.{array_kind}
+use Rattle.wb_log.specs.Below.wb_edit.refusal.Refusal as why
+use Rattle.wb_log.specs.Below.wb_edit.Looks.{array_kind}
 use Rattle.wb_redist.specs.Reductions.{reduction}
 use Rattle.wb_history.specs.Queries.{value_answer}
 use Rattle.wb_history.specs.Reductions.{reduce_from}

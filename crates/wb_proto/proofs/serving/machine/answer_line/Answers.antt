@@ -1,6 +1,6 @@
 -- The reply stood, and its text found no memory.
 use Rattle.std.proofs.Common.{List, ℕ, ◌⊎◌, inr, refl}
-use Rattle.wb_encode.specs.wb_history.specs.Past.{Past}
+use Rattle.wb_encode.specs.Below.wb_history.Past.{Past}
 use Rattle.wb_lines.specs.Session.{MayAnswer}
 use Rattle.wb_proto.specs.Machine.{StepIfRead, NothingDone, AnswersText}
 use Rattle.wb_proto.specs.Replies.{reply_of}

@@ -1,0 +1,10 @@
+pub use Rattle.wb_history.specs.Below.wb_edit.Commands
+pub use Rattle.wb_history.specs.Below.wb_edit.Objects
+pub use Rattle.wb_history.specs.Below.wb_edit.Schema
+pub use Rattle.wb_history.specs.Below.wb_edit.Trees
+pub use Rattle.wb_history.specs.Below.wb_edit.asked_rectangle
+pub use Rattle.wb_history.specs.Below.wb_edit.edit
+pub use Rattle.wb_history.specs.Below.wb_edit.operation
+pub use Rattle.wb_history.specs.Below.wb_edit.refusal
+pub use Rattle.wb_history.specs.Below.wb_edit.Loading
+pub use Rattle.wb_history.specs.Below.wb_edit.SideBySide

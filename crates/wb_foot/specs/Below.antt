@@ -1,0 +1,5 @@
+-- What is passed on of crates below, for crates above that list this one and not those.
+pub mod wb_edit
+pub mod wb_reading
+pub mod wb_shelf
+pub mod wb_text

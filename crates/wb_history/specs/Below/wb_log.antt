@@ -1,0 +1,2 @@
+pub use Rattle.wb_log.specs.Cascades
+pub use Rattle.wb_log.specs.declared.refusal

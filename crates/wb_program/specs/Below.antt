@@ -1,0 +1,2 @@
+-- What is passed on of crates below, for crates above that list this one and not those.
+pub mod wb_shared

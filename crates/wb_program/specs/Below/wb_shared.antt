@@ -1,0 +1,1 @@
+pub use Rattle.wb_shared.specs.Openings

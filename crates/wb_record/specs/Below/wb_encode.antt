@@ -1,0 +1,1 @@
+pub use Rattle.wb_wire.specs.Below.wb_encode.Text

@@ -1,0 +1,2 @@
+pub use Rattle.wb_shelf.specs.Piecewise
+pub use Rattle.wb_shelf.specs.Shelf

@@ -1,0 +1,1 @@
+pub use Rattle.wb_proto.specs.Below.wb_log.refusal
