@@ -27,7 +27,11 @@ pub struct Footprint {
 // In a function of its own, so that a crate above need not prove anew how each field is let go.
 impl Drop for Footprint {
     fn drop(self) {
-        let Footprint { alloc: _, first: _, rest: _ } = self;
+        let Footprint {
+            alloc: _,
+            first: _,
+            rest: _,
+        } = self;
     }
 }
 

@@ -11,8 +11,8 @@ use serde_json::{Value, json};
 use std::alloc::{AllocError, Global};
 use wb_book::{AnyIndex, AnyLayout, AnyRect, Index, KeyType};
 use wb_history::wb_edit::Operation;
-use wb_resize::Operand;
 use wb_history::wb_text::{push_any_layout, push_any_rect, push_set};
+use wb_resize::Operand;
 
 /// The canonical literal of a rectangle.
 pub(crate) fn rectangle_text(alloc: Global, ranges: &AnyRect) -> Result<String, AllocError>

@@ -9,9 +9,9 @@ use std::alloc::{AllocError, Global};
 use std::fmt::Write;
 use wb_history::History;
 use wb_history::wb_edit::Edit;
-use wb_range::NoMemory;
 use wb_history::wb_shelf::Book;
 use wb_history::wb_text::print_book;
+use wb_range::NoMemory;
 
 // The lines of objects within the text of a workbook.
 fn objects_in(text: &str) -> Option<&str>

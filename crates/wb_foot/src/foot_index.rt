@@ -23,7 +23,10 @@ pub struct FootIndex {
 // In a function of its own, so that a crate above need not prove anew how each field is let go.
 impl Drop for FootIndex {
     fn drop(self) {
-        let FootIndex { touched: _, read: _ } = self;
+        let FootIndex {
+            touched: _,
+            read: _,
+        } = self;
     }
 }
 

@@ -16,10 +16,10 @@ use crate::reduction::reduce_answer;
 use std::alloc::Global;
 use std::marker::Model;
 use wb_log::wb_edit::Edit;
+use wb_log::wb_shelf::Book;
 use wb_log::{Index, LentEdit, Record, Refusal, steps};
 use wb_range::NoMemory;
 use wb_redist::Mover;
-use wb_log::wb_shelf::Book;
 
 /// A workbook, and the edits that made it, each in force or out of force.
 pub struct History {
@@ -32,7 +32,12 @@ pub struct History {
 // In a function of its own, so that a crate above need not prove anew how each field is let go.
 impl Drop for History {
     fn drop(self) {
-        let History { alloc: _, book: _, entries: _, index: _ } = self;
+        let History {
+            alloc: _,
+            book: _,
+            entries: _,
+            index: _,
+        } = self;
     }
 }
 

@@ -12,8 +12,8 @@ use std::marker::Model;
 use wb_book::{AnyIndex, Cell, Name};
 use wb_log::Refusal;
 use wb_log::wb_edit::judgements;
-use wb_range::NoMemory;
 use wb_log::wb_shelf::{AsIndex, Book, Pairs};
+use wb_range::NoMemory;
 
 /// The elements of an array on one locale, each after its index, ascending by index. Contracts see the list of them.
 #[derive(Debug, Drop)]

@@ -7,9 +7,9 @@ use std::alloc::Global;
 use wb_book::{AnyIndex, Cell, Kind, Name};
 use wb_log::Refusal;
 use wb_log::wb_edit::{element_or_refusal, has_implicit, judgements, parent_in};
+use wb_log::wb_shelf::Book;
 use wb_range::NoMemory;
 use wb_redist::Op;
-use wb_log::wb_shelf::Book;
 
 /// A question about the workbook or its history.
 #[derive(Clone, Copy, Debug)]

@@ -8,8 +8,8 @@ use crate::query::Answer;
 use wb_book::{Cell, Name};
 use wb_log::Refusal;
 use wb_log::wb_edit::judgements;
-use wb_redist::{Mover, Op, ReduceErr};
 use wb_log::wb_shelf::Book;
+use wb_redist::{Mover, Op, ReduceErr};
 
 // What a workbook makes of the elements as an answer.
 fn made_answer(made: Result<i64, ReduceErr>) -> Result<Answer, Refusal>

@@ -27,7 +27,11 @@ pub struct Journal {
 // In a function of its own, so that a crate above need not prove anew how each field is let go.
 impl Drop for Journal {
     fn drop(self) {
-        let Journal { history: _, entries: _, counts: _ } = self;
+        let Journal {
+            history: _,
+            entries: _,
+            counts: _,
+        } = self;
     }
 }
 

@@ -16,7 +16,11 @@ pub struct Pass<L: Ledger> {
 // In a function of its own, so that a crate above need not prove anew how each field is let go.
 impl<L: Ledger> Drop for Pass<L> {
     fn drop(self) {
-        let Pass { seat: _, own: _, share: _ } = self;
+        let Pass {
+            seat: _,
+            own: _,
+            share: _,
+        } = self;
     }
 }
 

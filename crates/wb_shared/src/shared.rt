@@ -25,7 +25,11 @@ pub struct Shared<L: Opening> {
 // In a function of its own, so that a crate above need not prove anew how each field is let go.
 impl<L: Opening> Drop for Shared<L> {
     fn drop(self) {
-        let Shared { alloc: _, kept: _, rest: _ } = self;
+        let Shared {
+            alloc: _,
+            kept: _,
+            rest: _,
+        } = self;
     }
 }
 

@@ -29,7 +29,12 @@ pub struct Book {
 // In a function of its own, so that a crate above need not prove anew how each field is let go.
 impl Drop for Book {
     fn drop(self) {
-        let Book { alloc: _, cells: _, arrays: _, writes: _ } = self;
+        let Book {
+            alloc: _,
+            cells: _,
+            arrays: _,
+            writes: _,
+        } = self;
     }
 }
 

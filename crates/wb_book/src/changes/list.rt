@@ -32,7 +32,12 @@ pub struct Changes {
 // In a function of its own, so that a crate above need not prove anew how each field is let go.
 impl Drop for Changes {
     fn drop(self) {
-        let Changes { first: _, runs: _, len: _, counted: _ } = self;
+        let Changes {
+            first: _,
+            runs: _,
+            len: _,
+            counted: _,
+        } = self;
     }
 }
 

@@ -22,10 +22,10 @@ use std::alloc::Global;
 use wb_assoc::Assoc;
 use wb_book::{AnyIndex, AnyRect, KeyType, Kind, Name, Point};
 use wb_range::Domain;
+use wb_reading::wb_shelf::Book;
 use wb_rect::RectErr;
 use wb_resize::new_rectangles::displaced;
 use wb_resize::{Displacement, Operand};
-use wb_reading::wb_shelf::Book;
 
 /// That there are so many dimensions as a domain of the rank has; `WrongKind` where there are not.
 pub fn same_rank(rank: usize, dimensions: usize) -> Result<(), Refusal>

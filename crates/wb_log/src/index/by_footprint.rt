@@ -13,8 +13,8 @@ use crate::entry::{LentFootprint, Record};
 use crate::sweep::needing;
 use std::alloc::Global;
 use wb_book::Changes;
-use wb_foot::wb_edit::Footprint;
 use wb_foot::FootIndex;
+use wb_foot::wb_edit::Footprint;
 use wb_range::NoMemory;
 
 /// An index of the footprints of the first `entered` edits.

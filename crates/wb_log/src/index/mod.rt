@@ -24,7 +24,10 @@ pub struct Index {
 // In a function of its own, so that a crate above need not prove anew how each field is let go.
 impl Drop for Index {
     fn drop(self) {
-        let Index { by_footprint: _, in_force: _ } = self;
+        let Index {
+            by_footprint: _,
+            in_force: _,
+        } = self;
     }
 }
 

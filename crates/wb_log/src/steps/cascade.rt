@@ -12,9 +12,9 @@ use crate::entry::Record;
 use crate::index::Index;
 use crate::refusal::Refusal;
 use crate::steps::undo::undo_at;
+use wb_foot::wb_shelf::Book;
 use wb_range::NoMemory;
 use wb_redist::Mover;
-use wb_foot::wb_shelf::Book;
 
 /// The numbers of the edits that have to be undone with the one at a place, from the greatest down.
 pub fn dependents_at(entries: &[Record], index: &mut Index, at: usize) -> Result<Vec<u64>, Refusal>

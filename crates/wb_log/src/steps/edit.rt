@@ -16,9 +16,9 @@ use crate::steps::making::make;
 use std::alloc::Global;
 use wb_book::Delta;
 use wb_foot::wb_edit::{Edit, Footprint, PlanErr, plan};
+use wb_foot::wb_shelf::Book;
 use wb_range::NoMemory;
 use wb_redist::Mover;
-use wb_foot::wb_shelf::Book;
 
 /// Makes an edit, and keeps it as the last.
 pub fn add<M: Mover>(

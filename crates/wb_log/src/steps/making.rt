@@ -12,9 +12,9 @@ use crate::entry::{Entry, Form, Kept, Record};
 use std::alloc::Global;
 use wb_book::{Cell, Changes, Delta, Pattern, Value};
 use wb_foot::wb_edit::{Edit, Footprint};
+use wb_foot::wb_shelf::Book;
 use wb_range::NoMemory;
 use wb_redist::Mover;
-use wb_foot::wb_shelf::Book;
 
 // Whether the cells are one.
 pub(crate) fn is_same(a: &Cell, b: &Cell) -> bool

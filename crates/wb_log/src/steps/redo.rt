@@ -17,9 +17,9 @@ use crate::steps::making::make;
 use std::alloc::Global;
 use wb_book::{Changes, Delta};
 use wb_foot::wb_edit::{Footprint, PlanErr, plan};
+use wb_foot::wb_shelf::Book;
 use wb_range::NoMemory;
 use wb_redist::Mover;
-use wb_foot::wb_shelf::Book;
 
 /// What an entry's edit would change in a workbook.
 fn plan_of(alloc: Global, book: &Book, entry: &Record) -> Result<(Delta, Footprint, usize), PlanErr>

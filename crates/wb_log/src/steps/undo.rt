@@ -9,8 +9,8 @@ ghost use Rattle.wb_log.specs.Replies.{UndoReply, LastReply, SetsBack, LeavesOth
 use crate::entry::Record;
 use crate::index::Index;
 use crate::refusal::Refusal;
-use wb_redist::Mover;
 use wb_foot::wb_shelf::Book;
+use wb_redist::Mover;
 
 /// Whether an edit may not be undone.
 fn undo_refusal(entries: &[Record], index: &mut Index, at: usize) -> Option<Refusal>

@@ -9,8 +9,8 @@ use std::sync::Wait;
 use std::sync::ledger::Blank;
 use std::test::Fail;
 use std::thread::Threads;
-use wb_program::wb_shared::{Cause, Desk, DeskErr, Entry, Opening, Pass, Record, settle};
 use wb_program::wb_record::wb_proto::{Reply, Request, read_request, reply_text};
+use wb_program::wb_shared::{Cause, Desk, DeskErr, Entry, Opening, Pass, Record, settle};
 use wb_redist::{Crew, Mover};
 
 const NEW_SET: &str = "{\"op\":\"assoc\",\"d\":\"N\",\"of\":\"int\"}";

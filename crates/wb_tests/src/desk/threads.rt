@@ -5,9 +5,9 @@ use std::alloc::Global;
 use std::sync::Wait;
 use std::thread;
 use std::thread::Threads;
-use wb_program::wb_shared::{Desk, Opening, Pass};
 use wb_program::wb_history::Answer;
 use wb_program::wb_record::wb_proto::Reply;
+use wb_program::wb_shared::{Desk, Opening, Pass};
 use wb_redist::Mover;
 
 /// What each seat does.

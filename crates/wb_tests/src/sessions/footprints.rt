@@ -2,9 +2,7 @@
 
 use std::process::Abort;
 use std::test::Fail;
-use wb_book::{
-    AnyCell, AnyIndex, Cell, CellChange, Changes, Index, Name, Pattern, Point,
-};
+use wb_book::{AnyCell, AnyIndex, Cell, CellChange, Changes, Index, Name, Pattern, Point};
 use wb_program::wb_record::wb_log::wb_foot::FootIndex;
 
 fn element(array: Name, i: i64) -> Cell {

@@ -10,8 +10,8 @@ use crate::footprint::Footprint;
 use crate::looks::one_cell::domain_named;
 use std::alloc::Global;
 use wb_book::{AnyDomain, Delta, DomainKind, Name};
-use wb_resize::NewIndices;
 use wb_reading::wb_shelf::Book;
+use wb_resize::NewIndices;
 
 fn plan_reshape_kind(
     alloc: Global,

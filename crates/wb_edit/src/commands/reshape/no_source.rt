@@ -8,8 +8,8 @@ use crate::footprint::Footprint;
 use crate::looks::one_cell::domain_named;
 use crate::refusal::Refusal;
 use wb_book::Delta;
-use wb_resize::Operand;
 use wb_reading::wb_shelf::Book;
+use wb_resize::Operand;
 
 /// There is no such source for the domain; a name that is given is tested first.
 pub(crate) fn plan_no_source(

@@ -12,9 +12,9 @@ use crate::looks::reshaping::shape;
 use crate::looks::sources::{displacement_of, gives_rectangle, ranges_given, same_rank, slice_of};
 use std::alloc::Global;
 use wb_book::{AnyRect, Delta, Name, Point};
+use wb_reading::wb_shelf::Book;
 use wb_resize::new_rectangles::left_out;
 use wb_resize::{Displacement, NewIndices, Operand};
-use wb_reading::wb_shelf::Book;
 
 // A rectangular domain with some ranges gets new ones.
 fn plan_reshaped(
