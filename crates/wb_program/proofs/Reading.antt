@@ -2,14 +2,14 @@
 use Rattle.std.proofs.Common.{◌≡◌, ◌⊎◌, inl, inr, List, ℕ, Result, Ok, Err, IfOk, OnErr, refl, sym, ap, subst}
 use Rattle.std.specs.declared.vec.Vec.{Vec}
 use Rattle.wb_lines.specs.Session.{MayAnswer, Answered}
-use Rattle.wb_record.specs.Below.wb_history.Past.{Past}
-use Rattle.wb_record.specs.Below.wb_log.refusal.Refusal.{Refusal}
-use Rattle.wb_record.specs.Below.wb_log.refusal.Refusal.TheVariants.{NoMemory}
-use Rattle.wb_record.specs.Below.wb_proto.Requests.{request}
-use Rattle.wb_record.specs.Below.wb_proto.reply.Reply.{Reply}
-use Rattle.wb_record.specs.Below.wb_proto.reply.Reply.TheVariants.{Refused}
-use Rattle.wb_record.specs.Below.wb_proto.request.Request.{Request}
-use Rattle.wb_shared.specs.Below.wb_journal.Serving.{Held, AnswersSome, own_after, share_after}
+use Rattle.wb_proto.specs.Below.wb_history.Past.{Past}
+use Rattle.wb_proto.specs.Below.wb_log.refusal.Refusal.{Refusal}
+use Rattle.wb_proto.specs.Below.wb_log.refusal.Refusal.TheVariants.{NoMemory}
+use Rattle.wb_proto.specs.Requests.{request}
+use Rattle.wb_proto.specs.declared.replies.reply.Reply.{Reply}
+use Rattle.wb_proto.specs.declared.replies.reply.Reply.TheVariants.{Refused}
+use Rattle.wb_proto.specs.declared.requests.request.Request.{Request}
+use Rattle.wb_journal.specs.Serving.{Held, AnswersSome, own_after, share_after}
 use Rattle.wb_program.specs.Serving.{RepliesIfRead, NothingAsked, IsReadAs, held_after}
 
 held_is : (h k : Held) (asked : Request) (r : Reply) → k.seat ≡ h.seat → k.own ≡ own_after h.seat h.own asked r →

@@ -5,11 +5,11 @@ use Rattle.selective_undo.specs.History.{replay, IsLegal}
 use Rattle.wb_book.specs.Cells.{Cells}
 use Rattle.wb_book.specs.Readers.{objects}
 use Rattle.wb_book.specs.WellFormed.{IsWellFormed}
-use Rattle.wb_record.specs.Below.wb_encode.Text.{history_text}
-use Rattle.wb_record.specs.Below.wb_history.Past.{Numbered, meant}
-use Rattle.wb_record.specs.Below.wb_reading.Reading.{IsNoBook}
+use Rattle.wb_proto.specs.Below.wb_encode.Text.{history_text}
+use Rattle.wb_proto.specs.Below.wb_history.Past.{Numbered, meant}
+use Rattle.wb_proto.specs.Below.wb_reading.Reading.{IsNoBook}
 use Rattle.wb_record.specs.Text.{IsNoHistory}
-use Rattle.wb_record.specs.Below.wb_text.Lines.{book_text}
+use Rattle.wb_proto.specs.Below.wb_text.Lines.{book_text}
 use Rattle.wb_program.specs.declared.checking.Verdict.{Verdict}
 use Rattle.wb_program.specs.declared.checking.Verdict.TheVariants.{Workbook, History, Refused}
 

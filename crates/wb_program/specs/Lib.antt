@@ -1,4 +1,3 @@
-pub mod Below
 pub mod Running
 pub mod Checking
 pub mod Resuming

@@ -2,7 +2,7 @@
 
 ghost use Rattle.std.specs.Prelude.{◌≡◌, ℕ, List, true, IfOk, string_bytes};
 ghost use Rattle.std.specs.Io.KnownBytes.{Appends, Consumes, IsAtEnd};
-ghost use Rattle.wb_record.specs.Below.wb_reading.Reading.{IsNoBook};
+ghost use Rattle.wb_proto.specs.Below.wb_reading.Reading.{IsNoBook};
 ghost use Rattle.wb_program.specs.Checking.{IsVerdict, verdict_text, status_of_verdict, IsPrinted, Says, Judges, IsAnswered};
 ghost use Rattle.wb_program.specs.Running.{HasFailed};
 
@@ -10,8 +10,8 @@ use crate::running::{DONE, INPUT_OR_OUTPUT_FAILED, NO_MEMORY};
 use std::alloc::{AllocError, Global};
 use std::str::from_utf8;
 use wb_lines::{LineFault, Sink, Source, read_all, send};
+use wb_proto::wb_reading::{BookErr, read_book};
 use wb_range::NoMemory;
-use wb_record::wb_reading::{BookErr, read_book};
 use wb_record::{HistoryErr, read_history};
 use wb_redist::Mover;
 

@@ -20,6 +20,3 @@ pub use crate::running::{
 pub use crate::seat::serve_seat;
 pub use crate::serving::{serve_history, serve_on};
 pub use crate::upgrading::upgrade_with;
-pub use wb_record;
-pub use wb_record::wb_history;
-pub use wb_shared;

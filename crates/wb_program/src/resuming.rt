@@ -13,9 +13,9 @@ use memchr::memmem;
 use std::alloc::Global;
 use std::str::from_utf8;
 use wb_lines::{LineFault, READ_LIMIT, Sink, Source, read_all, read_more};
+use wb_proto::session;
+use wb_proto::wb_history::History;
 use wb_range::NoMemory;
-use wb_record::wb_history::History;
-use wb_record::wb_proto::session;
 use wb_record::{HistoryErr, read_history};
 use wb_redist::Mover;
 

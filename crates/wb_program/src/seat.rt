@@ -4,15 +4,15 @@ ghost use Rattle.std.specs.Io.KnownBytes.{Appends, Consumes};
 ghost use Rattle.wb_lines.specs.Causes.{ReadsUntil, WritesUntil};
 ghost use Rattle.wb_lines.specs.Session.{MayAnswer, Serves};
 ghost use Rattle.wb_lines.specs.declared.machine.SessionEnd.{SessionEnd};
-ghost use Rattle.wb_record.specs.Below.wb_proto.Requests.{request};
+ghost use Rattle.wb_proto.specs.Requests.{request};
 ghost use Rattle.wb_program.specs.Serving.{RepliesIfRead, NothingAsked, AnswersSeat, IsReadAs};
 
 use std::alloc::{AllocError, Global};
 use std::marker::PhantomData;
 use std::sync::Wait;
 use wb_lines::{Asks, Machine, Sink, Source, serve_turns};
-use wb_record::wb_history::Refusal;
-use wb_record::wb_proto::{Reply, Request, read_request, reply_text};
+use wb_proto::wb_history::Refusal;
+use wb_proto::{Reply, Request, read_request, reply_text};
 use wb_redist::Mover;
 use wb_shared::{Desk, Opening, Pass, Turn};
 

@@ -17,10 +17,10 @@ use std::sync::ledger::Blank;
 use std::thread;
 use std::thread::Threads;
 use wb_lines::{Input, Output, Sink};
+use wb_proto::wb_encode::print_history;
+use wb_proto::wb_history::History;
+use wb_proto::wb_text::print_book;
 use wb_range::NoMemory;
-use wb_record::wb_encode::print_history;
-use wb_record::wb_history::History;
-use wb_record::wb_text::print_book;
 use wb_redist::Mover;
 use wb_shared::{Desk, DeskErr, Opening, Pass, Shared, settle};
 

@@ -11,11 +11,11 @@ use crate::running::{INPUT_OR_OUTPUT_FAILED, NO_MEMORY};
 use std::alloc::Global;
 use std::str::from_utf8;
 use wb_lines::{LineFault, Sink, Source, read_all};
+use wb_proto::wb_edit::Edit;
+use wb_proto::wb_history::{History, RestoreErr};
+use wb_proto::wb_reading::{BookErr, BookText, read_text};
 use wb_range::NoMemory;
 use wb_record::print_history;
-use wb_record::wb_edit::Edit;
-use wb_record::wb_history::{History, RestoreErr};
-use wb_record::wb_reading::{BookErr, BookText, read_text};
 use wb_redist::Mover;
 
 // The history that has one edit, the load of this text, in force.

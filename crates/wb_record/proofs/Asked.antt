@@ -1,8 +1,8 @@
 -- Edits that were asked for by lines.
 use Rattle.std.proofs.Common.{List, [], ◌∷◌, ◌++◌, reverse, sym, subst}
 use Rattle.std.proofs.lemmas.List.{reverse-append}
-use Rattle.wb_wire.specs.Below.wb_history.Past.{Numbered}
-use Rattle.wb_wire.specs.Below.wb_proto.request.Request.TheVariants.{Change}
+use Rattle.wb_proto.specs.Below.wb_history.Past.{Numbered}
+use Rattle.wb_proto.specs.declared.requests.request.Request.TheVariants.{Change}
 use Rattle.wb_wire.proofs.ReadProper.{read_proper}
 use Rattle.wb_record.specs.Text.{IsAsked, AreAsked, AreProper}
 

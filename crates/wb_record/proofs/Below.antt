@@ -5,13 +5,13 @@ use Rattle.std.proofs.lemmas.Grind.{flat_map-append}
 use Rattle.std.proofs.lemmas.List.{append-nil, append_assoc}
 use Rattle.std.proofs.lemmas.List.Concat.{flat_map-cons}
 use Rattle.selective_undo.specs.History.{replay}
-use Rattle.wb_wire.specs.Below.wb_history.Past.{Numbered, meant}
+use Rattle.wb_proto.specs.Below.wb_history.Past.{Numbered, meant}
 use Rattle.wb_lines.specs.Lines.{IsUnbroken}
 use Rattle.wb_lines.proofs.Progress.{unbroken-append}
-use Rattle.wb_wire.specs.Below.wb_proto.request.Request.TheVariants.{Change}
+use Rattle.wb_proto.specs.declared.requests.request.Request.TheVariants.{Change}
 use Rattle.wb_wire.specs.Encoded.{request_data, request_line}
 use Rattle.wb_wire.proofs.Written.{reads_back}
-use Rattle.wb_wire.specs.Below.wb_encode.Text.{AreJson}
+use Rattle.wb_proto.specs.Below.wb_encode.Text.{AreJson}
 use Rattle.wb_record.specs.Text.{mark, said, edit_line, objects_text, history_text, AreSaid, IsSaid, AreProper}
 use Rattle.wb_record.specs.Lines.{marked_at, heading, below}
 use Rattle.wb_record.proofs.Heading.{count_line}

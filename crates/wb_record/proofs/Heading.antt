@@ -16,12 +16,12 @@ use Rattle.wb_book.specs.Cells.{Name, Cells}
 use Rattle.wb_book.specs.Locales.{mapping_in}
 use Rattle.wb_book.specs.Readers.{objects}
 use Rattle.wb_book.specs.WellFormed.{ranges_in}
-use Rattle.wb_wire.specs.Below.wb_history.Past.{Numbered, meant}
+use Rattle.wb_proto.specs.Below.wb_history.Past.{Numbered, meant}
 use Rattle.wb_lines.specs.Lines.{IsUnbroken}
 use Rattle.wb_lines.proofs.Progress.{unbroken-append}
-use Rattle.wb_wire.specs.Below.wb_text.Literals.{rectangle_text, set_text, integers_text, mapping_text}
-use Rattle.wb_wire.specs.Below.wb_text.Lines.{members, type_text, implicit_text, array_line, domain_line}
-use Rattle.wb_wire.specs.Below.wb_text.Lines.{elements_at, indices_in, implicit_in, text_of_object, object_line}
+use Rattle.wb_proto.specs.Below.wb_text.Literals.{rectangle_text, set_text, integers_text, mapping_text}
+use Rattle.wb_proto.specs.Below.wb_text.Lines.{members, type_text, implicit_text, array_line, domain_line}
+use Rattle.wb_proto.specs.Below.wb_text.Lines.{elements_at, indices_in, implicit_in, text_of_object, object_line}
 use Rattle.wb_record.specs.Lines.{marked_at, heading}
 use Rattle.wb_record.specs.Text.{objects_text}
 use Rattle.wb_record.proofs.Unbroken.{unbroken_decimal}

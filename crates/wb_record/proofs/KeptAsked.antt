@@ -1,19 +1,19 @@
 -- A line leaves a history whose edits were asked for by lines such a history.
 use Rattle.std.proofs.Common.{◌≡◌, inl, inr, ℕ, zero, suc, ◌-◌, Bool, true, false, List, [], ◌∷◌, Some, None, Result, Ok, Err, refl, sym, ap, subst}
-use Rattle.wb_wire.specs.Below.wb_edit.edit.Edit.{Edit}
-use Rattle.wb_wire.specs.Below.wb_history.Past.{Numbered, Past, set_force}
-use Rattle.wb_wire.specs.Below.wb_history.Cascades.{all_out_of_force}
-use Rattle.wb_wire.specs.Below.wb_history.Restored.{one_of}
-use Rattle.wb_wire.specs.Below.wb_history.query.Query.{Query}
-use Rattle.wb_wire.specs.Below.wb_log.refusal.Refusal.{Refusal}
-use Rattle.wb_wire.specs.Below.wb_proto.Machine.{Changes, UndoesNumber, UndoesLatest, Cascades, Redoes}
-use Rattle.wb_wire.specs.Below.wb_proto.Machine.{ListsDependents, Answers, Prints, PrintsHistory, Counts, Step}
-use Rattle.wb_wire.specs.Below.wb_proto.Machine.{StepIfRead}
-use Rattle.wb_wire.specs.Below.wb_proto.Requests.{request}
-use Rattle.wb_wire.specs.Below.wb_proto.reply.Reply.{Reply}
-use Rattle.wb_wire.specs.Below.wb_proto.reply.Reply.TheVariants.{Edited, Undone, Cascaded, Redone, Listed, Answered, Printed, Counted, Refused}
-use Rattle.wb_wire.specs.Below.wb_proto.request.Request.{Request}
-use Rattle.wb_wire.specs.Below.wb_proto.request.Request.TheVariants.{Change, Undo, Redo, Cascade, Dependents, Ask, Print, History, Edits}
+use Rattle.wb_proto.specs.Below.wb_edit.edit.Edit.{Edit}
+use Rattle.wb_proto.specs.Below.wb_history.Past.{Numbered, Past, set_force}
+use Rattle.wb_proto.specs.Below.wb_history.Cascades.{all_out_of_force}
+use Rattle.wb_proto.specs.Below.wb_history.Restored.{one_of}
+use Rattle.wb_proto.specs.Below.wb_history.query.Query.{Query}
+use Rattle.wb_proto.specs.Below.wb_log.refusal.Refusal.{Refusal}
+use Rattle.wb_proto.specs.Machine.{Changes, UndoesNumber, UndoesLatest, Cascades, Redoes}
+use Rattle.wb_proto.specs.Machine.{ListsDependents, Answers, Prints, PrintsHistory, Counts, Step}
+use Rattle.wb_proto.specs.Machine.{StepIfRead}
+use Rattle.wb_proto.specs.Requests.{request}
+use Rattle.wb_proto.specs.declared.replies.reply.Reply.{Reply}
+use Rattle.wb_proto.specs.declared.replies.reply.Reply.TheVariants.{Edited, Undone, Cascaded, Redone, Listed, Answered, Printed, Counted, Refused}
+use Rattle.wb_proto.specs.declared.requests.request.Request.{Request}
+use Rattle.wb_proto.specs.declared.requests.request.Request.TheVariants.{Change, Undo, Redo, Cascade, Dependents, Ask, Print, History, Edits}
 use Rattle.wb_record.specs.Laws.{KeepsAsked}
 use Rattle.wb_record.specs.Text.{IsAsked, AreAsked}
 use Rattle.wb_record.proofs.Asked.{asked_with}

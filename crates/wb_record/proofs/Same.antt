@@ -1,13 +1,13 @@
 -- No two histories share a text.
 use Rattle.std.proofs.Common.{◌≡◌, inl, inr, ℕ, zero, suc, ◌<◌, arith, List, [], ◌∷◌, ◌++◌, length, codes, sym, ap, ◌∙◌, subst, Ok}
 use Rattle.std.proofs.lemmas.List.{append-nil, append_assoc, length-append}
-use Rattle.wb_wire.specs.Below.wb_edit.edit.Edit.{Edit}
-use Rattle.wb_wire.specs.Below.wb_history.Past.{Numbered}
-use Rattle.wb_wire.specs.Below.wb_proto.Requests.{request}
-use Rattle.wb_wire.specs.Below.wb_proto.request.Request.TheVariants.{Change}
+use Rattle.wb_proto.specs.Below.wb_edit.edit.Edit.{Edit}
+use Rattle.wb_proto.specs.Below.wb_history.Past.{Numbered}
+use Rattle.wb_proto.specs.Requests.{request}
+use Rattle.wb_proto.specs.declared.requests.request.Request.TheVariants.{Change}
 use Rattle.wb_wire.specs.Encoded.{request_line}
 use Rattle.wb_record.specs.Laws.{OneTextOneHistory}
-use Rattle.wb_wire.specs.Below.wb_history.Restored.{one_of}
+use Rattle.wb_proto.specs.Below.wb_history.Restored.{one_of}
 use Rattle.wb_record.specs.Text.{said, AreSaid, IsSaid}
 use Rattle.wb_record.specs.Lines.{marked_at, heading, below}
 use Rattle.wb_record.proofs.LastLine.{same_last}

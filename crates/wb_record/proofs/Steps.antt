@@ -2,12 +2,12 @@
 use Rattle.std.proofs.Common.{◌≡◌, ℕ, Bool, ◌<◌, List, [], ◌∷◌, ◌++◌, length, map, codes, reverse, refl, sym, ap, ◌∙◌, subst, Option, Some, None, ◌⊎◌, inl, inr}
 use Rattle.std.proofs.Common.{Ok, arith}
 use Rattle.std.proofs.lemmas.List.{append-nil, append_assoc, reverse-append, length-append, map-append}
-use Rattle.wb_wire.specs.Below.wb_edit.edit.Edit.{Edit}
-use Rattle.wb_wire.specs.Below.wb_history.Past.{Numbered}
-use Rattle.wb_wire.specs.Below.wb_history.Restored.{one_of}
+use Rattle.wb_proto.specs.Below.wb_edit.edit.Edit.{Edit}
+use Rattle.wb_proto.specs.Below.wb_history.Past.{Numbered}
+use Rattle.wb_proto.specs.Below.wb_history.Restored.{one_of}
 use Rattle.wb_lines.specs.Lines.{IsUnbroken}
-use Rattle.wb_wire.specs.Below.wb_proto.Requests.{request}
-use Rattle.wb_wire.specs.Below.wb_proto.request.Request.TheVariants.{Change}
+use Rattle.wb_proto.specs.Requests.{request}
+use Rattle.wb_proto.specs.declared.requests.request.Request.TheVariants.{Change}
 use Rattle.wb_wire.specs.Encoded.{request_line}
 use Rattle.wb_record.specs.Text.{said, AreSaid, IsSaid}
 use Rattle.wb_record.specs.Lines.{IsLastLine, marked_at, heading, below, ReadsEdits, ReadsHistory}

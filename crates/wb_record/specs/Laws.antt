@@ -1,7 +1,7 @@
 -- What the text of a history tells of it.
 use Rattle.std.specs.Prelude.{◌≡◌, ℕ, List}
-use Rattle.wb_wire.specs.Below.wb_history.Past.{Numbered, Past}
-use Rattle.wb_wire.specs.Below.wb_proto.Machine.{AnswersText}
+use Rattle.wb_proto.specs.Below.wb_history.Past.{Numbered, Past}
+use Rattle.wb_proto.specs.Machine.{AnswersText}
 use Rattle.wb_record.specs.Text.{history_text, AreAsked, IsHistory}
 
 -- Two histories with one text are the same history.

@@ -1,4 +1,3 @@
-pub mod Below
 pub mod Text
 pub mod Lines
 pub mod Laws

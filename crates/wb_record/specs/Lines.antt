@@ -3,7 +3,7 @@ use Rattle.std.specs.Prelude.{◌≡◌, ℕ, Bool, true, false, List, ◌∷◌
 use Rattle.std.specs.List.{flat_map}
 use Rattle.std.specs.Option.{option_map_or}
 use Rattle.selective_undo.specs.History.{replay}
-use Rattle.wb_wire.specs.Below.wb_history.Past.{Numbered, meant}
+use Rattle.wb_proto.specs.Below.wb_history.Past.{Numbered, meant}
 use Rattle.wb_lines.specs.Lines.{IsUnbroken}
 use Rattle.wb_literal.specs.Tokens.{after}
 use Rattle.wb_record.specs.Text.{said, objects_text, history_text, AreSaid}

@@ -1,13 +1,13 @@
 -- Which histories have a text.
 use Rattle.std.specs.Prelude.{◌≡◌, ℕ, List, [], ◌∷◌, Ok, ⊤}
 use Rattle.selective_undo.specs.History.{IsLegal}
-use Rattle.wb_wire.specs.Below.wb_edit.edit.Edit.{Edit}
-use Rattle.wb_wire.specs.Below.wb_history.Past.{Numbered, meant}
-use Rattle.wb_wire.specs.Below.wb_proto.Requests.{request}
-use Rattle.wb_wire.specs.Below.wb_proto.request.Request.TheVariants.{Change}
+use Rattle.wb_proto.specs.Below.wb_edit.edit.Edit.{Edit}
+use Rattle.wb_proto.specs.Below.wb_history.Past.{Numbered, meant}
+use Rattle.wb_proto.specs.Requests.{request}
+use Rattle.wb_proto.specs.declared.requests.request.Request.TheVariants.{Change}
 use Rattle.wb_wire.specs.Encoded.{request_line}
 use Rattle.wb_wire.specs.Proper.{IsProperRequest}
-pub use Rattle.wb_wire.specs.Below.wb_encode.Text.{mark, said, edit_line, objects_text, history_text}
+pub use Rattle.wb_proto.specs.Below.wb_encode.Text.{mark, said, edit_line, objects_text, history_text}
 
 -- a line can say the edit: its canonical request is read as its request
 abbrev pub IsSaid : Edit → Type 0

@@ -11,5 +11,3 @@ mod reading;
 
 pub use crate::printed::print_history;
 pub use crate::reading::{HistoryErr, read_history};
-pub use wb_wire;
-pub use wb_wire::{wb_edit, wb_encode, wb_history, wb_log, wb_proto, wb_reading, wb_text};

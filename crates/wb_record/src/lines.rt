@@ -1,19 +1,19 @@
 //! The edits of a history's text, read from its last line up.
 ghost use Rattle.std.specs.Prelude.{◌≡◌, ℕ, ◌+◌, ◌<◌, List, [], ◌∷◌, ◌++◌, length, drop, reverse, IfOk, IfSome, OnOk, Some, Ok, option_map, codes};
-ghost use Rattle.wb_wire.specs.Below.wb_edit.edit.Edit as command;
-ghost use Rattle.wb_wire.specs.Below.wb_history.Restored.{marked};
-ghost use Rattle.wb_wire.specs.Below.wb_proto.Requests.{request};
-ghost use Rattle.wb_wire.specs.Below.wb_proto.request.Request.TheVariants.{Change};
+ghost use Rattle.wb_proto.specs.Below.wb_edit.edit.Edit as command;
+ghost use Rattle.wb_proto.specs.Below.wb_history.Restored.{marked};
+ghost use Rattle.wb_proto.specs.Requests.{request};
+ghost use Rattle.wb_proto.specs.declared.requests.request.Request.TheVariants.{Change};
 ghost use Rattle.wb_record.specs.Text.{AreAsked};
 ghost use Rattle.wb_record.specs.Lines.{IsLastLine, marked_at, ReadsEdits, ReadsHistory};
 
 use memchr::memrchr;
 use std::alloc::Global;
 use wb_literal::after;
+use wb_proto::wb_edit::Edit;
+use wb_proto::wb_history::Refusal;
+use wb_proto::{Request, read_request};
 use wb_range::NoMemory;
-use wb_wire::wb_edit::Edit;
-use wb_wire::wb_history::Refusal;
-use wb_wire::wb_proto::{Request, read_request};
 
 fn after_place(bytes: &[u8], at: usize) -> &[u8]
     requires { at < length bytes.now }

@@ -3,8 +3,8 @@ ghost use Rattle.std.specs.Prelude.{◌≡◌, IfOk, OnOk, string_bytes};
 ghost use Rattle.wb_record.specs.Text.{history_text, AreSaid, AreProper, AreAsked, IsHistory};
 
 use std::alloc::Global;
+use wb_proto::wb_history::History;
 use wb_range::NoMemory;
-use wb_wire::wb_history::History;
 
 /// The text of a history: the line `chapel-workbook 2`, the lines of its workbook's objects, how many edits there are,
 /// a line for each edit with its mark, and the line `end`. `NoMemory` where none is left. The line of each edit is read as
@@ -16,5 +16,5 @@ pub fn print_history(alloc: Global, history: &History) -> Result<String, NoMemor
     ensures asked { OnOk result (AreAsked history.now.entries → IsHistory history.now.entries) }
 {
     let _legal = history.book();
-    wb_wire::wb_encode::print_history(alloc, history)
+    wb_proto::wb_encode::print_history(alloc, history)
 }

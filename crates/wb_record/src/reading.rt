@@ -1,17 +1,17 @@
 //! A history from its text.
 ghost use Rattle.std.specs.Prelude.{◌≡◌, List, IfOk, IfErr, IfSome, IfNone};
-ghost use Rattle.wb_wire.specs.Below.wb_history.Past.{Numbered};
-ghost use Rattle.wb_wire.specs.Below.wb_history.Restored.{IsCounted, marked};
+ghost use Rattle.wb_proto.specs.Below.wb_history.Past.{Numbered};
+ghost use Rattle.wb_proto.specs.Below.wb_history.Restored.{IsCounted, marked};
 ghost use Rattle.wb_record.specs.Text.{history_text, AreAsked, IsHistory, IsNoHistory};
 
 use crate::lines::read_edits;
 use crate::printed::print_history;
 use std::alloc::Global;
 use thiserror::Error;
+use wb_proto::wb_edit::Edit;
+use wb_proto::wb_history::{History, RestoreErr};
 use wb_range::NoMemory;
 use wb_redist::Mover;
-use wb_wire::wb_edit::Edit;
-use wb_wire::wb_history::{History, RestoreErr};
 
 /// Why a text is not read.
 #[derive(Clone, Copy, Debug, PartialEq, Eq, Error)]

@@ -1,4 +1,3 @@
-pub mod Below
 pub mod Table
 pub mod Spelled
 pub mod Faults

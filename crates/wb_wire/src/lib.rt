@@ -9,5 +9,3 @@ mod objects;
 mod requests;
 
 pub use crate::requests::{edit_text, request_text};
-pub use wb_proto;
-pub use wb_proto::{wb_edit, wb_encode, wb_history, wb_log, wb_reading, wb_text};

@@ -5,10 +5,10 @@ use std::alloc::Global;
 use std::sync::Wait;
 use std::thread;
 use std::thread::Threads;
-use wb_program::wb_history::Answer;
-use wb_program::wb_record::wb_proto::Reply;
-use wb_program::wb_shared::{Desk, Opening, Pass};
+use wb_proto::Reply;
+use wb_proto::wb_history::Answer;
 use wb_redist::Mover;
+use wb_shared::{Desk, Opening, Pass};
 
 /// What each seat does.
 #[derive(Clone, Copy, Debug, PartialEq, Eq)]

@@ -3,8 +3,8 @@
 use std::alloc::Global;
 use std::process::Abort;
 use std::test::Fail;
-use wb_program::wb_record::wb_proto::{Request, read_request};
-use wb_program::wb_record::wb_wire::{edit_text, request_text};
+use wb_proto::{Request, read_request};
+use wb_wire::{edit_text, request_text};
 
 // Lines, each with the canonical line of its request.
 const LINES: [(&str, &str); 19] = [

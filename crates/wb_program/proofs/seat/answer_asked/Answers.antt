@@ -1,11 +1,11 @@
 -- The reply stood, and its text found no memory.
 use Rattle.std.proofs.Common.{List, ℕ, ◌⊎◌, inr, refl}
-use Rattle.wb_record.specs.Below.wb_history.Past.{Past}
+use Rattle.wb_proto.specs.Below.wb_history.Past.{Past}
 use Rattle.wb_lines.specs.Session.{MayAnswer}
-use Rattle.wb_record.specs.Below.wb_proto.Replies.{reply_of}
-use Rattle.wb_record.specs.Below.wb_proto.Requests.{request}
-use Rattle.wb_record.specs.Below.wb_proto.reply.Reply.{Reply}
-use Rattle.wb_shared.specs.Below.wb_journal.Serving.{Held}
+use Rattle.wb_proto.specs.Replies.{reply_of}
+use Rattle.wb_proto.specs.Requests.{request}
+use Rattle.wb_proto.specs.declared.replies.reply.Reply.{Reply}
+use Rattle.wb_journal.specs.Serving.{Held}
 use Rattle.wb_program.specs.Serving.{RepliesIfRead, NothingAsked, AnswersSeat}
 use Rattle.wb_program.proofs.seat.answer_asked.Goals as goal
 

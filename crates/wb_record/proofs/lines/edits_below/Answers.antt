@@ -1,10 +1,10 @@
 use Rattle.std.proofs.Common.{◌≡◌, ◌∙◌, Bool, IfSome, Ok, Some, [], ◌∷◌, ap, subst, sym}
 use Rattle.std.proofs.lemmas.List.{map-append}
-use Rattle.wb_wire.specs.Below.wb_edit.edit.Edit.{Edit}
-use Rattle.wb_wire.specs.Below.wb_history.Past.{pair_back}
-use Rattle.wb_wire.specs.Below.wb_history.Restored.{marked}
-use Rattle.wb_wire.specs.Below.wb_proto.Requests.{request}
-use Rattle.wb_wire.specs.Below.wb_proto.request.Request.TheVariants.{Change}
+use Rattle.wb_proto.specs.Below.wb_edit.edit.Edit.{Edit}
+use Rattle.wb_proto.specs.Below.wb_history.Past.{pair_back}
+use Rattle.wb_proto.specs.Below.wb_history.Restored.{marked}
+use Rattle.wb_proto.specs.Requests.{request}
+use Rattle.wb_proto.specs.declared.requests.request.Request.TheVariants.{Change}
 use Rattle.wb_record.specs.Text.{AreAsked}
 use Rattle.wb_record.specs.Lines.{ReadsEdits}
 use Rattle.wb_record.proofs.Asked.{asked_with, asked_reverse}

@@ -1,5 +1,5 @@
 use Rattle.std.proofs.Common.{length}
-use Rattle.wb_wire.specs.Below.wb_history.Restored.{marked}
+use Rattle.wb_proto.specs.Below.wb_history.Restored.{marked}
 use Rattle.wb_record.specs.Text.{AreAsked}
 use Rattle.wb_record.proofs.Steps.{Left}
 use Rattle.wb_record.proofs.lines.edits_below.Given as goal

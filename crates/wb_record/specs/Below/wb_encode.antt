@@ -1,1 +1,0 @@
-pub use Rattle.wb_wire.specs.Below.wb_encode.Text
