@@ -6,6 +6,7 @@
 
 mod asked_rectangle;
 mod attempt_err;
+pub mod below;
 mod commands;
 mod edit;
 mod footprint;
@@ -28,5 +29,3 @@ pub use crate::operation::Operation;
 pub use crate::planning::{PlanErr, plan};
 pub use crate::read_run::ReadRun;
 pub use crate::refusal::Refusal;
-pub use wb_reading;
-pub use wb_reading::{wb_shelf, wb_text};

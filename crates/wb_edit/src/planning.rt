@@ -12,7 +12,7 @@ use crate::footprint::Footprint;
 use crate::refusal::Refusal;
 use std::alloc::Global;
 use wb_book::Delta;
-use wb_reading::wb_shelf::Book;
+use wb_reading::below::shelf::Book;
 
 /// Why there is no plan.
 #[derive(Drop)]

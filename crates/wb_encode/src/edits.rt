@@ -18,7 +18,7 @@ use crate::sources::reshaped;
 use serde_json::Value;
 use std::alloc::{AllocError, Global};
 use wb_book::{AnyLayout, AnyRect, Name};
-use wb_history::wb_edit::{AskedRectangle, Edit};
+use wb_history::below::edit::{AskedRectangle, Edit};
 use wb_range::NoMemory;
 
 fn rectangular_on(

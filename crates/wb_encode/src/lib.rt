@@ -4,6 +4,7 @@
 //! Its tests are in the crate `wb_tests`.
 #![tactic(auto)]
 
+pub mod below;
 mod edits;
 mod literals;
 mod objects;
@@ -14,5 +15,3 @@ pub use crate::edits::{edit_text, edit_value, line_of};
 pub use crate::literals::index_value;
 pub use crate::objects::{index_of_domain, of_domain};
 pub use crate::printed::print_history;
-pub use wb_history;
-pub use wb_history::{wb_edit, wb_log, wb_reading, wb_text};

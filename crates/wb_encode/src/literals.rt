@@ -10,8 +10,8 @@ ghost use Rattle.wb_encode.specs.Table.{type_word, operation_word};
 use serde_json::{Value, json};
 use std::alloc::{AllocError, Global};
 use wb_book::{AnyIndex, AnyLayout, AnyRect, Index, KeyType};
-use wb_history::wb_edit::Operation;
-use wb_history::wb_text::{push_any_layout, push_any_rect, push_set};
+use wb_history::below::edit::Operation;
+use wb_history::below::text::{push_any_layout, push_any_rect, push_set};
 use wb_resize::Operand;
 
 /// The canonical literal of a rectangle.

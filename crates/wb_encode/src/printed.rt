@@ -8,9 +8,9 @@ use crate::edits::edit_text;
 use std::alloc::{AllocError, Global};
 use std::fmt::Write;
 use wb_history::History;
-use wb_history::wb_edit::Edit;
-use wb_history::wb_shelf::Book;
-use wb_history::wb_text::print_book;
+use wb_history::below::edit::Edit;
+use wb_history::below::shelf::Book;
+use wb_history::below::text::print_book;
 use wb_range::NoMemory;
 
 // The lines of objects within the text of a workbook.

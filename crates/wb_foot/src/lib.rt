@@ -5,6 +5,7 @@
 //! names; to touch a cell is to touch its family too.
 #![tactic(auto)]
 
+pub mod below;
 mod blockers;
 mod blocks;
 mod cell_lists;
@@ -31,5 +32,3 @@ mod swept;
 pub use crate::foot_index::FootIndex;
 pub use crate::numbers::Numbers;
 pub use crate::swept::SweptCells;
-pub use wb_edit;
-pub use wb_edit::{wb_reading, wb_shelf, wb_text};

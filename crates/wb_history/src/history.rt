@@ -15,8 +15,8 @@ use crate::query::{Answer, Query, count_answer, element_of, force_answer, size_o
 use crate::reduction::reduce_answer;
 use std::alloc::Global;
 use std::marker::Model;
-use wb_log::wb_edit::Edit;
-use wb_log::wb_shelf::Book;
+use wb_log::below::edit::Edit;
+use wb_log::below::shelf::Book;
 use wb_log::{Index, LentEdit, Record, Refusal, steps};
 use wb_range::NoMemory;
 use wb_redist::Mover;

@@ -15,5 +15,4 @@ pub use crate::history::History;
 pub use crate::piece::Piece;
 pub use crate::query::{Answer, Query};
 pub use crate::restore::RestoreErr;
-pub use wb_log;
-pub use wb_log::{LentEdit, Refusal, wb_edit, wb_reading, wb_shelf, wb_text};
+pub use wb_log::{LentEdit, Refusal, below};

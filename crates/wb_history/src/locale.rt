@@ -6,15 +6,15 @@ ghost use Rattle.wb_history.specs.Locales.{where_answer, locale_answer};
 use crate::query::Answer;
 use wb_book::{AnyIndex, Cell, Name};
 use wb_log::Refusal;
-use wb_log::wb_edit::judgements;
-use wb_log::wb_shelf::Book;
+use wb_log::below::edit::judgements;
+use wb_log::below::shelf::Book;
 
 /// The locale of an index of a domain, or why it lies on none.
 pub(crate) fn locale_of(
     book: &Book,
     domain: Name,
     index: AnyIndex,
-) -> Result<usize, wb_log::wb_edit::Refusal>
+) -> Result<usize, wb_log::below::edit::Refusal>
     ensures { result ≡ where_answer book.now.cells domain index }
 {
     let kind = judgements::domain_kind(book.get(&Cell::Object(domain)))?;
@@ -24,7 +24,7 @@ pub(crate) fn locale_of(
 }
 
 pub(crate) fn locale_answer(
-    found: Result<usize, wb_log::wb_edit::Refusal>,
+    found: Result<usize, wb_log::below::edit::Refusal>,
 ) -> Result<Answer, Refusal>
     ensures { result ≡ locale_answer found }
 {

@@ -11,8 +11,8 @@ use std::alloc::Global;
 use std::marker::Model;
 use wb_book::{AnyIndex, Cell, Name};
 use wb_log::Refusal;
-use wb_log::wb_edit::judgements;
-use wb_log::wb_shelf::{AsIndex, Book, Pairs};
+use wb_log::below::edit::judgements;
+use wb_log::below::shelf::{AsIndex, Book, Pairs};
 use wb_range::NoMemory;
 
 /// The elements of an array on one locale, each after its index, ascending by index. Contracts see the list of them.
@@ -123,7 +123,7 @@ pub(crate) fn piece_answer(
         Err(why) => return Err(Refusal::Refused(why)),
     }
     match book.piece(&array, locale as usize) {
-        None => Err(Refusal::Refused(wb_log::wb_edit::Refusal::OutOfDomain)),
+        None => Err(Refusal::Refused(wb_log::below::edit::Refusal::OutOfDomain)),
         Some(pairs) => match piece_of(alloc, pairs) {
             Ok(piece) => Ok(Answer::Piece(piece)),
             Err(_) => Err(Refusal::NoMemory),

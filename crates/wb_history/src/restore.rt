@@ -6,7 +6,7 @@ use crate::history::History;
 use std::alloc::Global;
 use thiserror::Error;
 use wb_log::Refusal;
-use wb_log::wb_edit::Edit;
+use wb_log::below::edit::Edit;
 use wb_redist::Mover;
 
 /// Why a list of edits gives no history.

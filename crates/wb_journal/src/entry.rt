@@ -9,8 +9,8 @@ ghost use Rattle.wb_journal.specs.Serving.{entry};
 use std::alloc::Global;
 use std::marker::Model;
 use wb_book::{AnyIndex, Name};
-use wb_proto::wb_edit::Edit;
-use wb_proto::wb_history::{Answer, Query};
+use wb_proto::below::edit::Edit;
+use wb_proto::below::history::{Answer, Query};
 use wb_proto::{Reply, Request};
 use wb_range::NoMemory;
 

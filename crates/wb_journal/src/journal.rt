@@ -12,7 +12,7 @@ use crate::settling::{Cause, first_cause};
 use std::alloc::Global;
 use std::marker::Model;
 use std::sync::ledger::Ledger;
-use wb_proto::wb_history::{History, Refusal};
+use wb_proto::below::history::{History, Refusal};
 use wb_proto::{Reply, Request};
 use wb_range::NoMemory;
 use wb_redist::Mover;

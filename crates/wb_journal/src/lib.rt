@@ -1,6 +1,7 @@
 //! The journal of a desk: what was asked and replied, the passes of the seats, and whether both agree.
 #![tactic(auto)]
 
+pub mod below;
 mod counted;
 mod entry;
 mod journal;
@@ -13,5 +14,3 @@ pub use crate::entry::{CountedEdits, Entry, Form, LentEntry, NewElement, ReadEle
 pub use crate::journal::Journal;
 pub use crate::pass::Pass;
 pub use crate::settling::Cause;
-pub use wb_proto;
-pub use wb_proto::wb_history;

@@ -10,7 +10,7 @@ ghost use Rattle.wb_journal.specs.Serving.{entry};
 
 use crate::entry::{Entry, Record, is_of_numbers, small_record};
 use std::alloc::Global;
-use wb_proto::wb_history::{History, Refusal};
+use wb_proto::below::history::{History, Refusal};
 use wb_proto::{EditNumbers, Reply, Request, answer_request};
 use wb_range::NoMemory;
 use wb_redist::Mover;

@@ -14,7 +14,7 @@ ghost use Rattle.wb_log.specs.Records.{lent_footprint};
 use crate::entry::{LentFootprint, Record};
 use crate::steps::making::is_same;
 use wb_book::{Cell, Changes, Pattern};
-use wb_foot::wb_edit::ReadRun;
+use wb_foot::below::edit::ReadRun;
 
 fn is_changed(wrote: &Changes, cell: &Cell) -> bool
     ensures { result ≡ changes cell_cmp wrote.now cell.now }

@@ -13,7 +13,7 @@ ghost use Rattle.wb_log.specs.Records.{element_reads, copy_reads, implicit_reads
 use std::alloc::Global;
 use std::marker::Model;
 use wb_book::{AnyCell, AnyIndex, Cell, CellChange, Changes, Inverse, Name, Pattern, Value};
-use wb_foot::wb_edit::{Edit, Footprint, ReadRun};
+use wb_foot::below::edit::{Edit, Footprint, ReadRun};
 use wb_range::NoMemory;
 
 /// What an edit in force read, and what takes it back.

@@ -16,5 +16,4 @@ pub use crate::entry::{
 };
 pub use crate::index::Index;
 pub use crate::refusal::Refusal;
-pub use wb_foot;
-pub use wb_foot::{wb_edit, wb_reading, wb_shelf, wb_text};
+pub use wb_foot::below;

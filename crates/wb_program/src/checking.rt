@@ -10,7 +10,7 @@ use crate::running::{DONE, INPUT_OR_OUTPUT_FAILED, NO_MEMORY};
 use std::alloc::{AllocError, Global};
 use std::str::from_utf8;
 use wb_lines::{LineFault, Sink, Source, read_all, send};
-use wb_proto::wb_reading::{BookErr, read_book};
+use wb_proto::below::reading::{BookErr, read_book};
 use wb_range::NoMemory;
 use wb_record::{HistoryErr, read_history};
 use wb_redist::Mover;

@@ -8,8 +8,8 @@ ghost use Rattle.wb_program.specs.Running.{status_of, HasFailed, ServesFromEmpty
 
 use std::alloc::Global;
 use wb_lines::{SessionEnd, Sink, Source};
+use wb_proto::below::history::History;
 use wb_proto::session;
-use wb_proto::wb_history::History;
 use wb_redist::Mover;
 
 /// The exit status of a session that was answered to its end.

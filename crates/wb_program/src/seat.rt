@@ -11,7 +11,7 @@ use std::alloc::{AllocError, Global};
 use std::marker::PhantomData;
 use std::sync::Wait;
 use wb_lines::{Asks, Machine, Sink, Source, serve_turns};
-use wb_proto::wb_history::Refusal;
+use wb_proto::below::history::Refusal;
 use wb_proto::{Reply, Request, read_request, reply_text};
 use wb_redist::Mover;
 use wb_shared::{Desk, Opening, Pass, Turn};

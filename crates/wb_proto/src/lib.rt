@@ -3,6 +3,7 @@
 //! Its tests are in the crate `wb_tests`.
 #![tactic(auto)]
 
+pub mod below;
 mod replies;
 mod requests;
 mod serving;
@@ -15,5 +16,3 @@ pub use crate::requests::reading::read_request;
 pub use crate::requests::request::Request;
 pub use crate::serving::lines::session;
 pub use crate::serving::steps::answer_request;
-pub use wb_encode;
-pub use wb_encode::{wb_edit, wb_history, wb_log, wb_reading, wb_text};

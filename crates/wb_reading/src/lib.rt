@@ -4,6 +4,7 @@
 //! that was given. So a text is read just where it is the text of a workbook.
 #![tactic(auto)]
 
+pub mod below;
 mod text;
 
 ghost use Rattle.std.specs.Prelude.{◌≡◌, ◌≢◌, true, false, Some, None, IfOk, IfErr, IfSome, IfNone, map, option_map};
@@ -16,9 +17,7 @@ pub use crate::text::{BookText, laws};
 use std::alloc::Global;
 use thiserror::Error;
 use wb_range::NoMemory;
-pub use wb_text;
-pub use wb_text::wb_shelf;
-use wb_text::wb_shelf::Book;
+use wb_text::below::shelf::Book;
 use wb_text::{ObjectLine, print_book, read_lines, rebuild};
 
 /// Why a text is not read.

@@ -10,8 +10,8 @@ ghost use Rattle.wb_record.specs.Lines.{IsLastLine, marked_at, ReadsEdits, Reads
 use memchr::memrchr;
 use std::alloc::Global;
 use wb_literal::after;
-use wb_proto::wb_edit::Edit;
-use wb_proto::wb_history::Refusal;
+use wb_proto::below::edit::Edit;
+use wb_proto::below::history::Refusal;
 use wb_proto::{Request, read_request};
 use wb_range::NoMemory;
 

@@ -3,7 +3,7 @@ ghost use Rattle.std.specs.Prelude.{◌≡◌, IfOk, OnOk, string_bytes};
 ghost use Rattle.wb_record.specs.Text.{history_text, AreSaid, AreProper, AreAsked, IsHistory};
 
 use std::alloc::Global;
-use wb_proto::wb_history::History;
+use wb_proto::below::history::History;
 use wb_range::NoMemory;
 
 /// The text of a history: the line `chapel-workbook 2`, the lines of its workbook's objects, how many edits there are,
@@ -16,5 +16,5 @@ pub fn print_history(alloc: Global, history: &History) -> Result<String, NoMemor
     ensures asked { OnOk result (AreAsked history.now.entries → IsHistory history.now.entries) }
 {
     let _legal = history.book();
-    wb_proto::wb_encode::print_history(alloc, history)
+    wb_proto::below::encode::print_history(alloc, history)
 }

@@ -8,8 +8,8 @@ use crate::lines::read_edits;
 use crate::printed::print_history;
 use std::alloc::Global;
 use thiserror::Error;
-use wb_proto::wb_edit::Edit;
-use wb_proto::wb_history::{History, RestoreErr};
+use wb_proto::below::edit::Edit;
+use wb_proto::below::history::{History, RestoreErr};
 use wb_range::NoMemory;
 use wb_redist::Mover;
 

@@ -10,8 +10,8 @@ use crate::opening::Opening;
 use std::alloc::Global;
 use std::marker::Model;
 use std::sync::ledger::Share;
-use wb_journal::wb_history::History;
-use wb_journal::wb_proto::{Reply, Request};
+use wb_journal::below::history::History;
+use wb_journal::below::proto::{Reply, Request};
 use wb_journal::{Cause, Counted, Pass};
 use wb_redist::Mover;
 

@@ -9,7 +9,7 @@ use crate::shared::{Shared, serve};
 use std::cell::Cell;
 use std::sync::{MutexGuard, Wait};
 use wb_journal::Pass;
-use wb_journal::wb_proto::{Reply, Request};
+use wb_journal::below::proto::{Reply, Request};
 use wb_redist::Mover;
 
 /// A turn at a desk. It takes the desk's lock for its first request, and holds it until it is let go. It has to be ended.

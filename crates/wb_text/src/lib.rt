@@ -6,6 +6,7 @@
 //! Its tests are in the crate `wb_tests`.
 #![tactic(auto)]
 
+pub mod below;
 mod books;
 pub mod laws;
 mod lines;
@@ -26,4 +27,3 @@ pub use crate::said::ObjectLine;
 pub use crate::workbook::{
     indices_of, places_of, points_of, put, put_presents, put_stored, rebuild,
 };
-pub use wb_shelf;

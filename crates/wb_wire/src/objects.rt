@@ -7,7 +7,7 @@ ghost use Rattle.wb_proto.specs.Below.wb_encode.Values.{index_data};
 use serde_json::{Value, json};
 use std::alloc::{AllocError, Global};
 use wb_book::{AnyIndex, Name};
-use wb_proto::wb_encode::index_value;
+use wb_proto::below::encode::index_value;
 
 /// `a`, `i`.
 pub(crate) fn element(alloc: Global, a: &Name, i: &AnyIndex) -> Result<Value, AllocError>

@@ -14,7 +14,7 @@ use wb_program::{
     BAD_COMMAND_LINE, DONE, INPUT_OR_OUTPUT_FAILED, NO_MEMORY, PutBack, check_with, history_from,
     resume_with, run_with, serve_history, serve_on, upgrade_with,
 };
-use wb_proto::wb_history::History;
+use wb_proto::below::history::History;
 use wb_redist::{Crew, Mover};
 
 fn main(rt: HostRuntime) -> io::Result<ExitCode> {

@@ -9,7 +9,7 @@ use crate::looks::resizing::has_members;
 use crate::looks::{judgements, one_cell};
 use std::alloc::Global;
 use wb_book::{AnyDomain, AnyIndex, Cell, Delta, Name, Value};
-use wb_reading::wb_shelf::Book;
+use wb_reading::below::shelf::Book;
 
 /// A new index of a sparse or associative domain.
 pub(crate) fn plan_add(

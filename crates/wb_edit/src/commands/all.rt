@@ -19,7 +19,7 @@ use crate::operation::Operation;
 use crate::refusal::Refusal;
 use std::alloc::Global;
 use wb_book::{AnyIndex, AnyRect, Delta, Name, Row};
-use wb_reading::wb_shelf::Book;
+use wb_reading::below::shelf::Book;
 
 /// Each element of an array becomes what it and another array's element at the same index make.
 pub(crate) fn plan_all(

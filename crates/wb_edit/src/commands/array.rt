@@ -11,7 +11,7 @@ use crate::looks::indices::{Indices, domain_indices};
 use crate::looks::one_cell;
 use std::alloc::Global;
 use wb_book::{Binding, Cell, Delta, Kind, Name, Value};
-use wb_reading::wb_shelf::Book;
+use wb_reading::below::shelf::Book;
 
 /// A new array over a domain.
 pub(crate) fn plan_array(

@@ -12,7 +12,7 @@ use crate::footprint::Footprint;
 use crate::looks::one_cell;
 use std::alloc::Global;
 use wb_book::{AnyDomain, Cell, Delta, DomainKind, KeyType, Name, Value};
-use wb_reading::wb_shelf::Book;
+use wb_reading::below::shelf::Book;
 
 /// A new associative domain.
 pub(crate) fn plan_assoc(

@@ -9,7 +9,7 @@ use crate::looks::implicit::{ArrayRef, element_or_implicit};
 use crate::looks::{judgements, numbers, one_cell};
 use std::alloc::Global;
 use wb_book::{AnyIndex, Delta, Name};
-use wb_reading::wb_shelf::Book;
+use wb_reading::below::shelf::Book;
 
 /// An element that is another one and a number more.
 pub(crate) fn plan_copy(

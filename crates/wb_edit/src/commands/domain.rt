@@ -10,7 +10,7 @@ use crate::indexed_cells::IndexedCells;
 use crate::looks::{layouts, one_cell, rectangles};
 use std::alloc::Global;
 use wb_book::{AnyDomain, AnyLayout, AnyRect, Cell, Delta, DomainKind, Name, Value};
-use wb_reading::wb_shelf::Book;
+use wb_reading::below::shelf::Book;
 
 /// A new rectangular domain.
 pub(crate) fn plan_domain(

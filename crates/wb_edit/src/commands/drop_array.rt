@@ -11,7 +11,7 @@ use crate::looks::indices::Indices;
 use crate::looks::{elements, one_cell};
 use std::alloc::Global;
 use wb_book::{Cell, Delta, Name};
-use wb_reading::wb_shelf::Book;
+use wb_reading::below::shelf::Book;
 
 /// The end of an array.
 pub(crate) fn plan_drop_array(

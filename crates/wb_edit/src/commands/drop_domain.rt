@@ -14,7 +14,7 @@ use crate::looks::one_cell;
 use crate::looks::users::unused;
 use std::alloc::Global;
 use wb_book::{AnyDomain, Cell, Delta, DomainKind, Name};
-use wb_reading::wb_shelf::Book;
+use wb_reading::below::shelf::Book;
 
 /// The end of a domain.
 pub(crate) fn plan_drop_domain(

@@ -14,7 +14,7 @@ use crate::indexed_cells::IndexedCells;
 use crate::looks::{one_cell, rectangles};
 use std::alloc::Global;
 use wb_book::{AnyRect, Delta, Name, Value};
-use wb_reading::wb_shelf::Book;
+use wb_reading::below::shelf::Book;
 
 /// One number at the indices of a rectangle.
 pub(crate) fn plan_fill(

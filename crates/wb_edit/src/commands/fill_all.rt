@@ -14,7 +14,7 @@ use crate::looks::indices::Indices;
 use crate::looks::{elements, one_cell};
 use std::alloc::Global;
 use wb_book::{Delta, Name, Value};
-use wb_reading::wb_shelf::Book;
+use wb_reading::below::shelf::Book;
 
 /// One number as every element of an array.
 pub(crate) fn plan_fill_all(

@@ -11,7 +11,7 @@ use crate::footprint::Footprint;
 use crate::looks::{kinds, one_cell};
 use std::alloc::Global;
 use wb_book::{Cell, Delta, Name, Value};
-use wb_reading::wb_shelf::Book;
+use wb_reading::below::shelf::Book;
 
 /// A new implicit value.
 pub(crate) fn plan_irv(

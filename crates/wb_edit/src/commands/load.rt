@@ -12,7 +12,7 @@ use std::alloc::Global;
 use std::collections::BTreeMap;
 use wb_book::{Cell, Delta, Value};
 use wb_reading::BookText;
-use wb_reading::wb_shelf::Book;
+use wb_reading::below::shelf::Book;
 
 /// The workbook of a text.
 pub(crate) fn plan_load(

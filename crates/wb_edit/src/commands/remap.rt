@@ -11,7 +11,7 @@ use crate::footprint::Footprint;
 use crate::looks::{kinds, layouts, one_cell};
 use std::alloc::Global;
 use wb_book::{AnyLayout, Cell, Delta, Name, Value};
-use wb_reading::wb_shelf::Book;
+use wb_reading::below::shelf::Book;
 
 /// A new mapping of a rectangular domain.
 pub(crate) fn plan_remap(

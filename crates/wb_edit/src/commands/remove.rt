@@ -10,7 +10,7 @@ use crate::looks::users::{arrays, uses};
 use crate::looks::{judgements, one_cell};
 use std::alloc::Global;
 use wb_book::{AnyDomain, AnyIndex, Cell, Delta, Name, Value};
-use wb_reading::wb_shelf::Book;
+use wb_reading::below::shelf::Book;
 
 /// The end of an index of a sparse or associative domain.
 pub(crate) fn plan_remove(

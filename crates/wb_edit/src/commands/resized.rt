@@ -17,7 +17,7 @@ use crate::footprint::Footprint;
 use crate::looks::resizing::{all_in_parent, fills};
 use std::alloc::Global;
 use wb_book::{AnyDomain, AnyIndex, Delta, Name};
-use wb_reading::wb_shelf::Book;
+use wb_reading::below::shelf::Book;
 
 /// Indices leave a sparse or associative domain and others come to it.
 pub(crate) fn plan_resized(

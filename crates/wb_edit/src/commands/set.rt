@@ -11,7 +11,7 @@ use crate::footprint::Footprint;
 use crate::looks::{judgements, one_cell};
 use std::alloc::Global;
 use wb_book::{AnyIndex, Cell, Delta, Name, Value};
-use wb_reading::wb_shelf::Book;
+use wb_reading::below::shelf::Book;
 
 /// A new element.
 pub(crate) fn plan_set(

@@ -13,7 +13,7 @@ use crate::footprint::Footprint;
 use crate::looks::{kinds, one_cell};
 use std::alloc::Global;
 use wb_book::{AnyDomain, Binding, Cell, Delta, DomainKind, Name, Value};
-use wb_reading::wb_shelf::Book;
+use wb_reading::below::shelf::Book;
 
 /// A new sparse domain in a rectangular one.
 pub(crate) fn plan_sparse(

@@ -15,7 +15,7 @@ use crate::refusal::Refusal;
 use std::alloc::Global;
 use wb_book::{AnyIndex, Name, Pattern};
 use wb_range::NoMemory;
-use wb_reading::wb_shelf::Book;
+use wb_reading::below::shelf::Book;
 
 /// All elements of an array are looked at, whether or not they are listed.
 pub(crate) fn look_at_elements(footprint: &mut Footprint, array: Name) -> Result<(), AttemptErr>

@@ -12,7 +12,7 @@ use crate::looks::numbers::element_or_refusal;
 use crate::looks::one_cell::read;
 use crate::refusal::Refusal;
 use wb_book::{AnyIndex, Cell, DomainKind, Kind, Name, Value};
-use wb_reading::wb_shelf::Book;
+use wb_reading::below::shelf::Book;
 
 /// That an array over a domain of this kind has an implicit value of its own; `OutOfDomain` where it has none.
 pub fn has_implicit(kind: &Kind) -> Result<(), Refusal>

@@ -16,7 +16,7 @@ use crate::looks::one_cell::read;
 use std::alloc::Global;
 use wb_book::{AnyDomain, AnyIndex, AnyRect, Cell, DomainKind, Name, Pattern, members_in};
 use wb_range::NoMemory;
-use wb_reading::wb_shelf::Book;
+use wb_reading::below::shelf::Book;
 
 /// The indices of a domain, in its order.
 #[derive(Drop)]

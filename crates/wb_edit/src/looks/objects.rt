@@ -10,7 +10,7 @@ use crate::attempt_err::{AttemptErr, stopped};
 use crate::footprint::Footprint;
 use crate::refusal::Refusal;
 use wb_book::Pattern;
-use wb_reading::wb_shelf::Book;
+use wb_reading::below::shelf::Book;
 
 // That a look at all objects shows none; `NotEmpty` where it shows one.
 fn is_empty(book: &Book) -> Result<(), Refusal>

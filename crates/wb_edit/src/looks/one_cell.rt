@@ -10,7 +10,7 @@ use crate::attempt_err::{AttemptErr, stopped};
 use crate::footprint::Footprint;
 use crate::looks::judgements;
 use wb_book::{AnyCell, AnyDomain, AnyIndex, Cell, Kind, Name, Pattern, Value};
-use wb_reading::wb_shelf::Book;
+use wb_reading::below::shelf::Book;
 
 /// What a cell holds.
 pub(crate) fn read(

@@ -17,7 +17,7 @@ use crate::attempt_err::{AttemptErr, stopped};
 use crate::footprint::Footprint;
 use crate::refusal::Refusal;
 use wb_book::{AnyCell, AnyIndex, AnyRect, Cell, Kind, Name, Pattern, Row};
-use wb_reading::wb_shelf::Book;
+use wb_reading::below::shelf::Book;
 
 /// The ranges of the rectangle that is asked for; `WrongKind` where a set is in its place.
 pub fn ranges_of(asked: &AskedRectangle) -> Result<AnyRect, Refusal>

@@ -14,7 +14,7 @@ use crate::looks::one_cell::read;
 use crate::looks::rectangles::is_present;
 use crate::refusal::Refusal;
 use wb_book::{AnyIndex, AnyRect, Cell, Name, Value};
-use wb_reading::wb_shelf::Book;
+use wb_reading::below::shelf::Book;
 
 /// The ranges that a cell holds; `WrongKind` where it holds none.
 pub fn shape_in(shape: Option<Value>) -> Result<AnyRect, Refusal>

@@ -19,7 +19,7 @@ use crate::looks::users::{arrays, uses};
 use crate::refusal::Refusal;
 use std::alloc::{AllocError, Global};
 use wb_book::{AnyCell, AnyDomain, AnyIndex, Cell, DomainKind, Name, Pattern, Value};
-use wb_reading::wb_shelf::Book;
+use wb_reading::below::shelf::Book;
 
 /// That a domain is sparse or associative; `WrongKind` where it is rectangular.
 pub fn has_members(kind: &AnyDomain) -> Result<(), Refusal>

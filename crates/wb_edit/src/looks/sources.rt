@@ -22,7 +22,7 @@ use std::alloc::Global;
 use wb_assoc::Assoc;
 use wb_book::{AnyIndex, AnyRect, KeyType, Kind, Name, Point};
 use wb_range::Domain;
-use wb_reading::wb_shelf::Book;
+use wb_reading::below::shelf::Book;
 use wb_rect::RectErr;
 use wb_resize::new_rectangles::displaced;
 use wb_resize::{Displacement, Operand};

@@ -15,7 +15,7 @@ use crate::footprint::Footprint;
 use crate::refusal::Refusal;
 use std::alloc::{AllocError, Global};
 use wb_book::{Binding, Cell, Name, Pattern, Value};
-use wb_reading::wb_shelf::Book;
+use wb_reading::below::shelf::Book;
 
 // How a value says that an object is bound, if it does.
 fn binding_in(value: &Value) -> Option<Binding>

@@ -14,7 +14,7 @@ use crate::sweep::needing;
 use std::alloc::Global;
 use wb_book::Changes;
 use wb_foot::FootIndex;
-use wb_foot::wb_edit::Footprint;
+use wb_foot::below::edit::Footprint;
 use wb_range::NoMemory;
 
 /// An index of the footprints of the first `entered` edits.

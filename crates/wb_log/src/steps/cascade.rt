@@ -12,7 +12,7 @@ use crate::entry::Record;
 use crate::index::Index;
 use crate::refusal::Refusal;
 use crate::steps::undo::undo_at;
-use wb_foot::wb_shelf::Book;
+use wb_foot::below::shelf::Book;
 use wb_range::NoMemory;
 use wb_redist::Mover;
 

@@ -15,8 +15,8 @@ use crate::refusal::Refusal;
 use crate::steps::making::make;
 use std::alloc::Global;
 use wb_book::Delta;
-use wb_foot::wb_edit::{Edit, Footprint, PlanErr, plan};
-use wb_foot::wb_shelf::Book;
+use wb_foot::below::edit::{Edit, Footprint, PlanErr, plan};
+use wb_foot::below::shelf::Book;
 use wb_range::NoMemory;
 use wb_redist::Mover;
 

@@ -11,8 +11,8 @@ ghost use Rattle.wb_log.specs.Records.{shown, kept_of, number_before};
 use crate::entry::{Entry, Form, Kept, Record};
 use std::alloc::Global;
 use wb_book::{Cell, Changes, Delta, Pattern, Value};
-use wb_foot::wb_edit::{Edit, Footprint};
-use wb_foot::wb_shelf::Book;
+use wb_foot::below::edit::{Edit, Footprint};
+use wb_foot::below::shelf::Book;
 use wb_range::NoMemory;
 use wb_redist::Mover;
 

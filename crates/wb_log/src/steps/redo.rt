@@ -16,8 +16,8 @@ use crate::refusal::Refusal;
 use crate::steps::making::make;
 use std::alloc::Global;
 use wb_book::{Changes, Delta};
-use wb_foot::wb_edit::{Footprint, PlanErr, plan};
-use wb_foot::wb_shelf::Book;
+use wb_foot::below::edit::{Footprint, PlanErr, plan};
+use wb_foot::below::shelf::Book;
 use wb_range::NoMemory;
 use wb_redist::Mover;
 

@@ -9,7 +9,7 @@ ghost use Rattle.wb_log.specs.Replies.{UndoReply, LastReply, SetsBack, LeavesOth
 use crate::entry::Record;
 use crate::index::Index;
 use crate::refusal::Refusal;
-use wb_foot::wb_shelf::Book;
+use wb_foot::below::shelf::Book;
 use wb_redist::Mover;
 
 /// Whether an edit may not be undone.

@@ -10,7 +10,7 @@ use serde_json::json;
 use std::alloc::{AllocError, Global};
 use std::fmt::Write;
 use wb_book::{AnyIndex, Index};
-use wb_encode::wb_history::Piece;
+use wb_encode::below::history::Piece;
 
 // Integers, each after a comma.
 fn push_more_integers(out: &mut String, rest: &[i64]) -> Result<(), AllocError>

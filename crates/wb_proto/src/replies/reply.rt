@@ -4,7 +4,7 @@ ghost use Rattle.std.specs.Bool.{Decides};
 use crate::replies::edit_numbers::EditNumbers;
 use crate::replies::printed_text::PrintedText;
 use std::alloc::Global;
-use wb_encode::wb_history::{Answer, Refusal};
+use wb_encode::below::history::{Answer, Refusal};
 use wb_range::NoMemory;
 
 /// What a request is answered.

@@ -13,45 +13,45 @@ use crate::replies::pieces::piece_text;
 use crate::replies::reply::Reply;
 use serde_json::{Value, json};
 use std::alloc::{AllocError, Global};
-use wb_encode::wb_history::{Answer, Refusal};
+use wb_encode::below::history::{Answer, Refusal};
 use wb_range::NoMemory;
 
 // Room for the reply to most lines and its line end, so that it need not grow.
 const SHORT: usize = 64;
 
-fn edit_code(refusal: wb_encode::wb_edit::Refusal) -> &'static str
+fn edit_code(refusal: wb_encode::below::edit::Refusal) -> &'static str
     ensures { result.now ≡ edit_code refusal }
 {
     match refusal {
-        wb_encode::wb_edit::Refusal::NameTaken => "E03",
-        wb_encode::wb_edit::Refusal::NoSuchName => "E04",
-        wb_encode::wb_edit::Refusal::WrongKind => "E05",
-        wb_encode::wb_edit::Refusal::OutOfDomain => "E06",
-        wb_encode::wb_edit::Refusal::OutOfParent => "E07",
-        wb_encode::wb_edit::Refusal::InUse => "E08",
-        wb_encode::wb_edit::Refusal::TooLarge => "E09",
-        wb_encode::wb_edit::Refusal::Overflow => "E10",
-        wb_encode::wb_edit::Refusal::BadMapping => "E15",
-        wb_encode::wb_edit::Refusal::NotEmpty => "E17",
-        wb_encode::wb_edit::Refusal::Empty => "E18",
+        wb_encode::below::edit::Refusal::NameTaken => "E03",
+        wb_encode::below::edit::Refusal::NoSuchName => "E04",
+        wb_encode::below::edit::Refusal::WrongKind => "E05",
+        wb_encode::below::edit::Refusal::OutOfDomain => "E06",
+        wb_encode::below::edit::Refusal::OutOfParent => "E07",
+        wb_encode::below::edit::Refusal::InUse => "E08",
+        wb_encode::below::edit::Refusal::TooLarge => "E09",
+        wb_encode::below::edit::Refusal::Overflow => "E10",
+        wb_encode::below::edit::Refusal::BadMapping => "E15",
+        wb_encode::below::edit::Refusal::NotEmpty => "E17",
+        wb_encode::below::edit::Refusal::Empty => "E18",
     }
 }
 
-fn edit_name(refusal: wb_encode::wb_edit::Refusal) -> &'static str
+fn edit_name(refusal: wb_encode::below::edit::Refusal) -> &'static str
     ensures { result.now ≡ edit_name refusal }
 {
     match refusal {
-        wb_encode::wb_edit::Refusal::NameTaken => "name-taken",
-        wb_encode::wb_edit::Refusal::NoSuchName => "no-such-name",
-        wb_encode::wb_edit::Refusal::WrongKind => "wrong-kind",
-        wb_encode::wb_edit::Refusal::OutOfDomain => "out-of-domain",
-        wb_encode::wb_edit::Refusal::OutOfParent => "out-of-parent",
-        wb_encode::wb_edit::Refusal::InUse => "in-use",
-        wb_encode::wb_edit::Refusal::TooLarge => "too-large",
-        wb_encode::wb_edit::Refusal::Overflow => "overflow",
-        wb_encode::wb_edit::Refusal::BadMapping => "bad-mapping",
-        wb_encode::wb_edit::Refusal::NotEmpty => "not-empty",
-        wb_encode::wb_edit::Refusal::Empty => "empty",
+        wb_encode::below::edit::Refusal::NameTaken => "name-taken",
+        wb_encode::below::edit::Refusal::NoSuchName => "no-such-name",
+        wb_encode::below::edit::Refusal::WrongKind => "wrong-kind",
+        wb_encode::below::edit::Refusal::OutOfDomain => "out-of-domain",
+        wb_encode::below::edit::Refusal::OutOfParent => "out-of-parent",
+        wb_encode::below::edit::Refusal::InUse => "in-use",
+        wb_encode::below::edit::Refusal::TooLarge => "too-large",
+        wb_encode::below::edit::Refusal::Overflow => "overflow",
+        wb_encode::below::edit::Refusal::BadMapping => "bad-mapping",
+        wb_encode::below::edit::Refusal::NotEmpty => "not-empty",
+        wb_encode::below::edit::Refusal::Empty => "empty",
     }
 }
 

@@ -13,8 +13,8 @@ use crate::requests::request::Request;
 use serde_json::Value;
 use std::alloc::Global;
 use wb_book::Name;
-use wb_encode::wb_edit::{AskedRectangle, Edit};
-use wb_encode::wb_history::Refusal;
+use wb_encode::below::edit::{AskedRectangle, Edit};
+use wb_encode::below::history::Refusal;
 use wb_literal::DomainLiteral;
 
 /// A new array.

@@ -8,9 +8,9 @@ use crate::requests::fields::{has_fields, text_field};
 use crate::requests::request::Request;
 use serde_json::Value;
 use std::alloc::Global;
-use wb_encode::wb_edit::Edit;
-use wb_encode::wb_history::Refusal;
-use wb_encode::wb_reading::{BookErr, BookText, read_text};
+use wb_encode::below::edit::Edit;
+use wb_encode::below::history::Refusal;
+use wb_encode::below::reading::{BookErr, BookText, read_text};
 
 fn text_of_book(alloc: Global, text: &str) -> Result<BookText, Refusal>
     ensures { IsAnswer (text_of_book text.now) result }

@@ -9,8 +9,8 @@ ghost use Rattle.wb_proto.specs.Fields.{operation_field, reduction_of, reduction
 use serde_json::Value;
 use wb_assoc::Label;
 use wb_book::{AnyIndex, Index, KeyType, Name, Point};
-use wb_encode::wb_edit::Operation;
-use wb_encode::wb_history::Refusal;
+use wb_encode::below::edit::Operation;
+use wb_encode::below::history::Refusal;
 use wb_redist::Op;
 
 /// How many fields an object has.

@@ -7,7 +7,7 @@ ghost use Rattle.wb_proto.specs.Literals.{literal_domain, literal_mapping, optio
 
 use std::alloc::Global;
 use wb_book::{AnyLayout, AnyRect};
-use wb_encode::wb_history::Refusal;
+use wb_encode::below::history::Refusal;
 use wb_limits::LimitErr;
 use wb_literal::{DomainLiteral, MappingLiteral, RectangleLiteral, read_domain, read_mapping};
 
@@ -46,8 +46,8 @@ fn refusal_of_limit(why: LimitErr) -> Refusal
     ensures { result ≡ refusal_of_limit why }
 {
     match why {
-        LimitErr::TooLarge => Refusal::Refused(wb_encode::wb_edit::Refusal::TooLarge),
-        LimitErr::BadMapping => Refusal::Refused(wb_encode::wb_edit::Refusal::BadMapping),
+        LimitErr::TooLarge => Refusal::Refused(wb_encode::below::edit::Refusal::TooLarge),
+        LimitErr::BadMapping => Refusal::Refused(wb_encode::below::edit::Refusal::BadMapping),
     }
 }
 

@@ -6,7 +6,7 @@ ghost use Rattle.wb_proto.specs.Requests.{get_of, where_of, size_of, piece_of, r
 use crate::requests::fields::{has_fields, index_field, name_field, reduction_field, u64_field};
 use crate::requests::request::Request;
 use serde_json::Value;
-use wb_encode::wb_history::{Query, Refusal};
+use wb_encode::below::history::{Query, Refusal};
 
 /// The element at an index.
 pub(crate) fn get_of(value: &Value) -> Result<Request, Refusal>

@@ -18,7 +18,7 @@ use crate::requests::request::Request;
 use crate::requests::sets::{add_of, assoc_of, remove_of, sparse_of};
 use serde_json::{Category, Error, Value};
 use std::alloc::Global;
-use wb_encode::wb_history::Refusal;
+use wb_encode::below::history::Refusal;
 
 fn undo_by_number(value: &Value) -> Result<Request, Refusal>
     ensures { result ≡ undo_by_number (view value.now) }

@@ -2,8 +2,8 @@ ghost use Rattle.std.specs.Prelude.{◌≡◌, IfOk};
 ghost use Rattle.std.specs.Bool.{Decides};
 
 use std::alloc::Global;
-use wb_encode::wb_edit::Edit;
-use wb_encode::wb_history::Query;
+use wb_encode::below::edit::Edit;
+use wb_encode::below::history::Query;
 use wb_range::NoMemory;
 
 /// What a user asks for.

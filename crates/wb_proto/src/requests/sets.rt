@@ -6,8 +6,8 @@ ghost use Rattle.wb_proto.specs.Requests.{sparse_of, assoc_of, add_of, remove_of
 use crate::requests::fields::{has_fields, index_field, key_type_field, name_field};
 use crate::requests::request::Request;
 use serde_json::Value;
-use wb_encode::wb_edit::Edit;
-use wb_encode::wb_history::Refusal;
+use wb_encode::below::edit::Edit;
+use wb_encode::below::history::Refusal;
 
 /// A new sparse domain.
 pub(crate) fn sparse_of(value: &Value) -> Result<Request, Refusal>

@@ -14,7 +14,7 @@ use crate::requests::literals::{domain_within, literal_domain};
 use serde_json::Value;
 use std::alloc::Global;
 use wb_book::{Index, Point};
-use wb_encode::wb_history::Refusal;
+use wb_encode::below::history::Refusal;
 use wb_limits::listed_in;
 use wb_literal::{DomainLiteral, SetLiteral};
 use wb_range::NoMemory;

@@ -7,7 +7,7 @@ ghost use Rattle.wb_proto.specs.Machine.{AnswersText};
 
 use crate::serving::machine::{HistoryMachine, answer_line};
 use std::alloc::{AllocError, Global};
-use wb_encode::wb_history::History;
+use wb_encode::below::history::History;
 use wb_lines::{SessionEnd, Sink, Source, serve_lines};
 use wb_redist::Mover;
 

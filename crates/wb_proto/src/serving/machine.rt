@@ -9,7 +9,7 @@ use crate::replies::text::reply_text;
 use crate::requests::reading::read_request;
 use crate::serving::steps::answer_request;
 use std::alloc::{AllocError, Global};
-use wb_encode::wb_history::History;
+use wb_encode::below::history::History;
 use wb_lines::Machine;
 use wb_redist::Mover;
 

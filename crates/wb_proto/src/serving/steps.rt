@@ -7,10 +7,10 @@ use crate::replies::printed_text::PrintedText;
 use crate::replies::reply::Reply;
 use crate::requests::request::Request;
 use std::alloc::Global;
+use wb_encode::below::edit::Edit;
+use wb_encode::below::history::{History, Query, Refusal};
+use wb_encode::below::text::print_book;
 use wb_encode::print_history;
-use wb_encode::wb_edit::Edit;
-use wb_encode::wb_history::{History, Query, Refusal};
-use wb_encode::wb_text::print_book;
 use wb_redist::Mover;
 
 fn make_edit<M: Mover>(history: &mut History, edit: Edit, mover: &M) -> Reply

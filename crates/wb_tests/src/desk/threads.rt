@@ -6,7 +6,7 @@ use std::sync::Wait;
 use std::thread;
 use std::thread::Threads;
 use wb_proto::Reply;
-use wb_proto::wb_history::Answer;
+use wb_proto::below::history::Answer;
 use wb_redist::Mover;
 use wb_shared::{Desk, Opening, Pass};
 

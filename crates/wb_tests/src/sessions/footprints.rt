@@ -3,7 +3,7 @@
 use std::process::Abort;
 use std::test::Fail;
 use wb_book::{AnyCell, AnyIndex, Cell, CellChange, Changes, Index, Name, Pattern, Point};
-use wb_proto::wb_log::wb_foot::FootIndex;
+use wb_foot::FootIndex;
 
 fn element(array: Name, i: i64) -> Cell {
     Cell::Element(array, AnyIndex::new(Index::Point(Point::single(i))))

@@ -6,8 +6,8 @@ use crate::sessions::scripts::play;
 use std::marker::PhantomData;
 use std::test::Fail;
 use wb_book::Name;
-use wb_proto::wb_history::History;
-use wb_proto::wb_history::wb_shelf::Book;
+use wb_proto::below::history::History;
+use wb_proto::below::shelf::Book;
 use wb_range::NoMemory;
 use wb_redist::Crew;
 

@@ -10,7 +10,7 @@ use crate::footprint::Footprint;
 use crate::looks::one_cell::domain_named;
 use std::alloc::Global;
 use wb_book::{AnyDomain, Delta, DomainKind, Name};
-use wb_reading::wb_shelf::Book;
+use wb_reading::below::shelf::Book;
 use wb_resize::NewIndices;
 
 fn plan_reshape_kind(

@@ -8,7 +8,7 @@ use crate::footprint::Footprint;
 use crate::looks::one_cell::domain_named;
 use crate::refusal::Refusal;
 use wb_book::Delta;
-use wb_reading::wb_shelf::Book;
+use wb_reading::below::shelf::Book;
 use wb_resize::Operand;
 
 /// There is no such source for the domain; a name that is given is tested first.

@@ -22,7 +22,7 @@ use crate::looks::sources::{gives_set, indices_given};
 use std::alloc::Global;
 use wb_book::{AnyDomain, AnyIndex, Cell, Delta, DomainKind, KeyType, Kind, Name};
 use wb_range::NoMemory;
-use wb_reading::wb_shelf::Book;
+use wb_reading::below::shelf::Book;
 use wb_resize::set_operations::without;
 use wb_resize::{Operand, SetOperation};
 

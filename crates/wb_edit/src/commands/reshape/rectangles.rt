@@ -12,7 +12,7 @@ use crate::looks::reshaping::shape;
 use crate::looks::sources::{displacement_of, gives_rectangle, ranges_given, same_rank, slice_of};
 use std::alloc::Global;
 use wb_book::{AnyRect, Delta, Name, Point};
-use wb_reading::wb_shelf::Book;
+use wb_reading::below::shelf::Book;
 use wb_resize::new_rectangles::left_out;
 use wb_resize::{Displacement, NewIndices, Operand};
 

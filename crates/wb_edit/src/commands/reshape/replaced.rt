@@ -14,7 +14,7 @@ use crate::looks::resizing::zeros;
 use crate::looks::users::{arrays, sparse_domains, uses};
 use std::alloc::Global;
 use wb_book::{AnyIndex, AnyRect, Cell, Delta, Kind, Name, Value};
-use wb_reading::wb_shelf::Book;
+use wb_reading::below::shelf::Book;
 
 /// A rectangular domain gets new ranges, so that indices leave it and others come to it.
 pub(crate) fn plan_replaced(

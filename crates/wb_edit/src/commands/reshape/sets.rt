@@ -15,7 +15,7 @@ use crate::looks::sources::{gives_set, indices_given};
 use crate::refusal::Refusal;
 use std::alloc::Global;
 use wb_book::{AnyDomain, AnyIndex, Delta, DomainKind, KeyType, Name};
-use wb_reading::wb_shelf::Book;
+use wb_reading::below::shelf::Book;
 use wb_resize::set_operations::without;
 use wb_resize::{NewIndices, Operand};
 

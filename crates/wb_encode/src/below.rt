@@ -1,0 +1,7 @@
+//! What is named above of the crates below, by crates that list this one and not those.
+
+pub use wb_history::below::{edit, reading, shelf, text};
+
+pub mod history {
+    pub use wb_history::{Answer, History, Piece, Query, Refusal, RestoreErr};
+}

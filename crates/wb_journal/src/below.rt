@@ -1,0 +1,7 @@
+//! What is named above of the crates below, by crates that list this one and not those.
+
+pub use wb_proto::below::history;
+
+pub mod proto {
+    pub use wb_proto::{Reply, Request};
+}
