@@ -2,6 +2,7 @@
 
 pub use wb_reading::below::{shelf, text};
 
+/// A workbook from its text.
 pub mod reading {
     pub use wb_reading::{BookErr, BookText, read_book, read_text};
 }

@@ -2,6 +2,7 @@
 
 pub use wb_history::below::{edit, reading, shelf, text};
 
+/// The history, with its questions and refusals.
 pub mod history {
     pub use wb_history::{Answer, History, Piece, Query, Refusal, RestoreErr};
 }

@@ -2,6 +2,7 @@
 
 pub use wb_edit::below::{reading, shelf, text};
 
+/// The edits: what they ask for, plan, read and refuse, and the looks that questions share with them.
 pub mod edit {
     pub use wb_edit::{
         AskedRectangle, Edit, Footprint, Operation, PlanErr, ReadRun, Refusal, element_or_refusal,

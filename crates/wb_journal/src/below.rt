@@ -2,6 +2,7 @@
 
 pub use wb_proto::below::history;
 
+/// Requests and replies.
 pub mod proto {
     pub use wb_proto::{Reply, Request};
 }

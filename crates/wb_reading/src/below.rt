@@ -2,6 +2,7 @@
 
 pub use wb_text::below::shelf;
 
+/// The texts of a workbook and of its parts.
 pub mod text {
     pub use wb_text::{print_book, push_any_layout, push_any_rect, push_set};
 }
