@@ -5,14 +5,10 @@ ghost use Rattle.wb_edit.specs.Plans.{one_of};
 ghost use Rattle.wb_edit.specs.Reads.{all_read};
 
 use crate::read_run::{ReadRun, put, put_rectangle};
-use smallvec::SmallVec;
 use std::alloc::Global;
 use std::marker::Model;
 use wb_book::{AnyRect, Pattern, Row};
 use wb_range::NoMemory;
-
-/// So many patterns take no memory of their own.
-const FEW: usize = 2;
 
 /// So many are kept as they are; those behind them go into runs.
 const MOST: usize = 8;
@@ -20,7 +16,7 @@ const MOST: usize = 8;
 /// The footprint of an edit: what it read, in order. Contracts see the list of its patterns.
 pub struct Footprint {
     alloc: Global,
-    first: SmallVec<Pattern, FEW>,
+    first: Vec<Pattern>,
     rest: Vec<ReadRun>,
 }
 
@@ -52,7 +48,7 @@ impl Footprint {
     {
         Footprint {
             alloc,
-            first: SmallVec::new(alloc),
+            first: Vec::new(alloc),
             rest: Vec::new(alloc),
         }
     }

@@ -2,9 +2,7 @@
 
 pub use wb_encode::below::{edit, history, reading, shelf, text};
 
-/// What a history and its edits are written as.
+/// What a history is written as.
 pub mod encode {
-    pub use wb_encode::{
-        edit_text, edit_value, index_of_domain, index_value, line_of, of_domain, print_history,
-    };
+    pub use wb_encode::print_history;
 }

@@ -24,7 +24,7 @@ use Rattle.wb_proto.specs.Below.wb_text.ReadIndices.{AreWithin}
 use Rattle.wb_proto.specs.Below.wb_text.Parsed.Back.Mappings.{literal_of_mapping, mapping_spelled, mapping_back}
 use Rattle.wb_proto.specs.Below.wb_text.Parsed.Back.Ranges.{literal_of_all, rectangle_spelled, domain_back, short}
 use Rattle.wb_proto.specs.Below.wb_text.Parsed.Back.Sets as sets
-use Rattle.wb_proto.specs.Below.wb_encode.Values.{integer_data, point_data, index_data}
+use Rattle.wb_encode.specs.Values.{integer_data, point_data, index_data}
 use Rattle.wb_proto.specs.declared.requests.request.Request.{Request}
 use Rattle.wb_wire.specs.Table.{Meaning, word, name, integer, number, index, given, mapping, optional_mapping, book, some_set}
 use Rattle.wb_wire.specs.Table.{Fields, table}

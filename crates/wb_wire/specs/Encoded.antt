@@ -4,7 +4,7 @@ use Rattle.serde_json.specs.Data.{Data, object}
 use Rattle.serde_json.specs.Written.{compact_text}
 use Rattle.wb_proto.specs.declared.requests.request.Request.{Request}
 use Rattle.wb_wire.specs.Table.{table}
-pub use Rattle.wb_proto.specs.Below.wb_encode.Encoded.{given_text, data_of, members_of}
+pub use Rattle.wb_encode.specs.Encoded.{given_text, data_of, members_of}
 
 -- the canonical object of a request
 abbrev pub request_data : Request → Data

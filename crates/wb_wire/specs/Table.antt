@@ -1,15 +1,15 @@
 -- The requests of the protocol, one line each: the members that a request's JSON object has, keys ascending, and what the
 -- value of each has to spell.
 use Rattle.std.specs.Prelude.{ℕ, List, [], ◌∷◌, codes, Some, None}
-use Rattle.wb_proto.specs.Below.wb_encode.Table.{edit_table}
+use Rattle.wb_encode.specs.Table.{edit_table}
 use Rattle.wb_proto.specs.Below.wb_history.query.Query.TheVariants.{Get, Size, Where, Piece, Reduce, State}
 use Rattle.wb_redist.specs.declared.reduction.Op.{Op}
 use Rattle.wb_redist.specs.declared.reduction.Op.TheVariants as reductions
 use Rattle.wb_proto.specs.declared.requests.request.Request.{Request}
 use Rattle.wb_proto.specs.declared.requests.request.Request.TheVariants.{Change, Undo, Redo, Cascade, Dependents, Ask, Print, History, Edits}
-pub use Rattle.wb_proto.specs.Below.wb_encode.Table.{Meaning, word, name, integer, number, index}
-pub use Rattle.wb_proto.specs.Below.wb_encode.Table.{given, mapping, optional_mapping, book, some_set}
-pub use Rattle.wb_proto.specs.Below.wb_encode.Table.{Fields, op, type_word, operation_word}
+pub use Rattle.wb_encode.specs.Table.{Meaning, word, name, integer, number, index}
+pub use Rattle.wb_encode.specs.Table.{given, mapping, optional_mapping, book, some_set}
+pub use Rattle.wb_encode.specs.Table.{Fields, op, type_word, operation_word}
 
 abbrev pub reduction_word : Op → List ℕ
 reduction_word reductions.Sum = codes "+"

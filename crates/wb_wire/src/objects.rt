@@ -2,12 +2,12 @@
 ghost use Rattle.std.specs.Prelude.{◌≡◌, [], ◌∷◌, codes, IfOk, string_bytes};
 ghost use Rattle.serde_json.specs.Data.{object, number, unsigned, string, member, no_members};
 ghost use Rattle.serde_json.specs.View.{view};
-ghost use Rattle.wb_proto.specs.Below.wb_encode.Values.{index_data};
+ghost use Rattle.wb_encode.specs.Values.{index_data};
 
 use serde_json::{Value, json};
 use std::alloc::{AllocError, Global};
 use wb_book::{AnyIndex, Name};
-use wb_proto::below::encode::index_value;
+use wb_encode::index_value;
 
 /// `a`, `i`.
 pub(crate) fn element(alloc: Global, a: &Name, i: &AnyIndex) -> Result<Value, AllocError>

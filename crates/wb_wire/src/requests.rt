@@ -10,9 +10,9 @@ ghost use Rattle.wb_wire.specs.Table.{reduction_word};
 use crate::objects::{by_number, element, piece, plain, reduction};
 use serde_json::Value;
 use std::alloc::{AllocError, Global};
+use wb_encode::{edit_value, index_of_domain, line_of, of_domain};
 use wb_proto::Request;
 use wb_proto::below::edit::Edit;
-use wb_proto::below::encode::{edit_value, index_of_domain, line_of, of_domain};
 use wb_proto::below::history::Query;
 use wb_range::NoMemory;
 use wb_redist::Op;
@@ -76,5 +76,5 @@ pub fn edit_text(alloc: Global, edit: &Edit) -> Result<String, NoMemory>
     ensures text { IfOk result (λ s. string_bytes s ≡ request_line (Change edit.now)) }
     ensures read_back { IfOk result (λ s. IsProperRequest (Change edit.now) → request (string_bytes s) ≡ Ok (Change edit.now)) }
 {
-    wb_proto::below::encode::edit_text(alloc, edit)
+    wb_encode::edit_text(alloc, edit)
 }

@@ -1,6 +1,7 @@
 //! `workbook`: a shared workbook of whole-number arrays with selective undo, one JSON line a request.
 #![tactic(auto)]
 
+use smallvec::SmallVec;
 use std::alloc::Global;
 use std::env;
 use std::io::{self, BufWriter, Write};
@@ -16,6 +17,9 @@ use wb_program::{
 };
 use wb_proto::below::history::History;
 use wb_redist::{Crew, Mover};
+
+/// The words of most command lines: so many are lent without memory of their own.
+const FEW: usize = 8;
 
 fn main(rt: HostRuntime) -> io::Result<ExitCode> {
     let done = match asked(&rt) {
@@ -49,13 +53,13 @@ fn asked(rt: &HostRuntime) -> io::Result<Result<Asked, u8>> {
     for word in env::args(rt)? {
         words.push(word).map_err(|_| io::ErrorKind::OutOfMemory)?;
     }
-    let mut texts = Vec::new(alloc);
+    let mut texts: SmallVec<&str, FEW> = SmallVec::new(alloc);
     for word in &words {
         texts
             .push(word.as_str())
             .map_err(|_| io::ErrorKind::OutOfMemory)?;
     }
-    match command_of(alloc, &texts) {
+    match command_of(alloc, texts.as_slice()) {
         Ok(asked) => Ok(Ok(asked)),
         Err(CommandErr::Help(error)) => {
             error.print(rt)?;

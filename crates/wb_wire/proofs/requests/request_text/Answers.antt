@@ -1,4 +1,4 @@
-use Rattle.wb_proto.specs.Below.wb_encode.Written.{line_is, line_json}
+use Rattle.wb_encode.proofs.Written.{line_is, line_json}
 use Rattle.wb_wire.specs.Table.{table}
 use Rattle.wb_wire.proofs.Written.{reads_back}
 use Rattle.wb_wire.proofs.requests.request_text.Goals as goal
