@@ -9,6 +9,7 @@ mod resuming;
 mod running;
 mod seat;
 mod serving;
+mod session;
 mod upgrading;
 
 pub use crate::checking::{REFUSED, Verdict, check_with, status_of_verdict, verdict_on};
@@ -19,4 +20,5 @@ pub use crate::running::{
 };
 pub use crate::seat::serve_seat;
 pub use crate::serving::{serve_history, serve_on};
+pub use crate::session::session;
 pub use crate::upgrading::upgrade_with;

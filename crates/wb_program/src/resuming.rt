@@ -9,12 +9,12 @@ ghost use Rattle.wb_program.specs.Resuming.{left_in, failed_in, reads_in, IsReco
 use crate::checking::{Verdict, say};
 use crate::put_back::PutBack;
 use crate::running::{INPUT_OR_OUTPUT_FAILED, NO_MEMORY, status_of};
+use crate::session::session;
 use memchr::memmem;
 use std::alloc::Global;
 use std::str::from_utf8;
 use wb_lines::{LineFault, READ_LIMIT, Sink, Source, read_all, read_more};
 use wb_proto::below::history::History;
-use wb_proto::session;
 use wb_range::NoMemory;
 use wb_record::{HistoryErr, read_history};
 use wb_redist::Mover;

@@ -6,10 +6,10 @@ ghost use Rattle.wb_lines.specs.Causes.{ReadsUntil, WritesUntil};
 ghost use Rattle.wb_lines.specs.declared.machine.SessionEnd.{SessionEnd};
 ghost use Rattle.wb_program.specs.Running.{status_of, HasFailed, ServesFromEmpty};
 
+use crate::session::session;
 use std::alloc::Global;
 use wb_lines::{SessionEnd, Sink, Source};
 use wb_proto::below::history::History;
-use wb_proto::session;
 use wb_redist::Mover;
 
 /// The exit status of a session that was answered to its end.

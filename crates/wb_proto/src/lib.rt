@@ -1,4 +1,4 @@
-//! Requests and replies as JSON lines, and sessions that answer one with the other.
+//! Requests and replies as JSON lines, and how a history answers one with the other.
 //!
 //! Its tests are in the crate `wb_tests`.
 #![tactic(auto)]
@@ -14,5 +14,5 @@ pub use crate::replies::reply::Reply;
 pub use crate::replies::text::reply_text;
 pub use crate::requests::reading::read_request;
 pub use crate::requests::request::Request;
-pub use crate::serving::lines::session;
+pub use crate::serving::lines::answer_line;
 pub use crate::serving::steps::answer_request;

@@ -1,37 +1,40 @@
-// Sessions over any reader and writer.
-ghost use Rattle.std.specs.Prelude.{ℕ, List, IfOk, OnErr};
-ghost use Rattle.std.specs.Io.KnownBytes.{Appends, Consumes};
-ghost use Rattle.wb_lines.specs.Causes.{ReadsUntil, WritesUntil};
-ghost use Rattle.wb_lines.specs.Session.{MayAnswer, Serves};
-ghost use Rattle.wb_proto.specs.Machine.{AnswersText};
+// A line answered by a history.
+ghost use Rattle.std.specs.Prelude.{◌⊎◌, ℕ, List, IfOk, OnErr};
+ghost use Rattle.wb_proto.specs.Machine.{StepIfRead, NothingDone, AnswersText};
+ghost use Rattle.wb_proto.specs.Requests.{request};
 
-use crate::serving::machine::{HistoryMachine, answer_line};
+use crate::replies::reply::Reply;
+use crate::replies::text::reply_text;
+use crate::requests::reading::read_request;
+use crate::serving::steps::answer_request;
 use std::alloc::{AllocError, Global};
 use wb_encode::below::history::History;
-use wb_lines::{SessionEnd, Sink, Source, serve_lines};
 use wb_redist::Mover;
 
-/// Answers each line that is read, in order, until the end of input or a fault: it writes exactly the texts of the
-/// replies, each with a line end, which are a run of the machine from the history as it was. Done comes only at the end
-/// of input, with the writer flushed; ReadFault only where the latest read failed, TooManyReads only after all reads that
-/// are allowed, and WriteFault only where the latest write or flush failed. At a fault a front of those texts was written,
-/// and the history is that after the lines answered whole, or after one more, whose reply was not sent whole.
-pub fn session<M: Mover, R: Source, W: Sink>(
+// The reply to a line.
+fn reply_to<M: Mover>(alloc: Global, history: &mut History, line: &[u8], mover: &M) -> Reply
+    ensures { StepIfRead history.old (request line.now) result history.new ⊎ NothingDone history.old result history.new }
+{
+    match read_request(alloc, line) {
+        Ok(request) => answer_request(alloc, history, request, mover),
+        Err(why) => Reply::Refused(why),
+    }
+}
+
+/// The text of the reply to a line, and the next history, a step of the machine; where there is no memory for the text, the step
+/// was made. It is what a session over a history answers by.
+pub fn answer_line<M: Mover>(
     alloc: Global,
     history: &mut History,
+    line: &[u8],
     mover: &M,
-    reader: &mut R,
-    writer: &mut W,
-) -> SessionEnd
-    ensures serves { (read : List ℕ) × Consumes (R.remaining reader.old) (R.remaining reader.new) read
-        × ((text : List ℕ) × Appends (W.contents writer.old) (W.contents writer.new) text
-        × Serves AnswersText result history.old read text history.new) }
-    ensures read { ReadsUntil result (R.remaining reader.new) (R.failed reader.new) (R.reads reader.old) (R.reads reader.new) }
-    ensures written { WritesUntil result (W.flushed writer.new) (W.failed writer.new) }
+) -> Result<Vec<u8>, AllocError>
+    ensures ok { IfOk result (λ reply. AnswersText history.old line.now reply.items history.new) }
+    ensures err { OnErr result ((reply : List ℕ) × AnswersText history.old line.now reply history.new) }
 {
-    let answer = |history: &mut History, line: &[u8]| -> Result<Vec<u8>, AllocError>
-        ensures ok { IfOk result (λ reply. AnswersText history.old line.now reply.items history.new) }
-        ensures err { OnErr result (MayAnswer AnswersText history.old line.now history.new) }
-    { answer_line(alloc, history, line, mover) };
-    serve_lines::<HistoryMachine, History, _, R, W>(alloc, history, &answer, reader, writer)
+    let reply = reply_to(alloc, history, line, mover);
+    match reply_text(alloc, &reply) {
+        Ok(text) => Ok(text.into_bytes()),
+        Err(_) => Err(AllocError),
+    }
 }

@@ -1,5 +1,4 @@
 //! Requests answered by a history, one after another.
 
 pub mod lines;
-pub mod machine;
 pub mod steps;

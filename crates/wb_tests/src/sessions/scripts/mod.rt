@@ -16,8 +16,8 @@ use std::io::{Read, Write};
 use std::process::Abort;
 use std::test::Fail;
 use wb_lines::{Input, Output, SessionEnd};
+use wb_program::session;
 use wb_proto::below::history::History;
-use wb_proto::session;
 use wb_redist::{Crew, Mover};
 
 const NO_MEMORY: &str = "{\"error\":\"E90\",\"name\":\"no-memory\"}\n";
