@@ -3,15 +3,16 @@
 //! status that comes of it.
 #![tactic(auto)]
 
+mod answering;
 mod checking;
 mod put_back;
 mod resuming;
 mod running;
 mod seat;
 mod serving;
-mod session;
 mod upgrading;
 
+pub use crate::answering::session;
 pub use crate::checking::{REFUSED, Verdict, check_with, status_of_verdict, verdict_on};
 pub use crate::put_back::PutBack;
 pub use crate::resuming::{history_from, resume_with};
@@ -20,5 +21,4 @@ pub use crate::running::{
 };
 pub use crate::seat::serve_seat;
 pub use crate::serving::{serve_history, serve_on};
-pub use crate::session::session;
 pub use crate::upgrading::upgrade_with;

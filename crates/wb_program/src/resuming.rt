@@ -6,10 +6,10 @@ ghost use Rattle.wb_program.specs.Checking.{IsNoRecord, IsFault};
 ghost use Rattle.wb_program.specs.Running.{HasFailed, HasFailedByNow};
 ghost use Rattle.wb_program.specs.Resuming.{left_in, failed_in, reads_in, IsRecord, IsUpToEnd, HasNoEnd, IsServed, IsResumed, IsOpening};
 
+use crate::answering::session;
 use crate::checking::{Verdict, say};
 use crate::put_back::PutBack;
 use crate::running::{INPUT_OR_OUTPUT_FAILED, NO_MEMORY, status_of};
-use crate::session::session;
 use memchr::memmem;
 use std::alloc::Global;
 use std::str::from_utf8;

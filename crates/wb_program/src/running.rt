@@ -6,7 +6,7 @@ ghost use Rattle.wb_lines.specs.Causes.{ReadsUntil, WritesUntil};
 ghost use Rattle.wb_lines.specs.declared.machine.SessionEnd.{SessionEnd};
 ghost use Rattle.wb_program.specs.Running.{status_of, HasFailed, ServesFromEmpty};
 
-use crate::session::session;
+use crate::answering::session;
 use std::alloc::Global;
 use wb_lines::{SessionEnd, Sink, Source};
 use wb_proto::below::history::History;

@@ -21,32 +21,33 @@ pub(crate) enum Work {
     Adds,
 }
 
+// The line of a round, where `@` stands for the seat and `#` for a number of its own, or nothing where the work is done.
+fn round_of(work: Work, round: u32) -> Option<&'static str> {
+    match (work, round) {
+        (Work::Sets, 0) => Some(r##"{"op":"domain","d":"D@","is":"{1..48}"}"##),
+        (Work::Sets, 1) => Some(r##"{"op":"array","a":"A@","d":"D@"}"##),
+        (Work::Sets, 2..=49) => Some(r##"{"op":"set","a":"A@","i":#,"v":#}"##),
+        (Work::Sets, 50) => Some(r##"{"op":"get","a":"A@","i":48}"##),
+        (Work::Adds, 0..=99) => Some(r##"{"op":"add","d":"N","i":#}"##),
+        _ => None,
+    }
+}
+
+// The number of a round: the place of an element, from 1, or a number that no other seat adds.
+fn number_of(work: Work, seat: usize, round: u32) -> usize {
+    match work {
+        Work::Adds => seat % 16 * 100 + round as usize,
+        _ => round.saturating_sub(1) as usize,
+    }
+}
+
 // The line that a seat asks in one of its rounds, or nothing where it is done.
 fn line_of(alloc: Global, work: Work, seat: usize, round: u32) -> Option<String> {
-    match work {
-        Work::Nothing => None,
-        Work::Sets if round == 0 => {
-            format!(in alloc; "{{\"op\":\"domain\",\"d\":\"D{seat}\",\"is\":\"{{1..48}}\"}}").ok()
-        }
-        Work::Sets if round == 1 => {
-            format!(in alloc; "{{\"op\":\"array\",\"a\":\"A{seat}\",\"d\":\"D{seat}\"}}").ok()
-        }
-        Work::Sets if round < 50 => {
-            let place = round - 1;
-            format!(in alloc;
-                "{{\"op\":\"set\",\"a\":\"A{seat}\",\"i\":{place},\"v\":{place}}}"
-            ).ok()
-        }
-        Work::Sets if round == 50 => {
-            format!(in alloc; "{{\"op\":\"get\",\"a\":\"A{seat}\",\"i\":48}}").ok()
-        }
-        Work::Sets => None,
-        Work::Adds if round < 100 => {
-            let value = seat % 16 * 100 + round as usize;
-            format!(in alloc; "{{\"op\":\"add\",\"d\":\"N\",\"i\":{value}}}").ok()
-        }
-        Work::Adds => None,
-    }
+    let line = round_of(work, round)?;
+    let number = number_of(work, seat, round).to_string(alloc).ok()?;
+    let seat = seat.to_string(alloc).ok()?;
+    let seated = line.replace(alloc, '@', seat.as_str()).ok()?;
+    seated.replace(alloc, '#', number.as_str()).ok()
 }
 
 // Does the work of one seat. Its pass, or nothing where a reply was another one.
