@@ -1,4 +1,4 @@
-ghost use Rattle.std.specs.Prelude.{◌≡◌, ◌≤◌, true, false, length, map, option_map, Err, IfOk, IfSome};
+ghost use Rattle.std.specs.Prelude.{◌≡◌, ◌≤◌, true, false, length, map, option_map, Err, IsSome, IfOk, IfSome};
 ghost use Rattle.std.specs.List.{zip};
 ghost use Rattle.wb_book.specs.Layouts.{is_of_rank};
 ghost use Rattle.std.specs.List.Sorted.{IsStrictlySortedBy};
@@ -11,7 +11,7 @@ ghost use Rattle.wb_elements.specs.Piecewise.Changed.{changed_at, all_set};
 ghost use Rattle.wb_elements.specs.Piecewise.Lent.{lent, piece_in};
 ghost use Rattle.wb_elements.specs.Piecewise.Indexed.{indexed, AllOf};
 ghost use Rattle.wb_elements.specs.Piecewise.Marked.{as_changes};
-ghost use Rattle.wb_elements.specs.Piecewise.Seen.{seen_of, IsKept};
+ghost use Rattle.wb_elements.specs.Piecewise.Seen.{seen_of, is_of_form, MayLie, IsKept};
 ghost use Rattle.wb_redist.specs.Reductions.{IsReduced};
 ghost use Rattle.wb_book.specs.declared.values.index.Index.{Index as any_index};
 ghost use Rattle.wb_book.specs.declared.values.index.Index.TheVariants.{Point as point_index};
@@ -180,7 +180,8 @@ impl Elements {
         }
     }
 
-    /// Elements by a mapping, for indices of a rank, 0 for texts: those that are given, with changes.
+    /// Elements by a mapping, for indices of a rank, 0 for texts: those that are given, with changes. What is given or removed
+    /// may have indices of another form, as long as no element stays at one.
     pub fn made(
         alloc: Global,
         old: &[(AnyIndex, i64)],
@@ -188,44 +189,38 @@ impl Elements {
         to: &AnyLayout,
         rank: u8,
     ) -> Result<Elements, NoMemory>
-        requires { IsStrictlySortedBy index_cmp (keys_of old.now) }
+        requires ascending { IsStrictlySortedBy index_cmp (keys_of old.now) }
+        requires may_lie { MayLie to.now rank }
+        requires formed { (i : any_index) → IsSome (changed_at changes.now (value_at index_cmp old.now i) i) → is_of_form rank i ≡ true }
         ensures elements { IfOk result (λ e. (i : any_index) → value_at index_cmp e.0 i ≡ changed_at changes.now (value_at index_cmp old.now i) i) }
         ensures lies { IfOk result (λ e. e.1 ≡ (to.now, rank)) }
     {
-        if rank == 1 && to.is_of_rank(1) {
+        if rank == 1 {
             let pieces = made(alloc, old, changes, &line_of(to))?;
             return Ok(Elements {
                 form: Form::Line(pieces),
                 ranges: None,
             });
         }
-        if rank == 2 && to.is_of_rank(2) {
+        if rank == 2 {
             let pieces = made(alloc, old, changes, &plane_of(to))?;
             return Ok(Elements {
                 form: Form::Plane(pieces),
                 ranges: None,
             });
         }
-        if rank == 3 && to.is_of_rank(3) {
+        if rank == 3 {
             let pieces = made(alloc, old, changes, &solid_of(to))?;
             return Ok(Elements {
                 form: Form::Solid(pieces),
                 ranges: None,
             });
         }
-        match to.laid() {
-            Laid::Whole => {
-                if rank == 0 {
-                    let pieces = made(alloc, old, changes, &Home::new())?;
-                    return Ok(Elements {
-                        form: Form::Text(pieces),
-                        ranges: None,
-                    });
-                }
-                Err(NoMemory)
-            }
-            _ => Err(NoMemory),
-        }
+        let pieces = made(alloc, old, changes, &Home::new())?;
+        Ok(Elements {
+            form: Form::Text(pieces),
+            ranges: None,
+        })
     }
 
     /// The ranges of the rectangle at whose indices the elements stand, one after another, if they are known.

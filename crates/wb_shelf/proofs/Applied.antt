@@ -1,5 +1,7 @@
 -- The workbook after changes, by what is kept of it then.
-use Rattle.std.proofs.Common.{◌≡◌, ℕ, Bool, true, false, cond, List, [], ◌∷◌, filter, Option, Some, None, is_some, IsSome, refl, sym, ap, subst, ◌∙◌}
+use Rattle.std.proofs.Common.{◌≡◌, ℕ, ◌≤◌, nat_lt, Bool, true, false, cond, ◌&&◌, List, [], ◌∷◌, length, filter, Option, Some, None, is_some, IsSome, refl, sym, ap, subst, ◌∙◌}
+use Rattle.std.proofs.Common.{arith}
+use Rattle.std.proofs.lemmas.Bool.{eq-eqb, lt-ltb}
 use Rattle.std.specs.BTreeMap.{BTreeMap, is_at}
 use Rattle.std.specs.Cmp.Lexicographic.{slice_cmp}
 use Rattle.std.specs.FinMap.{get}
@@ -9,9 +11,9 @@ use Rattle.std.specs.Option.{option_map, option_and_then}
 use Rattle.std.specs.Ordering.{nat_cmp, eq_by_cmp}
 use Rattle.selective_undo.specs.Changes.{applied, apply, changes}
 use Rattle.selective_undo.proofs.Changes.{get-put, is_itself, apply_keeps}
-use Rattle.wb_dist.specs.Maps.{LayoutMap}
+use Rattle.wb_dist.specs.Maps.{LayoutMap, whole, block, cyclic, block_cyclic, is_layout}
 use Rattle.wb_book.specs.declared.cells.cell.Cell.{Cell}
-use Rattle.wb_book.specs.declared.cells.cell.Cell.TheVariants.{Object, Mapping, Element}
+use Rattle.wb_book.specs.declared.cells.cell.Cell.TheVariants.{Object, Shape, Mapping, Element}
 use Rattle.wb_book.specs.declared.cells.value.Value.{Value}
 use Rattle.wb_book.specs.declared.cells.value.Value.TheVariants.{Domain, Array, Ranges, Mapping as mapping_value, Present, Bound, Number}
 use Rattle.wb_book.specs.declared.cells.kind.DomainKind.{DomainKind}
@@ -21,18 +23,21 @@ use Rattle.wb_book.specs.declared.cells.kind.Kind.{Kind}
 use Rattle.wb_book.specs.declared.values.index.Index.{Index}
 use Rattle.wb_book.specs.Cells.{Name, Cells, Changes, cell_cmp, cell_order, index_cmp, state_of}
 use Rattle.wb_book.specs.Kinds.{kind_of}
+use Rattle.wb_book.specs.Layouts.{is_of_rank, IsMapping}
 use Rattle.wb_book.specs.Locales.{mapping_in}
-use Rattle.wb_book.specs.WellFormed.{IsWellFormed, IsElement, IsObject, HasMapping, is_index_of_array, domain_at, domain_in, array_at, array_in as object_in}
+use Rattle.wb_book.specs.WellFormed.{IsWellFormed, IsElement, IsObject, IsShape, HasMapping, is_index_of_array, domain_at, domain_in, array_at, array_in as object_in}
 use Rattle.wb_book.proofs.Shown.{get-state_of}
+use Rattle.wb_book.proofs.TwoRanks.{block_grid, cyclic_grid, block_cyclic_grid}
 use Rattle.wb_elements.specs.Piecewise.Changed.{changed_at}
 use Rattle.wb_shelf.specs.Joined.{is_stored, stored_in, AllStored}
 use Rattle.wb_shelf.specs.Kept.{Pieced, array_in, Agree}
-use Rattle.wb_shelf.specs.After.{kind_lies, object_lies, lies_at, IsAfter}
+use Rattle.wb_shelf.specs.After.{is_for, lies_for, kind_lies, object_lies, lies_at, IsAfter}
 use Rattle.wb_shelf.specs.Groups.{Group, LeadTo}
 use Rattle.wb_shelf.specs.Moved.{put_over}
 use Rattle.wb_shelf.specs.Shelf.{cells_of, IsShelf, lies_by, mapping_of}
 use Rattle.wb_shelf.proofs.ElementsSet.{stored_there, differ, stored_apart}
 use Rattle.wb_shelf.proofs.Built.{HasElements}
+use Rattle.wb_shelf.proofs.Present.{domain_object}
 use Rattle.wb_shelf.proofs.Same.{same_cells}
 use Rattle.wb_shelf.proofs.Written.{one_cell as equal_cells}
 
@@ -106,22 +111,48 @@ all_stored_after cells after delta all is =
 
 -- ---- how the arrays lie
 
-kind_same : (s : Cells) (d : Name) (k : Option DomainKind) → kind_lies (get s) d k ≡ mapping_of s d k
-kind_same s d None = refl
-kind_same s d (Some (Rectangular rank)) = refl
-kind_same s d (Some (Sparse parent rank)) = refl
-kind_same s d (Some (Associative Int)) = refl
-kind_same s d (Some (Associative Text)) = refl
+-- a mapping for domains of a rank is of that rank
+of_rank : (rank : ℕ) (m : LayoutMap) → is_layout rank m ≡ true → is_of_rank rank m ≡ true
+of_rank rank whole e = refl
+of_rank rank (block m) e = eq-eqb rank (length m.grid) (sym (block_grid rank m e))
+of_rank rank (cyclic m) e = eq-eqb rank (length m.grid) (sym (cyclic_grid rank m e))
+of_rank rank (block_cyclic m) e = eq-eqb rank (length m.grid) (sym (block_cyclic_grid rank m e))
 
-pub object_same : (s : Cells) (o : Option Value) → object_lies (get s) o ≡ lies_by s (object_in o)
-object_same s None = refl
-object_same s (Some (Array d kind)) = kind_same s d (domain_at s d)
-object_same s (Some (Domain k)) = refl
-object_same s (Some (Ranges rs)) = refl
-object_same s (Some (mapping_value m)) = refl
-object_same s (Some Present) = refl
-object_same s (Some (Bound k)) = refl
-object_same s (Some (Number z)) = refl
+is_right : (rank : ℕ) (m : LayoutMap) → 1 ≤ rank → rank ≤ 3 → IsMapping rank m → is_for rank m ≡ true
+is_right rank m some few mapping =
+    ap (λ b. b && (nat_lt rank 4 && is_of_rank rank m)) (lt-ltb 0 rank (omega (arith, some)))
+    ∙ ap (λ b. b && is_of_rank rank m) (lt-ltb rank 4 (omega (arith, few)))
+    ∙ of_rank rank m mapping.valid
+
+-- in a well-formed workbook the mapping of a domain is for its rank
+module _ (t : Cells) (formed : IsWellFormed t) where
+  rank_right : (d : Name) (rank : ℕ) → domain_at t d ≡ Some (Rectangular rank) →
+      option_and_then (lies_for rank) (mapping_in (get t (Mapping d))) ≡ option_map (λ m. (m, rank)) (mapping_in (get t (Mapping d)))
+  rank_right d rank is =
+      let shape = subst (λ (k : Option DomainKind). IsShape k (get t (Shape d))) is (formed.shapes d) in
+      let mapped = subst (λ (k : Option DomainKind). HasMapping k (get t (Mapping d))) is (formed.mappings d) in
+      let right : is_for rank mapped.0 ≡ true = is_right rank mapped.0 shape.2.at_least_one shape.2.at_most_three mapped.2 in
+      ap (λ (v : Option Value). option_and_then (lies_for rank) (mapping_in v)) mapped.1
+      ∙ ap (λ (b : Bool). cond b (Some (mapped.0, rank)) None) right
+      ∙ sym (ap (λ (v : Option Value). option_map (λ m. (m, rank)) (mapping_in v)) mapped.1)
+
+  kind_same : (d : Name) (k : Option DomainKind) → domain_at t d ≡ k → kind_lies (get t) d k ≡ mapping_of t d k
+  kind_same d None is = refl
+  kind_same d (Some (Rectangular rank)) is = rank_right d rank is
+  kind_same d (Some (Sparse parent rank)) is =
+      rank_right parent rank (formed.objects d (Domain (Sparse parent rank)) (domain_object (get t (Object d)) (Sparse parent rank) is))
+  kind_same d (Some (Associative Int)) is = refl
+  kind_same d (Some (Associative Text)) is = refl
+
+  object_same : (o : Option Value) → object_lies (get t) o ≡ lies_by t (object_in o)
+  object_same None = refl
+  object_same (Some (Array d kind)) = kind_same d (domain_at t d) refl
+  object_same (Some (Domain k)) = refl
+  object_same (Some (Ranges rs)) = refl
+  object_same (Some (mapping_value m)) = refl
+  object_same (Some Present) = refl
+  object_same (Some (Bound k)) = refl
+  object_same (Some (Number z)) = refl
 
 -- stored cells that agree with well-formed ones where these are present tell how its arrays lie
 module _ (stored : Cell → Option Value) (t : Cells) (formed : IsWellFormed t) (agree : (c : Cell) → is_stored c ≡ true → IsSome (get t c) →
@@ -134,22 +165,12 @@ module _ (stored : Cell → Option Value) (t : Cells) (formed : IsWellFormed t) 
   kind_there : (d : Name) (k : Option DomainKind) → domain_at t d ≡ k → ((v : Value) → get t (Object d) ≡ Some v → IsObject t v) →
       kind_lies stored d k ≡ kind_lies (get t) d k
   kind_there d None is objects = refl
-  kind_there d (Some (Rectangular rank)) is objects = ap (λ (v : Option Value). option_map (λ m. (m, rank)) (mapping_in v)) (some_mapping d rank is)
+  kind_there d (Some (Rectangular rank)) is objects = ap (λ (v : Option Value). option_and_then (lies_for rank) (mapping_in v)) (some_mapping d rank is)
   kind_there d (Some (Associative Int)) is objects = refl
   kind_there d (Some (Associative Text)) is objects = refl
   kind_there d (Some (Sparse parent rank)) is objects =
-      ap (λ (v : Option Value). option_map (λ m. (m, rank)) (mapping_in v))
-      (some_mapping parent rank (objects (Domain (Sparse parent rank)) (domain_object (get t (Object d)) is)))
-    where
-      domain_object : (o : Option Value) → domain_in o ≡ Some (Sparse parent rank) → o ≡ Some (Domain (Sparse parent rank))
-      domain_object None e = cc
-      domain_object (Some (Domain k)) e = let same : k ≡ Sparse parent rank = cc in ap (λ z. Some (Domain z)) same
-      domain_object (Some (Array n k)) e = cc
-      domain_object (Some (Ranges rs)) e = cc
-      domain_object (Some (mapping_value m)) e = cc
-      domain_object (Some Present) e = cc
-      domain_object (Some (Bound k)) e = cc
-      domain_object (Some (Number z)) e = cc
+      ap (λ (v : Option Value). option_and_then (lies_for rank) (mapping_in v))
+      (some_mapping parent rank (objects (Domain (Sparse parent rank)) (domain_object (get t (Object d)) (Sparse parent rank) is)))
 
   domain_present : (o : Option Value) (kind : Kind) → option_map kind_of (domain_in o) ≡ Some kind → IsSome o
   domain_present None kind e = cc
@@ -173,7 +194,7 @@ module _ (stored : Cell → Option Value) (t : Cells) (formed : IsWellFormed t) 
 
   pub lies_there : (a : Name) → IsSome (get t (Object a)) → lies_at stored a ≡ lies_by t (array_at t a)
   lies_there a present = ap (object_lies stored) (agree (Object a) refl present) ∙ object_there (get t (Object a)) (formed.objects a)
-      ∙ object_same t (get t (Object a))
+      ∙ object_same t formed (get t (Object a))
 
 -- ---- the arrays are right
 

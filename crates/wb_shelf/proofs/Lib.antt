@@ -18,5 +18,6 @@ pub mod Resting
 pub mod Grown
 pub mod SetBack
 pub mod Whole
+pub mod Formed
 pub mod Answered
 pub mod Joining

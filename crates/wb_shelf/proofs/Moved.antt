@@ -6,7 +6,7 @@ use Rattle.std.specs.Cmp.{eq_by_cmp_equiv}
 use Rattle.std.specs.Cmp.Lexicographic.{slice_cmp, nat_list_cmp_total}
 use Rattle.std.specs.List.{AllByRecursion}
 use Rattle.std.specs.List.Sorted.{IsStrictlySortedBy}
-use Rattle.std.specs.Map.{set_value, keys_of}
+use Rattle.std.specs.Map.{lookup, set_value, keys_of}
 use Rattle.std.specs.Ordering.{nat_cmp}
 use Rattle.std.proofs.lemmas.Map.{lookup-set_value}
 use Rattle.wb_book.specs.Cells.{Name, is_same_name}
@@ -14,7 +14,8 @@ use Rattle.wb_shelf.specs.Kept.{Pieced, array_in}
 use Rattle.wb_shelf.specs.Moved.{put_over, only}
 use Rattle.wb_shelf.proofs.Written.{one_name}
 
-pub none_above : (n : Name) (es : List (Name × Pieced)) → AllByRecursion (λ y. slice_cmp nat_cmp n y ≡ Less) (keys_of es) → array_in es n ≡ None
+pub none_above : {X : Type 0} (n : Name) (es : List (Name × X)) → AllByRecursion (λ y. slice_cmp nat_cmp n y ≡ Less) (keys_of es) →
+    lookup (is_at (slice_cmp nat_cmp n)) es ≡ None
 none_above n [] all = refl
 none_above n (e ∷ es) all = rw all.0 (none_above n es all.1)
 

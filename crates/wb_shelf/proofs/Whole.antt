@@ -126,7 +126,7 @@ lies_some t formed a d k is =
     subst (λ (x : Option (Name × Kind)). IsSome (lies_by t x)) (sym is)
     (kind_lies_some t formed d (domain_at t d) k refl (formed.objects a (Array d k) (array_object (get t (Object a)) d k is)))
 
-the_one : {X : Type 0} (o : Option X) → IsSome o → (x : X) × (o ≡ Some x)
+pub the_one : {X : Type 0} (o : Option X) → IsSome o → (x : X) × (o ≡ Some x)
 the_one None there = cc
 the_one (Some x) there = (x, refl)
 
@@ -186,7 +186,20 @@ module _ (cells : BTreeMap Cell Value) (arrays : BTreeMap Name Pieced) (delta : 
   an_array b d k is = lying_there (array_in arrays.entries b)
       (subst (λ (o : Option (LayoutMap × ℕ)). IsSome o) (sym (kept.lie b)) (lies_some (cells_of cells arrays) kept.well_formed b d k is))
 
-  agree_now : Agree arrays.entries (cells_of cells arrays)
+  once_xs : AllOnce cell_cmp delta → AllOnce cell_cmp xs
+  once_xs once = subst (λ (ys : Changes). AllOnce cell_cmp ys) (sym only) (once_stored delta once)
+
+  -- where the cells are set that the changes give a value, what is there afterwards is there
+  pub ready_there : AllOnce cell_cmp delta → (ready : BTreeMap Cell Value) → state_of ready ≡ apply (sets xs) (state_of cells) →
+      (c : Cell) → is_stored c ≡ true → IsSome (get (apply delta (cells_of cells arrays)) c) →
+      stored_in ready.entries c ≡ get (apply delta (cells_of cells arrays)) c
+  ready_there once ready set c st present =
+      let whole : get (apply delta (cells_of cells arrays)) c ≡ get (apply (clears xs) (apply (sets xs) (state_of cells))) c =
+      by_stored c st ∙ ap (λ (u : Cells). get u c) (sym (sets_clears cell_order xs (state_of cells) (once_xs once))) in
+      sym (get-state_of ready c) ∙ ap (λ (u : Cells). get u c) set
+      ∙ sym (clears_there xs (apply (sets xs) (state_of cells)) c (subst (λ (o : Option Value). IsSome o) whole present)) ∙ sym whole
+
+  pub agree_now : Agree arrays.entries (cells_of cells arrays)
   agree_now b i = sym (get-cells_of cells arrays kept (Element b i))
 
   -- ---- the changes were made
@@ -205,19 +218,12 @@ module _ (cells : BTreeMap Cell Value) (arrays : BTreeMap Name Pieced) (delta : 
       (walked : AreAfter (lies_at (stored_in ready.entries)) grown gs built)
       (last : (b : Name) → array_in fresh b ≡ cond (changes cell_cmp xs (Object b) && not (is_array (stored_in after.entries (Object b)))) None
       (put_over (array_in grown b) (array_in built b))) where
-    once_xs : AllOnce cell_cmp xs
-    once_xs = subst (λ (ys : Changes). AllOnce cell_cmp ys) (sym only) (once_stored delta once)
-
     after_is : state_of after ≡ apply (filter (λ x. is_stored x.cell) delta) (state_of cells)
-    after_is = cleared ∙ ap (apply (clears xs)) set ∙ sets_clears cell_order xs (state_of cells) once_xs ∙ ap (λ (ys : Changes). apply ys (state_of cells)) only
+    after_is = cleared ∙ ap (apply (clears xs)) set ∙ sets_clears cell_order xs (state_of cells) (once_xs once) ∙ ap (λ (ys : Changes). apply ys (state_of cells)) only
 
     ready_is : (c : Cell) → is_stored c ≡ true → IsSome (get (apply delta (cells_of cells arrays)) c) →
         stored_in ready.entries c ≡ get (apply delta (cells_of cells arrays)) c
-    ready_is c st present =
-        let whole : get (apply delta (cells_of cells arrays)) c ≡ get (apply (clears xs) (apply (sets xs) (state_of cells))) c =
-        by_stored c st ∙ ap (λ (u : Cells). get u c) (sym (sets_clears cell_order xs (state_of cells) once_xs)) in
-        sym (get-state_of ready c) ∙ ap (λ (u : Cells). get u c) set
-        ∙ sym (clears_there xs (apply (sets xs) (state_of cells)) c (subst (λ (o : Option Value). IsSome o) whole present)) ∙ sym whole
+    ready_is = ready_there once ready set
 
     no_longer : (b : Name) → array_at (apply delta (cells_of cells arrays)) b ≡ None → (u : Bool) → changes cell_cmp xs (Object b) ≡ u → array_in fresh b ≡ None
     no_longer b none true e =

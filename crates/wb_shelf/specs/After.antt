@@ -1,5 +1,5 @@
 -- The arrays after changes.
-use Rattle.std.specs.Prelude.{◌≡◌, ℕ, Bool, List, [], ◌∷◌, Option, Some, None, option_map, is_some}
+use Rattle.std.specs.Prelude.{◌≡◌, ℕ, ℤ, nat_lt, Bool, true, ◌&&◌, if◌then◌else◌, List, [], ◌∷◌, Option, Some, None, option_and_then, is_some, IsSome}
 use Rattle.std.specs.BTreeMap.{is_at}
 use Rattle.std.specs.Map.{lookup}
 use Rattle.wb_dist.specs.Maps.{LayoutMap, whole}
@@ -12,16 +12,26 @@ use Rattle.wb_book.specs.declared.cells.value.Value.{Value}
 use Rattle.wb_book.specs.declared.cells.value.Value.TheVariants.{Array}
 use Rattle.wb_book.specs.declared.values.index.Index.{Index}
 use Rattle.wb_book.specs.Cells.{Name, index_cmp}
+use Rattle.wb_book.specs.Layouts.{is_of_rank}
 use Rattle.wb_book.specs.Locales.{mapping_in}
 use Rattle.wb_book.specs.WellFormed.{domain_in, array_in}
 use Rattle.wb_elements.specs.Piecewise.Changed.{changed_at}
+use Rattle.wb_elements.specs.Piecewise.Seen.{is_of_form}
 use Rattle.wb_shelf.specs.Groups.{Group}
 use Rattle.wb_shelf.specs.Kept.{Pieced, array_in as kept_in}
 
+-- whether a mapping is for rectangles of one, two or three dimensions, as many as the rank says
+abbrev pub is_for : ℕ → LayoutMap → Bool
+is_for rank m = nat_lt 0 rank && (nat_lt rank 4 && is_of_rank rank m)
+
+-- a mapping with the rank that it is for
+abbrev pub lies_for : ℕ → LayoutMap → Option (LayoutMap × ℕ)
+lies_for rank m = if is_for rank m then Some (m, rank) else None
+
 -- how a domain lies, by what stored cells answer
 abbrev pub kind_lies : (Cell → Option Value) → Name → Option DomainKind → Option (LayoutMap × ℕ)
-kind_lies stored d (Some (Rectangular rank)) = option_map (λ m. (m, rank)) (mapping_in (stored (Mapping d)))
-kind_lies stored d (Some (Sparse parent rank)) = option_map (λ m. (m, rank)) (mapping_in (stored (Mapping parent)))
+kind_lies stored d (Some (Rectangular rank)) = option_and_then (lies_for rank) (mapping_in (stored (Mapping d)))
+kind_lies stored d (Some (Sparse parent rank)) = option_and_then (lies_for rank) (mapping_in (stored (Mapping parent)))
 kind_lies stored d (Some (Associative Int)) = Some (whole, 1)
 kind_lies stored d (Some (Associative Text)) = Some (whole, 0)
 kind_lies stored d None = None
@@ -41,6 +51,16 @@ lies_at stored a = object_lies stored (stored (Object a))
 abbrev pub IsAfter : Group → LayoutMap × ℕ → Pieced → Option Pieced → Type 0
 IsAfter xs l p None = (p.1 ≡ l) × (xs ≡ [])
 IsAfter xs l p (Some q) = (q.1 ≡ l) × ((i : Index) → lookup (is_at (index_cmp i)) q.0 ≡ changed_at xs (lookup (is_at (index_cmp i)) p.0) i)
+
+-- elements of an array that lies so stand, after changes of them, at indices of its rank
+abbrev pub IsFormed : Group → LayoutMap × ℕ → List (Index × ℤ) → Type 0
+IsFormed xs l es = (i : Index) → IsSome (changed_at xs (lookup (is_at (index_cmp i)) es) i) → is_of_form l.1 i ≡ true
+
+-- the same of each array that is named
+abbrev pub AreFormed : (Name → Option (LayoutMap × ℕ)) → List (Name × Pieced) → List (Name × Group) → Type 0
+AreFormed lies arrays [] = Unit {0}
+AreFormed lies arrays (g ∷ gs) =
+    ((p : Pieced) (l : LayoutMap × ℕ) → kept_in arrays g.0 ≡ Some p → lies g.0 ≡ Some l → IsFormed g.1 l p.0) × AreFormed lies arrays gs
 
 -- with an array of a name in front, if there is one
 abbrev pub with_array : Name → Option Pieced → List (Name × Pieced) → List (Name × Pieced)

@@ -14,6 +14,7 @@ use Rattle.wb_book.specs.declared.cells.value.Value.TheVariants.{Number}
 use Rattle.wb_book.specs.declared.values.index.Index.{Index}
 use Rattle.wb_book.specs.Cells.{Name, Cells, Changes}
 use Rattle.wb_elements.specs.Piecewise.Changed.{changed_at}
+use Rattle.wb_shelf.specs.Kept.{number_in}
 
 -- changes of the elements of an array
 abbrev pub Group : Type 0
@@ -29,6 +30,19 @@ changes_of (Some xs) = xs
 -- the changes of the elements of an array, none where it isn't named
 abbrev pub changes_in : List (Name × Group) → Name → Group
 changes_in groups a = changes_of (group_in groups a)
+
+-- a number, or nothing
+abbrev pub is_plain : Option Value → Bool
+is_plain None = true
+is_plain (Some v) = is_some (number_in (Some v))
+
+abbrev pub sets_plain : Cell → Option Value → Bool
+sets_plain (Element a i) v = is_plain v
+sets_plain _ v = true
+
+-- whether a change sets an element, if it sets one, to a number
+abbrev pub is_numeric : Change Cell Value → Bool
+is_numeric x = sets_plain x.cell x.value
 
 -- from the elements of an array before the changes these changes of elements lead to those after them
 abbrev pub LeadTo : Changes → Name → Group → Type 0

@@ -1,6 +1,6 @@
 //! What is known of the arrays after changes, before these are made.
 
-ghost use Rattle.std.specs.Prelude.{◌≡◌, ◌<◌, ℕ, ℤ, List, [], ◌∷◌, ◌++◌, true, false, length, filter, map, Option, Some, option_map, IfSome, IfOk, OnOk, Err};
+ghost use Rattle.std.specs.Prelude.{◌≡◌, ◌<◌, ℕ, ℤ, List, [], ◌∷◌, ◌++◌, true, false, length, filter, map, Option, Some, option_and_then, IfSome, IfOk, OnOk, Err};
 ghost use Rattle.std.specs.List.{count_by};
 ghost use Rattle.selective_undo.specs.declared.Change.{Change};
 ghost use Rattle.wb_book.specs.declared.cells.cell.Cell.{Cell as cell_type};
@@ -19,7 +19,8 @@ ghost use Rattle.wb_shelf.specs.Kept.{Pieced, array_in};
 ghost use Rattle.wb_elements.specs.Entries.{element_at};
 ghost use Rattle.wb_elements.specs.Piecewise.Marked.{as_changes};
 ghost use Rattle.wb_book.specs.declared.values.index.Index.TheVariants.{Point as point_index};
-ghost use Rattle.wb_shelf.specs.After.{kind_lies, domain_lies, lies_at, IsAfter, AreAfter};
+ghost use Rattle.wb_elements.specs.Piecewise.Seen.{MayLie};
+ghost use Rattle.wb_shelf.specs.After.{is_for, lies_for, kind_lies, domain_lies, lies_at, IsAfter, IsFormed, AreFormed, AreAfter};
 
 use crate::groups::{Group, list_of};
 use crate::keep;
@@ -42,16 +43,30 @@ fn mapping_in(cells: &BTreeMap<Cell, Value>, domain: &Name) -> Option<AnyLayout>
     }
 }
 
+// Whether a mapping is for rectangles of so many dimensions.
+fn is_for(mapping: &AnyLayout, rank: u8) -> bool
+    ensures { result ≡ is_for rank mapping.now }
+{
+    0 < rank && rank < 4 && mapping.is_of_rank(rank)
+}
+
 fn with_rank(mapping: Option<AnyLayout>, rank: u8) -> Option<(AnyLayout, u8)>
-    ensures { result ≡ option_map (λ m. (m, rank)) mapping }
+    ensures { result ≡ option_and_then (lies_for rank) mapping }
 {
     match mapping {
-        Some(mapping) => Some((mapping, rank)),
+        Some(mapping) => {
+            if is_for(&mapping, rank) {
+                Some((mapping, rank))
+            } else {
+                None
+            }
+        }
         None => None,
     }
 }
 
-// The mapping of a domain of a kind, with the rank of its indices.
+// The mapping of a domain of a kind, with the rank of its indices; `None` also where it is for another rank, as can be midway
+// through changes, of a domain that they clear.
 fn kind_lies(
     cells: &BTreeMap<Cell, Value>,
     domain: &Name,
@@ -522,6 +537,8 @@ pub(crate) fn after_one<V: Mover>(
     lies: &(AnyLayout, u8),
     mover: &V,
 ) -> Result<Option<Elements>, MoveErr>
+    requires may_lie { MayLie lies.now.0 lies.now.1 }
+    requires formed { IsFormed changes.now lies.now elements.now.0 }
     ensures after { IfOk result (IsAfter changes.now lies.now elements.now) }
     ensures no_thread { result ≡ Err MoveErr.NoThread → V.may_lack_threads mover.now }
 {
@@ -552,6 +569,8 @@ fn after_block<V: Mover, B: Block>(
     lies: &(AnyLayout, u8),
     mover: &V,
 ) -> Result<Option<Elements>, MoveErr>
+    requires may_lie { MayLie lies.now.0 lies.now.1 }
+    requires formed { IsFormed (as_changes point_index (B.entries block.now)) lies.now elements.now.0 }
     ensures after { IfOk result (IsAfter (as_changes point_index (B.entries block.now)) lies.now elements.now) }
     ensures no_thread { result ≡ Err MoveErr.NoThread → V.may_lack_threads mover.now }
 {
@@ -579,6 +598,8 @@ fn after_group<V: Mover>(
     lies: &(AnyLayout, u8),
     mover: &V,
 ) -> Result<Option<Elements>, MoveErr>
+    requires may_lie { MayLie lies.now.0 lies.now.1 }
+    requires formed { IsFormed group.now lies.now elements.now.0 }
     ensures after { IfOk result (IsAfter group.now lies.now elements.now) }
     ensures no_thread { result ≡ Err MoveErr.NoThread → V.may_lack_threads mover.now }
 {
@@ -628,6 +649,8 @@ fn after_named<V: Mover>(
     group: &Group,
     mover: &V,
 ) -> Result<Option<Elements>, MoveErr>
+    requires { (p : Pieced) (l : LayoutMap × ℕ) → array_in arrays.now.entries name.now ≡ Some p →
+        lies_at (stored_in cells.now.entries) name.now ≡ Some l → IsFormed group.now l p.0 }
     ensures after { IfOk result (λ o. (p : Pieced) (l : LayoutMap × ℕ) → array_in arrays.now.entries name.now ≡ Some p →
         lies_at (stored_in cells.now.entries) name.now ≡ Some l → IsAfter group.now l p o) }
     ensures no_thread { result ≡ Err MoveErr.NoThread → V.may_lack_threads mover.now }
@@ -652,6 +675,7 @@ pub(crate) fn built<V: Mover>(
     groups: &BTreeMap<Name, Group>,
     mover: &V,
 ) -> Result<Vec<(Name, Elements)>, MoveErr>
+    requires { AreFormed (lies_at (stored_in cells.now.entries)) arrays.now.entries groups.now.entries }
     ensures built { IfOk result (λ v. AreAfter (lies_at (stored_in cells.now.entries)) arrays.now.entries groups.now.entries v.items) }
     ensures no_thread { result ≡ Err MoveErr.NoThread → V.may_lack_threads mover.now }
 {

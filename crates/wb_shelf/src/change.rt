@@ -2,6 +2,7 @@
 
 ghost use Rattle.std.specs.Prelude.{◌≡◌, ℕ, ℤ, ◌&&◌, List, [], ◌∷◌, ◌++◌, Option, Some, None, false, true, not, cond, is_some, IsSome, IfOk, OnOk, OnErr, Err};
 ghost use Rattle.std.specs.List.{count_by};
+ghost use Rattle.std.specs.BTreeMap.{BTreeMap as tree};
 ghost use Rattle.std.specs.FinMap as map;
 ghost use Rattle.std.specs.Map.{keys_of};
 ghost use Rattle.std.specs.List.Sorted.{IsStrictlySortedBy};
@@ -10,11 +11,12 @@ ghost use Rattle.std.specs.Ordering.{nat_cmp, eq_by_cmp};
 ghost use Rattle.selective_undo.specs.Changes.{apply, inverse, sets, clears, changes, AllOnce, HasRoom};
 ghost use Rattle.wb_book.specs.declared.cells.cell.Cell.{Cell as cell_type};
 ghost use Rattle.wb_book.specs.declared.cells.cell.Cell.TheVariants.{Object};
+ghost use Rattle.wb_book.specs.declared.cells.value.Value.{Value as value_type};
 ghost use Rattle.wb_book.specs.declared.values.index.Index.{Index};
 ghost use Rattle.wb_book.specs.Cells.{cell_cmp, state_of, is_same_name};
 ghost use Rattle.wb_book.specs.WellFormed.{IsWellFormed};
 ghost use Rattle.wb_shelf.specs.Joined.{stored_in, element_in, is_stored};
-ghost use Rattle.wb_shelf.specs.After.{lies_at, AreAfter, is_array};
+ghost use Rattle.wb_shelf.specs.After.{lies_at, AreFormed, AreAfter, is_array};
 ghost use Rattle.wb_shelf.specs.Kept.{Pieced, array_in};
 ghost use Rattle.wb_shelf.specs.Moved.{put_over};
 ghost use Rattle.wb_shelf.specs.Shelf.{cells_of, IsShelf};
@@ -182,6 +184,9 @@ fn prepared<V: Mover>(
     stored: &[CellChange],
     mover: &V,
 ) -> Result<Vec<(Name, Elements)>, MoveErr>
+    requires { (ready : tree cell_type value_type) (grown : List (List ℕ × Pieced)) → state_of ready ≡ apply (sets stored.now) (state_of cells.old) →
+        ((b : List ℕ) (i : Index) → element_in grown b i ≡ element_in arrays.old.entries b i) →
+        AreFormed (lies_at (stored_in ready.entries)) grown groups.now.entries }
     ensures others_cells { (c : cell_type) → changes cell_cmp (sets stored.now) c ≡ false → map.get (state_of cells.new) c ≡ map.get (state_of cells.old) c }
     ensures stays_cells { (c : cell_type) → IsSome (map.get (state_of cells.old) c) → IsSome (map.get (state_of cells.new) c) }
     ensures others { (b : List ℕ) → changes cell_cmp stored.now (Object b) ≡ false → array_in arrays.new.entries b ≡ array_in arrays.old.entries b }

@@ -1,6 +1,6 @@
 //! Changes by the arrays that they concern.
 
-ghost use Rattle.std.specs.Prelude.{◌≡◌, ◌<◌, ℕ, List, [], ◌∷◌, ◌++◌, Option, None, true, false, cond, length, get_or, option_map, IsSome, IfOk, IfSome, OnOk};
+ghost use Rattle.std.specs.Prelude.{◌≡◌, ◌<◌, ℕ, List, [], ◌∷◌, ◌++◌, Option, None, true, false, cond, length, get_or, option_map, IsSome, IfOk, OnOk};
 ghost use Rattle.std.specs.List.{list_all};
 ghost use Rattle.std.specs.List.Sorted.{IsStrictlySortedBy};
 ghost use Rattle.std.specs.Map.{keys_of};
@@ -19,7 +19,7 @@ ghost use Rattle.wb_elements.specs.Blocks.{listed};
 ghost use Rattle.wb_elements.specs.Entries.{row_changes};
 ghost use Rattle.wb_elements.specs.Piecewise.Marked.{as_changes};
 ghost use Rattle.wb_shelf.specs.Joined.{stored_in};
-ghost use Rattle.wb_shelf.specs.Groups.{group_in, changes_in, LeadTo, leaves};
+ghost use Rattle.wb_shelf.specs.Groups.{group_in, changes_in, is_plain, is_numeric, LeadTo, leaves};
 ghost use Rattle.wb_shelf.specs.Kept.{array_in};
 
 use std::alloc::Global;
@@ -175,14 +175,22 @@ fn add_to(
     }
 }
 
-// The number that a change of an element sets, or that it clears the element; `None` for another value.
-fn number_of(value: Option<Value>) -> Option<Option<i64>>
-    ensures { IfSome result (λ v. option_map number_value v ≡ value) }
+// The number that a change of an element sets; `None` where it clears the element.
+fn number_of(value: Option<Value>) -> Option<i64>
+    requires { is_plain value ≡ true }
+    ensures { option_map number_value result ≡ value }
 {
     match value {
-        Some(Value::Number(number)) => Some(Some(number)),
-        None => Some(None),
-        _ => None,
+        Some(Value::Number(number)) => Some(number),
+        Some(
+            Value::Domain(_)
+            | Value::Array(_, _)
+            | Value::Ranges(_)
+            | Value::Mapping(_)
+            | Value::Present
+            | Value::Bound(_),
+        ) => unreachable!(),
+        None => None,
     }
 }
 
@@ -191,6 +199,7 @@ fn add_change(
     groups: &mut BTreeMap<Name, Group>,
     change: &CellChange,
 ) -> Result<(), NoMemory>
+    requires { is_numeric change.now ≡ true }
     ensures lead { (before : List (Change cell_type value_type)) → ((b : List ℕ) → LeadTo before b (changes_in groups.old.entries b)) →
         OnOk result ((b : List ℕ) → LeadTo (before ++ change.now ∷ []) b (changes_in groups.new.entries b)) }
     ensures stays { (b : List ℕ) → IsSome (group_in groups.old.entries b) → IsSome (group_in groups.new.entries b) }
@@ -198,9 +207,7 @@ fn add_change(
 {
     match change.as_cell() {
         Cell::Element(name, index) => {
-            let Some(number) = number_of(change.value()) else {
-                return Err(NoMemory);
-            };
+            let number = number_of(change.value());
             put_group(alloc, groups, name)?;
             add_to(alloc, groups, name, index, number)
         }
@@ -288,6 +295,7 @@ fn add_block<B: Block>(
 
 // The same of the changes of a run.
 fn add_run(alloc: Global, groups: &mut BTreeMap<Name, Group>, form: &Form) -> Result<(), NoMemory>
+    requires { list_all is_numeric (run_changes form.now) ≡ true }
     ensures lead { (before : List (Change cell_type value_type)) → ((b : List ℕ) → LeadTo before b (changes_in groups.old.entries b)) →
         OnOk result ((b : List ℕ) → LeadTo (before ++ run_changes form.now) b (changes_in groups.new.entries b)) }
     ensures stays { (b : List ℕ) → IsSome (group_in groups.old.entries b) → IsSome (group_in groups.new.entries b) }
@@ -309,6 +317,7 @@ fn add_runs(
     groups: &mut BTreeMap<Name, Group>,
     runs: &[ChangeRun],
 ) -> Result<(), NoMemory>
+    requires { list_all is_numeric (all_changes runs.now) ≡ true }
     ensures lead { (before : List (Change cell_type value_type)) → ((b : List ℕ) → LeadTo before b (changes_in groups.old.entries b)) →
         OnOk result ((b : List ℕ) → LeadTo (before ++ all_changes runs.now) b (changes_in groups.new.entries b)) }
     ensures stays { (b : List ℕ) → IsSome (group_in groups.old.entries b) → IsSome (group_in groups.new.entries b) }
@@ -320,9 +329,9 @@ fn add_runs(
     Ok(())
 }
 
-// The changes of elements by their arrays; each object that changes is named as well. `NoMemory` also where an element is
-// set to what is no number.
+// The changes of elements by their arrays; each object that changes is named as well.
 fn grouped(alloc: Global, delta: &Changes) -> Result<BTreeMap<Name, Group>, NoMemory>
+    requires { list_all is_numeric delta.now ≡ true }
     ensures lead { IfOk result (λ m. (b : List ℕ) → LeadTo delta.now b (changes_in m.entries b)) }
     ensures objects { IfOk result (λ m. (b : List ℕ) → changes cell_cmp delta.now (Object b) ≡ true → IsSome (group_in m.entries b)) }
 {
@@ -418,6 +427,7 @@ pub(crate) fn concerned(
     arrays: &BTreeMap<Name, Elements>,
     delta: &Changes,
 ) -> Result<BTreeMap<Name, Group>, NoMemory>
+    requires { list_all is_numeric delta.now ≡ true }
     ensures lead { IfOk result (λ m. (b : List ℕ) → LeadTo delta.now b (changes_in m.entries b)) }
     ensures objects { IfOk result (λ m. (b : List ℕ) → changes cell_cmp delta.now (Object b) ≡ true → IsSome (group_in m.entries b)) }
     ensures others { IfOk result (λ m. (b : List ℕ) → IsSome (array_in arrays.now.entries b) → group_in m.entries b ≡ None →

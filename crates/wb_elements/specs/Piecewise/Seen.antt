@@ -1,9 +1,10 @@
 -- How the elements of an array are seen, whatever the kind of its domain.
-use Rattle.std.specs.Prelude.{◌≡◌, ℕ, ℤ, List, Option, Some, None}
+use Rattle.std.specs.Prelude.{◌≡◌, ◌≤◌, ℕ, zero, suc, ℤ, Bool, true, List, Option, Some, None}
 use Rattle.std.specs.Map.{keys_of}
 use Rattle.wb_book.specs.declared.values.index.Index.{Index}
 use Rattle.wb_book.specs.declared.values.index.Index.TheVariants.{Point, Text}
 use Rattle.wb_book.specs.Kinds.{is_point, is_text}
+use Rattle.wb_book.specs.Layouts.{is_of_rank}
 use Rattle.wb_book.specs.Shapes.{indices}
 use Rattle.wb_dist.specs.Maps.{LayoutMap, whole}
 use Rattle.wb_elements.specs.declared.elements.Form.{Form}
@@ -16,6 +17,17 @@ seen_of (Line p) = (indexed Point p.0, (p.1, 1))
 seen_of (Plane p) = (indexed Point p.0, (p.1, 2))
 seen_of (Solid p) = (indexed Point p.0, (p.1, 3))
 seen_of (Texts p) = (indexed Text p.0, (whole, 0))
+
+-- an index has so many coordinates, and where they are 0, it is a text
+abbrev pub is_of_form : ℕ → Index → Bool
+is_of_form zero i = is_text i
+is_of_form (suc n) i = is_point (suc n) i
+
+-- elements at indices of a rank may lie by a mapping: texts all on one locale, and points of one, two or three dimensions by a
+-- mapping for them
+abbrev pub MayLie : LayoutMap → ℕ → Type 0
+MayLie m zero = m ≡ whole
+MayLie m (suc n) = (suc n ≤ 3) × (is_of_rank (suc n) m ≡ true)
 
 -- the indices have the form that they are kept in
 abbrev pub IsKept : Form → Type 0

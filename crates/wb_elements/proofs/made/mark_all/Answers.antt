@@ -10,9 +10,9 @@ loop-index-preserved g c =
     let f = g.I.AsIndex.as_index in
     let x : Index × Option ℤ = c.loop-index-item.result in
     record {
-      elements = λ i.
-          c.in_ok-mark_one.ensures.elements i
-          ∙ ap (cond (is_same_index i x.0) x.1) (c.loop-index.invariant.elements i)
+      elements = λ i here.
+          c.in_ok-mark_one.ensures.elements i here
+          ∙ ap (cond (is_same_index i x.0) x.1) (c.loop-index.invariant.elements i here)
           ∙ sym (changed_more c.args.changes.now c.loop-index.index-index x (marked_at f c.args.marks.now.items i) i c.loop-index-test.true
           c.loop-index-item.is);
       kept = c.in_ok-mark_one.ensures.kept;

@@ -1,13 +1,13 @@
-use Rattle.std.proofs.Common.{rules, ◌≡◌, ℤ, Bool, true, false, cond, Option, None, [], ◌∷◌, ◌++◌, refl, sym, ap, ◌∙◌}
+use Rattle.std.proofs.Common.{rules, ◌≡◌, ℤ, Bool, true, false, true≢false, cond, Option, [], ◌∷◌, ◌++◌, refl, sym, ap, ◌∙◌}
 use Rattle.wb_book.specs.declared.values.index.Index.{Index}
 use Rattle.wb_book.specs.Cells.{is_same_index}
 use Rattle.wb_elements.specs.Piecewise.Marked.{marked_at}
 use Rattle.wb_elements.proofs.Piecewise.Changed.{one_index}
-use Rattle.wb_elements.proofs.Piecewise.Marked.{marked-last, all_marked-last, marked-none}
+use Rattle.wb_elements.proofs.Piecewise.Marked.{marked-last, all_marked-last}
 use Rattle.wb_elements.proofs.made.mark_one.Goals as goal
 
 pub returns-in-Ok-clause-elements : goal.returns-in-Ok-clause-elements
-returns-in-Ok-clause-elements g c = λ i.
+returns-in-Ok-clause-elements g c = λ i here.
     let f = g.I.AsIndex.as_index in
     let ms = c.args.marks.now.items in
     let w : Option ℤ = c.args.value.now in
@@ -25,13 +25,12 @@ returns-in-Ok-clause-kept g c =
     let here : g.I.AsIndex.is_of (f c.in-Some.key) ≡ true = ap g.I.AsIndex.is_of c.in-Some.ensures.value ∙ c.in-Some.ensures.formed in
     rw pushed (all_marked-last f g.I.AsIndex.is_of ms (c.in-Some.key, w) c.requires here)
 
-nothing_there : (x y : Index) (o w : Option ℤ) (t : Bool) → is_same_index x y ≡ t → w ≡ None → (x ≡ y → o ≡ None) → o ≡ cond t w o
-nothing_there x y o w true e none gone = gone (one_index x y e) ∙ sym none
-nothing_there x y o w false e none gone = refl
+-- an index of the form is not one of another form
+apart : (is_of : Index → Bool) (x y : Index) (o w : Option ℤ) (t : Bool) → is_same_index x y ≡ t → is_of x ≡ true → is_of y ≡ false → o ≡ cond t w o
+apart is_of x y o w true e here other = absurd (true≢false (sym here ∙ ap is_of (one_index x y e) ∙ other))
+apart is_of x y o w false e here other = refl
 
-pub returns-in-None-value-clause-elements : goal.returns-in-None-value-clause-elements
-returns-in-None-value-clause-elements g c = λ i.
-    let f = g.I.AsIndex.as_index in
-    let ms = c.args.marks.now.items in
-    nothing_there i c.args.index.now (marked_at f ms i) c.args.value.now (is_same_index i c.args.index.now) refl c.in-None-value.is
-    (λ same. ap (marked_at f ms) same ∙ marked-none f g.I.AsIndex.is_of ms None c.args.index.now c.requires (c.in-None.ensures.none refl))
+pub returns-in-None-clause-elements : goal.returns-in-None-clause-elements
+returns-in-None-clause-elements g c = λ i here.
+    apart g.I.AsIndex.is_of i c.args.index.now (marked_at g.I.AsIndex.as_index c.args.marks.now.items i) c.args.value.now
+    (is_same_index i c.args.index.now) refl here (c.in-None.ensures.none refl)

@@ -8,6 +8,8 @@ use Rattle.wb_shelf.proofs.Built.{built_ascending}
 use Rattle.wb_shelf.proofs.ElementsSet.{set_whole}
 use Rattle.wb_shelf.proofs.SetBack.{once_set}
 use Rattle.wb_shelf.proofs.Whole.{once_stored, made_cells, made_shelf, taken_back}
+use Rattle.wb_shelf.proofs.Formed.{all_formed, all_numeric}
+use Rattle.wb_shelf.specs.Shelf.{cells_of}
 use Rattle.wb_shelf.proofs.change.change_all.Goals as goal
 
 pub returns-then-are_set-clause-ok : goal.returns-then-are_set-clause-ok
@@ -21,6 +23,14 @@ returns-then-are_set-clause-shelf g c =
     (set_whole c.args.cells.now c.args.arrays.now c.set_all.new.arrays c.args.delta.now c.requires.shelf c.requires.formed
     (sym c.are_set.ensures ∙ c.if-are_set.true)
     c.set_all.ensures.names c.set_all.ensures.lie c.set_all.ensures.agree).1
+
+pub concerned-requires : goal.concerned-requires
+concerned-requires g c = all_numeric c.args.delta.now (cells_of c.args.cells.now c.args.arrays.now) c.requires.once c.requires.formed
+
+pub prepared-requires-after_bounds : goal.prepared-requires-after_bounds
+prepared-requires-after_bounds g c κs within =
+    all_formed c.args.cells.now c.args.arrays.now c.args.delta.now c.requires.shelf c.as_slice-changed.result.now (c.as_slice-changed.ensures.value
+    ∙ c.in-Ok.ensures) c.requires.once c.requires.formed c.in-Ok-concerned.groups.entries c.in-Ok-concerned.ensures.lead c.in-Ok-concerned.ensures.ascending
 
 pub finish-requires : goal.finish-requires
 finish-requires g c =

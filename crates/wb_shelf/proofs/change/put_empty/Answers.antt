@@ -1,4 +1,4 @@
-use Rattle.std.proofs.Common.{◌≡◌, ℤ, Option, List, None, sym, ap, subst, ◌∙◌}
+use Rattle.std.proofs.Common.{◌≡◌, ℤ, Option, List, None, IsSome, sym, ap, subst, ◌∙◌}
 use Rattle.std.specs.List.Sorted.{IsStrictlySortedBy}
 use Rattle.std.specs.Map.{keys_of}
 use Rattle.wb_array.specs.Elements.{value_at}
@@ -10,9 +10,19 @@ use Rattle.wb_shelf.proofs.Grown.{none_there, put_stays, put_elements}
 use Rattle.wb_elements.proofs.Ascending.{ascending-nothing}
 use Rattle.wb_shelf.proofs.change.put_empty.Goals as goal
 
-pub made-requires : goal.made-requires
-made-requires c = subst (λ (es : List (Index × ℤ)). IsStrictlySortedBy index_cmp (keys_of es)) (sym (c.as_slice.ensures.value ∙ c.new-pairs.ensures.items))
+pub made-requires-clause-ascending : goal.made-requires-clause-ascending
+made-requires-clause-ascending c = subst (λ (es : List (Index × ℤ)). IsStrictlySortedBy index_cmp (keys_of es)) (sym (c.as_slice.ensures.value ∙ c.new-pairs.ensures.items))
     (ascending-nothing index_cmp)
+
+nothing_there : {X : Type 0} (o : Option ℤ) → o ≡ None → IsSome o → X
+nothing_there o none there = cc
+
+pub made-requires-clause-formed : goal.made-requires-clause-formed
+made-requires-clause-formed c = λ i there.
+    nothing_there (changed_at c.as_slice-2.result.now (value_at index_cmp c.as_slice.result.now i) i)
+    (ap (λ (xs : List (Index × Option ℤ)). changed_at xs (value_at index_cmp c.as_slice.result.now i) i) (c.as_slice-2.ensures.value
+    ∙ c.new-changes.ensures.items)
+    ∙ ap (λ (es : List (Index × ℤ)). value_at index_cmp es i) (c.as_slice.ensures.value ∙ c.new-pairs.ensures.items)) there
 
 pub returns-in-Ok-insert-clause-stays : goal.returns-in-Ok-insert-clause-stays
 returns-in-Ok-insert-clause-stays c =

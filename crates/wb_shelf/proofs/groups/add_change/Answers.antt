@@ -2,10 +2,11 @@ use Rattle.std.proofs.Common.{◌≡◌, IsSome, ◌∷◌, [], ◌++◌, sym, a
 use Rattle.std.specs.Ordering.{eq_by_cmp}
 use Rattle.std.specs.Option.{option_map}
 use Rattle.std.proofs.lemmas.Result.{on_ok_weaker}
+use Rattle.wb_book.specs.declared.cells.cell.Cell.{Cell}
 use Rattle.wb_book.specs.declared.cells.cell.Cell.TheVariants.{Object, Element}
 use Rattle.wb_book.specs.declared.cells.value.Value.TheVariants.{Number}
 use Rattle.wb_book.specs.Cells.{Name, cell_cmp}
-use Rattle.wb_shelf.specs.Groups.{group_in}
+use Rattle.wb_shelf.specs.Groups.{group_in, is_plain, sets_plain}
 use Rattle.wb_shelf.proofs.Grown.{at_object}
 use Rattle.wb_shelf.proofs.Leads.{same_leads, object_leads, added_leads, no_element_cell}
 use Rattle.wb_shelf.proofs.Written.{one_name, one_cell}
@@ -17,11 +18,17 @@ returns-in_ok-put_group-in-Element-clause-lead c = λ before lead.
     let x = c.args.change.now in
     let named = c.put_group.new.groups.entries in
     let cell : x.cell ≡ Element c.in-Element.name c.in-Element.index = sym c.as_cell.ensures ∙ c.in-Element.is in
-    let value : x.value ≡ option_map Number c.in-Some.number = sym c.value.ensures ∙ sym c.in-Some.ensures in
+    let value : x.value ≡ option_map Number c.number_of-number.result = sym c.value.ensures ∙ sym c.number_of-number.ensures in
     on_ok_weaker c.add_to.result
-    (λ made. added_leads before named c.add_to.new.groups.entries x c.in-Element.name c.in-Element.index c.in-Some.number cell value made
+    (λ made. added_leads before named c.add_to.new.groups.entries x c.in-Element.name c.in-Element.index c.number_of-number.result cell value made
     (same_leads before gs named c.put_group.ensures.same lead))
     c.add_to.ensures.added
+
+pub number_of-number-requires : goal.number_of-number-requires
+number_of-number-requires c =
+    let x = c.args.change.now in
+    let cell : x.cell ≡ Element c.in-Element.name c.in-Element.index = sym c.as_cell.ensures ∙ c.in-Element.is in
+    ap is_plain c.value.ensures ∙ sym (ap (λ (k : Cell). sets_plain k x.value) cell) ∙ c.requires
 
 pub returns-in-Object-clause-lead : goal.returns-in-Object-clause-lead
 returns-in-Object-clause-lead c = λ before lead.

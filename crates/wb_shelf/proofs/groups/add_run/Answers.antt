@@ -1,11 +1,17 @@
-use Rattle.std.proofs.Common.{◌++◌, List, ℕ, sym, ap, subst, ◌∙◌}
+use Rattle.std.proofs.Common.{◌++◌, List, ℕ, true, sym, ap, subst, ◌∙◌}
+use Rattle.std.specs.List.{list_all}
 use Rattle.std.specs.Prelude.{OnOk}
 use Rattle.wb_book.specs.declared.changes.row.Row.{Row}
 use Rattle.wb_book.specs.Cells.{Changes}
 use Rattle.wb_book.specs.Runs.{changes_in as run_changes, packed_changes, rectangle_entries, numbered_entries}
-use Rattle.wb_shelf.specs.Groups.{LeadTo, changes_in}
+use Rattle.wb_shelf.specs.Groups.{LeadTo, changes_in, is_numeric}
+use Rattle.wb_shelf.proofs.ElementsSet.{both_true}
 use Rattle.wb_shelf.proofs.Entries.{never_named, on_ok_ever}
 use Rattle.wb_shelf.proofs.groups.add_run.Goals as goal
+
+pub add_change-requires : goal.add_change-requires
+add_change-requires c =
+    (both_true (is_numeric c.in-One.change) true (ap (λ f. list_all is_numeric (run_changes f)) (sym c.in-One.is) ∙ c.requires)).0
 
 pub returns-in-One-clause-lead : goal.returns-in-One-clause-lead
 returns-in-One-clause-lead c = λ before lead.

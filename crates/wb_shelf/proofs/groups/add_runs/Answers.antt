@@ -1,12 +1,19 @@
 use Rattle.std.proofs.Common.{◌++◌, take, append_assoc, true≢false, arith, sym, ap, subst, ◌∙◌}
 use Rattle.std.proofs.lemmas.List.{append-nil}
+use Rattle.std.specs.List.{list_all}
 use Rattle.selective_undo.specs.Changes.{changes}
 use Rattle.wb_book.specs.declared.cells.cell.Cell.TheVariants.{Object}
 use Rattle.wb_book.specs.Cells.{Changes, cell_cmp}
 use Rattle.wb_book.specs.Runs.{changes_in as run_changes, all_changes}
-use Rattle.wb_shelf.specs.Groups.{LeadTo, changes_in}
+use Rattle.wb_shelf.specs.Groups.{LeadTo, changes_in, is_numeric}
+use Rattle.wb_shelf.proofs.EntriesSet.{run_passes}
 use Rattle.wb_shelf.proofs.Entries.{run_more, all_runs, object_more}
 use Rattle.wb_shelf.proofs.groups.add_runs.Goals as goal
+
+pub add_run-requires : goal.add_run-requires
+add_run-requires c =
+    ap (λ f. list_all is_numeric (run_changes f)) c.form.ensures
+    ∙ run_passes is_numeric c.args.runs.now c.loop-run.run-index c.run-item.result c.loop-run-test.true c.run-item.is c.requires
 
 pub loop-run-preserved : goal.loop-run-preserved
 loop-run-preserved c =

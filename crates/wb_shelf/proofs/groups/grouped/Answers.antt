@@ -1,8 +1,30 @@
-use Rattle.std.proofs.Common.{List, [], ◌∷◌, sym, subst}
+use Rattle.std.proofs.Common.{List, [], ◌∷◌, sym, ap, subst, ◌∙◌}
+use Rattle.std.specs.List.{list_all}
+use Rattle.wb_book.specs.Runs.{all_changes}
 use Rattle.wb_book.specs.Cells.{Name, Changes}
-use Rattle.wb_shelf.specs.Groups.{Group, LeadTo, changes_in}
+use Rattle.wb_shelf.specs.Groups.{Group, LeadTo, changes_in, is_numeric}
+use Rattle.wb_shelf.proofs.ElementsSet.{both_true}
 use Rattle.wb_shelf.proofs.Entries.{begins, only_runs}
 use Rattle.wb_shelf.proofs.groups.grouped.Goals as goal
+
+pub add_change-requires : goal.add_change-requires
+add_change-requires c =
+    let x = c.in-Some.first in
+    let rs = c.parts-first.result.1.now in
+    let all = ap (list_all is_numeric) (sym (begins c.args.delta.now c.parts-first.result.0 rs c.parts-first.ensures x c.in-Some.is)) ∙ c.requires in
+    (both_true (is_numeric x) (list_all is_numeric (all_changes rs)) all).0
+
+pub add_runs-requires-2 : goal.add_runs-requires-2
+add_runs-requires-2 c =
+    let x = c.in-Some.first in
+    let rs = c.parts-first.result.1.now in
+    let all = ap (list_all is_numeric) (sym (begins c.args.delta.now c.parts-first.result.0 rs c.parts-first.ensures x c.in-Some.is)) ∙ c.requires in
+    (both_true (is_numeric x) (list_all is_numeric (all_changes rs)) all).1
+
+pub add_runs-requires : goal.add_runs-requires
+add_runs-requires c =
+    let rs = c.parts-first.result.1.now in
+    ap (list_all is_numeric) (sym (only_runs c.args.delta.now c.parts-first.result.0 rs c.parts-first.ensures (λ x e. c.in_default.not-Some x e))) ∙ c.requires
 
 pub returns-clause-lead : goal.returns-clause-lead
 returns-clause-lead c = λ b.
