@@ -1,12 +1,34 @@
 """The page in a real browser: a headless Chromium, where there is one."""
 
+import os
+import tempfile
 import threading
 import unittest
+from http.server import BaseHTTPRequestHandler, ThreadingHTTPServer
 
 from tests.browser import CHROMIUM, Browser
 from tests.support import PROGRAM, Server
 from workbook_client import Workbook
 from workbook_client.page import serve
+
+ELSEWHERE = """<!doctype html><title>elsewhere</title><script>
+const told = [];
+const urls = ["%URL%", "%URL%state?seen=x", "%URL%needs?k=1", "%URL%text", "%URL%history", "%BARE%state", "%BARE%history"];
+for (const url of urls) {
+  const image = new Image();
+  image.onload = () => told.push("an image came");
+  image.onerror = () => told.push("refused");
+  image.src = url;
+  for (const mode of ["cors", "no-cors"])
+    fetch(url, {mode}).then(answer => told.push(mode + " " + answer.type + " " + answer.status), () => told.push("refused"));
+}
+for (const [mode, type] of [["cors", "application/json"], ["no-cors", "text/plain"]])
+  fetch("%URL%do", {method: "POST", mode, headers: {"Content-Type": type}, body: '{"line":"D = {1..4}"}'})
+    .then(answer => told.push(mode + " " + answer.type + " " + answer.status), () => told.push("refused"));
+</script>"""
+"""A page of another site, which asks the server for all that it has, by images and by requests, and tells what came of each."""
+ASKED = 7 * 3 + 2
+"""So many times."""
 
 CELL = ".value[data-key='A[{}]']"
 
@@ -15,16 +37,20 @@ CELL = ".value[data-key='A[{}]']"
 class InABrowser(unittest.TestCase):
     def open(self, book: Workbook) -> Browser:
         server = serve(book)
+        self.addCleanup(book.close)
+        self.run_in_background(server)
+        browser = Browser()
+        self.addCleanup(browser.close)
+        browser.go(server.url)
+        return browser
+
+    def run_in_background(self, server: ThreadingHTTPServer) -> None:
+        """Lets a server answer until the test ends."""
         thread = threading.Thread(target=server.serve_forever, args=(0.05,))
         thread.start()
-        self.addCleanup(book.close)
         self.addCleanup(thread.join)
         self.addCleanup(server.server_close)
         self.addCleanup(server.shutdown)
-        browser = Browser()
-        self.addCleanup(browser.close)
-        browser.go(f"http://127.0.0.1:{server.server_address[1]}/")
-        return browser
 
     def line(self, browser: Browser, *lines: str) -> None:
         """Types lines below the page."""
@@ -77,6 +103,106 @@ class InABrowser(unittest.TestCase):
         self.line(browser, "A[4 = 9")
         self.assertIn("expected ']'", browser.text("#said"))
         self.assertEqual(browser.faults, [])
+
+    def elsewhere(self, text: str) -> int:
+        """Another server with one page; its port."""
+
+        class Handler(BaseHTTPRequestHandler):
+            def do_GET(self) -> None:
+                self.send_response(200)
+                self.send_header("Content-Type", "text/html; charset=utf-8")
+                self.end_headers()
+                self.wfile.write(text.encode())
+
+            def log_message(self, *_: object) -> None:
+                pass
+
+        server = ThreadingHTTPServer(("127.0.0.1", 0), Handler)
+        server.daemon_threads = True
+        self.run_in_background(server)
+        return int(server.server_address[1])
+
+    def test_another_site_asks_the_desk_nothing(self):
+        """By no image and no request, even where it knew the key: the desk's journal stays as it was."""
+        desk = Server(seats=1)
+        self.addCleanup(desk.close)
+        page = serve(desk.connect())
+        self.run_in_background(page)
+        bare = page.url[: page.url.rindex("/", 0, -1) + 1]
+        port = self.elsewhere(ELSEWHERE.replace("%URL%", page.url).replace("%BARE%", bare))
+        browser = Browser()
+        self.addCleanup(browser.close)
+        for host in ("localhost", "127.0.0.1"):  # another site, and the same site with another origin
+            with self.subTest(host):
+                browser.go(f"http://{host}:{port}/")
+                browser.until(f"told.length === {ASKED}")
+                told = browser.js("told.filter(x => x !== 'refused' && x !== 'no-cors opaque 0').join()")
+                self.assertEqual(told, "")
+        self.assertEqual(desk.settled(), (0, "chapel-workbook 1\nend\n"))
+
+    def test_another_site_frames_and_opens_nothing(self):
+        page = serve(Workbook.run(PROGRAM))
+        self.addCleanup(page.RequestHandlerClass.view.book.close)
+        self.run_in_background(page)
+        port = self.elsewhere(f"<iframe src='{page.url}'></iframe><a id='link' href='{page.url}'>link</a>")
+        browser = Browser()
+        self.addCleanup(browser.close)
+        browser.go(f"http://localhost:{port}/")
+        self.assertIsNone(browser.js("document.querySelector('iframe').contentDocument"))
+        browser.click("#link")
+        browser.until("document.body.innerText.includes('only the page itself may ask')")
+        browser.go(page.url)  # as typed
+        browser.until("document.body.innerText.includes('The workbook is empty')")
+
+    def test_labels_with_direction_marks(self):
+        """They are shown without the marks, and edited by their own names."""
+        book = Workbook.run(PROGRAM)
+        browser = self.open(book)
+        label = "a\u202eb\u2067c"
+        book.assoc("T", "text").add(label)
+        P = book.array("P", "T")
+        browser.until("document.querySelectorAll('.edits li').length === 3")
+        browser.click(".value")
+        browser.type("5")
+        browser.key("Enter")
+        browser.until("document.querySelector('.value').innerText === '5'")
+        browser.until("document.querySelectorAll('.edits li').length === 4")
+        self.assertEqual(P[label], 5)
+        self.assertEqual(browser.text(".box .at"), "a\ufffdb\ufffdc")
+        self.assertEqual(browser.js("document.querySelector('.value').title"), 'P["a\ufffdb\ufffdc"]')
+        self.assertEqual(browser.text(".edits li[data-k='4'] .what"), 'P["a\ufffdb\ufffdc"] = 5')
+        self.line(browser, f'P["{label}x"] = 1')
+        self.assertIn("a\ufffdb\ufffdcx", browser.text("#said"))
+        self.assertFalse(browser.js("/[\\u061c\\u200e\\u200f\\u202a-\\u202e\\u2066-\\u2069]/.test(document.body.innerText)"))
+        self.assertEqual(browser.faults, [])
+
+    def test_no_file_is_written_or_read(self):
+        browser = self.open(Workbook.run(PROGRAM))
+        browser.until("document.body.innerText.includes('The workbook is empty')")
+        with tempfile.TemporaryDirectory() as place:
+            path = os.path.join(place, "written")
+            for word in ("save", "keep"):
+                answer = browser.js(
+                    f"""fetch("do", {{method: "POST", headers: {{"Content-Type": "application/json"}},
+                        body: JSON.stringify({{line: " {word} {path}"}})}}).then(x => x.json()).then(x => x.say)"""
+                )
+                self.assertIn("Files are for the terminal", answer)
+                self.line(browser, f"{word} {path}")
+                self.assertIn("Files are for the terminal", browser.text("#said"))
+            self.assertEqual(os.listdir(place), [])
+        self.assertEqual(browser.faults, [])
+
+    def test_the_links_of_the_page(self):
+        browser = self.open(Workbook.run(PROGRAM))
+        self.line(browser, "D = {1..2}", "A over D")
+        for word, text in (("text", "array A over D [0, 0]"), ("history", "history 2")):
+            with self.subTest(word):
+                browser.js(f"document.querySelector(\"a[href='{word}']\").removeAttribute('target')")
+                address = browser.js("location.href")
+                browser.click(f"a[href='{word}']")
+                browser.until(f"document.body.innerText.includes({text!r})")
+                browser.go(address)
+                browser.until("document.querySelectorAll('.edits li').length === 2")
 
     def test_who_blocks_whom_at_a_desk_is_asked_where_the_pointer_rests(self):
         server = Server(seats=2)

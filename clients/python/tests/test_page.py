@@ -2,9 +2,12 @@
 
 import http.client
 import json
+import os
 import socket
+import tempfile
 import threading
 import unittest
+from urllib.parse import urlsplit
 
 from tests.support import PROGRAM, Server
 from workbook_client import Workbook, view
@@ -16,15 +19,19 @@ class Page(unittest.TestCase):
         self.addCleanup(book.close)
         self.server = serve(book)
         self.port = self.server.server_address[1]
+        self.key = urlsplit(self.server.url).path[:-1]
         thread = threading.Thread(target=self.server.serve_forever, args=(0.05,))
         thread.start()
         self.addCleanup(thread.join)
         self.addCleanup(self.server.server_close)
         self.addCleanup(self.server.shutdown)
 
-    def ask(self, path, body=None, **headers):
+    def ask(self, path, body=None, key=None, **headers):
+        """Asks as the page does, but for the headers that are told; those of None are left out."""
         asked = http.client.HTTPConnection("127.0.0.1", self.port, timeout=10)
-        headers = {name.replace("_", "-"): value for name, value in headers.items()}
+        headers = {"Sec_Fetch_Site": "same-origin", **headers}
+        headers = {name.replace("_", "-"): value for name, value in headers.items() if value is not None}
+        path = (self.key if key is None else key) + path
         if body is not None:
             headers.setdefault("Content-Type", "application/json")
         asked.request("GET" if body is None else "POST", path, None if body is None else json.dumps(body), headers)
@@ -70,6 +77,84 @@ class Page(unittest.TestCase):
         self.assertIn("terminal", self.lines("save x")["say"])
         self.assertEqual(self.ask("/nothing")[0], 404)
         self.assertEqual(self.ask("/do", {"line": "undo"}, Content_Type="text/plain")[0], 404)
+
+    def test_files_are_for_the_terminal_however_the_line_is_written(self):
+        self.open(Workbook.run(PROGRAM))
+        with tempfile.TemporaryDirectory() as place:
+            path = os.path.join(place, "written")
+            for line in (f"{word}{path}" for word in ("save ", " save ", "\tsave\t", "keep ", "  keep  ", "\u0020keep\t")):
+                with self.subTest(line):
+                    told = self.lines(line)
+                    self.assertEqual((told["ok"], "Files are for the terminal" in told["say"]), (False, True))
+            self.assertEqual(os.listdir(place), [])
+            with open(path, "w", encoding="utf-8") as file:
+                file.write("chapel-workbook 1\nrect D {1..4} none\nend\n")
+            for line in (f"load {path}", f" load {path}", f"\tload\t{path}"):
+                with self.subTest(line):
+                    self.assertFalse(self.lines(line)["ok"])
+            self.assertEqual(self.ask("/text")[1], "chapel-workbook 1\nend\n")
+
+    def test_help_lists_what_the_page_takes(self):
+        self.open(Workbook.run(PROGRAM))
+        told = self.lines("help")["say"]
+        for word in ("drop", "cascade", "history", "// starts a remark"):
+            self.assertIn(word, told)
+        for word in view.TERMINAL_ALONE:
+            with self.subTest(word):
+                self.assertNotIn(word, told)
+                self.assertFalse(self.lines(f"{word} on" if word == "colours" else f"{word} x" if word != "quit" else word)["ok"])
+        self.assertFalse(self.lines("exit")["ok"])
+
+    def test_whoever_has_not_the_key_is_kept_out(self):
+        self.open(Workbook.run(PROGRAM))
+        wrong = "/" + "x" * (len(self.key) - 1)
+        for key in ("", wrong, self.key[:-1], self.key + "x", "/" + self.key[1:].swapcase(), "/%2e"):
+            for path in ("/", "/state", "/needs?k=1", "/text", "/history"):
+                with self.subTest(key + path):
+                    self.assertEqual(self.ask(path, key=key)[0], 403)
+            self.assertEqual(self.ask("/do", {"line": "D = {1..4}"}, key=key)[0], 403)
+        self.assertEqual(self.ask("", key=self.key)[0], 403)
+        self.assertEqual(self.ask("/text")[1], "chapel-workbook 1\nend\n")
+
+    def test_another_server_has_another_key(self):
+        self.open(Workbook.run(PROGRAM))
+        before = self.key
+        self.open(Workbook.run(PROGRAM))
+        self.assertNotEqual(before, self.key)
+        self.assertEqual(self.ask("/state", key=before)[0], 403)
+
+    def test_what_another_site_asks_is_refused(self):
+        """Also where it knew the key."""
+        self.open(Workbook.run(PROGRAM))
+        for site in ("cross-site", "same-site", "", "Same-Origin", None):
+            for path in ("/", "/state", "/needs?k=1", "/text", "/history"):
+                with self.subTest(f"{path} {site}"):
+                    self.assertEqual(self.ask(path, Sec_Fetch_Site=site)[0], 403)
+            self.assertEqual(self.ask("/do", {"line": "D = {1..4}"}, Sec_Fetch_Site=site)[0], 403)
+        for path, status in (("/", 200), ("/text", 200), ("/history", 200), ("/state", 403), ("/needs?k=1", 403)):
+            with self.subTest(path):  # somebody gives the address to the browser
+                self.assertEqual(self.ask(path, Sec_Fetch_Site="none")[0], status)
+        self.assertEqual(self.ask("/do", {"line": "D = {1..4}"}, Sec_Fetch_Site="none")[0], 403)
+        self.assertEqual(self.ask("/text")[1], "chapel-workbook 1\nend\n")
+
+    def test_labels_with_direction_marks_are_shown_without_them(self):
+        book = Workbook.run(PROGRAM)
+        self.open(book)
+        for mark in "\u061c\u200e\u200f\u202a\u202b\u202c\u202d\u202e\u2066\u2067\u2068\u2069\x9b":
+            with self.subTest(f"{ord(mark):04x}"):
+                book.assoc("T", "text").add(f"a{mark}b")
+                book.array("P", "T")
+                told = self.lines(f'P["a{mark}b"] = 5')
+                state = self.ask("/state")[1]
+                (array,) = state["arrays"]
+                self.assertEqual(array["values"], [[["a\ufffdb"], f'"a{mark}b"', "5"]])  # the second is what a line names it by
+                self.assertEqual(state["edits"][-1]["what"], 'P["a\ufffdb"] = 5')
+                array["values"] = []
+                refused = self.lines(f'P["a{mark}"] = 5')
+                self.assertEqual((told["ok"], refused["ok"]), (True, False))
+                self.assertNotIn(mark, json.dumps([state, told, refused], ensure_ascii=False))
+                book["P"].drop()
+                book["T"].drop()
 
     def test_other_pages_are_kept_out(self):
         self.open(Workbook.run(PROGRAM))
@@ -181,7 +266,7 @@ class Page(unittest.TestCase):
         for length in ("-1", "x", "", "1048577", "9" * 30):
             with self.subTest(length):
                 with socket.create_connection(("127.0.0.1", self.port), 10) as raw:
-                    raw.sendall(f"POST /do HTTP/1.1\r\nHost: 127.0.0.1:{self.port}\r\nContent-Length: {length}\r\n\r\nxx".encode())
+                    raw.sendall(f"POST {self.key}/do HTTP/1.1\r\nHost: 127.0.0.1:{self.port}\r\nContent-Length: {length}\r\n\r\nxx".encode())
                     told = b"".join(iter(lambda: raw.recv(1000), b""))  # until it is closed
                 self.assertIn(b" 413 ", told)
         self.assertEqual(self.ask("/do", [1])[0], 400)
@@ -190,7 +275,7 @@ class Page(unittest.TestCase):
     def test_nothing_from_elsewhere_runs_in_the_page(self):
         self.open(Workbook.run(PROGRAM))
         asked = http.client.HTTPConnection("127.0.0.1", self.port, timeout=10)
-        asked.request("GET", "/")
+        asked.request("GET", self.key + "/", headers={"Sec-Fetch-Site": "none"})
         answer = asked.getresponse()
         answer.read()
         asked.close()

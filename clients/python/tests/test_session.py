@@ -3,6 +3,7 @@
 import io
 import os
 import re
+import shutil
 import signal
 import subprocess
 import sys
@@ -11,6 +12,7 @@ import unittest
 
 from tests.support import HERE, PROGRAM, Server
 from workbook_client import Workbook
+from workbook_client.language import WORDS
 from workbook_client.session import Session
 from workbook_client.tables import Cell, columns, elements_table, grid, plain
 
@@ -67,6 +69,19 @@ class Talk(unittest.TestCase):
             self.session.out = io.StringIO()
             self.session.line(line)
         return str(getattr(self.session.out, "getvalue")())
+
+    def test_help_has_every_word_of_the_language(self):
+        told = self.say("help")
+        words = set(re.findall(r"[A-Za-z]+", told))
+        self.assertEqual({*WORDS, "blockDist", "cyclicDist", "blockCycDist", "none", "translate", "expand"} - words, set())
+        for sign in ("..<", "..#", "+=", "-=", "*=", "|=", "&=", "^=", "//"):
+            self.assertIn(sign, told)
+
+    def test_exit_is_quit(self):
+        self.assertFalse(self.session.line("exit"))
+        self.assertFalse(self.session.line(" quit "))
+        self.assertTrue(self.session.line("exit = {1..4}"))
+        self.assertIn("exit", self.wb.print_text())
 
     def test_blocked_says_what_to_do_next_and_that_works(self):
         told = self.say("D = {1..4}", "A over D", "A[1] = 5", "A[2] = A[1] + 1", "undo 3")
@@ -197,6 +212,30 @@ class Whole(unittest.TestCase):
         )
         self.assertEqual(gone.returncode, 3)
         self.assertIn("there is no program", gone.stderr)
+
+    def test_what_is_no_program_and_no_server_is_told_in_a_sentence(self):
+        with tempfile.TemporaryDirectory() as place:
+            junk = os.path.join(place, "junk")
+            with open(junk, "wb") as file:
+                file.write(b"\x00no program")
+            os.chmod(junk, 0o755)
+            echo = shutil.which("echo") or "echo"
+            for words, why in [
+                (["--program", "/no/such"], "there is no program"), (["--program", place], "there is no program"),
+                (["--program", junk], "can't be started"), (["--program", echo], "no reply of a workbook"),
+                (["--program", shutil.which("true") or "true"], "has ended with status 0"),
+                (["--connect", "127.0.0.1:1"], "nobody listens"), (["--connect", "127.0.0.1:99999"], "nobody listens"),
+                (["--connect", "a..b:7"], "nobody listens"), (["--connect", "localhost"], "HOST:PORT is wanted"),
+                (["--connect", "http://127.0.0.1:70x"], "HOST:PORT is wanted"),
+            ]:
+                for module in ("workbook_client", "workbook_client.page"):
+                    with self.subTest(" ".join([module, *words])):
+                        gone = subprocess.run(
+                            [sys.executable, "-m", module, *words], input="", capture_output=True, text=True, cwd=PACKAGE, timeout=30,
+                        )
+                        self.assertEqual((gone.returncode, gone.stdout), (2 if "HOST" in why else 3, ""))
+                        self.assertIn(why, gone.stderr)
+                        self.assertNotIn("Traceback", gone.stderr)
 
     def test_a_server_whose_seats_are_taken(self):
         server = Server(seats=1)

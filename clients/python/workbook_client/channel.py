@@ -172,7 +172,7 @@ class SocketChannel(Channel):
         self.where = f"{host}:{port}"
         try:
             self._socket = socket.create_connection((host, port), wait)
-        except (OSError, OverflowError) as fault:  # OverflowError: no such port
+        except (OSError, OverflowError, UnicodeError) as fault:  # the last two: no such port, and no such host
             raise NoServer(f"nobody listens at {self.where}: {fault}") from fault
         self._socket.setsockopt(socket.IPPROTO_TCP, socket.TCP_NODELAY, 1)
         super().__init__(self._socket.fileno(), self._socket.fileno())

@@ -12,7 +12,7 @@ from . import requests
 from .requests import Request
 
 COMMANDS = (
-    "cascade", "colours", "dependents", "drop", "help", "history", "keep", "load", "max", "min", "names",
+    "cascade", "colours", "dependents", "drop", "exit", "help", "history", "keep", "load", "max", "min", "names",
     "piece", "quit", "redo", "save", "size", "text", "undo", "where",
 )
 WORDS = COMMANDS + ("by", "align", "dmapped", "over", "sparse", "reduce", "int", "text", "irv")
@@ -181,7 +181,7 @@ class _Parser:
             self.wrong(f"expected `reduce`, as in `{word} reduce A`")
         if word == "help":
             return Command(word, (self.take().text,))
-        return self.end(Command(word))
+        return self.end(Command("quit" if word == "exit" else word))
 
     def statement(self) -> Union[Request, Command]:
         token = self.now

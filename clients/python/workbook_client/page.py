@@ -3,19 +3,22 @@
     python3 -m workbook_client.page --program workbook
     python3 -m workbook_client.page --connect 127.0.0.1:7000
 
-It listens on 127.0.0.1 alone, and answers only requests that its own page sends.
+It listens on 127.0.0.1 alone. It answers a request only where its address begins with the key that this server drew when it
+started, and where the browser says that the page itself sent it, or, for what is opened, that somebody opened it by its address.
 """
 
 import base64
 import hashlib
+import hmac
 import json
 import re
+import secrets
 import sys
 import webbrowser
 from http.server import BaseHTTPRequestHandler, ThreadingHTTPServer
 from pathlib import Path
-from typing import Any, Callable, Dict, List, Optional
-from urllib.parse import parse_qs, urlparse
+from typing import Any, Callable, Dict, List, Optional, Tuple
+from urllib.parse import parse_qs
 
 from .book import Workbook
 from .errors import NoProgram, SessionEnded
@@ -26,6 +29,8 @@ from .view import View
 PAGE = Path(__file__).with_name("page.html")
 LONGEST = 1 << 20
 """So many bytes a request of the page may have."""
+OPENED = ("", "text", "history")
+"""What is opened by its address, or by a link of the page; all else the page itself asks for."""
 
 
 def policy(page: str) -> str:
@@ -42,36 +47,38 @@ def policy(page: str) -> str:
 
 
 class Handler(BaseHTTPRequestHandler):
-    """Six addresses: / the page, /state, /needs, /text, /history, and /do for what the page does."""
+    """Six addresses behind the key: the page, state, needs, text, history, and do for what the page does."""
 
     view: View
     page: bytes
     policy: str
+    key: str
     protocol_version = "HTTP/1.1"
     timeout = 60  # a connection that says nothing for so long is closed
 
     def do_GET(self) -> None:
         """The page, its state, who needs an edit, or the text of the workbook or of its history."""
-        if not self.is_ours():
+        place, query = self.place()
+        if place is None:
             return
-        url = urlparse(self.path)
-        if url.path == "/":
+        if place == "":
             self.answer(200, self.page, "text/html; charset=utf-8")
-        elif url.path == "/state":
-            self.guarded(lambda: self.state(parse_qs(url.query).get("seen", [""])[0]))
-        elif url.path == "/needs":
-            self.guarded(lambda: self.needs(parse_qs(url.query).get("k", [""])[0]))
-        elif url.path in ("/text", "/history"):
-            self.guarded(lambda: self.text(self.view.text if url.path == "/text" else self.view.history))
+        elif place == "state":
+            self.guarded(lambda: self.state(parse_qs(query).get("seen", [""])[0]))
+        elif place == "needs":
+            self.guarded(lambda: self.needs(parse_qs(query).get("k", [""])[0]))
+        elif place in ("text", "history"):
+            self.guarded(lambda: self.text(self.view.text if place == "text" else self.view.history))
         else:
             self.tell(404, {"say": "there is nothing here"})
 
     def do_POST(self) -> None:
         """What the page does."""
         body = self.body()
-        if body is None or not self.is_ours():
+        place = None if body is None else self.place()[0]
+        if body is None or place is None:
             return
-        if self.path != "/do" or self.headers.get("Content-Type") != "application/json":
+        if place != "do" or self.headers.get("Content-Type") != "application/json":
             self.tell(404, {"say": "there is nothing here"})
             return
         try:
@@ -122,16 +129,27 @@ class Handler(BaseHTTPRequestHandler):
         except Exception as fault:
             self.tell(500, {"say": f"{type(fault).__name__}: {fault}"})
 
-    def is_ours(self) -> bool:
-        """Other pages of the browser are kept out: the host and the origin must be this server."""
+    def place(self) -> Tuple[Optional[str], str]:
+        """What is asked for behind the key, and the query; None where others ask, who are told so."""
+        path, _, query = self.path.partition("?")
+        key, slash, place = path.lstrip("/").partition("/")
+        if not slash or not hmac.compare_digest(key.encode(), self.key.encode()) or not self.is_ours(place):
+            self.tell(403, {"say": "only the page itself may ask; its whole address is what the terminal shows"})
+            return None, ""
+        return place, query
+
+    def is_ours(self, place: str) -> bool:
+        """Other pages of the browser are kept out: the host, the origin and the site must be this server. `none` is the site
+        where somebody gave the address to the browser."""
         port = self.connection.getsockname()[1]
         hosts = (f"127.0.0.1:{port}", f"localhost:{port}")
         origin = self.headers.get("Origin")
-        ours = origin is None or origin in [f"http://{host}" for host in hosts]
-        if self.headers.get("Host") in hosts and ours:
-            return True
-        self.tell(403, {"say": "only the page itself may ask"})
-        return False
+        site = self.headers.get("Sec-Fetch-Site")
+        return (
+            self.headers.get("Host") in hosts
+            and (origin is None or origin in [f"http://{host}" for host in hosts])
+            and (site == "same-origin" or (site == "none" and place in OPENED))
+        )
 
     def tell(self, status: int, what: Dict[str, Any]) -> None:
         """Answers with JSON."""
@@ -145,6 +163,8 @@ class Handler(BaseHTTPRequestHandler):
             self.send_header("Content-Length", str(len(body)))
         self.send_header("Cache-Control", "no-store")
         self.send_header("X-Content-Type-Options", "nosniff")
+        self.send_header("Referrer-Policy", "same-origin")
+        self.send_header("Cross-Origin-Resource-Policy", "same-origin")
         self.send_header("Content-Security-Policy", self.policy)
         self.end_headers()
         self.wfile.write(body)
@@ -154,9 +174,10 @@ class Handler(BaseHTTPRequestHandler):
 
 
 class Server(ThreadingHTTPServer):
-    """The page's server."""
+    """The page's server. `url` is the page's whole address, with its key."""
 
     daemon_threads = True
+    url = ""
 
     def handle_error(self, request: Any, client_address: Any) -> None:
         """A page that went away is nothing to tell of."""
@@ -167,8 +188,11 @@ class Server(ThreadingHTTPServer):
 def serve(book: Workbook, port: int = 0) -> Server:
     """A server of the page on 127.0.0.1; `serve_forever` runs it."""
     page = PAGE.read_text(encoding="utf-8")
-    members = {"view": View(book), "page": page.encode(), "policy": policy(page)}
-    return Server(("127.0.0.1", port), type("PageHandler", (Handler,), members))
+    key = secrets.token_urlsafe(16)
+    members = {"view": View(book), "page": page.encode(), "policy": policy(page), "key": key}
+    server = Server(("127.0.0.1", port), type("PageHandler", (Handler,), members))
+    server.url = f"http://127.0.0.1:{server.server_address[1]}/{key}/"
+    return server
 
 
 def main(words: Optional[List[str]] = None) -> int:
@@ -187,10 +211,9 @@ def main(words: Optional[List[str]] = None) -> int:
                     for line in lines:
                         session.line(line.rstrip("\r\n"))
             with serve(book, args.port) as server:
-                where = f"http://127.0.0.1:{server.server_address[1]}/"
-                print(f"the page is at {where} (Ctrl-C ends it)", flush=True)
+                print(f"the page is at {server.url} (Ctrl-C ends it)", flush=True)
                 if args.open:
-                    webbrowser.open(where)
+                    webbrowser.open(server.url)
                 server.serve_forever()
     except KeyboardInterrupt:
         print()

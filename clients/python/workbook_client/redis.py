@@ -1,12 +1,36 @@
 """Redis, as far as a log of requests needs it: words out, replies in."""
 
+import re
 import socket
-from typing import Any, List, Sequence, Union
+from typing import Any, List, NamedTuple, Sequence, Union
 from urllib.parse import unquote, urlsplit
 
 from .errors import SessionEnded
 
 Word = Union[str, bytes, int, float]
+
+
+class Place(NamedTuple):
+    """Where a Redis is, and as whom."""
+
+    host: str
+    port: int
+    user: str
+    password: str
+    number: str
+
+
+def place_of(url: str) -> Place:
+    """What `redis://[user:password@]host[:port][/number]` says; ValueError, in a sentence, where a text says something else."""
+    try:
+        parts = urlsplit(url)
+        port = parts.port or 6379
+    except ValueError as wrong:
+        raise ValueError(f"a log lies at redis://host:port, not at {url!r}: {wrong}") from wrong
+    number = parts.path.strip("/")
+    if parts.scheme != "redis" or not re.fullmatch("[0-9]*", number):
+        raise ValueError(f"a log lies at redis://host:port, or at redis://host:port/number, not at {url!r}")
+    return Place(parts.hostname or "127.0.0.1", port, unquote(parts.username or ""), unquote(parts.password or ""), number)
 
 
 class RedisRefused(Exception):
@@ -25,23 +49,21 @@ class Redis:
     """
 
     def __init__(self, url: str, wait: float = 10.0):
-        parts = urlsplit(url)
-        if parts.scheme != "redis":
-            raise ValueError(f"a log lies at redis://host:port, not at {url!r}")
-        self.where = f"{parts.hostname or '127.0.0.1'}:{parts.port or 6379}"
+        place = place_of(url)
+        self.where = f"{place.host}:{place.port}"
         self._wait = wait
         self._torn = False
         try:
-            self._socket = socket.create_connection((parts.hostname or "127.0.0.1", parts.port or 6379), wait)
-        except OSError as fault:
+            self._socket = socket.create_connection((place.host, place.port), wait)
+        except (OSError, UnicodeError) as fault:  # UnicodeError: no such host
             raise RedisGone(f"no redis at {self.where}: {fault}") from fault
         self._socket.setsockopt(socket.IPPROTO_TCP, socket.TCP_NODELAY, 1)
         self._coming = self._socket.makefile("rb")
-        if parts.password:
-            user = [unquote(parts.username)] if parts.username else []
-            self.call("AUTH", *user, unquote(parts.password))
-        if parts.path.strip("/"):
-            self.call("SELECT", parts.path.strip("/"))
+        if place.password:
+            user = [place.user] if place.user else []
+            self.call("AUTH", *user, place.password)
+        if place.number:
+            self.call("SELECT", place.number)
 
     def call(self, *words: Word, wait: float = 0.0) -> Any:
         """One command. `wait` is how long Redis itself may wait before it answers."""

@@ -1,11 +1,10 @@
 """The session for people: a prompt, a short language, tables, and refusals in words."""
 
 import os
-import re
 import shutil
 import sys
 import textwrap
-from typing import Dict, List, Optional, TextIO
+from typing import Dict, List, Mapping, Optional, TextIO
 
 from . import hearing, hints
 from . import literals as lit
@@ -17,12 +16,14 @@ from .literals import Index
 from .objects import Array
 from .refusals import Blocked, NotInForce, Refusal
 from .requests import Request
-from .tables import Cell, elements_table, grid, object_table
+from .tables import Cell, elements_table, grid, harmless, object_table
 
 HELP = """\
 Domains        D = {1..4}                    a new domain; on one that is there, a new value
+               D = {1..9 by 2 align 1}       a stride; also 0..<4 and 1..#4
                D = {1..4} dmapped blockDist({1..4}, [2])
-               D dmapped cyclicDist(1, [2])  another mapping
+               D dmapped cyclicDist(1, [2])  another mapping, or none
+               D dmapped blockCycDist(1, 2, [2])
                S sparse D                    sparse in D, with no index yet
                N = int     T = text          associative, with no index yet
                S += 3      T -= "x"          an index comes, or leaves
@@ -35,19 +36,18 @@ Arrays         A over D                      0 at each index
                A[1..2] = 7   A = 0           fills a rectangle, or all of it
                A = B   A += B   A *= B       element by element
                B.irv = 7                     the implicit value over a sparse domain
+               drop A                        an array goes, or an unused domain
 Looking        A     A[4]     A[1..20]       a table, an element, a part of the table
                + reduce A    min reduce A    max reduce A
                size D    where D 3    piece A 0    names    text
-               colours on                    tables by locale
+               colours on    colours off     tables by locale, or plain
 Edits          history                       every edit: who, what, whether in force
                undo    undo 3    redo 3      one edit alone, the latest if none is named
                dependents 3    cascade 3     who needs edit 3; takes it back with those
 Files          save FILE    load FILE        the text of the workbook
                keep FILE                     the whole history, for --resume FILE
-End            quit, or Ctrl-D               // starts a remark"""
-
-
-_OBEYED = re.compile("[\x80-\x9f\u200e\u200f\u202a-\u202e\u2066-\u2069]")
+Remarks        // starts a remark            help lists all this
+End            quit    exit                  Ctrl-D does it too"""
 
 FEW = 500
 """With more edits, a refusal doesn't ask the text of the history for what another's edit did."""
@@ -59,8 +59,13 @@ SHOWN = 40
 class Session:
     """Runs lines of the short language on a workbook and prints what came of them."""
 
-    def __init__(self, book: Workbook, out: TextIO = sys.stdout, width: Optional[int] = None):
+    def __init__(
+        self, book: Workbook, out: TextIO = sys.stdout, width: Optional[int] = None,
+        barred: Optional[Mapping[str, str]] = None,
+    ):
         self.book, self.out = book, out
+        self.barred = barred or {}
+        """Commands that aren't taken here, each with what is said instead."""
         self._width = width
         self.colours = False
         self.failed = False
@@ -73,8 +78,8 @@ class Session:
         return self._width or max(shutil.get_terminal_size((80, 24)).columns or 80, 24)
 
     def say(self, text: str) -> None:
-        """Prints a text. What a terminal would obey, and others may have put in, is shown as �."""
-        print(_OBEYED.sub("\ufffd", text), file=self.out)
+        """Prints a text."""
+        print(harmless(text), file=self.out)
 
     def wrapped(self, text: str) -> None:
         self.say(textwrap.fill(text, self.width, initial_indent="  ", subsequent_indent="  ",
@@ -160,13 +165,18 @@ class Session:
     # --- commands of the session
 
     def command(self, command: Command) -> bool:
+        if command.word in self.barred:
+            self.failed = True
+            self.wrapped(self.barred[command.word])
+            return True
         if command.word == "quit":
             return False
         getattr(self, "do_" + command.word)(*command.args)
         return True
 
     def do_help(self, _word: str = "") -> None:
-        self.say(HELP)
+        """Every line of the help whose command is taken here."""
+        self.say("\n".join(line for line in HELP.splitlines() if line[15:].split()[0] not in self.barred))
 
     def do_show(self, name: str, part: Optional[str] = None) -> None:
         ranges = None if part is None else lit.spelled_ranges(part)

@@ -121,13 +121,23 @@ def open_book(args: argparse.Namespace) -> Workbook:
     if args.connect:
         return Workbook.connect(*args.connect)
     if not args.resume:
-        return Workbook.run(args.program)
+        return _answering(Workbook.run(args.program))
     with open(args.resume, encoding="utf-8", newline="") as file:
         text = file.read()
     try:
         return Workbook.run(args.program, resume=text)
     except ValueError as wrong:
         raise NotResumed(f"{args.resume}: {wrong}") from wrong
+
+
+def _answering(book: Workbook) -> Workbook:
+    """The workbook, once its program has answered: what is no workbook is told of before a line is typed."""
+    try:
+        book.exchange.knock()
+    except BaseException:
+        book.close()
+        raise
+    return book
 
 
 def main(words: Optional[List[str]] = None) -> int:

@@ -15,6 +15,7 @@ from .objects import Array
 from .refusals import Refusal
 from .session import Session
 from .snapshot import RectDomain, Snapshot, SparseDomain
+from .tables import harmless
 
 MOST = 4096
 """So many elements of an array are shown."""
@@ -26,7 +27,12 @@ MANY = 2000
 """With more edits, what others' edits did isn't asked: the text of the history would be long."""
 APART = 1.5
 """So many seconds lie between two looks at a shared workbook, however many pages are open."""
-TERMINAL_ALONE = ("save", "load", "keep")
+TERMINAL_ALONE = {
+    **dict.fromkeys(("save", "load", "keep"), "Files are for the terminal; the links above give the texts."),
+    "colours": "Colours by locale are the box above.",
+    "quit": "The page is closed in the browser; its server ends by Ctrl-C in the terminal.",
+}
+"""Commands of the session that the page doesn't take."""
 
 Json = Dict[str, Any]
 
@@ -120,7 +126,7 @@ class View:
             shot, self._shot = self._shot or self.book.snapshot(), None
             self._objects = {
                 "domains": [
-                    {"name": name, "words": shot.domains[name].in_words()} for name in sorted(shot.domains)
+                    {"name": name, "words": harmless(shot.domains[name].in_words())} for name in sorted(shot.domains)
                 ],
                 "arrays": [self._array(shot, name) for name in sorted(shot.arrays)],
             }
@@ -144,7 +150,7 @@ class View:
         shown: Json = {
             "name": name,
             "over": array.over,
-            "words": domain.in_words(),
+            "words": harmless(domain.in_words()),
             "size": len(values),
             "values": [[_parts(i), _at(i), str(value)] for i, value in values[:MOST]],
             "locales": None,
@@ -168,15 +174,13 @@ class View:
 
     def _edit(self, edit: Edit) -> Json:
         return {
-            "k": edit.number, "what": edit.what, "who": edit.who, "cells": edit.cells,
+            "k": edit.number, "what": harmless(edit.what), "who": edit.who, "cells": edit.cells,
             "on": edit.was_in_force, "needs": self._needs.get(edit.number) if edit.was_in_force else None,
         }
 
     def do(self, asked: Json) -> Json:
         """A line of the short language (`line`), or an undo, redo or cascade (`op` and `k`)."""
         line = str(asked.get("line", ""))
-        if line.split(" ")[0] in TERMINAL_ALONE:
-            return {"ok": False, "say": "Files are for the terminal; the links above give the texts."}
         make = WAYS.get(str(asked.get("op")))
         with self._lock:
             self._looked = float("-inf")
@@ -191,7 +195,7 @@ class View:
     def _done(self, act: Callable[[Session], object]) -> Json:
         """What came of it, in the words of the session."""
         said = io.StringIO()
-        session = Session(self.book, said, width=100)
+        session = Session(self.book, said, width=100, barred=TERMINAL_ALONE)
         try:
             act(session)
         except Refusal as no:
@@ -225,8 +229,8 @@ class View:
 
 
 def _parts(index: Index) -> List[str]:
-    """The index's numbers, or its text, as texts: JavaScript's numbers have 53 bits."""
-    return [str(part) for part in index] if isinstance(index, tuple) else [str(index)]
+    """The index's numbers, or its text, as texts to be shown: JavaScript's numbers have 53 bits."""
+    return [str(part) for part in index] if isinstance(index, tuple) else [harmless(str(index))]
 
 
 def _at(index: Index) -> str:

@@ -12,8 +12,8 @@ from typing import Dict, List, Optional, Sequence, Tuple
 
 from . import keeping, log
 from .channel import Channel, command
-from .errors import SessionEnded
-from .redis import Redis, RedisGone, RedisRefused
+from .errors import NoProgram, SessionEnded
+from .redis import Redis, RedisGone, RedisRefused, place_of
 
 BAD_REQUEST = b'{"error":"E01","name":"bad-request"}'
 NO_MEMORY = b'"error":"E90"'
@@ -135,6 +135,10 @@ class Worker:
             tell(fault)
             self._release_all()
             return OUT_OF_MEMORY
+        except NoProgram as fault:
+            tell(fault)
+            self._release_all()
+            return FAILED
         finally:
             self._end_all()
 
@@ -249,6 +253,9 @@ class Worker:
             return
         try:
             self._held[name] = Held(lease, self._settings)
+        except NoProgram:
+            lease.release()
+            raise
         except (SessionEnded, keeping.Unresumed) as fault:
             if isinstance(fault, RedisGone):
                 raise
@@ -284,19 +291,39 @@ def tell(what: object) -> None:
     print(f"worker: {what}", file=sys.stderr, flush=True)
 
 
+def log_at(url: str) -> str:
+    """A URL of a Redis."""
+    try:
+        place_of(url)
+    except ValueError as wrong:
+        raise argparse.ArgumentTypeError(str(wrong)) from wrong
+    return url
+
+
+def seconds(text: str) -> float:
+    """So many seconds, more than none."""
+    try:
+        told = float(text)
+    except ValueError:
+        told = 0.0
+    if not 0.0 < told < 1e9:
+        raise argparse.ArgumentTypeError(f"a number of seconds above 0 is wanted, not {text!r}")
+    return told
+
+
 def settings_of(words: Optional[Sequence[str]] = None) -> Settings:
     parser = argparse.ArgumentParser(
         prog="python3 -m workbook_client.worker",
         description="Answers the requests of workbooks that stand in logs in Redis, with as many other workers as there are.",
     )
-    parser.add_argument("--redis", required=True, metavar="URL", help="redis://[user:password@]host[:port][/number]")
+    parser.add_argument("--redis", required=True, metavar="URL", type=log_at, help="redis://[user:password@]host[:port][/number]")
     parser.add_argument("--consumer", required=True, metavar="NAME", help="what this worker calls itself")
     parser.add_argument("--program", help="the program, else as the client finds it")
-    parser.add_argument("--lease", type=float, default=5.0, metavar="SECONDS", help="after so long without a word another takes over (5)")
+    parser.add_argument("--lease", type=seconds, default=5.0, metavar="SECONDS", help="after so long without a word another takes over (5)")
     parser.add_argument("--most", type=int, default=1000, metavar="N", help="holds so many workbooks at most (1000)")
     parser.add_argument("--every", type=int, default=1000, metavar="N", help="a snapshot after so many requests (1000)")
-    parser.add_argument("--seconds", type=float, default=60.0, metavar="S", help="or after so long (60)")
-    parser.add_argument("--idle", type=float, default=60.0, metavar="S", help="a workbook without requests for so long is put aside (60)")
+    parser.add_argument("--seconds", type=seconds, default=60.0, metavar="S", help="or after so long (60)")
+    parser.add_argument("--idle", type=seconds, default=60.0, metavar="S", help="a workbook without requests for so long is put aside (60)")
     parser.add_argument("--batch", type=int, default=200, metavar="N", help="takes so many requests of a workbook at once (200)")
     parser.add_argument("--trim", action="store_true", help="cuts each log behind its snapshot")
     told = parser.parse_args(words)
@@ -305,7 +332,11 @@ def settings_of(words: Optional[Sequence[str]] = None) -> Settings:
 
 
 def main(words: Optional[Sequence[str]] = None) -> int:
-    worker = Worker(settings_of(words))
+    try:
+        worker = Worker(settings_of(words))
+    except NoProgram as none:
+        tell(none)
+        return FAILED
 
     def stop(*_: object) -> None:
         worker.stopping = True
