@@ -1,3 +1,4 @@
 //! Days of a desk: `wb_shared`.
 mod days;
+mod openings;
 mod threads;

@@ -32,7 +32,7 @@ piece 1 0 block 1 10 1 _ 4 1 10 1 _ 4 -> Err(NoLocale)
 ";
 
 // The elements count up from the first, in the order of the domain.
-fn numbered<D: Domain>(alloc: Global, domain: &D, first: i64) -> Result<Bound<D>, Fail>
+pub fn numbered<D: Domain>(alloc: Global, domain: &D, first: i64) -> Result<Bound<D>, Fail>
     ensures { IfOk result (λ b. HoldsExactly D.Index.cmp b (D.indices domain.now)) }
 {
     let mut whole = Bound::new(alloc, domain)?;
@@ -58,7 +58,7 @@ fn elements<S: Store>(alloc: Global, array: &S, indices: &[S::Index]) -> Result<
 }
 
 // What becomes of an array over `old` that goes to `new` and back, at these indices.
-fn there_and_back<I: Key + Debug, S: Store<Index = I>>(
+pub fn there_and_back<I: Key + Debug, S: Store<Index = I>>(
     alloc: Global,
     array: &mut S,
     old: &S::Dom,

@@ -1,7 +1,9 @@
 //! Index sets, mappings and arrays: the crates from `wb_range` to `wb_redist`.
 mod arrays;
+mod bounds;
 mod mappings;
 pub(crate) mod movers;
+mod moves;
 mod ranges;
 mod rectangles;
 mod rows;

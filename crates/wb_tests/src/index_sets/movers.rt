@@ -38,14 +38,14 @@ fn pieces_of(
 }
 
 // The tens 10, 20 .. 100 at 1 to 10, in blocks.
-fn tens(rt: &impl Abort, alloc: Global) -> Result<Pieces<Rect<1>, Layout<1>>, Fail> {
+pub fn tens(rt: &impl Abort, alloc: Global) -> Result<Pieces<Rect<1>, Layout<1>>, Fail> {
     let elements = [10, 20, 30, 40, 50, 60, 70, 80, 90, 100];
     let blocks = layout(&mut Words::of("block 1 10 1 _ 4"))?;
     pieces_of(rt, alloc, &blocks, &elements)
 }
 
 // Four locales in turn.
-fn in_turn() -> Result<Layout<1>, BadMapping> {
+pub fn in_turn() -> Result<Layout<1>, BadMapping> {
     layout(&mut Words::of("cyclic 1 4"))
 }
 

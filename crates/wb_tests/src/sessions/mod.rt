@@ -4,5 +4,8 @@ pub mod devices;
 mod footprints;
 mod lines;
 mod movers;
+mod readers;
+mod restores;
 mod scripts;
 mod wire;
+mod writes;

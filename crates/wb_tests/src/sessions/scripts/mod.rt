@@ -1,6 +1,7 @@
 //! Worked histories, line by line, and what becomes of lines that are broken.
 
 mod cascades;
+mod examples;
 mod histories;
 mod loads;
 mod mappings;
@@ -139,6 +140,7 @@ fn play_each<M: Mover>(rt: &impl Abort, alloc: Global, mover: &M) -> Result<(), 
         reductions::SCRIPTS.as_slice(),
         texts::SCRIPTS.as_slice(),
         loads::SCRIPTS.as_slice(),
+        examples::SCRIPTS.as_slice(),
     ] {
         play_all(rt, alloc, scripts, mover)?;
     }

@@ -1,0 +1,114 @@
+//! A desk that goes on from a history: opened, asked once and settled; and a desk of too many seats, which gives the history back.
+ghost use Rattle.std.specs.Prelude.{◌≡◌};
+
+use crate::desk::days::ask;
+use std::alloc::Global;
+use std::marker::Brand;
+use std::sync::Wait;
+use std::sync::ledger::Blank;
+use std::test::Fail;
+use wb_lines::{Input, Output};
+use wb_program::history_from;
+use wb_proto::below::encode::print_history;
+use wb_proto::below::history::History;
+use wb_proto::reply_text;
+use wb_redist::{Crew, Mover};
+use wb_shared::{Desk, DeskErr, Opening, settle};
+
+const TEXT: &str =
+    "chapel-workbook 2\narray A over D [0, 0, 0, 0]\nrect D {1..4} none\nhistory 3\n+ {\"d\":\"D\",\"is\":\"{1..4}\",\"map\":\"none\",\"op\":\"domain\"}\n+ {\"a\":\"A\",\"d\":\"D\",\"op\":\"array\"}\n- {\"a\":\"A\",\"i\":4,\"op\":\"set\",\"v\":9}\nend\n";
+
+const ELEMENT: &str = "{\"op\":\"get\",\"a\":\"A\",\"i\":4}";
+
+// The history of the text.
+fn history_of_the_text<M: Mover>(alloc: Global, mover: &M) -> Result<History, Fail> {
+    let mut refused = Vec::new(alloc);
+    let mut input = Input::new(TEXT.as_bytes());
+    match history_from(alloc, &mut input, &mut Output::new(&mut refused), mover) {
+        Ok(history) => Ok(history),
+        Err(_) => Err("a history")?,
+    }
+}
+
+// How a desk of one seat goes that begins with a history: what one line is replied, how many entries there are when it has
+// settled, and the text of its history then.
+fn day_from<L: Opening, R: Wait, M: Mover>(
+    rt: &R,
+    alloc: Global,
+    blank: Blank,
+    history: History,
+    line: &str,
+    mover: &M,
+) -> Result<(String, usize, String), Fail>
+    requires name { blank.name ≡ L.name }
+    requires parts { blank.parts ≡ L.parts }
+    requires sixteen { blank.parts ≡ 16 }
+    requires opening { L.opening ≡ history }
+{
+    let Ok((desk, mut passes)) = Desk::<L>::open_at(alloc, blank, 1, history) else {
+        return Err("a desk")?;
+    };
+    let mut pass = passes.pop().ok_or("a pass")?;
+    let reply = ask(rt, alloc, &desk, &mut pass, line, mover);
+    let told = reply_text(alloc, &reply)?;
+    passes.push(pass)?;
+    match settle(desk, passes) {
+        Ok(shared) => {
+            let text = print_history(alloc, shared.history())?;
+            Ok((told, shared.entries(), text))
+        }
+        Err(_) => Err("a desk that settles")?,
+    }
+}
+
+#[test]
+fn resumed_desk_settles(rt: HostRuntime) -> Result<(), Fail> {
+    let alloc = rt.alloc();
+    let alone = Crew::alone(&rt);
+    let history = history_of_the_text(alloc, &alone)?;
+    let (told, entries, text) = day_from::<Brand, HostRuntime, Crew<&HostRuntime>>(
+        &rt,
+        alloc,
+        Blank::new(16),
+        history,
+        ELEMENT,
+        &alone,
+    )?;
+    assert!(rt; told.as_str() == "{\"value\":0}", "{told}");
+    assert_eq!(rt; entries, 1);
+    assert!(rt; text.as_str() == TEXT, "{text}");
+    Ok(())
+}
+
+// What a desk of so many seats that begins with a history is refused with, and the history that it gives back.
+fn given_back<L: Opening>(
+    alloc: Global,
+    blank: Blank,
+    seats: usize,
+    history: History,
+) -> Result<(History, DeskErr), Fail>
+    requires name { blank.name ≡ L.name }
+    requires parts { blank.parts ≡ L.parts }
+    requires sixteen { blank.parts ≡ 16 }
+    requires opening { L.opening ≡ history }
+{
+    match Desk::<L>::open_at(alloc, blank, seats, history) {
+        Ok(_) => Err("no desk")?,
+        Err(back) => Ok(back),
+    }
+}
+
+#[test]
+fn desk_of_too_many_seats(rt: HostRuntime) -> Result<(), Fail> {
+    let alloc = rt.alloc();
+    let alone = Crew::alone(&rt);
+    for seats in [0, 17] {
+        let history = history_of_the_text(alloc, &alone)?;
+        let (back, why) = given_back::<Brand>(alloc, Blank::new(16), seats, history)?;
+        assert!(rt; why == DeskErr::BadSeats);
+        assert_eq!(rt; back.len(), 3);
+        let text = print_history(alloc, &back)?;
+        assert!(rt; text.as_str() == TEXT, "{text}");
+    }
+    Ok(())
+}
