@@ -1,5 +1,5 @@
 /* Loaded before a program, refuses one of its calls, of the number that a variable of the environment tells, and says so on standard
-   error: a growth (REFUSED_GROWTH), a thread (REFUSED_THREAD), a read, a write or an accepted connection, which fails (FAILED_CALL)
+   error unless REFUSED_QUIETLY is 1: a growth (REFUSED_GROWTH), a thread (REFUSED_THREAD), a read, a write or an accepted connection, which fails (FAILED_CALL)
    or is interrupted (INTERRUPTED_CALL); or has a read or a write of several bytes move one (SHORT_CALL). For Linux with glibc. */
 #define _GNU_SOURCE
 #include <dlfcn.h>
@@ -11,7 +11,7 @@
 #include <unistd.h>
 void *__libc_malloc(size_t);
 void *__libc_realloc(void *, size_t);
-static long growths, threads, failed, interrupted, shortened;
+static long growths, threads, failed, interrupted, shortened, quiet;
 static long number(const char *name) {
     const char *told = getenv(name);
     return told ? atol(told) : 0;
@@ -22,10 +22,11 @@ __attribute__((constructor)) static void begin(void) {
     failed = number("FAILED_CALL");
     interrupted = number("INTERRUPTED_CALL");
     shortened = number("SHORT_CALL");
+    quiet = number("REFUSED_QUIETLY");
 }
 static int is_met(long *left, int why) {
     if (__atomic_load_n(left, __ATOMIC_RELAXED) <= 0 || __atomic_sub_fetch(left, 1, __ATOMIC_RELAXED) != 0) return 0;
-    if (syscall(SYS_write, 2, "refused\n", 8) < 0) abort();
+    if (!quiet && syscall(SYS_write, 2, "refused\n", 8) < 0) abort();
     errno = why;
     return 1;
 }

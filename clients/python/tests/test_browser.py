@@ -157,17 +157,18 @@ class InABrowser(unittest.TestCase):
     def test_labels_with_direction_marks(self):
         """They are shown without the marks, and edited by their own names."""
         book = Workbook.run(PROGRAM)
-        browser = self.open(book)
         label = "a\u202eb\u2067c"
         book.assoc("T", "text").add(label)
-        P = book.array("P", "T")
+        book.array("P", "T")
+        browser = self.open(book)
         browser.until("document.querySelectorAll('.edits li').length === 3")
         browser.click(".value")
         browser.type("5")
         browser.key("Enter")
         browser.until("document.querySelector('.value').innerText === '5'")
         browser.until("document.querySelectorAll('.edits li').length === 4")
-        self.assertEqual(P[label], 5)
+        self.line(browser, f'P["{label}"]')
+        self.assertEqual(browser.text("#said").strip(), "5")
         self.assertEqual(browser.text(".box .at"), "a\ufffdb\ufffdc")
         self.assertEqual(browser.js("document.querySelector('.value').title"), 'P["a\ufffdb\ufffdc"]')
         self.assertEqual(browser.text(".edits li[data-k='4'] .what"), 'P["a\ufffdb\ufffdc"] = 5')
