@@ -1,0 +1,3 @@
+mod Cuts
+pub mod Moments
+mod Numbers

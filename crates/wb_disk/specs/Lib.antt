@@ -1,0 +1,4 @@
+pub mod Calls
+pub mod Device
+pub mod Laws
+pub mod Noted

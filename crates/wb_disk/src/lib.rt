@@ -1,0 +1,11 @@
+//! A file that a log is kept in: what its calls do, and what a crash may leave between them.
+#![tactic(auto)]
+
+mod device;
+mod disk_file;
+mod memory_file;
+mod record;
+
+pub use device::{Device, DeviceFault};
+pub use disk_file::{DiskFile, OpenDiskErr, open_file};
+pub use memory_file::MemoryFile;
