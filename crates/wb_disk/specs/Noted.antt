@@ -1,6 +1,7 @@
 -- A list of calls as one list of numbers, and back.
 use Rattle.std.specs.Prelude.{ℕ, zero, suc, Bool, true, false, ◌==◌, List, [], ◌∷◌, ◌++◌, map}
 
+-- 1 where a call was done
 abbrev pub bit : Bool → ℕ
 bit true = 1
 bit false = 0
@@ -20,6 +21,7 @@ parts [] = []
 parts (zero ∷ rest) = [] ∷ parts rest
 parts (suc n ∷ rest) = onto n (parts rest)
 
+-- the call that these numbers are: which it was, where, whether it was done, and its bytes
 abbrev pub call_of : List ℕ → ℕ × ℕ × Bool × List ℕ
 call_of (kind ∷ at ∷ done ∷ bytes) = (kind, at, done == 1, bytes)
 call_of fewer = (3, 0, true, fewer)

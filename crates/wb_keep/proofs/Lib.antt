@@ -1,0 +1,6 @@
+mod Crash
+mod Feeds
+mod Fronts
+mod Repair
+mod Runs
+mod Steps

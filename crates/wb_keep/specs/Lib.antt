@@ -1,0 +1,4 @@
+pub mod Keep
+pub mod Lines
+pub mod Repair
+pub mod Run

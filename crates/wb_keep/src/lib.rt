@@ -1,0 +1,7 @@
+//! A log of batches of lines in a file, each batch on the disk before it is acknowledged.
+#![tactic(auto)]
+
+mod keep;
+mod lines;
+
+pub use keep::{AppendErr, LineLog, OpenErr, START, open, read, resume};
