@@ -24,7 +24,9 @@ pub struct DiskFile {
 /// Why a file is not opened.
 #[derive(Clone, Copy, Debug)]
 pub enum OpenDiskErr {
+    /// The system refused a call.
     Io(io::Error),
+    /// There was no memory for its bytes.
     Memory,
     /// Another process, or this one, has it open.
     Busy,
