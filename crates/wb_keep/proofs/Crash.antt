@@ -3,7 +3,7 @@ use Rattle.std.proofs.Common.{◌≡◌, ◌≢◌, inl, inr, ℕ, suc, ◌+◌,
 use Rattle.std.proofs.lemmas.Bool.{cases_eq}
 use Rattle.std.proofs.lemmas.List.{take_at, drop_at, drop_more, take_all, drop_all, append-nil, take_rest}
 use Rattle.std.proofs.lemmas.List.Concat.{flat_map-append}
-use Rattle.wb_disk.specs.Device.{Holds, Torn, Follows, Only}
+use Rattle.wb_disk.specs.Device.{Holds, Torn, Only}
 use Rattle.wb_keep.specs.Lines.{lines_of, counted, header, recovered, marked, at_rest}
 use Rattle.wb_keep.specs.Keep.{IsSettled, IsBeforeOrAfter}
 use Rattle.wb_keep.specs.declared.keep.LineLog.{LineLog}
@@ -101,16 +101,6 @@ module _ (old new : List (List ℕ)) (are_old : AreLines old) (are_new : AreLine
       ∙ ap (λ (l : List ℕ). front old ++ (32 ∷ []) ++ l) staged_back
       ∙ append_assoc (front old) (32 ∷ []) block
       ∙ opened
-
-  pub stage_crash : (n : ℕ) (before after : List ℕ → Type 0) → Only (at_rest old) before → Follows (Torn (mark + 1) n) before after → (c : List ℕ) → after c → IsBeforeOrAfter old new c
-  stage_crash n before after only follows c left =
-      let from = follows c left in
-      torn_behind n c (subst (λ (f : List ℕ). Torn (mark + 1) n f c) (only from.0 from.1) from.2)
-
-  pub mark_crash : (before after : List ℕ → Type 0) → Only staged before → Follows (Torn mark 1) before after → (c : List ℕ) → after c → IsBeforeOrAfter old new c
-  mark_crash before after only follows c left =
-      let from = follows c left in
-      torn_mark c (subst (λ (f : List ℕ). Torn mark 1 f c) (only from.0 from.1) from.2)
 
 -- a file at rest, all of it on the disk
 pub settled : {D : Type 0} (seen : D → List ℕ) (may_leave : D → List ℕ → Type 0) (log : LineLog D) (lines : List (List ℕ)) → AreLines lines → seen log.device ≡ at_rest lines → log.mark + 1 ≡ length (at_rest lines) → Only (seen log.device) (may_leave log.device) → IsSettled seen may_leave log × (recovered (seen log.device) ≡ lines)

@@ -1,3 +1,4 @@
+mod Appending
 mod Crash
 mod Feeds
 mod Fronts

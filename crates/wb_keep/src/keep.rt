@@ -1,6 +1,6 @@
 //! The log: a header, lines that count, and the mark of a line that does not.
-ghost use Rattle.std.specs.Prelude.{◌≡◌, ◌≢◌, ◌<◌, ◌≤◌, ◌^◌, ◌++◌, [], map, IsTrue, IsFalse, IfOk, IfErr, IsErrAnd, OnOk, OnErr, IsErrOf, Err};
-ghost use Rattle.wb_disk.specs.Device.{Only, LeavesOnly};
+ghost use Rattle.std.specs.Prelude.{◌≡◌, ◌≢◌, ◌<◌, ◌≤◌, ◌^◌, ◌++◌, [], length, take, map, IsTrue, IsFalse, IfOk, IfErr, IsErrAnd, OnOk, OnErr, IsErrOf, Err};
+ghost use Rattle.wb_disk.specs.Device.{Only, LeavesOnly, Torn, Cut, Holds};
 ghost use Rattle.wb_keep.specs.Lines.{lines_of, recovered, at_rest, is_ours};
 ghost use Rattle.wb_keep.specs.Keep.{IsSettled, IsBeforeOrAfter};
 ghost use Rattle.wb_keep.specs.Run.{lines_in, HasSome};
@@ -72,6 +72,36 @@ fn tail_at(end: usize) -> &'static [u8]
     if end == 0 { &START } else { &[CLOSED] }
 }
 
+/// Writes bytes at a place of a file, all of which is on the disk, and syncs. A crash at any moment leaves the file as it
+/// was, but for any bytes at that place.
+fn put<D: Device>(device: &mut D, at: usize, bytes: &[u8]) -> Result<(), DeviceFault>
+    requires durable { Only (D.seen device.old) (D.may_leave device.old) }
+    requires within { at ≤ length (D.seen device.old) }
+    ensures written { OnOk result (Holds (D.seen device.old) at bytes.now (D.seen device.new)) }
+    ensures durable { OnOk result (Only (D.seen device.new) (D.may_leave device.new)) }
+    ensures any_moment { LeavesOnly D.moment D.left_since device.old device.new (Torn at (length bytes.now) (D.seen device.old)) }
+    ensures failed { OnErr result (D.faults device.old < D.faults device.new) }
+    ensures faults { D.faults device.old ≤ D.faults device.new }
+{
+    device.write_at(at, bytes)?;
+    // Before this a crash may leave any bytes there.
+    device.sync()
+}
+
+/// Cuts a file, all of which is on the disk, and syncs. A crash at any moment leaves some length between.
+fn shorten<D: Device>(device: &mut D, len: usize) -> Result<(), DeviceFault>
+    requires durable { Only (D.seen device.old) (D.may_leave device.old) }
+    requires within { len ≤ length (D.seen device.old) }
+    ensures cut { OnOk result (D.seen device.new ≡ take len (D.seen device.old)) }
+    ensures durable { OnOk result (Only (D.seen device.new) (D.may_leave device.new)) }
+    ensures any_moment { LeavesOnly D.moment D.left_since device.old device.new (Cut len (D.seen device.old)) }
+    ensures failed { OnErr result (D.faults device.old < D.faults device.new) }
+    ensures faults { D.faults device.old ≤ D.faults device.new }
+{
+    device.cut(len)?;
+    device.sync()
+}
+
 /// Puts the end of a file right that a crash may have left. It may crash too.
 fn repair<D: Device>(device: &mut D, end: usize) -> Result<(), DeviceFault>
     requires durable { Only (D.seen device.old) (D.may_leave device.old) }
@@ -81,12 +111,9 @@ fn repair<D: Device>(device: &mut D, end: usize) -> Result<(), DeviceFault>
     ensures any_moment { LeavesOnly D.moment D.left_since device.old device.new (StandsForTheSame (D.seen device.old)) }
     ensures failed { OnErr result (D.faults device.old < D.faults device.new) }
 {
-    device.cut(end)?;
-    // The cut has to be on the disk first: behind a mark that is torn open, what was there would count.
-    device.sync()?;
-    device.write_at(end, tail_at(end))?;
-    device.sync()?;
-    Ok(())
+    // The cut is on the disk first: behind a mark that is torn open, what was there would count.
+    shorten(device, end)?;
+    put(device, end, tail_at(end))
 }
 
 /// Whether a file begins with our header, or is the front of one that would.
@@ -219,10 +246,8 @@ impl<D: Device> LineLog<D> {
         if mark >= MAX_LENGTH {
             return Err(AppendErr::Full);
         }
-        self.device.write_at(mark + 1, &block[1..])?;
-        self.device.sync()?;
-        self.device.write_at(mark, &[COUNTS])?;
-        self.device.sync()?;
+        put(&mut self.device, mark + 1, &block[1..])?;
+        put(&mut self.device, mark, &[COUNTS])?;
         self.mark = mark + (block.len() - 1);
         Ok(())
     }

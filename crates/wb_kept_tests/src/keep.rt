@@ -1,0 +1,129 @@
+//! Logs that are opened, and cut off in each call and at each byte.
+use std::alloc::{AllocError, Global};
+use std::test::Fail;
+use wb_disk::MemoryFile;
+use wb_keep::{OpenErr, open};
+
+const NEVER: usize = 1000;
+
+const FIRST: &[u8] = b"chapel-workbook 3\n one\n#";
+
+/// What a file stands for, as one text, or none if it is refused.
+fn text_of(alloc: Global, bytes: &[u8]) -> Result<Option<Vec<u8>>, AllocError> {
+    let file = MemoryFile::new(alloc, bytes.to_vec(alloc)?, NEVER, 0);
+    let Ok((_, lines)) = open(alloc, file, bytes) else {
+        return Ok(None);
+    };
+    let mut text = Vec::new(alloc);
+    for line in &lines {
+        text.extend_from_slice(line)?;
+        text.push(b'\n')?;
+    }
+    Ok(Some(text))
+}
+
+/// Opens the file and adds two batches, until it is cut off in the call after so many. Returns what is left, and how
+/// many batches were acknowledged.
+fn cut_off(
+    alloc: Global,
+    bytes: &[u8],
+    calls: usize,
+    torn: usize,
+) -> Result<(Vec<u8>, usize), AllocError> {
+    let file = MemoryFile::new(alloc, bytes.to_vec(alloc)?, calls, torn);
+    match open(alloc, file, bytes) {
+        Err((_, file)) => Ok((file.left().to_vec(alloc)?, 0)),
+        Ok((mut log, _)) => {
+            let mut count = 0;
+            if log.append(alloc, b"two\nthree\n").is_ok() {
+                count = 1;
+                if log.append(alloc, b"four\n").is_ok() {
+                    count = 2;
+                }
+            }
+            Ok((log.device.left().to_vec(alloc)?, count))
+        }
+    }
+}
+
+/// The number of batches that a file has, or none if it is in between.
+fn batches_in(alloc: Global, bytes: &[u8]) -> Result<Option<usize>, AllocError> {
+    let Some(text) = text_of(alloc, bytes)? else {
+        return Ok(None);
+    };
+    Ok(match text.as_slice() {
+        b"one\n" => Some(0),
+        b"one\ntwo\nthree\n" => Some(1),
+        b"one\ntwo\nthree\nfour\n" => Some(2),
+        _ => None,
+    })
+}
+
+#[test]
+fn a_new_file_is_begun(rt: HostRuntime) -> Result<(), Fail> {
+    let alloc = rt.alloc();
+    let file = MemoryFile::new(alloc, Vec::new(alloc), NEVER, 0);
+    let Ok((mut log, lines)) = open(alloc, file, b"") else {
+        panic!(rt; "refused");
+    };
+    assert!(rt; lines.is_empty());
+    assert_eq!(rt; log.device.bytes(), b"chapel-workbook 3\n#".as_slice());
+    let first = b"one\n two\n".to_vec(alloc)?;
+    let second = b"\n#three\nno line".to_vec(alloc)?;
+    let batches = Vec::from_array(alloc, [first, second])?;
+    assert!(rt; log.append_all(alloc, &batches).is_ok());
+    assert_eq!(rt;
+        log.device.bytes(),
+        b"chapel-workbook 3\n one\n  two\n \n #three\n#".as_slice()
+    );
+    Ok(())
+}
+
+#[test]
+fn only_our_files_are_opened(rt: HostRuntime) -> Result<(), Fail> {
+    let alloc = rt.alloc();
+    for (bytes, text) in [
+        (b"".as_slice(), Some(b"".as_slice())),
+        (b"chapel-wo", Some(b"")),
+        (b"chapel-workbook 3\n", Some(b"")),
+        (
+            b"chapel-workbook 3\n one\n two\n#three\n",
+            Some(b"one\ntwo\n"),
+        ),
+        (b"chapel-workbook 3\n one\n tw", Some(b"one\n")),
+        (b"chapel-workbook 2\n one\n", None),
+        (b"x", None),
+    ] {
+        assert!(rt; text_of(alloc, bytes)?.as_deref() == text);
+    }
+    let file = MemoryFile::new(alloc, b"x".to_vec(alloc)?, NEVER, 0);
+    let Err((error, file)) = open(alloc, file, b"x") else {
+        panic!(rt; "refused");
+    };
+    assert!(rt; error == OpenErr::NotOurs);
+    assert_eq!(rt; file.bytes(), b"x".as_slice());
+    Ok(())
+}
+
+#[test]
+fn a_crash_in_each_call_and_at_each_byte(rt: HostRuntime) -> Result<(), Fail> {
+    let alloc = rt.alloc();
+    for calls in 0..13 {
+        for torn in 0..16 {
+            let (left, count) = cut_off(alloc, FIRST, calls, torn)?;
+            let Some(found) = batches_in(alloc, &left)? else {
+                panic!(rt; "refused");
+            };
+            assert!(rt; count <= found);
+            // What is left is opened, and cut off again.
+            for again in 0..5 {
+                let (left, _) = cut_off(alloc, &left, again, 0)?;
+                let Some(then) = batches_in(alloc, &left)? else {
+                    panic!(rt; "refused");
+                };
+                assert!(rt; found == then || again == 4);
+            }
+        }
+    }
+    Ok(())
+}
