@@ -36,16 +36,16 @@ use Rattle.wb_text.specs.FromLines.Told.{ranges_told, rank_told, kind_told, indi
 -- ---- what is known of the line of a name
 
 -- of some line, if there is one
-abbrev Of : (Line → Type 0) → Option Line → Type 0
+abbrev pub Of : (Line → Type 0) → Option Line → Type 0
 Of P None = Unit {0}
 Of P (Some l) = P l
 
-record IsFit (ls : List Line) (n : Name) (l : Line) : Type 0 where
-  named : n ≡ name_of l
-  sound : is_sound ls l ≡ true
-  made : IsMade l
+pub record IsFit (ls : List Line) (n : Name) (l : Line) : Type 0 where
+  pub named : n ≡ name_of l
+  pub sound : is_sound ls l ≡ true
+  pub made : IsMade l
 
-fit_in : (ls more : List Line) (n : Name) → list_all (is_sound ls) more ≡ true → AllByRecursion IsMade more → Of (IsFit ls n) (first_line_of n more)
+pub fit_in : (ls more : List Line) (n : Name) → list_all (is_sound ls) more ≡ true → AllByRecursion IsMade more → Of (IsFit ls n) (first_line_of n more)
 fit_in ls [] n h k = tt
 fit_in ls (l ∷ more) n h k =
     let parts = both (is_sound ls l) (list_all (is_sound ls) more) h in
@@ -63,7 +63,7 @@ same_either P i j b e here more =
       | false ↦ λ t h. more h
     ] refl e
 
-listed_passes : (p : Index → Bool) (is : List Index) (i : Index) → list_all p is ≡ true → has is i ≡ true → p i ≡ true
+pub listed_passes : (p : Index → Bool) (is : List Index) (i : Index) → list_all p is ≡ true → has is i ≡ true → p i ≡ true
 listed_passes p [] i h e = cc
 listed_passes p (j ∷ is) i h e =
     let parts = both (p j) (list_all p is) h in

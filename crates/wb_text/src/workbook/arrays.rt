@@ -1,8 +1,10 @@
 //! The arrays of a workbook's lines.
 
 ghost use Rattle.std.specs.Prelude.{◌≡◌, ◌∷◌, map, List, None, true, IfOk, OnOk};
+ghost use Rattle.std.specs.List.{list_all, AllByRecursion};
 ghost use Rattle.wb_text.specs.FromLines.Found.{Finds};
-ghost use Rattle.wb_text.specs.FromLines.Told.{are_distinct};
+ghost use Rattle.wb_text.specs.FromLines.Made.{IsMade};
+ghost use Rattle.wb_text.specs.FromLines.Told.{are_distinct, is_sound};
 ghost use Rattle.wb_text.specs.FromLines.Laid.{AreArraysTold};
 ghost use Rattle.wb_text.specs.Said.{Line, name_of, first_line_of, line_of};
 
@@ -22,7 +24,9 @@ fn put_array(
     places: &BTreeMap<Name, usize>,
     line: &ObjectLine,
 ) -> Result<(), NoMemory>
-    requires { Finds places.now (map line_of lines.now) (map line_of lines.now) }
+    requires finds { Finds places.now (map line_of lines.now) (map line_of lines.now) }
+    requires sound { list_all (is_sound (map line_of lines.now)) (map line_of lines.now) ≡ true }
+    requires are_made { AllByRecursion IsMade (map line_of lines.now) }
     ensures { OnOk result ((more : List Line) → first_line_of (name_of (line_of line.now)) more ≡ None →
         AreArraysTold (map line_of lines.now) more arrays.old.entries → AreArraysTold (map line_of lines.now) (line_of line.now ∷ more) arrays.new.entries) }
 {
@@ -49,6 +53,8 @@ pub(crate) fn arrays_told(
     places: &BTreeMap<Name, usize>,
 ) -> Result<BTreeMap<Name, Elements>, NoMemory>
     requires finds { Finds places.now (map line_of lines.now) (map line_of lines.now) }
+    requires sound { list_all (is_sound (map line_of lines.now)) (map line_of lines.now) ≡ true }
+    requires are_made { AllByRecursion IsMade (map line_of lines.now) }
     requires distinct { are_distinct (map line_of lines.now) ≡ true }
     ensures { IfOk result (λ m. AreArraysTold (map line_of lines.now) (map line_of lines.now) m.entries) }
 {

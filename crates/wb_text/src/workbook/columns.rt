@@ -1,9 +1,11 @@
 //! The elements of one array.
 
-ghost use Rattle.std.specs.Prelude.{◌≡◌, map, IfOk};
-ghost use Rattle.std.specs.List.{zip};
+ghost use Rattle.std.specs.Prelude.{◌≡◌, true, map, IfOk};
+ghost use Rattle.std.specs.List.{list_all, zip, AllByRecursion};
 ghost use Rattle.wb_shelf.specs.Piecewise.Changed.{all_set};
 ghost use Rattle.wb_text.specs.FromLines.Found.{Finds};
+ghost use Rattle.wb_text.specs.FromLines.Made.{IsMade};
+ghost use Rattle.wb_text.specs.FromLines.Told.{is_sound};
 ghost use Rattle.wb_text.specs.FromLines.Laid.{rectangle_lies, lies_told, IsColumn};
 ghost use Rattle.wb_text.specs.Said.{first_line_of, line_of};
 
@@ -73,7 +75,9 @@ pub(crate) fn column(
     domain: &Name,
     numbers: &[i64],
 ) -> Result<Elements, NoMemory>
-    requires { Finds places.now (map line_of lines.now) (map line_of lines.now) }
+    requires finds { Finds places.now (map line_of lines.now) (map line_of lines.now) }
+    requires sound { list_all (is_sound (map line_of lines.now)) (map line_of lines.now) ≡ true }
+    requires are_made { AllByRecursion IsMade (map line_of lines.now) }
     ensures { IfOk result (λ e. IsColumn (map line_of lines.now) domain.now numbers.now e) }
 {
     let Ok(indices) = indices_of(alloc, lines, places, domain) else {

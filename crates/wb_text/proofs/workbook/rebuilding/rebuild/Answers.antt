@@ -30,6 +30,9 @@ returns-in_default-2-clause-sound c =
     sym (ap (λ b. b && list_all (is_sound ls) ls) (sym c.in_ok-places.ensures.distinct ∙ ap is_some c.in-Some.is) ∙
     (sym c.in_ok-cells.ensures.sound ∙ ap is_some c.in_default-2.is))
 
+pub arrays_told-requires-clause-sound : goal.arrays_told-requires-clause-sound
+arrays_told-requires-clause-sound c = sym c.in_ok-cells.ensures.sound ∙ ap is_some c.in-Some-2.is
+
 pub of_parts-requires : goal.of_parts-requires
 of_parts-requires c =
     let ls = map line_of c.args.lines.now in (
