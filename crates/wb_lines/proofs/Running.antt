@@ -3,8 +3,8 @@ use Rattle.std.proofs.Common.{◌≡◌, ◌⊎◌, ◌<◌, length, inl, inr, f
 use Rattle.std.proofs.Common.{append-nil, length-append, arith}
 use Rattle.std.specs.Io.KnownBytes.{Appends}
 use Rattle.std.proofs.KnownBytes.{Appends-trans}
-use Rattle.wb_lines.specs.Lines.{IsUnbroken, lines, whole_lines, ended}
-use Rattle.wb_lines.specs.Reading.{Reading, Takes, TakesLine, unread}
+use Rattle.wb_lines.specs.Lines.{IsUnbroken, lines, whole_lines, finished_lines, ended}
+use Rattle.wb_lines.specs.Reading.{Reading, Takes, TakesLine, KnowsEnd, unread}
 use Rattle.wb_lines.specs.Replies.{Replies}
 use Rattle.wb_lines.specs.Session.{AnswersLine, AnswersAll, AnswersSome}
 use Rattle.wb_lines.proofs.Standing.{Standing, standing_line, standing_end, standing_fault, standing_some, standing_broken}
@@ -66,39 +66,43 @@ running_fault answers m n read got text line count old new r f u t none =
     along answers m n _ r.answered text count (standing_fault read got line r.answered old new r.standing f u t none) r.replies
 
 pub running_broken : {M : Type 0} (answers : M → List ℕ → List ℕ → M → Type 0) (m n : M) (read got text line : List ℕ) (count : ℕ) (old new : Reading)
-    → Running answers m n read text count old → Takes old new got line → AnswersSome answers m (lines (read ++ got)) text count n
-running_broken answers m n read got text line count old new r t =
-    let s = standing_broken read got line r.answered old new r.standing t in
+    (left : Option (List ℕ))
+    → Running answers m n read text count old → Takes old new got line → KnowsEnd new left → AnswersSome answers m (finished_lines (read ++ got) left) text
+    count n
+running_broken answers m n read got text line count old new left r t k =
+    let s = standing_broken read got line r.answered old new left r.standing t k in
     (r.answered, s.0, text, [], n, s.1, r.replies, sym (append-nil text), inl (refl, refl))
 
 -- no further line was taken
 pub running_waits : {M : Type 0} (answers : M → List ℕ → List ℕ → M → Type 0) (m n : M) (read text : List ℕ) (count : ℕ) (now : Reading)
-    → Running answers m n read text count now → AnswersSome answers m (lines read) text count n
-running_waits answers m n read text count now r =
-    let s = standing_some read r.answered now r.standing in
+    (left : Option (List ℕ))
+    → Running answers m n read text count now → KnowsEnd now left → AnswersSome answers m (finished_lines read left) text count n
+running_waits answers m n read text count now left r k =
+    let s = standing_some read r.answered now left r.standing k in
     (r.answered, s.0, text, [], n, s.1, r.replies, sym (append-nil text), inl (refl, refl))
 
 -- a line was taken, and its reply was not sent whole
 pub running_stops : {M : Type 0} (answers : M → List ℕ → List ℕ → M → Type 0) (m n k : M) (read got text line part : List ℕ) (count : ℕ) (old new : Reading)
-    → Running answers m n read text count old → TakesLine old new got line
+    (left : Option (List ℕ))
+    → Running answers m n read text count old → TakesLine old new got line → KnowsEnd new left
     → (((part ≡ []) × (k ≡ n)) ⊎ ((reply : List ℕ) × AnswersLine answers n line reply k ×
     ((i : ℕ) × (i < length (ended reply)) × (part ≡ take i (ended reply)))))
-    → AnswersSome answers m (lines (read ++ got)) (text ++ part) count k
-running_stops answers m n k read got text line part count old new r t last =
-    let s = standing_some (read ++ got) (r.answered ++ line ∷ []) new (standing_line read got line r.answered old new r.standing t) in
+    → AnswersSome answers m (finished_lines (read ++ got) left) (text ++ part) count k
+running_stops answers m n k read got text line part count old new left r t known last =
+    let s = standing_some (read ++ got) (r.answered ++ line ∷ []) new left (standing_line read got line r.answered old new r.standing t) known in
     (r.answered, line ∷ s.0, text, part, n, s.1 ∙ append_assoc r.answered (line ∷ []) s.0, r.replies, refl, last)
 
 -- a line was taken, and of its reply went out what the writer has more
 pub running_unsent : {M : Type 0} (answers : M → List ℕ → List ℕ → M → Type 0) (m n k : M) (read got text line : List ℕ) (count : ℕ) (old new : Reading)
-    (start before after : Option (List ℕ))
-    → Running answers m n read text count old → TakesLine old new got line → Appends start before text
+    (left start before after : Option (List ℕ))
+    → Running answers m n read text count old → TakesLine old new got line → KnowsEnd new left → Appends start before text
     → (((k ≡ n) × Appends before after []) ⊎ ((reply : List ℕ) × AnswersLine answers n line reply k ×
     ((i : ℕ) × (i < length (ended reply)) × Appends before after (take i (ended reply)))))
-    → (sent : List ℕ) × Appends start after sent × AnswersSome answers m (lines (read ++ got)) sent count k
-running_unsent answers m n k read got text line count old new start before after r t a (inl (e, b)) =
-    (text ++ [], Appends-trans start before after text [] a b, running_stops answers m n k read got text line [] count old new r t (inl (refl, e)))
-running_unsent answers m n k read got text line count old new start before after r t a (inr (reply, x, (i, f, b))) = (
+    → (sent : List ℕ) × Appends start after sent × AnswersSome answers m (finished_lines (read ++ got) left) sent count k
+running_unsent answers m n k read got text line count old new left start before after r t known a (inl (e, b)) =
+    (text ++ [], Appends-trans start before after text [] a b, running_stops answers m n k read got text line [] count old new left r t known (inl (refl, e)))
+running_unsent answers m n k read got text line count old new left start before after r t known a (inr (reply, x, (i, f, b))) = (
   text ++ take i (ended reply),
   Appends-trans start before after text _ a b,
-  running_stops answers m n k read got text line (take i (ended reply)) count old new r t (inr (reply, x, (i, f, refl))),
+  running_stops answers m n k read got text line (take i (ended reply)) count old new left r t known (inr (reply, x, (i, f, refl))),
 )

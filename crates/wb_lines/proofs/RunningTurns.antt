@@ -1,7 +1,7 @@
 -- A session that answers in turns, while it runs.
 use Rattle.std.proofs.Common.{◌≡◌, ◌⊎◌, inl, inr, ◌<◌, ◌≤◌, ◌+◌, ◌-◌, ◌*◌, ℕ, List, [], ◌∷◌, ◌++◌, length, true≢false, Option, None, flat_map}
 use Rattle.std.proofs.Common.{refl, sym, ap, ◌∙◌, subst, append_assoc, append-nil, length-append, arith}
-use Rattle.wb_lines.specs.Lines.{ended, lines}
+use Rattle.wb_lines.specs.Lines.{ended, finished_lines}
 use Rattle.wb_lines.specs.Reading.{Reading, TakesLine, KnowsEnd, unread, block_size, read_limit}
 use Rattle.wb_lines.specs.Causes.{CountsReads}
 use Rattle.std.specs.Io.KnownBytes.{Appends, Consumes}
@@ -132,10 +132,10 @@ module _ {M : Type 0} (answers : M → List ℕ → List ℕ → M → Type 0) (
   last_more a k rest behind part (inr b) = inr (breaks_more a k rest behind part b)
 
   -- some of them were
-  pub running_turn_stops : (k : M) (sent : List ℕ) (next : ℕ) → AnswersSome answers n (line ∷ more) sent next k
-      → AnswersSome answers m (lines (read ++ got)) (text ++ sent) (count + next) k
-  running_turn_stops k sent next (answered, rest, whole, part, between, e, a, cut, last) =
-      let s = standing_some (read ++ got) (r.answered ++ line ∷ more) new turn_standing in (
+  pub running_turn_stops : (k : M) (sent : List ℕ) (next : ℕ) (left : Option (List ℕ)) → KnowsEnd mid left → AnswersSome answers n (line ∷ more) sent next k
+      → AnswersSome answers m (finished_lines (read ++ got) left) (text ++ sent) (count + next) k
+  running_turn_stops k sent next left known (answered, rest, whole, part, between, e, a, cut, last) =
+      let s = standing_some (read ++ got) (r.answered ++ line ∷ more) new left turn_standing (λ h. known (sym t.same.at_end ∙ h)) in (
         r.answered ++ answered,
         rest ++ s.0,
         text ++ whole,

@@ -1,5 +1,5 @@
 -- The lines of a text.
-use Rattle.std.specs.Prelude.{◌≡◌, ◌≢◌, ℕ, List, [], ◌∷◌, ◌++◌, ◌==◌, if◌then◌else◌}
+use Rattle.std.specs.Prelude.{◌≡◌, ◌≢◌, ℕ, List, [], ◌∷◌, ◌++◌, ◌==◌, if◌then◌else◌, Option, None, Some}
 
 -- no byte ends a line
 abbrev pub IsUnbroken : List ℕ → Type 0
@@ -27,6 +27,13 @@ onto_whole b (l ∷ ls) = (b ∷ l) ∷ ls
 abbrev pub whole_lines : List ℕ → List (List ℕ)
 whole_lines [] = []
 whole_lines (b ∷ bs) = if b == 10 then [] ∷ whole_lines bs else onto_whole b (whole_lines bs)
+
+-- Of the bytes that were read, with these left, the texts before each line end, and the text after the last one only where no
+-- byte is left, or nobody knows which are.
+abbrev pub finished_lines : (read : List ℕ) → (left : Option (List ℕ)) → List (List ℕ)
+finished_lines read None = lines read
+finished_lines read (Some []) = lines read
+finished_lines read (Some (b ∷ bs)) = whole_lines read
 
 -- a line and its end
 abbrev pub ended : List ℕ → List ℕ

@@ -1,9 +1,9 @@
 -- What a session does, up to its end.
-use Rattle.std.specs.Prelude.{◌≡◌, ◌⊎◌, ◌<◌, ℕ, List, [], ◌∷◌, ◌++◌, length, take, nat_lt, codes, Result, Ok, Err, MatchBool}
+use Rattle.std.specs.Prelude.{◌≡◌, ◌⊎◌, ◌<◌, ℕ, List, [], ◌∷◌, ◌++◌, length, take, nat_lt, codes, Result, Ok, Err, MatchBool, Option}
 use Rattle.std.specs.Fn.{Shared}
 use Rattle.std.specs.declared.vec.Vec.{Vec}
 use denote.Ref.{Bor, MutBor}
-use Rattle.wb_lines.specs.Lines.{ended, lines, whole_lines}
+use Rattle.wb_lines.specs.Lines.{ended, lines, whole_lines, finished_lines}
 use Rattle.wb_lines.specs.Reading.{line_limit}
 use Rattle.wb_lines.specs.Replies.{Replies}
 use Rattle.wb_lines.specs.declared.machine.SessionEnd.{SessionEnd}
@@ -48,10 +48,10 @@ AnswersSome answers m asked text count n = (answered rest : List (List ℕ)) × 
     × (asked ≡ answered ++ rest) × AnswersAll answers m answered sent count between × (text ≡ sent ++ part)
     × (((part ≡ []) × (n ≡ between)) ⊎ BreaksOff answers between rest part n)
 
--- from the bytes that were read to the text that was written
-abbrev pub Serves : {M : Type 0} → (M → List ℕ → List ℕ → M → Type 0) → SessionEnd → M → List ℕ → List ℕ → M → Type 0
-Serves answers (ends.Done count) m read text n = AnswersAll answers m (lines read) text count n
-Serves answers (ends.ReadFault count) m read text n = AnswersAll answers m (whole_lines read) text count n
-Serves answers (ends.TooManyReads count) m read text n = AnswersAll answers m (whole_lines read) text count n
-Serves answers (ends.WriteFault count) m read text n = AnswersSome answers m (lines read) text count n
-Serves answers (ends.NoMemory count) m read text n = AnswersSome answers m (lines read) text count n
+-- from the bytes that were read, with these left, to the text that was written
+abbrev pub Serves : {M : Type 0} → (M → List ℕ → List ℕ → M → Type 0) → SessionEnd → M → (read : List ℕ) → (left : Option (List ℕ)) → List ℕ → M → Type 0
+Serves answers (ends.Done count) m read left text n = AnswersAll answers m (lines read) text count n
+Serves answers (ends.ReadFault count) m read left text n = AnswersAll answers m (whole_lines read) text count n
+Serves answers (ends.TooManyReads count) m read left text n = AnswersAll answers m (whole_lines read) text count n
+Serves answers (ends.WriteFault count) m read left text n = AnswersSome answers m (finished_lines read left) text count n
+Serves answers (ends.NoMemory count) m read left text n = AnswersSome answers m (finished_lines read left) text count n

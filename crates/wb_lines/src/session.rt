@@ -118,7 +118,7 @@ pub fn serve_lines<
     requires answers { AnswersBy F.Fn answer.now M.answers }
     ensures serves { (read : List ℕ) × Consumes (R.remaining reader.old) (R.remaining reader.new) read
         × ((text : List ℕ) × Appends (W.contents writer.old) (W.contents writer.new) text
-        × Serves M.answers result state.old read text state.new) }
+        × Serves M.answers result state.old read (R.remaining reader.new) text state.new) }
     ensures read { ReadsUntil result (R.remaining reader.new) (R.failed reader.new) (R.reads reader.old) (R.reads reader.new) }
     ensures written { WritesUntil result (W.flushed writer.new) (W.failed writer.new) }
 {

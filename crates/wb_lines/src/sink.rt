@@ -12,7 +12,7 @@ pub trait Sink {
     // The bytes that the writer holds, where they are known.
     ghost contents: { Self → Option (List ℕ) };
 
-    // Whether the write or flush that was made last failed, or was a write that took nothing.
+    // Whether the write or flush that was made last failed, or was a write of bytes that took none.
     ghost failed: { Self → Bool };
 
     // Whether it was flushed since its latest write.
@@ -22,7 +22,7 @@ pub trait Sink {
     fn write(&mut self, bytes: &[u8]) -> io::Result<usize>
         ensures bound { WritesAtMost result bytes.now }
         ensures bytes { WriteAppends (contents self.old) (contents self.new) result bytes.now }
-        ensures cause { failed self.new ≡ is_refused result }
+        ensures cause { failed self.new ≡ is_refused bytes.now result }
         ensures held { flushed self.new ≡ false };
 
     /// Whether so many bytes more can be held back, so that to write them waits for nobody. It is a hint.
@@ -71,7 +71,10 @@ impl<W: Write> Sink for Output<W> {
 
     fn write(&mut self, bytes: &[u8]) -> io::Result<usize> {
         let result = self.writer.write(bytes);
-        self.has_failed = !matches!(result, Ok(n) if n > 0);
+        self.has_failed = match result {
+            Ok(n) => n == 0 && !bytes.is_empty(),
+            Err(_) => true,
+        };
         self.is_flushed = false;
         self.gathered = self.gathered.saturating_add(bytes.len());
         result

@@ -1,5 +1,5 @@
 //! What bytes are read from.
-ghost use Rattle.std.specs.Prelude.{◌≡◌, ℕ, List, Bool, false, Option};
+ghost use Rattle.std.specs.Prelude.{◌≡◌, ◌<◌, ℕ, List, length, Bool, false, Option};
 ghost use Rattle.std.specs.Io.KnownBytes.{ReadConsumes};
 ghost use Rattle.std.specs.Io.{ReadsAtMost};
 
@@ -28,7 +28,7 @@ pub trait Source {
     // Whether the read that was made last failed.
     ghost failed: { Self → Bool };
 
-    // How many reads were made; it stops at `u64::MAX`.
+    // How many reads were made that asked for bytes; it stops at `u64::MAX`.
     ghost reads: { Self → ℕ };
 
     /// Reads into the front of the bytes: how many. None means the end of input.
@@ -36,7 +36,8 @@ pub trait Source {
         ensures bound { ReadsAtMost result bytes.new }
         ensures bytes { ReadConsumes (remaining self.old) (remaining self.new) result bytes.new }
         ensures cause { failed self.new ≡ is_failed result }
-        ensures counted { RisesBy 1 (reads self.old) (reads self.new) };
+        ensures counted { 0 < length bytes.old → RisesBy 1 (reads self.old) (reads self.new) }
+        ensures idle { length bytes.old ≡ 0 → reads self.new ≡ reads self.old };
 }
 
 /// A source that reads from any reader. It alone says what a failed read is: where the reader's own read answers an error
@@ -75,7 +76,9 @@ impl<R: Read> Source for Input<R> {
             Err(_) => Err(ReadErr::Failed),
         };
         self.has_failed = matches!(result, Err(ReadErr::Failed));
-        self.read_count = self.read_count.saturating_add(1);
+        if !bytes.is_empty() {
+            self.read_count = self.read_count.saturating_add(1);
+        }
         result
     }
 }

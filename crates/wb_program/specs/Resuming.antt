@@ -45,29 +45,29 @@ abbrev pub HasNoEnd : List ℕ → Type 0
 HasNoEnd bytes = FindsNeedle bytes last_line 0 None
 
 -- a session from a history ended with this status
-pub record IsServed (opening : Past) (status : ℕ) (asked text : List ℕ) : Type 0 where
+pub record IsServed (opening : Past) (status : ℕ) (asked : List ℕ) (left : Option (List ℕ)) (text : List ℕ) : Type 0 where
   pub end : SessionEnd
   pub after : Past
   pub is_status : status ≡ status_of end
-  pub serves : Serves AnswersText end opening asked text after
+  pub serves : Serves AnswersText end opening asked left text after
 
 -- The text of a history stood at the front, and the lines behind it were a session from that history.
-pub record GoesOn (status : ℕ) (read text : List ℕ) : Type 0 where
+pub record GoesOn (status : ℕ) (read : List ℕ) (left : Option (List ℕ)) (text : List ℕ) : Type 0 where
   pub opening : Past
   pub front : List ℕ
   pub asked : List ℕ
   pub parts : read ≡ front ++ asked
   pub ends : IsUpToEnd front
   pub is_record : IsRecord front opening
-  pub serves : IsServed opening status asked text
+  pub serves : IsServed opening status asked left text
 
 -- There is no line `end`, or what stands up to the first one is the text of no history.
 abbrev pub NoOpening : List ℕ → Type 0
 NoOpening read = HasNoEnd read ⊎ ((front behind : List ℕ) × (read ≡ front ++ behind) × IsUpToEnd front × IsNoRecord front)
 
 -- a session from the history at the front; or it was refused, which was printed; or there was a fault, and nothing was
-abbrev pub IsResumed : ℕ → List ℕ → List ℕ → Type 0
-IsResumed status read text = GoesOn status read text ⊎ ((NoOpening read × Says Refused status text) ⊎ (IsFault status × (text ≡ [])))
+abbrev pub IsResumed : ℕ → (read : List ℕ) → (left : Option (List ℕ)) → List ℕ → Type 0
+IsResumed status read left text = GoesOn status read left text ⊎ ((NoOpening read × Says Refused status text) ⊎ (IsFault status × (text ≡ [])))
 
 -- the history whose text was read; or it was refused, which was printed; or there was a fault, and nothing was
 abbrev pub IsOpening : Result Past ℕ → List ℕ → List ℕ → Type 0

@@ -1,5 +1,5 @@
 -- Sessions of the program, and the exit status after each.
-use Rattle.std.specs.Prelude.{◌≡◌, ◌⊎◌, ℕ, ◌≤◌, List, [], Bool, true}
+use Rattle.std.specs.Prelude.{◌≡◌, ◌⊎◌, ℕ, ◌≤◌, List, [], Bool, true, Option}
 use Rattle.wb_proto.specs.Below.wb_history.Past.{Past}
 use Rattle.wb_lines.specs.Causes.{RisesBy}
 use Rattle.wb_lines.specs.Reading.{read_limit}
@@ -29,7 +29,7 @@ HasFailedByNow read_failed before after write_failed =
 abbrev pub opening : Past
 opening = record { entries = []; writes = 0 }
 
--- A session on an empty workbook that read these bytes, wrote this text and ended so.
-pub record ServesFromEmpty (end : SessionEnd) (read text : List ℕ) : Type 0 where
+-- A session on an empty workbook that read these bytes, with these left, wrote this text and ended so.
+pub record ServesFromEmpty (end : SessionEnd) (read : List ℕ) (left : Option (List ℕ)) (text : List ℕ) : Type 0 where
   pub after : Past
-  pub serves : Serves AnswersText end opening read text after
+  pub serves : Serves AnswersText end opening read left text after

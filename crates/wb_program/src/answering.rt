@@ -33,7 +33,7 @@ pub fn session<M: Mover, R: Source, W: Sink>(
 ) -> SessionEnd
     ensures serves { (read : List ℕ) × Consumes (R.remaining reader.old) (R.remaining reader.new) read
         × ((text : List ℕ) × Appends (W.contents writer.old) (W.contents writer.new) text
-        × Serves AnswersText result history.old read text history.new) }
+        × Serves AnswersText result history.old read (R.remaining reader.new) text history.new) }
     ensures read { ReadsUntil result (R.remaining reader.new) (R.failed reader.new) (R.reads reader.old) (R.reads reader.new) }
     ensures written { WritesUntil result (W.flushed writer.new) (W.failed writer.new) }
 {

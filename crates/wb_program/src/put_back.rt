@@ -54,11 +54,11 @@ impl<R: Source> Source for PutBack<R> {
     ghost reads = { λ s. s.read_count };
 
     fn read(&mut self, bytes: &mut [u8]) -> Result<usize, ReadErr> {
-        self.read_count = self.read_count.saturating_add(1);
         self.has_failed = false;
         if bytes.is_empty() {
             return Ok(0);
         }
+        self.read_count = self.read_count.saturating_add(1);
         let Ok(n) = self.ahead.read(bytes) else {
             return Err(ReadErr::Interrupted);
         };

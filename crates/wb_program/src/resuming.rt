@@ -125,7 +125,7 @@ fn go_on<R: Source, W: Sink, M: Mover>(
 ) -> u8
     ensures serves { ((asked : List ℕ) × Consumes (option_map (λ t. ahead.now ++ t) (left_in R.remaining reader.old)) (left_in R.remaining reader.new) asked
         × ((text : List ℕ) × Appends (W.contents writer.old) (W.contents writer.new) text
-        × IsServed history result asked text))
+        × IsServed history result asked (left_in R.remaining reader.new) text))
         ⊎ ((left_in R.remaining reader.new ≡ left_in R.remaining reader.old) × (W.contents writer.new ≡ W.contents writer.old) × IsFault result) }
     ensures done { result ≡ 0 → IsAtEnd (left_in R.remaining reader.new) × (W.flushed writer.new ≡ true) }
     ensures failed { result ≡ 3
@@ -150,7 +150,7 @@ pub fn resume_with<R: Source, W: Sink, M: Mover>(
 ) -> u8
     ensures resumes { (read : List ℕ) × Consumes (left_in R.remaining reader.old) (left_in R.remaining reader.new) read
         × ((text : List ℕ) × Appends (W.contents writer.old) (W.contents writer.new) text
-        × IsResumed result read text) }
+        × IsResumed result read (left_in R.remaining reader.new) text) }
     ensures done { result ≡ 0 → IsAtEnd (left_in R.remaining reader.new) × (W.flushed writer.new ≡ true) }
     ensures failed { result ≡ 3
         → HasFailedByNow (failed_in reader.new) (reads_in reader.old) (reads_in reader.new) (W.failed writer.new) }

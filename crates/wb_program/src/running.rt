@@ -36,7 +36,7 @@ pub fn run_with<R: Source, W: Sink, M: Mover>(
         × WritesUntil end (W.flushed writer.new) (W.failed writer.new)
         × ((read : List ℕ) × Consumes (R.remaining reader.old) (R.remaining reader.new) read
         × ((text : List ℕ) × Appends (W.contents writer.old) (W.contents writer.new) text
-        × ServesFromEmpty end read text)) }
+        × ServesFromEmpty end read (R.remaining reader.new) text)) }
     ensures done { result ≡ 0 → IsAtEnd (R.remaining reader.new) × (W.flushed writer.new ≡ true) }
     ensures failed { result ≡ 3
         → HasFailed (R.failed reader.new) (R.reads reader.old) (R.reads reader.new) (W.failed writer.new) }

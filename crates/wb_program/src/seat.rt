@@ -79,7 +79,7 @@ fn serve_in_turns<L: Opening, R: Wait, I: Source, O: Sink, M: Mover>(
         × WritesUntil end (O.flushed writer.new) (O.failed writer.new)
         × ((read : List ℕ) × Consumes (I.remaining reader.old) (I.remaining reader.new) read
         × ((text : List ℕ) × Appends (O.contents writer.old) (O.contents writer.new) text
-        × Serves (AnswersSeat L.opening) end pass read text result)) }
+        × Serves (AnswersSeat L.opening) end pass read (I.remaining reader.new) text result)) }
 {
     // (each of the three functions borrows variables of its own)
     let mut pass = pass;
@@ -119,7 +119,7 @@ pub fn serve_seat<L: Opening, R: Wait, I: Source, O: Sink, M: Mover>(
         × WritesUntil end (O.flushed writer.new) (O.failed writer.new)
         × ((read : List ℕ) × Consumes (I.remaining reader.old) (I.remaining reader.new) read
         × ((text : List ℕ) × Appends (O.contents writer.old) (O.contents writer.new) text
-        × Serves (AnswersSeat L.opening) end pass read text result)) }
+        × Serves (AnswersSeat L.opening) end pass read (I.remaining reader.new) text result)) }
 {
     let turn = Turn::at(desk);
     let pass = serve_in_turns(rt, alloc, &turn, pass, reader, writer, mover);

@@ -51,13 +51,14 @@ returns-in-Err-WriteFault g c =
     let written = Appends-kept _ _ _ so_far.1 so_far.3 c.flush_before_wait.ensures.bytes in
     let taken = c.in-Ok.ensures.ok in
     let is_line : c.in-Ok.line ≡ End → ⊥ = search rules in
+    let known = c.next_line.ensures.end c.lines.invariant.1 in
     let text = text_of c.in-Ok.line c.lines.buffer c.next_line.new.buffer taken.0 taken.2 is_line in
     let part = c.in-Err-WriteFault.ensures.err text.0 (subst (λ (b : List ℕ). IsText c.in-Ok.line b text.0) (sym c.line.ensures) text.2) in
     record {
       serves = (
         so_far.0 ++ taken.0,
         Consumes-trans _ _ _ so_far.0 taken.0 so_far.2 taken.1,
-        running_unsent g.M.Machine.answers _ _ _ so_far.0 taken.0 so_far.1 text.0 _ c.lines.buffer c.next_line.new.buffer _ _ _ so_far.4 text.1 written part,
+        running_unsent g.M.Machine.answers _ _ _ so_far.0 taken.0 so_far.1 text.0 _ c.lines.buffer c.next_line.new.buffer _ _ _ _ so_far.4 text.1 known written part,
       );
       read = tt;
       written = search rules;
@@ -69,10 +70,11 @@ returns-in-Err-NoMemory-answer_line g c =
     let written = Appends-kept _ _ _ so_far.1 so_far.3 c.flush_before_wait.ensures.bytes in
     let taken = c.in-Ok.ensures.ok in
     let is_line : c.in-Ok.line ≡ End → ⊥ = search rules in
+    let known = c.next_line.ensures.end c.lines.invariant.1 in
     let text = text_of c.in-Ok.line c.lines.buffer c.next_line.new.buffer taken.0 taken.2 is_line in
     let part = c.in-Err-NoMemory-answer_line.ensures.err text.0 (subst (λ (b : List ℕ). IsText c.in-Ok.line b text.0) (sym c.line.ensures) text.2) in
-    let sent = running_unsent g.M.Machine.answers _ _ _ so_far.0 taken.0 so_far.1 text.0 _ c.lines.buffer c.next_line.new.buffer _ _ _ so_far.4 text.1 written
-    part in
+    let sent = running_unsent g.M.Machine.answers _ _ _ so_far.0 taken.0 so_far.1 text.0 _ c.lines.buffer c.next_line.new.buffer _ _ _ _ so_far.4 text.1 known
+    written part in
     record {
       serves = (
         so_far.0 ++ taken.0,
@@ -87,7 +89,7 @@ pub returns-then-is_err-clause-serves : goal.returns-then-is_err-clause-serves
 returns-then-is_err-clause-serves g c =
     let so_far = c.lines.invariant.0 in
     let written = Appends-kept _ _ _ so_far.1 so_far.3 c.flush_before_wait.ensures.bytes in
-    (so_far.0, so_far.2, (so_far.1, written, running_waits g.M.Machine.answers _ _ so_far.0 so_far.1 _ c.lines.buffer so_far.4))
+    (so_far.0, so_far.2, (so_far.1, written, running_waits g.M.Machine.answers _ _ so_far.0 so_far.1 _ c.lines.buffer _ so_far.4 c.lines.invariant.1))
 
 pub returns-in-Err-ReadFault-clause-serves : goal.returns-in-Err-ReadFault-clause-serves
 returns-in-Err-ReadFault-clause-serves g c =
@@ -129,7 +131,8 @@ returns-in-Err-NoMemory-clause-serves g c =
       (
         so_far.1,
         Appends-kept _ _ _ so_far.1 written c.flush_at_fault-in-Err-NoMemory.ensures,
-        running_broken g.M.Machine.answers _ _ so_far.0 broken.0 so_far.1 broken.2.1.0 _ c.lines.buffer c.next_line.new.buffer so_far.4 broken.2.1.2,
+        running_broken g.M.Machine.answers _ _ so_far.0 broken.0 so_far.1 broken.2.1.0 _ c.lines.buffer c.next_line.new.buffer _ so_far.4 broken.2.1.2
+            (c.next_line.ensures.end c.lines.invariant.1),
       ),
     )
 

@@ -71,7 +71,7 @@ returns-in-Err-default-WriteFault g c =
           so_far.1 ++ turn.2.0,
           Appends-trans _ _ _ so_far.1 _ written turn.2.1,
           running_turn_stops g.M.Machine.answers _ _ so_far.0 taken.0 so_far.1 text.0 turn.0 _ c.turns.buffer c.next_line.new.buffer c.serve_turn.new.buffer
-              so_far.4 text.1 turn.1 _ turn.2.0 _ turn.2.2,
+              so_far.4 text.1 turn.1 _ turn.2.0 _ _ (c.next_line.ensures.end c.turns.invariant.1) turn.2.2,
         ),
       );
       read = tt;
@@ -94,7 +94,7 @@ returns-in-Err-default-NoMemory g c =
           so_far.1 ++ turn.2.0,
           Appends-kept _ _ _ (so_far.1 ++ turn.2.0) (Appends-trans _ _ _ so_far.1 _ written turn.2.1) c.flush_at_fault.ensures,
           running_turn_stops g.M.Machine.answers _ _ so_far.0 taken.0 so_far.1 text.0 turn.0 _ c.turns.buffer c.next_line.new.buffer c.serve_turn.new.buffer
-              so_far.4 text.1 turn.1 _ turn.2.0 _ turn.2.2,
+              so_far.4 text.1 turn.1 _ turn.2.0 _ _ (c.next_line.ensures.end c.turns.invariant.1) turn.2.2,
         ),
       );
       read = tt;
@@ -105,7 +105,7 @@ pub returns-then-is_err-clause-serves : goal.returns-then-is_err-clause-serves
 returns-then-is_err-clause-serves g c =
     let so_far = c.turns.invariant.0 in
     let written = Appends-kept _ _ _ so_far.1 so_far.3 c.flush_before_wait.ensures.bytes in
-    (so_far.0, so_far.2, (so_far.1, written, running_waits g.M.Machine.answers _ _ so_far.0 so_far.1 _ c.turns.buffer so_far.4))
+    (so_far.0, so_far.2, (so_far.1, written, running_waits g.M.Machine.answers _ _ so_far.0 so_far.1 _ c.turns.buffer _ so_far.4 c.turns.invariant.1))
 
 pub returns-in-Err-ReadFault-clause-serves : goal.returns-in-Err-ReadFault-clause-serves
 returns-in-Err-ReadFault-clause-serves g c =
@@ -147,7 +147,8 @@ returns-in-Err-NoMemory-clause-serves g c =
       (
         so_far.1,
         Appends-kept _ _ _ so_far.1 written c.flush_at_fault-in-Err-NoMemory.ensures,
-        running_broken g.M.Machine.answers _ _ so_far.0 broken.0 so_far.1 broken.2.1.0 _ c.turns.buffer c.next_line.new.buffer so_far.4 broken.2.1.2,
+        running_broken g.M.Machine.answers _ _ so_far.0 broken.0 so_far.1 broken.2.1.0 _ c.turns.buffer c.next_line.new.buffer _ so_far.4 broken.2.1.2
+            (c.next_line.ensures.end c.turns.invariant.1),
       ),
     )
 
