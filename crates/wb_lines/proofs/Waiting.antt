@@ -1,7 +1,7 @@
 -- Where no line lies ahead, a writer was flushed.
-use Rattle.std.proofs.Common.{◌≡◌, ◌⊎◌, inl, inr, ℕ, List, [], ◌∷◌, ◌++◌, Bool, true, refl, sym, ap, ◌∙◌, subst, append_assoc, append-nil}
+use Rattle.std.proofs.Common.{◌≡◌, ◌⊎◌, inl, inr, ℕ, List, [], ◌∷◌, ◌++◌, Bool, true, false, refl, sym, ap, ◌∙◌, subst, append_assoc, append-nil}
 use Rattle.wb_lines.specs.Lines.{IsUnbroken, BeginsWithLine, ended}
-use Rattle.wb_lines.specs.Reading.{Reading, Takes}
+use Rattle.wb_lines.specs.Reading.{Reading, Takes, TakesPart}
 
 broken : (line rest : List ℕ) → IsUnbroken (ended line ++ rest) → ⊥
 broken [] rest h = h.0 refl
@@ -18,3 +18,8 @@ pub flushed_at : (flushed : Bool) (old new : Reading) (got text : List ℕ) → 
 flushed_at flushed old new got text (inl yes_it_is) t u none = yes_it_is
 flushed_at flushed old new got text (inr begins) t u none =
     absurd (no_line old.ahead got text begins (t.bytes ∙ ap (λ x. text ++ x) none ∙ append-nil text) u)
+
+-- what lies ahead holds no line end, so a writer was flushed
+pub flushed_in : (flushed : Bool) (old new : Reading) → (flushed ≡ true) ⊎ BeginsWithLine old.ahead → TakesPart old new false → flushed ≡ true
+flushed_in flushed old new (inl yes_it_is) t = yes_it_is
+flushed_in flushed old new (inr begins) t = absurd (no_line old.ahead [] t.part begins (append-nil old.ahead ∙ (t.all refl).0) t.unbroken)

@@ -1,11 +1,12 @@
-ghost use Rattle.std.specs.Prelude.{◌≡◌, ℕ, ◌+◌, ◌<◌, ◌≤◌, List, [], ◌∷◌, ◌++◌, Bool, true, false, length, take, drop, Some, None, ◌*◌, ◌≢◌, IfOk, IfErr, OnOk};
+ghost use Rattle.std.specs.Prelude.{◌≡◌, ℕ, ◌+◌, ◌<◌, ◌≤◌, List, [], ◌∷◌, ◌++◌, Bool, true, false, length, take, drop, Some, None, ◌*◌, ◌≢◌, IfOk, IfErr, OnOk, ◌⊎◌};
 ghost use Rattle.std.specs.Prelude.{OnErr, IfSome, IfNone, MatchBool, if◌then◌else◌};
 ghost use Rattle.std.specs.Io.KnownBytes.{Consumes, Keeps, IsAtEnd};
 ghost use Rattle.wb_lines.specs.Lines.{IsUnbroken, BeginsWithLine, ended};
 ghost use Rattle.wb_lines.specs.Causes.{CountsReads, FailedAt};
 ghost use Rattle.wb_lines.specs.Reading.{IsKept, line_limit, KnowsEnd, Gives, Breaks};
 
-use crate::source::{ReadErr, Source};
+use crate::resting::{Hears, Holds, Sends};
+use crate::source::ReadErr;
 use memchr::memchr;
 use std::alloc::{AllocError, Global};
 use std::marker::Model;
@@ -227,8 +228,15 @@ impl LineBuffer {
     }
 
     // Reads once more. Says whether there may be more; a read that a signal interrupted gives nothing.
-    fn refill<R: Source>(&mut self, reader: &mut R) -> Result<bool, LineFault>
-        requires { self.old.ahead ≡ [] }
+    fn refill<K: Holds, R: Hears<K, W>, W: Sends<K>>(
+        &mut self,
+        reader: &mut R,
+        writer: &W,
+        hold: &K,
+    ) -> Result<bool, LineFault>
+        requires empty { self.old.ahead ≡ [] }
+        requires flushed { W.flushed writer.now ≡ true }
+        requires free { K.held hold.now ≡ false }
         ensures bytes { Consumes (R.remaining reader.old) (R.remaining reader.new) self.new.ahead }
         ensures refills { Refills self.old self.new }
         ensures more { IfOk result (λ b. b ≡ true → self.new.reads ≡ self.old.reads + 1) }
@@ -246,7 +254,7 @@ impl LineBuffer {
         self.start = 0;
         self.end = 0;
         self.reads += 1;
-        match reader.read(&mut self.block) {
+        match reader.read(writer, hold, &mut self.block) {
             Ok(n) => {
                 self.end = n;
                 self.at_end = n == 0;
@@ -280,7 +288,14 @@ fn add_part(line: &mut Vec<u8>, long: bool, part: &[u8]) -> Result<bool, AllocEr
 }
 
 // Reads a line, where there was no fault before.
-fn read_line<R: Source>(reader: &mut R, buffer: &mut LineBuffer) -> Result<Line, LineFault>
+fn read_line<K: Holds, R: Hears<K, W>, W: Sends<K>>(
+    reader: &mut R,
+    writer: &W,
+    hold: &K,
+    buffer: &mut LineBuffer,
+) -> Result<Line, LineFault>
+    requires flushed { (W.flushed writer.now ≡ true) ⊎ BeginsWithLine buffer.old.ahead }
+    requires free { K.held hold.now ≡ false }
     ensures ok { IfOk result (λ line. (got : List ℕ)
         × Consumes (R.remaining reader.old) (R.remaining reader.new) got
         × Gives line buffer.old buffer.new got) }
@@ -299,7 +314,7 @@ fn read_line<R: Source>(reader: &mut R, buffer: &mut LineBuffer) -> Result<Line,
             Ok(false) => {}
             Err(_) => return Err(LineFault::NoMemory),
         }
-        match buffer.refill(reader) {
+        match buffer.refill(reader, writer, hold) {
             Ok(true) => {}
             Ok(false) => return Ok(buffer.last()),
             Err(fault) => return Err(fault),
@@ -309,8 +324,16 @@ fn read_line<R: Source>(reader: &mut R, buffer: &mut LineBuffer) -> Result<Line,
 
 /// Reads the next line: of the bytes that lie ahead in the buffer and then come from the reader,
 /// those up to a line end, or the last ones. A line that is too long is skipped with its end.
-/// After a fault it answers the same fault again.
-pub fn next_line<R: Source>(reader: &mut R, buffer: &mut LineBuffer) -> Result<Line, LineFault>
+/// After a fault it answers the same fault again. Where no line lies ahead with its end, the writer has to be flushed, since
+/// a read may wait.
+pub fn next_line<K: Holds, R: Hears<K, W>, W: Sends<K>>(
+    reader: &mut R,
+    writer: &W,
+    hold: &K,
+    buffer: &mut LineBuffer,
+) -> Result<Line, LineFault>
+    requires flushed { (W.flushed writer.now ≡ true) ⊎ BeginsWithLine buffer.old.ahead }
+    requires free { K.held hold.now ≡ false }
     ensures ok { IfOk result (λ line. (got : List ℕ)
         × Consumes (R.remaining reader.old) (R.remaining reader.new) got
         × Gives line buffer.old buffer.new got) }
@@ -327,7 +350,7 @@ pub fn next_line<R: Source>(reader: &mut R, buffer: &mut LineBuffer) -> Result<L
     if let Some(fault) = buffer.fault() {
         return Err(fault);
     }
-    let line = read_line(reader, buffer);
+    let line = read_line(reader, writer, hold, buffer);
     if let Err(fault) = line {
         buffer.set_fault(fault);
     }

@@ -5,6 +5,7 @@
 
 mod buffer;
 mod machine;
+mod resting;
 mod sending;
 mod session;
 mod sink;
@@ -14,6 +15,7 @@ mod whole;
 
 pub use buffer::{LINE_LIMIT, Line, LineBuffer, LineFault, READ_LIMIT, next_line};
 pub use machine::{Asks, Machine, SessionEnd};
+pub use resting::{Hears, Holds, NothingHeld, Sends};
 pub use sending::{WriteFault, send};
 pub use session::serve_lines;
 pub use sink::{Output, Sink};

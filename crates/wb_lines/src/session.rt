@@ -1,4 +1,4 @@
-ghost use Rattle.std.specs.Prelude.{◌≡◌, ◌≢◌, ◌⊎◌, ◌<◌, ℕ, List, [], ◌++◌, length, take, true, IfOk, OnOk, OnErr, IsErrOf};
+ghost use Rattle.std.specs.Prelude.{◌≡◌, ◌≢◌, ◌⊎◌, ◌<◌, ℕ, List, [], ◌++◌, length, take, true, false, IfOk, OnOk, OnErr, IsErrOf};
 ghost use Rattle.std.specs.Io.KnownBytes.{Appends, Consumes, IsAtEnd, Keeps};
 ghost use Rattle.wb_lines.specs.Causes.{ReadsUntil, WritesUntil};
 ghost use Rattle.wb_lines.specs.Lines.{BeginsWithLine, ended};
@@ -8,9 +8,8 @@ ghost use Rattle.wb_lines.specs.declared.machine.SessionEnd.{SessionEnd};
 
 use crate::buffer::{Line, LineBuffer, LineFault, next_line};
 use crate::machine::{Machine, SessionEnd};
+use crate::resting::{Hears, Holds, NothingHeld, Sends};
 use crate::sending::{WriteFault, send};
-use crate::sink::Sink;
-use crate::source::Source;
 use std::alloc::{AllocError, Global};
 
 pub(crate) const TOO_LONG: &[u8] = b"{\"error\":\"E91\",\"name\":\"line-too-long\"}";
@@ -45,7 +44,12 @@ fn reply_to<M: Machine<S>, S, F: Fn(&mut S, &[u8]) -> Result<Vec<u8>, AllocError
 }
 
 // Answers a line: the reply and a line end.
-fn answer_line<M: Machine<S>, S, F: Fn(&mut S, &[u8]) -> Result<Vec<u8>, AllocError>, W: Sink>(
+fn answer_line<
+    M: Machine<S>,
+    S,
+    F: Fn(&mut S, &[u8]) -> Result<Vec<u8>, AllocError>,
+    W: Sends<NothingHeld>,
+>(
     alloc: Global,
     state: &mut S,
     answer: &F,
@@ -73,17 +77,19 @@ fn answer_line<M: Machine<S>, S, F: Fn(&mut S, &[u8]) -> Result<Vec<u8>, AllocEr
     if reply.push(b'\n').is_err() {
         return Err(Stop::NoMemory);
     }
-    match send(writer, reply.as_slice()) {
+    match send(writer, &NothingHeld, reply.as_slice()) {
         Ok(()) => Ok(()),
         Err(_) => Err(Stop::WriteFault),
     }
 }
 
 // Sends on what a writer holds back, where the next line takes a read.
-pub(crate) fn flush_before_wait<W: Sink>(
+pub(crate) fn flush_before_wait<K: Holds, W: Sends<K>>(
     writer: &mut W,
+    hold: &K,
     buffer: &LineBuffer,
 ) -> Result<(), WriteFault>
+    requires free { K.held hold.now ≡ false }
     ensures bytes { Keeps (W.contents writer.old) (W.contents writer.new) }
     ensures flushed { OnOk result ((W.flushed writer.new ≡ true) ⊎ BeginsWithLine buffer.now.ahead) }
     ensures failed { OnErr result (W.failed writer.new ≡ true) }
@@ -91,17 +97,18 @@ pub(crate) fn flush_before_wait<W: Sink>(
     if buffer.has_line() {
         return Ok(());
     }
-    match writer.flush() {
+    match writer.flush(hold) {
         Ok(()) => Ok(()),
         Err(_) => Err(WriteFault),
     }
 }
 
 // Sends on what a writer holds back, if it can, where a session ends for another fault.
-pub(crate) fn flush_at_fault<W: Sink>(writer: &mut W)
+pub(crate) fn flush_at_fault<K: Holds, W: Sends<K>>(writer: &mut W, hold: &K)
+    requires free { K.held hold.now ≡ false }
     ensures { Keeps (W.contents writer.old) (W.contents writer.new) }
 {
-    let _ = writer.flush();
+    let _ = writer.flush(hold);
 }
 
 /// Answers each line that is read, in order, until the end of input or a fault. A line that is too
@@ -111,8 +118,8 @@ pub fn serve_lines<
     M: Machine<S>,
     S,
     F: Fn(&mut S, &[u8]) -> Result<Vec<u8>, AllocError>,
-    R: Source,
-    W: Sink,
+    R: Hears<NothingHeld, W>,
+    W: Sends<NothingHeld>,
 >(alloc: Global, state: &mut S, answer: &F, reader: &mut R, writer: &mut W) -> SessionEnd
     requires callable { F.IsAlwaysCallable answer.now }
     requires answers { AnswersBy F.Fn answer.now M.answers }
@@ -125,17 +132,17 @@ pub fn serve_lines<
     let mut buffer = LineBuffer::new(alloc);
     let mut answered = 0;
     'lines: loop {
-        if flush_before_wait(writer, &buffer).is_err() {
+        if flush_before_wait(writer, &NothingHeld, &buffer).is_err() {
             return SessionEnd::WriteFault(answered);
         }
-        match next_line(reader, &mut buffer) {
+        match next_line(reader, writer, &NothingHeld, &mut buffer) {
             Ok(Line::End) => return SessionEnd::Done(answered),
             Ok(line) => {
                 match answer_line::<M, S, F, W>(alloc, state, answer, writer, line, buffer.line()) {
                     Ok(()) => answered += 1,
                     Err(Stop::WriteFault) => return SessionEnd::WriteFault(answered),
                     Err(Stop::NoMemory) => {
-                        flush_at_fault(writer);
+                        flush_at_fault(writer, &NothingHeld);
                         return SessionEnd::NoMemory(answered);
                     }
                 }
@@ -143,7 +150,7 @@ pub fn serve_lines<
             Err(LineFault::ReadFault) => return SessionEnd::ReadFault(answered),
             Err(LineFault::TooManyReads) => return SessionEnd::TooManyReads(answered),
             Err(LineFault::NoMemory) => {
-                flush_at_fault(writer);
+                flush_at_fault(writer, &NothingHeld);
                 return SessionEnd::NoMemory(answered);
             }
         }

@@ -10,10 +10,9 @@ ghost use Rattle.wb_lines.specs.declared.machine.SessionEnd.{SessionEnd};
 
 use crate::buffer::{Line, LineBuffer, LineFault, next_line};
 use crate::machine::{Asks, Machine, SessionEnd};
+use crate::resting::{Hears, NothingHeld, Sends};
 use crate::sending::send;
 use crate::session::{Stop, TOO_LONG, flush_at_fault, flush_before_wait};
-use crate::sink::Sink;
-use crate::source::Source;
 use std::alloc::{AllocError, Global};
 use std::collections::VecDeque;
 
@@ -102,12 +101,10 @@ fn reply_to<M: Machine<S> + Asks<P>, S, P, F: Fn(&mut S, P) -> Result<Vec<u8>, A
 }
 
 // Lets go what is held, where to write so many bytes may have to wait.
-fn let_go_before<H: Fn(), W: Sink>(let_go: &H, writer: &W, count: usize)
+fn let_go_before<H: Fn()>(let_go: &H)
     requires { H.IsAlwaysCallable let_go.now }
 {
-    if !writer.has_room(count) {
-        let_go();
-    }
+    let_go();
 }
 
 // Answers a line that was taken: the reply and a line end.
@@ -117,7 +114,7 @@ fn answer_line<
     P,
     F: Fn(&mut S, P) -> Result<Vec<u8>, AllocError>,
     H: Fn(),
-    W: Sink,
+    W: Sends<NothingHeld>,
 >(
     alloc: Global,
     state: &mut S,
@@ -146,8 +143,8 @@ fn answer_line<
     if reply.push(b'\n').is_err() {
         return Err(Stop::NoMemory);
     }
-    let_go_before(let_go, writer, reply.len());
-    match send(writer, reply.as_slice()) {
+    let_go_before(let_go);
+    match send(writer, &NothingHeld, reply.as_slice()) {
         Ok(()) => Ok(()),
         Err(_) => Err(Stop::WriteFault),
     }
@@ -161,7 +158,7 @@ fn answer_turn<
     P: Drop,
     F: Fn(&mut S, P) -> Result<Vec<u8>, AllocError>,
     H: Fn(),
-    W: Sink,
+    W: Sends<NothingHeld>,
 >(
     alloc: Global,
     state: &mut S,
@@ -200,7 +197,7 @@ fn serve_turn<
     G: Fn(&[u8]) -> P,
     F: Fn(&mut S, P) -> Result<Vec<u8>, AllocError>,
     H: Fn(),
-    W: Sink,
+    W: Sends<NothingHeld>,
 >(
     alloc: Global,
     state: &mut S,
@@ -245,8 +242,8 @@ pub fn serve_turns<
     G: Fn(&[u8]) -> P,
     F: Fn(&mut S, P) -> Result<Vec<u8>, AllocError>,
     H: Fn(),
-    R: Source,
-    W: Sink,
+    R: Hears<NothingHeld, W>,
+    W: Sends<NothingHeld>,
 >(
     alloc: Global,
     state: &mut S,
@@ -270,10 +267,10 @@ pub fn serve_turns<
     let mut buffer = LineBuffer::new(alloc);
     let mut answered = 0;
     'turns: loop {
-        if flush_before_wait(writer, &buffer).is_err() {
+        if flush_before_wait(writer, &NothingHeld, &buffer).is_err() {
             return SessionEnd::WriteFault(answered);
         }
-        match next_line(reader, &mut buffer) {
+        match next_line(reader, writer, &NothingHeld, &mut buffer) {
             Ok(Line::End) => return SessionEnd::Done(answered),
             Ok(line) => {
                 match serve_turn::<M, S, P, G, F, H, W>(
@@ -291,7 +288,7 @@ pub fn serve_turns<
                         return SessionEnd::WriteFault(answered + count);
                     }
                     Err((count, Stop::NoMemory)) => {
-                        flush_at_fault(writer);
+                        flush_at_fault(writer, &NothingHeld);
                         return SessionEnd::NoMemory(answered + count);
                     }
                 }
@@ -299,7 +296,7 @@ pub fn serve_turns<
             Err(LineFault::ReadFault) => return SessionEnd::ReadFault(answered),
             Err(LineFault::TooManyReads) => return SessionEnd::TooManyReads(answered),
             Err(LineFault::NoMemory) => {
-                flush_at_fault(writer);
+                flush_at_fault(writer, &NothingHeld);
                 return SessionEnd::NoMemory(answered);
             }
         }

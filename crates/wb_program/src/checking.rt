@@ -9,7 +9,7 @@ ghost use Rattle.wb_program.specs.Running.{HasFailed};
 use crate::running::{DONE, INPUT_OR_OUTPUT_FAILED, NO_MEMORY};
 use std::alloc::{AllocError, Global};
 use std::str::from_utf8;
-use wb_lines::{LineFault, Sink, Source, read_all, send};
+use wb_lines::{LineFault, NothingHeld, Sink, Source, read_all, send};
 use wb_proto::below::reading::{BookErr, read_book};
 use wb_range::NoMemory;
 use wb_record::{HistoryErr, read_history};
@@ -93,7 +93,7 @@ pub(crate) fn tell<W: Sink>(whole: &str, writer: &mut W) -> u8
     ensures flushed { result ≡ 0 → W.flushed writer.new ≡ true }
     ensures failed { result ≡ 3 → W.failed writer.new ≡ true }
 {
-    if send(writer, whole.as_bytes()).is_err() {
+    if send(writer, &NothingHeld, whole.as_bytes()).is_err() {
         return INPUT_OR_OUTPUT_FAILED;
     }
     if writer.flush().is_err() {
@@ -112,7 +112,7 @@ pub(crate) fn say<W: Sink>(alloc: Global, verdict: Verdict, writer: &mut W) -> u
         Ok(text) => text,
         Err(_) => return NO_MEMORY,
     };
-    if send(writer, text.as_bytes()).is_err() {
+    if send(writer, &NothingHeld, text.as_bytes()).is_err() {
         return INPUT_OR_OUTPUT_FAILED;
     }
     if writer.flush().is_err() {

@@ -8,7 +8,7 @@ use std::sync::Wait;
 use std::test::Fail;
 use std::thread;
 use std::thread::Threads;
-use wb_lines::{Input, Line, LineBuffer, Output, next_line};
+use wb_lines::{Input, Line, LineBuffer, LineFault, NothingHeld, Output, Sink, next_line};
 use wb_program::serve_on;
 use wb_redist::Crew;
 
@@ -49,11 +49,20 @@ enum First {
     SendsMany,
 }
 
+// The next line that comes, while nothing is held back.
+fn line_from(stream: &mut TcpStream, buffer: &mut LineBuffer) -> Result<Line, LineFault> {
+    let mut nowhere = Output::new(io::sink());
+    if nowhere.flush().is_err() {
+        return Err(LineFault::ReadFault);
+    }
+    next_line(&mut Input::new(stream), &nowhere, &NothingHeld, buffer)
+}
+
 // Asks a line until its reply is that the domain is there, at most 100,000 times.
 fn comes(stream: &mut TcpStream, buffer: &mut LineBuffer, line: &[u8]) -> io::Result<bool> {
     for _ in 0..100_000u32 {
         stream.write_all(line)?;
-        match next_line(&mut Input::new(&mut *stream), buffer) {
+        match line_from(stream, buffer) {
             Ok(Line::Whole) if buffer.line() == IS_THERE => return Ok(true),
             Ok(Line::Whole) => {}
             _ => return Err(io::ErrorKind::UnexpectedEof.into()),
@@ -102,8 +111,7 @@ fn many_lines(alloc: Global) -> io::Result<Vec<u8>> {
 
 // Whether the next reply begins so.
 fn begins(stream: &mut TcpStream, buffer: &mut LineBuffer, front: &[u8]) -> bool {
-    next_line(&mut Input::new(stream), buffer) == Ok(Line::Whole)
-        && buffer.line().starts_with(front)
+    line_from(stream, buffer) == Ok(Line::Whole) && buffer.line().starts_with(front)
 }
 
 // Sends many lines at once: whether each reply comes in its place.
@@ -131,7 +139,7 @@ fn first_seat(alloc: Global, stream: TcpStream) -> io::Result<bool> {
     let mut stream = stream;
     let mut buffer = LineBuffer::new(alloc);
     begin(&mut stream, First::WaitsForY)?;
-    let _ = next_line(&mut Input::new(&mut stream), &mut buffer);
+    let _ = line_from(&mut stream, &mut buffer);
     comes(&mut stream, &mut buffer, SIZE_Y)
 }
 
@@ -141,7 +149,7 @@ fn second_seat(alloc: Global, stream: TcpStream) -> io::Result<bool> {
     let mut buffer = LineBuffer::new(alloc);
     let came = comes(&mut stream, &mut buffer, SIZE_X)?;
     stream.write_all(MAKE_Y)?;
-    Ok(came && next_line(&mut Input::new(&mut stream), &mut buffer) == Ok(Line::Whole))
+    Ok(came && line_from(&mut stream, &mut buffer) == Ok(Line::Whole))
 }
 
 // Both seats: whether each had what it waited for.

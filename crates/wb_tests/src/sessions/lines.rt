@@ -3,11 +3,11 @@
 use crate::sessions::devices::{AtLimit, Narrow, OneByOne};
 use crate::sessions::scripts::ended;
 use std::alloc::Global;
-use std::io::BufWriter;
+use std::io::{self, BufWriter};
 use std::process::Abort;
 use std::test::Fail;
 use wb_lines::{
-    Input, Line, LineBuffer, LineFault, Output, SessionEnd, WriteFault, next_line, read_all, send,
+    Input, Line, LineBuffer, LineFault, NothingHeld, Output, SessionEnd, Sink, next_line, read_all,
 };
 use wb_redist::{Crew, Mover};
 
@@ -118,6 +118,8 @@ fn gives_lines_at_their_limit(rt: HostRuntime) -> Result<(), Fail> {
     text.resize(65_536, b'a')?;
     text.extend_from_slice(b"\nb")?;
     let mut input = Input::new(text.as_slice());
+    let mut nowhere = Output::new(io::sink());
+    nowhere.flush()?;
     let mut buffer = LineBuffer::new(alloc);
     for (line, length) in [
         (Line::Whole, 65_536),
@@ -125,7 +127,7 @@ fn gives_lines_at_their_limit(rt: HostRuntime) -> Result<(), Fail> {
         (Line::End, 0),
         (Line::End, 0),
     ] {
-        assert!(rt; next_line(&mut input, &mut buffer) == Ok(line));
+        assert!(rt; next_line(&mut input, &nowhere, &NothingHeld, &mut buffer) == Ok(line));
         assert!(rt; buffer.line().len() == length);
         assert!(rt; !buffer.has_line());
     }

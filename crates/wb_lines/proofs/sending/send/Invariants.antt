@@ -5,7 +5,7 @@ use Rattle.wb_lines.proofs.sending.send.Given as goal
 abbrev pub invariant-loop-sent : goal.invariant-loop-sent
 invariant-loop-sent g l = record {
   in_range : l.sent ≤ length l.bytes;
-  so_far : Appends (g.W.Sink.contents l.fn.writer) (g.W.Sink.contents l.writer) (take l.sent l.bytes);
+  so_far : Appends (g.W.Sends.contents l.fn.writer) (g.W.Sends.contents l.writer) (take l.sent l.bytes);
 }
 
 abbrev pub decreases-loop-sent : goal.decreases-loop-sent

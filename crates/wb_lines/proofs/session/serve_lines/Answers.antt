@@ -144,16 +144,16 @@ returns-in-Err-TooManyReads-clause-read g c =
 pub returns-in-Ok-End-clause-written : goal.returns-in-Ok-End-clause-written
 returns-in-Ok-End-clause-written g c =
     let taken = rw c.in-Ok-End.field-0-is at c.in-Ok-End.ensures.ok in
-    flushed_at (g.W.Sink.flushed c.flush_before_wait.new.writer) c.lines.buffer c.next_line.new.buffer taken.0 [] (search rules) taken.2.0 tt taken.2.2
+    flushed_at (g.W.Sends.flushed c.flush_before_wait.new.writer) c.lines.buffer c.next_line.new.buffer taken.0 [] (search rules) taken.2.0 tt taken.2.2
 
 pub returns-in-Err-ReadFault-clause-written : goal.returns-in-Err-ReadFault-clause-written
 returns-in-Err-ReadFault-clause-written g c =
     let broken = (rw c.in-Err-ReadFault.field-0-is at (c.in-Err-ReadFault.ensures.err c.lines.invariant.0.4.fault)).1 in
-    flushed_at (g.W.Sink.flushed c.flush_before_wait.new.writer) c.lines.buffer c.next_line.new.buffer broken.0 broken.2.1.0 (search rules) broken.2.1.2
+    flushed_at (g.W.Sends.flushed c.flush_before_wait.new.writer) c.lines.buffer c.next_line.new.buffer broken.0 broken.2.1.0 (search rules) broken.2.1.2
     broken.2.1.1 broken.2.0.1
 
 pub returns-in-Err-TooManyReads-clause-written : goal.returns-in-Err-TooManyReads-clause-written
 returns-in-Err-TooManyReads-clause-written g c =
     let broken = (rw c.in-Err-TooManyReads.field-0-is at (c.in-Err-TooManyReads.ensures.err c.lines.invariant.0.4.fault)).1 in
-    flushed_at (g.W.Sink.flushed c.flush_before_wait.new.writer) c.lines.buffer c.next_line.new.buffer broken.0 broken.2.1.0 (search rules) broken.2.1.2
+    flushed_at (g.W.Sends.flushed c.flush_before_wait.new.writer) c.lines.buffer c.next_line.new.buffer broken.0 broken.2.1.0 (search rules) broken.2.1.2
     broken.2.1.1 broken.2.0.1

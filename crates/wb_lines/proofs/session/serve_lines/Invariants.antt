@@ -6,11 +6,11 @@ use Rattle.wb_lines.proofs.Running.{Running}
 use Rattle.wb_lines.proofs.session.serve_lines.Given as goal
 
 abbrev pub invariant-lines : goal.invariant-lines
-invariant-lines g l = ((read text : List ℕ) × Consumes (g.R.Source.remaining l.fn.reader) (g.R.Source.remaining l.reader) read
-    × Appends (g.W.Sink.contents l.fn.writer) (g.W.Sink.contents l.writer) text
+invariant-lines g l = ((read text : List ℕ) × Consumes (g.R.Hears.remaining l.fn.reader) (g.R.Hears.remaining l.reader) read
+    × Appends (g.W.Sends.contents l.fn.writer) (g.W.Sends.contents l.writer) text
     × Running g.M.Machine.answers l.fn.state l.state read text l.answered l.buffer)
-    × KnowsEnd l.buffer (g.R.Source.remaining l.reader)
-    × CountsReads unread l.buffer (g.R.Source.reads l.fn.reader) (g.R.Source.reads l.reader)
+    × KnowsEnd l.buffer (g.R.Hears.remaining l.reader)
+    × CountsReads unread l.buffer (g.R.Hears.reads l.fn.reader) (g.R.Hears.reads l.reader)
 
 abbrev pub decreases-lines : goal.decreases-lines
 decreases-lines g l = block_size * (read_limit - l.buffer.reads) + length l.buffer.ahead

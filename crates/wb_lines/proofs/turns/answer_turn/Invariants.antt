@@ -7,7 +7,7 @@ abbrev pub invariant-loop-asked : goal.invariant-loop-asked
 invariant-loop-asked g l = record {
   count : l.answered + length l.turn.items ≤ 256;
   so_far : (asked : List (List ℕ)) → AreTaken g.M.Asks.reads asked l.fn.turn.items
-      → Answering g.M.Machine.answers g.M.Asks.reads l.fn.state l.state (g.W.Sink.contents l.fn.writer) (g.W.Sink.contents l.writer) asked l.turn.items
+      → Answering g.M.Machine.answers g.M.Asks.reads l.fn.state l.state (g.W.Sends.contents l.fn.writer) (g.W.Sends.contents l.writer) asked l.turn.items
       l.answered;
 }
 

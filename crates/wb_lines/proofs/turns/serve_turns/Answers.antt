@@ -159,25 +159,25 @@ returns-in-Err-TooManyReads-clause-read g c =
 
 pub returns-in-Ok-End-clause-written : goal.returns-in-Ok-End-clause-written
 returns-in-Ok-End-clause-written g c =
-    let may_wait : (g.W.Sink.flushed c.flush_before_wait.new.writer ≡ true) ⊎ BeginsWithLine c.turns.buffer.ahead =
+    let may_wait : (g.W.Sends.flushed c.flush_before_wait.new.writer ≡ true) ⊎ BeginsWithLine c.turns.buffer.ahead =
     on_ok_at c.flush_before_wait.result _ c.is_err.result c.is_err.ensures.value c.if-is_err.false c.flush_before_wait.ensures.flushed in
     let taken = rw c.in-Ok-End.field-0-is at c.in-Ok-End.ensures.ok in
-    flushed_at (g.W.Sink.flushed c.flush_before_wait.new.writer) c.turns.buffer c.next_line.new.buffer taken.0 [] may_wait taken.2.0 tt taken.2.2
+    flushed_at (g.W.Sends.flushed c.flush_before_wait.new.writer) c.turns.buffer c.next_line.new.buffer taken.0 [] may_wait taken.2.0 tt taken.2.2
 
 pub returns-in-Err-ReadFault-clause-written : goal.returns-in-Err-ReadFault-clause-written
 returns-in-Err-ReadFault-clause-written g c =
-    let may_wait : (g.W.Sink.flushed c.flush_before_wait.new.writer ≡ true) ⊎ BeginsWithLine c.turns.buffer.ahead =
+    let may_wait : (g.W.Sends.flushed c.flush_before_wait.new.writer ≡ true) ⊎ BeginsWithLine c.turns.buffer.ahead =
     on_ok_at c.flush_before_wait.result _ c.is_err.result c.is_err.ensures.value c.if-is_err.false c.flush_before_wait.ensures.flushed in
     let broken = (rw c.in-Err-ReadFault.field-0-is at (c.in-Err-ReadFault.ensures.err c.turns.invariant.0.4.fault)).1 in
-    flushed_at (g.W.Sink.flushed c.flush_before_wait.new.writer) c.turns.buffer c.next_line.new.buffer broken.0 broken.2.1.0 may_wait broken.2.1.2
+    flushed_at (g.W.Sends.flushed c.flush_before_wait.new.writer) c.turns.buffer c.next_line.new.buffer broken.0 broken.2.1.0 may_wait broken.2.1.2
     broken.2.1.1 broken.2.0.1
 
 pub returns-in-Err-TooManyReads-clause-written : goal.returns-in-Err-TooManyReads-clause-written
 returns-in-Err-TooManyReads-clause-written g c =
-    let may_wait : (g.W.Sink.flushed c.flush_before_wait.new.writer ≡ true) ⊎ BeginsWithLine c.turns.buffer.ahead =
+    let may_wait : (g.W.Sends.flushed c.flush_before_wait.new.writer ≡ true) ⊎ BeginsWithLine c.turns.buffer.ahead =
     on_ok_at c.flush_before_wait.result _ c.is_err.result c.is_err.ensures.value c.if-is_err.false c.flush_before_wait.ensures.flushed in
     let broken = (rw c.in-Err-TooManyReads.field-0-is at (c.in-Err-TooManyReads.ensures.err c.turns.invariant.0.4.fault)).1 in
-    flushed_at (g.W.Sink.flushed c.flush_before_wait.new.writer) c.turns.buffer c.next_line.new.buffer broken.0 broken.2.1.0 may_wait broken.2.1.2
+    flushed_at (g.W.Sends.flushed c.flush_before_wait.new.writer) c.turns.buffer c.next_line.new.buffer broken.0 broken.2.1.0 may_wait broken.2.1.2
     broken.2.1.1 broken.2.0.1
 
 pub turns-smaller : goal.turns-smaller
