@@ -23,6 +23,19 @@ Replies-push answers m n k (l ∷ ls) text line reply r a = (
       append_assoc (ended r.0) r.1 (ended reply),
 )
 
+Replies-append : {M : Type 0} (answers : M → List ℕ → List ℕ → M → Type 0) (m n k : M) (ls more : List (List ℕ)) (text sent : List ℕ)
+    → Replies answers m ls text n → Replies answers n more sent k → Replies answers m (ls ++ more) (text ++ sent) k
+Replies-append answers m n k [] more text sent r s = subst (λ x. Replies answers x more (text ++ sent) k) r.1
+    (subst (λ x. Replies answers n more (x ++ sent) k) (sym r.0) s)
+Replies-append answers m n k (l ∷ ls) more text sent r s =
+    (r.0, r.1 ++ sent, r.2, r.3, Replies-append answers r.2 n k ls more r.1 sent r.4 s, ap (λ x. x ++ sent) r.5 ∙ append_assoc (ended r.0) r.1 sent)
+
+-- lines and then more lines were answered
+pub all_append : {M : Type 0} (answers : M → List ℕ → List ℕ → M → Type 0) (m n k : M) (ls more : List (List ℕ)) (text sent : List ℕ) (count next : ℕ)
+    → AnswersAll answers m ls text count n → AnswersAll answers n more sent next k → AnswersAll answers m (ls ++ more) (text ++ sent) (count + next) k
+all_append answers m n k ls more text sent count next r s =
+    (Replies-append (AnswersLine answers) m n k ls more text sent r.0 s.0, omega (arith, r.1, s.1, length-append ls more))
+
 pub record Running {M : Type 0} (answers : M → List ℕ → List ℕ → M → Type 0) (m n : M) (read text : List ℕ) (count : ℕ) (now : Reading) : Type 0 where
   pub answered : List (List ℕ)
   pub standing : Standing read answered now

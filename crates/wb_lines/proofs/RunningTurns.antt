@@ -8,10 +8,11 @@ use Rattle.std.specs.Io.KnownBytes.{Appends, Consumes}
 use Rattle.std.proofs.KnownBytes.{Appends-nil, Consumes-nil}
 use Rattle.wb_lines.specs.Replies.{Replies}
 use Rattle.wb_lines.specs.Session.{AnswersLine, AnswersAll, AnswersSome, BreaksOff}
-use Rattle.wb_lines.specs.Turns.{TakesLines}
+use Rattle.wb_lines.specs.Turns.{TakesLines, AnswersTold}
 use Rattle.wb_lines.proofs.Standing.{Standing, IsOpen, IsClosed, standing_line, standing_some, less_left, few}
 use Rattle.wb_lines.proofs.Counting.{counts_none}
-use Rattle.wb_lines.proofs.Running.{Running, running_none}
+use Rattle.wb_lines.proofs.Running.{Running, running_none, all_append}
+use Rattle.wb_lines.proofs.Answering.{told_behind, told_more}
 use Rattle.wb_lines.proofs.Taking.{flat_append, unbroken_append}
 
 -- before the first line
@@ -65,18 +66,6 @@ standing_lines read answered more old new s t = record {
   reads = omega (arith, s.reads, t.same.reads);
 }
 
-Replies-append : {M : Type 0} (answers : M → List ℕ → List ℕ → M → Type 0) (m n k : M) (ls more : List (List ℕ)) (text sent : List ℕ)
-    → Replies answers m ls text n → Replies answers n more sent k → Replies answers m (ls ++ more) (text ++ sent) k
-Replies-append answers m n k [] more text sent r s = subst (λ x. Replies answers x more (text ++ sent) k) r.1
-    (subst (λ x. Replies answers n more (x ++ sent) k) (sym r.0) s)
-Replies-append answers m n k (l ∷ ls) more text sent r s =
-    (r.0, r.1 ++ sent, r.2, r.3, Replies-append answers r.2 n k ls more r.1 sent r.4 s, ap (λ x. x ++ sent) r.5 ∙ append_assoc (ended r.0) r.1 sent)
-
-all_append : {M : Type 0} (answers : M → List ℕ → List ℕ → M → Type 0) (m n k : M) (ls more : List (List ℕ)) (text sent : List ℕ) (count next : ℕ)
-    → AnswersAll answers m ls text count n → AnswersAll answers n more sent next k → AnswersAll answers m (ls ++ more) (text ++ sent) (count + next) k
-all_append answers m n k ls more text sent count next r s =
-    (Replies-append (AnswersLine answers) m n k ls more text sent r.0 s.0, omega (arith, r.1, s.1, length-append ls more))
-
 module _ {M : Type 0} (answers : M → List ℕ → List ℕ → M → Type 0) (m n : M) (read got text line : List ℕ) (more : List (List ℕ)) (count : ℕ)
     (old mid new : Reading)
     (r : Running answers m n read text count old) (l : TakesLine old mid got line) (t : TakesLines mid new more) where
@@ -116,34 +105,25 @@ module _ {M : Type 0} (answers : M → List ℕ → List ℕ → M → Type 0) (
   pub turn_fits : (k : M) (sent : List ℕ) (next : ℕ) → AnswersAll answers n (line ∷ more) sent next k → count + next ≤ block_size * read_limit
   turn_fits k sent next a = turn_few next (all_few k sent next a)
 
-  some_few : (k : M) (sent : List ℕ) (next : ℕ) → AnswersSome answers n (line ∷ more) sent next k → next ≤ length (line ∷ more)
-  some_few k sent next a = omega (arith, a.6.1, ap length a.5, length-append a.0 a.1)
+  some_few : (k : M) (sent : List ℕ) (next : ℕ) → AnswersTold answers n (line ∷ more) sent next k → next ≤ length (line ∷ more)
+  some_few k sent next a = omega (arith, a.7.1, ap length a.6, length-append a.0 (a.1 ++ a.2))
 
-  pub turn_stop_fits : (k : M) (sent : List ℕ) (next : ℕ) → AnswersSome answers n (line ∷ more) sent next k → count + next ≤ block_size * read_limit
+  pub turn_stop_fits : (k : M) (sent : List ℕ) (next : ℕ) → AnswersTold answers n (line ∷ more) sent next k → count + next ≤ block_size * read_limit
   turn_stop_fits k sent next a = turn_few next (some_few k sent next a)
 
-  breaks_more : (a k : M) (rest behind : List (List ℕ)) (part : List ℕ) → BreaksOff answers a rest part k → BreaksOff answers a (rest ++ behind) part k
-  breaks_more a k [] behind part b = absurd b
-  breaks_more a k (x ∷ rest) behind part b = b
-
-  last_more : (a k : M) (rest behind : List (List ℕ)) (part : List ℕ) → ((part ≡ []) × (k ≡ a)) ⊎ BreaksOff answers a rest part k
-      → ((part ≡ []) × (k ≡ a)) ⊎ BreaksOff answers a (rest ++ behind) part k
-  last_more a k rest behind part (inl e) = inl e
-  last_more a k rest behind part (inr b) = inr (breaks_more a k rest behind part b)
-
   -- some of them were
-  pub running_turn_stops : (k : M) (sent : List ℕ) (next : ℕ) (left : Option (List ℕ)) → KnowsEnd mid left → AnswersSome answers n (line ∷ more) sent next k
-      → AnswersSome answers m (finished_lines (read ++ got) left) (text ++ sent) (count + next) k
-  running_turn_stops k sent next left known (answered, rest, whole, part, between, e, a, cut, last) =
-      let s = standing_some (read ++ got) (r.answered ++ line ∷ more) new left turn_standing (λ h. known (sym t.same.at_end ∙ h)) in (
-        r.answered ++ answered,
-        rest ++ s.0,
-        text ++ whole,
-        part,
-        between,
-        s.1 ∙ append_assoc r.answered (line ∷ more) s.0 ∙ ap (λ x. r.answered ++ (x ++ s.0)) e ∙ ap (λ x. r.answered ++ x) (append_assoc answered rest s.0)
-            ∙ sym (append_assoc r.answered answered (rest ++ s.0)),
-        all_append answers m n between r.answered answered text whole count next r.replies a,
-        ap (λ x. text ++ x) cut ∙ sym (append_assoc text whole part),
-        last_more between k rest s.0 part last,
-      )
+  pub running_turn_stops : (k : M) (sent : List ℕ) (next : ℕ) (left : Option (List ℕ)) → KnowsEnd mid left → AnswersTold answers n (line ∷ more) sent next k
+      → AnswersTold answers m (finished_lines (read ++ got) left) (text ++ sent) (count + next) k
+  running_turn_stops k sent next left known a =
+      let s = standing_some (read ++ got) (r.answered ++ line ∷ more) new left turn_standing (λ h. known (sym t.same.at_end ∙ h)) in
+      told_behind answers m n k _ r.answered ((line ∷ more) ++ s.0) text sent count next (s.1 ∙ append_assoc r.answered (line ∷ more) s.0) r.replies
+      (told_more answers n k (line ∷ more) s.0 sent next a)
+
+-- of lines that were answered one by one no more than one was not told
+pub told_by_one : {M : Type 0} (answers : M → List ℕ → List ℕ → M → Type 0) (m n : M) (asked : List (List ℕ)) (text : List ℕ) (count : ℕ)
+    → AnswersSome answers m asked text count n → AnswersTold answers m asked text count n
+told_by_one answers m n asked text count (answered, rest, whole, part, between, e, a, cut, inl last) =
+    (answered, [], rest, whole, part, between, e, a, cut, omega arith, last)
+told_by_one answers m n asked text count (answered, [], whole, part, between, e, a, cut, inr last) = absurd last
+told_by_one answers m n asked text count (answered, line ∷ rest, whole, part, between, e, a, cut, inr (reply, x, last)) =
+    (answered, line ∷ [], rest, whole, part, between, e, a, cut, omega arith, (reply, [], n, x, (refl, refl), last))

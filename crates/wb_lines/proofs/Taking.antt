@@ -1,5 +1,5 @@
 -- Lines that lie ahead are taken one after the other.
-use Rattle.std.proofs.Common.{◌≡◌, ℕ, List, [], ◌∷◌, ◌++◌, true, false, Bool, if◌then◌else◌, Option, Result, Ok, Err, OnOk}
+use Rattle.std.proofs.Common.{◌≡◌, ℕ, List, [], ◌∷◌, ◌++◌, true, false, Bool, if◌then◌else◌, Option, Result, Ok, Err, OnOk, OnErr}
 use Rattle.std.proofs.Common.{is_err, is_ok, true≢false, refl, sym, ap, ◌∙◌, subst, append_assoc, append-nil, flat_map}
 use Rattle.wb_lines.specs.Lines.{AreUnbroken, BeginsWithLine, ended}
 use Rattle.wb_lines.specs.Reading.{Reading, IsKept, IsSameReader, IsText, TakesPart}
@@ -62,6 +62,10 @@ taken_push reads (k ∷ ls) (u ∷ ts) l t a i = (a.0, taken_push reads ls ts l 
 pub on_ok_at : {A E : Type 0} (r : Result A E) (X : Type 0) (b : Bool) → b ≡ is_err r → b ≡ false → OnOk r X → X
 on_ok_at (Ok a) X b v f h = h
 on_ok_at (Err e) X b v f h = absurd (true≢false (sym v ∙ f))
+
+pub on_err_at : {A E : Type 0} (r : Result A E) (X : Type 0) (b : Bool) → b ≡ is_err r → b ≡ true → OnErr r X → X
+on_err_at (Ok a) X b v f h = absurd (true≢false (sym f ∙ v))
+on_err_at (Err e) X b v f h = h
 
 pub pushed : {A E T : Type 0} (r : Result A E) (b : Bool) (old new : List T) (x : T) → b ≡ is_err r → b ≡ false → new ≡
     (if is_ok r then old ++ x ∷ [] else old) → new ≡ old ++ x ∷ []

@@ -14,7 +14,7 @@ mod turns;
 mod whole;
 
 pub use buffer::{LINE_LIMIT, Line, LineBuffer, LineFault, READ_LIMIT, next_line};
-pub use machine::{Asks, Machine, SessionEnd};
+pub use machine::{Asks, Machine, SessionEnd, Tells};
 pub use resting::{Hears, Holds, NothingHeld, Sends};
 pub use sending::{WriteFault, send};
 pub use session::serve_lines;

@@ -25,3 +25,8 @@ pub trait Machine<S> {
 pub trait Asks<P> {
     ghost reads: { List ℕ → P → Type 0 };
 }
+
+/// What the text of a reply is, which is made after the line is answered. Nor has this.
+pub trait Tells<Q> {
+    ghost text: { Q → List ℕ };
+}

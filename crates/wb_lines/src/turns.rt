@@ -1,23 +1,28 @@
-//! The session that takes the lines that lie ahead together, and answers them in one turn.
-ghost use Rattle.std.specs.Prelude.{◌≡◌, ◌≢◌, ◌⊎◌, ◌<◌, ◌≤◌, ◌^◌, ℕ, List, [], ◌∷◌, ◌++◌, length, take, true, IfOk, IfErr, OnOk, OnErr, IsErrOf};
+//! The session that takes the lines that lie ahead together, answers them in turns, and tells each turn's replies after it.
+ghost use Rattle.std.specs.Prelude.{◌≡◌, ◌≢◌, ◌⊎◌, ◌+◌, ◌<◌, ◌≤◌, ◌^◌, ℕ, List, [], ◌∷◌, ◌++◌, length, take, true, false, IfOk, IfErr, OnOk, OnErr};
+ghost use Rattle.std.specs.Prelude.{Option, IsErrOf};
 ghost use Rattle.std.specs.Io.KnownBytes.{Appends, Consumes};
 ghost use Rattle.wb_lines.specs.Causes.{ReadsUntil, WritesUntil};
 ghost use Rattle.wb_lines.specs.Lines.{ended};
 ghost use Rattle.wb_lines.specs.Reading.{IsText};
-ghost use Rattle.wb_lines.specs.Session.{AnswersLine, AnswersAll, AnswersSome, MayAnswer, Serves};
-ghost use Rattle.wb_lines.specs.Turns.{TakesLines, ReadsBy, AnswersReadBy, IsTaken, AreTaken};
-ghost use Rattle.wb_lines.specs.declared.machine.SessionEnd.{SessionEnd};
+ghost use Rattle.wb_lines.specs.Replies.{Replies};
+ghost use Rattle.wb_lines.specs.Session.{AnswersLine, AnswersAll};
+ghost use Rattle.wb_lines.specs.Turns.{TakesLines, ReadsBy, AnswersReadBy, TellsBy, LetsGo, IsTaken, AreTaken};
+ghost use Rattle.wb_lines.specs.Turns.{reply_text, all_texts, GetReplies, AnswersTold, ServesTurns};
 
 use crate::buffer::{Line, LineBuffer, LineFault, next_line};
-use crate::machine::{Asks, Machine, SessionEnd};
-use crate::resting::{Hears, NothingHeld, Sends};
+use crate::machine::{Asks, Machine, SessionEnd, Tells};
+use crate::resting::{Hears, Holds, Sends};
 use crate::sending::send;
 use crate::session::{Stop, TOO_LONG, flush_at_fault, flush_before_wait};
 use std::alloc::{AllocError, Global};
 use std::collections::VecDeque;
 
-// A turn has at most so many lines.
+// So many lines are taken together at most, so a turn has no more.
 const TURN_LIMIT: usize = 256;
+
+// A turn ends once its lines have cost so much.
+const COST_LIMIT: u64 = 65_536;
 
 // What a line is read as, or nothing where it is too long.
 fn taken<M: Asks<P>, P, G: Fn(&[u8]) -> P>(parse: &G, line: Line, bytes: &[u8]) -> Option<P>
@@ -80,129 +85,280 @@ fn take_turn<M: Asks<P>, P: Drop, G: Fn(&[u8]) -> P>(
     take_ahead::<M, P, G>(buffer, parse, turn)
 }
 
-// The reply to a line that was taken.
-fn reply_to<M: Machine<S> + Asks<P>, S, P, F: Fn(&mut S, P) -> Result<Vec<u8>, AllocError>>(
-    alloc: Global,
+// The reply to a line that was taken, or nothing where it is too long; and what it cost.
+fn reply_to<M: Machine<S> + Asks<P> + Tells<Q>, S, K, P, Q, F: Fn(&mut S, &mut K, P) -> (Q, u64)>(
     state: &mut S,
+    hold: &mut K,
     answer: &F,
     asked: Option<P>,
-) -> Result<Vec<u8>, AllocError>
+) -> (Option<Q>, u64)
     requires callable { F.IsAlwaysCallable answer.now }
-    requires answers { AnswersReadBy F.Fn answer.now M.reads M.answers }
-    ensures ok { IfOk result (λ reply. (line : List ℕ) → IsTaken M.reads line asked
-        → AnswersLine M.answers state.old line reply.items state.new) }
-    ensures err { OnErr result ((line : List ℕ) → IsTaken M.reads line asked
-        → MayAnswer (AnswersLine M.answers) state.old line state.new) }
+    requires answers { AnswersReadBy F.Fn answer.now M.reads M.text M.answers }
+    ensures { (line : List ℕ) → IsTaken M.reads line asked → AnswersLine M.answers state.old line (reply_text M.text result.0) state.new }
 {
     match asked {
-        None => Vec::from_slice(alloc, TOO_LONG),
-        Some(asked) => answer(state, asked),
+        None => (None, 0),
+        Some(asked) => {
+            let (reply, cost) = answer(state, hold, asked);
+            (Some(reply), cost)
+        }
     }
 }
 
-// Lets go what is held, where to write so many bytes may have to wait.
-fn let_go_before<H: Fn()>(let_go: &H)
-    requires { H.IsAlwaysCallable let_go.now }
+// Answers lines that were taken, in order, until all are or they have cost so much.
+fn answer_lines<
+    M: Machine<S> + Asks<P> + Tells<Q>,
+    S,
+    K,
+    P: Drop,
+    Q: Drop,
+    F: Fn(&mut S, &mut K, P) -> (Q, u64),
+>(
+    state: &mut S,
+    hold: &mut K,
+    answer: &F,
+    taken: &mut VecDeque<Option<P>>,
+    replies: &mut VecDeque<Option<Q>>,
+) -> Result<(), AllocError>
+    requires callable { F.IsAlwaysCallable answer.now }
+    requires answers { AnswersReadBy F.Fn answer.now M.reads M.text M.answers }
+    requires empty { replies.old.items ≡ [] }
+    ensures ok { OnOk result ((asked : List (List ℕ)) → AreTaken M.reads asked taken.old.items → (done rest : List (List ℕ))
+        × (asked ≡ done ++ rest) × AreTaken M.reads rest taken.new.items
+        × GetReplies M.answers M.text state.old done replies.new.items state.new) }
+    ensures err { OnErr result ((asked : List (List ℕ)) → AreTaken M.reads asked taken.old.items → (done rest : List (List ℕ))
+        × (asked ≡ done ++ rest) × ((texts : List ℕ) × Replies (AnswersLine M.answers) state.old done texts state.new)) }
+    ensures count { OnOk result (length replies.new.items + length taken.new.items ≡ length taken.old.items) }
+    ensures some { OnOk result (0 < length taken.old.items → 0 < length replies.new.items) }
 {
-    let_go();
+    let mut spent: u64 = 0;
+    while let Some(next) = taken.pop_front() {
+        let (reply, cost) = reply_to::<M, S, K, P, Q, F>(state, hold, answer, next);
+        if replies.push_back(reply).is_err() {
+            return Err(AllocError);
+        }
+        spent = spent.saturating_add(cost);
+        if spent >= COST_LIMIT {
+            return Ok(());
+        }
+    }
+    Ok(())
 }
 
-// Answers a line that was taken: the reply and a line end.
-fn answer_line<
-    M: Machine<S> + Asks<P>,
-    S,
-    P,
-    F: Fn(&mut S, P) -> Result<Vec<u8>, AllocError>,
-    H: Fn(),
-    W: Sends<NothingHeld>,
->(
+// The text of a reply and a line end.
+fn text_of<M: Tells<Q>, Q, T: Fn(Q) -> Result<Vec<u8>, AllocError>>(
     alloc: Global,
-    state: &mut S,
-    answer: &F,
-    let_go: &H,
+    tell: &T,
+    reply: Option<Q>,
+) -> Result<Vec<u8>, AllocError>
+    requires callable { T.IsAlwaysCallable tell.now }
+    requires tells { TellsBy T.Fn tell.now M.text }
+    ensures { IfOk result (λ made. made.items ≡ ended (reply_text M.text reply)) }
+{
+    let made = match reply {
+        None => Vec::from_slice(alloc, TOO_LONG),
+        Some(reply) => tell(reply),
+    };
+    match made {
+        Ok(mut text) => {
+            if text.push(b'\n').is_err() {
+                return Err(AllocError);
+            }
+            Ok(text)
+        }
+        Err(_) => Err(AllocError),
+    }
+}
+
+// Sends the text of a reply.
+fn tell_reply<M: Tells<Q>, K: Holds, Q, T: Fn(Q) -> Result<Vec<u8>, AllocError>, W: Sends<K>>(
+    alloc: Global,
+    hold: &K,
+    tell: &T,
     writer: &mut W,
-    asked: Option<P>,
+    reply: Option<Q>,
 ) -> Result<(), Stop>
-    requires callable { F.IsAlwaysCallable answer.now }
-    requires free { H.IsAlwaysCallable let_go.now }
-    requires answers { AnswersReadBy F.Fn answer.now M.reads M.answers }
-    ensures ok { OnOk result ((line : List ℕ) → IsTaken M.reads line asked → (reply : List ℕ)
-        × AnswersLine M.answers state.old line reply state.new
-        × Appends (W.contents writer.old) (W.contents writer.new) (ended reply)) }
-    ensures err { OnErr result ((line : List ℕ) → IsTaken M.reads line asked
-        → ((state.new ≡ state.old) × Appends (W.contents writer.old) (W.contents writer.new) [])
-        ⊎ ((reply : List ℕ) × AnswersLine M.answers state.old line reply state.new
-        × ((k : ℕ) × (k < length (ended reply))
-        × Appends (W.contents writer.old) (W.contents writer.new) (take k (ended reply))))) }
+    requires callable { T.IsAlwaysCallable tell.now }
+    requires tells { TellsBy T.Fn tell.now M.text }
+    requires free { K.held hold.now ≡ false }
+    ensures ok { OnOk result (Appends (W.contents writer.old) (W.contents writer.new) (ended (reply_text M.text reply))) }
+    ensures err { OnErr result ((k : ℕ) × (k < length (ended (reply_text M.text reply)))
+        × Appends (W.contents writer.old) (W.contents writer.new) (take k (ended (reply_text M.text reply)))) }
     ensures failed { IsErrOf result Stop.WriteFault → W.failed writer.new ≡ true }
 {
-    let mut reply = match reply_to::<M, S, P, F>(alloc, state, answer, asked) {
-        Ok(reply) => reply,
-        Err(_) => return Err(Stop::NoMemory),
-    };
-    if reply.push(b'\n').is_err() {
-        return Err(Stop::NoMemory);
-    }
-    let_go_before(let_go);
-    match send(writer, &NothingHeld, reply.as_slice()) {
-        Ok(()) => Ok(()),
-        Err(_) => Err(Stop::WriteFault),
+    match text_of::<M, Q, T>(alloc, tell, reply) {
+        Ok(text) => match send(writer, hold, text.as_slice()) {
+            Ok(()) => Ok(()),
+            Err(_) => Err(Stop::WriteFault),
+        },
+        Err(_) => Err(Stop::NoMemory),
     }
 }
 
-// Answers the lines of a turn in order. What the first takes hold of is held until the last is answered, but for replies that
-// the writer has no room for. Says how many were answered whole.
+// Sends the texts of replies in order: how many were sent whole.
+fn tell_replies<
+    M: Tells<Q>,
+    K: Holds,
+    Q: Drop,
+    T: Fn(Q) -> Result<Vec<u8>, AllocError>,
+    W: Sends<K>,
+>(
+    alloc: Global,
+    hold: &K,
+    tell: &T,
+    writer: &mut W,
+    replies: &mut VecDeque<Option<Q>>,
+) -> Result<u64, (u64, Stop)>
+    requires callable { T.IsAlwaysCallable tell.now }
+    requires tells { TellsBy T.Fn tell.now M.text }
+    requires free { K.held hold.now ≡ false }
+    requires short { length replies.old.items ≤ 256 }
+    ensures ok { IfOk result (λ count. Appends (W.contents writer.old) (W.contents writer.new) (all_texts M.text replies.old.items)
+        × (count ≡ length replies.old.items)) }
+    ensures err { IfErr result (λ halt. (sent left : List (Option Q)) × (first : Option Q) × (k : ℕ)
+        × (replies.old.items ≡ sent ++ first ∷ left) × (halt.0 ≡ length sent) × (k < length (ended (reply_text M.text first)))
+        × Appends (W.contents writer.old) (W.contents writer.new) (all_texts M.text sent ++ take k (ended (reply_text M.text first)))) }
+    ensures failed { IfErr result (λ halt. halt.1 ≡ Stop.WriteFault → W.failed writer.new ≡ true) }
+{
+    let mut told = 0;
+    while let Some(reply) = replies.pop_front() {
+        match tell_reply::<M, K, Q, T, W>(alloc, hold, tell, writer, reply) {
+            Ok(()) => told += 1,
+            Err(stop) => return Err((told, stop)),
+        }
+    }
+    Ok(told)
+}
+
+// Lets go what is held.
+fn free<K: Holds, H: Fn(&mut K)>(hold: &mut K, let_go: &H)
+    requires callable { H.IsAlwaysCallable let_go.now }
+    requires lets_go { LetsGo H.Fn let_go.now K.held }
+    ensures { K.held hold.new ≡ false }
+{
+    let_go(hold);
+}
+
+// Answers lines that were taken, in one turn: until all are or they have cost so much. What is taken hold of for that is let go,
+// and then the texts of the replies are made and sent. Says how many lines were answered and told.
 fn answer_turn<
-    M: Machine<S> + Asks<P>,
+    M: Machine<S> + Asks<P> + Tells<Q>,
     S,
+    K: Holds,
     P: Drop,
-    F: Fn(&mut S, P) -> Result<Vec<u8>, AllocError>,
-    H: Fn(),
-    W: Sends<NothingHeld>,
+    Q: Drop,
+    F: Fn(&mut S, &mut K, P) -> (Q, u64),
+    T: Fn(Q) -> Result<Vec<u8>, AllocError>,
+    H: Fn(&mut K),
+    W: Sends<K>,
 >(
     alloc: Global,
     state: &mut S,
+    hold: &mut K,
     answer: &F,
+    tell: &T,
     let_go: &H,
     writer: &mut W,
-    turn: &mut VecDeque<Option<P>>,
+    taken: &mut VecDeque<Option<P>>,
 ) -> Result<u64, (u64, Stop)>
     requires callable { F.IsAlwaysCallable answer.now }
-    requires free { H.IsAlwaysCallable let_go.now }
-    requires answers { AnswersReadBy F.Fn answer.now M.reads M.answers }
-    requires short { length turn.old.items ≤ 256 }
-    ensures ok { IfOk result (λ count. (asked : List (List ℕ)) → AreTaken M.reads asked turn.old.items → (text : List ℕ)
+    requires answers { AnswersReadBy F.Fn answer.now M.reads M.text M.answers }
+    requires tellable { T.IsAlwaysCallable tell.now }
+    requires tells { TellsBy T.Fn tell.now M.text }
+    requires let_go_at_any_time { H.IsAlwaysCallable let_go.now }
+    requires lets_go { LetsGo H.Fn let_go.now K.held }
+    requires short { length taken.old.items ≤ 256 }
+    ensures free { K.held hold.new ≡ false }
+    ensures ok { IfOk result (λ count. (asked : List (List ℕ)) → AreTaken M.reads asked taken.old.items → (done rest : List (List ℕ))
+        × (asked ≡ done ++ rest) × AreTaken M.reads rest taken.new.items
+        × ((text : List ℕ) × Appends (W.contents writer.old) (W.contents writer.new) text
+        × AnswersAll M.answers state.old done text count state.new)) }
+    ensures err { IfErr result (λ halt. (asked : List (List ℕ)) → AreTaken M.reads asked taken.old.items → (text : List ℕ)
+        × Appends (W.contents writer.old) (W.contents writer.new) text
+        × AnswersTold M.answers state.old asked text halt.0 state.new) }
+    ensures count { IfOk result (λ count. count + length taken.new.items ≡ length taken.old.items) }
+    ensures halted { IfErr result (λ halt. halt.0 ≤ length taken.old.items) }
+    ensures some { IfOk result (λ count. 0 < length taken.old.items → 0 < count) }
+    ensures failed { IfErr result (λ halt. halt.1 ≡ Stop.WriteFault → W.failed writer.new ≡ true) }
+{
+    let mut replies = VecDeque::new(alloc);
+    let answered = answer_lines::<M, S, K, P, Q, F>(state, hold, answer, taken, &mut replies);
+    free(hold, let_go);
+    if answered.is_err() {
+        return Err((0, Stop::NoMemory));
+    }
+    tell_replies::<M, K, Q, T, W>(alloc, hold, tell, writer, &mut replies)
+}
+
+// Answers all lines that were taken, in as many turns as they cost. Says how many were answered and told.
+fn answer_taken<
+    M: Machine<S> + Asks<P> + Tells<Q>,
+    S,
+    K: Holds,
+    P: Drop,
+    Q: Drop,
+    F: Fn(&mut S, &mut K, P) -> (Q, u64),
+    T: Fn(Q) -> Result<Vec<u8>, AllocError>,
+    H: Fn(&mut K),
+    W: Sends<K>,
+>(
+    alloc: Global,
+    state: &mut S,
+    hold: &mut K,
+    answer: &F,
+    tell: &T,
+    let_go: &H,
+    writer: &mut W,
+    taken: &mut VecDeque<Option<P>>,
+) -> Result<u64, (u64, Stop)>
+    requires callable { F.IsAlwaysCallable answer.now }
+    requires answers { AnswersReadBy F.Fn answer.now M.reads M.text M.answers }
+    requires tellable { T.IsAlwaysCallable tell.now }
+    requires tells { TellsBy T.Fn tell.now M.text }
+    requires let_go_at_any_time { H.IsAlwaysCallable let_go.now }
+    requires lets_go { LetsGo H.Fn let_go.now K.held }
+    requires short { length taken.old.items ≤ 256 }
+    requires free { K.held hold.old ≡ false }
+    ensures free { K.held hold.new ≡ false }
+    ensures ok { IfOk result (λ count. (asked : List (List ℕ)) → AreTaken M.reads asked taken.old.items → (text : List ℕ)
         × Appends (W.contents writer.old) (W.contents writer.new) text
         × AnswersAll M.answers state.old asked text count state.new) }
-    ensures err { IfErr result (λ halt. (asked : List (List ℕ)) → AreTaken M.reads asked turn.old.items → (text : List ℕ)
+    ensures err { IfErr result (λ halt. (asked : List (List ℕ)) → AreTaken M.reads asked taken.old.items → (text : List ℕ)
         × Appends (W.contents writer.old) (W.contents writer.new) text
-        × AnswersSome M.answers state.old asked text halt.0 state.new) }
+        × AnswersTold M.answers state.old asked text halt.0 state.new) }
     ensures failed { IfErr result (λ halt. halt.1 ≡ Stop.WriteFault → W.failed writer.new ≡ true) }
 {
     let mut answered = 0;
-    while let Some(asked) = turn.pop_front() {
-        match answer_line::<M, S, P, F, H, W>(alloc, state, answer, let_go, writer, asked) {
-            Ok(()) => answered += 1,
-            Err(stop) => return Err((answered, stop)),
+    while !taken.is_empty() {
+        match answer_turn::<M, S, K, P, Q, F, T, H, W>(
+            alloc, state, hold, answer, tell, let_go, writer, taken,
+        ) {
+            Ok(count) => answered += count,
+            Err((count, stop)) => return Err((answered + count, stop)),
         }
     }
     Ok(answered)
 }
 
-// Answers the line that was read last, and those that lie ahead, up to the limit of a turn.
+// Takes the line that was read last and those that lie ahead, up to the limit of a turn, and answers them.
 fn serve_turn<
-    M: Machine<S> + Asks<P>,
+    M: Machine<S> + Asks<P> + Tells<Q>,
     S,
+    K: Holds,
     P: Drop,
+    Q: Drop,
     G: Fn(&[u8]) -> P,
-    F: Fn(&mut S, P) -> Result<Vec<u8>, AllocError>,
-    H: Fn(),
-    W: Sends<NothingHeld>,
+    F: Fn(&mut S, &mut K, P) -> (Q, u64),
+    T: Fn(Q) -> Result<Vec<u8>, AllocError>,
+    H: Fn(&mut K),
+    W: Sends<K>,
 >(
     alloc: Global,
     state: &mut S,
+    hold: &mut K,
     parse: &G,
     answer: &F,
+    tell: &T,
     let_go: &H,
     writer: &mut W,
     buffer: &mut LineBuffer,
@@ -211,8 +367,13 @@ fn serve_turn<
     requires readable { G.IsAlwaysCallable parse.now }
     requires reads { ReadsBy G.Fn parse.now M.reads }
     requires callable { F.IsAlwaysCallable answer.now }
-    requires free { H.IsAlwaysCallable let_go.now }
-    requires answers { AnswersReadBy F.Fn answer.now M.reads M.answers }
+    requires answers { AnswersReadBy F.Fn answer.now M.reads M.text M.answers }
+    requires tellable { T.IsAlwaysCallable tell.now }
+    requires tells { TellsBy T.Fn tell.now M.text }
+    requires let_go_at_any_time { H.IsAlwaysCallable let_go.now }
+    requires lets_go { LetsGo H.Fn let_go.now K.held }
+    requires free { K.held hold.old ≡ false }
+    ensures free { K.held hold.new ≡ false }
     ensures ok { IfOk result (λ count. (first : List ℕ) → IsText line buffer.old.line first → (more : List (List ℕ))
         × TakesLines buffer.old buffer.new more
         × ((text : List ℕ) × Appends (W.contents writer.old) (W.contents writer.new) text
@@ -220,35 +381,41 @@ fn serve_turn<
     ensures err { IfErr result (λ halt. (first : List ℕ) → IsText line buffer.old.line first → (more : List (List ℕ))
         × TakesLines buffer.old buffer.new more
         × ((text : List ℕ) × Appends (W.contents writer.old) (W.contents writer.new) text
-        × AnswersSome M.answers state.old (first ∷ more) text halt.0 state.new)) }
+        × AnswersTold M.answers state.old (first ∷ more) text halt.0 state.new)) }
     ensures failed { IfErr result (λ halt. halt.1 ≡ Stop.WriteFault → W.failed writer.new ≡ true) }
 {
     let mut turn = VecDeque::new(alloc);
     if take_turn::<M, P, G>(buffer, parse, line, &mut turn).is_err() {
         return Err((0, Stop::NoMemory));
     }
-    let answered = answer_turn::<M, S, P, F, H, W>(alloc, state, answer, let_go, writer, &mut turn);
-    let_go();
-    answered
+    answer_taken::<M, S, K, P, Q, F, T, H, W>(
+        alloc, state, hold, answer, tell, let_go, writer, &mut turn,
+    )
 }
 
-/// Answers each line that is read, in order, until the end of input or a fault, as `serve_lines` does. Lines that lie ahead
-/// are first read, each by itself, and then answered in one turn, in which what `answer` takes hold of stays held:
-/// it is let go, by `let_go`, before a line is read, the writer is flushed, or a reply is sent that the writer has no room for.
+/// Answers each line that is read, in order, until the end of input or a fault. Lines that lie ahead are first read, each by
+/// itself, and then answered in turns: a turn ends when its lines, of which it has 256 at most, have cost 65,536, as `answer`
+/// tells with each reply. What `answer` takes hold of stays held for a turn, and is let go by `let_go` then: before the texts
+/// of the turn's replies are made, by `tell`, and sent. Lines that the turn did not come to are the first of the next.
 pub fn serve_turns<
-    M: Machine<S> + Asks<P>,
+    M: Machine<S> + Asks<P> + Tells<Q>,
     S,
+    K: Holds,
     P: Drop,
+    Q: Drop,
     G: Fn(&[u8]) -> P,
-    F: Fn(&mut S, P) -> Result<Vec<u8>, AllocError>,
-    H: Fn(),
-    R: Hears<NothingHeld, W>,
-    W: Sends<NothingHeld>,
+    F: Fn(&mut S, &mut K, P) -> (Q, u64),
+    T: Fn(Q) -> Result<Vec<u8>, AllocError>,
+    H: Fn(&mut K),
+    R: Hears<K, W>,
+    W: Sends<K>,
 >(
     alloc: Global,
     state: &mut S,
+    hold: &mut K,
     parse: &G,
     answer: &F,
+    tell: &T,
     let_go: &H,
     reader: &mut R,
     writer: &mut W,
@@ -256,28 +423,35 @@ pub fn serve_turns<
     requires readable { G.IsAlwaysCallable parse.now }
     requires reads { ReadsBy G.Fn parse.now M.reads }
     requires callable { F.IsAlwaysCallable answer.now }
-    requires free { H.IsAlwaysCallable let_go.now }
-    requires answers { AnswersReadBy F.Fn answer.now M.reads M.answers }
+    requires answers { AnswersReadBy F.Fn answer.now M.reads M.text M.answers }
+    requires tellable { T.IsAlwaysCallable tell.now }
+    requires tells { TellsBy T.Fn tell.now M.text }
+    requires let_go_at_any_time { H.IsAlwaysCallable let_go.now }
+    requires lets_go { LetsGo H.Fn let_go.now K.held }
+    requires free { K.held hold.old ≡ false }
+    ensures free { K.held hold.new ≡ false }
     ensures serves { (read : List ℕ) × Consumes (R.remaining reader.old) (R.remaining reader.new) read
         × ((text : List ℕ) × Appends (W.contents writer.old) (W.contents writer.new) text
-        × Serves M.answers result state.old read (R.remaining reader.new) text state.new) }
+        × ServesTurns M.answers result state.old read (R.remaining reader.new) text state.new) }
     ensures read { ReadsUntil result (R.remaining reader.new) (R.failed reader.new) (R.reads reader.old) (R.reads reader.new) }
     ensures written { WritesUntil result (W.flushed writer.new) (W.failed writer.new) }
 {
     let mut buffer = LineBuffer::new(alloc);
     let mut answered = 0;
     'turns: loop {
-        if flush_before_wait(writer, &NothingHeld, &buffer).is_err() {
+        if flush_before_wait(writer, hold, &buffer).is_err() {
             return SessionEnd::WriteFault(answered);
         }
-        match next_line(reader, writer, &NothingHeld, &mut buffer) {
+        match next_line(reader, writer, hold, &mut buffer) {
             Ok(Line::End) => return SessionEnd::Done(answered),
             Ok(line) => {
-                match serve_turn::<M, S, P, G, F, H, W>(
+                match serve_turn::<M, S, K, P, Q, G, F, T, H, W>(
                     alloc,
                     state,
+                    hold,
                     parse,
                     answer,
+                    tell,
                     let_go,
                     writer,
                     &mut buffer,
@@ -288,7 +462,7 @@ pub fn serve_turns<
                         return SessionEnd::WriteFault(answered + count);
                     }
                     Err((count, Stop::NoMemory)) => {
-                        flush_at_fault(writer, &NothingHeld);
+                        flush_at_fault(writer, hold);
                         return SessionEnd::NoMemory(answered + count);
                     }
                 }
@@ -296,7 +470,7 @@ pub fn serve_turns<
             Err(LineFault::ReadFault) => return SessionEnd::ReadFault(answered),
             Err(LineFault::TooManyReads) => return SessionEnd::TooManyReads(answered),
             Err(LineFault::NoMemory) => {
-                flush_at_fault(writer, &NothingHeld);
+                flush_at_fault(writer, hold);
                 return SessionEnd::NoMemory(answered);
             }
         }

@@ -1,12 +1,7 @@
-use Rattle.wb_lines.proofs.Answering.{reply_ok, reply_err}
+use Rattle.wb_lines.proofs.Answering.{reply_is}
 use Rattle.wb_lines.proofs.turns.reply_to.Goals as goal
 
-pub returns-in-Some-clause-ok : goal.returns-in-Some-clause-ok
-returns-in-Some-clause-ok g c =
-    reply_ok g.M.Machine.answers g.M.Asks.reads c.args.state.now c.answer.new.arg2 c.in-Some.asked c.args.asked c.answer.result c.in-Some.is
-    (λ line is. c.requires.answers _ c.in-Some.asked line c.answer.result _ c.answer.ensures is)
-
-pub returns-in-Some-clause-err : goal.returns-in-Some-clause-err
-returns-in-Some-clause-err g c =
-    reply_err g.M.Machine.answers g.M.Asks.reads c.args.state.now c.answer.new.arg2 c.in-Some.asked c.args.asked c.answer.result c.in-Some.is
-    (λ line is. c.requires.answers _ c.in-Some.asked line c.answer.result _ c.answer.ensures is)
+pub returns-in-Some : goal.returns-in-Some
+returns-in-Some g c =
+    reply_is g.M.Machine.answers g.M.Tells.text g.M.Asks.reads c.args.state.now c.answer-reply.new.arg2 c.in-Some.asked c.args.asked c.answer-reply.result.0 c.in-Some.is
+    (λ line is. c.requires.answers _ _ _ _ c.in-Some.asked line c.answer-reply.result c.answer-reply.ensures is)

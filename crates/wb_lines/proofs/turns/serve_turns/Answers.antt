@@ -6,7 +6,7 @@ use Rattle.wb_lines.specs.declared.buffer.Line.TheVariants.{End}
 use Rattle.wb_lines.proofs.Counting.{counts_more, counts_none, counts_all}
 use Rattle.wb_lines.proofs.Outcomes.{text_of}
 use Rattle.wb_lines.proofs.Running.{running_end, running_fault, running_broken, running_waits}
-use Rattle.wb_lines.proofs.RunningTurns.{session_begins, running_turn, running_turn_stops, turn_less, turn_fits, turn_stop_fits}
+use Rattle.wb_lines.proofs.RunningTurns.{session_begins, running_turn, running_turn_stops, told_by_one, turn_less, turn_fits, turn_stop_fits}
 use Rattle.wb_lines.proofs.Waiting.{flushed_at}
 use Rattle.wb_lines.proofs.Taking.{on_ok_at}
 use Rattle.wb_lines.proofs.turns.serve_turns.Goals as goal
@@ -53,6 +53,7 @@ turns-preserved g c =
       ),
       λ e. c.next_line.ensures.end c.turns.invariant.1 (sym same.at_end ∙ e),
       counts_more unread _ _ _ _ _ (counts_more unread _ _ _ _ _ c.turns.invariant.2 c.next_line.ensures.counted) (counts_none _ _ _ same.reads),
+      c.serve_turn.ensures.free,
     )
 
 pub returns-in-Err-default-WriteFault : goal.returns-in-Err-default-WriteFault
@@ -64,6 +65,7 @@ returns-in-Err-default-WriteFault g c =
     let text = text_of c.in-Ok.line c.turns.buffer c.next_line.new.buffer taken.0 taken.2 is_line in
     let turn = c.in-Err-default-WriteFault.ensures.err text.0 text.2 in
     record {
+      free = c.serve_turn.ensures.free;
       serves = (
         so_far.0 ++ taken.0,
         Consumes-trans _ _ _ so_far.0 taken.0 so_far.2 taken.1,
@@ -87,6 +89,7 @@ returns-in-Err-default-NoMemory g c =
     let text = text_of c.in-Ok.line c.turns.buffer c.next_line.new.buffer taken.0 taken.2 is_line in
     let turn = c.in-Err-default-NoMemory.ensures.err text.0 text.2 in
     record {
+      free = c.serve_turn.ensures.free;
       serves = (
         so_far.0 ++ taken.0,
         Consumes-trans _ _ _ so_far.0 taken.0 so_far.2 taken.1,
@@ -104,8 +107,16 @@ returns-in-Err-default-NoMemory g c =
 pub returns-then-is_err-clause-serves : goal.returns-then-is_err-clause-serves
 returns-then-is_err-clause-serves g c =
     let so_far = c.turns.invariant.0 in
-    let written = Appends-kept _ _ _ so_far.1 so_far.3 c.flush_before_wait.ensures.bytes in
-    (so_far.0, so_far.2, (so_far.1, written, running_waits g.M.Machine.answers _ _ so_far.0 so_far.1 _ c.turns.buffer _ so_far.4 c.turns.invariant.1))
+    let written = Appends-kept _ _ _ so_far.1 so_far.3 c.flush_before_wait.ensures.bytes in (
+      so_far.0,
+      so_far.2,
+      (
+        so_far.1,
+        written,
+        told_by_one g.M.Machine.answers _ _ _ so_far.1 _
+            (running_waits g.M.Machine.answers _ _ so_far.0 so_far.1 _ c.turns.buffer (g.R.Hears.remaining c.turns.reader) so_far.4 c.turns.invariant.1),
+      ),
+    )
 
 pub returns-in-Err-ReadFault-clause-serves : goal.returns-in-Err-ReadFault-clause-serves
 returns-in-Err-ReadFault-clause-serves g c =
@@ -147,8 +158,8 @@ returns-in-Err-NoMemory-clause-serves g c =
       (
         so_far.1,
         Appends-kept _ _ _ so_far.1 written c.flush_at_fault-in-Err-NoMemory.ensures,
-        running_broken g.M.Machine.answers _ _ so_far.0 broken.0 so_far.1 broken.2.1.0 _ c.turns.buffer c.next_line.new.buffer _ so_far.4 broken.2.1.2
-            (c.next_line.ensures.end c.turns.invariant.1),
+        told_by_one g.M.Machine.answers _ _ _ so_far.1 _ (running_broken g.M.Machine.answers _ _ so_far.0 broken.0 so_far.1 broken.2.1.0 _ c.turns.buffer c.next_line.new.buffer (g.R.Hears.remaining c.next_line.new.reader) so_far.4 broken.2.1.2
+            (c.next_line.ensures.end c.turns.invariant.1)),
       ),
     )
 
@@ -217,4 +228,7 @@ overflow_add-result-in-Err-default-NoMemory g c =
     )
 
 pub turns-init : goal.turns-init
-turns-init g c = session_begins g.M.Machine.answers c.args.state.now c.new-buffer.result _ _ _ c.new-buffer.ensures
+turns-init g c =
+    let begins = session_begins g.M.Machine.answers c.args.state.now c.new-buffer.result (g.R.Hears.remaining c.args.reader.now)
+    (g.W.Sends.contents c.args.writer.now) (g.R.Hears.reads c.args.reader.now) c.new-buffer.ensures in
+    (begins.0, begins.1, begins.2, c.requires.free)

@@ -1,4 +1,4 @@
-use Rattle.std.proofs.Common.{ℕ, List, ◌+◌, ◌-◌, ◌*◌, length}
+use Rattle.std.proofs.Common.{ℕ, List, ◌≡◌, ◌+◌, ◌-◌, ◌*◌, false, length}
 use Rattle.std.specs.Io.KnownBytes.{Appends, Consumes}
 use Rattle.wb_lines.specs.Causes.{CountsReads}
 use Rattle.wb_lines.specs.Reading.{KnowsEnd, unread, block_size, read_limit}
@@ -11,6 +11,7 @@ invariant-turns g l = ((read text : List ℕ) × Consumes (g.R.Hears.remaining l
     × Running g.M.Machine.answers l.fn.state l.state read text l.answered l.buffer)
     × KnowsEnd l.buffer (g.R.Hears.remaining l.reader)
     × CountsReads unread l.buffer (g.R.Hears.reads l.fn.reader) (g.R.Hears.reads l.reader)
+    × (g.K.Holds.held l.hold ≡ false)
 
 abbrev pub decreases-turns : goal.decreases-turns
 decreases-turns g l = block_size * (read_limit - l.buffer.reads) + length l.buffer.ahead
