@@ -1,5 +1,5 @@
 -- Lines that were taken, while they are answered in turns.
-use Rattle.std.proofs.Common.{◌≡◌, ◌<◌, ◌+◌, ◌≤◌, ℕ, suc, List, [], ◌∷◌, ◌++◌, take, length, Option, Some, None, Result, Ok, Err, IfOk, IfErr}
+use Rattle.std.proofs.Common.{◌≡◌, ◌<◌, ◌+◌, ◌≤◌, ℕ, suc, List, [], ◌∷◌, ◌++◌, take, length, Option, Some, Result, Ok, Err, IfOk, IfErr}
 use Rattle.std.proofs.Common.{MatchBool, Bool, true, ◌==◌, ne_eqb, refl, sym, ap, ◌∙◌, subst, append_assoc, append-nil, length-append}
 use Rattle.std.proofs.Common.{arith}
 use Rattle.std.specs.Io.KnownBytes.{Appends}

@@ -6,8 +6,7 @@ use Rattle.wb_lines.specs.Reading.{Reading, TakesLine, KnowsEnd, unread, block_s
 use Rattle.wb_lines.specs.Causes.{CountsReads}
 use Rattle.std.specs.Io.KnownBytes.{Appends, Consumes}
 use Rattle.std.proofs.KnownBytes.{Appends-nil, Consumes-nil}
-use Rattle.wb_lines.specs.Replies.{Replies}
-use Rattle.wb_lines.specs.Session.{AnswersLine, AnswersAll, AnswersSome, BreaksOff}
+use Rattle.wb_lines.specs.Session.{AnswersAll, AnswersSome}
 use Rattle.wb_lines.specs.Turns.{TakesLines, AnswersTold}
 use Rattle.wb_lines.proofs.Standing.{Standing, IsOpen, IsClosed, standing_line, standing_some, less_left, few}
 use Rattle.wb_lines.proofs.Counting.{counts_none}

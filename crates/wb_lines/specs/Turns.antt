@@ -29,9 +29,13 @@ AnswersReadBy {F} {M} {K} {P} {Q} g f reads text answers = (m n : MutBor M) (h k
     (given : Q × ℕ) → g.post f (m, (h, (asked, tt))) (given, (n, (k, tt))) → reads line asked
     → answers m.now line (text given.0) n.now
 
--- t, called at any reply, gives its text, where it finds memory
-abbrev pub TellsBy : {T Q Z E : Type 0} → Shared T (Q × Unit {0}) (Result (Vec ℕ Z) E) → T → (Q → List ℕ) → Type 0
-TellsBy {T} {Q} {Z} {E} g t text = (reply : Q) (made : Result (Vec ℕ Z) E) → g.post t (reply, tt) made
+-- t may be called at any reply while nothing is held
+abbrev pub TellsWhileFree : {T K Q Z E : Type 0} → Shared T (Bor K × (Q × Unit {0})) (Result (Vec ℕ Z) E) → T → (K → Bool) → Type 0
+TellsWhileFree {T} {K} {Q} g t held = (h : Bor K) (reply : Q) → held h.now ≡ false → g.pre t (h, (reply, tt))
+
+-- and gives its text then, where it finds memory
+abbrev pub TellsBy : {T K Q Z E : Type 0} → Shared T (Bor K × (Q × Unit {0})) (Result (Vec ℕ Z) E) → T → (Q → List ℕ) → Type 0
+TellsBy {T} {K} {Q} {Z} {E} g t text = (h : Bor K) (reply : Q) (made : Result (Vec ℕ Z) E) → g.post t (h, (reply, tt)) made
     → IfOk made (λ bytes. bytes.items ≡ text reply)
 
 -- h, called at whatever is held, leaves nothing held

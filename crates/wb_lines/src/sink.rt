@@ -25,18 +25,12 @@ pub trait Sink {
         ensures cause { failed self.new ≡ is_refused bytes.now result }
         ensures held { flushed self.new ≡ false };
 
-    /// Whether so many bytes more can be held back, so that to write them waits for nobody. It is a hint.
-    fn has_room(&self, count: usize) -> bool;
-
     /// Sends on what it holds back.
     fn flush(&mut self) -> io::Result<()>
         ensures bytes { Keeps (contents self.old) (contents self.new) }
         ensures cause { failed self.new ≡ is_err result }
         ensures sent { OnOk result (flushed self.new ≡ true) };
 }
-
-// A writer that holds bytes back has room for so many.
-const ROOM: usize = 8192;
 
 /// A sink that writes to any writer. It alone says what a failed write or flush is: where the writer's own answers an
 /// error, or a write takes nothing.
@@ -45,19 +39,17 @@ pub struct Output<W> {
     writer: W,
     has_failed: bool,
     is_flushed: bool,
-    gathered: usize,
 }
 
 impl<W> Output<W> {
     /// A sink that adds to what the writer has.
     pub fn new(writer: W) -> Output<W>
-        ensures { result ≡ record { writer = writer; has_failed = false; is_flushed = false; gathered = 0 } }
+        ensures { result ≡ record { writer = writer; has_failed = false; is_flushed = false } }
     {
         Output {
             writer,
             has_failed: false,
             is_flushed: false,
-            gathered: 0,
         }
     }
 }
@@ -76,19 +68,13 @@ impl<W: Write> Sink for Output<W> {
             Err(_) => true,
         };
         self.is_flushed = false;
-        self.gathered = self.gathered.saturating_add(bytes.len());
         result
-    }
-
-    fn has_room(&self, count: usize) -> bool {
-        self.gathered.saturating_add(count) < ROOM
     }
 
     fn flush(&mut self) -> io::Result<()> {
         let result = self.writer.flush();
         self.has_failed = result.is_err();
         self.is_flushed = result.is_ok();
-        self.gathered = 0;
         result
     }
 }

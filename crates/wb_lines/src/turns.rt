@@ -7,7 +7,7 @@ ghost use Rattle.wb_lines.specs.Lines.{ended};
 ghost use Rattle.wb_lines.specs.Reading.{IsText};
 ghost use Rattle.wb_lines.specs.Replies.{Replies};
 ghost use Rattle.wb_lines.specs.Session.{AnswersLine, AnswersAll};
-ghost use Rattle.wb_lines.specs.Turns.{TakesLines, ReadsBy, AnswersReadBy, TellsBy, LetsGo, IsTaken, AreTaken};
+ghost use Rattle.wb_lines.specs.Turns.{TakesLines, ReadsBy, AnswersReadBy, TellsBy, TellsWhileFree, LetsGo, IsTaken, AreTaken};
 ghost use Rattle.wb_lines.specs.Turns.{reply_text, all_texts, GetReplies, AnswersTold, ServesTurns};
 
 use crate::buffer::{Line, LineBuffer, LineFault, next_line};
@@ -146,18 +146,20 @@ fn answer_lines<
 }
 
 // The text of a reply and a line end.
-fn text_of<M: Tells<Q>, Q, T: Fn(Q) -> Result<Vec<u8>, AllocError>>(
+fn text_of<M: Tells<Q>, K: Holds, Q, T: Fn(&K, Q) -> Result<Vec<u8>, AllocError>>(
     alloc: Global,
+    hold: &K,
     tell: &T,
     reply: Option<Q>,
 ) -> Result<Vec<u8>, AllocError>
-    requires callable { T.IsAlwaysCallable tell.now }
+    requires callable { TellsWhileFree T.Fn tell.now K.held }
+    requires free { K.held hold.now ≡ false }
     requires tells { TellsBy T.Fn tell.now M.text }
     ensures { IfOk result (λ made. made.items ≡ ended (reply_text M.text reply)) }
 {
     let made = match reply {
         None => Vec::from_slice(alloc, TOO_LONG),
-        Some(reply) => tell(reply),
+        Some(reply) => tell(hold, reply),
     };
     match made {
         Ok(mut text) => {
@@ -171,14 +173,14 @@ fn text_of<M: Tells<Q>, Q, T: Fn(Q) -> Result<Vec<u8>, AllocError>>(
 }
 
 // Sends the text of a reply.
-fn tell_reply<M: Tells<Q>, K: Holds, Q, T: Fn(Q) -> Result<Vec<u8>, AllocError>, W: Sends<K>>(
+fn tell_reply<M: Tells<Q>, K: Holds, Q, T: Fn(&K, Q) -> Result<Vec<u8>, AllocError>, W: Sends<K>>(
     alloc: Global,
     hold: &K,
     tell: &T,
     writer: &mut W,
     reply: Option<Q>,
 ) -> Result<(), Stop>
-    requires callable { T.IsAlwaysCallable tell.now }
+    requires callable { TellsWhileFree T.Fn tell.now K.held }
     requires tells { TellsBy T.Fn tell.now M.text }
     requires free { K.held hold.now ≡ false }
     ensures ok { OnOk result (Appends (W.contents writer.old) (W.contents writer.new) (ended (reply_text M.text reply))) }
@@ -186,7 +188,7 @@ fn tell_reply<M: Tells<Q>, K: Holds, Q, T: Fn(Q) -> Result<Vec<u8>, AllocError>,
         × Appends (W.contents writer.old) (W.contents writer.new) (take k (ended (reply_text M.text reply)))) }
     ensures failed { IsErrOf result Stop.WriteFault → W.failed writer.new ≡ true }
 {
-    match text_of::<M, Q, T>(alloc, tell, reply) {
+    match text_of::<M, K, Q, T>(alloc, hold, tell, reply) {
         Ok(text) => match send(writer, hold, text.as_slice()) {
             Ok(()) => Ok(()),
             Err(_) => Err(Stop::WriteFault),
@@ -200,7 +202,7 @@ fn tell_replies<
     M: Tells<Q>,
     K: Holds,
     Q: Drop,
-    T: Fn(Q) -> Result<Vec<u8>, AllocError>,
+    T: Fn(&K, Q) -> Result<Vec<u8>, AllocError>,
     W: Sends<K>,
 >(
     alloc: Global,
@@ -209,7 +211,7 @@ fn tell_replies<
     writer: &mut W,
     replies: &mut VecDeque<Option<Q>>,
 ) -> Result<u64, (u64, Stop)>
-    requires callable { T.IsAlwaysCallable tell.now }
+    requires callable { TellsWhileFree T.Fn tell.now K.held }
     requires tells { TellsBy T.Fn tell.now M.text }
     requires free { K.held hold.now ≡ false }
     requires short { length replies.old.items ≤ 256 }
@@ -248,7 +250,7 @@ fn answer_turn<
     P: Drop,
     Q: Drop,
     F: Fn(&mut S, &mut K, P) -> (Q, u64),
-    T: Fn(Q) -> Result<Vec<u8>, AllocError>,
+    T: Fn(&K, Q) -> Result<Vec<u8>, AllocError>,
     H: Fn(&mut K),
     W: Sends<K>,
 >(
@@ -263,7 +265,7 @@ fn answer_turn<
 ) -> Result<u64, (u64, Stop)>
     requires callable { F.IsAlwaysCallable answer.now }
     requires answers { AnswersReadBy F.Fn answer.now M.reads M.text M.answers }
-    requires tellable { T.IsAlwaysCallable tell.now }
+    requires tellable { TellsWhileFree T.Fn tell.now K.held }
     requires tells { TellsBy T.Fn tell.now M.text }
     requires let_go_at_any_time { H.IsAlwaysCallable let_go.now }
     requires lets_go { LetsGo H.Fn let_go.now K.held }
@@ -298,7 +300,7 @@ fn answer_taken<
     P: Drop,
     Q: Drop,
     F: Fn(&mut S, &mut K, P) -> (Q, u64),
-    T: Fn(Q) -> Result<Vec<u8>, AllocError>,
+    T: Fn(&K, Q) -> Result<Vec<u8>, AllocError>,
     H: Fn(&mut K),
     W: Sends<K>,
 >(
@@ -313,7 +315,7 @@ fn answer_taken<
 ) -> Result<u64, (u64, Stop)>
     requires callable { F.IsAlwaysCallable answer.now }
     requires answers { AnswersReadBy F.Fn answer.now M.reads M.text M.answers }
-    requires tellable { T.IsAlwaysCallable tell.now }
+    requires tellable { TellsWhileFree T.Fn tell.now K.held }
     requires tells { TellsBy T.Fn tell.now M.text }
     requires let_go_at_any_time { H.IsAlwaysCallable let_go.now }
     requires lets_go { LetsGo H.Fn let_go.now K.held }
@@ -349,7 +351,7 @@ fn serve_turn<
     Q: Drop,
     G: Fn(&[u8]) -> P,
     F: Fn(&mut S, &mut K, P) -> (Q, u64),
-    T: Fn(Q) -> Result<Vec<u8>, AllocError>,
+    T: Fn(&K, Q) -> Result<Vec<u8>, AllocError>,
     H: Fn(&mut K),
     W: Sends<K>,
 >(
@@ -368,7 +370,7 @@ fn serve_turn<
     requires reads { ReadsBy G.Fn parse.now M.reads }
     requires callable { F.IsAlwaysCallable answer.now }
     requires answers { AnswersReadBy F.Fn answer.now M.reads M.text M.answers }
-    requires tellable { T.IsAlwaysCallable tell.now }
+    requires tellable { TellsWhileFree T.Fn tell.now K.held }
     requires tells { TellsBy T.Fn tell.now M.text }
     requires let_go_at_any_time { H.IsAlwaysCallable let_go.now }
     requires lets_go { LetsGo H.Fn let_go.now K.held }
@@ -396,7 +398,8 @@ fn serve_turn<
 /// Answers each line that is read, in order, until the end of input or a fault. Lines that lie ahead are first read, each by
 /// itself, and then answered in turns: a turn ends when its lines, of which it has 256 at most, have cost 65,536, as `answer`
 /// tells with each reply. What `answer` takes hold of stays held for a turn, and is let go by `let_go` then: before the texts
-/// of the turn's replies are made, by `tell`, and sent. Lines that the turn did not come to are the first of the next.
+/// of the turn's replies are made, by `tell`, which may be called only while nothing is held, and sent. Lines that the turn did
+/// not come to are the first of the next.
 pub fn serve_turns<
     M: Machine<S> + Asks<P> + Tells<Q>,
     S,
@@ -405,7 +408,7 @@ pub fn serve_turns<
     Q: Drop,
     G: Fn(&[u8]) -> P,
     F: Fn(&mut S, &mut K, P) -> (Q, u64),
-    T: Fn(Q) -> Result<Vec<u8>, AllocError>,
+    T: Fn(&K, Q) -> Result<Vec<u8>, AllocError>,
     H: Fn(&mut K),
     R: Hears<K, W>,
     W: Sends<K>,
@@ -424,7 +427,7 @@ pub fn serve_turns<
     requires reads { ReadsBy G.Fn parse.now M.reads }
     requires callable { F.IsAlwaysCallable answer.now }
     requires answers { AnswersReadBy F.Fn answer.now M.reads M.text M.answers }
-    requires tellable { T.IsAlwaysCallable tell.now }
+    requires tellable { TellsWhileFree T.Fn tell.now K.held }
     requires tells { TellsBy T.Fn tell.now M.text }
     requires let_go_at_any_time { H.IsAlwaysCallable let_go.now }
     requires lets_go { LetsGo H.Fn let_go.now K.held }
