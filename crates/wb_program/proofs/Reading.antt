@@ -1,7 +1,5 @@
 -- What a line was read as, and what is replied to that.
-use Rattle.std.proofs.Common.{◌≡◌, ◌⊎◌, inl, inr, List, ℕ, Result, Ok, Err, IfOk, OnErr, refl, sym, ap, subst}
-use Rattle.std.specs.declared.vec.Vec.{Vec}
-use Rattle.wb_lines.specs.Session.{MayAnswer, Answered}
+use Rattle.std.proofs.Common.{◌≡◌, ◌⊎◌, inl, inr, List, ℕ, Result, Ok, Err, refl, sym, ap, subst}
 use Rattle.wb_proto.specs.Below.wb_history.Past.{Past}
 use Rattle.wb_proto.specs.Below.wb_log.refusal.Refusal.{Refusal}
 use Rattle.wb_proto.specs.Below.wb_log.refusal.Refusal.TheVariants.{NoMemory}
@@ -36,10 +34,3 @@ by_refusal opening h line why (inr e) = inr (cc, refl)
 pub refused_here : (opening : Past) (h : Held) (line : List ℕ) (all : Result Request Refusal) (why : Refusal) → all ≡ Err why → IsReadAs line all →
     RepliesIfRead opening h (request line) (Refused why) h ⊎ NothingAsked h (Refused why) h
 refused_here opening h line all why e is = by_refusal opening h line why (subst (IsReadAs line) e is)
-
--- a function that answers what any line was read as so, answers the line
-pub answered_by : {Z E : Type 0} (answers : Held → List ℕ → List ℕ → Held → Type 0) (h k : Held) (line : List ℕ) (asked : Result Request Refusal)
-    (r : Result (Vec ℕ Z) E) → IfOk r (λ reply. (l : List ℕ) → IsReadAs l asked → answers h l reply.items k) →
-    OnErr r ((l : List ℕ) → IsReadAs l asked → MayAnswer answers h l k) → IsReadAs line asked → Answered answers h line r k
-answered_by answers h k line asked (Ok reply) ok err is = ok line is
-answered_by answers h k line asked (Err e) ok err is = err line is

@@ -5,6 +5,7 @@
 
 mod answering;
 mod checking;
+mod cost;
 mod put_back;
 mod resuming;
 mod running;

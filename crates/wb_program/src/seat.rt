@@ -1,16 +1,18 @@
 //! A seat at a desk as what answers lines.
-ghost use Rattle.std.specs.Prelude.{◌≡◌, ◌⊎◌, ℕ, List, IfOk, OnErr};
+ghost use Rattle.std.specs.Prelude.{◌≡◌, ◌⊎◌, ℕ, List, false, IfOk};
 ghost use Rattle.std.specs.Io.KnownBytes.{Appends, Consumes};
 ghost use Rattle.wb_lines.specs.Causes.{ReadsUntil, WritesUntil};
-ghost use Rattle.wb_lines.specs.Session.{MayAnswer, Serves};
+ghost use Rattle.wb_lines.specs.Turns.{ServesTurns};
 ghost use Rattle.wb_lines.specs.declared.machine.SessionEnd.{SessionEnd};
+ghost use Rattle.wb_proto.specs.Replies.{reply_of};
 ghost use Rattle.wb_proto.specs.Requests.{request};
 ghost use Rattle.wb_program.specs.Serving.{RepliesIfRead, NothingAsked, AnswersSeat, IsReadAs};
 
+use crate::cost::{cost_of, cost_to_answer};
 use std::alloc::{AllocError, Global};
 use std::marker::PhantomData;
 use std::sync::Wait;
-use wb_lines::{Asks, Machine, Sink, Source, serve_turns};
+use wb_lines::{Asks, Holds, Machine, Sink, Source, Tells, serve_turns};
 use wb_proto::below::history::Refusal;
 use wb_proto::{Reply, Request, read_request, reply_text};
 use wb_redist::Mover;
@@ -21,12 +23,26 @@ struct Seat<L> {
     of: PhantomData<L>,
 }
 
+// Whether a turn may hold the desk's lock. Each function below that has the turn take the lock, or let it go, says so here.
+#[derive(Drop)]
+struct Hold {
+    is_held: bool,
+}
+
+impl Holds for Hold {
+    ghost held = { λ h. h.is_held };
+}
+
 impl<L: Opening> Machine<Pass<L>> for Seat<L> {
     ghost answers = { AnswersSeat L.opening };
 }
 
 impl<L: Opening> Asks<Result<Request, Refusal>> for Seat<L> {
     ghost reads = { IsReadAs };
+}
+
+impl<L: Opening> Tells<Reply> for Seat<L> {
+    ghost text = { reply_of };
 }
 
 // The reply to a line that was read: that of the desk to its request, or why it is none.
@@ -45,20 +61,27 @@ fn reply_to<L: Opening, R: Wait, M: Mover>(
     }
 }
 
-// The text of the reply to a line that was read.
+// The reply to a line that was read, and what it cost.
 fn answer_asked<L: Opening, R: Wait, M: Mover>(
     rt: &R,
-    alloc: Global,
     turn: &Turn<'_, L>,
     pass: &mut Pass<L>,
     asked: Result<Request, Refusal>,
     mover: &M,
-) -> Result<Vec<u8>, AllocError>
-    ensures ok { IfOk result (λ reply. (line : List ℕ) → IsReadAs line asked → AnswersSeat L.opening pass.old line reply.items pass.new) }
-    ensures err { OnErr result ((line : List ℕ) → IsReadAs line asked → MayAnswer (AnswersSeat L.opening) pass.old line pass.new) }
+) -> (Reply, u64)
+    ensures { (line : List ℕ) → IsReadAs line asked → AnswersSeat L.opening pass.old line (reply_of result.0) pass.new }
 {
+    let least = cost_to_answer(&asked);
     let reply = reply_to(rt, turn, pass, asked, mover);
-    match reply_text(alloc, &reply) {
+    let cost = cost_of(&reply).saturating_add(least);
+    (reply, cost)
+}
+
+// The text of a reply.
+fn text_of(alloc: Global, reply: &Reply) -> Result<Vec<u8>, AllocError>
+    ensures { IfOk result (λ text. text.items ≡ reply_of reply.now) }
+{
+    match reply_text(alloc, reply) {
         Ok(text) => Ok(text.into_bytes()),
         Err(_) => Err(AllocError),
     }
@@ -79,32 +102,58 @@ fn serve_in_turns<L: Opening, R: Wait, I: Source, O: Sink, M: Mover>(
         × WritesUntil end (O.flushed writer.new) (O.failed writer.new)
         × ((read : List ℕ) × Consumes (I.remaining reader.old) (I.remaining reader.new) read
         × ((text : List ℕ) × Appends (O.contents writer.old) (O.contents writer.new) text
-        × Serves (AnswersSeat L.opening) end pass read (I.remaining reader.new) text result)) }
+        × ServesTurns (AnswersSeat L.opening) end pass read (I.remaining reader.new) text result)) }
 {
-    // (each of the three functions borrows variables of its own)
+    // (each of the functions borrows variables of its own)
     let mut pass = pass;
+    let mut hold = Hold { is_held: false };
     let to_read = alloc;
     let parse = |line: &[u8]| -> Result<Request, Refusal>
         ensures { IsReadAs line.now result }
     { read_request(to_read, line) };
-    let answer = |pass: &mut Pass<L>, asked: Result<Request, Refusal>| -> Result<
-        Vec<u8>,
-        AllocError,
-    >
-        ensures ok { IfOk result (λ reply. (line : List ℕ) → IsReadAs line asked → AnswersSeat L.opening pass.old line reply.items pass.new) }
-        ensures err { OnErr result ((line : List ℕ) → IsReadAs line asked → MayAnswer (AnswersSeat L.opening) pass.old line pass.new) }
-    { answer_asked(rt, alloc, turn, pass, asked, mover) };
+    let answer = |pass: &mut Pass<L>, hold: &mut Hold, asked: Result<Request, Refusal>| -> (
+        Reply,
+        u64,
+    )
+        ensures { (line : List ℕ) → IsReadAs line asked → AnswersSeat L.opening pass.old line (reply_of result.0) pass.new }
+    {
+        hold.is_held = true;
+        answer_asked(rt, turn, pass, asked, mover)
+    };
+    let to_tell = alloc;
+    let tell = |_hold: &Hold, reply: Reply| -> Result<Vec<u8>, AllocError>
+        ensures { IfOk result (λ text. text.items ≡ reply_of reply) }
+    { text_of(to_tell, &reply) };
     let held = turn;
-    let let_go = || held.let_go();
-    let _ = serve_turns::<Seat<L>, Pass<L>, Result<Request, Refusal>, _, _, _, I, O>(
-        alloc, &mut pass, &parse, &answer, &let_go, reader, writer,
+    let let_go = |hold: &mut Hold|
+        ensures { hold.new.is_held ≡ false }
+    {
+        held.let_go();
+        hold.is_held = false;
+    };
+    let _ = serve_turns::<
+        Seat<L>,
+        Pass<L>,
+        Hold,
+        Result<Request, Refusal>,
+        Reply,
+        _,
+        _,
+        _,
+        _,
+        I,
+        O,
+    >(
+        alloc, &mut pass, &mut hold, &parse, &answer, &tell, &let_go, reader, writer,
     );
     pass
 }
 
 /// Answers each line that is read at a seat of a desk, in order, until the end of input or a fault, and gives the pass
 /// back: it writes exactly the texts of the replies, each with a line end, and each the desk's to the pass as it was then.
-/// Lines that lie ahead are read first, and then answered under one lock.
+/// Lines that lie ahead are read first, and then answered in turns of the lock. A turn ends after 256 lines, or once they have
+/// cost 65,536 by the cells that they touched, the numbers that they list and the texts that they print; a reduction is as dear
+/// as a whole turn. Texts are made and sent after the lock is let go.
 pub fn serve_seat<L: Opening, R: Wait, I: Source, O: Sink, M: Mover>(
     rt: &R,
     alloc: Global,
@@ -119,7 +168,7 @@ pub fn serve_seat<L: Opening, R: Wait, I: Source, O: Sink, M: Mover>(
         × WritesUntil end (O.flushed writer.new) (O.failed writer.new)
         × ((read : List ℕ) × Consumes (I.remaining reader.old) (I.remaining reader.new) read
         × ((text : List ℕ) × Appends (O.contents writer.old) (O.contents writer.new) text
-        × Serves (AnswersSeat L.opening) end pass read (I.remaining reader.new) text result)) }
+        × ServesTurns (AnswersSeat L.opening) end pass read (I.remaining reader.new) text result)) }
 {
     let turn = Turn::at(desk);
     let pass = serve_in_turns(rt, alloc, &turn, pass, reader, writer, mover);

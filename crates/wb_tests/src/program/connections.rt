@@ -28,6 +28,9 @@ const MAKE_A: &[u8] =
 
 const PRINT: &[u8] = b"{\"op\":\"print\"}\n";
 
+// As dear as a whole turn, so that the lines behind it are the first of the next.
+const SUM: &[u8] = b"{\"op\":\"reduce\",\"a\":\"N\",\"how\":\"+\"}\n";
+
 const IS_THERE: &[u8] = b"{\"size\":1}";
 
 const LAST_LINES: &[u8] = b"\nrect X {1..1} none\nrect Y {1..1} none\nend\n";
@@ -44,8 +47,8 @@ enum First {
     IsCut,
     // It makes X and an array, asks for their text 64 times, and never reads.
     NeverReads,
-    // It makes X and an array, and sets and asks for elements in many lines sent at once, with prints and a line that is none
-    // among them. Each reply has to come in its place.
+    // It makes X and an array, and sets and asks for elements in many lines sent at once, with sums, prints and lines that are
+    // none among them. Each reply has to come in its place.
     SendsMany,
 }
 
@@ -102,6 +105,7 @@ fn many_lines(alloc: Global) -> io::Result<Vec<u8>> {
     for k in 1..=MANY {
         write!(text, "{{\"op\":\"get\",\"a\":\"N\",\"i\":{k}}}\n")?;
         if k % 100 == 0 {
+            text.extend_from_slice(SUM)?;
             text.extend_from_slice(PRINT)?;
             text.extend_from_slice(b"\n")?;
         }
@@ -127,6 +131,7 @@ fn many_replies(alloc: Global, stream: TcpStream) -> io::Result<bool> {
         let value = format!(in alloc; "{{\"value\":{k}}}")?;
         well &= begins(&mut stream, &mut buffer, value.as_bytes());
         if k % 100 == 0 {
+            well &= begins(&mut stream, &mut buffer, b"{\"value\":125250}");
             well &= begins(&mut stream, &mut buffer, b"{\"text\":");
             well &= begins(&mut stream, &mut buffer, b"{\"error\":\"E01\"");
         }

@@ -1,0 +1,64 @@
+//! What a line costs while a desk is locked for it, about: in cells, or in bytes of a text that was made.
+
+use wb_proto::below::history::{Answer, Query, Refusal};
+use wb_proto::{Reply, Request};
+
+// As much as a whole turn may.
+const WHOLE_TURN: u64 = 65_536;
+
+// A number of a list is about so many bytes of text.
+const NUMBER: u64 = 16;
+
+/// What it costs to answer what a line was read as, beyond what the reply tells of.
+pub(crate) fn cost_to_answer(asked: &Result<Request, Refusal>) -> u64 {
+    match asked {
+        Ok(request) => cost_of_request(request),
+        Err(_) => 0,
+    }
+}
+
+fn cost_of_request(request: &Request) -> u64 {
+    match request {
+        Request::Ask(query) => cost_to_look(query),
+        Request::Dependents(_) | Request::Cascade(_) => WHOLE_TURN,
+        Request::Change(_)
+        | Request::Undo(_)
+        | Request::Redo(_)
+        | Request::Print
+        | Request::History
+        | Request::Edits => 0,
+    }
+}
+
+// A reduction looks at all elements and replies with one.
+fn cost_to_look(query: &Query) -> u64 {
+    match query {
+        Query::Reduce(_, _) => WHOLE_TURN,
+        Query::Get(_, _)
+        | Query::Size(_)
+        | Query::Where(_, _)
+        | Query::Piece(_, _)
+        | Query::State(_) => 0,
+    }
+}
+
+/// What a reply tells of.
+pub(crate) fn cost_of(reply: &Reply) -> u64 {
+    match reply {
+        Reply::Edited(_, cells) => *cells as u64,
+        Reply::Undone(_, cells) => *cells as u64,
+        Reply::Cascaded(_, cells) => *cells as u64,
+        Reply::Redone(_, cells) => *cells as u64,
+        Reply::Listed(numbers) => (numbers.as_slice().len() as u64).saturating_mul(NUMBER),
+        Reply::Answered(answer) => cost_of_answer(answer),
+        Reply::Printed(text) => text.as_str().len() as u64,
+        Reply::Counted(_, _) | Reply::Refused(_) => 0,
+    }
+}
+
+fn cost_of_answer(answer: &Answer) -> u64 {
+    match answer {
+        Answer::Piece(piece) => (piece.pairs().len() as u64).saturating_mul(NUMBER),
+        Answer::Value(_) | Answer::Size(_) | Answer::Locale(_) | Answer::InForce(_) => 0,
+    }
+}
