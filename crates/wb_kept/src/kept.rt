@@ -1,5 +1,5 @@
 //! A state and the log of its changes.
-ghost use Rattle.std.specs.Prelude.{◌≡◌, ◌≢◌, ◌<◌, ◌≤◌, ◌^◌, ◌++◌, ℕ, List, [], ◌∷◌, IfOk, IfErr, OnOk, OnErr, IsErrOf, map, IsTrue, IsFalse, IsErrAnd};
+ghost use Rattle.std.specs.Prelude.{◌≡◌, ◌≢◌, ◌<◌, ◌≤◌, ◌^◌, ◌++◌, ℕ, true, false, List, [], ◌∷◌, IfOk, IfErr, OnOk, OnErr, IsErrOf, map, IsTrue, IsFalse, IsErrAnd};
 ghost use Rattle.wb_disk.specs.Device.{Only, LeavesOnly};
 ghost use Rattle.wb_keep.specs.Lines.{recovered, is_ours};
 ghost use Rattle.wb_keep.specs.Keep.{IsSettled, IsBeforeOrAfter};
@@ -7,6 +7,7 @@ ghost use Rattle.wb_keep.specs.Repair.{StandsForTheSame};
 ghost use Rattle.wb_lines.specs.Lines.{ended};
 ghost use Rattle.wb_lines.specs.Reading.{IsText};
 ghost use Rattle.wb_kept.specs.Runs.{Step, Leads, AnswersLine};
+ghost use Rattle.wb_kept.specs.Answering.{AnswersBy, GrantsBy};
 ghost use Rattle.wb_kept.specs.Keeping.{IsKept};
 
 use crate::changes::Changes;
@@ -53,18 +54,34 @@ pub enum OpenKeptErr {
     Failed,
 }
 
+/// Makes a change again, and says whether it was granted.
+fn apply<M: Machine<S>, S, A: Fn(&mut S, &[u8]) -> Result<bool, AllocError>>(
+    make: &A,
+    state: &mut S,
+    change: &[u8],
+) -> Result<bool, AllocError>
+    requires callable { A.IsAlwaysCallable make.now }
+    requires grants { GrantsBy A.Fn make.now M.grants }
+    ensures granted { IfOk result (λ is. is ≡ true → M.grants state.old change.now state.new) }
+    ensures refused { IfOk result (λ is. is ≡ false → (next : S) → M.grants state.old change.now next → ⊥) }
+{
+    make(state, change)
+}
+
 /// Makes the changes of a file again. An `Err` says why not.
-fn apply_all<M: Machine<S>, S>(
-    machine: &M,
+fn apply_all<M: Machine<S>, S, A: Fn(&mut S, &[u8]) -> Result<bool, AllocError>>(
+    make: &A,
     state: &mut S,
     changes: &[Vec<u8>],
 ) -> Result<(), OpenKeptErr>
+    requires callable { A.IsAlwaysCallable make.now }
+    requires grants { GrantsBy A.Fn make.now M.grants }
     ensures led { OnOk result (Leads M.grants state.old (map (λ change. change.items) changes.now) state.new) }
     ensures refused { IfErr result (λ e. e ≢ OpenKeptErr.Memory → (next : S) → Leads M.grants state.old (map (λ change. change.items) changes.now) next → ⊥) }
     ensures memory { IfErr result (λ e. (e ≢ OpenKeptErr.NotOurs) × (e ≢ OpenKeptErr.Failed)) }
 {
     for (at, change) in changes.iter().enumerate() {
-        match machine.apply(state, change) {
+        match apply::<M, S, A>(make, state, change) {
             Ok(true) => {}
             Ok(false) => return Err(OpenKeptErr::NotGranted(at)),
             Err(_) => return Err(OpenKeptErr::Memory),
@@ -73,15 +90,17 @@ fn apply_all<M: Machine<S>, S>(
     Ok(())
 }
 
-/// Opens a file that a crash may have left, and of which `held` was read. It may crash too. An `Err` hands the device
-/// back.
-pub fn open<M: Machine<S>, S: Drop, D: Device>(
+/// Opens a file that a crash may have left, and of which `held` was read: `make` makes its changes again, one after the
+/// other. It may crash too. An `Err` hands the device back.
+pub fn open<M: Machine<S>, S: Drop, D: Device, A: Fn(&mut S, &[u8]) -> Result<bool, AllocError>>(
     alloc: Global,
-    machine: &M,
+    make: &A,
     state: S,
     device: D,
     held: &[u8],
 ) -> Result<Kept<S, D>, (OpenKeptErr, D)>
+    requires callable { A.IsAlwaysCallable make.now }
+    requires grants { GrantsBy A.Fn make.now M.grants }
     requires start { state ≡ M.start }
     requires read { D.seen device ≡ held.now }
     // After a restart, what is read is what is on the disk.
@@ -109,7 +128,7 @@ pub fn open<M: Machine<S>, S: Drop, D: Device>(
         Err(_) => return Err((OpenKeptErr::Memory, device)),
     };
     let mut state = state;
-    if let Err(error) = apply_all::<M, S>(machine, &mut state, &lines) {
+    if let Err(error) = apply_all::<M, S, A>(make, &mut state, &lines) {
         return Err((error, device));
     }
     match wb_keep::resume(device, end) {
@@ -140,14 +159,16 @@ impl Acknowledged {
 }
 
 /// The reply to a line.
-fn reply_to<M: Machine<S>, S>(
+fn reply_to<M: Machine<S>, S, F: Fn(&mut S, &[u8], &mut Changes) -> Result<Vec<u8>, AllocError>>(
     alloc: Global,
-    machine: &M,
+    answer: &F,
     state: &mut S,
     line: Line,
     bytes: &[u8],
     changes: &mut Changes,
 ) -> Result<Vec<u8>, AllocError>
+    requires callable { F.IsAlwaysCallable answer.now }
+    requires answers { AnswersBy F.Fn answer.now M.answers }
     requires text { (text : List ℕ) × IsText line bytes.now text }
     ensures { IfOk result (λ reply. (text : List ℕ) → IsText line bytes.now text → (made : List (List ℕ))
         × AnswersLine M.answers state.old (record { line = text; reply = reply.items; changes = made }) state.new
@@ -155,20 +176,22 @@ fn reply_to<M: Machine<S>, S>(
 {
     match line {
         Line::TooLong => Vec::from_slice(alloc, TOO_LONG),
-        _ => machine.answer(state, bytes, changes),
+        _ => answer(state, bytes, changes),
     }
 }
 
 impl<S, D: Device> Kept<S, D> {
     /// Answers a line. Its reply and its changes wait in the turn. Without memory, open the file again.
-    pub fn answer<M: Machine<S>>(
+    pub fn answer<M: Machine<S>, F: Fn(&mut S, &[u8], &mut Changes) -> Result<Vec<u8>, AllocError>>(
         &mut self,
         alloc: Global,
-        machine: &M,
+        answer: &F,
         line: Line,
         bytes: &[u8],
         turn: &mut Turn,
     ) -> Result<(), AllocError>
+        requires callable { F.IsAlwaysCallable answer.now }
+        requires answers { AnswersBy F.Fn answer.now M.answers }
         requires text { (text : List ℕ) × IsText line bytes.now text }
         ensures answered { OnOk result ((text : List ℕ) → IsText line bytes.now text → (reply : List ℕ) × (made : List (List ℕ))
             × AnswersLine M.answers self.old.state (record { line = text; reply = reply; changes = made }) self.new.state
@@ -176,9 +199,9 @@ impl<S, D: Device> Kept<S, D> {
             × (turn.new.changes ≡ turn.old.changes ++ made)) }
         ensures log { self.new.log ≡ self.old.log }
     {
-        let reply = reply_to::<M, S>(
+        let reply = reply_to::<M, S, F>(
             alloc,
-            machine,
+            answer,
             &mut self.state,
             line,
             bytes,

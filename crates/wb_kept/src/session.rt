@@ -7,10 +7,12 @@ ghost use Rattle.wb_lines.specs.Lines.{BeginsWithLine};
 ghost use Rattle.wb_lines.specs.Reading.{IsText};
 ghost use Rattle.wb_lines.specs.Turns.{TakesLines};
 ghost use Rattle.wb_kept.specs.Runs.{Step, Run, lines_asked, replies_of, changes_of};
+ghost use Rattle.wb_kept.specs.Answering.{AnswersBy};
 ghost use Rattle.wb_kept.specs.Keeping.{IsKept};
 ghost use Rattle.wb_kept.specs.Sessions.{IsFront, Session, ReadsUntil, WritesUntil, KeepsUntil};
 ghost use Rattle.wb_kept.specs.Turning.{Turned, IsCommitted, AnswersEach, Halts};
 
+use crate::changes::Changes;
 use crate::kept::{Acknowledged, Kept, Turn};
 use crate::machine::Machine;
 use std::alloc::{AllocError, Global};
@@ -47,13 +49,20 @@ pub(crate) enum Stop {
 }
 
 /// Answers the lines that lie ahead with their ends, up to the limit of a turn. Says how many.
-fn answer_ahead<M: Machine<S>, S, D: Device>(
+fn answer_ahead<
+    M: Machine<S>,
+    S,
+    D: Device,
+    F: Fn(&mut S, &[u8], &mut Changes) -> Result<Vec<u8>, AllocError>,
+>(
     alloc: Global,
-    machine: &M,
+    answer: &F,
     kept: &mut Kept<S, D>,
     buffer: &mut LineBuffer,
     turn: &mut Turn,
 ) -> Result<u64, AllocError>
+    requires callable { F.IsAlwaysCallable answer.now }
+    requires answers { AnswersBy F.Fn answer.now M.answers }
     ensures ok { IfOk result (λ count. (steps : List Step) × TakesLines buffer.old buffer.new (lines_asked steps)
         × Run M.answers kept.old.state steps kept.new.state
         × (turn.new.replies.items ≡ turn.old.replies.items ++ replies_of steps)
@@ -67,7 +76,7 @@ fn answer_ahead<M: Machine<S>, S, D: Device>(
         let Some(line) = buffer.ready_line() else {
             return Ok(count);
         };
-        kept.answer::<M>(alloc, machine, line, buffer.line(), turn)?;
+        kept.answer::<M, F>(alloc, answer, line, buffer.line(), turn)?;
     }
     Ok(AHEAD_LIMIT)
 }
@@ -91,14 +100,22 @@ fn give_out<D: Device, W: Sink>(
 }
 
 /// Answers the line that was read last and those that lie ahead, keeps the changes, and then gives the replies out.
-fn serve_turn<M: Machine<S>, S, D: Device, W: Sink>(
+fn serve_turn<
+    M: Machine<S>,
+    S,
+    D: Device,
+    F: Fn(&mut S, &[u8], &mut Changes) -> Result<Vec<u8>, AllocError>,
+    W: Sink,
+>(
     alloc: Global,
-    machine: &M,
+    answer: &F,
     kept: &mut Kept<S, D>,
     buffer: &mut LineBuffer,
     line: Line,
     writer: &mut W,
 ) -> Result<u64, (u64, Stop)>
+    requires callable { F.IsAlwaysCallable answer.now }
+    requires answers { AnswersBy F.Fn answer.now M.answers }
     requires settled { IsSettled D.seen D.may_leave kept.old.log }
     requires text { (text : List ℕ) × IsText line buffer.old.line text }
     ensures ok { IfOk result (λ count. (first : List ℕ) → IsText line buffer.old.line first → (steps : List Step)
@@ -115,12 +132,12 @@ fn serve_turn<M: Machine<S>, S, D: Device, W: Sink>(
 {
     let mut turn = Turn::new(alloc);
     if kept
-        .answer::<M>(alloc, machine, line, buffer.line(), &mut turn)
+        .answer::<M, F>(alloc, answer, line, buffer.line(), &mut turn)
         .is_err()
     {
         return Err((0, Stop::NoMemory));
     }
-    let Ok(ahead) = answer_ahead::<M, S, D>(alloc, machine, kept, buffer, &mut turn) else {
+    let Ok(ahead) = answer_ahead::<M, S, D, F>(alloc, answer, kept, buffer, &mut turn) else {
         return Err((0, Stop::NoMemory));
     };
     match kept.commit(alloc, turn) {
@@ -156,17 +173,20 @@ fn flush_at_fault<W: Sink>(writer: &mut W)
     let _ = writer.flush();
 }
 
-/// Answers each line that is read, in order, until the end of input or a fault. Lines that lie ahead are answered in one
+/// Answers each line that is read, in order, by `answer`, until the end of input or a fault. Lines that lie ahead are answered in one
 /// turn, whose changes are kept together, and no reply is given out before its changes are on the disk. A writer that
 /// holds bytes back is flushed before each read and at the end.
-pub fn serve_kept<M: Machine<S>, S, D: Device, R: Source, W: Sink>(
-    alloc: Global,
-    machine: &M,
-    kept: &mut Kept<S, D>,
-    reader: &mut R,
-    writer: &mut W,
-) -> KeptEnd
-    requires { IsKept M.start M.grants D.seen D.may_leave kept.old }
+pub fn serve_kept<
+    M: Machine<S>,
+    S,
+    D: Device,
+    F: Fn(&mut S, &[u8], &mut Changes) -> Result<Vec<u8>, AllocError>,
+    R: Source,
+    W: Sink,
+>(alloc: Global, answer: &F, kept: &mut Kept<S, D>, reader: &mut R, writer: &mut W) -> KeptEnd
+    requires callable { F.IsAlwaysCallable answer.now }
+    requires answers { AnswersBy F.Fn answer.now M.answers }
+    requires kept { IsKept M.start M.grants D.seen D.may_leave kept.old }
     ensures session { Session M.start M.grants M.answers D.seen D.may_leave D.moment D.left_since result kept.old kept.new
         (R.remaining reader.old) (R.remaining reader.new) (W.contents writer.old) (W.contents writer.new) }
     ensures read { ReadsUntil result (R.remaining reader.new) (R.failed reader.new) (R.reads reader.old) (R.reads reader.new) }
@@ -182,7 +202,7 @@ pub fn serve_kept<M: Machine<S>, S, D: Device, R: Source, W: Sink>(
         match next_line(reader, &mut buffer) {
             Ok(Line::End) => return KeptEnd::Done(answered),
             Ok(line) => {
-                match serve_turn::<M, S, D, W>(alloc, machine, kept, &mut buffer, line, writer) {
+                match serve_turn::<M, S, D, F, W>(alloc, answer, kept, &mut buffer, line, writer) {
                     Ok(count) => answered += count,
                     Err((count, Stop::WriteFault)) => return KeptEnd::WriteFault(answered + count),
                     Err((count, Stop::DiskFault)) => {

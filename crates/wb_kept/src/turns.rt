@@ -4,25 +4,34 @@ ghost use Rattle.wb_disk.specs.Device.{LeavesOnly};
 ghost use Rattle.wb_keep.specs.Lines.{recovered};
 ghost use Rattle.wb_lines.specs.Reading.{line_limit};
 ghost use Rattle.wb_kept.specs.Runs.{Step, Run, lines_asked, replies_of, changes_of};
+ghost use Rattle.wb_kept.specs.Answering.{AnswersBy};
 ghost use Rattle.wb_kept.specs.Keeping.{IsKept};
 ghost use Rattle.wb_kept.specs.Sessions.{IsFront};
 ghost use Rattle.wb_kept.specs.Turning.{HasAllOrNone, IsCommitted};
 
+use crate::changes::Changes;
 use crate::kept::{Acknowledged, Kept, Turn};
 use crate::machine::Machine;
-use std::alloc::Global;
+use std::alloc::{AllocError, Global};
 use wb_disk::Device;
 use wb_keep::AppendErr;
 use wb_lines::Line;
 
 /// Answers lines in order, keeps all changes that they made together, and only then gives the replies out. A crash at any
 /// moment of the call leaves all of the changes or none. After an `Err`, open the file again.
-pub fn turn<M: Machine<S>, S, D: Device>(
+pub fn turn<
+    M: Machine<S>,
+    S,
+    D: Device,
+    F: Fn(&mut S, &[u8], &mut Changes) -> Result<Vec<u8>, AllocError>,
+>(
     alloc: Global,
-    machine: &M,
+    answer: &F,
     kept: &mut Kept<S, D>,
     lines: &[Vec<u8>],
 ) -> Result<Acknowledged, AppendErr>
+    requires callable { F.IsAlwaysCallable answer.now }
+    requires answers { AnswersBy F.Fn answer.now M.answers }
     requires kept { IsKept M.start M.grants D.seen D.may_leave kept.old }
     requires short { All (λ line. length line.items ≤ line_limit) lines.now }
     ensures turn { (steps : List Step) × (last : S) × Run M.answers kept.old.state steps last
@@ -37,7 +46,7 @@ pub fn turn<M: Machine<S>, S, D: Device>(
 {
     let mut turn = Turn::new(alloc);
     for line in lines {
-        kept.answer::<M>(alloc, machine, Line::Whole, line, &mut turn)?;
+        kept.answer::<M, F>(alloc, answer, Line::Whole, line, &mut turn)?;
     }
     kept.commit(alloc, turn)
 }

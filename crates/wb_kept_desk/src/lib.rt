@@ -4,16 +4,17 @@
 
 ghost use Rattle.std.specs.Prelude.{◌≡◌, ◌≢◌, ◌<◌, ◌≤◌, ◌↔◌, length, map, All, IfOk, IfErr, OnErr, IsErrOf, Err, Some, None};
 ghost use Rattle.wb_kept.specs.declared.kept.Kept.{Kept};
+ghost use Rattle.wb_kept.specs.Answering.{AnswersBy};
 ghost use Rattle.wb_kept.specs.Keeping.{IsKept};
 ghost use Rattle.wb_kept_desk.specs.Desks.{IsServed, IsGivenUp};
 ghost use Rattle.wb_lines.specs.Reading.{line_limit};
 
-use std::alloc::Global;
+use std::alloc::{AllocError, Global};
 use std::marker::{Model, PhantomData};
 use std::sync::{Mutex, Wait};
 use wb_disk::Device;
 use wb_keep::AppendErr;
-use wb_kept::{Acknowledged, Kept, Machine, turn};
+use wb_kept::{Acknowledged, Changes, Kept, Machine, turn};
 
 /// A state that is kept.
 #[derive(Drop)]
@@ -64,13 +65,15 @@ impl<M: Machine<S>, S: Drop, D: Device + Drop> Desk<M, S, D> {
     }
 
     /// Answers lines in one turn.
-    pub fn turn(
+    pub fn turn<F: Fn(&mut S, &[u8], &mut Changes) -> Result<Vec<u8>, AllocError>>(
         &mut self,
         alloc: Global,
-        machine: &M,
+        answer: &F,
         lines: &[Vec<u8>],
     ) -> Result<Acknowledged, TurnErr>
-        requires { All (λ line. length line.items ≤ line_limit) lines.now }
+        requires callable { F.IsAlwaysCallable answer.now }
+        requires answers { AnswersBy F.Fn answer.now M.answers }
+        requires short { All (λ line. length line.items ≤ line_limit) lines.now }
         ensures kept { IfOk result (λ acknowledged. (old new : Kept S D) × (self.old.ready ≡ Some old) × (self.new.ready ≡ Some new)
             × IsServed M.start M.grants M.answers D.seen D.may_leave old new (map (λ line. line.items) lines.now) acknowledged.turn.replies.items) }
         // A crash at any moment of the call leaves all changes of its lines, or of the first so many of them, or none.
@@ -87,7 +90,7 @@ impl<M: Machine<S>, S: Drop, D: Device + Drop> Desk<M, S, D> {
             mut kept,
             machine: _,
         } = ready;
-        match turn::<M, S, D>(alloc, machine, &mut kept, lines) {
+        match turn::<M, S, D, F>(alloc, answer, &mut kept, lines) {
             Ok(acknowledged) => {
                 self.ready = Some(Ready {
                     kept,
@@ -104,17 +107,25 @@ impl<M: Machine<S>, S: Drop, D: Device + Drop> Desk<M, S, D> {
 
 /// Answers lines in one turn, under the lock. No clause can name what a lock guards, so the states before and after are
 /// some that were kept there.
-pub fn turn_locked<R: Wait, M: Machine<S>, S: Drop, D: Device + Drop>(
+pub fn turn_locked<
+    R: Wait,
+    M: Machine<S>,
+    S: Drop,
+    D: Device + Drop,
+    F: Fn(&mut S, &[u8], &mut Changes) -> Result<Vec<u8>, AllocError>,
+>(
     rt: &R,
     alloc: Global,
-    machine: &M,
+    answer: &F,
     desk: &Mutex<Desk<M, S, D>>,
     lines: &[Vec<u8>],
 ) -> Result<Acknowledged, TurnErr>
-    requires { All (λ line. length line.items ≤ line_limit) lines.now }
+    requires callable { F.IsAlwaysCallable answer.now }
+    requires answers { AnswersBy F.Fn answer.now M.answers }
+    requires short { All (λ line. length line.items ≤ line_limit) lines.now }
     ensures kept { IfOk result (λ acknowledged. (old new : Kept S D)
         × IsServed M.start M.grants M.answers D.seen D.may_leave old new (map (λ line. line.items) lines.now) acknowledged.turn.replies.items) }
     ensures disk { IsErrOf result TurnErr.DiskFault → (old new : Kept S D) × (D.faults old.log.device < D.faults new.log.device) }
 {
-    desk.lock(rt).turn(alloc, machine, lines)
+    desk.lock(rt).turn(alloc, answer, lines)
 }

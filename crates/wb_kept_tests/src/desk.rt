@@ -1,11 +1,11 @@
 //! Threads that take turns at a desk, and a desk whose file fails.
-use crate::tally::Tally;
+use crate::tally::{Tally, answer, make};
 use std::alloc::{AllocError, Global};
 use std::sync::{Mutex, Wait};
 use std::test::Fail;
 use std::thread;
 use wb_disk::MemoryFile;
-use wb_kept::{Acknowledged, open};
+use wb_kept::{Acknowledged, Changes, open};
 use wb_kept_desk::{Desk, TurnErr, turn_locked};
 
 const HELD: &[u8] = b"chapel-workbook 3\n up\n#";
@@ -15,10 +15,12 @@ type Place = Mutex<Desk<Tally, u8, MemoryFile>>;
 /// A desk over a file that is cut off in the call after so many.
 fn desk_over(alloc: Global, calls: usize) -> Result<Option<Place>, AllocError> {
     let file = MemoryFile::new(alloc, HELD.to_vec(alloc)?, calls, 0);
-    Ok(match open(alloc, &Tally::new(alloc), 0u8, file, HELD) {
-        Ok(kept) => Some(Mutex::new(Desk::new(kept))),
-        Err(_) => None,
-    })
+    Ok(
+        match open::<Tally, u8, _, _>(alloc, &make, 0u8, file, HELD) {
+            Ok(kept) => Some(Mutex::new(Desk::new(kept))),
+            Err(_) => None,
+        },
+    )
 }
 
 /// One turn with the line `up`.
@@ -29,7 +31,10 @@ fn up<R: Wait>(rt: &R, alloc: Global, desk: &Place) -> Result<Acknowledged, Turn
     let Ok(lines) = Vec::from_array(alloc, [line]) else {
         return Err(TurnErr::NoMemory);
     };
-    turn_locked(rt, alloc, &Tally::new(alloc), desk, &lines)
+    let answer = |state: &mut u8, line: &[u8], changes: &mut Changes| answer(
+        alloc, state, line, changes,
+    );
+    turn_locked::<R, Tally, u8, MemoryFile, _>(rt, alloc, &answer, desk, &lines)
 }
 
 /// Whether each of ten turns was answered.

@@ -1,11 +1,11 @@
 //! Files that are opened or refused, and a session that is cut off in each call.
-use crate::tally::Tally;
+use crate::tally::{Tally, answer, make};
 use std::alloc::{AllocError, Global};
 use std::fs;
 use std::test::Fail;
 use wb_disk::{MemoryFile, open_file};
 use wb_keep::START;
-use wb_kept::{Kept, KeptEnd, OpenKeptErr, open, serve_kept};
+use wb_kept::{Changes, KeptEnd, OpenKeptErr, open, serve_kept};
 use wb_lines::{Input, Output};
 
 const NEVER: usize = 1000;
@@ -15,7 +15,7 @@ const PATH: &str = "wb_kept_session.log";
 /// What a file stands for, or why it is refused.
 fn state_of(alloc: Global, bytes: &[u8]) -> Result<Result<u8, OpenKeptErr>, AllocError> {
     let file = MemoryFile::new(alloc, bytes.to_vec(alloc)?, NEVER, 0);
-    match open(alloc, &Tally::new(alloc), 0u8, file, bytes) {
+    match open::<Tally, u8, _, _>(alloc, &make, 0u8, file, bytes) {
         Ok(kept) => Ok(Ok(kept.state)),
         Err((error, _)) => Ok(Err(error)),
     }
@@ -30,15 +30,17 @@ fn cut_off(
     torn: usize,
 ) -> Result<(KeptEnd, Vec<u8>, Vec<u8>), AllocError> {
     let held = b"chapel-workbook 3\n up\n#";
-    let machine = Tally::new(alloc);
+    let answer = |state: &mut u8, line: &[u8], changes: &mut Changes| answer(
+        alloc, state, line, changes,
+    );
     let file = MemoryFile::new(alloc, held.to_vec(alloc)?, calls, torn);
     let mut written = Vec::new(alloc);
-    match open(alloc, &machine, 0u8, file, held) {
+    match open::<Tally, u8, _, _>(alloc, &make, 0u8, file, held) {
         Err((_, file)) => Ok((KeptEnd::DiskFault(0), written, file.left().to_vec(alloc)?)),
         Ok(mut kept) => {
-            let end = serve_kept(
+            let end = serve_kept::<Tally, u8, _, _, _, _>(
                 alloc,
-                &machine,
+                &answer,
                 &mut kept,
                 &mut Input::new(lines),
                 &mut Output::new(&mut written),
@@ -60,7 +62,7 @@ fn files_are_opened_or_refused(rt: HostRuntime) -> Result<(), Fail> {
     assert!(rt; state_of(alloc, b"x")? == Err(OpenKeptErr::NotOurs));
     let held = b"chapel-workbook 3\n up\n down\nx";
     let file = MemoryFile::new(alloc, held.to_vec(alloc)?, NEVER, 0);
-    let Err((_, file)) = open(alloc, &Tally::new(alloc), 0u8, file, held) else {
+    let Err((_, file)) = open::<Tally, u8, _, _>(alloc, &make, 0u8, file, held) else {
         panic!(rt; "opened");
     };
     assert_eq!(rt; file.bytes(), held.as_slice());
@@ -81,17 +83,19 @@ fn questions_make_no_call(rt: HostRuntime) -> Result<(), Fail> {
 /// Serves the lines over the file at the path, which is made where it is missing.
 fn serve_at(rt: &HostRuntime, lines: &[u8]) -> Result<Option<Vec<u8>>, Fail> {
     let alloc = rt.alloc();
-    let machine = Tally::new(alloc);
+    let answer = |state: &mut u8, line: &[u8], changes: &mut Changes| answer(
+        alloc, state, line, changes,
+    );
     let mut written = Vec::new(alloc);
     let Ok((file, held)) = open_file(rt, PATH, &START) else {
         return Ok(None);
     };
-    let Ok(mut kept) = open(alloc, &machine, 0u8, file, &held) else {
+    let Ok(mut kept) = open::<Tally, u8, _, _>(alloc, &make, 0u8, file, &held) else {
         return Ok(None);
     };
-    let end = serve_kept(
+    let end = serve_kept::<Tally, u8, _, _, _, _>(
         alloc,
-        &machine,
+        &answer,
         &mut kept,
         &mut Input::new(lines),
         &mut Output::new(&mut written),

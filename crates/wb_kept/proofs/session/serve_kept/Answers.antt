@@ -15,9 +15,9 @@ use Rattle.wb_kept.proofs.session.serve_kept.Goals as goal
 
 pub turns-init : goal.turns-init
 turns-init g c = (
-  begins g.M.Machine.start g.M.Machine.grants g.M.Machine.answers g.met.M.Machine.leads g.D.Device.seen g.D.Device.may_leave g.D.Device.moment
+  begins g.M.Machine.start g.M.Machine.grants g.M.Machine.answers g.M.Machine.leads g.D.Device.seen g.D.Device.may_leave g.D.Device.moment
       g.D.Device.left_since g.met.D.Device.only_now c.args.kept.now (g.R.Source.remaining c.args.reader.now) (g.W.Sink.contents c.args.writer.now)
-      c.new-buffer.result c.new-buffer.ensures c.requires,
+      c.new-buffer.result c.new-buffer.ensures c.requires.kept,
   subst (λ (b : Reading). KnowsEnd b (g.R.Source.remaining c.args.reader.now)) (sym c.new-buffer.ensures) (λ x. absurd (true≢false (sym x))),
   subst (λ (b : Reading). CountsReads unread_buffer b (g.R.Source.reads c.args.reader.now) (g.R.Source.reads c.args.reader.now)) (sym c.new-buffer.ensures)
       (counts_none unread_buffer unread_buffer (g.R.Source.reads c.args.reader.now) refl),
@@ -29,7 +29,7 @@ returns-then-is_err-clause-session g c =
     let start = g.M.Machine.start in
     let grants = g.M.Machine.grants in
     let answers = g.M.Machine.answers in
-    let leads = g.met.M.Machine.leads in
+    let leads = g.M.Machine.leads in
     let seen = g.D.Device.seen in
     let may_leave = g.D.Device.may_leave in
     let moment = g.D.Device.moment in
@@ -41,14 +41,14 @@ returns-then-is_err-clause-session g c =
     let go = c.turns.invariant.0 in
     ends_quiet start grants answers leads seen may_leave moment left_since old unread (g.R.Source.remaining c.turns.reader) sent (g.W.Sink.contents c.flush_before_wait.new.writer)
     (ends.WriteFault c.turns.answered) c.turns.kept c.turns.answered c.turns.buffer (g.R.Source.remaining c.turns.reader) (g.W.Sink.contents c.turns.writer)
-    (go.read) go c.requires refl (go.consumed) (c.flush_before_wait.ensures.bytes) (standing_some go.read (lines_asked go.steps) c.turns.buffer go.standing, ([], sym (append-nil (replies_of go.steps))), go.counted)
+    (go.read) go c.requires.kept refl (go.consumed) (c.flush_before_wait.ensures.bytes) (standing_some go.read (lines_asked go.steps) c.turns.buffer go.standing, ([], sym (append-nil (replies_of go.steps))), go.counted)
 
 pub returns-in-Ok-End-clause-session : goal.returns-in-Ok-End-clause-session
 returns-in-Ok-End-clause-session g c =
     let start = g.M.Machine.start in
     let grants = g.M.Machine.grants in
     let answers = g.M.Machine.answers in
-    let leads = g.met.M.Machine.leads in
+    let leads = g.M.Machine.leads in
     let seen = g.D.Device.seen in
     let may_leave = g.D.Device.may_leave in
     let moment = g.D.Device.moment in
@@ -61,14 +61,14 @@ returns-in-Ok-End-clause-session g c =
     let taken = rw c.in-Ok-End.field-0-is at c.in-Ok-End.ensures.ok in
     ends_quiet start grants answers leads seen may_leave moment left_since old unread (g.R.Source.remaining c.next_line.new.reader) sent (g.W.Sink.contents c.flush_before_wait.new.writer)
     (ends.Done c.turns.answered) c.turns.kept c.turns.answered c.turns.buffer (g.R.Source.remaining c.turns.reader) (g.W.Sink.contents c.turns.writer)
-    (go.read ++ taken.0) go c.requires refl (Consumes-trans unread (g.R.Source.remaining c.turns.reader) (g.R.Source.remaining c.next_line.new.reader) go.read taken.0 go.consumed taken.1) (c.flush_before_wait.ensures.bytes) (standing_end go.read taken.0 (lines_asked go.steps) c.turns.buffer c.next_line.new.buffer go.standing taken.2.0 taken.2.2, refl, go.counted)
+    (go.read ++ taken.0) go c.requires.kept refl (Consumes-trans unread (g.R.Source.remaining c.turns.reader) (g.R.Source.remaining c.next_line.new.reader) go.read taken.0 go.consumed taken.1) (c.flush_before_wait.ensures.bytes) (standing_end go.read taken.0 (lines_asked go.steps) c.turns.buffer c.next_line.new.buffer go.standing taken.2.0 taken.2.2, refl, go.counted)
 
 pub returns-in-Err-ReadFault-clause-session : goal.returns-in-Err-ReadFault-clause-session
 returns-in-Err-ReadFault-clause-session g c =
     let start = g.M.Machine.start in
     let grants = g.M.Machine.grants in
     let answers = g.M.Machine.answers in
-    let leads = g.met.M.Machine.leads in
+    let leads = g.M.Machine.leads in
     let seen = g.D.Device.seen in
     let may_leave = g.D.Device.may_leave in
     let moment = g.D.Device.moment in
@@ -81,7 +81,7 @@ returns-in-Err-ReadFault-clause-session g c =
     let broken = (rw c.in-Err-ReadFault.field-0-is at (c.in-Err-ReadFault.ensures.err go.fault)).1 in
     ends_quiet start grants answers leads seen may_leave moment left_since old unread (g.R.Source.remaining c.next_line.new.reader) sent (g.W.Sink.contents c.flush_before_wait.new.writer)
     (ends.ReadFault c.turns.answered) c.turns.kept c.turns.answered c.turns.buffer (g.R.Source.remaining c.turns.reader) (g.W.Sink.contents c.turns.writer)
-    (go.read ++ broken.0) go c.requires refl (Consumes-trans unread (g.R.Source.remaining c.turns.reader) (g.R.Source.remaining c.next_line.new.reader) go.read broken.0 go.consumed broken.1) (c.flush_before_wait.ensures.bytes) (
+    (go.read ++ broken.0) go c.requires.kept refl (Consumes-trans unread (g.R.Source.remaining c.turns.reader) (g.R.Source.remaining c.next_line.new.reader) go.read broken.0 go.consumed broken.1) (c.flush_before_wait.ensures.bytes) (
       standing_fault go.read broken.0 broken.2.1.0 (lines_asked go.steps) c.turns.buffer c.next_line.new.buffer go.standing broken.2.0.0
           broken.2.1.1 broken.2.1.2 broken.2.0.1,
       refl,
@@ -93,7 +93,7 @@ returns-in-Err-TooManyReads-clause-session g c =
     let start = g.M.Machine.start in
     let grants = g.M.Machine.grants in
     let answers = g.M.Machine.answers in
-    let leads = g.met.M.Machine.leads in
+    let leads = g.M.Machine.leads in
     let seen = g.D.Device.seen in
     let may_leave = g.D.Device.may_leave in
     let moment = g.D.Device.moment in
@@ -106,7 +106,7 @@ returns-in-Err-TooManyReads-clause-session g c =
     let broken = (rw c.in-Err-TooManyReads.field-0-is at (c.in-Err-TooManyReads.ensures.err go.fault)).1 in
     ends_quiet start grants answers leads seen may_leave moment left_since old unread (g.R.Source.remaining c.next_line.new.reader) sent (g.W.Sink.contents c.flush_before_wait.new.writer)
     (ends.TooManyReads c.turns.answered) c.turns.kept c.turns.answered c.turns.buffer (g.R.Source.remaining c.turns.reader) (g.W.Sink.contents c.turns.writer)
-    (go.read ++ broken.0) go c.requires refl (Consumes-trans unread (g.R.Source.remaining c.turns.reader) (g.R.Source.remaining c.next_line.new.reader) go.read broken.0 go.consumed broken.1) (c.flush_before_wait.ensures.bytes) (
+    (go.read ++ broken.0) go c.requires.kept refl (Consumes-trans unread (g.R.Source.remaining c.turns.reader) (g.R.Source.remaining c.next_line.new.reader) go.read broken.0 go.consumed broken.1) (c.flush_before_wait.ensures.bytes) (
       standing_fault go.read broken.0 broken.2.1.0 (lines_asked go.steps) c.turns.buffer c.next_line.new.buffer go.standing broken.2.0.0
           broken.2.1.1 broken.2.1.2 broken.2.0.1,
       refl,
@@ -118,7 +118,7 @@ returns-in-Err-NoMemory-clause-session g c =
     let start = g.M.Machine.start in
     let grants = g.M.Machine.grants in
     let answers = g.M.Machine.answers in
-    let leads = g.met.M.Machine.leads in
+    let leads = g.M.Machine.leads in
     let seen = g.D.Device.seen in
     let may_leave = g.D.Device.may_leave in
     let moment = g.D.Device.moment in
@@ -131,7 +131,7 @@ returns-in-Err-NoMemory-clause-session g c =
     let broken = (rw c.in-Err-NoMemory.field-0-is at (c.in-Err-NoMemory.ensures.err go.fault)).1 in
     ends_quiet start grants answers leads seen may_leave moment left_since old unread (g.R.Source.remaining c.next_line.new.reader) sent (g.W.Sink.contents c.flush_at_fault-in-Err-NoMemory.new.writer)
     (ends.NoMemory c.turns.answered) c.turns.kept c.turns.answered c.turns.buffer (g.R.Source.remaining c.turns.reader) (g.W.Sink.contents c.turns.writer)
-    (go.read ++ broken.0) go c.requires refl (Consumes-trans unread (g.R.Source.remaining c.turns.reader) (g.R.Source.remaining c.next_line.new.reader) go.read broken.0 go.consumed broken.1) (Keeps-trans _ _ _ c.flush_before_wait.ensures.bytes c.flush_at_fault-in-Err-NoMemory.ensures) (
+    (go.read ++ broken.0) go c.requires.kept refl (Consumes-trans unread (g.R.Source.remaining c.turns.reader) (g.R.Source.remaining c.next_line.new.reader) go.read broken.0 go.consumed broken.1) (Keeps-trans _ _ _ c.flush_before_wait.ensures.bytes c.flush_at_fault-in-Err-NoMemory.ensures) (
       standing_broken go.read broken.0 broken.2.1.0 (lines_asked go.steps) c.turns.buffer c.next_line.new.buffer go.standing broken.2.1.2,
       ap replies_of (sym (take_all c.turns.answered go.steps (omega (arith, go.counted)))),
       omega (arith, go.counted),
@@ -142,14 +142,14 @@ serve_turn-requires g c =
     let taken = c.in-Ok.ensures.ok in
     let is_line : c.in-Ok.line ≡ End → ⊥ = search rules in
     let text = text_of c.in-Ok.line c.turns.buffer c.next_line.new.buffer taken.0 taken.2 is_line in
-    record { settled = c.turns.invariant.0.settled; text = (text.0, text.2) }
+    record { callable = c.requires.callable; answers = c.requires.answers; settled = c.turns.invariant.0.settled; text = (text.0, text.2) }
 
 pub overflow_add-answered : goal.overflow_add-answered
 overflow_add-answered g c =
     let start = g.M.Machine.start in
     let grants = g.M.Machine.grants in
     let answers = g.M.Machine.answers in
-    let leads = g.met.M.Machine.leads in
+    let leads = g.M.Machine.leads in
     let seen = g.D.Device.seen in
     let may_leave = g.D.Device.may_leave in
     let moment = g.D.Device.moment in
@@ -173,7 +173,7 @@ turns-smaller g c =
     let start = g.M.Machine.start in
     let grants = g.M.Machine.grants in
     let answers = g.M.Machine.answers in
-    let leads = g.met.M.Machine.leads in
+    let leads = g.M.Machine.leads in
     let seen = g.D.Device.seen in
     let may_leave = g.D.Device.may_leave in
     let moment = g.D.Device.moment in
@@ -196,7 +196,7 @@ turns-preserved g c =
     let start = g.M.Machine.start in
     let grants = g.M.Machine.grants in
     let answers = g.M.Machine.answers in
-    let leads = g.met.M.Machine.leads in
+    let leads = g.M.Machine.leads in
     let seen = g.D.Device.seen in
     let may_leave = g.D.Device.may_leave in
     let moment = g.D.Device.moment in
@@ -225,7 +225,7 @@ overflow_add-result g c =
     let start = g.M.Machine.start in
     let grants = g.M.Machine.grants in
     let answers = g.M.Machine.answers in
-    let leads = g.met.M.Machine.leads in
+    let leads = g.M.Machine.leads in
     let seen = g.D.Device.seen in
     let may_leave = g.D.Device.may_leave in
     let moment = g.D.Device.moment in
@@ -249,7 +249,7 @@ returns-in-Err-default-WriteFault-clause-session g c =
     let start = g.M.Machine.start in
     let grants = g.M.Machine.grants in
     let answers = g.M.Machine.answers in
-    let leads = g.met.M.Machine.leads in
+    let leads = g.M.Machine.leads in
     let seen = g.D.Device.seen in
     let may_leave = g.D.Device.may_leave in
     let moment = g.D.Device.moment in
@@ -265,14 +265,14 @@ returns-in-Err-default-WriteFault-clause-session g c =
     let line = text.1 in
     let is = text.2 in
     let turn = rw c.in-Err-default-WriteFault.field-0-1-is at (c.in-Err-default-WriteFault.ensures.err text.0 is) in
-    turn_unsent start grants answers leads seen may_leave moment left_since old c.turns.kept c.serve_turn.new.kept unread (g.R.Source.remaining c.turns.reader) (g.R.Source.remaining c.next_line.new.reader) sent (g.W.Sink.contents c.turns.writer) told c.turns.answered c.turns.buffer c.next_line.new.buffer c.serve_turn.new.buffer taken.0 text.0 turn.0 turn.1 c.flush_before_wait.ensures.bytes go taken.1 line turn.2 (g.W.Sink.contents c.serve_turn.new.writer) c.in-Err-default-WriteFault.count c.requires turn.3.0 turn.3.1
+    turn_unsent start grants answers leads seen may_leave moment left_since old c.turns.kept c.serve_turn.new.kept unread (g.R.Source.remaining c.turns.reader) (g.R.Source.remaining c.next_line.new.reader) sent (g.W.Sink.contents c.turns.writer) told c.turns.answered c.turns.buffer c.next_line.new.buffer c.serve_turn.new.buffer taken.0 text.0 turn.0 turn.1 c.flush_before_wait.ensures.bytes go taken.1 line turn.2 (g.W.Sink.contents c.serve_turn.new.writer) c.in-Err-default-WriteFault.count c.requires.kept turn.3.0 turn.3.1
 
 pub overflow_add-result-in-Err-default-DiskFault : goal.overflow_add-result-in-Err-default-DiskFault
 overflow_add-result-in-Err-default-DiskFault g c =
     let start = g.M.Machine.start in
     let grants = g.M.Machine.grants in
     let answers = g.M.Machine.answers in
-    let leads = g.met.M.Machine.leads in
+    let leads = g.M.Machine.leads in
     let seen = g.D.Device.seen in
     let may_leave = g.D.Device.may_leave in
     let moment = g.D.Device.moment in
@@ -296,7 +296,7 @@ returns-in-Err-default-DiskFault-clause-session g c =
     let start = g.M.Machine.start in
     let grants = g.M.Machine.grants in
     let answers = g.M.Machine.answers in
-    let leads = g.met.M.Machine.leads in
+    let leads = g.M.Machine.leads in
     let seen = g.D.Device.seen in
     let may_leave = g.D.Device.may_leave in
     let moment = g.D.Device.moment in
@@ -313,14 +313,14 @@ returns-in-Err-default-DiskFault-clause-session g c =
     let is = text.2 in
     let turn = rw c.in-Err-default-DiskFault.field-0-1-is at (c.in-Err-default-DiskFault.ensures.err text.0 is) in
     turn_lost_disk start grants answers leads seen may_leave moment left_since old c.turns.kept c.serve_turn.new.kept unread (g.R.Source.remaining c.turns.reader) (g.R.Source.remaining c.next_line.new.reader) sent (g.W.Sink.contents c.turns.writer) told c.turns.answered c.turns.buffer c.next_line.new.buffer c.serve_turn.new.buffer taken.0 text.0 turn.0 turn.1 c.flush_before_wait.ensures.bytes go taken.1 line turn.2 g.met.D.Device.counts_now c.in-Err-default-DiskFault.count turn.3.0 (g.W.Sink.contents c.serve_turn.new.writer)
-    (g.W.Sink.contents c.flush_at_fault.new.writer) turn.3.1 c.flush_at_fault.ensures c.requires
+    (g.W.Sink.contents c.flush_at_fault.new.writer) turn.3.1 c.flush_at_fault.ensures c.requires.kept
 
 pub overflow_add-result-in-Err-default-NoMemory : goal.overflow_add-result-in-Err-default-NoMemory
 overflow_add-result-in-Err-default-NoMemory g c =
     let start = g.M.Machine.start in
     let grants = g.M.Machine.grants in
     let answers = g.M.Machine.answers in
-    let leads = g.met.M.Machine.leads in
+    let leads = g.M.Machine.leads in
     let seen = g.D.Device.seen in
     let may_leave = g.D.Device.may_leave in
     let moment = g.D.Device.moment in
@@ -344,7 +344,7 @@ returns-in-Err-default-NoMemory-clause-session g c =
     let start = g.M.Machine.start in
     let grants = g.M.Machine.grants in
     let answers = g.M.Machine.answers in
-    let leads = g.met.M.Machine.leads in
+    let leads = g.M.Machine.leads in
     let seen = g.D.Device.seen in
     let may_leave = g.D.Device.may_leave in
     let moment = g.D.Device.moment in
@@ -361,7 +361,7 @@ returns-in-Err-default-NoMemory-clause-session g c =
     let is = text.2 in
     let turn = rw c.in-Err-default-NoMemory.field-0-1-is at (c.in-Err-default-NoMemory.ensures.err text.0 is) in
     turn_lost_memory start grants answers leads seen may_leave moment left_since old c.turns.kept c.serve_turn.new.kept unread (g.R.Source.remaining c.turns.reader) (g.R.Source.remaining c.next_line.new.reader) sent (g.W.Sink.contents c.turns.writer) told c.turns.answered c.turns.buffer c.next_line.new.buffer c.serve_turn.new.buffer taken.0 text.0 turn.0 turn.1 c.flush_before_wait.ensures.bytes go taken.1 line turn.2 g.met.D.Device.counts_now c.in-Err-default-NoMemory.count turn.3.0 (g.W.Sink.contents c.serve_turn.new.writer)
-    (g.W.Sink.contents c.flush_at_fault-in-Err-default-NoMemory.new.writer) turn.3.1 c.flush_at_fault-in-Err-default-NoMemory.ensures c.requires
+    (g.W.Sink.contents c.flush_at_fault-in-Err-default-NoMemory.new.writer) turn.3.1 c.flush_at_fault-in-Err-default-NoMemory.ensures c.requires.kept
 
 pub returns-in-Err-TooManyReads-clause-read : goal.returns-in-Err-TooManyReads-clause-read
 returns-in-Err-TooManyReads-clause-read g c =

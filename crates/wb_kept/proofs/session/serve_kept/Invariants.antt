@@ -6,7 +6,7 @@ use Rattle.wb_kept.proofs.session.serve_kept.Given as goal
 
 abbrev pub invariant-turns : goal.invariant-turns
 invariant-turns g l =
-    (Going g.M.Machine.start g.M.Machine.grants g.M.Machine.answers g.met.M.Machine.leads g.D.Device.seen g.D.Device.may_leave g.D.Device.moment
+    (Going g.M.Machine.start g.M.Machine.grants g.M.Machine.answers g.M.Machine.leads g.D.Device.seen g.D.Device.may_leave g.D.Device.moment
     g.D.Device.left_since l.fn.kept l.kept (g.R.Source.remaining l.fn.reader) (g.R.Source.remaining l.reader) (g.W.Sink.contents l.fn.writer)
     (g.W.Sink.contents l.writer) l.answered l.buffer)
     × KnowsEnd l.buffer (g.R.Source.remaining l.reader)

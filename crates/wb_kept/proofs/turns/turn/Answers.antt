@@ -55,5 +55,5 @@ returns-clause-kept g c =
     let so_far = subst (λ ls. SoFar g.M.Machine.answers c.args.kept.now.state c.loop-line.kept.state (items_of ls) c.loop-line.turn.replies.items c.loop-line.turn.changes)
     all c.loop-line.invariant.so_far in
     slice_kept g.M.Machine.answers g.D.Device.seen g.D.Device.may_leave c.args.kept.now c.loop-line.kept c.commit.new.self c.args.lines.now c.loop-line.turn
-    c.commit.result c.loop-line.invariant.log so_far g.M.Machine.start g.M.Machine.grants g.met.M.Machine.leads c.requires.kept c.commit.ensures.state
+    c.commit.result c.loop-line.invariant.log so_far g.M.Machine.start g.M.Machine.grants g.M.Machine.leads c.requires.kept c.commit.ensures.state
     c.commit.ensures.kept
