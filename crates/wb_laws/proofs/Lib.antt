@@ -1,0 +1,7 @@
+pub mod LocalesBelow
+pub mod Lying
+pub mod Sizes
+pub mod Slices
+pub mod Reallocated
+pub mod Written
+pub mod Reshapes

@@ -1,0 +1,19 @@
+-- An accepted reshape of a domain is its assignment in the words of index sets and arrays.
+use Rattle.std.specs.Prelude.{◌≡◌, Ok}
+use Rattle.selective_undo.specs.Edit.{outcome, step}
+use Rattle.wb_book.specs.Cells.{Name, Cells, Changes}
+use Rattle.wb_book.specs.WellFormed.{IsWellFormed}
+use Rattle.wb_resize.specs.declared.new_indices.NewIndices.{NewIndices}
+use Rattle.wb_edit.specs.declared.edit.Edit.TheVariants.{Reshape}
+use Rattle.wb_edit.specs.Commands.{meaning}
+use Rattle.wb_edit.specs.Valid.{IsValid}
+use Rattle.wb_laws.specs.Reshaped.{is_of_source, IsReshaped}
+
+-- Where a valid reshape is accepted in a well-formed workbook, the domain has exactly the indices of its source after it, and
+-- each array over it is reallocated.
+abbrev pub ReshapeLaw : Type 0
+ReshapeLaw =
+    (s : Cells) (d : Name) (source : NewIndices) (xs : Changes)
+    → IsWellFormed s → IsValid (Reshape d source)
+    → outcome (meaning (Reshape d source)) s ≡ Ok xs
+    → IsReshaped s (step (meaning (Reshape d source)) s) d (is_of_source s d source)
