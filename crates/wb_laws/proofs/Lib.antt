@@ -5,3 +5,4 @@ pub mod Slices
 pub mod Reallocated
 pub mod Written
 pub mod Reshapes
+pub mod Counts

@@ -1,3 +1,4 @@
 pub mod Sizes
 pub mod Reshaped
 pub mod ReshapeLaw
+pub mod Counts

@@ -1,5 +1,33 @@
+ghost use Rattle.wb_laws.specs.Counts.{EditCountLaw, UndoCountLaw, LastCountLaw, RedoCountLaw};
 ghost use Rattle.wb_laws.specs.ReshapeLaw.{ReshapeLaw};
 
+// ---- Workbooks
+
+/// After an accepted reshape the domain has exactly the indices of the source, and each array over it is reallocated: an element
+/// stays where its index was there before, and a new index brings the implicit value, or 0 (Chapel Language Specification,
+/// Domains and Arrays).
 pub fn reshape()
     ensures { ReshapeLaw }
+{}
+
+// ---- Counts
+
+/// The count of an edit is the size of the set of cells that it touches, the cells `In` aside.
+pub fn edit_count()
+    ensures { EditCountLaw }
+{}
+
+/// The count of an undo is the size of the set of cells that the edit touched.
+pub fn undo_count()
+    ensures { UndoCountLaw }
+{}
+
+/// So is that of an undo of the latest.
+pub fn undo_last_count()
+    ensures { LastCountLaw }
+{}
+
+/// The count of a redo is the size of the set of cells that the edit touches now.
+pub fn redo_count()
+    ensures { RedoCountLaw }
 {}
