@@ -6,3 +6,5 @@ pub mod Reallocated
 pub mod Written
 pub mod Reshapes
 pub mod Counts
+pub mod Defaults
+pub mod Pieces

@@ -1,13 +1,27 @@
 ghost use Rattle.wb_laws.specs.Counts.{EditCountLaw, UndoCountLaw, LastCountLaw, RedoCountLaw};
+ghost use Rattle.wb_laws.specs.Defaults.{DefaultsLaw};
+ghost use Rattle.wb_laws.specs.Pieces.{PiecesLaw};
 ghost use Rattle.wb_laws.specs.ReshapeLaw.{ReshapeLaw};
 
 // ---- Workbooks
+
+/// The pieces of an array of a well-formed workbook are the array: each element is in the piece of exactly one locale of its
+/// domain's mapping, and a piece has nothing else.
+pub fn pieces()
+    ensures { PiecesLaw }
+{}
 
 /// After an accepted reshape the domain has exactly the indices of the source, and each array over it is reallocated: an element
 /// stays where its index was there before, and a new index brings the implicit value, or 0 (Chapel Language Specification,
 /// Domains and Arrays).
 pub fn reshape()
     ensures { ReshapeLaw }
+{}
+
+/// In a well-formed workbook nothing is missing that the readers of a domain look for: what they say of a missing cell is said
+/// of no domain.
+pub fn defaults()
+    ensures { DefaultsLaw }
 {}
 
 // ---- Counts
