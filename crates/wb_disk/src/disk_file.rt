@@ -30,6 +30,8 @@ pub enum OpenDiskErr {
     Memory,
     /// Another process, or this one, has it open.
     Busy,
+    /// It is a folder, or another thing that is no regular file.
+    NotAFile,
 }
 
 impl From<io::Error> for OpenDiskErr {
@@ -84,9 +86,12 @@ pub fn open_file(
     if !fs::exists(rt, path)? {
         make(rt, path, start)?;
     }
+    if !fs::metadata(rt, path)?.is_file() {
+        return Err(OpenDiskErr::NotAFile);
+    }
     let file = OpenOptions::new().read(true).write(true).open(rt, path)?;
     if !file.metadata()?.is_file() {
-        return Err(OpenDiskErr::Io(io::ErrorKind::Unsupported.into()));
+        return Err(OpenDiskErr::NotAFile);
     }
     file.try_lock()?;
     settle(rt, path, &file)?;

@@ -55,6 +55,7 @@ impl<M: Machine<S>, S: Drop, D: Device + Drop> Desk<M, S, D> {
     /// Opens a desk.
     pub fn new(kept: Kept<S, D>) -> Desk<M, S, D>
         requires { IsKept M.start M.grants D.seen D.may_leave kept }
+        ensures { result.ready ≡ Some kept }
     {
         Desk {
             ready: Some(Ready {

@@ -32,7 +32,7 @@ fn a_file_is_written_and_open_once(rt: HostRuntime) -> Result<(), Fail> {
     };
     assert_eq!(rt; held.as_slice(), b"on!!".as_slice());
     drop(file);
-    assert!(rt; matches!(open_file(&rt, ".", b""), Err(OpenDiskErr::Io(_))));
+    assert!(rt; matches!(open_file(&rt, ".", b""), Err(OpenDiskErr::NotAFile)));
     fs::remove_file(&rt, PATH)?;
     Ok(())
 }

@@ -1,5 +1,5 @@
 //! A count up to 200. The line `up` adds one, `twice` two, and any other asks for it.
-ghost use Rattle.std.specs.Prelude.{◌≡◌, ◌++◌, ⊥, ℕ, List, IfOk, true, false};
+ghost use Rattle.std.specs.Prelude.{◌≡◌, ◌++◌, ℕ, List, IfOk, true, false};
 ghost use Rattle.wb_kept_tests.specs.Tallies.{Grants, Answers, leads_to, one_state};
 
 use std::alloc::{AllocError, Global};
