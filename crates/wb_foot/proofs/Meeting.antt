@@ -32,7 +32,7 @@ use Rattle.wb_foot.specs.Slots.{slot_cmp}
 use Rattle.wb_foot.specs.Places.{place_marked}
 use Rattle.wb_foot.specs.Footprints.{IsIndexOf, any_met}
 use Rattle.wb_foot.specs.Places.{own, family, place_of, is_same_place, is_family}
-use Rattle.wb_foot.specs.Footprints.{at_cell, touched_at, read_at, touched_by, read_by, met_by, touched_under, footprint}
+use Rattle.wb_foot.specs.Footprints.{at_cell, touched_at, read_at, touched_by, read_by, met_by, touched_under, touched_one_of, footprint}
 use Rattle.wb_foot.proofs.Matching.{named}
 use Rattle.wb_foot.proofs.Setting.{more_any}
 
@@ -205,17 +205,20 @@ covered_back rs xs =
     any_swap (λ x r. matches r x.cell) xs rs
     ∙ any_like (λ r. list_any (λ x. matches r x.cell) xs) (λ r. touched_at xs (place_of r)) rs (λ r. touched_named r xs)
 
-pub redo_met : (rs : List Pattern) (xs : Changes) (o : Option (Footprint workbook)) → blocks_redo (footprint rs xs) o ≡ (any_met o xs || touched_under o rs)
-redo_met rs xs None = rw (any_none xs, any_none rs)
+pub named_under : (rs : List Pattern) (o : Option (Footprint workbook)) → touched_one_of o rs ≡ touched_under o rs
+named_under rs None = sym (any_none rs)
+named_under rs (Some f) = covered_back rs f.touched
+
+pub redo_met : (rs : List Pattern) (xs : Changes) (o : Option (Footprint workbook)) → blocks_redo (footprint rs xs) o ≡ (any_met o xs || touched_one_of o rs)
+redo_met rs xs None = rw (any_none xs)
 redo_met rs xs (Some f) =
     rw (
       any_or (λ x. changes cell_cmp f.touched x.cell) (λ x. covers workbook f.reads x.cell) xs,
       any_or (λ x. changes cell_cmp xs x.cell) (λ x. covers workbook rs x.cell) f.touched,
       changed_back f.touched xs,
-      covered_back rs f.touched,
     )
     (again (list_any (λ x. changes cell_cmp f.touched x.cell) xs) (list_any (λ x. covers workbook f.reads x.cell) xs)
-    (list_any (λ r. touched_at f.touched (place_of r)) rs))
+    (list_any (λ x. covers workbook rs x.cell) f.touched))
 
 -- ---- loops
 

@@ -88,6 +88,11 @@ met_by None c = false
 met_by (Some f) c = changes cell_cmp f.touched c || covers workbook f.reads c
 
 -- whether it touched a cell that one of the patterns names
+abbrev pub touched_one_of : Option (Footprint workbook) → List Pattern → Bool
+touched_one_of None rs = false
+touched_one_of (Some f) rs = list_any (λ x. covers workbook rs x.cell) f.touched
+
+-- whether it touched the place of one of the patterns
 abbrev pub touched_under : Option (Footprint workbook) → List Pattern → Bool
 touched_under o rs = list_any (λ r. touched_by o (place_of r)) rs
 

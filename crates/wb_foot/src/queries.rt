@@ -4,7 +4,7 @@ ghost use Rattle.std.specs.Prelude.{◌≡◌, ◌<◌, [], ◌∷◌, ◌++◌,
 ghost use Rattle.selective_undo.specs.Log.{blocks_undo, blocks_redo};
 ghost use Rattle.wb_edit.specs.Reads.{all_read, read_in, patterns_of};
 ghost use Rattle.wb_foot.specs.Relation.{IsLeastAfter};
-ghost use Rattle.wb_foot.specs.Footprints.{Footprints, IsIndexOf, footprint, any_met, met_by, touched_by, touched_under};
+ghost use Rattle.wb_foot.specs.Footprints.{Footprints, IsIndexOf, footprint, any_met, met_by, touched_by, touched_under, touched_one_of};
 ghost use Rattle.wb_foot.specs.Places.{own, place_of, cell_at};
 ghost use Rattle.wb_book.specs.Runs.{changes_in, all_changes, in_first};
 ghost use Rattle.std.specs.List.{list_any};
@@ -32,7 +32,7 @@ impl FootIndex {
         }
     }
 
-    /// The least number above `after` whose footprint touched a cell that the pattern names.
+    /// The least number above `after` whose footprint touched the place of the pattern.
     fn touched_after(&self, pattern: &Pattern, after: u64) -> Option<u64>
         ensures { (footprints : Footprints) → IsIndexOf self.now footprints →
             IsLeastAfter (λ n. touched_by (footprints n) (place_of pattern.now)) after result }
@@ -129,7 +129,7 @@ impl FootIndex {
         earlier(self.met_first(&first, after), self.met_in_runs(runs, after))
     }
 
-    /// The least number above `after` whose footprint touched a cell that one of the patterns names.
+    /// The least number above `after` whose footprint touched the place of one of the patterns.
     fn first_to_touch(&self, reads: &[Pattern], after: u64) -> Option<u64>
         ensures { (footprints : Footprints) → IsIndexOf self.now footprints → IsLeastAfter (λ n. touched_under (footprints n) reads.now) after result }
     {
@@ -259,10 +259,11 @@ impl FootIndex {
         first
     }
 
-    /// The same of patterns, and of those of runs behind them.
-    fn first_to_touch_all(&self, reads: &[Pattern], runs: &[ReadRun], after: u64) -> Option<u64>
+    /// The least number above `after` whose footprint touched a cell that one of the patterns names, or one of those of the runs
+    /// behind them.
+    pub fn first_writer(&self, reads: &[Pattern], runs: &[ReadRun], after: u64) -> Option<u64>
         ensures { (footprints : Footprints) → IsIndexOf self.now footprints →
-            IsLeastAfter (λ n. touched_under (footprints n) (reads.now ++ all_read runs.now)) after result }
+            IsLeastAfter (λ n. touched_one_of (footprints n) (reads.now ++ all_read runs.now)) after result }
     {
         earlier(
             self.first_to_touch(reads, after),
@@ -270,8 +271,7 @@ impl FootIndex {
         )
     }
 
-    /// The least number above `after` whose footprint needs, or is needed by, one with these reads and changes. With no
-    /// changes it is the least whose footprint touched a cell that one of the patterns names.
+    /// The least number above `after` whose footprint needs, or is needed by, one with these reads and changes.
     pub fn first_to_block_redo(
         &self,
         reads: &[Pattern],
@@ -284,7 +284,7 @@ impl FootIndex {
     {
         earlier(
             self.first_to_block_undo(delta, after),
-            self.first_to_touch_all(reads, runs, after),
+            self.first_writer(reads, runs, after),
         )
     }
 }
