@@ -5,7 +5,7 @@ ghost use Rattle.wb_journal.specs.Settling.{IsSettled, IsCause, total_of_passes}
 ghost use Rattle.wb_shared.specs.Openings.{nothing_done};
 ghost use Rattle.wb_journal.specs.Courses.{IsCourse};
 ghost use Rattle.wb_shared.specs.Seats.{IsNumberOfSeats, IsSeatsErr};
-ghost use Rattle.wb_journal.specs.Serving.{own_after, share_after, new_passes, AnswersSome};
+ghost use Rattle.wb_journal.specs.Serving.{own_after, share_after, new_passes, AnswersAmong};
 
 use crate::opening::Opening;
 use crate::shared::Shared;
@@ -75,6 +75,7 @@ impl<L: Opening> Desk<L> {
         requires parts { blank.parts ≡ L.parts }
         requires sixteen { blank.parts ≡ 16 }
         requires opening { L.opening ≡ nothing_done }
+        requires seats { L.seats ≡ seats }
         ensures ok { IfOk result (λ r. IsNumberOfSeats seats × (r.1.items ≡ new_passes seats)) }
         ensures bad { IfErr result (λ why. IsSeatsErr seats why) }
     {
@@ -95,6 +96,7 @@ impl<L: Opening> Desk<L> {
         requires parts { blank.parts ≡ L.parts }
         requires sixteen { blank.parts ≡ 16 }
         requires opening { L.opening ≡ history }
+        requires seats { L.seats ≡ seats }
         ensures ok { IfOk result (λ r. IsNumberOfSeats seats × (r.1.items ≡ new_passes seats)) }
         ensures bad { IfErr result (λ e. IsSeatsErr seats e.1) }
         ensures back { IfErr result (λ e. e.0 ≡ history) }
@@ -139,7 +141,7 @@ impl<L: Opening> Desk<L> {
         request: Request,
         mover: &M,
     ) -> Reply
-        ensures reply { AnswersSome L.opening pass.old.seat pass.old.own request result }
+        ensures reply { AnswersAmong L.seats L.opening pass.old.seat pass.old.own request result }
         ensures seat { pass.new.seat ≡ pass.old.seat }
         ensures own { pass.new.own ≡ own_after pass.old.seat pass.old.own request result }
         ensures share { pass.new.share ≡ share_after pass.old.share result }
@@ -163,6 +165,7 @@ pub struct Unsettled<L: Opening> {
 /// the list of that pass.
 pub fn settle<L: Opening>(desk: Desk<L>, passes: Vec<Pass<L>>) -> Result<Shared<L>, Unsettled<L>>
     ensures course { MatchResult result (λ s. IsCourse L.opening s.course) (λ u. IsCourse L.opening u.shared.course) }
+    ensures seats { MatchResult result (λ s. s.course.seats ≡ L.seats) (λ u. u.shared.course.seats ≡ L.seats) }
     ensures ok { IfOk result (λ s. IsSettled s.course.seats s.course.entries passes.items) }
     ensures whole { IfOk result (λ s. length s.course.entries ≡ total_of_passes s.course.seats passes.items) }
     ensures passes { IfErr result (λ u. u.passes.items ≡ passes.items) }

@@ -45,7 +45,7 @@ impl<L: Opening> Model for Shared<L> {
     ghost view = { λ a. record { course = a.kept.journal; total = a.kept.calls.total } };
 
     ghost invariant = { λ a. (a.kept.calls.total ≡ length a.kept.journal.entries) × (a.rest.amount ≡ 0) × (a.rest.parts + a.kept.journal.seats ≡ 16) ×
-        IsCourse L.opening a.kept.journal };
+        (a.kept.journal.seats ≡ L.seats) × IsCourse L.opening a.kept.journal };
 }
 
 impl<L: Opening> Shared<L> {
@@ -61,6 +61,7 @@ impl<L: Opening> Shared<L> {
     pub fn history(&self) -> &History
         ensures history { result.now ≡ self.now.course.history }
         ensures course { IsCourse L.opening self.now.course }
+        ensures seats { self.now.course.seats ≡ L.seats }
     {
         self.kept.journal.history()
     }
@@ -68,6 +69,7 @@ impl<L: Opening> Shared<L> {
     // Why these passes and the journal do not agree.
     pub(crate) fn cause(&self, passes: &[Pass<L>]) -> Option<Cause>
         ensures course { IsCourse L.opening self.now.course }
+        ensures seats { self.now.course.seats ≡ L.seats }
         ensures cause { MatchOption result (IsSettled self.now.course.seats self.now.course.entries passes.now)
             (λ why. IsCause self.now.course.seats self.now.course.entries passes.now why) }
     {
@@ -83,6 +85,7 @@ pub fn serve<L: Opening, M: Mover>(
     mover: &M,
 ) -> Reply
     ensures course { IsCourse L.opening shared.old.course }
+    ensures seats { shared.old.course.seats ≡ L.seats }
     ensures strange { IsStrange shared.old.course pass.old.seat pass.old.own result }
     ensures answers { AnswersCourse shared.old.course pass.old.seat request result shared.new.course }
     ensures left { leaves_all result ≡ true → shared.new.course.history ≡ shared.old.course.history }

@@ -1,7 +1,7 @@
 //! A turn at a desk: its lock, held from one request to the next.
 
 ghost use Rattle.std.specs.Prelude.{◌≡◌};
-ghost use Rattle.wb_journal.specs.Serving.{own_after, share_after, AnswersSome};
+ghost use Rattle.wb_journal.specs.Serving.{own_after, share_after, AnswersAmong};
 
 use crate::desk::Desk;
 use crate::opening::Opening;
@@ -35,7 +35,7 @@ impl<'d, L: Opening> Turn<'d, L> {
         request: Request,
         mover: &M,
     ) -> Reply
-        ensures reply { AnswersSome L.opening pass.old.seat pass.old.own request result }
+        ensures reply { AnswersAmong L.seats L.opening pass.old.seat pass.old.own request result }
         ensures seat { pass.new.seat ≡ pass.old.seat }
         ensures own { pass.new.own ≡ own_after pass.old.seat pass.old.own request result }
         ensures share { pass.new.share ≡ share_after pass.old.share result }

@@ -172,6 +172,7 @@ fn day_of<L: Opening + Send + Sync, R: Threads + Wait + Sync, M: Mover + Sync>(
     requires parts { blank.parts ≡ L.parts }
     requires sixteen { blank.parts ≡ 16 }
     requires opening { L.opening ≡ nothing_done }
+    requires seats { L.seats ≡ day.now.seats }
 {
     let (desk, mut passes) = match Desk::<L>::new(alloc, blank, day.seats) {
         Ok(made) => made,

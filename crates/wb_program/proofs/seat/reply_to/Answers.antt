@@ -5,7 +5,7 @@ pub returns-in-Ok : goal.returns-in-Ok
 returns-in-Ok g c = λ line is.
     let told = c.call.ensures in
     asked_here g.L.Opening.opening c.args.pass.now c.call.new.pass line c.args.asked c.in-Ok.request c.call.result c.in-Ok.is is
-    told.reply told.seat told.own told.share
+    (g.L.Opening.seats, told.reply) told.seat told.own told.share
 
 pub returns-in-Err : goal.returns-in-Err
 returns-in-Err g c = λ line is. refused_here g.L.Opening.opening c.args.pass.now line c.args.asked c.in-Err.why c.in-Err.is is

@@ -1,5 +1,5 @@
 -- A desk's answer is that of what it keeps, and keeps what is locked.
-use Rattle.std.proofs.Common.{◌≡◌, length, arith, ap}
+use Rattle.std.proofs.Common.{◌≡◌, ◌∙◌, length, arith, ap}
 use Rattle.wb_shared.specs.Locked.{Locked}
 use Rattle.wb_shared.proofs.shared.serve.Goals as goal
 
@@ -7,7 +7,7 @@ pub invariant_of-shared : goal.invariant_of-shared
 invariant_of-shared g c =
     let told = c.answer.ensures in
     let total : c.answer.new.self.calls.total ≡ length c.answer.new.self.journal.entries = cc (told.total, told.entries, c.shared.invariant.0) in
-    (total, c.shared.invariant.1, omega (arith, told.seats, c.shared.invariant.2), told.course g.L.Opening.opening c.shared.invariant.3)
+    (total, c.shared.invariant.1, omega (arith, told.seats, c.shared.invariant.2), told.seats ∙ c.shared.invariant.3, told.course g.L.Opening.opening c.shared.invariant.4)
 
 pub returns-clause-strange : goal.returns-clause-strange
 returns-clause-strange g c = rw (ap (λ (s : Locked). s.course) c.shared.view_is) at c.answer.ensures.strange

@@ -5,4 +5,4 @@ abbrev pub ghosts-day_of-L-Ledger : goal.ghosts-day_of-L-Ledger
 ghosts-day_of-L-Ledger g a = record { name = a.blank.name; parts = a.blank.parts }
 
 abbrev pub ghosts-day_of-L-Opening : goal.ghosts-day_of-L-Opening
-ghosts-day_of-L-Opening g a = record { opening = nothing_done }
+ghosts-day_of-L-Opening g a = record { opening = nothing_done; seats = a.day.now.seats }
