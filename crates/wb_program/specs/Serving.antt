@@ -9,7 +9,7 @@ use Rattle.wb_proto.specs.Requests.{request}
 use Rattle.wb_proto.specs.declared.replies.reply.Reply.{Reply}
 use Rattle.wb_proto.specs.declared.replies.reply.Reply.TheVariants.{Refused}
 use Rattle.wb_proto.specs.declared.requests.request.Request.{Request}
-use Rattle.wb_journal.specs.Courses.{Course, IsCourse}
+use Rattle.wb_journal.specs.Courses.{Course}
 use Rattle.wb_shared.specs.Seats.{IsNumberOfSeats}
 use Rattle.wb_journal.specs.Serving.{Held, own_after, share_after, AnswersSome}
 use Rattle.wb_proto.specs.Below.wb_text.Lines.{book_text}
@@ -55,7 +55,3 @@ PrintsSettled whole c status text = IsPrinted (settled_text whole c) status text
 -- No desk was opened or settled, and nothing was printed: there can be no desk of so many seats, or there was a fault.
 abbrev pub NeverSettles : ℕ → ℕ → List ℕ → Type 0
 NeverSettles seats status text = (text ≡ []) × (((status ≡ 2) × ¬ IsNumberOfSeats seats) ⊎ IsFault status)
-
--- A day of a desk from this opening ends: its course was printed, or a front of that; or it never settled.
-abbrev pub EndsDay : Bool → Past → ℕ → ℕ → List ℕ → Type 0
-EndsDay whole opening seats status text = ((c : Course) × IsCourse opening c × PrintsSettled whole c status text) ⊎ NeverSettles seats status text

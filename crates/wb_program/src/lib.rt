@@ -1,11 +1,13 @@
 //! What the program does: a session on an empty workbook or from the text of a history, the judging of a text, the
 //! text of a workbook made that of a history, and a desk on connections, each over a reader and a writer, each with the exit
-//! status that comes of it.
+//! status that comes of it; and which of these a command line asks for.
 #![tactic(auto)]
 
+mod accepting;
 mod answering;
 mod checking;
 mod cost;
+mod doing;
 mod put_back;
 mod resuming;
 mod running;
@@ -13,8 +15,10 @@ mod seat;
 mod serving;
 mod upgrading;
 
+pub use crate::accepting::{AcceptErr, Accepts, Binds, Connections, Ports};
 pub use crate::answering::session;
 pub use crate::checking::{REFUSED, Verdict, check_with, status_of_verdict, verdict_on};
+pub use crate::doing::do_asked;
 pub use crate::put_back::PutBack;
 pub use crate::resuming::{history_from, resume_with};
 pub use crate::running::{

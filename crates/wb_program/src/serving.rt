@@ -3,20 +3,21 @@ ghost use Rattle.std.specs.Prelude.{◌≡◌, ℕ, List, IfOk, IfErr, string_by
 ghost use Rattle.std.specs.Io.KnownBytes.{Appends};
 ghost use Rattle.wb_shared.specs.Openings.{nothing_done};
 ghost use Rattle.wb_program.specs.Checking.{IsFault};
-ghost use Rattle.wb_program.specs.Serving.{shown, settled_text, PrintsSettled, EndsDay};
+ghost use Rattle.wb_program.specs.Serving.{shown, settled_text, PrintsSettled};
+ghost use Rattle.wb_program.specs.Days.{ServedOn, AllBack, EndsDay, FailsDay};
 
+use crate::accepting::{AcceptErr, Accepts};
 use crate::checking::tell;
 use crate::running::{BAD_COMMAND_LINE, INPUT_OR_OUTPUT_FAILED, NO_MEMORY};
 use crate::seat::serve_seat;
 use std::alloc::Global;
-use std::io::BufWriter;
 use std::marker::Brand;
-use std::net::{TcpListener, TcpStream};
+use std::snapshot::Snapshot;
 use std::sync::Wait;
 use std::sync::ledger::Blank;
 use std::thread;
-use std::thread::Threads;
-use wb_lines::{Input, Output, Sink};
+use std::thread::{Promise, Threads};
+use wb_lines::{Sink, Source};
 use wb_proto::below::encode::print_history;
 use wb_proto::below::history::History;
 use wb_proto::below::text::print_book;
@@ -24,69 +25,107 @@ use wb_range::NoMemory;
 use wb_redist::Mover;
 use wb_shared::{Desk, DeskErr, Opening, Pass, Shared, settle};
 
+// What the thread of a seat promises: its pass, served on the connection.
+struct Promised<L: Opening, I, O> {
+    pass: Snapshot<Pass<L>>,
+    reader: Snapshot<I>,
+    writer: Snapshot<O>,
+}
+
+impl<L: Opening, I, O> Drop for Promised<L, I, O> {
+    fn drop(self) {
+        let Promised {
+            pass: _,
+            reader: _,
+            writer: _,
+        } = self;
+    }
+}
+
+impl<L: Opening, I: Source, O: Sink> Promise<Pass<L>> for Promised<L, I, O> {
+    ghost kept_by = { λ p k. ServedOn I.Source O.Sink L.opening p.pass.value p.reader.value p.writer.value k };
+}
+
 // Answers the lines of a connection at a seat until its end or a fault, and gives the pass back. Replies are gathered while
 // more lines lie ahead.
-fn serve_connection<L: Opening, R: Wait, M: Mover>(
+fn serve_connection<L: Opening, R: Wait, I: Source + Drop, O: Sink + Drop, M: Mover>(
     rt: &R,
     alloc: Global,
     desk: &Desk<L>,
     pass: Pass<L>,
-    stream: TcpStream,
+    reader: I,
+    writer: O,
     mover: &M,
-) -> Pass<L> {
-    let _ = stream.set_nodelay(true);
-    let Ok(writer) = BufWriter::new(alloc, &stream) else {
-        return pass;
-    };
-    serve_seat(
-        rt,
-        alloc,
-        desk,
-        pass,
-        &mut Input::new(&stream),
-        &mut Output::new(writer),
-        mover,
-    )
+) -> Pass<L>
+    ensures { ServedOn I.Source O.Sink L.opening pass reader writer result }
+{
+    let mut reader = reader;
+    let mut writer = writer;
+    serve_seat(rt, alloc, desk, pass, &mut reader, &mut writer, mover)
 }
 
-// Accepts a connection for each pass, and joins them all: the passes, or the exit status that is left.
-fn serve_all<L: Opening + Send + Sync, R: Threads + Wait + Sync, M: Mover + Sync>(
+// Accepts a connection for each pass, serves it there in a thread of its own, and joins them all: the passes, or the exit
+// status that is left.
+fn serve_all<
+    L: Opening + Send + Sync,
+    R: Threads + Wait + Sync,
+    N: Accepts<I, O> + Drop,
+    I: Source + Send + Drop,
+    O: Sink + Send + Drop,
+    M: Mover + Sync,
+>(
     rt: &R,
     alloc: Global,
-    listener: &TcpListener,
+    connections: N,
     desk: &Desk<L>,
     passes: Vec<Pass<L>>,
     mover: &M,
 ) -> Result<Vec<Pass<L>>, u8>
-    ensures { IfErr result (λ status. IsFault status) }
+    requires { N.accepted connections ≡ 0 }
+    ensures ok { IfOk result (λ ks. (from : N) × AllBack I.Source O.Sink N.Accepts L.opening from passes.items ks.items) }
+    ensures fault { IfErr result (λ status. IsFault status) }
+    ensures failed { IfErr result (λ status. status ≡ 3 → (from : N) × (N.failed from ≡ true)) }
 {
     thread::scope(
         thread::scope_env(),
         rt,
-        |scope| -> Result<Vec<Pass<L>>, u8>
-            ensures { IfErr result (λ status. IsFault status) }
+        move |scope| -> Result<Vec<Pass<L>>, u8>
+            requires { N.accepted connections ≡ 0 }
+            ensures ok { IfOk result (λ ks. (from : N) × AllBack I.Source O.Sink N.Accepts L.opening from passes.items ks.items) }
+            ensures fault { IfErr result (λ status. IsFault status) }
+            ensures failed { IfErr result (λ status. status ≡ 3 → (from : N) × (N.failed from ≡ true)) }
         {
+            let mut connections = connections;
             let mut handles = Vec::new(alloc);
             for pass in passes {
-                let Ok((stream, _)) = listener.accept() else {
-                    return Err(INPUT_OR_OUTPUT_FAILED);
+                let (reader, writer) = match connections.accept(alloc) {
+                    Ok(came) => came,
+                    Err(AcceptErr::Failed) => return Err(INPUT_OR_OUTPUT_FAILED),
+                    Err(AcceptErr::NoMemory) => return Err(NO_MEMORY),
                 };
-                let Ok(handle) = scope.spawn(move || serve_connection(
-                    rt, alloc, desk, pass, stream, mover,
-                )) else {
-                    return Err(INPUT_OR_OUTPUT_FAILED);
+                let promise = Promised {
+                    pass: Snapshot::of(&pass),
+                    reader: Snapshot::of(&reader),
+                    writer: Snapshot::of(&writer),
                 };
-                if handles.push(handle).is_err() {
-                    return Err(NO_MEMORY);
+                match scope.spawn_with(promise, move || {
+                    serve_connection::<L, R, I, O, M>(rt, alloc, desk, pass, reader, writer, mover)
+                }) {
+                    Ok(handle) => {
+                        if handles.push(handle).is_err() {
+                            return Err(NO_MEMORY);
+                        }
+                    }
+                    Err(refused) => {
+                        connections.note_refused(&refused);
+                        return Err(INPUT_OR_OUTPUT_FAILED);
+                    }
                 }
             }
-            let mut back = Vec::new(alloc);
-            for handle in handles {
-                if back.push(handle.join(rt)).is_err() {
-                    return Err(NO_MEMORY);
-                }
+            match thread::join_promised(rt, handles) {
+                Ok(passes) => Ok(passes),
+                Err(_) => Err(NO_MEMORY),
             }
-            Ok(back)
         },
     )
 }
@@ -124,6 +163,7 @@ fn print_settled<L: Opening, W: Sink>(
 ) -> u8
     ensures prints { (text : List ℕ) × Appends (W.contents writer.old) (W.contents writer.new) text × PrintsSettled whole shared.now.course result text }
     ensures flushed { result ≡ 0 → W.flushed writer.new ≡ true }
+    ensures failed { result ≡ 3 → W.failed writer.new ≡ true }
 {
     let text = match settled_text(alloc, shared, whole) {
         Ok(text) => text,
@@ -133,11 +173,19 @@ fn print_settled<L: Opening, W: Sink>(
 }
 
 // A day of a desk: opened, served and settled. The exit status.
-fn serve_day<L: Opening + Send + Sync, R: Threads + Wait + Sync, W: Sink, M: Mover + Sync>(
+fn serve_day<
+    L: Opening + Send + Sync,
+    R: Threads + Wait + Sync,
+    N: Accepts<I, O> + Drop,
+    I: Source + Send + Drop,
+    O: Sink + Send + Drop,
+    W: Sink,
+    M: Mover + Sync,
+>(
     rt: &R,
     alloc: Global,
     blank: Blank,
-    listener: &TcpListener,
+    connections: N,
     seats: usize,
     history: History,
     whole: bool,
@@ -148,15 +196,19 @@ fn serve_day<L: Opening + Send + Sync, R: Threads + Wait + Sync, W: Sink, M: Mov
     requires parts { blank.parts ≡ L.parts }
     requires sixteen { blank.parts ≡ 16 }
     requires opening { L.opening ≡ history }
-    ensures prints { (text : List ℕ) × Appends (W.contents writer.old) (W.contents writer.new) text × EndsDay whole L.opening seats result text }
+    requires seats { L.seats ≡ seats }
+    requires first { N.accepted connections ≡ 0 }
+    ensures prints { (text : List ℕ) × Appends (W.contents writer.old) (W.contents writer.new) text
+        × EndsDay I.Source O.Sink N.Accepts whole L.opening seats result text }
     ensures flushed { result ≡ 0 → W.flushed writer.new ≡ true }
+    ensures failed { result ≡ 3 → FailsDay I.Source O.Sink N.Accepts L.opening seats (W.failed writer.new) }
 {
     let (desk, passes) = match Desk::<L>::open_at(alloc, blank, seats, history) {
         Ok(made) => made,
         Err((_, DeskErr::BadSeats)) => return BAD_COMMAND_LINE,
         Err((_, DeskErr::NoMemory)) => return NO_MEMORY,
     };
-    let passes = match serve_all(rt, alloc, listener, &desk, passes, mover) {
+    let passes = match serve_all::<L, R, N, I, O, M>(rt, alloc, connections, &desk, passes, mover) {
         Ok(passes) => passes,
         Err(status) => return status,
     };
@@ -166,27 +218,31 @@ fn serve_day<L: Opening + Send + Sync, R: Threads + Wait + Sync, W: Sink, M: Mov
     }
 }
 
-/// Serves a desk of so many seats on the listener: accepts a connection for each seat, joins them all, settles, and prints the
-/// number of entries and the workbook. The exit status: 0, and what is printed is the length of a journal that runs from the
-/// empty workbook and the text of the workbook that it makes, flushed; 2 for a number of seats that no desk can have; 3 where a
-/// connection or a thread could not be had, the desk did not settle or output failed; 4 where a growth was refused.
-pub fn serve_on<R: Threads + Wait + Sync, W: Sink, M: Mover + Sync>(
-    rt: &R,
-    alloc: Global,
-    listener: &TcpListener,
-    seats: usize,
-    writer: &mut W,
-    mover: &M,
-) -> u8
-    ensures prints { (text : List ℕ) × Appends (W.contents writer.old) (W.contents writer.new) text × EndsDay false nothing_done seats result text }
+/// Serves a desk of so many seats: accepts a connection for each seat, serves the seat's pass on it, joins them all, settles, and
+/// prints the number of entries and the workbook. The exit status: 0, and what is printed is the length of a journal that runs
+/// from the empty workbook and has each seat's entries, and the text of the workbook that it makes, flushed; 2 for a number of
+/// seats that no desk can have; 3 only where a connection or a thread could not be had, the desk did not settle or output
+/// failed; 4 where a growth was refused.
+pub fn serve_on<
+    R: Threads + Wait + Sync,
+    N: Accepts<I, O> + Drop,
+    I: Source + Send + Drop,
+    O: Sink + Send + Drop,
+    W: Sink,
+    M: Mover + Sync,
+>(rt: &R, alloc: Global, connections: N, seats: usize, writer: &mut W, mover: &M) -> u8
+    requires { N.accepted connections ≡ 0 }
+    ensures prints { (text : List ℕ) × Appends (W.contents writer.old) (W.contents writer.new) text
+        × EndsDay I.Source O.Sink N.Accepts false nothing_done seats result text }
     ensures flushed { result ≡ 0 → W.flushed writer.new ≡ true }
+    ensures failed { result ≡ 3 → FailsDay I.Source O.Sink N.Accepts nothing_done seats (W.failed writer.new) }
 {
     let history = History::new(alloc);
-    serve_day::<Brand, R, W, M>(
+    serve_day::<Brand, R, N, I, O, W, M>(
         rt,
         alloc,
         Blank::new(16),
-        listener,
+        connections,
         seats,
         history,
         false,
@@ -197,23 +253,33 @@ pub fn serve_on<R: Threads + Wait + Sync, W: Sink, M: Mover + Sync>(
 
 /// The same on the workbook of a history: the journal runs from that history, and the text of the whole history is printed in
 /// the place of the workbook's.
-pub fn serve_history<R: Threads + Wait + Sync, W: Sink, M: Mover + Sync>(
+pub fn serve_history<
+    R: Threads + Wait + Sync,
+    N: Accepts<I, O> + Drop,
+    I: Source + Send + Drop,
+    O: Sink + Send + Drop,
+    W: Sink,
+    M: Mover + Sync,
+>(
     rt: &R,
     alloc: Global,
-    listener: &TcpListener,
+    connections: N,
     seats: usize,
     history: History,
     writer: &mut W,
     mover: &M,
 ) -> u8
-    ensures prints { (text : List ℕ) × Appends (W.contents writer.old) (W.contents writer.new) text × EndsDay true history seats result text }
+    requires { N.accepted connections ≡ 0 }
+    ensures prints { (text : List ℕ) × Appends (W.contents writer.old) (W.contents writer.new) text
+        × EndsDay I.Source O.Sink N.Accepts true history seats result text }
     ensures flushed { result ≡ 0 → W.flushed writer.new ≡ true }
+    ensures failed { result ≡ 3 → FailsDay I.Source O.Sink N.Accepts history seats (W.failed writer.new) }
 {
-    serve_day::<Brand, R, W, M>(
+    serve_day::<Brand, R, N, I, O, W, M>(
         rt,
         alloc,
         Blank::new(16),
-        listener,
+        connections,
         seats,
         history,
         true,

@@ -2,9 +2,8 @@
 #![tactic(auto)]
 
 use smallvec::SmallVec;
-use std::alloc::Global;
 use std::env;
-use std::io::{self, BufWriter, Write};
+use std::io::{self, BufWriter};
 use std::net::{Net, TcpListener, TcpStream};
 use std::process::ExitCode;
 use std::sync::Wait;
@@ -12,19 +11,17 @@ use std::thread::Threads;
 use wb_command::{Asked, CommandErr, command_of};
 use wb_lines::{Input, Output};
 use wb_program::{
-    BAD_COMMAND_LINE, DONE, INPUT_OR_OUTPUT_FAILED, NO_MEMORY, PutBack, check_with, history_from,
-    resume_with, run_with, serve_history, serve_on, upgrade_with,
+    BAD_COMMAND_LINE, DONE, INPUT_OR_OUTPUT_FAILED, NO_MEMORY, Ports, PutBack, do_asked,
 };
-use wb_proto::below::history::History;
 use wb_redist::{Crew, Mover};
 
 /// The words of most command lines: so many are lent without memory of their own.
 const FEW: usize = 8;
 
-fn main(rt: HostRuntime) -> io::Result<ExitCode> {
+fn main(rt: HostRuntime) -> ExitCode {
     let done = match asked(&rt) {
         Ok(Ok(asked)) => match Crew::new(&rt, workers_of(&asked)) {
-            Ok(crew) => do_asked(&rt, &rt, asked, &crew),
+            Ok(crew) => on_devices(&rt, &rt, asked, &crew),
             Err(_) => Ok(BAD_COMMAND_LINE),
         },
         Ok(Err(status)) => Ok(status),
@@ -37,13 +34,18 @@ fn main(rt: HostRuntime) -> io::Result<ExitCode> {
             _ => INPUT_OR_OUTPUT_FAILED,
         },
     };
-    match status {
-        BAD_COMMAND_LINE => eprintln!(rt; "workbook: bad command line")?,
-        INPUT_OR_OUTPUT_FAILED => eprintln!(rt; "workbook: input or output failed")?,
-        NO_MEMORY => eprintln!(rt; "workbook: no memory")?,
-        _ => {}
-    }
-    Ok(ExitCode::from(status))
+    tell(&rt, status);
+    ExitCode::from(status)
+}
+
+// Says on standard error why the program ends. Where that fails, the exit status stays what it is.
+fn tell(rt: &HostRuntime, status: u8) {
+    let _ = match status {
+        BAD_COMMAND_LINE => eprintln!(rt; "workbook: bad command line"),
+        INPUT_OR_OUTPUT_FAILED => eprintln!(rt; "workbook: input or output failed"),
+        NO_MEMORY => eprintln!(rt; "workbook: no memory"),
+        _ => Ok(()),
+    };
 }
 
 // What the command line asks for, or the exit status where that is nothing.
@@ -80,101 +82,22 @@ fn workers_of(asked: &Asked) -> usize {
     }
 }
 
-// Does what is asked for, with arrays moved by the mover: the exit status.
-fn do_asked<
+// Does what is asked for on the real devices, with arrays moved by the mover: the exit status.
+fn on_devices<
     R: Net<Listener = TcpListener, Stream = TcpStream> + Threads + Wait + Sync,
     M: Mover + Sync,
 >(rt: &HostRuntime, net: &R, asked: Asked, mover: &M) -> io::Result<u8> {
-    match asked {
-        Asked::Run { resume: false, .. } => run(rt, mover),
-        Asked::Run { resume: true, .. } => resume(rt, mover),
-        Asked::Check => check(rt, mover),
-        Asked::Upgrade => upgrade(rt, mover),
-        Asked::Serve {
-            port,
-            seats,
-            resume,
-            ..
-        } => match opening(rt, resume, mover)? {
-            Ok(history) => serve(net, rt.alloc(), rt.stdout(), port, seats, history, mover),
-            Err(status) => Ok(status),
-        },
-    }
-}
-
-// A session from standard input to standard output.
-fn run<M: Mover>(rt: &HostRuntime, mover: &M) -> io::Result<u8> {
     let alloc = rt.alloc();
-    let mut input = Input::new(rt.stdin());
-    let mut output = Output::new(BufWriter::new(alloc, rt.stdout())?);
-    Ok(run_with(alloc, &mut input, &mut output, mover))
-}
-
-// A session from the history whose text comes first.
-fn resume<M: Mover>(rt: &HostRuntime, mover: &M) -> io::Result<u8> {
-    let alloc = rt.alloc();
+    let mut ports = Ports::of(net);
     let mut input = PutBack::new(alloc, Input::new(rt.stdin()));
     let mut output = Output::new(BufWriter::new(alloc, rt.stdout())?);
-    Ok(resume_with(alloc, &mut input, &mut output, mover))
-}
-
-// Whether standard input is the text of a workbook or of a history.
-fn check<M: Mover>(rt: &HostRuntime, mover: &M) -> io::Result<u8> {
-    let alloc = rt.alloc();
-    let mut input = Input::new(rt.stdin());
-    let mut output = Output::new(BufWriter::new(alloc, rt.stdout())?);
-    Ok(check_with(alloc, &mut input, &mut output, mover))
-}
-
-// The text of a history of the workbook whose text is standard input.
-fn upgrade<M: Mover>(rt: &HostRuntime, mover: &M) -> io::Result<u8> {
-    let alloc = rt.alloc();
-    let mut input = Input::new(rt.stdin());
-    let mut output = Output::new(BufWriter::new(alloc, rt.stdout())?);
-    Ok(upgrade_with(alloc, &mut input, &mut output, mover))
-}
-
-// The history that a desk opens with: none, or the one whose text is standard input; or the exit status where that is none's.
-fn opening<M: Mover>(
-    rt: &HostRuntime,
-    resume: bool,
-    mover: &M,
-) -> io::Result<Result<Option<History>, u8>> {
-    if !resume {
-        return Ok(Ok(None));
-    }
-    let alloc = rt.alloc();
-    let mut input = Input::new(rt.stdin());
-    let mut output = Output::new(BufWriter::new(alloc, rt.stdout())?);
-    match history_from(alloc, &mut input, &mut output, mover) {
-        Ok(history) => Ok(Ok(Some(history))),
-        Err(status) => Ok(Err(status)),
-    }
-}
-
-// A desk of so many seats on a port of this machine, on an empty workbook or from a history.
-fn serve<
-    R: Net<Listener = TcpListener, Stream = TcpStream> + Threads + Wait + Sync,
-    W: Write + Drop,
-    M: Mover + Sync,
->(
-    rt: &R,
-    alloc: Global,
-    output: W,
-    port: u16,
-    seats: u8,
-    opening: Option<History>,
-    mover: &M,
-) -> io::Result<u8> {
-    let listener = TcpListener::bind(rt, ("127.0.0.1", port))?;
-    let mut output = BufWriter::new(alloc, output)?;
-    let port = listener.local_addr()?.port();
-    writeln!(output, "listening on 127.0.0.1:{port}")?;
-    output.flush()?;
-    let mut output = Output::new(output);
-    let seats = seats as usize;
-    Ok(match opening {
-        Some(history) => serve_history(rt, alloc, &listener, seats, history, &mut output, mover),
-        None => serve_on(rt, alloc, &listener, seats, &mut output, mover),
-    })
+    Ok(do_asked(
+        net,
+        alloc,
+        asked,
+        &mut ports,
+        &mut input,
+        &mut output,
+        mover,
+    ))
 }

@@ -9,7 +9,7 @@ use std::test::Fail;
 use std::thread;
 use std::thread::Threads;
 use wb_lines::{Input, Line, LineBuffer, LineFault, NothingHeld, Output, Sink, next_line};
-use wb_program::serve_on;
+use wb_program::{Connections, serve_on};
 use wb_redist::Crew;
 
 const MAKE_X: &[u8] = b"{\"op\":\"domain\",\"d\":\"X\",\"is\":\"{1..1}\"}\n";
@@ -215,7 +215,7 @@ fn ends_well<R: Net<Listener = TcpListener, Stream = TcpStream> + Threads + Wait
         || serve_on(
             rt,
             alloc,
-            &listener,
+            Connections::of(listener),
             2,
             &mut Output::new(&mut output),
             &workers,

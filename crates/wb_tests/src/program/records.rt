@@ -6,7 +6,9 @@ use std::net::{Shutdown, TcpListener, TcpStream};
 use std::process::Abort;
 use std::test::Fail;
 use wb_lines::{Input, Output};
-use wb_program::{PutBack, check_with, history_from, resume_with, run_with, serve_history};
+use wb_program::{
+    Connections, PutBack, check_with, history_from, resume_with, run_with, serve_history,
+};
 use wb_redist::{Crew, Mover};
 
 const LINES: &[u8] =
@@ -218,7 +220,15 @@ fn resumed_desk(rt: HostRuntime) -> Result<(), Fail> {
     let Ok(history) = history_from(alloc, &mut input, &mut writer, &alone) else {
         return Err("a history")?;
     };
-    let status = serve_history(&rt, alloc, &listener, 1, history, &mut writer, &alone);
+    let status = serve_history(
+        &rt,
+        alloc,
+        Connections::of(listener),
+        1,
+        history,
+        &mut writer,
+        &alone,
+    );
     assert_eq!(rt; status, 0);
     let mut replies = Vec::new(alloc);
     stream.read_to_end(&mut replies)?;

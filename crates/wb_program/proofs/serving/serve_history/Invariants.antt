@@ -4,4 +4,4 @@ abbrev pub ghosts-serve_day-L-Ledger : goal.ghosts-serve_day-L-Ledger
 ghosts-serve_day-L-Ledger g a = record { name = a.blank.name; parts = a.blank.parts }
 
 abbrev pub ghosts-serve_day-L-Opening : goal.ghosts-serve_day-L-Opening
-ghosts-serve_day-L-Opening g a = record { opening = a.history }
+ghosts-serve_day-L-Opening g a = record { opening = a.history; seats = a.seats }

@@ -5,4 +5,4 @@ abbrev pub ghosts-serve_day-L-Ledger : goal.ghosts-serve_day-L-Ledger
 ghosts-serve_day-L-Ledger g a = record { name = a.blank.name; parts = a.blank.parts }
 
 abbrev pub ghosts-serve_day-L-Opening : goal.ghosts-serve_day-L-Opening
-ghosts-serve_day-L-Opening g a = record { opening = nothing_done }
+ghosts-serve_day-L-Opening g a = record { opening = nothing_done; seats = a.seats }

@@ -1,0 +1,32 @@
+use Rattle.std.proofs.Common.{[], rules}
+use Rattle.wb_program.proofs.Hosting.{history_hosted, hosted}
+use Rattle.wb_program.proofs.doing.do_asked.Goals as goal
+
+pub returns-then-resume-2 : goal.returns-then-resume-2
+returns-then-resume-2 g c =
+    let asked = c.in-Serve in
+    let read = c.host_input.ensures in
+    let told = read.2 in (
+      read.0,
+      read.1,
+      (
+        told.0,
+        told.1,
+        history_hosted g.I.Source g.O.Sink g.N.Accepts c.args.asked asked.port asked.seats asked.workers asked.resume
+            c.host_input.result read.0 told.0 asked.is c.if-resume-2.true told.2,
+      ),
+    )
+
+pub returns-else-resume-2 : goal.returns-else-resume-2
+returns-else-resume-2 g c =
+    let asked = c.in-Serve in
+    let told = c.host.ensures in (
+      [],
+      search rules,
+      (
+        told.0,
+        told.1,
+        hosted g.I.Source g.O.Sink g.N.Accepts c.args.asked asked.port asked.seats asked.workers asked.resume
+            c.host.result told.0 asked.is c.if-resume-2.false told.2,
+      ),
+    )

@@ -1,0 +1,45 @@
+-- What the program does by what its command line asks for.
+use Rattle.std.specs.Prelude.{◌≡◌, ◌⊎◌, ℕ, Bool, true, false, List, [], ◌++◌, codes, decimal, take}
+use Rattle.wb_lines.specs.declared.machine.SessionEnd.{SessionEnd}
+use Rattle.wb_lines.specs.declared.sink.Sink as Sink
+use Rattle.wb_lines.specs.declared.source.Source as Source
+use Rattle.wb_proto.specs.Below.wb_history.Past.{Past}
+use Rattle.wb_command.specs.declared.Asked.{Asked}
+use Rattle.wb_command.specs.declared.Asked.TheVariants as ask
+use Rattle.wb_program.specs.Checking.{IsNoRecord, IsFault, Judges, Says}
+use Rattle.wb_program.specs.Days.{EndsDay}
+use Rattle.wb_program.specs.Resuming.{IsRecord, IsResumed}
+use Rattle.wb_program.specs.Running.{ServesFromEmpty, opening, status_of}
+use Rattle.wb_program.specs.Upgrading.{Upgrades}
+use Rattle.wb_program.specs.declared.accepting.Accepts as Accepts
+use Rattle.wb_program.specs.declared.checking.Verdict.TheVariants.{Refused}
+
+-- a session from the empty workbook ended with this status
+abbrev pub IsRun : ℕ → List ℕ → List ℕ → Type 0
+IsRun status read text = (end : SessionEnd) × (status ≡ status_of end) × ServesFromEmpty end read text
+
+-- what is told of the port before a day
+abbrev pub listening : ℕ → List ℕ
+listening port = codes "listening on 127.0.0.1:" ++ (decimal port ++ codes "\n")
+
+module _ {I O N : Type 0} (source : Source.Ghosts I) (sink : Sink.Ghosts O) (accepts : Accepts.Ghosts N I O) where
+  -- The port was told, and then a day was served; or a fault came before that, after a front of what is told.
+  abbrev pub Hosts : Bool → Past → ℕ → ℕ → List ℕ → Type 0
+  Hosts whole past seats status text =
+      ((port : ℕ) × (day : List ℕ) × (text ≡ listening port ++ day) × EndsDay source sink accepts whole past seats status day)
+      ⊎ (IsFault status × ((port count : ℕ) × (text ≡ take count (listening port))))
+
+  -- a desk from the history whose text was read; or that was refused, which was printed; or there was a fault, and nothing was
+  abbrev pub HostsHistory : ℕ → ℕ → List ℕ → List ℕ → Type 0
+  HostsHistory seats status read text = ((past : Past) × IsRecord read past × Hosts true past seats status text)
+      ⊎ ((IsNoRecord read × Says Refused status text) ⊎ (IsFault status × (text ≡ [])))
+
+  -- Each command: a session, one that goes on from the text of a history, the judging of a text, the text of a workbook made that of a
+  -- history, a desk, one that goes on from the text of a history.
+  abbrev pub Does : Asked → ℕ → List ℕ → List ℕ → Type 0
+  Does (ask.Run false workers) status read text = IsRun status read text
+  Does (ask.Run true workers) status read text = IsResumed status read text
+  Does ask.Check status read text = Judges read status text
+  Does ask.Upgrade status read text = Upgrades read status text
+  Does (ask.Serve port seats false workers) status read text = (read ≡ []) × Hosts false opening seats status text
+  Does (ask.Serve port seats true workers) status read text = HostsHistory seats status read text

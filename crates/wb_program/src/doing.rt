@@ -1,0 +1,185 @@
+//! What the program does by what its command line asks for.
+ghost use Rattle.std.specs.Prelude.{◌≡◌, ◌⊎◌, ◌++◌, ℕ, List, true, false, IfOk, IfErr, take};
+ghost use Rattle.std.specs.Io.KnownBytes.{Appends, Consumes};
+ghost use Rattle.wb_shared.specs.Openings.{nothing_done};
+ghost use Rattle.wb_program.specs.Checking.{IsFault};
+ghost use Rattle.wb_program.specs.Resuming.{left_in};
+ghost use Rattle.wb_program.specs.Doing.{listening, Hosts, HostsHistory, Does};
+
+use crate::accepting::{AcceptErr, Accepts, Binds};
+use crate::checking::{check_with, tell};
+use crate::put_back::PutBack;
+use crate::resuming::{history_from, resume_with};
+use crate::running::{DONE, INPUT_OR_OUTPUT_FAILED, NO_MEMORY, run_with};
+use crate::serving::{serve_history, serve_on};
+use crate::upgrading::upgrade_with;
+use std::alloc::Global;
+use std::sync::Wait;
+use std::thread::Threads;
+use wb_command::Asked;
+use wb_lines::{Sink, Source};
+use wb_proto::below::history::History;
+use wb_redist::Mover;
+
+// Listens on a port and tells which one: what connections come from, or the exit status after a fault.
+fn listen<B: Binds<N, I, O>, N: Accepts<I, O> + Drop, I, O, W: Sink>(
+    alloc: Global,
+    ports: &mut B,
+    port: u16,
+    writer: &mut W,
+) -> Result<N, u8>
+    ensures first { IfOk result (λ n. N.accepted n ≡ 0) }
+    ensures told { IfOk result (λ _. (bound : ℕ) × Appends (W.contents writer.old) (W.contents writer.new) (listening bound)) }
+    ensures fault { IfErr result (λ status. IsFault status × ((bound count : ℕ)
+        × Appends (W.contents writer.old) (W.contents writer.new) (take count (listening bound)))) }
+{
+    let (connections, bound) = match ports.bind(port) {
+        Ok(bound) => bound,
+        Err(AcceptErr::Failed) => return Err(INPUT_OR_OUTPUT_FAILED),
+        Err(AcceptErr::NoMemory) => return Err(NO_MEMORY),
+    };
+    let Ok(line) = format!(in alloc; "listening on 127.0.0.1:{bound}\n") else {
+        return Err(NO_MEMORY);
+    };
+    let told = tell(line.as_str(), writer);
+    if told == DONE {
+        return Ok(connections);
+    }
+    Err(told)
+}
+
+// A desk of so many seats on a port, on an empty workbook.
+fn host<
+    R: Threads + Wait + Sync,
+    B: Binds<N, I, O>,
+    N: Accepts<I, O> + Drop,
+    I: Source + Send + Drop,
+    O: Sink + Send + Drop,
+    W: Sink,
+    M: Mover + Sync,
+>(rt: &R, alloc: Global, ports: &mut B, port: u16, seats: u8, writer: &mut W, mover: &M) -> u8
+    ensures { (text : List ℕ) × Appends (W.contents writer.old) (W.contents writer.new) text
+        × Hosts I.Source O.Sink N.Accepts false nothing_done seats result text }
+{
+    match listen(alloc, ports, port, writer) {
+        Ok(connections) => serve_on(rt, alloc, connections, seats as usize, writer, mover),
+        Err(status) => status,
+    }
+}
+
+// The same on the workbook of a history.
+fn host_history<
+    R: Threads + Wait + Sync,
+    B: Binds<N, I, O>,
+    N: Accepts<I, O> + Drop,
+    I: Source + Send + Drop,
+    O: Sink + Send + Drop,
+    W: Sink,
+    M: Mover + Sync,
+>(
+    rt: &R,
+    alloc: Global,
+    ports: &mut B,
+    port: u16,
+    seats: u8,
+    history: History,
+    writer: &mut W,
+    mover: &M,
+) -> u8
+    ensures { (text : List ℕ) × Appends (W.contents writer.old) (W.contents writer.new) text
+        × Hosts I.Source O.Sink N.Accepts true history seats result text }
+{
+    match listen(alloc, ports, port, writer) {
+        Ok(connections) => serve_history(
+            rt,
+            alloc,
+            connections,
+            seats as usize,
+            history,
+            writer,
+            mover,
+        ),
+        Err(status) => status,
+    }
+}
+
+// The same on the workbook of the history whose text is the input.
+fn host_input<
+    R: Threads + Wait + Sync,
+    B: Binds<N, I, O>,
+    N: Accepts<I, O> + Drop,
+    I: Source + Send + Drop,
+    O: Sink + Send + Drop,
+    S: Source,
+    W: Sink,
+    M: Mover + Sync,
+>(
+    rt: &R,
+    alloc: Global,
+    ports: &mut B,
+    port: u16,
+    seats: u8,
+    reader: &mut S,
+    writer: &mut W,
+    mover: &M,
+) -> u8
+    ensures { (read : List ℕ) × Consumes (S.remaining reader.old) (S.remaining reader.new) read
+        × ((text : List ℕ) × Appends (W.contents writer.old) (W.contents writer.new) text
+        × HostsHistory I.Source O.Sink N.Accepts seats result read text) }
+{
+    match history_from(alloc, reader, writer, mover) {
+        Ok(history) => host_history(rt, alloc, ports, port, seats, history, writer, mover),
+        Err(status) => status,
+    }
+}
+
+/// Does what a command line asks for: the exit status. What is read and written is what the definition of each command says. A desk
+/// listens on a port that `ports` gives.
+pub fn do_asked<
+    R: Threads + Wait + Sync,
+    B: Binds<N, I, O>,
+    N: Accepts<I, O> + Drop,
+    I: Source + Send + Drop,
+    O: Sink + Send + Drop,
+    S: Source,
+    W: Sink,
+    M: Mover + Sync,
+>(
+    rt: &R,
+    alloc: Global,
+    asked: Asked,
+    ports: &mut B,
+    reader: &mut PutBack<S>,
+    writer: &mut W,
+    mover: &M,
+) -> u8
+    ensures { (read : List ℕ) × Consumes (left_in S.remaining reader.old) (left_in S.remaining reader.new) read
+        × ((text : List ℕ) × Appends (W.contents writer.old) (W.contents writer.new) text
+        × Does I.Source O.Sink N.Accepts asked result read text) }
+{
+    match asked {
+        Asked::Run { resume, .. } => {
+            if resume {
+                resume_with(alloc, reader, writer, mover)
+            } else {
+                run_with(alloc, reader, writer, mover)
+            }
+        }
+        Asked::Check => check_with(alloc, reader, writer, mover),
+        Asked::Upgrade => upgrade_with(alloc, reader, writer, mover),
+        Asked::Serve {
+            port,
+            seats,
+            resume,
+            ..
+        } => {
+            if resume {
+                host_input::<R, B, N, I, O, PutBack<S>, W, M>(
+                    rt, alloc, ports, port, seats, reader, writer, mover,
+                )
+            } else {
+                host(rt, alloc, ports, port, seats, writer, mover)
+            }
+        }
+    }
+}
