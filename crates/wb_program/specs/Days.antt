@@ -2,7 +2,7 @@
 use Rattle.std.specs.Prelude.{◌≡◌, ◌⊎◌, ℕ, Bool, true, List, Some, length, slice_get}
 use Rattle.std.specs.Io.KnownBytes.{Appends, Consumes}
 use Rattle.wb_lines.specs.Causes.{ReadsUntil, WritesUntil}
-use Rattle.wb_lines.specs.Session.{Serves}
+use Rattle.wb_lines.specs.Turns.{ServesTurns}
 use Rattle.wb_lines.specs.declared.machine.SessionEnd.{SessionEnd}
 use Rattle.wb_lines.specs.declared.sink.Sink as Sink
 use Rattle.wb_lines.specs.declared.source.Source as Source
@@ -27,7 +27,7 @@ module _ {I O : Type 0} (source : Source.Ghosts I) (sink : Sink.Ghosts O) where
     pub consumed : Consumes (source.remaining i) (source.remaining reader) read
     pub text : List ℕ
     pub appended : Appends (sink.contents o) (sink.contents writer) text
-    pub session : Serves (AnswersSeat opening) end h read text k
+    pub session : ServesTurns (AnswersSeat opening) end h read (source.remaining reader) text k
 
 module _ {I O N : Type 0} (source : Source.Ghosts I) (sink : Sink.Ghosts O) (accepts : Accepts.Ghosts N I O) where
   -- The connection of this number came, and the pass was served on it.

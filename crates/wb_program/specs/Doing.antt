@@ -1,5 +1,5 @@
 -- What the program does by what its command line asks for.
-use Rattle.std.specs.Prelude.{◌≡◌, ◌⊎◌, ℕ, Bool, true, false, List, [], ◌++◌, codes, decimal, take}
+use Rattle.std.specs.Prelude.{◌≡◌, ◌⊎◌, ℕ, Bool, true, false, List, [], ◌++◌, Option, codes, decimal, take}
 use Rattle.wb_lines.specs.declared.machine.SessionEnd.{SessionEnd}
 use Rattle.wb_lines.specs.declared.sink.Sink as Sink
 use Rattle.wb_lines.specs.declared.source.Source as Source
@@ -15,8 +15,8 @@ use Rattle.wb_program.specs.declared.accepting.Accepts as Accepts
 use Rattle.wb_program.specs.declared.checking.Verdict.TheVariants.{Refused}
 
 -- a session from the empty workbook ended with this status
-abbrev pub IsRun : ℕ → List ℕ → List ℕ → Type 0
-IsRun status read text = (end : SessionEnd) × (status ≡ status_of end) × ServesFromEmpty end read text
+abbrev pub IsRun : ℕ → (read : List ℕ) → (left : Option (List ℕ)) → List ℕ → Type 0
+IsRun status read left text = (end : SessionEnd) × (status ≡ status_of end) × ServesFromEmpty end read left text
 
 -- what is told of the port before a day
 abbrev pub listening : ℕ → List ℕ
@@ -36,10 +36,10 @@ module _ {I O N : Type 0} (source : Source.Ghosts I) (sink : Sink.Ghosts O) (acc
 
   -- Each command: a session, one that goes on from the text of a history, the judging of a text, the text of a workbook made that of a
   -- history, a desk, one that goes on from the text of a history.
-  abbrev pub Does : Asked → ℕ → List ℕ → List ℕ → Type 0
-  Does (ask.Run false workers) status read text = IsRun status read text
-  Does (ask.Run true workers) status read text = IsResumed status read text
-  Does ask.Check status read text = Judges read status text
-  Does ask.Upgrade status read text = Upgrades read status text
-  Does (ask.Serve port seats false workers) status read text = (read ≡ []) × Hosts false opening seats status text
-  Does (ask.Serve port seats true workers) status read text = HostsHistory seats status read text
+  abbrev pub Does : Asked → ℕ → (read : List ℕ) → (left : Option (List ℕ)) → List ℕ → Type 0
+  Does (ask.Run false workers) status read left text = IsRun status read left text
+  Does (ask.Run true workers) status read left text = IsResumed status read left text
+  Does ask.Check status read left text = Judges read status text
+  Does ask.Upgrade status read left text = Upgrades read status text
+  Does (ask.Serve port seats false workers) status read left text = (read ≡ []) × Hosts false opening seats status text
+  Does (ask.Serve port seats true workers) status read left text = HostsHistory seats status read text

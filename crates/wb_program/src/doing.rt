@@ -155,7 +155,7 @@ pub fn do_asked<
 ) -> u8
     ensures { (read : List ℕ) × Consumes (left_in S.remaining reader.old) (left_in S.remaining reader.new) read
         × ((text : List ℕ) × Appends (W.contents writer.old) (W.contents writer.new) text
-        × Does I.Source O.Sink N.Accepts asked result read text) }
+        × Does I.Source O.Sink N.Accepts asked result read (left_in S.remaining reader.new) text) }
 {
     match asked {
         Asked::Run { resume, .. } => {

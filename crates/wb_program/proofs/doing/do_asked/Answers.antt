@@ -13,7 +13,7 @@ returns-then-resume-2 g c =
         told.0,
         told.1,
         history_hosted g.I.Source g.O.Sink g.N.Accepts c.args.asked asked.port asked.seats asked.workers asked.resume
-            c.host_input.result read.0 told.0 asked.is c.if-resume-2.true told.2,
+            c.host_input.result read.0 _ told.0 asked.is c.if-resume-2.true told.2,
       ),
     )
 
@@ -27,6 +27,6 @@ returns-else-resume-2 g c =
         told.0,
         told.1,
         hosted g.I.Source g.O.Sink g.N.Accepts c.args.asked asked.port asked.seats asked.workers asked.resume
-            c.host.result told.0 asked.is c.if-resume-2.false told.2,
+            c.host.result _ told.0 asked.is c.if-resume-2.false told.2,
       ),
     )
