@@ -52,15 +52,10 @@ own_after seat own asked r = elim (is_entered r) [ true ↦ own ++ entry seat as
 abbrev pub share_after : ℕ → Reply → ℕ
 share_after n r = elim (is_entered r) [ true ↦ n + 1 | false ↦ n ]
 
--- Some course of so many seats from the opening gave the reply: it has as many entries of the seat as this list, or else the reply
--- is that the pass is strange.
-abbrev pub AnswersAmong : ℕ → Past → ℕ → List Entry → Request → Reply → Type 0
-AnswersAmong n opening seat own asked r =
-    (c : Course) × (c.seats ≡ n) × IsCourse opening c × IsStrange c seat own r × ((d : Course) × AnswersCourse c seat asked r d)
-
--- the same of some number of seats
+-- Some course from the opening gave the reply: it has as many entries of the seat as this list, or else the reply is that the pass is
+-- strange.
 abbrev pub AnswersSome : Past → ℕ → List Entry → Request → Reply → Type 0
-AnswersSome opening seat own asked r = (n : ℕ) × AnswersAmong n opening seat own asked r
+AnswersSome opening seat own asked r = (c : Course) × IsCourse opening c × IsStrange c seat own r × ((d : Course) × AnswersCourse c seat asked r d)
 
 -- a pass with which nothing was asked yet
 abbrev pub new_pass : ℕ → Held

@@ -5,7 +5,8 @@ ghost use Rattle.wb_journal.specs.Settling.{IsSettled, IsCause, total_of_passes}
 ghost use Rattle.wb_shared.specs.Openings.{nothing_done};
 ghost use Rattle.wb_journal.specs.Courses.{IsCourse};
 ghost use Rattle.wb_shared.specs.Seats.{IsNumberOfSeats, IsSeatsErr};
-ghost use Rattle.wb_journal.specs.Serving.{own_after, share_after, new_passes, AnswersAmong};
+ghost use Rattle.wb_shared.specs.Answering.{AnswersAmong};
+ghost use Rattle.wb_journal.specs.Serving.{own_after, share_after, new_passes};
 
 use crate::opening::Opening;
 use crate::shared::Shared;

@@ -1,7 +1,8 @@
 //! A turn at a desk: its lock, held from one request to the next.
 
 ghost use Rattle.std.specs.Prelude.{◌≡◌};
-ghost use Rattle.wb_journal.specs.Serving.{own_after, share_after, AnswersAmong};
+ghost use Rattle.wb_shared.specs.Answering.{AnswersAmong};
+ghost use Rattle.wb_journal.specs.Serving.{own_after, share_after};
 
 use crate::desk::Desk;
 use crate::opening::Opening;

@@ -1,4 +1,5 @@
-use Rattle.std.proofs.Common.{[], rules}
+use Rattle.std.proofs.Common.{[]}
+use Rattle.std.proofs.KnownBytes.{Consumes-nil}
 use Rattle.wb_program.proofs.Hosting.{history_hosted, hosted}
 use Rattle.wb_program.proofs.doing.do_asked.Goals as goal
 
