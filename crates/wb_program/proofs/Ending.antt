@@ -11,7 +11,7 @@ use Rattle.wb_program.specs.Days.{AllBack, Disagrees, Ended, IsDay}
 use Rattle.wb_program.specs.declared.accepting.Accepts as Accepts
 
 module _ {I O N : Type 0} (source : Source.Ghosts I) (sink : Sink.Ghosts O) (accepts : Accepts.Ghosts N I O) where
-  ended : (opening : Past) (seats : ℕ) (c : Course) (hs ks : List Held) → hs ≡ new_passes seats
+  abbrev ended : (opening : Past) (seats : ℕ) (c : Course) (hs ks : List Held) → hs ≡ new_passes seats
       → (from : N) × AllBack source sink accepts opening from hs ks → IsCourse opening c → c.seats ≡ seats → Ended source sink accepts opening seats c
   ended opening seats c hs ks new back course many = record {
     from = back.0;
