@@ -8,8 +8,8 @@ use Rattle.wb_disk.specs.Device.{LeavesOnly}
 use Rattle.wb_disk.proofs.Moments.{joined}
 use Rattle.wb_keep.specs.Lines.{recovered}
 use Rattle.wb_keep.specs.Keep.{IsSettled}
-use Rattle.wb_lines.specs.Lines.{lines, ended}
-use Rattle.wb_lines.specs.Reading.{Reading, TakesLine, unread as unread_buffer, block_size, read_limit}
+use Rattle.wb_lines.specs.Lines.{finished_lines, ended}
+use Rattle.wb_lines.specs.Reading.{Reading, KnowsEnd, TakesLine, unread as unread_buffer, block_size, read_limit}
 use Rattle.wb_lines.proofs.Standing.{Standing, standing_line, standing_some, less_left, few}
 use Rattle.wb_lines.proofs.RunningTurns.{standing_lines}
 use Rattle.wb_kept.specs.Runs.{Leads, Step, Run, lines_asked, replies_of, changes_of}
@@ -94,7 +94,7 @@ module _ {S : Type 0} (start : S) (grants : S → List ℕ → S → Type 0) (an
 
     module _ (old : Kept S D) (unread left sent told : Option (List ℕ)) where
       finish : (end : KeptEnd) (new : Kept S D) (last : S) (read text : List ℕ) (steps : List Step) → IsKept start grants seen may_leave old
-          → Consumes unread left read → Appends sent told text → Run answers old.state steps last → Serves end read steps text
+          → Consumes unread left read → Appends sent told text → Run answers old.state steps last → Serves end read left steps text
           → LeavesOnly moment left_since old.log.device new.log.device (HasFrom (recovered (seen old.log.device)) steps 0)
           → ((file : List ℕ) → may_leave new.log.device file → HasFrom (recovered (seen old.log.device)) steps (count_of end) file)
           → IfWell end (IsKept start grants seen may_leave new × (new.state ≡ last)
@@ -119,7 +119,7 @@ module _ {S : Type 0} (start : S) (grants : S → List ℕ → S → Type 0) (an
 
       -- all steps were kept
       ends_kept : (end : KeptEnd) (new : Kept S D) (last : S) (read text : List ℕ) (steps : List Step) → IsKept start grants seen may_leave old
-          → Consumes unread left read → Appends sent told text → Run answers old.state steps last → Serves end read steps text
+          → Consumes unread left read → Appends sent told text → Run answers old.state steps last → Serves end read left steps text
           → LeavesOnly moment left_since old.log.device new.log.device (HasFrom (recovered (seen old.log.device)) steps 0)
           → count_of end ≡ length steps → IsSettled seen may_leave new.log → new.state ≡ last
           → recovered (seen new.log.device) ≡ recovered (seen old.log.device) ++ changes_of steps
@@ -137,7 +137,7 @@ module _ {S : Type 0} (start : S) (grants : S → List ℕ → S → Type 0) (an
       -- no more was answered
       pub ends_quiet : (end : KeptEnd) (now : Kept S D) (count : ℕ) (buffer : Reading) (from to : Option (List ℕ)) (read : List ℕ)
           → (go : Going old now unread from sent to count buffer) → IsKept start grants seen may_leave old → count_of end ≡ count
-          → Consumes unread left read → Keeps to told → Serves end read go.steps (replies_of go.steps)
+          → Consumes unread left read → Keeps to told → Serves end read left go.steps (replies_of go.steps)
           → Session start grants answers seen may_leave moment left_since end old now unread left sent told
       ends_quiet end now count buffer from to read go k e consumed keeps serves =
           ends_kept end now now.state read (replies_of go.steps) go.steps k consumed (Appends-kept sent to told (replies_of go.steps) go.written keeps) go.run serves
@@ -188,9 +188,10 @@ module _ {S : Type 0} (start : S) (grants : S → List ℕ → S → Type 0) (an
           t.moments
           (λ c h. has_fewer before all_steps 0 (length go.steps) c (omega arith) (has_turn before (recovered (seen now.log.device)) go.steps steps c go.lines h))
 
-      pub turn_front : IsFront (lines_asked all_steps) (lines (go.read ++ got))
-      turn_front =
-          let behind = standing_some (go.read ++ got) (lines_asked go.steps ++ first ∷ t.more) rest turn_standing in (
+      turn_front : KnowsEnd mid left → IsFront (lines_asked all_steps) (finished_lines (go.read ++ got) left)
+      turn_front known =
+          let behind = standing_some (go.read ++ got) (lines_asked go.steps ++ first ∷ t.more) rest left turn_standing
+          (λ e. known (sym t.takes.same.at_end ∙ e)) in (
             t.front.0 ++ behind.0,
             behind.1 ∙ ap (λ (ls : List (List ℕ)). lines_asked go.steps ++ ls ++ behind.0) t.front.1
                 ∙ ap (λ (ls : List (List ℕ)). ls ++ behind.0) (sym (append_assoc (lines_asked go.steps) (lines_asked steps) t.front.0))
@@ -253,13 +254,13 @@ module _ {S : Type 0} (start : S) (grants : S → List ℕ → S → Type 0) (an
       }
 
       -- the replies were not written whole
-      pub turn_unsent : (after : Option (List ℕ)) (n : ℕ) → IsKept start grants seen may_leave old → IsCommitted seen may_leave now new steps last n
+      pub turn_unsent : KnowsEnd mid left → (after : Option (List ℕ)) (n : ℕ) → IsKept start grants seen may_leave old → IsCommitted seen may_leave now new steps last n
           → (text : List ℕ) × Appends told after text × IsFront text (replies_of steps)
           → Session start grants answers seen may_leave moment left_since (ends.WriteFault (count + n)) old new unread left sent after
-      turn_unsent after n k c part =
+      turn_unsent known after n k c part =
           ends_kept old unread left sent after (ends.WriteFault (count + n)) new last (go.read ++ got) (replies_of go.steps ++ part.0) all_steps k turn_read
           (turn_written after part.0 part.1) turn_run (
-            turn_front,
+            turn_front known,
             (
               part.2.0,
               replies-append go.steps steps ∙ ap (λ (x : List ℕ). replies_of go.steps ++ x) part.2.1
@@ -289,12 +290,12 @@ module _ {S : Type 0} (start : S) (grants : S → List ℕ → S → Type 0) (an
             (t.moments.each file (counts_now new.log.device (moment now.log.device) file t.moments.later l)))
 
         -- the turn was perhaps kept, and no reply was written
-        pub turn_lost_memory : Session start grants answers seen may_leave moment left_since (ends.NoMemory (count + n)) old new unread left sent final
-        turn_lost_memory =
+        pub turn_lost_memory : KnowsEnd mid left → Session start grants answers seen may_leave moment left_since (ends.NoMemory (count + n)) old new unread left sent final
+        turn_lost_memory known =
             finish old unread left sent final (ends.NoMemory (count + n)) new last (go.read ++ got) (replies_of go.steps) all_steps k turn_read lost_written
-            turn_run (turn_front, lost_text, omega (arith, lost_count, length-append go.steps steps)) turn_moments lost_least tt
+            turn_run (turn_front known, lost_text, omega (arith, lost_count, length-append go.steps steps)) turn_moments lost_least tt
 
-        pub turn_lost_disk : Session start grants answers seen may_leave moment left_since (ends.DiskFault (count + n)) old new unread left sent final
-        turn_lost_disk =
+        pub turn_lost_disk : KnowsEnd mid left → Session start grants answers seen may_leave moment left_since (ends.DiskFault (count + n)) old new unread left sent final
+        turn_lost_disk known =
             finish old unread left sent final (ends.DiskFault (count + n)) new last (go.read ++ got) (replies_of go.steps) all_steps k turn_read lost_written
-            turn_run (turn_front, lost_text, omega (arith, lost_count, length-append go.steps steps)) turn_moments lost_least tt
+            turn_run (turn_front known, lost_text, omega (arith, lost_count, length-append go.steps steps)) turn_moments lost_least tt

@@ -4,7 +4,7 @@ use Rattle.std.specs.Io.KnownBytes.{Appends, Consumes, IsAtEnd}
 use Rattle.wb_disk.specs.Device.{LeavesOnly}
 use Rattle.wb_keep.specs.Lines.{recovered}
 use Rattle.wb_lines.specs.Causes.{RisesBy}
-use Rattle.wb_lines.specs.Lines.{lines, whole_lines}
+use Rattle.wb_lines.specs.Lines.{lines, whole_lines, finished_lines}
 use Rattle.wb_lines.specs.Reading.{read_limit}
 use Rattle.wb_kept.specs.Runs.{Step, Run, lines_asked, replies_of, changes_of}
 use Rattle.wb_kept.specs.Keeping.{IsKept, StandsFor}
@@ -25,16 +25,16 @@ count_of (ends.WriteFault count) = count
 count_of (ends.NoMemory count) = count
 count_of (ends.DiskFault count) = count
 
--- from the bytes that were read, by these steps, to the text that was written
-abbrev pub Serves : KeptEnd → List ℕ → List Step → List ℕ → Type 0
-Serves (ends.Done count) read steps text = (lines read ≡ lines_asked steps) × (text ≡ replies_of steps) × (count ≡ length steps)
-Serves (ends.ReadFault count) read steps text = (whole_lines read ≡ lines_asked steps) × (text ≡ replies_of steps) × (count ≡ length steps)
-Serves (ends.TooManyReads count) read steps text = (whole_lines read ≡ lines_asked steps) × (text ≡ replies_of steps) × (count ≡ length steps)
+-- from the bytes that were read, with these left, by these steps, to the text that was written
+abbrev pub Serves : KeptEnd → (read : List ℕ) → (left : Option (List ℕ)) → List Step → List ℕ → Type 0
+Serves (ends.Done count) read left steps text = (lines read ≡ lines_asked steps) × (text ≡ replies_of steps) × (count ≡ length steps)
+Serves (ends.ReadFault count) read left steps text = (whole_lines read ≡ lines_asked steps) × (text ≡ replies_of steps) × (count ≡ length steps)
+Serves (ends.TooManyReads count) read left steps text = (whole_lines read ≡ lines_asked steps) × (text ≡ replies_of steps) × (count ≡ length steps)
 -- the changes of all were kept, and of the replies a front was written
-Serves (ends.WriteFault count) read steps text = IsFront (lines_asked steps) (lines read) × IsFront text (replies_of steps) × (count ≡ length steps)
+Serves (ends.WriteFault count) read left steps text = IsFront (lines_asked steps) (finished_lines read left) × IsFront text (replies_of steps) × (count ≡ length steps)
 -- behind the first `count` steps are those of a turn that was perhaps kept, and of whose replies nothing was written
-Serves (ends.NoMemory count) read steps text = IsFront (lines_asked steps) (lines read) × (text ≡ replies_of (take count steps)) × (count ≤ length steps)
-Serves (ends.DiskFault count) read steps text = IsFront (lines_asked steps) (lines read) × (text ≡ replies_of (take count steps)) × (count ≤ length steps)
+Serves (ends.NoMemory count) read left steps text = IsFront (lines_asked steps) (finished_lines read left) × (text ≡ replies_of (take count steps)) × (count ≤ length steps)
+Serves (ends.DiskFault count) read left steps text = IsFront (lines_asked steps) (finished_lines read left) × (text ≡ replies_of (take count steps)) × (count ≤ length steps)
 
 -- after these ends, what is kept may serve on
 abbrev pub IfWell : KeptEnd → Type 0 → Type 0
@@ -57,7 +57,7 @@ pub record Session {S D : Type 0} (start : S) (grants : S → List ℕ → S →
   pub steps : List Step
   pub last : S
   pub run : Run answers old.state steps last
-  pub serves : Serves end read steps text
+  pub serves : Serves end read left steps text
   -- a crash at any moment of the session leaves the state after some of the steps
   pub any_moment : LeavesOnly moment left_since old.log.device new.log.device
       (StandsFor start grants answers (recovered (seen old.log.device)) old.state steps 0)

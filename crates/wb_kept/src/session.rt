@@ -18,7 +18,9 @@ use crate::machine::Machine;
 use std::alloc::{AllocError, Global};
 use wb_disk::Device;
 use wb_keep::{AppendErr, LineLog};
-use wb_lines::{Line, LineBuffer, LineFault, Sink, Source, WriteFault, next_line, send};
+use wb_lines::{
+    Hears, Line, LineBuffer, LineFault, NothingHeld, Sends, WriteFault, next_line, send,
+};
 
 // Behind the first line of a turn come at most so many.
 const AHEAD_LIMIT: u64 = 255;
@@ -83,7 +85,7 @@ fn answer_ahead<
 
 /// Gives replies out. It is the only write of a session, and then the changes that they tell of are on the disk, the last
 /// in the log.
-fn give_out<D: Device, W: Sink>(
+fn give_out<D: Device, W: Sends<NothingHeld>>(
     log: &LineLog<D>,
     acknowledged: &Acknowledged,
     writer: &mut W,
@@ -96,7 +98,7 @@ fn give_out<D: Device, W: Sink>(
     ensures failed { OnErr result (W.failed writer.new ≡ true) }
 {
     let _log = log;
-    send(writer, acknowledged.replies())
+    send(writer, &NothingHeld, acknowledged.replies())
 }
 
 /// Answers the line that was read last and those that lie ahead, keeps the changes, and then gives the replies out.
@@ -105,7 +107,7 @@ fn serve_turn<
     S,
     D: Device,
     F: Fn(&mut S, &[u8], &mut Changes) -> Result<Vec<u8>, AllocError>,
-    W: Sink,
+    W: Sends<NothingHeld>,
 >(
     alloc: Global,
     answer: &F,
@@ -152,7 +154,10 @@ fn serve_turn<
 }
 
 // Sends on what a writer holds back, where the next line takes a read.
-fn flush_before_wait<W: Sink>(writer: &mut W, buffer: &LineBuffer) -> Result<(), WriteFault>
+fn flush_before_wait<W: Sends<NothingHeld>>(
+    writer: &mut W,
+    buffer: &LineBuffer,
+) -> Result<(), WriteFault>
     ensures bytes { Keeps (W.contents writer.old) (W.contents writer.new) }
     ensures flushed { OnOk result ((W.flushed writer.new ≡ true) ⊎ BeginsWithLine buffer.now.ahead) }
     ensures failed { OnErr result (W.failed writer.new ≡ true) }
@@ -160,17 +165,17 @@ fn flush_before_wait<W: Sink>(writer: &mut W, buffer: &LineBuffer) -> Result<(),
     if buffer.has_line() {
         return Ok(());
     }
-    match writer.flush() {
+    match writer.flush(&NothingHeld) {
         Ok(()) => Ok(()),
         Err(_) => Err(WriteFault),
     }
 }
 
 // Sends on what a writer holds back, if it can, where a session ends for another fault.
-fn flush_at_fault<W: Sink>(writer: &mut W)
+fn flush_at_fault<W: Sends<NothingHeld>>(writer: &mut W)
     ensures { Keeps (W.contents writer.old) (W.contents writer.new) }
 {
-    let _ = writer.flush();
+    let _ = writer.flush(&NothingHeld);
 }
 
 /// Answers each line that is read, in order, by `answer`, until the end of input or a fault. Lines that lie ahead are answered in one
@@ -181,8 +186,8 @@ pub fn serve_kept<
     S,
     D: Device,
     F: Fn(&mut S, &[u8], &mut Changes) -> Result<Vec<u8>, AllocError>,
-    R: Source,
-    W: Sink,
+    R: Hears<NothingHeld, W>,
+    W: Sends<NothingHeld>,
 >(alloc: Global, answer: &F, kept: &mut Kept<S, D>, reader: &mut R, writer: &mut W) -> KeptEnd
     requires callable { F.IsAlwaysCallable answer.now }
     requires answers { AnswersBy F.Fn answer.now M.answers }
@@ -199,7 +204,7 @@ pub fn serve_kept<
         if flush_before_wait(writer, &buffer).is_err() {
             return KeptEnd::WriteFault(answered);
         }
-        match next_line(reader, &mut buffer) {
+        match next_line(reader, writer, &NothingHeld, &mut buffer) {
             Ok(Line::End) => return KeptEnd::Done(answered),
             Ok(line) => {
                 match serve_turn::<M, S, D, F, W>(alloc, answer, kept, &mut buffer, line, writer) {

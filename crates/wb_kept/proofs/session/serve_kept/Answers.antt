@@ -16,11 +16,11 @@ use Rattle.wb_kept.proofs.session.serve_kept.Goals as goal
 pub turns-init : goal.turns-init
 turns-init g c = (
   begins g.M.Machine.start g.M.Machine.grants g.M.Machine.answers g.M.Machine.leads g.D.Device.seen g.D.Device.may_leave g.D.Device.moment
-      g.D.Device.left_since g.met.D.Device.only_now c.args.kept.now (g.R.Source.remaining c.args.reader.now) (g.W.Sink.contents c.args.writer.now)
+      g.D.Device.left_since g.met.D.Device.only_now c.args.kept.now (g.R.Hears.remaining c.args.reader.now) (g.W.Sends.contents c.args.writer.now)
       c.new-buffer.result c.new-buffer.ensures c.requires.kept,
-  subst (λ (b : Reading). KnowsEnd b (g.R.Source.remaining c.args.reader.now)) (sym c.new-buffer.ensures) (λ x. absurd (true≢false (sym x))),
-  subst (λ (b : Reading). CountsReads unread_buffer b (g.R.Source.reads c.args.reader.now) (g.R.Source.reads c.args.reader.now)) (sym c.new-buffer.ensures)
-      (counts_none unread_buffer unread_buffer (g.R.Source.reads c.args.reader.now) refl),
+  subst (λ (b : Reading). KnowsEnd b (g.R.Hears.remaining c.args.reader.now)) (sym c.new-buffer.ensures) (λ x. absurd (true≢false (sym x))),
+  subst (λ (b : Reading). CountsReads unread_buffer b (g.R.Hears.reads c.args.reader.now) (g.R.Hears.reads c.args.reader.now)) (sym c.new-buffer.ensures)
+      (counts_none unread_buffer unread_buffer (g.R.Hears.reads c.args.reader.now) refl),
   omega arith,
 )
 
@@ -35,13 +35,13 @@ returns-then-is_err-clause-session g c =
     let moment = g.D.Device.moment in
     let left_since = g.D.Device.left_since in
     let old = c.args.kept.now in
-    let unread = g.R.Source.remaining c.args.reader.now in
-    let sent = g.W.Sink.contents c.args.writer.now in
-    let told = g.W.Sink.contents c.flush_before_wait.new.writer in
+    let unread = g.R.Hears.remaining c.args.reader.now in
+    let sent = g.W.Sends.contents c.args.writer.now in
+    let told = g.W.Sends.contents c.flush_before_wait.new.writer in
     let go = c.turns.invariant.0 in
-    ends_quiet start grants answers leads seen may_leave moment left_since old unread (g.R.Source.remaining c.turns.reader) sent (g.W.Sink.contents c.flush_before_wait.new.writer)
-    (ends.WriteFault c.turns.answered) c.turns.kept c.turns.answered c.turns.buffer (g.R.Source.remaining c.turns.reader) (g.W.Sink.contents c.turns.writer)
-    (go.read) go c.requires.kept refl (go.consumed) (c.flush_before_wait.ensures.bytes) (standing_some go.read (lines_asked go.steps) c.turns.buffer go.standing, ([], sym (append-nil (replies_of go.steps))), go.counted)
+    ends_quiet start grants answers leads seen may_leave moment left_since old unread (g.R.Hears.remaining c.turns.reader) sent (g.W.Sends.contents c.flush_before_wait.new.writer)
+    (ends.WriteFault c.turns.answered) c.turns.kept c.turns.answered c.turns.buffer (g.R.Hears.remaining c.turns.reader) (g.W.Sends.contents c.turns.writer)
+    (go.read) go c.requires.kept refl (go.consumed) (c.flush_before_wait.ensures.bytes) (standing_some go.read (lines_asked go.steps) c.turns.buffer (g.R.Hears.remaining c.turns.reader) go.standing c.turns.invariant.1, ([], sym (append-nil (replies_of go.steps))), go.counted)
 
 pub returns-in-Ok-End-clause-session : goal.returns-in-Ok-End-clause-session
 returns-in-Ok-End-clause-session g c =
@@ -54,14 +54,14 @@ returns-in-Ok-End-clause-session g c =
     let moment = g.D.Device.moment in
     let left_since = g.D.Device.left_since in
     let old = c.args.kept.now in
-    let unread = g.R.Source.remaining c.args.reader.now in
-    let sent = g.W.Sink.contents c.args.writer.now in
-    let told = g.W.Sink.contents c.flush_before_wait.new.writer in
+    let unread = g.R.Hears.remaining c.args.reader.now in
+    let sent = g.W.Sends.contents c.args.writer.now in
+    let told = g.W.Sends.contents c.flush_before_wait.new.writer in
     let go = c.turns.invariant.0 in
     let taken = rw c.in-Ok-End.field-0-is at c.in-Ok-End.ensures.ok in
-    ends_quiet start grants answers leads seen may_leave moment left_since old unread (g.R.Source.remaining c.next_line.new.reader) sent (g.W.Sink.contents c.flush_before_wait.new.writer)
-    (ends.Done c.turns.answered) c.turns.kept c.turns.answered c.turns.buffer (g.R.Source.remaining c.turns.reader) (g.W.Sink.contents c.turns.writer)
-    (go.read ++ taken.0) go c.requires.kept refl (Consumes-trans unread (g.R.Source.remaining c.turns.reader) (g.R.Source.remaining c.next_line.new.reader) go.read taken.0 go.consumed taken.1) (c.flush_before_wait.ensures.bytes) (standing_end go.read taken.0 (lines_asked go.steps) c.turns.buffer c.next_line.new.buffer go.standing taken.2.0 taken.2.2, refl, go.counted)
+    ends_quiet start grants answers leads seen may_leave moment left_since old unread (g.R.Hears.remaining c.next_line.new.reader) sent (g.W.Sends.contents c.flush_before_wait.new.writer)
+    (ends.Done c.turns.answered) c.turns.kept c.turns.answered c.turns.buffer (g.R.Hears.remaining c.turns.reader) (g.W.Sends.contents c.turns.writer)
+    (go.read ++ taken.0) go c.requires.kept refl (Consumes-trans unread (g.R.Hears.remaining c.turns.reader) (g.R.Hears.remaining c.next_line.new.reader) go.read taken.0 go.consumed taken.1) (c.flush_before_wait.ensures.bytes) (standing_end go.read taken.0 (lines_asked go.steps) c.turns.buffer c.next_line.new.buffer go.standing taken.2.0 taken.2.2, refl, go.counted)
 
 pub returns-in-Err-ReadFault-clause-session : goal.returns-in-Err-ReadFault-clause-session
 returns-in-Err-ReadFault-clause-session g c =
@@ -74,14 +74,14 @@ returns-in-Err-ReadFault-clause-session g c =
     let moment = g.D.Device.moment in
     let left_since = g.D.Device.left_since in
     let old = c.args.kept.now in
-    let unread = g.R.Source.remaining c.args.reader.now in
-    let sent = g.W.Sink.contents c.args.writer.now in
-    let told = g.W.Sink.contents c.flush_before_wait.new.writer in
+    let unread = g.R.Hears.remaining c.args.reader.now in
+    let sent = g.W.Sends.contents c.args.writer.now in
+    let told = g.W.Sends.contents c.flush_before_wait.new.writer in
     let go = c.turns.invariant.0 in
     let broken = (rw c.in-Err-ReadFault.field-0-is at (c.in-Err-ReadFault.ensures.err go.fault)).1 in
-    ends_quiet start grants answers leads seen may_leave moment left_since old unread (g.R.Source.remaining c.next_line.new.reader) sent (g.W.Sink.contents c.flush_before_wait.new.writer)
-    (ends.ReadFault c.turns.answered) c.turns.kept c.turns.answered c.turns.buffer (g.R.Source.remaining c.turns.reader) (g.W.Sink.contents c.turns.writer)
-    (go.read ++ broken.0) go c.requires.kept refl (Consumes-trans unread (g.R.Source.remaining c.turns.reader) (g.R.Source.remaining c.next_line.new.reader) go.read broken.0 go.consumed broken.1) (c.flush_before_wait.ensures.bytes) (
+    ends_quiet start grants answers leads seen may_leave moment left_since old unread (g.R.Hears.remaining c.next_line.new.reader) sent (g.W.Sends.contents c.flush_before_wait.new.writer)
+    (ends.ReadFault c.turns.answered) c.turns.kept c.turns.answered c.turns.buffer (g.R.Hears.remaining c.turns.reader) (g.W.Sends.contents c.turns.writer)
+    (go.read ++ broken.0) go c.requires.kept refl (Consumes-trans unread (g.R.Hears.remaining c.turns.reader) (g.R.Hears.remaining c.next_line.new.reader) go.read broken.0 go.consumed broken.1) (c.flush_before_wait.ensures.bytes) (
       standing_fault go.read broken.0 broken.2.1.0 (lines_asked go.steps) c.turns.buffer c.next_line.new.buffer go.standing broken.2.0.0
           broken.2.1.1 broken.2.1.2 broken.2.0.1,
       refl,
@@ -99,14 +99,14 @@ returns-in-Err-TooManyReads-clause-session g c =
     let moment = g.D.Device.moment in
     let left_since = g.D.Device.left_since in
     let old = c.args.kept.now in
-    let unread = g.R.Source.remaining c.args.reader.now in
-    let sent = g.W.Sink.contents c.args.writer.now in
-    let told = g.W.Sink.contents c.flush_before_wait.new.writer in
+    let unread = g.R.Hears.remaining c.args.reader.now in
+    let sent = g.W.Sends.contents c.args.writer.now in
+    let told = g.W.Sends.contents c.flush_before_wait.new.writer in
     let go = c.turns.invariant.0 in
     let broken = (rw c.in-Err-TooManyReads.field-0-is at (c.in-Err-TooManyReads.ensures.err go.fault)).1 in
-    ends_quiet start grants answers leads seen may_leave moment left_since old unread (g.R.Source.remaining c.next_line.new.reader) sent (g.W.Sink.contents c.flush_before_wait.new.writer)
-    (ends.TooManyReads c.turns.answered) c.turns.kept c.turns.answered c.turns.buffer (g.R.Source.remaining c.turns.reader) (g.W.Sink.contents c.turns.writer)
-    (go.read ++ broken.0) go c.requires.kept refl (Consumes-trans unread (g.R.Source.remaining c.turns.reader) (g.R.Source.remaining c.next_line.new.reader) go.read broken.0 go.consumed broken.1) (c.flush_before_wait.ensures.bytes) (
+    ends_quiet start grants answers leads seen may_leave moment left_since old unread (g.R.Hears.remaining c.next_line.new.reader) sent (g.W.Sends.contents c.flush_before_wait.new.writer)
+    (ends.TooManyReads c.turns.answered) c.turns.kept c.turns.answered c.turns.buffer (g.R.Hears.remaining c.turns.reader) (g.W.Sends.contents c.turns.writer)
+    (go.read ++ broken.0) go c.requires.kept refl (Consumes-trans unread (g.R.Hears.remaining c.turns.reader) (g.R.Hears.remaining c.next_line.new.reader) go.read broken.0 go.consumed broken.1) (c.flush_before_wait.ensures.bytes) (
       standing_fault go.read broken.0 broken.2.1.0 (lines_asked go.steps) c.turns.buffer c.next_line.new.buffer go.standing broken.2.0.0
           broken.2.1.1 broken.2.1.2 broken.2.0.1,
       refl,
@@ -124,15 +124,16 @@ returns-in-Err-NoMemory-clause-session g c =
     let moment = g.D.Device.moment in
     let left_since = g.D.Device.left_since in
     let old = c.args.kept.now in
-    let unread = g.R.Source.remaining c.args.reader.now in
-    let sent = g.W.Sink.contents c.args.writer.now in
-    let told = g.W.Sink.contents c.flush_before_wait.new.writer in
+    let unread = g.R.Hears.remaining c.args.reader.now in
+    let sent = g.W.Sends.contents c.args.writer.now in
+    let told = g.W.Sends.contents c.flush_before_wait.new.writer in
     let go = c.turns.invariant.0 in
     let broken = (rw c.in-Err-NoMemory.field-0-is at (c.in-Err-NoMemory.ensures.err go.fault)).1 in
-    ends_quiet start grants answers leads seen may_leave moment left_since old unread (g.R.Source.remaining c.next_line.new.reader) sent (g.W.Sink.contents c.flush_at_fault-in-Err-NoMemory.new.writer)
-    (ends.NoMemory c.turns.answered) c.turns.kept c.turns.answered c.turns.buffer (g.R.Source.remaining c.turns.reader) (g.W.Sink.contents c.turns.writer)
-    (go.read ++ broken.0) go c.requires.kept refl (Consumes-trans unread (g.R.Source.remaining c.turns.reader) (g.R.Source.remaining c.next_line.new.reader) go.read broken.0 go.consumed broken.1) (Keeps-trans _ _ _ c.flush_before_wait.ensures.bytes c.flush_at_fault-in-Err-NoMemory.ensures) (
-      standing_broken go.read broken.0 broken.2.1.0 (lines_asked go.steps) c.turns.buffer c.next_line.new.buffer go.standing broken.2.1.2,
+    ends_quiet start grants answers leads seen may_leave moment left_since old unread (g.R.Hears.remaining c.next_line.new.reader) sent (g.W.Sends.contents c.flush_at_fault-in-Err-NoMemory.new.writer)
+    (ends.NoMemory c.turns.answered) c.turns.kept c.turns.answered c.turns.buffer (g.R.Hears.remaining c.turns.reader) (g.W.Sends.contents c.turns.writer)
+    (go.read ++ broken.0) go c.requires.kept refl (Consumes-trans unread (g.R.Hears.remaining c.turns.reader) (g.R.Hears.remaining c.next_line.new.reader) go.read broken.0 go.consumed broken.1) (Keeps-trans _ _ _ c.flush_before_wait.ensures.bytes c.flush_at_fault-in-Err-NoMemory.ensures) (
+      standing_broken go.read broken.0 broken.2.1.0 (lines_asked go.steps) c.turns.buffer c.next_line.new.buffer (g.R.Hears.remaining c.next_line.new.reader) go.standing
+          broken.2.1.2 (c.next_line.ensures.end c.turns.invariant.1),
       ap replies_of (sym (take_all c.turns.answered go.steps (omega (arith, go.counted)))),
       omega (arith, go.counted),
     )
@@ -155,9 +156,9 @@ overflow_add-answered g c =
     let moment = g.D.Device.moment in
     let left_since = g.D.Device.left_since in
     let old = c.args.kept.now in
-    let unread = g.R.Source.remaining c.args.reader.now in
-    let sent = g.W.Sink.contents c.args.writer.now in
-    let told = g.W.Sink.contents c.flush_before_wait.new.writer in
+    let unread = g.R.Hears.remaining c.args.reader.now in
+    let sent = g.W.Sends.contents c.args.writer.now in
+    let told = g.W.Sends.contents c.flush_before_wait.new.writer in
     let go = c.turns.invariant.0 in
     let taken = c.in-Ok.ensures.ok in
     let is_line : c.in-Ok.line ≡ End → ⊥ = search rules in
@@ -165,7 +166,7 @@ overflow_add-answered g c =
     let line = text.1 in
     let is = text.2 in
     let turn = c.in-Ok-serve_turn.ensures.ok text.0 is in
-    let fits = turn_few start grants answers leads seen may_leave moment left_since old c.turns.kept c.serve_turn.new.kept unread (g.R.Source.remaining c.turns.reader) (g.R.Source.remaining c.next_line.new.reader) sent (g.W.Sink.contents c.turns.writer) told c.turns.answered c.turns.buffer c.next_line.new.buffer c.serve_turn.new.buffer taken.0 text.0 turn.0 c.serve_turn.new.kept.state c.flush_before_wait.ensures.bytes go taken.1 line turn.1 c.in-Ok-serve_turn.count (omega (arith, turn.2.counted)) in
+    let fits = turn_few start grants answers leads seen may_leave moment left_since old c.turns.kept c.serve_turn.new.kept unread (g.R.Hears.remaining c.turns.reader) (g.R.Hears.remaining c.next_line.new.reader) sent (g.W.Sends.contents c.turns.writer) told c.turns.answered c.turns.buffer c.next_line.new.buffer c.serve_turn.new.buffer taken.0 text.0 turn.0 c.serve_turn.new.kept.state c.flush_before_wait.ensures.bytes go taken.1 line turn.1 c.in-Ok-serve_turn.count (omega (arith, turn.2.counted)) in
     omega (arith, fits)
 
 pub turns-smaller : goal.turns-smaller
@@ -179,9 +180,9 @@ turns-smaller g c =
     let moment = g.D.Device.moment in
     let left_since = g.D.Device.left_since in
     let old = c.args.kept.now in
-    let unread = g.R.Source.remaining c.args.reader.now in
-    let sent = g.W.Sink.contents c.args.writer.now in
-    let told = g.W.Sink.contents c.flush_before_wait.new.writer in
+    let unread = g.R.Hears.remaining c.args.reader.now in
+    let sent = g.W.Sends.contents c.args.writer.now in
+    let told = g.W.Sends.contents c.flush_before_wait.new.writer in
     let go = c.turns.invariant.0 in
     let taken = c.in-Ok.ensures.ok in
     let is_line : c.in-Ok.line ≡ End → ⊥ = search rules in
@@ -189,7 +190,7 @@ turns-smaller g c =
     let line = text.1 in
     let is = text.2 in
     let turn = c.in-Ok-serve_turn.ensures.ok text.0 is in
-    turn_less start grants answers leads seen may_leave moment left_since old c.turns.kept c.serve_turn.new.kept unread (g.R.Source.remaining c.turns.reader) (g.R.Source.remaining c.next_line.new.reader) sent (g.W.Sink.contents c.turns.writer) told c.turns.answered c.turns.buffer c.next_line.new.buffer c.serve_turn.new.buffer taken.0 text.0 turn.0 c.serve_turn.new.kept.state c.flush_before_wait.ensures.bytes go taken.1 line turn.1
+    turn_less start grants answers leads seen may_leave moment left_since old c.turns.kept c.serve_turn.new.kept unread (g.R.Hears.remaining c.turns.reader) (g.R.Hears.remaining c.next_line.new.reader) sent (g.W.Sends.contents c.turns.writer) told c.turns.answered c.turns.buffer c.next_line.new.buffer c.serve_turn.new.buffer taken.0 text.0 turn.0 c.serve_turn.new.kept.state c.flush_before_wait.ensures.bytes go taken.1 line turn.1
 
 pub turns-preserved : goal.turns-preserved
 turns-preserved g c =
@@ -202,9 +203,9 @@ turns-preserved g c =
     let moment = g.D.Device.moment in
     let left_since = g.D.Device.left_since in
     let old = c.args.kept.now in
-    let unread = g.R.Source.remaining c.args.reader.now in
-    let sent = g.W.Sink.contents c.args.writer.now in
-    let told = g.W.Sink.contents c.flush_before_wait.new.writer in
+    let unread = g.R.Hears.remaining c.args.reader.now in
+    let sent = g.W.Sends.contents c.args.writer.now in
+    let told = g.W.Sends.contents c.flush_before_wait.new.writer in
     let go = c.turns.invariant.0 in
     let taken = c.in-Ok.ensures.ok in
     let is_line : c.in-Ok.line ≡ End → ⊥ = search rules in
@@ -212,7 +213,7 @@ turns-preserved g c =
     let line = text.1 in
     let is = text.2 in
     let turn = c.in-Ok-serve_turn.ensures.ok text.0 is in (
-      turn_goes start grants answers leads seen may_leave moment left_since old c.turns.kept c.serve_turn.new.kept unread (g.R.Source.remaining c.turns.reader) (g.R.Source.remaining c.next_line.new.reader) sent (g.W.Sink.contents c.turns.writer) told c.turns.answered c.turns.buffer c.next_line.new.buffer c.serve_turn.new.buffer taken.0 text.0 turn.0 c.serve_turn.new.kept.state c.flush_before_wait.ensures.bytes go taken.1 line turn.1 (g.W.Sink.contents c.serve_turn.new.writer) c.in-Ok-serve_turn.count
+      turn_goes start grants answers leads seen may_leave moment left_since old c.turns.kept c.serve_turn.new.kept unread (g.R.Hears.remaining c.turns.reader) (g.R.Hears.remaining c.next_line.new.reader) sent (g.W.Sends.contents c.turns.writer) told c.turns.answered c.turns.buffer c.next_line.new.buffer c.serve_turn.new.buffer taken.0 text.0 turn.0 c.serve_turn.new.kept.state c.flush_before_wait.ensures.bytes go taken.1 line turn.1 (g.W.Sends.contents c.serve_turn.new.writer) c.in-Ok-serve_turn.count
           c.in-Ok.ensures.fresh.1 turn.2 turn.3 turn.4,
       λ e. c.next_line.ensures.end c.turns.invariant.1 (sym turn.4.1.same.at_end ∙ e),
       counts_more unread_buffer _ _ _ _ _ (counts_more unread_buffer _ _ _ _ _ c.turns.invariant.2 c.next_line.ensures.counted)
@@ -231,9 +232,9 @@ overflow_add-result g c =
     let moment = g.D.Device.moment in
     let left_since = g.D.Device.left_since in
     let old = c.args.kept.now in
-    let unread = g.R.Source.remaining c.args.reader.now in
-    let sent = g.W.Sink.contents c.args.writer.now in
-    let told = g.W.Sink.contents c.flush_before_wait.new.writer in
+    let unread = g.R.Hears.remaining c.args.reader.now in
+    let sent = g.W.Sends.contents c.args.writer.now in
+    let told = g.W.Sends.contents c.flush_before_wait.new.writer in
     let go = c.turns.invariant.0 in
     let taken = c.in-Ok.ensures.ok in
     let is_line : c.in-Ok.line ≡ End → ⊥ = search rules in
@@ -241,7 +242,7 @@ overflow_add-result g c =
     let line = text.1 in
     let is = text.2 in
     let turn = rw c.in-Err-default-WriteFault.field-0-1-is at (c.in-Err-default-WriteFault.ensures.err text.0 is) in
-    let fits = turn_few start grants answers leads seen may_leave moment left_since old c.turns.kept c.serve_turn.new.kept unread (g.R.Source.remaining c.turns.reader) (g.R.Source.remaining c.next_line.new.reader) sent (g.W.Sink.contents c.turns.writer) told c.turns.answered c.turns.buffer c.next_line.new.buffer c.serve_turn.new.buffer taken.0 text.0 turn.0 turn.1 c.flush_before_wait.ensures.bytes go taken.1 line turn.2 c.in-Err-default-WriteFault.count (omega (arith, turn.3.0.counted)) in
+    let fits = turn_few start grants answers leads seen may_leave moment left_since old c.turns.kept c.serve_turn.new.kept unread (g.R.Hears.remaining c.turns.reader) (g.R.Hears.remaining c.next_line.new.reader) sent (g.W.Sends.contents c.turns.writer) told c.turns.answered c.turns.buffer c.next_line.new.buffer c.serve_turn.new.buffer taken.0 text.0 turn.0 turn.1 c.flush_before_wait.ensures.bytes go taken.1 line turn.2 c.in-Err-default-WriteFault.count (omega (arith, turn.3.0.counted)) in
     omega (arith, fits)
 
 pub returns-in-Err-default-WriteFault-clause-session : goal.returns-in-Err-default-WriteFault-clause-session
@@ -255,9 +256,9 @@ returns-in-Err-default-WriteFault-clause-session g c =
     let moment = g.D.Device.moment in
     let left_since = g.D.Device.left_since in
     let old = c.args.kept.now in
-    let unread = g.R.Source.remaining c.args.reader.now in
-    let sent = g.W.Sink.contents c.args.writer.now in
-    let told = g.W.Sink.contents c.flush_before_wait.new.writer in
+    let unread = g.R.Hears.remaining c.args.reader.now in
+    let sent = g.W.Sends.contents c.args.writer.now in
+    let told = g.W.Sends.contents c.flush_before_wait.new.writer in
     let go = c.turns.invariant.0 in
     let taken = c.in-Ok.ensures.ok in
     let is_line : c.in-Ok.line ≡ End → ⊥ = search rules in
@@ -265,7 +266,7 @@ returns-in-Err-default-WriteFault-clause-session g c =
     let line = text.1 in
     let is = text.2 in
     let turn = rw c.in-Err-default-WriteFault.field-0-1-is at (c.in-Err-default-WriteFault.ensures.err text.0 is) in
-    turn_unsent start grants answers leads seen may_leave moment left_since old c.turns.kept c.serve_turn.new.kept unread (g.R.Source.remaining c.turns.reader) (g.R.Source.remaining c.next_line.new.reader) sent (g.W.Sink.contents c.turns.writer) told c.turns.answered c.turns.buffer c.next_line.new.buffer c.serve_turn.new.buffer taken.0 text.0 turn.0 turn.1 c.flush_before_wait.ensures.bytes go taken.1 line turn.2 (g.W.Sink.contents c.serve_turn.new.writer) c.in-Err-default-WriteFault.count c.requires.kept turn.3.0 turn.3.1
+    turn_unsent start grants answers leads seen may_leave moment left_since old c.turns.kept c.serve_turn.new.kept unread (g.R.Hears.remaining c.turns.reader) (g.R.Hears.remaining c.next_line.new.reader) sent (g.W.Sends.contents c.turns.writer) told c.turns.answered c.turns.buffer c.next_line.new.buffer c.serve_turn.new.buffer taken.0 text.0 turn.0 turn.1 c.flush_before_wait.ensures.bytes go taken.1 line turn.2 (c.next_line.ensures.end c.turns.invariant.1) (g.W.Sends.contents c.serve_turn.new.writer) c.in-Err-default-WriteFault.count c.requires.kept turn.3.0 turn.3.1
 
 pub overflow_add-result-in-Err-default-DiskFault : goal.overflow_add-result-in-Err-default-DiskFault
 overflow_add-result-in-Err-default-DiskFault g c =
@@ -278,9 +279,9 @@ overflow_add-result-in-Err-default-DiskFault g c =
     let moment = g.D.Device.moment in
     let left_since = g.D.Device.left_since in
     let old = c.args.kept.now in
-    let unread = g.R.Source.remaining c.args.reader.now in
-    let sent = g.W.Sink.contents c.args.writer.now in
-    let told = g.W.Sink.contents c.flush_before_wait.new.writer in
+    let unread = g.R.Hears.remaining c.args.reader.now in
+    let sent = g.W.Sends.contents c.args.writer.now in
+    let told = g.W.Sends.contents c.flush_before_wait.new.writer in
     let go = c.turns.invariant.0 in
     let taken = c.in-Ok.ensures.ok in
     let is_line : c.in-Ok.line ≡ End → ⊥ = search rules in
@@ -288,7 +289,7 @@ overflow_add-result-in-Err-default-DiskFault g c =
     let line = text.1 in
     let is = text.2 in
     let turn = rw c.in-Err-default-DiskFault.field-0-1-is at (c.in-Err-default-DiskFault.ensures.err text.0 is) in
-    let fits = turn_few start grants answers leads seen may_leave moment left_since old c.turns.kept c.serve_turn.new.kept unread (g.R.Source.remaining c.turns.reader) (g.R.Source.remaining c.next_line.new.reader) sent (g.W.Sink.contents c.turns.writer) told c.turns.answered c.turns.buffer c.next_line.new.buffer c.serve_turn.new.buffer taken.0 text.0 turn.0 turn.1 c.flush_before_wait.ensures.bytes go taken.1 line turn.2 c.in-Err-default-DiskFault.count (omega (arith, turn.3.0)) in
+    let fits = turn_few start grants answers leads seen may_leave moment left_since old c.turns.kept c.serve_turn.new.kept unread (g.R.Hears.remaining c.turns.reader) (g.R.Hears.remaining c.next_line.new.reader) sent (g.W.Sends.contents c.turns.writer) told c.turns.answered c.turns.buffer c.next_line.new.buffer c.serve_turn.new.buffer taken.0 text.0 turn.0 turn.1 c.flush_before_wait.ensures.bytes go taken.1 line turn.2 c.in-Err-default-DiskFault.count (omega (arith, turn.3.0)) in
     omega (arith, fits)
 
 pub returns-in-Err-default-DiskFault-clause-session : goal.returns-in-Err-default-DiskFault-clause-session
@@ -302,9 +303,9 @@ returns-in-Err-default-DiskFault-clause-session g c =
     let moment = g.D.Device.moment in
     let left_since = g.D.Device.left_since in
     let old = c.args.kept.now in
-    let unread = g.R.Source.remaining c.args.reader.now in
-    let sent = g.W.Sink.contents c.args.writer.now in
-    let told = g.W.Sink.contents c.flush_before_wait.new.writer in
+    let unread = g.R.Hears.remaining c.args.reader.now in
+    let sent = g.W.Sends.contents c.args.writer.now in
+    let told = g.W.Sends.contents c.flush_before_wait.new.writer in
     let go = c.turns.invariant.0 in
     let taken = c.in-Ok.ensures.ok in
     let is_line : c.in-Ok.line ≡ End → ⊥ = search rules in
@@ -312,8 +313,8 @@ returns-in-Err-default-DiskFault-clause-session g c =
     let line = text.1 in
     let is = text.2 in
     let turn = rw c.in-Err-default-DiskFault.field-0-1-is at (c.in-Err-default-DiskFault.ensures.err text.0 is) in
-    turn_lost_disk start grants answers leads seen may_leave moment left_since old c.turns.kept c.serve_turn.new.kept unread (g.R.Source.remaining c.turns.reader) (g.R.Source.remaining c.next_line.new.reader) sent (g.W.Sink.contents c.turns.writer) told c.turns.answered c.turns.buffer c.next_line.new.buffer c.serve_turn.new.buffer taken.0 text.0 turn.0 turn.1 c.flush_before_wait.ensures.bytes go taken.1 line turn.2 g.met.D.Device.counts_now c.in-Err-default-DiskFault.count turn.3.0 (g.W.Sink.contents c.serve_turn.new.writer)
-    (g.W.Sink.contents c.flush_at_fault.new.writer) turn.3.1 c.flush_at_fault.ensures c.requires.kept
+    turn_lost_disk start grants answers leads seen may_leave moment left_since old c.turns.kept c.serve_turn.new.kept unread (g.R.Hears.remaining c.turns.reader) (g.R.Hears.remaining c.next_line.new.reader) sent (g.W.Sends.contents c.turns.writer) told c.turns.answered c.turns.buffer c.next_line.new.buffer c.serve_turn.new.buffer taken.0 text.0 turn.0 turn.1 c.flush_before_wait.ensures.bytes go taken.1 line turn.2 g.met.D.Device.counts_now c.in-Err-default-DiskFault.count turn.3.0 (g.W.Sends.contents c.serve_turn.new.writer)
+    (g.W.Sends.contents c.flush_at_fault.new.writer) turn.3.1 c.flush_at_fault.ensures c.requires.kept (c.next_line.ensures.end c.turns.invariant.1)
 
 pub overflow_add-result-in-Err-default-NoMemory : goal.overflow_add-result-in-Err-default-NoMemory
 overflow_add-result-in-Err-default-NoMemory g c =
@@ -326,9 +327,9 @@ overflow_add-result-in-Err-default-NoMemory g c =
     let moment = g.D.Device.moment in
     let left_since = g.D.Device.left_since in
     let old = c.args.kept.now in
-    let unread = g.R.Source.remaining c.args.reader.now in
-    let sent = g.W.Sink.contents c.args.writer.now in
-    let told = g.W.Sink.contents c.flush_before_wait.new.writer in
+    let unread = g.R.Hears.remaining c.args.reader.now in
+    let sent = g.W.Sends.contents c.args.writer.now in
+    let told = g.W.Sends.contents c.flush_before_wait.new.writer in
     let go = c.turns.invariant.0 in
     let taken = c.in-Ok.ensures.ok in
     let is_line : c.in-Ok.line ≡ End → ⊥ = search rules in
@@ -336,7 +337,7 @@ overflow_add-result-in-Err-default-NoMemory g c =
     let line = text.1 in
     let is = text.2 in
     let turn = rw c.in-Err-default-NoMemory.field-0-1-is at (c.in-Err-default-NoMemory.ensures.err text.0 is) in
-    let fits = turn_few start grants answers leads seen may_leave moment left_since old c.turns.kept c.serve_turn.new.kept unread (g.R.Source.remaining c.turns.reader) (g.R.Source.remaining c.next_line.new.reader) sent (g.W.Sink.contents c.turns.writer) told c.turns.answered c.turns.buffer c.next_line.new.buffer c.serve_turn.new.buffer taken.0 text.0 turn.0 turn.1 c.flush_before_wait.ensures.bytes go taken.1 line turn.2 c.in-Err-default-NoMemory.count (omega (arith, turn.3.0)) in
+    let fits = turn_few start grants answers leads seen may_leave moment left_since old c.turns.kept c.serve_turn.new.kept unread (g.R.Hears.remaining c.turns.reader) (g.R.Hears.remaining c.next_line.new.reader) sent (g.W.Sends.contents c.turns.writer) told c.turns.answered c.turns.buffer c.next_line.new.buffer c.serve_turn.new.buffer taken.0 text.0 turn.0 turn.1 c.flush_before_wait.ensures.bytes go taken.1 line turn.2 c.in-Err-default-NoMemory.count (omega (arith, turn.3.0)) in
     omega (arith, fits)
 
 pub returns-in-Err-default-NoMemory-clause-session : goal.returns-in-Err-default-NoMemory-clause-session
@@ -350,9 +351,9 @@ returns-in-Err-default-NoMemory-clause-session g c =
     let moment = g.D.Device.moment in
     let left_since = g.D.Device.left_since in
     let old = c.args.kept.now in
-    let unread = g.R.Source.remaining c.args.reader.now in
-    let sent = g.W.Sink.contents c.args.writer.now in
-    let told = g.W.Sink.contents c.flush_before_wait.new.writer in
+    let unread = g.R.Hears.remaining c.args.reader.now in
+    let sent = g.W.Sends.contents c.args.writer.now in
+    let told = g.W.Sends.contents c.flush_before_wait.new.writer in
     let go = c.turns.invariant.0 in
     let taken = c.in-Ok.ensures.ok in
     let is_line : c.in-Ok.line ≡ End → ⊥ = search rules in
@@ -360,8 +361,8 @@ returns-in-Err-default-NoMemory-clause-session g c =
     let line = text.1 in
     let is = text.2 in
     let turn = rw c.in-Err-default-NoMemory.field-0-1-is at (c.in-Err-default-NoMemory.ensures.err text.0 is) in
-    turn_lost_memory start grants answers leads seen may_leave moment left_since old c.turns.kept c.serve_turn.new.kept unread (g.R.Source.remaining c.turns.reader) (g.R.Source.remaining c.next_line.new.reader) sent (g.W.Sink.contents c.turns.writer) told c.turns.answered c.turns.buffer c.next_line.new.buffer c.serve_turn.new.buffer taken.0 text.0 turn.0 turn.1 c.flush_before_wait.ensures.bytes go taken.1 line turn.2 g.met.D.Device.counts_now c.in-Err-default-NoMemory.count turn.3.0 (g.W.Sink.contents c.serve_turn.new.writer)
-    (g.W.Sink.contents c.flush_at_fault-in-Err-default-NoMemory.new.writer) turn.3.1 c.flush_at_fault-in-Err-default-NoMemory.ensures c.requires.kept
+    turn_lost_memory start grants answers leads seen may_leave moment left_since old c.turns.kept c.serve_turn.new.kept unread (g.R.Hears.remaining c.turns.reader) (g.R.Hears.remaining c.next_line.new.reader) sent (g.W.Sends.contents c.turns.writer) told c.turns.answered c.turns.buffer c.next_line.new.buffer c.serve_turn.new.buffer taken.0 text.0 turn.0 turn.1 c.flush_before_wait.ensures.bytes go taken.1 line turn.2 g.met.D.Device.counts_now c.in-Err-default-NoMemory.count turn.3.0 (g.W.Sends.contents c.serve_turn.new.writer)
+    (g.W.Sends.contents c.flush_at_fault-in-Err-default-NoMemory.new.writer) turn.3.1 c.flush_at_fault-in-Err-default-NoMemory.ensures c.requires.kept (c.next_line.ensures.end c.turns.invariant.1)
 
 pub returns-in-Err-TooManyReads-clause-read : goal.returns-in-Err-TooManyReads-clause-read
 returns-in-Err-TooManyReads-clause-read g c =
@@ -372,16 +373,16 @@ returns-in-Err-TooManyReads-clause-read g c =
 pub returns-in-Ok-End-clause-written : goal.returns-in-Ok-End-clause-written
 returns-in-Ok-End-clause-written g c =
     let taken = rw c.in-Ok-End.field-0-is at c.in-Ok-End.ensures.ok in
-    flushed_at (g.W.Sink.flushed c.flush_before_wait.new.writer) c.turns.buffer c.next_line.new.buffer taken.0 [] (search rules) taken.2.0 tt taken.2.2
+    flushed_at (g.W.Sends.flushed c.flush_before_wait.new.writer) c.turns.buffer c.next_line.new.buffer taken.0 [] (search rules) taken.2.0 tt taken.2.2
 
 pub returns-in-Err-ReadFault-clause-written : goal.returns-in-Err-ReadFault-clause-written
 returns-in-Err-ReadFault-clause-written g c =
     let broken = (rw c.in-Err-ReadFault.field-0-is at (c.in-Err-ReadFault.ensures.err c.turns.invariant.0.fault)).1 in
-    flushed_at (g.W.Sink.flushed c.flush_before_wait.new.writer) c.turns.buffer c.next_line.new.buffer broken.0 broken.2.1.0 (search rules) broken.2.1.2
+    flushed_at (g.W.Sends.flushed c.flush_before_wait.new.writer) c.turns.buffer c.next_line.new.buffer broken.0 broken.2.1.0 (search rules) broken.2.1.2
     broken.2.1.1 broken.2.0.1
 
 pub returns-in-Err-TooManyReads-clause-written : goal.returns-in-Err-TooManyReads-clause-written
 returns-in-Err-TooManyReads-clause-written g c =
     let broken = (rw c.in-Err-TooManyReads.field-0-is at (c.in-Err-TooManyReads.ensures.err c.turns.invariant.0.fault)).1 in
-    flushed_at (g.W.Sink.flushed c.flush_before_wait.new.writer) c.turns.buffer c.next_line.new.buffer broken.0 broken.2.1.0 (search rules) broken.2.1.2
+    flushed_at (g.W.Sends.flushed c.flush_before_wait.new.writer) c.turns.buffer c.next_line.new.buffer broken.0 broken.2.1.0 (search rules) broken.2.1.2
     broken.2.1.1 broken.2.0.1

@@ -57,7 +57,7 @@ returns-in-Ok-give_out-clause-ok g c = λ first is.
       w.steps,
       subst (λ s. Turned answers seen moment left_since old new first c.args.buffer.now rest w.steps s) (sym state) t,
       subst (λ s. IsCommitted seen may_leave old new w.steps s (c.in-Ok.ahead + 1)) (sym state) done,
-      subst (λ (x : List ℕ). Appends (g.W.Sink.contents c.args.writer.now) (g.W.Sink.contents c.give_out.new.writer) x) told c.in-Ok-give_out.ensures.sent,
+      subst (λ (x : List ℕ). Appends (g.W.Sends.contents c.args.writer.now) (g.W.Sends.contents c.give_out.new.writer) x) told c.in-Ok-give_out.ensures.sent,
       (w.more, w.takes, w.asked),
     )
 
