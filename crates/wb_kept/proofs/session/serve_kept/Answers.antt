@@ -26,62 +26,25 @@ turns-init g c = (
 
 pub returns-then-is_err-clause-session : goal.returns-then-is_err-clause-session
 returns-then-is_err-clause-session g c =
-    let start = g.M.Machine.start in
-    let grants = g.M.Machine.grants in
-    let answers = g.M.Machine.answers in
-    let leads = g.M.Machine.leads in
-    let seen = g.D.Device.seen in
-    let may_leave = g.D.Device.may_leave in
-    let moment = g.D.Device.moment in
-    let left_since = g.D.Device.left_since in
-    let old = c.args.kept.now in
-    let unread = g.R.Hears.remaining c.args.reader.now in
-    let sent = g.W.Sends.contents c.args.writer.now in
-    let told = g.W.Sends.contents c.flush_before_wait.new.writer in
     let go = c.turns.invariant.0 in
-    ends_quiet start grants answers leads seen may_leave moment left_since old unread (g.R.Hears.remaining c.turns.reader) sent (g.W.Sends.contents c.flush_before_wait.new.writer)
-    (ends.WriteFault c.turns.answered) c.turns.kept c.turns.answered c.turns.buffer (g.R.Hears.remaining c.turns.reader) (g.W.Sends.contents c.turns.writer)
-    (go.read) go c.requires.kept refl (go.consumed) (c.flush_before_wait.ensures.bytes) (standing_some go.read (lines_asked go.steps) c.turns.buffer (g.R.Hears.remaining c.turns.reader) go.standing c.turns.invariant.1, ([], sym (append-nil (replies_of go.steps))), go.counted)
+    ends_quiet _ _ _ g.M.Machine.leads _ _ _ _ _ _ _ _ _ (ends.WriteFault c.turns.answered) _ _ _ _ _ go.read go c.requires.kept refl
+    go.consumed c.flush_before_wait.ensures.bytes
+    (standing_some go.read (lines_asked go.steps) c.turns.buffer _ go.standing c.turns.invariant.1, ([], sym (append-nil (replies_of go.steps))), go.counted)
 
 pub returns-in-Ok-End-clause-session : goal.returns-in-Ok-End-clause-session
 returns-in-Ok-End-clause-session g c =
-    let start = g.M.Machine.start in
-    let grants = g.M.Machine.grants in
-    let answers = g.M.Machine.answers in
-    let leads = g.M.Machine.leads in
-    let seen = g.D.Device.seen in
-    let may_leave = g.D.Device.may_leave in
-    let moment = g.D.Device.moment in
-    let left_since = g.D.Device.left_since in
-    let old = c.args.kept.now in
-    let unread = g.R.Hears.remaining c.args.reader.now in
-    let sent = g.W.Sends.contents c.args.writer.now in
-    let told = g.W.Sends.contents c.flush_before_wait.new.writer in
     let go = c.turns.invariant.0 in
     let taken = rw c.in-Ok-End.field-0-is at c.in-Ok-End.ensures.ok in
-    ends_quiet start grants answers leads seen may_leave moment left_since old unread (g.R.Hears.remaining c.next_line.new.reader) sent (g.W.Sends.contents c.flush_before_wait.new.writer)
-    (ends.Done c.turns.answered) c.turns.kept c.turns.answered c.turns.buffer (g.R.Hears.remaining c.turns.reader) (g.W.Sends.contents c.turns.writer)
-    (go.read ++ taken.0) go c.requires.kept refl (Consumes-trans unread (g.R.Hears.remaining c.turns.reader) (g.R.Hears.remaining c.next_line.new.reader) go.read taken.0 go.consumed taken.1) (c.flush_before_wait.ensures.bytes) (standing_end go.read taken.0 (lines_asked go.steps) c.turns.buffer c.next_line.new.buffer go.standing taken.2.0 taken.2.2, refl, go.counted)
+    ends_quiet _ _ _ g.M.Machine.leads _ _ _ _ _ _ _ _ _ (ends.Done c.turns.answered) _ _ _ _ _ (go.read ++ taken.0) go c.requires.kept refl
+    (Consumes-trans _ _ _ go.read taken.0 go.consumed taken.1) c.flush_before_wait.ensures.bytes
+    (standing_end go.read taken.0 (lines_asked go.steps) c.turns.buffer c.next_line.new.buffer go.standing taken.2.0 taken.2.2, refl, go.counted)
 
 pub returns-in-Err-ReadFault-clause-session : goal.returns-in-Err-ReadFault-clause-session
 returns-in-Err-ReadFault-clause-session g c =
-    let start = g.M.Machine.start in
-    let grants = g.M.Machine.grants in
-    let answers = g.M.Machine.answers in
-    let leads = g.M.Machine.leads in
-    let seen = g.D.Device.seen in
-    let may_leave = g.D.Device.may_leave in
-    let moment = g.D.Device.moment in
-    let left_since = g.D.Device.left_since in
-    let old = c.args.kept.now in
-    let unread = g.R.Hears.remaining c.args.reader.now in
-    let sent = g.W.Sends.contents c.args.writer.now in
-    let told = g.W.Sends.contents c.flush_before_wait.new.writer in
     let go = c.turns.invariant.0 in
     let broken = (rw c.in-Err-ReadFault.field-0-is at (c.in-Err-ReadFault.ensures.err go.fault)).1 in
-    ends_quiet start grants answers leads seen may_leave moment left_since old unread (g.R.Hears.remaining c.next_line.new.reader) sent (g.W.Sends.contents c.flush_before_wait.new.writer)
-    (ends.ReadFault c.turns.answered) c.turns.kept c.turns.answered c.turns.buffer (g.R.Hears.remaining c.turns.reader) (g.W.Sends.contents c.turns.writer)
-    (go.read ++ broken.0) go c.requires.kept refl (Consumes-trans unread (g.R.Hears.remaining c.turns.reader) (g.R.Hears.remaining c.next_line.new.reader) go.read broken.0 go.consumed broken.1) (c.flush_before_wait.ensures.bytes) (
+    ends_quiet _ _ _ g.M.Machine.leads _ _ _ _ _ _ _ _ _ (ends.ReadFault c.turns.answered) _ _ _ _ _ (go.read ++ broken.0) go c.requires.kept refl
+    (Consumes-trans _ _ _ go.read broken.0 go.consumed broken.1) c.flush_before_wait.ensures.bytes (
       standing_fault go.read broken.0 broken.2.1.0 (lines_asked go.steps) c.turns.buffer c.next_line.new.buffer go.standing broken.2.0.0
           broken.2.1.1 broken.2.1.2 broken.2.0.1,
       refl,
@@ -90,23 +53,10 @@ returns-in-Err-ReadFault-clause-session g c =
 
 pub returns-in-Err-TooManyReads-clause-session : goal.returns-in-Err-TooManyReads-clause-session
 returns-in-Err-TooManyReads-clause-session g c =
-    let start = g.M.Machine.start in
-    let grants = g.M.Machine.grants in
-    let answers = g.M.Machine.answers in
-    let leads = g.M.Machine.leads in
-    let seen = g.D.Device.seen in
-    let may_leave = g.D.Device.may_leave in
-    let moment = g.D.Device.moment in
-    let left_since = g.D.Device.left_since in
-    let old = c.args.kept.now in
-    let unread = g.R.Hears.remaining c.args.reader.now in
-    let sent = g.W.Sends.contents c.args.writer.now in
-    let told = g.W.Sends.contents c.flush_before_wait.new.writer in
     let go = c.turns.invariant.0 in
     let broken = (rw c.in-Err-TooManyReads.field-0-is at (c.in-Err-TooManyReads.ensures.err go.fault)).1 in
-    ends_quiet start grants answers leads seen may_leave moment left_since old unread (g.R.Hears.remaining c.next_line.new.reader) sent (g.W.Sends.contents c.flush_before_wait.new.writer)
-    (ends.TooManyReads c.turns.answered) c.turns.kept c.turns.answered c.turns.buffer (g.R.Hears.remaining c.turns.reader) (g.W.Sends.contents c.turns.writer)
-    (go.read ++ broken.0) go c.requires.kept refl (Consumes-trans unread (g.R.Hears.remaining c.turns.reader) (g.R.Hears.remaining c.next_line.new.reader) go.read broken.0 go.consumed broken.1) (c.flush_before_wait.ensures.bytes) (
+    ends_quiet _ _ _ g.M.Machine.leads _ _ _ _ _ _ _ _ _ (ends.TooManyReads c.turns.answered) _ _ _ _ _ (go.read ++ broken.0) go c.requires.kept refl
+    (Consumes-trans _ _ _ go.read broken.0 go.consumed broken.1) c.flush_before_wait.ensures.bytes (
       standing_fault go.read broken.0 broken.2.1.0 (lines_asked go.steps) c.turns.buffer c.next_line.new.buffer go.standing broken.2.0.0
           broken.2.1.1 broken.2.1.2 broken.2.0.1,
       refl,
@@ -115,25 +65,12 @@ returns-in-Err-TooManyReads-clause-session g c =
 
 pub returns-in-Err-NoMemory-clause-session : goal.returns-in-Err-NoMemory-clause-session
 returns-in-Err-NoMemory-clause-session g c =
-    let start = g.M.Machine.start in
-    let grants = g.M.Machine.grants in
-    let answers = g.M.Machine.answers in
-    let leads = g.M.Machine.leads in
-    let seen = g.D.Device.seen in
-    let may_leave = g.D.Device.may_leave in
-    let moment = g.D.Device.moment in
-    let left_since = g.D.Device.left_since in
-    let old = c.args.kept.now in
-    let unread = g.R.Hears.remaining c.args.reader.now in
-    let sent = g.W.Sends.contents c.args.writer.now in
-    let told = g.W.Sends.contents c.flush_before_wait.new.writer in
     let go = c.turns.invariant.0 in
     let broken = (rw c.in-Err-NoMemory.field-0-is at (c.in-Err-NoMemory.ensures.err go.fault)).1 in
-    ends_quiet start grants answers leads seen may_leave moment left_since old unread (g.R.Hears.remaining c.next_line.new.reader) sent (g.W.Sends.contents c.flush_at_fault-in-Err-NoMemory.new.writer)
-    (ends.NoMemory c.turns.answered) c.turns.kept c.turns.answered c.turns.buffer (g.R.Hears.remaining c.turns.reader) (g.W.Sends.contents c.turns.writer)
-    (go.read ++ broken.0) go c.requires.kept refl (Consumes-trans unread (g.R.Hears.remaining c.turns.reader) (g.R.Hears.remaining c.next_line.new.reader) go.read broken.0 go.consumed broken.1) (Keeps-trans _ _ _ c.flush_before_wait.ensures.bytes c.flush_at_fault-in-Err-NoMemory.ensures) (
-      standing_broken go.read broken.0 broken.2.1.0 (lines_asked go.steps) c.turns.buffer c.next_line.new.buffer (g.R.Hears.remaining c.next_line.new.reader) go.standing
-          broken.2.1.2 (c.next_line.ensures.end c.turns.invariant.1),
+    ends_quiet _ _ _ g.M.Machine.leads _ _ _ _ _ _ _ _ _ (ends.NoMemory c.turns.answered) _ _ _ _ _ (go.read ++ broken.0) go c.requires.kept refl
+    (Consumes-trans _ _ _ go.read broken.0 go.consumed broken.1) (Keeps-trans _ _ _ c.flush_before_wait.ensures.bytes c.flush_at_fault-in-Err-NoMemory.ensures) (
+      standing_broken go.read broken.0 broken.2.1.0 (lines_asked go.steps) c.turns.buffer c.next_line.new.buffer _ go.standing broken.2.1.2
+          (c.next_line.ensures.end c.turns.invariant.1),
       ap replies_of (sym (take_all c.turns.answered go.steps (omega (arith, go.counted)))),
       omega (arith, go.counted),
     )
@@ -147,73 +84,37 @@ serve_turn-requires g c =
 
 pub overflow_add-answered : goal.overflow_add-answered
 overflow_add-answered g c =
-    let start = g.M.Machine.start in
-    let grants = g.M.Machine.grants in
-    let answers = g.M.Machine.answers in
-    let leads = g.M.Machine.leads in
-    let seen = g.D.Device.seen in
-    let may_leave = g.D.Device.may_leave in
-    let moment = g.D.Device.moment in
-    let left_since = g.D.Device.left_since in
-    let old = c.args.kept.now in
-    let unread = g.R.Hears.remaining c.args.reader.now in
-    let sent = g.W.Sends.contents c.args.writer.now in
+    let left = g.R.Hears.remaining c.next_line.new.reader in
     let told = g.W.Sends.contents c.flush_before_wait.new.writer in
-    let go = c.turns.invariant.0 in
     let taken = c.in-Ok.ensures.ok in
     let is_line : c.in-Ok.line ≡ End → ⊥ = search rules in
     let text = text_of c.in-Ok.line c.turns.buffer c.next_line.new.buffer taken.0 taken.2 is_line in
-    let line = text.1 in
-    let is = text.2 in
-    let turn = c.in-Ok-serve_turn.ensures.ok text.0 is in
-    let fits = turn_few start grants answers leads seen may_leave moment left_since old c.turns.kept c.serve_turn.new.kept unread (g.R.Hears.remaining c.turns.reader) (g.R.Hears.remaining c.next_line.new.reader) sent (g.W.Sends.contents c.turns.writer) told c.turns.answered c.turns.buffer c.next_line.new.buffer c.serve_turn.new.buffer taken.0 text.0 turn.0 c.serve_turn.new.kept.state c.flush_before_wait.ensures.bytes go taken.1 line turn.1 c.in-Ok-serve_turn.count (omega (arith, turn.2.counted)) in
+    let turn = c.in-Ok-serve_turn.ensures.ok text.0 text.2 in
+    let fits = turn_few _ _ _ g.M.Machine.leads _ _ _ _ _ _ c.serve_turn.new.kept _ _ left _ _ told _ _ _ _ taken.0 text.0 turn.0 _
+    c.flush_before_wait.ensures.bytes c.turns.invariant.0 taken.1 text.1 turn.1 c.in-Ok-serve_turn.count (omega (arith, turn.2.counted)) in
     omega (arith, fits)
 
 pub turns-smaller : goal.turns-smaller
 turns-smaller g c =
-    let start = g.M.Machine.start in
-    let grants = g.M.Machine.grants in
-    let answers = g.M.Machine.answers in
-    let leads = g.M.Machine.leads in
-    let seen = g.D.Device.seen in
-    let may_leave = g.D.Device.may_leave in
-    let moment = g.D.Device.moment in
-    let left_since = g.D.Device.left_since in
-    let old = c.args.kept.now in
-    let unread = g.R.Hears.remaining c.args.reader.now in
-    let sent = g.W.Sends.contents c.args.writer.now in
+    let left = g.R.Hears.remaining c.next_line.new.reader in
     let told = g.W.Sends.contents c.flush_before_wait.new.writer in
-    let go = c.turns.invariant.0 in
     let taken = c.in-Ok.ensures.ok in
     let is_line : c.in-Ok.line ≡ End → ⊥ = search rules in
     let text = text_of c.in-Ok.line c.turns.buffer c.next_line.new.buffer taken.0 taken.2 is_line in
-    let line = text.1 in
-    let is = text.2 in
-    let turn = c.in-Ok-serve_turn.ensures.ok text.0 is in
-    turn_less start grants answers leads seen may_leave moment left_since old c.turns.kept c.serve_turn.new.kept unread (g.R.Hears.remaining c.turns.reader) (g.R.Hears.remaining c.next_line.new.reader) sent (g.W.Sends.contents c.turns.writer) told c.turns.answered c.turns.buffer c.next_line.new.buffer c.serve_turn.new.buffer taken.0 text.0 turn.0 c.serve_turn.new.kept.state c.flush_before_wait.ensures.bytes go taken.1 line turn.1
+    let turn = c.in-Ok-serve_turn.ensures.ok text.0 text.2 in
+    turn_less _ _ _ g.M.Machine.leads _ _ _ _ _ _ c.serve_turn.new.kept _ _ left _ _ told _ _ _ _ taken.0 text.0 turn.0 _
+    c.flush_before_wait.ensures.bytes c.turns.invariant.0 taken.1 text.1 turn.1
 
 pub turns-preserved : goal.turns-preserved
 turns-preserved g c =
-    let start = g.M.Machine.start in
-    let grants = g.M.Machine.grants in
-    let answers = g.M.Machine.answers in
-    let leads = g.M.Machine.leads in
-    let seen = g.D.Device.seen in
-    let may_leave = g.D.Device.may_leave in
-    let moment = g.D.Device.moment in
-    let left_since = g.D.Device.left_since in
-    let old = c.args.kept.now in
-    let unread = g.R.Hears.remaining c.args.reader.now in
-    let sent = g.W.Sends.contents c.args.writer.now in
+    let left = g.R.Hears.remaining c.next_line.new.reader in
     let told = g.W.Sends.contents c.flush_before_wait.new.writer in
-    let go = c.turns.invariant.0 in
     let taken = c.in-Ok.ensures.ok in
     let is_line : c.in-Ok.line ≡ End → ⊥ = search rules in
     let text = text_of c.in-Ok.line c.turns.buffer c.next_line.new.buffer taken.0 taken.2 is_line in
-    let line = text.1 in
-    let is = text.2 in
-    let turn = c.in-Ok-serve_turn.ensures.ok text.0 is in (
-      turn_goes start grants answers leads seen may_leave moment left_since old c.turns.kept c.serve_turn.new.kept unread (g.R.Hears.remaining c.turns.reader) (g.R.Hears.remaining c.next_line.new.reader) sent (g.W.Sends.contents c.turns.writer) told c.turns.answered c.turns.buffer c.next_line.new.buffer c.serve_turn.new.buffer taken.0 text.0 turn.0 c.serve_turn.new.kept.state c.flush_before_wait.ensures.bytes go taken.1 line turn.1 (g.W.Sends.contents c.serve_turn.new.writer) c.in-Ok-serve_turn.count
+    let turn = c.in-Ok-serve_turn.ensures.ok text.0 text.2 in (
+      turn_goes _ _ _ g.M.Machine.leads _ _ _ _ _ _ c.serve_turn.new.kept _ _ left _ _ told _ _ _ _ taken.0 text.0 turn.0 _
+          c.flush_before_wait.ensures.bytes c.turns.invariant.0 taken.1 text.1 turn.1 (g.W.Sends.contents c.serve_turn.new.writer) c.in-Ok-serve_turn.count
           c.in-Ok.ensures.fresh.1 turn.2 turn.3 turn.4,
       λ e. c.next_line.ensures.end c.turns.invariant.1 (sym turn.4.1.same.at_end ∙ e),
       counts_more unread_buffer _ _ _ _ _ (counts_more unread_buffer _ _ _ _ _ c.turns.invariant.2 c.next_line.ensures.counted)
@@ -223,146 +124,78 @@ turns-preserved g c =
 
 pub overflow_add-result : goal.overflow_add-result
 overflow_add-result g c =
-    let start = g.M.Machine.start in
-    let grants = g.M.Machine.grants in
-    let answers = g.M.Machine.answers in
-    let leads = g.M.Machine.leads in
-    let seen = g.D.Device.seen in
-    let may_leave = g.D.Device.may_leave in
-    let moment = g.D.Device.moment in
-    let left_since = g.D.Device.left_since in
-    let old = c.args.kept.now in
-    let unread = g.R.Hears.remaining c.args.reader.now in
-    let sent = g.W.Sends.contents c.args.writer.now in
+    let left = g.R.Hears.remaining c.next_line.new.reader in
     let told = g.W.Sends.contents c.flush_before_wait.new.writer in
-    let go = c.turns.invariant.0 in
     let taken = c.in-Ok.ensures.ok in
     let is_line : c.in-Ok.line ≡ End → ⊥ = search rules in
     let text = text_of c.in-Ok.line c.turns.buffer c.next_line.new.buffer taken.0 taken.2 is_line in
-    let line = text.1 in
-    let is = text.2 in
-    let turn = rw c.in-Err-default-WriteFault.field-0-1-is at (c.in-Err-default-WriteFault.ensures.err text.0 is) in
-    let fits = turn_few start grants answers leads seen may_leave moment left_since old c.turns.kept c.serve_turn.new.kept unread (g.R.Hears.remaining c.turns.reader) (g.R.Hears.remaining c.next_line.new.reader) sent (g.W.Sends.contents c.turns.writer) told c.turns.answered c.turns.buffer c.next_line.new.buffer c.serve_turn.new.buffer taken.0 text.0 turn.0 turn.1 c.flush_before_wait.ensures.bytes go taken.1 line turn.2 c.in-Err-default-WriteFault.count (omega (arith, turn.3.0.counted)) in
+    let turn = rw c.in-Err-default-WriteFault.field-0-1-is at (c.in-Err-default-WriteFault.ensures.err text.0 text.2) in
+    let fits = turn_few _ _ _ g.M.Machine.leads _ _ _ _ _ _ c.serve_turn.new.kept _ _ left _ _ told _ _ _ _ taken.0 text.0 turn.0 _
+    c.flush_before_wait.ensures.bytes c.turns.invariant.0 taken.1 text.1 turn.2 c.in-Err-default-WriteFault.count (omega (arith, turn.3.0.counted)) in
     omega (arith, fits)
 
 pub returns-in-Err-default-WriteFault-clause-session : goal.returns-in-Err-default-WriteFault-clause-session
 returns-in-Err-default-WriteFault-clause-session g c =
-    let start = g.M.Machine.start in
-    let grants = g.M.Machine.grants in
-    let answers = g.M.Machine.answers in
-    let leads = g.M.Machine.leads in
-    let seen = g.D.Device.seen in
-    let may_leave = g.D.Device.may_leave in
-    let moment = g.D.Device.moment in
-    let left_since = g.D.Device.left_since in
-    let old = c.args.kept.now in
-    let unread = g.R.Hears.remaining c.args.reader.now in
-    let sent = g.W.Sends.contents c.args.writer.now in
+    let left = g.R.Hears.remaining c.next_line.new.reader in
     let told = g.W.Sends.contents c.flush_before_wait.new.writer in
-    let go = c.turns.invariant.0 in
     let taken = c.in-Ok.ensures.ok in
     let is_line : c.in-Ok.line ≡ End → ⊥ = search rules in
     let text = text_of c.in-Ok.line c.turns.buffer c.next_line.new.buffer taken.0 taken.2 is_line in
-    let line = text.1 in
-    let is = text.2 in
-    let turn = rw c.in-Err-default-WriteFault.field-0-1-is at (c.in-Err-default-WriteFault.ensures.err text.0 is) in
-    turn_unsent start grants answers leads seen may_leave moment left_since old c.turns.kept c.serve_turn.new.kept unread (g.R.Hears.remaining c.turns.reader) (g.R.Hears.remaining c.next_line.new.reader) sent (g.W.Sends.contents c.turns.writer) told c.turns.answered c.turns.buffer c.next_line.new.buffer c.serve_turn.new.buffer taken.0 text.0 turn.0 turn.1 c.flush_before_wait.ensures.bytes go taken.1 line turn.2 (c.next_line.ensures.end c.turns.invariant.1) (g.W.Sends.contents c.serve_turn.new.writer) c.in-Err-default-WriteFault.count c.requires.kept turn.3.0 turn.3.1
+    let turn = rw c.in-Err-default-WriteFault.field-0-1-is at (c.in-Err-default-WriteFault.ensures.err text.0 text.2) in
+    turn_unsent _ _ _ g.M.Machine.leads _ _ _ _ _ _ c.serve_turn.new.kept _ _ left _ _ told _ _ _ _ taken.0 text.0 turn.0 turn.1
+    c.flush_before_wait.ensures.bytes c.turns.invariant.0 taken.1 text.1 turn.2 (c.next_line.ensures.end c.turns.invariant.1)
+    (g.W.Sends.contents c.serve_turn.new.writer) c.in-Err-default-WriteFault.count c.requires.kept turn.3.0 turn.3.1
 
 pub overflow_add-result-in-Err-default-DiskFault : goal.overflow_add-result-in-Err-default-DiskFault
 overflow_add-result-in-Err-default-DiskFault g c =
-    let start = g.M.Machine.start in
-    let grants = g.M.Machine.grants in
-    let answers = g.M.Machine.answers in
-    let leads = g.M.Machine.leads in
-    let seen = g.D.Device.seen in
-    let may_leave = g.D.Device.may_leave in
-    let moment = g.D.Device.moment in
-    let left_since = g.D.Device.left_since in
-    let old = c.args.kept.now in
-    let unread = g.R.Hears.remaining c.args.reader.now in
-    let sent = g.W.Sends.contents c.args.writer.now in
+    let left = g.R.Hears.remaining c.next_line.new.reader in
     let told = g.W.Sends.contents c.flush_before_wait.new.writer in
-    let go = c.turns.invariant.0 in
     let taken = c.in-Ok.ensures.ok in
     let is_line : c.in-Ok.line ≡ End → ⊥ = search rules in
     let text = text_of c.in-Ok.line c.turns.buffer c.next_line.new.buffer taken.0 taken.2 is_line in
-    let line = text.1 in
-    let is = text.2 in
-    let turn = rw c.in-Err-default-DiskFault.field-0-1-is at (c.in-Err-default-DiskFault.ensures.err text.0 is) in
-    let fits = turn_few start grants answers leads seen may_leave moment left_since old c.turns.kept c.serve_turn.new.kept unread (g.R.Hears.remaining c.turns.reader) (g.R.Hears.remaining c.next_line.new.reader) sent (g.W.Sends.contents c.turns.writer) told c.turns.answered c.turns.buffer c.next_line.new.buffer c.serve_turn.new.buffer taken.0 text.0 turn.0 turn.1 c.flush_before_wait.ensures.bytes go taken.1 line turn.2 c.in-Err-default-DiskFault.count (omega (arith, turn.3.0)) in
+    let turn = rw c.in-Err-default-DiskFault.field-0-1-is at (c.in-Err-default-DiskFault.ensures.err text.0 text.2) in
+    let fits = turn_few _ _ _ g.M.Machine.leads _ _ _ _ _ _ c.serve_turn.new.kept _ _ left _ _ told _ _ _ _ taken.0 text.0 turn.0 _
+    c.flush_before_wait.ensures.bytes c.turns.invariant.0 taken.1 text.1 turn.2 c.in-Err-default-DiskFault.count (omega (arith, turn.3.0)) in
     omega (arith, fits)
 
 pub returns-in-Err-default-DiskFault-clause-session : goal.returns-in-Err-default-DiskFault-clause-session
 returns-in-Err-default-DiskFault-clause-session g c =
-    let start = g.M.Machine.start in
-    let grants = g.M.Machine.grants in
-    let answers = g.M.Machine.answers in
-    let leads = g.M.Machine.leads in
-    let seen = g.D.Device.seen in
-    let may_leave = g.D.Device.may_leave in
-    let moment = g.D.Device.moment in
-    let left_since = g.D.Device.left_since in
-    let old = c.args.kept.now in
-    let unread = g.R.Hears.remaining c.args.reader.now in
-    let sent = g.W.Sends.contents c.args.writer.now in
+    let left = g.R.Hears.remaining c.next_line.new.reader in
     let told = g.W.Sends.contents c.flush_before_wait.new.writer in
-    let go = c.turns.invariant.0 in
     let taken = c.in-Ok.ensures.ok in
     let is_line : c.in-Ok.line ≡ End → ⊥ = search rules in
     let text = text_of c.in-Ok.line c.turns.buffer c.next_line.new.buffer taken.0 taken.2 is_line in
-    let line = text.1 in
-    let is = text.2 in
-    let turn = rw c.in-Err-default-DiskFault.field-0-1-is at (c.in-Err-default-DiskFault.ensures.err text.0 is) in
-    turn_lost_disk start grants answers leads seen may_leave moment left_since old c.turns.kept c.serve_turn.new.kept unread (g.R.Hears.remaining c.turns.reader) (g.R.Hears.remaining c.next_line.new.reader) sent (g.W.Sends.contents c.turns.writer) told c.turns.answered c.turns.buffer c.next_line.new.buffer c.serve_turn.new.buffer taken.0 text.0 turn.0 turn.1 c.flush_before_wait.ensures.bytes go taken.1 line turn.2 g.met.D.Device.counts_now c.in-Err-default-DiskFault.count turn.3.0 (g.W.Sends.contents c.serve_turn.new.writer)
-    (g.W.Sends.contents c.flush_at_fault.new.writer) turn.3.1 c.flush_at_fault.ensures c.requires.kept (c.next_line.ensures.end c.turns.invariant.1)
+    let turn = rw c.in-Err-default-DiskFault.field-0-1-is at (c.in-Err-default-DiskFault.ensures.err text.0 text.2) in
+    turn_lost_disk _ _ _ g.M.Machine.leads _ _ _ _ _ _ c.serve_turn.new.kept _ _ left _ _ told _ _ _ _ taken.0 text.0 turn.0 turn.1
+    c.flush_before_wait.ensures.bytes c.turns.invariant.0 taken.1 text.1 turn.2 g.met.D.Device.counts_now c.in-Err-default-DiskFault.count turn.3.0
+    (g.W.Sends.contents c.serve_turn.new.writer) (g.W.Sends.contents c.flush_at_fault.new.writer) turn.3.1 c.flush_at_fault.ensures c.requires.kept
+    (c.next_line.ensures.end c.turns.invariant.1)
 
 pub overflow_add-result-in-Err-default-NoMemory : goal.overflow_add-result-in-Err-default-NoMemory
 overflow_add-result-in-Err-default-NoMemory g c =
-    let start = g.M.Machine.start in
-    let grants = g.M.Machine.grants in
-    let answers = g.M.Machine.answers in
-    let leads = g.M.Machine.leads in
-    let seen = g.D.Device.seen in
-    let may_leave = g.D.Device.may_leave in
-    let moment = g.D.Device.moment in
-    let left_since = g.D.Device.left_since in
-    let old = c.args.kept.now in
-    let unread = g.R.Hears.remaining c.args.reader.now in
-    let sent = g.W.Sends.contents c.args.writer.now in
+    let left = g.R.Hears.remaining c.next_line.new.reader in
     let told = g.W.Sends.contents c.flush_before_wait.new.writer in
-    let go = c.turns.invariant.0 in
     let taken = c.in-Ok.ensures.ok in
     let is_line : c.in-Ok.line ≡ End → ⊥ = search rules in
     let text = text_of c.in-Ok.line c.turns.buffer c.next_line.new.buffer taken.0 taken.2 is_line in
-    let line = text.1 in
-    let is = text.2 in
-    let turn = rw c.in-Err-default-NoMemory.field-0-1-is at (c.in-Err-default-NoMemory.ensures.err text.0 is) in
-    let fits = turn_few start grants answers leads seen may_leave moment left_since old c.turns.kept c.serve_turn.new.kept unread (g.R.Hears.remaining c.turns.reader) (g.R.Hears.remaining c.next_line.new.reader) sent (g.W.Sends.contents c.turns.writer) told c.turns.answered c.turns.buffer c.next_line.new.buffer c.serve_turn.new.buffer taken.0 text.0 turn.0 turn.1 c.flush_before_wait.ensures.bytes go taken.1 line turn.2 c.in-Err-default-NoMemory.count (omega (arith, turn.3.0)) in
+    let turn = rw c.in-Err-default-NoMemory.field-0-1-is at (c.in-Err-default-NoMemory.ensures.err text.0 text.2) in
+    let fits = turn_few _ _ _ g.M.Machine.leads _ _ _ _ _ _ c.serve_turn.new.kept _ _ left _ _ told _ _ _ _ taken.0 text.0 turn.0 _
+    c.flush_before_wait.ensures.bytes c.turns.invariant.0 taken.1 text.1 turn.2 c.in-Err-default-NoMemory.count (omega (arith, turn.3.0)) in
     omega (arith, fits)
 
 pub returns-in-Err-default-NoMemory-clause-session : goal.returns-in-Err-default-NoMemory-clause-session
 returns-in-Err-default-NoMemory-clause-session g c =
-    let start = g.M.Machine.start in
-    let grants = g.M.Machine.grants in
-    let answers = g.M.Machine.answers in
-    let leads = g.M.Machine.leads in
-    let seen = g.D.Device.seen in
-    let may_leave = g.D.Device.may_leave in
-    let moment = g.D.Device.moment in
-    let left_since = g.D.Device.left_since in
-    let old = c.args.kept.now in
-    let unread = g.R.Hears.remaining c.args.reader.now in
-    let sent = g.W.Sends.contents c.args.writer.now in
+    let left = g.R.Hears.remaining c.next_line.new.reader in
     let told = g.W.Sends.contents c.flush_before_wait.new.writer in
-    let go = c.turns.invariant.0 in
     let taken = c.in-Ok.ensures.ok in
     let is_line : c.in-Ok.line ≡ End → ⊥ = search rules in
     let text = text_of c.in-Ok.line c.turns.buffer c.next_line.new.buffer taken.0 taken.2 is_line in
-    let line = text.1 in
-    let is = text.2 in
-    let turn = rw c.in-Err-default-NoMemory.field-0-1-is at (c.in-Err-default-NoMemory.ensures.err text.0 is) in
-    turn_lost_memory start grants answers leads seen may_leave moment left_since old c.turns.kept c.serve_turn.new.kept unread (g.R.Hears.remaining c.turns.reader) (g.R.Hears.remaining c.next_line.new.reader) sent (g.W.Sends.contents c.turns.writer) told c.turns.answered c.turns.buffer c.next_line.new.buffer c.serve_turn.new.buffer taken.0 text.0 turn.0 turn.1 c.flush_before_wait.ensures.bytes go taken.1 line turn.2 g.met.D.Device.counts_now c.in-Err-default-NoMemory.count turn.3.0 (g.W.Sends.contents c.serve_turn.new.writer)
-    (g.W.Sends.contents c.flush_at_fault-in-Err-default-NoMemory.new.writer) turn.3.1 c.flush_at_fault-in-Err-default-NoMemory.ensures c.requires.kept (c.next_line.ensures.end c.turns.invariant.1)
+    let turn = rw c.in-Err-default-NoMemory.field-0-1-is at (c.in-Err-default-NoMemory.ensures.err text.0 text.2) in
+    turn_lost_memory _ _ _ g.M.Machine.leads _ _ _ _ _ _ c.serve_turn.new.kept _ _ left _ _ told _ _ _ _ taken.0 text.0 turn.0 turn.1
+    c.flush_before_wait.ensures.bytes c.turns.invariant.0 taken.1 text.1 turn.2 g.met.D.Device.counts_now c.in-Err-default-NoMemory.count turn.3.0
+    (g.W.Sends.contents c.serve_turn.new.writer) (g.W.Sends.contents c.flush_at_fault-in-Err-default-NoMemory.new.writer)
+    turn.3.1 c.flush_at_fault-in-Err-default-NoMemory.ensures c.requires.kept
+    (c.next_line.ensures.end c.turns.invariant.1)
 
 pub returns-in-Err-TooManyReads-clause-read : goal.returns-in-Err-TooManyReads-clause-read
 returns-in-Err-TooManyReads-clause-read g c =
