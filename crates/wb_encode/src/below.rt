@@ -4,5 +4,5 @@ pub use wb_history::below::{edit, reading, shelf, text};
 
 /// The history, with its questions and refusals.
 pub mod history {
-    pub use wb_history::{Answer, History, Piece, Query, Refusal, RestoreErr};
+    pub use wb_history::{Answer, History, Piece, Query, Refusal, RestoreErr, Undoer};
 }

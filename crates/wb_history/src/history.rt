@@ -1,11 +1,12 @@
-ghost use Rattle.std.specs.Prelude.{◌≡◌, ℕ, ◌+◌, ◌-◌, ◌≤◌, length, take, [], ◌∷◌, ◌++◌, OnOk, OnErr, IfOk, IfErr, Ok, Err, true, false, option_map};
+ghost use Rattle.std.specs.Prelude.{◌≡◌, ℕ, ◌+◌, ◌-◌, ◌<◌, ◌≤◌, length, take, [], ◌∷◌, ◌++◌, OnOk, OnErr, IfOk, IfErr, Ok, Err, true, false, option_map};
 ghost use Rattle.selective_undo.specs.History.{replay, IsLegal};
 ghost use Rattle.wb_book.specs.Cells.{written_more};
 ghost use Rattle.wb_log.specs.Below.wb_edit.Commands.{meaning};
-ghost use Rattle.wb_log.specs.Cascades.{DependentsReply, CascadeReply, OfNumber, NoShorter, all_out_of_force, places, set_back};
+ghost use Rattle.wb_log.specs.Cascades.{DependentsReply, CascadeReply, OfNumber, NoShorter, OthersStay, OtherCellsStay, all_out_of_force, places, set_back};
 ghost use Rattle.wb_log.specs.Past.{meant, out_of_force, into_force, force_of};
 ghost use Rattle.wb_log.specs.Records.{lent_edit};
 ghost use Rattle.wb_log.specs.Replies.{EditReply, UndoReply, LastReply, RedoReply, ByNumber, SetsBack, LeavesOthers, Restores, RedoesInPlace};
+ghost use Rattle.wb_log.specs.Wants.{has_wanted};
 ghost use Rattle.wb_history.specs.Queries.{QueryReply};
 ghost use Rattle.wb_history.specs.Restored.{one_of, numbered_at};
 
@@ -17,7 +18,7 @@ use std::alloc::Global;
 use std::marker::Model;
 use wb_log::below::edit::Edit;
 use wb_log::below::shelf::Book;
-use wb_log::{Index, LentEdit, Record, Refusal, steps};
+use wb_log::{Index, LentEdit, Record, Refusal, Undoer, steps};
 use wb_range::NoMemory;
 use wb_redist::Mover;
 
@@ -149,17 +150,21 @@ impl History {
     }
 
     /// Undoes the edit of a number with all that need it, from the greatest down, each by an undo that is granted on its
-    /// own: their numbers, and how many cells are set back. Where memory runs out after some, or the mover has no thread,
-    /// these are the answer.
+    /// own: their numbers, and how many cells are set back. Where an undo wants memory, or its mover has no thread, those
+    /// before it are the answer; nothing else leaves one of them in force.
     pub fn cascade<M: Mover>(
         &mut self,
         number: u64,
+        undoer: &mut Undoer,
         mover: &M,
     ) -> Result<(Vec<u64>, usize), Refusal>
         ensures reply { IfOk result (λ r. OfNumber (CascadeReply (meant self.old.entries)) number (Ok (r.0.items, r.1))) }
         ensures why { IfErr result (λ e. OfNumber (CascadeReply (meant self.old.entries)) number (Err e)) }
+        ensures whole { IfOk result (λ r. has_wanted undoer.new ≡ false → OfNumber (DependentsReply (meant self.old.entries)) number (Ok r.0.items)) }
         ensures shortest { IfOk result (λ r. NoShorter (meant self.old.entries) (number - 1) r.0.items) }
         ensures entries { IfOk result (λ r. self.new.entries ≡ all_out_of_force r.0.items self.old.entries) }
+        ensures others { IfOk result (λ r. OthersStay (meant self.old.entries) (places r.0.items) (meant self.new.entries)) }
+        ensures cells { IfOk result (λ r. OtherCellsStay (meant self.old.entries) (places r.0.items) (meant self.new.entries)) }
         ensures writes { IfOk result (λ r. self.new.writes ≡ written_more self.old.writes (set_back (meant self.old.entries) (places r.0.items))) }
         ensures err { OnErr result (self.new ≡ self.old) }
     {
@@ -171,6 +176,7 @@ impl History {
             return Err(Refusal::NoSuchEdit);
         }
         steps::cascade::cascade_at(
+            undoer,
             &mut self.book,
             &mut self.entries,
             &mut self.index,
@@ -185,16 +191,22 @@ impl History {
         &mut self,
         number: u64,
         listed: &[u64],
+        undoer: &mut Undoer,
         mover: &M,
     ) -> Result<(usize, usize), NoMemory>
         requires { OfNumber (DependentsReply (meant self.old.entries)) number (Ok listed.now) }
         ensures within { IfOk result (λ r. r.0 ≤ length listed.now) }
         ensures reply { IfOk result (λ r. OfNumber (CascadeReply (meant self.old.entries)) number (Ok (take r.0 listed.now, r.1))) }
+        ensures whole { IfOk result (λ r. r.0 < length listed.now → has_wanted undoer.new ≡ true) }
+        ensures wanted { OnErr result (has_wanted undoer.new ≡ true) }
         ensures entries { IfOk result (λ r. self.new.entries ≡ all_out_of_force (take r.0 listed.now) self.old.entries) }
+        ensures others { IfOk result (λ r. OthersStay (meant self.old.entries) (places (take r.0 listed.now)) (meant self.new.entries)) }
+        ensures cells { IfOk result (λ r. OtherCellsStay (meant self.old.entries) (places (take r.0 listed.now)) (meant self.new.entries)) }
         ensures writes { IfOk result (λ r. self.new.writes ≡ written_more self.old.writes (set_back (meant self.old.entries) (places (take r.0 listed.now)))) }
         ensures err { OnErr result (self.new ≡ self.old) }
     {
         steps::cascade::undo_listed(
+            undoer,
             &mut self.book,
             &mut self.entries,
             &mut self.index,

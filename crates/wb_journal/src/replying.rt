@@ -10,7 +10,7 @@ ghost use Rattle.wb_journal.specs.Serving.{entry};
 
 use crate::entry::{Entry, Record, is_of_numbers, small_record};
 use std::alloc::Global;
-use wb_proto::below::history::{History, Refusal};
+use wb_proto::below::history::{History, Refusal, Undoer};
 use wb_proto::{EditNumbers, Reply, Request, answer_request};
 use wb_range::NoMemory;
 use wb_redist::Mover;
@@ -98,7 +98,8 @@ fn cascade_listed<M: Mover>(
 {
     let first = listed.copy(alloc)?;
     let second = listed.copy(alloc)?;
-    let (done, count) = history.cascade_listed(number, listed.as_slice(), mover)?;
+    let (done, count) =
+        history.cascade_listed(number, listed.as_slice(), &mut Undoer::new(), mover)?;
     Ok((
         Reply::Cascaded(listed.first(done), count),
         Reply::Cascaded(first.first(done), count),

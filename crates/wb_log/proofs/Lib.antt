@@ -11,4 +11,5 @@ pub mod Sweeps
 pub mod Depending
 pub mod Undoings
 pub mod Shortest
+pub mod Whole
 pub mod Covered

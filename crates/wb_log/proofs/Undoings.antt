@@ -1,5 +1,5 @@
 -- Undos one after another.
-use Rattle.std.proofs.Common.{◌≡◌, ◌≢◌, ℕ, zero, suc, ◌+◌, ◌-◌, ◌^◌, ◌<◌, ◌≤◌, true, false, List, [], ◌∷◌, ◌++◌, length, take, drop, Some, None, is_some}
+use Rattle.std.proofs.Common.{◌≡◌, ◌≢◌, ℕ, zero, suc, ◌+◌, ◌-◌, ◌^◌, ◌<◌, ◌≤◌, Bool, true, false, List, [], ◌∷◌, ◌++◌, length, take, drop, Some, None, is_some}
 use Rattle.std.proofs.Common.{option_map, Result, Ok, Err, IfOk, IfErr, slice_get, arith, refl, sym, ap, ◌∙◌, subst}
 use Rattle.std.specs.Prelude.{min}
 use Rattle.std.proofs.Math.Nat.{sub-add-min_cancel}
@@ -14,7 +14,7 @@ use Rattle.wb_log.specs.declared.entry.Entry as kept
 use Rattle.wb_log.specs.declared.refusal.Refusal.{Refusal}
 use Rattle.wb_log.specs.declared.refusal.Refusal.TheVariants.{NotInForce, NoMemory}
 use Rattle.wb_log.specs.Past.{Numbered, meant, entry_at, out_of_force, AreValid}
-use Rattle.wb_log.specs.Replies.{UndoReply, ByNumber}
+use Rattle.wb_log.specs.Replies.{UndoReply}
 use Rattle.wb_log.specs.Kept.{numbered_entries, numbered, entries_meant, log, footprint, by_number, Shows}
 use Rattle.wb_log.specs.Needed.{AreFromFootprints}
 use Rattle.wb_log.specs.Cascades.{DependentsReply, CascadeReply, places, touched, set_back, all_out_of_force, IsRisen, AreUndone, OfNumber}
@@ -25,7 +25,7 @@ use Rattle.wb_log.proofs.Valid.{valid_force}
 
 -- ---- one more undo
 
-abbrev undo_all : List ℕ → List (Entry workbook) → List (Entry workbook)
+abbrev pub undo_all : List ℕ → List (Entry workbook) → List (Entry workbook)
 undo_all [] h = h
 undo_all (k ∷ ks) h = undo_all ks (undo k h)
 
@@ -41,7 +41,7 @@ out_more : (es : List Numbered) (ns : List ℕ) (n : ℕ) → all_out_of_force (
 out_more es [] n = refl
 out_more es (m ∷ ns) n = out_more (out_of_force (m - 1) es) ns n
 
-left_meant : (ns : List ℕ) (es : List Numbered) → undo_all (places ns) (meant es) ≡ meant (all_out_of_force ns es)
+pub left_meant : (ns : List ℕ) (es : List Numbered) → undo_all (places ns) (meant es) ≡ meant (all_out_of_force ns es)
 left_meant [] es = refl
 left_meant (n ∷ ns) es = ap (undo_all (places ns)) (undo_meant (n - 1) es) ∙ left_meant ns (out_of_force (n - 1) es)
 
@@ -58,14 +58,6 @@ more_written w c n =
     let m = 2 ^ 128 - 1 in
     let sum : (w + c) + n ≡ w + (c + n) = omega arith in
     capped (w + c) n m ∙ ap (λ (k : ℕ). min k m) sum
-
-ok_not_err : {n : ℕ} {e : Refusal} → Ok n ≡ Err e → ⊥
-ok_not_err h = cc
-
--- the undo of a number that is granted
-granted_at : (fs : List Numbered) (number more : ℕ) → ByNumber (UndoReply (meant fs)) number (Ok more) → UndoReply (meant fs) (number - 1) (Ok more)
-granted_at fs zero more reply = absurd (ok_not_err reply)
-granted_at fs (suc k) more reply = let here : k ≡ suc k - 1 = omega arith in subst (λ (j : ℕ). UndoReply (meant fs) j (Ok more)) here reply
 
 -- the count of writes
 risen_more : (es : List Numbered) (ns : List ℕ) (w v u more : ℕ) → IsRisen ns w (set_back (meant es) (places ns)) v → u ≡ written_more v more →
@@ -88,13 +80,13 @@ pub none_undone : (es : List Numbered) (w : ℕ) → AreUndone es w [] es 0 w
 none_undone es w = record { granted = tt; left = refl; count = refl; writes = refl }
 
 pub one_undone : (es fs gs : List Numbered) (w n v m u number more : ℕ) (ns : List ℕ) → AreUndone es w ns fs n v →
-    ByNumber (UndoReply (meant fs)) number (Ok more) → gs ≡ out_of_force (number - 1) fs
+    UndoReply (meant fs) (number - 1) (Ok more) → gs ≡ out_of_force (number - 1) fs
     → m ≡ min (n + more) (2 ^ 64 - 1) → u ≡ written_more v more → AreUndone es w (ns ++ number ∷ []) gs m u
 one_undone es fs gs w n v m u number more ns h reply out count writes =
     let k = number - 1 in
     let ks = places ns in
     let now_is : undo_all ks (meant es) ≡ meant fs = left_meant ns es ∙ ap meant (sym h.left) in
-    let (t, can, cells) = granted_at fs number more reply in
+    let (t, can, cells) = reply in
     let all : places (ns ++ number ∷ []) ≡ ks ++ k ∷ [] = append-map (λ (i : ℕ). i - 1) ns (number ∷ []) in
     let here : touched (slice_get (traces (undo_all ks (meant es))) k) ≡ more = ap (λ g. touched (slice_get (traces g) k)) now_is ∙ ap touched can.in_force ∙
     sym cells in
@@ -182,3 +174,8 @@ pub err_of_number : {X Y : Type 0} (Reply : ℕ → Result Y Refusal → Type 0)
     IfErr r (λ e. OfNumber Reply n (Err e))
 err_of_number Reply n (Ok x) some h = tt
 err_of_number Reply n (Err e) some h = of_number Reply n (Err e) some h
+
+pub whole_of_number : {X : Type 0} (es : List (Entry workbook)) (f : X → List ℕ) (n : ℕ) (wanted : Bool) (r : Result X Refusal) → 0 < n →
+    IfOk r (λ x. wanted ≡ false → DependentsReply es (n - 1) (Ok (f x))) → IfOk r (λ x. wanted ≡ false → OfNumber (DependentsReply es) n (Ok (f x)))
+whole_of_number es f n wanted (Ok x) some h = λ off. of_number (DependentsReply es) n (Ok (f x)) some (h off)
+whole_of_number es f n wanted (Err e) some h = tt

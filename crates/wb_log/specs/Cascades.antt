@@ -1,9 +1,11 @@
 -- Undo with dependents: which edits go, in which order, and what each answer says.
-use Rattle.std.specs.Prelude.{◌≡◌, ◌≢◌, ℕ, zero, suc, ◌+◌, ◌-◌, ◌^◌, ◌≤◌, min, length, List, [], ◌∷◌, ◌++◌, map, Option, Some, None, Result, Ok, Err, slice_get}
+use Rattle.std.specs.Prelude.{◌≡◌, ◌≢◌, ℕ, zero, suc, ◌+◌, ◌-◌, ◌^◌, ◌≤◌, false, min, length, List, [], ◌∷◌, ◌++◌, map, Option, Some, None, Result, Ok, Err, slice_get}
 use Rattle.std.specs.Prelude.{◌↔◌}
-use Rattle.selective_undo.specs.Edit.{Edit, Trace}
+use Rattle.std.specs.FinMap.{get}
+use Rattle.selective_undo.specs.Edit.{Edit, Trace, writes}
 use Rattle.selective_undo.specs.History as h
-use Rattle.selective_undo.specs.History.{undone, undo, traces, InForce, Dependent, CanUndoAll, Has, Falls}
+use Rattle.selective_undo.specs.History.{undone, undo, traces, replay, InForce, Dependent, CanUndo, CanUndoAll, Has, Falls}
+use Rattle.wb_book.specs.declared.cells.cell.Cell.{Cell}
 use Rattle.wb_book.specs.Cells.{count_of, written_more}
 use Rattle.wb_foot.specs.Below.wb_edit.Schema.{workbook}
 use Rattle.wb_log.specs.declared.refusal.Refusal.{Refusal}
@@ -60,6 +62,22 @@ CascadeReply es k (Err why) = DependentsReply es k (Err why)
 -- as many at least.
 abbrev pub NoShorter : List (h.Entry workbook) → ℕ → List ℕ → Type 0
 NoShorter es k ns = (ks : List ℕ) → CanUndoAll es ks → Has ks k → ((n : ℕ) → Has ns n → Has ks (n - 1)) × (length ns ≤ length ks)
+
+-- edit k, from 0, may be undone
+abbrev pub IsFree : List (h.Entry workbook) → ℕ → Type 0
+IsFree es k = (t : Trace workbook) × CanUndo es k t
+
+-- In force afterwards, in history fs, are the edits that were in history es, but for those of these places; and each does
+-- what it did.
+abbrev pub OthersStay : List (h.Entry workbook) → List ℕ → List (h.Entry workbook) → Type 0
+OthersStay es ks fs = (j : ℕ) (t : Trace workbook) → InForce (traces fs) j t ↔ (InForce (traces es) j t × (Has ks j → ⊥))
+
+-- A cell that no edit of these places touched has the value that it had.
+abbrev pub OtherCellsStay : List (h.Entry workbook) → List ℕ → List (h.Entry workbook) → Type 0
+OtherCellsStay es ks fs =
+    (c : Cell)
+    → ((k : ℕ) (t : Trace workbook) → Has ks k → InForce (traces es) k t → writes t c ≡ false)
+    → get (replay fs) c ≡ get (replay es) c
 
 -- the edits of numbers, from 1, out of force
 abbrev pub all_out_of_force : List ℕ → List Numbered → List Numbered

@@ -2,6 +2,7 @@ pub mod Below
 pub mod Past
 pub mod Replies
 pub mod Cascades
+pub mod Wants
 pub mod Kept
 pub mod Records
 pub mod Needed

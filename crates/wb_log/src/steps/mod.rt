@@ -6,3 +6,4 @@ pub mod edit;
 pub mod making;
 pub mod redo;
 pub mod undo;
+pub mod undoer;

@@ -8,7 +8,7 @@ use crate::replies::reply::Reply;
 use crate::requests::request::Request;
 use std::alloc::Global;
 use wb_encode::below::edit::Edit;
-use wb_encode::below::history::{History, Query, Refusal};
+use wb_encode::below::history::{History, Query, Refusal, Undoer};
 use wb_encode::below::text::print_book;
 use wb_encode::print_history;
 use wb_redist::Mover;
@@ -52,7 +52,7 @@ fn redo_number<M: Mover>(history: &mut History, number: u64, mover: &M) -> Reply
 fn cascade_number<M: Mover>(history: &mut History, number: u64, mover: &M) -> Reply
     ensures { Cascades history.old number result history.new }
 {
-    match history.cascade(number, mover) {
+    match history.cascade(number, &mut Undoer::new(), mover) {
         Ok((undone, count)) => Reply::Cascaded(EditNumbers::new(undone), count),
         Err(why) => Reply::Refused(why),
     }

@@ -1,8 +1,11 @@
-use Rattle.std.proofs.Common.{◌≡◌, ℕ, suc, ◌+◌, ◌-◌, List, [], ◌∷◌, ◌++◌, take, get_or, refl, sym, ap, subst, ◌∙◌, arith}
+use Rattle.std.proofs.Common.{◌≡◌, ℕ, suc, ◌+◌, ◌-◌, List, [], ◌∷◌, ◌++◌, take, get_or, Ok, refl, sym, ap, subst, ◌∙◌, arith}
 use Rattle.std.proofs.lemmas.Option.{slice_get-get_or}
-use Rattle.wb_log.specs.Cascades.{AreUndone}
-use Rattle.wb_log.specs.Kept.{numbered_entries}
+use Rattle.wb_log.specs.Cascades.{AreUndone, IsFree}
+use Rattle.wb_log.specs.Kept.{entries_meant, numbered_entries}
+use Rattle.wb_log.specs.Past.{meant, out_of_force}
+use Rattle.wb_log.specs.Replies.{UndoReply}
 use Rattle.wb_log.proofs.Undoings.{none_undone, one_undone, take_more, valid_out}
+use Rattle.wb_log.proofs.Whole.{next_free}
 use Rattle.wb_log.proofs.steps.cascade.undo_each.Goals as goal
 
 pub loop-done-init : goal.loop-done-init
@@ -26,17 +29,31 @@ loop-done-preserved g c =
     take_more all i number (slice_get-get_or all i 0 c.loop-done-test.true) in
     let es = numbered_entries c.args.entries.now in
     let fs = numbered_entries c.loop-done.entries in
-    let gs = numbered_entries c.undo_number.new.entries in
+    let gs = numbered_entries c.undo.new.entries in
     let w = c.args.book.now.writes in
-    let step = one_undone es fs gs w c.loop-done.count c.loop-done.book.writes c.saturating_add-count.result c.undo_number.new.book.writes number c.in-Ok.more
+    let at_is : c.saturating_sub-at.result ≡ number - 1 = omega (arith, c.saturating_sub-at.ensures) in
+    let reply = subst (λ (k : ℕ). UndoReply (meant fs) k (Ok c.in-Ok.more)) at_is c.in-Ok.ensures.reply in
+    let out = subst (λ (k : ℕ). gs ≡ out_of_force k fs) at_is c.in-Ok.ensures.entries in
+    let step = one_undone es fs gs w c.loop-done.count c.loop-done.book.writes c.saturating_add-count.result c.undo.new.book.writes number c.in-Ok.more
     (take i all)
-    c.loop-done.invariant.undone c.in-Ok.ensures.reply c.in-Ok.ensures.entries c.saturating_add-count.ensures c.in-Ok.ensures.writes in
+    c.loop-done.invariant.undone reply out c.saturating_add-count.ensures c.in-Ok.ensures.writes in
     record {
       within = omega arith;
-      few = omega (arith, c.loop-done.invariant.few, c.undo_number.auto.entries);
+      few = omega (arith, c.loop-done.invariant.few, c.undo.auto.entries);
       kept = c.in-Ok.ensures.kept;
       indexed = c.in-Ok.ensures.indexed;
-      valid = valid_out (number - 1) fs gs c.loop-done.invariant.valid c.in-Ok.ensures.entries;
-      undone = subst (λ (ns : List ℕ). AreUndone es w ns gs c.saturating_add-count.result c.undo_number.new.book.writes) (sym now) step;
+      valid = valid_out (number - 1) fs gs c.loop-done.invariant.valid out;
+      undone = subst (λ (ns : List ℕ). AreUndone es w ns gs c.saturating_add-count.result c.undo.new.book.writes) (sym now) step;
       none = λ zero_done. absurd (omega (arith, zero_done));
     }
+
+pub undo-requires-clause-free : goal.undo-requires-clause-free
+undo-requires-clause-free g c =
+    let all = c.args.undone.now in
+    let i = c.loop-done.done in
+    let number = get_or all i 0 in
+    let is = slice_get-get_or all i 0 c.loop-done-test.true in
+    let at_is : c.saturating_sub-at.result ≡ number - 1 = omega (arith, c.saturating_sub-at.ensures) in
+    let free = subst (λ es. IsFree (meant es) (number - 1)) (sym c.loop-done.invariant.undone.left)
+    (next_free (numbered_entries c.args.entries.now) all i number c.requires.free is) in
+    λ _ _. subst (λ (k : ℕ). IsFree (entries_meant c.loop-done.entries) k) (sym at_is) free

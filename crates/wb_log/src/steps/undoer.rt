@@ -1,0 +1,68 @@
+//! What makes the undos of a cascade, and alone says which of them wanted memory.
+
+ghost use Rattle.std.specs.Prelude.{◌≡◌, ◌^◌, ◌<◌, false, length, Ok, OnOk, OnErr, IfOk, is_err};
+ghost use Rattle.wb_book.specs.Cells.{written_more};
+ghost use Rattle.wb_log.specs.Cascades.{IsFree};
+ghost use Rattle.wb_log.specs.Indexed.{IsIndexed};
+ghost use Rattle.wb_log.specs.Kept.{Shows, entries_meant, numbered_entries};
+ghost use Rattle.wb_log.specs.Past.{AreValid, out_of_force};
+ghost use Rattle.wb_log.specs.Replies.{UndoReply};
+ghost use Rattle.wb_log.specs.Wants.{has_wanted};
+
+use crate::entry::Record;
+use crate::index::Index;
+use crate::steps::undo::undo_at;
+use wb_foot::below::shelf::Book;
+use wb_range::NoMemory;
+use wb_redist::Mover;
+
+/// What undoes edits that may be undone, one by one, and takes down whether the undo that it made last wanted memory. Its
+/// field is written by `undo` alone: outside of this file nothing can say that there was such a want.
+#[derive(Drop)]
+pub struct Undoer {
+    wanted: bool,
+}
+
+impl Undoer {
+    /// It made no undo.
+    pub fn new() -> Undoer
+        ensures { has_wanted result ≡ false }
+    {
+        Undoer { wanted: false }
+    }
+
+    /// Undoes the edit at a place, which may be undone: how many cells are set back. Want of threads counts as want of memory.
+    pub fn undo<M: Mover>(
+        &mut self,
+        book: &mut Book,
+        entries: &mut [Record],
+        index: &mut Index,
+        at: usize,
+        mover: &M,
+    ) -> Result<usize, NoMemory>
+        requires few { length entries.old < 2 ^ 63 }
+        requires kept { Shows entries.old book.old.cells }
+        requires indexed { IsIndexed index.old entries.old }
+        requires valid { AreValid (numbered_entries entries.old) }
+        requires free { IsFree (entries_meant entries.old) at }
+        ensures kept { Shows entries.new book.new.cells }
+        ensures indexed { IsIndexed index.new entries.new }
+        ensures reply { IfOk result (λ n. UndoReply (entries_meant entries.old) at (Ok n)) }
+        ensures entries { OnOk result (numbered_entries entries.new ≡ out_of_force at (numbered_entries entries.old)) }
+        ensures writes { IfOk result (λ n. book.new.writes ≡ written_more book.old.writes n) }
+        ensures entries_stay { OnErr result (numbered_entries entries.new ≡ numbered_entries entries.old) }
+        ensures book_stays { OnErr result (book.new ≡ book.old) }
+        ensures cause { has_wanted self.new ≡ is_err result }
+    {
+        match undo_at(book, entries, index, at, mover) {
+            Ok(count) => {
+                self.wanted = false;
+                Ok(count)
+            }
+            Err(_) => {
+                self.wanted = true;
+                Err(NoMemory)
+            }
+        }
+    }
+}
