@@ -98,8 +98,12 @@ fn cascade_listed<M: Mover>(
 {
     let first = listed.copy(alloc)?;
     let second = listed.copy(alloc)?;
-    let (done, count) =
-        history.cascade_listed(number, listed.as_slice(), &mut Undoer::new(), mover)?;
+    let (done, count) = history.cascade_listed(
+        number,
+        listed.as_slice(),
+        &mut Undoer::new(),
+        mover,
+    )?;
     Ok((
         Reply::Cascaded(listed.first(done), count),
         Reply::Cascaded(first.first(done), count),
