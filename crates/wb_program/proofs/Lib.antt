@@ -6,3 +6,4 @@ pub mod Reading
 pub mod Seated
 pub mod Ending
 pub mod Hosting
+pub mod Finishing

@@ -1,5 +1,5 @@
 -- A text that was sent, and then flushed.
-use Rattle.std.proofs.Common.{◌≡◌, ℕ, true, false, List, Option, Result, Ok, Err, OnOk, is_err, length, inl, inr, refl, sym, true≢false, le_refl, take, take_all, subst, ap, ◌∙◌}
+use Rattle.std.proofs.Common.{◌≡◌, ℕ, false, List, Option, Result, Ok, Err, OnOk, is_err, length, inl, inr, refl, sym, true≢false, le_refl, take, take_all, subst, ap, ◌∙◌}
 use Rattle.std.proofs.KnownBytes.{Appends-kept}
 use Rattle.std.specs.Io.KnownBytes.{Appends, Keeps}
 use Rattle.wb_program.specs.Checking.{IsFault, IsPrinted}
@@ -17,7 +17,8 @@ printed whole = inl (refl, refl)
 pub printed_at_fault : (whole : List ℕ) → IsPrinted whole 3 whole
 printed_at_fault whole = inr (inl refl, (length whole, sym (take_all (length whole) whole (le_refl (length whole)))))
 
-no_fault_of_0 : (status : ℕ) → status ≡ 0 → IsFault status → ⊥
+-- a status after a fault is not 0
+pub no_fault_of_0 : (status : ℕ) → status ≡ 0 → IsFault status → ⊥
 no_fault_of_0 status e (inl three) = cc
 no_fault_of_0 status e (inr four) = cc
 

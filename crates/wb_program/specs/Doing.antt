@@ -1,15 +1,16 @@
 -- What the program does by what its command line asks for.
 use Rattle.std.specs.Prelude.{◌≡◌, ◌⊎◌, ℕ, Bool, true, false, List, [], ◌++◌, Option, codes, decimal, take}
+use Rattle.std.specs.Io.KnownBytes.{Consumes, IsAtEnd}
 use Rattle.wb_lines.specs.declared.machine.SessionEnd.{SessionEnd}
 use Rattle.wb_lines.specs.declared.sink.Sink as Sink
 use Rattle.wb_lines.specs.declared.source.Source as Source
 use Rattle.wb_proto.specs.Below.wb_history.Past.{Past}
 use Rattle.wb_command.specs.declared.Asked.{Asked}
 use Rattle.wb_command.specs.declared.Asked.TheVariants as ask
-use Rattle.wb_program.specs.Checking.{IsNoRecord, IsFault, Judges, Says}
-use Rattle.wb_program.specs.Days.{EndsDay}
+use Rattle.wb_program.specs.Checking.{IsAnswered, IsNoRecord, IsFault, Judges, Says}
+use Rattle.wb_program.specs.Days.{EndsDay, FailsDay}
 use Rattle.wb_program.specs.Resuming.{IsRecord, IsResumed}
-use Rattle.wb_program.specs.Running.{ServesFromEmpty, opening, status_of}
+use Rattle.wb_program.specs.Running.{HasFailed, HasFailedByNow, ServesFromEmpty, opening, status_of}
 use Rattle.wb_program.specs.Upgrading.{Upgrades}
 use Rattle.wb_program.specs.declared.accepting.Accepts as Accepts
 use Rattle.wb_program.specs.declared.checking.Verdict.TheVariants.{Refused}
@@ -43,3 +44,31 @@ module _ {I O N : Type 0} (source : Source.Ghosts I) (sink : Sink.Ghosts O) (acc
   Does ask.Upgrade status read left text = Upgrades read status text
   Does (ask.Serve port seats false workers) status read left text = (read ≡ []) × Hosts false opening seats status text
   Does (ask.Serve port seats true workers) status read left text = HostsHistory seats status read text
+
+  -- Why a desk fails: its port could not be had, or its day failed.
+  abbrev pub FailsToHost : Past → ℕ → (port_failed write_failed : Bool) → Type 0
+  FailsToHost past seats port_failed write_failed = (port_failed ≡ true) ⊎ FailsDay source sink accepts past seats write_failed
+
+  -- the text of a history was read, and a desk from it failed
+  abbrev pub FailsAfterInput : ℕ → (old new : Option (List ℕ)) → (port_failed write_failed : Bool) → Type 0
+  FailsAfterInput seats old new port_failed write_failed =
+      (read : List ℕ) × (past : Past) × Consumes old new read × IsRecord read past × FailsToHost past seats port_failed write_failed
+
+  -- Why each command fails: a read, or a write or flush, or all reads that are allowed were made; or its desk failed, where it has one.
+  abbrev pub Fails : Asked → (old new : Option (List ℕ)) → (read_failed : Bool) → (before after : ℕ) → (port_failed write_failed : Bool) → Type 0
+  Fails (ask.Run false workers) old new read_failed before after port_failed write_failed = HasFailed read_failed before after write_failed
+  Fails (ask.Run true workers) old new read_failed before after port_failed write_failed = HasFailedByNow read_failed before after write_failed
+  Fails ask.Check old new read_failed before after port_failed write_failed = HasFailed read_failed before after write_failed
+  Fails ask.Upgrade old new read_failed before after port_failed write_failed = HasFailed read_failed before after write_failed
+  Fails (ask.Serve port seats false workers) old new read_failed before after port_failed write_failed =
+      FailsToHost opening seats port_failed write_failed
+  Fails (ask.Serve port seats true workers) old new read_failed before after port_failed write_failed =
+      HasFailed read_failed before after write_failed ⊎ FailsAfterInput seats old new port_failed write_failed
+
+-- How each command leaves its devices where it answered all: the input, where one is read, at its end, and the writer flushed.
+abbrev pub Finishes : Asked → ℕ → (left : Option (List ℕ)) → (flushed : Bool) → Type 0
+Finishes (ask.Run resume workers) status left flushed = status ≡ 0 → IsAtEnd left × (flushed ≡ true)
+Finishes ask.Check status left flushed = IsAnswered status → IsAtEnd left × (flushed ≡ true)
+Finishes ask.Upgrade status left flushed = IsAnswered status → IsAtEnd left × (flushed ≡ true)
+Finishes (ask.Serve port seats false workers) status left flushed = status ≡ 0 → flushed ≡ true
+Finishes (ask.Serve port seats true workers) status left flushed = status ≡ 0 → IsAtEnd left × (flushed ≡ true)

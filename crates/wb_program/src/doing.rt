@@ -1,10 +1,11 @@
 //! What the program does by what its command line asks for.
 ghost use Rattle.std.specs.Prelude.{◌≡◌, ◌⊎◌, ◌++◌, ℕ, List, true, false, IfOk, IfErr, take};
-ghost use Rattle.std.specs.Io.KnownBytes.{Appends, Consumes};
+ghost use Rattle.std.specs.Io.KnownBytes.{Appends, Consumes, IsAtEnd};
 ghost use Rattle.wb_shared.specs.Openings.{nothing_done};
 ghost use Rattle.wb_program.specs.Checking.{IsFault};
-ghost use Rattle.wb_program.specs.Resuming.{left_in};
-ghost use Rattle.wb_program.specs.Doing.{listening, Hosts, HostsHistory, Does};
+ghost use Rattle.wb_program.specs.Resuming.{left_in, failed_in, reads_in};
+ghost use Rattle.wb_program.specs.Running.{HasFailed};
+ghost use Rattle.wb_program.specs.Doing.{listening, Hosts, HostsHistory, Does, FailsToHost, FailsAfterInput, Finishes, Fails};
 
 use crate::accepting::{AcceptErr, Accepts, Binds};
 use crate::checking::{check_with, tell};
@@ -32,6 +33,7 @@ fn listen<B: Binds<N, I, O>, N: Accepts<I, O> + Drop, I, O, W: Sink>(
     ensures told { IfOk result (λ _. (bound : ℕ) × Appends (W.contents writer.old) (W.contents writer.new) (listening bound)) }
     ensures fault { IfErr result (λ status. IsFault status × ((bound count : ℕ)
         × Appends (W.contents writer.old) (W.contents writer.new) (take count (listening bound)))) }
+    ensures failed { IfErr result (λ status. status ≡ 3 → (B.failed ports.new ≡ true) ⊎ (W.failed writer.new ≡ true)) }
 {
     let (connections, bound) = match ports.bind(port) {
         Ok(bound) => bound,
@@ -58,8 +60,10 @@ fn host<
     W: Sink,
     M: Mover + Sync,
 >(rt: &R, alloc: Global, ports: &mut B, port: u16, seats: u8, writer: &mut W, mover: &M) -> u8
-    ensures { (text : List ℕ) × Appends (W.contents writer.old) (W.contents writer.new) text
+    ensures hosts { (text : List ℕ) × Appends (W.contents writer.old) (W.contents writer.new) text
         × Hosts I.Source O.Sink N.Accepts false nothing_done seats result text }
+    ensures flushed { result ≡ 0 → W.flushed writer.new ≡ true }
+    ensures failed { result ≡ 3 → FailsToHost I.Source O.Sink N.Accepts nothing_done seats (B.failed ports.new) (W.failed writer.new) }
 {
     match listen(alloc, ports, port, writer) {
         Ok(connections) => serve_on(rt, alloc, connections, seats as usize, writer, mover),
@@ -86,8 +90,10 @@ fn host_history<
     writer: &mut W,
     mover: &M,
 ) -> u8
-    ensures { (text : List ℕ) × Appends (W.contents writer.old) (W.contents writer.new) text
+    ensures hosts { (text : List ℕ) × Appends (W.contents writer.old) (W.contents writer.new) text
         × Hosts I.Source O.Sink N.Accepts true history seats result text }
+    ensures flushed { result ≡ 0 → W.flushed writer.new ≡ true }
+    ensures failed { result ≡ 3 → FailsToHost I.Source O.Sink N.Accepts history seats (B.failed ports.new) (W.failed writer.new) }
 {
     match listen(alloc, ports, port, writer) {
         Ok(connections) => serve_history(
@@ -123,9 +129,12 @@ fn host_input<
     writer: &mut W,
     mover: &M,
 ) -> u8
-    ensures { (read : List ℕ) × Consumes (S.remaining reader.old) (S.remaining reader.new) read
+    ensures hosts { (read : List ℕ) × Consumes (S.remaining reader.old) (S.remaining reader.new) read
         × ((text : List ℕ) × Appends (W.contents writer.old) (W.contents writer.new) text
         × HostsHistory I.Source O.Sink N.Accepts seats result read text) }
+    ensures done { result ≡ 0 → IsAtEnd (S.remaining reader.new) × (W.flushed writer.new ≡ true) }
+    ensures failed { result ≡ 3 → HasFailed (S.failed reader.new) (S.reads reader.old) (S.reads reader.new) (W.failed writer.new)
+        ⊎ FailsAfterInput I.Source O.Sink N.Accepts seats (S.remaining reader.old) (S.remaining reader.new) (B.failed ports.new) (W.failed writer.new) }
 {
     match history_from(alloc, reader, writer, mover) {
         Ok(history) => host_history(rt, alloc, ports, port, seats, history, writer, mover),
@@ -133,8 +142,9 @@ fn host_input<
     }
 }
 
-/// Does what a command line asks for: the exit status. What is read and written is what the definition of each command says. A desk
-/// listens on a port that `ports` gives.
+/// Does what a command line asks for: the exit status. What is read and written is what the definition of each command says. Status 0
+/// comes only with the writer flushed, and, where an input is read, at its end; 3 only where a read, a write, a flush, a port, a
+/// connection or a thread failed, or what the definition of each command names besides. A desk listens on a port that `ports` gives.
 pub fn do_asked<
     R: Threads + Wait + Sync,
     B: Binds<N, I, O>,
@@ -153,9 +163,12 @@ pub fn do_asked<
     writer: &mut W,
     mover: &M,
 ) -> u8
-    ensures { (read : List ℕ) × Consumes (left_in S.remaining reader.old) (left_in S.remaining reader.new) read
+    ensures does { (read : List ℕ) × Consumes (left_in S.remaining reader.old) (left_in S.remaining reader.new) read
         × ((text : List ℕ) × Appends (W.contents writer.old) (W.contents writer.new) text
         × Does I.Source O.Sink N.Accepts asked result read (left_in S.remaining reader.new) text) }
+    ensures done { Finishes asked result (left_in S.remaining reader.new) (W.flushed writer.new) }
+    ensures failed { result ≡ 3 → Fails I.Source O.Sink N.Accepts asked (left_in S.remaining reader.old) (left_in S.remaining reader.new)
+        (failed_in reader.new) (reads_in reader.old) (reads_in reader.new) (B.failed ports.new) (W.failed writer.new) }
 {
     match asked {
         Asked::Run { resume, .. } => {

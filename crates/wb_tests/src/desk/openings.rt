@@ -44,6 +44,7 @@ fn day_from<L: Opening, R: Wait, M: Mover>(
     requires parts { blank.parts ≡ L.parts }
     requires sixteen { blank.parts ≡ 16 }
     requires opening { L.opening ≡ history }
+    requires seats { L.seats ≡ 1 }
 {
     let Ok((desk, mut passes)) = Desk::<L>::open_at(alloc, blank, 1, history) else {
         return Err("a desk")?;
@@ -91,6 +92,7 @@ fn given_back<L: Opening>(
     requires parts { blank.parts ≡ L.parts }
     requires sixteen { blank.parts ≡ 16 }
     requires opening { L.opening ≡ history }
+    requires seats { L.seats ≡ seats }
 {
     match Desk::<L>::open_at(alloc, blank, seats, history) {
         Ok(_) => Err("no desk")?,

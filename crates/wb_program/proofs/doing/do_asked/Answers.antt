@@ -1,9 +1,10 @@
 use Rattle.std.proofs.Common.{[], rules}
+use Rattle.wb_program.proofs.Finishing.{desk_fails, desk_finishes, resumed_desk_fails, resumed_desk_finishes}
 use Rattle.wb_program.proofs.Hosting.{history_hosted, hosted, resumed, upgraded}
 use Rattle.wb_program.proofs.doing.do_asked.Goals as goal
 
-pub returns-then-resume : goal.returns-then-resume
-returns-then-resume g c =
+pub returns-then-resume-clause-does : goal.returns-then-resume-clause-does
+returns-then-resume-clause-does g c =
     let asked = c.in-Run in
     let read = c.resume_with.ensures.resumes in
     let told = read.2 in (
@@ -17,8 +18,8 @@ returns-then-resume g c =
       ),
     )
 
-pub returns-in-Upgrade : goal.returns-in-Upgrade
-returns-in-Upgrade g c =
+pub returns-in-Upgrade-clause-does : goal.returns-in-Upgrade-clause-does
+returns-in-Upgrade-clause-does g c =
     let read = c.upgrade_with.ensures.upgrades in
     let told = read.2 in (
       read.0,
@@ -26,10 +27,10 @@ returns-in-Upgrade g c =
       (told.0, told.1, upgraded g.I.Source g.O.Sink g.N.Accepts c.args.asked c.upgrade_with.result read.0 _ told.0 c.in-Upgrade.is told.2),
     )
 
-pub returns-then-resume-2 : goal.returns-then-resume-2
-returns-then-resume-2 g c =
+pub returns-then-resume-2-clause-does : goal.returns-then-resume-2-clause-does
+returns-then-resume-2-clause-does g c =
     let asked = c.in-Serve in
-    let read = c.host_input.ensures in
+    let read = c.host_input.ensures.hosts in
     let told = read.2 in (
       read.0,
       read.1,
@@ -41,10 +42,10 @@ returns-then-resume-2 g c =
       ),
     )
 
-pub returns-else-resume-2 : goal.returns-else-resume-2
-returns-else-resume-2 g c =
+pub returns-else-resume-2-clause-does : goal.returns-else-resume-2-clause-does
+returns-else-resume-2-clause-does g c =
     let asked = c.in-Serve in
-    let told = c.host.ensures in (
+    let told = c.host.ensures.hosts in (
       [],
       search rules,
       (
@@ -54,3 +55,27 @@ returns-else-resume-2 g c =
             c.host.result _ told.0 asked.is c.if-resume-2.false told.2,
       ),
     )
+
+pub returns-then-resume-2-clause-done : goal.returns-then-resume-2-clause-done
+returns-then-resume-2-clause-done g c =
+    let asked = c.in-Serve in
+    resumed_desk_finishes c.args.asked asked.port asked.seats asked.workers asked.resume c.host_input.result _ _ asked.is c.if-resume-2.true
+    c.host_input.ensures.done
+
+pub returns-then-resume-2-clause-failed : goal.returns-then-resume-2-clause-failed
+returns-then-resume-2-clause-failed g c h =
+    let asked = c.in-Serve in
+    resumed_desk_fails g.I.Source g.O.Sink g.N.Accepts c.args.asked asked.port asked.seats asked.workers asked.resume _ _ _ _ _ _ _ asked.is
+    c.if-resume-2.true (c.host_input.ensures.failed h)
+
+pub returns-else-resume-2-clause-done : goal.returns-else-resume-2-clause-done
+returns-else-resume-2-clause-done g c =
+    let asked = c.in-Serve in
+    desk_finishes c.args.asked asked.port asked.seats asked.workers asked.resume c.host.result _ _ asked.is c.if-resume-2.false
+    c.host.ensures.flushed
+
+pub returns-else-resume-2-clause-failed : goal.returns-else-resume-2-clause-failed
+returns-else-resume-2-clause-failed g c h =
+    let asked = c.in-Serve in
+    desk_fails g.I.Source g.O.Sink g.N.Accepts c.args.asked asked.port asked.seats asked.workers asked.resume _ _ _ _ _ _ _ asked.is
+    c.if-resume-2.false (c.host.ensures.failed h)

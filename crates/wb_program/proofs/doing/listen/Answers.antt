@@ -8,7 +8,7 @@ pub returns-in-Err-Failed-clause-fault : goal.returns-in-Err-Failed-clause-fault
 returns-in-Err-Failed-clause-fault g c = (inl refl, (0, 0, Appends-nil _))
 
 pub returns-in-Err-NoMemory-clause-fault : goal.returns-in-Err-NoMemory-clause-fault
-returns-in-Err-NoMemory-clause-fault g c = (inr refl, (0, 0, Appends-nil _))
+returns-in-Err-NoMemory-clause-fault g c = (search rules, (0, 0, Appends-nil _))
 
 pub returns-in_default-clause-fault : goal.returns-in_default-clause-fault
 returns-in_default-clause-fault g c = (inr refl, (0, 0, Appends-nil _))

@@ -4,4 +4,4 @@ abbrev pub ghosts-given_back-L-Ledger : goal.ghosts-given_back-L-Ledger
 ghosts-given_back-L-Ledger g a = record { name = a.blank.name; parts = a.blank.parts }
 
 abbrev pub ghosts-given_back-L-Opening : goal.ghosts-given_back-L-Opening
-ghosts-given_back-L-Opening g a = record { opening = a.history }
+ghosts-given_back-L-Opening g a = record { opening = a.history; seats = a.seats }

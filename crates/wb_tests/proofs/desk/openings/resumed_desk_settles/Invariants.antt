@@ -4,4 +4,4 @@ abbrev pub ghosts-day_from-L-Ledger : goal.ghosts-day_from-L-Ledger
 ghosts-day_from-L-Ledger g a = record { name = a.blank.name; parts = a.blank.parts }
 
 abbrev pub ghosts-day_from-L-Opening : goal.ghosts-day_from-L-Opening
-ghosts-day_from-L-Opening g a = record { opening = a.history }
+ghosts-day_from-L-Opening g a = record { opening = a.history; seats = 1 }

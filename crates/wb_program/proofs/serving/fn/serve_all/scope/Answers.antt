@@ -1,6 +1,6 @@
-use Rattle.std.proofs.Common.{◌≡◌, ℕ, ◌<◌, ◌+◌, ◌∙◌, get_or, length, vec_items, vec_len, arith, below_more, rules, ap, subst, sym}
+use Rattle.std.proofs.Common.{◌≡◌, ◌<◌, ◌+◌, ◌∙◌, get_or, length, vec_items, vec_len, arith, below_more, rules, ap, subst, sym}
 use Rattle.std.proofs.lemmas.Option.{slice_get_within}
-use Rattle.std.specs.Vec.Iter.{into_iter_items, into_iter_len}
+use Rattle.std.specs.Vec.Iter.{into_iter_items}
 use Rattle.wb_program.proofs.Seated.{IsSeated, later, seated, came_back}
 use Rattle.wb_program.proofs.serving.fn.serve_all.scope.Goals as goal
 
