@@ -30,16 +30,15 @@ fn history_of_the_text<M: Mover>(alloc: Global, mover: &M) -> Result<History, Fa
     }
 }
 
-// How a desk of one seat goes that begins with a history: what one line is replied, how many entries there are when it has
-// settled, and the text of its history then.
+// How many entries a desk of one seat has when it has settled that began with the history of the text, and was asked for an
+// element. The reply is the element, and the history is that of the text.
 fn day_from<L: Opening, R: Wait, M: Mover>(
     rt: &R,
     alloc: Global,
     blank: Blank,
     history: History,
-    line: &str,
     mover: &M,
-) -> Result<(String, usize, String), Fail>
+) -> Result<usize, Fail>
     requires name { blank.name ≡ L.name }
     requires parts { blank.parts ≡ L.parts }
     requires sixteen { blank.parts ≡ 16 }
@@ -50,16 +49,20 @@ fn day_from<L: Opening, R: Wait, M: Mover>(
         return Err("a desk")?;
     };
     let mut pass = passes.pop().ok_or("a pass")?;
-    let reply = ask(rt, alloc, &desk, &mut pass, line, mover);
+    let reply = ask(rt, alloc, &desk, &mut pass, ELEMENT, mover);
     let told = reply_text(alloc, &reply)?;
-    passes.push(pass)?;
-    match settle(desk, passes) {
-        Ok(shared) => {
-            let text = print_history(alloc, shared.history())?;
-            Ok((told, shared.entries(), text))
-        }
-        Err(_) => Err("a desk that settles")?,
+    if told.as_str() != "{\"value\":0}" {
+        return Err("the element")?;
     }
+    passes.push(pass)?;
+    let Ok(shared) = settle(desk, passes) else {
+        return Err("a desk that settles")?;
+    };
+    let text = print_history(alloc, shared.history())?;
+    if text.as_str() != TEXT {
+        return Err("the history of the text")?;
+    }
+    Ok(shared.entries())
 }
 
 #[test]
@@ -67,17 +70,14 @@ fn resumed_desk_settles(rt: HostRuntime) -> Result<(), Fail> {
     let alloc = rt.alloc();
     let alone = Crew::alone(&rt);
     let history = history_of_the_text(alloc, &alone)?;
-    let (told, entries, text) = day_from::<Brand, HostRuntime, Crew<&HostRuntime>>(
+    let entries = day_from::<Brand, HostRuntime, Crew<&HostRuntime>>(
         &rt,
         alloc,
         Blank::new(16),
         history,
-        ELEMENT,
         &alone,
     )?;
-    assert!(rt; told.as_str() == "{\"value\":0}", "{told}");
     assert_eq!(rt; entries, 1);
-    assert!(rt; text.as_str() == TEXT, "{text}");
     Ok(())
 }
 

@@ -53,9 +53,11 @@ fn footprint_index_of_a_copy(rt: HostRuntime) -> Result<(), Fail> {
     assert!(rt; index.first_to_block_undo(&set, 2) == Some(3));
     assert!(rt; index.first_to_block_undo(&set, 3) == Some(4));
     assert!(rt; index.blockers(rt.alloc(), &set, 3)?.as_slice() == [4].as_slice());
+    assert!(rt; index.first_writer(&elements, &[], 3) == Some(4));
     assert!(rt; index.first_to_block_redo(&elements, &[], &Changes::new(), 3) == Some(4));
     index.take(4, &reads_of_copy, &[], &copied);
     assert!(rt; index.first_to_block_undo(&set, 3).is_none());
+    assert!(rt; index.first_writer(&elements, &[], 3).is_none());
     assert!(rt;
         index
             .first_to_block_redo(&elements, &[], &Changes::new(), 3)
