@@ -1,0 +1,93 @@
+-- Which lines are changes of a history, and which changes an answered line made.
+use Rattle.std.specs.Prelude.{◌≡◌, ◌⊎◌, ℕ, List, [], ◌∷◌, ◌++◌, map, Some, Result, Ok}
+use Rattle.wb_kept.specs.Runs.{Leads}
+use Rattle.wb_proto.specs.Below.wb_history.Past.{Past}
+use Rattle.wb_proto.specs.Below.wb_log.refusal.Refusal.{Refusal}
+use Rattle.wb_proto.specs.Machine.{Changes, UndoesNumber, Redoes, StepIfRead, NothingDone}
+use Rattle.wb_proto.specs.Replies.{reply_of}
+use Rattle.wb_proto.specs.Requests.{request}
+use Rattle.wb_proto.specs.declared.replies.reply.Reply.{Reply}
+use Rattle.wb_proto.specs.declared.replies.reply.Reply.TheVariants.{Edited, Undone, Cascaded, Redone}
+use Rattle.wb_proto.specs.declared.requests.request.Request.{Request}
+use Rattle.wb_proto.specs.declared.requests.request.Request.TheVariants.{Change, Undo, Redo}
+use Rattle.wb_wire.specs.Encoded.{request_line}
+
+-- the history before any change
+abbrev pub no_edit : Past
+no_edit = record { entries = []; writes = 0 }
+
+-- A request that changes a history is granted: an edit, an undo or a redo of a number. No other request is a change.
+abbrev pub GrantsRequest : Past → Request → Past → Type 0
+GrantsRequest p (Change e) q = (k n : ℕ) × Changes p e (Edited k n) q
+GrantsRequest p (Undo (Some k)) q = (n : ℕ) × UndoesNumber p k (Undone k n) q
+GrantsRequest p (Redo k) q = (n : ℕ) × Redoes p k (Redone k n) q
+GrantsRequest p _ q = ⊥
+
+-- a line is read as such a request
+abbrev pub Grants : Past → List ℕ → Past → Type 0
+Grants p line q = (asked : Request) × (request line ≡ Ok asked) × GrantsRequest p asked q
+
+-- an undo of each number
+abbrev pub undos_of : List ℕ → List Request
+undos_of ns = map (λ k. Undo (Some k)) ns
+
+-- The undos and redos that a reply tells of. An undo of the latest edit is one of its number, and an undo with dependents is
+-- an undo of each.
+abbrev pub undos_made : Reply → List Request
+undos_made (Undone k n) = Undo (Some k) ∷ []
+undos_made (Redone k n) = Redo k ∷ []
+undos_made (Cascaded ns n) = undos_of ns
+undos_made reply = []
+
+-- The requests that change the history as an answered request did. A question and a refusal change nothing.
+abbrev pub changes_made : Reply → Result Request Refusal → List Request
+changes_made (Edited k n) (Ok (Change e)) = Change e ∷ []
+changes_made reply asked = undos_made reply
+
+-- the canonical line of a request, which is read back as it
+pub record IsLineOf (asked : Request) (line : List ℕ) : Type 0 where
+  pub text : line ≡ request_line asked
+  pub read_back : request line ≡ Ok asked
+
+-- so is each line of a list
+abbrev pub AreLinesOf : List Request → List (List ℕ) → Type 0
+AreLinesOf [] [] = Unit {0}
+AreLinesOf [] (line ∷ lines) = ⊥
+AreLinesOf (asked ∷ more) [] = ⊥
+AreLinesOf (asked ∷ more) (line ∷ lines) = IsLineOf asked line × AreLinesOf more lines
+
+-- the lines of these requests were added
+abbrev pub AddsLinesOf : List Request → (old new : List (List ℕ)) → Type 0
+AddsLinesOf asked old new = (lines : List (List ℕ)) × AreLinesOf asked lines × (new ≡ old ++ lines)
+
+-- the line was added, where the reply tells of a new edit
+abbrev pub AddsIfEdited : Reply → List ℕ → (old new : List (List ℕ)) → Type 0
+AddsIfEdited (Edited k n) line old new = new ≡ old ++ line ∷ []
+AddsIfEdited reply line old new = new ≡ old
+
+-- a request that is no edit
+abbrev pub IsOther : Request → Type 0
+IsOther (Change e) = ⊥
+IsOther asked = Unit {0}
+
+-- A line is answered with the text of a reply to its request, and the changes that it made are written as canonical lines.
+pub record Answers (p : Past) (line text : List ℕ) (made : List (List ℕ)) (q : Past) : Type 0 where
+  pub reply : Reply
+  pub is_reply : StepIfRead p (request line) reply q ⊎ NothingDone p reply q
+  pub is_text : text ≡ reply_of reply
+  pub is_made : AreLinesOf (changes_made reply (request line)) made
+
+-- a request that a log has
+abbrev pub IsLogged : Request → Type 0
+IsLogged (Change e) = Unit {0}
+IsLogged (Undo (Some k)) = Unit {0}
+IsLogged (Redo k) = Unit {0}
+IsLogged asked = ⊥
+
+-- A change leads to one history.
+abbrev pub OneHistory : Type 0
+OneHistory = (p : Past) (line : List ℕ) (q u : Past) → Grants p line q → Grants p line u → q ≡ u
+
+-- The changes that an answer made, granted again one after the other, lead where it led.
+abbrev pub ChangesLead : Type 0
+ChangesLead = (p : Past) (line text : List ℕ) (made : List (List ℕ)) (q : Past) → Answers p line text made q → Leads Grants p made q

@@ -1,0 +1,19 @@
+// The one call of the machine of requests and replies.
+ghost use Rattle.wb_proto.specs.Machine.{Step};
+
+use std::alloc::Global;
+use wb_proto::below::history::History;
+use wb_proto::{Reply, Request, answer_request};
+use wb_redist::Mover;
+
+/// Answers a request.
+pub(crate) fn step<M: Mover>(
+    alloc: Global,
+    history: &mut History,
+    request: Request,
+    mover: &M,
+) -> Reply
+    ensures { Step history.old request result history.new }
+{
+    answer_request(alloc, history, request, mover)
+}
