@@ -1,10 +1,14 @@
-//! What a line costs while a desk is locked for it, about: in cells, or in bytes of a text that was made.
+//! What a line costs while a desk is locked for it, about, in bytes: eight for a cell that it touched, sixteen for a number that it
+//! lists, and the text that it printed.
 
 use wb_proto::below::history::{Answer, Query, Refusal};
 use wb_proto::{Reply, Request};
 
 // As much as a whole turn may.
 const WHOLE_TURN: u64 = 65_536;
+
+// A cell has so many bytes.
+const CELL: u64 = 8;
 
 // A number of a list is about so many bytes of text.
 const NUMBER: u64 = 16;
@@ -45,15 +49,19 @@ fn cost_to_look(query: &Query) -> u64 {
 /// What a reply tells of.
 pub(crate) fn cost_of(reply: &Reply) -> u64 {
     match reply {
-        Reply::Edited(_, cells) => *cells as u64,
-        Reply::Undone(_, cells) => *cells as u64,
-        Reply::Cascaded(_, cells) => *cells as u64,
-        Reply::Redone(_, cells) => *cells as u64,
+        Reply::Edited(_, cells) => cost_of_cells(*cells),
+        Reply::Undone(_, cells) => cost_of_cells(*cells),
+        Reply::Cascaded(_, cells) => cost_of_cells(*cells),
+        Reply::Redone(_, cells) => cost_of_cells(*cells),
         Reply::Listed(numbers) => (numbers.as_slice().len() as u64).saturating_mul(NUMBER),
         Reply::Answered(answer) => cost_of_answer(answer),
         Reply::Printed(text) => text.as_str().len() as u64,
         Reply::Counted(_, _) | Reply::Refused(_) => 0,
     }
+}
+
+fn cost_of_cells(cells: usize) -> u64 {
+    (cells as u64).saturating_mul(CELL)
 }
 
 fn cost_of_answer(answer: &Answer) -> u64 {

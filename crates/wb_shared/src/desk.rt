@@ -36,10 +36,24 @@ pub enum DeskErr {
 // How often a thread looks for the lock before it sleeps.
 const LOOKS: u32 = 1_000;
 
-/// A workbook that several seats share.
+/// A workbook that several seats share. Whoever wants its lock takes the door first, and keeps it until the lock is had: who lets
+/// the lock go can't have it again before the one at the door had it.
 #[derive(Drop)]
 pub struct Desk<L: Opening> {
+    door: Mutex<()>,
     shared: Mutex<Shared<L>>,
+}
+
+// Takes a lock. What a lock is held for is mostly done sooner than a thread that sleeps is woken, so this looks a while before it
+// sleeps, and lets other threads run between two looks.
+fn taken<'m, R: Wait, T>(lock: &'m Mutex<T>, rt: &R) -> MutexGuard<'m, T> {
+    for _ in 0..LOOKS {
+        if let Some(guard) = lock.try_lock() {
+            return guard;
+        }
+        yield_now();
+    }
+    lock.lock(rt)
 }
 
 // A pass for each of so many seats, each with a part of a share.
@@ -116,22 +130,19 @@ impl<L: Opening> Desk<L> {
                     kept: Counted { journal, calls },
                     rest,
                 });
-                Ok((Desk { shared }, passes))
+                let door = Mutex::new(());
+                Ok((Desk { door, shared }, passes))
             }
             Err(history) => Err((history, DeskErr::NoMemory)),
         }
     }
 
-    // Takes the lock. One request is answered sooner than a thread that sleeps is woken, so it looks a while before it sleeps,
-    // and lets other threads run between two looks.
+    // Takes the lock, after the door.
     pub(crate) fn taken<R: Wait>(&self, rt: &R) -> MutexGuard<'_, Shared<L>> {
-        for _ in 0..LOOKS {
-            if let Some(guard) = self.shared.try_lock() {
-                return guard;
-            }
-            yield_now();
-        }
-        self.shared.lock(rt)
+        let door = taken(&self.door, rt);
+        let guard = taken(&self.shared, rt);
+        drop(door);
+        guard
     }
 
     /// Takes the lock, and answers one request of a pass.
@@ -172,7 +183,7 @@ pub fn settle<L: Opening>(desk: Desk<L>, passes: Vec<Pass<L>>) -> Result<Shared<
     ensures passes { IfErr result (λ u. u.passes.items ≡ passes.items) }
     ensures cause { IfErr result (λ u. IsCause u.shared.course.seats u.shared.course.entries passes.items u.cause) }
 {
-    let Desk { shared } = desk;
+    let Desk { door: _, shared } = desk;
     let shared = shared.into_inner();
     match shared.cause(&passes) {
         None => Ok(shared),
