@@ -52,6 +52,8 @@ from .refusals import (
 )
 from .snapshot import Snapshot
 
+__version__ = "0.1.0"
+
 __all__ = [
     "Array", "BadLiteral", "BadMapping", "BadRequest", "Blocked", "Cascade", "Domain", "Edit",
     "Empty", "InForce", "InUse", "LineTooLong", "NameTaken", "NoAnswer", "NoMemory", "NoProgram",
