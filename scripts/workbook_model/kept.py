@@ -1,0 +1,122 @@
+"""A workbook kept in a journal file, by docs/PROTOCOL.md: which changes a file stands for, and how one more is added."""
+
+import fcntl
+import os
+import stat
+
+from .book import CHANGES
+from .literals import Refused
+from .machine import Machine, line_of, text_of
+from .reading import json_of, request_of
+
+HEADER = b"chapel-workbook 3\n"
+START = HEADER + b"#"
+
+
+class NotOpened(Exception):
+    """A file isn't opened: why, in a sentence."""
+
+
+def is_ours(held):
+    """Whether a file begins with the header, or is the front of one that would."""
+    front = min(len(held), len(HEADER))
+    return held[:front] == HEADER[:front]
+
+
+def changes_of(held):
+    """The lines that a file stands for, whatever a crash made of its end."""
+    found = []
+    for line in held[len(HEADER) :].split(b"\n")[:-1]:
+        if line[:1] != b" ":
+            break
+        found.append(line[1:])
+    return found
+
+
+def make(machine, line):
+    """Makes a change again. Says whether it is granted."""
+    try:
+        request = request_of(json_of(line))
+    except Refused:
+        return False
+    numbered = request["op"] in ("undo", "redo") and "k" in request
+    return (numbered or request["op"] in CHANGES) and "error" not in machine.do(request)
+
+
+def restored(held):
+    """The machine of a file's changes, or None where one isn't granted."""
+    machine = Machine()
+    return machine if all(make(machine, line) for line in changes_of(held)) else None
+
+
+def changes_made(request, reply):
+    """The lines that keep what a request did: none for a question, nor for a refusal."""
+    if "edit" in reply:
+        return [line_of(request)]
+    if "redone" in reply:
+        return [text_of({"op": "redo", "k": reply["redone"]})]
+    undone = reply.get("undone", [])
+    return [text_of({"op": "undo", "k": k}) for k in (undone if isinstance(undone, list) else [undone])]
+
+
+class Journal:
+    """An open journal file, locked until it is closed. `held` is what it held."""
+
+    def __init__(self, path):
+        begin(path)
+        if not stat.S_ISREG(os.stat(path).st_mode):
+            raise NotOpened("is no regular file")
+        self.file = os.open(path, os.O_RDWR)
+        try:
+            fcntl.flock(self.file, fcntl.LOCK_EX | fcntl.LOCK_NB)
+        except BlockingIOError:
+            os.close(self.file)
+            raise NotOpened("is open in another process") from None
+        self.held = b"".join(iter(lambda: os.read(self.file, 1 << 16), b""))
+        if not is_ours(self.held):
+            raise NotOpened("is no journal of a workbook")
+
+    def repair(self):
+        """Puts the end right that a crash may have left."""
+        whole = len(HEADER) + sum(len(line) + 2 for line in changes_of(self.held))
+        end = whole if len(self.held) >= len(HEADER) else 0
+        os.ftruncate(self.file, end)
+        os.fdatasync(self.file)
+        write_at(self.file, end, b"#" if end else START)
+        os.fdatasync(self.file)
+        self.mark = whole
+
+    def keep(self, lines):
+        """Adds lines. They are on the disk when it comes back, and a crash leaves all of them or none."""
+        if not lines:
+            return
+        block = b"".join(b" %s\n" % line.encode() for line in lines)
+        write_at(self.file, self.mark + 1, block[1:] + b"#")
+        os.fdatasync(self.file)
+        write_at(self.file, self.mark, b" ")
+        os.fdatasync(self.file)
+        self.mark += len(block)
+
+
+def begin(path):
+    """Makes a file that is missing, whole, unless another process is first."""
+    if os.path.exists(path):
+        return
+    beside = "%s.%d.new" % (path, os.getpid())
+    with open(beside, "wb") as file:
+        file.write(START)
+        file.flush()
+        os.fsync(file.fileno())
+    try:
+        os.link(beside, path)
+    except FileExistsError:
+        pass
+    finally:
+        os.remove(beside)
+
+
+def write_at(file, at, data):
+    """Writes all of these bytes at a place."""
+    while data:
+        done = os.pwrite(file, data, at)
+        data, at = data[done:], at + done
