@@ -2,6 +2,9 @@
 
 import json
 import os
+import pty
+import select
+import signal
 import subprocess
 import sys
 from pathlib import Path
@@ -64,6 +67,55 @@ class Server:
             book.close()
         self.kill()
         self._told.close()
+
+
+class Terminal:
+    """A module of the client, as it is started at a terminal."""
+
+    def __init__(self, *words: str):
+        self._parent, child = pty.openpty()
+        self.process = subprocess.Popen(
+            [sys.executable, "-m", *words], stdin=child, stdout=child, stderr=child, cwd=HERE.parents[1], start_new_session=True,
+            env={**os.environ, "TERM": "dumb", "WORKBOOK_HISTORY": os.devnull},
+            preexec_fn=lambda: signal.signal(signal.SIGINT, signal.SIG_DFL),  # a shell's background job has it ignored
+        )
+        os.close(child)
+        self._seen = ""
+
+    def types(self, text: str) -> None:
+        """Keys are pressed: `\\n` is Enter, `\\x04` Ctrl-D, `\\t` Tab."""
+        os.write(self._parent, text.encode())
+
+    def interrupt(self) -> None:
+        """Ctrl-C."""
+        self.process.send_signal(signal.SIGINT)
+
+    def waits(self, seconds: float) -> bool:
+        """Whether nothing comes for so long."""
+        return not select.select([self._parent], [], [], seconds)[0]
+
+    def until(self, words: str) -> str:
+        """What is shown up to these words."""
+        while words not in self._seen:
+            if self.waits(10):
+                raise AssertionError(f"waited for {words!r}, saw {self._seen!r}")
+            try:
+                self._seen += os.read(self._parent, 4096).decode()
+            except OSError:  # it has ended
+                raise AssertionError(f"waited for {words!r}, saw {self._seen!r} and the end") from None
+        at = self._seen.index(words) + len(words)
+        told, self._seen = self._seen[:at], self._seen[at:]
+        return told
+
+    def ends(self) -> int:
+        """The exit status of one that ends."""
+        return self.process.wait(10)
+
+    def close(self) -> None:
+        """Ends it."""
+        self.process.kill()
+        self.process.wait()
+        os.close(self._parent)
 
 
 class Told(Channel):

@@ -4,13 +4,12 @@ import io
 import os
 import re
 import shutil
-import signal
 import subprocess
 import sys
 import tempfile
 import unittest
 
-from tests.support import HERE, PROGRAM, Server
+from tests.support import HERE, PROGRAM, Server, Terminal
 from workbook_client import Workbook
 from workbook_client.language import WORDS
 from workbook_client.session import Session
@@ -264,59 +263,73 @@ class Whole(unittest.TestCase):
                 gone = subprocess.run([sys.executable, "-m", "workbook_client", "--resume", *words], capture_output=True, text=True, cwd=PACKAGE)
                 self.assertEqual((gone.returncode, why in gone.stderr), (3, True), gone.stderr)
 
+    def at_a_terminal(self, *words: str) -> Terminal:
+        terminal = Terminal("workbook_client", "--program", PROGRAM, *words)
+        self.addCleanup(terminal.close)
+        return terminal
+
     def test_at_a_terminal(self):
         """A prompt, completion by Tab, Ctrl-C, and the mark under the typed line."""
-        try:
-            import pty
-        except ImportError:
-            self.skipTest("no terminals here")
-        import select
+        terminal = self.at_a_terminal()
+        self.assertIn("kept nowhere", terminal.until("workbook> "))
+        terminal.types("Plan = {1..4}\n")
+        terminal.until("edit 1, 3 cells")
+        terminal.until("workbook> ")
+        terminal.types("A over Pl\t\n")
+        self.assertIn("A over Plan", terminal.until("edit 2, 7 cells"))
+        terminal.until("workbook> ")
+        terminal.types("A[4 = 9\n")
+        self.assertIn("\n" + " " * 14 + "^", terminal.until("expected").replace("\r", ""))
+        terminal.until("workbook> ")
+        for _ in range(20):  # as Ctrl-C: the line goes, the workbook stays
+            terminal.interrupt()
+            if not terminal.waits(0.5):  # else it came before it was waited for
+                break
+        terminal.until("workbook> ")
+        terminal.types("A[4] += 3\n")
+        terminal.until("edit 3, 1 cell")
 
-        parent, child = pty.openpty()
-        process = subprocess.Popen(
-            [sys.executable, "-m", "workbook_client", "--program", PROGRAM],
-            stdin=child, stdout=child, stderr=child, cwd=PACKAGE, env={**os.environ, "TERM": "dumb", "WORKBOOK_HISTORY": os.devnull},
-            start_new_session=True,
-            preexec_fn=lambda: signal.signal(signal.SIGINT, signal.SIG_DFL),  # a shell's background job has it ignored
-        )
-        os.close(child)
-        seen = ""
+    def test_a_session_that_is_kept_nowhere_is_asked_about(self):
+        with tempfile.TemporaryDirectory() as place:
+            path = os.path.join(place, "plan")
+            terminal = self.at_a_terminal()
+            terminal.until("workbook> ")
+            terminal.types("D = {1..4}\n")
+            terminal.until("workbook> ")
+            for leave, answer in (("quit\n", "n\n"), ("quit\n", "\n"), ("\x04", "no\n"), ("exit\n", "why?\n")):
+                terminal.types(leave)
+                self.assertIn("1 edit is kept nowhere, and would be gone", terminal.until("[y/N] "))
+                terminal.types(answer)
+                terminal.until("workbook> ")
+            terminal.types("quit\n")
+            terminal.until("[y/N] ")
+            terminal.interrupt()
+            terminal.until("workbook> ")
+            terminal.types("undo\n")
+            terminal.until("workbook> ")
+            terminal.types(f"keep {path}\n")
+            terminal.until("workbook> ")
+            terminal.types("size D\n")
+            terminal.until("workbook> ")
+            terminal.types("quit\n")  # it is kept, and nothing changed since
+            self.assertEqual(terminal.ends(), 0)
+            terminal = self.at_a_terminal("--resume", path)
+            terminal.until("workbook> ")
+            terminal.types("redo 1\n")  # an undo and a redo change it too
+            terminal.until("workbook> ")
+            terminal.types("\x04")
+            terminal.until("[y/N] ")
+            terminal.types("\x04")
+            self.assertEqual(terminal.ends(), 0)
 
-        def until(words: str) -> str:
-            nonlocal seen
-            while words not in seen:
-                ready, _, _ = select.select([parent], [], [], 10)
-                self.assertTrue(ready, f"waited for {words!r}, saw {seen!r}")
-                seen += os.read(parent, 4096).decode()
-            at = seen.index(words) + len(words)
-            told, seen = seen[:at], seen[at:]
-            return told
-
-        try:
-            until("workbook> ")
-            os.write(parent, b"Plan = {1..4}\n")
-            until("edit 1, 3 cells")
-            until("workbook> ")
-            os.write(parent, b"A over Pl\t\n")
-            self.assertIn("A over Plan", until("edit 2, 7 cells"))
-            until("workbook> ")
-            os.write(parent, b"A[4 = 9\n")
-            self.assertIn("\n" + " " * 14 + "^", until("expected").replace("\r", ""))
-            until("workbook> ")
-            for _ in range(20):  # as Ctrl-C: the line goes, the workbook stays
-                process.send_signal(signal.SIGINT)
-                if select.select([parent], [], [], 0.5)[0]:  # else it came before it was waited for
-                    break
-            until("workbook> ")
-            os.write(parent, b"A[4] += 3\n")
-            until("edit 3, 1 cell")
-            until("workbook> ")
-            os.write(parent, b"quit\n")
-            self.assertEqual(process.wait(10), 0)
-        finally:
-            process.kill()
-            process.wait()
-            os.close(parent)
+    def test_a_session_where_nothing_was_done_is_left_at_once(self):
+        for leave in ("quit\n", "\x04"):
+            terminal = self.at_a_terminal()
+            terminal.until("workbook> ")
+            terminal.types("D[1] = 4\n")
+            terminal.until("workbook> ")
+            terminal.types(leave)
+            self.assertEqual(terminal.ends(), 0)
 
     def test_the_code_of_the_readme(self):
         """Each print gives what its remark says."""

@@ -17,6 +17,7 @@ from .errors import (
     NoProgram,
     NoSeat,
     NoServer,
+    NotOpened,
     NotResumed,
     NotTakenBack,
     SessionEnded,
@@ -57,8 +58,8 @@ __version__ = "0.1.0"
 __all__ = [
     "Array", "BadLiteral", "BadMapping", "BadRequest", "Blocked", "Cascade", "Domain", "Edit",
     "Empty", "InForce", "InUse", "LineTooLong", "NameTaken", "NoAnswer", "NoMemory", "NoProgram",
-    "NoSeat", "NoServer", "NoSuchEdit", "NoSuchName", "NotEmpty", "NotInForce", "NotResumed", "NotTakenBack",
-    "OutOfDomain", "OutOfParent", "Overflow", "Pipeline", "Reading", "Refusal", "RefusedInPlace",
+    "NoSeat", "NoServer", "NoSuchEdit", "NoSuchName", "NotEmpty", "NotInForce", "NotOpened", "NotResumed",
+    "NotTakenBack", "OutOfDomain", "OutOfParent", "Overflow", "Pipeline", "Reading", "Refusal", "RefusedInPlace",
     "SessionEnded", "Snapshot", "StrangePass", "StrangeReply", "TooLarge", "Workbook",
     "WorkbookError", "WrongKind", "block", "block_cyclic", "cyclic",
 ]

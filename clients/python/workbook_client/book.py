@@ -1,10 +1,10 @@
 """A workbook: its session, its edits, and what is done to it as a whole."""
 
 from contextlib import contextmanager
-from typing import Any, Dict, Iterator, List, Optional, Sequence, Tuple, Union
+from typing import Any, Dict, Iterator, List, Optional, Tuple, Union
 
-from . import hearing, requests, turning
-from .channel import Channel, ProgramChannel, SocketChannel, command
+from . import hearing, journal as journals, requests, turning
+from .channel import Channel, Program, ProgramChannel, SocketChannel, command
 from .edits import Cascade, Edit, Pipeline
 from .errors import NoAnswer, NoSeat, NotResumed, SessionEnded, StrangeReply
 from .exchange import Exchange, Reading, Reply, first_refusal
@@ -29,6 +29,8 @@ class Workbook:
         """Whether nobody else is in this workbook."""
         self.where = where
         """The address of a shared workbook."""
+        self.journal: Optional[str] = None
+        """The file in which each change is kept before its reply comes; None where that is none of this session's."""
         self.edits: Dict[int, Edit] = {}
         """The edits that this session made or heard of, by number."""
         self.last_edit: Optional[Edit] = None
@@ -40,16 +42,22 @@ class Workbook:
 
     @classmethod
     def run(
-        cls, program: Optional[Union[str, Sequence[str]]] = None, timeout: Optional[float] = None,
-        resume: Optional[str] = None,
+        cls, program: Optional[Program] = None, timeout: Optional[float] = None, resume: Optional[str] = None,
+        journal: Optional[journals.Path] = None,
     ) -> "Workbook":
         """Starts a program of our own, which ends with the session. Its workbook is empty, or goes
-        on from the text of a history, `history_text()` of an earlier session.
+        on from the text of a history, `history_text()` of an earlier session; or it lies in a
+        `journal` file, in which each change is kept, on the disk, before its reply comes. A file
+        that isn't there is made; one that can't be opened is `NotOpened`, and stays as it is.
 
         The program is what WORKBOOK_PROGRAM names, `workbook` on the path, or the one that the
         repository has built; a list of words is started as it is. After `timeout` seconds without
         a byte of a reply, `NoAnswer`.
         """
+        if journal is not None:
+            if resume is not None:
+                raise ValueError("a workbook goes on from a history or from its journal, not from both")
+            return cls._kept(program, journals.place_of(journal), timeout)
         if resume is None:
             channel = ProgramChannel(program)
             channel.timeout = timeout
@@ -68,6 +76,25 @@ class Workbook:
             book.close()
             raise
         hearing.note(book, past, "before")
+        return book
+
+    @classmethod
+    def _kept(cls, program: Optional[Program], place: str, timeout: Optional[float]) -> "Workbook":
+        channel = journals.KeptChannel(program, place)
+        book = cls(channel, "me", alone=True)
+        book.journal = place
+        try:
+            book.exchange.knock()  # however long the file is: its changes are made again first
+            if book.counts() != (0, 0):
+                hearing.note(book, hearing.read(book.history_text()), "before")
+        except SessionEnded as no:
+            told = journals.refused(channel, no)
+            book.close()
+            raise told from no
+        except BaseException:
+            book.close()
+            raise
+        channel.timeout = timeout
         return book
 
     @classmethod

@@ -5,8 +5,9 @@ import select
 import shutil
 import socket
 import subprocess
+import tempfile
 from pathlib import Path
-from typing import List, Optional, Sequence, Union
+from typing import IO, List, Optional, Sequence, Union
 
 from .errors import NoAnswer, NoProgram, NoServer, SessionEnded
 
@@ -15,6 +16,12 @@ PIECE = 65_536
 
 EARLY = 16_384
 """With so many bytes waiting, a send begins to write, so that the other side can begin too."""
+
+LONGEST_WORDS = 500
+"""So much is told of what a program said at its end."""
+
+Program = Union[str, Sequence[str]]
+"""A program: its path, or the words that start it."""
 
 STATUSES = {2: "a bad command line", 3: "its input or output failed", 4: "no memory"}
 """What the program's exit statuses say."""
@@ -130,12 +137,14 @@ class Channel:
 class ProgramChannel(Channel):
     """A program of our own, `workbook run`, which ends with this channel."""
 
-    def __init__(self, program: Optional[Union[str, Sequence[str]]] = None):
+    def __init__(self, program: Optional[Program] = None):
         words = command(program)
+        self._said = _scratch()
+        """What the program writes to standard error, where this client could have it."""
         try:
             # A process group of its own: Ctrl-C at a prompt is for the client, not for the program.
             self._process = subprocess.Popen(
-                words, bufsize=0, stdin=subprocess.PIPE, stdout=subprocess.PIPE,
+                words, bufsize=0, stdin=subprocess.PIPE, stdout=subprocess.PIPE, stderr=self._said,
                 start_new_session=True,
             )
         except OSError as fault:
@@ -144,12 +153,26 @@ class ProgramChannel(Channel):
         super().__init__(self._process.stdout.fileno(), self._process.stdin.fileno())
 
     def why(self) -> str:
-        try:
-            status = self._process.wait(1)
-        except subprocess.TimeoutExpired:
+        status = self.status()
+        if status is None:
             return "the program answers no more"
-        said = STATUSES.get(status)
+        said = self.words() or STATUSES.get(status)
         return f"the program has ended with status {status}" + (f" ({said})" if said else "")
+
+    def status(self) -> Optional[int]:
+        """The exit status of a program that has ended, or ends now."""
+        try:
+            return self._process.wait(1)
+        except subprocess.TimeoutExpired:
+            return None
+
+    def words(self) -> str:
+        """The last line that the program wrote to standard error."""
+        if self._said is None or self._said.closed:
+            return ""
+        self._said.seek(0)
+        told = self._said.read().decode(errors="replace").strip()
+        return told.rpartition("\n")[2][:LONGEST_WORDS]
 
     def close(self) -> None:
         if self.closed:
@@ -163,6 +186,16 @@ class ProgramChannel(Channel):
         except subprocess.TimeoutExpired:
             self._process.kill()
             self._process.wait()
+        if self._said is not None:
+            self._said.close()
+
+
+def _scratch() -> Optional[IO[bytes]]:
+    """A file without a name; None where there is no room for one."""
+    try:
+        return tempfile.TemporaryFile()
+    except OSError:
+        return None
 
 
 class SocketChannel(Channel):
@@ -191,7 +224,7 @@ BUILT = Path(__file__).resolve().parents[3] / "crates" / "workbook" / "out" / "w
 """The program that the repository has built, where this package lies in it."""
 
 
-def command(program: Optional[Union[str, Sequence[str]]] = None) -> List[str]:
+def command(program: Optional[Program] = None) -> List[str]:
     """The words that start the program: as given, else WORKBOOK_PROGRAM, else `workbook` on the
     path, else the one that the repository has built."""
     if program is not None and not isinstance(program, str):

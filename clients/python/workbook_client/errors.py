@@ -27,6 +27,10 @@ class NotResumed(SessionEnded):
     """A program did not go on from a text, which is no history's."""
 
 
+class NotOpened(SessionEnded):
+    """A program did not open a journal file. It stays as it is."""
+
+
 class StrangeReply(SessionEnded):
     """What came is no reply of a workbook. The session ends, since nothing could be told apart."""
 

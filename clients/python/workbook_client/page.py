@@ -21,9 +21,9 @@ from typing import Any, Callable, Dict, List, Optional, Tuple
 from urllib.parse import parse_qs
 
 from .book import Workbook
-from .errors import NoProgram, SessionEnded
+from .errors import SessionEnded, WorkbookError
 from .session import Session
-from .terminal import arguments, open_book
+from .terminal import arguments, may_leave, open_book
 from .view import View
 
 PAGE = Path(__file__).with_name("page.html")
@@ -195,6 +195,17 @@ def serve(book: Workbook, port: int = 0) -> Server:
     return server
 
 
+def serve_until_left(server: Server, session: Session) -> None:
+    """Answers the page until Ctrl-C. At a terminal a workbook that is kept nowhere is asked about first."""
+    while True:
+        try:
+            server.serve_forever()
+        except KeyboardInterrupt:
+            print()
+            if not sys.stdin.isatty() or may_leave(session):
+                return
+
+
 def main(words: Optional[List[str]] = None) -> int:
     """The page, until Ctrl-C."""
     parser = arguments("A page for a workbook, on 127.0.0.1.")
@@ -205,8 +216,9 @@ def main(words: Optional[List[str]] = None) -> int:
     args = parser.parse_args(words)
     try:
         with open_book(args) as book:
+            session = Session(book)
+            print(session.place())
             if args.file:
-                session = Session(book)
                 with open(args.file, encoding="utf-8") as lines:
                     for line in lines:
                         session.line(line.rstrip("\r\n"))
@@ -214,10 +226,10 @@ def main(words: Optional[List[str]] = None) -> int:
                 print(f"the page is at {server.url} (Ctrl-C ends it)", flush=True)
                 if args.open:
                     webbrowser.open(server.url)
-                server.serve_forever()
+                serve_until_left(server, session)
     except KeyboardInterrupt:
         print()
-    except (NoProgram, SessionEnded, OSError, OverflowError, UnicodeDecodeError) as end:  # OverflowError: no such port
+    except (WorkbookError, OSError, OverflowError, UnicodeDecodeError) as end:  # OverflowError: no such port
         print(f"workbook_client.page: {end}", file=sys.stderr)
         return 3
     return 0

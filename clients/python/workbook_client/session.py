@@ -72,6 +72,26 @@ class Session:
         """Whether the last line was refused, or wasn't of the language."""
         self.refusal: Optional[Refusal] = None
         """What the program refused it with."""
+        self._kept = self._now()
+        """Which edits there were, and which in force, when a file last had them."""
+
+    def _now(self) -> List[bool]:
+        return [edit.was_in_force for edit in self.book.edits.values()]
+
+    def unkept(self) -> int:
+        """How many edits go with the session: none where they are kept, or others have them."""
+        kept = self.book.journal is not None or not self.book.alone or self._now() == self._kept
+        return 0 if kept else len(self.book.edits)
+
+    def place(self) -> str:
+        """Where the workbook lies, and whether it is kept."""
+        if not self.book.alone:
+            return f"a workbook that others share, at {self.book.where}"
+        if self.book.journal is None:
+            return "this workbook is kept nowhere: keep FILE writes its history, and --journal FILE keeps each change"
+        edits = self._now()
+        there = f"{_edits(len(edits))}, {sum(edits):,} in force" if edits else "a new workbook"
+        return f"{self.book.journal}: {there}; each change is kept there, before it is told"
 
     @property
     def width(self) -> int:
@@ -253,14 +273,16 @@ class Session:
     def do_save(self, path: str) -> None:
         text = self.book.print_text()
         _write(os.path.realpath(os.path.expanduser(path)), text)
+        self._kept = self._now()
         self.say(f"  {path}: {text.count(chr(10)) - 2} objects, {len(text.encode()):,} bytes")
 
     def do_keep(self, path: str) -> None:
         text = self.book.history_text()
         _write(os.path.realpath(os.path.expanduser(path)), text)
+        self._kept = self._now()
         past = hearing.read(text)
         on = sum(in_force for in_force, _ in past.edits.values())
-        self.wrapped(f"{path}: {len(past.edits):,} edits, {on:,} in force; --resume {path} goes on from it")
+        self.wrapped(f"{path}: {_edits(len(past.edits))}, {on:,} in force; --resume {path} goes on from it")
 
     def do_load(self, path: str) -> None:
         with open(os.path.expanduser(path), encoding="utf-8", newline="") as file:
@@ -342,6 +364,10 @@ def numbered(numbers: List[int]) -> str:
         return f"{', '.join(map(str, numbers[:8]))}, .. and {numbers[-1]}, {len(numbers):,} edits"
     *first, last = map(str, numbers)
     return f"{', '.join(first)} and {last}" if first else last
+
+
+def _edits(number: int) -> str:
+    return "1 edit" if number == 1 else f"{number:,} edits"
 
 
 def _cells(number: int) -> str:

@@ -7,7 +7,7 @@ import sys
 from typing import Any, List, Optional, TextIO, Tuple
 
 from .book import Workbook
-from .errors import NoProgram, NotResumed, SessionEnded
+from .errors import NoProgram, NotResumed, SessionEnded, WorkbookError
 from .language import WORDS
 from .refusals import Refusal
 from .session import Session
@@ -53,6 +53,7 @@ def _with_readline(book: Workbook) -> Optional[str]:
 def converse(session: Session) -> int:
     """A prompt until the end."""
     path = _with_readline(session.book)
+    session.wrapped(session.place())
     session.say("help lists what you can write; quit, or Ctrl-D, ends.")
     try:
         while True:
@@ -63,9 +64,11 @@ def converse(session: Session) -> int:
                 continue
             except EOFError:
                 session.say("")
-                return 0
+                if may_leave(session):
+                    return 0
+                continue
             try:
-                if not session.line(text, PROMPT):
+                if not session.line(text, PROMPT) and may_leave(session):
                     return 0
             except KeyboardInterrupt:
                 session.say("  (not waited for; its reply is read before the next)")
@@ -79,9 +82,28 @@ def converse(session: Session) -> int:
                 pass
 
 
+def may_leave(session: Session) -> bool:
+    """Asks before a session is left whose edits are kept nowhere. A second Ctrl-D leaves it."""
+    unkept = session.unkept()
+    if not unkept:
+        return True
+    what = "1 edit is" if unkept == 1 else f"{unkept:,} edits are"
+    session.wrapped(f"{what} kept nowhere, and would be gone; keep FILE writes the history to a file")
+    try:
+        return input("  leave all the same? [y/N] ").strip().lower() in ("y", "yes")
+    except EOFError:
+        session.say("")
+        return True
+    except KeyboardInterrupt:
+        session.say("")
+        return False
+
+
 def script(session: Session, lines: TextIO, keep_going: bool) -> int:
     """The lines of a file, each shown before what came of it. A refusal ends it with status 1."""
     status = 0
+    if session.book.journal is not None:
+        session.wrapped(session.place())
     for text in lines:
         text = text.rstrip("\r\n")
         session.say(f"> {text}" if text else "")
@@ -111,16 +133,23 @@ def arguments(description: str) -> argparse.ArgumentParser:
         "--connect", metavar="HOST:PORT", type=address, help="a workbook that `workbook serve` shares"
     )
     parser.add_argument("--resume", metavar="FILE", help="go on from a history that `keep FILE` has written")
+    parser.add_argument("--journal", metavar="FILE", help="keep each change in FILE, and go on from those that are there")
+    parser.add_argument("plan", nargs="?", metavar="FILE", help="the same as --journal FILE")
     return parser
 
 
 def open_book(args: argparse.Namespace) -> Workbook:
-    """The workbook of --program, --resume or --connect."""
-    if args.connect and args.resume:
-        raise NoProgram("a shared workbook goes on by `workbook serve --resume`, not by its seats")
+    """The workbook of --program, --resume, --journal or --connect."""
+    files = [file for file in (args.journal, args.plan, args.resume) if file is not None]
+    if len(files) > 1:
+        raise NoProgram("a workbook goes on from one file: that of --journal, or that of --resume")
+    if args.connect and files:
+        raise NoProgram("a shared workbook is kept, and goes on, by `workbook serve`, not by its seats")
     if args.connect:
         return Workbook.connect(*args.connect)
-    if not args.resume:
+    if args.resume is None and files:
+        return Workbook.run(args.program, journal=files[0])
+    if args.resume is None:
         return _answering(Workbook.run(args.program))
     with open(args.resume, encoding="utf-8", newline="") as file:
         text = file.read()
@@ -160,7 +189,7 @@ def main(words: Optional[List[str]] = None) -> int:
             if args.file or not sys.stdin.isatty():
                 return script(session, sys.stdin, args.keep_going)
             return converse(session)
-    except (NoProgram, SessionEnded, OSError, UnicodeDecodeError) as end:
+    except (WorkbookError, OSError, UnicodeDecodeError) as end:
         print(f"workbook_client: {end}", file=sys.stderr)
         return 3
     except KeyboardInterrupt:

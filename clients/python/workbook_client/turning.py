@@ -86,7 +86,7 @@ class Steps:
             self._steps.pop()
 
     def _left(self, start: int, why: Exception, cause: BaseException) -> None:
-        if self._book.alone and isinstance(why, SessionEnded):
+        if self._book.alone and self._book.journal is None and isinstance(why, SessionEnded):
             return  # the workbook is gone with its session, so nothing of the block is left
         steps = self._steps[start:]
         before = {number: way == "undo" for way, number in reversed(steps)}  # by its first step

@@ -134,6 +134,7 @@ class View:
             self._ask_all(edits)
         state: Json = {
             "alone": self.book.alone,
+            "kept": harmless(self.book.journal or ""),
             **self._objects,
             "edits": [self._edit(edit) for edit in edits[-LATEST:]],
             "earlier": max(len(edits) - LATEST, 0),
