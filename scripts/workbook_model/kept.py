@@ -17,6 +17,10 @@ class NotOpened(Exception):
     """A file isn't opened: why, in a sentence."""
 
 
+class Failed(NotOpened):
+    """The file failed: what it has is known when it is opened again."""
+
+
 def is_ours(held):
     """Whether a file begins with the header, or is the front of one that would."""
     front = min(len(held), len(HEADER))
@@ -63,21 +67,24 @@ class Journal:
     """An open journal file, locked until it is closed. `held` is what it held."""
 
     def __init__(self, path):
-        begin(path)
-        if not stat.S_ISREG(os.stat(path).st_mode):
-            raise NotOpened("is no regular file")
-        self.file = os.open(path, os.O_RDWR)
         try:
-            fcntl.flock(self.file, fcntl.LOCK_EX | fcntl.LOCK_NB)
-        except BlockingIOError:
-            os.close(self.file)
-            raise NotOpened("is open in another process") from None
-        self.held = b"".join(iter(lambda: os.read(self.file, 1 << 16), b""))
+            self.file = opened(path)
+            self.held = b"".join(iter(lambda: os.read(self.file, 1 << 16), b""))
+        except OSError as fault:
+            raise NotOpened("the journal was not opened: " + in_words(fault)) from None
         if not is_ours(self.held):
-            raise NotOpened("is no journal of a workbook")
+            raise NotOpened("the file is no journal")
 
     def repair(self):
         """Puts the end right that a crash may have left."""
+        on_disk(self.put_right)
+
+    def keep(self, lines):
+        """Adds lines. They are on the disk when it comes back, and a crash leaves all of them or none."""
+        if lines:
+            on_disk(lambda: self.append(lines))
+
+    def put_right(self):
         whole = len(HEADER) + sum(len(line) + 2 for line in changes_of(self.held))
         end = whole if len(self.held) >= len(HEADER) else 0
         os.ftruncate(self.file, end)
@@ -86,16 +93,40 @@ class Journal:
         os.fdatasync(self.file)
         self.mark = whole
 
-    def keep(self, lines):
-        """Adds lines. They are on the disk when it comes back, and a crash leaves all of them or none."""
-        if not lines:
-            return
+    def append(self, lines):
         block = b"".join(b" %s\n" % line.encode() for line in lines)
         write_at(self.file, self.mark + 1, block[1:] + b"#")
         os.fdatasync(self.file)
         write_at(self.file, self.mark, b" ")
         os.fdatasync(self.file)
         self.mark += len(block)
+
+
+def opened(path):
+    """The file at a path, made where there is none, and locked."""
+    begin(path)
+    if not stat.S_ISREG(os.stat(path).st_mode):
+        raise NotOpened("the journal is no regular file")
+    file = os.open(path, os.O_RDWR)
+    try:
+        fcntl.flock(file, fcntl.LOCK_EX | fcntl.LOCK_NB)
+    except BlockingIOError:
+        os.close(file)
+        raise NotOpened("the journal is in use") from None
+    return file
+
+
+def on_disk(act):
+    """Does something with the file."""
+    try:
+        act()
+    except OSError as fault:
+        raise Failed("the journal failed: " + in_words(fault)) from None
+
+
+def in_words(fault):
+    """What the system says of a call that it refused."""
+    return "%s (os error %d)" % (os.strerror(fault.errno), fault.errno)
 
 
 def begin(path):

@@ -130,7 +130,7 @@ class Files(Kept):
     def test_a_file_is_open_once(self):
         with self.open() as book:
             book.domain("D", range(1, 5))
-            with self.assertRaisesRegex(NotOpened, "plan.wb isn't opened: .*another process"):
+            with self.assertRaisesRegex(NotOpened, "plan.wb isn't opened: the journal is in use"):
                 self.open()
             book.array("A", "D")
         self.assertEqual(self.text(), PLAN + "#")
@@ -169,14 +169,14 @@ class NotJournals(Kept):
         """Files, each with what is told of it."""
         history = "chapel-workbook 2\nhistory 0\nend\n"
         return [
-            (self.write("milk, bread\n", "list"), "list isn't opened: .*journal"),
-            (self.write("chapel-workbook 3 \n#", "blank"), "blank isn't opened: .*journal"),
-            (self.write("\n" + BEGUN, "later"), "later isn't opened: .*journal"),
+            (self.write("milk, bread\n", "list"), "list isn't opened: the file is no journal"),
+            (self.write("chapel-workbook 3 \n#", "blank"), "blank isn't opened: the file is no journal"),
+            (self.write("\n" + BEGUN, "later"), "later isn't opened: the file is no journal"),
             (self.write(history, "history"), "history isn't opened: .*`--resume` goes on from it"),
             (self.write("chapel-workbook 1\nend\n", "book"), "book isn't opened: .*`load` makes its objects"),
-            (self.place, "isn't opened: .*(folder|regular file)"),
-            (os.devnull, "isn't opened: .*regular file"),
-            (os.path.join(self.place, "no", "plan.wb"), "plan.wb isn't opened: "),
+            (self.place, "isn't opened: the journal is no regular file"),
+            (os.devnull, "isn't opened: the journal is no regular file"),
+            (os.path.join(self.place, "no", "plan.wb"), "plan.wb isn't opened: No such file"),
             (self.write(HEADER + ' {"a":"A","i":4,"op":"set","v":9}\n#', "no-array"), "a line of it is no change that is accepted"),
             (self.write(PLAN + ' {"op":"undo"}\n#', "no-number"), "a line of it is no change that is accepted"),
             (self.write(PLAN + ' {"k":2,"op":"cascade"}\n#', "cascade"), "a line of it is no change that is accepted"),

@@ -40,9 +40,9 @@ def refused(channel: KeptChannel, no: SessionEnded) -> NotOpened:
         return NotOpened(f"{place} isn't opened: a line of it is no change that is accepted in its place. It stays as it is.")
     if status == 2:
         return NotOpened("the program takes no journal: it is older than this client")
-    told = channel.words().removeprefix("workbook: ").removeprefix(place).lstrip(": ") or f"the program ended with status {status}"
+    told = channel.words().removeprefix("workbook: ").removeprefix("the journal was not opened: ")
     kind = _kind(place)
-    return NotOpened(f"{place} isn't opened: {told}" + (f" ({kind})" if kind else ""))
+    return NotOpened(f"{place} isn't opened: {told or f'the program ended with status {status}'}" + (f"; {kind}" if kind else ""))
 
 
 def _kind(place: str) -> str:
