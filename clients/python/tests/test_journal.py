@@ -5,8 +5,8 @@ import signal
 import subprocess
 import sys
 import tempfile
-import time
 import unittest
+import urllib.request
 from typing import List
 
 from tests.support import HERE, PROGRAM, Terminal
@@ -280,6 +280,10 @@ class ForPeople(Kept):
         with Workbook.run(PROGRAM) as book:
             self.assertEqual(view.View(book).state()["kept"], "")
 
+    def is_answered(self, url: str) -> None:
+        with urllib.request.urlopen(urllib.request.Request(url, headers={"Sec-Fetch-Site": "none"}), timeout=10) as answer:
+            self.assertIn(b"<title>workbook</title>", answer.read())
+
     def test_the_page_at_a_terminal(self):
         """Ctrl-C ends it at once where the workbook is kept, and else asks."""
         script = self.write("D = {1..4}\n", "script")
@@ -287,13 +291,15 @@ class ForPeople(Kept):
         for words, told in (([self.path], "plan.wb: a new workbook"), ([], "kept nowhere")):
             terminal = Terminal(*page, *words)
             self.addCleanup(terminal.close)
-            self.assertIn(told, " ".join(terminal.until("(Ctrl-C ends it)").split()))
+            shown = " ".join(terminal.until("(Ctrl-C ends it)").split())
+            self.assertIn(told, shown)
+            url = shown.split("the page is at ")[1].split()[0]
+            self.is_answered(url)
             terminal.interrupt()
             if not words:
                 self.assertIn("1 edit is kept nowhere", terminal.until("[y/N] "))
                 terminal.types("n\n")
-                time.sleep(0.5)
-                self.assertIsNone(terminal.process.poll())
+                self.is_answered(url)
                 terminal.interrupt()
                 terminal.until("[y/N] ")
                 terminal.types("y\n")
