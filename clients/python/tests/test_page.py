@@ -102,7 +102,8 @@ class Page(unittest.TestCase):
         for word in view.TERMINAL_ALONE:
             with self.subTest(word):
                 self.assertNotIn(word, told)
-                self.assertFalse(self.lines(f"{word} on" if word == "colours" else f"{word} x" if word != "quit" else word)["ok"])
+                line = {"colours": "colours on", "quit": "quit", "label": "label A rows"}.get(word, f"{word} A x")
+                self.assertFalse(self.lines("D = {1..4}", "A over D", line)["ok"])
         self.assertFalse(self.lines("exit")["ok"])
 
     def test_whoever_has_not_the_key_is_kept_out(self):

@@ -3,11 +3,12 @@
 from contextlib import contextmanager
 from typing import Any, Dict, Iterator, List, Optional, Tuple, Union
 
-from . import hearing, journal as journals, requests, turning
+from . import files, hearing, journal as journals, labels, requests, sheets, turning
 from .channel import Channel, Program, ProgramChannel, SocketChannel, command
 from .edits import Cascade, Edit, Pipeline
 from .errors import NoAnswer, NoSeat, NotResumed, SessionEnded, StrangeReply
 from .exchange import Exchange, Reading, Reply, first_refusal
+from .files import Source
 from .literals import Ranges
 from .objects import Array, Domain, ours
 from .rebuilding import rebuild
@@ -158,6 +159,12 @@ class Workbook:
         """A new rectangular domain of 1 to 3 ranges, with a mapping as `block(range(1, 5), 2)`."""
         self.change(requests.domain(name, ranges, map))
         return Domain(self, name)
+
+    def from_csv(self, name: str, source: Source) -> Array:
+        """A new array from a file of a spreadsheet, with a new rectangle from 1 on under it, and with an array of titles for words
+        before the rows or above the columns; all or none. `Array.from_csv` is for an array that is there."""
+        labels.new_table(self, name, sheets.guessed(sheets.cells_of(files.text_of(source))))
+        return Array(self, name)
 
     def sparse(self, name: str, of: Union[str, Domain]) -> Domain:
         """A new sparse domain, with no index yet, in a rectangular one."""

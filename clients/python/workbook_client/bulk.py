@@ -1,10 +1,10 @@
 """Many elements of an array at once, from lists or from an array of numpy's."""
 
 import itertools
-from typing import Any, Iterator, List, Sequence, Tuple
+from typing import Any, Iterator, List, Mapping, Sequence, Tuple
 
 from . import requests
-from .literals import integer
+from .literals import Index, integer
 from .requests import Request
 from .snapshot import AnyDomain, RectDomain
 
@@ -15,15 +15,9 @@ def changes(array: str, domain: AnyDomain, values: Any) -> Iterator[Request]:
 
     The values are looked at before the first of these.
     """
-    ranges = domain.ranges if isinstance(domain, RectDomain) else ()
     indices = domain.indices()
-    shape = [len(part) for part in ranges] or [len(indices)]
-    elements = flat(values, shape)
-    if len(elements) > 1 and len(set(elements)) == 1:
-        return iter([requests.fill_all(array, elements[0])])
-    if not ranges:
-        return (requests.set(array, index, value) for index, value in zip(indices, elements))
-    return _runs(array, ranges, elements)
+    shape = [len(part) for part in domain.ranges] if isinstance(domain, RectDomain) else [len(indices)]
+    return _whole(array, domain, indices, flat(values, shape))
 
 
 def part(array: str, ranges: Tuple[range, ...], values: Any) -> Iterator[Request]:
@@ -32,6 +26,23 @@ def part(array: str, ranges: Tuple[range, ...], values: Any) -> Iterator[Request
     if len(elements) > 1 and len(set(elements)) == 1:
         return iter([requests.fill(array, ranges, elements[0])])
     return _runs(array, ranges, elements)
+
+
+def at_indices(array: str, domain: AnyDomain, values: Mapping[Index, int]) -> Iterator[Request]:
+    """The changes that give an array elements by their indices: as `changes` where all indices are there, and else a set for each."""
+    indices = domain.indices()
+    if len(values) != len(indices) or not all(index in values for index in indices):
+        return (requests.set(array, index, value) for index, value in values.items())
+    return _whole(array, domain, indices, [values[index] for index in indices])
+
+
+def _whole(array: str, domain: AnyDomain, indices: Sequence[Index], elements: List[int]) -> Iterator[Request]:
+    """The changes that give an array all its elements."""
+    if len(elements) > 1 and len(set(elements)) == 1:
+        return iter([requests.fill_all(array, elements[0])])
+    if isinstance(domain, RectDomain):
+        return _runs(array, domain.ranges, elements)
+    return (requests.set(array, index, value) for index, value in zip(indices, elements))
 
 
 def flat(values: Any, shape: Sequence[int]) -> List[int]:

@@ -31,6 +31,8 @@ class Past(NamedTuple):
 
 def read(text: str) -> Past:
     """What the text of a history tells."""
+    if text.startswith("chapel-workbook 3"):
+        raise ValueError("this is a journal file: `--journal` goes on from it")
     objects, mark, rest = text.partition("\nhistory ")
     lines = rest.split("\n")
     if not mark or not objects.startswith("chapel-workbook 2") or lines[-2:] != ["end", ""]:

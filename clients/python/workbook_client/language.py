@@ -12,10 +12,10 @@ from . import requests
 from .requests import Request
 
 COMMANDS = (
-    "cascade", "colours", "dependents", "drop", "exit", "help", "history", "keep", "load", "max", "min", "names",
-    "piece", "quit", "redo", "save", "size", "text", "undo", "where",
+    "cascade", "colours", "dependents", "drop", "exit", "export", "help", "history", "import", "keep", "label", "load", "max", "min",
+    "names", "piece", "quit", "redo", "save", "show", "size", "text", "undo", "where",
 )
-WORDS = COMMANDS + ("by", "align", "dmapped", "over", "sparse", "reduce", "int", "text", "irv")
+WORDS = COMMANDS + ("by", "align", "dmapped", "over", "sparse", "reduce", "int", "text", "irv", "rows", "columns")
 
 
 class LanguageError(Exception):
@@ -44,7 +44,7 @@ class Token(NamedTuple):
 
 _TOKENS = re.compile(
     r"""(?P<space>[ \t]+|//.*)|(?P<name>[A-Za-z][A-Za-z0-9_]*)|(?P<number>[0-9]+)|(?P<text>"[^"]*")
-      |(?P<sign>\.\.<|\.\.\#|\.\.|[-+*|&^]=|[-+*|&^=\[\]{}(),.])""",
+      |(?P<sign>\.\.<|\.\.\#|\.\.|[-+*|&^]=|[-+*|&^=\[\]{}(),./])""",
     re.VERBOSE,
 )
 _SET_HOW = {"|=": "or", "&=": "and", "-=": "minus", "^=": "xor", "+=": "or"}
@@ -66,12 +66,22 @@ def tokens(line: str) -> List[Token]:
 
 def parse(line: str, kind_of: Callable[[str], Optional[str]]) -> Union[Request, Command, None]:
     """The meaning of a line, None for an empty one. `kind_of` says "array", "domain" or None."""
-    file = re.match(r"\s*(save|load|keep)\b(?!\s*[=\[.]|\s+(?:over|sparse|dmapped)\b)\s*(.*?)\s*$", line)
+    file = _FILE.match(line)
     if file:  # the rest of the line is a path, whatever its characters
-        if not file[2]:
-            raise LanguageError(f"expected a file's name after {file[1]}", file.end())
-        return Command(file[1], (file[2],))
+        if not file["path"]:
+            raise LanguageError(f"expected a file's name after {file['word']}", file.end())
+        return Command(file["word"], (file["path"],))
+    sheet = _SHEET.match(line)
+    if sheet:
+        if not sheet["path"]:
+            raise LanguageError(f"expected an array and a file's name, as in {sheet['word']} A plan.csv", sheet.end())
+        return Command(sheet["word"], (sheet["name"], sheet["path"]))
     return _Parser(line, kind_of).line_()
+
+
+_NO_STATEMENT = r"\b(?!\.|\s*\[|\s*[-+*|&^]?=|\s+(?:over|sparse|dmapped)\b)\s*"  # nothing is called save, here
+_FILE = re.compile(rf"\s*(?P<word>save|load|keep){_NO_STATEMENT}(?P<path>.*?)\s*$")
+_SHEET = re.compile(rf"\s*(?P<word>import|export){_NO_STATEMENT}(?:(?P<name>[A-Za-z]\w*)\s+(?P<path>.+?))?(?(name)\s*$|.*$)", re.ASCII)
 
 
 class _Parser:
@@ -129,6 +139,8 @@ class _Parser:
 
     def whole(self, digits: Token, sign: Optional[Token]) -> int:
         """The number of these digits; int() takes no text of thousands of them."""
+        if self.now.text == "." and self.after.kind == "number":
+            self.wrong(f"whole numbers only: {digits.text}.{self.after.text} isn't one", sign or digits)
         text = digits.text.lstrip("0") or "0"
         value = int(text) if len(text) < 20 else 2**63
         if value - bool(sign) >= 2**63:
@@ -144,11 +156,15 @@ class _Parser:
             how = self.take().text
             self.take()
             return self.end(requests.reduce(self.name("an array"), how))
-        if self.now.kind == "name" and self.now.text in COMMANDS and self.after.kind != "sign":
+        if self.now.kind == "name" and self.now.text in COMMANDS and self.after.kind != "sign" and not self.declares():
             return self.command()
         if self.now.kind != "name":
             self.wrong("a line starts with a name or a command; `help` lists them")
         return self.statement()
+
+    def declares(self) -> bool:
+        """Whether the line is `save over D` or so, of an array or a domain with a command's name."""
+        return self.after.text in ("over", "sparse", "dmapped") and self.tokens[self.at + 2].kind == "name"
 
     def command(self) -> Union[Request, Command]:
         word = self.take().text
@@ -161,6 +177,10 @@ class _Parser:
             k = self.count("the number of the edit; `history` lists them")
             self.end(None)
             return requests.cascade(k) if word == "cascade" else Command(word, (k,))
+        if word == "show":
+            return self.show()
+        if word == "label":
+            return self.label()
         if word == "colours":
             how = self.takes("on", "off") or self.wrong("expected `on` or `off`")
             return self.end(Command(word, (how.text == "on",)))
@@ -182,6 +202,34 @@ class _Parser:
         if word == "help":
             return Command(word, (self.take().text,))
         return self.end(Command("quit" if word == "exit" else word))
+
+    def show(self) -> Command:
+        """`show A`, `show A[1..20]`, and with `/ 100` two of its digits behind a point."""
+        name, part = self.there(), None
+        if self.takes("["):
+            part = self.literal()[1] if self.now.text == "{" else "{" + self.ranges() + "}"
+            self.wants("]", "after the ranges")
+        if not self.takes("/"):
+            return self.end(Command("show", (name, part)))
+        by = self.now
+        if by.kind != "number" or not re.fullmatch("10{1,18}", by.text):
+            self.wrong("expected 10, 100, 1000 or so: that many digits stand behind a point")
+        self.take()
+        return self.end(Command("show", (name, part, len(by.text) - 1)))
+
+    def label(self) -> Command:
+        """`label A rows B`, `label A columns B`; without B the indices again."""
+        name = self.there()
+        way = self.takes("rows", "columns") or self.wrong("expected `rows` or `columns`, as in label A rows B")
+        return self.end(Command("label", (name, way.text, None if self.now.kind == "end" else self.there())))
+
+    def there(self) -> str:
+        """The name of something that is there."""
+        token = self.now
+        name = self.name("an array")
+        if self.kind_of(name) is None:
+            self.wrong(f"nothing is called {name}", token)
+        return name
 
     def statement(self) -> Union[Request, Command]:
         token = self.now

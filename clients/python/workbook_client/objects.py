@@ -1,8 +1,9 @@
 """Domains and arrays: names in a workbook, with what can be asked of them and done to them."""
 
+import os
 from typing import TYPE_CHECKING, Any, Dict, Iterator, List, Mapping, Optional, Tuple, Union
 
-from . import bulk, requests
+from . import bulk, files, requests, sheets
 from .literals import Index, Indices, Ranges, index_back, ranges_of
 from .literals import index as as_index
 from .refusals import OutOfDomain
@@ -190,6 +191,25 @@ class Array(_Named):
             made = bulk.part(self.name, ranges_of(on), values)
         with self.book.trying(), self.book.pipeline():
             return [self.book.change(request) for request in made]
+
+    def from_csv(self, source: files.Source) -> "List[Edit]":
+        """The elements of a file of a spreadsheet, all or none: a table for an array of rank 2, with headings or without; else
+        a line for each element, its index and then the element. Each run of one number is an edit, as in `put`. The file
+        is text in UTF-8; whole numbers only. ValueError tells the row and the column of what is none."""
+        text, shot = files.text_of(source), self._shot()
+        values = sheets.values_of(text, shot, self.name)
+        made = bulk.at_indices(self.name, shot.domains[shot.arrays[self.name].over], values)
+        with self.book.trying(), self.book.pipeline():
+            return [self.book.change(request) for request in made]
+
+    def to_csv(self, path: "Union[str, os.PathLike[str], None]" = None) -> str:
+        """The array as a file of a spreadsheet, which `from_csv` reads: its text, which is written to a file where a path is
+        given. The cells have commas between them, and tabs in a file that is named `.tsv` or `.tab`."""
+        place = "" if path is None else os.fspath(path)
+        text = sheets.written(self._shot(), self.name, sheets.separator_of(place))
+        if path is not None:
+            files.write(place, text)
+        return text
 
     def fill(self, on: Ranges, value: int) -> "Edit":
         """One number at each index of a rectangle: `A.fill("{1..2}", 7)`."""

@@ -1,22 +1,24 @@
 """The session for people: a prompt, a short language, tables, and refusals in words."""
 
-import os
+import io
 import shutil
 import sys
 import textwrap
-from typing import Dict, List, Mapping, Optional, TextIO
+from typing import Dict, List, Mapping, Optional, TextIO, Tuple
 
-from . import hearing, hints
+from . import files, hearing, hints, labels, sheets
 from . import literals as lit
 from .book import Workbook
 from .edits import Cascade, Edit
 from .errors import SessionEnded, WorkbookError
+from .labels import WAYS
 from .language import Command, LanguageError, parse
 from .literals import Index
 from .objects import Array
 from .refusals import Blocked, NotInForce, Refusal
 from .requests import Request
-from .tables import Cell, elements_table, grid, harmless, object_table
+from .snapshot import Snapshot
+from .tables import Cell, Looks, elements_table, grid, harmless, object_table
 
 HELP = """\
 Domains        D = {1..4}                    a new domain; on one that is there, a new value
@@ -38,6 +40,9 @@ Arrays         A over D                      0 at each index
                B.irv = 7                     the implicit value over a sparse domain
                drop A                        an array goes, or an unused domain
 Looking        A     A[4]     A[1..20]       a table, an element, a part of the table
+               show A / 100                  the same with two digits behind a point
+               label A rows B                titles from B: B["x"] = 3 calls row 3 x
+               label A columns C             label A rows, alone, shows the numbers again
                + reduce A    min reduce A    max reduce A
                size D    where D 3    piece A 0    names    text
                colours on    colours off     tables by locale, or plain
@@ -46,6 +51,7 @@ Edits          history                       every edit: who, what, whether in f
                dependents 3    cascade 3     who needs edit 3; takes it back with those
 Files          save FILE    load FILE        the text of the workbook
                keep FILE                     the whole history, for --resume FILE
+               import A FILE  export A FILE  a table of a spreadsheet, .csv or .tsv
 Remarks        // starts a remark            help lists all this
 End            quit    exit                  Ctrl-D does it too"""
 
@@ -68,6 +74,8 @@ class Session:
         """Commands that aren't taken here, each with what is said instead."""
         self._width = width
         self.colours = False
+        self.labels: Dict[Tuple[str, str], str] = {}
+        """The array whose texts are the titles of an array's "rows" or "columns"."""
         self.failed = False
         """Whether the last line was refused, or wasn't of the language."""
         self.refusal: Optional[Refusal] = None
@@ -198,13 +206,57 @@ class Session:
         """Every line of the help whose command is taken here."""
         self.say("\n".join(line for line in HELP.splitlines() if line[15:].split()[0] not in self.barred))
 
-    def do_show(self, name: str, part: Optional[str] = None) -> None:
+    def do_show(self, name: str, part: Optional[str] = None, decimals: int = 0) -> None:
         ranges = None if part is None else lit.spelled_ranges(part)
         book = self.book.snapshot()
         if name not in book.names():
             self.wrapped(f"nothing is called {name} now")
             return
-        self.say(object_table(book, name, self.width, self.locales(name, name in book.arrays), ranges))
+        locales, looks = self.locales(name, name in book.arrays), self.looks(book, name, decimals)
+        self.say(object_table(book, name, self.width, locales, ranges, looks))
+
+    def looks(self, book: Snapshot, name: str, decimals: int = 0) -> Looks:
+        """The titles that an array was given here, as they are now."""
+        down, across = (labels.titles(book, self.labels.get((name, way))) for way in WAYS)
+        return Looks(down, across, decimals)
+
+    def do_label(self, name: str, way: str, source: Optional[str]) -> None:
+        self.labels.pop((name, way), None)
+        if source is None:
+            self.say(f"  {way} of {name} have their numbers")
+            return
+        found = labels.titles(labels.checked(self.book.snapshot(), name, way, source), source)
+        self.labels[name, way] = source
+        self.wrapped(f"{way} of {name} have titles from {source}: {len(found)} of them, in this session")
+
+    def do_import(self, name: str, path: str) -> None:
+        text = files.read(path)
+        if self.book.kind(name) is not None:
+            self.imported(f"{name} has", Array(self.book, name).from_csv(io.StringIO(text)))
+            return
+        made = labels.new_table(self.book, name, sheets.guessed(sheets.cells_of(text)))
+        self.labels.update({(name, way): source for way, source in made.titles.items()})
+        self.imported(f"{name} is new, and has", made.edits)
+        for way, source in made.titles.items():
+            self.wrapped(f"its {way} have titles from {source}")
+        if made.left:
+            self.wrapped(f"headings that can't be titles were left out: {', '.join(made.left)}")
+
+    def imported(self, what: str, edits: List[Edit]) -> None:
+        """Tells by which edits a file came in. There is no one edit of many elements."""
+        first, last = (edits[0].number, edits[-1].number) if edits else (0, 0)
+        by = f"edits {first} to {last}, of which each is taken back by itself" if first < last else f"edit {first}"
+        self.wrapped(f"{what} the numbers of the file, by {by}" if edits else "the file has no number, so nothing changed")
+
+    def do_export(self, name: str, path: str) -> None:
+        book = self.book.snapshot()
+        if name not in book.arrays:
+            self.failed = True
+            self.wrapped(f"no array is called {name}" + ("; that is a domain" if name in book.domains else ""))
+            return
+        looks = self.looks(book, name)
+        files.write(path, sheets.written(book, name, sheets.separator_of(path), looks.down, looks.across))
+        self.say(f"  {path}: {len(book.arrays[name].elements):,} elements of {name}")
 
     def locales(self, name: str, array: bool) -> Optional[Dict[Index, int]]:
         if not self.colours or not array:
@@ -272,22 +324,20 @@ class Session:
 
     def do_save(self, path: str) -> None:
         text = self.book.print_text()
-        _write(os.path.realpath(os.path.expanduser(path)), text)
+        files.write(path, text)
         self._kept = self._now()
         self.say(f"  {path}: {text.count(chr(10)) - 2} objects, {len(text.encode()):,} bytes")
 
     def do_keep(self, path: str) -> None:
         text = self.book.history_text()
-        _write(os.path.realpath(os.path.expanduser(path)), text)
+        files.write(path, text)
         self._kept = self._now()
         past = hearing.read(text)
         on = sum(in_force for in_force, _ in past.edits.values())
         self.wrapped(f"{path}: {_edits(len(past.edits))}, {on:,} in force; --resume {path} goes on from it")
 
     def do_load(self, path: str) -> None:
-        with open(os.path.expanduser(path), encoding="utf-8", newline="") as file:
-            text = file.read()
-        edits = self.book.load(text)
+        edits = self.book.load(files.read(path))
         if not edits:
             self.say(f"  {path} is an empty workbook")
         elif len(edits) == 1:
@@ -331,27 +381,6 @@ class Session:
             return _takes_back(self.book.dependents(k), k)
         except Refusal:
             return " takes back all that stand in the way"
-
-
-def _write(path: str, text: str) -> None:
-    """Writes a file whole: what was there stays until all of the new text is on the disk."""
-    if os.path.exists(path) and not os.path.isfile(path):  # a device, or a pipe
-        with open(path, "w", encoding="utf-8", newline="\n") as file:
-            file.write(text)
-        return
-    beside = f"{path}.{os.getpid()}.new"
-    try:
-        with open(beside, "w", encoding="utf-8", newline="\n") as file:
-            file.write(text)
-            file.flush()
-            os.fsync(file.fileno())
-        if os.path.exists(path):
-            shutil.copymode(path, beside)
-        os.replace(beside, path)
-    except BaseException:
-        if os.path.exists(beside):
-            os.remove(beside)
-        raise
 
 
 def _takes_back(dependents: List[int], k: int) -> str:

@@ -1,0 +1,95 @@
+"""Titles of rows and columns, which a workbook has as an array over texts: `B["Ada"] = 3` calls row 3 Ada."""
+
+from typing import TYPE_CHECKING, Dict, List, NamedTuple, Optional, Sequence
+
+from . import requests
+from .edits import Edit
+from .literals import label
+from .objects import Array
+from .sheets import Table
+from .snapshot import AssocDomain, RectDomain, Snapshot
+
+if TYPE_CHECKING:
+    from .book import Workbook
+
+WAYS = ("rows", "columns")
+"""The ways of a table, in the order of an index."""
+ENDINGS = {"rows": "Row", "columns": "Column"}
+"""How the array of titles of a new table is called, behind the table's name."""
+
+
+def titles(shot: Snapshot, source: Optional[str]) -> Dict[int, str]:
+    """What each number is called; nothing where there is no such array now. Of two texts for one number the first counts."""
+    array = shot.arrays.get(source or "")
+    if array is None or not _is_of_texts(shot, array.over):
+        return {}
+    found: Dict[int, str] = {}
+    for text, number in shot.array(array.name).items():
+        found.setdefault(number, str(text))
+    return found
+
+
+def checked(shot: Snapshot, name: str, way: str, source: str) -> Snapshot:
+    """The workbook, in which the array has such a way, and the other array has texts. ValueError tells what isn't so."""
+    array = shot.arrays.get(name)
+    domain = shot.domains[array.over] if array else None
+    if not isinstance(domain, RectDomain) or len(domain.ranges) > 2:
+        raise ValueError(f"{name} has no rows and columns: an array over ranges of rank 1 or 2 has")
+    if way == "columns" and len(domain.ranges) == 1:
+        raise ValueError(f"{name} has one range: its elements are labelled by `label {name} rows {source}`")
+    other = shot.arrays.get(source)
+    if other is None or not _is_of_texts(shot, other.over):
+        raise ValueError(f'titles come from an array over texts: T = text, T |= {{"Ada", "Ben"}}, {source} over T, {source}["Ada"] = 1')
+    return shot
+
+
+def _is_of_texts(shot: Snapshot, domain: str) -> bool:
+    found = shot.domains[domain]
+    return isinstance(found, AssocDomain) and found.of == "text"
+
+
+class Made(NamedTuple):
+    """What became of a table: the edits, which array has the titles of which way, and the headings that were left out."""
+
+    edits: List[Edit]
+    titles: Dict[str, str]
+    left: List[str]
+
+
+def new_table(book: "Workbook", name: str, table: Table) -> Made:
+    """Makes an array over a rectangle from 1 on, with the elements of a table, and arrays of titles for its headings; all or none. One
+    row or one column becomes an array of rank 1, whose titles are those along it. Headings 1, 2, 3 and so on need no titles."""
+    height, width = len(table.rows), len(table.rows[0])
+    ranges = tuple(range(1, size + 1) for size in (height, width) if size > 1) or (range(1, 2),)
+    along = [table.across] if height == 1 else [table.down] if width == 1 else [table.down, table.across]
+    domain, titles, left = f"{name}Domain", {}, []
+    elements = [value for row in table.rows for value in row] if len(ranges) == 1 else table.rows
+    with book.trying(), book.pipeline():
+        edits = [book.change(requests.domain(domain, ranges)), book.change(requests.array(name, domain))]
+        edits += Array(book, name).put(elements, ranges)
+        for way, headings in zip(WAYS, along):
+            if not headings or headings == [str(n) for n in range(1, len(headings) + 1)]:
+                continue
+            if _are_titles(headings):
+                titles[way] = name + ENDINGS[way]
+                edits += _titled(book, titles[way], headings)
+            else:
+                left += headings
+    return Made(edits, titles, left)
+
+
+def _are_titles(headings: Sequence[str]) -> bool:
+    """Whether these texts can be indices, each of another place."""
+    try:
+        return len({label(text) for text in headings}) == len(headings)
+    except ValueError:
+        return False
+
+
+def _titled(book: "Workbook", name: str, headings: Sequence[str]) -> List[Edit]:
+    """A new array over texts, which has each one's place from 1 on."""
+    domain = f"{name}Titles"
+    edits = [book.change(requests.assoc(domain, "text"))]
+    edits += [book.change(requests.add(domain, text)) for text in headings]
+    edits.append(book.change(requests.array(name, domain)))
+    return edits + [book.change(requests.set(name, text, place)) for place, text in enumerate(headings, start=1)]
