@@ -2,10 +2,11 @@
 
 import io
 import os
+import re
 import tempfile
 import unittest
 
-from tests.support import PROGRAM
+from tests.support import HERE, PROGRAM
 from workbook_client import Array, OutOfDomain, Workbook, WrongKind, sheets
 from workbook_client.language import LanguageError, parse
 from workbook_client.session import Session
@@ -252,6 +253,20 @@ class BySession(unittest.TestCase):
         self.assertIn("Emmy │   4 │", self.say("label Hours rows HoursRow", "Hours"))
         self.assertIn("│ Ida │   4 │", self.say('HoursRowTitles -= "Emmy"', 'HoursRowTitles += "Ida"', 'HoursRow["Ida"] = 2', "Hours"))
         self.assertIn("│ 1 │   8 │", self.say("drop HoursRow", "Hours").replace("  1", " 1"))
+
+    def test_the_lines_of_the_readme(self):
+        """What the client's page shows of an import is what comes of it."""
+        text = (HERE.parents[1] / "README.md").read_text(encoding="utf-8")
+        wanted = re.search(r"```text\n(workbook> import .*?)```", text, re.S)[1]
+        self.file(HOURS, "plan.csv")
+        self.addCleanup(os.chdir, os.getcwd())
+        os.chdir(self.place)
+        out = io.StringIO()
+        session = Session(self.wb, out, width=80)
+        for line in re.findall(r"^workbook> (.*)$", wanted, re.M):
+            session.say("workbook> " + line)
+            session.line(line, "workbook> ")
+        self.assertEqual(out.getvalue(), wanted)
 
     def test_headings_that_can_be_no_titles_are_told(self):
         told = self.say(f"import A {self.file(TWICE)}")

@@ -3,7 +3,7 @@
 from contextlib import contextmanager
 from typing import Any, Dict, Iterator, List, Optional, Tuple, Union
 
-from . import files, hearing, journal as journals, labels, requests, sheets, turning
+from . import files, hearing, journal as journals, labels, notebook, requests, sheets, turning
 from .channel import Channel, Program, ProgramChannel, SocketChannel, command
 from .edits import Cascade, Edit, Pipeline
 from .errors import NoAnswer, NoSeat, NotResumed, SessionEnded, StrangeReply
@@ -148,6 +148,10 @@ class Workbook:
 
     def __exit__(self, *_: Any) -> None:
         self.close()
+
+    def _repr_html_(self) -> str:
+        """What there is, as a notebook shows it."""
+        return notebook.book_html(self.snapshot())
 
     def same_as(self, other: "Workbook") -> bool:
         """Whether this is a session with the same workbook."""

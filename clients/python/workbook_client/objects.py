@@ -3,7 +3,7 @@
 import os
 from typing import TYPE_CHECKING, Any, Dict, Iterator, List, Mapping, Optional, Tuple, Union
 
-from . import bulk, files, requests, sheets
+from . import bulk, files, notebook, requests, sheets
 from .literals import Index, Indices, Ranges, index_back, ranges_of
 from .literals import index as as_index
 from .refusals import OutOfDomain
@@ -201,6 +201,11 @@ class Array(_Named):
         made = bulk.at_indices(self.name, shot.domains[shot.arrays[self.name].over], values)
         with self.book.trying(), self.book.pipeline():
             return [self.book.change(request) for request in made]
+
+    def _repr_html_(self) -> "Optional[str]":
+        """The array as a notebook shows it; nothing where it isn't there."""
+        book = self.book.snapshot()
+        return notebook.array_html(book, self.name) if self.name in book.arrays else None
 
     def to_csv(self, path: "Union[str, os.PathLike[str], None]" = None) -> str:
         """The array as a file of a spreadsheet, which `from_csv` reads: its text, which is written to a file where a path is
