@@ -58,7 +58,7 @@ class WorkerProcess:
     def __init__(self, url: str, consumer: str, *words: str, program: str = PROGRAM):
         package = str(HERE.parents[1])
         command = [sys.executable, "-m", "workbook_client.worker", "--redis", url, "--consumer", consumer, "--program", program, *words]
-        self.process = subprocess.Popen(command, cwd=package, stderr=subprocess.PIPE)
+        self.process = subprocess.Popen(command, cwd=package, stderr=subprocess.DEVNULL)
 
     def kill(self) -> None:
         """Ends it by force, and its programs with it: they read the end of their input."""
@@ -76,8 +76,6 @@ class WorkerProcess:
             if self.process.poll() is None:
                 self.process.kill()
                 self.process.wait()
-            assert self.process.stderr is not None
-            self.process.stderr.close()
 
 
 class Caller:

@@ -223,6 +223,7 @@ class Worker:
             if held.lease.park(held.id):
                 held.end()
                 del self._held[held.lease.name]
+                tell(f"{held.lease.name}: put aside, after {self._settings.idle:g} seconds without a request")
 
     def _share(self, redis: Redis) -> int:
         """How many workbooks are this worker's part of all that are active."""
@@ -252,7 +253,8 @@ class Worker:
         if not lease.take():
             return
         try:
-            self._held[name] = Held(lease, self._settings)
+            held = self._held[name] = Held(lease, self._settings)
+            tell(f"{name}: taken up, " + ("from its beginning" if held.id == log.FIRST else f"from request {held.id} on"))
         except NoProgram:
             lease.release()
             raise
@@ -268,6 +270,7 @@ class Worker:
         held.end()
         del self._held[held.lease.name]
         held.lease.release()
+        tell(f"{held.lease.name}: given to the other workers")
 
     def _leave(self) -> None:
         """Gives everything to the other workers."""
