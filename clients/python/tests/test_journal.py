@@ -105,7 +105,7 @@ class Files(Kept):
                 answered = book.counts()[0]
                 for i in range(20 * round + 11, 20 * round + 21):
                     book.exchange.post({"op": "set", "a": "A", "i": i, "v": i})
-                os.kill(book.exchange._channel._process.pid, signal.SIGKILL)
+                os.kill(book.exchange.channel._process.pid, signal.SIGKILL)
             with self.open() as book:
                 edits, more = book.counts()[0], list(book["A"])
                 sets = edits - answered
@@ -156,7 +156,7 @@ class Files(Kept):
         with self.assertRaises(NotTakenBack) as left:
             with book.trying():
                 A[1] = 5
-                os.kill(book.exchange._channel._process.pid, signal.SIGKILL)
+                os.kill(book.exchange.channel._process.pid, signal.SIGKILL)
                 A[2] = 6
         self.assertEqual(left.exception.standing, [3])
         self.assertEqual(list(self.open()["A"]), [5, 0, 0, 0])

@@ -316,7 +316,7 @@ class Edges(Logs):
         self.assertEqual(caller.wait(), list(enumerate(replies, start=1)))
 
     def session(self, book: Workbook, text: List[str]) -> List[bytes]:
-        channel = book.exchange._channel
+        channel = book.exchange.channel
         for line in text:
             channel.send(line.encode() + b"\n")
         return [keeping.answer(channel)[:-1] for _ in text]

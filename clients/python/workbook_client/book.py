@@ -1,7 +1,7 @@
 """A workbook: its session, its edits, and what is done to it as a whole."""
 
 from contextlib import contextmanager
-from typing import Any, Dict, Iterator, List, Optional, Tuple, Union
+from typing import Any, Callable, Dict, Iterator, List, Optional, Tuple, Union
 
 from . import files, hearing, journal as journals, labels, notebook, requests, sheets, turning
 from .channel import Channel, Program, ProgramChannel, SocketChannel, command
@@ -138,6 +138,12 @@ class Workbook:
         """
         channel = StreamChannel(url, name, timeout)
         return cls(channel, "me", alone=False, where=channel.where)
+
+    def tell_waits(self, tell: Callable[[str], object]) -> None:
+        """What is done with the words on a long wait for a worker; without this they are a warning."""
+        channel = self.exchange.channel
+        if isinstance(channel, StreamChannel):
+            channel.tell = tell
 
     def close(self) -> None:
         """Ends the session. What the program was still to answer isn't waited for."""

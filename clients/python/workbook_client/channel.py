@@ -148,6 +148,8 @@ class ProgramChannel(Channel):
                 start_new_session=True,
             )
         except OSError as fault:
+            if self._said is not None:
+                self._said.close()
             raise NoProgram(f"{words[0]!r} can't be started: {fault}") from fault
         assert self._process.stdin and self._process.stdout
         super().__init__(self._process.stdout.fileno(), self._process.stdin.fileno())

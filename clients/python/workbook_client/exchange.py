@@ -96,7 +96,8 @@ class Exchange:
     """
 
     def __init__(self, channel: Channel, hint: Callable[[Request, Reply], str]):
-        self._channel = channel
+        self.channel = channel
+        """What carries the lines."""
         self.hint = hint
         """What a refusal says beside the program's words."""
         self._waiting: Deque[Tuple[Reading, int, Optional[Keep]]] = deque()
@@ -136,13 +137,13 @@ class Exchange:
             raise SessionEnded(self._torn)
         if not self._waiting:
             raise RuntimeError("nothing was asked")
-        line = self._channel.front()
+        line = self.channel.front()
         reply = _reply(line)
         if reply is None:
             self._torn = f"what came is no reply of a workbook: {line[:200]!r}"
             raise StrangeReply(self._torn)
         self._torn = "the session was interrupted between two replies"
-        self._channel.drop()
+        self.channel.drop()
         reading, length, keep = self._waiting.popleft()
         self._bytes -= length
         reading.reply = reply
@@ -162,14 +163,14 @@ class Exchange:
 
     def close(self) -> None:
         """Ends the session."""
-        self._channel.close()
+        self.channel.close()
 
     def _put(self, line: bytes, reading: Reading, keep: Optional[Keep]) -> None:
         if self._torn:
             raise SessionEnded(self._torn)
         try:
             self._torn = "the session was interrupted between two requests"
-            self._channel.send(line)
+            self.channel.send(line)
             self._waiting.append((reading, len(line), keep))
             self._bytes += len(line)
             self.posted += 1
@@ -177,7 +178,7 @@ class Exchange:
         except SessionEnded:  # nothing was sent; replies from before may still come
             self._torn = ""
             raise
-        self._channel.press()
+        self.channel.press()
 
 
 _ENCODER = json.JSONEncoder(ensure_ascii=False, allow_nan=False, separators=(",", ":"))

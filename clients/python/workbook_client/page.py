@@ -22,6 +22,7 @@ from urllib.parse import parse_qs
 
 from .book import Workbook
 from .errors import SessionEnded, WorkbookError
+from .redis import RedisRefused
 from .session import Session
 from .terminal import arguments, may_leave, open_book
 from .view import View
@@ -229,7 +230,7 @@ def main(words: Optional[List[str]] = None) -> int:
                 serve_until_left(server, session)
     except KeyboardInterrupt:
         print()
-    except (WorkbookError, OSError, OverflowError, UnicodeDecodeError) as end:  # OverflowError: no such port
+    except (WorkbookError, RedisRefused, OSError, OverflowError, UnicodeDecodeError) as end:  # OverflowError: no such port
         print(f"workbook_client.page: {end}", file=sys.stderr)
         return 3
     return 0

@@ -1,6 +1,7 @@
 """The session for people: a prompt, a short language, tables, and refusals in words."""
 
 import io
+import re
 import shutil
 import sys
 import textwrap
@@ -94,7 +95,7 @@ class Session:
     def place(self) -> str:
         """Where the workbook lies, and whether it is kept."""
         if not self.book.alone:
-            return f"a workbook that others share, at {self.book.where}"
+            return f"a workbook that others share, at {re.sub('//[^/]*@', '//', self.book.where)}"
         if self.book.journal is None:
             return "this workbook is kept nowhere: keep FILE writes its history, and --journal FILE keeps each change"
         edits = self._now()

@@ -2,8 +2,9 @@
 
 import time
 import uuid
+import warnings
 from collections import deque
-from typing import Deque, List, Optional, Sequence
+from typing import Callable, Deque, List, Optional, Sequence
 
 from . import log
 from .channel import EARLY, Channel
@@ -12,6 +13,10 @@ from .redis import Redis, RedisGone, RedisRefused, Word
 
 SLICE = 1.0
 """So many seconds are waited at once."""
+PATIENCE = 5.0
+"""After so many seconds without a reply it is told who could answer."""
+HEARD = 15_000
+"""A worker that was heard of in the last so many thousandths of a second is there."""
 
 
 class StreamChannel(Channel):
@@ -28,6 +33,8 @@ class StreamChannel(Channel):
         self._last = log.FIRST
         self._going: List[Sequence[Word]] = []
         self._coming: Deque[bytes] = deque()
+        self.tell: Callable[[str], object] = lambda words: warnings.warn(words, stacklevel=2)
+        """What is done with the words on a wait that is long."""
 
     def send(self, line: bytes) -> None:
         if self.closed:
@@ -51,13 +58,30 @@ class StreamChannel(Channel):
         if self.closed:
             raise SessionEnded("the session is closed")
         self._flush()
-        end = None if self.timeout is None else time.monotonic() + self.timeout
+        start = time.monotonic()
+        end = None if self.timeout is None else start + self.timeout
+        patient = True
         while not self._coming:
             left = SLICE if end is None else min(SLICE, end - time.monotonic())
             if left <= 0:
                 raise NoAnswer(f"no answer for {self.timeout:g} seconds")
             self._read(left)
+            if patient and not self._coming and time.monotonic() - start >= PATIENCE:
+                patient = False
+                self.tell(self._who_could_answer())
         return self._coming[0]
+
+    def _who_could_answer(self) -> str:
+        """Whether there are workers, as they tell of themselves."""
+        seconds, millionths = map(int, self._redis.call("TIME"))
+        since = seconds * 1000 + millionths // 1000 - HEARD
+        count = self._redis.call("ZCOUNT", log.WORKERS, since, "+inf")
+        if count:
+            return f"no answer for {PATIENCE:g} seconds; {count} worker{'s' * (count > 1)} there, so it is waited for"
+        return (
+            f"no answer for {PATIENCE:g} seconds, and no worker is there; `python3 -m workbook_client.worker --consumer one --redis ..` "
+            "answers what stands in the log, whenever it is started"
+        )
 
     def _read(self, wait: float) -> None:
         told = log.read(self._redis, {self._replies: self._last}, 1000, wait)

@@ -4,11 +4,13 @@ import argparse
 import io
 import os
 import sys
-from typing import Any, List, Optional, TextIO, Tuple
+from typing import Any, List, NamedTuple, Optional, TextIO, Union
 
+from . import log
 from .book import Workbook
 from .errors import NoProgram, NotResumed, SessionEnded, WorkbookError
 from .language import WORDS
+from .redis import RedisRefused, place_of
 from .refusals import Refusal
 from .session import Session
 
@@ -116,12 +118,39 @@ def script(session: Session, lines: TextIO, keep_going: bool) -> int:
     return status
 
 
-def address(text: str) -> Tuple[str, int]:
-    """HOST:PORT, PORT alone with a colon before it, or [HOST]:PORT where the host has colons."""
+class Log(NamedTuple):
+    """A workbook whose requests stand in a log in Redis."""
+
+    url: str
+    name: str
+
+
+class Desk(NamedTuple):
+    """A workbook that `workbook serve` shares."""
+
+    host: str
+    port: int
+
+
+def address(text: str) -> Union[Desk, Log]:
+    """HOST:PORT, PORT alone with a colon before it, or [HOST]:PORT where the host has colons; or redis://HOST/NAME."""
+    if text.startswith("redis://"):
+        return log_at(text)
     host, colon, port = text.rpartition(":")
     if not colon or not (port.isascii() and port.isdigit()):
-        raise argparse.ArgumentTypeError(f"HOST:PORT is wanted, as 127.0.0.1:7000, not {text!r}")
-    return host.strip("[]") or "127.0.0.1", int(port)
+        raise argparse.ArgumentTypeError(f"HOST:PORT is wanted, as 127.0.0.1:7000, or redis://HOST/NAME, not {text!r}")
+    return Desk(host.strip("[]") or "127.0.0.1", int(port))
+
+
+def log_at(text: str) -> Log:
+    """redis://[user:password@]host[:port][/number]/NAME."""
+    url, _, name = text.rpartition("/")
+    try:
+        place_of(url if url.startswith("redis://") else text + "/no name")
+        log.key(name, "requests")
+    except ValueError as wrong:
+        raise argparse.ArgumentTypeError(f"redis://HOST/NAME is wanted, as redis://127.0.0.1/plan: {wrong}") from wrong
+    return Log(url, name)
 
 
 def arguments(description: str) -> argparse.ArgumentParser:
@@ -130,7 +159,8 @@ def arguments(description: str) -> argparse.ArgumentParser:
     where = parser.add_mutually_exclusive_group()
     where.add_argument("--program", help="the program to start (else WORKBOOK_PROGRAM, else workbook)")
     where.add_argument(
-        "--connect", metavar="HOST:PORT", type=address, help="a workbook that `workbook serve` shares"
+        "--connect", metavar="WHERE", type=address,
+        help="a shared workbook: HOST:PORT, where `workbook serve` listens, or redis://HOST/NAME, which workers answer",
     )
     parser.add_argument("--resume", metavar="FILE", help="go on from a history that `keep FILE` has written")
     parser.add_argument("--journal", metavar="FILE", help="keep each change in FILE, and go on from those that are there")
@@ -145,6 +175,8 @@ def open_book(args: argparse.Namespace) -> Workbook:
         raise NoProgram("a workbook goes on from one file: that of --journal, or that of --resume")
     if args.connect and files:
         raise NoProgram("a shared workbook is kept, and goes on, by `workbook serve`, not by its seats")
+    if isinstance(args.connect, Log):
+        return Workbook.stream(*args.connect)
     if args.connect:
         return Workbook.connect(*args.connect)
     if args.resume is None and files:
@@ -183,13 +215,14 @@ def main(words: Optional[List[str]] = None) -> int:
         with open_book(args) as book:
             session = Session(book)
             session.colours = args.colours
+            book.tell_waits(session.wrapped)
             if args.file and args.file != "-":
                 with open(args.file, encoding="utf-8") as lines:
                     return script(session, lines, args.keep_going)
             if args.file or not sys.stdin.isatty():
                 return script(session, sys.stdin, args.keep_going)
             return converse(session)
-    except (WorkbookError, OSError, UnicodeDecodeError) as end:
+    except (WorkbookError, RedisRefused, OSError, UnicodeDecodeError) as end:
         print(f"workbook_client: {end}", file=sys.stderr)
         return 3
     except KeyboardInterrupt:
