@@ -97,7 +97,7 @@ class Terminal:
     def until(self, words: str) -> str:
         """What is shown up to these words."""
         while words not in self._seen:
-            if self.waits(10):
+            if self.waits(30):
                 raise AssertionError(f"waited for {words!r}, saw {self._seen!r}")
             try:
                 self._seen += os.read(self._parent, 4096).decode()
@@ -109,7 +109,7 @@ class Terminal:
 
     def ends(self) -> int:
         """The exit status of one that ends."""
-        return self.process.wait(10)
+        return self.process.wait(30)
 
     def close(self) -> None:
         """Ends it."""

@@ -107,7 +107,7 @@ class Streams(unittest.TestCase):
         redis = self.redis(answers=True)
         done = subprocess.run(
             [sys.executable, "-m", "workbook_client", "--connect", redis.url + "/plan"], input="D = {1..4}\nA over D\nA[2] = 5\nA\n",
-            capture_output=True, text=True, cwd=PACKAGE, timeout=30,
+            capture_output=True, text=True, cwd=PACKAGE, timeout=60,
         )
         self.assertEqual((done.returncode, done.stderr), (0, ""))
         self.assertIn("│ 0 │ 5 │ 0 │ 0 │", done.stdout)
@@ -160,7 +160,7 @@ class Streams(unittest.TestCase):
             for module in ("workbook_client", "workbook_client.page"):
                 with self.subTest(f"{module} {where}"):
                     gone = subprocess.run(
-                        [sys.executable, "-m", module, "--connect", where], input="", capture_output=True, text=True, cwd=PACKAGE, timeout=30,
+                        [sys.executable, "-m", module, "--connect", where], input="", capture_output=True, text=True, cwd=PACKAGE, timeout=60,
                     )
                     self.assertEqual((gone.returncode, gone.stdout, "Traceback" in gone.stderr), (status, "", False))
                     self.assertIn(why, gone.stderr)
