@@ -82,14 +82,14 @@ class Page(unittest.TestCase):
         self.open(Workbook.run(PROGRAM))
         with tempfile.TemporaryDirectory() as place:
             path = os.path.join(place, "written")
-            for line in (f"{word}{path}" for word in ("save ", " save ", "\tsave\t", "keep ", "  keep  ", "\u0020keep\t")):
+            for line in (f"{word}{path}" for word in ("save ", " save ", "\tsave\t", "keep ", "  keep  ", "\u0020keep\t", "export A ", "\texport\tA  ")):
                 with self.subTest(line):
                     told = self.lines(line)
                     self.assertEqual((told["ok"], "Files are for the terminal" in told["say"]), (False, True))
             self.assertEqual(os.listdir(place), [])
             with open(path, "w", encoding="utf-8") as file:
                 file.write("chapel-workbook 1\nrect D {1..4} none\nend\n")
-            for line in (f"load {path}", f" load {path}", f"\tload\t{path}"):
+            for line in (f"load {path}", f" load {path}", f"\tload\t{path}", f"import A {path}", f"  import\tA\t{path}"):
                 with self.subTest(line):
                     self.assertFalse(self.lines(line)["ok"])
             self.assertEqual(self.ask("/text")[1], "chapel-workbook 1\nend\n")
