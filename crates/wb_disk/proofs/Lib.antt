@@ -1,3 +1,4 @@
 mod Cuts
 pub mod Moments
 mod Numbers
+mod Replaced

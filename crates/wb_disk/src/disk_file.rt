@@ -1,15 +1,15 @@
 //! A file of the operating system. Each method makes one call of it, and then notes the call with its answer.
-ghost use Rattle.std.specs.Prelude.{IfOk, length};
-ghost use Rattle.wb_disk.specs.Calls.{seen_after, MayLeave, LeftSince, faults_in, IsHeld};
+ghost use Rattle.std.specs.Prelude.{◌≡◌, ◌⊎◌, ◌∷◌, true, false, IfOk, OnOk, OnErr, length};
+ghost use Rattle.wb_disk.specs.Calls.{seen_after, MayLeave, LeftSince, faults_in, IsHeld, made, made_durable, named, folder_synced};
 ghost use Rattle.wb_disk.specs.Laws.{left_now, no_other};
 
 use crate::record::Record;
-use crate::{Device, DeviceFault};
+use crate::{Device, DeviceFault, ReplaceErr, Replaces};
 use std::alloc::AllocError;
 use std::fs::{self, File, OpenOptions, TryLockError};
 use std::io::{self, Read};
 use std::os::fd::AsRawFd;
-use std::os::unix::fs::FileExt;
+use std::os::unix::fs::{FileExt, MetadataExt};
 use std::path::Path;
 use std::process;
 
@@ -17,8 +17,13 @@ use std::process;
 #[derive(Drop)]
 pub struct DiskFile {
     file: File,
+    path: String,
+    /// The path of a new file that is made beside it.
+    beside: String,
     calls: Record,
     fault: Option<io::Error>,
+    /// Whether a new file may have the name of this one. Then nothing more is synced.
+    is_unsure: bool,
 }
 
 /// Why a file is not opened.
@@ -55,23 +60,65 @@ impl From<TryLockError> for OpenDiskErr {
     }
 }
 
+/// The path of a new file beside the one at a path. No other process that runs makes one with it.
+fn beside(rt: &HostRuntime, path: &str) -> Result<String, AllocError> {
+    format!(in rt.alloc(); "{path}.{}.new", process::id(rt.process()))
+}
+
+/// Makes a file with these bytes. What an earlier process left under the name is taken away
+/// first, and not written over, since it may be the same file under a second name.
+fn make_beside(rt: &HostRuntime, beside: &str, bytes: &[u8]) -> io::Result<File> {
+    match fs::remove_file(rt, beside) {
+        Err(error) if error.kind() != io::ErrorKind::NotFound => return Err(error),
+        _ => {}
+    }
+    let file = OpenOptions::new()
+        .read(true)
+        .write(true)
+        .create_new(true)
+        .open(rt, beside)?;
+    file.write_all_at(bytes, 0)?;
+    Ok(file)
+}
+
+/// Syncs a new file that is to take the place of an old one, with the permissions of that, and locks it.
+fn sync_like(new: &File, old: &File) -> io::Result<()> {
+    new.set_permissions(old.metadata()?.permissions())?;
+    new.sync_all()?;
+    new.try_lock()?;
+    Ok(())
+}
+
 /// Makes a file that begins with these bytes, unless another process is first. They are on the disk under another
 /// name before the file has its own, so that no crash leaves it without them.
 fn make(rt: &HostRuntime, path: &str, start: &[u8]) -> Result<(), OpenDiskErr> {
-    let other = format!(in rt.alloc(); "{path}.{}.new", process::id(rt.process()))?;
-    let file = OpenOptions::new()
-        .write(true)
-        .create(true)
-        .truncate(true)
-        .open(rt, other.as_str())?;
-    file.write_all_at(start, 0)?;
-    file.sync_all()?;
+    let other = beside(rt, path)?;
+    make_beside(rt, other.as_str(), start)?.sync_all()?;
     let linked = fs::hard_link(rt, other.as_str(), path);
     fs::remove_file(rt, other.as_str())?;
     match linked {
         Err(error) if error.kind() != io::ErrorKind::AlreadyExists => Err(OpenDiskErr::Io(error)),
         _ => Ok(()),
     }
+}
+
+/// Opens the regular file at a path and locks it, if it still has the path then: another process may have put a new one
+/// in its place.
+fn open_locked(rt: &HostRuntime, path: &str) -> Result<File, OpenDiskErr> {
+    if !fs::metadata(rt, path)?.is_file() {
+        return Err(OpenDiskErr::NotAFile);
+    }
+    let file = OpenOptions::new().read(true).write(true).open(rt, path)?;
+    let opened = file.metadata()?;
+    if !opened.is_file() {
+        return Err(OpenDiskErr::NotAFile);
+    }
+    file.try_lock()?;
+    let named = fs::metadata(rt, path)?;
+    if opened.dev() != named.dev() || opened.ino() != named.ino() {
+        return Err(OpenDiskErr::Busy);
+    }
+    Ok(file)
 }
 
 /// Opens the file at a path, or makes it with this start, and locks it until it is dropped. Returns the bytes that it
@@ -86,15 +133,11 @@ pub fn open_file(
     if !fs::exists(rt, path)? {
         make(rt, path, start)?;
     }
-    if !fs::metadata(rt, path)?.is_file() {
-        return Err(OpenDiskErr::NotAFile);
-    }
-    let file = OpenOptions::new().read(true).write(true).open(rt, path)?;
-    if !file.metadata()?.is_file() {
-        return Err(OpenDiskErr::NotAFile);
-    }
-    file.try_lock()?;
-    settle(rt, path, &file)?;
+    // Of a symbolic link it is the file behind it that a new one is put in place of.
+    let path = fs::canonicalize(rt, path)?.into_string();
+    let beside = beside(rt, path.as_str())?;
+    let file = open_locked(rt, path.as_str())?;
+    settle(rt, path.as_str(), &file)?;
     let mut bytes = Vec::new(rt.alloc());
     let mut reader = &file;
     reader.read_to_end(&mut bytes)?;
@@ -102,11 +145,23 @@ pub fn open_file(
     Ok((
         DiskFile {
             file,
+            path,
+            beside,
             calls,
             fault: None,
+            is_unsure: false,
         },
         bytes,
     ))
+}
+
+/// Syncs the folder of the file at a path.
+fn sync_folder(rt: &HostRuntime, path: &str) -> io::Result<()> {
+    let folder = match Path::new(path).parent() {
+        Some(folder) if !folder.as_str().is_empty() => folder.as_str(),
+        _ => ".",
+    };
+    File::open(rt, folder)?.sync_all()
 }
 
 /// Syncs the file and its folder, and drops the kernel's copies of its pages, which a failed sync of an earlier
@@ -117,17 +172,58 @@ fn settle(rt: &HostRuntime, path: &str, file: &File) -> io::Result<()> {
     if advised != 0 {
         return Err(io::Error::from_raw_os_error(advised));
     }
-    let folder = match Path::new(path).parent() {
-        Some(folder) if !folder.as_str().is_empty() => folder.as_str(),
-        _ => ".",
-    };
-    File::open(rt, folder)?.sync_all()
+    sync_folder(rt, path)
 }
 
 impl DiskFile {
     /// The system's words for the last failure.
     pub fn fault(&self) -> Option<io::Error> {
         self.fault
+    }
+
+    /// Syncs the file, unless a new one may have its name.
+    fn sync_named(&self) -> io::Result<()> {
+        match self.fault {
+            Some(error) if self.is_unsure => Err(error),
+            _ => self.file.sync_data(),
+        }
+    }
+
+    /// Makes a new file beside this one, with these bytes, all of them on the disk. Where that fails it is taken away again.
+    fn make_new(&mut self, rt: &HostRuntime, bytes: &[u8]) -> io::Result<File>
+        ensures made { OnOk result (self.new.calls ≡ made_durable true ∷ made bytes.now true ∷ self.old.calls) }
+        ensures failed { OnErr result ((self.new.calls ≡ made bytes.now false ∷ self.old.calls)
+            ⊎ (self.new.calls ≡ made_durable false ∷ made bytes.now true ∷ self.old.calls)) }
+    {
+        let made = make_beside(rt, self.beside.as_str(), bytes);
+        self.calls.make(bytes, made.is_ok());
+        let new = made?;
+        let synced = sync_like(&new, &self.file);
+        self.calls.sync_new(synced.is_ok());
+        synced?;
+        Ok(new)
+    }
+
+    /// Gives the new file the name of this one, and syncs the folder.
+    fn name_new(&mut self, rt: &HostRuntime) -> io::Result<()>
+        ensures named { OnOk result (self.new.calls ≡ folder_synced true ∷ named true ∷ self.old.calls) }
+        ensures failed { OnErr result ((self.new.calls ≡ named false ∷ self.old.calls)
+            ⊎ (self.new.calls ≡ folder_synced false ∷ named true ∷ self.old.calls)) }
+    {
+        let named = fs::rename(rt, self.beside.as_str(), self.path.as_str());
+        self.calls.name(named.is_ok());
+        named?;
+        let synced = sync_folder(rt, self.path.as_str());
+        self.calls.sync_folder(synced.is_ok());
+        synced
+    }
+
+    /// Takes away what is left of the new file, and keeps the system's words.
+    fn give_up(&mut self, rt: &HostRuntime, error: io::Error)
+        ensures { self.new.calls ≡ self.old.calls }
+    {
+        let _ = fs::remove_file(rt, self.beside.as_str());
+        self.fault = Some(error);
     }
 }
 
@@ -167,12 +263,35 @@ impl Device for DiskFile {
     }
 
     fn sync(&mut self) -> Result<(), DeviceFault> {
-        let outcome = self.file.sync_data();
+        let outcome = self.sync_named();
         self.calls.sync(outcome.is_ok());
         if let Err(error) = outcome {
             self.fault = Some(error);
             return Err(DeviceFault);
         }
+        Ok(())
+    }
+}
+
+impl Replaces for DiskFile {
+    type Host = HostRuntime;
+
+    /// The new file is written, synced and locked under another name before it is given the name of this one, so that no
+    /// other process opens it between. The other name is taken away where that fails.
+    fn replace(&mut self, host: &HostRuntime, bytes: &[u8]) -> Result<(), ReplaceErr> {
+        let new = match self.make_new(host, bytes) {
+            Ok(new) => new,
+            Err(error) => {
+                self.give_up(host, error);
+                return Err(ReplaceErr::NotMade);
+            }
+        };
+        if let Err(error) = self.name_new(host) {
+            self.give_up(host, error);
+            self.is_unsure = true;
+            return Err(ReplaceErr::Unsure);
+        }
+        self.file = new;
         Ok(())
     }
 }

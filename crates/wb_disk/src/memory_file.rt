@@ -4,8 +4,9 @@ ghost use Rattle.wb_disk.specs.Calls.{seen_after, MayLeave, LeftSince, faults_in
 ghost use Rattle.wb_disk.specs.Laws.{left_now, no_other};
 
 use crate::record::Record;
-use crate::{Device, DeviceFault};
+use crate::{Device, DeviceFault, ReplaceErr, Replaces};
 use std::alloc::{AllocError, Global};
+use std::mem;
 
 /// A file in memory. After some number of calls it is cut off: the call that comes then fails, as does each later one.
 /// A write for which there is no memory fails too, and is not done.
@@ -58,6 +59,18 @@ impl MemoryFile {
         ensures { result.now ≡ seen_after self.now.calls }
     {
         &self.bytes
+    }
+
+    /// Whether a call more is done.
+    fn goes_on(&mut self) -> bool
+        ensures calls { self.new.calls ≡ self.old.calls }
+        ensures bytes { self.new.bytes ≡ self.old.bytes }
+    {
+        if self.left_to_do == 0 {
+            return false;
+        }
+        self.left_to_do -= 1;
+        true
     }
 
     /// What the crash left, or what is there.
@@ -121,6 +134,43 @@ impl Device for MemoryFile {
         }
         self.left_to_do -= 1;
         self.calls.sync(true);
+        Ok(())
+    }
+}
+
+impl Replaces for MemoryFile {
+    type Host = ();
+
+    /// It takes four calls: the new file is written, synced and named, and then the folder is synced. Where it is cut off
+    /// in one of the last two, the crash leaves the new file unless `torn` is 0.
+    fn replace(&mut self, _host: &(), bytes: &[u8]) -> Result<(), ReplaceErr> {
+        let Ok(new) = bytes.to_vec(self.alloc) else {
+            self.calls.make(bytes, false);
+            return Err(ReplaceErr::NotMade);
+        };
+        let is_made = self.goes_on();
+        self.calls.make(bytes, is_made);
+        if !is_made {
+            return Err(ReplaceErr::NotMade);
+        }
+        let is_synced = self.goes_on();
+        self.calls.sync_new(is_synced);
+        if !is_synced {
+            return Err(ReplaceErr::NotMade);
+        }
+        let is_named = self.goes_on();
+        self.calls.name(is_named);
+        if !is_named {
+            self.left = (self.torn != 0).then(|| new);
+            return Err(ReplaceErr::Unsure);
+        }
+        let old = mem::replace(&mut self.bytes, new);
+        let is_settled = self.goes_on();
+        self.calls.sync_folder(is_settled);
+        if !is_settled {
+            self.left = (self.torn == 0).then(|| old);
+            return Err(ReplaceErr::Unsure);
+        }
         Ok(())
     }
 }

@@ -1,6 +1,6 @@
 //! A list of calls that only clauses read.
 ghost use Rattle.std.specs.Prelude.{◌≡◌, List, [], ◌∷◌};
-ghost use Rattle.wb_disk.specs.Calls.{written, cut_to, synced, held};
+ghost use Rattle.wb_disk.specs.Calls.{written, cut_to, synced, held, made, made_durable, named, folder_synced};
 
 use boxcar::tag::{Names, Tag};
 use std::marker::Model;
@@ -68,6 +68,34 @@ impl Record {
         ensures { self.new ≡ synced is_done ∷ self.old }
     {
         self.note(2, 0, is_done, &[])
+    }
+
+    /// A new file with these bytes, made beside this one.
+    pub(crate) fn make(&mut self, bytes: &[u8], is_done: bool)
+        ensures { self.new ≡ made bytes.now is_done ∷ self.old }
+    {
+        self.note(4, 0, is_done, bytes)
+    }
+
+    /// A sync of the new file.
+    pub(crate) fn sync_new(&mut self, is_done: bool)
+        ensures { self.new ≡ made_durable is_done ∷ self.old }
+    {
+        self.note(5, 0, is_done, &[])
+    }
+
+    /// The new file, given the name of this one.
+    pub(crate) fn name(&mut self, is_done: bool)
+        ensures { self.new ≡ named is_done ∷ self.old }
+    {
+        self.note(6, 0, is_done, &[])
+    }
+
+    /// A sync of the folder.
+    pub(crate) fn sync_folder(&mut self, is_done: bool)
+        ensures { self.new ≡ folder_synced is_done ∷ self.old }
+    {
+        self.note(7, 0, is_done, &[])
     }
 
     fn note(&mut self, kind: u64, at: usize, is_done: bool, bytes: &[u8])
