@@ -1,6 +1,6 @@
 //! A file of the operating system. Each method makes one call of it, and then notes the call with its answer.
-ghost use Rattle.std.specs.Prelude.{◌≡◌, ◌⊎◌, ◌∷◌, true, false, IfOk, OnOk, OnErr, length};
-ghost use Rattle.wb_disk.specs.Calls.{seen_after, MayLeave, LeftSince, faults_in, IsHeld, made, made_durable, named, folder_synced};
+ghost use Rattle.std.specs.Prelude.{◌≡◌, Err, IfOk, length};
+ghost use Rattle.wb_disk.specs.Calls.{seen_after, MayLeave, LeftSince, faults_in, IsHeld};
 ghost use Rattle.wb_disk.specs.Laws.{left_now, no_other};
 
 use crate::record::Record;
@@ -9,7 +9,7 @@ use std::alloc::AllocError;
 use std::fs::{self, File, OpenOptions, TryLockError};
 use std::io::{self, Read};
 use std::os::fd::AsRawFd;
-use std::os::unix::fs::{FileExt, MetadataExt};
+use std::os::unix::fs::{FileExt, MetadataExt, chown};
 use std::path::Path;
 use std::process;
 
@@ -81,9 +81,14 @@ fn make_beside(rt: &HostRuntime, beside: &str, bytes: &[u8]) -> io::Result<File>
     Ok(file)
 }
 
-/// Syncs a new file that is to take the place of an old one, with the permissions of that, and locks it.
-fn sync_like(new: &File, old: &File) -> io::Result<()> {
-    new.set_permissions(old.metadata()?.permissions())?;
+/// Syncs a new file that is to take the place of an old one, with the owner and the permissions of that, and locks it.
+fn sync_like(rt: &HostRuntime, beside: &str, new: &File, old: &File) -> io::Result<()> {
+    let made = new.metadata()?;
+    let wanted = old.metadata()?;
+    if made.uid() != wanted.uid() || made.gid() != wanted.gid() {
+        chown(rt, beside, Some(wanted.uid()), Some(wanted.gid()))?;
+    }
+    new.set_permissions(wanted.permissions())?;
     new.sync_all()?;
     new.try_lock()?;
     Ok(())
@@ -189,41 +194,20 @@ impl DiskFile {
         }
     }
 
-    /// Makes a new file beside this one, with these bytes, all of them on the disk. Where that fails it is taken away again.
-    fn make_new(&mut self, rt: &HostRuntime, bytes: &[u8]) -> io::Result<File>
-        ensures made { OnOk result (self.new.calls ≡ made_durable true ∷ made bytes.now true ∷ self.old.calls) }
-        ensures failed { OnErr result ((self.new.calls ≡ made bytes.now false ∷ self.old.calls)
-            ⊎ (self.new.calls ≡ made_durable false ∷ made bytes.now true ∷ self.old.calls)) }
-    {
-        let made = make_beside(rt, self.beside.as_str(), bytes);
-        self.calls.make(bytes, made.is_ok());
-        let new = made?;
-        let synced = sync_like(&new, &self.file);
-        self.calls.sync_new(synced.is_ok());
-        synced?;
-        Ok(new)
-    }
-
-    /// Gives the new file the name of this one, and syncs the folder.
-    fn name_new(&mut self, rt: &HostRuntime) -> io::Result<()>
-        ensures named { OnOk result (self.new.calls ≡ folder_synced true ∷ named true ∷ self.old.calls) }
-        ensures failed { OnErr result ((self.new.calls ≡ named false ∷ self.old.calls)
-            ⊎ (self.new.calls ≡ folder_synced false ∷ named true ∷ self.old.calls)) }
-    {
-        let named = fs::rename(rt, self.beside.as_str(), self.path.as_str());
-        self.calls.name(named.is_ok());
-        named?;
-        let synced = sync_folder(rt, self.path.as_str());
-        self.calls.sync_folder(synced.is_ok());
-        synced
-    }
-
     /// Takes away what is left of the new file, and keeps the system's words.
-    fn give_up(&mut self, rt: &HostRuntime, error: io::Error)
-        ensures { self.new.calls ≡ self.old.calls }
+    fn give_up(
+        &mut self,
+        rt: &HostRuntime,
+        error: io::Error,
+        why: ReplaceErr,
+    ) -> Result<(), ReplaceErr>
+        ensures told { result ≡ Err why }
+        ensures calls { self.new.calls ≡ self.old.calls }
     {
         let _ = fs::remove_file(rt, self.beside.as_str());
         self.fault = Some(error);
+        self.is_unsure |= why == ReplaceErr::Unsure;
+        Err(why)
     }
 }
 
@@ -279,17 +263,26 @@ impl Replaces for DiskFile {
     /// The new file is written, synced and locked under another name before it is given the name of this one, so that no
     /// other process opens it between. The other name is taken away where that fails.
     fn replace(&mut self, host: &HostRuntime, bytes: &[u8]) -> Result<(), ReplaceErr> {
-        let new = match self.make_new(host, bytes) {
+        let made = make_beside(host, self.beside.as_str(), bytes);
+        self.calls.make(bytes, made.is_ok());
+        let new = match made {
             Ok(new) => new,
-            Err(error) => {
-                self.give_up(host, error);
-                return Err(ReplaceErr::NotMade);
-            }
+            Err(error) => return self.give_up(host, error, ReplaceErr::NotMade),
         };
-        if let Err(error) = self.name_new(host) {
-            self.give_up(host, error);
-            self.is_unsure = true;
-            return Err(ReplaceErr::Unsure);
+        let synced = sync_like(host, self.beside.as_str(), &new, &self.file);
+        self.calls.sync_new(synced.is_ok());
+        if let Err(error) = synced {
+            return self.give_up(host, error, ReplaceErr::NotMade);
+        }
+        let named = fs::rename(host, self.beside.as_str(), self.path.as_str());
+        self.calls.name(named.is_ok());
+        if let Err(error) = named {
+            return self.give_up(host, error, ReplaceErr::Unsure);
+        }
+        let settled = sync_folder(host, self.path.as_str());
+        self.calls.sync_folder(settled.is_ok());
+        if let Err(error) = settled {
+            return self.give_up(host, error, ReplaceErr::Unsure);
         }
         self.file = new;
         Ok(())

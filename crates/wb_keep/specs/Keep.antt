@@ -14,3 +14,8 @@ pub record IsSettled {D : Type 0} (seen : D → List ℕ) (may_leave : D → Lis
 pub record IsBeforeOrAfter (old new : List (List ℕ)) (file : List ℕ) : Type 0 where
   pub head : HasHeader file
   pub lines : (recovered file ≡ old) ⊎ (recovered file ≡ old ++ new)
+
+-- the file stands for the old lines or for the new ones
+pub record IsOldOrNew (old new : List (List ℕ)) (file : List ℕ) : Type 0 where
+  pub head : HasHeader file
+  pub lines : (recovered file ≡ old) ⊎ (recovered file ≡ new)

@@ -11,7 +11,8 @@ use crate::lines::{CLOSED, COUNTS, block_of, counted_lines};
 use std::alloc::{AllocError, Global};
 use wb_disk::{Device, DeviceFault};
 
-const HEADER: [u8; 18] = *b"chapel-workbook 3\n";
+/// The first line.
+pub(crate) const HEADER: [u8; 18] = *b"chapel-workbook 3\n";
 
 /// What a new log begins with.
 pub const START: [u8; 19] = *b"chapel-workbook 3\n#";
