@@ -9,7 +9,7 @@ use Rattle.clap.specs.declared.parser.matches.Found.{Found}
 use Rattle.clap.proofs.WalkLemmas.{one_text-rows}
 use Rattle.wb_command.specs.Asks.{HasNumber, HasWorkers, Means, Writes, is_set}
 use Rattle.wb_command.specs.declared.Asked.{Asked}
-use Rattle.wb_command.specs.declared.Asked.TheVariants.{Run, Check, Upgrade, Serve}
+use Rattle.wb_command.specs.declared.Asked.TheVariants.{Run, RunKept, Check, Upgrade, Serve}
 
 some≢none : {X : Type 0} (x : X) → Some x ≡ None → ⊥
 some≢none x e = true≢false (ap is_some e)
@@ -103,7 +103,8 @@ module _ (E : Type 0) where
 
 -- `run` means nothing where no number of workers was found
 pub run_alone : (found : List Row) → ((n : ℕ) → HasWorkers found n → ⊥) → (asked : Asked) → Means (codes "run") found asked → ⊥
-run_alone found none (Run resume workers) m = none workers m.2
+run_alone found none (Run resume workers) m = none workers m.3
+run_alone found none (RunKept journal workers) m = none workers m.3
 run_alone found none Check m = absurd (true≢false (ap (bytes_eq (codes "run")) m))
 run_alone found none Upgrade m = absurd (true≢false (ap (bytes_eq (codes "run")) m))
 run_alone found none (Serve port seats resume workers) m = absurd (true≢false (ap (bytes_eq (codes "run")) m.0))
@@ -113,6 +114,7 @@ pub serve_alone : (found : List Row) → ((port seats workers : ℕ) → HasNumb
     → HasNumber 8 (codes "seats") found seats → HasWorkers found workers → ⊥)
     → (asked : Asked) → Means (codes "serve") found asked → ⊥
 serve_alone found none (Run resume workers) m = absurd (true≢false (ap (bytes_eq (codes "serve")) m.0))
+serve_alone found none (RunKept journal workers) m = absurd (true≢false (ap (bytes_eq (codes "serve")) m.0))
 serve_alone found none Check m = absurd (true≢false (ap (bytes_eq (codes "serve")) m))
 serve_alone found none Upgrade m = absurd (true≢false (ap (bytes_eq (codes "serve")) m))
 serve_alone found none (Serve port seats resume workers) m = none port seats workers m.1 m.2 m.4

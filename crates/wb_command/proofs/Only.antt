@@ -1,10 +1,10 @@
 -- Words ask for one thing at most.
 use Rattle.std.proofs.Common.{◌≡◌, ◌∙◌, ℕ, true, false, List, Option, Some, None, ap, ap₂, refl, sym, subst, inl, inr, true≢false}
-use Rattle.std.specs.Prelude.{Result, Ok, Err, IfOk, IfErr, MatchResult, IsSomeAnd, codes, bytes_eq, is_some}
+use Rattle.std.specs.Prelude.{Result, Ok, Err, IfOk, IfErr, MatchResult, IsSomeAnd, codes, bytes_eq, is_some, unwrap_or}
 use Rattle.clap.specs.Words.{IsAmong, Row, Text, one_of, subcommand_of}
 use Rattle.wb_command.specs.Asks.{Asks, HasNumber, HasWorkers, IsMeant, Means, Refuses, Writes, program}
 use Rattle.wb_command.specs.declared.Asked.{Asked}
-use Rattle.wb_command.specs.declared.Asked.TheVariants.{Run, Check, Upgrade, Serve}
+use Rattle.wb_command.specs.declared.Asked.TheVariants.{Run, RunKept, Check, Upgrade, Serve}
 use Rattle.wb_command.specs.declared.CommandErr.{CommandErr}
 use Rattle.wb_command.specs.declared.CommandErr.TheVariants.{Help, BadCommandLine, NoMemory}
 
@@ -29,20 +29,35 @@ one_workers found m n (inr h) (inr k) = one_number 8 (codes "workers") found m n
 apart : (a b : Text) (name : Text) → bytes_eq a b ≡ false → bytes_eq a a ≡ true → name ≡ a → name ≡ b → ⊥
 apart a b name differ same is_a is_b = true≢false (sym same ∙ ap (bytes_eq a) (sym is_a ∙ is_b) ∙ differ)
 
+no_word : (word : Text) → Some word ≡ None → ⊥
+no_word word e = true≢false (ap is_some e)
+
+same_word : (a b : Text) → Some a ≡ Some b → a ≡ b
+same_word a b e = ap (λ (o : Option Text). unwrap_or o a) e
+
 one_meaning : (name : Text) (found : List Row) (a b : Asked) → Means name found a → Means name found b → a ≡ b
-one_meaning name found (Run r w) (Run s v) m n = ap₂ Run (m.1 ∙ sym n.1) (one_workers found w v m.2 n.2)
+one_meaning name found (Run r w) (Run s v) m n = ap₂ Run (m.1 ∙ sym n.1) (one_workers found w v m.3 n.3)
+one_meaning name found (Run r w) (RunKept j v) m n = absurd (no_word j (sym n.2 ∙ m.2))
 one_meaning name found (Run r w) Check m n = absurd (apart (codes "run") (codes "check") name refl refl m.0 n)
 one_meaning name found (Run r w) Upgrade m n = absurd (apart (codes "run") (codes "upgrade") name refl refl m.0 n)
 one_meaning name found (Run r w) (Serve p t s v) m n = absurd (apart (codes "run") (codes "serve") name refl refl m.0 n.0)
+one_meaning name found (RunKept i w) (Run s v) m n = absurd (no_word i (sym m.2 ∙ n.2))
+one_meaning name found (RunKept i w) (RunKept j v) m n = ap₂ RunKept (same_word i j (sym m.2 ∙ n.2)) (one_workers found w v m.3 n.3)
+one_meaning name found (RunKept i w) Check m n = absurd (apart (codes "run") (codes "check") name refl refl m.0 n)
+one_meaning name found (RunKept i w) Upgrade m n = absurd (apart (codes "run") (codes "upgrade") name refl refl m.0 n)
+one_meaning name found (RunKept i w) (Serve p t s v) m n = absurd (apart (codes "run") (codes "serve") name refl refl m.0 n.0)
 one_meaning name found Check (Run s v) m n = absurd (apart (codes "check") (codes "run") name refl refl m n.0)
+one_meaning name found Check (RunKept j v) m n = absurd (apart (codes "check") (codes "run") name refl refl m n.0)
 one_meaning name found Check Check m n = refl
 one_meaning name found Check Upgrade m n = absurd (apart (codes "check") (codes "upgrade") name refl refl m n)
 one_meaning name found Check (Serve p t s v) m n = absurd (apart (codes "check") (codes "serve") name refl refl m n.0)
 one_meaning name found Upgrade (Run s v) m n = absurd (apart (codes "upgrade") (codes "run") name refl refl m n.0)
+one_meaning name found Upgrade (RunKept j v) m n = absurd (apart (codes "upgrade") (codes "run") name refl refl m n.0)
 one_meaning name found Upgrade Check m n = absurd (apart (codes "upgrade") (codes "check") name refl refl m n)
 one_meaning name found Upgrade Upgrade m n = refl
 one_meaning name found Upgrade (Serve p t s v) m n = absurd (apart (codes "upgrade") (codes "serve") name refl refl m n.0)
 one_meaning name found (Serve p t r w) (Run s v) m n = absurd (apart (codes "serve") (codes "run") name refl refl m.0 n.0)
+one_meaning name found (Serve p t r w) (RunKept j v) m n = absurd (apart (codes "serve") (codes "run") name refl refl m.0 n.0)
 one_meaning name found (Serve p t r w) Check m n = absurd (apart (codes "serve") (codes "check") name refl refl m.0 n)
 one_meaning name found (Serve p t r w) Upgrade m n = absurd (apart (codes "serve") (codes "upgrade") name refl refl m.0 n)
 one_meaning name found (Serve p t r w) (Serve q u s v) m n =

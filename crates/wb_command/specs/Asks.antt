@@ -4,7 +4,7 @@
 use Rattle.std.specs.Prelude.{◌≡◌, ◌≢◌, ◌⊎◌, ◌<◌, ◌^◌, ℕ, Bool, true, false, List, [], ◌∷◌, Option, Some, None, IsSomeAnd, ⊤, pos, codes, bytes_eq}
 use Rattle.std.specs.Option.{option_map_or}
 use Rattle.std.specs.Str.Parse.{IsNumeral, digits_value, without_leading_plus}
-use Rattle.clap.specs.Words.{App, Row, Rule, Shape, Text, IsAmong, fault_of, kind_of, new_rule, one_of, subcommand_of}
+use Rattle.clap.specs.Words.{App, Row, Rule, Shape, Text, IsAmong, fault_of, first_of, kind_of, new_rule, one_of, subcommand_of}
 use Rattle.clap.specs.Simple.{new_shape}
 use Rattle.clap.specs.declared.builder.action.ArgAction.TheVariants.{Set, SetTrue}
 use Rattle.clap.specs.declared.builder.value_parser.ValueParser.TheVariants.{Signed}
@@ -12,7 +12,7 @@ use Rattle.clap.specs.declared.error.Error.{Error}
 use Rattle.clap.specs.declared.error.kind.ErrorKind.{ErrorKind}
 use Rattle.clap.specs.declared.error.kind.ErrorKind.TheVariants.{DisplayHelp, DisplayVersion, OutOfMemory}
 use Rattle.wb_command.specs.declared.Asked.{Asked}
-use Rattle.wb_command.specs.declared.Asked.TheVariants.{Run, Check, Upgrade, Serve}
+use Rattle.wb_command.specs.declared.Asked.TheVariants.{Run, RunKept, Check, Upgrade, Serve}
 use Rattle.wb_command.specs.declared.CommandErr.{CommandErr}
 use Rattle.wb_command.specs.declared.CommandErr.TheVariants.{Help, BadCommandLine, NoMemory}
 
@@ -31,8 +31,15 @@ number name least greatest =
 abbrev pub needed : Rule → Rule
 needed option = record option { required = true }
 
+-- an option with a word: `--name WORD`
+abbrev pub worded : Text → Rule
+worded name = record (new_rule name) { long = Some name; action = Some Set }
+
 abbrev pub resume_option : Rule
 resume_option = flag (codes "resume")
+
+abbrev pub journal_option : Rule
+journal_option = worded (codes "journal")
 
 abbrev pub workers_option : Rule
 workers_option = number (codes "workers") 1 64
@@ -48,7 +55,7 @@ abbrev pub command : Text → List Rule → Shape
 command name options = record (new_shape name) { rules = options }
 
 abbrev pub run_command : Shape
-run_command = command (codes "run") (resume_option ∷ workers_option ∷ [])
+run_command = command (codes "run") (resume_option ∷ journal_option ∷ workers_option ∷ [])
 
 abbrev pub check_command : Shape
 check_command = command (codes "check") []
@@ -89,10 +96,16 @@ HasWorkers found n = ((one_of (codes "workers") found ≡ None) × (n ≡ 1)) �
 abbrev pub is_set : Text → List Row → Bool
 is_set name found = option_map_or (λ text. bytes_eq text (codes "true")) (one_of name found) false
 
+-- the word that was found for the option, if one was
+abbrev pub word_of : Text → List Row → Option Text
+word_of name found = first_of name found
+
 -- what the command of this name asks for, where this was found for its options
 abbrev pub Means : Text → List Row → Asked → Type 0
 Means name found (Run resume workers) =
-    (name ≡ codes "run") × (resume ≡ is_set (codes "resume") found) × HasWorkers found workers
+    (name ≡ codes "run") × (resume ≡ is_set (codes "resume") found) × (word_of (codes "journal") found ≡ None) × HasWorkers found workers
+Means name found (RunKept journal workers) =
+    (name ≡ codes "run") × (is_set (codes "resume") found ≡ false) × (word_of (codes "journal") found ≡ Some journal) × HasWorkers found workers
 Means name found Check = name ≡ codes "check"
 Means name found Upgrade = name ≡ codes "upgrade"
 Means name found (Serve port seats resume workers) = (name ≡ codes "serve") × HasNumber 16 (codes "port") found port

@@ -1,16 +1,17 @@
 //! The command line of the program.
 #![tactic(auto)]
 
-ghost use Rattle.std.specs.Prelude.{◌≡◌, ℕ, false, IfErr, IfOk, MatchOption, MatchResult, codes};
+ghost use Rattle.std.specs.Prelude.{◌≡◌, ℕ, false, IfErr, IfOk, MatchOption, MatchResult, codes, option_map};
 ghost use Rattle.clap.specs.Walk.{texts};
 ghost use Rattle.clap.specs.Words.{app_of, found_of, rows_of, rule_of, shape_of, subcommand_rows_of};
 ghost use Rattle.clap.specs.declared.builder.command.Command.TheViews.{out-Command as fields_of};
-ghost use Rattle.wb_command.specs.Asks.{Asks, HasNumber, HasWorkers, IsMeant, Means, Refuses, Tells, is_set};
+ghost use Rattle.wb_command.specs.Asks.{Asks, HasNumber, HasWorkers, IsMeant, Means, Refuses, Tells, is_set, word_of};
 ghost use Rattle.wb_command.specs.Asks as spec;
 
 use clap::error::ErrorKind;
 use clap::{Arg, ArgAction, ArgMatches, Command};
 use std::alloc::{AllocError, Global};
+use std::marker::Model;
 
 const VERSION: &str = "0.1.0";
 
@@ -24,12 +25,47 @@ const UPGRADE_EXAMPLE: &str =
 
 const SERVE_EXAMPLE: &str = "Example:\n  workbook serve --port 7000 --seats 2";
 
+/// The path of a file, a word of the command line.
+#[derive(Debug, Drop)]
+pub struct FilePath<'a> {
+    word: &'a str,
+}
+
+impl<'a> Model for FilePath<'a> {
+    ghost use Rattle.std.specs.Prelude.{List, ℕ};
+
+    ghost Value = { List ℕ };
+
+    ghost view = { λ p. p.word.now };
+}
+
+impl<'a> FilePath<'a> {
+    /// The path that this word is.
+    pub fn new(word: &'a str) -> FilePath<'a>
+        ensures { result ≡ word.now }
+    {
+        FilePath { word }
+    }
+
+    /// The word.
+    pub fn as_str(&self) -> &'a str
+        ensures { result.now ≡ self.now }
+    {
+        self.word
+    }
+}
+
 /// What the words of a command line ask for. Arrays are moved by 1 to 64 workers; 1 is the program's own thread.
-#[derive(Clone, Copy, Debug, PartialEq, Eq)]
-pub enum Asked {
+#[derive(Debug, Drop)]
+pub enum Asked<'a> {
     /// A session from standard input to standard output, on an empty workbook, or on the history whose text comes first.
     Run {
         resume: bool,
+        workers: u8,
+    },
+    /// A session on the history that a journal has, which keeps each change there.
+    RunKept {
+        journal: FilePath<'a>,
         workers: u8,
     },
     /// Whether standard input is the text of a workbook or of a history.
@@ -58,7 +94,7 @@ pub enum CommandErr {
 }
 
 /// What the words ask for, the program's own name first.
-pub fn command_of(alloc: Global, words: &[&str]) -> Result<Asked, CommandErr>
+pub fn command_of<'a>(alloc: Global, words: &'a [&'a str]) -> Result<Asked<'a>, CommandErr>
     ensures asked { IfOk result (Asks (texts words.now)) }
     ensures refused { IfErr result (Refuses (texts words.now)) }
     ensures only { (asked : Asked) → Asks (texts words.now) asked
@@ -105,6 +141,7 @@ fn run_command<'a>(alloc: Global) -> Result<Command<'a>, AllocError>
         .about("Answers each request line of standard input on standard output")
         .after_help(RUN_EXAMPLE)
         .arg(resume_flag(alloc))?
+        .arg(journal_option(alloc))?
         .arg(workers_option(alloc))
 }
 
@@ -151,6 +188,15 @@ fn resume_flag<'a>(alloc: Global) -> Arg<'a>
         .action(ArgAction::SetTrue)
 }
 
+// The file that each change is kept in.
+fn journal_option<'a>(alloc: Global) -> Arg<'a>
+    ensures { (rule_of result ≡ spec.journal_option) × (result.global ≡ false) }
+{
+    Arg::new(alloc, "journal")
+        .long("journal")
+        .action(ArgAction::Set)
+}
+
 // How many workers move arrays.
 fn workers_option<'a>(alloc: Global) -> Arg<'a>
     ensures { (rule_of result ≡ spec.workers_option) × (result.global ≡ false) }
@@ -184,7 +230,7 @@ fn seats_option<'a>(alloc: Global) -> Arg<'a>
 }
 
 // What the matched words ask for.
-fn read_off(matches: &ArgMatches) -> Option<Asked>
+fn read_off<'a>(matches: &ArgMatches<'a>) -> Option<Asked<'a>>
     ensures { MatchOption result
         ((asked : Asked) → IsMeant (subcommand_rows_of matches.now) asked → ⊥)
         (IsMeant (subcommand_rows_of matches.now)) }
@@ -194,7 +240,7 @@ fn read_off(matches: &ArgMatches) -> Option<Asked>
 }
 
 // What the command of this name asks for by what was found for its options.
-fn asked_by(name: &str, found: &ArgMatches) -> Option<Asked>
+fn asked_by<'a>(name: &str, found: &ArgMatches<'a>) -> Option<Asked<'a>>
     ensures { MatchOption result
         ((asked : Asked) → Means name.now (rows_of (found_of found.now)) asked → ⊥)
         (Means name.now (rows_of (found_of found.now))) }
@@ -209,18 +255,23 @@ fn asked_by(name: &str, found: &ArgMatches) -> Option<Asked>
 }
 
 // What `run` asks for.
-fn run_of(found: &ArgMatches) -> Option<Asked>
+fn run_of<'a>(found: &ArgMatches<'a>) -> Option<Asked<'a>>
     ensures { MatchOption result
         ((asked : Asked) → Means (codes "run") (rows_of (found_of found.now)) asked → ⊥)
         (Means (codes "run") (rows_of (found_of found.now))) }
 {
     let resume = is_resumed(found);
     let workers = workers_of(found)?;
-    Some(Asked::Run { resume, workers })
+    match journal_of(found) {
+        None => Some(Asked::Run { resume, workers }),
+        // A journal has its own history, and no other is taken into it.
+        Some(_) if resume => None,
+        Some(journal) => Some(Asked::RunKept { journal, workers }),
+    }
 }
 
 // What `serve` asks for.
-fn serve_of(found: &ArgMatches) -> Option<Asked>
+fn serve_of<'a>(found: &ArgMatches<'a>) -> Option<Asked<'a>>
     ensures { MatchOption result
         ((asked : Asked) → Means (codes "serve") (rows_of (found_of found.now)) asked → ⊥)
         (Means (codes "serve") (rows_of (found_of found.now))) }
@@ -260,6 +311,16 @@ fn is_resumed(found: &ArgMatches) -> bool
     ensures { result ≡ is_set (codes "resume") (rows_of (found_of found.now)) }
 {
     found.get_one::<bool>("resume").unwrap_or(false)
+}
+
+// The path of the journal, if there is one.
+fn journal_of<'a>(found: &ArgMatches<'a>) -> Option<FilePath<'a>>
+    ensures { result ≡ word_of (codes "journal") (rows_of (found_of found.now)) }
+{
+    match found.get_str("journal") {
+        Some(word) => Some(FilePath::new(word)),
+        None => None,
+    }
 }
 
 // The number of workers; 1 where it is not told.

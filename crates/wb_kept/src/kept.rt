@@ -114,6 +114,10 @@ pub fn open<M: Machine<S>, S: Drop, D: Device, A: Fn(&mut S, &[u8]) -> Result<bo
     ensures refused { (s : S) → Leads M.grants M.start (recovered held.now) s → IsTrue (is_ours held.now)
         → IfErr result (λ e. e.0 ≢ OpenKeptErr.Failed → e.0 ≡ OpenKeptErr.Memory) }
 
+    // A file of another kind is told as that, and no other is.
+    ensures foreign { IsFalse (is_ours held.now) → IsErrAnd result (λ e. e.0 ≡ OpenKeptErr.NotOurs) }
+    ensures ours { IsTrue (is_ours held.now) → IfErr result (λ e. e.0 ≢ OpenKeptErr.NotOurs) }
+
     // A crash at any moment leaves the same lines.
     ensures any_moment { IfOk result (λ kept. LeavesOnly D.moment D.left_since device kept.log.device (StandsForTheSame held.now)) }
     ensures any_moment_err { IfErr result (λ e. LeavesOnly D.moment D.left_since device e.1 (StandsForTheSame held.now)) }

@@ -5,4 +5,5 @@ pub mod Upgrading
 pub mod Serving
 pub mod Accepting
 pub mod Days
+pub mod Keeping
 pub mod Doing

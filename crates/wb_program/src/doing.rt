@@ -9,6 +9,8 @@ ghost use Rattle.wb_program.specs.Doing.{listening, Hosts, HostsHistory, Does, F
 
 use crate::accepting::{AcceptErr, Accepts, Binds};
 use crate::checking::{check_with, tell};
+use crate::files::{FileFault, OpensFiles};
+use crate::keeping::{KeptRun, run_kept_with};
 use crate::put_back::PutBack;
 use crate::resuming::{history_from, resume_with};
 use crate::running::{DONE, INPUT_OR_OUTPUT_FAILED, NO_MEMORY, run_with};
@@ -18,6 +20,7 @@ use std::alloc::Global;
 use std::sync::Wait;
 use std::thread::Threads;
 use wb_command::Asked;
+use wb_disk::Device;
 use wb_lines::{Sink, Source};
 use wb_proto::below::history::History;
 use wb_redist::Mover;
@@ -142,6 +145,30 @@ fn host_input<
     }
 }
 
+// A session on the history that the journal at a path has.
+fn run_kept<D: Device, J: OpensFiles<D>, R: Source, W: Sink, M: Mover>(
+    alloc: Global,
+    files: &mut J,
+    path: &str,
+    reader: &mut R,
+    writer: &mut W,
+    mover: &M,
+) -> u8 {
+    match files.open(path) {
+        Ok((file, held)) => {
+            let KeptRun {
+                status,
+                fault,
+                file,
+            } = run_kept_with(alloc, file, &held, reader, writer, mover);
+            files.close(file, fault);
+            status
+        }
+        Err(FileFault::NoMemory) => NO_MEMORY,
+        Err(_) => INPUT_OR_OUTPUT_FAILED,
+    }
+}
+
 /// Does what a command line asks for: the exit status. What is read and written is what the definition of each command says. Status 0
 /// comes only with the writer flushed, and, where an input is read, at its end; 3 only where a read, a write, a flush, a port, a
 /// connection or a thread failed, or what the definition of each command names besides. A desk listens on a port that `ports` gives.
@@ -151,14 +178,17 @@ pub fn do_asked<
     N: Accepts<I, O> + Drop,
     I: Source + Send + Drop,
     O: Sink + Send + Drop,
+    D: Device,
+    J: OpensFiles<D>,
     S: Source,
     W: Sink,
     M: Mover + Sync,
 >(
     rt: &R,
     alloc: Global,
-    asked: Asked,
+    asked: Asked<'_>,
     ports: &mut B,
+    files: &mut J,
     reader: &mut PutBack<S>,
     writer: &mut W,
     mover: &M,
@@ -177,6 +207,16 @@ pub fn do_asked<
             } else {
                 run_with(alloc, reader, writer, mover)
             }
+        }
+        Asked::RunKept { journal, .. } => {
+            run_kept::<D, J, PutBack<S>, W, M>(
+                alloc,
+                files,
+                journal.as_str(),
+                reader,
+                writer,
+                mover,
+            )
         }
         Asked::Check => check_with(alloc, reader, writer, mover),
         Asked::Upgrade => upgrade_with(alloc, reader, writer, mover),

@@ -8,6 +8,8 @@ mod answering;
 mod checking;
 mod cost;
 mod doing;
+mod files;
+mod keeping;
 mod put_back;
 mod resuming;
 mod running;
@@ -19,6 +21,8 @@ pub use crate::accepting::{AcceptErr, Accepts, Binds, Connections, Ports};
 pub use crate::answering::session;
 pub use crate::checking::{REFUSED, Verdict, check_with, status_of_verdict, verdict_on};
 pub use crate::doing::do_asked;
+pub use crate::files::{FileFault, Files, OpensFiles};
+pub use crate::keeping::{KeptRun, run_kept_with};
 pub use crate::put_back::PutBack;
 pub use crate::resuming::{history_from, resume_with};
 pub use crate::running::{

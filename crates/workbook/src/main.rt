@@ -11,45 +11,80 @@ use std::thread::Threads;
 use wb_command::{Asked, CommandErr, command_of};
 use wb_lines::{Input, Output};
 use wb_program::{
-    BAD_COMMAND_LINE, DONE, INPUT_OR_OUTPUT_FAILED, NO_MEMORY, Ports, PutBack, do_asked,
+    BAD_COMMAND_LINE, DONE, FileFault, Files, INPUT_OR_OUTPUT_FAILED, NO_MEMORY, Ports, PutBack,
+    do_asked,
 };
 use wb_redist::{Crew, Mover};
 
 /// The words of most command lines: so many are lent without memory of their own.
 const FEW: usize = 8;
 
+/// How the program ends.
+#[derive(Drop)]
+struct Ending {
+    /// The exit status.
+    status: u8,
+    /// Why no journal is kept, or no more of it.
+    fault: Option<FileFault>,
+    /// The system's words for that.
+    cause: Option<io::Error>,
+}
+
+impl Ending {
+    /// An end of which the status tells all.
+    fn of(status: u8) -> Ending {
+        Ending {
+            status,
+            fault: None,
+            cause: None,
+        }
+    }
+}
+
 fn main(rt: HostRuntime) -> ExitCode {
-    let done = match asked(&rt) {
-        Ok(Ok(asked)) => match Crew::new(&rt, workers_of(&asked)) {
-            Ok(crew) => on_devices(&rt, &rt, asked, &crew),
-            Err(_) => Ok(BAD_COMMAND_LINE),
-        },
-        Ok(Err(status)) => Ok(status),
-        Err(error) => Err(error),
-    };
-    let status = match done {
-        Ok(status) => status,
+    let ending = match by_words(&rt, &rt) {
+        Ok(ending) => ending,
         Err(error) => match error.kind() {
-            io::ErrorKind::OutOfMemory => NO_MEMORY,
-            _ => INPUT_OR_OUTPUT_FAILED,
+            io::ErrorKind::OutOfMemory => Ending::of(NO_MEMORY),
+            _ => Ending::of(INPUT_OR_OUTPUT_FAILED),
         },
     };
-    tell(&rt, status);
-    ExitCode::from(status)
+    tell(&rt, &ending);
+    ExitCode::from(ending.status)
 }
 
 // Says on standard error why the program ends. Where that fails, the exit status stays what it is.
-fn tell(rt: &HostRuntime, status: u8) {
-    let _ = match status {
-        BAD_COMMAND_LINE => eprintln!(rt; "workbook: bad command line"),
-        INPUT_OR_OUTPUT_FAILED => eprintln!(rt; "workbook: input or output failed"),
-        NO_MEMORY => eprintln!(rt; "workbook: no memory"),
+fn tell(rt: &HostRuntime, ending: &Ending) {
+    let _ = match (ending.status, ending.fault) {
+        (INPUT_OR_OUTPUT_FAILED, Some(fault)) => tell_of_file(rt, fault, ending.cause),
+        (BAD_COMMAND_LINE, _) => eprintln!(rt; "workbook: bad command line"),
+        (INPUT_OR_OUTPUT_FAILED, _) => eprintln!(rt; "workbook: input or output failed"),
+        (NO_MEMORY, _) => eprintln!(rt; "workbook: no memory"),
         _ => Ok(()),
     };
 }
 
-// What the command line asks for, or the exit status where that is nothing.
-fn asked(rt: &HostRuntime) -> io::Result<Result<Asked, u8>> {
+// The same, where the file of a journal is the cause.
+fn tell_of_file(rt: &HostRuntime, fault: FileFault, cause: Option<io::Error>) -> io::Result<()> {
+    match fault {
+        FileFault::NotOpened => eprint!(rt; "workbook: the journal was not opened")?,
+        FileFault::Busy => eprint!(rt; "workbook: the journal is in use")?,
+        FileFault::NotAFile => eprint!(rt; "workbook: the journal is no regular file")?,
+        FileFault::NotOurs => eprint!(rt; "workbook: the file is no journal")?,
+        FileFault::Failed => eprint!(rt; "workbook: the journal failed")?,
+        FileFault::NoMemory => eprint!(rt; "workbook: no memory for the journal")?,
+    }
+    match cause {
+        Some(cause) => eprintln!(rt; ": {cause}"),
+        None => eprintln!(rt; ""),
+    }
+}
+
+// Does what the words of the command line ask for.
+fn by_words<R: Net<Listener = TcpListener, Stream = TcpStream> + Threads + Wait + Sync>(
+    rt: &HostRuntime,
+    net: &R,
+) -> io::Result<Ending> {
     let alloc = rt.alloc();
     let mut words = Vec::new(alloc);
     for word in env::args(rt)? {
@@ -62,42 +97,62 @@ fn asked(rt: &HostRuntime) -> io::Result<Result<Asked, u8>> {
             .map_err(|_| io::ErrorKind::OutOfMemory)?;
     }
     match command_of(alloc, texts.as_slice()) {
-        Ok(asked) => Ok(Ok(asked)),
+        Ok(asked) => by_crew(rt, net, asked),
         Err(CommandErr::Help(error)) => {
             error.print(rt)?;
-            Ok(Err(DONE))
+            Ok(Ending::of(DONE))
         }
-        Err(CommandErr::BadCommandLine) => Ok(Err(BAD_COMMAND_LINE)),
-        Err(CommandErr::NoMemory) => Ok(Err(NO_MEMORY)),
+        Err(CommandErr::BadCommandLine) => Ok(Ending::of(BAD_COMMAND_LINE)),
+        Err(CommandErr::NoMemory) => Ok(Ending::of(NO_MEMORY)),
+    }
+}
+
+// Does what is asked for, with as many workers as are asked for.
+fn by_crew<R: Net<Listener = TcpListener, Stream = TcpStream> + Threads + Wait + Sync>(
+    rt: &HostRuntime,
+    net: &R,
+    asked: Asked<'_>,
+) -> io::Result<Ending> {
+    match Crew::new(net, workers_of(&asked)) {
+        Ok(crew) => on_devices(rt, net, asked, &crew),
+        Err(_) => Ok(Ending::of(BAD_COMMAND_LINE)),
     }
 }
 
 // How many workers move arrays.
-fn workers_of(asked: &Asked) -> usize {
+fn workers_of(asked: &Asked<'_>) -> usize {
     match asked {
         Asked::Run { workers, .. } => *workers as usize,
+        Asked::RunKept { workers, .. } => *workers as usize,
         Asked::Check => 1,
         Asked::Upgrade => 1,
         Asked::Serve { workers, .. } => *workers as usize,
     }
 }
 
-// Does what is asked for on the real devices, with arrays moved by the mover: the exit status.
+// Does what is asked for on the real devices, with arrays moved by the mover.
 fn on_devices<
     R: Net<Listener = TcpListener, Stream = TcpStream> + Threads + Wait + Sync,
     M: Mover + Sync,
->(rt: &HostRuntime, net: &R, asked: Asked, mover: &M) -> io::Result<u8> {
+>(rt: &HostRuntime, net: &R, asked: Asked<'_>, mover: &M) -> io::Result<Ending> {
     let alloc = rt.alloc();
     let mut ports = Ports::of(net);
+    let mut files = Files::of(rt);
     let mut input = PutBack::new(alloc, Input::new(rt.stdin()));
     let mut output = Output::new(BufWriter::new(alloc, rt.stdout())?);
-    Ok(do_asked(
+    let status = do_asked(
         net,
         alloc,
         asked,
         &mut ports,
+        &mut files,
         &mut input,
         &mut output,
         mover,
-    ))
+    );
+    Ok(Ending {
+        status,
+        fault: files.told(),
+        cause: files.cause(),
+    })
 }

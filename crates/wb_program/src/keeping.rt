@@ -1,0 +1,124 @@
+//! Sessions whose changes are kept in a journal, and the exit status after each.
+ghost use Rattle.std.specs.Prelude.{◌≡◌, ◌≢◌, ◌++◌, ℕ, List, true, false, IfOk};
+ghost use Rattle.wb_disk.specs.Device.{Only};
+ghost use Rattle.wb_proto.specs.Below.wb_history.Past.{Past};
+ghost use Rattle.wb_granting.specs.Granting.{Answers, Grants};
+ghost use Rattle.wb_program.specs.Keeping.{RunsKept, fault_of_end, status_of_end};
+ghost use Rattle.wb_program.specs.declared.keeping.KeptRun.{KeptRun};
+
+use crate::checking::{Verdict, say};
+use crate::files::FileFault;
+use crate::running::{DONE, INPUT_OR_OUTPUT_FAILED, NO_MEMORY};
+use std::alloc::{AllocError, Global};
+use wb_disk::Device;
+use wb_keeping::{KeptHistory, answer, make};
+use wb_kept::{Changes, Kept, KeptEnd, OpenKeptErr, open, serve_kept};
+use wb_lines::{Sink, Source};
+use wb_proto::below::history::History;
+use wb_redist::Mover;
+
+/// How a session with a journal came out.
+#[derive(Drop)]
+pub struct KeptRun<D> {
+    /// The exit status.
+    pub status: u8,
+    /// Why the journal isn't kept, or no more of it.
+    pub fault: Option<FileFault>,
+    /// The file.
+    pub file: D,
+}
+
+// The exit status after a session with a journal.
+fn status_of_end(end: KeptEnd) -> u8
+    ensures { result ≡ status_of_end end }
+{
+    match end {
+        KeptEnd::Done(_) => DONE,
+        KeptEnd::ReadFault(_) => INPUT_OR_OUTPUT_FAILED,
+        KeptEnd::TooManyReads(_) => INPUT_OR_OUTPUT_FAILED,
+        KeptEnd::WriteFault(_) => INPUT_OR_OUTPUT_FAILED,
+        KeptEnd::DiskFault(_) => INPUT_OR_OUTPUT_FAILED,
+        KeptEnd::NoMemory(_) => NO_MEMORY,
+    }
+}
+
+// What is told of the file after a session with a journal.
+fn fault_of_end(end: KeptEnd) -> Option<FileFault>
+    ensures { result ≡ fault_of_end end }
+{
+    match end {
+        KeptEnd::DiskFault(_) => Some(FileFault::Failed),
+        _ => None,
+    }
+}
+
+// The history that a journal has.
+fn opened<D: Device, M: Mover>(
+    alloc: Global,
+    file: D,
+    held: &[u8],
+    mover: &M,
+) -> Result<Kept<History, D>, (OpenKeptErr, D)> {
+    let make = |history: &mut History, change: &[u8]| -> Result<bool, AllocError>
+        ensures granted { IfOk result (λ is. is ≡ true → Grants history.old change.now history.new) }
+        ensures refused { IfOk result (λ is. is ≡ false → (next : Past) → Grants history.old change.now next → ⊥) }
+    { make(alloc, history, change, mover) };
+    open::<KeptHistory, History, D, _>(alloc, &make, History::new(alloc), file, held)
+}
+
+// A session on it.
+fn served<D: Device, R: Source, W: Sink, M: Mover>(
+    alloc: Global,
+    kept: &mut Kept<History, D>,
+    reader: &mut R,
+    writer: &mut W,
+    mover: &M,
+) -> KeptEnd {
+    let answer = |history: &mut History, line: &[u8], changes: &mut Changes| -> Result<
+        Vec<u8>,
+        AllocError,
+    >
+        ensures { IfOk result (λ reply. (made : List (List ℕ)) × Answers history.old line.now reply.items made history.new
+            × (changes.new ≡ changes.old ++ made)) }
+    { answer(alloc, history, line, changes, mover) };
+    serve_kept::<KeptHistory, History, D, _, R, W>(alloc, &answer, kept, reader, writer)
+}
+
+// The same of a file that no journal is kept in.
+fn turned_away<D, W: Sink>(alloc: Global, why: OpenKeptErr, file: D, writer: &mut W) -> KeptRun<D> {
+    let (status, fault) = match why {
+        OpenKeptErr::NotOurs => (INPUT_OR_OUTPUT_FAILED, Some(FileFault::NotOurs)),
+        OpenKeptErr::NotGranted(_) => (say(alloc, Verdict::Refused, writer), None),
+        OpenKeptErr::Memory => (NO_MEMORY, None),
+        OpenKeptErr::Failed => (INPUT_OR_OUTPUT_FAILED, Some(FileFault::Failed)),
+    };
+    KeptRun {
+        status,
+        fault,
+        file,
+    }
+}
+
+/// Answers each line of the reader on the history that a journal has, and keeps there what each line changed before its
+/// reply is written. `held` is what the file holds.
+pub fn run_kept_with<D: Device, R: Source, W: Sink, M: Mover>(
+    alloc: Global,
+    file: D,
+    held: &[u8],
+    reader: &mut R,
+    writer: &mut W,
+    mover: &M,
+) -> KeptRun<D> {
+    match opened(alloc, file, held, mover) {
+        Ok(kept) => {
+            let mut kept = kept;
+            let end = served(alloc, &mut kept, reader, writer, mover);
+            KeptRun {
+                status: status_of_end(end),
+                fault: fault_of_end(end),
+                file: kept.log.device,
+            }
+        }
+        Err((why, file)) => turned_away(alloc, why, file, writer),
+    }
+}
