@@ -7,3 +7,5 @@ pub mod Seated
 pub mod Ending
 pub mod Hosting
 pub mod Finishing
+pub mod Opened
+pub mod Used

@@ -40,6 +40,8 @@ module _ {I O N : Type 0} (source : Source.Ghosts I) (sink : Sink.Ghosts O) (acc
   abbrev pub Does : Asked → ℕ → (read : List ℕ) → (left : Option (List ℕ)) → List ℕ → Type 0
   Does (ask.Run false workers) status read left text = IsRun status read left text
   Does (ask.Run true workers) status read left text = IsResumed status read left text
+  -- (what a session with a journal reads, writes and keeps is `UsesFiles`)
+  Does (ask.RunKept path workers) status read left text = Unit {0}
   Does ask.Check status read left text = Judges read status text
   Does ask.Upgrade status read left text = Upgrades read status text
   Does (ask.Serve port seats false workers) status read left text = (read ≡ []) × Hosts false opening seats status text
@@ -58,6 +60,8 @@ module _ {I O N : Type 0} (source : Source.Ghosts I) (sink : Sink.Ghosts O) (acc
   abbrev pub Fails : Asked → (old new : Option (List ℕ)) → (read_failed : Bool) → (before after : ℕ) → (port_failed write_failed : Bool) → Type 0
   Fails (ask.Run false workers) old new read_failed before after port_failed write_failed = HasFailed read_failed before after write_failed
   Fails (ask.Run true workers) old new read_failed before after port_failed write_failed = HasFailedByNow read_failed before after write_failed
+  -- (why a session with a journal fails stands in `UsesFiles`)
+  Fails (ask.RunKept path workers) old new read_failed before after port_failed write_failed = Unit {0}
   Fails ask.Check old new read_failed before after port_failed write_failed = HasFailed read_failed before after write_failed
   Fails ask.Upgrade old new read_failed before after port_failed write_failed = HasFailed read_failed before after write_failed
   Fails (ask.Serve port seats false workers) old new read_failed before after port_failed write_failed =
@@ -68,6 +72,7 @@ module _ {I O N : Type 0} (source : Source.Ghosts I) (sink : Sink.Ghosts O) (acc
 -- How each command leaves its devices where it answered all: the input, where one is read, at its end, and the writer flushed.
 abbrev pub Finishes : Asked → ℕ → (left : Option (List ℕ)) → (flushed : Bool) → Type 0
 Finishes (ask.Run resume workers) status left flushed = status ≡ 0 → IsAtEnd left × (flushed ≡ true)
+Finishes (ask.RunKept path workers) status left flushed = status ≡ 0 → IsAtEnd left × (flushed ≡ true)
 Finishes ask.Check status left flushed = IsAnswered status → IsAtEnd left × (flushed ≡ true)
 Finishes ask.Upgrade status left flushed = IsAnswered status → IsAtEnd left × (flushed ≡ true)
 Finishes (ask.Serve port seats false workers) status left flushed = status ≡ 0 → flushed ≡ true

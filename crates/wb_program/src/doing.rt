@@ -5,6 +5,7 @@ ghost use Rattle.wb_shared.specs.Openings.{nothing_done};
 ghost use Rattle.wb_program.specs.Checking.{IsFault};
 ghost use Rattle.wb_program.specs.Resuming.{left_in, failed_in, reads_in};
 ghost use Rattle.wb_program.specs.Running.{HasFailed};
+ghost use Rattle.wb_program.specs.Keeping.{FinishesKept, IsNotOpened, KeepsAt, UsesFiles, streams};
 ghost use Rattle.wb_program.specs.Doing.{listening, Hosts, HostsHistory, Does, FailsToHost, FailsAfterInput, Finishes, Fails};
 
 use crate::accepting::{AcceptErr, Accepts, Binds};
@@ -153,7 +154,11 @@ fn run_kept<D: Device, J: OpensFiles<D>, R: Source, W: Sink, M: Mover>(
     reader: &mut R,
     writer: &mut W,
     mover: &M,
-) -> u8 {
+) -> u8
+    ensures keeps { KeepsAt D.Device J.OpensFiles path.now result files.new (streams R.Source W.Sink reader.old reader.new writer.old writer.new)
+        ⊎ IsNotOpened D.Device J.OpensFiles result files.new (streams R.Source W.Sink reader.old reader.new writer.old writer.new) }
+    ensures done { FinishesKept result (streams R.Source W.Sink reader.old reader.new writer.old writer.new) }
+{
     match files.open(path) {
         Ok((file, held)) => {
             let KeptRun {
@@ -171,7 +176,8 @@ fn run_kept<D: Device, J: OpensFiles<D>, R: Source, W: Sink, M: Mover>(
 
 /// Does what a command line asks for: the exit status. What is read and written is what the definition of each command says. Status 0
 /// comes only with the writer flushed, and, where an input is read, at its end; 3 only where a read, a write, a flush, a port, a
-/// connection or a thread failed, or what the definition of each command names besides. A desk listens on a port that `ports` gives.
+/// connection or a thread failed, or what the definition of each command names besides. A desk listens on a port that `ports` gives. A
+/// journal is in the file that `files` gives for its path; no other command opens a file.
 pub fn do_asked<
     R: Threads + Wait + Sync,
     B: Binds<N, I, O>,
@@ -195,9 +201,20 @@ pub fn do_asked<
 ) -> u8
     ensures does { (read : List ℕ) × Consumes (left_in S.remaining reader.old) (left_in S.remaining reader.new) read
         × ((text : List ℕ) × Appends (W.contents writer.old) (W.contents writer.new) text
-        × Does I.Source O.Sink N.Accepts asked result read (left_in S.remaining reader.new) text) }
-    ensures done { Finishes asked result (left_in S.remaining reader.new) (W.flushed writer.new) }
-    ensures failed { result ≡ 3 → Fails I.Source O.Sink N.Accepts asked (left_in S.remaining reader.old) (left_in S.remaining reader.new)
+        × Does I.Source O.Sink N.Accepts asked.entry result read (left_in S.remaining reader.new) text) }
+    ensures keeps { UsesFiles D.Device J.OpensFiles asked.entry result files.old files.new (record {
+      unread = left_in S.remaining reader.old;
+      left = left_in S.remaining reader.new;
+      reads_before = reads_in reader.old;
+      reads_after = reads_in reader.new;
+      read_failed = failed_in reader.new;
+      sent = W.contents writer.old;
+      told = W.contents writer.new;
+      flushed = W.flushed writer.new;
+      write_failed = W.failed writer.new;
+    }) }
+    ensures done { Finishes asked.entry result (left_in S.remaining reader.new) (W.flushed writer.new) }
+    ensures failed { result ≡ 3 → Fails I.Source O.Sink N.Accepts asked.entry (left_in S.remaining reader.old) (left_in S.remaining reader.new)
         (failed_in reader.new) (reads_in reader.old) (reads_in reader.new) (B.failed ports.new) (W.failed writer.new) }
 {
     match asked {

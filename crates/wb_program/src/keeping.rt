@@ -1,10 +1,11 @@
 //! Sessions whose changes are kept in a journal, and the exit status after each.
-ghost use Rattle.std.specs.Prelude.{◌≡◌, ◌≢◌, ◌++◌, ℕ, List, true, false, IfOk};
+ghost use Rattle.std.specs.Prelude.{◌≡◌, ◌++◌, ℕ, List, true, false, IfOk, IfErr};
 ghost use Rattle.wb_disk.specs.Device.{Only};
+ghost use Rattle.wb_kept.specs.Sessions.{KeepsUntil, ReadsUntil, WritesUntil};
 ghost use Rattle.wb_proto.specs.Below.wb_history.Past.{Past};
 ghost use Rattle.wb_granting.specs.Granting.{Answers, Grants};
-ghost use Rattle.wb_program.specs.Keeping.{RunsKept, fault_of_end, status_of_end};
-ghost use Rattle.wb_program.specs.declared.keeping.KeptRun.{KeptRun};
+ghost use Rattle.wb_program.specs.Keeping.{IsCause, IsKeptHistory, IsOpened, KeepsSession, TurnsAway, fault_of_end, status_of_end};
+ghost use Rattle.wb_program.specs.Keeping.{FailsKept, FinishesKept, RunsKept, streams};
 
 use crate::checking::{Verdict, say};
 use crate::files::FileFault;
@@ -58,7 +59,12 @@ fn opened<D: Device, M: Mover>(
     file: D,
     held: &[u8],
     mover: &M,
-) -> Result<Kept<History, D>, (OpenKeptErr, D)> {
+) -> Result<Kept<History, D>, (OpenKeptErr, D)>
+    requires read { D.seen file ≡ held.now }
+    requires durable { Only (D.seen file) (D.may_leave file) }
+    ensures ok { IfOk result (λ kept. IsOpened D.Device file held.now kept) }
+    ensures err { IfErr result (λ e. IsCause D.Device file held.now e.0 e.1) }
+{
     let make = |history: &mut History, change: &[u8]| -> Result<bool, AllocError>
         ensures granted { IfOk result (λ is. is ≡ true → Grants history.old change.now history.new) }
         ensures refused { IfOk result (λ is. is ≡ false → (next : Past) → Grants history.old change.now next → ⊥) }
@@ -73,7 +79,14 @@ fn served<D: Device, R: Source, W: Sink, M: Mover>(
     reader: &mut R,
     writer: &mut W,
     mover: &M,
-) -> KeptEnd {
+) -> KeptEnd
+    requires kept { IsKeptHistory D.Device kept.old }
+    ensures session { KeepsSession D.Device result kept.old kept.new (R.remaining reader.old) (R.remaining reader.new) (W.contents writer.old)
+        (W.contents writer.new) }
+    ensures read { ReadsUntil result (R.remaining reader.new) (R.failed reader.new) (R.reads reader.old) (R.reads reader.new) }
+    ensures written { WritesUntil result (W.flushed writer.new) (W.failed writer.new) }
+    ensures disk { KeepsUntil result (D.faults kept.old.log.device) (D.faults kept.new.log.device) }
+{
     let answer = |history: &mut History, line: &[u8], changes: &mut Changes| -> Result<
         Vec<u8>,
         AllocError,
@@ -84,8 +97,11 @@ fn served<D: Device, R: Source, W: Sink, M: Mover>(
     serve_kept::<KeptHistory, History, D, _, R, W>(alloc, &answer, kept, reader, writer)
 }
 
-// The same of a file that no journal is kept in.
-fn turned_away<D, W: Sink>(alloc: Global, why: OpenKeptErr, file: D, writer: &mut W) -> KeptRun<D> {
+// How it comes out where the journal is not opened.
+fn turned_away<D, W: Sink>(alloc: Global, why: OpenKeptErr, file: D, writer: &mut W) -> KeptRun<D>
+    ensures told { TurnsAway why result.status result.fault (W.contents writer.old) (W.contents writer.new) (W.flushed writer.new) (W.failed writer.new) }
+    ensures file { result.file ≡ file }
+{
     let (status, fault) = match why {
         OpenKeptErr::NotOurs => (INPUT_OR_OUTPUT_FAILED, Some(FileFault::NotOurs)),
         OpenKeptErr::NotGranted(_) => (say(alloc, Verdict::Refused, writer), None),
@@ -99,8 +115,11 @@ fn turned_away<D, W: Sink>(alloc: Global, why: OpenKeptErr, file: D, writer: &mu
     }
 }
 
-/// Answers each line of the reader on the history that a journal has, and keeps there what each line changed before its
-/// reply is written. `held` is what the file holds.
+/// Answers each line of the reader on the history that a journal has, whose file holds these bytes, and keeps there what a line
+/// changed before its reply is written. A crash at any moment leaves the history after the first so many lines. Where the file has a
+/// line that is not granted, it prints `refused`, with status 1; that file, and one of another kind, stays as it was. Status 3 comes
+/// only where a read, a write, a flush or the file failed, all reads that are allowed were made, or the file is of another kind; 4
+/// where a growth was refused.
 pub fn run_kept_with<D: Device, R: Source, W: Sink, M: Mover>(
     alloc: Global,
     file: D,
@@ -108,7 +127,13 @@ pub fn run_kept_with<D: Device, R: Source, W: Sink, M: Mover>(
     reader: &mut R,
     writer: &mut W,
     mover: &M,
-) -> KeptRun<D> {
+) -> KeptRun<D>
+    requires read { D.seen file ≡ held.now }
+    requires durable { Only (D.seen file) (D.may_leave file) }
+    ensures runs { RunsKept D.Device file held.now result (streams R.Source W.Sink reader.old reader.new writer.old writer.new) }
+    ensures done { FinishesKept result.status (streams R.Source W.Sink reader.old reader.new writer.old writer.new) }
+    ensures failed { FailsKept result.status result.fault (streams R.Source W.Sink reader.old reader.new writer.old writer.new) }
+{
     match opened(alloc, file, held, mover) {
         Ok(kept) => {
             let mut kept = kept;

@@ -1,6 +1,7 @@
-//! Runs of the program: its command line, a session, texts of workbooks and of none, texts made those of histories, and seats on
-//! connections: `wb_command` and `wb_program`.
+//! Runs of the program: its command line, a session, texts of workbooks and of none, texts made those of histories, sessions with
+//! a journal, and seats on connections: `wb_command` and `wb_program`.
 mod connections;
+mod journals;
 mod records;
 mod runs;
 mod texts;

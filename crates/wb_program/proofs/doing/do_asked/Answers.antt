@@ -1,7 +1,22 @@
-use Rattle.std.proofs.Common.{[], rules}
+use Rattle.std.proofs.Common.{[], rules, subst, sym}
+use Rattle.wb_program.specs.Doing.{Does}
+use Rattle.wb_program.specs.Resuming.{left_in}
 use Rattle.wb_program.proofs.Finishing.{desk_fails, desk_finishes, resumed_desk_fails, resumed_desk_finishes}
 use Rattle.wb_program.proofs.Hosting.{history_hosted, hosted, resumed, upgraded}
+use Rattle.wb_program.proofs.Used.{read_and_wrote}
 use Rattle.wb_program.proofs.doing.do_asked.Goals as goal
+
+pub returns-in-RunKept-clause-does : goal.returns-in-RunKept-clause-does
+returns-in-RunKept-clause-does g c =
+    let both = read_and_wrote g.D.Device g.J.OpensFiles c.as_str.result.now c.run_kept.result c.run_kept.new.files _ c.run_kept.ensures.keeps in (
+      both.0.0,
+      both.0.1,
+      (
+        both.1.0,
+        both.1.1,
+        subst (λ a. Does g.I.Source g.O.Sink g.N.Accepts a c.run_kept.result both.0.0 (left_in g.S.Source.remaining c.run_kept.new.reader) both.1.0) (sym c.in-RunKept.is) tt,
+      ),
+    )
 
 pub returns-then-resume-clause-does : goal.returns-then-resume-clause-does
 returns-then-resume-clause-does g c =

@@ -1,0 +1,40 @@
+-- How a journal is opened, or why it isn't.
+use Rattle.std.proofs.Common.{◌≡◌, ◌⊎◌, inl, inr, ℕ, Bool, true, false, List, refl, sym, ◌∙◌, true≢false}
+use Rattle.std.specs.Prelude.{◌≢◌, ◌<◌, Result, Ok, Err, IfErr, IsErrAnd, IsTrue, IsFalse}
+use Rattle.wb_disk.specs.Device.{LeavesOnly}
+use Rattle.wb_disk.specs.declared.device.Device as Device
+use Rattle.wb_keep.specs.Lines.{is_ours, recovered}
+use Rattle.wb_keep.specs.Repair.{StandsForTheSame}
+use Rattle.wb_kept.specs.Runs.{Leads}
+use Rattle.wb_kept.specs.declared.kept.Kept.{Kept}
+use Rattle.wb_kept.specs.declared.kept.OpenKeptErr.{OpenKeptErr}
+use Rattle.wb_kept.specs.declared.kept.OpenKeptErr.TheVariants as errs
+use Rattle.wb_proto.specs.Below.wb_history.Past.{Past}
+use Rattle.wb_granting.specs.Granting.{Grants, no_edit}
+use Rattle.wb_program.specs.Keeping.{IsCause}
+
+module _ {D : Type 0} (device : Device.Ghosts D) (file : D) (held : List ℕ) where
+  by_cause : (ours : Bool) → is_ours held ≡ ours → (why : OpenKeptErr) (left : D)
+      → ((s : Past) → Leads Grants no_edit (recovered held) s → IsTrue ours → why ≢ errs.Failed → why ≡ errs.Memory)
+      → (IsFalse ours → why ≡ errs.NotOurs) → (IsTrue ours → why ≢ errs.NotOurs)
+      → LeavesOnly device.moment device.left_since file left (StandsForTheSame held)
+      → (why ≢ errs.Failed → why ≢ errs.Memory → left ≡ file) → (why ≡ errs.Failed → device.faults file < device.faults left)
+      → IsCause device file held why left
+  by_cause true is errs.NotOurs left refused foreign ours_not moments untouched failed = absurd (ours_not refl refl)
+  by_cause false is errs.NotOurs left refused foreign ours_not moments untouched failed = (is, untouched (λ e. cc) (λ e. cc))
+  by_cause true is (errs.NotGranted at) left refused foreign ours_not moments untouched failed =
+      (is, (λ s led. let no : errs.NotGranted at ≡ errs.Memory = refused s led refl (λ e. cc) in cc), untouched (λ e. cc) (λ e. cc))
+  by_cause false is (errs.NotGranted at) left refused foreign ours_not moments untouched failed =
+      let no : errs.NotGranted at ≡ errs.NotOurs = foreign refl in absurd (cc)
+  by_cause ours is errs.Memory left refused foreign ours_not moments untouched failed = moments
+  by_cause ours is errs.Failed left refused foreign ours_not moments untouched failed = (moments, failed refl)
+
+  -- what `open` says of an error
+  pub caused : (r : Result (Kept Past D) (OpenKeptErr × D))
+      → ((s : Past) → Leads Grants no_edit (recovered held) s → IsTrue (is_ours held) → IfErr r (λ e. e.0 ≢ errs.Failed → e.0 ≡ errs.Memory))
+      → (IsFalse (is_ours held) → IsErrAnd r (λ e. e.0 ≡ errs.NotOurs)) → (IsTrue (is_ours held) → IfErr r (λ e. e.0 ≢ errs.NotOurs))
+      → IfErr r (λ e. LeavesOnly device.moment device.left_since file e.1 (StandsForTheSame held))
+      → IfErr r (λ e. e.0 ≢ errs.Failed → e.0 ≢ errs.Memory → e.1 ≡ file) → IfErr r (λ e. e.0 ≡ errs.Failed → device.faults file < device.faults e.1)
+      → IfErr r (λ e. IsCause device file held e.0 e.1)
+  caused (Ok kept) refused foreign ours moments untouched failed = tt
+  caused (Err e) refused foreign ours moments untouched failed = by_cause (is_ours held) refl e.0 e.1 refused foreign ours moments untouched failed

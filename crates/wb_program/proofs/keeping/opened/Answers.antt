@@ -1,0 +1,7 @@
+use Rattle.wb_program.proofs.Opened.{caused}
+use Rattle.wb_program.proofs.keeping.opened.Goals as goal
+
+pub returns-clause-err : goal.returns-clause-err
+returns-clause-err g c =
+    let told = c.open.ensures in
+    caused g.D.Device c.args.file c.args.held.now c.open.result told.refused told.foreign told.ours told.any_moment_err told.untouched told.failed

@@ -1,0 +1,278 @@
+//! Sessions with a journal in a file in memory: kept, gone on with, cut off in each call, and files that are refused.
+ghost use Rattle.std.specs.Prelude.{◌≡◌, Some};
+
+use std::alloc::{AllocError, Global};
+use std::io::{self, Read};
+use std::process::Abort;
+use std::test::Fail;
+use wb_command::{Asked, FilePath};
+use wb_disk::MemoryFile;
+use wb_keep::START;
+use wb_lines::{Input, Output};
+use wb_program::{FileFault, OpensFiles, Ports, PutBack, do_asked, run_kept_with};
+use wb_redist::{Crew, Mover};
+
+// More calls than a session makes here.
+const NEVER: usize = 1000;
+
+const LINES: &[u8] =
+    b"{\"op\":\"domain\",\"d\":\"D\",\"is\":\"{1..4}\"}\n{\"op\":\"array\",\"a\":\"A\",\"d\":\"D\"}\n{\"op\":\"set\",\"a\":\"A\",\"i\":1,\"v\":5}\n{\"op\":\"copy\",\"a\":\"A\",\"i\":2,\"b\":\"A\",\"j\":1,\"c\":1}\n{\"op\":\"get\",\"a\":\"A\",\"i\":2}\n{\"op\":\"undo\",\"k\":3}\n{\"op\":\"undo\"}\n{\"op\":\"redo\",\"k\":4}\n{\"op\":\"cascade\",\"k\":3}\n";
+
+const REPLIES: &[u8] =
+    b"{\"edit\":1,\"n\":3}\n{\"edit\":2,\"n\":7}\n{\"edit\":3,\"n\":1}\n{\"edit\":4,\"n\":1}\n{\"value\":6}\n{\"by\":4,\"error\":\"E14\",\"name\":\"blocked\"}\n{\"n\":1,\"undone\":4}\n{\"n\":1,\"redone\":4}\n{\"n\":2,\"undone\":[4,3]}\n";
+
+// How many changes there are after so many of these lines. The question and the refusal make none, and the cascade two.
+const CHANGES: [usize; 10] = [0, 1, 2, 3, 4, 4, 4, 5, 6, 8];
+
+const JOURNAL: &[u8] =
+    b"chapel-workbook 3\n {\"d\":\"D\",\"is\":\"{1..4}\",\"map\":\"none\",\"op\":\"domain\"}\n {\"a\":\"A\",\"d\":\"D\",\"op\":\"array\"}\n {\"a\":\"A\",\"i\":1,\"op\":\"set\",\"v\":5}\n {\"a\":\"A\",\"b\":\"A\",\"c\":1,\"i\":2,\"j\":1,\"op\":\"copy\"}\n {\"k\":4,\"op\":\"undo\"}\n {\"k\":4,\"op\":\"redo\"}\n {\"k\":4,\"op\":\"undo\"}\n {\"k\":3,\"op\":\"undo\"}\n#";
+
+const MORE: &[u8] = b"{\"op\":\"get\",\"a\":\"A\",\"i\":1}\n{\"op\":\"redo\",\"k\":3}\n";
+
+const MORE_REPLIES: &[u8] = b"{\"value\":0}\n{\"n\":1,\"redone\":3}\n";
+
+// Files of another kind.
+const FOREIGN: [&[u8]; 4] = [
+    b"hello\n",
+    b"chapel-workbook 2\nhistory 0\nend\n",
+    b"chapel-workbook 3",
+    b" ",
+];
+
+// Journals with a line that is not granted: an undo of no edit, a question, and no request.
+const NOT_GRANTED: [&[u8]; 4] = [
+    b"chapel-workbook 3\n {\"k\":1,\"op\":\"undo\"}\n#",
+    b"chapel-workbook 3\n {\"op\":\"undo\"}\n#",
+    b"chapel-workbook 3\n {\"op\":\"edits\"}\n#",
+    b"chapel-workbook 3\n up\n#",
+];
+
+// Gives a line a read.
+#[derive(Drop)]
+struct ByLine<'a> {
+    rest: &'a [u8],
+}
+
+impl<'a> Read for ByLine<'a> {
+    fn read(&mut self, buf: &mut [u8]) -> io::Result<usize> {
+        let line = match self.rest.iter().position(|byte| *byte == b'\n') {
+            Some(at) => at + 1,
+            None => self.rest.len(),
+        };
+        let n = line.min(buf.len());
+        buf[..n].copy_from_slice(&self.rest[..n]);
+        self.rest = &self.rest[n..];
+        Ok(n)
+    }
+}
+
+// How a session came out, what it wrote, and what is left of its file.
+#[derive(Drop)]
+struct Outcome {
+    status: u8,
+    fault: Option<FileFault>,
+    written: Vec<u8>,
+    left: Vec<u8>,
+}
+
+// A session of these lines on a file that holds these bytes, and does so many calls, and of the next write `torn` bytes.
+fn session<M: Mover>(
+    alloc: Global,
+    held: &[u8],
+    lines: &[u8],
+    done: usize,
+    torn: usize,
+    mover: &M,
+) -> Result<Outcome, AllocError> {
+    let file = MemoryFile::new(alloc, held.to_vec(alloc)?, done, torn);
+    let mut written = Vec::new(alloc);
+    let mut input = Input::new(ByLine { rest: lines });
+    let run = run_kept_with(
+        alloc,
+        file,
+        held,
+        &mut input,
+        &mut Output::new(&mut written),
+        mover,
+    );
+    let left = run.file.left().to_vec(alloc)?;
+    Ok(Outcome {
+        status: run.status,
+        fault: run.fault,
+        written,
+        left,
+    })
+}
+
+// The journal with its first so many changes.
+fn front(alloc: Global, changes: usize) -> Result<Vec<u8>, AllocError> {
+    let mut file = Vec::new(alloc);
+    for line in JOURNAL.split(|byte| *byte == b'\n').take(changes + 1) {
+        file.extend_from_slice(line)?;
+        file.push(b'\n')?;
+    }
+    file.push(b'#')?;
+    Ok(file)
+}
+
+#[test]
+fn a_session_is_kept_and_gone_on_with(rt: HostRuntime) -> Result<(), Fail> {
+    let alone = Crew::alone(&rt);
+    let kept = session(rt.alloc(), &START, LINES, NEVER, 0, &alone)?;
+    assert!(rt; kept.status == 0 && kept.fault.is_none());
+    assert_eq!(rt; kept.written.as_slice(), REPLIES);
+    assert_eq!(rt; kept.left.as_slice(), JOURNAL);
+    let more = session(rt.alloc(), &kept.left, MORE, NEVER, 0, &alone)?;
+    assert!(rt; more.status == 0 && more.fault.is_none());
+    assert_eq!(rt; more.written.as_slice(), MORE_REPLIES);
+    assert_eq!(rt;
+        more.left
+            .strip_prefix(JOURNAL.strip_suffix(b"#").ok_or("a mark")?)
+            .ok_or("a front")?,
+        b" {\"k\":3,\"op\":\"redo\"}\n#".as_slice()
+    );
+    Ok(())
+}
+
+// What a crash left of a session is opened: each change whose reply was written is there, and of the others those of one turn
+// at most, all of them.
+fn stands<M: Mover>(rt: &impl Abort, alloc: Global, cut: &Outcome, mover: &M) -> Result<(), Fail> {
+    assert!(rt; REPLIES.starts_with(&cut.written));
+    let told = cut.written.iter().filter(|byte| **byte == b'\n').count();
+    let again = session(alloc, &cut.left, b"", NEVER, 0, mover)?;
+    assert!(rt; again.status == 0);
+    let least = CHANGES.get(told).ok_or("so many replies")?;
+    let most = CHANGES.get(told + 1).unwrap_or(least);
+    assert!(rt; again.left == front(alloc, *least)? || again.left == front(alloc, *most)?);
+    Ok(())
+}
+
+#[test]
+fn a_session_is_cut_off_in_each_call(rt: HostRuntime) -> Result<(), Fail> {
+    let alone = Crew::alone(&rt);
+    let mut calls = 0;
+    while calls < 40 {
+        for torn in 0..60 {
+            let cut = session(rt.alloc(), &START, LINES, calls, torn, &alone)?;
+            assert!(rt; cut.status == 0 || cut.fault == Some(FileFault::Failed));
+            assert!(rt; (cut.status == 3) == cut.fault.is_some());
+            stands(&rt, rt.alloc(), &cut, &alone)?;
+        }
+        calls += 1;
+    }
+    Ok(())
+}
+
+#[test]
+fn an_end_that_a_crash_left_is_put_right(rt: HostRuntime) -> Result<(), Fail> {
+    let alone = Crew::alone(&rt);
+    let whole = front(rt.alloc(), 2)?;
+    let mut torn = front(rt.alloc(), 2)?;
+    torn.extend_from_slice(b" {\"a\":\"A\",\"i\":1,\"op\":\"se")?;
+    let opened = session(rt.alloc(), &torn, b"", NEVER, 0, &alone)?;
+    assert!(rt; opened.status == 0 && opened.left == whole);
+    let empty = session(rt.alloc(), b"", b"", NEVER, 0, &alone)?;
+    assert!(rt; empty.status == 0 && empty.left == START);
+    Ok(())
+}
+
+#[test]
+fn files_are_refused_untouched(rt: HostRuntime) -> Result<(), Fail> {
+    let alone = Crew::alone(&rt);
+    for held in FOREIGN {
+        // (no call on the file would be done)
+        let refused = session(rt.alloc(), held, LINES, 0, 0, &alone)?;
+        let ours = START.starts_with(held);
+        assert!(rt; refused.status == 3 && refused.written.is_empty() && refused.left == held);
+        assert!(rt;
+            refused.fault
+                == Some(if ours {
+                    FileFault::Failed
+                } else {
+                    FileFault::NotOurs
+                })
+        );
+    }
+    for held in NOT_GRANTED {
+        let refused = session(rt.alloc(), held, LINES, 0, 0, &alone)?;
+        assert!(rt; refused.status == 1 && refused.fault.is_none() && refused.left == held);
+        assert_eq!(rt; refused.written.as_slice(), b"refused\n".as_slice());
+    }
+    Ok(())
+}
+
+// One file in memory, at one path.
+#[derive(Drop)]
+struct OneFile {
+    alloc: Global,
+    told: Option<FileFault>,
+    file: Option<MemoryFile>,
+}
+
+impl OpensFiles<MemoryFile> for OneFile {
+    ghost use Rattle.std.specs.Prelude.{◌≡◌, Some};
+    ghost use Rattle.wb_disk.specs.Calls.{IsHeld};
+
+    ghost came = { λ s path file held. IsHeld held file.calls };
+
+    ghost closed = { λ s file. s.file ≡ Some file };
+
+    ghost told = { λ s. s.told };
+
+    fn open(&mut self, path: &str) -> Result<(MemoryFile, Vec<u8>), FileFault> {
+        if path != "plan.wb" {
+            self.told = Some(FileFault::NotOpened);
+            return Err(FileFault::NotOpened);
+        }
+        let Ok(held) = START.to_vec(self.alloc) else {
+            self.told = Some(FileFault::NoMemory);
+            return Err(FileFault::NoMemory);
+        };
+        let Ok(bytes) = START.to_vec(self.alloc) else {
+            self.told = Some(FileFault::NoMemory);
+            return Err(FileFault::NoMemory);
+        };
+        Ok((MemoryFile::new(self.alloc, bytes, NEVER, 0), held))
+    }
+
+    fn close(&mut self, file: MemoryFile, fault: Option<FileFault>) {
+        self.told = fault;
+        self.file = Some(file);
+    }
+}
+
+#[test]
+fn a_command_line_keeps_a_journal_at_its_path(rt: HostRuntime) -> Result<(), Fail> {
+    let alloc = rt.alloc();
+    let alone = Crew::alone(&rt);
+    for (path, status, written) in [("plan.wb", 0, REPLIES), ("other.wb", 3, b"".as_slice())] {
+        let mut ports = Ports::of(&rt);
+        let mut files = OneFile {
+            alloc,
+            told: None,
+            file: None,
+        };
+        let mut output = Vec::new(alloc);
+        let ended = do_asked(
+            &rt,
+            alloc,
+            Asked::RunKept {
+                journal: FilePath::new(path),
+                workers: 1,
+            },
+            &mut ports,
+            &mut files,
+            &mut PutBack::new(alloc, Input::new(LINES)),
+            &mut Output::new(&mut output),
+            &alone,
+        );
+        assert_eq!(rt; ended, status);
+        assert_eq!(rt; output.as_slice(), written);
+        assert_eq!(rt; files.told.is_some(), ended == 3);
+        assert_eq!(rt;
+            files.file.is_some_and(|file| file.bytes() == JOURNAL),
+            ended == 0
+        );
+    }
+    Ok(())
+}
