@@ -9,3 +9,4 @@ pub mod Hosting
 pub mod Finishing
 pub mod Opened
 pub mod Used
+pub mod Judged

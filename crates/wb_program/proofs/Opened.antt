@@ -1,6 +1,6 @@
 -- How a journal is opened, or why it isn't.
 use Rattle.std.proofs.Common.{◌≡◌, ◌⊎◌, inl, inr, ℕ, Bool, true, false, List, refl, sym, ◌∙◌, true≢false}
-use Rattle.std.specs.Prelude.{◌≢◌, ◌<◌, Result, Ok, Err, IfErr, IsErrAnd, IsTrue, IsFalse}
+use Rattle.std.specs.Prelude.{◌≢◌, ◌<◌, Result, Ok, Err, IfErr, IfOk, IsErrAnd, IsTrue, IsFalse}
 use Rattle.wb_disk.specs.Device.{LeavesOnly}
 use Rattle.wb_disk.specs.declared.device.Device as Device
 use Rattle.wb_keep.specs.Lines.{is_ours, recovered}
@@ -11,7 +11,7 @@ use Rattle.wb_kept.specs.declared.kept.OpenKeptErr.{OpenKeptErr}
 use Rattle.wb_kept.specs.declared.kept.OpenKeptErr.TheVariants as errs
 use Rattle.wb_proto.specs.Below.wb_history.Past.{Past}
 use Rattle.wb_granting.specs.Granting.{Grants, no_edit}
-use Rattle.wb_program.specs.Keeping.{IsCause}
+use Rattle.wb_program.specs.Keeping.{IsCause, IsKeptHistory, IsOpened}
 
 module _ {D : Type 0} (device : Device.Ghosts D) (file : D) (held : List ℕ) where
   by_cause : (ours : Bool) → is_ours held ≡ ours → (why : OpenKeptErr) (left : D)
@@ -28,6 +28,19 @@ module _ {D : Type 0} (device : Device.Ghosts D) (file : D) (held : List ℕ) wh
       let no : errs.NotGranted at ≡ errs.NotOurs = foreign refl in absurd (cc)
   by_cause ours is errs.Memory left refused foreign ours_not moments untouched failed = moments
   by_cause ours is errs.Failed left refused foreign ours_not moments untouched failed = (moments, failed refl)
+
+  is_ours_of : (ours : Bool) → is_ours held ≡ ours → (IsFalse ours → ⊥) → IsTrue (is_ours held)
+  is_ours_of true is not_foreign = is
+  is_ours_of false is not_foreign = absurd (not_foreign refl)
+
+  -- what `open` says of a file that it opens
+  pub opened_by : (r : Result (Kept Past D) (OpenKeptErr × D)) → IfOk r (λ kept. IsKeptHistory device kept)
+      → IfOk r (λ kept. recovered (device.seen kept.log.device) ≡ recovered held)
+      → IfOk r (λ kept. LeavesOnly device.moment device.left_since file kept.log.device (StandsForTheSame held))
+      → (IsFalse (is_ours held) → IsErrAnd r (λ e. e.0 ≡ errs.NotOurs)) → IfOk r (λ kept. IsOpened device file held kept)
+  opened_by (Ok kept) is_kept same moments foreign =
+      record { ours = is_ours_of (is_ours held) refl foreign; is_kept = is_kept; same = same; any_moment = moments }
+  opened_by (Err e) is_kept same moments foreign = tt
 
   -- what `open` says of an error
   pub caused : (r : Result (Kept Past D) (OpenKeptErr × D))

@@ -90,8 +90,9 @@ module _ {D : Type 0} (device : Device.Ghosts D) where
   abbrev pub KeepsSession : KeptEnd → (old new : Kept Past D) → (unread left sent told : Option (List ℕ)) → Type 0
   KeepsSession = Session no_edit Grants Answers device.seen device.may_leave device.moment device.left_since
 
-  -- a file that held this was opened, and stands for the history of its lines; a crash on the way leaves the same lines
+  -- a file of ours that held this was opened, and stands for the history of its lines; a crash on the way leaves the same lines
   pub record IsOpened (file : D) (held : List ℕ) (kept : Kept Past D) : Type 0 where
+    pub ours : IsTrue (is_ours held)
     pub is_kept : IsKeptHistory kept
     pub same : recovered (device.seen kept.log.device) ≡ recovered held
     pub any_moment : LeavesOnly device.moment device.left_since file kept.log.device (StandsForTheSame held)

@@ -1,14 +1,17 @@
-//! Whether an input is the text of a workbook or of a history.
+//! Whether an input is the text of a workbook or of a history, or a journal.
 
-ghost use Rattle.std.specs.Prelude.{◌≡◌, ℕ, List, true, IfOk, string_bytes};
+ghost use Rattle.std.specs.Prelude.{◌≡◌, ℕ, List, true, IfOk, IfNone, IfSome, string_bytes};
 ghost use Rattle.std.specs.Io.KnownBytes.{Appends, Consumes, IsAtEnd};
 ghost use Rattle.wb_proto.specs.Below.wb_reading.Reading.{IsNoBook};
-ghost use Rattle.wb_program.specs.Checking.{IsVerdict, verdict_text, status_of_verdict, IsPrinted, Says, Judges, IsAnswered};
+ghost use Rattle.wb_program.specs.Checking.{IsNoJournal, IsTextVerdict, IsVerdict, verdict_text, status_of_verdict, IsPrinted, Says, Judges, IsAnswered};
 ghost use Rattle.wb_program.specs.Running.{HasFailed};
 
+use crate::keeping::opened;
 use crate::running::{DONE, INPUT_OR_OUTPUT_FAILED, NO_MEMORY};
 use std::alloc::{AllocError, Global};
 use std::str::from_utf8;
+use wb_disk::MemoryFile;
+use wb_kept::OpenKeptErr;
 use wb_lines::{LineFault, NothingHeld, Sink, Source, read_all, send};
 use wb_proto::below::reading::{BookErr, read_book};
 use wb_range::NoMemory;
@@ -18,6 +21,9 @@ use wb_redist::Mover;
 /// The exit status where the input is no text that is wanted.
 pub const REFUSED: u8 = 1;
 
+// How long the header of a journal is.
+const HEADER_LENGTH: usize = 18;
+
 /// What `check` finds.
 #[derive(Clone, Copy, Debug, PartialEq, Eq)]
 pub enum Verdict {
@@ -25,13 +31,15 @@ pub enum Verdict {
     Workbook(usize),
     /// The text of a history: how many objects its workbook has, and how many edits there are.
     History(usize, u64),
-    /// No UTF-8, or the text of no workbook and of no history.
+    /// A journal: how many objects the workbook of its history has, and how many edits there are.
+    Journal(usize, u64),
+    /// The text of no workbook and of no history, and no journal.
     Refused,
 }
 
 // Whether a text that no workbook has is that of a history.
 fn verdict_on_history<M: Mover>(alloc: Global, text: &str, mover: &M) -> Result<Verdict, NoMemory>
-    ensures { IfOk result (λ v. IsNoBook text.now → IsVerdict text.now v) }
+    ensures { IfOk result (λ v. IsNoBook text.now → IsTextVerdict text.now v) }
 {
     match read_history(alloc, text, mover) {
         Ok(history) => {
@@ -45,7 +53,7 @@ fn verdict_on_history<M: Mover>(alloc: Global, text: &str, mover: &M) -> Result<
 
 // Whether a text is that of a workbook or of a history.
 fn verdict_on_text<M: Mover>(alloc: Global, text: &str, mover: &M) -> Result<Verdict, NoMemory>
-    ensures { IfOk result (λ v. IsVerdict text.now v) }
+    ensures { IfOk result (λ v. IsTextVerdict text.now v) }
 {
     match read_book(alloc, text) {
         Ok(book) => {
@@ -57,13 +65,56 @@ fn verdict_on_text<M: Mover>(alloc: Global, text: &str, mover: &M) -> Result<Ver
     }
 }
 
-/// Whether bytes are the text of a workbook or of a history, and how many objects and edits there are.
-pub fn verdict_on<M: Mover>(alloc: Global, bytes: &[u8], mover: &M) -> Result<Verdict, NoMemory>
-    ensures { IfOk result (λ v. IsVerdict bytes.now v) }
+// What the bytes are as a text.
+fn verdict_as_text<M: Mover>(alloc: Global, bytes: &[u8], mover: &M) -> Result<Verdict, NoMemory>
+    ensures { IfOk result (λ v. IsTextVerdict bytes.now v) }
 {
     match from_utf8(bytes) {
         Ok(text) => verdict_on_text(alloc, text, mover),
         Err(_) => Ok(Verdict::Refused),
+    }
+}
+
+// What a journal has, if the bytes are one.
+fn verdict_on_journal<M: Mover>(
+    alloc: Global,
+    bytes: &[u8],
+    mover: &M,
+) -> Result<Option<Verdict>, NoMemory>
+    ensures some { IfOk result (λ r. IfSome r (λ v. IsVerdict bytes.now v)) }
+    ensures none { IfOk result (λ r. IfNone r (IsNoJournal bytes.now)) }
+{
+    if bytes.len() < HEADER_LENGTH {
+        return Ok(None);
+    }
+    let Ok(held) = bytes.to_vec(alloc) else {
+        return Err(NoMemory);
+    };
+    match opened(
+        alloc,
+        MemoryFile::new(alloc, held, usize::MAX, 0),
+        bytes,
+        mover,
+    ) {
+        Ok(kept) => {
+            let book = kept.state.book();
+            Ok(Some(Verdict::Journal(book.objects(), kept.state.len())))
+        }
+        Err((OpenKeptErr::NotOurs, _)) => Ok(None),
+        Err((OpenKeptErr::NotGranted(_), _)) => Ok(None),
+        // A file in memory fails only for want of it.
+        Err(_) => Err(NoMemory),
+    }
+}
+
+/// Whether bytes are the text of a workbook or of a history, or a journal, and how many objects and edits there are.
+pub fn verdict_on<M: Mover>(alloc: Global, bytes: &[u8], mover: &M) -> Result<Verdict, NoMemory>
+    ensures { IfOk result (λ v. IsVerdict bytes.now v) }
+{
+    match verdict_on_journal(alloc, bytes, mover) {
+        Ok(Some(verdict)) => Ok(verdict),
+        Ok(None) => verdict_as_text(alloc, bytes, mover),
+        Err(NoMemory) => Err(NoMemory),
     }
 }
 
@@ -73,6 +124,7 @@ fn verdict_text(alloc: Global, verdict: Verdict) -> Result<String, AllocError>
     match verdict {
         Verdict::Workbook(count) => format!(in alloc; "ok {count}\n"),
         Verdict::History(count, edits) => format!(in alloc; "ok {count} {edits}\n"),
+        Verdict::Journal(count, edits) => format!(in alloc; "ok {count} {edits}\n"),
         Verdict::Refused => String::from_str(alloc, "refused\n"),
     }
 }
@@ -82,7 +134,7 @@ pub fn status_of_verdict(verdict: Verdict) -> u8
     ensures { result ≡ status_of_verdict verdict }
 {
     match verdict {
-        Verdict::Workbook(_) | Verdict::History(_, _) => DONE,
+        Verdict::Workbook(_) | Verdict::History(_, _) | Verdict::Journal(_, _) => DONE,
         Verdict::Refused => REFUSED,
     }
 }
@@ -121,8 +173,8 @@ pub(crate) fn say<W: Sink>(alloc: Global, verdict: Verdict, writer: &mut W) -> u
     status_of_verdict(verdict)
 }
 
-/// Reads the reader to its end and prints whether that is the text of a workbook or of a history: `ok` and the number of
-/// its objects, for a history then that of its edits, with exit status 0; or `refused` with status 1; 3 only where the latest
+/// Reads the reader to its end and prints whether that is the text of a workbook or of a history, or a journal: `ok` and the number
+/// of its objects, for a history and a journal then that of its edits, with exit status 0; or `refused` with status 1; 3 only where the latest
 /// read, write or flush failed, or all reads that are allowed were made, and 4 where a growth was refused.
 pub fn check_with<R: Source, W: Sink, M: Mover>(
     alloc: Global,

@@ -53,8 +53,8 @@ fn fault_of_end(end: KeptEnd) -> Option<FileFault>
     }
 }
 
-// The history that a journal has.
-fn opened<D: Device, M: Mover>(
+/// The history that a journal has.
+pub(crate) fn opened<D: Device, M: Mover>(
     alloc: Global,
     file: D,
     held: &[u8],

@@ -9,7 +9,7 @@ use wb_command::{Asked, FilePath};
 use wb_disk::MemoryFile;
 use wb_keep::START;
 use wb_lines::{Input, Output};
-use wb_program::{FileFault, OpensFiles, Ports, PutBack, do_asked, run_kept_with};
+use wb_program::{FileFault, OpensFiles, Ports, PutBack, check_with, do_asked, run_kept_with};
 use wb_redist::{Crew, Mover};
 
 // More calls than a session makes here.
@@ -31,13 +31,13 @@ const MORE: &[u8] = b"{\"op\":\"get\",\"a\":\"A\",\"i\":1}\n{\"op\":\"redo\",\"k
 
 const MORE_REPLIES: &[u8] = b"{\"value\":0}\n{\"n\":1,\"redone\":3}\n";
 
+const REFUSED: &[u8] = b"refused\n";
+
+// A front of the header.
+const BEGUN: &[u8] = b"chapel-workbook 3";
+
 // Files of another kind.
-const FOREIGN: [&[u8]; 4] = [
-    b"hello\n",
-    b"chapel-workbook 2\nhistory 0\nend\n",
-    b"chapel-workbook 3",
-    b" ",
-];
+const FOREIGN: [&[u8]; 3] = [b"hello\n", b"chapel-workbook 2\nhistory 0\nend\n", b" "];
 
 // Journals with a line that is not granted: an undo of no edit, a question, and no request.
 const NOT_GRANTED: [&[u8]; 4] = [
@@ -143,7 +143,10 @@ fn stands<M: Mover>(rt: &impl Abort, alloc: Global, cut: &Outcome, mover: &M) ->
     assert!(rt; again.status == 0);
     let least = CHANGES.get(told).ok_or("so many replies")?;
     let most = CHANGES.get(told + 1).unwrap_or(least);
-    assert!(rt; again.left == front(alloc, *least)? || again.left == front(alloc, *most)?);
+    let (fewer, more) = (front(alloc, *least)?, front(alloc, *most)?);
+    assert!(rt;
+        again.left.as_slice() == fewer.as_slice() || again.left.as_slice() == more.as_slice()
+    );
     Ok(())
 }
 
@@ -170,34 +173,67 @@ fn an_end_that_a_crash_left_is_put_right(rt: HostRuntime) -> Result<(), Fail> {
     let mut torn = front(rt.alloc(), 2)?;
     torn.extend_from_slice(b" {\"a\":\"A\",\"i\":1,\"op\":\"se")?;
     let opened = session(rt.alloc(), &torn, b"", NEVER, 0, &alone)?;
-    assert!(rt; opened.status == 0 && opened.left == whole);
-    let empty = session(rt.alloc(), b"", b"", NEVER, 0, &alone)?;
-    assert!(rt; empty.status == 0 && empty.left == START);
+    assert!(rt; opened.status == 0);
+    assert_eq!(rt; opened.left.as_slice(), whole.as_slice());
+    for held in [b"".as_slice(), BEGUN] {
+        let begun = session(rt.alloc(), held, b"", NEVER, 0, &alone)?;
+        assert!(rt; begun.status == 0);
+        assert_eq!(rt; begun.left.as_slice(), START.as_slice());
+    }
     Ok(())
 }
 
 #[test]
 fn files_are_refused_untouched(rt: HostRuntime) -> Result<(), Fail> {
     let alone = Crew::alone(&rt);
-    for held in FOREIGN {
-        // (no call on the file would be done)
+    // (The file does no call, so a call on it would be told as a fault.)
+    for held in &FOREIGN {
         let refused = session(rt.alloc(), held, LINES, 0, 0, &alone)?;
-        let ours = START.starts_with(held);
-        assert!(rt; refused.status == 3 && refused.written.is_empty() && refused.left == held);
-        assert!(rt;
-            refused.fault
-                == Some(if ours {
-                    FileFault::Failed
-                } else {
-                    FileFault::NotOurs
-                })
-        );
+        assert!(rt; refused.status == 3 && refused.written.is_empty());
+        assert!(rt; refused.fault == Some(FileFault::NotOurs));
+        assert_eq!(rt; refused.left.as_slice(), *held);
     }
-    for held in NOT_GRANTED {
+    for held in &NOT_GRANTED {
         let refused = session(rt.alloc(), held, LINES, 0, 0, &alone)?;
-        assert!(rt; refused.status == 1 && refused.fault.is_none() && refused.left == held);
-        assert_eq!(rt; refused.written.as_slice(), b"refused\n".as_slice());
+        assert!(rt; refused.status == 1 && refused.fault.is_none());
+        assert_eq!(rt; refused.written.as_slice(), REFUSED);
+        assert_eq!(rt; refused.left.as_slice(), *held);
     }
+    Ok(())
+}
+
+// What `check` prints of a text, and its exit status.
+fn judged<M: Mover>(alloc: Global, text: &[u8], mover: &M) -> (u8, Vec<u8>) {
+    let mut output = Vec::new(alloc);
+    let mut input = Input::new(text);
+    let status = check_with(alloc, &mut input, &mut Output::new(&mut output), mover);
+    (status, output)
+}
+
+#[test]
+fn journals_are_judged(rt: HostRuntime) -> Result<(), Fail> {
+    let alloc = rt.alloc();
+    let alone = Crew::alone(&rt);
+    let mut torn = front(alloc, 2)?;
+    torn.push(0xff)?;
+    for (text, printed) in [
+        (JOURNAL, b"ok 2 4\n".as_slice()),
+        (START.as_slice(), b"ok 0 0\n".as_slice()),
+        (torn.as_slice(), b"ok 2 2\n".as_slice()),
+    ] {
+        let (status, output) = judged(alloc, text, &alone);
+        assert!(rt; status == 0);
+        assert_eq!(rt; output.as_slice(), printed);
+    }
+    for text in &NOT_GRANTED {
+        let (status, output) = judged(alloc, text, &alone);
+        assert!(rt; status == 1);
+        assert_eq!(rt; output.as_slice(), REFUSED);
+    }
+    // It is opened as a journal that was begun, and is none as it stands.
+    let (status, output) = judged(alloc, BEGUN, &alone);
+    assert!(rt; status == 1);
+    assert_eq!(rt; output.as_slice(), REFUSED);
     Ok(())
 }
 

@@ -30,9 +30,8 @@ const MORE_REPLIES: &[u8] = b"{\"n\":1,\"redone\":3}\n{\"value\":9}\n";
 const REFUSED: &[u8] = b"refused\n";
 
 // Parts of that text, and what stands in their place in texts of no history.
-const DAMAGED: [(&str, &str); 57] = [
+const DAMAGED: [(&str, &str); 56] = [
     ("chapel-workbook 2", "chapel-workbook 1"),
-    ("chapel-workbook 2", "chapel-workbook 3"),
     ("chapel-workbook 2", " chapel-workbook 2"),
     ("chapel-workbook 2\n", ""),
     ("2\n", "2\r\n"),

@@ -30,7 +30,7 @@ fn first_run(rt: HostRuntime) {
 }
 
 // Command lines, and what each asks for.
-const COMMAND_LINES: &str = r"
+const COMMAND_LINES: &str = r#"
 workbook run -> Run { resume: false, workers: 1 }
 workbook run --resume -> Run { resume: true, workers: 1 }
 workbook run --workers 1 -> Run { resume: false, workers: 1 }
@@ -68,7 +68,7 @@ workbook serve --port http --seats 2 -> bad command line
 workbook serve --port 0 --seats 0 -> bad command line
 workbook serve --port 0 --seats 17 -> bad command line
 workbook serve --port 0 --seats 2 now -> bad command line
-";
+"#;
 
 // What a command line asks for.
 fn asked(alloc: Global, line: &str) -> Result<String, Fail> {

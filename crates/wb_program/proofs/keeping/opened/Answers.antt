@@ -1,5 +1,10 @@
-use Rattle.wb_program.proofs.Opened.{caused}
+use Rattle.wb_program.proofs.Opened.{caused, opened_by}
 use Rattle.wb_program.proofs.keeping.opened.Goals as goal
+
+pub returns-clause-ok : goal.returns-clause-ok
+returns-clause-ok g c =
+    let told = c.open.ensures in
+    opened_by g.D.Device c.args.file c.args.held.now c.open.result told.kept told.same told.any_moment told.foreign
 
 pub returns-clause-err : goal.returns-clause-err
 returns-clause-err g c =
