@@ -9,5 +9,6 @@ mod making;
 mod stepping;
 
 pub use answering::answer;
+pub use lines::{push_edit, push_made};
 pub use machine::KeptHistory;
 pub use making::make;

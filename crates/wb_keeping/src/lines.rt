@@ -10,7 +10,7 @@ use wb_proto::{EditNumbers, Reply, Request};
 use wb_wire::request_text;
 
 /// Adds the line, where the reply tells of a new edit.
-pub(crate) fn push_edit(changes: &mut Changes, reply: &Reply, line: &[u8]) -> Result<(), AllocError>
+pub fn push_edit(changes: &mut Changes, reply: &Reply, line: &[u8]) -> Result<(), AllocError>
     requires { IsUnbroken line.now }
     ensures { OnOk result (AddsIfEdited reply.now line.now changes.old changes.new) }
 {
@@ -43,11 +43,7 @@ fn push_undos(alloc: Global, changes: &mut Changes, numbers: &EditNumbers) -> Re
 }
 
 /// Adds the undos and redos that a reply tells of.
-pub(crate) fn push_made(
-    alloc: Global,
-    changes: &mut Changes,
-    reply: &Reply,
-) -> Result<(), AllocError>
+pub fn push_made(alloc: Global, changes: &mut Changes, reply: &Reply) -> Result<(), AllocError>
     ensures { OnOk result (AddsLinesOf (undos_made reply.now) changes.old changes.new) }
 {
     match reply {

@@ -1,6 +1,6 @@
 //! A desk: opened, asked under its lock, and settled.
 
-ghost use Rattle.std.specs.Prelude.{◌≡◌, ◌≤◌, ◌+◌, length, IfOk, IfErr, OnOk, MatchResult};
+ghost use Rattle.std.specs.Prelude.{◌≡◌, length, IfOk, IfErr, MatchResult};
 ghost use Rattle.wb_journal.specs.Settling.{IsSettled, IsCause, total_of_passes};
 ghost use Rattle.wb_shared.specs.Openings.{nothing_done};
 ghost use Rattle.wb_journal.specs.Courses.{IsCourse};
@@ -12,14 +12,13 @@ use crate::opening::Opening;
 use crate::shared::Shared;
 use crate::turn::Turn;
 use std::alloc::Global;
-use std::sync::ledger::{Blank, Ledger, Share};
+use std::sync::ledger::Blank;
 use std::sync::{Mutex, MutexGuard, Wait};
 use std::thread::yield_now;
 use thiserror::Error;
 use wb_journal::below::history::History;
 use wb_journal::below::proto::{Reply, Request};
-use wb_journal::{Cause, Counted, Journal, Pass};
-use wb_range::NoMemory;
+use wb_journal::{Cause, Pass};
 use wb_redist::Mover;
 
 /// Why there is no desk.
@@ -54,29 +53,6 @@ fn taken<'m, R: Wait, T>(lock: &'m Mutex<T>, rt: &R) -> MutexGuard<'m, T> {
         yield_now();
     }
     lock.lock(rt)
-}
-
-// A pass for each of so many seats, each with a part of a share.
-fn first_passes<L: Ledger>(
-    alloc: Global,
-    rest: &mut Share<L>,
-    seats: usize,
-) -> Result<Vec<Pass<L>>, NoMemory>
-    requires parts { seats ≤ rest.old.parts }
-    requires amount { rest.old.amount ≡ 0 }
-    ensures passes { IfOk result (λ v. v.items ≡ new_passes seats) }
-    ensures parts { OnOk result (rest.new.parts + seats ≡ rest.old.parts) }
-    ensures amount { OnOk result (rest.new.amount ≡ 0) }
-{
-    let mut passes = Vec::new(alloc);
-    for seat in 0..seats {
-        let share = rest.split_off(1, 0);
-        let pass = Pass::of_parts(seat, Vec::new(alloc), share);
-        if passes.push(pass).is_err() {
-            return Err(NoMemory);
-        }
-    }
-    Ok(passes)
 }
 
 impl<L: Opening> Desk<L> {
@@ -116,24 +92,13 @@ impl<L: Opening> Desk<L> {
         ensures bad { IfErr result (λ e. IsSeatsErr seats e.1) }
         ensures back { IfErr result (λ e. e.0 ≡ history) }
     {
-        if seats == 0 || seats > 16 {
-            return Err((history, DeskErr::BadSeats));
-        }
-        let (calls, mut rest) = blank.open::<L>();
-        let Ok(passes) = first_passes(alloc, &mut rest, seats) else {
-            return Err((history, DeskErr::NoMemory));
-        };
-        match Journal::at(alloc, seats, history) {
-            Ok(journal) => {
-                let shared = Mutex::new(Shared {
-                    alloc,
-                    kept: Counted { journal, calls },
-                    rest,
-                });
+        match Shared::open_at(alloc, blank, seats, history) {
+            Ok((shared, passes)) => {
                 let door = Mutex::new(());
+                let shared = Mutex::new(shared);
                 Ok((Desk { door, shared }, passes))
             }
-            Err(history) => Err((history, DeskErr::NoMemory)),
+            Err(left) => Err(left),
         }
     }
 
