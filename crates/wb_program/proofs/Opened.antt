@@ -5,6 +5,7 @@ use Rattle.wb_disk.specs.Device.{LeavesOnly}
 use Rattle.wb_disk.specs.declared.device.Device as Device
 use Rattle.wb_keep.specs.Lines.{is_ours, recovered}
 use Rattle.wb_keep.specs.Repair.{StandsForTheSame}
+use Rattle.wb_kept.specs.Answering.{Granted}
 use Rattle.wb_kept.specs.Runs.{Leads}
 use Rattle.wb_kept.specs.declared.kept.Kept.{Kept}
 use Rattle.wb_kept.specs.declared.kept.OpenKeptErr.{OpenKeptErr}
@@ -12,6 +13,13 @@ use Rattle.wb_kept.specs.declared.kept.OpenKeptErr.TheVariants as errs
 use Rattle.wb_proto.specs.Below.wb_history.Past.{Past}
 use Rattle.wb_granting.specs.Granting.{Grants, no_edit}
 use Rattle.wb_program.specs.Keeping.{IsCause, IsKeptHistory, IsOpened}
+
+-- what `make` says of a change is what `open` asks of it
+pub granted_by : {E : Type 0} (p : Past) (line : List ℕ) (r : Result Bool E) (q : Past)
+    → IfOk r (λ is. is ≡ true → Grants p line q) × IfOk r (λ is. is ≡ false → (next : Past) → Grants p line next → ⊥) → Granted Grants p line r q
+granted_by p line (Ok true) q h = h.0 refl
+granted_by p line (Ok false) q h = h.1 refl
+granted_by p line (Err e) q h = tt
 
 module _ {D : Type 0} (device : Device.Ghosts D) (file : D) (held : List ℕ) where
   by_cause : (ours : Bool) → is_ours held ≡ ours → (why : OpenKeptErr) (left : D)

@@ -1,5 +1,8 @@
-use Rattle.wb_program.proofs.Opened.{caused, opened_by}
+use Rattle.wb_program.proofs.Opened.{caused, granted_by, opened_by}
 use Rattle.wb_program.proofs.keeping.opened.Goals as goal
+
+pub open-requires-clause-grants : goal.open-requires-clause-grants
+open-requires-clause-grants g c = λ s change r t h. granted_by s.now change.now r t.now h
 
 pub returns-clause-ok : goal.returns-clause-ok
 returns-clause-ok g c =
