@@ -1,4 +1,5 @@
-/* Loaded before a program, records in the file that RECORD_OF_CALLS names what the program does to files and what it tells, in order.
+/* Loaded before a program, records in the file that RECORD_OF_CALLS names, if there is one, what the program does to files and what it
+   tells, in order; and has each sync take as many microseconds more as SLOWED_SYNC tells.
    Each record is a line, `KIND NUMBER AT SIZE`, and then SIZE bytes and a line end: write (W inode at, its bytes), cut (C inode length),
    sync (S inode), told (T descriptor, the bytes), named (N inode, a path), renamed (M inode, the new path), taken away (U, a path) and
    failed (F). A write, a cut and what is told are recorded before the call, so that a crash in it is thought of; a sync and a name
@@ -16,10 +17,11 @@
 #include <sys/syscall.h>
 #include <sys/uio.h>
 #include <unistd.h>
-static int record = -1;
+static int record = -1, slowed;
 static pthread_mutex_t order = PTHREAD_MUTEX_INITIALIZER;
 __attribute__((constructor)) static void begin(void) {
-    const char *path = getenv("RECORD_OF_CALLS");
+    const char *path = getenv("RECORD_OF_CALLS"), *more = getenv("SLOWED_SYNC");
+    slowed = more ? atoi(more) : 0;
     if (path) record = syscall(SYS_openat, AT_FDCWD, path, O_WRONLY | O_CREAT | O_APPEND | O_CLOEXEC, 0600);
 }
 static void note(char kind, unsigned long number, unsigned long at, const void *bytes, size_t size) {
@@ -67,16 +69,14 @@ int ftruncate64(int file, off64_t size) {
     return done(syscall(SYS_ftruncate, file, size), 0);
 }
 int ftruncate(int file, off_t size) { return ftruncate64(file, size); }
-int fsync(int file) {
-    int result = done(syscall(SYS_fsync, file), 0);
+static int synced(long call, int file) {
+    if (slowed) usleep(slowed);
+    int result = done(syscall(call, file), 0);
     note('S', told_of(file).st_ino, 0, "", 0);
     return result;
 }
-int fdatasync(int file) {
-    int result = done(syscall(SYS_fdatasync, file), 0);
-    note('S', told_of(file).st_ino, 0, "", 0);
-    return result;
-}
+int fsync(int file) { return synced(SYS_fsync, file); }
+int fdatasync(int file) { return synced(SYS_fdatasync, file); }
 static int opened(int folder, const char *path, int how, unsigned mode) {
     int file = syscall(SYS_openat, folder, path, how, mode);
     if (file >= 0 && how & (O_TRUNC | O_CREAT) && S_ISREG(told_of(file).st_mode)) {

@@ -31,18 +31,18 @@ def before(old, size):
 
 
 def torn(old, call, chance):
-    """What a crash may leave of a write: the file as it was and as it is to be; torn at each byte, with the rest as it was, zeros, or
-    bytes of before; the other way round; zeros that are shorter; and each byte, where it writes one."""
+    """What a crash may leave of a write: the file as it was and as it is to be; torn at each byte, with the rest as it was, zeros,
+    bytes of before or any; the other way round; zeros that are shorter; and each byte, where it writes one."""
     at, data, size = call.at, call.data, len(call.data)
     if size == 1:
         yield old
         yield from (laid(old, at, bytes([byte])) for byte in range(256))
         return
-    stale, zeros = before(old, size), bytes(size)
+    stale, zeros, noise = before(old, size), bytes(size), chance.randbytes(size)
     yield from (laid(old, at, data[:k]) for k in range(size + 1))
     for k in range(size + 1) if size <= WHOLE else sorted(chance.sample(range(size + 1), SOME)):
         yield laid(old, at, zeros[:k])
-        for other in (zeros, stale):
+        for other in (zeros, stale, noise):
             yield laid(old, at, data[:k] + other[k:])
             yield laid(old, at, other[:k] + data[k:])
 

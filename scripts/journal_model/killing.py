@@ -13,12 +13,12 @@ from workbook_model.hostile import compact
 from workbook_model.requests import BEGINNING, Requests
 
 from .course import HISTORY
-from .runs import words
+from .runs import slowed, words
 from .text import answered, recovered
 
-LINES = 600  # that a program is given at most
+LINES = 80  # that a program is given at most
 LEAST_REPLY = 10  # no reply has fewer bytes
-PROGRAMS = 20  # over one file
+PROGRAMS = 5  # over one file
 
 
 class Load:
@@ -70,11 +70,11 @@ def in_pieces(lines, chance):
         lines = lines[count:]
 
 
-def until_killed(program, journal, told, lines, chance):
+def until_killed(program, recorder, journal, told, lines, chance):
     """Gives a program lines, and ends it some time after it told so much."""
-    least = chance.randrange(LEAST_REPLY * len(lines))
+    least = LEAST_REPLY * len(lines) * chance.random() ** 3
     with open(told, "wb") as replies:
-        process = subprocess.Popen(words(program, journal), stdin=subprocess.PIPE, stdout=replies, stderr=subprocess.DEVNULL)
+        process = subprocess.Popen(words(program, journal), stdin=subprocess.PIPE, stdout=replies, stderr=subprocess.DEVNULL, env=slowed(recorder))
     feeder = threading.Thread(target=feed, args=(process, in_pieces(lines, chance)))
     feeder.start()
     while os.stat(told).st_size < least and process.poll() is None:
@@ -90,7 +90,7 @@ def until_killed(program, journal, told, lines, chance):
     return status
 
 
-def killed_in_turn(program, folder, count, seed):
+def killed_in_turn(program, recorder, folder, count, seed):
     """Ends so many programs: how many, the changes that they had told of, and what differs."""
     chance, kept, faults = random.Random("kill %s" % seed), 0, []
     with tempfile.TemporaryDirectory(dir=folder) as room:
@@ -99,7 +99,7 @@ def killed_in_turn(program, folder, count, seed):
             if number % PROGRAMS == 0:
                 load, journal = Load(chance), os.path.join(room, "plan%d" % number)
             before, lines = len(load.changes), load.lines()
-            status = until_killed(program, journal, told, lines, chance)
+            status = until_killed(program, recorder, journal, told, lines, chance)
             file = Path(journal).read_bytes() if os.path.exists(journal) else b""
             fault = load.fault(lines, Path(told).read_bytes(), file)
             kept += len(load.changes) - before
