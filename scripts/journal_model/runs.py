@@ -9,20 +9,12 @@ from pathlib import Path
 from .course import HISTORY
 from .records import read_record
 
-SCRIPTS = Path(__file__).resolve().parents[1]
 SECONDS = 60
 ASKED, ENDED = 198, 199  # as in starter.c
 
 
 class Strange(Exception):
     """The program did what no crash explains."""
-
-
-def library(room, name):
-    """A library that is loaded before the program, of scripts/NAME.c."""
-    made = os.path.join(room, name + ".so")
-    subprocess.run(["cc", "-shared", "-fPIC", "-O1", "-o", made, SCRIPTS / (name + ".c")], check=True)
-    return made
 
 
 def words(program, journal):
