@@ -2,6 +2,7 @@
 
 import os
 import select
+import signal
 import subprocess
 import sys
 from pathlib import Path
@@ -85,7 +86,8 @@ class Opener:
             os.dup2(asks, ASKED)
             os.dup2(ends, ENDED)
 
-        self.process = subprocess.Popen(self.words, env=env, stderr=subprocess.DEVNULL, close_fds=False, preexec_fn=begin)
+        self.process = subprocess.Popen(self.words, env=env, stderr=subprocess.DEVNULL, close_fds=False, preexec_fn=begin,
+                                        start_new_session=True)
         os.close(asks)
         os.close(ends)
 
@@ -93,7 +95,7 @@ class Opener:
         if self.process:
             os.close(self.asked)
             os.close(self.ended)
-            self.process.kill()
+            os.killpg(self.process.pid, signal.SIGKILL)  # also what it has begun, if that does not end
             self.process.wait()
             self.process = None
 
