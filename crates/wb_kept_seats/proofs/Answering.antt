@@ -1,0 +1,185 @@
+-- A request of a pass that was answered, and the lines of what it changed.
+use Rattle.std.proofs.Common.{◌≡◌, ◌≤◌, inl, ℕ, Bool, true, false, MatchBool, List, [], ◌∷◌, ◌++◌, Result, Ok, refl, sym, ap, ◌∙◌, subst, append_assoc, append-nil}
+use Rattle.wb_keep.specs.Lines.{recovered}
+use Rattle.wb_keep.specs.Keep.{IsSettled}
+use Rattle.wb_keep.specs.declared.keep.LineLog.{LineLog}
+use Rattle.wb_kept.specs.Runs.{Leads}
+use Rattle.wb_kept.proofs.Steps.{leads_append}
+use Rattle.wb_proto.specs.Below.wb_history.Past.{Past}
+use Rattle.wb_proto.specs.Below.wb_log.refusal.Refusal.{Refusal}
+use Rattle.wb_proto.specs.Machine.{Step, StepIfRead}
+use Rattle.wb_proto.specs.Replies.{reply_of}
+use Rattle.wb_proto.specs.declared.replies.reply.Reply.{Reply}
+use Rattle.wb_proto.specs.declared.replies.reply.Reply.TheVariants.{Edited, Undone, Cascaded, Redone, Listed, Answered, Printed, Counted, Refused}
+use Rattle.wb_proto.specs.declared.requests.request.Request.{Request}
+use Rattle.wb_proto.specs.declared.requests.request.Request.TheVariants.{Change}
+use Rattle.wb_granting.specs.Granting.{Grants, no_edit, AddsIfEdited, AddsLinesOf, AreLinesOf, changes_made}
+use Rattle.wb_granting.proofs.Leading.{changes_lead}
+use Rattle.wb_keeping.proofs.Added.{adds_none, edit_added, other_added}
+use Rattle.wb_wire.specs.Encoded.{request_line}
+use Rattle.wb_journal.proofs.Runs.{course_more}
+use Rattle.wb_journal.specs.Courses.{Course, IsCourse}
+use Rattle.wb_journal.specs.Entries.{is_entered, leaves_all}
+use Rattle.wb_journal.specs.Serving.{AnswersCourse, Enters, IsStrange, entry, share_after}
+use Rattle.wb_journal.specs.declared.entry.Entry.{Entry}
+use Rattle.wb_kept_seats.specs.Lines.{IsSaid, IsLineOfEdit, IsAhead, Adds}
+use Rattle.wb_kept_seats.specs.KeptCourses.{KeptCourse, StandsForFront, IsReady, LeavesFronts, IsKeptCourse}
+use Rattle.wb_kept_seats.specs.Answering.{AnswersKept}
+use Rattle.wb_kept_seats.specs.declared.lines.Ahead.{Ahead}
+use Rattle.wb_kept_seats.specs.declared.lines.Ahead.TheVariants.{Edit, NoMemory, Other}
+use Rattle.wb_kept_seats.proofs.Fronts.{stands_more}
+
+no_both : (b : Bool) → b ≡ false → b ≡ true → ⊥
+no_both b f t = let both : true ≡ false = sym t ∙ f in cc
+
+-- ---- replies that tell of no change
+
+left_none : (r : Reply) (asked : Result Request Refusal) → leaves_all r ≡ true → changes_made r asked ≡ []
+left_none (Edited k n) asked e = absurd (no_both false refl e)
+left_none (Undone k n) asked e = absurd (no_both false refl e)
+left_none (Cascaded ks n) asked e = absurd (no_both false refl e)
+left_none (Redone k n) asked e = absurd (no_both false refl e)
+left_none (Listed ks) asked e = refl
+left_none (Answered a) asked e = refl
+left_none (Printed t) asked e = refl
+left_none (Counted n w) asked e = refl
+left_none (Refused why) asked e = refl
+
+unentered_left : (r : Reply) → is_entered r ≡ false → leaves_all r ≡ true
+unentered_left (Edited k n) e = absurd (no_both true e refl)
+unentered_left (Undone k n) e = absurd (no_both true e refl)
+unentered_left (Cascaded ks n) e = absurd (no_both true e refl)
+unentered_left (Redone k n) e = absurd (no_both true e refl)
+unentered_left (Listed ks) e = refl
+unentered_left (Answered a) e = refl
+unentered_left (Printed t) e = refl
+unentered_left (Counted n w) e = refl
+unentered_left (Refused why) e = refl
+
+adds_nothing : (r : Reply) (asked : Result Request Refusal) (lines : List (List ℕ)) → leaves_all r ≡ true → AddsLinesOf (changes_made r asked) lines lines
+adds_nothing r asked lines e = subst (λ rs. AddsLinesOf rs lines lines) (sym (left_none r asked e)) (adds_none lines)
+
+-- ---- replies that do
+
+pub line_text : (asked : Request) (line : List ℕ) → IsLineOfEdit asked line → line ≡ request_line asked
+line_text (Change e) line is = is.text
+line_text asked line is = absurd is
+
+edit_adds : (p q : Past) (asked : Request) (line : List ℕ) (r : Reply) (old new : List (List ℕ)) → IsLineOfEdit asked line → Step p asked r q
+    → AddsIfEdited r line old new → AddsLinesOf (changes_made r (Ok asked)) old new
+edit_adds p q (Change e) line r old new is step added = edit_added p q e r line old new step is added
+edit_adds p q asked line r old new is step added = absurd is
+
+step_adds : (p q : Past) (asked : Request) (ahead : Ahead) (r : Reply) (old new : List (List ℕ)) → IsAhead asked ahead → Step p asked r q → Adds ahead r old new
+    → AddsLinesOf (changes_made r (Ok asked)) old new
+step_adds p q asked (Edit line) r old new is step added = edit_adds p q asked _ r old new is step added
+step_adds p q asked NoMemory r old new is step added = absurd added
+step_adds p q asked Other r old new is step added = other_added asked r old new is added
+
+-- what a reply tells of is added, where it tells of a change
+pub told_adds : (c d : Course) (seat : ℕ) (asked : Request) (ahead : Ahead) (r : Reply) (old new : List (List ℕ)) → IsAhead asked ahead → AnswersCourse c seat asked r d
+    → leaves_all r ≡ false → Adds ahead r old new → AddsLinesOf (changes_made r (Ok asked)) old new
+told_adds c d seat asked ahead r old new is answers changes added = by_entered (is_entered r) refl answers
+  where
+    by_entered : (b : Bool) → is_entered r ≡ b → MatchBool b (Enters c seat asked r d) (d ≡ c) → AddsLinesOf (changes_made r (Ok asked)) old new
+    by_entered true e enters = step_adds c.history d.history asked ahead r old new is enters.reply added
+    by_entered false e same = absurd (no_both (leaves_all r) changes (unentered_left r e))
+
+-- ---- they lead where the answer led
+
+step_leads : (p q : Past) (asked : Request) (r : Reply) (made : List (List ℕ)) → IsSaid asked → Step p asked r q → AreLinesOf (changes_made r (Ok asked)) made
+    → Leads Grants p made q
+step_leads p q asked r made said step are = changes_lead p said.0 (reply_of r) made q (record {
+  reply = r;
+  is_reply = inl (subst (λ a. StepIfRead p a r q) (sym said.1) step);
+  is_text = refl;
+  is_made = subst (λ a. AreLinesOf (changes_made r a) made) (sym said.1) are;
+})
+
+no_lines : (made : List (List ℕ)) → AreLinesOf [] made → made ≡ []
+no_lines [] are = refl
+no_lines (line ∷ made) are = absurd are
+
+leads_on : (c d : Course) (seat : ℕ) (asked : Request) (r : Reply) (made : List (List ℕ)) → IsSaid asked → AnswersCourse c seat asked r d
+    → AreLinesOf (changes_made r (Ok asked)) made → Leads Grants c.history made d.history
+leads_on c d seat asked r made said answers are = by_entered (is_entered r) refl answers
+  where
+    by_entered : (b : Bool) → is_entered r ≡ b → MatchBool b (Enters c seat asked r d) (d ≡ c) → Leads Grants c.history made d.history
+    by_entered true e enters = step_leads c.history d.history asked r made said enters.reply are
+    by_entered false e same =
+        let none : made ≡ [] = no_lines made (subst (λ rs. AreLinesOf rs made) (left_none r (Ok asked) (unentered_left r e)) are) in
+        subst (λ ls. Leads Grants c.history ls d.history) (sym none) (ap (λ (x : Course). x.history) same)
+
+leads_behind : (c d : Course) (seat : ℕ) (asked : Request) (r : Reply) (kept old new : List (List ℕ)) → IsSaid asked → AnswersCourse c seat asked r d
+    → AddsLinesOf (changes_made r (Ok asked)) old new → Leads Grants no_edit (kept ++ old) c.history → Leads Grants no_edit (kept ++ new) d.history
+leads_behind c d seat asked r kept old new said answers (made, are, is) before =
+    let all : (kept ++ old) ++ made ≡ kept ++ new = append_assoc kept old made ∙ ap (λ ls. kept ++ ls) (sym is) in
+    subst (λ ls. Leads Grants no_edit ls d.history) all
+    (leads_append Grants no_edit c.history d.history (kept ++ old) made before (leads_on c d seat asked r made said answers are))
+
+-- ---- the journal
+
+entries_grow : (c d : Course) (seat : ℕ) (asked : Request) (r : Reply) → AnswersCourse c seat asked r d → (more : List Entry) × (d.entries ≡ c.entries ++ more)
+entries_grow c d seat asked r answers = by_entered (is_entered r) answers
+  where
+    by_entered : (b : Bool) → MatchBool b (Enters c seat asked r d) (d ≡ c) → (more : List Entry) × (d.entries ≡ c.entries ++ more)
+    by_entered true enters = (entry seat asked r ∷ [], enters.entries)
+    by_entered false same = ([], ap (λ (x : Course). x.entries) same ∙ sym (append-nil c.entries))
+
+module _ {D : Type 0} (seen : D → List ℕ) (may_leave : D → List ℕ → Type 0) (moment : D → ℕ) (left_since : D → ℕ → List ℕ → Type 0)
+    (opening : Past) (begun : ℕ) where
+  stands_on : (k l : KeptCourse D) (seat : ℕ) (asked : Request) (r : Reply) (lines : List (List ℕ)) → AnswersCourse k.course seat asked r l.course
+      → StandsForFront opening k.course.entries lines → StandsForFront opening l.course.entries lines
+  stands_on k l seat asked r lines answers stands =
+      let grow = entries_grow k.course l.course seat asked r answers in
+      subst (λ (es : List Entry). StandsForFront opening es lines) (sym grow.1) (stands_more opening k.course.entries grow.0 lines stands)
+
+  pub kept_answered : (k l : KeptCourse D) (seat : ℕ) (own : List Entry) (asked : Request) (r : Reply) → IsSaid asked → AnswersKept k seat own asked r l
+      → IsKeptCourse seen may_leave moment left_since opening begun k → IsKeptCourse seen may_leave moment left_since opening begun l
+  kept_answered k l seat own asked r said a kept = record {
+    is_course = course_more opening k.course seat own asked r l.course kept.is_course a.strange a.answers;
+    any_moment = record {
+      later = subst (λ (x : LineLog D). begun ≤ moment x.device) (sym a.log) kept.any_moment.later;
+      each = λ file left. stands_on k l seat asked r (recovered file) a.answers
+          (kept.any_moment.each file (subst (λ (x : LineLog D). left_since x.device begun file) a.log left));
+    };
+    ready = λ now.
+        let waits = a.waits now in
+        let was = kept.ready waits.0 in
+        record {
+          settled = subst (λ (x : LineLog D). IsSettled seen may_leave x) (sym a.log) was.settled;
+          front = subst (λ (x : LineLog D). StandsForFront opening l.course.entries (recovered (seen x.device))) (sym a.log)
+              (stands_on k l seat asked r (recovered (seen k.log.device)) a.answers was.front);
+          leads = subst (λ (x : LineLog D). Leads Grants no_edit (recovered (seen x.device) ++ l.waiting) l.course.history) (sym a.log)
+              (leads_behind k.course l.course seat asked r (recovered (seen k.log.device)) k.waiting l.waiting said a.answers waits.1 was.leads);
+        };
+  }
+
+-- ---- the whole
+
+module _ {D : Type 0} (k l : KeptCourse D) (seat : ℕ) (own : List Entry) (asked : Request) (ahead : Ahead) (r : Reply) where
+  -- the lines of what a reply tells of wait, if it is open then
+  waits_then : (b : Bool) → leaves_all r ≡ b → AnswersCourse k.course seat asked r l.course → IsAhead asked ahead
+      → (leaves_all r ≡ true → (l.waiting ≡ k.waiting) × (l.is_open ≡ k.is_open))
+      → (leaves_all r ≡ false → l.is_open ≡ true → (k.is_open ≡ true) × Adds ahead r k.waiting l.waiting)
+      → l.is_open ≡ true → (k.is_open ≡ true) × AddsLinesOf (changes_made r (Ok asked)) k.waiting l.waiting
+  waits_then true e answers is left told now = (
+    sym (left e).1 ∙ now,
+    subst (λ ls. AddsLinesOf (changes_made r (Ok asked)) k.waiting ls) (sym (left e).0) (adds_nothing r (Ok asked) k.waiting e),
+  )
+  waits_then false e answers is left told now =
+      let added = told e now in
+      (added.0, told_adds k.course l.course seat asked ahead r k.waiting l.waiting is answers e added.1)
+
+  pub answered : IsStrange k.course seat own r → AnswersCourse k.course seat asked r l.course → l.total ≡ share_after k.total r → l.log ≡ k.log → l.commits ≡ k.commits
+      → IsAhead asked ahead → (leaves_all r ≡ true → (l.waiting ≡ k.waiting) × (l.is_open ≡ k.is_open))
+      → (leaves_all r ≡ false → l.is_open ≡ true → (k.is_open ≡ true) × Adds ahead r k.waiting l.waiting) → AnswersKept k seat own asked r l
+  answered strange answers total log commits is left told = record {
+    strange = strange;
+    answers = answers;
+    total = total;
+    log = log;
+    commits = commits;
+    waits = waits_then (leaves_all r) refl answers is left told;
+    stays_open = λ e. (left e).1;
+  }

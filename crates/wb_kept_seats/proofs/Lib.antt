@@ -1,0 +1,4 @@
+pub mod Fronts
+pub mod Opened
+pub mod Answering
+pub mod Settled

@@ -1,0 +1,20 @@
+-- What a request of a pass does to what is locked.
+use Rattle.std.specs.Prelude.{◌≡◌, ℕ, true, List, Ok}
+use Rattle.wb_proto.specs.declared.replies.reply.Reply.{Reply}
+use Rattle.wb_proto.specs.declared.requests.request.Request.{Request}
+use Rattle.wb_granting.specs.Granting.{AddsLinesOf, changes_made}
+use Rattle.wb_journal.specs.Entries.{leaves_all}
+use Rattle.wb_journal.specs.Serving.{AnswersCourse, IsStrange, share_after}
+use Rattle.wb_journal.specs.declared.entry.Entry.{Entry}
+use Rattle.wb_kept_seats.specs.KeptCourses.{KeptCourse}
+
+-- It is answered as at any desk, and the lines of what it changed wait behind those from before. The log is left as it is. Where there is
+-- no memory for such a line, no further commit is made.
+pub record AnswersKept {D : Type 0} (k : KeptCourse D) (seat : ℕ) (own : List Entry) (asked : Request) (r : Reply) (l : KeptCourse D) : Type 0 where
+  pub strange : IsStrange k.course seat own r
+  pub answers : AnswersCourse k.course seat asked r l.course
+  pub total : l.total ≡ share_after k.total r
+  pub log : l.log ≡ k.log
+  pub commits : l.commits ≡ k.commits
+  pub waits : l.is_open ≡ true → (k.is_open ≡ true) × AddsLinesOf (changes_made r (Ok asked)) k.waiting l.waiting
+  pub stays_open : leaves_all r ≡ true → l.is_open ≡ k.is_open

@@ -1,0 +1,5 @@
+pub mod Lines
+pub mod KeptCourses
+pub mod Answering
+pub mod Committing
+pub mod Settling

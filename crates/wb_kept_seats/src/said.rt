@@ -1,0 +1,56 @@
+//! Requests that were read of lines.
+ghost use Rattle.std.specs.Prelude.{◌≡◌, ◌≢◌, Ok, Err, IfOk, IfErr};
+ghost use Rattle.wb_proto.specs.Requests.{request};
+ghost use Rattle.wb_kept_seats.specs.Lines.{IsSaid};
+
+use std::alloc::Global;
+use std::marker::Model;
+use wb_proto::below::history::Refusal;
+use wb_proto::{Request, read_request};
+
+/// A request that was read of a line, so that a line can say it. Contracts see the request.
+#[derive(Drop)]
+pub struct Said {
+    request: Request,
+}
+
+impl Model for Said {
+    ghost use Rattle.wb_proto.specs.declared.requests.request.Request.{Request};
+    ghost use Rattle.wb_kept_seats.specs.Lines.{IsSaid};
+
+    ghost Value = { Request };
+
+    ghost view = { λ s. s.request };
+
+    ghost invariant = { λ s. IsSaid s.request };
+}
+
+impl Said {
+    /// Reads a line as a request, or says why it is none.
+    pub fn read(alloc: Global, line: &[u8]) -> Result<Said, Refusal>
+        ensures ok { IfOk result (λ said. request line.now ≡ Ok said) }
+        ensures err { IfErr result (λ why. why ≢ Refusal.NoMemory → request line.now ≡ Err why) }
+    {
+        match read_request(alloc, line) {
+            Ok(request) => Ok(Said { request }),
+            Err(why) => Err(why),
+        }
+    }
+
+    /// The request.
+    pub fn request(&self) -> &Request
+        ensures request { result.now ≡ self.now }
+        ensures said { IsSaid self.now }
+    {
+        &self.request
+    }
+
+    /// The request, given up.
+    pub(crate) fn into_request(self) -> Request
+        ensures request { result ≡ self }
+        ensures said { IsSaid self }
+    {
+        let Said { request } = self;
+        request
+    }
+}
