@@ -107,7 +107,10 @@ fn session<M: Mover>(
 // The journal with its first so many changes.
 fn front(alloc: Global, changes: usize) -> Result<Vec<u8>, AllocError> {
     let mut file = Vec::new(alloc);
-    for line in JOURNAL.split(|byte| *byte == b'\n').take(changes + 1) {
+    for line in JOURNAL
+        .split(|byte| *byte == b'\n')
+        .take(changes.saturating_add(1))
+    {
         file.extend_from_slice(line)?;
         file.push(b'\n')?;
     }
