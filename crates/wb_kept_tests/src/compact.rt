@@ -134,7 +134,11 @@ fn compact_at(
         return Ok(None);
     };
     let compacted = log.compact(alloc, rt, lines);
-    let is_added = log.append(alloc, behind).is_ok();
+    let is_added = match compacted {
+        Ok(()) => log.append(alloc, behind).is_ok(),
+        Err(CompactErr::NotMade) => log.append(alloc, behind).is_ok(),
+        Err(_) => false,
+    };
     let is_locked = matches!(open_file(rt, PATH, &START), Err(OpenDiskErr::Busy));
     Ok((is_added && is_locked).then(|| compacted))
 }
