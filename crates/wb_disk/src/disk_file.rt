@@ -94,11 +94,23 @@ fn sync_like(rt: &HostRuntime, beside: &str, new: &File, old: &File) -> io::Resu
     Ok(())
 }
 
+/// Makes a file with these bytes, all of them on the disk. Where that fails, nothing is left of it.
+fn make_whole(rt: &HostRuntime, path: &str, bytes: &[u8]) -> io::Result<()> {
+    let made = match make_beside(rt, path, bytes) {
+        Ok(file) => file.sync_all(),
+        Err(error) => Err(error),
+    };
+    if made.is_err() {
+        let _ = fs::remove_file(rt, path);
+    }
+    made
+}
+
 /// Makes a file that begins with these bytes, unless another process is first. They are on the disk under another
 /// name before the file has its own, so that no crash leaves it without them.
 fn make(rt: &HostRuntime, path: &str, start: &[u8]) -> Result<(), OpenDiskErr> {
     let other = beside(rt, path)?;
-    make_beside(rt, other.as_str(), start)?.sync_all()?;
+    make_whole(rt, other.as_str(), start)?;
     let linked = fs::hard_link(rt, other.as_str(), path);
     fs::remove_file(rt, other.as_str())?;
     match linked {

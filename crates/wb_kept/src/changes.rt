@@ -42,6 +42,14 @@ impl Changes {
         add_line(&mut self.text, line)
     }
 
+    /// Adds all changes of another. Where there is no memory for them, nothing is added.
+    pub fn append(&mut self, other: &Changes) -> Result<(), AllocError>
+        ensures ok { OnOk result (self.new ≡ self.old ++ other.now) }
+        ensures err { OnErr result (self.new ≡ self.old) }
+    {
+        self.text.extend_from_slice(&other.text)
+    }
+
     /// The lines, each ended by a line feed.
     pub fn as_text(&self) -> &[u8]
         ensures { lines_of result.now ≡ self.now }

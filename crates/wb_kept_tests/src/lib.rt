@@ -5,9 +5,9 @@
 #[cfg(test)]
 mod compact;
 #[cfg(test)]
-mod desk;
-#[cfg(test)]
 mod disk;
+#[cfg(test)]
+mod group;
 #[cfg(test)]
 mod keep;
 #[cfg(test)]

@@ -1,0 +1,14 @@
+//! Turns that several threads make under one lock, and that are kept together under another.
+#![tactic(auto)]
+
+mod book;
+mod keeper;
+mod kept;
+mod store;
+mod waiting;
+
+pub use book::{Front, Group, Opened};
+pub use keeper::{KeepErr, Keeper, Sealed, keep};
+pub use kept::Kept;
+pub use store::Store;
+pub use waiting::{Batch, Desk, Waiting};

@@ -1,0 +1,36 @@
+-- Turns behind turns.
+use Rattle.std.proofs.Common.{◌≡◌, ℕ, ◌+◌, ◌<◌, List, [], ◌∷◌, ◌++◌, length, take, get_or, refl, sym, ap, ◌∙◌, subst, inl, append_assoc, append-nil}
+use Rattle.std.proofs.lemmas.List.{take_more}
+use Rattle.std.proofs.lemmas.List.Concat.{flat_map-append}
+use Rattle.wb_disk.specs.Device.{LeavesOnly}
+use Rattle.wb_disk.proofs.Moments.{started}
+use Rattle.wb_keep.specs.Lines.{recovered, at_rest, HasHeader}
+use Rattle.wb_keep.specs.Keep.{IsSettled, IsBeforeOrAfter}
+use Rattle.wb_keep.specs.declared.keep.LineLog.{LineLog}
+use Rattle.wb_kept_group.specs.Together.{changes_in}
+
+pub changes-append : (xs ys : List (List (List ℕ))) → changes_in (xs ++ ys) ≡ changes_in xs ++ changes_in ys
+changes-append xs ys = flat_map-append (λ (turn : List (List ℕ)). turn) xs ys
+
+-- one turn more was joined
+pub changes_more : (turns : List (List (List ℕ))) (i : ℕ) (turn : List (List ℕ)) → i < length turns → turn ≡ get_or turns i turn
+    → changes_in (take (i + 1) turns) ≡ changes_in (take i turns) ++ turn
+changes_more turns i turn lt is =
+    ap changes_in (take_more turns i turn lt)
+    ∙ changes-append (take i turns) (get_or turns i turn ∷ [])
+    ∙ ap (λ (ls : List (List ℕ)). changes_in (take i turns) ++ ls) (append-nil (get_or turns i turn) ∙ sym is)
+
+-- the lines from before, and the changes of turns behind turns
+pub lines_behind : (opening : List (List ℕ)) (before turns : List (List (List ℕ))) → (opening ++ changes_in before) ++ changes_in turns ≡ opening ++ changes_in (before ++ turns)
+lines_behind opening before turns = append_assoc opening (changes_in before) (changes_in turns) ∙ ap (λ (ls : List (List ℕ)). opening ++ ls) (sym (changes-append before turns))
+
+module _ {D : Type 0} (seen : D → List ℕ) (may_leave : D → List ℕ → Type 0) (moment : D → ℕ) (left_since : D → ℕ → List ℕ → Type 0) where
+  at_rest_has : (lines : List (List ℕ)) → HasHeader (at_rest lines)
+  at_rest_has lines = refl
+
+  -- without a call, a crash leaves the lines from before
+  pub idle : ((file : D) (c : List ℕ) → left_since file (moment file) c → may_leave file c) → (log : LineLog D) (more : List (List ℕ)) → IsSettled seen may_leave log
+      → LeavesOnly moment left_since log.device log.device (IsBeforeOrAfter (recovered (seen log.device)) more)
+  idle only_now log more s = started moment left_since log.device (IsBeforeOrAfter (recovered (seen log.device)) more)
+      (λ c left. subst (IsBeforeOrAfter (recovered (seen log.device)) more) (sym (s.durable c (only_now log.device c left)))
+      (record { head = subst HasHeader (sym s.file) (at_rest_has (recovered (seen log.device))); lines = inl refl }))
