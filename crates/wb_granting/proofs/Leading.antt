@@ -13,6 +13,7 @@ use Rattle.wb_proto.specs.Below.wb_edit.Commands.{meaning}
 use Rattle.wb_proto.specs.Below.wb_edit.Schema.{workbook}
 use Rattle.wb_proto.specs.Below.wb_edit.edit.Edit.{Edit}
 use Rattle.wb_proto.specs.Below.wb_history.Past.{Numbered, Past, meant}
+use Rattle.wb_proto.specs.Below.wb_history.Restored.{cells_written}
 use Rattle.wb_proto.specs.Below.wb_log.refusal.Refusal.{Refusal}
 use Rattle.wb_proto.specs.Below.wb_log.refusal.Refusal.TheVariants.{NoMemory}
 use Rattle.wb_proto.specs.Below.wb_history.query.Query.{Query}
@@ -23,7 +24,8 @@ use Rattle.wb_proto.specs.declared.replies.reply.Reply.{Reply}
 use Rattle.wb_proto.specs.declared.replies.reply.Reply.TheVariants.{Edited, Undone, Cascaded, Redone, Listed, Answered, Printed, Counted, Refused}
 use Rattle.wb_proto.specs.declared.requests.request.Request.{Request}
 use Rattle.wb_proto.specs.declared.requests.request.Request.TheVariants.{Change, Undo, Redo, Cascade, Dependents, Ask, Print, History, Edits}
-use Rattle.wb_granting.specs.Granting.{GrantsRequest, Grants, Answers, AreLinesOf, undos_of, changes_made}
+use Rattle.wb_granting.specs.Granting.{GrantsRequest, GrantsAsked, Grants, Answers, AreLinesOf, undos_of, changes_made}
+use Rattle.wb_granting.proofs.Beginning.{never_both, begun_one}
 
 -- ---- a change leads to one history
 
@@ -51,11 +53,19 @@ granted_one p (Redo k) q u (n, (is, reply, put)) (m, (same_is, other, also)) =
     past_same q u (put.entries ∙ sym also.entries) (put.writes ∙ ap (λ (c : ℕ). written_more p.writes c) counts ∙ sym also.writes)
 granted_one p asked q u granted other = absurd granted
 
-pub one_history : (p : Past) (line : List ℕ) (q u : Past) → Grants p line q → Grants p line u → q ≡ u
-one_history p line q u (a, read, granted) (b, also, other) =
+asked_one : (p : Past) (line : List ℕ) (q u : Past) → GrantsAsked p line q → GrantsAsked p line u → q ≡ u
+asked_one p line q u (a, read, granted) (b, also, other) =
     let both : Ok a ≡ Ok b = sym read ∙ also in
     let same : a ≡ b = cc in
     granted_one p b q u (subst (λ (asked : Request). GrantsRequest p asked q) same granted) other
+
+pub one_history : (p : Past) (line : List ℕ) (q u : Past) → Grants p line q → Grants p line u → q ≡ u
+one_history p line q u (inl granted) (inl other) = asked_one p line q u granted other
+one_history p line q u (inl granted) (inr begun) = absurd (never_both p line q u granted begun.1)
+one_history p line q u (inr begun) (inl other) = absurd (never_both p line u q other begun.1)
+one_history p line q u (inr begun) (inr other) =
+    let entries = begun_one line q u begun.1 other.1 in
+    past_same q u entries (begun.1.counted ∙ ap (λ (es : List Numbered). written_more 0 (cells_written (traces (meant es)))) entries ∙ sym other.1.counted)
 
 -- ---- one line or none
 
@@ -65,7 +75,7 @@ none_made p q (line ∷ more) same lines = absurd lines
 
 one_made : (p q : Past) (asked : Request) (made : List (List ℕ)) → GrantsRequest p asked q → AreLinesOf (asked ∷ []) made → Leads Grants p made q
 one_made p q asked [] granted lines = absurd lines
-one_made p q asked (line ∷ []) granted lines = (q, (asked, lines.0.read_back, granted), refl)
+one_made p q asked (line ∷ []) granted lines = (q, inl (asked, lines.0.read_back, granted), refl)
 one_made p q asked (line ∷ other ∷ more) granted lines = absurd lines.1
 
 -- ---- an undo with dependents, as the undos of all
@@ -103,7 +113,7 @@ undos_lead (n ∷ ns) p q (line ∷ made) some can entries writes lines =
     let granted : GrantsRequest p (Undo (Some n)) next =
     (c, (refl, by_number (meant p.entries) n c (some n (inl refl)) (t, may, refl), record { entries = refl; writes = refl })) in (
       next,
-      (Undo (Some n), lines.0.read_back, granted),
+      inl (Undo (Some n), lines.0.read_back, granted),
       undos_lead ns next q made (λ m has. some m (inr has)) (subst (λ h. CanUndoAll h (places ns)) same can.1) entries
           (risen_rest ns (meant next.entries) p.writes c q.writes (writes ∙ ap (λ (k : ℕ). written_more p.writes k) all)) lines.1,
     )

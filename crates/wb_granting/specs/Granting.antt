@@ -1,8 +1,14 @@
 -- Which lines are changes of a history, and which changes an answered line made.
-use Rattle.std.specs.Prelude.{◌≡◌, ◌⊎◌, ℕ, List, [], ◌∷◌, ◌++◌, map, Some, Result, Ok}
+use Rattle.std.specs.Prelude.{◌≡◌, ◌⊎◌, ℕ, true, List, [], ◌∷◌, ◌++◌, map, codes, Some, Result, Ok, Err}
+use Rattle.std.specs.Str.{is_utf8}
+use Rattle.serde_json.specs.Data.{Data, object, string, member, no_members}
+use Rattle.serde_json.specs.Read.{read}
+use Rattle.serde_json.specs.Written.{compact_text}
 use Rattle.wb_kept.specs.Runs.{Leads}
 use Rattle.wb_proto.specs.Below.wb_history.Past.{Past}
+use Rattle.wb_proto.specs.Below.wb_history.Restored.{IsCounted}
 use Rattle.wb_proto.specs.Below.wb_log.refusal.Refusal.{Refusal}
+use Rattle.wb_proto.specs.Below.wb_log.refusal.Refusal.TheVariants.{BadRequest}
 use Rattle.wb_proto.specs.Machine.{Changes, UndoesNumber, Redoes, StepIfRead, NothingDone}
 use Rattle.wb_proto.specs.Replies.{reply_of}
 use Rattle.wb_proto.specs.Requests.{request}
@@ -10,6 +16,7 @@ use Rattle.wb_proto.specs.declared.replies.reply.Reply.{Reply}
 use Rattle.wb_proto.specs.declared.replies.reply.Reply.TheVariants.{Edited, Undone, Cascaded, Redone}
 use Rattle.wb_proto.specs.declared.requests.request.Request.{Request}
 use Rattle.wb_proto.specs.declared.requests.request.Request.TheVariants.{Change, Undo, Redo}
+use Rattle.wb_record.specs.Text.{history_text, AreAsked, IsHistory}
 use Rattle.wb_wire.specs.Encoded.{request_line}
 
 -- the history before any change
@@ -24,8 +31,25 @@ GrantsRequest p (Redo k) q = (n : ℕ) × Redoes p k (Redone k n) q
 GrantsRequest p _ q = ⊥
 
 -- a line is read as such a request
+abbrev pub GrantsAsked : Past → List ℕ → Past → Type 0
+GrantsAsked p line q = (asked : Request) × (request line ≡ Ok asked) × GrantsRequest p asked q
+
+-- `{"op":"resume","text":T}`, with T a text
+abbrev pub resume_data : List ℕ → Data
+resume_data text = object (member (codes "op") (string (codes "resume")) (member (codes "text") (string text) no_members))
+
+-- The line that a file may begin with, in place of all changes that led to a history: the canonical line of `resume` with the
+-- text of that history. It is no request, so that no session takes it.
+pub record Begins (line : List ℕ) (q : Past) : Type 0 where
+  pub utf8 : is_utf8 line ≡ true
+  pub json : read line ≡ Some (resume_data (history_text q.entries))
+  pub text : line ≡ compact_text (resume_data (history_text q.entries))
+  pub history : IsHistory q.entries
+  pub counted : IsCounted q
+
+-- A line is a change: it is read as such a request, or a history without edits begins with it.
 abbrev pub Grants : Past → List ℕ → Past → Type 0
-Grants p line q = (asked : Request) × (request line ≡ Ok asked) × GrantsRequest p asked q
+Grants p line q = GrantsAsked p line q ⊎ ((p.entries ≡ []) × Begins line q)
 
 -- an undo of each number
 abbrev pub undos_of : List ℕ → List Request
@@ -91,3 +115,11 @@ OneHistory = (p : Past) (line : List ℕ) (q u : Past) → Grants p line q → G
 -- The changes that an answer made, granted again one after the other, lead where it led.
 abbrev pub ChangesLead : Type 0
 ChangesLead = (p : Past) (line text : List ℕ) (made : List (List ℕ)) (q : Past) → Answers p line text made q → Leads Grants p made q
+
+-- A line that a history begins with is no request.
+abbrev pub BeginsNoSession : Type 0
+BeginsNoSession = (line : List ℕ) (q : Past) → Begins line q → request line ≡ Err BadRequest
+
+-- The edits of a history to which lines lead were each asked for by a line.
+abbrev pub LinesAsk : Type 0
+LinesAsk = (lines : List (List ℕ)) (q : Past) → Leads Grants no_edit lines q → AreAsked q.entries

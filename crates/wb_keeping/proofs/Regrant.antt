@@ -1,5 +1,5 @@
 -- What a step of a logged request says of its grant.
-use Rattle.std.proofs.Common.{◌≡◌, ◌≢◌, ℕ, Bool, true, false, IfOk, List, Some, Result, Ok, Err, refl, sym, ◌∙◌, subst}
+use Rattle.std.proofs.Common.{◌≡◌, ◌≢◌, inl, inr, ℕ, Bool, true, false, IfOk, List, [], Some, Result, Ok, Err, refl, sym, ◌∙◌, subst}
 use Rattle.wb_history.proofs.OneAnswer.{edit_answer_law, undo_answer_law, redo_answer_law}
 use Rattle.wb_proto.specs.Below.wb_edit.Commands.{meaning}
 use Rattle.wb_proto.specs.Below.wb_history.Past.{Past, meant}
@@ -11,7 +11,8 @@ use Rattle.wb_proto.specs.declared.replies.reply.Reply.{Reply}
 use Rattle.wb_proto.specs.declared.replies.reply.Reply.TheVariants.{Edited, Undone, Redone, Refused}
 use Rattle.wb_proto.specs.declared.requests.request.Request.{Request}
 use Rattle.wb_proto.specs.declared.requests.request.Request.TheVariants.{Change, Undo, Redo}
-use Rattle.wb_granting.specs.Granting.{Grants, GrantsRequest, IsLogged}
+use Rattle.wb_granting.specs.Granting.{Grants, GrantsRequest, IsLogged, Begins}
+use Rattle.wb_granting.proofs.Beginning.{no_request}
 
 ok_not : {X : Type 0} {x : X} {e : Refusal} → Ok x ≡ Err e → ⊥
 ok_not h = cc
@@ -50,13 +51,15 @@ only_logged p asked q granted = absurd granted
 
 -- no grant, where the line is read as a request that is granted to nobody, or as none
 pub not_this : (p : Past) (line : List ℕ) (asked : Request) (next : Past) → request line ≡ Ok asked → (GrantsRequest p asked next → ⊥) → Grants p line next → ⊥
-not_this p line asked next read never (other, also, granted) =
+not_this p line asked next read never (inl (other, also, granted)) =
     let both : Ok other ≡ Ok asked = sym also ∙ read in
     let same : other ≡ asked = cc in
     never (subst (λ (a : Request). GrantsRequest p a next) same granted)
+not_this p line asked next read never (inr begun) = ok_not (sym read ∙ no_request line next begun.1)
 
-pub not_read : (p : Past) (line : List ℕ) (why : Refusal) (next : Past) → request line ≡ Err why → Grants p line next → ⊥
-not_read p line why next read (other, also, granted) = ok_not (sym also ∙ read)
+pub not_read : (p : Past) (line : List ℕ) (why : Refusal) (next : Past) → request line ≡ Err why → ((p.entries ≡ []) × Begins line next → ⊥) → Grants p line next → ⊥
+not_read p line why next read never (inl (other, also, granted)) = ok_not (sym also ∙ read)
+not_read p line why next read never (inr begun) = never begun
 
 pub refused_true : {E : Type 0} (r : Result Bool E) (p : Past) (asked : Request) (why : Refusal) (q : Past) → IfOk r (λ is. (is ≡ false) × (why ≢ NoMemory)) →
     IfOk r (λ is. is ≡ true → GrantsRequest p asked q)

@@ -3,6 +3,7 @@ ghost use Rattle.std.specs.Prelude.{◌≡◌, ◌≢◌, true, false, IfOk};
 ghost use Rattle.wb_proto.specs.Below.wb_history.Past.{Past};
 ghost use Rattle.wb_granting.specs.Granting.{Grants, GrantsRequest, IsLogged};
 
+use crate::beginning::begin;
 use crate::stepping::step;
 use std::alloc::{AllocError, Global};
 use wb_proto::below::history::{History, Refusal};
@@ -63,7 +64,7 @@ pub fn make<M: Mover>(
     let request = match read_request(alloc, change) {
         Ok(request) => request,
         Err(Refusal::NoMemory) => return Err(AllocError),
-        Err(_) => return Ok(false),
+        Err(_) => return begin(alloc, history, change, mover),
     };
     if !is_logged(&request) {
         return Ok(false);
