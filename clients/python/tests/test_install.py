@@ -213,7 +213,7 @@ class TestRefusals(Scratch):
 
 class TestVersion(Scratch):
     def test_it_is_one(self) -> None:
-        done = script("versions", *([PROGRAM] if is_built() else []))
+        done = script("check/versions", *([PROGRAM] if is_built() else []))
         self.assertEqual(done.returncode, 0, done.stdout)
         for line in done.stdout.splitlines():
             self.assertEqual(line.split()[0], workbook_client.__version__, line)

@@ -1,0 +1,28 @@
+"""What `scripts/check/recorder.c` recorded of a program's calls."""
+
+from typing import NamedTuple
+
+WRITE, CUT, SYNC, TOLD, NAMED, RENAMED, TAKEN_AWAY, FAILED = b"W", b"C", b"S", b"T", b"N", b"M", b"U", b"F"
+
+
+class Call(NamedTuple):
+    """A call: its kind, the number of the file or of the connection, where it writes or cuts, and its bytes."""
+
+    kind: bytes
+    file: int
+    at: int
+    data: bytes
+
+
+def read_record(record):
+    """The calls of a record, in order."""
+    at, calls = 0, []
+    while at < len(record):
+        end = record.index(b"\n", at)
+        kind, file, place, size = record[at:end].split(b" ")
+        at = end + 1 + int(size)
+        calls.append(Call(kind, int(file), int(place), record[end + 1 : at]))
+        at += 1
+    if any(call.kind == FAILED for call in calls):
+        raise ValueError("a call failed while it was recorded")
+    return calls
