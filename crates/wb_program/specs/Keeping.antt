@@ -194,5 +194,5 @@ module _ {D J : Type 0} (device : Device.Ghosts D) (files : OpensFiles.Ghosts J 
 
   -- What a command does with files: a session with a journal opens one, no other command does.
   abbrev pub UsesFiles : Asked → ℕ → (before after : J) → Streams → Type 0
-  UsesFiles (ask.RunKept path workers) status before after s = KeepsAt path status after s ⊎ IsNotOpened status after s
+  UsesFiles (ask.RunKept path false workers) status before after s = KeepsAt path status after s ⊎ IsNotOpened status after s
   UsesFiles asked status before after s = after ≡ before

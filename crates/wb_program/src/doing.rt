@@ -14,7 +14,7 @@ use crate::files::{FileFault, OpensFiles};
 use crate::keeping::{KeptRun, run_kept_with};
 use crate::put_back::PutBack;
 use crate::resuming::{history_from, resume_with};
-use crate::running::{DONE, INPUT_OR_OUTPUT_FAILED, NO_MEMORY, run_with};
+use crate::running::{BAD_COMMAND_LINE, DONE, INPUT_OR_OUTPUT_FAILED, NO_MEMORY, run_with};
 use crate::serving::{serve_history, serve_on};
 use crate::upgrading::upgrade_with;
 use std::alloc::Global;
@@ -225,18 +225,26 @@ pub fn do_asked<
                 run_with(alloc, reader, writer, mover)
             }
         }
-        Asked::RunKept { journal, .. } => {
-            run_kept::<D, J, PutBack<S>, W, M>(
-                alloc,
-                files,
-                journal.as_str(),
-                reader,
-                writer,
-                mover,
-            )
+        Asked::RunKept {
+            journal, resume, ..
+        } => {
+            if resume {
+                BAD_COMMAND_LINE
+            } else {
+                run_kept::<D, J, PutBack<S>, W, M>(
+                    alloc,
+                    files,
+                    journal.as_str(),
+                    reader,
+                    writer,
+                    mover,
+                )
+            }
         }
         Asked::Check => check_with(alloc, reader, writer, mover),
         Asked::Upgrade => upgrade_with(alloc, reader, writer, mover),
+        Asked::Compact { .. } => BAD_COMMAND_LINE,
+        Asked::ServeKept { .. } => BAD_COMMAND_LINE,
         Asked::Serve {
             port,
             seats,

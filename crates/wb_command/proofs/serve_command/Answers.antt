@@ -1,7 +1,7 @@
 use Rattle.std.proofs.Common.{rules, codes}
 use Rattle.std.proofs.lemmas.Result.{IfOk-weaker}
 use Rattle.clap.specs.Simple.{new_shape}
-use Rattle.wb_command.specs.Asks.{port_option, seats_option, resume_option, workers_option}
+use Rattle.wb_command.specs.Asks.{port_option, seats_option, resume_option, journal_option, workers_option}
 use Rattle.wb_command.proofs.Built.{IsAs, option_added}
 use Rattle.wb_command.proofs.serve_command.Goals as goal
 
@@ -11,5 +11,7 @@ returns c =
     let one = option_added c.after_help.result c.in_ok-arg.field-0 c.port_option.result _ port_option c.in_ok-arg.ensures none c.port_option.ensures in
     let two = option_added c.in_ok-arg.field-0 c.in_ok-arg-2.field-0 c.seats_option.result _ seats_option c.in_ok-arg-2.ensures one c.seats_option.ensures in
     let three = option_added c.in_ok-arg-2.field-0 c.in_ok-arg-3.field-0 c.resume_flag.result _ resume_option c.in_ok-arg-3.ensures two c.resume_flag.ensures in
-    IfOk-weaker c.arg-4.result _ _
-    (λ r added. option_added c.in_ok-arg-3.field-0 r c.workers_option.result _ workers_option added three c.workers_option.ensures) c.arg-4.ensures
+    let four = option_added c.in_ok-arg-3.field-0 c.in_ok-arg-4.field-0 c.journal_option.result _ journal_option c.in_ok-arg-4.ensures three
+    c.journal_option.ensures in
+    IfOk-weaker c.arg-5.result _ _
+    (λ r added. option_added c.in_ok-arg-4.field-0 r c.workers_option.result _ workers_option added four c.workers_option.ensures) c.arg-5.ensures
