@@ -8,7 +8,7 @@ import signal
 import subprocess
 import sys
 from pathlib import Path
-from typing import Any, Dict, List
+from typing import Any, Dict, List, Optional
 
 HERE = Path(__file__).resolve()
 sys.path.insert(0, str(HERE.parents[1]))  # the package beside the tests, installed or not
@@ -31,12 +31,13 @@ PROGRAM = program()
 class Server:
     """`workbook serve` on a free port. It ends once each of its seats was taken and left."""
 
-    def __init__(self, seats: int = 2):
+    def __init__(self, seats: int = 2, port: int = 0, resume: Optional[str] = None):
         self.seats = seats
-        self._process = subprocess.Popen(
-            [PROGRAM, "serve", "--port", "0", "--seats", str(seats)], stdout=subprocess.PIPE
-        )
-        assert self._process.stdout is not None
+        words = [PROGRAM, "serve", "--port", str(port), "--seats", str(seats), *(["--resume"] if resume is not None else [])]
+        self._process = subprocess.Popen(words, stdin=subprocess.PIPE, stdout=subprocess.PIPE)
+        assert self._process.stdin is not None and self._process.stdout is not None
+        self._process.stdin.write((resume or "").encode())
+        self._process.stdin.close()
         self._told = self._process.stdout
         self.port = int(self._told.readline().rsplit(b":", 1)[1])
         self._taken: List[Workbook] = []

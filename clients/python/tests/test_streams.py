@@ -24,8 +24,11 @@ class RedisAlike(socketserver.ThreadingTCPServer):
 
     daemon_threads = True
 
-    def __init__(self, answers: bool, workers: int = 0):
-        super().__init__(("127.0.0.1", 0), Talk)
+    allow_reuse_address = True
+
+    def __init__(self, answers: bool, workers: int = 0, port: int = 0):
+        self.talks: List[socket.socket] = []
+        super().__init__(("127.0.0.1", port), Talk)
         self.url = f"redis://127.0.0.1:{self.server_address[1]}"
         self.workers = workers
         self.more = threading.Condition()
@@ -56,6 +59,11 @@ class RedisAlike(socketserver.ThreadingTCPServer):
     def close(self) -> None:
         self.shutdown()
         self.server_close()
+        for talk in self.talks:
+            try:
+                talk.shutdown(socket.SHUT_RDWR)
+            except OSError:  # it has ended
+                pass
         if self.program is not None:
             self.program.kill()
             self.program.communicate()
@@ -67,6 +75,7 @@ class Talk(socketserver.StreamRequestHandler):
     server: RedisAlike
 
     def handle(self) -> None:
+        self.server.talks.append(self.connection)
         while True:
             head = self.rfile.readline()
             if not head:

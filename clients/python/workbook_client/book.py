@@ -38,6 +38,8 @@ class Workbook:
         """The latest edit of this session: of `A[4] = 9` or `A += B`, which are no expressions."""
         self.steps = turning.Steps(self)
         self._pipeline: Optional[Pipeline] = None
+        self._anew: Optional[Callable[[], Workbook]] = None
+        self._tell: Optional[Callable[[str], object]] = None
 
     # --- the session
 
@@ -128,6 +130,7 @@ class Workbook:
             book.close()
             raise
         channel.timeout = timeout
+        book._anew = lambda: cls.connect(host, port, wait, timeout)
         return book
 
     @classmethod
@@ -137,13 +140,29 @@ class Workbook:
         A request is answered once a worker has the workbook, however late; `timeout` is how long a reply is waited for.
         """
         channel = StreamChannel(url, name, timeout)
-        return cls(channel, "me", alone=False, where=channel.where)
+        book = cls(channel, "me", alone=False, where=channel.where)
+        book._anew = lambda: cls.stream(url, name, timeout)
+        return book
 
     def tell_waits(self, tell: Callable[[str], object]) -> None:
         """What is done with the words on a long wait for a worker; without this they are a warning."""
+        self._tell = tell
         channel = self.exchange.channel
         if isinstance(channel, StreamChannel):
             channel.tell = tell
+
+    def again(self) -> List[Request]:
+        """Begins the session anew, after `SessionEnded`, with the shared workbook that is at the same place now: at a desk by
+        another seat. Gives the requests that had no reply: they may have been done, and aren't sent again. `SessionEnded` where
+        nobody is there, or the workbook was this session's own. `hearing.hear_again` tells whether it is the same workbook."""
+        if self._anew is None:
+            raise SessionEnded("the workbook was this session's own, and has ended with its program")
+        lost, other = self.exchange.on_their_way(), self._anew()
+        self.exchange.close()
+        self.exchange = Exchange(other.exchange.channel, self._hint)
+        if self._tell is not None:
+            self.tell_waits(self._tell)
+        return lost
 
     def close(self) -> None:
         """Ends the session. What the program was still to answer isn't waited for."""

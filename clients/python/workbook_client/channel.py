@@ -81,6 +81,15 @@ class Channel:
         """Why nothing comes any more."""
         return "the session has ended"
 
+    def is_gone(self) -> bool:
+        """Whether the other side has ended, as far as that is known without waiting."""
+        if not (self.closed or self._ended or self._torn):
+            waits = select.poll()
+            waits.register(self._in, select.POLLIN)
+            if waits.poll(0):
+                self._read()
+        return self.closed or self._ended or self._torn
+
     def close(self) -> None:
         """Ends the session."""
         self.closed = True

@@ -161,6 +161,10 @@ class Exchange:
         """How many requests have no reply yet."""
         return len(self._waiting)
 
+    def on_their_way(self) -> List[Request]:
+        """The requests that have no reply yet, in their order."""
+        return [reading.request for reading, _, _ in self._waiting]
+
     def close(self) -> None:
         """Ends the session."""
         self.channel.close()

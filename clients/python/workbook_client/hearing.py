@@ -87,6 +87,51 @@ def find_new(book: "Workbook") -> bool:
         number, many = number + many, min(2 * many, AT_ONCE)
 
 
+class News(NamedTuple):
+    """What became of a workbook since this session last heard of it."""
+
+    edits: int
+    """How many edits it has."""
+    known: int
+    """How many this session knew."""
+    other: bool
+    """Whether it is another history: edits that were known aren't there."""
+    came: List[int]
+    """Edits that are new."""
+    undone: List[int]
+    redone: List[int]
+
+    @property
+    def none(self) -> bool:
+        """Whether nothing was done meanwhile."""
+        return not (self.other or self.came or self.undone or self.redone)
+
+
+def hear_again(book: "Workbook") -> News:
+    """Hears of every edit of a workbook that was away, by the text of its history. Of another history all is heard anew."""
+    past, known = read(book.history_text()), dict(book.edits)
+    was = {number: edit.was_in_force for number, edit in known.items()}
+    other = any(number not in past.edits or not _alike(edit.what, past.edits[number][1]) for number, edit in known.items())
+    if other:
+        book.edits.clear()
+    note(book, past, "another")
+    now = {number: in_force for number, (in_force, _) in past.edits.items()}
+    return News(
+        len(now), max(known, default=0), other, [k for k in now if k > max(known, default=0)],
+        [k for k, on in was.items() if on and not now.get(k, True)], [k for k, on in was.items() if not on and now.get(k, False)],
+    )
+
+
+def _alike(words: str, request: Request) -> bool:
+    """Whether a history's request may be the one of these words, of which literals may be spelled otherwise."""
+    return not words or _without_literals(words) == _without_literals(requests.in_words(request))
+
+
+def _without_literals(words: str) -> str:
+    before = words.partition("{")[0].partition(" dmapped ")[0]
+    return before.partition("[")[0] if ".." in before else before
+
+
 def _known(book: "Workbook", number: int, in_force: bool, who: str = "another") -> Edit:
     edit = book.edits.setdefault(number, Edit(book, "", who, number))
     edit.was_in_force = in_force

@@ -1,6 +1,7 @@
 """Redis, as far as a log of requests needs it: words out, replies in."""
 
 import re
+import select
 import socket
 from typing import Any, List, NamedTuple, Sequence, Union
 from urllib.parse import unquote, urlsplit
@@ -86,6 +87,17 @@ class Redis:
             raise RedisGone(f"the connection to {self.where} broke: {fault}") from fault
         self._torn = False
         return replies
+
+    def is_gone(self) -> bool:
+        """Whether the connection has ended, as far as that is known without waiting."""
+        if not self._torn:
+            waits = select.poll()
+            waits.register(self._socket, select.POLLIN)
+            try:
+                self._torn = bool(waits.poll(0)) and not self._socket.recv(1, socket.MSG_PEEK)
+            except OSError:
+                self._torn = True
+        return self._torn
 
     def close(self) -> None:
         self._torn = True

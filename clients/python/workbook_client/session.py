@@ -1,7 +1,6 @@
 """The session for people: a prompt, a short language, tables, and refusals in words."""
 
 import io
-import re
 import shutil
 import sys
 import textwrap
@@ -11,7 +10,7 @@ from . import files, hearing, hints, labels, sheets
 from . import literals as lit
 from .book import Workbook
 from .edits import Cascade, Edit
-from .errors import SessionEnded, WorkbookError
+from .errors import NotTakenBack, SessionEnded, WorkbookError
 from .labels import WAYS
 from .language import Command, LanguageError, parse
 from .literals import Index
@@ -95,7 +94,7 @@ class Session:
     def place(self) -> str:
         """Where the workbook lies, and whether it is kept."""
         if not self.book.alone:
-            return f"a workbook that others share, at {re.sub('//[^/]*@', '//', self.book.where)}"
+            return f"a workbook that others share, at {self.book.where}"
         if self.book.journal is None:
             return "this workbook is kept nowhere: keep FILE writes its history, and --journal FILE keeps each change"
         edits = self._now()
@@ -134,6 +133,8 @@ class Session:
         except (WorkbookError, ValueError, TypeError, OSError) as wrong:
             self.failed = True
             self.wrapped(str(wrong))
+            if isinstance(wrong, NotTakenBack) and isinstance(wrong.why, SessionEnded):
+                raise wrong.why
         return True
 
     def point(self, text: str, wrong: LanguageError, prompt: str) -> None:

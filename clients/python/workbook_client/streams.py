@@ -1,5 +1,6 @@
 """Lines out to a workbook's log in Redis, and its replies in."""
 
+import re
 import time
 import uuid
 import warnings
@@ -23,7 +24,7 @@ class StreamChannel(Channel):
     """A caller of a workbook whose requests stand in a log, and are answered by whichever worker has the workbook."""
 
     def __init__(self, url: str, name: str, timeout: Optional[float] = None):
-        self.where = f"{url} {name}"
+        self.where = f"{re.sub('//[^/]*@', '//', url)} {name}"
         self.timeout = timeout
         self.closed = False
         self._name, self._caller = name, uuid.uuid4().hex
@@ -99,6 +100,9 @@ class StreamChannel(Channel):
 
     def why(self) -> str:
         return f"{self.where} answers no more"
+
+    def is_gone(self) -> bool:
+        return self.closed or self._redis.is_gone()
 
     def close(self) -> None:
         if self.closed:

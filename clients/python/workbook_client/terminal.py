@@ -6,7 +6,7 @@ import os
 import sys
 from typing import Any, List, NamedTuple, Optional, TextIO, Union
 
-from . import log
+from . import away, log
 from .book import Workbook
 from .errors import NoProgram, NotResumed, SessionEnded, WorkbookError
 from .language import WORDS
@@ -15,6 +15,8 @@ from .refusals import Refusal
 from .session import Session
 
 PROMPT = "workbook> "
+WITHOUT = ("", "quit", "exit", "help")
+"""Lines that ask a workbook nothing."""
 
 
 def _completer(book: Workbook) -> Any:
@@ -69,11 +71,8 @@ def converse(session: Session) -> int:
                 if may_leave(session):
                     return 0
                 continue
-            try:
-                if not session.line(text, PROMPT) and may_leave(session):
-                    return 0
-            except KeyboardInterrupt:
-                session.say("  (not waited for; its reply is read before the next)")
+            if not answered(session, text) and may_leave(session):
+                return 0
     finally:
         if path:
             import readline
@@ -82,6 +81,23 @@ def converse(session: Session) -> int:
                 readline.write_history_file(path)
             except OSError:
                 pass
+
+
+def answered(session: Session, text: str) -> bool:
+    """Runs a line that was typed. False where it asks for the end. A shared workbook that is away is waited for: a line that wasn't
+    sent is run then, unless something was done meanwhile."""
+    if text.strip() not in WITHOUT and away.is_gone(session):
+        news = away.come_back(session, SessionEnded(session.book.exchange.channel.why()))
+        if not news.none:
+            session.wrapped("the line wasn't run, since that was before it: type it again, if it is still meant")
+            return True
+    try:
+        return session.line(text, PROMPT)
+    except SessionEnded as end:
+        away.come_back(session, end)
+    except KeyboardInterrupt:
+        session.say("  (not waited for; its reply is read before the next)")
+    return True
 
 
 def may_leave(session: Session) -> bool:
@@ -109,8 +125,12 @@ def script(session: Session, lines: TextIO, keep_going: bool) -> int:
     for text in lines:
         text = text.rstrip("\r\n")
         session.say(f"> {text}" if text else "")
-        if not session.line(text, "> "):
-            break
+        try:
+            if not session.line(text, "> "):
+                break
+        except SessionEnded:
+            away.tell_unanswered(session)
+            raise
         if session.failed:
             status = 1
             if not keep_going:

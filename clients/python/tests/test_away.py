@@ -1,0 +1,181 @@
+"""A shared workbook that goes away under a session, and is there again or not."""
+
+import io
+import unittest
+from typing import Optional
+
+from tests.support import PROGRAM, Server, Terminal
+from tests.test_streams import RedisAlike
+from workbook_client import SessionEnded, Workbook, away, hearing
+from workbook_client.hearing import News
+from workbook_client.session import Session
+
+ONCE = "chapel-workbook 2\nrect D {1..4} none\nhistory 1\n+ {\"d\":\"D\",\"is\":\"{1..4}\",\"map\":\"none\",\"op\":\"domain\"}\nend\n"
+"""The history of a domain alone."""
+
+
+class AtATerminal(unittest.TestCase):
+    def setUp(self) -> None:
+        self.server = Server(seats=2)
+        self.addCleanup(self.server.close)
+        self.terminal = Terminal("workbook_client", "--connect", f"127.0.0.1:{self.server.port}")
+        self.addCleanup(self.terminal.close)
+        self.terminal.until("workbook> ")
+        self.types("D = {1..<5}", "edit 1")
+        self.types("A over D", "edit 2")
+        self.types("A[1..2] = 5", "edit 3")
+        self.types("undo 3", "taken back")
+
+    def types(self, line: str, words: str) -> str:
+        """What a line gives, up to the next prompt, in which the words are."""
+        self.terminal.types(line + "\n")
+        told = self.flat(self.terminal.until("workbook> "))
+        self.assertIn(words, told)
+        return told
+
+    def flat(self, told: str) -> str:
+        return " ".join(told.split())
+
+    def history(self) -> str:
+        with self.server.connect() as book:
+            return book.history_text()
+
+    def restarts(self, resume: Optional[str]) -> None:
+        """The server ends and another one is there, at the same place."""
+        self.server.kill()
+        again = Server(seats=2, port=self.server.port, resume=resume)
+        self.addCleanup(again.close)
+
+    def test_it_is_there_again_as_it_was(self):
+        self.restarts(self.history())
+        told = self.types("A[1] = 7", "there again, with 3 edits; nothing was done meanwhile")
+        self.assertIn("has closed the connection", told)
+        self.assertIn("edit 4, 1 cell", told)  # the line is run
+        told = self.types("history", "A[1] = 7")
+        self.assertEqual((told.count("│ me"), told.count("another")), (4, 0))
+
+    def test_a_line_is_not_run_where_something_was_done(self):
+        """It was typed by somebody who didn't know."""
+        with self.server.connect() as book:
+            book["A"][4] = 9
+            book.redo(3)
+            text = book.history_text()
+        self.restarts(text)
+        told = self.types("undo", "there again, with 4 edits new: edit 4 (A[4] = 9) put in force again meanwhile: 3")
+        self.assertIn("the line wasn't run", told)
+        self.types("A[4]", " 9 ")
+        self.types("undo", "edit 4 of another seat is taken back")
+
+    def test_another_workbook_is_there(self):
+        self.restarts(None)
+        self.types("A[1] = 7", "there again, with 0 edits. It isn't the workbook that this session knew, which had 3 edits")
+        self.types("history", "no edits yet")
+        self.types("D = {1..2}", "edit 1, 3 cells")
+
+    def test_it_is_waited_for(self):
+        text = self.history()
+        self.server.kill()
+        self.terminal.types("A[1] = 7\n")
+        told = self.flat(self.terminal.until("nobody listens"))
+        self.assertIn("it is tried again, and the session goes on where it is there; Ctrl-C ends the session", told)
+        again = Server(seats=2, port=self.server.port, resume=text)
+        self.addCleanup(again.close)
+        told = self.flat(self.terminal.until("workbook> "))
+        self.assertEqual((told.count("nobody listens"), "edit 4, 1 cell" in told), (0, True))
+
+    def test_ctrl_c_ends_it(self):
+        self.server.kill()
+        self.terminal.types("A[1] = 7\n")
+        self.terminal.until("Connection refused")
+        self.terminal.interrupt()
+        told = self.flat(self.terminal.until("was away"))
+        self.assertIn(f"workbook_client: left, while 127.0.0.1:{self.server.port} was away", told)
+        self.assertNotIn("Traceback", told)
+        self.assertEqual(self.terminal.ends(), 3)
+
+    def test_it_can_be_left_at_once(self):
+        self.server.kill()
+        self.terminal.types("quit\n")
+        self.assertEqual(self.terminal.ends(), 0)
+
+
+class Answers(unittest.TestCase):
+    """What is told of lines that were sent, and of what was done meanwhile."""
+
+    def session(self, book: Workbook) -> Session:
+        self.said = io.StringIO()
+        return Session(book, self.said, width=200)
+
+    def told(self) -> str:
+        return " ".join(self.said.getvalue().split())
+
+    def test_lines_that_were_sent(self):
+        server = Server(seats=2)
+        self.addCleanup(server.close)
+        book = server.connect()
+        self.addCleanup(book.close)
+        A = book.array("A", book.domain("D", range(1, 5)))
+        session = self.session(book)
+        server.kill()
+        try:
+            with book.pipeline() as sent:
+                A[1] = 5
+                sent.get(A, 1)
+                A.copy(2, A, 1)
+                for i in range(6):
+                    A[4] = i
+        except SessionEnded:
+            pass
+        away.tell_unanswered(session)
+        self.assertEqual(self.told(), "sent and not answered, so perhaps done: A[1] = 5; A[2] = A[1]; A[4] = 0; A[4] = 1; A[4] = 2; and 3 more")
+        again = Server(seats=1, port=server.port, resume=ONCE)
+        self.addCleanup(again.close)
+        self.assertEqual(len(book.again()), 9)
+        self.assertEqual(hearing.hear_again(book), News(1, 2, True, [], [], []))
+        self.assertEqual((list(book.edits), book["D"].size), ([1], 4))
+
+    def test_a_workbook_of_ones_own_is_not_there_again(self):
+        with Workbook.run(PROGRAM) as book:
+            book.domain("D", range(1, 5))
+            self.assertFalse(book.exchange.channel.is_gone())
+            with self.assertRaisesRegex(SessionEnded, "has ended with its program"):
+                book.again()
+            with self.assertRaisesRegex(SessionEnded, "why"):
+                away.come_back(self.session(book), SessionEnded("why"))
+        self.assertEqual((self.told(), book.exchange.channel.is_gone()), ("", True))
+
+    def test_a_seat_that_is_cut(self):
+        """The desk is there: another seat is taken, and none where none is left."""
+        server = Server(seats=2)
+        self.addCleanup(server.close)
+        book = server.connect()
+        book.domain("D", range(1, 5))
+        book.exchange.channel.close()
+        self.assertEqual(book.again(), [])
+        self.assertTrue(hearing.hear_again(book).none)
+        self.assertEqual([e.who for e in book.history()], ["me"])
+        book._anew = lambda: Workbook.connect("127.0.0.1", server.port, wait=0.3)
+        with self.assertRaisesRegex(SessionEnded, "all its seats are taken"):
+            book.again()
+        book.close()
+
+    def test_a_log(self):
+        redis = RedisAlike(answers=True)
+        self.addCleanup(redis.close)
+        with Workbook.stream(redis.url.replace("//", "//me:secret@"), "plan") as book:
+            book.domain("D", range(1, 5))
+            self.assertFalse(book.exchange.channel.is_gone())
+            redis.close()
+            self.assertTrue(book.exchange.channel.is_gone())
+            self.assertNotIn("secret", book.exchange.channel.why())
+            with self.assertRaisesRegex(SessionEnded, "no redis at"):
+                book.again()
+            again = RedisAlike(answers=True, port=redis.server_address[1])
+            self.addCleanup(again.close)
+            self.assertEqual(book.again(), [])
+            self.assertTrue(hearing.hear_again(book).other)
+            self.assertEqual(book.edits, {})
+
+
+if __name__ == "__main__":
+    unittest.main()
