@@ -28,6 +28,16 @@ def program() -> str:
 PROGRAM = program()
 
 
+def with_journal(word: str) -> Any:
+    """A program whose command `serve` or `compact` takes a journal: the program, or what stands in where its command doesn't."""
+    try:
+        told = subprocess.run([PROGRAM, word, "--help"], capture_output=True, text=True).stdout
+    except OSError:
+        told = ""
+    takes = "--journal" in told if word == "serve" else bool(told)
+    return PROGRAM if takes else [sys.executable, str(HERE.with_name("kept_desk.py")), PROGRAM, word]
+
+
 class Server:
     """`workbook serve` on a free port. It ends once each of its seats was taken and left."""
 

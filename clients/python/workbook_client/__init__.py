@@ -26,6 +26,7 @@ from .errors import (
 )
 from .exchange import Reading
 from .literals import block, block_cyclic, cyclic
+from .journal import Compacted, compact
 from .objects import Array, Domain
 from .refusals import (
     BadLiteral,
@@ -51,15 +52,16 @@ from .refusals import (
     TooLarge,
     WrongKind,
 )
+from .serving import Served
 from .snapshot import Snapshot
 
 __version__ = "0.1.0"
 
 __all__ = [
-    "Array", "BadLiteral", "BadMapping", "BadRequest", "Blocked", "Cascade", "Domain", "Edit",
+    "Array", "BadLiteral", "BadMapping", "BadRequest", "Blocked", "Cascade", "Compacted", "Domain", "Edit",
     "Empty", "InForce", "InUse", "LineTooLong", "NameTaken", "NoAnswer", "NoMemory", "NoProgram",
     "NoSeat", "NoServer", "NoSuchEdit", "NoSuchName", "NotEmpty", "NotInForce", "NotOpened", "NotResumed",
     "NotTakenBack", "OutOfDomain", "OutOfParent", "Overflow", "Pipeline", "Reading", "Refusal", "RefusedInPlace",
-    "SessionEnded", "Snapshot", "StrangePass", "StrangeReply", "TooLarge", "Workbook",
-    "WorkbookError", "WrongKind", "block", "block_cyclic", "cyclic",
+    "Served", "SessionEnded", "Snapshot", "StrangePass", "StrangeReply", "TooLarge", "Workbook",
+    "WorkbookError", "WrongKind", "block", "block_cyclic", "compact", "cyclic",
 ]

@@ -14,6 +14,7 @@ from .objects import Array, Domain, ours
 from .rebuilding import rebuild
 from .refusals import LineTooLong, NoSuchName, NotEmpty, WrongKind
 from .requests import Request
+from .serving import Served
 from .snapshot import Snapshot
 from .streams import StreamChannel
 
@@ -99,6 +100,18 @@ class Workbook:
             raise
         channel.timeout = timeout
         return book
+
+    @classmethod
+    def serve(
+        cls, seats: int = 2, port: int = 0, journal: Optional[journals.Path] = None, resume: Optional[str] = None,
+        program: Optional[Program] = None,
+    ) -> Served:
+        """Starts a desk, `workbook serve`, on 127.0.0.1: so many seats, 1 to 16, of one workbook, on a port or on any free one. With
+        a `journal` each change is kept there, on the disk, before its reply comes, and the next desk or session goes on from it;
+        else the workbook is empty, or goes on from a history's text. `place()` of what is given says where it lies."""
+        if journal is not None and resume is not None:
+            raise ValueError("a workbook goes on from a history or from its journal, not from both")
+        return Served(cls.connect, seats, port, journal, resume, program)
 
     @classmethod
     def connect(

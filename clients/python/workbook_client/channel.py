@@ -148,7 +148,9 @@ class ProgramChannel(Channel):
 
     def __init__(self, program: Optional[Program] = None):
         words = command(program)
-        self._said = _scratch()
+        self.program = words[0] if words[1:2] == ["run"] else None
+        """The program, where it is one that was found."""
+        self._said = scratch()
         """What the program writes to standard error, where this client could have it."""
         try:
             # A process group of its own: Ctrl-C at a prompt is for the client, not for the program.
@@ -179,11 +181,7 @@ class ProgramChannel(Channel):
 
     def words(self) -> str:
         """The last line that the program wrote to standard error."""
-        if self._said is None or self._said.closed:
-            return ""
-        self._said.seek(0)
-        told = self._said.read().decode(errors="replace").strip()
-        return told.rpartition("\n")[2][:LONGEST_WORDS]
+        return last_words(self._said)
 
     def close(self) -> None:
         if self.closed:
@@ -201,12 +199,20 @@ class ProgramChannel(Channel):
             self._said.close()
 
 
-def _scratch() -> Optional[IO[bytes]]:
+def scratch() -> Optional[IO[bytes]]:
     """A file without a name; None where there is no room for one."""
     try:
         return tempfile.TemporaryFile()
     except OSError:
         return None
+
+
+def last_words(said: Optional[IO[bytes]]) -> str:
+    """The last line that a program wrote to a file."""
+    if said is None or said.closed:
+        return ""
+    said.seek(0)
+    return said.read().decode(errors="replace").strip().rpartition("\n")[2][:LONGEST_WORDS]
 
 
 class SocketChannel(Channel):
@@ -235,9 +241,9 @@ BUILT = Path(__file__).resolve().parents[3] / "crates" / "workbook" / "out" / "w
 """The program that the repository has built, where this package lies in it."""
 
 
-def command(program: Optional[Program] = None) -> List[str]:
-    """The words that start the program: as given, else WORKBOOK_PROGRAM, else `workbook` on the
-    path, else the one that the repository has built."""
+def command(program: Optional[Program] = None, word: str = "run") -> List[str]:
+    """The words that start a command of the program: as given, where they are a list of words; else the program that is given, or
+    that WORKBOOK_PROGRAM names, or `workbook` on the path, or the one that the repository has built, and the command's word."""
     if program is not None and not isinstance(program, str):
         return list(program)
     wanted = program or os.environ.get("WORKBOOK_PROGRAM")
@@ -250,4 +256,4 @@ def command(program: Optional[Program] = None) -> List[str]:
             "WORKBOOK_PROGRAM); in the repository it is crates/workbook/out/workbook once `rt` "
             "has built it"
         )
-    return [found, "run"]
+    return [found, word]

@@ -12,7 +12,7 @@ from . import requests
 from .requests import Request
 
 COMMANDS = (
-    "cascade", "colours", "dependents", "drop", "exit", "export", "help", "history", "import", "keep", "label", "load", "max", "min",
+    "cascade", "colours", "compact", "dependents", "drop", "exit", "export", "help", "history", "import", "keep", "label", "load", "max", "min",
     "names", "piece", "quit", "redo", "save", "show", "size", "text", "undo", "where",
 )
 WORDS = COMMANDS + ("by", "align", "dmapped", "over", "sparse", "reduce", "int", "text", "irv", "rows", "columns")
@@ -68,7 +68,7 @@ def parse(line: str, kind_of: Callable[[str], Optional[str]]) -> Union[Request, 
     """The meaning of a line, None for an empty one. `kind_of` says "array", "domain" or None."""
     file = _FILE.match(line)
     if file:  # the rest of the line is a path, whatever its characters
-        if not file["path"]:
+        if not file["path"] and file["word"] != "compact":
             raise LanguageError(f"expected a file's name after {file['word']}", file.end())
         return Command(file["word"], (file["path"],))
     sheet = _SHEET.match(line)
@@ -80,7 +80,7 @@ def parse(line: str, kind_of: Callable[[str], Optional[str]]) -> Union[Request, 
 
 
 _NO_STATEMENT = r"\b(?!\.|\s*\[|\s*[-+*|&^]?=|\s+(?:over|sparse|dmapped)\b)\s*"  # nothing is called save, here
-_FILE = re.compile(rf"\s*(?P<word>save|load|keep){_NO_STATEMENT}(?P<path>.*?)\s*$")
+_FILE = re.compile(rf"\s*(?P<word>save|load|keep|compact){_NO_STATEMENT}(?P<path>.*?)\s*$")
 _SHEET = re.compile(rf"\s*(?P<word>import|export){_NO_STATEMENT}(?:(?P<name>[A-Za-z]\w*)\s+(?P<path>.+?))?(?(name)\s*$|.*$)", re.ASCII)
 
 

@@ -1,16 +1,18 @@
 """The session for people: a prompt, a short language, tables, and refusals in words."""
 
 import io
+import shlex
 import shutil
 import sys
 import textwrap
 from typing import Dict, List, Mapping, Optional, TextIO, Tuple
 
-from . import files, hearing, hints, labels, sheets
+from . import files, hearing, hints, journal, labels, sheets
 from . import literals as lit
 from .book import Workbook
+from .channel import ProgramChannel
 from .edits import Cascade, Edit
-from .errors import NotTakenBack, SessionEnded, WorkbookError
+from .errors import NotOpened, NotTakenBack, SessionEnded, WorkbookError
 from .labels import WAYS
 from .language import Command, LanguageError, parse
 from .literals import Index
@@ -52,6 +54,7 @@ Edits          history                       every edit: who, what, whether in f
 Files          save FILE    load FILE        the text of the workbook
                keep FILE                     the whole history, for --resume FILE
                import A FILE  export A FILE  a table of a spreadsheet, .csv or .tsv
+               compact FILE                  a journal file that nobody has open, made anew
 Remarks        // starts a remark            help lists all this
 End            quit    exit                  Ctrl-D does it too"""
 
@@ -347,6 +350,22 @@ class Session:
         else:
             numbers = f"edits {edits[0].number} to {edits[-1].number}"
             self.say(f"  {numbers}: {path}, built object by object")
+
+    def do_compact(self, path: str) -> None:
+        """A journal that is open can't be made anew, so of the session's own it is told how."""
+        own, channel = self.book.journal, self.book.exchange.channel
+        place = journal.place_of(path) if path else own
+        program = channel.program if isinstance(channel, ProgramChannel) else None
+        if place is None:
+            raise ValueError("this session has no journal file; `compact FILE` makes one anew that nobody has open")
+        if place == own:
+            how = shlex.join([program or "workbook", "compact", place])
+            raise ValueError(f"{place} is open in this session, so leave it first; then this makes it anew: {how}")
+        try:
+            done = journal.compact(place, program)
+        except NotOpened as no:  # another's file: this session goes on
+            raise ValueError(str(no)) from no
+        self.wrapped(f"{done.place}: {done.after:,} bytes, and {done.before:,} before")
 
     # --- refusals
 

@@ -28,7 +28,7 @@ MANY = 2000
 APART = 1.5
 """So many seconds lie between two looks at a shared workbook, however many pages are open."""
 TERMINAL_ALONE = {
-    **dict.fromkeys(("save", "load", "keep", "import", "export"), "Files are for the terminal; the links above give the texts."),
+    **dict.fromkeys(("save", "load", "keep", "import", "export", "compact"), "Files are for the terminal; the links above give the texts."),
     "colours": "Colours by locale are the box above.",
     "label": "Titles are for the session at the terminal.",
     "quit": "The page is closed in the browser; its server ends by Ctrl-C in the terminal.",

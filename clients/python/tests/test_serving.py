@@ -1,0 +1,183 @@
+"""Desks that the client starts, kept in a journal or nowhere, and journals that are made anew."""
+
+import io
+import os
+import re
+import subprocess
+import sys
+import tempfile
+import time
+import unittest
+
+from tests.support import HERE, PROGRAM, with_journal
+from workbook_client import NoProgram, NoSeat, NotOpened, NotResumed, SessionEnded, Workbook, compact
+from workbook_client.language import Command, LanguageError, parse
+from workbook_client.session import Session
+
+PACKAGE = HERE.parents[1]
+EMPTY = "chapel-workbook 2\nhistory 0\nend\n"
+
+
+class Files(unittest.TestCase):
+    def setUp(self) -> None:
+        place = tempfile.TemporaryDirectory()
+        self.addCleanup(place.cleanup)
+        self.place = os.path.realpath(place.name)
+        self.path = os.path.join(self.place, "plan.wb")
+
+    def write(self, name: str, text: str) -> str:
+        path = os.path.join(self.place, name)
+        with open(path, "w", encoding="utf-8", newline="") as file:
+            file.write(text)
+        return path
+
+    def kept_plan(self) -> str:
+        """A journal with a few edits, of which one is undone; the text of its history."""
+        with Workbook.run(PROGRAM, journal=self.path) as book:
+            A = book.array("A", book.domain("D", range(1, 5)))
+            for i in range(8):
+                A.set(1, i).undo()
+                book.redo(3 + i)
+            book.undo(10)
+            return book.history_text()
+
+
+class Desks(Files):
+    def test_kept_nowhere(self):
+        with Workbook.serve(seats=2, program=PROGRAM) as desk:
+            self.assertEqual(desk.place(), f"127.0.0.1:{desk.port}, 2 seats: this workbook is kept nowhere; history_text() of a seat is all of it")
+            one, two = desk.connect(), desk.connect()
+            one.array("A", one.domain("D", range(1, 3)))[1] = 5
+            self.assertEqual((two["A"][1], two.where, desk.address), (5, desk.address, desk.address))
+            self.assertEqual(desk.settled(), "chapel-workbook 1\narray A over D [5, 0]\nrect D {1..2} none\nend\n")
+
+    def test_gone_on_from_a_history(self):
+        text = self.kept_plan()
+        with Workbook.serve(seats=1, resume=text, program=PROGRAM) as desk:
+            self.assertEqual(desk.connect().history_text(), text)
+            self.assertEqual(desk.settled(), text)
+
+    def test_kept_in_a_journal(self):
+        """Desk, session, desk: each goes on from where the one before was, also from one that was ended by force."""
+        with Workbook.serve(seats=2, journal=self.path, program=with_journal("serve")) as desk:
+            self.assertEqual(desk.place(), f"127.0.0.1:{desk.port}, 2 seats: each change is kept in {self.path}, before it is told")
+            one, two = desk.connect(), desk.connect()
+            A = one.array("A", one.domain("D", range(1, 3)))
+            A[1] = 5
+            two["A"].copy(2, two["A"], 1)
+            text = two.history_text()
+        with self.opened() as book:
+            self.assertEqual((book.history_text(), list(book["A"])), (text, [5, 5]))
+            book.cascade(3)
+        with Workbook.serve(seats=1, journal=self.path, program=with_journal("serve")) as desk:
+            self.assertEqual(list(desk.connect()["A"]), [0, 0])
+            self.assertIn("array A over D [0, 0]", desk.settled())
+
+    def opened(self) -> Workbook:
+        """The journal, once nobody has it open: the session below what stands in for a desk ends a moment after it."""
+        for _ in range(50):
+            try:
+                return Workbook.run(PROGRAM, journal=self.path)
+            except NotOpened:
+                time.sleep(0.1)
+        return Workbook.run(PROGRAM, journal=self.path)
+
+    def test_a_file_that_is_no_journal(self):
+        for text, why in (("milk, bread\n", "the file is no journal"), ("chapel-workbook 1\nend\n", "`load` makes its objects"),
+                          ('chapel-workbook 3\n {"op":"print"}\n#', "a line of it is no change that is accepted")):
+            path = self.write("list", text)
+            with self.assertRaisesRegex(NotOpened, "list isn't opened: .*" + why):
+                Workbook.serve(journal=path, program=with_journal("serve"))
+            with open(path, encoding="utf-8") as file:
+                self.assertEqual(file.read(), text)
+        with Workbook.run(PROGRAM, journal=self.path), self.assertRaisesRegex(NotOpened, "in use"):
+            Workbook.serve(journal=self.path, program=with_journal("serve"))
+
+    def test_what_is_no_desk(self):
+        for words, error, why in (
+            ("/no/such", NoProgram, "there is no program"), (self.place, NoProgram, "there is no program"),
+            ([sys.executable, "-c", "print('hello')"], SessionEnded, "no desk: it says b'hello"),
+            ([sys.executable, "-c", "import sys; sys.exit(4)"], SessionEnded, r"ended with status 4 \(no memory"),
+        ):
+            with self.subTest(words), self.assertRaisesRegex(error, why):
+                Workbook.serve(program=words)
+        with self.assertRaisesRegex(NotOpened, "older than this client"):
+            Workbook.serve(journal=self.path, program=[sys.executable, "-c", "import sys; sys.exit(2)"])
+        with self.assertRaisesRegex(NotResumed, "no history's"):
+            Workbook.serve(resume="milk, bread\n", program=PROGRAM)
+        with self.assertRaises(ValueError):
+            Workbook.serve(resume=EMPTY, journal=self.path)
+        with Workbook.serve(program=PROGRAM) as desk, self.assertRaisesRegex(SessionEnded, "ended with status"):
+            Workbook.serve(port=desk.port, program=PROGRAM)
+
+    def test_a_desk_that_is_closed(self):
+        desk = Workbook.serve(seats=1, program=PROGRAM)
+        book = desk.connect()
+        with self.assertRaises(NoSeat):
+            Workbook.connect(desk.host, desk.port, wait=0.3)
+        desk.close()
+        with self.assertRaises(SessionEnded):
+            book.counts()
+
+
+class Compacting(Files):
+    def test_the_same_edits(self):
+        text, before = self.kept_plan(), os.path.getsize(self.path)
+        program = with_journal("compact")
+        done = compact(self.path, program)
+        self.assertEqual((done.place, done.before, done.after), (self.path, before, os.path.getsize(self.path)))
+        if program == PROGRAM:  # what stands in makes nothing anew
+            self.assertLess(done.after, before)
+        with Workbook.run(PROGRAM, journal=self.path) as book:
+            self.assertEqual(book.history_text(), text)
+            book.redo(10)
+        self.assertEqual(os.listdir(self.place), ["plan.wb"])
+
+    def test_what_is_not_made_anew(self):
+        program = with_journal("compact")
+        with Workbook.run(PROGRAM, journal=self.path), self.assertRaisesRegex(NotOpened, "in use"):
+            compact(self.path, program)
+        with self.assertRaisesRegex(NotOpened, "list isn't opened: the file is no journal"):
+            compact(self.write("list", "milk, bread\n"), program)
+        with self.assertRaisesRegex(NotOpened, "gone isn't opened: No such file"):
+            compact(os.path.join(self.place, "gone"), program)
+        with self.assertRaisesRegex(NotOpened, "has no `compact`"):
+            compact(self.path, [sys.executable, "-c", "import sys; sys.exit(2)"])
+        with self.assertRaisesRegex(NoProgram, "can't be started"):
+            compact(self.path, ["/no/such"])
+        self.assertEqual(sorted(os.listdir(self.place)), ["list", "plan.wb"])
+
+    def say(self, book: Workbook, line: str) -> str:
+        session = Session(book, io.StringIO(), width=1000)
+        session.line(line)
+        return " ".join(str(getattr(session.out, "getvalue")()).split())
+
+    def test_the_word_of_the_session(self):
+        with Workbook.run(PROGRAM, journal=self.path) as book:
+            for line in ("compact", f"compact {self.path}"):
+                self.assertEqual(
+                    self.say(book, line),
+                    f"{self.path} is open in this session, so leave it first; then this makes it anew: {PROGRAM} compact {self.path}",
+                )
+            self.assertIn("gone isn't opened: No such file", self.say(book, f"compact {self.place}/gone"))
+        with Workbook.run(PROGRAM) as book:
+            self.assertIn("this session has no journal file", self.say(book, "compact"))
+            if with_journal("compact") == PROGRAM:
+                self.assertRegex(self.say(book, f"compact {self.path}"), r"plan.wb: \d+ bytes, and \d+ before")
+
+    def test_the_word_is_a_name_too(self):
+        self.assertEqual(parse("compact a b.wb ", lambda name: None), Command("compact", ("a b.wb",)))
+        self.assertEqual(parse("compact = {1..4}", lambda name: None), {"op": "domain", "d": "compact", "is": "{1..4}"})
+        with self.assertRaises(LanguageError):
+            parse("save", lambda name: None)
+
+    def test_a_session_where_the_journal_is_in_use_says_so(self):
+        with Workbook.run(PROGRAM, journal=self.path):
+            gone = subprocess.run([sys.executable, "-m", "workbook_client", "--program", PROGRAM, self.path], input="", capture_output=True,
+                                  text=True, cwd=PACKAGE, timeout=60)
+        self.assertEqual((gone.returncode, gone.stdout), (3, ""))
+        self.assertTrue(re.search("plan.wb isn't opened: the journal is in use", gone.stderr), gone.stderr)
+
+
+if __name__ == "__main__":
+    unittest.main()

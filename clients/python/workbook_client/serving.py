@@ -1,0 +1,124 @@
+"""A desk that this client started: `workbook serve`, whose seats share one workbook."""
+
+import subprocess
+from typing import IO, TYPE_CHECKING, Any, Callable, List, Optional
+
+from . import journal as journals
+from .channel import STATUSES, Program, command, last_words, scratch
+from .errors import NoProgram, NotOpened, NotResumed, SessionEnded
+
+if TYPE_CHECKING:
+    from .book import Workbook
+
+LISTENING = b"listening on "
+"""What a desk's first line begins with."""
+
+
+class Served:
+    """A desk. It ends by itself once each of its seats was taken and left, and else by `close`."""
+
+    def __init__(
+        self, take: "Callable[[str, int], Workbook]", seats: int, port: int, journal: Optional[journals.Path], resume: Optional[str],
+        program: Optional[Program],
+    ):
+        self._take = take
+        self.seats = seats
+        """How many seats it has, each of which is taken once."""
+        self.journal = None if journal is None else journals.place_of(journal)
+        """The file in which each change is kept before its reply comes; None where it is kept nowhere."""
+        self._books: "List[Workbook]" = []
+        words = _words(program, seats, port, self.journal, resume is not None)
+        self._said = scratch()
+        self._process = self._started(words)
+        assert self._process.stdin and self._process.stdout
+        self._told: IO[bytes] = self._process.stdout
+        if resume is not None:
+            self._process.stdin.write(resume.encode())
+        self._process.stdin.close()
+        self.host, self.port = "127.0.0.1", self._listening()
+
+    def _started(self, words: List[str]) -> "subprocess.Popen[bytes]":
+        try:
+            return subprocess.Popen(
+                words, stdin=subprocess.PIPE, stdout=subprocess.PIPE, stderr=self._said, start_new_session=True,
+            )
+        except OSError as fault:
+            if self._said is not None:
+                self._said.close()
+            raise NoProgram(f"{words[0]!r} can't be started: {fault}") from fault
+
+    def _listening(self) -> int:
+        """The port that the desk tells of."""
+        line = self._told.readline()
+        if line.startswith(LISTENING) and line[-6:].split(b":")[-1].strip().isdigit():
+            return int(line.rpartition(b":")[2])
+        if line and line != b"refused\n":
+            self.close()
+            raise SessionEnded(f"what was started is no desk: it says {line[:200]!r}")
+        raise self._not_there()
+
+    def _not_there(self) -> SessionEnded:
+        """Why the desk isn't there."""
+        status, words = self._process.wait(), last_words(self._said)
+        self.close()
+        if status == 1 and self.journal is None:
+            return NotResumed("the program refused the text: it is no history's")
+        if self.journal is not None and not words.startswith("workbook: input or output failed"):
+            return journals.not_opened(self.journal, status, words)
+        return SessionEnded(f"the desk has ended with status {status} ({words or STATUSES.get(status, 'it says nothing')})")
+
+    @property
+    def address(self) -> str:
+        """Where it listens, as `--connect` takes it."""
+        return f"{self.host}:{self.port}"
+
+    def place(self) -> str:
+        """Where the workbook lies, and whether it is kept."""
+        at = f"{self.address}, {self.seats} seat{'s' * (self.seats > 1)}"
+        if self.journal is None:
+            return f"{at}: this workbook is kept nowhere; history_text() of a seat is all of it"
+        return f"{at}: each change is kept in {self.journal}, before it is told"
+
+    def connect(self, timeout: Optional[float] = None) -> "Workbook":
+        """Takes the next seat."""
+        book = self._take(self.host, self.port)
+        book.exchange.channel.timeout = timeout
+        self._books.append(book)
+        return book
+
+    def settled(self) -> str:
+        """Leaves the seats that `connect` gave, waits until all are left, and gives the text that the desk ends with: that of the
+        workbook, or of the history where it went on from one. `SessionEnded` where the desk ended in another way."""
+        for book in self._books:
+            book.close()
+        first, _, text = self._told.read().decode().partition("\n")
+        if self._process.wait() or not first.startswith("settled "):
+            raise self._not_there()
+        return text
+
+    def close(self) -> None:
+        """Ends it, whoever still has a seat. With a journal nothing is lost that was answered."""
+        for book in self._books:
+            book.close()
+        self._process.kill()
+        self._process.wait()
+        self._told.close()
+        if self._said is not None:
+            self._said.close()
+
+    def __enter__(self) -> "Served":
+        return self
+
+    def __exit__(self, *_: Any) -> None:
+        self.close()
+
+    def __repr__(self) -> str:
+        return f"<a desk at {self.place()}>"
+
+
+def _words(program: Optional[Program], seats: int, port: int, journal: Optional[str], resumes: bool) -> List[str]:
+    """The words that start it."""
+    words = [*command(program, "serve"), "--port", str(port), "--seats", str(seats)]
+    if journal is not None:
+        words += ["--journal", journal]
+    return words + (["--resume"] if resumes else [])
