@@ -5,12 +5,18 @@ import os
 import re
 import tempfile
 import unittest
+from typing import Any, List
 
 from tests.support import HERE, PROGRAM
 from workbook_client import Array, OutOfDomain, Workbook, WrongKind, sheets
 from workbook_client.language import LanguageError, parse
 from workbook_client.session import Session
 from workbook_client.tables import Looks, elements_table, pointed
+
+try:
+    import pandas
+except ImportError:
+    pandas = None  # type: ignore[assignment]
 
 HOURS = "who,Mon,Tue,Wed\nAda,8,8,0\nEmmy,4,0,-6\n"
 TWICE = ",a,a\n1,5,6\n2,7,8\n"
@@ -112,6 +118,7 @@ class In(Sheets):
             ("Mon,2,3\n4,5,6\n7,8,9\n", "3 rows of numbers"), ("2021,5,-6,7\nBen,8,9,10\n", "4 columns of numbers"),
             ("0,7,8,9\n1,4,5,6\n2,7,8,9\n", "the file has 3 rows of numbers"), ("7,1,2,3\n9,4,5,6\n8,7,8,9\n", "4 columns of numbers"),
             ("1,2,3\n4,1.5,6\n", "row 2, column 2: '1.5' is no whole number; whole numbers only: 1.5 isn't one"),
+            ("\n1,2,3\n\n4,1.5,6\n", "row 4, column 2: '1.5' is"), ("\n\n1,2,3\n4,5\n", "row 4 has 2 cells, and row 3 has 3"),
             ("1,2,3\n4,,6\n", "row 2, column 2 is empty"), ("Mon,Tue,Wed\n1,2,3\n4,5,x\n", "row 3, column 3: 'x' is no"),
             ("a,1,2,3\nb,4,5,1e3\n", "row 2, column 4: '1e3'"), ('1,2,3\n4,"1,000",6\n', "row 2, column 2: '1,000'"),
             ("1,2,3\n4,5,9223372036854775808\n", "row 2, column 3: a number has 64 bits at most"), ("1,2,3\n4,5," + "9" * 5000, "64 bits"),
@@ -142,7 +149,7 @@ class In(Sheets):
         before = wb.counts()
         for array, text, why in (
             (P, "Ada,1\nAda,2\n", "row 2: the index Ada stands there twice"), (P, "1\n2\n", "2 rows and 1 column, and the array 3 elements"),
-            (P, "a,b,c\nAda,1,2\n", "2 columns are wanted"), (P, "Ada,1\nBen,1.5\n", "row 2, column 2"), (P, "Ada,1.5\n", "row 1, column 2"),
+            (P, "a,b,c\nAda,1,2\n", "2 columns are wanted"), (P, "Ada,1\nBen,1.5\n", "row 2, column 2"), (P, "who,h\n\nBen,x\n", "row 3, column 2"), (P, "Ada,1.5\n", "row 1, column 2"),
             (P, 'A"da,1\n', "no \", \\"), (row, "1,2\n1.5,2\n", "row 2, column 1"), (row, "1\n2\n3\n4\n5\n", "5 rows"), (row, "1,2,3\n", "3 columns"),
         ):
             with self.subTest(text), self.assertRaises(ValueError) as no:
@@ -213,6 +220,71 @@ class NewTables(unittest.TestCase):
                 with self.subTest(name), self.assertRaises(Exception):
                     wb.from_csv(name, io.StringIO(text))
             self.assertEqual(wb.print_text(), before)
+
+
+    def test_many_elements(self):
+        """More than a page of the browser has: 120 rows, 50 columns, with titles."""
+        rows = [[(7 * i * j) % 1001 - 500 for j in range(50)] for i in range(120)]
+        text = "\n".join([",".join(["", *(f"day {j}" for j in range(50))]), *(",".join([f"Ada {i}", *map(str, row)]) for i, row in enumerate(rows))])
+        with Workbook.run(PROGRAM) as wb, tempfile.TemporaryDirectory() as place:
+            A = wb.from_csv("Hours", io.StringIO(text))
+            self.assertEqual(list(A), [value for row in rows for value in row])
+            session = Session(wb, io.StringIO(), width=200)
+            session.labels.update({("Hours", "rows"): "HoursRow", ("Hours", "columns"): "HoursColumn"})
+            path = os.path.join(place, "hours.csv")
+            session.line(f"export Hours {path}")
+            with open(path, encoding="utf-8") as file:
+                self.assertEqual(file.read(), text + "\n")
+            edits = wb.counts()
+            with self.assertRaisesRegex(ValueError, "row 121, column 51: 'x' is no whole number"):
+                A.from_csv(io.StringIO(text[: text.rindex(",")] + ",x\n"))
+            self.assertEqual(wb.counts(), edits)
+
+
+class Frame:
+    """What is used of a DataFrame of pandas'."""
+
+    class Listed(List[Any]):
+        def tolist(self) -> List[Any]:
+            return list(self)
+
+    def __init__(self, values: List[List[Any]], index: List[Any], columns: List[Any]):
+        self.values, self.index, self.columns = map(self.Listed, (values, index, columns))
+
+    def astype(self, _kind: type) -> "Frame":
+        return self
+
+
+class Frames(unittest.TestCase):
+    def make(self, values: List[List[Any]], index: List[Any], columns: List[Any]) -> Any:
+        return pandas.DataFrame(values, index=index, columns=columns) if pandas else Frame(values, index, columns)
+
+    def test_in(self):
+        with Workbook.run(PROGRAM) as wb:
+            A = wb.from_dataframe("Hours", self.make([[8, 8, 0], [4, 0, -6]], ["Ada", "Emmy"], ["Mon", "Tue", "Wed"]))
+            self.assertEqual((list(A), wb["HoursRow"].to_dict()), ([8, 8, 0, 4, 0, -6], {"Ada": 1, "Emmy": 2}))
+            wb.from_dataframe("B", self.make([[1, 2], [3, 4]], [0, 1], [0, 1]))
+            self.assertEqual((list(wb["B"]), "BRow" in wb), ([1, 2, 3, 4], False))
+            before = wb.print_text()
+            for values, columns, why in (
+                ([[1, 2], [3, 4.5]], ["a", "b"], "the element in row .*, column b is a whole number, not"), ([[], []], [], "no elements"),
+                ([[1, 2], [3, None]], ["a", "b"], "column b is a whole number, not"),
+            ):
+                with self.subTest(why), self.assertRaisesRegex((TypeError, ValueError), why):
+                    wb.from_dataframe("C", self.make(values, [0, 1], columns))
+            self.assertEqual(wb.print_text(), before)
+
+    @unittest.skipUnless(pandas, "pandas isn't there")
+    def test_out(self):
+        with Workbook.run(PROGRAM) as wb:
+            M = wb.array("M", wb.domain("D", (range(1, 3), range(0, 6, 2))))
+            M.put([[1, 2, 3], [4, 5, 6]])
+            frame = M.to_dataframe()
+            self.assertEqual((frame.values.tolist(), list(frame.index), list(frame.columns)), ([[1, 2, 3], [4, 5, 6]], [1, 2], [0, 2, 4]))
+            T = wb.assoc("T", "text")
+            T |= {"b", "a"}
+            frame = wb.array("P", T).to_dataframe()
+            self.assertEqual((frame["P"].tolist(), list(frame.index)), ([0, 0], ["a", "b"]))
 
 
 class BySession(unittest.TestCase):

@@ -208,6 +208,12 @@ class Workbook:
         labels.new_table(self, name, sheets.guessed(sheets.cells_of(files.text_of(source))))
         return Array(self, name)
 
+    def from_dataframe(self, name: str, frame: Any) -> Array:
+        """A new array from a table of pandas', as `from_csv` makes one; whole numbers only. What the table calls its rows and columns
+        becomes titles, unless those are numbers."""
+        labels.new_table(self, name, sheets.of_frame(frame))
+        return Array(self, name)
+
     def sparse(self, name: str, of: Union[str, Domain]) -> Domain:
         """A new sparse domain, with no index yet, in a rectangular one."""
         self.change(requests.sparse(name, ours(self, of)))

@@ -310,6 +310,18 @@ class Array(_Named):
             return values.reshape([len(part) for part in domain.ranges])
         return values
 
+    def to_dataframe(self) -> Any:
+        """A table of pandas', with the array's indices as the names of its rows and columns; of an array of another rank than 2, one
+        column. pandas has to be there."""
+        import pandas
+
+        shot = self._shot()
+        values, domain = shot.array(self.name), shot.domains[shot.arrays[self.name].over]
+        if isinstance(domain, RectDomain) and len(domain.ranges) == 2:
+            rows, columns = map(list, domain.ranges)
+            return pandas.DataFrame([[values[i, j] for j in columns] for i in rows], index=rows, columns=columns)
+        return pandas.DataFrame({self.name: list(values.values())}, index=list(values))
+
     def drop(self) -> "Edit":
         """The end of the array. Its undo brings back every element."""
         return self.book.change(requests.drop_array(self))

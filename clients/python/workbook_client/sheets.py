@@ -9,15 +9,24 @@ import io
 import re
 from typing import Any, Dict, List, Mapping, NamedTuple, Sequence
 
-from .literals import GREATEST, LEAST, Index, label
+from .literals import GREATEST, LEAST, Index, integer, label
 from .snapshot import AnyDomain, AssocDomain, RectDomain, Snapshot, SparseDomain
-
-Cells = List[List[str]]
 
 NUMBER = re.compile("[+-]?[0-9]+")
 SHORT = 40
 """So much of a cell is told."""
 TELL = "make the array first, and its size tells which: D = {1..3, 1..4}, A over D"
+
+
+class Row(List[str]):
+    """The cells of a row, and which row of the file it is."""
+
+    def __init__(self, cells: Sequence[str], number: int):
+        super().__init__(cells)
+        self.number = number
+
+
+Cells = List[Row]
 
 
 class Table(NamedTuple):
@@ -62,14 +71,15 @@ def cells_of(text: str) -> Cells:
     first = text.partition("\n")[0]
     separator = next((mark for mark in "\t;" if mark in first), ",")
     try:
-        rows = [row for row in csv.reader(io.StringIO(text, newline=""), delimiter=separator, strict=True) if row]
+        read = csv.reader(io.StringIO(text, newline=""), delimiter=separator, strict=True)
+        rows = [Row(row, number) for number, row in enumerate(read, start=1) if row]
     except csv.Error as wrong:
         raise ValueError(f"this is no file of rows and columns: {wrong}") from wrong
     if not rows:
         raise ValueError("the file has no cells")
-    for number, row in enumerate(rows, start=1):
+    for row in rows:
         if len(row) != len(rows[0]):
-            raise ValueError(f"row {number} has {_many(len(row), 'cell')}, and row 1 has {len(rows[0])}")
+            raise ValueError(f"row {row.number} has {_many(len(row), 'cell')}, and row {rows[0].number} has {len(rows[0])}")
     return rows
 
 
@@ -109,16 +119,33 @@ def guessed(cells: Cells) -> Table:
         return _cut(cells, int(high), int(wide))
     above = high and _are_words(first)
     if high and wide and not above and not _is_number(first[0]):
-        raise ValueError(f"row 1 may be headings, or {first[0][:SHORT]!r} that of numbers; {TELL}")
+        raise ValueError(f"row {first.number} may be headings, or {first[0][:SHORT]!r} that of numbers; {TELL}")
     before = wide and (_are_words(below) if above else not high and not _is_number(first[0]))
     return _cut(cells, int(above), int(before))
+
+
+def of_frame(frame: Any) -> Table:
+    """The table of a DataFrame of pandas'. What it calls its rows, or its columns, are headings, unless those are numbers."""
+    down, across = frame.index.tolist(), frame.columns.tolist()
+    rows = [
+        [integer(value, f"the element in row {row}, column {column}") for column, value in zip(across, values)]
+        for row, values in zip(down, frame.astype(object).values.tolist())  # each column as its own numbers
+    ]
+    if not (rows and across):
+        raise ValueError("the table has no elements")
+    return Table(rows, _headings(down), _headings(across))
+
+
+def _headings(labels: List[Any]) -> List[str]:
+    """The headings of a DataFrame's labels: none where they are numbers."""
+    return [] if all(isinstance(each, int) for each in labels) else list(map(str, labels))
 
 
 def _cut(cells: Cells, above: int, before: int) -> Table:
     """The table without so many rows and columns of headings."""
     rows = [
-        [_number(cell, r, c) for c, cell in enumerate(row[before:], start=before + 1)]
-        for r, row in enumerate(cells[above:], start=above + 1)
+        [_number(cell, row.number, c) for c, cell in enumerate(row[before:], start=before + 1)]
+        for row in cells[above:]
     ]
     return Table(rows, [row[0] for row in cells[above:]] if before else [], cells[0][before:] if above else [])
 
@@ -126,7 +153,7 @@ def _cut(cells: Cells, above: int, before: int) -> Table:
 def _in_order(cells: Cells, indices: List[Any]) -> Dict[Index, int]:
     """Elements without their indices, in one row or in one column, which may have a heading."""
     column = len(cells[0]) == 1
-    places = [(r, c, cell) for r, row in enumerate(cells, start=1) for c, cell in enumerate(row, start=1)]
+    places = [(row.number, c, cell) for row in cells for c, cell in enumerate(row, start=1)]
     if column and len(places) == len(indices) + 1 and _is_word(places[0][2]):
         places = places[1:]
     if len(places) != len(indices):
@@ -139,13 +166,11 @@ def _listed(cells: Cells, words: bool, rank: int) -> Dict[Index, int]:
     if len(cells[0]) != rank + 1:
         raise ValueError(f"the file has {_size(cells)}; {rank + 1} columns are wanted, an index and its element in each row")
     found: Dict[Index, int] = {}
-    for row, line in enumerate(cells, start=1):
-        if row == 1 and _is_word(line[-1]):
-            continue  # headings
-        index = label(line[0]) if words else _index(line[:-1], row)
+    for row in cells[1:] if _is_word(cells[0][-1]) else cells:  # below headings
+        index = label(row[0]) if words else _index(row[:-1], row.number)
         if index in found:
-            raise ValueError(f"row {row}: the index {', '.join(line[:-1])} stands there twice")
-        found[index] = _number(line[-1], row, rank + 1)
+            raise ValueError(f"row {row.number}: the index {', '.join(row[:-1])} stands there twice")
+        found[index] = _number(row[-1], row.number, rank + 1)
     return found
 
 
