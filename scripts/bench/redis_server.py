@@ -1,5 +1,6 @@
 """A redis server to measure beside, where there is one."""
 
+import re
 import shutil
 import socket
 import subprocess
@@ -9,6 +10,9 @@ import time
 
 KEPT_NOWHERE = ["--appendonly", "no"]
 KEPT_AT_ONCE = ["--appendonly", "yes", "--appendfsync", "always"]
+KEYS = 1_000
+LEAST_LINES = 10_000  # of fewer that are sent at once redis-benchmark tells no number, nor of a tenth of them one by one
+SECONDS = 600
 
 
 def is_there():
@@ -54,3 +58,14 @@ class Server:
 
     def kill(self):
         self.process.kill()
+
+
+def benchmark(server, connections, kind, count, at_once):
+    """The lines a second that redis-benchmark tells of so many connections, which send so many lines at once; the server ends."""
+    try:
+        words = ["redis-benchmark", "-h", "127.0.0.1", "-p", str(server.port), "-c", str(connections), "-t", kind, "-q", "--csv"]
+        words += ["-n", str(max(count, LEAST_LINES // 10 if at_once == 1 else LEAST_LINES)), "-P", str(at_once), "-r", str(KEYS)]
+        told = subprocess.run(words, stdout=subprocess.PIPE, check=True, timeout=SECONDS).stdout.decode()
+    finally:
+        server.end()
+    return float(re.search(r'"%s[^"]*","([0-9.]+)"' % kind.upper(), told).group(1))

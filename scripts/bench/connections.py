@@ -1,0 +1,148 @@
+"""Servers with many connections, each a client in a process of its own: how many lines a second all of them have answered."""
+
+import os
+import socket
+import subprocess
+import sys
+import threading
+import time
+
+import redis_server
+
+PLACES = 1_000
+
+
+class Desk:
+    """A served desk, of which each connection has a domain and an array of its own; with a journal file it keeps its changes."""
+
+    name = "desk"
+
+    def __init__(self, program, seats, journal=None):
+        words = [program, "serve", "--port", "0", "--seats", str(seats), *(["--journal", journal] if journal else [])]
+        self.process = subprocess.Popen(words, stdin=subprocess.DEVNULL, stdout=subprocess.PIPE)
+        listening = self.process.stdout.readline()
+        if not listening.startswith(b"listening on "):
+            sys.exit("%s said %r, and ended with status %d" % (" ".join(words), listening, self.process.wait(60)))
+        self.port = int(listening.rsplit(b":", 1)[1])
+
+    def first_lines(self, seat):
+        return domain_and_array(seat)
+
+    def line(self, kind, seat, k):
+        return workbook_line(kind, seat, k)
+
+    def end(self):
+        """The server ends by itself once all connections are closed; it says how many entries there are."""
+        settled = self.process.stdout.readline()
+        self.process.stdout.read()
+        status = self.process.wait(timeout=60)
+        if status != 0 or not settled.startswith(b"settled "):
+            sys.exit("the desk ended with status %d and %r" % (status, settled))
+
+    def kill(self):
+        self.process.kill()
+
+
+class Redis(redis_server.Server):
+    """A redis server, for the same clients."""
+
+    name = "redis"
+
+    def first_lines(self, seat):
+        return []
+
+    def line(self, kind, seat, k):
+        key = b"A%d:%d" % (seat, k % PLACES + 1)
+        return redis_server.get_line(key) if kind == "get" else redis_server.set_line(key, b"%d" % k)
+
+
+def domain_and_array(seat):
+    return [
+        b'{"op":"domain","d":"D%d","is":"{1..%d}"}\n' % (seat, PLACES),
+        b'{"op":"array","a":"A%d","d":"D%d"}\n' % (seat, seat),
+    ]
+
+
+def workbook_line(kind, seat, k):
+    if kind == "get":
+        return b'{"op":"get","a":"A%d","i":%d}\n' % (seat, k % PLACES + 1)
+    return b'{"op":"set","a":"A%d","i":%d,"v":%d}\n' % (seat, k % PLACES + 1, k)
+
+
+def ends_of_replies(server, kind):
+    """How many line ends a reply has: a desk's has one, as redis's to SET; redis's to GET has two, where there is a value."""
+    return 2 if server.name == "redis" and kind == "get" else 1
+
+
+def read_ends(connection, count):
+    """Reads until so many line ends came."""
+    while count > 0:
+        block = connection.recv(1 << 16)
+        if not block:
+            sys.exit("a connection was closed early")
+        count -= block.count(b"\n")
+
+
+def send_at_once(connection, lines, ends):
+    sender = threading.Thread(target=connection.sendall, args=(b"".join(lines),))
+    sender.start()
+    read_ends(connection, ends * len(lines))
+    sender.join()
+
+
+def send_one_by_one(connection, lines, ends):
+    for line in lines:
+        connection.sendall(line)
+        read_ends(connection, ends)
+
+
+def client(server, seat, kind, at_once, count, ready, go, done):
+    """One connection, in a process of its own: says that it is ready, waits to go, and says when it is done."""
+    connection = socket.create_connection(("127.0.0.1", server.port))
+    connection.setsockopt(socket.IPPROTO_TCP, socket.TCP_NODELAY, 1)
+    send_one_by_one(connection, server.first_lines(seat), 1)
+    if kind == "get":
+        send_at_once(connection, [server.line("set", seat, k) for k in range(PLACES)], 1)
+    lines = [server.line(kind, seat, k) for k in range(count)]
+    os.write(ready, b".")
+    os.read(go, 1)
+    if at_once:
+        send_at_once(connection, lines, ends_of_replies(server, kind))
+    else:
+        send_one_by_one(connection, lines, ends_of_replies(server, kind))
+    os.write(done, b"%r\n" % time.monotonic())
+    connection.close()
+
+
+def lines_a_second(server, seats, kind, at_once, count):
+    """Lets so many clients of a server go at the same moment, each with so many lines, and ends the server."""
+    children = []
+    try:
+        ready, go, done = os.pipe(), os.pipe(), os.pipe()
+        for seat in range(seats):
+            child = os.fork()
+            if child == 0:
+                status = 1
+                try:
+                    client(server, seat, kind, at_once, count, ready[1], go[0], done[1])
+                    status = 0
+                finally:
+                    os._exit(status)
+            children.append(child)
+        waiting = seats
+        while waiting > 0:
+            waiting -= len(os.read(ready[0], waiting))
+        start = time.monotonic()
+        os.write(go[1], b"g" * seats)
+        for child in children:
+            if os.waitpid(child, 0)[1] != 0:
+                sys.exit("a client failed")
+        os.close(done[1])
+        ends = [float(word) for word in os.fdopen(done[0]).read().split()]
+        for end in (ready[0], ready[1], go[0], go[1]):
+            os.close(end)
+        server.end()
+    except BaseException:
+        server.kill()
+        raise
+    return seats * count / (max(ends) - start)
