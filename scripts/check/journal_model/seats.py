@@ -7,7 +7,9 @@ is refused and each line but a question makes one change.
 import json
 import os
 import random
+import select
 import selectors
+import signal
 import socket
 import subprocess
 import tempfile
@@ -41,8 +43,10 @@ class Seat:
         self.connection.setsockopt(socket.IPPROTO_TCP, socket.TCP_NODELAY, 1)
 
     def first(self):
+        """The seat's domain and its array, as far as they are not kept: a desk may have ended between the two."""
         name = self.number
-        return [b'{"d":"D%d","is":"{1..%d}","map":"none","op":"domain"}' % (name, ELEMENTS), b'{"a":"A%d","d":"D%d","op":"array"}' % (name, name)]
+        both = [b'{"d":"D%d","is":"{1..%d}","map":"none","op":"domain"}' % (name, ELEMENTS), b'{"a":"A%d","d":"D%d","op":"array"}' % (name, name)]
+        return both[len(self.changes) :]
 
     def next_set(self):
         self.sets += 1
@@ -51,7 +55,7 @@ class Seat:
     def ask(self):
         """Sends some lines, where none waits."""
         numbers = self.chance.sample(sorted(self.edits), min(len(self.edits), 8))
-        lines = [] if self.edits or self.changes else self.first()
+        lines = self.first()
         for _ in range(self.chance.choice([1, 1, 2, 5, 16])):
             if numbers and self.chance.random() < 0.4:
                 k = numbers.pop()
@@ -69,8 +73,19 @@ class Seat:
             return False
         *replies, self.held = (self.held + more).split(b"\n")
         for reply in replies:
+            if not self.waiting:
+                self.fault = "seat %d asked nothing, and was answered %r" % (self.number, reply)
+                return False
             self.take(self.waiting.pop(0), json.loads(reply))
         return bool(more)
+
+    def leave(self):
+        """Takes what was told before the desk ended."""
+        while self.connection and self.hear():
+            pass
+        if self.connection:
+            self.connection.close()
+        self.connection = None
 
     def take(self, line, reply):
         """Takes the reply to a line."""
@@ -124,23 +139,32 @@ class Desks:
 
     def killed(self):
         """Starts a desk, and ends it under load: what is wrong, None where nothing is."""
-        with subprocess.Popen(self.words, stdin=subprocess.DEVNULL, stdout=subprocess.PIPE, stderr=subprocess.DEVNULL, env=slowed(self.recorder)) as desk:
+        with subprocess.Popen(self.words, stdin=subprocess.DEVNULL, stdout=subprocess.PIPE, stderr=subprocess.PIPE, env=slowed(self.recorder)) as desk:
             try:
-                listening = desk.stdout.readline()
-                if not listening.startswith(b"listening on "):
-                    return "the desk did not begin"
-                port = int(listening.rsplit(b":", 1)[1])
-                for seat in self.seats:
-                    seat.connect(port)
-                fault = self.history_fault()
-                self.load(time.monotonic() + self.chance.choice([0.01, 0.05, 0.2]) * self.chance.random())
+                fault = self.under_load(desk)
+            except (OSError, ValueError) as why:
+                fault = "a connection failed: %s" % why
             finally:
                 desk.kill()
+            said = desk.stderr.read()[-300:]
+        if desk.returncode != -signal.SIGKILL:
+            fault = "it ended by itself with status %d, and said %r" % (desk.returncode, said)
         for seat in self.seats:
-            while seat.hear():
-                pass
-            seat.connection.close()
+            seat.leave()
         return fault or self.fault()
+
+    def under_load(self, desk):
+        """Connects all seats to a desk that begins, and has them ask for some time: what is wrong with its history."""
+        if not select.select([desk.stdout], [], [], SECONDS)[0]:
+            return "the desk did not begin"
+        listening = desk.stdout.readline()
+        if not listening.startswith(b"listening on "):
+            return "the desk began with %r" % listening
+        for seat in self.seats:
+            seat.connect(int(listening.rsplit(b":", 1)[1]))
+        fault = self.history_fault()
+        self.load(time.monotonic() + self.chance.choice([0.02, 0.1, 0.5]) * self.chance.random())
+        return fault
 
     def history_fault(self):
         """Whether the desk has another history than its file's lines make."""
@@ -163,7 +187,7 @@ class Desks:
 
     def fault(self):
         """What is wrong with the file that was left, None where nothing is."""
-        lines = recovered(Path(self.journal).read_bytes())
+        lines = recovered(Path(self.journal).read_bytes() if os.path.exists(self.journal) else b"")
         if lines is None or lines[: len(self.lines)] != self.lines:
             return "the file lost lines from before"
         for line in lines[len(self.lines) :]:
