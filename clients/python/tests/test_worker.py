@@ -5,6 +5,7 @@ import io
 import os
 import random
 import signal
+import socket
 import subprocess
 import sys
 import tempfile
@@ -111,6 +112,37 @@ class Words(unittest.TestCase):
         self.assertEqual(told.getvalue().splitlines(), [
             "worker: plan: taken up, from its beginning", "worker: shop: taken up, from its beginning",
             "worker: plan: put aside, after 0 seconds without a request", "worker: shop: given to the other workers",
+        ])
+
+
+class Away(unittest.TestCase):
+    """A log that isn't there."""
+
+    def test_it_is_told_once(self):
+        """The worker goes on trying until it is told to stop."""
+        with socket.create_server(("127.0.0.1", 0)) as taken:
+            port = taken.getsockname()[1]
+        words = ["--consumer", "one", "--redis", f"redis://127.0.0.1:{port}", "--program", PROGRAM]
+        process = subprocess.Popen([sys.executable, "-m", "workbook_client.worker", *words], cwd=HERE.parents[1], stderr=subprocess.PIPE, text=True)
+        self.addCleanup(process.wait)
+        self.addCleanup(process.kill)
+        assert process.stderr
+        self.assertRegex(process.stderr.readline(), f"^worker: no redis at 127.0.0.1:{port}: .*; it is tried again until it is there$")
+        time.sleep(1.5)
+        process.send_signal(signal.SIGTERM)
+        self.assertEqual((process.communicate(timeout=30)[1], process.returncode), ("", 0))
+
+    def test_it_is_there_again(self):
+        one = worker.Worker(worker.Settings("redis://127.0.0.1:1", "one", command(PROGRAM)))
+        with contextlib.redirect_stderr(io.StringIO()) as told:
+            for fault in ("gone", "gone", "refused"):
+                one._tell_fault(RedisGone(fault))
+            one._is_there()
+            one._is_there()
+            one._tell_fault(RedisGone("gone"))
+        self.assertEqual(told.getvalue().splitlines(), [
+            "worker: gone; it is tried again until it is there", "worker: refused; it is tried again until it is there",
+            "worker: the redis is there again", "worker: gone; it is tried again until it is there",
         ])
 
 

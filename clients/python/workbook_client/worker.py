@@ -119,6 +119,7 @@ class Worker:
         self._broken: Dict[str, float] = {}  # until when a workbook is left to others
         self._redis: Optional[Redis] = None
         self._looked_at = self._took_at = 0.0
+        self._fault = ""  # why there is no log now, as it was told
         self.stopping = False
 
     def run(self) -> int:
@@ -127,6 +128,7 @@ class Worker:
             while not self.stopping:
                 try:
                     self._turn(self._connected())
+                    self._is_there()
                 except (RedisGone, RedisRefused) as fault:
                     self._begin_anew(fault)
             self._leave()
@@ -150,12 +152,24 @@ class Worker:
 
     def _begin_anew(self, fault: Exception) -> None:
         """Forgets all: a log that is there again may be another one, of which less was kept."""
-        tell(fault)
+        self._tell_fault(fault)
         self._end_all()
         if self._redis is not None:
             self._redis.close()
             self._redis = None
         time.sleep(PATIENCE)
+
+    def _tell_fault(self, fault: Exception) -> None:
+        """Tells why there is no log, once."""
+        if str(fault) != self._fault:
+            self._fault = str(fault)
+            tell(f"{fault}; it is tried again until it is there" if not self.stopping else fault)
+
+    def _is_there(self) -> None:
+        """Tells that the log is there, where it wasn't."""
+        if self._fault:
+            self._fault = ""
+            tell("the redis is there again")
 
     def _end_all(self) -> None:
         for held in self._held.values():
@@ -279,7 +293,7 @@ class Worker:
                 self._guarded(name, self._give_up)
             self._connected().call("ZREM", log.WORKERS, self._settings.consumer)
         except (RedisGone, RedisRefused) as fault:
-            tell(fault)
+            self._tell_fault(fault)
 
     def _release_all(self) -> None:
         try:
