@@ -15,6 +15,7 @@ from .refusals import Refusal
 from .session import Session
 
 PROMPT = "workbook> "
+WELCOME = "help lists what you can write; quit, or Ctrl-D, ends."
 WITHOUT = ("", "quit", "exit", "help")
 """Lines that ask a workbook nothing."""
 
@@ -58,7 +59,7 @@ def converse(session: Session) -> int:
     """A prompt until the end."""
     path = _with_readline(session.book)
     session.wrapped(session.place())
-    session.say("help lists what you can write; quit, or Ctrl-D, ends.")
+    session.say(WELCOME)
     try:
         while True:
             try:
