@@ -1,6 +1,9 @@
-"""A shared workbook that goes away under a session, and is there again or not."""
+"""A workbook that goes away under a session, and is there again or not."""
 
 import io
+import os
+import signal
+import tempfile
 import unittest
 from typing import Optional
 
@@ -134,7 +137,40 @@ class Answers(unittest.TestCase):
         self.assertEqual(hearing.hear_again(book), News(1, 2, True, [], [], []))
         self.assertEqual((list(book.edits), book["D"].size), ([1], 4))
 
-    def test_a_workbook_of_ones_own_is_not_there_again(self):
+    def test_a_program_with_a_journal(self):
+        """Another program goes on from what the one that was killed had answered."""
+        with tempfile.TemporaryDirectory() as place, Workbook.run(PROGRAM, journal=os.path.join(place, "plan.wb")) as book:
+            A = book.array("A", book.domain("D", range(1, 5)))
+            session = self.session(book)
+            os.kill(book.exchange.channel._process.pid, signal.SIGKILL)
+            with self.assertRaises(SessionEnded) as end:
+                for i in range(1, 5):  # a line may go out before the end is seen
+                    A[i] = 7
+            self.assertFalse(away.come_back(session, end.exception).other)
+            self.assertIn("plan.wb is there again, with", self.told())
+            self.assertEqual([e.who for e in book.history()], ["me"] * book.counts()[0])
+            A[1] = 9
+            self.assertEqual((A[1], book.journal), (9, os.path.join(os.path.abspath(place), "plan.wb")))
+            session.line("size D")
+
+    def test_a_block_that_was_cut(self):
+        """What is left of it is told, and the session knows that its workbook is away."""
+        server = Server(seats=1)
+        self.addCleanup(server.close)
+        book = server.connect()
+        self.addCleanup(book.close)
+        book.array("A", book.domain("D", range(1, 5)))
+        session = self.session(book)
+        with tempfile.NamedTemporaryFile("w", suffix=".csv") as file:
+            file.write("1,2,3,4\n")
+            file.flush()
+            asked = book.snapshot
+            book.snapshot = lambda: (asked(), server.kill())[0]  # type: ignore[method-assign, func-returns-value]
+            with self.assertRaisesRegex(SessionEnded, "requests without a reply, since .* has closed the connection"):
+                session.line(f"import A {file.name}")
+        self.assertEqual(self.told(), "")
+
+    def test_a_workbook_that_was_kept_nowhere_is_not_there_again(self):
         with Workbook.run(PROGRAM) as book:
             book.domain("D", range(1, 5))
             self.assertFalse(book.exchange.channel.is_gone())
@@ -146,9 +182,9 @@ class Answers(unittest.TestCase):
 
     def test_a_seat_that_is_cut(self):
         """The desk is there: another seat is taken, and none where none is left."""
-        server = Server(seats=2)
+        server = Server(seats=3)
         self.addCleanup(server.close)
-        book = server.connect()
+        book, _other = server.connect(), server.connect()
         book.domain("D", range(1, 5))
         book.exchange.channel.close()
         self.assertEqual(book.again(), [])

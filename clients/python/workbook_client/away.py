@@ -1,4 +1,4 @@
-"""A shared workbook that went away: what is told of it, and how a session goes on once it is there again."""
+"""A workbook that went away: what is told of it, and how a session goes on once it is there again."""
 
 import time
 from typing import List
@@ -17,14 +17,19 @@ TOLD = 5
 
 
 def is_gone(session: Session) -> bool:
-    """Whether the shared workbook of a session is known to have gone, before anything is sent to it."""
-    return not session.book.alone and session.book.exchange.channel.is_gone()
+    """Whether the workbook of a session is known to have gone, before anything is sent to it."""
+    return session.book.exchange.channel.is_gone()
+
+
+def where(session: Session) -> str:
+    """Where the workbook lies; nothing where it is kept nowhere."""
+    return session.book.where or session.book.journal or ""
 
 
 def come_back(session: Session, end: Exception) -> News:
     """Tells that the workbook went away, and tries again until it is there: what was done meanwhile. Ctrl-C ends that, and so the
-    session. A workbook of one's own isn't there any more, which is raised."""
-    if session.book.alone:
+    session. One that was kept nowhere isn't there any more, which is raised."""
+    if not where(session):
         raise end
     session.wrapped(str(end))
     tell_unanswered(session)
@@ -33,7 +38,7 @@ def come_back(session: Session, end: Exception) -> News:
         news = _tried(session)
     except KeyboardInterrupt:
         session.say("")
-        raise SessionEnded(f"left, while {session.book.where} was away") from None
+        raise SessionEnded(f"left, while {where(session)} was away") from None
     tell_news(session, news)
     return news
 
@@ -67,7 +72,7 @@ def _tried(session: Session) -> News:
 
 def tell_news(session: Session, news: News) -> None:
     """Tells what a workbook has that is there again."""
-    has = f"{session.book.where} is there again, with {_edits(news.edits)}"
+    has = f"{where(session)} is there again, with {_edits(news.edits)}"
     if news.other:
         session.wrapped(f"{has}. It isn't the workbook that this session knew, which had {_edits(news.known)}: that is gone, and numbers "
                         "of edits are now those of the new one")

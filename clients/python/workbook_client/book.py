@@ -99,6 +99,7 @@ class Workbook:
             book.close()
             raise
         channel.timeout = timeout
+        book._anew = lambda: cls._kept(program, place, timeout)
         return book
 
     @classmethod
@@ -165,13 +166,14 @@ class Workbook:
             channel.tell = tell
 
     def again(self) -> List[Request]:
-        """Begins the session anew, after `SessionEnded`, with the shared workbook that is at the same place now: at a desk by
-        another seat. Gives the requests that had no reply: they may have been done, and aren't sent again. `SessionEnded` where
-        nobody is there, or the workbook was this session's own. `hearing.hear_again` tells whether it is the same workbook."""
+        """Begins the session anew, after `SessionEnded`, with the workbook that is at the same place now: at a desk by another seat,
+        with a journal by another program. Gives the requests that had no reply: they may have been done, and aren't sent again.
+        `SessionEnded` where nobody is there, or the workbook was kept nowhere. `hearing.hear_again` tells whether it is the same."""
         if self._anew is None:
-            raise SessionEnded("the workbook was this session's own, and has ended with its program")
-        lost, other = self.exchange.on_their_way(), self._anew()
+            raise SessionEnded("the workbook was kept nowhere, and has ended with its program")
+        lost = self.exchange.on_their_way()
         self.exchange.close()
+        other = self._anew()
         self.exchange = Exchange(other.exchange.channel, self._hint)
         if self._tell is not None:
             self.tell_waits(self._tell)

@@ -114,7 +114,7 @@ def hear_again(book: "Workbook") -> News:
     other = any(number not in past.edits or not _alike(edit.what, past.edits[number][1]) for number, edit in known.items())
     if other:
         book.edits.clear()
-    note(book, past, "another")
+    note(book, past, book.who if book.alone else "another")
     now = {number: in_force for number, (in_force, _) in past.edits.items()}
     return News(
         len(now), max(known, default=0), other, [k for k in now if k > max(known, default=0)],

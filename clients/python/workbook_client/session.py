@@ -135,9 +135,9 @@ class Session:
             raise
         except (WorkbookError, ValueError, TypeError, OSError) as wrong:
             self.failed = True
-            self.wrapped(str(wrong))
             if isinstance(wrong, NotTakenBack) and isinstance(wrong.why, SessionEnded):
-                raise wrong.why
+                raise SessionEnded(str(wrong)) from wrong
+            self.wrapped(str(wrong))
         return True
 
     def point(self, text: str, wrong: LanguageError, prompt: str) -> None:
