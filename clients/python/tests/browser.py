@@ -1,4 +1,4 @@
-"""Drives a headless Chromium by its debugging socket, with the standard library alone."""
+"""Drives a headless Chromium by its debugging socket, with the standard library alone, and opens the page in it."""
 
 import base64
 import json
@@ -8,14 +8,27 @@ import socket
 import struct
 import subprocess
 import tempfile
+import threading
 import time
+import unittest
 import urllib.request
+from http.server import ThreadingHTTPServer
 from typing import Any, List, Optional
+
+from tests.support import HERE  # noqa: F401  (so that the package beside the tests is found)
+from workbook_client import Workbook
+from workbook_client.page import serve
 
 CHROMIUM = shutil.which("chromium") or shutil.which("chromium-browser") or shutil.which("google-chrome")
 WAIT = 20.0
 
-KEYS = {"Enter": 13, "Tab": 9, "Escape": 27, "z": 90}
+KEYS = {
+    "Enter": 13, "Tab": 9, "Escape": 27, "Delete": 46, "F2": 113, "ArrowLeft": 37, "ArrowUp": 38, "ArrowRight": 39, "ArrowDown": 40,
+}
+COMMANDS = {"c": ["copy"], "v": ["paste"]}
+"""What a browser does by Ctrl and a key, which a debugger's key has to be told."""
+CTRL, SHIFT = 2, 8
+"""Keys that are held down."""
 
 
 class Browser:
@@ -121,11 +134,24 @@ class Browser:
         """What an element shows."""
         return self.js(f"document.querySelector({json.dumps(selector)}).innerText")
 
-    def click(self, selector: str) -> None:
+    def click(self, selector: str, modifiers: int = 0) -> None:
         """Clicks in the middle of an element."""
+        self._press(selector, modifiers)
+        self._release(selector, modifiers)
+
+    def drag(self, selector: str, to: str) -> None:
+        """Goes from one element to another with the mouse's button down."""
+        self._press(selector, 0)
+        self.hover(to)
+        self._release(to, 0)
+
+    def _press(self, selector: str, modifiers: int) -> None:
         x, y = self._middle(selector)
-        for kind in ("mousePressed", "mouseReleased"):
-            self.do("Input.dispatchMouseEvent", type=kind, x=x, y=y, button="left", clickCount=1)
+        self.do("Input.dispatchMouseEvent", type="mousePressed", x=x, y=y, button="left", buttons=1, clickCount=1, modifiers=modifiers)
+
+    def _release(self, selector: str, modifiers: int) -> None:
+        x, y = self._middle(selector)
+        self.do("Input.dispatchMouseEvent", type="mouseReleased", x=x, y=y, button="left", clickCount=1, modifiers=modifiers)
 
     def hover(self, selector: str) -> None:
         """Puts the mouse over an element."""
@@ -139,14 +165,21 @@ class Browser:
         )
 
     def type(self, text: str) -> None:
-        """Types where the caret is."""
+        """Puts a text where the caret is."""
         self.do("Input.insertText", text=text)
 
+    def keys(self, text: str) -> None:
+        """Presses the keys of a text, one after another."""
+        for key in text:
+            self.do("Input.dispatchKeyEvent", type="keyDown", key=key, text=key, unmodifiedText=key)
+            self.do("Input.dispatchKeyEvent", type="keyUp", key=key)
+
     def key(self, key: str, modifiers: int = 0) -> None:
-        """Presses a key: 2 of `modifiers` is Ctrl, 8 is Shift."""
-        given = {"key": key, "code": f"Key{key.upper()}" if len(key) == 1 else key, "windowsVirtualKeyCode": KEYS[key], "modifiers": modifiers}
-        text = {"text": "\r"} if key == "Enter" else {}
-        self.do("Input.dispatchKeyEvent", type="keyDown", **given, **text)
+        """Presses a key, with CTRL or SHIFT."""
+        code, number = (f"Key{key.upper()}", ord(key.upper())) if len(key) == 1 else (key, KEYS[key])
+        given = {"key": key, "code": code, "windowsVirtualKeyCode": number, "modifiers": modifiers}
+        more = {"text": "\r"} if key == "Enter" else {"commands": COMMANDS[key]} if modifiers & CTRL and key in COMMANDS else {}
+        self.do("Input.dispatchKeyEvent", type="keyDown", **given, **more)
         self.do("Input.dispatchKeyEvent", type="keyUp", **given)
 
     def picture(self, path: str) -> None:
@@ -172,3 +205,46 @@ class Browser:
     def __exit__(self, *_: Any) -> Optional[bool]:
         self.close()
         return None
+
+
+@unittest.skipUnless(CHROMIUM, "Chromium isn't there")
+class InABrowser(unittest.TestCase):
+    """A page of its own for each test."""
+
+    def open(self, book: Workbook, width: int = 1180, height: int = 720) -> Browser:
+        """The page of a workbook, in a browser."""
+        self.server = serve(book)
+        self.addCleanup(book.close)
+        self.run_in_background(self.server)
+        browser = Browser(width, height)
+        self.addCleanup(browser.close)
+        browser.go(self.server.url)
+        browser.until("document.title !== 'workbook'")
+        return browser
+
+    def run_in_background(self, server: ThreadingHTTPServer) -> None:
+        """Lets a server answer until the test ends."""
+        thread = threading.Thread(target=server.serve_forever, args=(0.05,))
+        thread.start()
+        self.addCleanup(thread.join)
+        self.addCleanup(server.server_close)
+        self.addCleanup(server.shutdown)
+
+    def line(self, browser: Browser, *lines: str) -> None:
+        """Types lines below the page."""
+        for line in lines:
+            browser.click("#words")
+            browser.type(line)
+            browser.key("Enter")
+            browser.until("document.getElementById('words').value === '' || document.getElementById('said').className === 'no'")
+            browser.js("document.getElementById('words').value = ''")
+
+    def says(self, browser: Browser, words: str) -> None:
+        """Waits until the page says so, below."""
+        browser.until(f"document.getElementById('said').innerText.includes({json.dumps(words)})")
+
+    def shows(self, browser: Browser, key: str, value: int) -> None:
+        """Waits until an element is shown as this, as the workbook was heard to have it."""
+        cell = json.dumps(f".value[data-key='{key}']")
+        browser.until(f"document.querySelector({cell})?.dataset.value === '{value}'")
+        browser.until(f"document.querySelector({cell})?.innerText === '{value}'")

@@ -2,11 +2,10 @@
 
 import os
 import tempfile
-import threading
 import unittest
 from http.server import BaseHTTPRequestHandler, ThreadingHTTPServer
 
-from tests.browser import CHROMIUM, Browser
+from tests.browser import CTRL, Browser, InABrowser
 from tests.support import PROGRAM, Server
 from workbook_client import Workbook
 from workbook_client.page import serve
@@ -33,50 +32,23 @@ ASKED = 7 * 3 + 2
 CELL = ".value[data-key='A[{}]']"
 
 
-@unittest.skipUnless(CHROMIUM, "Chromium isn't there")
-class InABrowser(unittest.TestCase):
-    def open(self, book: Workbook) -> Browser:
-        server = serve(book)
-        self.addCleanup(book.close)
-        self.run_in_background(server)
-        browser = Browser()
-        self.addCleanup(browser.close)
-        browser.go(server.url)
-        return browser
-
-    def run_in_background(self, server: ThreadingHTTPServer) -> None:
-        """Lets a server answer until the test ends."""
-        thread = threading.Thread(target=server.serve_forever, args=(0.05,))
-        thread.start()
-        self.addCleanup(thread.join)
-        self.addCleanup(server.server_close)
-        self.addCleanup(server.shutdown)
-
-    def line(self, browser: Browser, *lines: str) -> None:
-        """Types lines below the page."""
-        for line in lines:
-            browser.click("#words")
-            browser.type(line)
-            browser.key("Enter")
-            browser.until("document.getElementById('words').value === '' || document.getElementById('said').className === 'no'")
-            browser.js("document.getElementById('words').value = ''")
-
+class Page(InABrowser):
     def test_a_session_of_its_own(self):
         browser = self.open(Workbook.run(PROGRAM))
         browser.until("document.body.innerText.includes('The workbook is empty')")
         self.line(browser, "D = {1..2, 1..3} dmapped cyclicDist((1, 1), [2, 1])", "A over D")
         browser.click(CELL.format("1, 1"))
-        browser.type("5")
+        browser.keys("5")
         browser.key("Tab")
-        browser.type("A[1, 1] + 10")
+        browser.keys("A[1, 1] + 10")
         browser.key("Enter")
-        browser.until(f'document.querySelector("{CELL.format("1, 2")}").innerText === "15"')
+        self.shows(browser, "A[1, 2]", 15)
         # a click elsewhere sets too, Escape doesn't
         browser.click(CELL.format("2, 1"))
-        browser.type("8")
+        browser.keys("8")
         browser.click(CELL.format("2, 2"))
-        browser.until(f'document.querySelector("{CELL.format("2, 1")}").dataset.value === "8"')
-        browser.type("77")
+        self.shows(browser, "A[2, 1]", 8)
+        browser.keys("77")
         browser.key("Escape")
         browser.until("document.querySelectorAll('.edits li').length === 5")
         # who blocks whom, and a cascade
@@ -96,7 +68,7 @@ class InABrowser(unittest.TestCase):
         browser.until(f'document.querySelector("{CELL.format("1, 1")}").innerText === "5"')
         # Ctrl-Z takes back the latest edit in force
         browser.js("document.activeElement.blur()")
-        browser.key("z", modifiers=2)
+        browser.key("z", CTRL)
         browser.until(f'document.querySelector("{CELL.format("2, 1")}").innerText === "0"')
         browser.click("#tints")
         self.assertIn("locale 1", browser.text("#objects"))
@@ -163,7 +135,7 @@ class InABrowser(unittest.TestCase):
         browser = self.open(book)
         browser.until("document.querySelectorAll('.edits li').length === 3")
         browser.click(".value")
-        browser.type("5")
+        browser.keys("5")
         browser.key("Enter")
         browser.until("document.querySelector('.value').innerText === '5'")
         browser.until("document.querySelectorAll('.edits li').length === 4")
@@ -205,7 +177,7 @@ class InABrowser(unittest.TestCase):
                 browser.go(address)
                 browser.until("document.querySelectorAll('.edits li').length === 2")
 
-    def test_who_blocks_whom_at_a_desk_is_asked_where_the_pointer_rests(self):
+    def test_who_blocks_whom_at_a_desk_is_asked_of_what_is_in_sight(self):
         server = Server(seats=2)
         self.addCleanup(server.close)
         browser = self.open(server.connect())
@@ -215,8 +187,6 @@ class InABrowser(unittest.TestCase):
         A.copy(2, A, 1, plus=1)
         A.copy(3, A, 2, plus=1)
         browser.until("document.querySelectorAll('.edits li').length === 5")
-        self.assertEqual(browser.js("document.querySelectorAll('.edits .many').length"), 0)
-        browser.hover(".edits li[data-k='3'] .what")
         browser.until("document.querySelector('.edits li[data-k=\"3\"]').innerText.includes('blocked by 4')")
         browser.click(".edits li[data-k='3'] button:not(.link)")
         browser.until("document.querySelector('.edits .look')?.innerText.includes('takes back 5, 4 and 3')")
@@ -225,8 +195,93 @@ class InABrowser(unittest.TestCase):
         browser.click(".edits li[data-k='3'] > button:not(.link)")
         browser.until("document.querySelector('.edits .look')?.innerText.includes('takes back 6, 5, 4 and 3')")
         browser.click(".edits .look .many")
-        browser.until("document.getElementById('said').innerText.includes('edits 6, 5, 4 and 3 taken back')")
+        self.says(browser, "edits 6, 5, 4 and 3 taken back")
         self.assertEqual(list(A), [0, 0, 0, 0])
+        self.assertEqual(browser.faults, [])
+
+    def test_of_a_long_history_what_is_in_sight_is_asked(self):
+        book = Workbook.run(PROGRAM)
+        A = book.array("A", book.domain("D", range(1, 3)))
+        with book.pipeline():
+            for i in range(100):
+                A[1] = i
+        browser = self.open(book)
+        known = "[...document.querySelectorAll('.edits li')].filter(x => x.innerText.includes('blocked by')).map(x => +x.dataset.k)"
+        browser.until(f"{known}.length > 3")
+        self.assertEqual(browser.js(f"Math.max(...{known})"), 101)  # of the latest nobody is in the way
+        self.assertGreater(browser.js(f"Math.min(...{known})"), 80)  # and what is far below was not asked
+        browser.js("document.querySelector('.edits li[data-k=\"20\"]').scrollIntoView()")
+        browser.until("document.querySelector('.edits li[data-k=\"20\"]').innerText.includes('blocked by 21')")
+        self.assertFalse(browser.js(f"{known}.includes(50)"))
+        self.assertEqual(browser.faults, [])
+
+    def test_a_cascade_is_put_back_upward(self):
+        """Downward edit 5 would copy what stood in A[1] before edit 4."""
+        book = Workbook.run(PROGRAM)
+        A = book.array("A", book.domain("D", range(1, 4)))
+        A[1] = 5
+        A[1] = 7
+        A.copy(2, A, 1)
+        browser = self.open(book)
+        browser.until("document.querySelector('.edits li[data-k=\"4\"]').innerText.includes('blocked by 5')")
+        browser.click(".edits li[data-k='4'] button.many")
+        browser.until("document.activeElement.innerText === 'take back 2 edits'")
+        browser.key("Enter")
+        browser.until("document.getElementById('notices').innerText.includes('put back 4, 5')")
+        self.shows(browser, "A[1]", 5)
+        self.shows(browser, "A[2]", 0)
+        self.assertEqual(browser.js("document.querySelectorAll('.value.changed').length"), 2)  # the marks stay lit
+        self.assertEqual(browser.text("#marks"), "2 cells changed ×")
+        browser.click("#notices button")
+        self.shows(browser, "A[1]", 7)
+        self.shows(browser, "A[2]", 7)
+        browser.until("document.getElementById('notices').innerText === ''")
+        self.assertEqual(browser.faults, [])
+
+    def test_marks_stay_until_they_are_looked_at(self):
+        server = Server(seats=2)
+        self.addCleanup(server.close)
+        browser = self.open(server.connect())
+        other = server.connect()
+        self.line(browser, "D = {1..4}", "A over D")
+        A = other["A"]
+        A[1], A[2], A[3] = 5, 6, 7
+        self.shows(browser, "A[3]", 7)
+        lit = "[...document.querySelectorAll('.value.changed')].map(x => x.title).join('; ')"
+        self.assertEqual(browser.js(lit), "A[1], was 0; A[2], was 0; A[3], was 0")
+        self.assertEqual(browser.text("#marks"), "3 cells, 3 edits changed ×")
+        browser.click(CELL.format("2"))
+        browser.keys("9")
+        browser.key("Enter")
+        self.shows(browser, "A[2]", 9)
+        self.assertEqual(browser.js(lit), "A[1], was 0")  # 2 was looked at and typed in, and 3 is where Enter went
+        A[4] = 1
+        self.shows(browser, "A[4]", 1)
+        self.assertEqual(browser.js(lit), "A[1], was 0; A[4], was 0")
+        browser.click("#marks")
+        self.assertEqual(browser.js(lit), "")
+        self.assertTrue(browser.js("document.getElementById('marks').hidden"))
+        self.assertEqual(browser.faults, [])
+
+    def test_an_edit_of_ones_own_that_another_took_back(self):
+        server = Server(seats=2)
+        self.addCleanup(server.close)
+        browser = self.open(server.connect())
+        other = server.connect()
+        self.line(browser, "D = {1..4}", "A over D", "A[1] = 5")
+        other.undo(3)
+        browser.until("document.getElementById('notices').innerText.includes('your edit 3 (A[1] = 5) was taken back by another')")
+        self.shows(browser, "A[1]", 0)
+        browser.click("#notices button")  # put it back
+        self.shows(browser, "A[1]", 5)
+        browser.until("document.getElementById('notices').innerText === ''")
+        other.undo(3)
+        browser.until("document.getElementById('notices').innerText.includes('your edit 3')")
+        browser.click("#notices button:last-child")  # leave it so
+        browser.until("document.getElementById('notices').innerText === ''")
+        self.line(browser, "A[2] = 6", "undo 4")  # one's own undo is nothing to tell
+        self.shows(browser, "A[2]", 0)
+        self.assertEqual(browser.text("#notices"), "")
         self.assertEqual(browser.faults, [])
 
     def test_what_others_do_appears(self):
@@ -239,13 +294,11 @@ class InABrowser(unittest.TestCase):
         browser.until(f'document.querySelector("{CELL.format("1")}").innerText === "6"')
         self.assertIn("A[1] = 6", browser.text(".edits li[data-k='4']"))
         self.assertIn("another", browser.text(".edits li[data-k='4'] .meta"))
-        browser.click(".edits li[data-k='3'] button")
-        browser.until("document.getElementById('said').innerText.includes('Blocked by edit 4')")
+        self.line(browser, "undo 3")
+        self.says(browser, "Blocked by edit 4")
         other.undo(4)
-        browser.until(f'document.querySelector("{CELL.format("1")}").innerText === "5"')
+        self.shows(browser, "A[1]", 5)
         self.assertEqual(browser.faults, [])
-        server.kill()
-        browser.until("document.getElementById('said').innerText.includes('closed the connection')")
 
 
 if __name__ == "__main__":

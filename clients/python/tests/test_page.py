@@ -3,6 +3,7 @@
 import http.client
 import json
 import os
+import re
 import socket
 import tempfile
 import threading
@@ -11,7 +12,7 @@ from urllib.parse import urlsplit
 
 from tests.support import PROGRAM, Server
 from workbook_client import Workbook, view
-from workbook_client.page import serve
+from workbook_client.page import SCRIPTS, serve
 
 
 class Page(unittest.TestCase):
@@ -52,9 +53,12 @@ class Page(unittest.TestCase):
         self.assertIn("<title>workbook</title>", page)
         self.lines("D = {1..2} dmapped cyclicDist(1, [2])", "A over D", "A[1] = 9223372036854775807", "A[2] = A[1] - 1")
         _, state = self.ask("/state")
+        self.assertEqual([e["needs"] for e in state["edits"]], [None] * 4)  # none is in sight
+        self.assertEqual([e["needs"] for e in self.ask("/state?sight=2-3")[1]["edits"]], [None, [4, 3, 2], [4, 3], None])
+        _, state = self.ask("/state?sight=1-")
         (array,) = state["arrays"]
         self.assertEqual(array["values"], [[["1"], "1", "9223372036854775807"], [["2"], "2", "9223372036854775806"]])
-        self.assertEqual(array["locales"], [0, 1])
+        self.assertEqual((array["locales"], array["ranged"]), ([0, 1], True))
         told = [(e["k"], e["on"], e["needs"]) for e in state["edits"]]
         self.assertEqual(told, [(1, True, [4, 3, 2, 1]), (2, True, [4, 3, 2]), (3, True, [4, 3]), (4, True, [4])])
         self.assertEqual(self.ask("/needs?k=2")[1], {"ok": True, "k": 2, "needs": [4, 3, 2]})
@@ -65,7 +69,7 @@ class Page(unittest.TestCase):
         self.assertEqual((told["ok"], told["code"], told["by"]), (False, "E14", 4))
         self.assertIn("cascade 3 takes back 4 and 3", told["say"])
         self.assertTrue(self.ask("/do", {"op": "cascade", "k": 3})[1]["ok"])
-        self.assertEqual([e["needs"] for e in self.ask("/state")[1]["edits"]], [[2, 1], [2], None, None])
+        self.assertEqual([e["needs"] for e in self.ask("/state?sight=1-")[1]["edits"]], [[2, 1], [2], None, None])
         self.assertNotEqual(self.ask("/state?seen=" + state["version"])[0], 204)
         self.assertIn("array A over D [0, 0]", self.ask("/text")[1])
         self.assertIn("\nhistory 4\n+ {", self.ask("/history")[1])
@@ -110,7 +114,7 @@ class Page(unittest.TestCase):
         self.open(Workbook.run(PROGRAM))
         wrong = "/" + "x" * (len(self.key) - 1)
         for key in ("", wrong, self.key[:-1], self.key + "x", "/" + self.key[1:].swapcase(), "/%2e"):
-            for path in ("/", "/state", "/needs?k=1", "/text", "/history"):
+            for path in ("/", "/state", "/needs?k=1", "/text", "/history", "/csv?a=A", "/page.js", "/page.css"):
                 with self.subTest(key + path):
                     self.assertEqual(self.ask(path, key=key)[0], 403)
             self.assertEqual(self.ask("/do", {"line": "D = {1..4}"}, key=key)[0], 403)
@@ -128,11 +132,12 @@ class Page(unittest.TestCase):
         """Also where it knew the key."""
         self.open(Workbook.run(PROGRAM))
         for site in ("cross-site", "same-site", "", "Same-Origin", None):
-            for path in ("/", "/state", "/needs?k=1", "/text", "/history"):
+            for path in ("/", "/state", "/needs?k=1", "/text", "/history", "/csv?a=A", "/page.js", "/page.css"):
                 with self.subTest(f"{path} {site}"):
                     self.assertEqual(self.ask(path, Sec_Fetch_Site=site)[0], 403)
             self.assertEqual(self.ask("/do", {"line": "D = {1..4}"}, Sec_Fetch_Site=site)[0], 403)
-        for path, status in (("/", 200), ("/text", 200), ("/history", 200), ("/state", 403), ("/needs?k=1", 403)):
+        for path, status in (("/", 200), ("/text", 200), ("/history", 200), ("/csv?a=A", 404), ("/state", 403), ("/needs?k=1", 403),
+                             ("/page.js", 403), ("/page.css", 403)):
             with self.subTest(path):  # somebody gives the address to the browser
                 self.assertEqual(self.ask(path, Sec_Fetch_Site="none")[0], status)
         self.assertEqual(self.ask("/do", {"line": "D = {1..4}"}, Sec_Fetch_Site="none")[0], 403)
@@ -156,6 +161,99 @@ class Page(unittest.TestCase):
                 self.assertNotIn(mark, json.dumps([state, told, refused], ensure_ascii=False))
                 book["P"].drop()
                 book["T"].drop()
+
+    def test_pasted_cells_are_edits_of_their_own(self):
+        self.open(Workbook.run(PROGRAM))
+        self.lines("D = {1..2, 1..2}", "A over D", "T = text", 'T += "x"', "P over T")
+        told = self.ask("/do", {"op": "paste", "a": "A", "cells": [["1, 1", "5"], ["1, 2", "+6"], ["2, 1", "-7"]]})[1]
+        self.assertEqual((told["ok"], told["say"].strip()), (True, "3 cells of A set by 3 edits, 6 to 8, of which each is taken back by itself"))
+        self.assertTrue(self.ask("/do", {"op": "paste", "a": "P", "cells": [['"x"', "4"]]})[1]["ok"])
+        edits = self.ask("/state")[1]["edits"]
+        self.assertEqual([e["what"] for e in edits[5:]], ["A[1, 1] = 5", "A[1, 2] = 6", "A[2, 1] = -7", 'P["x"] = 4'])
+        before = self.ask("/history")[1]
+        for array, cells, words in (
+            ("A", [["1, 1", "1"], ["1, 2", "1.5"]], "whole numbers only: 1.5 isn't one"),
+            ("A", [["1, 1", "1"], ["1, 2", ""]], "whole numbers only: an empty cell isn't one"),
+            ("A", [["1, 1", "9223372036854775808"]], "64 bits"),
+            ("A", [["1..2, 1", "1"]], "is no index"),
+            ("A", [["1, 1] = A[2, 2] //", "1"]], "is no index"),
+            ("A", [["1, 1"]], "whole numbers only"),
+            ("A over D //", [["1, 1", "1"]], "is no index"),
+            ("A", [], "nothing to paste"),
+            ("A", "1", "cells is a list"),
+        ):
+            with self.subTest(f"{array} {cells}"):
+                told = self.ask("/do", {"op": "paste", "a": array, "cells": cells})[1]
+                self.assertEqual((told["ok"], words in told["say"]), (False, True))
+                self.assertEqual(self.ask("/history")[1], before)
+        told = self.ask("/do", {"op": "paste", "a": "A", "cells": [["1, 1", "1"], ["3, 3", "2"]]})[1]  # the program refuses the second
+        self.assertEqual((told["ok"], "E06" in told["say"]), (False, True))
+        self.assertIn("array A over D [5, 6, -7, 0]", self.ask("/text")[1])
+
+    def test_what_is_taken_back_here_is_put_back_here(self):
+        self.open(Workbook.run(PROGRAM))
+        self.assertIn("no edit of yours", self.ask("/do", {"op": "undo_mine"})[1]["say"])
+        self.lines("D = {1..3}", "A over D", "A[1] = 5", "A[2] = A[1] + 1", "A[3] = A[2] + 1")
+        self.assertIn("nothing of yours", self.ask("/do", {"op": "redo_mine"})[1]["say"])
+        self.ask("/do", {"op": "undo_mine"})
+        self.assertIn("array A over D [5, 6, 0]", self.ask("/text")[1])
+        self.ask("/do", {"op": "redo_mine"})
+        self.assertIn("array A over D [5, 6, 7]", self.ask("/text")[1])
+        self.assertTrue(self.lines("cascade 3")["ok"])
+        self.assertEqual(self.ask("/state")[1]["cascaded"], [3, 4, 5])
+        self.assertIn("edit 5 is in force", self.ask("/do", {"op": "put_back", "ks": [5, 3, 4]})[1]["say"])
+        self.assertIn("array A over D [5, 6, 7]", self.ask("/text")[1])
+        self.assertEqual(self.ask("/state")[1]["cascaded"], [])
+        self.ask("/do", {"op": "cascade", "k": 3})
+        for _ in range(3):
+            self.assertTrue(self.ask("/do", {"op": "redo_mine"})[1]["ok"])  # upward too
+        self.assertIn("array A over D [5, 6, 7]", self.ask("/text")[1])
+        self.ask("/do", {"op": "cascade", "k": 4})
+        self.ask("/do", {"op": "leave", "ks": [4, 5]})
+        self.assertEqual(self.ask("/state")[1]["cascaded"], [])
+        for wrong in ({"op": "put_back"}, {"op": "put_back", "ks": ["x"]}, {"op": "put_back", "ks": [[]]}, {"op": "undo"}, {"op": "cascade", "k": True}):
+            with self.subTest(wrong):
+                status, told = self.ask("/do", wrong)
+                self.assertEqual((status, told["ok"]), (200, False))
+
+    def test_ones_own_at_a_desk(self):
+        """What others did is neither taken back nor put back by the keys; what they took back of one's own is told."""
+        other = self.at_a_desk()
+        self.lines("D = {1..3}", "A over D", "A[1] = 5")
+        other["A"][2] = 6
+        self.assertIn("edit 3 is taken back", self.ask("/do", {"op": "undo_mine"})[1]["say"])
+        self.assertEqual(self.ask("/state")[1]["taken"], [])
+        self.ask("/do", {"op": "redo_mine"})
+        other.undo(3)
+        self.assertEqual(self.ask("/state")[1]["taken"], [3])
+        self.assertIn("edit 3 is in force again", self.ask("/do", {"op": "put_back", "ks": [3]})[1]["say"])
+        self.assertEqual(self.ask("/state")[1]["taken"], [])
+        other.undo(3)
+        self.assertFalse(self.ask("/do", {"op": "undo", "k": 3})[1]["ok"])  # it is heard by a refusal too
+        self.assertEqual(self.ask("/state")[1]["taken"], [3])
+        self.ask("/do", {"op": "leave", "ks": [3]})
+        self.assertEqual(self.ask("/state")[1]["taken"], [])
+
+    def test_a_table_as_a_file(self):
+        self.open(Workbook.run(PROGRAM))
+        self.lines("D = {1..2, 5..6}", "A over D", "A[1, 6] = 7")
+        self.assertEqual(self.ask("/csv?a=A"), (200, ",5,6\n1,0,7\n2,0,0\n"))
+        for name in ("D", "B", "", "A%0d%0aX", "../A"):
+            self.assertEqual(self.ask(f"/csv?a={name}")[0], 404)
+
+    def test_the_files_of_the_page(self):
+        self.open(Workbook.run(PROGRAM))
+        _, page = self.ask("/")
+        for name in ("page.css", "page.js"):
+            self.assertIn(f'"{name}"', page)
+        for name in SCRIPTS:
+            status, text = self.ask("/" + name)
+            self.assertEqual(status, 200)
+            self.assertNotIn("innerHTML", text)  # data is never read as HTML
+            for other in re.findall('from "./(.*?)"', text):
+                self.assertIn(other, SCRIPTS)
+        for name in ("page.py", "view.py", "page.html", "../setup", "%2e%2e/page.py", "py.typed"):
+            self.assertEqual(self.ask("/" + name)[0], 404)
 
     def test_other_pages_are_kept_out(self):
         self.open(Workbook.run(PROGRAM))

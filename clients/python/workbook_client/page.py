@@ -7,8 +7,6 @@ It listens on 127.0.0.1 alone. It answers a request only where its address begin
 started, and where the browser says that the page itself sent it, or, for what is opened, that somebody opened it by its address.
 """
 
-import base64
-import hashlib
 import hmac
 import json
 import re
@@ -25,51 +23,55 @@ from .errors import SessionEnded, WorkbookError
 from .redis import RedisRefused
 from .session import Session
 from .terminal import arguments, may_leave, open_book
-from .view import View
+from .view import Sight, View
 
-PAGE = Path(__file__).with_name("page.html")
+HERE = Path(__file__).parent
+SCRIPTS = ("page.js", "talk.js", "edits.js", "grid.js", "tables.js", "pasting.js")
+KINDS = {".html": "text/html; charset=utf-8", ".css": "text/css; charset=utf-8", ".js": "text/javascript; charset=utf-8"}
 LONGEST = 1 << 20
 """So many bytes a request of the page may have."""
-OPENED = ("", "text", "history")
+OPENED = ("", "text", "history", "csv")
 """What is opened by its address, or by a link of the page; all else the page itself asks for."""
 
 
-def policy(page: str) -> str:
-    """The page's own style and script run, and nothing else."""
-    sums = {}
-    for kind in ("style", "script"):
-        (text,) = re.findall(f"<{kind}>(.*?)</{kind}>", page, re.S)
-        sums[kind] = base64.b64encode(hashlib.sha256(text.encode()).digest()).decode()
-    return (
-        f"default-src 'none'; style-src 'sha256-{sums['style']}'; "
-        f"script-src 'sha256-{sums['script']}'; connect-src 'self'; img-src data:; "
-        "base-uri 'none'; form-action 'none'; frame-ancestors 'none'"
-    )
+POLICY = (
+    "default-src 'none'; style-src 'self'; script-src 'self'; connect-src 'self'; img-src data:; "
+    "base-uri 'none'; form-action 'none'; frame-ancestors 'none'"
+)
+"""The page's own style and scripts run, and nothing else."""
+
+
+def parts() -> Dict[str, Tuple[bytes, str]]:
+    """The files of the page, by their addresses behind the key, each with its kind."""
+    files = {"": "page.html", **{name: name for name in ("page.css", *SCRIPTS)}}
+    return {place: ((HERE / name).read_bytes(), KINDS[Path(name).suffix]) for place, name in files.items()}
 
 
 class Handler(BaseHTTPRequestHandler):
-    """Six addresses behind the key: the page, state, needs, text, history, and do for what the page does."""
+    """The addresses behind the key: the page and its files, state, needs, text, history, csv, and do for what the page does."""
 
     view: View
-    page: bytes
-    policy: str
+    parts: Dict[str, Tuple[bytes, str]]
     key: str
     protocol_version = "HTTP/1.1"
     timeout = 60  # a connection that says nothing for so long is closed
 
     def do_GET(self) -> None:
-        """The page, its state, who needs an edit, or the text of the workbook or of its history."""
+        """A file of the page, its state, who needs an edit, or a text of the workbook, of its history or of an array."""
         place, query = self.place()
         if place is None:
             return
-        if place == "":
-            self.answer(200, self.page, "text/html; charset=utf-8")
+        asked = {word: words[0] for word, words in parse_qs(query).items()}
+        if place in self.parts:
+            self.answer(200, *self.parts[place])
         elif place == "state":
-            self.guarded(lambda: self.state(parse_qs(query).get("seen", [""])[0]))
+            self.guarded(lambda: self.state(asked.get("seen", ""), asked.get("sight", "")), asked.get("seen", ""))
         elif place == "needs":
-            self.guarded(lambda: self.needs(parse_qs(query).get("k", [""])[0]))
+            self.guarded(lambda: self.needs(asked.get("k", "")))
         elif place in ("text", "history"):
             self.guarded(lambda: self.text(self.view.text if place == "text" else self.view.history))
+        elif place == "csv":
+            self.guarded(lambda: self.csv(asked.get("a", "")))
         else:
             self.tell(404, {"say": "there is nothing here"})
 
@@ -100,9 +102,10 @@ class Handler(BaseHTTPRequestHandler):
             return None
         return self.rfile.read(int(length))
 
-    def state(self, seen: str) -> None:
-        """What the page shows, where that isn't what it has seen."""
-        state = self.view.state()
+    def state(self, seen: str, sight: str) -> None:
+        """What the page shows, where that isn't what it has seen. `sight` is as "12-30", or "12-" up to the latest."""
+        found = re.fullmatch("([0-9]{1,18})-([0-9]{0,18})", sight)
+        state = self.view.state(Sight(int(found[1]), int(found[2]) if found[2] else None) if found else None)
         if state["version"] == seen:
             self.answer(204, b"", "application/json")
         else:
@@ -119,14 +122,22 @@ class Handler(BaseHTTPRequestHandler):
         """A text of the workbook."""
         self.answer(200, told().encode(), "text/plain; charset=utf-8")
 
-    def guarded(self, answer: Callable[[], None]) -> None:
-        """Tells the page of what went wrong; the server goes on."""
+    def csv(self, name: str) -> None:
+        """An array's text, as a file."""
+        text = self.view.csv(name)
+        if text is None:
+            self.tell(404, {"say": "no array has that name"})
+        else:
+            self.answer(200, text.encode(), "text/csv; charset=utf-8", f'attachment; filename="{name}.csv"')
+
+    def guarded(self, answer: Callable[[], None], seen: str = "") -> None:
+        """Tells the page of what went wrong; the server goes on. Where the workbook is away, it tells what the page doesn't show."""
         try:
             answer()
         except ConnectionError:
             self.close_connection = True  # the page went away
-        except SessionEnded as end:
-            self.tell(503, {"say": str(end)})
+        except SessionEnded:
+            self.tell(503, self.view.away(seen))
         except Exception as fault:
             self.tell(500, {"say": f"{type(fault).__name__}: {fault}"})
 
@@ -156,7 +167,7 @@ class Handler(BaseHTTPRequestHandler):
         """Answers with JSON."""
         self.answer(status, json.dumps(what, ensure_ascii=False).encode(), "application/json")
 
-    def answer(self, status: int, body: bytes, kind: str) -> None:
+    def answer(self, status: int, body: bytes, kind: str, disposition: str = "") -> None:
         """Answers with bytes."""
         self.send_response(status)
         self.send_header("Content-Type", kind)
@@ -166,7 +177,9 @@ class Handler(BaseHTTPRequestHandler):
         self.send_header("X-Content-Type-Options", "nosniff")
         self.send_header("Referrer-Policy", "same-origin")
         self.send_header("Cross-Origin-Resource-Policy", "same-origin")
-        self.send_header("Content-Security-Policy", self.policy)
+        self.send_header("Content-Security-Policy", POLICY)
+        if disposition:
+            self.send_header("Content-Disposition", disposition)
         self.end_headers()
         self.wfile.write(body)
 
@@ -188,9 +201,8 @@ class Server(ThreadingHTTPServer):
 
 def serve(book: Workbook, port: int = 0) -> Server:
     """A server of the page on 127.0.0.1; `serve_forever` runs it."""
-    page = PAGE.read_text(encoding="utf-8")
     key = secrets.token_urlsafe(16)
-    members = {"view": View(book), "page": page.encode(), "policy": policy(page), "key": key}
+    members = {"view": View(book), "parts": parts(), "key": key}
     server = Server(("127.0.0.1", port), type("PageHandler", (Handler,), members))
     server.url = f"http://127.0.0.1:{server.server_address[1]}/{key}/"
     return server

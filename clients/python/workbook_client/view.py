@@ -3,17 +3,24 @@
 import hashlib
 import io
 import json
+import re
 import threading
 import time
-from typing import Any, Callable, Dict, List, Optional, Tuple
+from contextlib import contextmanager
+from typing import Any, Callable, Dict, Iterator, List, NamedTuple, Optional, Set, Tuple
 
-from . import hearing, requests
+from . import hearing, requests, sheets
+from .away import changes_of
 from .book import Workbook
-from .edits import Edit
+from .edits import Cascade, Edit
+from .errors import NotTakenBack, SessionEnded, WorkbookError
+from .hearing import News
+from .language import LanguageError, parse
 from .literals import Index, index_text
 from .objects import Array
+from .redis import RedisRefused
 from .refusals import Refusal
-from .session import Session
+from .session import Session, numbered
 from .snapshot import RectDomain, Snapshot, SparseDomain
 from .tables import harmless
 
@@ -22,11 +29,13 @@ MOST = 4096
 LATEST = 300
 """So many of the latest edits are shown."""
 ASKED = 60
-"""Of so many of the latest edits a session of its own asks who needs them, whenever something changed."""
+"""Of so many edits in sight it is asked at once who needs them, the latest first."""
 MANY = 2000
 """With more edits, what others' edits did isn't asked: the text of the history would be long."""
 APART = 1.5
 """So many seconds lie between two looks at a shared workbook, however many pages are open."""
+SOON, LATER = 0.5, 10.0
+"""So many seconds lie between two tries to reach a workbook that went away, at first and at last."""
 TERMINAL_ALONE = {
     **dict.fromkeys(("save", "load", "keep", "import", "export", "compact"), "Files are for the terminal; the links above give the texts."),
     "colours": "Colours by locale are the box above.",
@@ -37,9 +46,36 @@ TERMINAL_ALONE = {
 
 Json = Dict[str, Any]
 
-WAYS: Dict[str, Callable[[Any], requests.Request]] = {
-    "undo": requests.undo, "redo": requests.redo, "cascade": requests.cascade,
-}
+
+class Sight(NamedTuple):
+    """The edits in sight on a page: from one to another, or to the latest."""
+
+    low: int
+    high: Optional[int] = None
+
+    def has(self, number: int) -> bool:
+        """Whether an edit is in sight."""
+        return self.low <= number and (self.high is None or number <= self.high)
+
+
+class Doing(Session):
+    """A session for one thing that the page does, which notes what was taken back and put back by it."""
+
+    def __init__(self, book: Workbook, out: io.StringIO):
+        super().__init__(book, out, width=100, barred=TERMINAL_ALONE)
+        self.undone: List[int] = []
+        self.redone: List[int] = []
+        self.cascade: List[int] = []
+        """What a cascade took back."""
+
+    def moved(self, how: str, edit: Edit) -> None:
+        (self.undone if how == "taken back" else self.redone).append(edit.number)
+        super().moved(how, edit)
+
+    def cascaded(self, done: Cascade) -> None:
+        self.undone += done.undone
+        self.cascade = done.undone
+        super().cascaded(done)
 
 
 class View:
@@ -56,10 +92,77 @@ class View:
         self._objects: Optional[Json] = None  # its domains and arrays as the page has them, until an edit comes or goes
         self._heard: Optional[Tuple[int, int]] = None  # how much a shared workbook had when all of it was last heard
         self._looked = float("-inf")  # when it was last looked at
+        self._undone: List[int] = []  # one's own edits that were taken back here, in the order of their undos
+        self._cascaded: List[int] = []  # what the latest cascade took back, ascending
+        self._taken: List[int] = []  # one's own edits that another took back
+        self._away: Optional[Exception] = None  # why the workbook isn't there
+        self._unanswered: List[str] = []  # what was sent before it went away, and not answered
+        self._tried, self._wait = float("-inf"), SOON  # when it was last tried again, and how long the next try waits
+        self._news = ""  # what is told of a workbook that is there again
 
-    def state(self) -> Json:
-        """All that the page shows. `version` changes exactly where something else does."""
+    # --- a workbook that goes away
+
+    @contextmanager
+    def _there(self) -> Iterator[None]:
+        """The workbook, for whoever has the lock. Where it went away it is tried again first; SessionEnded where it isn't there."""
         with self._lock:
+            channel = self.book.exchange.channel
+            if self._away is None and channel.is_gone():
+                self._went(SessionEnded(channel.why()))
+            if self._away is not None:
+                self._try_again()
+            try:
+                yield
+            except SessionEnded as end:
+                self._went(end)
+                raise
+
+    def _went(self, end: Exception) -> None:
+        self._away = end
+        self._unanswered = changes_of(self.book.exchange.on_their_way())
+        self._tried, self._wait = time.monotonic(), SOON
+
+    def _try_again(self) -> None:
+        """Takes the workbook up where it is there again. It isn't tried too often."""
+        assert self._away is not None
+        if not self.may_come_back() or time.monotonic() < self._tried + self._wait:
+            raise SessionEnded(str(self._away))
+        self._tried, self._wait = time.monotonic(), min(2 * self._wait, LATER)
+        try:
+            self.book.again()
+            self._back(hearing.hear_again(self.book))
+        except (WorkbookError, RedisRefused, OSError) as still:
+            self._away = still
+            raise SessionEnded(str(still)) from still
+
+    def _back(self, news: News) -> None:
+        """It is there again; another workbook at its place has nothing of what was known."""
+        self._away, self._news = None, _in_words(news, self.book)
+        self._objects, self._heard, self._looked = None, None, float("-inf")
+        self._version += 1
+        if news.other:
+            self._needs, self._undone, self._cascaded, self._taken = {}, [], [], []
+        else:
+            self._taken += [k for k in news.undone if self._is_mine(k)]
+
+    def may_come_back(self) -> bool:
+        """Whether a workbook that went away may be there again: one that others share, or that a file keeps."""
+        return not self.book.alone or self.book.journal is not None
+
+    def away(self, seen: str) -> Json:
+        """What is told while the workbook isn't there; with its last state where the page has another, or none."""
+        state = self._told[1]
+        return {
+            "say": harmless(str(self._away)), "tries": self.may_come_back(), "unanswered": [harmless(line) for line in self._unanswered],
+            "state": state if state and state["version"] != seen else None,
+        }
+
+    # --- what there is
+
+    def state(self, sight: Optional[Sight] = None) -> Json:
+        """All that the page shows. `version` changes exactly where something else does. Who needs an edit is asked of those in sight
+        alone."""
+        with self._there():
             if not self.book.alone:
                 self._look()
             # The edits in force make the workbook, so what they are tells whether it changed.
@@ -68,7 +171,9 @@ class View:
             if self._now != now:
                 self._now, self._objects = now, None
                 self._needs = {k: needs for k, needs in self._needs.items() if self._still(needs)}
+                self._forget_what_is_in_force()
                 self._version += 1
+            self._ask_in_sight(edits, sight)
             if self._told[0] != self._version:
                 self._told = (self._version, self._state(edits))
             return self._told[1]
@@ -84,15 +189,43 @@ class View:
         stand = all(k in edits and edits[k].was_in_force for k in numbers)
         return not self.book.alone and len(numbers) > 1 and stand
 
+    def _is_mine(self, number: int) -> bool:
+        """Whether an edit is one's own; in a session of its own all are."""
+        edit = self.book.edits.get(number)
+        return edit is not None and (self.book.alone or edit.who == self.book.who)
+
+    def _is_off(self, number: int) -> bool:
+        edit = self.book.edits.get(number)
+        return edit is not None and not edit.was_in_force
+
+    def _forget_what_is_in_force(self) -> None:
+        """What may be put back is out of force. A cascade is put back whole, or edit by edit."""
+        self._undone = [k for k in self._undone if self._is_off(k)]
+        self._taken = [k for k in self._taken if self._is_off(k)]
+        if not all(map(self._is_off, self._cascaded)):
+            self._cascaded = []
+
     def needs(self, k: int) -> Json:
         """Edit k and those that need it, from the greatest down: who would go in a cascade now."""
-        with self._lock:
+        with self._there():
             try:
                 self._ask_needs(k)
             except Refusal as no:
                 self._looked = float("-inf")
                 return {"ok": False, "say": str(no)}
             return {"ok": True, "k": k, "needs": self._needs[k]}
+
+    def _ask_in_sight(self, edits: List[Edit], sight: Optional[Sight]) -> None:
+        """Who needs the edits in sight of which it isn't known."""
+        if sight is None:
+            return
+        seen = [edit.number for edit in edits[-LATEST:] if edit.was_in_force and sight.has(edit.number)]
+        for k in seen[-ASKED:]:
+            if k not in self._needs:
+                try:
+                    self._ask_needs(k)
+                except Refusal:  # another took it back meanwhile, which is heard at the next look
+                    self._looked = float("-inf")
 
     def _ask_needs(self, k: int) -> None:
         found = [*reversed(self.book.dependents(k)), k]
@@ -109,10 +242,16 @@ class View:
             return
         counts = self.book.counts()
         if counts != self._heard:
+            before = self._mine()
             self._hear(counts[0])
+            self._taken += [k for k in before if self._is_off(k)]
             self._heard, self._objects = counts, None
             self._version += 1
         self._looked = time.monotonic()
+
+    def _mine(self) -> List[int]:
+        """One's own edits in a shared workbook that are in force, as far as that was heard."""
+        return [] if self.book.alone else [k for k, edit in self.book.edits.items() if edit.was_in_force and self._is_mine(k)]
 
     def _hear(self, edits: int) -> None:
         """What others did, of so many edits."""
@@ -131,11 +270,13 @@ class View:
                 ],
                 "arrays": [self._array(shot, name) for name in sorted(shot.arrays)],
             }
-        if self.book.alone:
-            self._ask_all(edits)
         state: Json = {
             "alone": self.book.alone,
             "kept": harmless(self.book.journal or ""),
+            "where": harmless(self.book.where),
+            "news": harmless(self._news),
+            "taken": sorted(set(self._taken)),
+            "cascaded": self._cascaded,
             **self._objects,
             "edits": [self._edit(edit) for edit in edits[-LATEST:]],
             "earlier": max(len(edits) - LATEST, 0),
@@ -154,6 +295,7 @@ class View:
             "over": array.over,
             "words": harmless(domain.in_words()),
             "size": len(values),
+            "ranged": isinstance(domain, RectDomain),
             "values": [[_parts(i), _at(i), str(value)] for i, value in values[:MOST]],
             "locales": None,
         }
@@ -168,40 +310,39 @@ class View:
         at = {i: locale for locale, piece in enumerate(pieces) for i in piece}
         return [at.get(i, 0) for i, _ in values]
 
-    def _ask_all(self, edits: List[Edit]) -> None:
-        """Who needs the latest edits in force. In a session of its own nothing is kept of that."""
-        for edit in edits[-ASKED:]:
-            if edit.was_in_force and edit.number not in self._needs:
-                self._needs[edit.number] = [*reversed(self.book.dependents(edit.number)), edit.number]
-
     def _edit(self, edit: Edit) -> Json:
         return {
             "k": edit.number, "what": harmless(edit.what), "who": edit.who, "cells": edit.cells,
             "on": edit.was_in_force, "needs": self._needs.get(edit.number) if edit.was_in_force else None,
         }
 
-    def do(self, asked: Json) -> Json:
-        """A line of the short language (`line`), or an undo, redo or cascade (`op` and `k`)."""
-        line = str(asked.get("line", ""))
-        make = WAYS.get(str(asked.get("op")))
-        with self._lock:
-            self._looked = float("-inf")
-            if make is None:
-                return self._done(lambda session: session.line(line))
-            try:
-                request = make(asked.get("k"))
-            except (TypeError, ValueError) as wrong:  # no number of an edit
-                return {"ok": False, "say": str(wrong)}
-            return self._done(lambda session: session.request(request))
+    # --- what is done
 
-    def _done(self, act: Callable[[Session], object]) -> Json:
+    def do(self, asked: Json) -> Json:
+        """A line of the short language (`line`), or what an `op` of the page does."""
+        line, act = str(asked.get("line", "")), ACTS.get(str(asked.get("op")))
+        with self._there():
+            self._looked = float("-inf")
+            return self._done((lambda session: session.line(line)) if act is None else (lambda session: act(self, session, asked)))
+
+    def _done(self, act: Callable[[Doing], object]) -> Json:
         """What came of it, in the words of the session."""
-        said = io.StringIO()
-        session = Session(self.book, said, width=100, barred=TERMINAL_ALONE)
+        said, before = io.StringIO(), self._mine()
+        session = Doing(self.book, said)
         try:
             act(session)
         except Refusal as no:
+            session.failed = True
             session.refused(no)
+        except NotTakenBack as left:
+            if isinstance(left.why, SessionEnded):
+                raise left.why from left
+            self._wrong(session, left)
+        except SessionEnded:
+            raise
+        except (WorkbookError, LanguageError, ValueError, TypeError) as wrong:
+            self._wrong(session, wrong)
+        self._note(session, before)
         told: Json = {"ok": not session.failed, "say": said.getvalue().rstrip()}
         refused = session.refusal
         if refused is not None:
@@ -211,6 +352,60 @@ class View:
                 self._hold(k, by)
         return told
 
+    def _wrong(self, session: Doing, wrong: Exception) -> None:
+        session.failed = True
+        session.wrapped(str(wrong))
+
+    def _note(self, session: Doing, before: List[int]) -> None:
+        """Notes what was taken back and put back here, and what another took back meanwhile."""
+        gone = [k for k in session.undone if self._is_mine(k)]
+        back = {*gone, *session.redone}
+        self._undone = [k for k in self._undone if k not in back] + gone
+        if session.cascade:
+            self._cascaded = sorted(session.cascade)
+        self._taken += [k for k in before if self._is_off(k) and k not in session.undone]
+
+    def _undo_mine(self, session: Doing) -> None:
+        """Takes back the latest of one's own edits."""
+        mine = [k for k, edit in self.book.edits.items() if edit.was_in_force and self._is_mine(k)]
+        if not mine:
+            raise ValueError("no edit of yours is in force")
+        session.request(requests.undo(max(mine)))
+
+    def _redo_mine(self, session: Doing) -> None:
+        """Puts back what was taken back here last."""
+        off = [k for k in self._undone if self._is_off(k)]
+        if not off:
+            raise ValueError("nothing of yours was taken back here: redo on the right puts any edit back")
+        session.request(requests.redo(off[-1]))
+
+    def _put_back(self, session: Doing, asked: Json) -> None:
+        """Puts edits in force again, upward: an edit that reads what another of them wrote comes after it. Downward it would read
+        what stood there before, and have another number."""
+        for k in sorted(_numbers(asked)):
+            if self._is_off(k):
+                session.request(requests.redo(k))
+
+    def _leave(self, asked: Json) -> None:
+        """What was taken back is left so, and no more told."""
+        numbers = _numbers(asked)
+        self._taken = [k for k in self._taken if k not in numbers]
+        if numbers >= set(self._cascaded):
+            self._cascaded = []
+        self._version += 1
+
+    def _paste(self, session: Doing, asked: Json) -> None:
+        """Sets many elements of an array, each by an edit, all or none."""
+        wanted = [_set(asked.get("a"), cell) for cell in _listed(asked, "cells")]
+        if not wanted:
+            raise ValueError("there is nothing to paste")
+        with self.book.trying(), self.book.pipeline():
+            edits = [self.book.change(request) for request in wanted]
+        first, last = edits[0].number, edits[-1].number
+        cells = "1 cell" if len(edits) == 1 else f"{len(edits):,} cells"
+        by = f"edit {first}" if len(edits) == 1 else f"{len(edits):,} edits, {first} to {last}"
+        session.wrapped(f"{cells} of {wanted[0]['a']} set by {by}, of which each is taken back by itself")
+
     def _hold(self, k: int, by: int) -> None:
         """After a refused undo the page shows who is in the way."""
         try:
@@ -219,15 +414,81 @@ class View:
             self._needs[k] = [by, k]
             self._version += 1
 
+    # --- texts
+
     def text(self) -> str:
         """The text of the workbook."""
-        with self._lock:
+        with self._there():
             return self.book.print_text()
 
     def history(self) -> str:
         """The text of the whole history."""
-        with self._lock:
+        with self._there():
             return self.book.history_text()
+
+    def csv(self, name: str) -> Optional[str]:
+        """An array as a spreadsheet takes it; None where none has the name."""
+        with self._there():
+            shot = self.book.snapshot()
+            return sheets.written(shot, name) if name in shot.arrays else None
+
+
+ACTS: Dict[str, Callable[[View, Doing, Json], None]] = {
+    "undo": lambda view, session, asked: session.request(requests.undo(_number(asked))),
+    "redo": lambda view, session, asked: session.request(requests.redo(_number(asked))),
+    "cascade": lambda view, session, asked: session.request(requests.cascade(_number(asked))),
+    "undo_mine": lambda view, session, asked: view._undo_mine(session),
+    "redo_mine": lambda view, session, asked: view._redo_mine(session),
+    "put_back": lambda view, session, asked: view._put_back(session, asked),
+    "leave": lambda view, session, asked: view._leave(asked),
+    "paste": lambda view, session, asked: view._paste(session, asked),
+}
+"""What the page does beside lines."""
+
+
+def _number(asked: Json) -> int:
+    return _as_number(asked.get("k"))
+
+
+def _numbers(asked: Json) -> Set[int]:
+    return {_as_number(k) for k in _listed(asked, "ks")}
+
+
+def _as_number(k: Any) -> int:
+    if not isinstance(k, int) or isinstance(k, bool):
+        raise ValueError("that is no edit's number")
+    return k
+
+
+def _listed(asked: Json, key: str) -> List[Any]:
+    found = asked.get(key)
+    if not isinstance(found, list):
+        raise ValueError(f"{key} is a list")
+    return found
+
+
+def _set(name: Any, cell: Any) -> requests.Request:
+    """A cell's `set`: its index as the short language has it in brackets, and its number, both as texts."""
+    at, value = (cell if isinstance(cell, list) and len(cell) == 2 else ["", ""])
+    if not re.fullmatch("[+-]?[0-9]+", str(value)):
+        raise ValueError(f"whole numbers only: {str(value)[:40] or 'an empty cell'} isn't one")
+    what = parse(f"{name}[{at}] = {str(value).lstrip('+')}", lambda _: None)
+    if not isinstance(what, dict) or what["op"] != "set" or what["a"] != name:
+        raise ValueError(f"{at!r:.60} is no index")
+    return what
+
+
+def _in_words(news: News, book: Workbook) -> str:
+    """What is told of a workbook that is there again."""
+    edits = "1 edit" if news.edits == 1 else f"{news.edits:,} edits"
+    has = f"{book.journal or book.where} is there again, with {edits}"
+    if news.other:
+        return f"{has}. It isn't the workbook that was shown before: numbers of edits are now those of the new one."
+    told = [
+        f"{how}: {numbered(these)}"
+        for how, these in (("new meanwhile", news.came), ("taken back", news.undone), ("put in force again", news.redone)) if these
+    ]
+    return f"{has}; {'; '.join(told) or 'nothing was done meanwhile'}."
 
 
 def _parts(index: Index) -> List[str]:

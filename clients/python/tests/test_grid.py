@@ -1,0 +1,305 @@
+"""The page as a grid, in a real browser: keys, the mouse, copying, pasting and filling."""
+
+import csv
+import io
+import json
+import unittest
+
+from tests.browser import CTRL, SHIFT, Browser, InABrowser
+from tests.support import PROGRAM
+from workbook_client import Workbook
+
+CHOSEN = "[...document.querySelectorAll('.value.chosen')].map(x => x.dataset.key).join(' ')"
+HERE = "document.activeElement.dataset.key"
+COPIED = "navigator.clipboard.readText()"
+
+
+def cell(key: str) -> str:
+    return f".value[data-key='{key}']"
+
+
+class Grid(InABrowser):
+    def grid(self, *shape: range) -> Browser:
+        """The page of an array A of this shape, 3 rows and 4 columns unless something else is told."""
+        self.book = Workbook.run(PROGRAM)
+        self.book.array("A", self.book.domain("D", shape or (range(1, 4), range(1, 5))))
+        browser = self.open(self.book)
+        browser.do("Browser.grantPermissions", permissions=["clipboardReadWrite", "clipboardSanitizedWrite"])
+        browser.until("document.querySelector('.value') !== null")
+        return browser
+
+    def edits(self, browser: Browser) -> "list[str]":
+        """What the edits after the first two did, as the page lists them."""
+        return browser.js("[...document.querySelectorAll('.edits li .what')].map(x => x.innerText)")[-3::-1]
+
+    def pastes(self, browser: Browser, text: str) -> None:
+        """Pastes a text that was copied elsewhere."""
+        browser.js(f"navigator.clipboard.writeText({json.dumps(text)})")
+        browser.key("v", CTRL)
+
+    # --- keys
+
+    def test_arrow_keys_move_and_stop_at_the_edge(self):
+        browser = self.grid()
+        browser.click(cell("A[1, 1]"))
+        for key, where in (("ArrowRight", "A[1, 2]"), ("ArrowDown", "A[2, 2]"), ("ArrowLeft", "A[2, 1]"), ("ArrowLeft", "A[2, 1]"),
+                           ("ArrowUp", "A[1, 1]"), ("ArrowUp", "A[1, 1]")):
+            browser.key(key)
+            self.assertEqual((browser.js(HERE), browser.js(CHOSEN)), (where, where))
+        browser.key("ArrowRight", CTRL)
+        self.assertEqual(browser.js(HERE), "A[1, 4]")
+        self.assertEqual(browser.faults, [])
+
+    def test_typing_begins_an_edit_and_enter_and_tab_move_on(self):
+        browser = self.grid()
+        browser.click(cell("A[1, 1]"))
+        browser.keys("12")
+        browser.key("Tab")
+        self.assertEqual(browser.js(HERE), "A[1, 2]")
+        browser.keys("-3")
+        browser.key("Enter")
+        self.assertEqual(browser.js(HERE), "A[2, 2]")
+        browser.keys("7")
+        browser.key("Tab", SHIFT)
+        self.assertEqual(browser.js(HERE), "A[2, 1]")
+        browser.key("Tab")
+        browser.key("Tab")
+        browser.keys("=A[1, 1] + 1")  # a copy, which reads
+        browser.key("Enter", SHIFT)
+        self.assertEqual(browser.js(HERE), "A[1, 3]")
+        self.shows(browser, "A[2, 3]", 13)
+        self.assertEqual(self.edits(browser), ["A[1, 1] = 12", "A[1, 2] = -3", "A[2, 2] = 7", "A[2, 3] = A[1, 1] + 1"])
+        self.assertEqual(browser.faults, [])
+
+    def test_enter_begins_with_what_is_there_and_escape_leaves_it(self):
+        browser = self.grid()
+        browser.click(cell("A[1, 1]"))
+        browser.keys("12")
+        browser.key("Enter")
+        self.shows(browser, "A[1, 1]", 12)
+        browser.key("ArrowUp")
+        browser.key("Enter")
+        self.assertEqual(browser.js("document.activeElement.value"), "12")
+        browser.key("Escape")
+        self.assertEqual(browser.js(HERE), "A[1, 1]")
+        browser.keys("99")
+        browser.key("Escape")
+        self.shows(browser, "A[1, 1]", 12)
+        browser.click(cell("A[1, 1]"))  # a click on the cell that is chosen types in it
+        self.assertEqual(browser.js("document.activeElement.value"), "12")
+        browser.key("Enter")  # nothing else was typed, so nothing is sent
+        browser.keys("1.5")
+        browser.key("Enter")
+        self.says(browser, "whole numbers only: 1.5 isn't one")
+        self.assertEqual(self.edits(browser), ["A[1, 1] = 12"])
+        self.assertEqual(browser.faults, [])
+
+    def test_undo_and_redo_by_keys(self):
+        browser = self.grid()
+        browser.click(cell("A[1, 1]"))
+        for text in "567":
+            browser.keys(text)
+            browser.key("Tab")
+        self.shows(browser, "A[1, 3]", 7)
+        browser.key("z", CTRL)
+        browser.key("z", CTRL)
+        self.shows(browser, "A[1, 3]", 0)
+        self.shows(browser, "A[1, 2]", 0)
+        browser.key("y", CTRL)
+        self.shows(browser, "A[1, 2]", 6)
+        browser.key("z", CTRL | SHIFT)
+        self.shows(browser, "A[1, 3]", 7)
+        browser.key("y", CTRL)
+        self.says(browser, "nothing of yours was taken back here")
+        self.assertEqual(browser.js(HERE), "A[1, 4]")  # the grid keeps the focus
+        self.assertEqual(browser.faults, [])
+
+    def test_holes_are_passed_over(self):
+        book = Workbook.run(PROGRAM)
+        book.domain("D", (range(1, 4), range(1, 5)))
+        book.sparse("S", "D")
+        for at in ((1, 1), (1, 4), (3, 1)):
+            book["S"].add(at)
+        book.array("A", "S")
+        browser = self.open(book)
+        browser.click(cell("A[1, 1]"))
+        browser.key("ArrowRight")
+        self.assertEqual(browser.js(HERE), "A[1, 4]")
+        browser.key("ArrowLeft")
+        browser.key("ArrowDown")
+        self.assertEqual(browser.js(HERE), "A[3, 1]")
+        browser.key("ArrowDown")
+        self.assertEqual(browser.js(HERE), "A[3, 1]")
+        self.assertEqual(browser.faults, [])
+
+    def test_a_row_goes_on_below(self):
+        browser = self.grid(range(1, 41))
+        browser.click(cell("A[1]"))
+        browser.key("ArrowDown")
+        below = int(browser.js(HERE)[2:-1])
+        self.assertGreater(below, 5)
+        browser.key("ArrowUp")
+        self.assertEqual(browser.js(HERE), "A[1]")
+        browser.keys("5")
+        browser.key("Enter")  # to the next
+        browser.keys("6")
+        browser.key("Enter")
+        self.shows(browser, "A[2]", 6)
+        self.assertEqual(browser.js(HERE), "A[3]")
+        self.assertEqual(browser.faults, [])
+
+    # --- a rectangle of cells
+
+    def test_choosing_by_shift_and_by_the_mouse(self):
+        browser = self.grid()
+        self.book["A"].fill((range(1, 4), range(1, 5)), 9223372036854775807)
+        self.shows(browser, "A[3, 4]", 9223372036854775807)
+        browser.click(cell("A[2, 2]"))
+        browser.key("ArrowRight", SHIFT)
+        browser.key("ArrowDown", SHIFT)
+        self.assertEqual(browser.js(CHOSEN), "A[2, 2] A[2, 3] A[3, 2] A[3, 3]")
+        self.assertIn("A[2..3, 2..3] · 4 cells · sum 36893488147419103228", browser.text("#picked"))
+        browser.key("ArrowLeft", SHIFT)
+        browser.key("ArrowLeft", SHIFT)
+        self.assertEqual(browser.js(CHOSEN), "A[2, 1] A[2, 2] A[3, 1] A[3, 2]")
+        browser.click(cell("A[1, 4]"), SHIFT)
+        self.assertEqual(browser.js(CHOSEN), "A[1, 2] A[1, 3] A[1, 4] A[2, 2] A[2, 3] A[2, 4]")
+        browser.drag(cell("A[3, 2]"), cell("A[2, 1]"))
+        self.assertEqual(browser.js(CHOSEN), "A[2, 1] A[2, 2] A[3, 1] A[3, 2]")
+        self.assertEqual(browser.js(HERE), "A[3, 2]")
+        browser.key("Escape")
+        self.assertEqual(browser.js(CHOSEN), "A[3, 2]")
+        browser.key("a", CTRL)
+        self.assertEqual(len(browser.js(CHOSEN).split("] ")), 12)
+        self.assertEqual(browser.faults, [])
+
+    def test_copying(self):
+        browser = self.grid()
+        self.book["A"][:] = [[1, 2, 3, 4], [-5, 0, 7, 8], [9, 10, 11, 12]]
+        self.shows(browser, "A[3, 4]", 12)
+        browser.drag(cell("A[1, 1]"), cell("A[2, 3]"))
+        browser.key("c", CTRL)
+        self.says(browser, "A[1..2, 1..3] copied")
+        self.assertEqual(browser.js(COPIED), "1\t2\t3\n-5\t0\t7")
+        browser.click(cell("A[2, 2]"))
+        browser.key("v", CTRL)  # what was copied here is pasted here
+        self.says(browser, "6 cells of A set by 6 edits, 15 to 20")
+        self.assertEqual(list(self.book["A"]), [1, 2, 3, 4, -5, 1, 2, 3, 9, -5, 0, 7])
+        self.assertEqual(browser.faults, [])
+
+    def test_pasting_from_a_spreadsheet(self):
+        browser = self.grid()
+        browser.click(cell("A[2, 2]"))
+        self.pastes(browser, "10\t20\r\n-30\t+40\r\n")
+        self.says(browser, "4 cells of A set by 4 edits, 3 to 6, of which each is taken back by itself")
+        self.shows(browser, "A[3, 3]", 40)
+        self.assertEqual(self.edits(browser), ["A[2, 2] = 10", "A[2, 3] = 20", "A[3, 2] = -30", "A[3, 3] = 40"])
+        self.assertEqual(browser.js(CHOSEN), "A[2, 2] A[2, 3] A[3, 2] A[3, 3]")
+        self.assertEqual(browser.js("document.querySelectorAll('.changed').length"), 0)  # what one does oneself isn't marked
+        browser.key("z", CTRL)
+        self.shows(browser, "A[3, 3]", 0)
+        self.assertEqual(browser.faults, [])
+
+    def test_what_is_not_pasted(self):
+        """Nothing of it is sent."""
+        browser = self.grid()
+        browser.click(cell("A[1, 1]"))
+        before = self.book.exchange.posted
+        for text, words in (
+            ("1\t2\n3\t1.5", "row 2, column 2 of what is pasted: whole numbers only: 1.5 isn't one"),
+            ("1\t", "row 1, column 2 of what is pasted: whole numbers only: an empty cell isn't one"),
+            ("1.5", "whole numbers only: 1.5 isn't one"),
+            ("Ada\t1", "row 1, column 1 of what is pasted: whole numbers only: Ada isn't one"),
+            ("1\t9223372036854775808", "a number has 64 bits at most, and 9223372036854775808 has more"),
+            ("1\t2\t3\t4\t5", "1 row and 5 columns don't fit into A from [1, 1] on"),
+            ("1\n2\n3\n4", "4 rows and 1 column don't fit into A from [1, 1] on"),
+        ):
+            with self.subTest(text):
+                self.pastes(browser, text)
+                self.says(browser, words)
+        self.assertEqual((self.edits(browser), self.book.exchange.posted), ([], before))
+        self.assertEqual(browser.faults, [])
+
+    def test_holes_in_what_is_pasted(self):
+        book = Workbook.run(PROGRAM)
+        book.domain("D", (range(1, 3), range(1, 4)))
+        book.sparse("S", "D")
+        for at in ((1, 1), (1, 3), (2, 2)):
+            book["S"].add(at)
+        book.array("A", "S")
+        browser = self.open(book)
+        browser.do("Browser.grantPermissions", permissions=["clipboardReadWrite", "clipboardSanitizedWrite"])
+        browser.click(cell("A[1, 1]"))
+        self.pastes(browser, "1\t\t2")
+        self.says(browser, "2 cells of A set by 2 edits")
+        self.shows(browser, "A[1, 3]", 2)
+        browser.key("a", CTRL)
+        browser.key("c", CTRL)
+        self.says(browser, "3 cells of A copied")
+        self.assertEqual(browser.js(COPIED), "1\t\t2\n\t0\t")
+        browser.click(cell("A[1, 1]"))
+        self.pastes(browser, "1\t2")
+        self.says(browser, "row 1, column 2 of what is pasted: there is no element")
+        self.assertEqual(browser.faults, [])
+
+    def test_filling(self):
+        browser = self.grid(range(1, 10, 2), range(2, 6))
+        browser.drag(cell("A[3, 3]"), cell("A[7, 4]"))
+        browser.keys("6")
+        browser.key("Enter", CTRL)
+        self.shows(browser, "A[7, 4]", 6)
+        browser.drag(cell("A[1, 2]"), cell("A[1, 3]"))
+        browser.click("#picked button")
+        browser.keys("-8")
+        browser.key("Enter")
+        self.shows(browser, "A[1, 3]", -8)
+        browser.key("Delete")
+        self.shows(browser, "A[1, 3]", 0)
+        self.assertEqual(self.edits(browser), ["A[3..7 by 2, 3..4] = 6", "A[1..1, 2..3] = -8", "A[1..1, 2..3] = 0"])
+        self.assertEqual(list(self.book["A"]), [0, 0, 0, 0, 0, 6, 6, 0, 0, 6, 6, 0, 0, 6, 6, 0, 0, 0, 0, 0])
+        browser.keys("1.5")
+        browser.key("Enter", CTRL)
+        self.says(browser, "whole numbers only: 1.5 isn't one")
+        self.assertEqual(browser.faults, [])
+
+    def test_filling_where_there_are_no_ranges(self):
+        """Then each cell is set by itself."""
+        book = Workbook.run(PROGRAM)
+        people = book.assoc("People", "text")
+        people |= {"Ada", "Emmy", "Sofja"}
+        book.array("Left", people)
+        browser = self.open(book)
+        browser.click('.value[data-key=\'Left["Ada"]\']')
+        browser.key("ArrowRight", SHIFT)
+        browser.keys("4")
+        browser.key("Enter", CTRL)
+        self.says(browser, "2 cells of Left set by 2 edits")
+        self.assertEqual(list(book["Left"]), [4, 4, 0])
+        self.assertEqual(browser.faults, [])
+
+    def test_planes(self):
+        browser = self.grid(range(1, 3), range(1, 3), range(1, 4))
+        browser.drag(cell("A[2, 1, 1]"), cell("A[2, 2, 2]"))
+        browser.keys("3")
+        browser.key("Enter", CTRL)
+        self.shows(browser, "A[2, 2, 2]", 3)
+        self.assertEqual(self.edits(browser), ["A[2..2, 1..2, 1..2] = 3"])
+        browser.drag(cell("A[2, 1, 1]"), cell("A[1, 1, 1]"))  # another plane: the choice stays in its own
+        self.assertEqual(browser.js(CHOSEN), "A[2, 1, 1]")
+        self.assertEqual(browser.faults, [])
+
+    # --- the table as a file
+
+    def test_the_link_to_a_table(self):
+        browser = self.grid()
+        self.book["A"][:] = [[1, 2, 3, 4], [5, 6, 7, 8], [9, 10, 11, 12]]
+        self.assertEqual(browser.text(".csv"), "CSV")
+        text = browser.js("fetch(document.querySelector('.csv').href).then(x => x.text())")
+        rows = list(csv.reader(io.StringIO(text)))
+        self.assertEqual(rows, [["", "1", "2", "3", "4"], ["1", "1", "2", "3", "4"], ["2", "5", "6", "7", "8"], ["3", "9", "10", "11", "12"]])
+        self.assertEqual(browser.js("document.querySelector('.csv').download"), "A.csv")
+        self.assertEqual(browser.faults, [])
+
+
+if __name__ == "__main__":
+    unittest.main()

@@ -1,0 +1,176 @@
+/* The history beside the arrays: undo and redo of each edit, who is in the way, and what was taken back. */
+
+import {$, ask, button, make, needs, numbered, poll, state, tell, watch} from "./talk.js";
+
+let looked = null; // the edit whose cascade is looked at before it is done, and who goes in it
+let lastOn = null; // whether each edit was in force, as it was last shown
+const fresh = new Set(); // what others did since the marks were taken off
+let wanted = ""; // of which edits in sight it was last asked who needs them
+
+const item = k => document.querySelector('#edits li[data-k="' + k + '"]');
+const mark = (k, on) => item(k)?.classList.toggle("lit", on);
+const cellsOf = n => n + (n === 1 ? " cell" : " cells");
+
+/** Shows the history as it was heard. */
+export function showEdits() {
+  const now = looked && state.edits.find(e => e.k === looked.k && e.on);
+  if (looked) looked = now ? {k: now.k, needs: now.needs || looked.needs} : null;
+  noteFresh();
+  draw();
+  lookAgain();
+}
+
+function draw() {
+  const held = focused();
+  const items = state.edits.map(row).reverse();
+  if (state.earlier) items.push(make("li", "", make("span", "k", "…"), make("span", "what", state.earlier + " earlier edits")));
+  if (!items.length) items.push(make("li", "", "", make("span", "meta", "no edits yet")));
+  $("edits").replaceChildren(...items);
+  $("notices").replaceChildren(...notices());
+  if (looked) looked.needs.forEach(k => mark(k, true));
+  if (held) item(held.k)?.querySelectorAll("button")[held.n]?.focus();
+}
+
+/** Which button has the focus, so that it has it after the list was drawn anew. */
+function focused() {
+  const at = document.activeElement.closest?.("#edits li[data-k]");
+  return at && {k: at.dataset.k, n: [...at.querySelectorAll("button")].indexOf(document.activeElement)};
+}
+
+/** Notes what others did: edits of theirs that came, and edits that they took back or put in force. */
+function noteFresh() {
+  const now = new Map(state.edits.map(e => [e.k, e.on]));
+  if (lastOn) {
+    const top = Math.max(0, ...lastOn.keys());
+    for (const e of state.edits) {
+      if (e.k > top && e.who === "another") fresh.add(e.k);
+    }
+    for (const k of state.taken) if (lastOn.get(k)) fresh.add(k);
+  }
+  lastOn = now;
+}
+
+/** Takes the marks off what others did. */
+export function settleEdits() { fresh.clear(); draw(); }
+
+/** How many edits are marked. */
+export const marksOfEdits = () => fresh.size;
+
+function row(e) {
+  const facts = [];
+  if (!state.alone) facts.push(e.who);
+  if (e.cells >= 0) facts.push(cellsOf(e.cells));
+  if (!e.on) facts.push("taken back");
+  const meta = make("span", "meta", make("span", "", facts.join(" · ")));
+  const act = button("", e.on ? "undo" : "redo", () => ask({op: e.on ? "undo" : "redo", k: e.k}, act.textContent + " " + e.k));
+  const made = make("li", (e.on ? "" : "off ") + (fresh.has(e.k) ? "fresh" : ""), make("span", "k", String(e.k)),
+    make("span", "what", e.what || "(by another seat)"), act, meta);
+  made.dataset.k = e.k;
+  if (e.on && e.needs && e.needs.length > 1) blocked(e, act, meta);
+  if (looked && looked.k === e.k) made.append(leap());
+  return made;
+}
+
+/** An edit that others need: who is in the way stands below it, and its button looks at a cascade. */
+function blocked(e, act, meta) {
+  const by = e.needs[e.needs.length - 2], others = e.needs.length - 2;
+  const who = button("link", "blocked by " + by, () => light(by));
+  meta.append(who, others ? make("span", "", "and " + others + " more that need it") : "");
+  act.textContent = "cascade";
+  act.classList.add("many");
+  act.title = "shows which edits go with edit " + e.k + ", before they go";
+  act.onclick = () => look(e.k);
+  for (const [one, marked] of [[who, [by]], [act, e.needs]]) {
+    one.onmouseenter = one.onfocus = () => marked.forEach(k => mark(k, true));
+    one.onmouseleave = one.onblur = () => marked.forEach(k => mark(k, looked !== null && looked.needs.includes(k)));
+  }
+}
+
+/** A look before the leap: the edits that a cascade would take back are lit, and a click takes them back. */
+async function look(k) {
+  const told = await needs(k);
+  if (!told.ok) return tell(false, told.say);
+  const e = state.edits.find(x => x.k === k);
+  if (e && e.on) e.needs = told.needs;
+  looked = {k, needs: told.needs};
+  draw();
+  item(k)?.querySelector(".look .many")?.focus();
+}
+
+function leap() {
+  const many = looked.needs.length, k = looked.k, done = () => { looked = null; draw(); };
+  const word = many > 1 ? "take back " + many + " edits" : "take back";
+  const go = button("many", word, () => { looked = null; ask({op: "cascade", k}, "cascade " + k); });
+  const box = make("div", "look", make("span", "", "takes back " + numbered(looked.needs)), go, button("", "leave", done));
+  box.onkeydown = e => { if (e.key === "Escape") { e.stopPropagation(); done(); } };
+  return box;
+}
+
+/** Shows an edit for a while. */
+export function light(k) {
+  item(k)?.scrollIntoView({block: "nearest", behavior: "smooth"});
+  mark(k, true);
+  setTimeout(() => mark(k, false), 2500);
+}
+
+// --- what was taken back, and may be put back
+
+function notices() {
+  const made = [];
+  if (state.taken.length) {
+    const many = state.taken.length > 1, which = named(state.taken);
+    made.push(notice("your edit" + (many ? "s " : " ") + which + (many ? " were" : " was") + " taken back by another",
+      many ? "put them back" : "put it back", state.taken));
+  }
+  if (state.cascaded.length) {
+    made.push(notice("a cascade took back " + numbered(state.cascaded), "put back " + listed(state.cascaded), state.cascaded));
+  }
+  return made;
+}
+
+/** Edits by their numbers; one alone with what it did. */
+function named(ks) {
+  const e = ks.length === 1 && state.edits.find(x => x.k === ks[0]);
+  return numbered(ks) + (e && e.what ? " (" + e.what + ")" : "");
+}
+
+/** "16, 17": upward, since each is put back in its own place, below those that read it. */
+const listed = ks => (ks.length > 12 ? ks.length + " edits" : ks.join(", "));
+
+function notice(words, word, ks) {
+  const back = button("", word, () => ask({op: "put_back", ks}, "put back " + listed(ks)));
+  const leave = button("", "leave", () => ask({op: "leave", ks}, "leave"));
+  return make("div", "notice", make("span", "", words), back, leave);
+}
+
+// --- who needs an edit is asked for what is in sight alone
+
+/** The edits in sight, "12-30"; without an end where the latest is in sight. */
+export function inSight() {
+  const rows = [...document.querySelectorAll("#edits li[data-k]")];
+  const frame = document.querySelector("aside").getBoundingClientRect();
+  const low = Math.max(frame.top, 0), high = Math.min(frame.bottom, innerHeight);
+  const seen = rows.filter(r => { const at = r.getBoundingClientRect(); return at.bottom > low && at.top < high; });
+  if (!seen.length) return "";
+  return seen[seen.length - 1].dataset.k + "-" + (seen[0] === rows[0] ? "" : seen[0].dataset.k);
+}
+
+/** Asks anew where something in sight isn't known. */
+function lookAgain() {
+  const here = inSight(), [low, high] = here.split("-").map(Number);
+  const asks = state.version + " " + here;
+  if (!here || wanted === asks) return;
+  wanted = asks;
+  if (state.edits.some(e => e.on && !e.needs && e.k >= low && (!high || e.k <= high))) poll();
+}
+
+let scrolled = 0;
+function onScroll() {
+  clearTimeout(scrolled);
+  scrolled = setTimeout(() => { if (state) lookAgain(); }, 250);
+}
+
+watch(inSight);
+document.querySelector("aside").addEventListener("scroll", onScroll);
+addEventListener("scroll", onScroll);
+addEventListener("resize", onScroll);

@@ -1,0 +1,114 @@
+/* What the page asks its server, what it was told last, and what it says to whoever looks at it. */
+
+export const $ = id => document.getElementById(id);
+
+/** An element with a class, texts and children; texts are never read as HTML. */
+export function make(tag, kind, ...inside) {
+  const made = document.createElement(tag);
+  if (kind) made.className = kind;
+  made.append(...inside.filter(x => x !== null && x !== undefined));
+  return made;
+}
+
+/** A button with a word, and what a click on it does. */
+export function button(kind, word, act) {
+  const made = make("button", kind, word);
+  made.type = "button";
+  made.onclick = act;
+  return made;
+}
+
+/** "16 and 17", or of many the first few and how many there are. */
+export function numbered(all) {
+  if (all.length > 12) return all.slice(0, 8).join(", ") + ", .. and " + all[all.length - 1] + ", " + all.length + " edits";
+  return all.length > 1 ? all.slice(0, -1).join(", ") + " and " + all[all.length - 1] : String(all[0]);
+}
+
+/** What is said below, in the colour of what went well or of what didn't. */
+export function tell(ok, words) {
+  $("said").textContent = words;
+  $("said").className = ok ? "" : "no";
+}
+
+/** The workbook as it was last heard; null before the first time. */
+export let state = null;
+/** Whether the workbook, or the page's server, isn't there now. */
+export let away = false;
+/** How many looks in a row found nothing new. */
+export let quiet = 0;
+
+const GONE = {say: "The page's server is gone", tries: true, unanswered: [], kind: "server"};
+const listeners = {state: () => {}, away: () => {}, back: () => {}, light: () => {}};
+let sight = () => "", looks = 0, heardAt = null;
+
+/** Whom to tell: of a new state, of a workbook that went away and is there again, of an edit in the way. */
+export function listen(others) { Object.assign(listeners, others); }
+
+/** What tells which edits are in sight. */
+export function watch(inSight) { sight = inSight; }
+
+/** Looks whether anything changed. */
+export async function poll() {
+  const mine = ++looks;
+  let status = 0, told = GONE;
+  try {
+    const answer = await fetch("state?seen=" + (state ? state.version : "") + "&sight=" + sight());
+    status = answer.status;
+    told = status === 204 ? null : await answer.json();
+  } catch { /* the server is gone */ }
+  if (mine !== looks) return; // a later look is on its way
+  if (status === 200 || status === 204) here(told);
+  else gone(told, status);
+}
+
+/** The workbook is there; `told` is its state, or null where that is as it was. */
+function here(told) {
+  quiet = told ? 0 : quiet + 1;
+  heardAt = new Date();
+  if (away) { away = false; listeners.back(told || state); }
+  if (told) { state = told; listeners.state(); }
+}
+
+/** It isn't there: what is shown stays, and a page that shows nothing yet shows what its server had last. */
+function gone(told, status) {
+  if (told.state && state === null) { state = told.state; listeners.state(); }
+  quiet = 0;
+  away = true;
+  const say = status === 403 ? "Another server of a page is there now: its terminal shows its address" : told.say;
+  listeners.away({...told, say, heardAt});
+}
+
+let last = Promise.resolve();
+
+/** Does something, after all that was asked before. `words` are what it is told by, where no answer comes. */
+export function ask(what, words) {
+  last = last.then(() => send(what, words));
+  return last;
+}
+
+async function send(what, words) {
+  let told = {ok: false, ...GONE, unanswered: [words]};
+  if (away) told = {ok: false, say: "Not sent, since the workbook isn't there now: " + words};
+  else {
+    try {
+      const answer = await fetch("do", {
+        method: "POST", headers: {"Content-Type": "application/json"}, body: JSON.stringify(what),
+      });
+      told = {ok: false, ...await answer.json()};
+    } catch { /* nobody knows whether it was done */ }
+  }
+  tell(Boolean(told.ok), told.say || "");
+  if (told.unanswered) { looks++; gone(told, 0); }
+  else if (!away) await poll();
+  if (told.by) listeners.light(told.by);
+  return told;
+}
+
+/** Who would go in a cascade of edit k, as the workbook says now. */
+export async function needs(k) {
+  try {
+    return await (await fetch("needs?k=" + k)).json();
+  } catch {
+    return {ok: false, say: GONE.say};
+  }
+}
