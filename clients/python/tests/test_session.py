@@ -221,6 +221,8 @@ class Whole(unittest.TestCase):
             echo = shutil.which("echo") or "echo"
             for words, why in [
                 (["--program", "/no/such"], "there is no program"), (["--program", place], "there is no program"),
+                (["--resume", "/no/such"], "/no/such: No such file"), (["--resume", place], f"{place}: Is a directory"), ([place], "no regular file"),
+                (["--resume", sys.executable], "is no text in UTF-8"),
                 (["--program", junk], "can't be started"), (["--program", echo], "no reply of a workbook"),
                 (["--program", shutil.which("true") or "true"], "has ended with status 0"),
                 (["--connect", "127.0.0.1:1"], "nobody listens"), (["--connect", "127.0.0.1:99999"], "nobody listens"),
@@ -235,6 +237,13 @@ class Whole(unittest.TestCase):
                         self.assertEqual((gone.returncode, gone.stdout), (2 if "HOST" in why else 3, ""))
                         self.assertIn(why, gone.stderr)
                         self.assertNotIn("Traceback", gone.stderr)
+
+    def test_what_is_no_script_is_told_in_a_sentence(self):
+        with tempfile.TemporaryDirectory() as place:
+            for path, why in ((place, f"workbook_client: {place}: Is a directory"), (place + "/x", f"workbook_client: {place}/x: No such file or directory"),
+                              (sys.executable, f"workbook_client: {sys.executable} is no text in UTF-8")):
+                gone = self.run_with("", "--file", path)
+                self.assertEqual((gone.returncode, gone.stdout, gone.stderr.strip()), (3, "", why))
 
     def test_a_server_whose_seats_are_taken(self):
         server = Server(seats=1)

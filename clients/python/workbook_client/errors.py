@@ -39,6 +39,13 @@ class NoAnswer(WorkbookError):
     """No reply within the time. The session goes on: a late reply is still read, in its turn."""
 
 
+def sentence(fault: Exception) -> str:
+    """What an exception says to people: of a file its name and what the system says, without the system's numbers."""
+    if isinstance(fault, OSError) and fault.strerror:
+        return f"{fault.filename}: {fault.strerror}" if fault.filename else fault.strerror
+    return str(fault)
+
+
 class NotTakenBack(WorkbookError):
     """`trying` couldn't turn everything back. `__cause__` is the exception that left the block."""
 

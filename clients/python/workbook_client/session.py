@@ -12,7 +12,7 @@ from . import literals as lit
 from .book import Workbook
 from .channel import ProgramChannel
 from .edits import Cascade, Edit
-from .errors import NotOpened, NotTakenBack, SessionEnded, WorkbookError
+from .errors import NotOpened, NotTakenBack, SessionEnded, WorkbookError, sentence
 from .labels import WAYS
 from .language import Command, LanguageError, parse
 from .literals import Index
@@ -137,7 +137,7 @@ class Session:
             self.failed = True
             if isinstance(wrong, NotTakenBack) and isinstance(wrong.why, SessionEnded):
                 raise SessionEnded(str(wrong)) from wrong
-            self.wrapped(str(wrong))
+            self.wrapped(sentence(wrong))
         return True
 
     def point(self, text: str, wrong: LanguageError, prompt: str) -> None:

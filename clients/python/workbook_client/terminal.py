@@ -6,9 +6,9 @@ import os
 import sys
 from typing import Any, List, NamedTuple, Optional, TextIO, Union
 
-from . import away, log
+from . import away, files, log
 from .book import Workbook
-from .errors import NoProgram, NotResumed, SessionEnded, WorkbookError
+from .errors import NoProgram, NotResumed, SessionEnded, WorkbookError, sentence
 from .language import WORDS
 from .redis import RedisRefused, place_of
 from .refusals import Refusal
@@ -191,25 +191,25 @@ def arguments(description: str) -> argparse.ArgumentParser:
 
 def open_book(args: argparse.Namespace) -> Workbook:
     """The workbook of --program, --resume, --journal or --connect."""
-    files = [file for file in (args.journal, args.plan, args.resume) if file is not None]
-    if len(files) > 1:
+    given = [file for file in (args.journal, args.plan, args.resume) if file is not None]
+    if len(given) > 1:
         raise NoProgram("a workbook goes on from one file: that of --journal, or that of --resume")
-    if args.connect and files:
+    if args.connect and given:
         raise NoProgram("a shared workbook is kept, and goes on, by `workbook serve`, not by its seats")
     if isinstance(args.connect, Log):
         return Workbook.stream(*args.connect)
     if args.connect:
         return Workbook.connect(*args.connect)
-    if args.resume is None and files:
-        return Workbook.run(args.program, journal=files[0])
+    if args.resume is None and given:
+        return Workbook.run(args.program, journal=given[0])
     if args.resume is None:
         return _answering(Workbook.run(args.program))
-    with open(args.resume, encoding="utf-8", newline="") as file:
-        text = file.read()
     try:
-        return Workbook.run(args.program, resume=text)
+        return Workbook.run(args.program, resume=files.read(args.resume))
     except ValueError as wrong:
         raise NotResumed(f"{args.resume}: {wrong}") from wrong
+    except OSError as fault:
+        raise NotResumed(sentence(fault)) from fault
 
 
 def _answering(book: Workbook) -> Workbook:
@@ -243,8 +243,11 @@ def main(words: Optional[List[str]] = None) -> int:
             if args.file or not sys.stdin.isatty():
                 return script(session, sys.stdin, args.keep_going)
             return converse(session)
-    except (WorkbookError, RedisRefused, OSError, UnicodeDecodeError) as end:
-        print(f"workbook_client: {end}", file=sys.stderr)
+    except UnicodeDecodeError:
+        print(f"workbook_client: {'standard input' if args.file in (None, '-') else args.file} is no text in UTF-8", file=sys.stderr)
+        return 3
+    except (WorkbookError, RedisRefused, OSError) as end:
+        print(f"workbook_client: {sentence(end)}", file=sys.stderr)
         return 3
     except KeyboardInterrupt:
         return 130

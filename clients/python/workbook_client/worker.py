@@ -163,7 +163,7 @@ class Worker:
         """Tells why there is no log, once."""
         if str(fault) != self._fault:
             self._fault = str(fault)
-            tell(f"{fault}; it is tried again until it is there" if not self.stopping else fault)
+            tell(f"{self._fault.rstrip('.')}; it is tried again until it is there" if not self.stopping else fault)
 
     def _is_there(self) -> None:
         """Tells that the log is there, where it wasn't."""
