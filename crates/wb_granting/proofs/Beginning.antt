@@ -1,15 +1,11 @@
 -- The line that a history begins with.
-use Rattle.std.proofs.Common.{◌≡◌, inl, inr, ℕ, Bool, true, if◌then◌else◌, List, [], ◌∷◌, codes, Option, Some, Result, Ok, Err, refl, sym, ◌∙◌, ap, subst}
-use Rattle.std.specs.Str.{is_utf8}
-use Rattle.serde_json.specs.Data.{Data, object, string, member, no_members}
+use Rattle.std.proofs.Common.{◌≡◌, inl, inr, ℕ, Bool, if◌then◌else◌, List, [], ◌∷◌, Some, Result, Ok, Err, refl, sym, ◌∙◌, ap, subst}
 use Rattle.serde_json.specs.Read.{read}
-use Rattle.serde_json.proofs.OnLiterals.{serde_json_on_literals}
 use Rattle.wb_kept.specs.Runs.{Leads}
-use Rattle.wb_proto.specs.Below.wb_edit.edit.Edit.{Edit}
 use Rattle.wb_proto.specs.Below.wb_history.Past.{Numbered, Past}
 use Rattle.wb_proto.specs.Below.wb_log.refusal.Refusal.{Refusal}
 use Rattle.wb_proto.specs.Below.wb_log.refusal.Refusal.TheVariants.{BadRequest}
-use Rattle.wb_proto.specs.Machine.{AnswersText, StepIfRead}
+use Rattle.wb_proto.specs.Machine.{StepIfRead}
 use Rattle.wb_proto.specs.Replies.{reply_of}
 use Rattle.wb_proto.specs.Requests.{request, request_of, of_json}
 use Rattle.wb_proto.specs.declared.replies.reply.Reply.{Reply}

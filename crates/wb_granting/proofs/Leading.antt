@@ -53,7 +53,7 @@ granted_one p (Redo k) q u (n, (is, reply, put)) (m, (same_is, other, also)) =
     past_same q u (put.entries ∙ sym also.entries) (put.writes ∙ ap (λ (c : ℕ). written_more p.writes c) counts ∙ sym also.writes)
 granted_one p asked q u granted other = absurd granted
 
-asked_one : (p : Past) (line : List ℕ) (q u : Past) → GrantsAsked p line q → GrantsAsked p line u → q ≡ u
+pub asked_one : (p : Past) (line : List ℕ) (q u : Past) → GrantsAsked p line q → GrantsAsked p line u → q ≡ u
 asked_one p line q u (a, read, granted) (b, also, other) =
     let both : Ok a ≡ Ok b = sym read ∙ also in
     let same : a ≡ b = cc in

@@ -1,11 +1,12 @@
 -- Which lines are changes of a history, and which changes an answered line made.
-use Rattle.std.specs.Prelude.{◌≡◌, ◌⊎◌, ℕ, true, List, [], ◌∷◌, ◌++◌, map, codes, Some, Result, Ok, Err}
+use Rattle.std.specs.Prelude.{◌≡◌, ◌≢◌, ◌⊎◌, ℕ, true, List, [], ◌∷◌, ◌++◌, map, codes, Some, Result, Ok, Err}
 use Rattle.std.specs.Str.{is_utf8}
 use Rattle.serde_json.specs.Data.{Data, object, string, member, no_members}
 use Rattle.serde_json.specs.Read.{read}
 use Rattle.serde_json.specs.Written.{compact_text}
 use Rattle.wb_kept.specs.Runs.{Leads}
-use Rattle.wb_proto.specs.Below.wb_history.Past.{Past}
+use Rattle.wb_proto.specs.Below.wb_edit.edit.Edit.{Edit}
+use Rattle.wb_proto.specs.Below.wb_history.Past.{Numbered, Past}
 use Rattle.wb_proto.specs.Below.wb_history.Restored.{IsCounted}
 use Rattle.wb_proto.specs.Below.wb_log.refusal.Refusal.{Refusal}
 use Rattle.wb_proto.specs.Below.wb_log.refusal.Refusal.TheVariants.{BadRequest}
@@ -123,3 +124,26 @@ BeginsNoSession = (line : List ℕ) (q : Past) → Begins line q → request lin
 -- The edits of a history to which lines lead were each asked for by a line.
 abbrev pub LinesAsk : Type 0
 LinesAsk = (lines : List (List ℕ)) (q : Past) → Leads Grants no_edit lines q → AreAsked q.entries
+
+-- the edits of a history, in the order of their numbers
+abbrev pub edits_of : List Numbered → List Edit
+edits_of es = map (λ x. x.edit) es
+
+-- the edit that a line asks for, if it asks for one
+abbrev pub edit_asked : Result Request Refusal → List Edit
+edit_asked (Ok (Change e)) = e ∷ []
+edit_asked asked = []
+
+-- the edits that lines ask for, in order
+abbrev pub edits_asked : List (List ℕ) → List Edit
+edits_asked [] = []
+edits_asked (line ∷ lines) = edit_asked (request line) ++ edits_asked lines
+
+-- The edits of a history are those that its lines ask for, in their order.
+abbrev pub EditsInOrder : Type 0
+EditsInOrder = (lines : List (List ℕ)) (p q : Past) → Leads GrantsAsked p lines q → edits_of q.entries ≡ edits_of p.entries ++ edits_asked lines
+
+-- Without any one of its lines, a file leads to another history, if to any.
+abbrev pub EachLineCounts : Type 0
+EachLineCounts = (before after : List (List ℕ)) (line : List ℕ) (p q u : Past) → Leads GrantsAsked p (before ++ line ∷ after) q →
+    Leads GrantsAsked p (before ++ after) u → q ≢ u

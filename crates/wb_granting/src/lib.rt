@@ -1,8 +1,8 @@
-//! Which lines are changes of a history, and which changes an answered line made (`specs/Granting.antt`), with four laws, each
+//! Which lines are changes of a history, and which changes an answered line made (`specs/Granting.antt`), with six laws, each
 //! the contract of a function that does nothing.
 #![tactic(auto)]
 
-ghost use Rattle.wb_granting.specs.Granting.{OneHistory, ChangesLead, BeginsNoSession, LinesAsk};
+ghost use Rattle.wb_granting.specs.Granting.{OneHistory, ChangesLead, BeginsNoSession, LinesAsk, EditsInOrder, EachLineCounts};
 
 /// A change leads to one history.
 pub fn one_history()
@@ -22,4 +22,15 @@ pub fn begins_no_session()
 /// The edits of a history to which lines lead were each asked for by a line, so that the history has a text that is read.
 pub fn lines_ask()
     ensures { LinesAsk }
+{}
+
+/// The edits of a history are those that its lines ask for, in their order. So lines that ask for the edits in another order
+/// stand for another history.
+pub fn edits_in_order()
+    ensures { EditsInOrder }
+{}
+
+/// Without any one of its lines a file stands for another history, or for none; so does one that has a line twice.
+pub fn each_line_counts()
+    ensures { EachLineCounts }
 {}
