@@ -47,11 +47,16 @@ class Figures:
         """So many lines, by the scale that was asked for."""
         return max(least, round(count * self.words.scale))
 
+    def version(self):
+        """What the program says that it is."""
+        words = [os.path.abspath(self.words.program or BUILT["workbook"]), "--version"]
+        return subprocess.run(words, stdin=subprocess.DEVNULL, stdout=subprocess.PIPE, check=True, text=True).stdout.strip()
+
     def save(self):
         """Writes them to the file that was asked for, if there is one."""
         if not self.words.save:
             return
-        told = {"script": os.path.relpath(os.path.realpath(sys.argv[0]), TOP), "scale": self.words.scale, "runs": self.words.runs,
+        told = {"program": self.version(), "script": os.path.relpath(os.path.realpath(sys.argv[0]), TOP), "scale": self.words.scale, "runs": self.words.runs,
                 "processors": os.cpu_count(), "load": [self.load, os.getloadavg()], "figures": self.of}
         with open(self.words.save, "w", encoding="utf-8") as file:
             json.dump(told, file, indent=1)

@@ -20,7 +20,7 @@ from workbook_model import Machine
 
 from .course import HISTORY, told
 from .runs import slowed
-from .text import answered, numbered, recovered
+from .text import answered, at_rest, numbered, recovered
 
 SEATS = 16
 ELEMENTS = 400
@@ -138,7 +138,11 @@ class Desks:
         self.seats = [Seat(number, chance) for number in range(SEATS)]
 
     def killed(self):
-        """Starts a desk, and ends it under load: what is wrong, None where nothing is."""
+        """Starts a desk, and ends it under load: what is wrong with it or its file, None where nothing is."""
+        return self.ended() or self.fault()
+
+    def ended(self):
+        """Starts a desk, and ends it under load: what is wrong with it, None where nothing is."""
         with subprocess.Popen(self.words, stdin=subprocess.DEVNULL, stdout=subprocess.PIPE, stderr=subprocess.PIPE, env=slowed(self.recorder)) as desk:
             try:
                 fault = self.under_load(desk)
@@ -151,7 +155,7 @@ class Desks:
             fault = "it ended by itself with status %d, and said %r" % (desk.returncode, said)
         for seat in self.seats:
             seat.leave()
-        return fault or self.fault()
+        return fault
 
     def under_load(self, desk):
         """Connects all seats to a desk that begins, and has them ask for some time: what is wrong with its history."""
@@ -195,6 +199,24 @@ class Desks:
                 return "the model does not grant %r" % line
         self.lines, shares = lines, shares_of(lines)
         return next((fault for fault in [seat.go_on(shares) for seat in self.seats] if fault), None)
+
+
+def notices_a_loss(program, recorder, folder, seed):
+    """Whether a file is noticed that lacks the last change which a seat was told of, and all behind it."""
+    with tempfile.TemporaryDirectory(dir=folder) as room:
+        desks = Desks(program, recorder, os.path.join(room, "plan"), random.Random("loss %s" % seed))
+        for _ in range(DESKS):
+            fault = desks.ended()
+            told_of = [seat for seat in desks.seats if seat.changes]
+            if fault or told_of:
+                break
+            desks.fault()
+        if fault or not told_of:
+            return False
+        lines, seat = recovered(Path(desks.journal).read_bytes()), told_of[0]
+        owned = [count for count in range(len(lines)) if shares_of(lines[: count + 1]).get(seat.number, ([],))[0][len(seat.changes) - 1 :]]
+        Path(desks.journal).write_bytes(at_rest(lines[: owned[0]]) if owned else b"")
+        return desks.fault() is not None
 
 
 def desks_killed(program, recorder, folder, count, seed):
