@@ -22,7 +22,8 @@ def parser_of(doc, is_built=False, json_only=False, runs=RUNS):
         parser.add_argument("program")
     if json_only:
         parser.add_argument("--json-only", metavar="JSON_ONLY", help="the program that only reads JSON lines and prints them again")
-    parser.add_argument("--runs", type=int, default=runs, metavar="R", help="runs or rounds of each (%(default)s)")
+    if runs:
+        parser.add_argument("--runs", type=int, default=runs, metavar="R", help="runs or rounds of each (%(default)s)")
     parser.add_argument("--scale", type=float, default=1.0, metavar="S", help="so many times the lines, for a shorter run (%(default)s)")
     parser.add_argument("--save", metavar="FILE", help="the figures, as JSON")
     return parser
@@ -56,7 +57,7 @@ class Figures:
         """Writes them to the file that was asked for, if there is one."""
         if not self.words.save:
             return
-        told = {"program": self.version(), "script": os.path.relpath(os.path.realpath(sys.argv[0]), TOP), "scale": self.words.scale, "runs": self.words.runs,
+        told = {"program": self.version(), "script": os.path.relpath(os.path.realpath(sys.argv[0]), TOP), "scale": self.words.scale, "runs": getattr(self.words, "runs", 1),
                 "processors": os.cpu_count(), "load": [self.load, os.getloadavg()], "figures": self.of}
         with open(self.words.save, "w", encoding="utf-8") as file:
             json.dump(told, file, indent=1)

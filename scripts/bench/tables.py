@@ -23,8 +23,9 @@ def times(found, aim=None):
 
 
 def of_lines(of):
-    names = {"set": ("`set`", 1.3), "undo": ("pairs of `set` and `undo` of the latest", 1.3), "last": ("as many `set`, then as many `undo`", 1.3),
-             "number": ("`set`, all undone and redone by number", 2.5), "get": ("`get`", 1.2)}
+    last, number = ("{:,}".format((of[kind]["lines"] - 2) // parts) for kind, parts in (("last", 2), ("number", 3)))
+    names = {"set": ("`set`", 1.3), "undo": ("pairs of `set` and `undo` of the latest", 1.3), "last": (last + " `set`, then as many `undo`", 1.3),
+             "number": (number + " `set`, all undone and redone by number", 2.5), "get": ("`get`", 1.2)}
     return [(name, "%s µs a line" % short(of[kind]["us"]), times(of[kind], aim)) for kind, (name, aim) in names.items()]
 
 
@@ -34,7 +35,7 @@ def of_index(of):
     over = ["%g for %d" % (aim, fill["cells"]) for fill, aim in zip(fills, (400, 500))]
     missed = any(fill["kept"] > aim for fill, aim in zip(fills, (400, 500)))
     return [
-        ("a `set`; more in the index", "%s; %s bytes" % (short(one["kept"]), short(one["index"])), aimed("both", one["kept"] + one["index"], 300)),
+        ("a `set`; more in the index", "%s; %s bytes" % (short(one["kept"]), short(one["index"])), aimed("both %s" % short(one["kept"] + one["index"]), one["kept"] + one["index"], 300)),
         ("an `add` to an associative domain", "%s bytes" % short(of["add"]["kept"]), aimed("", of["add"]["kept"], 400)),
         ("a fill of %s cells; more in the index" % ", ".join(str(fill["cells"]) for fill in fills),
          "%s; %s bytes" % (listed(kept), listed(fill["index"] for fill in fills)), "aim %s%s" % (", ".join(over), ", missed" if missed else "")),
@@ -101,7 +102,7 @@ def of_desk(of):
 
 def of_wait(of):
     level = "real-time" if of["is_real_time"] else "normal"
-    return [("a `get` behind 200 dear lines of another seat, at %s priority" % level, "%s to %s ms" % tuple(map(short, of["ms"])),
+    return [("a `get` behind %d dear lines of another seat, at %s priority" % (of["count"], level), "%s to %s ms" % tuple(map(short, of["ms"])),
              aimed("%s such lines" % short(of["lines"]), of["lines"], 2))]
 
 
