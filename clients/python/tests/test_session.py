@@ -155,6 +155,25 @@ class Talk(unittest.TestCase):
             self.assertEqual(os.listdir(place), ["book"])
             self.assertIn("Is a directory", self.say(f"save {place}"))
 
+    def test_a_long_table_has_pages(self):
+        self.say("D = {1..100, 1..2}", "A over D", "A[90, 1] = 7", "N = text", "N |= {" + ", ".join(f'"n{i}"' for i in range(100, 200)) + "}", "P over N")
+        self.say("R = {1..400}", "B over R", "C = {1..10, 1..1, 1..1}", "E over C")
+        for line, first, pages, many in (("A", r"│ +(\d+) │ ", 3, 100), ("P", r"│ n(\d+) +│ ", 3, 100), ("E", r"\[(\d+), .., ..\]", 2, 10)):
+            told = [self.say(line), *(self.say("more") for _ in range(pages - 1))]
+            seen = [int(n) for page in told for n in re.findall(f"^{first}", page, re.M)]
+            with self.subTest(line):
+                self.assertEqual([page.count("`more` goes on") for page in told], [1] * (pages - 1) + [0])
+                self.assertEqual((seen, len(seen)), (sorted(set(seen)), many))
+                self.assertIn("no table was shown that goes on", self.say("more"))
+        self.assertEqual(told[0].splitlines()[-1], "  … and 2 more planes; `more` goes on")
+        self.assertIn("and 80 more elements; `more` goes on", self.say("B"))
+        self.assertRegex(self.say("more"), "\n│ 321 │")
+        self.say("A[2..50, 1..2]")
+        self.assertIn("│ 50 │ 0 │ 0 │", self.say("more"))
+        told = self.say("show A / 10", "more", "more")
+        self.assertEqual((told.count("│ 90 │ 0.7 │"), told.count("│ 100 │"), told.count("│  81 │")), (0, 1, 1))
+        self.assertIn("│  90 │ 0.7 │", told)
+
     def test_what_a_terminal_would_obey_is_not_printed(self):
         self.wb.assoc("T", "text").add("a\x9bb\u202ec")
         self.wb.array("P", "T")

@@ -13,7 +13,7 @@ from .requests import Request
 
 COMMANDS = (
     "cascade", "colours", "compact", "dependents", "drop", "exit", "export", "help", "history", "import", "keep", "label", "load", "max", "min",
-    "names", "piece", "quit", "redo", "save", "show", "size", "text", "undo", "where",
+    "more", "names", "piece", "quit", "redo", "save", "show", "size", "text", "undo", "where",
 )
 WORDS = COMMANDS + ("by", "align", "dmapped", "over", "sparse", "reduce", "int", "text", "irv", "rows", "columns")
 

@@ -20,7 +20,7 @@ from .objects import Array
 from .refusals import Blocked, NotInForce, Refusal
 from .requests import Request
 from .snapshot import Snapshot
-from .tables import Cell, Looks, elements_table, grid, harmless, object_table
+from .tables import NEXT, Cell, Looks, elements_table, grid, harmless, object_table
 
 HELP = """\
 Domains        D = {1..4}                    a new domain; on one that is there, a new value
@@ -43,6 +43,7 @@ Arrays         A over D                      0 at each index
                drop A                        an array goes, or an unused domain
 Looking        A     A[4]     A[1..20]       a table, an element, a part of the table
                show A / 100                  the same with two digits behind a point
+               more                          the next page of a long table
                label A rows B                titles from B: B["x"] = 3 calls row 3 x
                label A columns C             label A rows, alone, shows the numbers again
                + reduce A    min reduce A    max reduce A
@@ -83,6 +84,8 @@ class Session:
         """Whether the last line was refused, or wasn't of the language."""
         self.refusal: Optional[Refusal] = None
         """What the program refused it with."""
+        self._next: Optional[Tuple[str, Optional[str], int, int]] = None
+        """The page of a table that `more` shows."""
         self._kept = self._now()
         """Which edits there were, and which in force, when a file last had them."""
 
@@ -211,19 +214,27 @@ class Session:
         """Every line of the help whose command is taken here."""
         self.say("\n".join(line for line in HELP.splitlines() if line[15:].split()[0] not in self.barred))
 
-    def do_show(self, name: str, part: Optional[str] = None, decimals: int = 0) -> None:
+    def do_show(self, name: str, part: Optional[str] = None, decimals: int = 0, page: int = 0) -> None:
         ranges = None if part is None else lit.spelled_ranges(part)
         book = self.book.snapshot()
         if name not in book.names():
             self.wrapped(f"nothing is called {name} now")
             return
-        locales, looks = self.locales(name, name in book.arrays), self.looks(book, name, decimals)
-        self.say(object_table(book, name, self.width, locales, ranges, looks))
+        locales, looks = self.locales(name, name in book.arrays), self.looks(book, name, decimals, page)
+        table = object_table(book, name, self.width, locales, ranges, looks)
+        self._next = (name, part, decimals, page + 1) if NEXT in table else None
+        self.say(table)
 
-    def looks(self, book: Snapshot, name: str, decimals: int = 0) -> Looks:
+    def do_more(self) -> None:
+        """The next page of the table that was shown last, as the workbook is now."""
+        if self._next is None:
+            raise ValueError("no table was shown that goes on")
+        self.do_show(*self._next)
+
+    def looks(self, book: Snapshot, name: str, decimals: int = 0, page: int = 0) -> Looks:
         """The titles that an array was given here, as they are now."""
         down, across = (labels.titles(book, self.labels.get((name, way))) for way in WAYS)
-        return Looks(down, across, decimals)
+        return Looks(down, across, decimals, page)
 
     def do_label(self, name: str, way: str, source: Optional[str]) -> None:
         self.labels.pop((name, way), None)

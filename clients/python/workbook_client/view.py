@@ -40,6 +40,7 @@ TERMINAL_ALONE = {
     **dict.fromkeys(("save", "load", "keep", "import", "export", "compact"), "Files are for the terminal; the links above give the texts."),
     "colours": "Colours by locale are the box above.",
     "label": "Titles are for the session at the terminal.",
+    "more": "Tables are shown above.",
     "quit": "The page is closed in the browser; its server ends by Ctrl-C in the terminal.",
 }
 """Commands of the session that the page doesn't take."""
