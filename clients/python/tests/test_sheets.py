@@ -149,7 +149,8 @@ class In(Sheets):
         before = wb.counts()
         for array, text, why in (
             (P, "Ada,1\nAda,2\n", "row 2: the index Ada stands there twice"), (P, "1\n2\n", "2 rows and 1 column, and the array 3 elements"),
-            (P, "a,b,c\nAda,1,2\n", "2 columns are wanted"), (P, "Ada,1\nBen,1.5\n", "row 2, column 2"), (P, "who,h\n\nBen,x\n", "row 3, column 2"), (P, "Ada,1.5\n", "row 1, column 2"),
+            (P, "a,b,c\nAda,1,2\n", "2 columns are wanted"), (P, "Ada,1\nBen,1.5\n", "row 2, column 2"),
+            (P, "who,h\n\nBen,x\n", "row 3, column 2"), (P, "Ada,1.5\n", "row 1, column 2"),
             (P, 'A"da,1\n', "no \", \\"), (row, "1,2\n1.5,2\n", "row 2, column 1"), (row, "1\n2\n3\n4\n5\n", "5 rows"), (row, "1,2,3\n", "3 columns"),
         ):
             with self.subTest(text), self.assertRaises(ValueError) as no:

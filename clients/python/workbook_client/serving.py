@@ -5,7 +5,7 @@ from typing import IO, TYPE_CHECKING, Any, Callable, List, Optional
 
 from . import journal as journals
 from .channel import STATUSES, Program, command, last_words, scratch
-from .errors import NoProgram, NotOpened, NotResumed, SessionEnded
+from .errors import NoProgram, NotResumed, SessionEnded
 
 if TYPE_CHECKING:
     from .book import Workbook
