@@ -30,12 +30,12 @@ PROGRAM = program()
 
 def with_journal(word: str) -> Any:
     """A program whose command `serve` or `compact` takes a journal: the program, or what stands in where its command doesn't."""
-    try:
-        told = subprocess.run([PROGRAM, word, "--help"], capture_output=True, text=True).stdout
+    options = ["--port", "0", "--seats", "1", "--journal"] if word == "serve" else []
+    try:  # in a folder that isn't there: status 3 where the words are taken, and 2 where they aren't
+        status = subprocess.run([PROGRAM, word, *options, str(HERE / "none" / "plan.wb")], stderr=subprocess.DEVNULL).returncode
     except OSError:
-        told = ""
-    takes = "--journal" in told if word == "serve" else bool(told)
-    return PROGRAM if takes else [sys.executable, str(HERE.with_name("kept_desk.py")), PROGRAM, word]
+        status = 2
+    return PROGRAM if status == 3 else [sys.executable, str(HERE.with_name("kept_desk.py")), PROGRAM, word]
 
 
 class Server:

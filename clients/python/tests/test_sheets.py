@@ -224,8 +224,8 @@ class NewTables(unittest.TestCase):
 
 
     def test_many_elements(self):
-        """More than a page of the browser has: 120 rows, 50 columns, with titles."""
-        rows = [[(7 * i * j) % 1001 - 500 for j in range(50)] for i in range(120)]
+        """More than a page of the browser has: 83 rows, 50 columns, with titles."""
+        rows = [[(7 * i * j) % 1001 - 500 for j in range(50)] for i in range(83)]
         text = "\n".join([",".join(["", *(f"day {j}" for j in range(50))]), *(",".join([f"Ada {i}", *map(str, row)]) for i, row in enumerate(rows))])
         with Workbook.run(PROGRAM) as wb, tempfile.TemporaryDirectory() as place:
             A = wb.from_csv("Hours", io.StringIO(text))
@@ -237,7 +237,7 @@ class NewTables(unittest.TestCase):
             with open(path, encoding="utf-8") as file:
                 self.assertEqual(file.read(), text + "\n")
             edits = wb.counts()
-            with self.assertRaisesRegex(ValueError, "row 121, column 51: 'x' is no whole number"):
+            with self.assertRaisesRegex(ValueError, "row 84, column 51: 'x' is no whole number"):
                 A.from_csv(io.StringIO(text[: text.rindex(",")] + ",x\n"))
             self.assertEqual(wb.counts(), edits)
 
