@@ -12,8 +12,9 @@ import threading
 import time
 import unittest
 import urllib.request
+from contextlib import contextmanager
 from http.server import ThreadingHTTPServer
-from typing import Any, List, Optional
+from typing import Any, Iterator, List, Optional
 
 from tests.support import HERE  # noqa: F401  (so that the package beside the tests is found)
 from workbook_client import Workbook
@@ -229,6 +230,13 @@ class InABrowser(unittest.TestCase):
         self.addCleanup(thread.join)
         self.addCleanup(server.server_close)
         self.addCleanup(server.shutdown)
+
+    @contextmanager
+    def held(self) -> Iterator[Workbook]:
+        """The workbook of the page, which asks nothing of it meanwhile."""
+        view = self.server.RequestHandlerClass.view
+        with view._lock:
+            yield view.book
 
     def line(self, browser: Browser, *lines: str) -> None:
         """Types lines below the page."""

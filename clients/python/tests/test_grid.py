@@ -4,6 +4,7 @@ import csv
 import io
 import json
 import unittest
+from typing import Any
 
 from tests.browser import CTRL, SHIFT, Browser, InABrowser
 from tests.support import PROGRAM
@@ -21,9 +22,9 @@ def cell(key: str) -> str:
 class Grid(InABrowser):
     def grid(self, *shape: range) -> Browser:
         """The page of an array A of this shape, 3 rows and 4 columns unless something else is told."""
-        self.book = Workbook.run(PROGRAM)
-        self.book.array("A", self.book.domain("D", shape or (range(1, 4), range(1, 5))))
-        browser = self.open(self.book)
+        book = Workbook.run(PROGRAM)
+        book.array("A", book.domain("D", shape or (range(1, 4), range(1, 5))))
+        browser = self.open(book)
         browser.do("Browser.grantPermissions", permissions=["clipboardReadWrite", "clipboardSanitizedWrite"])
         browser.until("document.querySelector('.value') !== null")
         return browser
@@ -31,6 +32,16 @@ class Grid(InABrowser):
     def edits(self, browser: Browser) -> "list[str]":
         """What the edits after the first two did, as the page lists them."""
         return browser.js("[...document.querySelectorAll('.edits li .what')].map(x => x.innerText)")[-3::-1]
+
+    def sets(self, values: Any) -> None:
+        """Elements of A are set, and not by the page's keys."""
+        with self.held() as book:
+            book["A"][:] = values
+
+    def has(self, name: str, *values: int) -> None:
+        """An array has these elements."""
+        with self.held() as book:
+            self.assertEqual(list(book[name]), list(values))
 
     def pastes(self, browser: Browser, text: str) -> None:
         """Pastes a text that was copied elsewhere."""
@@ -152,7 +163,7 @@ class Grid(InABrowser):
 
     def test_choosing_by_shift_and_by_the_mouse(self):
         browser = self.grid()
-        self.book["A"].fill((range(1, 4), range(1, 5)), 9223372036854775807)
+        self.sets(9223372036854775807)
         self.shows(browser, "A[3, 4]", 9223372036854775807)
         browser.click(cell("A[2, 2]"))
         browser.key("ArrowRight", SHIFT)
@@ -175,7 +186,7 @@ class Grid(InABrowser):
 
     def test_copying(self):
         browser = self.grid()
-        self.book["A"][:] = [[1, 2, 3, 4], [-5, 0, 7, 8], [9, 10, 11, 12]]
+        self.sets([[1, 2, 3, 4], [-5, 0, 7, 8], [9, 10, 11, 12]])
         self.shows(browser, "A[3, 4]", 12)
         browser.drag(cell("A[1, 1]"), cell("A[2, 3]"))
         browser.key("c", CTRL)
@@ -184,7 +195,7 @@ class Grid(InABrowser):
         browser.click(cell("A[2, 2]"))
         browser.key("v", CTRL)  # what was copied here is pasted here
         self.says(browser, "6 cells of A set by 6 edits, 15 to 20")
-        self.assertEqual(list(self.book["A"]), [1, 2, 3, 4, -5, 1, 2, 3, 9, -5, 0, 7])
+        self.has("A", 1, 2, 3, 4, -5, 1, 2, 3, 9, -5, 0, 7)
         self.assertEqual(browser.faults, [])
 
     def test_pasting_from_a_spreadsheet(self):
@@ -204,7 +215,8 @@ class Grid(InABrowser):
         """Nothing of it is sent."""
         browser = self.grid()
         browser.click(cell("A[1, 1]"))
-        before = self.book.exchange.posted
+        with self.held() as book:
+            before = book.exchange.posted
         for text, words in (
             ("1\t2\n3\t1.5", "row 2, column 2 of what is pasted: whole numbers only: 1.5 isn't one"),
             ("1\t", "row 1, column 2 of what is pasted: whole numbers only: an empty cell isn't one"),
@@ -217,7 +229,7 @@ class Grid(InABrowser):
             with self.subTest(text):
                 self.pastes(browser, text)
                 self.says(browser, words)
-        self.assertEqual((self.edits(browser), self.book.exchange.posted), ([], before))
+        self.assertEqual((self.edits(browser), book.exchange.posted), ([], before))
         self.assertEqual(browser.faults, [])
 
     def test_holes_in_what_is_pasted(self):
@@ -256,7 +268,7 @@ class Grid(InABrowser):
         browser.key("Delete")
         self.shows(browser, "A[1, 3]", 0)
         self.assertEqual(self.edits(browser), ["A[3..7 by 2, 3..4] = 6", "A[1..1, 2..3] = -8", "A[1..1, 2..3] = 0"])
-        self.assertEqual(list(self.book["A"]), [0, 0, 0, 0, 0, 6, 6, 0, 0, 6, 6, 0, 0, 6, 6, 0, 0, 0, 0, 0])
+        self.has("A", 0, 0, 0, 0, 0, 6, 6, 0, 0, 6, 6, 0, 0, 6, 6, 0, 0, 0, 0, 0)
         browser.keys("1.5")
         browser.key("Enter", CTRL)
         self.says(browser, "whole numbers only: 1.5 isn't one")
@@ -274,7 +286,7 @@ class Grid(InABrowser):
         browser.keys("4")
         browser.key("Enter", CTRL)
         self.says(browser, "2 cells of Left set by 2 edits")
-        self.assertEqual(list(book["Left"]), [4, 4, 0])
+        self.has("Left", 4, 4, 0)
         self.assertEqual(browser.faults, [])
 
     def test_planes(self):
@@ -292,7 +304,7 @@ class Grid(InABrowser):
 
     def test_the_link_to_a_table(self):
         browser = self.grid()
-        self.book["A"][:] = [[1, 2, 3, 4], [5, 6, 7, 8], [9, 10, 11, 12]]
+        self.sets([[1, 2, 3, 4], [5, 6, 7, 8], [9, 10, 11, 12]])
         self.assertEqual(browser.text(".csv"), "CSV")
         text = browser.js("fetch(document.querySelector('.csv').href).then(x => x.text())")
         rows = list(csv.reader(io.StringIO(text)))

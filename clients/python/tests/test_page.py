@@ -385,8 +385,16 @@ class Page(unittest.TestCase):
     def test_a_program_that_is_gone(self):
         book = Workbook.run(PROGRAM)
         self.open(book)
+        self.lines("D = {1..2}")
+        last = self.ask("/state")[1]
         book.close()
-        self.assertEqual(self.ask("/state")[0], 503)
+        status, told = self.ask("/state")
+        self.assertEqual((status, told["tries"], told["unanswered"], told["state"]), (503, False, [], last))
+        self.assertIsNone(self.ask("/state?seen=" + last["version"])[1]["state"])
+        status, told = self.ask("/do", {"line": "A over D"})
+        self.assertEqual((status, told["sent"]), (503, False))
+        for path in ("/text", "/needs?k=1", "/csv?a=A"):
+            self.assertEqual(self.ask(path)[0], 503)
 
 
 if __name__ == "__main__":

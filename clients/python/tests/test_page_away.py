@@ -70,7 +70,8 @@ class Away(InABrowser):
         A = other["A"]
         A[2] = 6
         self.shows(browser, "A[2]", 6)
-        self.server.RequestHandlerClass.view.book.exchange.channel.close()  # the page's seat alone is cut
+        with self.held() as book:
+            book.exchange.channel.close()  # the page's seat alone is cut
         other.undo(3)
         A[2] = 9
         self.says_it_is_there(browser)
@@ -112,9 +113,11 @@ class Away(InABrowser):
             browser.js("document.getElementById('words').value = ''")
             self.line(browser, "A[2] = 7")
             self.shows(browser, "A[2]", 7)
-            book.close()
-            with Workbook.run(PROGRAM, journal=path) as kept:
-                self.assertEqual(list(kept["A"]), [5, 7])
+            with self.held() as now:
+                self.assertEqual(list(now["A"]), [5, 7])
+            with open(path, encoding="utf-8") as file:
+                changes = [line for line in file if '"op"' in line]
+            self.assertEqual((len(changes), '"v":7' in changes[-1]), (4, True))  # what had no answer isn't sent again
 
     def test_a_program_whose_workbook_was_kept_nowhere(self):
         book = Workbook.run(PROGRAM)
@@ -122,7 +125,7 @@ class Away(InABrowser):
         self.assertIn("kept nowhere", browser.text("#where"))
         self.line(browser, "D = {1..2}", "A over D", "A[1] = 5")
         self.dies(book)
-        self.says_it_is_away(browser, "the program has ended with status -9", "It isn't tried again.")
+        self.says_it_is_away(browser, "The program has ended with status -9", "It isn't tried again.")
         self.assertEqual(browser.text(CELL), "5")
 
     def test_the_pages_server_is_gone(self):

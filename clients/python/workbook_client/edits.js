@@ -75,7 +75,8 @@ function row(e) {
 function blocked(e, act, meta) {
   const by = e.needs[e.needs.length - 2], others = e.needs.length - 2;
   const who = button("link", "blocked by " + by, () => light(by));
-  meta.append(who, others ? make("span", "", "and " + others + " more that need it") : "");
+  meta.append(who, others ? make("span", "", "and " + others + " more") : "");
+  meta.title = "needed by " + numbered(e.needs.slice(0, -1).reverse());
   act.textContent = "cascade";
   act.classList.add("many");
   act.title = "shows which edits go with edit " + e.k + ", before they go";

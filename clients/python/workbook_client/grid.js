@@ -216,14 +216,13 @@ function done(set, onward) {
 
 /** Sets one cell; until its reply comes it shows what was typed. */
 async function put(cell, typed) {
-  const {key} = placeOf(cell), line = key + " = " + typed;
+  const {key, card} = placeOf(cell), line = key + " = " + typed;
   setting.add(key);
   cell.textContent = typed;
   await ask({line}, line);
   setting.delete(key);
-  for (const now of root.querySelectorAll(".value[data-key]")) {
-    if (now.dataset.key === key && !now.querySelector("input")) now.textContent = now.dataset.value;
-  }
+  const now = cardOf(card.name)?.cells.get(key);
+  if (now && now !== editor?.cell) now.textContent = now.dataset.value;
 }
 
 // --- many cells at once

@@ -54,7 +54,7 @@ function showAway(told) {
     : state ? "What you see is as the page's server had it last." : "";
   if (told.kind === "server") unheard.push(...told.unanswered);
   else unanswered = told.unanswered ?? [];
-  banner("gone", told.say + ".", since, told.tries ? "It is tried again." : "It isn't tried again.", ...lost());
+  banner("gone", told.say[0].toUpperCase() + told.say.slice(1) + ".", since, told.tries ? "It is tried again." : "It isn't tried again.", ...lost());
   document.body.classList.add("lost");
 }
 

@@ -136,8 +136,8 @@ class Handler(BaseHTTPRequestHandler):
             answer()
         except ConnectionError:
             self.close_connection = True  # the page went away
-        except SessionEnded:
-            self.tell(503, self.view.away(seen))
+        except SessionEnded as end:
+            self.tell(503, self.view.away(end, seen))
         except Exception as fault:
             self.tell(500, {"say": f"{type(fault).__name__}: {fault}"})
 

@@ -87,21 +87,24 @@ export function ask(what, words) {
 }
 
 async function send(what, words) {
-  let told = {ok: false, ...GONE, unanswered: [words]};
-  if (away) told = {ok: false, say: "Not sent, since the workbook isn't there now: " + words};
-  else {
-    try {
-      const answer = await fetch("do", {
-        method: "POST", headers: {"Content-Type": "application/json"}, body: JSON.stringify(what),
-      });
-      told = {ok: false, ...await answer.json()};
-    } catch { /* nobody knows whether it was done */ }
-  }
+  const told = away ? {ok: false, sent: false, say: ""} : await answerTo(what, words);
+  if (told.sent === false) told.say = "Not sent, since the workbook isn't there now: " + words;
   tell(Boolean(told.ok), told.say || "");
   if (told.unanswered) { looks++; gone(told, 0); }
   else if (!away) await poll();
   if (told.by) listeners.light(told.by);
   return told;
+}
+
+async function answerTo(what, words) {
+  try {
+    const answer = await fetch("do", {
+      method: "POST", headers: {"Content-Type": "application/json"}, body: JSON.stringify(what),
+    });
+    return {ok: false, ...await answer.json()};
+  } catch {
+    return {ok: false, ...GONE, unanswered: [words]}; // nobody knows whether it was done
+  }
 }
 
 /** Who would go in a cascade of edit k, as the workbook says now. */

@@ -59,6 +59,10 @@ class Sight(NamedTuple):
         return self.low <= number and (self.high is None or number <= self.high)
 
 
+class NotSent(SessionEnded):
+    """The workbook wasn't there before anything was sent."""
+
+
 class Doing(Session):
     """A session for one thing that the page does, which notes what was taken back and put back by it."""
 
@@ -105,7 +109,8 @@ class View:
 
     @contextmanager
     def _there(self) -> Iterator[None]:
-        """The workbook, for whoever has the lock. Where it went away it is tried again first; SessionEnded where it isn't there."""
+        """The workbook, for whoever has the lock. Where it went away it is tried again first; NotSent where it isn't there, and
+        SessionEnded where it goes away now."""
         with self._lock:
             channel = self.book.exchange.channel
             if self._away is None and channel.is_gone():
@@ -127,14 +132,14 @@ class View:
         """Takes the workbook up where it is there again. It isn't tried too often."""
         assert self._away is not None
         if not self.may_come_back() or time.monotonic() < self._tried + self._wait:
-            raise SessionEnded(str(self._away))
+            raise NotSent(str(self._away))
         self._tried, self._wait = time.monotonic(), min(2 * self._wait, LATER)
         try:
             self.book.again()
             self._back(hearing.hear_again(self.book))
         except (WorkbookError, RedisRefused, OSError) as still:
             self._away = still
-            raise SessionEnded(str(still)) from still
+            raise NotSent(str(still)) from still
 
     def _back(self, news: News) -> None:
         """It is there again; another workbook at its place has nothing of what was known."""
@@ -150,11 +155,13 @@ class View:
         """Whether a workbook that went away may be there again: one that others share, or that a file keeps."""
         return not self.book.alone or self.book.journal is not None
 
-    def away(self, seen: str) -> Json:
-        """What is told while the workbook isn't there; with its last state where the page has another, or none."""
+    def away(self, end: SessionEnded, seen: str) -> Json:
+        """What is told while the workbook isn't there: why, whether it is tried again, what was sent and not answered, and whether
+        what is asked for now was sent; with its last state where the page has another, or none."""
         state = self._told[1]
         return {
-            "say": harmless(str(self._away)), "tries": self.may_come_back(), "unanswered": [harmless(line) for line in self._unanswered],
+            "say": harmless(str(end)), "tries": self.may_come_back(), "unanswered": [harmless(line) for line in self._unanswered],
+            "sent": bool(self._unanswered) and not isinstance(end, NotSent),
             "state": state if state and state["version"] != seen else None,
         }
 
