@@ -116,6 +116,11 @@ class Browser:
         self.do("Page.navigate", url=address)
         self.until("location.href !== 'about:blank' && document.readyState === 'complete'")
 
+    def leave(self) -> None:
+        """Leaves the page."""
+        self.do("Page.navigate", url="about:blank")
+        self.js("1")
+
     def js(self, expression: str) -> Any:
         """The value of an expression in the page."""
         told = self.do("Runtime.evaluate", expression=expression, awaitPromise=True, returnByValue=True)
@@ -137,20 +142,22 @@ class Browser:
 
     def click(self, selector: str, modifiers: int = 0) -> None:
         """Clicks in the middle of an element."""
-        self._press(selector, modifiers)
-        self._release(selector, modifiers)
+        self.press(selector, modifiers)
+        self.release(selector, modifiers)
 
     def drag(self, selector: str, to: str) -> None:
         """Goes from one element to another with the mouse's button down."""
-        self._press(selector, 0)
+        self.press(selector)
         self.hover(to)
-        self._release(to, 0)
+        self.release(to)
 
-    def _press(self, selector: str, modifiers: int) -> None:
+    def press(self, selector: str, modifiers: int = 0) -> None:
+        """Presses the mouse's button over an element."""
         x, y = self._middle(selector)
         self.do("Input.dispatchMouseEvent", type="mousePressed", x=x, y=y, button="left", buttons=1, clickCount=1, modifiers=modifiers)
 
-    def _release(self, selector: str, modifiers: int) -> None:
+    def release(self, selector: str, modifiers: int = 0) -> None:
+        """Lets the mouse's button go over an element."""
         x, y = self._middle(selector)
         self.do("Input.dispatchMouseEvent", type="mouseReleased", x=x, y=y, button="left", clickCount=1, modifiers=modifiers)
 
@@ -210,18 +217,29 @@ class Browser:
 
 @unittest.skipUnless(CHROMIUM, "Chromium isn't there")
 class InABrowser(unittest.TestCase):
-    """A page of its own for each test."""
+    """A server of the page for each test, and one browser for all tests of a class."""
 
-    def open(self, book: Workbook, width: int = 1180, height: int = 720) -> Browser:
-        """The page of a workbook, in a browser."""
+    browser: Browser
+
+    @classmethod
+    def setUpClass(cls) -> None:
+        cls.browser = Browser()
+        cls.addClassCleanup(cls.browser.close)
+
+    def open(self, book: Workbook) -> Browser:
+        """The page of a workbook, in the browser."""
         self.server = serve(book)
         self.addCleanup(book.close)
         self.run_in_background(self.server)
-        browser = Browser(width, height)
-        self.addCleanup(browser.close)
-        browser.go(self.server.url)
-        browser.until("document.title !== 'workbook'")
-        return browser
+        self.go(self.server.url)
+        self.browser.until("document.title !== 'workbook'")
+        return self.browser
+
+    def go(self, address: str) -> None:
+        """Opens an address, and leaves it when the test ends, before its server does."""
+        self.addCleanup(self.browser.leave)
+        self.browser.faults.clear()
+        self.browser.go(address)
 
     def run_in_background(self, server: ThreadingHTTPServer) -> None:
         """Lets a server answer until the test ends."""

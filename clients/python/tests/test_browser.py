@@ -5,7 +5,7 @@ import tempfile
 import unittest
 from http.server import BaseHTTPRequestHandler, ThreadingHTTPServer
 
-from tests.browser import CTRL, Browser, InABrowser
+from tests.browser import CTRL, InABrowser
 from tests.support import PROGRAM, Server
 from workbook_client import Workbook
 from workbook_client.page import serve
@@ -102,11 +102,10 @@ class Page(InABrowser):
         self.run_in_background(page)
         bare = page.url[: page.url.rindex("/", 0, -1) + 1]
         port = self.elsewhere(ELSEWHERE.replace("%URL%", page.url).replace("%BARE%", bare))
-        browser = Browser()
-        self.addCleanup(browser.close)
+        browser = self.browser
         for host in ("localhost", "127.0.0.1"):  # another site, and the same site with another origin
             with self.subTest(host):
-                browser.go(f"http://{host}:{port}/")
+                self.go(f"http://{host}:{port}/")
                 browser.until(f"told.length === {ASKED}")
                 told = browser.js("told.filter(x => x !== 'refused' && x !== 'no-cors opaque 0').join()")
                 self.assertEqual(told, "")
@@ -117,9 +116,8 @@ class Page(InABrowser):
         self.addCleanup(page.RequestHandlerClass.view.book.close)
         self.run_in_background(page)
         port = self.elsewhere(f"<iframe src='{page.url}'></iframe><a id='link' href='{page.url}'>link</a>")
-        browser = Browser()
-        self.addCleanup(browser.close)
-        browser.go(f"http://localhost:{port}/")
+        browser = self.browser
+        self.go(f"http://localhost:{port}/")
         self.assertIsNone(browser.js("document.querySelector('iframe').contentDocument"))
         browser.click("#link")
         browser.until("document.body.innerText.includes('only the page itself may ask')")
@@ -263,6 +261,20 @@ class Page(InABrowser):
         self.assertTrue(browser.js("document.getElementById('marks').hidden"))
         self.assertEqual(browser.faults, [])
 
+    def test_a_click_during_which_something_changes(self):
+        book = Workbook.run(PROGRAM)
+        A = book.array("A", book.domain("D", range(1, 4)))
+        A[1] = 5
+        browser = self.open(book)
+        browser.until("document.querySelector('.edits li[data-k=\"2\"]').innerText.includes('blocked by 3')")
+        browser.press(".edits li[data-k='3'] button")
+        with self.held() as now:
+            now["A"][2] = 6
+        self.shows(browser, "A[2]", 6)
+        browser.release(".edits li[data-k='3'] button")
+        self.shows(browser, "A[1]", 0)
+        self.assertEqual(browser.faults, [])
+
     def test_an_edit_of_ones_own_that_another_took_back(self):
         server = Server(seats=2)
         self.addCleanup(server.close)
@@ -292,6 +304,7 @@ class Page(InABrowser):
         self.line(browser, "D = {1..4}", "A over D", "A[1] = 5")
         other["A"][1] = 6
         browser.until(f'document.querySelector("{CELL.format("1")}").innerText === "6"')
+        self.assertEqual(browser.text("#where"), f"shared at 127.0.0.1:{server.port}: other seats edit too")
         self.assertIn("A[1] = 6", browser.text(".edits li[data-k='4']"))
         self.assertIn("another", browser.text(".edits li[data-k='4'] .meta"))
         self.line(browser, "undo 3")

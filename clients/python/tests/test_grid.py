@@ -300,6 +300,39 @@ class Grid(InABrowser):
         self.assertEqual(browser.js(CHOSEN), "A[2, 1, 1]")
         self.assertEqual(browser.faults, [])
 
+    def test_what_is_chosen_stays_where_the_table_grows(self):
+        browser = self.grid()
+        browser.drag(cell("A[1, 1]"), cell("A[2, 2]"))
+        with self.held() as book:
+            book["D"].reshape("{1..5, 1..5}")
+        browser.until(f"document.querySelector({json.dumps(cell('A[5, 5]'))}) !== null")
+        self.assertEqual((browser.js(HERE), browser.js(CHOSEN)), ("A[1, 1]", "A[1, 1] A[1, 2] A[2, 1] A[2, 2]"))
+        with self.held() as book:
+            book["D"].reshape("{2..5, 1..5}")
+        browser.until(f"document.querySelector({json.dumps(cell('A[1, 1]'))}) === null")
+        self.assertEqual(browser.js(CHOSEN), "")  # the cell that was chosen is gone
+        self.assertEqual(browser.faults, [])
+
+    def test_what_others_do_while_somebody_types(self):
+        """It shows, and what is typed stays."""
+        browser = self.grid()
+        browser.click(cell("A[1, 1]"))
+        browser.keys("12")
+        with self.held() as book:
+            book["A"][1, 1] = 3
+            book["A"][2, 2] = 4
+        self.shows(browser, "A[2, 2]", 4)
+        self.assertEqual(browser.js("document.activeElement.value"), "12")
+        with self.held() as book:
+            book["D"].expand(0, 1)  # the table is drawn anew when the typing has ended
+        browser.until("document.querySelector('h3 small').innerText.includes('1..4') && document.querySelectorAll('.edits li').length === 5")
+        self.assertEqual(browser.js("document.activeElement.value"), "12")
+        browser.key("Escape")
+        self.shows(browser, "A[1, 5]", 0)
+        self.shows(browser, "A[1, 1]", 3)
+        self.assertEqual(browser.js(HERE), "A[1, 1]")
+        self.assertEqual(browser.faults, [])
+
     # --- the table as a file
 
     def test_the_link_to_a_table(self):

@@ -102,10 +102,7 @@ class Away(InABrowser):
             browser.click("#words")
             browser.type("A[2] = 6")
             browser.key("Enter")
-            for _ in range(200):
-                if book.exchange.unanswered:
-                    break
-                browser.js("new Promise(done => setTimeout(done, 20))")
+            self.says(browser, "No answer yet, so it is waited for: A[2] = 6")
             self.dies(book)
             self.says_it_is_away(browser, "Sent and not answered, so perhaps done: A[2] = 6.", path)
             self.says_it_is_there(browser, "is there again, with 3 edits; nothing was done meanwhile", "perhaps done: A[2] = 6")
@@ -134,9 +131,8 @@ class Away(InABrowser):
             terminal = Terminal("workbook_client.page", path, "--port", "0")
             self.addCleanup(terminal.close)
             address = re.search("http://[^ ]*", terminal.until(" (Ctrl-C"))[0]
-            browser = Browser()
-            self.addCleanup(browser.close)
-            browser.go(address)
+            browser = self.browser
+            self.go(address)
             browser.until("document.title === 'plan.wb · workbook'")
             self.line(browser, "D = {1..2}", "A over D", "A[1] = 5")
             terminal.process.kill()

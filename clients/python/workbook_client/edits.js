@@ -1,11 +1,14 @@
 /* The history beside the arrays: undo and redo of each edit, who is in the way, and what was taken back. */
 
-import {$, ask, button, make, needs, numbered, poll, state, tell, watch} from "./talk.js";
+import {$, ask, button, make, needs, numbered, poll, put, state, tell, watch} from "./talk.js";
 
 let looked = null; // the edit whose cascade is looked at before it is done, and who goes in it
 let lastOn = null; // whether each edit was in force, as it was last shown
 const fresh = new Set(); // what others did since the marks were taken off
 let wanted = ""; // of which edits in sight it was last asked who needs them
+
+const rows = new Map(); // what is drawn of each edit, and what it was drawn of
+let noticed = ""; // what the notices were drawn of
 
 const item = k => document.querySelector('#edits li[data-k="' + k + '"]');
 const mark = (k, on) => item(k)?.classList.toggle("lit", on);
@@ -22,13 +25,21 @@ export function showEdits() {
 
 function draw() {
   const held = focused();
-  const items = state.edits.map(row).reverse();
+  const items = state.edits.map(drawn).reverse();
   if (state.earlier) items.push(make("li", "", make("span", "k", "…"), make("span", "what", state.earlier + " earlier edits")));
   if (!items.length) items.push(make("li", "", "", make("span", "meta", "no edits yet")));
-  $("edits").replaceChildren(...items);
-  $("notices").replaceChildren(...notices());
+  put($("edits"), items);
+  drawNotices();
+  for (const lit of document.querySelectorAll("#edits li.lit")) lit.classList.remove("lit");
   if (looked) looked.needs.forEach(k => mark(k, true));
   if (held) item(held.k)?.querySelectorAll("button")[held.n]?.focus();
+}
+
+/** The item of an edit, drawn anew where something of it changed. */
+function drawn(e) {
+  const sign = JSON.stringify([e, state.alone, fresh.has(e.k), looked && looked.k === e.k ? looked.needs : null]);
+  if (rows.get(e.k)?.sign !== sign) rows.set(e.k, {sign, made: row(e)});
+  return rows.get(e.k).made;
 }
 
 /** Which button has the focus, so that it has it after the list was drawn anew. */
@@ -115,6 +126,13 @@ export function light(k) {
 }
 
 // --- what was taken back, and may be put back
+
+function drawNotices() {
+  const sign = JSON.stringify([state.taken, state.cascaded]);
+  if (noticed === sign) return;
+  noticed = sign;
+  $("notices").replaceChildren(...notices());
+}
 
 function notices() {
   const made = [];

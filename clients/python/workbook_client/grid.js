@@ -16,11 +16,11 @@ const cellAt = key => chosen && cardOf(chosen.name)?.cells.get(key);
 /** Shows the arrays as they were heard, and what is chosen where it is still there. */
 export function showGrid() {
   if (editor && !editor.cell.isConnected) editor = null; // its array is gone
-  const held = root.contains(document.activeElement) && !editor;
+  const held = placeOf(document.activeElement) && !editor; // a card that is drawn anew loses the focus
   showArrays(root, tinted, editor && placeOf(editor.cell).card);
   if (chosen && !(cellAt(chosen.key) && cellAt(chosen.to))) chosen = null;
   paint();
-  if (held && chosen) cellAt(chosen.key).focus({preventScroll: true});
+  if (held && chosen && !placeOf(document.activeElement)) cellAt(chosen.key).focus({preventScroll: true});
 }
 
 /** With the colours of locales, or without. */
@@ -45,6 +45,7 @@ function choose(cell, wider = false) {
   const {card, plane, key} = placeOf(cell);
   const stays = wider && chosen && placeOf(cellAt(chosen.key)).plane === plane;
   chosen = {name: card.name, key: stays ? chosen.key : key, to: key};
+  getSelection().removeAllRanges(); // what Ctrl-C copies now is the cells
   marks.delete(key);
   light(cell);
   paint();

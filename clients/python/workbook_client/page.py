@@ -230,6 +230,7 @@ def main(words: Optional[List[str]] = None) -> int:
     try:
         with open_book(args) as book:
             session = Session(book)
+            book.tell_waits(session.wrapped)
             print(session.place())
             if args.file:
                 with open(args.file, encoding="utf-8") as lines:

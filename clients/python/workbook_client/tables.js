@@ -1,6 +1,6 @@
 /* Arrays as tables of cells, drawn once and then kept up to date in place. */
 
-import {make, state} from "./talk.js";
+import {make, put, state} from "./talk.js";
 
 /** What is drawn: of each array its card, by name. */
 const cards = new Map();
@@ -13,12 +13,6 @@ export const setting = new Set();
 
 export const placeOf = cell => places.get(cell);
 export const cardOf = name => cards.get(name);
-
-/** Puts these below a root, in this order. What stands there already isn't moved: a focus in it would be lost. */
-function put(root, parts) {
-  for (const old of [...root.children]) if (!parts.includes(old)) old.remove();
-  parts.forEach((part, n) => { if (root.children[n] !== part) root.insertBefore(part, root.children[n] ?? null); });
-}
 
 /** Shows the arrays and domains as they were heard; `kept` is a card that isn't drawn anew now. */
 export function showArrays(root, tinted, kept) {
@@ -150,8 +144,16 @@ function planeOf(card, top, rows, columns, line) {
   return {card, top, rows, columns, line, ranged: card.ranged, cells: rows.map(() => columns.map(() => null))};
 }
 
+/** Tells who doesn't see it what cells are below. */
+function grid(root, role, name) {
+  root.setAttribute("role", role);
+  root.setAttribute("aria-label", name);
+  root.setAttribute("aria-multiselectable", "true");
+  return root;
+}
+
 function row(a, cells, card) {
-  const boxes = make("div", "cells"), on = planeOf(card, [], [""], cells.map(c => c.parts[0]), true);
+  const boxes = grid(make("div", "cells"), "listbox", a.name), on = planeOf(card, [], [""], cells.map(c => c.parts[0]), true);
   cells.forEach((c, n) => boxes.append(make("div", "box", make("div", "at", c.parts[0]), value(a, c, "div", on, 0, n))));
   return boxes;
 }
@@ -163,7 +165,7 @@ function plane(a, cells, card, top) {
   if (cells.length < rows.length * columns.length) columns.sort((x, y) => (BigInt(x) < BigInt(y) ? -1 : 1));
   const on = planeOf(card, top, rows, columns, false);
   const there = new Map(cells.map(c => [c.parts[down] + "," + c.parts[across], c]));
-  const table = make("table", "", make("tr", "", make("th"), ...columns.map(c => make("th", "", c))));
+  const table = grid(make("table", "", make("tr", "", make("th"), ...columns.map(c => make("th", "", c)))), "grid", a.name);
   rows.forEach((r, n) => {
     const line = make("tr", "", make("th", "", r));
     columns.forEach((c, m) => {
@@ -184,6 +186,7 @@ function value(a, c, tag, plane, r, n) {
   cell.dataset.key = key;
   cell.dataset.value = c.value;
   cell.tabIndex = r + n ? -1 : 0;
+  if (plane.line) cell.setAttribute("role", "option");
   if (c.locale !== null) cell.style.setProperty("--hue", hue(c.locale));
   places.set(cell, {card: plane.card, plane, r, c: n, key, at: c.at, title});
   plane.cells[r][n] = cell;

@@ -18,6 +18,13 @@ export function button(kind, word, act) {
   return made;
 }
 
+/** Puts these below a root, in this order. What stands there already isn't moved: a focus in it, or half a click, would be lost. */
+export function put(root, parts) {
+  const all = new Set(parts);
+  for (const old of [...root.children]) if (!all.has(old)) old.remove();
+  parts.forEach((part, n) => { if (root.children[n] !== part) root.insertBefore(part, root.children[n] ?? null); });
+}
+
 /** "16 and 17", or of many the first few and how many there are. */
 export function numbered(all) {
   if (all.length > 12) return all.slice(0, 8).join(", ") + ", .. and " + all[all.length - 1] + ", " + all.length + " edits";
@@ -97,6 +104,7 @@ async function send(what, words) {
 }
 
 async function answerTo(what, words) {
+  const slow = setTimeout(() => tell(true, "No answer yet, so it is waited for: " + words), 3000);
   try {
     const answer = await fetch("do", {
       method: "POST", headers: {"Content-Type": "application/json"}, body: JSON.stringify(what),
@@ -104,6 +112,8 @@ async function answerTo(what, words) {
     return {ok: false, ...await answer.json()};
   } catch {
     return {ok: false, ...GONE, unanswered: [words]}; // nobody knows whether it was done
+  } finally {
+    clearTimeout(slow);
   }
 }
 

@@ -10,7 +10,6 @@ from contextlib import contextmanager
 from typing import Any, Callable, Dict, Iterator, List, NamedTuple, Optional, Set, Tuple
 
 from . import hearing, requests, sheets
-from .away import changes_of
 from .book import Workbook
 from .edits import Cascade, Edit
 from .errors import NotTakenBack, SessionEnded, WorkbookError
@@ -18,9 +17,9 @@ from .hearing import News
 from .language import LanguageError, parse
 from .literals import Index, index_text
 from .objects import Array
-from .redis import RedisRefused
+from .reach import Reach, in_words
 from .refusals import Refusal
-from .session import Session, numbered
+from .session import Session
 from .snapshot import RectDomain, Snapshot, SparseDomain
 from .tables import harmless
 
@@ -34,8 +33,6 @@ MANY = 2000
 """With more edits, what others' edits did isn't asked: the text of the history would be long."""
 APART = 1.5
 """So many seconds lie between two looks at a shared workbook, however many pages are open."""
-SOON, LATER = 0.5, 10.0
-"""So many seconds lie between two tries to reach a workbook that went away, at first and at last."""
 TERMINAL_ALONE = {
     **dict.fromkeys(("save", "load", "keep", "import", "export", "compact"), "Files are for the terminal; the links above give the texts."),
     "colours": "Colours by locale are the box above.",
@@ -57,10 +54,6 @@ class Sight(NamedTuple):
     def has(self, number: int) -> bool:
         """Whether an edit is in sight."""
         return self.low <= number and (self.high is None or number <= self.high)
-
-
-class NotSent(SessionEnded):
-    """The workbook wasn't there before anything was sent."""
 
 
 class Doing(Session):
@@ -100,9 +93,7 @@ class View:
         self._undone: List[int] = []  # one's own edits that were taken back here, in the order of their undos
         self._cascaded: List[int] = []  # what the latest cascade took back, ascending
         self._taken: List[int] = []  # one's own edits that another took back
-        self._away: Optional[Exception] = None  # why the workbook isn't there
-        self._unanswered: List[str] = []  # what was sent before it went away, and not answered
-        self._tried, self._wait = float("-inf"), SOON  # when it was last tried again, and how long the next try waits
+        self._reach = Reach(book)
         self._news = ""  # what is told of a workbook that is there again
 
     # --- a workbook that goes away
@@ -112,38 +103,18 @@ class View:
         """The workbook, for whoever has the lock. Where it went away it is tried again first; NotSent where it isn't there, and
         SessionEnded where it goes away now."""
         with self._lock:
-            channel = self.book.exchange.channel
-            if self._away is None and channel.is_gone():
-                self._went(SessionEnded(channel.why()))
-            if self._away is not None:
-                self._try_again()
+            news = self._reach.check()
+            if news is not None:
+                self._back(news)
             try:
                 yield
             except SessionEnded as end:
-                self._went(end)
+                self._reach.went(end)
                 raise
-
-    def _went(self, end: Exception) -> None:
-        self._away = end
-        self._unanswered = changes_of(self.book.exchange.on_their_way())
-        self._tried, self._wait = time.monotonic(), SOON
-
-    def _try_again(self) -> None:
-        """Takes the workbook up where it is there again. It isn't tried too often."""
-        assert self._away is not None
-        if not self.may_come_back() or time.monotonic() < self._tried + self._wait:
-            raise NotSent(str(self._away))
-        self._tried, self._wait = time.monotonic(), min(2 * self._wait, LATER)
-        try:
-            self.book.again()
-            self._back(hearing.hear_again(self.book))
-        except (WorkbookError, RedisRefused, OSError) as still:
-            self._away = still
-            raise NotSent(str(still)) from still
 
     def _back(self, news: News) -> None:
         """It is there again; another workbook at its place has nothing of what was known."""
-        self._away, self._news = None, _in_words(news, self.book)
+        self._news = in_words(news, self.book)
         self._objects, self._heard, self._looked = None, None, float("-inf")
         self._version += 1
         if news.other:
@@ -151,19 +122,10 @@ class View:
         else:
             self._taken += [k for k in news.undone if self._is_mine(k)]
 
-    def may_come_back(self) -> bool:
-        """Whether a workbook that went away may be there again: one that others share, or that a file keeps."""
-        return not self.book.alone or self.book.journal is not None
-
     def away(self, end: SessionEnded, seen: str) -> Json:
-        """What is told while the workbook isn't there: why, whether it is tried again, what was sent and not answered, and whether
-        what is asked for now was sent; with its last state where the page has another, or none."""
+        """What is told while the workbook isn't there; with its last state where the page has another, or none."""
         state = self._told[1]
-        return {
-            "say": harmless(str(end)), "tries": self.may_come_back(), "unanswered": [harmless(line) for line in self._unanswered],
-            "sent": bool(self._unanswered) and not isinstance(end, NotSent),
-            "state": state if state and state["version"] != seen else None,
-        }
+        return {**self._reach.told(end), "state": state if state and state["version"] != seen else None}
 
     # --- what there is
 
@@ -207,11 +169,10 @@ class View:
         return edit is not None and not edit.was_in_force
 
     def _forget_what_is_in_force(self) -> None:
-        """What may be put back is out of force. A cascade is put back whole, or edit by edit."""
+        """What may be put back is out of force."""
         self._undone = [k for k in self._undone if self._is_off(k)]
         self._taken = [k for k in self._taken if self._is_off(k)]
-        if not all(map(self._is_off, self._cascaded)):
-            self._cascaded = []
+        self._cascaded = [k for k in self._cascaded if self._is_off(k)]
 
     def needs(self, k: int) -> Json:
         """Edit k and those that need it, from the greatest down: who would go in a cascade now."""
@@ -409,10 +370,7 @@ class View:
             raise ValueError("there is nothing to paste")
         with self.book.trying(), self.book.pipeline():
             edits = [self.book.change(request) for request in wanted]
-        first, last = edits[0].number, edits[-1].number
-        cells = "1 cell" if len(edits) == 1 else f"{len(edits):,} cells"
-        by = f"edit {first}" if len(edits) == 1 else f"{len(edits):,} edits, {first} to {last}"
-        session.wrapped(f"{cells} of {wanted[0]['a']} set by {by}, of which each is taken back by itself")
+        session.wrapped(f"{_many(len(edits), 'cell')} of {wanted[0]['a']} set by {_as_one(edits)}")
 
     def _hold(self, k: int, by: int) -> None:
         """After a refused undo the page shows who is in the way."""
@@ -486,17 +444,17 @@ def _set(name: Any, cell: Any) -> requests.Request:
     return what
 
 
-def _in_words(news: News, book: Workbook) -> str:
-    """What is told of a workbook that is there again."""
-    edits = "1 edit" if news.edits == 1 else f"{news.edits:,} edits"
-    has = f"{book.journal or book.where} is there again, with {edits}"
-    if news.other:
-        return f"{has}. It isn't the workbook that was shown before: numbers of edits are now those of the new one."
-    told = [
-        f"{how}: {numbered(these)}"
-        for how, these in (("new meanwhile", news.came), ("taken back", news.undone), ("put in force again", news.redone)) if these
-    ]
-    return f"{has}; {'; '.join(told) or 'nothing was done meanwhile'}."
+def _many(number: int, what: str) -> str:
+    return f"{number:,} {what}{'s' * (number != 1)}"
+
+
+def _as_one(edits: List[Edit]) -> str:
+    """These edits in a few words, though others may have come between them."""
+    first, last, many = edits[0].number, edits[-1].number, len(edits)
+    if many == 1:
+        return f"edit {first}"
+    which = f"edits, {first} to {last}" if last - first + 1 == many else f"edits between {first} and {last}"
+    return f"{many:,} {which}, of which each is taken back by itself"
 
 
 def _parts(index: Index) -> List[str]:
