@@ -10,52 +10,48 @@ const NEVER: usize = 1000;
 
 const HELD: &[u8] = b"chapel-workbook 3\n one\n two\n#";
 
+const REPLACED: &[u8] = b"chapel-workbook 3\n both\n#";
+
+const CONTINUED: &[u8] = b"chapel-workbook 3\n both\n three\n#";
+
 const PATH: &str = "wb_kept_compact.log";
 
 const LINK: &str = "wb_kept_compact.link";
 
-/// How often a log was acknowledged.
-#[derive(Clone, Copy, PartialEq, Eq, PartialOrd, Ord)]
-enum Acknowledged {
-    Nothing,
-    NewLog,
-    LineBehind,
-}
-
 /// Opens the file, puts a new log in its place and adds a line, until it is cut off in the call after so many. Returns
-/// what is left, and what was acknowledged.
-fn cut_off(
-    alloc: Global,
-    calls: usize,
-    torn: usize,
-) -> Result<(Vec<u8>, Acknowledged), AllocError> {
+/// what is left, and how many of the two were acknowledged.
+fn cut_off(alloc: Global, calls: usize, torn: usize) -> Result<(Vec<u8>, usize), AllocError> {
     let file = MemoryFile::new(alloc, HELD.to_vec(alloc)?, calls, torn);
     let (mut log, _) = match open(alloc, file, HELD) {
         Ok(opened) => opened,
-        Err((_, file)) => return Ok((file.left().to_vec(alloc)?, Acknowledged::Nothing)),
+        Err((_, file)) => return Ok((file.left().to_vec(alloc)?, 0)),
     };
-    let mut last = Acknowledged::Nothing;
-    if log.compact(alloc, &(), b"both\n").is_ok() {
-        last = Acknowledged::NewLog;
-        if log.append(alloc, b"three\n").is_ok() {
-            last = Acknowledged::LineBehind;
-        }
+    if log.compact(alloc, &(), b"both\n").is_err() {
+        return Ok((log.device.left().to_vec(alloc)?, 0));
     }
-    Ok((log.device.left().to_vec(alloc)?, last))
+    if log.append(alloc, b"three\n").is_err() {
+        return Ok((log.device.left().to_vec(alloc)?, 1));
+    }
+    Ok((log.device.left().to_vec(alloc)?, 2))
 }
 
-/// What a file has that was cut off, by the lines that it stands for. None if it is refused, or in between.
-fn found_in(alloc: Global, bytes: &[u8]) -> Result<Option<Acknowledged>, AllocError> {
+/// How many of the two a file has that was cut off, by the lines that it stands for. None if it is refused, or in between.
+fn found_in(alloc: Global, bytes: &[u8]) -> Result<Option<usize>, AllocError> {
     let file = MemoryFile::new(alloc, bytes.to_vec(alloc)?, NEVER, 0);
     let Ok((log, _)) = open(alloc, file, bytes) else {
         return Ok(None);
     };
-    Ok(match log.device.bytes() {
-        b"chapel-workbook 3\n one\n two\n#" => Some(Acknowledged::Nothing),
-        b"chapel-workbook 3\n both\n#" => Some(Acknowledged::NewLog),
-        b"chapel-workbook 3\n both\n three\n#" => Some(Acknowledged::LineBehind),
-        _ => None,
-    })
+    let bytes = log.device.bytes();
+    if bytes == HELD {
+        return Ok(Some(0));
+    }
+    if bytes == REPLACED {
+        return Ok(Some(1));
+    }
+    if bytes == CONTINUED {
+        return Ok(Some(2));
+    }
+    Ok(None)
 }
 
 #[test]
@@ -87,14 +83,14 @@ fn a_crash_in_each_step_leaves_the_old_log_or_the_new_one(rt: HostRuntime) -> Re
     // To open the file takes four calls, the new log four, and the line behind it four.
     for calls in 0..13 {
         for torn in 0..10 {
-            let (left, last) = cut_off(alloc, calls, torn)?;
+            let (left, count) = cut_off(alloc, calls, torn)?;
             let Some(found) = found_in(alloc, &left)? else {
                 panic!(rt; "in between");
             };
-            assert!(rt; last <= found);
-            assert!(rt; calls >= 6 || found == Acknowledged::Nothing);
-            assert!(rt; calls < 8 || last >= Acknowledged::NewLog);
-            new_by_chance |= last == Acknowledged::Nothing && found == Acknowledged::NewLog;
+            assert!(rt; count <= found);
+            assert!(rt; calls >= 6 || found == 0);
+            assert!(rt; calls < 8 || count >= 1);
+            new_by_chance |= count == 0 && found == 1;
         }
     }
     assert!(rt; new_by_chance);
@@ -140,7 +136,10 @@ fn compact_at(
         Err(_) => false,
     };
     let is_locked = matches!(open_file(rt, PATH, &START), Err(OpenDiskErr::Busy));
-    Ok((is_added && is_locked).then(|| compacted))
+    if is_added && is_locked {
+        return Ok(Some(compacted));
+    }
+    Ok(None)
 }
 
 #[test]

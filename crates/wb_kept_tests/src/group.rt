@@ -124,10 +124,10 @@ fn file_of<O: Opening>(
 
 /// In how many of ten turns the count was told by this letter: each turn's replies are `ok` and a letter, with line ends.
 fn told_in(replies: &[u8], letter: u8) -> usize {
-    let mut told = 0;
+    let mut told = 0usize;
     for turn in 0..10usize {
         if replies.get(5 * turn + 3) == Some(&letter) {
-            told += 1;
+            told = told.saturating_add(1);
         }
     }
     told
@@ -144,7 +144,7 @@ fn seats_are_kept_together(rt: HostRuntime) -> Result<(), Fail> {
     assert!(rt; one.len() == 50 && two.len() == 50);
     // The count was 1, so the turns tell 2 to 21, each once.
     for letter in b'c'..=b'v' {
-        assert!(rt; told_in(&one, letter) + told_in(&two, letter) == 1);
+        assert!(rt; told_in(&one, letter).saturating_add(told_in(&two, letter)) == 1);
     }
     // One line from before, and one of each of the twenty turns.
     assert_eq!(rt;
@@ -169,6 +169,19 @@ fn nobody_is_answered_after_a_fault(rt: HostRuntime) -> Result<(), Fail> {
     Ok(())
 }
 
+/// One turn of the line `up`, which waits to be kept, or is not made.
+fn up<O: Opening>(alloc: Global, desk: &mut Seats<Tally, u8, O>) -> Result<(), AllocError> {
+    let answer = |state: &mut u8, line: &[u8], changes: &mut Changes| answer(
+        alloc, state, line, changes,
+    );
+    let line = b"up".to_vec(alloc)?;
+    let Ok(lines) = Vec::from_array(alloc, [line]) else {
+        return Err(AllocError);
+    };
+    let _ = desk.turn(alloc, &answer, &lines);
+    Ok(())
+}
+
 /// What is left of two turns whose file is cut off while both are brought to it.
 fn two_turns<O: Opening>(
     alloc: Global,
@@ -181,16 +194,11 @@ fn two_turns<O: Opening>(
     requires book { opened.seen.book ≡ O.book }
     requires ledger { (blank.name ≡ O.name) × (blank.parts ≡ O.parts) × (O.all ≡ O.parts) × (0 < O.all) }
 {
-    let answer = |state: &mut u8, line: &[u8], changes: &mut Changes| answer(
-        alloc, state, line, changes,
-    );
     let (mut desk, keeper) = wb_kept_group::open::<Tally, u8, O, MemoryFile>(
         alloc, opened, blank, kept,
     );
-    for _ in 0..2 {
-        let lines = Vec::from_array(alloc, [b"up".to_vec(alloc)?])?;
-        let _ = desk.turn(alloc, &answer, &lines);
-    }
+    up(alloc, &mut desk)?;
+    up(alloc, &mut desk)?;
     file_of(alloc, desk, keeper)
 }
 

@@ -8,18 +8,40 @@ const NEVER: usize = 1000;
 
 const FIRST: &[u8] = b"chapel-workbook 3\n one\n#";
 
+/// Lines as one text, each with a line end.
+fn joined(alloc: Global, lines: &[Vec<u8>]) -> Result<Vec<u8>, AllocError> {
+    let mut text = Vec::new(alloc);
+    for line in lines {
+        text.extend_from_slice(line)?;
+        text.extend_from_slice(b"\n")?;
+    }
+    Ok(text)
+}
+
 /// What a file stands for, as one text, or none if it is refused.
 fn text_of(alloc: Global, bytes: &[u8]) -> Result<Option<Vec<u8>>, AllocError> {
     let file = MemoryFile::new(alloc, bytes.to_vec(alloc)?, NEVER, 0);
     let Ok((_, lines)) = open(alloc, file, bytes) else {
         return Ok(None);
     };
-    let mut text = Vec::new(alloc);
-    for line in &lines {
-        text.extend_from_slice(line)?;
-        text.push(b'\n')?;
+    Ok(Some(joined(alloc, &lines)?))
+}
+
+/// Whether a file stands for these lines, each with a line end.
+fn stands_for(alloc: Global, bytes: &[u8], text: &[u8]) -> Result<bool, AllocError> {
+    match text_of(alloc, bytes)? {
+        Some(found) => Ok(found.as_slice() == text),
+        None => Ok(false),
     }
-    Ok(Some(text))
+}
+
+/// Two texts.
+fn pair(alloc: Global, first: &[u8], second: &[u8]) -> Result<Vec<Vec<u8>>, AllocError> {
+    let texts = [first.to_vec(alloc)?, second.to_vec(alloc)?];
+    match Vec::from_array(alloc, texts) {
+        Ok(texts) => Ok(texts),
+        Err(_) => Err(AllocError),
+    }
 }
 
 /// Opens the file and adds two batches, until it is cut off in the call after so many. Returns what is left, and how
@@ -31,19 +53,17 @@ fn cut_off(
     torn: usize,
 ) -> Result<(Vec<u8>, usize), AllocError> {
     let file = MemoryFile::new(alloc, bytes.to_vec(alloc)?, calls, torn);
-    match open(alloc, file, bytes) {
-        Err((_, file)) => Ok((file.left().to_vec(alloc)?, 0)),
-        Ok((mut log, _)) => {
-            let mut count = 0;
-            if log.append(alloc, b"two\nthree\n").is_ok() {
-                count = 1;
-                if log.append(alloc, b"four\n").is_ok() {
-                    count = 2;
-                }
-            }
-            Ok((log.device.left().to_vec(alloc)?, count))
-        }
+    let (mut log, _) = match open(alloc, file, bytes) {
+        Ok(opened) => opened,
+        Err((_, file)) => return Ok((file.left().to_vec(alloc)?, 0)),
+    };
+    if log.append(alloc, b"two\nthree\n").is_err() {
+        return Ok((log.device.left().to_vec(alloc)?, 0));
     }
+    if log.append(alloc, b"four\n").is_err() {
+        return Ok((log.device.left().to_vec(alloc)?, 1));
+    }
+    Ok((log.device.left().to_vec(alloc)?, 2))
 }
 
 /// The number of batches that a file has, or none if it is in between.
@@ -51,12 +71,17 @@ fn batches_in(alloc: Global, bytes: &[u8]) -> Result<Option<usize>, AllocError> 
     let Some(text) = text_of(alloc, bytes)? else {
         return Ok(None);
     };
-    Ok(match text.as_slice() {
-        b"one\n" => Some(0),
-        b"one\ntwo\nthree\n" => Some(1),
-        b"one\ntwo\nthree\nfour\n" => Some(2),
-        _ => None,
-    })
+    let text = text.as_slice();
+    if text == b"one\n".as_slice() {
+        return Ok(Some(0));
+    }
+    if text == b"one\ntwo\nthree\n".as_slice() {
+        return Ok(Some(1));
+    }
+    if text == b"one\ntwo\nthree\nfour\n".as_slice() {
+        return Ok(Some(2));
+    }
+    Ok(None)
 }
 
 #[test]
@@ -68,9 +93,7 @@ fn a_new_file_is_begun(rt: HostRuntime) -> Result<(), Fail> {
     };
     assert!(rt; lines.is_empty());
     assert_eq!(rt; log.device.bytes(), b"chapel-workbook 3\n#".as_slice());
-    let first = b"one\n two\n".to_vec(alloc)?;
-    let second = b"\n#three\nno line".to_vec(alloc)?;
-    let batches = Vec::from_array(alloc, [first, second])?;
+    let batches = pair(alloc, b"one\n two\n", b"\n#three\nno line")?;
     assert!(rt; log.append_all(alloc, &batches).is_ok());
     assert_eq!(rt;
         log.device.bytes(),
@@ -82,20 +105,19 @@ fn a_new_file_is_begun(rt: HostRuntime) -> Result<(), Fail> {
 #[test]
 fn only_our_files_are_opened(rt: HostRuntime) -> Result<(), Fail> {
     let alloc = rt.alloc();
-    for (bytes, text) in [
-        (b"".as_slice(), Some(b"".as_slice())),
-        (b"chapel-wo", Some(b"")),
-        (b"chapel-workbook 3\n", Some(b"")),
-        (
+    assert!(rt; stands_for(alloc, b"", b"")?);
+    assert!(rt; stands_for(alloc, b"chapel-wo", b"")?);
+    assert!(rt; stands_for(alloc, b"chapel-workbook 3\n", b"")?);
+    assert!(rt;
+        stands_for(
+            alloc,
             b"chapel-workbook 3\n one\n two\n#three\n",
-            Some(b"one\ntwo\n"),
-        ),
-        (b"chapel-workbook 3\n one\n tw", Some(b"one\n")),
-        (b"chapel-workbook 2\n one\n", None),
-        (b"x", None),
-    ] {
-        assert!(rt; text_of(alloc, bytes)?.as_deref() == text);
-    }
+            b"one\ntwo\n"
+        )?
+    );
+    assert!(rt; stands_for(alloc, b"chapel-workbook 3\n one\n tw", b"one\n")?);
+    assert!(rt; text_of(alloc, b"chapel-workbook 2\n one\n")?.is_none());
+    assert!(rt; text_of(alloc, b"x")?.is_none());
     let file = MemoryFile::new(alloc, b"x".to_vec(alloc)?, NEVER, 0);
     let Err((error, file)) = open(alloc, file, b"x") else {
         panic!(rt; "refused");

@@ -100,7 +100,10 @@ fn serve_at(rt: &HostRuntime, lines: &[u8]) -> Result<Option<Vec<u8>>, Fail> {
         &mut Input::new(lines),
         &mut Output::new(&mut written),
     );
-    Ok(matches!(end, KeptEnd::Done(_)).then(|| written))
+    if !matches!(end, KeptEnd::Done(_)) {
+        return Ok(None);
+    }
+    Ok(Some(written))
 }
 
 #[test]
