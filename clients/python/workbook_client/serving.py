@@ -88,7 +88,8 @@ class Served:
 
     def settled(self) -> str:
         """Leaves the seats that `connect` gave, waits until all are left, and gives the text that the desk ends with: that of the
-        workbook, or of the history where it went on from one. `SessionEnded` where the desk ended in another way."""
+        workbook, or of the history where it went on from one. A seat that nobody took is waited for too. `SessionEnded` where the desk
+        ended in another way."""
         for book in self._books:
             book.close()
         first, _, text = self._told.read().decode().partition("\n")

@@ -181,9 +181,10 @@ class Session:
 
     def between(self, last: int, number: int) -> None:
         """Tells of the edits of others between two of which this session heard: their numbers say it."""
-        others = list(range(last + 1, number))
-        if others:
-            these = f"edit{'s' * (len(others) > 1)} {numbered(others)}" if len(others) < 10 else f"{len(others):,} edits"
+        others = number - last - 1
+        if others > 0:
+            to = "and" if others == 2 else "to"
+            these = f"edit {last + 1}" if others == 1 else f"edits {last + 1} {to} {number - 1}" if others < 10 else f"{others:,} edits"
             self.wrapped(f"before it came {these} of other seats; history shows what everybody did")
 
     def moved(self, how: str, edit: Edit) -> None:
