@@ -105,6 +105,8 @@ class Desks(Files):
             Workbook.serve(journal=self.path, program=[sys.executable, "-c", "import sys; sys.exit(2)"])
         with self.assertRaisesRegex(NotResumed, "no history's"):
             Workbook.serve(resume="milk, bread\n", program=PROGRAM)
+        with self.assertRaisesRegex(SessionEnded, r"ended with status 2 \(a bad command line"):
+            Workbook.serve(resume=EMPTY * 10_000, program=[sys.executable, "-c", "import sys; sys.exit(2)"])
         with self.assertRaises(ValueError):
             Workbook.serve(resume=EMPTY, journal=self.path)
         with Workbook.serve(program=PROGRAM) as desk, self.assertRaisesRegex(SessionEnded, "ended with status"):

@@ -10,6 +10,8 @@ from .errors import NoProgram, NotResumed, SessionEnded
 if TYPE_CHECKING:
     from .book import Workbook
 
+GRACE = 5.0
+"""So many seconds a program has to end after it closed its output."""
 LISTENING = b"listening on "
 """What a desk's first line begins with."""
 
@@ -32,9 +34,7 @@ class Served:
         self._process = self._started(words)
         assert self._process.stdin and self._process.stdout
         self._told: IO[bytes] = self._process.stdout
-        if resume is not None:
-            self._process.stdin.write(resume.encode())
-        self._process.stdin.close()
+        self._gives(self._process.stdin, resume or "")
         self.host, self.port = "127.0.0.1", self._listening()
 
     def _started(self, words: List[str]) -> "subprocess.Popen[bytes]":
@@ -46,6 +46,14 @@ class Served:
             if self._said is not None:
                 self._said.close()
             raise NoProgram(f"{words[0]!r} can't be started: {fault}") from fault
+
+    def _gives(self, to: IO[bytes], text: str) -> None:
+        """Hands over the text of a history. A program that has ended takes none, and why is told by what it said."""
+        try:
+            with to:
+                to.write(text.encode())
+        except BrokenPipeError:
+            pass
 
     def _listening(self) -> int:
         """The port that the desk tells of."""
@@ -59,7 +67,11 @@ class Served:
 
     def _not_there(self) -> SessionEnded:
         """Why the desk isn't there."""
-        status, words = self._process.wait(), last_words(self._said)
+        try:
+            status = self._process.wait(GRACE)
+        except subprocess.TimeoutExpired:
+            status = -1
+        words = last_words(self._said)
         self.close()
         if status == 1 and self.journal is None:
             return NotResumed("the program refused the text: it is no history's")
