@@ -1,4 +1,4 @@
-//! `json_only`: prints each JSON line of standard input again, and does nothing else. `scripts/benchmark` compares the
+//! `json_only`: prints each JSON line of standard input again, and does nothing else. `scripts/bench/lines` compares the
 //! program with it.
 #![tactic(auto)]
 
