@@ -17,6 +17,42 @@ ONCE = "chapel-workbook 2\nrect D {1..4} none\nhistory 1\n+ {\"d\":\"D\",\"is\":
 """The history of a domain alone."""
 
 
+LINES = """\
+D = {1..<5}
+D.translate(1)
+D.expand(1)
+D = D[{1..4}]
+D dmapped blockDist({1..#4},[2])
+D dmapped cyclicDist(1,[2])
+M = {1..2, 0..6 by 2} dmapped blockDist({1..2,0..6}, [1, 2])
+M = {1..3, 0..#4}
+M.translate(1, -1)
+S sparse M
+S += (2, 1)
+N = int
+N |= {7, 5, 5}
+N ^= {4}
+T = text
+T |= {"{x", "a..b"}
+A over D
+B over D
+C over M
+E over S
+P over T
+A[4] = 9
+A[1] = B[2] + 3
+A[1] -= 3
+A[1..<3 by 1] = 8
+A += B
+E.irv = 7
+C[2..3, 0..1] = 5
+P["a..b"] = P["{x"] - 1
+F = {1..4}
+D = F
+drop F"""
+"""Edits of each kind, with literals that a history spells in another way."""
+
+
 class AtATerminal(unittest.TestCase):
     def setUp(self) -> None:
         self.server = Server(seats=2)
@@ -194,6 +230,21 @@ class Answers(unittest.TestCase):
         with self.assertRaisesRegex(SessionEnded, "all its seats are taken"):
             book.again()
         book.close()
+
+    def test_edits_are_known_again_however_they_were_spelled(self):
+        with Workbook.run(PROGRAM) as book:
+            session = self.session(book)
+            for line in LINES.splitlines():
+                session.line(line)
+                self.assertFalse(session.failed, self.told())
+            self.assertTrue(hearing.hear_again(book).none)
+            count = len(book.edits)
+            book.undo(count)
+            book.edits[count].was_in_force = True
+            self.assertEqual(hearing.hear_again(book), News(count, count, False, [], [count], []))
+            self.assertEqual((book.edits[22].what, book.edits[22].who), ("A[4] = 9", "me"))
+            book.edits[22].what = "A[4] = 8"
+            self.assertTrue(hearing.hear_again(book).other)
 
     def test_a_log(self):
         redis = RedisAlike(answers=True)
