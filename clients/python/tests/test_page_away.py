@@ -135,8 +135,15 @@ class Away(InABrowser):
             self.go(address)
             browser.until("document.title === 'plan.wb · workbook'")
             self.line(browser, "D = {1..2}", "A over D", "A[1] = 5")
+            terminal.process.send_signal(signal.SIGSTOP)
+            browser.click("#words")
+            browser.type("A[1] = 6")
+            browser.key("Enter")
+            self.says(browser, "No answer yet, so it is waited for: A[1] = 6")
             terminal.process.kill()
-            self.says_it_is_away(browser, "The page's server is gone", "What you see is as it was at")
+            self.says_it_is_away(
+                browser, "The page's server is gone", "What you see is as it was at", "Sent and not answered, so perhaps done: A[1] = 6."
+            )
             self.assertEqual(browser.text(CELL), "5")
             port = address.split(":")[2].split("/")[0]
             again = Terminal("workbook_client.page", path, "--port", port)

@@ -8,6 +8,7 @@ const fresh = new Set(); // what others did since the marks were taken off
 let wanted = ""; // of which edits in sight it was last asked who needs them
 
 const rows = new Map(); // what is drawn of each edit, and what it was drawn of
+let lighted = null; // an edit that is shown for a while
 let noticed = ""; // what the notices were drawn of
 
 const item = k => document.querySelector('#edits li[data-k="' + k + '"]');
@@ -31,7 +32,7 @@ function draw() {
   put($("edits"), items);
   drawNotices();
   for (const lit of document.querySelectorAll("#edits li.lit")) lit.classList.remove("lit");
-  if (looked) looked.needs.forEach(k => mark(k, true));
+  for (const k of [...(looked?.needs ?? []), lighted]) mark(k, true);
   if (held) item(held.k)?.querySelectorAll("button")[held.n]?.focus();
 }
 
@@ -48,7 +49,7 @@ function focused() {
   return at && {k: at.dataset.k, n: [...at.querySelectorAll("button")].indexOf(document.activeElement)};
 }
 
-/** Notes what others did: edits of theirs that came, and edits that they took back or put in force. */
+/** Notes what others did: edits of theirs that came, and edits of one's own that they took back. */
 function noteFresh() {
   const now = new Map(state.edits.map(e => [e.k, e.on]));
   if (lastOn) {
@@ -58,6 +59,7 @@ function noteFresh() {
     }
     for (const k of state.taken) if (lastOn.get(k)) fresh.add(k);
   }
+  for (const k of fresh) if (!now.has(k)) fresh.delete(k);
   lastOn = now;
 }
 
@@ -121,8 +123,9 @@ function leap() {
 /** Shows an edit for a while. */
 export function light(k) {
   item(k)?.scrollIntoView({block: "nearest", behavior: "smooth"});
+  lighted = k;
   mark(k, true);
-  setTimeout(() => mark(k, false), 2500);
+  setTimeout(() => { if (lighted === k) lighted = null; mark(k, false); }, 2500);
 }
 
 // --- what was taken back, and may be put back

@@ -61,14 +61,14 @@ function showAway(told) {
     : state ? "What you see is as the page's server had it last." : "";
   if (told.kind === "server") unheard.push(...told.unanswered);
   else unanswered = told.unanswered ?? [];
-  banner("gone", told.say[0].toUpperCase() + told.say.slice(1) + ".", since, told.tries ? "It is tried again." : "It isn't tried again.", ...lost());
+  banner("gone", told.say[0].toUpperCase() + told.say.slice(1) + ".", since, told.tries ? "It is tried again." : told.tries === false ? "It isn't tried again." : "", ...lost());
   document.body.classList.add("lost");
 }
 
 /** Tells that it is there again, what was done meanwhile, and what was sent before and not answered. */
-function showBack(now) {
+function showBack(news) {
   document.body.classList.remove("lost");
-  const words = banner("back", now.news ? now.news : "There again.", ...lost());
+  const words = banner("back", news || "It is there again.", ...lost());
   words.append(button("", "read", () => { unanswered = []; unheard.length = 0; $("away").hidden = true; }));
 }
 

@@ -39,7 +39,7 @@ export function tell(ok, words) {
 
 /** The workbook as it was last heard; null before the first time. */
 export let state = null;
-/** Whether the workbook, or the page's server, isn't there now. */
+/** What isn't there now: the "workbook", or the page's "server"; false where both are. */
 export let away = false;
 /** How many looks in a row found nothing new. */
 export let quiet = 0;
@@ -72,15 +72,17 @@ export async function poll() {
 function here(told) {
   quiet = told ? 0 : quiet + 1;
   heardAt = new Date();
-  if (away) { away = false; listeners.back(told || state); }
+  const back = away;
+  away = false;
   if (told) { state = told; listeners.state(); }
+  if (back) listeners.back(back === "server" ? "The page's server is there again." : state.news);
 }
 
 /** It isn't there: what is shown stays, and a page that shows nothing yet shows what its server had last. */
 function gone(told, status) {
   if (told.state && state === null) { state = told.state; listeners.state(); }
   quiet = 0;
-  away = true;
+  away = told.kind ?? "workbook";
   const say = status === 403 ? "Another server of a page is there now: its terminal shows its address" : told.say;
   listeners.away({...told, say, heardAt});
 }
