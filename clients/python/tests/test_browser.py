@@ -144,8 +144,17 @@ class Page(InABrowser):
         self.assertEqual(browser.text(".edits li[data-k='4'] .what"), 'P["a\ufffdb\ufffdc"] = 5')
         self.line(browser, f'P["{label}x"] = 1')
         self.assertIn("a\ufffdb\ufffdcx", browser.text("#said"))
-        self.assertFalse(browser.js("/[\\u061c\\u200e\\u200f\\u202a-\\u202e\\u2066-\\u2069]/.test(document.body.innerText)"))
+        marked = "/[\\u061c\\u200e\\u200f\\u202a-\\u202e\\u2066-\\u2069]/.test(document.body.innerText)"
+        self.assertFalse(browser.js(marked))
         self.assertEqual(browser.faults, [])
+        with self.held() as now:
+            now.exchange.channel.close()
+        browser.until("document.body.classList.contains('lost')")
+        browser.click(".value")
+        browser.keys("6")
+        browser.key("Enter")
+        self.says(browser, "Not sent, since the workbook isn't there now: P[\"a\ufffdb\ufffdc\"] = 6")
+        self.assertFalse(browser.js(marked))
 
     def test_no_file_is_written_or_read(self):
         browser = self.open(Workbook.run(PROGRAM))

@@ -358,7 +358,9 @@ class Page(unittest.TestCase):
             shown.state()  # nothing: another page has just looked
         self.assertEqual(shown.needs(3)["needs"], [3])
         self.assertEqual(shown.state()["edits"][2]["needs"], [3])  # the question alone
-        self.assertEqual(server.settled()[0], 5 + 2 + 10 + 1)
+        for _ in range(3):
+            shown.state(view.Sight(3))  # who needs those in sight of which it isn't known: edits 4 and 5, once
+        self.assertEqual(server.settled()[0], 5 + 2 + 10 + 1 + 2)
 
     def test_bodies_of_no_length_or_of_too_much(self):
         self.open(Workbook.run(PROGRAM))

@@ -1,6 +1,6 @@
 /* The page: its head, what is said when the workbook is away, the line below, and when it looks again. */
 
-import {$, ask, away, button, listen, make, poll, quiet, state, tell} from "./talk.js";
+import {$, ask, away, button, harmless, listen, make, poll, quiet, state, tell} from "./talk.js";
 import {light, marksOfEdits, settleEdits, showEdits} from "./edits.js";
 import {marksOfCells, showGrid, tint} from "./grid.js";
 import {settleCells} from "./tables.js";
@@ -79,7 +79,7 @@ function lost() {
 
 function banner(kind, ...words) {
   $("away").className = kind;
-  $("away").replaceChildren(...words.filter(Boolean).map(one => make("span", "", one)));
+  $("away").replaceChildren(...words.filter(Boolean).map(one => make("span", "", harmless(one))));
   $("away").hidden = false;
   return $("away");
 }

@@ -31,9 +31,12 @@ export function numbered(all) {
   return all.length > 1 ? all.slice(0, -1).join(", ") + " and " + all[all.length - 1] : String(all[0]);
 }
 
+/** A text without marks that turn the direction of what is written: a key of a text that others made may have some. */
+export const harmless = text => text.replace(/[\x80-\x9f\u061c\u200e\u200f\u202a-\u202e\u2066-\u2069]/g, "\ufffd");
+
 /** What is said below, in the colour of what went well or of what didn't. */
 export function tell(ok, words) {
-  $("said").textContent = words;
+  $("said").textContent = harmless(words);
   $("said").className = ok ? "" : "no";
 }
 
