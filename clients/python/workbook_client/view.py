@@ -364,7 +364,7 @@ class View:
         self._version += 1
 
     def _paste(self, session: Doing, asked: Json) -> None:
-        """Sets many elements of an array, each by an edit, all or none."""
+        """Sets many elements of an array, each by an edit, all or none as in a block of `trying`."""
         wanted = [_set(asked.get("a"), cell) for cell in _listed(asked, "cells")]
         if not wanted:
             raise ValueError("there is nothing to paste")
