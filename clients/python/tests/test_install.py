@@ -6,12 +6,14 @@ import subprocess
 import sys
 import tempfile
 import unittest
+import urllib.request
 from pathlib import Path
 from typing import Dict, List, Set
 
 from .support import HERE, PROGRAM
 
 import workbook_client
+from workbook_client.page import SCRIPTS
 
 TOP = HERE.parents[3]
 MODULES = HERE.parents[1] / "workbook_client"
@@ -19,7 +21,7 @@ OTHERS = {
     "bin/workbook", "bin/workbook-session", "bin/workbook-page", "bin/workbook-worker",
     "lib/systemd/system/workbook@.service",
     "lib/workbook/installed",
-    "lib/workbook/python/workbook_client/page.html", "lib/workbook/python/workbook_client/py.typed",
+    *(f"lib/workbook/python/workbook_client/{name}" for name in ("page.html", "page.css", *SCRIPTS, "py.typed")),
     "share/man/man1/workbook.1",
     "share/bash-completion/completions/workbook",
     "share/zsh/site-functions/_workbook",
@@ -104,6 +106,20 @@ class TestInstall(Scratch):
         self.assertIn("edit 1, 3 cells", self.run_there("workbook-session", "--file", "-", text="D = {1..3}\n"))
         for name in ("workbook-page", "workbook-worker"):
             self.assertTrue(self.run_there(name, "--help").startswith("usage: "), name)
+
+    def test_the_page_is_served_from_there(self) -> None:
+        """With its style and its scripts."""
+        self.install()
+        words = [str(self.prefix / "bin" / "workbook-page"), "--port", "0"]
+        with subprocess.Popen(words, stdout=subprocess.PIPE, text=True, env=environment(), cwd=self.scratch) as page:
+            self.addCleanup(page.kill)
+            assert page.stdout is not None
+            address = next(line for line in page.stdout if "the page is at" in line).split()[4]
+            for name in ("", "page.css", *SCRIPTS):
+                asked = urllib.request.Request(address + name, headers={"Sec-Fetch-Site": "same-origin"})
+                with urllib.request.urlopen(asked, timeout=10) as answer:
+                    self.assertEqual(answer.status, 200)
+            page.kill()
 
     def test_a_command_works_by_a_link(self) -> None:
         self.install()
