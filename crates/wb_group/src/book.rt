@@ -100,6 +100,7 @@ impl<G: Group, C> Model for Front<G, C> {
 }
 
 /// A book without a turn, which no type stands for yet.
+#[derive(Drop)]
 pub struct Opened<C> {
     word: Word<C, u64, Counted>,
     seen: Seen<C, u64, Counted>,

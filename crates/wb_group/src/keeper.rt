@@ -1,19 +1,36 @@
-//! What keeps turns, for the threads that wait for it.
-ghost use Rattle.std.specs.Prelude.{◌≡◌, ◌≢◌, ◌<◌, ◌++◌, ◌↔◌, List, length, IfOk, IfErr, OnErr, OnOk, Err, Some, None, MatchBool};
+//! What keeps turns, under a lock of its own, for the threads that wait for it.
+ghost use Rattle.std.specs.Prelude.{◌≡◌, ◌<◌, ◌++◌, ◌↔◌, [], List, length, true, false, IfOk, IfErr, OnErr, OnOk, Err, MatchBool};
 ghost use mathlib.Core.List.{IsPrefix};
-ghost use Rattle.wb_group.specs.Keeping.{Goes, IsGivenUp};
+ghost use Rattle.wb_group.specs.Keeping.{Goes, IsGivenUp, IsLeft};
 
 use crate::book::{Front, Group};
-use crate::kept::Kept;
 use crate::store::Store;
 use crate::waiting::Desk;
 use std::alloc::Global;
+use std::marker::{Model, PhantomData};
+use std::sync::ledger::Share;
 use std::sync::{Mutex, Wait};
 
-/// What is kept, or nothing after the store failed.
+/// A store with the turns that it has. Once it failed it is asked for nothing more.
 #[derive(Drop)]
 pub struct Keeper<G: Group, C: Drop, E: Drop, T: Store<C, E> + Drop> {
-    kept: Option<Kept<G, C, E, T>>,
+    store: T,
+    front: Front<G, C>,
+    mark: Share<G>,
+    is_open: bool,
+    errors: PhantomData<E>,
+}
+
+impl<G: Group, C: Drop, E: Drop, T: Store<C, E> + Drop> Model for Keeper<G, C, E, T> {
+    ghost use Rattle.std.specs.Prelude.{◌≡◌, length};
+    ghost use Rattle.wb_group.specs.Keeping.{Keeping, IsKeeping};
+
+    ghost Value = { Keeping C T };
+
+    ghost view = { λ k. record { store = k.store; turns = k.front; is_open = k.is_open } };
+
+    ghost invariant = { λ k. IsKeeping T.has T.leaves (record { store = k.store; turns = k.front; is_open = k.is_open })
+        × (k.mark.parts ≡ G.all) × (k.mark.amount ≡ length k.front) };
 }
 
 /// Why turns are not kept. From then on none is: the store is to be opened again.
@@ -26,22 +43,22 @@ pub enum KeepErr<E> {
 }
 
 impl<G: Group, C: Drop, E: Drop, T: Store<C, E> + Drop> Keeper<G, C, E, T> {
-    /// A keeper that is open.
-    pub fn new(kept: Kept<G, C, E, T>) -> Keeper<G, C, E, T>
-        ensures { result.kept ≡ Some kept }
+    /// A store that has no turn, with the front and the share of a book that has none.
+    pub fn new(store: T, front: Front<G, C>, mark: Share<G>) -> Keeper<G, C, E, T>
+        requires { T.has store [] × (front ≡ []) × (mark.parts ≡ G.all) × (mark.amount ≡ 0) }
+        ensures { result ≡ record { store = store; turns = []; is_open = true } }
     {
-        Keeper { kept: Some(kept) }
+        Keeper {
+            store,
+            front,
+            mark,
+            is_open: true,
+            errors: PhantomData,
+        }
     }
 
-    /// What is kept, where no call failed.
-    pub fn into_kept(self) -> Option<Kept<G, C, E, T>>
-        ensures { result ≡ self.kept }
-    {
-        self.kept
-    }
-
-    /// Keeps all turns that wait at a desk, as one batch, unless it has those of the front already; and says whether it
-    /// has them then.
+    /// Keeps all turns that wait at a desk that is shared, as one batch, unless it has those of the front already; and says
+    /// whether it has them then. Only while the turns are taken the desk's lock is held.
     pub fn keep<W: Desk<G, C>>(
         &mut self,
         rt: &impl Wait,
@@ -50,28 +67,59 @@ impl<G: Group, C: Drop, E: Drop, T: Store<C, E> + Drop> Keeper<G, C, E, T> {
         front: &Front<G, C>,
     ) -> Result<bool, KeepErr<E>>
         requires { (G.all ≡ G.parts) × (0 < G.all) }
-        ensures kept { IfOk result (λ has. (old new : T × List C) × (self.old.kept ≡ Some old) × (self.new.kept ≡ Some new)
-            × Goes T.leaves old new × T.has new.0 new.1 × MatchBool has (IsPrefix front.now new.1) (length new.1 < length front.now)) }
+        ensures kept { IfOk result (λ has. (self.old.is_open ≡ true) × (self.new.is_open ≡ true) × Goes T.leaves self.old self.new
+            × T.has self.new.store self.new.turns × MatchBool has (IsPrefix front.now self.new.turns) (length self.new.turns < length front.now)) }
         // At each moment of a call that failed the store leaves what one leaves that is asked to add some turns.
-        ensures failed { (error : E) → result ≡ Err (KeepErr.Failed error) → (old : T × List C) × (self.old.kept ≡ Some old) × T.has old.0 old.1
-            × IsGivenUp T.leaves T.faults T.is_fault old error }
-        ensures closed { OnErr result (self.new.kept ≡ None) }
-        ensures stays { (self.old.kept ≡ None) ↔ (result ≡ Err KeepErr.Closed) }
+        ensures failed { (error : E) → result ≡ Err (KeepErr.Failed error) → T.has self.old.store self.old.turns × ((turns : List C)
+            × T.leaves self.old.store self.new.store self.old.turns turns × (T.is_fault error → T.faults self.old.store < T.faults self.new.store)) }
+        ensures closed { OnErr result (self.new.is_open ≡ false) }
+        ensures stays { (self.old.is_open ≡ false) ↔ (result ≡ Err KeepErr.Closed) }
+        ensures untouched { self.old.is_open ≡ false → self.new ≡ self.old }
     {
-        let Some(kept) = self.kept.take() else {
+        if !self.is_open {
             return Err(KeepErr::Closed);
-        };
-        if front.is_within(kept.front()) {
-            self.kept = Some(kept);
+        }
+        if front.is_within(&self.front) {
             return Ok(true);
         }
-        match kept.keep_waiting(rt, alloc, desk) {
-            Ok(kept) => {
-                let has = front.is_within(kept.front());
-                self.kept = Some(kept);
-                Ok(has)
-            }
-            Err((error, _)) => Err(KeepErr::Failed(error)),
+        let batch = desk.lock(rt).take(alloc, &mut self.mark);
+        self.front.agrees(&batch.before);
+        self.front = batch.after;
+        if let Err(error) = self.store.add(&batch.turns) {
+            self.is_open = false;
+            return Err(KeepErr::Failed(error));
+        }
+        Ok(front.is_within(&self.front))
+    }
+
+    /// Keeps all turns that wait at a desk, and gives the store back, which has all that were made there then. After an error
+    /// it is what is left of a call that added turns to it.
+    pub fn keep_all<W: Desk<G, C>>(self, alloc: Global, desk: &mut W) -> Result<T, (KeepErr<E>, T)>
+        requires { (G.all ≡ G.parts) × (0 < G.all) }
+        ensures kept { IfOk result (λ store. (self.is_open ≡ true) × T.has store (W.made desk.old)) }
+        ensures any_moment { IfOk result (λ store. (turns : List C) × (W.made desk.old ≡ self.turns ++ turns) × T.leaves self.store store self.turns turns) }
+        ensures left { IfErr result (λ e. IsLeft T.has T.leaves (W.made desk.old) e.1) }
+        ensures failed { IfErr result (λ e. (error : E) → e.0 ≡ KeepErr.Failed error → T.has self.store self.turns × ((turns : List C)
+            × T.leaves self.store e.1 self.turns turns × (T.is_fault error → T.faults self.store < T.faults e.1))) }
+        ensures stays { IfErr result (λ e. (self.is_open ≡ false) ↔ (e.0 ≡ KeepErr.Closed)) }
+        ensures untouched { self.is_open ≡ false → IfErr result (λ e. e.1 ≡ self.store) }
+        ensures made { W.made desk.new ≡ W.made desk.old }
+    {
+        let Keeper {
+            mut store,
+            front,
+            mut mark,
+            is_open,
+            errors: _,
+        } = self;
+        let batch = desk.take(alloc, &mut mark);
+        front.agrees(&batch.before);
+        if !is_open {
+            return Err((KeepErr::Closed, store));
+        }
+        match store.add(&batch.turns) {
+            Ok(()) => Ok(store),
+            Err(error) => Err((KeepErr::Failed(error), store)),
         }
     }
 }

@@ -3,12 +3,10 @@
 
 mod book;
 mod keeper;
-mod kept;
 mod store;
 mod waiting;
 
 pub use book::{Front, Group, Opened};
 pub use keeper::{KeepErr, Keeper, Sealed, keep};
-pub use kept::Kept;
 pub use store::Store;
 pub use waiting::{Batch, Desk, Waiting};

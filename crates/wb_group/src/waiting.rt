@@ -1,8 +1,8 @@
 //! What waits to be kept.
-ghost use Rattle.std.specs.Prelude.{◌≡◌, ◌<◌, List, ◌++◌, [], ◌∷◌, length, IfOk, OnErr};
+ghost use Rattle.std.specs.Prelude.{◌≡◌, ◌<◌, List, ◌++◌, [], ◌∷◌, length, IfOk, IfErr};
 
 use crate::book::{Count, Front, Group, Opened};
-use std::alloc::{AllocError, Global};
+use std::alloc::Global;
 use std::marker::Model;
 use std::mem;
 use std::sync::ledger::{Blank, Book, Share};
@@ -84,15 +84,24 @@ impl<G: Group, C: Drop> Waiting<G, C> {
         (waiting, front, share)
     }
 
-    /// Adds a turn behind all that were made, which then waits. Where there is no room for it, nothing is added.
-    pub fn add(&mut self, turn: C) -> Result<Front<G, C>, AllocError>
-        ensures made { IfOk result (λ front. (front ≡ self.old.1 ++ turn ∷ []) × (self.new ≡ (self.old.0, front))) }
-        ensures err { OnErr result (self.new ≡ self.old) }
+    /// All turns that were made.
+    pub fn made(&self) -> &Front<G, C>
+        ensures { result.now ≡ self.now.1 }
     {
-        self.turns.reserve(1)?;
+        &self.made
+    }
+
+    /// Adds a turn behind all that were made, which then waits. Where there is no room for it, it is given back.
+    pub fn add(&mut self, turn: C) -> Result<Front<G, C>, C>
+        ensures made { IfOk result (λ front. (front ≡ self.old.1 ++ turn ∷ []) × (self.new ≡ (self.old.0, front))) }
+        ensures back { IfErr result (λ back. (back ≡ turn) × (self.new ≡ self.old)) }
+    {
+        if self.turns.reserve(1).is_err() {
+            return Err(turn);
+        }
         let mut made = self.made.again();
         if !made.add(&self.count, &turn) {
-            return Err(AllocError);
+            return Err(turn);
         }
         self.turns.push_reserved(turn);
         self.made = made;

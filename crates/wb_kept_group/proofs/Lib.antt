@@ -1,2 +1,2 @@
-mod Joining
+pub mod Joining
 mod Turning

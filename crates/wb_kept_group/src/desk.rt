@@ -1,5 +1,5 @@
 //! A desk: turns of any thread are made under its lock.
-ghost use Rattle.std.specs.Prelude.{◌≡◌, ◌<◌, ◌≤◌, ◌++◌, ◌∷◌, ◌↔◌, ℕ, List, [], length, map, All, IfOk, OnOk, OnErr, Err, Some, None};
+ghost use Rattle.std.specs.Prelude.{◌≡◌, ◌<◌, ◌≤◌, ◌++◌, ◌∷◌, ◌↔◌, ℕ, List, [], true, length, map, All, IfOk, OnOk, OnErr, Err, Some, None};
 ghost use Rattle.wb_lines.specs.Lines.{ended};
 ghost use Rattle.wb_lines.specs.Reading.{line_limit};
 ghost use Rattle.wb_keep.specs.Lines.{recovered};
@@ -119,12 +119,12 @@ pub fn open<M: Machine<S>, S: Drop, O: Opening, D: Device + Drop>(
     requires book { opened.seen.book ≡ O.book }
     requires ledger { (blank.name ≡ O.name) × (blank.parts ≡ O.parts) × (O.all ≡ O.parts) }
     ensures seats { result.0 ≡ (Some kept.state, ([], [])) }
-    ensures keeper { (journal : Journal O D) × (journal.log ≡ kept.log) × (result.1.kept ≡ Some (journal, [])) }
+    ensures keeper { (journal : Journal O D) × (journal.log ≡ kept.log) × (result.1 ≡ record { store = journal; turns = []; is_open = true }) }
 {
     let (waiting, front, mark) = Waiting::<O, Changes>::open(alloc, opened, blank);
     let Kept { state, log } = kept;
     let journal = Journal::new(alloc, log);
-    let keeper = Keeper::new(wb_group::Kept::new(journal, front, mark));
+    let keeper = Keeper::new(journal, front, mark);
     (Seats::new(state, waiting), keeper)
 }
 

@@ -1,5 +1,4 @@
-use Rattle.std.proofs.Common.{Some, ap, ◌∙◌}
 use Rattle.wb_kept_group.proofs.desk.open.Goals as goal
 
 pub returns-clause-keeper : goal.returns-clause-keeper
-returns-clause-keeper g c = (c.new-journal.result, c.new-journal.ensures, c.new-keeper.ensures ∙ ap (λ k. Some k) c.new.ensures)
+returns-clause-keeper g c = (c.new-journal.result, c.new-journal.ensures, c.new-keeper.ensures)
