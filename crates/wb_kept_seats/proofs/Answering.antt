@@ -1,10 +1,9 @@
 -- A request of a pass that was answered, and the lines of what it changed.
-use Rattle.std.proofs.Common.{◌≡◌, ◌≤◌, inl, ℕ, Bool, true, false, MatchBool, List, [], ◌∷◌, ◌++◌, Result, Ok, refl, sym, ap, ◌∙◌, subst, append_assoc, append-nil}
-use Rattle.wb_keep.specs.Lines.{recovered}
-use Rattle.wb_keep.specs.Keep.{IsSettled}
-use Rattle.wb_keep.specs.declared.keep.LineLog.{LineLog}
+use Rattle.std.proofs.Common.{◌≡◌, inl, ℕ, Bool, true, false, MatchBool, List, [], ◌∷◌, ◌++◌, Result, Ok, refl, sym, ap, ◌∙◌, subst, append_assoc, append-nil}
+use mathlib.Core.List.{IsPrefix}
 use Rattle.wb_kept.specs.Runs.{Leads}
 use Rattle.wb_kept.proofs.Steps.{leads_append}
+use Rattle.wb_kept_group.specs.Together.{changes_in}
 use Rattle.wb_proto.specs.Below.wb_history.Past.{Past}
 use Rattle.wb_proto.specs.Below.wb_log.refusal.Refusal.{Refusal}
 use Rattle.wb_proto.specs.Machine.{Step, StepIfRead}
@@ -18,12 +17,12 @@ use Rattle.wb_granting.proofs.Leading.{changes_lead}
 use Rattle.wb_keeping.proofs.Added.{adds_none, edit_added, other_added}
 use Rattle.wb_wire.specs.Encoded.{request_line}
 use Rattle.wb_journal.proofs.Runs.{course_more}
-use Rattle.wb_journal.specs.Courses.{Course, IsCourse}
+use Rattle.wb_journal.specs.Courses.{Course}
 use Rattle.wb_journal.specs.Entries.{is_entered, leaves_all}
 use Rattle.wb_journal.specs.Serving.{AnswersCourse, Enters, IsStrange, entry, share_after}
 use Rattle.wb_journal.specs.declared.entry.Entry.{Entry}
 use Rattle.wb_kept_seats.specs.Lines.{IsSaid, IsLineOfEdit, IsAhead, Adds}
-use Rattle.wb_kept_seats.specs.KeptCourses.{KeptCourse, StandsForFront, IsReady, LeavesFronts, IsKeptCourse}
+use Rattle.wb_kept_seats.specs.KeptCourses.{KeptCourse, StandsForFront, IsKeptCourse}
 use Rattle.wb_kept_seats.specs.Answering.{AnswersKept}
 use Rattle.wb_kept_seats.specs.declared.lines.Ahead.{Ahead}
 use Rattle.wb_kept_seats.specs.declared.lines.Ahead.TheVariants.{Edit, NoMemory, Other}
@@ -126,39 +125,28 @@ entries_grow c d seat asked r answers = by_entered (is_entered r) answers
     by_entered true enters = (entry seat asked r ∷ [], enters.entries)
     by_entered false same = ([], ap (λ (x : Course). x.entries) same ∙ sym (append-nil c.entries))
 
-module _ {D : Type 0} (seen : D → List ℕ) (may_leave : D → List ℕ → Type 0) (moment : D → ℕ) (left_since : D → ℕ → List ℕ → Type 0)
-    (opening : Past) (begun : ℕ) where
-  stands_on : (k l : KeptCourse D) (seat : ℕ) (asked : Request) (r : Reply) (lines : List (List ℕ)) → AnswersCourse k.course seat asked r l.course
-      → StandsForFront opening k.course.entries lines → StandsForFront opening l.course.entries lines
-  stands_on k l seat asked r lines answers stands =
-      let grow = entries_grow k.course l.course seat asked r answers in
-      subst (λ (es : List Entry). StandsForFront opening es lines) (sym grow.1) (stands_more opening k.course.entries grow.0 lines stands)
+stands_on : (opening : Past) (k l : KeptCourse) (seat : ℕ) (asked : Request) (r : Reply) (lines : List (List ℕ)) → AnswersCourse k.course seat asked r l.course
+    → StandsForFront opening k.course.entries lines → StandsForFront opening l.course.entries lines
+stands_on opening k l seat asked r lines answers stands =
+    let grow = entries_grow k.course l.course seat asked r answers in
+    subst (λ (es : List Entry). StandsForFront opening es lines) (sym grow.1) (stands_more opening k.course.entries grow.0 lines stands)
 
-  pub kept_answered : (k l : KeptCourse D) (seat : ℕ) (own : List Entry) (asked : Request) (r : Reply) → IsSaid asked → AnswersKept k seat own asked r l
-      → IsKeptCourse seen may_leave moment left_since opening begun k → IsKeptCourse seen may_leave moment left_since opening begun l
-  kept_answered k l seat own asked r said a kept = record {
-    is_course = course_more opening k.course seat own asked r l.course kept.is_course a.strange a.answers;
-    any_moment = record {
-      later = subst (λ (x : LineLog D). begun ≤ moment x.device) (sym a.log) kept.any_moment.later;
-      each = λ file left. stands_on k l seat asked r (recovered file) a.answers
-          (kept.any_moment.each file (subst (λ (x : LineLog D). left_since x.device begun file) a.log left));
-    };
-    ready = λ now.
-        let waits = a.waits now in
-        let was = kept.ready waits.0 in
-        record {
-          settled = subst (λ (x : LineLog D). IsSettled seen may_leave x) (sym a.log) was.settled;
-          front = subst (λ (x : LineLog D). StandsForFront opening l.course.entries (recovered (seen x.device))) (sym a.log)
-              (stands_on k l seat asked r (recovered (seen k.log.device)) a.answers was.front);
-          leads = subst (λ (x : LineLog D). Leads Grants no_edit (recovered (seen x.device) ++ l.waiting) l.course.history) (sym a.log)
-              (leads_behind k.course l.course seat asked r (recovered (seen k.log.device)) k.waiting l.waiting said a.answers waits.1 was.leads);
-        };
-  }
+pub kept_answered : (opening : Past) (lines : List (List ℕ)) (k l : KeptCourse) (seat : ℕ) (own : List Entry) (asked : Request) (r : Reply) → IsSaid asked
+    → AnswersKept k seat own asked r l → IsKeptCourse opening lines k → IsKeptCourse opening lines l
+kept_answered opening lines k l seat own asked r said a kept = record {
+  is_course = course_more opening k.course seat own asked r l.course kept.is_course a.strange a.answers;
+  fronts = λ front begins. stands_on opening k l seat asked r (lines ++ changes_in front) a.answers
+      (kept.fronts front (subst (λ turns. IsPrefix front turns) a.turns.0 begins));
+  leads = λ now.
+      let waits = a.waits now in
+      subst (λ turns. Leads Grants no_edit ((lines ++ changes_in turns) ++ l.waiting) l.course.history) (sym a.turns.0)
+      (leads_behind k.course l.course seat asked r (lines ++ changes_in k.made) k.waiting l.waiting said a.answers waits.1 (kept.leads waits.0));
+}
 
 -- ---- the whole
 
-module _ {D : Type 0} (k l : KeptCourse D) (seat : ℕ) (own : List Entry) (asked : Request) (ahead : Ahead) (r : Reply) where
-  -- the lines of what a reply tells of wait, if it is open then
+module _ (k l : KeptCourse) (seat : ℕ) (own : List Entry) (asked : Request) (ahead : Ahead) (r : Reply) where
+  -- the lines of what a reply tells of came to the changes of the turn, if it is open then
   waits_then : (b : Bool) → leaves_all r ≡ b → AnswersCourse k.course seat asked r l.course → IsAhead asked ahead
       → (leaves_all r ≡ true → (l.waiting ≡ k.waiting) × (l.is_open ≡ k.is_open))
       → (leaves_all r ≡ false → l.is_open ≡ true → (k.is_open ≡ true) × Adds ahead r k.waiting l.waiting)
@@ -171,15 +159,14 @@ module _ {D : Type 0} (k l : KeptCourse D) (seat : ℕ) (own : List Entry) (aske
       let added = told e now in
       (added.0, told_adds k.course l.course seat asked ahead r k.waiting l.waiting is answers e added.1)
 
-  pub answered : IsStrange k.course seat own r → AnswersCourse k.course seat asked r l.course → l.total ≡ share_after k.total r → l.log ≡ k.log → l.commits ≡ k.commits
+  pub answered : IsStrange k.course seat own r → AnswersCourse k.course seat asked r l.course → l.total ≡ share_after k.total r → l.made ≡ k.made → l.taken ≡ k.taken
       → IsAhead asked ahead → (leaves_all r ≡ true → (l.waiting ≡ k.waiting) × (l.is_open ≡ k.is_open))
       → (leaves_all r ≡ false → l.is_open ≡ true → (k.is_open ≡ true) × Adds ahead r k.waiting l.waiting) → AnswersKept k seat own asked r l
-  answered strange answers total log commits is left told = record {
+  answered strange answers total made taken is left told = record {
     strange = strange;
     answers = answers;
     total = total;
-    log = log;
-    commits = commits;
+    turns = (made, taken);
     waits = waits_then (leaves_all r) refl answers is left told;
     stays_open = λ e. (left e).1;
   }

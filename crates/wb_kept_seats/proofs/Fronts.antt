@@ -1,18 +1,19 @@
--- What stands for a front of the entries, also after a commit.
-use Rattle.std.proofs.Common.{◌≡◌, ◌≤◌, ◌<◌, inl, inr, ⊎_elim, ℕ, Bool, true, false, List, [], ◌∷◌, ◌++◌, Result, Ok, Err, OnOk, OnErr, IfOk, refl, sym, ap, ◌∙◌, subst, append_assoc, append-nil, arith}
-use Rattle.wb_disk.specs.Device.{LeavesOnly}
-use Rattle.wb_keep.specs.Lines.{recovered}
-use Rattle.wb_keep.specs.Keep.{IsSettled, IsBeforeOrAfter}
+-- What stands for a front of the entries.
+use Rattle.std.proofs.Common.{◌≡◌, ◌<◌, ℕ, true, List, [], ◌∷◌, ◌++◌, sym, ap, ◌∙◌, subst, append_assoc, append-nil}
+use Rattle.std.proofs.lemmas.List.Elements.{All-nil}
+use Rattle.std.specs.List.{All}
+use mathlib.Core.List.{IsPrefix}
 use Rattle.wb_keep.specs.declared.keep.LineLog.{LineLog}
 use Rattle.wb_kept.specs.Runs.{Leads}
 use Rattle.wb_kept.specs.Sessions.{IsFront}
-use Rattle.wb_kept.specs.Keeping.{IsKept}
+use Rattle.wb_kept_group.specs.Together.{changes_in}
 use Rattle.wb_proto.specs.Below.wb_history.Past.{Past}
 use Rattle.wb_granting.specs.Granting.{Grants, no_edit}
 use Rattle.wb_journal.specs.Courses.{Course, IsCourse, Runs}
 use Rattle.wb_journal.specs.declared.entry.Entry.{Entry}
-use Rattle.wb_kept_seats.specs.KeptCourses.{KeptCourse, kept_history, StandsForFront, IsReady, LeavesFronts, IsKeptCourse}
-use Rattle.wb_kept_seats.specs.Committing.{IsCommitted}
+use Rattle.wb_kept_seats.specs.KeptCourses.{KeptCourse, StandsForFront, EachFrontStands, IsKeptCourse}
+use Rattle.wb_kept_seats.specs.Files.{LeavesTurns, LeavesFronts}
+use Rattle.wb_kept_seats.proofs.Beginnings.{each_front_more, front_of_none, turn_behind}
 
 front_all : {T : Type 0} (xs : List T) → IsFront xs xs
 front_all xs = ([], sym (append-nil xs))
@@ -28,96 +29,72 @@ stands_more opening es more lines s =
 pub stands_all : (opening : Past) (c : Course) (lines : List (List ℕ)) → IsCourse opening c → Leads Grants no_edit lines c.history → StandsForFront opening c.entries lines
 stands_all opening c lines course leads = record { front = c.entries; is_front = front_all c.entries; history = c.history; run = course.run; leads = leads }
 
-module _ {D : Type 0} (seen : D → List ℕ) (may_leave : D → List ℕ → Type 0) (moment : D → ℕ) (left_since : D → ℕ → List ℕ → Type 0)
-    (opening : Past) (begun : ℕ) where
-  -- what a crash in a commit leaves
-  before_or_after : (k : KeptCourse D) → IsCourse opening k.course → IsReady seen may_leave opening k → (file : List ℕ)
-      → IsBeforeOrAfter (recovered (seen k.log.device)) k.waiting file → StandsForFront opening k.course.entries (recovered file)
-  before_or_after k course ready file h =
-      ⊎_elim (λ before. subst (λ ls. StandsForFront opening k.course.entries ls) (sym before) ready.front)
-      (λ after. subst (λ ls. StandsForFront opening k.course.entries ls) (sym after)
-      (stands_all opening k.course (recovered (seen k.log.device) ++ k.waiting) course ready.leads)) h.lines
+-- ---- a desk as it is opened
 
-  fronts_left : (k l : KeptCourse D) → l.course ≡ k.course → IsCourse opening k.course → IsReady seen may_leave opening k → LeavesFronts moment left_since opening begun k
-      → LeavesOnly moment left_since k.log.device l.log.device (IsBeforeOrAfter (recovered (seen k.log.device)) k.waiting) → LeavesFronts moment left_since opening begun l
-  fronts_left k l same course ready fronts moments = record {
-    later = omega (arith, fronts.later, moments.later);
-    each = λ file left. subst (λ (c : Course). StandsForFront opening c.entries (recovered file)) (sym same)
-        (⊎_elim (fronts.each file) (before_or_after k course ready file) (moments.before begun file fronts.later left));
-  }
+first_course : (opening : Past) (c : Course) → c.entries ≡ [] → c.history ≡ opening → IsCourse opening c
+first_course opening c none first = record {
+  run = subst (λ (es : List Entry). Runs opening es c.history) (sym none) first;
+  seated = subst (λ (es : List Entry). All (λ (e : Entry). e.seat < c.seats) es) (sym none) (All-nil (λ (e : Entry). e.seat < c.seats));
+}
 
-  fronts_same : (k l : KeptCourse D) → l.course ≡ k.course → l.log ≡ k.log → LeavesFronts moment left_since opening begun k → LeavesFronts moment left_since opening begun l
-  fronts_same k l same log fronts = record {
-    later = subst (λ (x : LineLog D). begun ≤ moment x.device) (sym log) fronts.later;
-    each = λ file left. subst (λ (c : Course). StandsForFront opening c.entries (recovered file)) (sym same)
-        (fronts.each file (subst (λ (x : LineLog D). left_since x.device begun file) log left));
-  }
+pub kept_opened : (opening history : Past) (lines : List (List ℕ)) (k : KeptCourse) → opening ≡ history → Leads Grants no_edit lines history
+    → k.course.entries ≡ [] → k.course.history ≡ history → k.made ≡ [] → k.waiting ≡ [] → IsKeptCourse opening lines k
+kept_opened opening history lines k first leads none now made waiting =
+    let all : lines ≡ lines ++ changes_in k.made = sym (append-nil lines) ∙ ap (λ turns. lines ++ changes_in turns) (sym made) in
+    let whole : lines ≡ (lines ++ changes_in k.made) ++ k.waiting = all ∙ sym (append-nil (lines ++ changes_in k.made)) ∙ ap (λ ls. (lines ++ changes_in k.made) ++ ls) (sym waiting) in
+    let here : Leads Grants no_edit lines k.course.history = subst (λ s. Leads Grants no_edit lines s) (sym now) leads in
+    let course : IsCourse opening k.course = first_course opening k.course none (now ∙ sym first) in
+    record {
+      is_course = course;
+      fronts = λ front begins.
+          let empty : front ≡ [] = front_of_none front (subst (λ turns. IsPrefix front turns) made begins) in
+          let only : lines ≡ lines ++ changes_in front = sym (append-nil lines) ∙ ap (λ turns. lines ++ changes_in turns) (sym empty) in
+          stands_all opening k.course (lines ++ changes_in front) course (subst (λ ls. Leads Grants no_edit ls k.course.history) only here);
+      leads = λ is. subst (λ ls. Leads Grants no_edit ls k.course.history) whole here;
+    }
 
-  -- all that waited is on the disk
-  abbrev pub IsKeptAll : KeptCourse D → KeptCourse D → Type 0
-  IsKeptAll k l = IsSettled seen may_leave l.log × (recovered (seen l.log.device) ≡ recovered (seen k.log.device) ++ k.waiting)
+-- ---- a turn that ends
 
-  leads_all : (k l : KeptCourse D) → l.course ≡ k.course → IsReady seen may_leave opening k → IsKeptAll k l
-      → Leads Grants no_edit (recovered (seen l.log.device)) l.course.history
-  leads_all k l same ready all =
-      subst (λ (c : Course). Leads Grants no_edit (recovered (seen l.log.device)) c.history) (sym same)
-      (subst (λ ls. Leads Grants no_edit ls k.course.history) (sym all.1) ready.leads)
+pub turn_leads : (opening : Past) (lines : List (List ℕ)) (k : KeptCourse) → IsKeptCourse opening lines k → k.is_open ≡ true
+    → Leads Grants no_edit (lines ++ changes_in (k.made ++ k.waiting ∷ [])) k.course.history
+turn_leads opening lines k kept is = subst (λ ls. Leads Grants no_edit ls k.course.history) (turn_behind lines k.made k.waiting) (kept.leads is)
 
-  ready_again : (k l : KeptCourse D) → l.course ≡ k.course → IsCourse opening l.course → IsReady seen may_leave opening k → IsKeptAll k l → l.waiting ≡ [] → IsReady seen may_leave opening l
-  ready_again k l same course ready all none =
-      let leads = leads_all k l same ready all in
-      record {
-        settled = all.0;
-        front = stands_all opening l.course (recovered (seen l.log.device)) course leads;
-        leads = subst (λ ls. Leads Grants no_edit (recovered (seen l.log.device) ++ ls) l.course.history) (sym none)
-            (subst (λ ls. Leads Grants no_edit ls l.course.history) (sym (append-nil (recovered (seen l.log.device)))) leads);
-      }
+pub kept_ended : (opening : Past) (lines : List (List ℕ)) (k l : KeptCourse) → IsKeptCourse opening lines k → k.is_open ≡ true
+    → l.course ≡ k.course → l.made ≡ k.made ++ k.waiting ∷ [] → l.waiting ≡ [] → IsKeptCourse opening lines l
+kept_ended opening lines k l kept is same made waiting =
+    let leads = turn_leads opening lines k kept is in
+    let fronts : EachFrontStands opening lines k.course.entries (k.made ++ k.waiting ∷ []) = each_front_more
+    (λ front. StandsForFront opening k.course.entries (lines ++ changes_in front)) k.made k.waiting kept.fronts
+    (stands_all opening k.course (lines ++ changes_in (k.made ++ k.waiting ∷ [])) kept.is_course leads) in
+    let all : lines ++ changes_in (k.made ++ k.waiting ∷ []) ≡ (lines ++ changes_in l.made) ++ l.waiting =
+    ap (λ turns. lines ++ changes_in turns) (sym made) ∙ sym (append-nil (lines ++ changes_in l.made)) ∙ ap (λ ls. (lines ++ changes_in l.made) ++ ls) (sym waiting) in
+    record {
+      is_course = subst (λ (c : Course). IsCourse opening c) (sym same) kept.is_course;
+      fronts = subst (λ turns. EachFrontStands opening lines l.course.entries turns) (sym made)
+          (subst (λ (c : Course). EachFrontStands opening lines c.entries (k.made ++ k.waiting ∷ [])) (sym same) fronts);
+      leads = λ now. subst (λ ls. Leads Grants no_edit ls l.course.history) all
+          (subst (λ (c : Course). Leads Grants no_edit (lines ++ changes_in (k.made ++ k.waiting ∷ [])) c.history) (sym same) leads);
+    }
 
-  -- a commit, of something open
-  committed_open : {R E : Type 0} (result : Result R E) (k l : KeptCourse D) → l.course ≡ k.course → k.is_open ≡ true
-      → IsKeptCourse seen may_leave moment left_since opening begun k
-      → LeavesOnly moment left_since k.log.device l.log.device (IsBeforeOrAfter (recovered (seen k.log.device)) k.waiting)
-      → OnOk result (IsKeptAll k l) → OnOk result (l.waiting ≡ []) → OnErr result (l.is_open ≡ false)
-      → IsKeptCourse seen may_leave moment left_since opening begun l
-  committed_open (Ok r) k l same is kept moments all none closed =
-      let course : IsCourse opening l.course = subst (λ (c : Course). IsCourse opening c) (sym same) kept.is_course in
-      record {
-        is_course = course;
-        any_moment = fronts_left k l same kept.is_course (kept.ready is) kept.any_moment moments;
-        ready = λ now. ready_again k l same course (kept.ready is) all none;
-      }
-  committed_open (Err e) k l same is kept moments all none closed = record {
-    is_course = subst (λ (c : Course). IsCourse opening c) (sym same) kept.is_course;
-    any_moment = fronts_left k l same kept.is_course (kept.ready is) kept.any_moment moments;
-    ready = λ now. absurd (no_both l.is_open closed now);
-  }
-    where
-      no_both : (b : Bool) → b ≡ false → b ≡ true → ⊥
-      no_both b f t = let both : true ≡ false = sym t ∙ f in cc
+-- it was closed
+pub kept_closed : (opening : Past) (lines : List (List ℕ)) (k l : KeptCourse) → IsKeptCourse opening lines k → l.course ≡ k.course → l.made ≡ k.made
+    → (l.is_open ≡ true → ⊥) → IsKeptCourse opening lines l
+kept_closed opening lines k l kept same made closed = record {
+  is_course = subst (λ (c : Course). IsCourse opening c) (sym same) kept.is_course;
+  fronts = subst (λ turns. EachFrontStands opening lines l.course.entries turns) (sym made)
+      (subst (λ (c : Course). EachFrontStands opening lines c.entries k.made) (sym same) kept.fronts);
+  leads = λ now. absurd (closed now);
+}
 
-  -- a commit
-  pub kept_committed : {R E : Type 0} (result : Result R E) (k l : KeptCourse D) → l.course ≡ k.course
-      → IsKeptCourse seen may_leave moment left_since opening begun k
-      → (k.is_open ≡ true → LeavesOnly moment left_since k.log.device l.log.device (IsBeforeOrAfter (recovered (seen k.log.device)) k.waiting))
-      → (k.is_open ≡ false → l.log ≡ k.log) → (k.is_open ≡ false → l.is_open ≡ false)
-      → OnOk result (IsKeptAll k l) → OnOk result (l.waiting ≡ []) → OnErr result (l.is_open ≡ false)
-      → IsKeptCourse seen may_leave moment left_since opening begun l
-  kept_committed result k l same kept moments log stays all none closed = by_open k.is_open refl
-    where
-      by_open : (b : Bool) → k.is_open ≡ b → IsKeptCourse seen may_leave moment left_since opening begun l
-      by_open true is = committed_open result k l same is kept (moments is) all none closed
-      by_open false is = record {
-        is_course = subst (λ (c : Course). IsCourse opening c) (sym same) kept.is_course;
-        any_moment = fronts_same k l same (log is) kept.any_moment;
-        ready = λ now. let both : true ≡ false = sym now ∙ stays is in cc;
-      }
+-- ---- its file
 
-  pub is_committed : (k l : KeptCourse D) (receipt : ℕ) → l.course ≡ k.course → k.is_open ≡ true → IsKeptCourse seen may_leave moment left_since opening begun k
-      → IsKeptAll k l → l.waiting ≡ [] → l.is_open ≡ true → (k.commits < receipt) × (receipt ≡ l.commits) → IsCommitted seen may_leave k receipt l
-  is_committed k l receipt same is kept all none now_open opens = record {
-    kept = record { settled = all.0; leads = leads_all k l same (kept.ready is) all };
-    lines = all.1;
-    none_waits = none;
-    is_open = now_open;
-    opens = opens;
+module _ {D : Type 0} (moment : D → ℕ) (left_since : D → ℕ → List ℕ → Type 0) (opening : Past) (lines : List (List ℕ)) (begun : ℕ) where
+  -- each front of the turns stands for a front of the entries
+  pub fronts_left : (entries : List Entry) (turns : List (List (List ℕ))) (log : LineLog D) → EachFrontStands opening lines entries turns
+      → LeavesTurns moment left_since lines begun log turns → LeavesFronts moment left_since opening begun entries log
+  fronts_left entries turns log fronts left = record {
+    later = left.later;
+    each = λ file was.
+        let one = left.each file was in
+        subst (λ ls. StandsForFront opening entries ls) (sym one.2) (fronts one.0 one.1);
   }

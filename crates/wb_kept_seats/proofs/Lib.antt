@@ -1,4 +1,6 @@
+pub mod Beginnings
+pub mod Files
+pub mod Committing
 pub mod Fronts
-pub mod Opened
 pub mod Answering
-pub mod Settled
+pub mod Causes

@@ -8,13 +8,12 @@ use Rattle.wb_journal.specs.Serving.{AnswersCourse, IsStrange, share_after}
 use Rattle.wb_journal.specs.declared.entry.Entry.{Entry}
 use Rattle.wb_kept_seats.specs.KeptCourses.{KeptCourse}
 
--- It is answered as at any desk, and the lines of what it changed wait behind those from before. The log is left as it is. Where there is
--- no memory for such a line, no further commit is made.
-pub record AnswersKept {D : Type 0} (k : KeptCourse D) (seat : ℕ) (own : List Entry) (asked : Request) (r : Reply) (l : KeptCourse D) : Type 0 where
+-- It is answered as at any desk, and the lines of what it changed come to the changes of the turn under way. The turns that were made are
+-- left as they are. Where there is no memory for such a line, no further turn is made.
+pub record AnswersKept (k : KeptCourse) (seat : ℕ) (own : List Entry) (asked : Request) (r : Reply) (l : KeptCourse) : Type 0 where
   pub strange : IsStrange k.course seat own r
   pub answers : AnswersCourse k.course seat asked r l.course
   pub total : l.total ≡ share_after k.total r
-  pub log : l.log ≡ k.log
-  pub commits : l.commits ≡ k.commits
+  pub turns : (l.made ≡ k.made) × (l.taken ≡ k.taken)
   pub waits : l.is_open ≡ true → (k.is_open ≡ true) × AddsLinesOf (changes_made r (Ok asked)) k.waiting l.waiting
   pub stays_open : leaves_all r ≡ true → l.is_open ≡ k.is_open

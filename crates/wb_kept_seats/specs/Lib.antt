@@ -1,5 +1,6 @@
 pub mod Lines
 pub mod KeptCourses
+pub mod Files
 pub mod Answering
 pub mod Committing
 pub mod Settling

@@ -1,5 +1,5 @@
 -- Requests that were read of lines, and the lines of the changes that they make.
-use Rattle.std.specs.Prelude.{◌≡◌, ℕ, List, string_bytes, Result, Ok}
+use Rattle.std.specs.Prelude.{◌≡◌, ℕ, List, string_bytes, Ok}
 use Rattle.wb_proto.specs.Requests.{request}
 use Rattle.wb_proto.specs.declared.replies.reply.Reply.{Reply}
 use Rattle.wb_proto.specs.declared.requests.request.Request.{Request}

@@ -1,12 +1,12 @@
 -- Why a desk whose changes are kept is not settled.
-use Rattle.std.specs.Prelude.{◌≡◌, ℕ, false, List}
+use Rattle.std.specs.Prelude.{◌≡◌, false, List}
 use Rattle.wb_journal.specs.Serving.{Held}
 use Rattle.wb_journal.specs.Settling.{IsCause}
 use Rattle.wb_kept_seats.specs.KeptCourses.{KeptCourse}
-use Rattle.wb_kept_seats.specs.declared.desk.SettleErr.{SettleErr}
-use Rattle.wb_kept_seats.specs.declared.desk.SettleErr.TheVariants.{Passes, NotKept}
+use Rattle.wb_kept_seats.specs.declared.settling.SettleErr.{SettleErr}
+use Rattle.wb_kept_seats.specs.declared.settling.SettleErr.TheVariants.{Passes, NotKept}
 
 -- the first cause why the passes and the journal don't agree, or that the desk is closed
-abbrev pub IsSettleCause : {D : Type 0} → KeptCourse D → List Held → SettleErr → Type 0
+abbrev pub IsSettleCause : KeptCourse → List Held → SettleErr → Type 0
 IsSettleCause k ps (Passes why) = IsCause k.course.seats k.course.entries ps why
 IsSettleCause k ps (NotKept why) = k.is_open ≡ false

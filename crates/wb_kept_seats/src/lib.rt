@@ -2,17 +2,22 @@
 //! that tells of them can be read.
 #![tactic(auto)]
 
+mod commit;
 mod desk;
+mod file;
 mod lines;
 mod opening;
 mod said;
 mod sealing;
 mod seats;
+mod settling;
 mod turn;
 
-pub use crate::desk::{Desk, SettleErr, Unsettled, settle};
-pub use crate::opening::KeptOpening;
+pub use crate::commit::CommitErr;
+pub use crate::desk::Desk;
+pub use crate::opening::{KeptOpening, Turns};
 pub use crate::said::Said;
-pub use crate::sealing::{CommitErr, Receipt, Sealed};
+pub use crate::sealing::{MadeTurns, Receipt, Sealed};
 pub use crate::seats::Seats;
+pub use crate::settling::{SettleErr, Settled, Unsettled, settle};
 pub use crate::turn::Turn;

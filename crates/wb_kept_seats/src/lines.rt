@@ -4,9 +4,7 @@ ghost use Rattle.wb_proto.specs.declared.requests.request.Request.{Request};
 ghost use Rattle.wb_journal.specs.Entries.{leaves_all};
 ghost use Rattle.wb_kept_seats.specs.Lines.{IsSaid, IsAhead, Adds};
 
-use crate::sealing::WaitingLog;
 use std::alloc::{AllocError, Global};
-use wb_disk::Device;
 use wb_keeping::{push_edit, push_made};
 use wb_kept::Changes;
 use wb_proto::{Reply, Request};
@@ -73,23 +71,24 @@ fn push_changes(
     }
 }
 
-/// Lets the lines of the changes that a reply tells of wait. Where there is no memory for them, no further commit is made.
-pub(crate) fn let_wait<N, D: Device>(
+/// Adds the lines of the changes that a reply tells of to those of a turn, and says whether there may be more turns: not where
+/// there is no memory for a line.
+pub(crate) fn let_wait(
     alloc: Global,
-    changes: &mut WaitingLog<N, D>,
+    waiting: &mut Changes,
     ahead: &Ahead,
     reply: &Reply,
-)
+    is_open: bool,
+) -> bool
     requires { (asked : Request) × IsAhead asked ahead.now }
-    ensures log { (changes.new.log ≡ changes.old.log) × (changes.new.commits ≡ changes.old.commits) }
-    ensures left { leaves_all reply.now ≡ true → (changes.new.waiting ≡ changes.old.waiting) × (changes.new.is_open ≡ changes.old.is_open) }
-    ensures told { leaves_all reply.now ≡ false → changes.new.is_open ≡ true →
-        (changes.old.is_open ≡ true) × Adds ahead.now reply.now changes.old.waiting changes.new.waiting }
+    ensures left { leaves_all reply.now ≡ true → (waiting.new ≡ waiting.old) × (result ≡ is_open) }
+    ensures told { leaves_all reply.now ≡ false → result ≡ true → (is_open ≡ true) × Adds ahead.now reply.now waiting.old waiting.new }
 {
     if leaves_all(reply) {
-        return;
+        return is_open;
     }
-    if push_changes(alloc, &mut changes.waiting, ahead, reply).is_err() {
-        changes.close();
+    if push_changes(alloc, waiting, ahead, reply).is_err() {
+        return false;
     }
+    is_open
 }

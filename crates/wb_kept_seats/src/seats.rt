@@ -1,93 +1,112 @@
-//! What a desk keeps under its lock: what is shared, and the log of its changes.
-ghost use Rattle.std.specs.Prelude.{◌≡◌, ◌<◌, ◌≤◌, ◌↔◌, ◌++◌, [], true, false, length, Err, IfOk, IfErr, OnOk, OnErr, IsErrOf};
-ghost use Rattle.wb_disk.specs.Device.{LeavesOnly};
-ghost use Rattle.wb_keep.specs.Lines.{recovered};
-ghost use Rattle.wb_keep.specs.Keep.{IsBeforeOrAfter};
-ghost use Rattle.wb_kept.specs.Keeping.{IsKept};
+//! What a desk keeps under its lock: what is shared, and the changes of its turns that are not in the file yet.
+ghost use Rattle.std.specs.Prelude.{◌≡◌, ◌≢◌, ◌<◌, ◌↔◌, ◌++◌, ◌∷◌, [], true, false, Err, IfOk, IfErr, OnOk, OnErr, IsErrOf};
+ghost use Rattle.wb_keep.specs.declared.keep.LineLog.{LineLog};
+ghost use Rattle.wb_kept.specs.Runs.{Leads};
+ghost use Rattle.wb_kept_group.specs.Together.{changes_in};
 ghost use Rattle.wb_granting.specs.Granting.{Grants, no_edit};
 ghost use Rattle.wb_journal.specs.Courses.{IsCourse};
 ghost use Rattle.wb_journal.specs.Serving.{own_after, share_after, new_passes};
 ghost use Rattle.wb_shared.specs.Seats.{IsNumberOfSeats, IsSeatsErr};
-ghost use Rattle.wb_kept_seats.specs.KeptCourses.{LeavesFronts, kept_history};
+ghost use Rattle.wb_kept_seats.specs.KeptCourses.{EachFrontStands};
+ghost use Rattle.wb_kept_seats.specs.Files.{HasTurns, LeavesTurns};
 ghost use Rattle.wb_kept_seats.specs.Answering.{AnswersKept};
-ghost use Rattle.wb_kept_seats.specs.Committing.{IsCommitted};
 
+use crate::commit::CommitErr;
+use crate::file::File;
 use crate::lines::{let_wait, line_ahead};
-use crate::opening::KeptOpening;
+use crate::opening::{KeptOpening, Turns};
 use crate::said::Said;
-use crate::sealing::{CommitErr, Receipt, Sealed, WaitingLog};
+use crate::sealing::Sealed;
 use std::alloc::Global;
 use std::marker::Model;
-use std::sync::ledger::Blank;
+use std::mem;
+use std::sync::ledger::{Blank, Share};
 use wb_disk::Device;
-use wb_keep::LineLog;
-use wb_kept::Kept;
+use wb_group::{Batch, Desk, Front, Keeper, Opened, Waiting};
+use wb_keep::{AppendErr, LineLog};
+use wb_kept::Changes;
 use wb_proto::Reply;
 use wb_proto::below::history::History;
 use wb_redist::Mover;
 use wb_shared::{DeskErr, Pass, Shared, serve};
 
-/// What a desk keeps under its lock: the history with its journal, the log of its changes, and the lines that wait for the
-/// next commit.
+/// What a desk keeps under its lock: the history with its journal, the turns whose changes wait to be kept, and the changes of
+/// the turn under way. It is closed for good where a line is missing.
 #[derive(Drop)]
-pub struct Seats<L: KeptOpening, D: Device> {
+pub struct Seats<L: KeptOpening> {
     alloc: Global,
     shared: Shared<L>,
-    changes: WaitingLog<L, D>,
+    turns: Waiting<Turns<L>, Changes>,
+    changes: Changes,
+    is_open: bool,
 }
 
-impl<L: KeptOpening, D: Device> Model for Seats<L, D> {
+/// What is opened: what the desk keeps under its lock, what its file keeps under the other, and a pass for each seat.
+pub(crate) struct OpenedSeats<L: KeptOpening> {
+    pub(crate) seats: Seats<L>,
+    pub(crate) front: Front<Turns<L>, Changes>,
+    pub(crate) mark: Share<Turns<L>>,
+    pub(crate) passes: Vec<Pass<L>>,
+}
+
+impl<L: KeptOpening> Model for Seats<L> {
     ghost use Rattle.wb_kept_seats.specs.KeptCourses.{KeptCourse, kept_course, IsKeptCourse};
 
-    ghost Value = { KeptCourse D };
+    ghost Value = { KeptCourse };
 
-    ghost view = { λ s. kept_course s.shared s.changes.log s.changes.waiting s.changes.commits s.changes.is_open };
+    ghost view = { λ s. kept_course s.shared s.turns s.changes s.is_open };
 
-    ghost invariant = { λ s. IsKeptCourse D.seen D.may_leave D.moment D.left_since L.opening L.begun
-        (kept_course s.shared s.changes.log s.changes.waiting s.changes.commits s.changes.is_open) };
+    ghost invariant = { λ s. IsKeptCourse L.opening L.lines (kept_course s.shared s.turns s.changes s.is_open) };
 }
 
-impl<L: KeptOpening, D: Device> Seats<L, D> {
-    /// What a desk of 1 to 16 seats keeps, on the history that a file stands for, and a pass for each seat. Where there is no
-    /// such desk, the history and its log are given back.
+impl<L: KeptOpening> Seats<L> {
+    /// What a desk of 1 to 16 seats keeps, on a history that the lines of its file lead to, and a pass for each seat. Where
+    /// there is no such desk, the history is given back.
     pub(crate) fn open_at(
         alloc: Global,
+        opened: Opened<Changes>,
         blank: Blank,
+        taking: Blank,
         seats: usize,
-        kept: Kept<History, D>,
-    ) -> Result<(Seats<L, D>, Vec<Pass<L>>), (Kept<History, D>, DeskErr)>
+        history: History,
+    ) -> Result<OpenedSeats<L>, (History, DeskErr)>
         requires name { blank.name ≡ L.name }
         requires parts { blank.parts ≡ L.parts }
         requires sixteen { blank.parts ≡ 16 }
-        requires opening { L.opening ≡ kept.state }
+        requires book { opened.seen.book ≡ L.book }
+        requires taking { (taking.name ≡ L.taking) × (taking.parts ≡ 1) }
+        requires opening { L.opening ≡ history }
         requires seats { L.seats ≡ seats }
-        requires begun { L.begun ≡ D.moment kept.log.device }
-        requires kept { IsKept no_edit Grants D.seen D.may_leave kept }
-        ensures opened { IfOk result (λ r. r.0.course ≡ record { seats = seats; entries = []; history = kept.state }) }
-        ensures log { IfOk result (λ r. (r.0.log ≡ kept.log) × (r.0.waiting ≡ []) × (r.0.is_open ≡ true)) }
-        ensures ok { IfOk result (λ r. IsNumberOfSeats seats × (r.1.items ≡ new_passes seats)) }
+        requires leads { Leads Grants no_edit L.lines history }
+        ensures opened { IfOk result (λ r. r.seats.course ≡ record { seats = seats; entries = []; history = history }) }
+        ensures turns { IfOk result (λ r. (r.seats.made ≡ []) × (r.seats.taken ≡ []) × (r.seats.waiting ≡ []) × (r.seats.is_open ≡ true)) }
+        ensures front { IfOk result (λ r. (r.front ≡ []) × (r.mark.parts ≡ 1) × (r.mark.amount ≡ 0)) }
+        ensures ok { IfOk result (λ r. IsNumberOfSeats seats × (r.passes.items ≡ new_passes seats)) }
         ensures bad { IfErr result (λ e. IsSeatsErr seats e.1) }
-        ensures back { IfErr result (λ e. e.0 ≡ kept) }
+        ensures back { IfErr result (λ e. e.0 ≡ history) }
     {
-        let Kept { state, log } = kept;
-        match Shared::open_at(alloc, blank, seats, state) {
-            Ok((shared, passes)) => {
-                let changes = WaitingLog::new(alloc, log);
-                Ok((
-                    Seats {
-                        alloc,
-                        shared,
-                        changes,
-                    },
-                    passes,
-                ))
-            }
-            Err((state, why)) => Err((Kept { state, log }, why)),
-        }
+        let (shared, passes) = match Shared::open_at(alloc, blank, seats, history) {
+            Ok(opened) => opened,
+            Err(left) => return Err(left),
+        };
+        let (turns, front, mark) = Waiting::<Turns<L>, Changes>::open(alloc, opened, taking);
+        let seats = Seats {
+            alloc,
+            shared,
+            turns,
+            changes: Changes::new(alloc),
+            is_open: true,
+        };
+        Ok(OpenedSeats {
+            seats,
+            front,
+            mark,
+            passes,
+        })
     }
 
-    /// Answers one request of a pass. The lines of what it changed wait for the next commit, and the reply is sealed until
-    /// then.
+    /// Answers one request of a pass. The lines of what it changed come to the changes of the turn under way, and the reply is
+    /// sealed until these are kept.
     pub(crate) fn answer<M: Mover>(
         &mut self,
         pass: &mut Pass<L>,
@@ -96,51 +115,92 @@ impl<L: KeptOpening, D: Device> Seats<L, D> {
     ) -> Sealed<L, Reply>
         ensures course { IsCourse L.opening self.old.course × (self.old.course.seats ≡ L.seats) }
         ensures answers { AnswersKept self.old pass.old.seat pass.old.own said result.value self.new }
-        ensures sealed { result.commits ≡ self.old.commits }
+        ensures sealed { result.made ≡ self.old.made }
         ensures seat { pass.new.seat ≡ pass.old.seat }
         ensures own { pass.new.own ≡ own_after pass.old.seat pass.old.own said result.value }
         ensures share { pass.new.share ≡ share_after pass.old.share result.value }
     {
         let ahead = line_ahead(self.alloc, said.request());
         let reply = serve(&mut self.shared, pass, said.into_request(), mover);
-        let_wait(self.alloc, &mut self.changes, &ahead, &reply);
-        self.changes.seal(reply)
+        let was_open = self.is_open;
+        self.is_open = let_wait(self.alloc, &mut self.changes, &ahead, &reply, was_open);
+        Sealed::new(reply, self.turns.made().again())
     }
 
-    /// Adds the lines that wait to the log, all or none, and syncs. What was sealed before may be opened then. After an `Err`
-    /// no further commit is made.
-    pub(crate) fn commit(&mut self) -> Result<Receipt<L>, CommitErr>
-        ensures committed { IfOk result (λ receipt. IsCommitted D.seen D.may_leave self.old receipt.commits self.new) }
-        ensures course { (self.new.course ≡ self.old.course) × (self.new.total ≡ self.old.total) }
-        // A crash at any moment of the call leaves the log as it was, with all of the lines that waited or with none.
-        ensures any_moment { self.old.is_open ≡ true → LeavesOnly D.moment D.left_since self.old.log.device self.new.log.device
-            (IsBeforeOrAfter (recovered (D.seen self.old.log.device)) self.old.waiting) }
-        ensures closed { OnErr result (self.new.is_open ≡ false) }
+    /// Ends the turn under way: its changes wait then, behind those of all turns that were made. Without memory for that it
+    /// stays under way, and nothing changes.
+    pub(crate) fn end(&mut self) -> Result<Front<Turns<L>, Changes>, CommitErr>
+        ensures made { IfOk result (λ front. (front ≡ self.old.made ++ self.old.waiting ∷ []) × (self.new ≡ record self.old { made = front; waiting = [] })) }
+        ensures leads { IfOk result (λ front. Leads Grants no_edit (L.lines ++ changes_in front) self.old.course.history) }
+        ensures left { OnErr result (self.new ≡ self.old) }
         ensures stays { (self.old.is_open ≡ false) ↔ (result ≡ Err CommitErr.Closed) }
-        ensures untouched { self.old.is_open ≡ false → self.new.log ≡ self.old.log }
-        ensures rises { self.old.commits ≤ self.new.commits }
-        ensures disk { IsErrOf result CommitErr.DiskFault → D.faults self.old.log.device < D.faults self.new.log.device }
+        ensures no_fault { IfErr result (λ why. why ≢ CommitErr.DiskFault) }
     {
-        self.changes.commit(self.alloc)
+        if !self.is_open {
+            return Err(CommitErr::Closed);
+        }
+        let changes = mem::replace(&mut self.changes, Changes::new(self.alloc));
+        match self.turns.add(changes) {
+            Ok(front) => Ok(front),
+            Err(changes) => {
+                self.changes = changes;
+                Err(CommitErr::NoMemory)
+            }
+        }
+    }
+
+    /// Keeps all turns that wait, and gives the log of the file back.
+    pub(crate) fn keep_all<D: Device + Drop>(
+        &mut self,
+        keeper: Keeper<Turns<L>, Changes, AppendErr, File<L, D>>,
+    ) -> (LineLog<D>, Result<(), CommitErr>)
+        ensures left { (self.new.course ≡ self.old.course) × (self.new.made ≡ self.old.made) × (self.new.is_open ≡ self.old.is_open) }
+        ensures kept { OnOk result.1 (HasTurns D.seen D.may_leave D.moment D.left_since L.lines L.begun result.0 self.old.made) }
+        ensures any_moment { LeavesTurns D.moment D.left_since L.lines L.begun result.0 self.old.made }
+        ensures disk { IsErrOf result.1 CommitErr.DiskFault → (old : LineLog D) × (D.faults old.device < D.faults result.0.device) }
+    {
+        match keeper.keep_all(self.alloc, &mut self.turns) {
+            Ok(file) => (file.into_log(), Ok(())),
+            Err((error, file)) => (file.into_log(), Err(CommitErr::of(error))),
+        }
+    }
+
+    /// Closes the desk for good.
+    pub(crate) fn close(&mut self)
+        ensures { self.new ≡ record self.old { is_open = false } }
+    {
+        self.is_open = false;
     }
 
     /// What is shared: the history and the journal.
     pub fn shared(&self) -> &Shared<L>
         ensures course { result.now.course ≡ self.now.course }
-        ensures any_moment { LeavesFronts D.moment D.left_since L.opening L.begun self.now }
+        ensures fronts { EachFrontStands L.opening L.lines self.now.course.entries self.now.made }
     {
         &self.shared
     }
 
-    /// What is shared, and the log.
-    pub fn into_parts(self) -> (Shared<L>, LineLog<D>)
-        ensures { (result.0.course ≡ self.course) × (result.1 ≡ self.log) }
+    /// What is shared.
+    pub fn into_shared(self) -> Shared<L>
+        ensures { result.course ≡ self.course }
     {
         let Seats {
             alloc: _,
             shared,
-            changes,
+            turns: _,
+            changes: _,
+            is_open: _,
         } = self;
-        (shared, changes.into_log())
+        shared
+    }
+}
+
+impl<L: KeptOpening> Desk<Turns<L>, Changes> for Seats<L> {
+    ghost made = { λ s. s.made };
+
+    ghost taken = { λ s. s.taken };
+
+    fn take(&mut self, alloc: Global, mark: &mut Share<Turns<L>>) -> Batch<Turns<L>, Changes> {
+        self.turns.take(alloc, mark)
     }
 }

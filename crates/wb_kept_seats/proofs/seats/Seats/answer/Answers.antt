@@ -1,4 +1,4 @@
-use Rattle.std.proofs.Common.{sym, subst}
+use Rattle.std.proofs.Common.{refl, sym, subst}
 use Rattle.wb_journal.specs.Serving.{AnswersCourse}
 use Rattle.wb_proto.specs.declared.replies.reply.Reply.{Reply}
 use Rattle.wb_proto.specs.declared.requests.request.Request.{Request}
@@ -11,27 +11,26 @@ use Rattle.wb_kept_seats.proofs.seats.Seats.answer.Goals as goal
 pub invariant_of-self : goal.invariant_of-self
 invariant_of-self g c =
     let was = c.self.inside in
-    let waits = c.let_wait in
+    let waits = c.let_wait-self-inside in
     let told = c.serve-reply.ensures in
-    let k = kept_course was.shared was.changes.log was.changes.waiting was.changes.commits was.changes.is_open in
-    let l = kept_course c.serve-reply.new.shared waits.new.changes.log waits.new.changes.waiting waits.new.changes.commits waits.new.changes.is_open in
+    let k = kept_course was.shared was.turns was.changes was.is_open in
+    let l = kept_course c.serve-reply.new.shared was.turns waits.new.waiting waits.result in
     let answers = subst (λ (asked : Request). AnswersCourse k.course c.args.pass.now.seat asked c.serve-reply.result l.course) c.into_request.ensures.request told.answers in
     let ahead = subst (λ (asked : Request). IsAhead asked c.line_ahead-ahead.result) c.request.ensures.request c.line_ahead-ahead.ensures in
     let a = answered k l c.args.pass.now.seat c.args.pass.now.own c.args.said c.line_ahead-ahead.result c.serve-reply.result told.strange answers told.total
-    waits.ensures.log.0 waits.ensures.log.1 ahead waits.ensures.left waits.ensures.told in
-    kept_answered g.D.Device.seen g.D.Device.may_leave g.D.Device.moment g.D.Device.left_since g.L.Opening.opening g.L.KeptOpening.begun k l
-    c.args.pass.now.seat c.args.pass.now.own c.args.said c.serve-reply.result c.into_request.ensures.said a c.self.invariant
+    refl refl ahead waits.ensures.left waits.ensures.told in
+    kept_answered g.L.Opening.opening g.L.KeptOpening.lines k l c.args.pass.now.seat c.args.pass.now.own c.args.said c.serve-reply.result c.into_request.ensures.said a c.self.invariant
 
 pub returns-clause-answers : goal.returns-clause-answers
 returns-clause-answers g c =
     let was = c.self.inside in
-    let waits = c.let_wait in
+    let waits = c.let_wait-self-inside in
     let told = c.serve-reply.ensures in
-    let k = kept_course was.shared was.changes.log was.changes.waiting was.changes.commits was.changes.is_open in
-    let l = kept_course c.serve-reply.new.shared waits.new.changes.log waits.new.changes.waiting waits.new.changes.commits waits.new.changes.is_open in
+    let k = kept_course was.shared was.turns was.changes was.is_open in
+    let l = kept_course c.serve-reply.new.shared was.turns waits.new.waiting waits.result in
     let answers = subst (λ (asked : Request). AnswersCourse k.course c.args.pass.now.seat asked c.serve-reply.result l.course) c.into_request.ensures.request told.answers in
     let ahead = subst (λ (asked : Request). IsAhead asked c.line_ahead-ahead.result) c.request.ensures.request c.line_ahead-ahead.ensures in
     let a = answered k l c.args.pass.now.seat c.args.pass.now.own c.args.said c.line_ahead-ahead.result c.serve-reply.result told.strange answers told.total
-    waits.ensures.log.0 waits.ensures.log.1 ahead waits.ensures.left waits.ensures.told in
-    subst (λ (r : Reply). AnswersKept c.args.self.now c.args.pass.now.seat c.args.pass.now.own c.args.said r l) (sym c.seal.ensures.value)
-    (subst (λ (x : KeptCourse g.row.D.Denot). AnswersKept x c.args.pass.now.seat c.args.pass.now.own c.args.said c.serve-reply.result l) c.self.view_is a)
+    refl refl ahead waits.ensures.left waits.ensures.told in
+    subst (λ (r : Reply). AnswersKept c.args.self.now c.args.pass.now.seat c.args.pass.now.own c.args.said r l) (sym c.new.ensures.0)
+    (subst (λ (x : KeptCourse). AnswersKept x c.args.pass.now.seat c.args.pass.now.own c.args.said c.serve-reply.result l) c.self.view_is a)
