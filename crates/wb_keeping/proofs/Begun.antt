@@ -1,5 +1,5 @@
 -- What is read of the line that a history begins with.
-use Rattle.std.proofs.Common.{◌≡◌, ◌≤◌, true, List, ℕ, codes, Option, Some, None, Result, Ok, Err, IfOk, option_map, option_and_then, refl, sym, ◌∙◌, ap, subst, arith}
+use Rattle.std.proofs.Common.{◌≡◌, ◌≤◌, true, List, ℕ, codes, Some, None, Result, Ok, Err, IfOk, option_and_then, sym, ◌∙◌, ap, subst, arith}
 use Rattle.std.specs.Str.{is_utf8}
 use Rattle.serde_json.specs.Data.{Data, depth}
 use Rattle.serde_json.specs.Find.{get, as_str}
@@ -56,7 +56,10 @@ begins line s q text is utf8 json history counted = record {
 pub shallow : (d : Data) (s : List ℕ) → d ≡ resume_data s → depth d ≤ max_depth
 shallow d s is = let one : depth d ≡ 1 = ap depth is in omega (arith, one)
 
+pub is_unbroken : (line s : List ℕ) → line ≡ compact_text (resume_data s) → IsUnbroken line
+is_unbroken line s is = subst IsUnbroken (sym is) (unbroken_value (resume_data s))
+
 pub line_unbroken : {S E : Type 0} (bytes : S → List ℕ) (r : Result S E) (s : List ℕ) → IfOk r (λ t. bytes t ≡ compact_text (resume_data s)) →
     IfOk r (λ t. IsUnbroken (bytes t))
-line_unbroken bytes (Ok t) s is = subst IsUnbroken (sym is) (unbroken_value (resume_data s))
+line_unbroken bytes (Ok t) s is = is_unbroken (bytes t) s is
 line_unbroken bytes (Err e) s is = tt

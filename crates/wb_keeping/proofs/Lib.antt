@@ -1,3 +1,5 @@
 pub mod Added
+pub mod Anew
 pub mod Begun
+pub mod Opened
 pub mod Regrant

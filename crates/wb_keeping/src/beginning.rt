@@ -8,8 +8,9 @@ ghost use Rattle.serde_json.specs.Written.{compact_text};
 ghost use Rattle.wb_lines.specs.Lines.{IsUnbroken};
 ghost use Rattle.wb_proto.specs.Below.wb_history.Past.{Past};
 ghost use Rattle.wb_proto.specs.Below.wb_history.Restored.{IsCounted};
-ghost use Rattle.wb_record.specs.Text.{history_text, AreAsked, IsHistory};
+ghost use Rattle.wb_record.specs.Text.{history_text, AreAsked, IsHistory, IsNoHistory};
 ghost use Rattle.wb_granting.specs.Granting.{Begins, resume_data};
+ghost use Rattle.wb_keeping.specs.Opening.{OpensWith};
 
 use serde_json::{Category, Value, json};
 use std::alloc::{AllocError, Global};
@@ -35,6 +36,15 @@ fn line_of(alloc: Global, text: &str) -> Result<String, AllocError>
     Ok(line)
 }
 
+/// A history, and the line that it begins with, without a line end.
+#[derive(Drop)]
+pub struct Opening {
+    /// The history.
+    pub history: History,
+    /// The line.
+    pub line: String,
+}
+
 /// The line that a history begins with: it has the text of this one, and no line end. A file that has it alone stands for
 /// a history with the same edits, each in force made once.
 pub fn resume_line(alloc: Global, history: &History) -> Result<String, AllocError>
@@ -45,6 +55,25 @@ pub fn resume_line(alloc: Global, history: &History) -> Result<String, AllocErro
         return Err(AllocError);
     };
     line_of(alloc, text.as_str())
+}
+
+/// The history that has this text, with the line that it begins with; or none, where no history has it.
+pub fn opening_of<M: Mover>(
+    alloc: Global,
+    text: &str,
+    mover: &M,
+) -> Result<Option<Opening>, AllocError>
+    ensures some { IfOk result (λ found. IfSome found (OpensWith text.now)) }
+    ensures none { IfOk result (λ found. IfNone found (IsNoHistory text.now)) }
+{
+    match read_history(alloc, text, mover) {
+        Ok(history) => {
+            let line = line_of(alloc, text)?;
+            Ok(Some(Opening { history, line }))
+        }
+        Err(HistoryErr::Bad) => Ok(None),
+        Err(HistoryErr::NoMemory) => Err(AllocError),
+    }
 }
 
 /// The value of a line that is JSON.

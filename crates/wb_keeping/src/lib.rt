@@ -4,13 +4,17 @@
 
 mod answering;
 mod beginning;
+mod compacting;
 mod lines;
 mod machine;
 mod making;
+mod opening;
 mod stepping;
 
 pub use answering::answer;
-pub use beginning::resume_line;
+pub use beginning::{Opening, opening_of, resume_line};
+pub use compacting::compact;
 pub use lines::{push_edit, push_made};
 pub use machine::KeptHistory;
 pub use making::make;
+pub use opening::{BeginErr, begin_kept};

@@ -1,0 +1,54 @@
+-- A file of the line that a history begins with.
+use Rattle.std.proofs.Common.{◌≡◌, ◌≢◌, inr, ⊎_elim, ℕ, List, [], ◌∷◌, ◌++◌, refl, sym, ◌∙◌, ap, subst, arith}
+use Rattle.std.proofs.lemmas.Bool.Decides.{nat_tests}
+use Rattle.selective_undo.specs.History.{traces}
+use Rattle.wb_book.specs.Cells.{written_more}
+use Rattle.wb_keep.specs.Keep.{IsOldOrNew}
+use Rattle.wb_keep.specs.Lines.{onto, lines_of, recovered, at_rest, HasHeader}
+use Rattle.wb_kept.specs.Runs.{Leads}
+use Rattle.wb_lines.specs.Lines.{IsUnbroken}
+use Rattle.wb_proto.specs.Below.wb_history.Past.{Numbered, Past, meant}
+use Rattle.wb_proto.specs.Below.wb_history.Restored.{IsCounted, cells_written}
+use Rattle.wb_granting.specs.Granting.{Grants, Begins, no_edit}
+use Rattle.wb_keeping.specs.Anew.{HasEdits}
+
+-- ---- a line and its end are one line
+
+no_feed : (byte : ℕ) (bytes : List ℕ) → byte ≢ 10 → lines_of (byte ∷ bytes) ≡ onto byte (lines_of bytes)
+no_feed byte bytes other = grind (arith, nat_tests)
+
+pub one_line : (line : List ℕ) → IsUnbroken line → lines_of (line ++ 10 ∷ []) ≡ line ∷ []
+one_line [] unbroken = refl
+one_line (byte ∷ line) unbroken = no_feed byte (line ++ 10 ∷ []) unbroken.0 ∙ ap (onto byte) (one_line line unbroken.1)
+
+-- ---- the history that it stands for
+
+-- with these edits, each in force made once
+abbrev pub made_once : List Numbered → Past
+made_once es = record { entries = es; writes = written_more 0 (cells_written (traces (meant es))) }
+
+module _ (h : Past) (line : List ℕ) (begins : (q : Past) → q.entries ≡ h.entries → IsCounted q → Begins line q) where
+  pub begun : (file : List ℕ) → recovered file ≡ line ∷ [] → HasHeader file → HasEdits h.entries file
+  begun file is head = record {
+    history = made_once h.entries;
+    same = refl;
+    leads =
+        subst (λ (lines : List (List ℕ)). Leads Grants no_edit lines (made_once h.entries)) (sym is)
+        (made_once h.entries, inr (refl, begins (made_once h.entries) refl refl), refl);
+    head = head;
+  }
+
+  pub old_or_new : (old lines : List (List ℕ)) → Leads Grants no_edit old h → lines ≡ line ∷ [] → (file : List ℕ) → IsOldOrNew old lines file → HasEdits h.entries file
+  old_or_new old lines leads one file which =
+      ⊎_elim
+      (λ was. record {
+        history = h;
+        same = refl;
+        leads = subst (λ (ls : List (List ℕ)). Leads Grants no_edit ls h) (sym was) leads;
+        head = which.head;
+      })
+      (λ now. begun file (now ∙ one) which.head)
+      which.lines
+
+pub head_at_rest : (file : List ℕ) (lines : List (List ℕ)) → file ≡ at_rest lines → HasHeader file
+head_at_rest file lines is = subst HasHeader (sym is) refl
