@@ -1,24 +1,27 @@
 """What a session's lines make, by the model: their replies, their changes, and the history after each change."""
 
-from workbook_model import Machine, text_of
+from workbook_model import Machine, kept, text_of
+from workbook_model.saved import restored
 
-from .text import answered
+from .text import answered, resume_line
 
 HISTORY = b'{"op":"history"}\n'
 
 
 class Course:
-    """The course of a session. `made` has the number of changes after so many lines, from none on."""
+    """The course of a session, perhaps one that begins with the text of a history. `made` has the number of changes after so many lines,
+    from none on."""
 
-    def __init__(self, lines):
-        machine = Machine()
-        self.replies, self.changes, self.made = [], [], [0]
+    def __init__(self, lines, opening=None):
+        machine = Machine() if opening is None else restored(opening)
+        self.changes = [] if opening is None else [resume_line(opening)]
+        self.replies, self.made = [], [len(self.changes)]
         for line in lines:
             reply, changes = answered(machine, line)
             self.replies.append(reply.encode() + b"\n")
             self.changes += changes
             self.made.append(len(self.changes))
-        self.fronts = set(self.made)
+        self.fronts = {0, *self.made}
         self.histories = list(histories(self.changes))
 
     def acknowledged(self, replies):
@@ -27,7 +30,7 @@ class Course:
         while replies > 0:
             replies -= len(self.replies[count])
             count += 1
-        return self.made[count]
+        return self.made[count] if count else 0
 
     def fault(self, lines, least):
         """What is wrong with the lines that a crash left, where so many changes had been acknowledged; None where nothing is."""
@@ -45,7 +48,8 @@ def histories(changes):
     machine = Machine()
     yield told(machine)
     for change in changes:
-        if answered(machine, change)[1] != [change]:
+        machine = kept.led(machine, change)
+        if machine is None:
             raise ValueError("the model does not grant %r" % change)
         yield told(machine)
 

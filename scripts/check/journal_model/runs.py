@@ -22,6 +22,10 @@ def words(program, journal):
     return [program, "run", "--journal", journal]
 
 
+def compacting(program, journal):
+    return [program, "compact", journal]
+
+
 def recording(recorder, record):
     return {**os.environ, "LD_PRELOAD": recorder, "RECORD_OF_CALLS": record}
 
@@ -31,9 +35,10 @@ def slowed(recorder):
     return {**os.environ, "LD_PRELOAD": recorder, "SLOWED_SYNC": "2000"}
 
 
-def play(process, pieces):
-    """Gives a program pieces of a session, each once the lines of the one before were answered: all replies."""
+def play(process, pieces, opening=b""):
+    """Gives a program pieces of a session, each once the lines of the one before were answered: all replies. `opening` comes first."""
     told = []
+    process.stdin.write(opening)
     for piece in pieces:
         process.stdin.write(b"".join(line + b"\n" for line in piece))
         process.stdin.flush()
@@ -43,18 +48,31 @@ def play(process, pieces):
     return b"".join(told)
 
 
-def recorded(program, recorder, room, runs):
-    """Runs one after the other over a new journal, each given its pieces: the calls, and the replies of all."""
+def recorded(program, recorder, room, runs, opening=None):
+    """Runs one after the other over a new journal, each given its pieces: the calls, and the replies of all. With an opening the first
+    begins the journal with that text of a history."""
     journal, record, told = os.path.join(room, "plan"), os.path.join(room, "record"), []
     for path in (journal, record):
         if os.path.exists(path):
             os.unlink(path)
-    for pieces in runs:
-        with subprocess.Popen(words(program, journal), stdin=subprocess.PIPE, stdout=subprocess.PIPE, env=recording(recorder, record)) as process:
-            told.append(play(process, pieces))
+    for number, pieces in enumerate(runs):
+        begins = opening is not None and number == 0
+        given = words(program, journal) + (["--resume"] if begins else [])
+        with subprocess.Popen(given, stdin=subprocess.PIPE, stdout=subprocess.PIPE, env=recording(recorder, record)) as process:
+            told.append(play(process, pieces, opening.encode() if begins else b""))
             if process.wait(SECONDS) != 0:
                 raise Strange("it ended with status %d" % process.returncode)
     return journal.encode(), read_record(Path(record).read_bytes()), b"".join(told)
+
+
+def compacted(program, recorder, room):
+    """Makes the journal anew that was recorded: the number of its file, what it held, and the calls."""
+    journal, record = os.path.join(room, "plan"), os.path.join(room, "anew")
+    number, held = os.stat(journal).st_ino, Path(journal).read_bytes()
+    done = subprocess.run(compacting(program, journal), stdin=subprocess.DEVNULL, capture_output=True, env=recording(recorder, record), timeout=SECONDS)
+    if (done.returncode, done.stdout) != (0, b""):
+        raise Strange("compact ended with status %d, and told %r" % (done.returncode, done.stdout))
+    return number, held, read_record(Path(record).read_bytes())
 
 
 class Opener:

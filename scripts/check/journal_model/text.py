@@ -1,6 +1,6 @@
 """Text 3: a file's lines, and the lines that an answered request adds to it."""
 
-from workbook_model import read, text_of
+from workbook_model import kept, read, text_of
 from workbook_model.literals import Refused
 from workbook_model.machine import line_of, refusal
 
@@ -26,6 +26,11 @@ def at_rest(lines):
 
 
 START = at_rest([])
+
+
+def resume_line(text):
+    """The line that a history begins with, by its text."""
+    return kept.resume_line(text).encode()
 
 
 def numbered(op, k):

@@ -1,4 +1,5 @@
-"""A workbook kept in a journal file, by docs/PROTOCOL.md: which changes a file stands for, and how one more is added."""
+"""A workbook kept in a journal file, by docs/PROTOCOL.md: which changes a file stands for, how one more is added, how it
+begins with a history, and how it is made anew."""
 
 import fcntl
 import os
@@ -8,6 +9,7 @@ from .book import CHANGES
 from .literals import Refused
 from .machine import Machine, line_of, text_of
 from .reading import json_of, request_of
+from .saved import restored as of_text
 
 HEADER = b"chapel-workbook 3\n"
 START = HEADER + b"#"
@@ -19,6 +21,10 @@ class NotOpened(Exception):
 
 class Failed(NotOpened):
     """The file failed: what it has is known when it is opened again."""
+
+
+class HasLines(Exception):
+    """A file has a line already."""
 
 
 def is_ours(held):
@@ -47,10 +53,38 @@ def make(machine, line):
     return (numbered or request["op"] in CHANGES) and "error" not in machine.do(request)
 
 
+def resume_line(text):
+    """The line of a history's text, in place of the changes that led to it."""
+    return text_of({"op": "resume", "text": text})
+
+
+def begun(line):
+    """The machine of the history that begins with a line, or None where it is no such line: it is read in one form alone."""
+    try:
+        given = json_of(line)
+    except Refused:
+        return None
+    text = given.get("text") if isinstance(given, dict) else None
+    return of_text(text) if isinstance(text, str) and resume_line(text).encode() == line else None
+
+
+def led(machine, line):
+    """The machine after a change, or None where it isn't granted."""
+    if not machine.edits:
+        other = begun(line)
+        if other is not None:
+            return other
+    return machine if make(machine, line) else None
+
+
 def restored(held):
     """The machine of a file's changes, or None where one isn't granted."""
     machine = Machine()
-    return machine if all(make(machine, line) for line in changes_of(held)) else None
+    for line in changes_of(held):
+        machine = led(machine, line)
+        if machine is None:
+            return None
+    return machine
 
 
 def changes_made(request, reply):
@@ -69,6 +103,7 @@ class Journal:
     def __init__(self, path):
         try:
             self.file = opened(path)
+            self.path = os.path.realpath(path)
             self.held = b"".join(iter(lambda: os.read(self.file, 1 << 16), b""))
         except OSError as fault:
             raise NotOpened("the journal was not opened: " + in_words(fault)) from None
@@ -79,10 +114,30 @@ class Journal:
         """Puts the end right that a crash may have left."""
         on_disk(self.put_right)
 
+    def begin(self, text):
+        """Begins it with the text of a history, where it has no line."""
+        if changes_of(self.held):
+            raise HasLines
+        self.repair()
+        self.keep([resume_line(text)])
+
+    def compact(self, text):
+        """Puts a new file in its place, which has one line alone, with the text of its history."""
+        on_disk(lambda: self.replace(HEADER + b" %s\n#" % resume_line(text).encode()))
+
     def keep(self, lines):
         """Adds lines. They are on the disk when it comes back, and a crash leaves all of them or none."""
         if lines:
             on_disk(lambda: self.append(lines))
+
+    def replace(self, data):
+        beside = "%s.%d.new" % (self.path, os.getpid())
+        make_whole(beside, data)
+        with open(beside, "rb") as new:
+            os.chmod(beside, os.fstat(self.file).st_mode & 0o7777)
+            fcntl.flock(new, fcntl.LOCK_EX | fcntl.LOCK_NB)
+            os.rename(beside, self.path)
+            sync_folder(self.path)
 
     def put_right(self):
         whole = len(HEADER) + sum(len(line) + 2 for line in changes_of(self.held))
@@ -134,16 +189,33 @@ def begin(path):
     if os.path.exists(path):
         return
     beside = "%s.%d.new" % (path, os.getpid())
-    with open(beside, "wb") as file:
-        file.write(START)
-        file.flush()
-        os.fsync(file.fileno())
+    make_whole(beside, START)
     try:
         os.link(beside, path)
     except FileExistsError:
         pass
     finally:
         os.remove(beside)
+
+
+def make_whole(path, data):
+    """Makes a file with these bytes, all of them on the disk. Where that fails, nothing is left of it."""
+    try:
+        with open(path, "wb") as file:
+            file.write(data)
+            file.flush()
+            os.fsync(file.fileno())
+    except OSError:
+        os.remove(path)
+        raise
+
+
+def sync_folder(path):
+    folder = os.open(os.path.dirname(path) or ".", os.O_RDONLY)
+    try:
+        os.fsync(folder)
+    finally:
+        os.close(folder)
 
 
 def write_at(file, at, data):
