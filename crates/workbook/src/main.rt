@@ -3,8 +3,10 @@
 
 use smallvec::SmallVec;
 use std::env;
+use std::fs::{File, OpenOptions};
 use std::io::{self, BufWriter};
 use std::net::{Net, TcpListener, TcpStream};
+use std::os::fd::AsRawFd;
 use std::process::ExitCode;
 use std::sync::Wait;
 use std::thread::Threads;
@@ -18,6 +20,9 @@ use wb_redist::{Crew, Mover};
 
 /// The words of most command lines: so many are lent without memory of their own.
 const FEW: usize = 8;
+
+/// The path of a file that has nothing.
+const NOTHING: &str = "/dev/null";
 
 /// How the program ends.
 #[derive(Drop)]
@@ -42,6 +47,7 @@ impl Ending {
 }
 
 fn main(rt: HostRuntime) -> ExitCode {
+    let _held = stand_ins(&rt);
     let ending = match by_words(&rt, &rt) {
         Ok(ending) => ending,
         Err(error) => match error.kind() {
@@ -51,6 +57,26 @@ fn main(rt: HostRuntime) -> ExitCode {
     };
     tell(&rt, &ending);
     ExitCode::from(ending.status)
+}
+
+// Files in place of standard input, output and errors, where these are closed: without them the next file that is opened has
+// their number, and a journal is read as input, or has replies or errors written into it. Input can't be read from the one
+// that stands in for it, nor output be written to the other.
+fn stand_ins(rt: &HostRuntime) -> (Option<File>, Option<File>, Option<File>) {
+    (stand_in(rt, 0), stand_in(rt, 1), stand_in(rt, 2))
+}
+
+// The same of one of them, if it is closed.
+fn stand_in(rt: &HostRuntime, number: i32) -> Option<File> {
+    let is_input = number == 0;
+    match OpenOptions::new()
+        .read(!is_input)
+        .write(is_input)
+        .open(rt, NOTHING)
+    {
+        Ok(file) if file.as_raw_fd() == number => Some(file),
+        _ => None,
+    }
 }
 
 // Says on standard error why the program ends. Where that fails, the exit status stays what it is.
