@@ -226,7 +226,9 @@ pub fn do_asked<
             }
         }
         Asked::RunKept {
-            journal, resume, ..
+            journal,
+            resume,
+            ..
         } => {
             if resume {
                 BAD_COMMAND_LINE
