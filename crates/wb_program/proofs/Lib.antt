@@ -10,3 +10,6 @@ pub mod Finishing
 pub mod Opened
 pub mod Used
 pub mod Judged
+pub mod KeptReading
+pub mod KeptEnding
+pub mod KeptHosting

@@ -18,7 +18,7 @@ ReadsAndWrites s = ((read : List ℕ) × Consumes s.unread s.left read) × ((tex
 read_nothing : (s : Streams) → ReadsNothing s → (read : List ℕ) × Consumes s.unread s.left read
 read_nothing s h = ([], subst (λ o. Consumes s.unread o []) (sym h.0) (nothing_consumed s.unread))
 
-did_nothing : (s : Streams) → DoesNothing s → ReadsAndWrites s
+pub did_nothing : (s : Streams) → DoesNothing s → ReadsAndWrites s
 did_nothing s h = (read_nothing s h.0, ([], subst (λ o. Appends s.sent o []) (sym h.1) (Appends-nil s.sent)))
 
 module _ {D : Type 0} (device : Device.Ghosts D) where

@@ -19,10 +19,6 @@ use Rattle.wb_program.specs.declared.checking.Verdict.TheVariants.{Refused}
 abbrev pub IsRun : ℕ → (read : List ℕ) → (left : Option (List ℕ)) → List ℕ → Type 0
 IsRun status read left text = (end : SessionEnd) × (status ≡ status_of end) × ServesFromEmpty end read left text
 
--- a command that isn't made yet: it is refused as a bad command line
-abbrev pub IsNotMade : ℕ → (read : List ℕ) → List ℕ → Type 0
-IsNotMade status read text = (status ≡ 2) × (read ≡ []) × (text ≡ [])
-
 -- what is told of the port before a day
 abbrev pub listening : ℕ → List ℕ
 listening port = codes "listening on 127.0.0.1:" ++ (decimal port ++ codes "\n")
@@ -45,10 +41,9 @@ module _ {I O N : Type 0} (source : Source.Ghosts I) (sink : Sink.Ghosts O) (acc
   Does (ask.Run false workers) status read left text = IsRun status read left text
   Does (ask.Run true workers) status read left text = IsResumed status read left text
   -- (what a session with a journal reads, writes and keeps is `UsesFiles`)
-  Does (ask.RunKept path false workers) status read left text = Unit {0}
-  Does (ask.RunKept path true workers) status read left text = IsNotMade status read text
-  Does (ask.Compact path) status read left text = IsNotMade status read text
-  Does (ask.ServeKept path port seats resume workers) status read left text = IsNotMade status read text
+  Does (ask.RunKept path workers) status read left text = Unit {0}
+  -- (what a desk with a journal writes and keeps is `KeepsDay`)
+  Does (ask.ServeKept path port seats workers) status read left text = Unit {0}
   Does ask.Check status read left text = Judges read status text
   Does ask.Upgrade status read left text = Upgrades read status text
   Does (ask.Serve port seats false workers) status read left text = (read ≡ []) × Hosts false opening seats status text
@@ -68,10 +63,9 @@ module _ {I O N : Type 0} (source : Source.Ghosts I) (sink : Sink.Ghosts O) (acc
   Fails (ask.Run false workers) old new read_failed before after port_failed write_failed = HasFailed read_failed before after write_failed
   Fails (ask.Run true workers) old new read_failed before after port_failed write_failed = HasFailedByNow read_failed before after write_failed
   -- (why a session with a journal fails stands in `UsesFiles`)
-  Fails (ask.RunKept path false workers) old new read_failed before after port_failed write_failed = Unit {0}
-  Fails (ask.RunKept path true workers) old new read_failed before after port_failed write_failed = ⊥
-  Fails (ask.Compact path) old new read_failed before after port_failed write_failed = ⊥
-  Fails (ask.ServeKept path port seats resume workers) old new read_failed before after port_failed write_failed = ⊥
+  Fails (ask.RunKept path workers) old new read_failed before after port_failed write_failed = Unit {0}
+  -- (why a desk with a journal fails stands in `KeepsDay`)
+  Fails (ask.ServeKept path port seats workers) old new read_failed before after port_failed write_failed = Unit {0}
   Fails ask.Check old new read_failed before after port_failed write_failed = HasFailed read_failed before after write_failed
   Fails ask.Upgrade old new read_failed before after port_failed write_failed = HasFailed read_failed before after write_failed
   Fails (ask.Serve port seats false workers) old new read_failed before after port_failed write_failed =
@@ -82,9 +76,8 @@ module _ {I O N : Type 0} (source : Source.Ghosts I) (sink : Sink.Ghosts O) (acc
 -- How each command leaves its devices where it answered all: the input, where one is read, at its end, and the writer flushed.
 abbrev pub Finishes : Asked → ℕ → (left : Option (List ℕ)) → (flushed : Bool) → Type 0
 Finishes (ask.Run resume workers) status left flushed = status ≡ 0 → IsAtEnd left × (flushed ≡ true)
-Finishes (ask.RunKept path resume workers) status left flushed = status ≡ 0 → IsAtEnd left × (flushed ≡ true)
-Finishes (ask.Compact path) status left flushed = status ≡ 0 → flushed ≡ true
-Finishes (ask.ServeKept path port seats resume workers) status left flushed = status ≡ 0 → IsAtEnd left × (flushed ≡ true)
+Finishes (ask.RunKept path workers) status left flushed = status ≡ 0 → IsAtEnd left × (flushed ≡ true)
+Finishes (ask.ServeKept path port seats workers) status left flushed = status ≡ 0 → flushed ≡ true
 Finishes ask.Check status left flushed = IsAnswered status → IsAtEnd left × (flushed ≡ true)
 Finishes ask.Upgrade status left flushed = IsAnswered status → IsAtEnd left × (flushed ≡ true)
 Finishes (ask.Serve port seats false workers) status left flushed = status ≡ 0 → flushed ≡ true

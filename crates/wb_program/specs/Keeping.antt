@@ -192,7 +192,9 @@ module _ {D J : Type 0} (device : Device.Ghosts D) (files : OpensFiles.Ghosts J 
     pub told : files.told after ≡ Some fault
     pub is_status : status ≡ status_of_fault fault
 
-  -- What a command does with files: a session with a journal opens one, no other command does.
+  -- What a command does with files: a session with a journal opens one, and so does a desk with a journal; no other command does.
   abbrev pub UsesFiles : Asked → ℕ → (before after : J) → Streams → Type 0
-  UsesFiles (ask.RunKept path false workers) status before after s = KeepsAt path status after s ⊎ IsNotOpened status after s
+  UsesFiles (ask.RunKept path workers) status before after s = KeepsAt path status after s ⊎ IsNotOpened status after s
+  -- (what a desk with a journal does with its file is `KeepsDay`)
+  UsesFiles (ask.ServeKept path port seats workers) status before after s = Unit {0}
   UsesFiles asked status before after s = after ≡ before

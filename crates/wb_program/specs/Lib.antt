@@ -6,4 +6,6 @@ pub mod Serving
 pub mod Accepting
 pub mod Days
 pub mod Keeping
+pub mod KeptSeats
 pub mod Doing
+pub mod KeptDays

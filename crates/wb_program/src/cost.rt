@@ -1,8 +1,10 @@
 //! What a line costs while a desk is locked for it, about, in bytes: eight for a cell that it touched, sixteen for a number that it
 //! lists, and the text that it printed.
 
+use wb_kept_seats::Said;
 use wb_proto::below::history::{Answer, Query, Refusal};
 use wb_proto::{Reply, Request};
+use wb_shared::{Opening, Pass};
 
 // As much as a whole turn may.
 const WHOLE_TURN: u64 = 65_536;
@@ -18,6 +20,22 @@ pub(crate) fn cost_to_answer(asked: &Result<Request, Refusal>) -> u64 {
     match asked {
         Ok(request) => cost_of_request(request),
         Err(_) => 0,
+    }
+}
+
+/// The same of a line that was read as what can be kept.
+pub(crate) fn cost_to_answer_said(asked: &Result<Said, Refusal>) -> u64 {
+    match asked {
+        Ok(said) => cost_of_request(said.request()),
+        Err(_) => 0,
+    }
+}
+
+/// What the reply tells of that a pass got last.
+pub(crate) fn cost_of_last<L: Opening>(pass: &Pass<L>) -> u64 {
+    match pass.own().last() {
+        Some(record) => cost_of(&record.entry().as_entry().reply),
+        None => 0,
     }
 }
 

@@ -6,15 +6,17 @@ ghost use Rattle.wb_program.specs.Checking.{IsFault};
 ghost use Rattle.wb_program.specs.Resuming.{left_in, failed_in, reads_in};
 ghost use Rattle.wb_program.specs.Running.{HasFailed};
 ghost use Rattle.wb_program.specs.Keeping.{FinishesKept, IsNotOpened, KeepsAt, UsesFiles, streams};
+ghost use Rattle.wb_program.specs.KeptDays.{KeepsDay};
 ghost use Rattle.wb_program.specs.Doing.{listening, Hosts, HostsHistory, Does, FailsToHost, FailsAfterInput, Finishes, Fails};
 
 use crate::accepting::{AcceptErr, Accepts, Binds};
 use crate::checking::{check_with, tell};
 use crate::files::{FileFault, OpensFiles};
 use crate::keeping::{KeptRun, run_kept_with};
+use crate::kept_hosting::serve_kept;
 use crate::put_back::PutBack;
 use crate::resuming::{history_from, resume_with};
-use crate::running::{BAD_COMMAND_LINE, DONE, INPUT_OR_OUTPUT_FAILED, NO_MEMORY, run_with};
+use crate::running::{DONE, INPUT_OR_OUTPUT_FAILED, NO_MEMORY, run_with};
 use crate::serving::{serve_history, serve_on};
 use crate::upgrading::upgrade_with;
 use std::alloc::Global;
@@ -26,8 +28,8 @@ use wb_lines::{Sink, Source};
 use wb_proto::below::history::History;
 use wb_redist::Mover;
 
-// Listens on a port and tells which one: what connections come from, or the exit status after a fault.
-fn listen<B: Binds<N, I, O>, N: Accepts<I, O> + Drop, I, O, W: Sink>(
+/// Listens on a port and tells which one: what connections come from, or the exit status after a fault.
+pub(crate) fn listen<B: Binds<N, I, O>, N: Accepts<I, O> + Drop, I, O, W: Sink>(
     alloc: Global,
     ports: &mut B,
     port: u16,
@@ -184,7 +186,7 @@ pub fn do_asked<
     N: Accepts<I, O> + Drop,
     I: Source + Send + Drop,
     O: Sink + Send + Drop,
-    D: Device,
+    D: Device + Send + Drop,
     J: OpensFiles<D>,
     S: Source,
     W: Sink,
@@ -213,6 +215,17 @@ pub fn do_asked<
       flushed = W.flushed writer.new;
       write_failed = W.failed writer.new;
     }) }
+    ensures desk { KeepsDay I.Source O.Sink N.Accepts D.Device J.OpensFiles asked.entry result (B.failed ports.new) files.new (record {
+      unread = left_in S.remaining reader.old;
+      left = left_in S.remaining reader.new;
+      reads_before = reads_in reader.old;
+      reads_after = reads_in reader.new;
+      read_failed = failed_in reader.new;
+      sent = W.contents writer.old;
+      told = W.contents writer.new;
+      flushed = W.flushed writer.new;
+      write_failed = W.failed writer.new;
+    }) }
     ensures done { Finishes asked.entry result (left_in S.remaining reader.new) (W.flushed writer.new) }
     ensures failed { result ≡ 3 → Fails I.Source O.Sink N.Accepts asked.entry (left_in S.remaining reader.old) (left_in S.remaining reader.new)
         (failed_in reader.new) (reads_in reader.old) (reads_in reader.new) (B.failed ports.new) (W.failed writer.new) }
@@ -225,28 +238,18 @@ pub fn do_asked<
                 run_with(alloc, reader, writer, mover)
             }
         }
-        Asked::RunKept {
-            journal,
-            resume,
-            ..
-        } => {
-            if resume {
-                BAD_COMMAND_LINE
-            } else {
-                run_kept::<D, J, PutBack<S>, W, M>(
-                    alloc,
-                    files,
-                    journal.as_str(),
-                    reader,
-                    writer,
-                    mover,
-                )
-            }
+        Asked::RunKept { journal, .. } => {
+            run_kept::<D, J, PutBack<S>, W, M>(
+                alloc,
+                files,
+                journal.as_str(),
+                reader,
+                writer,
+                mover,
+            )
         }
         Asked::Check => check_with(alloc, reader, writer, mover),
         Asked::Upgrade => upgrade_with(alloc, reader, writer, mover),
-        Asked::Compact { .. } => BAD_COMMAND_LINE,
-        Asked::ServeKept { .. } => BAD_COMMAND_LINE,
         Asked::Serve {
             port,
             seats,
@@ -260,6 +263,24 @@ pub fn do_asked<
             } else {
                 host(rt, alloc, ports, port, seats, writer, mover)
             }
+        }
+        Asked::ServeKept {
+            journal,
+            port,
+            seats,
+            ..
+        } => {
+            serve_kept::<R, B, N, I, O, D, J, W, M>(
+                rt,
+                alloc,
+                ports,
+                files,
+                journal.as_str(),
+                port,
+                seats,
+                writer,
+                mover,
+            )
         }
     }
 }

@@ -97,8 +97,13 @@ fn served<D: Device, R: Source, W: Sink, M: Mover>(
     serve_kept::<KeptHistory, History, D, _, R, W>(alloc, &answer, kept, reader, writer)
 }
 
-// How it comes out where the journal is not opened.
-fn turned_away<D, W: Sink>(alloc: Global, why: OpenKeptErr, file: D, writer: &mut W) -> KeptRun<D>
+/// How it comes out where the journal is not opened.
+pub(crate) fn turned_away<D, W: Sink>(
+    alloc: Global,
+    why: OpenKeptErr,
+    file: D,
+    writer: &mut W,
+) -> KeptRun<D>
     ensures told { TurnsAway why result.status result.fault (W.contents writer.old) (W.contents writer.new) (W.flushed writer.new) (W.failed writer.new) }
     ensures file { result.file ≡ file }
 {

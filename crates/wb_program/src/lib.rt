@@ -10,6 +10,9 @@ mod cost;
 mod doing;
 mod files;
 mod keeping;
+mod kept_hosting;
+mod kept_seat;
+mod kept_serving;
 mod put_back;
 mod resuming;
 mod running;
@@ -23,6 +26,8 @@ pub use crate::checking::{REFUSED, Verdict, check_with, status_of_verdict, verdi
 pub use crate::doing::do_asked;
 pub use crate::files::{FileFault, Files, OpensFiles};
 pub use crate::keeping::{KeptRun, run_kept_with};
+pub use crate::kept_hosting::host_kept_with;
+pub use crate::kept_serving::serve_kept_on;
 pub use crate::put_back::PutBack;
 pub use crate::resuming::{history_from, resume_with};
 pub use crate::running::{

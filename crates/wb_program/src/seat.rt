@@ -19,14 +19,14 @@ use wb_redist::Mover;
 use wb_shared::{Desk, Opening, Pass, Turn};
 
 // What a seat at a desk of this name may answer.
-struct Seat<L> {
+pub(crate) struct Seat<L> {
     of: PhantomData<L>,
 }
 
 // Whether a turn may hold the desk's lock. Each function below that has the turn take the lock, or let it go, says so here.
 #[derive(Drop)]
-struct Hold {
-    is_held: bool,
+pub(crate) struct Hold {
+    pub(crate) is_held: bool,
 }
 
 impl Holds for Hold {
@@ -77,8 +77,8 @@ fn answer_asked<L: Opening, R: Wait, M: Mover>(
     (reply, cost)
 }
 
-// The text of a reply.
-fn text_of(alloc: Global, reply: &Reply) -> Result<Vec<u8>, AllocError>
+/// The text of a reply.
+pub(crate) fn text_of(alloc: Global, reply: &Reply) -> Result<Vec<u8>, AllocError>
     ensures { IfOk result (λ text. text.items ≡ reply_of reply.now) }
 {
     match reply_text(alloc, reply) {

@@ -25,11 +25,11 @@ use wb_range::NoMemory;
 use wb_redist::Mover;
 use wb_shared::{Desk, DeskErr, Opening, Pass, Shared, settle};
 
-// What the thread of a seat promises: its pass, served on the connection.
-struct Promised<L: Opening, I, O> {
-    pass: Snapshot<Pass<L>>,
-    reader: Snapshot<I>,
-    writer: Snapshot<O>,
+/// What the thread of a seat promises: its pass, served on the connection.
+pub(crate) struct Promised<L: Opening, I, O> {
+    pub(crate) pass: Snapshot<Pass<L>>,
+    pub(crate) reader: Snapshot<I>,
+    pub(crate) writer: Snapshot<O>,
 }
 
 impl<L: Opening, I, O> Drop for Promised<L, I, O> {
@@ -154,8 +154,8 @@ fn settled_text<L: Opening>(
     Ok(format!(in alloc; "settled {count}\n{text}")?)
 }
 
-// Prints how many entries there are, and the workbook or the history: the exit status.
-fn print_settled<L: Opening, W: Sink>(
+/// Prints how many entries there are, and the workbook or the history: the exit status.
+pub(crate) fn print_settled<L: Opening, W: Sink>(
     alloc: Global,
     shared: &Shared<L>,
     whole: bool,

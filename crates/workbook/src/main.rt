@@ -152,7 +152,6 @@ fn workers_of(asked: &Asked<'_>) -> usize {
         Asked::RunKept { workers, .. } => *workers as usize,
         Asked::Check => 1,
         Asked::Upgrade => 1,
-        Asked::Compact { .. } => 1,
         Asked::Serve { workers, .. } => *workers as usize,
         Asked::ServeKept { workers, .. } => *workers as usize,
     }

@@ -309,7 +309,6 @@ fn a_command_line_keeps_a_journal_at_its_path(rt: HostRuntime) -> Result<(), Fai
             alloc,
             Asked::RunKept {
                 journal: FilePath::new(path),
-                resume: false,
                 workers: 1,
             },
             &mut ports,

@@ -1,7 +1,8 @@
 //! Runs of the program: its command line, a session, texts of workbooks and of none, texts made those of histories, sessions with
-//! a journal, and seats on connections: `wb_command` and `wb_program`.
+//! a journal, and seats on connections, with a journal too: `wb_command` and `wb_program`.
 mod connections;
 mod journals;
+mod kept_desks;
 mod records;
 mod runs;
 mod texts;

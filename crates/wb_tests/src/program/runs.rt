@@ -38,16 +38,12 @@ workbook run --workers 64 --resume -> Run { resume: true, workers: 64 }
 workbook run --workers 0 -> bad command line
 workbook run --workers 65 -> bad command line
 workbook run --workers -> bad command line
-workbook run --journal plan.wb -> RunKept { journal: FilePath { word: "plan.wb" }, resume: false, workers: 1 }
-workbook run --workers 4 --journal=plan.wb -> RunKept { journal: FilePath { word: "plan.wb" }, resume: false, workers: 4 }
+workbook run --journal plan.wb -> RunKept { journal: FilePath { word: "plan.wb" }, workers: 1 }
+workbook run --workers 4 --journal=plan.wb -> RunKept { journal: FilePath { word: "plan.wb" }, workers: 4 }
 workbook run --journal -> bad command line
 workbook run --journal plan.wb --journal other.wb -> bad command line
-workbook run --journal plan.wb --resume -> RunKept { journal: FilePath { word: "plan.wb" }, resume: true, workers: 1 }
+workbook run --journal plan.wb --resume -> bad command line
 workbook check --journal plan.wb -> bad command line
-workbook compact plan.wb -> Compact { journal: FilePath { word: "plan.wb" } }
-workbook compact -> bad command line
-workbook compact plan.wb other.wb -> bad command line
-workbook compact --journal plan.wb -> bad command line
 workbook check --workers 2 -> bad command line
 workbook check -> Check
 workbook upgrade -> Upgrade
@@ -60,8 +56,9 @@ workbook --help -> help
 workbook run --help -> help
 workbook serve --port 0 --seats 1 -> Serve { port: 0, seats: 1, resume: false, workers: 1 }
 workbook serve --seats 16 --resume --port 65535 --workers 4 -> Serve { port: 65535, seats: 16, resume: true, workers: 4 }
-workbook serve --port 0 --seats 1 --journal plan.wb -> ServeKept { journal: FilePath { word: "plan.wb" }, port: 0, seats: 1, resume: false, workers: 1 }
-workbook serve --port 7000 --seats 2 --journal plan.wb --resume --workers 3 -> ServeKept { journal: FilePath { word: "plan.wb" }, port: 7000, seats: 2, resume: true, workers: 3 }
+workbook serve --port 0 --seats 1 --journal plan.wb -> ServeKept { journal: FilePath { word: "plan.wb" }, port: 0, seats: 1, workers: 1 }
+workbook serve --port 7000 --seats 2 --journal plan.wb --workers 3 -> ServeKept { journal: FilePath { word: "plan.wb" }, port: 7000, seats: 2, workers: 3 }
+workbook serve --port 7000 --seats 2 --journal plan.wb --resume -> bad command line
 workbook serve --port 0 --seats 2 --journal -> bad command line
 workbook serve --port 0 --seats 2 --workers 0 -> bad command line
 workbook serve --port 0 --seats 2 --workers 65 -> bad command line

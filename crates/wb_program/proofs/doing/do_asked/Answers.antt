@@ -3,6 +3,7 @@ use Rattle.wb_program.specs.Doing.{Does}
 use Rattle.wb_program.specs.Resuming.{left_in}
 use Rattle.wb_program.proofs.Finishing.{desk_fails, desk_finishes, resumed_desk_fails, resumed_desk_finishes}
 use Rattle.wb_program.proofs.Hosting.{history_hosted, hosted, resumed, upgraded}
+use Rattle.wb_program.proofs.KeptHosting.{kept_asked, wrote}
 use Rattle.wb_program.proofs.Used.{read_and_wrote}
 use Rattle.wb_program.proofs.doing.do_asked.Goals as goal
 
@@ -94,3 +95,17 @@ returns-else-resume-2-clause-failed g c h =
     let asked = c.in-Serve in
     desk_fails g.I.Source g.O.Sink g.N.Accepts c.args.asked asked.port asked.seats asked.workers asked.resume _ _ _ _ _ _ _ asked.is
     c.if-resume-2.false (c.host.ensures.failed h)
+
+pub returns-in-ServeKept-clause-does : goal.returns-in-ServeKept-clause-does
+returns-in-ServeKept-clause-does g c =
+    let told = wrote g.I.Source g.O.Sink g.N.Accepts g.D.Device g.J.OpensFiles _ c.in-ServeKept.seats c.serve_kept.result _ c.serve_kept.new.files _
+    c.serve_kept.ensures.keeps in (
+      [],
+      search rules,
+      (
+        told.0,
+        told.1,
+        subst (λ a. Does g.I.Source g.O.Sink g.N.Accepts a c.serve_kept.result [] (left_in g.S.Source.remaining c.args.reader.now) told.0)
+            (sym c.in-ServeKept.is) tt,
+      ),
+    )

@@ -1,0 +1,24 @@
+-- What a line was read as that can be kept.
+use Rattle.std.proofs.Common.{◌≡◌, inl, inr, refl, List, ℕ, Result, Ok, Err, IfOk, IfErr}
+use Rattle.wb_proto.specs.Below.wb_log.refusal.Refusal.{Refusal}
+use Rattle.wb_proto.specs.Below.wb_log.refusal.Refusal.TheVariants as why
+use Rattle.wb_proto.specs.Requests.{request}
+use Rattle.wb_proto.specs.declared.requests.request.Request.{Request}
+use Rattle.wb_program.specs.Serving.{IsReadAs}
+
+by_why : (line : List ℕ) (r : Refusal) → ((r ≡ why.NoMemory → ⊥) → request line ≡ Err r) → IsReadAs line (Err r)
+by_why line why.BadRequest h = inl (h (λ e. cc))
+by_why line why.BadLiteral h = inl (h (λ e. cc))
+by_why line (why.Refused of) h = inl (h (λ e. cc))
+by_why line why.NoSuchEdit h = inl (h (λ e. cc))
+by_why line why.NotInForce h = inl (h (λ e. cc))
+by_why line why.InForce h = inl (h (λ e. cc))
+by_why line (why.Blocked number) h = inl (h (λ e. cc))
+by_why line (why.RefusedInPlace of) h = inl (h (λ e. cc))
+by_why line why.NoMemory h = inr refl
+by_why line why.StrangePass h = inl (h (λ e. cc))
+
+pub read_as : (line : List ℕ) (r : Result Request Refusal) → IfOk r (λ said. request line ≡ Ok said)
+    → IfErr r (λ w. (w ≡ why.NoMemory → ⊥) → request line ≡ Err w) → IsReadAs line r
+read_as line (Ok said) ok err = inl ok
+read_as line (Err w) ok err = by_why line w err

@@ -1,0 +1,345 @@
+//! A seat at a desk whose changes are kept, as what answers lines: a reply is told only after the changes of its turn are in the
+//! file.
+ghost use Rattle.std.specs.Prelude.{◌≡◌, ◌⊎◌, ℕ, List, true, false, IfOk, IfSome};
+ghost use Rattle.std.specs.Io.KnownBytes.{Appends, Consumes};
+ghost use Rattle.wb_lines.specs.Causes.{ReadsUntil, WritesUntil};
+ghost use Rattle.wb_lines.specs.Turns.{ServesTurns};
+ghost use Rattle.wb_lines.specs.declared.machine.SessionEnd.{SessionEnd};
+ghost use Rattle.wb_proto.specs.Replies.{reply_of};
+ghost use Rattle.wb_program.specs.Serving.{AnswersSeat, IsReadAs};
+ghost use Rattle.wb_program.specs.KeptSeats.{FailsOnce, told_text};
+
+use crate::cost::{cost_of_last, cost_to_answer_said};
+use crate::seat::{Hold, Seat, text_of};
+use std::alloc::{AllocError, Global};
+use std::cell::Cell;
+use std::marker::{Model, PhantomData};
+use std::sync::{Mutex, Wait};
+use wb_disk::Device;
+use wb_kept_seats::{CommitErr, Desk, KeptOpening, Receipt, Said, Sealed, SettleErr, Turn};
+use wb_lines::{Asks, Sink, Source, Tells, serve_turns};
+use wb_proto::Reply;
+use wb_proto::below::history::Refusal;
+use wb_redist::Mover;
+use wb_shared::Pass;
+
+/// Whether a commit was refused since the file failed.
+#[derive(Drop)]
+pub(crate) struct Failing<D: Device> {
+    has_failed: bool,
+    of: PhantomData<D>,
+}
+
+impl<D: Device> Model for Failing<D> {
+    ghost use Rattle.std.specs.Prelude.{◌≡◌, Bool, true};
+    ghost use Rattle.wb_program.specs.KeptSeats.{FailsOnce};
+
+    ghost Value = { Bool };
+
+    ghost view = { λ f. f.has_failed };
+
+    ghost invariant = { λ f. f.has_failed ≡ true → FailsOnce D.faults };
+}
+
+impl<D: Device> Failing<D> {
+    // It has not.
+    fn not_yet() -> Failing<D>
+        ensures { result ≡ false }
+    {
+        Failing {
+            has_failed: false,
+            of: PhantomData,
+        }
+    }
+
+    // It has.
+    fn noted() -> Failing<D>
+        requires { FailsOnce D.faults }
+    {
+        Failing {
+            has_failed: true,
+            of: PhantomData,
+        }
+    }
+
+    /// Whether it has, where a desk was not settled for this cause.
+    pub(crate) fn after(self, cause: SettleErr) -> Failing<D>
+        requires { cause ≡ SettleErr.NotKept CommitErr.DiskFault → FailsOnce D.faults }
+    {
+        match cause {
+            SettleErr::NotKept(CommitErr::DiskFault) => Failing::noted(),
+            SettleErr::NotKept(CommitErr::NoMemory)
+            | SettleErr::NotKept(CommitErr::Closed)
+            | SettleErr::Passes(_) => self,
+        }
+    }
+
+    /// Whether it has.
+    pub(crate) fn has_failed(&self) -> bool
+        ensures { result ≡ true → FailsOnce D.faults }
+    {
+        self.has_failed
+    }
+}
+
+/// A desk whose changes are kept, and whether its file has failed.
+#[derive(Drop)]
+pub(crate) struct KeptDesk<L: KeptOpening, D: Device + Drop> {
+    desk: Desk<L, D>,
+    failing: Mutex<Failing<D>>,
+}
+
+impl<L: KeptOpening, D: Device + Drop> KeptDesk<L, D> {
+    /// A desk whose file has not failed.
+    pub(crate) fn of(desk: Desk<L, D>) -> KeptDesk<L, D> {
+        KeptDesk {
+            desk,
+            failing: Mutex::new(Failing::not_yet()),
+        }
+    }
+
+    /// The desk, and whether its file has failed.
+    pub(crate) fn into_parts(self) -> (Desk<L, D>, Failing<D>) {
+        let KeptDesk { desk, failing } = self;
+        (desk, failing.into_inner())
+    }
+
+    // Notes why nothing more is kept, where the file is the cause.
+    fn note<R: Wait>(&self, rt: &R, why: CommitErr)
+        requires { why ≡ CommitErr.DiskFault → FailsOnce D.faults }
+    {
+        match why {
+            CommitErr::DiskFault => {
+                let mut failing = self.failing.lock(rt);
+                *failing = Failing::noted();
+            }
+            CommitErr::NoMemory | CommitErr::Closed => {}
+        }
+    }
+
+    // Ends a turn, which lets the desk's lock go, and waits until its changes are kept. The receipt opens its replies; where they
+    // can't be kept there is none.
+    fn keep<R: Wait>(&self, rt: &R, turn: Turn<'_, L>) -> Option<Receipt<L, D>> {
+        let Ok(front) = turn.end() else {
+            return None;
+        };
+        match self.desk.keep(rt, front) {
+            Ok(receipt) => Some(receipt),
+            Err(why) => {
+                self.note(rt, why);
+                None
+            }
+        }
+    }
+}
+
+// The turns of a seat, one after another. Each takes the desk's lock for its first line, and holds it until it is let go. Of the
+// last that was let go there is a receipt, if it was kept.
+struct Turns<'d, L: KeptOpening, D: Device + Drop> {
+    desk: &'d KeptDesk<L, D>,
+    under_way: Cell<Option<Turn<'d, L>>>,
+    receipt: Cell<Option<Receipt<L, D>>>,
+}
+
+// A reply that the desk sealed, or why a line is no request.
+type Told<L> = Result<Sealed<L, Reply>, Refusal>;
+
+impl<L: KeptOpening> Asks<Result<Said, Refusal>> for Seat<L> {
+    ghost reads = { IsReadAs };
+}
+
+impl<L: KeptOpening> Tells<Result<Sealed<L, Reply>, Refusal>> for Seat<L> {
+    ghost text = { told_text };
+}
+
+// Ends a turn, if one is under way, and lets the desk's lock go.
+fn end_turn<L: KeptOpening>(turn: Option<Turn<'_, L>>) {
+    if let Some(turn) = turn {
+        let _ = turn.end();
+    }
+}
+
+// The reply to a line that was read: that of the desk to its request, sealed, or why it is none.
+fn reply_in<L: KeptOpening, M: Mover>(
+    turn: &mut Turn<'_, L>,
+    pass: &mut Pass<L>,
+    asked: Result<Said, Refusal>,
+    mover: &M,
+) -> Told<L>
+    ensures { (line : List ℕ) → IsReadAs line asked → AnswersSeat L.opening pass.old line (told_text result) pass.new }
+{
+    match asked {
+        Ok(said) => Ok(turn.call(pass, said, mover)),
+        Err(why) => Err(why),
+    }
+}
+
+impl<'d, L: KeptOpening, D: Device + Drop> Turns<'d, L, D> {
+    // The turns at a desk, of which none is under way.
+    fn at(desk: &'d KeptDesk<L, D>) -> Turns<'d, L, D> {
+        Turns {
+            desk,
+            under_way: Cell::new(None),
+            receipt: Cell::new(None),
+        }
+    }
+
+    // The reply to a line that was read, in the turn that is under way or in a new one, and what it cost.
+    fn answer<R: Wait, M: Mover>(
+        &self,
+        rt: &R,
+        pass: &mut Pass<L>,
+        asked: Result<Said, Refusal>,
+        mover: &M,
+    ) -> (Told<L>, u64)
+        ensures { (line : List ℕ) → IsReadAs line asked → AnswersSeat L.opening pass.old line (told_text result.0) pass.new }
+    {
+        let least = cost_to_answer_said(&asked);
+        let mut turn = match self.under_way.take() {
+            Some(turn) => turn,
+            None => self.desk.desk.turn(rt),
+        };
+        let told = reply_in(&mut turn, pass, asked, mover);
+        end_turn(self.under_way.replace(Some(turn)));
+        let cost = cost_of_last(pass).saturating_add(least);
+        (told, cost)
+    }
+
+    // Lets the lock go, if it is held, and waits until what the replies tell of is kept. Where it can't be, no receipt is left.
+    fn let_go<R: Wait>(&self, rt: &R) {
+        let receipt = match self.under_way.take() {
+            None => None,
+            Some(turn) => self.desk.keep(rt, turn),
+        };
+        self.receipt.set(receipt);
+    }
+
+    // The text of a reply, where its turn was kept.
+    fn text(&self, alloc: Global, told: Told<L>) -> Result<Vec<u8>, AllocError>
+        ensures { IfOk result (λ text. text.items ≡ told_text told) }
+    {
+        let Some(receipt) = self.receipt.take() else {
+            return Err(AllocError);
+        };
+        let reply = opened(&receipt, told);
+        self.receipt.set(Some(receipt));
+        match reply {
+            Some(reply) => text_of(alloc, &reply),
+            None => Err(AllocError),
+        }
+    }
+
+    // Ends the turn that is under way, if one is.
+    fn end(self) {
+        let Turns {
+            desk: _,
+            under_way,
+            receipt: _,
+        } = self;
+        end_turn(under_way.into_inner());
+    }
+}
+
+// A reply, where its turn was kept.
+fn opened<L: KeptOpening, D: Device + Drop>(receipt: &Receipt<L, D>, told: Told<L>) -> Option<Reply>
+    ensures { IfSome result (λ reply. told_text told ≡ reply_of reply) }
+{
+    match told {
+        Ok(sealed) => match receipt.open(sealed) {
+            Ok(reply) => Some(reply),
+            Err(_) => None,
+        },
+        Err(why) => Some(Reply::Refused(why)),
+    }
+}
+
+// What a line is read as.
+fn said_of(alloc: Global, line: &[u8]) -> Result<Said, Refusal>
+    ensures { IsReadAs line.now result }
+{
+    Said::read(alloc, line)
+}
+
+// Answers each line that is read, in turns at the desk, of which none is under way yet.
+fn serve_in_kept_turns<L: KeptOpening, D: Device + Drop, R: Wait, I: Source, O: Sink, M: Mover>(
+    rt: &R,
+    alloc: Global,
+    turns: &Turns<'_, L, D>,
+    pass: Pass<L>,
+    reader: &mut I,
+    writer: &mut O,
+    mover: &M,
+) -> Pass<L>
+    ensures { (end : SessionEnd)
+        × ReadsUntil end (I.remaining reader.new) (I.failed reader.new) (I.reads reader.old) (I.reads reader.new)
+        × WritesUntil end (O.flushed writer.new) (O.failed writer.new)
+        × ((read : List ℕ) × Consumes (I.remaining reader.old) (I.remaining reader.new) read
+        × ((text : List ℕ) × Appends (O.contents writer.old) (O.contents writer.new) text
+        × ServesTurns (AnswersSeat L.opening) end pass read (I.remaining reader.new) text result)) }
+{
+    // (each of the functions borrows variables of its own)
+    let mut pass = pass;
+    let mut hold = Hold { is_held: false };
+    let to_read = alloc;
+    let parse = |line: &[u8]| -> Result<Said, Refusal>
+        ensures { IsReadAs line.now result }
+    { said_of(to_read, line) };
+    let answer = |pass: &mut Pass<L>, hold: &mut Hold, asked: Result<Said, Refusal>| -> (
+        Told<L>,
+        u64,
+    )
+        ensures { (line : List ℕ) → IsReadAs line asked → AnswersSeat L.opening pass.old line (told_text result.0) pass.new }
+    {
+        hold.is_held = true;
+        turns.answer(rt, pass, asked, mover)
+    };
+    let to_tell = alloc;
+    let kept = turns;
+    let tell = |_hold: &Hold, told: Told<L>| -> Result<Vec<u8>, AllocError>
+        ensures { IfOk result (λ text. text.items ≡ told_text told) }
+    { kept.text(to_tell, told) };
+    let held = turns;
+    let at = rt;
+    let let_go = |hold: &mut Hold|
+        ensures { hold.new.is_held ≡ false }
+    {
+        held.let_go(at);
+        hold.is_held = false;
+    };
+    let _ = serve_turns::<Seat<L>, Pass<L>, Hold, Result<Said, Refusal>, Told<L>, _, _, _, _, I, O>(
+        alloc, &mut pass, &mut hold, &parse, &answer, &tell, &let_go, reader, writer,
+    );
+    pass
+}
+
+/// Answers each line that is read at a seat of a desk whose changes are kept, as `serve_seat` does at another: it writes exactly
+/// the texts of the replies, each with a line end, and each the desk's to the pass as it was then. The changes of a turn are in
+/// the file before its replies are made texts. Where they can't be kept, nothing more is told, and the session ends.
+pub(crate) fn serve_kept_seat<
+    L: KeptOpening,
+    D: Device + Drop,
+    R: Wait,
+    I: Source,
+    O: Sink,
+    M: Mover,
+>(
+    rt: &R,
+    alloc: Global,
+    desk: &KeptDesk<L, D>,
+    pass: Pass<L>,
+    reader: &mut I,
+    writer: &mut O,
+    mover: &M,
+) -> Pass<L>
+    ensures { (end : SessionEnd)
+        × ReadsUntil end (I.remaining reader.new) (I.failed reader.new) (I.reads reader.old) (I.reads reader.new)
+        × WritesUntil end (O.flushed writer.new) (O.failed writer.new)
+        × ((read : List ℕ) × Consumes (I.remaining reader.old) (I.remaining reader.new) read
+        × ((text : List ℕ) × Appends (O.contents writer.old) (O.contents writer.new) text
+        × ServesTurns (AnswersSeat L.opening) end pass read (I.remaining reader.new) text result)) }
+{
+    let turns = Turns::at(desk);
+    let pass = serve_in_kept_turns(rt, alloc, &turns, pass, reader, writer, mover);
+    turns.end();
+    pass
+}
