@@ -94,18 +94,13 @@ impl<'a> Write for Pen<'a> {
     }
 }
 
-// What two seats send, and what they are told.
-#[derive(Drop)]
-struct Talk<'a> {
-    lines: [&'a [u8]; 2],
-    one: Mutex<Vec<u8>>,
-    two: Mutex<Vec<u8>>,
-}
-
 // The connections of two seats, of which so many came.
 #[derive(Drop)]
 struct Pair<'a> {
-    talk: &'a Talk<'a>,
+    lines_one: &'a [u8],
+    lines_two: &'a [u8],
+    one: &'a Mutex<Vec<u8>>,
+    two: &'a Mutex<Vec<u8>>,
     accepted: u64,
     has_failed: bool,
 }
@@ -123,8 +118,8 @@ impl<'a> Accepts<Input<Lines<'a>>, Output<Pen<'a>>> for Pair<'a> {
             return Err(AcceptErr::Failed);
         };
         let (lines, text) = match accepted {
-            1 => (self.talk.lines[0], &self.talk.one),
-            2 => (self.talk.lines[1], &self.talk.two),
+            1 => (self.lines_one, self.one),
+            2 => (self.lines_two, self.two),
             _ => return Err(AcceptErr::Failed),
         };
         self.accepted = accepted;
@@ -141,7 +136,10 @@ impl<'a> Accepts<Input<Lines<'a>>, Output<Pen<'a>>> for Pair<'a> {
 // The port on which they come.
 #[derive(Drop)]
 struct Port<'a> {
-    talk: &'a Talk<'a>,
+    lines_one: &'a [u8],
+    lines_two: &'a [u8],
+    one: &'a Mutex<Vec<u8>>,
+    two: &'a Mutex<Vec<u8>>,
 }
 
 impl<'a> Binds<Pair<'a>, Input<Lines<'a>>, Output<Pen<'a>>> for Port<'a> {
@@ -149,7 +147,10 @@ impl<'a> Binds<Pair<'a>, Input<Lines<'a>>, Output<Pen<'a>>> for Port<'a> {
 
     fn bind(&mut self, port: u16) -> Result<(Pair<'a>, u16), AcceptErr> {
         let pair = Pair {
-            talk: self.talk,
+            lines_one: self.lines_one,
+            lines_two: self.lines_two,
+            one: self.one,
+            two: self.two,
             accepted: 0,
             has_failed: false,
         };
@@ -178,11 +179,8 @@ fn served_day<R: Threads + Wait + Sync, M: Mover + Sync>(
     done: usize,
     mover: &M,
 ) -> Result<Day, AllocError> {
-    let talk = Talk {
-        lines,
-        one: Mutex::new(Vec::new(alloc)),
-        two: Mutex::new(Vec::new(alloc)),
-    };
+    let one = Mutex::new(Vec::new(alloc));
+    let two = Mutex::new(Vec::new(alloc));
     let file = MemoryFile::new(alloc, held.to_vec(alloc)?, done, 0);
     let mut printed = Vec::new(alloc);
     let KeptRun {
@@ -192,7 +190,12 @@ fn served_day<R: Threads + Wait + Sync, M: Mover + Sync>(
     } = host_kept_with(
         rt,
         alloc,
-        &mut Port { talk: &talk },
+        &mut Port {
+            lines_one: lines[0],
+            lines_two: lines[1],
+            one: &one,
+            two: &two,
+        },
         7000,
         2,
         file,
@@ -201,7 +204,6 @@ fn served_day<R: Threads + Wait + Sync, M: Mover + Sync>(
         mover,
     );
     let left = file.left().to_vec(alloc)?;
-    let Talk { lines: _, one, two } = talk;
     Ok(Day {
         status,
         fault,
