@@ -180,7 +180,7 @@ class Page(InABrowser):
                 browser.js(f"document.querySelector(\"a[href='{word}']\").removeAttribute('target')")
                 address = browser.js("location.href")
                 browser.click(f"a[href='{word}']")
-                browser.until(f"document.body.innerText.includes({text!r})")
+                browser.until(f"document.body?.innerText.includes({text!r})")
                 browser.go(address)
                 browser.until("document.querySelectorAll('.edits li').length === 2")
 
