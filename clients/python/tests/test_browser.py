@@ -35,7 +35,7 @@ CELL = ".value[data-key='A[{}]']"
 class Page(InABrowser):
     def test_a_session_of_its_own(self):
         browser = self.open(Workbook.run(PROGRAM))
-        browser.until("document.body.innerText.includes('The workbook is empty')")
+        browser.until("document.body?.innerText.includes('The workbook is empty')")
         self.line(browser, "D = {1..2, 1..3} dmapped cyclicDist((1, 1), [2, 1])", "A over D")
         browser.click(CELL.format("1, 1"))
         browser.keys("5")
@@ -120,9 +120,9 @@ class Page(InABrowser):
         self.go(f"http://localhost:{port}/")
         self.assertIsNone(browser.js("document.querySelector('iframe').contentDocument"))
         browser.click("#link")
-        browser.until("document.body.innerText.includes('only the page itself may ask')")
+        browser.until("document.body?.innerText.includes('only the page itself may ask')")
         browser.go(page.url)  # as typed
-        browser.until("document.body.innerText.includes('The workbook is empty')")
+        browser.until("document.body?.innerText.includes('The workbook is empty')")
 
     def test_labels_with_direction_marks(self):
         """They are shown without the marks, and edited by their own names."""
@@ -144,7 +144,7 @@ class Page(InABrowser):
         self.assertEqual(browser.text(".edits li[data-k='4'] .what"), 'P["a\ufffdb\ufffdc"] = 5')
         self.line(browser, f'P["{label}x"] = 1')
         self.assertIn("a\ufffdb\ufffdcx", browser.text("#said"))
-        marked = "/[\\u061c\\u200e\\u200f\\u202a-\\u202e\\u2066-\\u2069]/.test(document.body.innerText)"
+        marked = "/[\\u061c\\u200e\\u200f\\u202a-\\u202e\\u2066-\\u2069]/.test(document.body?.innerText)"
         self.assertFalse(browser.js(marked))
         self.assertEqual(browser.faults, [])
         with self.held() as now:
@@ -158,7 +158,7 @@ class Page(InABrowser):
 
     def test_no_file_is_written_or_read(self):
         browser = self.open(Workbook.run(PROGRAM))
-        browser.until("document.body.innerText.includes('The workbook is empty')")
+        browser.until("document.body?.innerText.includes('The workbook is empty')")
         with tempfile.TemporaryDirectory() as place:
             path = os.path.join(place, "written")
             for word in ("save", "keep"):
