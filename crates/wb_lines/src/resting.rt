@@ -9,9 +9,15 @@ use crate::sink::Sink;
 use crate::source::{ReadErr, Source};
 use std::io;
 
-/// What may be held while a line is answered, as a lock.
+/// What may be held while a line is answered, as a lock, for a turn of lines.
 pub trait Holds {
     ghost held: { Self → Bool };
+
+    // what the lines of the turn have cost, as was told with the reply to each
+    ghost spent: { Self → ℕ };
+
+    // how many they are
+    ghost answered: { Self → ℕ };
 }
 
 /// Nothing, which is never held.
@@ -19,6 +25,10 @@ pub struct NothingHeld;
 
 impl Holds for NothingHeld {
     ghost held = { λ s. false };
+
+    ghost spent = { λ s. 0 };
+
+    ghost answered = { λ s. 0 };
 }
 
 /// A sink whose calls may wait, so each wants that nothing is held.

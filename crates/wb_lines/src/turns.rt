@@ -7,7 +7,8 @@ ghost use Rattle.wb_lines.specs.Lines.{ended};
 ghost use Rattle.wb_lines.specs.Reading.{IsText};
 ghost use Rattle.wb_lines.specs.Replies.{Replies};
 ghost use Rattle.wb_lines.specs.Session.{AnswersLine, AnswersAll};
-ghost use Rattle.wb_lines.specs.Turns.{TakesLines, ReadsBy, AnswersReadBy, TellsBy, TellsWhileFree, LetsGo, IsTaken, AreTaken};
+ghost use Rattle.wb_lines.specs.Turns.{TakesLines, ReadsBy, AnswersReadBy, AnswersWithin, CountsCost, TellsBy, TellsWhileFree, LetsGo};
+ghost use Rattle.wb_lines.specs.Turns.{IsTaken, AreTaken, HasRoom, IsUnspent};
 ghost use Rattle.wb_lines.specs.Turns.{reply_text, all_texts, GetReplies, AnswersTold, ServesTurns};
 
 use crate::buffer::{Line, LineBuffer, LineFault, next_line};
@@ -86,15 +87,21 @@ fn take_turn<M: Asks<P>, P: Drop, G: Fn(&[u8]) -> P>(
 }
 
 // The reply to a line that was taken, or nothing where it is too long; and what it cost.
-fn reply_to<M: Machine<S> + Asks<P> + Tells<Q>, S, K, P, Q, F: Fn(&mut S, &mut K, P) -> (Q, u64)>(
-    state: &mut S,
-    hold: &mut K,
-    answer: &F,
-    asked: Option<P>,
-) -> (Option<Q>, u64)
-    requires callable { F.IsAlwaysCallable answer.now }
+fn reply_to<
+    M: Machine<S> + Asks<P> + Tells<Q>,
+    S,
+    K: Holds,
+    P,
+    Q,
+    F: Fn(&mut S, &mut K, P) -> (Q, u64),
+>(state: &mut S, hold: &mut K, answer: &F, asked: Option<P>) -> (Option<Q>, u64)
+    requires callable { AnswersWithin F.Fn answer.now K.spent K.answered }
     requires answers { AnswersReadBy F.Fn answer.now M.reads M.text M.answers }
-    ensures { (line : List ℕ) → IsTaken M.reads line asked → AnswersLine M.answers state.old line (reply_text M.text result.0) state.new }
+    requires spends { CountsCost F.Fn answer.now K.spent K.answered }
+    requires room { HasRoom K.spent K.answered hold.old }
+    ensures reply { (line : List ℕ) → IsTaken M.reads line asked → AnswersLine M.answers state.old line (reply_text M.text result.0) state.new }
+    ensures spent { K.spent hold.new ≡ K.spent hold.old + result.1 }
+    ensures answered { K.answered hold.new ≤ K.answered hold.old + 1 }
 {
     match asked {
         None => (None, 0),
@@ -109,7 +116,7 @@ fn reply_to<M: Machine<S> + Asks<P> + Tells<Q>, S, K, P, Q, F: Fn(&mut S, &mut K
 fn answer_lines<
     M: Machine<S> + Asks<P> + Tells<Q>,
     S,
-    K,
+    K: Holds,
     P: Drop,
     Q: Drop,
     F: Fn(&mut S, &mut K, P) -> (Q, u64),
@@ -120,8 +127,11 @@ fn answer_lines<
     taken: &mut VecDeque<Option<P>>,
     replies: &mut VecDeque<Option<Q>>,
 ) -> Result<(), AllocError>
-    requires callable { F.IsAlwaysCallable answer.now }
+    requires callable { AnswersWithin F.Fn answer.now K.spent K.answered }
     requires answers { AnswersReadBy F.Fn answer.now M.reads M.text M.answers }
+    requires spends { CountsCost F.Fn answer.now K.spent K.answered }
+    requires unspent { IsUnspent K.spent K.answered hold.old }
+    requires short { length taken.old.items ≤ 256 }
     requires empty { replies.old.items ≡ [] }
     ensures ok { OnOk result ((asked : List (List ℕ)) → AreTaken M.reads asked taken.old.items → (done rest : List (List ℕ))
         × (asked ≡ done ++ rest) × AreTaken M.reads rest taken.new.items
@@ -235,8 +245,9 @@ fn tell_replies<
 // Lets go what is held.
 fn free<K: Holds, H: Fn(&mut K)>(hold: &mut K, let_go: &H)
     requires callable { H.IsAlwaysCallable let_go.now }
-    requires lets_go { LetsGo H.Fn let_go.now K.held }
-    ensures { K.held hold.new ≡ false }
+    requires lets_go { LetsGo H.Fn let_go.now K.held K.spent K.answered }
+    ensures free { K.held hold.new ≡ false }
+    ensures unspent { IsUnspent K.spent K.answered hold.new }
 {
     let_go(hold);
 }
@@ -263,14 +274,17 @@ fn answer_turn<
     writer: &mut W,
     taken: &mut VecDeque<Option<P>>,
 ) -> Result<u64, (u64, Stop)>
-    requires callable { F.IsAlwaysCallable answer.now }
+    requires callable { AnswersWithin F.Fn answer.now K.spent K.answered }
     requires answers { AnswersReadBy F.Fn answer.now M.reads M.text M.answers }
+    requires spends { CountsCost F.Fn answer.now K.spent K.answered }
     requires tellable { TellsWhileFree T.Fn tell.now K.held }
     requires tells { TellsBy T.Fn tell.now M.text }
     requires let_go_at_any_time { H.IsAlwaysCallable let_go.now }
-    requires lets_go { LetsGo H.Fn let_go.now K.held }
+    requires lets_go { LetsGo H.Fn let_go.now K.held K.spent K.answered }
     requires short { length taken.old.items ≤ 256 }
+    requires unspent { IsUnspent K.spent K.answered hold.old }
     ensures free { K.held hold.new ≡ false }
+    ensures unspent { IsUnspent K.spent K.answered hold.new }
     ensures ok { IfOk result (λ count. (asked : List (List ℕ)) → AreTaken M.reads asked taken.old.items → (done rest : List (List ℕ))
         × (asked ≡ done ++ rest) × AreTaken M.reads rest taken.new.items
         × ((text : List ℕ) × Appends (W.contents writer.old) (W.contents writer.new) text
@@ -313,15 +327,18 @@ fn answer_taken<
     writer: &mut W,
     taken: &mut VecDeque<Option<P>>,
 ) -> Result<u64, (u64, Stop)>
-    requires callable { F.IsAlwaysCallable answer.now }
+    requires callable { AnswersWithin F.Fn answer.now K.spent K.answered }
     requires answers { AnswersReadBy F.Fn answer.now M.reads M.text M.answers }
+    requires spends { CountsCost F.Fn answer.now K.spent K.answered }
     requires tellable { TellsWhileFree T.Fn tell.now K.held }
     requires tells { TellsBy T.Fn tell.now M.text }
     requires let_go_at_any_time { H.IsAlwaysCallable let_go.now }
-    requires lets_go { LetsGo H.Fn let_go.now K.held }
+    requires lets_go { LetsGo H.Fn let_go.now K.held K.spent K.answered }
     requires short { length taken.old.items ≤ 256 }
     requires free { K.held hold.old ≡ false }
+    requires unspent { IsUnspent K.spent K.answered hold.old }
     ensures free { K.held hold.new ≡ false }
+    ensures unspent { IsUnspent K.spent K.answered hold.new }
     ensures ok { IfOk result (λ count. (asked : List (List ℕ)) → AreTaken M.reads asked taken.old.items → (text : List ℕ)
         × Appends (W.contents writer.old) (W.contents writer.new) text
         × AnswersAll M.answers state.old asked text count state.new) }
@@ -368,14 +385,17 @@ fn serve_turn<
 ) -> Result<u64, (u64, Stop)>
     requires readable { G.IsAlwaysCallable parse.now }
     requires reads { ReadsBy G.Fn parse.now M.reads }
-    requires callable { F.IsAlwaysCallable answer.now }
+    requires callable { AnswersWithin F.Fn answer.now K.spent K.answered }
     requires answers { AnswersReadBy F.Fn answer.now M.reads M.text M.answers }
+    requires spends { CountsCost F.Fn answer.now K.spent K.answered }
     requires tellable { TellsWhileFree T.Fn tell.now K.held }
     requires tells { TellsBy T.Fn tell.now M.text }
     requires let_go_at_any_time { H.IsAlwaysCallable let_go.now }
-    requires lets_go { LetsGo H.Fn let_go.now K.held }
+    requires lets_go { LetsGo H.Fn let_go.now K.held K.spent K.answered }
     requires free { K.held hold.old ≡ false }
+    requires unspent { IsUnspent K.spent K.answered hold.old }
     ensures free { K.held hold.new ≡ false }
+    ensures unspent { IsUnspent K.spent K.answered hold.new }
     ensures ok { IfOk result (λ count. (first : List ℕ) → IsText line buffer.old.line first → (more : List (List ℕ))
         × TakesLines buffer.old buffer.new more
         × ((text : List ℕ) × Appends (W.contents writer.old) (W.contents writer.new) text
@@ -397,9 +417,9 @@ fn serve_turn<
 
 /// Answers each line that is read, in order, until the end of input or a fault. Lines that lie ahead are first read, each by
 /// itself, and then answered in turns: a turn ends when its lines, of which it has 256 at most, have cost 65,536, as `answer`
-/// tells with each reply. What `answer` takes hold of stays held for a turn, and is let go by `let_go` then: before the texts
-/// of the turn's replies are made, by `tell`, which may be called only while nothing is held, and sent. Lines that the turn did
-/// not come to are the first of the next.
+/// tells with each reply and counts in what it holds, and `answer` may be called only before that. What it takes hold of stays
+/// held for a turn, and is let go by `let_go` then: before the texts of the turn's replies are made, by `tell`, which may be
+/// called only while nothing is held, and sent. Lines that the turn did not come to are the first of the next.
 pub fn serve_turns<
     M: Machine<S> + Asks<P> + Tells<Q>,
     S,
@@ -425,14 +445,17 @@ pub fn serve_turns<
 ) -> SessionEnd
     requires readable { G.IsAlwaysCallable parse.now }
     requires reads { ReadsBy G.Fn parse.now M.reads }
-    requires callable { F.IsAlwaysCallable answer.now }
+    requires callable { AnswersWithin F.Fn answer.now K.spent K.answered }
     requires answers { AnswersReadBy F.Fn answer.now M.reads M.text M.answers }
+    requires spends { CountsCost F.Fn answer.now K.spent K.answered }
     requires tellable { TellsWhileFree T.Fn tell.now K.held }
     requires tells { TellsBy T.Fn tell.now M.text }
     requires let_go_at_any_time { H.IsAlwaysCallable let_go.now }
-    requires lets_go { LetsGo H.Fn let_go.now K.held }
+    requires lets_go { LetsGo H.Fn let_go.now K.held K.spent K.answered }
     requires free { K.held hold.old ≡ false }
+    requires unspent { IsUnspent K.spent K.answered hold.old }
     ensures free { K.held hold.new ≡ false }
+    ensures unspent { IsUnspent K.spent K.answered hold.new }
     ensures serves { (read : List ℕ) × Consumes (R.remaining reader.old) (R.remaining reader.new) read
         × ((text : List ℕ) × Appends (W.contents writer.old) (W.contents writer.new) text
         × ServesTurns M.answers result state.old read (R.remaining reader.new) text state.new) }

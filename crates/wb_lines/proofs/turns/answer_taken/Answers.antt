@@ -6,6 +6,7 @@ pub loop-alloc-preserved : goal.loop-alloc-preserved
 loop-alloc-preserved g c = record {
   count = omega (arith, c.loop-alloc.invariant.count, c.in-Ok.ensures.count);
   free = c.answer_turn.ensures.free;
+  unspent = c.answer_turn.ensures.unspent;
   so_far = λ asked t.
       answering_turn g.M.Machine.answers g.M.Asks.reads _ _ _ _ _ _ asked c.loop-alloc.taken.items c.answer_turn.new.taken.items _ _
       (c.loop-alloc.invariant.so_far asked t) c.in-Ok.ensures.ok;

@@ -54,6 +54,7 @@ turns-preserved g c =
       λ e. c.next_line.ensures.end c.turns.invariant.1 (sym same.at_end ∙ e),
       counts_more unread _ _ _ _ _ (counts_more unread _ _ _ _ _ c.turns.invariant.2 c.next_line.ensures.counted) (counts_none _ _ _ same.reads),
       c.serve_turn.ensures.free,
+      c.serve_turn.ensures.unspent,
     )
 
 pub returns-in-Err-default-WriteFault : goal.returns-in-Err-default-WriteFault
@@ -66,6 +67,7 @@ returns-in-Err-default-WriteFault g c =
     let turn = c.in-Err-default-WriteFault.ensures.err text.0 text.2 in
     record {
       free = c.serve_turn.ensures.free;
+      unspent = c.serve_turn.ensures.unspent;
       serves = (
         so_far.0 ++ taken.0,
         Consumes-trans _ _ _ so_far.0 taken.0 so_far.2 taken.1,
@@ -90,6 +92,7 @@ returns-in-Err-default-NoMemory g c =
     let turn = c.in-Err-default-NoMemory.ensures.err text.0 text.2 in
     record {
       free = c.serve_turn.ensures.free;
+      unspent = c.serve_turn.ensures.unspent;
       serves = (
         so_far.0 ++ taken.0,
         Consumes-trans _ _ _ so_far.0 taken.0 so_far.2 taken.1,
@@ -231,4 +234,4 @@ pub turns-init : goal.turns-init
 turns-init g c =
     let begins = session_begins g.M.Machine.answers c.args.state.now c.new-buffer.result (g.R.Hears.remaining c.args.reader.now)
     (g.W.Sends.contents c.args.writer.now) (g.R.Hears.reads c.args.reader.now) c.new-buffer.ensures in
-    (begins.0, begins.1, begins.2, c.requires.free)
+    (begins.0, begins.1, begins.2, c.requires.free, c.requires.unspent)

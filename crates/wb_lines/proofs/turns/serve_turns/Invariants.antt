@@ -2,6 +2,7 @@ use Rattle.std.proofs.Common.{ℕ, List, ◌≡◌, ◌+◌, ◌-◌, ◌*◌, f
 use Rattle.std.specs.Io.KnownBytes.{Appends, Consumes}
 use Rattle.wb_lines.specs.Causes.{CountsReads}
 use Rattle.wb_lines.specs.Reading.{KnowsEnd, unread, block_size, read_limit}
+use Rattle.wb_lines.specs.Turns.{IsUnspent}
 use Rattle.wb_lines.proofs.Running.{Running}
 use Rattle.wb_lines.proofs.turns.serve_turns.Given as goal
 
@@ -12,6 +13,7 @@ invariant-turns g l = ((read text : List ℕ) × Consumes (g.R.Hears.remaining l
     × KnowsEnd l.buffer (g.R.Hears.remaining l.reader)
     × CountsReads unread l.buffer (g.R.Hears.reads l.fn.reader) (g.R.Hears.reads l.reader)
     × (g.K.Holds.held l.hold ≡ false)
+    × IsUnspent g.K.Holds.spent g.K.Holds.answered l.hold
 
 abbrev pub decreases-turns : goal.decreases-turns
 decreases-turns g l = block_size * (read_limit - l.buffer.reads) + length l.buffer.ahead
