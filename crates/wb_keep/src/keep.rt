@@ -267,6 +267,8 @@ impl<D: Device> LineLog<D> {
         // It doesn't give up by itself.
         ensures failed { IsErrOf result AppendErr.Failed → D.faults self.old.device < D.faults self.new.device }
         ensures faults { D.faults self.old.device ≤ D.faults self.new.device }
+        // Where there is no room, the log is as the batches before left it.
+        ensures full { IsErrOf result AppendErr.Full → IsSettled D.seen D.may_leave self.new × (2 ^ 60 ≤ self.new.mark) }
     {
         for batch in batches {
             self.append(alloc, batch)?;
