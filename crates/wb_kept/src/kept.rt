@@ -8,7 +8,7 @@ ghost use Rattle.wb_lines.specs.Lines.{ended};
 ghost use Rattle.wb_lines.specs.Reading.{IsText};
 ghost use Rattle.wb_kept.specs.Runs.{Step, Leads, AnswersLine};
 ghost use Rattle.wb_kept.specs.Answering.{AnswersBy, GrantsBy};
-ghost use Rattle.wb_kept.specs.Keeping.{IsKept};
+ghost use Rattle.wb_kept.specs.Keeping.{IsKept, IsPlace};
 
 use crate::changes::Changes;
 use crate::machine::Machine;
@@ -46,7 +46,7 @@ pub struct Acknowledged {
 pub enum OpenKeptErr {
     /// It does not begin with our header, and is not the front of a file that would.
     NotOurs,
-    /// This line, from 0, is no change that was granted.
+    /// This change, from 0, is the first that is not granted.
     NotGranted(usize),
     /// There was no memory for its lines or for the state.
     Memory,
@@ -79,6 +79,7 @@ fn apply_all<M: Machine<S>, S, A: Fn(&mut S, &[u8]) -> Result<bool, AllocError>>
     ensures led { OnOk result (Leads M.grants state.old (map (λ change. change.items) changes.now) state.new) }
     ensures refused { IfErr result (λ e. e ≢ OpenKeptErr.Memory → (next : S) → Leads M.grants state.old (map (λ change. change.items) changes.now) next → ⊥) }
     ensures memory { IfErr result (λ e. (e ≢ OpenKeptErr.NotOurs) × (e ≢ OpenKeptErr.Failed)) }
+    ensures place { IfErr result (λ e. IsPlace M.grants state.old (map (λ change. change.items) changes.now) e) }
 {
     for (at, change) in changes.iter().enumerate() {
         match apply::<M, S, A>(make, state, change) {
@@ -113,6 +114,9 @@ pub fn open<M: Machine<S>, S: Drop, D: Device, A: Fn(&mut S, &[u8]) -> Result<bo
     ensures found { (s : S) → Leads M.grants M.start (recovered held.now) s → IfOk result (λ kept. kept.state ≡ s) }
     ensures refused { (s : S) → Leads M.grants M.start (recovered held.now) s → IsTrue (is_ours held.now)
         → IfErr result (λ e. e.0 ≢ OpenKeptErr.Failed → e.0 ≡ OpenKeptErr.Memory) }
+
+    // Of a file that is no run of ours, the first change that is not granted is told.
+    ensures place { IfErr result (λ e. IsPlace M.grants M.start (recovered held.now) e.0) }
 
     // A file of another kind is told as that, and no other is.
     ensures foreign { IsFalse (is_ours held.now) → IsErrAnd result (λ e. e.0 ≡ OpenKeptErr.NotOurs) }
