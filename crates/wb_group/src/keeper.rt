@@ -146,38 +146,3 @@ pub fn keep<R: Wait, G: Group, C: Drop, E: Drop, T: Store<C, E> + Drop, W: Desk<
     }
     Err(KeepErr::Closed)
 }
-
-/// A value that is told only once the turns of a front are kept.
-#[derive(Drop)]
-pub struct Sealed<G: Group, C: Drop, V: Drop> {
-    value: V,
-    front: Front<G, C>,
-}
-
-impl<G: Group, C: Drop, V: Drop> Sealed<G, C, V> {
-    /// A value that tells of the turns of a front.
-    pub fn new(value: V, front: Front<G, C>) -> Sealed<G, C, V>
-        ensures { (result.value ≡ value) × (result.front ≡ front) }
-    {
-        Sealed { value, front }
-    }
-
-    /// The value, once its turns are kept.
-    pub fn told<R: Wait, E: Drop, T: Store<C, E> + Drop, W: Desk<G, C>>(
-        self,
-        rt: &R,
-        alloc: Global,
-        desk: &Mutex<W>,
-        keeper: &Mutex<Keeper<G, C, E, T>>,
-    ) -> Result<V, KeepErr<E>>
-        requires { (G.all ≡ G.parts) × (0 < G.all) }
-        ensures kept { IfOk result (λ value. (value ≡ self.value) × ((store : T) × (behind : List C) × T.has store (self.front ++ behind))) }
-        ensures failed { (error : E) → result ≡ Err (KeepErr.Failed error) → (old : T × List C) × T.has old.0 old.1 × IsGivenUp T.leaves T.faults T.is_fault old error }
-    {
-        let Sealed { value, front } = self;
-        match keep(rt, alloc, desk, keeper, &front) {
-            Ok(()) => Ok(value),
-            Err(error) => Err(error),
-        }
-    }
-}

@@ -7,6 +7,6 @@ mod store;
 mod waiting;
 
 pub use book::{Front, Group, Opened};
-pub use keeper::{KeepErr, Keeper, Sealed, keep};
+pub use keeper::{KeepErr, Keeper, keep};
 pub use store::Store;
 pub use waiting::{Batch, Desk, Waiting};

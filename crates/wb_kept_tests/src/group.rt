@@ -1,11 +1,9 @@
-//! Threads that take turns at a desk, and whose changes are kept together; a desk whose file fails.
+//! Turns that threads make under one lock, and that are kept together in a file under another; a file that fails.
 ghost use Rattle.std.specs.Prelude.{◌≡◌, ◌<◌};
 ghost use Rattle.wb_disk.specs.Calls.{seen_after, MayLeave};
 ghost use Rattle.wb_keep.specs.Lines.{recovered};
-ghost use Rattle.wb_kept.specs.Keeping.{IsKept};
-ghost use Rattle.wb_kept_tests.specs.Tallies.{Grants};
+ghost use Rattle.wb_keep.specs.Keep.{IsSettled};
 
-use crate::tally::{Tally, answer, make};
 use std::alloc::{AllocError, Global};
 use std::marker::Brand;
 use std::sync::ledger::Blank;
@@ -14,85 +12,86 @@ use std::test::Fail;
 use std::thread;
 use std::thread::Threads;
 use wb_disk::MemoryFile;
-use wb_group::{KeepErr, Keeper, Opened};
-use wb_keep::AppendErr;
-use wb_kept::{Changes, Kept, open};
-use wb_kept_group::{Journal, Opening, Seats, TurnErr, turn_locked};
+use wb_group::{Keeper, Opened, Waiting};
+use wb_keep::{AppendErr, LineLog, open};
+use wb_kept::Changes;
+use wb_kept_group::{Journal, Opening};
 
 const HELD: &[u8] = b"chapel-workbook 3\n up\n#";
 
-type Place<O> = Mutex<Seats<Tally, u8, O>>;
+type Place<O> = Mutex<Waiting<O, Changes>>;
 
-type Together<O> = Mutex<Keeper<O, Changes, AppendErr, Journal<O, MemoryFile>>>;
+type InFile<O> = Keeper<O, Changes, AppendErr, Journal<O, MemoryFile>>;
 
-/// One turn of these two lines: `up`, and one that asks for the count.
-fn up_and_ask<R: Wait, O: Opening>(
+/// The changes of a turn: one line.
+fn one_line(alloc: Global) -> Result<Changes, AllocError> {
+    let mut changes = Changes::new(alloc);
+    changes.push(b"up")?;
+    Ok(changes)
+}
+
+/// Makes a turn. Once it is kept, its number is told.
+fn turn_kept<R: Wait, O: Opening>(
     rt: &R,
     alloc: Global,
     desk: &Place<O>,
-    keeper: &Together<O>,
-) -> Result<Vec<u8>, TurnErr>
+    keeper: &Mutex<InFile<O>>,
+) -> Option<u64>
     requires { (O.all ≡ O.parts) × (0 < O.all) }
 {
-    let answer = |state: &mut u8, line: &[u8], changes: &mut Changes| answer(
-        alloc, state, line, changes,
-    );
-    let no_memory = TurnErr::NotKept(KeepErr::Failed(AppendErr::Memory));
-    let Ok(first) = b"up".to_vec(alloc) else {
-        return Err(no_memory);
+    let Ok(changes) = one_line(alloc) else {
+        return None;
     };
-    let Ok(second) = b"?".to_vec(alloc) else {
-        return Err(no_memory);
+    let Ok(front) = desk.lock(rt).add(changes) else {
+        return None;
     };
-    let Ok(lines) = Vec::from_array(alloc, [first, second]) else {
-        return Err(no_memory);
-    };
-    turn_locked::<R, Tally, u8, O, MemoryFile, _>(rt, alloc, &answer, desk, keeper, &lines)
+    match wb_group::keep(rt, alloc, desk, keeper, &front) {
+        Ok(()) => Some(front.len()),
+        Err(_) => None,
+    }
 }
 
-/// The replies of ten turns, or of those before one that was not answered.
+/// The numbers of ten turns, or of those before one that was not kept.
 fn ten_turns<R: Wait, O: Opening>(
     rt: &R,
     alloc: Global,
     desk: &Place<O>,
-    keeper: &Together<O>,
-) -> Vec<u8>
+    keeper: &Mutex<InFile<O>>,
+) -> Vec<u64>
     requires { (O.all ≡ O.parts) × (0 < O.all) }
 {
-    let mut replies = Vec::new(alloc);
+    let mut told = Vec::new(alloc);
     for _ in 0..10 {
-        match up_and_ask(rt, alloc, desk, keeper) {
-            Ok(given) if replies.extend_from_slice(&given).is_ok() => {}
-            _ => return replies,
+        match turn_kept(rt, alloc, desk, keeper) {
+            Some(number) if told.push(number).is_ok() => {}
+            _ => return told,
         }
     }
-    replies
+    told
 }
 
-/// The replies of two threads, and what their file has at the end.
+/// What two threads were told, and what their file has at the end.
 fn two_threads<O: Opening + Send + Sync, R: Threads + Wait + Sync>(
     rt: &R,
     alloc: Global,
     opened: Opened<Changes>,
     blank: Blank,
-    kept: Kept<u8, MemoryFile>,
-) -> Result<(Vec<u8>, Vec<u8>, Vec<u8>), AllocError>
-    requires kept { IsKept 0 Grants (λ f. seen_after f.calls) (λ f. MayLeave f.calls) kept }
-    requires opening { O.opening ≡ recovered (seen_after kept.log.device.calls) }
+    log: LineLog<MemoryFile>,
+) -> Result<(Vec<u64>, Vec<u64>, Vec<u8>), AllocError>
+    requires settled { IsSettled (λ f. seen_after f.calls) (λ f. MayLeave f.calls) log }
+    requires opening { O.opening ≡ recovered (seen_after log.device.calls) }
     requires book { opened.seen.book ≡ O.book }
     requires ledger { (blank.name ≡ O.name) × (blank.parts ≡ O.parts) × (O.all ≡ O.parts) × (0 < O.all) }
 {
-    let (desk, keeper) = wb_kept_group::open::<Tally, u8, O, MemoryFile>(
-        alloc, opened, blank, kept,
-    );
-    let desk = Mutex::new(desk);
-    let keeper = Mutex::new(keeper);
+    let (waiting, front, mark) = Waiting::<O, Changes>::open(alloc, opened, blank);
+    let desk = Mutex::new(waiting);
+    let keeper = Mutex::new(Keeper::new(Journal::new(alloc, log), front, mark));
     let (one, two) = thread::join(
         rt,
-        || -> Vec<u8>
+        || -> Vec<u64>
             requires { (O.all ≡ O.parts) × (0 < O.all) }
         { ten_turns(rt, alloc, &desk, &keeper) },
-        || -> Vec<u8>
+        || -> Vec<u64>
             requires { (O.all ≡ O.parts) × (0 < O.all) }
         { ten_turns(rt, alloc, &desk, &keeper) },
     );
@@ -106,8 +105,8 @@ fn two_threads<O: Opening + Send + Sync, R: Threads + Wait + Sync>(
 /// What the file has once all turns are kept, or after a fault.
 fn file_of<O: Opening>(
     alloc: Global,
-    desk: Seats<Tally, u8, O>,
-    keeper: Keeper<O, Changes, AppendErr, Journal<O, MemoryFile>>,
+    desk: Waiting<O, Changes>,
+    keeper: InFile<O>,
 ) -> Result<Vec<u8>, AllocError>
     requires { (O.all ≡ O.parts) × (0 < O.all) }
 {
@@ -119,29 +118,28 @@ fn file_of<O: Opening>(
     journal.into_log().device.left().to_vec(alloc)
 }
 
-/// In how many of ten turns the count was told by this letter: each turn's replies are `ok` and a letter, with line ends.
-fn told_in(replies: &[u8], letter: u8) -> usize {
-    let mut told = 0usize;
-    for turn in 0..10usize {
-        if replies.get(5 * turn + 3) == Some(&letter) {
-            told = told.saturating_add(1);
+/// How often a number was told.
+fn times_told(told: &[u64], number: u64) -> usize {
+    let mut times = 0usize;
+    for one in told {
+        if *one == number {
+            times = times.saturating_add(1);
         }
     }
-    told
+    times
 }
 
 #[test]
-fn seats_are_kept_together(rt: HostRuntime) -> Result<(), Fail> {
+fn threads_are_kept_together(rt: HostRuntime) -> Result<(), Fail> {
     let alloc = rt.alloc();
     let file = MemoryFile::new(alloc, HELD.to_vec(alloc)?, 1000, 0);
-    let Ok(kept) = open::<Tally, u8, _, _>(alloc, &make, 0u8, file, HELD) else {
+    let Ok((log, _)) = open(alloc, file, HELD) else {
         panic!(rt; "refused");
     };
-    let (one, two, left) = two_threads::<Brand, _>(&rt, alloc, Opened::new(), Blank::new(1), kept)?;
-    assert!(rt; one.len() == 50 && two.len() == 50);
-    // The count was 1, so the turns tell 2 to 21, each once.
-    for letter in b'c'..=b'v' {
-        assert!(rt; told_in(&one, letter).saturating_add(told_in(&two, letter)) == 1);
+    let (one, two, left) = two_threads::<Brand, _>(&rt, alloc, Opened::new(), Blank::new(1), log)?;
+    assert!(rt; one.len() == 10 && two.len() == 10);
+    for number in 1..=20u64 {
+        assert!(rt; times_told(&one, number).saturating_add(times_told(&two, number)) == 1);
     }
     // One line from before, and one of each of the twenty turns.
     assert_eq!(rt;
@@ -152,31 +150,18 @@ fn seats_are_kept_together(rt: HostRuntime) -> Result<(), Fail> {
 }
 
 #[test]
-fn nobody_is_answered_after_a_fault(rt: HostRuntime) -> Result<(), Fail> {
+fn nobody_is_told_after_a_fault(rt: HostRuntime) -> Result<(), Fail> {
     let alloc = rt.alloc();
-    // To open the file takes four calls, a batch four more: the second turn's fails in its last but two.
+    // To open the file takes four calls, a batch four more: the second batch fails in its second call.
     let file = MemoryFile::new(alloc, HELD.to_vec(alloc)?, 9, 0);
-    let Ok(kept) = open::<Tally, u8, _, _>(alloc, &make, 0u8, file, HELD) else {
+    let Ok((log, _)) = open(alloc, file, HELD) else {
         panic!(rt; "refused");
     };
-    let (one, two, left) = two_threads::<Brand, _>(&rt, alloc, Opened::new(), Blank::new(1), kept)?;
-    // At most the turns of one batch were answered: one of each thread.
-    assert!(rt; one.len() + two.len() == 5 || one.len() + two.len() == 10);
+    let (one, two, left) = two_threads::<Brand, _>(&rt, alloc, Opened::new(), Blank::new(1), log)?;
+    // At most the turns of one batch were told: one of each thread.
+    assert!(rt; one.len() + two.len() == 1 || one.len() + two.len() == 2);
     // The first batch is in the file, behind the line from before.
     assert!(rt; left.starts_with(b"chapel-workbook 3\n up\n up\n"));
-    Ok(())
-}
-
-/// One turn of the line `up`, which waits to be kept, or is not made.
-fn up<O: Opening>(alloc: Global, desk: &mut Seats<Tally, u8, O>) -> Result<(), AllocError> {
-    let answer = |state: &mut u8, line: &[u8], changes: &mut Changes| answer(
-        alloc, state, line, changes,
-    );
-    let line = b"up".to_vec(alloc)?;
-    let Ok(lines) = Vec::from_array(alloc, [line]) else {
-        return Err(AllocError);
-    };
-    let _ = desk.turn(alloc, &answer, &lines);
     Ok(())
 }
 
@@ -185,18 +170,17 @@ fn two_turns<O: Opening>(
     alloc: Global,
     opened: Opened<Changes>,
     blank: Blank,
-    kept: Kept<u8, MemoryFile>,
+    log: LineLog<MemoryFile>,
 ) -> Result<Vec<u8>, AllocError>
-    requires kept { IsKept 0 Grants (λ f. seen_after f.calls) (λ f. MayLeave f.calls) kept }
-    requires opening { O.opening ≡ recovered (seen_after kept.log.device.calls) }
+    requires settled { IsSettled (λ f. seen_after f.calls) (λ f. MayLeave f.calls) log }
+    requires opening { O.opening ≡ recovered (seen_after log.device.calls) }
     requires book { opened.seen.book ≡ O.book }
     requires ledger { (blank.name ≡ O.name) × (blank.parts ≡ O.parts) × (O.all ≡ O.parts) × (0 < O.all) }
 {
-    let (mut desk, keeper) = wb_kept_group::open::<Tally, u8, O, MemoryFile>(
-        alloc, opened, blank, kept,
-    );
-    up(alloc, &mut desk)?;
-    up(alloc, &mut desk)?;
+    let (mut desk, front, mark) = Waiting::<O, Changes>::open(alloc, opened, blank);
+    let keeper = Keeper::new(Journal::new(alloc, log), front, mark);
+    let _ = desk.add(one_line(alloc)?);
+    let _ = desk.add(one_line(alloc)?);
     file_of(alloc, desk, keeper)
 }
 
@@ -212,10 +196,10 @@ fn turns_that_wait_are_kept_all_or_none(rt: HostRuntime) -> Result<(), Fail> {
         (8, 0, b"chapel-workbook 3\n up\n up\n up\n#"),
     ] {
         let file = MemoryFile::new(alloc, HELD.to_vec(alloc)?, calls, torn);
-        let Ok(kept) = open::<Tally, u8, _, _>(alloc, &make, 0u8, file, HELD) else {
+        let Ok((log, _)) = open(alloc, file, HELD) else {
             panic!(rt; "refused");
         };
-        let left = two_turns::<Brand>(alloc, Opened::new(), Blank::new(1), kept)?;
+        let left = two_turns::<Brand>(alloc, Opened::new(), Blank::new(1), log)?;
         assert_eq!(rt; left.as_slice(), expected);
     }
     Ok(())

@@ -1,5 +1,5 @@
-//! Tests of what is kept on disk, through the public calls: a real file and one in memory, the log of lines, and sessions and
-//! a desk over the smallest machine.
+//! Tests of what is kept on disk, through the public calls: a real file and one in memory, the log of lines, sessions over the
+//! smallest machine, and turns that threads keep together.
 #![tactic(auto)]
 
 #[cfg(test)]

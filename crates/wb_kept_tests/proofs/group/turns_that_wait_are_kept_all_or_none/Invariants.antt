@@ -9,4 +9,4 @@ abbrev pub ghosts-two_turns-O-Group : goal.ghosts-two_turns-O-Group
 ghosts-two_turns-O-Group g a = record { book = a.opened.seen.book; all = a.blank.parts }
 
 abbrev pub ghosts-two_turns-O-Opening : goal.ghosts-two_turns-O-Opening
-ghosts-two_turns-O-Opening g a = record { opening = recovered (seen_after a.kept.log.device.calls) }
+ghosts-two_turns-O-Opening g a = record { opening = recovered (seen_after a.log.device.calls) }

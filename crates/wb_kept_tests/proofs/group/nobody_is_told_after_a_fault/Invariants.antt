@@ -1,6 +1,6 @@
 use Rattle.wb_disk.specs.Calls.{seen_after}
 use Rattle.wb_keep.specs.Lines.{recovered}
-use Rattle.wb_kept_tests.proofs.group.nobody_is_answered_after_a_fault.Given as goal
+use Rattle.wb_kept_tests.proofs.group.nobody_is_told_after_a_fault.Given as goal
 
 abbrev pub ghosts-two_threads-O-Ledger : goal.ghosts-two_threads-O-Ledger
 ghosts-two_threads-O-Ledger g a = record { name = a.blank.name; parts = a.blank.parts }
@@ -9,4 +9,4 @@ abbrev pub ghosts-two_threads-O-Group : goal.ghosts-two_threads-O-Group
 ghosts-two_threads-O-Group g a = record { book = a.opened.seen.book; all = a.blank.parts }
 
 abbrev pub ghosts-two_threads-O-Opening : goal.ghosts-two_threads-O-Opening
-ghosts-two_threads-O-Opening g a = record { opening = recovered (seen_after a.kept.log.device.calls) }
+ghosts-two_threads-O-Opening g a = record { opening = recovered (seen_after a.log.device.calls) }

@@ -1,8 +1,0 @@
-use Rattle.std.proofs.Common.{◌≡◌, Err, ap}
-use Rattle.wb_group.specs.declared.keeper.KeepErr.TheVariants.{Failed}
-use Rattle.wb_group.proofs.keeper.Sealed.told.Goals as goal
-
-pub returns-in-Err-clause-failed : goal.returns-in-Err-clause-failed
-returns-in-Err-clause-failed g c error is =
-    let same : c.in-Err.error ≡ Failed error = cc is in
-    c.in-Err.ensures.failed error (ap (λ e. Err e) same)
