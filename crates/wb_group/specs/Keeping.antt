@@ -1,5 +1,5 @@
 -- What a keeper is, and what it does.
-use Rattle.std.specs.Prelude.{ℕ, ◌≡◌, ◌<◌, ◌⊎◌, Bool, true, false, MatchBool, List, ◌++◌}
+use Rattle.std.specs.Prelude.{◌≡◌, ◌⊎◌, Bool, MatchBool, List, ◌++◌}
 use mathlib.Core.List.{IsPrefix}
 
 -- A store, and whether it can be asked for more. The turns are those that it has, or, after it failed, all up to the last that it
@@ -26,6 +26,6 @@ IsKeeping has leaves k = MatchBool k.is_open (has k.store k.turns) (IsLeft has l
 abbrev pub Goes : {T C : Type 0} → (T → T → List C → List C → Type 0) → Keeping C T → Keeping C T → Type 0
 Goes leaves old new = (new ≡ old) ⊎ ((turns : List _) × (new.turns ≡ old.turns ++ turns) × leaves old.store new.store old.turns turns)
 
--- turns were to be added as one batch, and the store answered an error
-abbrev pub IsGivenUp : {T C E : Type 0} → (T → T → List C → List C → Type 0) → (T → ℕ) → (E → Type 0) → T × List C → E → Type 0
-IsGivenUp leaves faults is_fault old error = (store : _) × (turns : List _) × leaves old.0 store old.1 turns × (is_fault error → faults old.0 < faults store)
+-- turns were to be added as one batch, and the store answered an error, which tells truly of that call
+abbrev pub IsGivenUp : {T C E : Type 0} → (T → T → List C → List C → Type 0) → (E → T → T → Type 0) → T × List C → E → Type 0
+IsGivenUp leaves tells old error = (store : _) × (turns : List _) × leaves old.0 store old.1 turns × tells error old.0 store

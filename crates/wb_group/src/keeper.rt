@@ -71,7 +71,7 @@ impl<G: Group, C: Drop, E: Drop, T: Store<C, E> + Drop> Keeper<G, C, E, T> {
             × T.has self.new.store self.new.turns × MatchBool has (IsPrefix front.now self.new.turns) (length self.new.turns < length front.now)) }
         // At each moment of a call that failed the store leaves what one leaves that is asked to add some turns.
         ensures failed { (error : E) → result ≡ Err (KeepErr.Failed error) → T.has self.old.store self.old.turns × ((turns : List C)
-            × T.leaves self.old.store self.new.store self.old.turns turns × (T.is_fault error → T.faults self.old.store < T.faults self.new.store)) }
+            × T.leaves self.old.store self.new.store self.old.turns turns × T.tells error self.old.store self.new.store) }
         ensures closed { OnErr result (self.new.is_open ≡ false) }
         ensures stays { (self.old.is_open ≡ false) ↔ (result ≡ Err KeepErr.Closed) }
         ensures untouched { self.old.is_open ≡ false → self.new ≡ self.old }
@@ -100,7 +100,7 @@ impl<G: Group, C: Drop, E: Drop, T: Store<C, E> + Drop> Keeper<G, C, E, T> {
         ensures any_moment { IfOk result (λ store. (turns : List C) × (W.made desk.old ≡ self.turns ++ turns) × T.leaves self.store store self.turns turns) }
         ensures left { IfErr result (λ e. IsLeft T.has T.leaves (W.made desk.old) e.1) }
         ensures failed { IfErr result (λ e. (error : E) → e.0 ≡ KeepErr.Failed error → T.has self.store self.turns × ((turns : List C)
-            × T.leaves self.store e.1 self.turns turns × (T.is_fault error → T.faults self.store < T.faults e.1))) }
+            × T.leaves self.store e.1 self.turns turns × T.tells error self.store e.1)) }
         ensures stays { IfErr result (λ e. (self.is_open ≡ false) ↔ (e.0 ≡ KeepErr.Closed)) }
         ensures untouched { self.is_open ≡ false → IfErr result (λ e. e.1 ≡ self.store) }
         ensures made { W.made desk.new ≡ W.made desk.old }
@@ -135,7 +135,7 @@ pub fn keep<R: Wait, G: Group, C: Drop, E: Drop, T: Store<C, E> + Drop, W: Desk<
 ) -> Result<(), KeepErr<E>>
     requires { (G.all ≡ G.parts) × (0 < G.all) }
     ensures kept { OnOk result ((store : T) × (behind : List C) × T.has store (front.now ++ behind)) }
-    ensures failed { (error : E) → result ≡ Err (KeepErr.Failed error) → (old : T × List C) × T.has old.0 old.1 × IsGivenUp T.leaves T.faults T.is_fault old error }
+    ensures failed { (error : E) → result ≡ Err (KeepErr.Failed error) → (old : T × List C) × T.has old.0 old.1 × IsGivenUp T.leaves T.tells old error }
 {
     for _ in rt.forever() {
         match keeper.lock(rt).keep(rt, alloc, desk, front) {

@@ -1,13 +1,16 @@
 -- Turns behind turns.
-use Rattle.std.proofs.Common.{◌≡◌, ℕ, ◌+◌, ◌<◌, List, [], ◌∷◌, ◌++◌, length, take, get_or, refl, sym, ap, ◌∙◌, subst, inl, append_assoc, append-nil}
+use Rattle.std.proofs.Common.{◌≡◌, ℕ, ◌+◌, ◌<◌, ◌≤◌, Result, Ok, Err, List, [], ◌∷◌, ◌++◌, length, take, get_or, refl, sym, ap, ◌∙◌, subst, inl, append_assoc, append-nil}
+use Rattle.std.specs.Prelude.{◌^◌, IfErr}
 use Rattle.std.proofs.lemmas.List.{take_more}
 use Rattle.std.proofs.lemmas.List.Concat.{flat_map-append}
 use Rattle.wb_disk.specs.Device.{LeavesOnly}
 use Rattle.wb_disk.proofs.Moments.{started}
 use Rattle.wb_keep.specs.Lines.{recovered, at_rest, HasHeader}
 use Rattle.wb_keep.specs.Keep.{IsSettled, IsBeforeOrAfter}
+use Rattle.wb_keep.specs.declared.keep.AppendErr.{AppendErr}
+use Rattle.wb_keep.specs.declared.keep.AppendErr.TheVariants.{Failed, Full, Memory}
 use Rattle.wb_keep.specs.declared.keep.LineLog.{LineLog}
-use Rattle.wb_kept_group.specs.Together.{changes_in}
+use Rattle.wb_kept_group.specs.Together.{changes_in, Tells}
 
 pub changes-append : (xs ys : List (List (List ℕ))) → changes_in (xs ++ ys) ≡ changes_in xs ++ changes_in ys
 changes-append xs ys = flat_map-append (λ (turn : List (List ℕ)). turn) xs ys
@@ -34,3 +37,12 @@ module _ {D : Type 0} (seen : D → List ℕ) (may_leave : D → List ℕ → Ty
   idle only_now log more s = started moment left_since log.device (IsBeforeOrAfter (recovered (seen log.device)) more)
       (λ c left. subst (IsBeforeOrAfter (recovered (seen log.device)) more) (sym (s.durable c (only_now log.device c left)))
       (record { head = subst HasHeader (sym s.file) (at_rest_has (recovered (seen log.device))); lines = inl refl }))
+
+-- an error of a call on a log, of which each kind has its cause, tells truly of the call
+pub tells_truly : {D X : Type 0} (faults : D → ℕ) (r : Result X AppendErr) (old new : LineLog D) → (r ≡ Err Memory → new ≡ old)
+    → (r ≡ Err Failed → faults old.device < faults new.device) → (r ≡ Err Full → 2 ^ 60 ≤ old.mark) → (r ≡ Err Full → new ≡ old)
+    → IfErr r (λ e. Tells faults e old new)
+tells_truly faults (Ok x) old new memory failed full no_room = tt
+tells_truly faults (Err Memory) old new memory failed full no_room = memory refl
+tells_truly faults (Err Failed) old new memory failed full no_room = failed refl
+tells_truly faults (Err Full) old new memory failed full no_room = (full refl, no_room refl)

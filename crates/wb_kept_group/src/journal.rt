@@ -56,16 +56,13 @@ impl<O: Opening, D: Device> Store<Changes, AppendErr> for Journal<O, D> {
     ghost use Rattle.wb_disk.specs.Device.{LeavesOnly};
     ghost use Rattle.wb_keep.specs.Lines.{recovered};
     ghost use Rattle.wb_keep.specs.Keep.{IsSettled, IsBeforeOrAfter};
-    ghost use Rattle.wb_keep.specs.declared.keep.AppendErr.TheVariants.{Failed};
-    ghost use Rattle.wb_kept_group.specs.Together.{changes_in};
+    ghost use Rattle.wb_kept_group.specs.Together.{changes_in, Tells};
 
     ghost has = { λ j turns. IsSettled D.seen D.may_leave j.log × (recovered (D.seen j.log.device) ≡ O.opening ++ changes_in turns) };
 
     ghost leaves = { λ old new before turns. LeavesOnly D.moment D.left_since old.log.device new.log.device (IsBeforeOrAfter (O.opening ++ changes_in before) (changes_in turns)) };
 
-    ghost faults = { λ j. D.faults j.log.device };
-
-    ghost is_fault = { λ e. e ≡ Failed };
+    ghost tells = { λ e old new. Tells D.faults e old.log new.log };
 
     fn add(&mut self, turns: &[Changes]) -> Result<(), AppendErr> {
         let mut all = Changes::new(self.alloc);

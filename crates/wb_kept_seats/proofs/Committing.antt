@@ -1,21 +1,28 @@
 -- Why the changes of a turn are not kept.
-use Rattle.std.proofs.Common.{◌≡◌, Result, Ok, Err, refl, sym, ◌∙◌}
+use Rattle.std.proofs.Common.{◌≡◌, ◌<◌, ℕ, Result, Ok, Err, refl, sym, ◌∙◌}
 use Rattle.std.specs.Prelude.{◌≢◌}
 use Rattle.wb_group.specs.declared.keeper.KeepErr.{KeepErr}
 use Rattle.wb_group.specs.declared.keeper.KeepErr.TheVariants as keeping
 use Rattle.wb_keep.specs.declared.keep.AppendErr.{AppendErr}
 use Rattle.wb_keep.specs.declared.keep.AppendErr.TheVariants as appending
+use Rattle.wb_keep.specs.declared.keep.LineLog.{LineLog}
+use Rattle.wb_kept_group.specs.Together.{Tells}
 use Rattle.wb_kept_seats.specs.Committing.{commit_err}
 use Rattle.wb_kept_seats.specs.declared.commit.CommitErr.{CommitErr}
 use Rattle.wb_kept_seats.specs.declared.commit.CommitErr.TheVariants.{NoMemory, DiskFault, Closed}
 
--- where it was not closed before, the file answered an error, and a fault of the disk is told only where it answered that it failed
-pub failed_by : (error : KeepErr AppendErr) (why : CommitErr) → why ≡ commit_err error → why ≢ Closed
-    → (e : AppendErr) × (error ≡ keeping.Failed e) × (why ≡ DiskFault → e ≡ appending.Failed)
-failed_by keeping.Closed why is other = absurd (other is)
-failed_by (keeping.Failed appending.Failed) why is other = (appending.Failed, refl, λ fault. refl)
-failed_by (keeping.Failed appending.Memory) why is other = (appending.Memory, refl, λ fault. let no : NoMemory ≡ DiskFault = sym is ∙ fault in cc)
-failed_by (keeping.Failed appending.Full) why is other = (appending.Full, refl, λ fault. let no : NoMemory ≡ DiskFault = sym is ∙ fault in cc)
+-- Where it was not closed before, the file answered an error. A fault of the disk is told only of a call in which the file failed, and want
+-- of memory only of one that left it as it was.
+pub failed_by : {D : Type 0} (faults : D → ℕ) (error : KeepErr AppendErr) (why : CommitErr) → why ≡ commit_err error → why ≢ Closed
+    → (e : AppendErr) × (error ≡ keeping.Failed e)
+    × ((old new : LineLog D) → Tells faults e old new → (why ≡ DiskFault → faults old.device < faults new.device) × (why ≡ NoMemory → new ≡ old))
+failed_by faults keeping.Closed why is other = absurd (other is)
+failed_by faults (keeping.Failed appending.Failed) why is other =
+    (appending.Failed, refl, λ old new told. ((λ fault. told), λ want. absurd (let no : DiskFault ≡ NoMemory = sym is ∙ want in cc)))
+failed_by faults (keeping.Failed appending.Memory) why is other =
+    (appending.Memory, refl, λ old new told. ((λ fault. absurd (let no : NoMemory ≡ DiskFault = sym is ∙ fault in cc)), λ want. told))
+failed_by faults (keeping.Failed appending.Full) why is other =
+    (appending.Full, refl, λ old new told. ((λ fault. absurd (let no : NoMemory ≡ DiskFault = sym is ∙ fault in cc)), λ want. told.1))
 
 -- a fault of the disk is told only where the file answered that it failed
 pub fault_by : (error : KeepErr AppendErr) → commit_err error ≡ DiskFault → error ≡ keeping.Failed appending.Failed

@@ -96,8 +96,9 @@ impl<L: KeptOpening, D: Device + Drop> Desk<L, D> {
         ensures front { IfOk result (λ receipt. receipt ≡ front) }
         ensures kept { OnOk result (WasKept D.seen D.may_leave D.moment D.left_since L.lines L.begun front) }
         // What failed is a call that brought a batch of turns to the file, which it leaves with all of their changes or none.
+        // Without memory or room it leaves it as it was.
         ensures failed { IfErr result (λ why. why ≢ CommitErr.Closed → (old new : LineLog D)
-            × IsGivenUp D.seen D.may_leave D.moment D.left_since D.faults L.lines (why ≡ CommitErr.DiskFault) old new) }
+            × IsGivenUp D.seen D.may_leave D.moment D.left_since D.faults L.lines (why ≡ CommitErr.DiskFault) (why ≡ CommitErr.NoMemory) old new) }
     {
         match wb_group::keep(rt, self.alloc, &self.seats, &self.keeper, &front) {
             Ok(()) => Ok(Receipt::of(front)),

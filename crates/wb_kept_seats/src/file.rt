@@ -39,8 +39,7 @@ impl<L: KeptOpening, D: Device> Store<Changes, AppendErr> for File<L, D> {
     ghost use Rattle.std.specs.Prelude.{◌≡◌, ◌++◌};
     ghost use Rattle.wb_disk.specs.Device.{LeavesOnly};
     ghost use Rattle.wb_keep.specs.Keep.{IsBeforeOrAfter};
-    ghost use Rattle.wb_keep.specs.declared.keep.AppendErr.TheVariants.{Failed};
-    ghost use Rattle.wb_kept_group.specs.Together.{changes_in};
+    ghost use Rattle.wb_kept_group.specs.Together.{changes_in, Tells};
     ghost use Rattle.wb_kept_seats.specs.Files.{HasTurns};
 
     ghost has = { λ f turns. HasTurns D.seen D.may_leave D.moment D.left_since L.lines L.begun f.journal.log turns };
@@ -48,9 +47,7 @@ impl<L: KeptOpening, D: Device> Store<Changes, AppendErr> for File<L, D> {
     ghost leaves = { λ old new before turns. LeavesOnly D.moment D.left_since old.journal.log.device new.journal.log.device
         (IsBeforeOrAfter (L.lines ++ changes_in before) (changes_in turns)) };
 
-    ghost faults = { λ f. D.faults f.journal.log.device };
-
-    ghost is_fault = { λ e. e ≡ Failed };
+    ghost tells = { λ e old new. Tells D.faults e old.journal.log new.journal.log };
 
     fn add(&mut self, turns: &[Changes]) -> Result<(), AppendErr> {
         self.journal.add(turns)

@@ -1,4 +1,4 @@
-use Rattle.std.proofs.Common.{◌≡◌, ◌<◌, refl, sym, ap, ◌∙◌, subst}
+use Rattle.std.proofs.Common.{◌≡◌, ◌<◌, sym, ap, ◌∙◌, subst}
 use Rattle.wb_keep.specs.declared.keep.LineLog.{LineLog}
 use Rattle.wb_keep.specs.declared.keep.AppendErr.TheVariants as appending
 use Rattle.wb_kept_seats.specs.declared.commit.CommitErr.TheVariants.{DiskFault}
@@ -32,5 +32,5 @@ returns-clause-disk g c = elim c.match-keep_all.branch [
       let log : c.match-keep_all.result.0 ≡ w.in-Err.file.journal.log = ap (λ r. r.0) w.result-is ∙ w.into_log-in-Err.ensures in
       let why = same_error c.match-keep_all.result.1 w.of.result DiskFault (ap (λ r. r.1) w.result-is) fault in
       let failed = w.in-Err.ensures.failed appending.Failed (fault_by w.in-Err.error (sym w.of.ensures ∙ why)) in
-      (c.args.keeper.store.journal.log, subst (λ (x : LineLog g.row.D.Denot). g.D.Device.faults c.args.keeper.store.journal.log.device < g.D.Device.faults x.device) (sym log) (failed.1.2 refl))
+      (c.args.keeper.store.journal.log, subst (λ (x : LineLog g.row.D.Denot). g.D.Device.faults c.args.keeper.store.journal.log.device < g.D.Device.faults x.device) (sym log) failed.1.2)
 ]
