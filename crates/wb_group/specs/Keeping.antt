@@ -29,3 +29,7 @@ Goes leaves old new = (new ≡ old) ⊎ ((turns : List _) × (new.turns ≡ old.
 -- turns were to be added as one batch, and the store answered an error, which tells truly of that call
 abbrev pub IsGivenUp : {T C E : Type 0} → (T → T → List C → List C → Type 0) → (E → T → T → Type 0) → T × List C → E → Type 0
 IsGivenUp leaves tells old error = (store : _) × (turns : List _) × leaves old.0 store old.1 turns × tells error old.0 store
+
+-- some store had these turns, and perhaps more behind them
+abbrev pub WasHad : {T C : Type 0} → (T → List C → Type 0) → List C → Type 0
+WasHad has turns = (store : _) × (behind : List _) × has store (turns ++ behind)

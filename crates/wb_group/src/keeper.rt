@@ -1,10 +1,11 @@
 //! What keeps turns, under a lock of its own, for the threads that wait for it.
-ghost use Rattle.std.specs.Prelude.{◌≡◌, ◌<◌, ◌++◌, ◌↔◌, [], List, length, true, false, IfOk, IfErr, OnErr, OnOk, Err, MatchBool};
+ghost use Rattle.std.specs.Prelude.{◌≡◌, ◌<◌, ◌++◌, ◌↔◌, [], List, length, true, false, IfOk, IfErr, OnErr, OnOk, Err, Ok, Some, MatchBool};
 ghost use mathlib.Core.List.{IsPrefix};
-ghost use Rattle.wb_group.specs.Keeping.{Goes, IsGivenUp, IsLeft};
+ghost use Rattle.wb_group.specs.Keeping.{Goes, IsGivenUp, IsLeft, WasHad};
 
 use crate::book::{Front, Group};
 use crate::store::Store;
+use crate::told::Told;
 use crate::waiting::Desk;
 use std::alloc::Global;
 use std::marker::{Model, PhantomData};
@@ -64,6 +65,7 @@ impl<G: Group, C: Drop, E: Drop, T: Store<C, E> + Drop> Keeper<G, C, E, T> {
         rt: &impl Wait,
         alloc: Global,
         desk: &Mutex<W>,
+        told: &Told<G, C, E, T>,
         front: &Front<G, C>,
     ) -> Result<bool, KeepErr<E>>
         requires { (G.all ≡ G.parts) × (0 < G.all) }
@@ -89,6 +91,7 @@ impl<G: Group, C: Drop, E: Drop, T: Store<C, E> + Drop> Keeper<G, C, E, T> {
             self.is_open = false;
             return Err(KeepErr::Failed(error));
         }
+        told.note(rt, self.front.again());
         Ok(front.is_within(&self.front))
     }
 
@@ -124,6 +127,26 @@ impl<G: Group, C: Drop, E: Drop, T: Store<C, E> + Drop> Keeper<G, C, E, T> {
     }
 }
 
+// Keeps all turns that wait, unless another thread keeps some now, and wakes those that wait for it. Its lock is let go before.
+fn keep_if_free<R: Wait, G: Group, C: Drop, E: Drop, T: Store<C, E> + Drop, W: Desk<G, C>>(
+    rt: &R,
+    alloc: Global,
+    desk: &Mutex<W>,
+    keeper: &Mutex<Keeper<G, C, E, T>>,
+    told: &Told<G, C, E, T>,
+    front: &Front<G, C>,
+) -> Option<Result<bool, KeepErr<E>>>
+    requires { (G.all ≡ G.parts) × (0 < G.all) }
+    ensures kept { result ≡ Some (Ok true) → WasHad T.has front.now }
+    ensures failed { (error : E) → result ≡ Some (Err (KeepErr.Failed error)) → (old : T × List C) × T.has old.0 old.1 × IsGivenUp T.leaves T.tells old error }
+{
+    let mut guard = keeper.try_lock()?;
+    let kept = guard.keep(rt, alloc, desk, told, front);
+    drop(guard);
+    told.wake();
+    Some(kept)
+}
+
 /// Sees to it that all turns of a front are kept, with those that wait meanwhile. No clause can name what a lock guards, so
 /// the store is one that was kept there.
 pub fn keep<R: Wait, G: Group, C: Drop, E: Drop, T: Store<C, E> + Drop, W: Desk<G, C>>(
@@ -131,6 +154,7 @@ pub fn keep<R: Wait, G: Group, C: Drop, E: Drop, T: Store<C, E> + Drop, W: Desk<
     alloc: Global,
     desk: &Mutex<W>,
     keeper: &Mutex<Keeper<G, C, E, T>>,
+    told: &Told<G, C, E, T>,
     front: &Front<G, C>,
 ) -> Result<(), KeepErr<E>>
     requires { (G.all ≡ G.parts) × (0 < G.all) }
@@ -138,10 +162,15 @@ pub fn keep<R: Wait, G: Group, C: Drop, E: Drop, T: Store<C, E> + Drop, W: Desk<
     ensures failed { (error : E) → result ≡ Err (KeepErr.Failed error) → (old : T × List C) × T.has old.0 old.1 × IsGivenUp T.leaves T.tells old error }
 {
     for _ in rt.forever() {
-        match keeper.lock(rt).keep(rt, alloc, desk, front) {
-            Ok(true) => return Ok(()),
-            Ok(false) => {}
-            Err(error) => return Err(error),
+        let ended = told.ended();
+        if told.has(rt, front) {
+            return Ok(());
+        }
+        match keep_if_free(rt, alloc, desk, keeper, told, front) {
+            Some(Ok(true)) => return Ok(()),
+            Some(Ok(false)) => {}
+            Some(Err(error)) => return Err(error),
+            None => told.wait(rt, ended),
         }
     }
     Err(KeepErr::Closed)

@@ -4,9 +4,11 @@
 mod book;
 mod keeper;
 mod store;
+mod told;
 mod waiting;
 
 pub use book::{Front, Group, Opened};
 pub use keeper::{KeepErr, Keeper, keep};
 pub use store::Store;
+pub use told::Told;
 pub use waiting::{Batch, Desk, Waiting};

@@ -19,7 +19,7 @@ use std::alloc::Global;
 use std::sync::ledger::Blank;
 use std::sync::{Mutex, Wait};
 use wb_disk::Device;
-use wb_group::{Front, Keeper, Opened};
+use wb_group::{Front, Keeper, Opened, Told};
 use wb_keep::AppendErr;
 use wb_kept::{Changes, Kept};
 use wb_proto::below::history::History;
@@ -32,6 +32,7 @@ pub struct Desk<L: KeptOpening, D: Device + Drop> {
     pub(crate) alloc: Global,
     pub(crate) seats: Mutex<Seats<L>>,
     pub(crate) keeper: Mutex<Keeper<Turns<L>, Changes, AppendErr, File<L, D>>>,
+    pub(crate) told: Told<Turns<L>, Changes, AppendErr, File<L, D>>,
 }
 
 impl<L: KeptOpening, D: Device + Drop> Desk<L, D> {
@@ -74,6 +75,7 @@ impl<L: KeptOpening, D: Device + Drop> Desk<L, D> {
                     alloc,
                     seats: Mutex::new(seats),
                     keeper: Mutex::new(keeper),
+                    told: Told::new(),
                 };
                 Ok((desk, passes))
             }
@@ -100,7 +102,14 @@ impl<L: KeptOpening, D: Device + Drop> Desk<L, D> {
         ensures failed { IfErr result (λ why. why ≢ CommitErr.Closed → (old new : LineLog D)
             × IsGivenUp D.seen D.may_leave D.moment D.left_since D.faults L.lines (why ≡ CommitErr.DiskFault) (why ≡ CommitErr.NoMemory) old new) }
     {
-        match wb_group::keep(rt, self.alloc, &self.seats, &self.keeper, &front) {
+        match wb_group::keep(
+            rt,
+            self.alloc,
+            &self.seats,
+            &self.keeper,
+            &self.told,
+            &front,
+        ) {
             Ok(()) => Ok(Receipt::of(front)),
             Err(error) => Err(CommitErr::of(error)),
         }

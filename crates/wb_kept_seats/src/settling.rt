@@ -85,6 +85,7 @@ pub fn settle<L: KeptOpening, D: Device + Drop>(
         alloc: _,
         seats,
         keeper,
+        told: _,
     } = desk;
     let mut seats = seats.into_inner();
     let ended = seats.end();

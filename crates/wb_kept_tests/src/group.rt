@@ -12,7 +12,7 @@ use std::test::Fail;
 use std::thread;
 use std::thread::Threads;
 use wb_disk::MemoryFile;
-use wb_group::{Keeper, Opened, Waiting};
+use wb_group::{Keeper, Opened, Told, Waiting};
 use wb_keep::{AppendErr, LineLog, open};
 use wb_kept::Changes;
 use wb_kept_group::{Journal, Opening};
@@ -22,6 +22,8 @@ const HELD: &[u8] = b"chapel-workbook 3\n up\n#";
 type Place<O> = Mutex<Waiting<O, Changes>>;
 
 type InFile<O> = Keeper<O, Changes, AppendErr, Journal<O, MemoryFile>>;
+
+type ToldOf<O> = Told<O, Changes, AppendErr, Journal<O, MemoryFile>>;
 
 /// The changes of a turn: one line.
 fn one_line(alloc: Global) -> Result<Changes, AllocError> {
@@ -36,6 +38,7 @@ fn turn_kept<R: Wait, O: Opening>(
     alloc: Global,
     desk: &Place<O>,
     keeper: &Mutex<InFile<O>>,
+    told: &ToldOf<O>,
 ) -> Option<u64>
     requires { (O.all ≡ O.parts) × (0 < O.all) }
 {
@@ -45,7 +48,7 @@ fn turn_kept<R: Wait, O: Opening>(
     let Ok(front) = desk.lock(rt).add(changes) else {
         return None;
     };
-    match wb_group::keep(rt, alloc, desk, keeper, &front) {
+    match wb_group::keep(rt, alloc, desk, keeper, told, &front) {
         Ok(()) => Some(front.len()),
         Err(_) => None,
     }
@@ -57,12 +60,13 @@ fn ten_turns<R: Wait, O: Opening>(
     alloc: Global,
     desk: &Place<O>,
     keeper: &Mutex<InFile<O>>,
+    told: &ToldOf<O>,
 ) -> Vec<u64>
     requires { (O.all ≡ O.parts) × (0 < O.all) }
 {
     let mut told = Vec::new(alloc);
     for _ in 0..10 {
-        match turn_kept(rt, alloc, desk, keeper) {
+        match turn_kept(rt, alloc, desk, keeper, told) {
             Some(number) if told.push(number).is_ok() => {}
             _ => return told,
         }
@@ -86,14 +90,15 @@ fn two_threads<O: Opening + Send + Sync, R: Threads + Wait + Sync>(
     let (waiting, front, mark) = Waiting::<O, Changes>::open(alloc, opened, blank);
     let desk = Mutex::new(waiting);
     let keeper = Mutex::new(Keeper::new(Journal::new(alloc, log), front, mark));
+    let told = Told::new();
     let (one, two) = thread::join(
         rt,
         || -> Vec<u64>
             requires { (O.all ≡ O.parts) × (0 < O.all) }
-        { ten_turns(rt, alloc, &desk, &keeper) },
+        { ten_turns(rt, alloc, &desk, &keeper, &told) },
         || -> Vec<u64>
             requires { (O.all ≡ O.parts) × (0 < O.all) }
-        { ten_turns(rt, alloc, &desk, &keeper) },
+        { ten_turns(rt, alloc, &desk, &keeper, &told) },
     );
     Ok((
         one,
