@@ -8,6 +8,7 @@ import threading
 import time
 
 import redis_server
+from programs import port_of, serving
 
 PLACES = 1_000
 
@@ -18,12 +19,12 @@ class Desk:
     name = "desk"
 
     def __init__(self, program, seats, journal=None):
-        words = [program, "serve", "--port", "0", "--seats", str(seats), *(["--journal", journal] if journal else [])]
-        self.process = subprocess.Popen(words, stdin=subprocess.DEVNULL, stdout=subprocess.PIPE)
-        listening = self.process.stdout.readline()
-        if not listening.startswith(b"listening on "):
-            sys.exit("%s said %r, and ended with status %d" % (" ".join(words), listening, self.process.wait(60)))
-        self.port = int(listening.rsplit(b":", 1)[1])
+        self.process = subprocess.Popen(serving(program, seats, journal), stdin=subprocess.DEVNULL, stdout=subprocess.PIPE)
+        try:
+            self.port = port_of(self.process)
+        except ValueError as why:
+            self.kill()
+            sys.exit("%s: %s" % (program, why))
 
     def first_lines(self, seat):
         return domain_and_array(seat)

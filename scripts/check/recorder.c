@@ -1,9 +1,10 @@
 /* Loaded before a program, records in the file that RECORD_OF_CALLS names, if there is one, what the program does to files and what it
    tells, in order; and has each sync take as many microseconds more as SLOWED_SYNC tells.
    Each record is a line, `KIND NUMBER AT SIZE`, and then SIZE bytes and a line end: write (W inode at, its bytes), cut (C inode length),
-   sync (S inode), told (T descriptor, the bytes), named (N inode, a path), renamed (M inode, the new path), taken away (U, a path) and
-   failed (F). A write, a cut and what is told are recorded before the call, so that a crash in it is thought of; a sync and a name
-   after it. For Linux with glibc. */
+   a sync begins (B inode thread), sync (S inode thread), that of a folder (D inode thread), told (T descriptor, the bytes), named (N
+   inode, a path), renamed (M inode, the new path), taken away (U, a path) and failed (F). A write, a cut and what is told are recorded
+   before the call, so that a crash in it is thought of; a sync and a name after it. What other threads write while a sync is under way
+   stands behind its beginning. For Linux with glibc. */
 #define _GNU_SOURCE
 #include <dlfcn.h>
 #include <fcntl.h>
@@ -70,9 +71,12 @@ int ftruncate64(int file, off64_t size) {
 }
 int ftruncate(int file, off_t size) { return ftruncate64(file, size); }
 static int synced(long call, int file) {
+    struct stat told = told_of(file);
+    long thread = syscall(SYS_gettid);
+    note('B', told.st_ino, thread, "", 0);
     if (slowed) usleep(slowed);
     int result = done(syscall(call, file), 0);
-    note('S', told_of(file).st_ino, 0, "", 0);
+    note(S_ISDIR(told.st_mode) ? 'D' : 'S', told.st_ino, thread, "", 0);
     return result;
 }
 int fsync(int file) { return synced(SYS_fsync, file); }

@@ -4,8 +4,8 @@ Nothing of the program is used: text 3 is read by docs/PROTOCOL.md, and what its
 """
 
 from .course import Course
-from .disk import Disk, images
+from .disk import Disk, fronts
 from .records import read_record
-from .text import START, at_rest, recovered, resume_line
+from .text import START, at_rest, lined, recovered, resume_line
 
-__all__ = ["START", "Course", "Disk", "at_rest", "images", "read_record", "recovered", "resume_line"]
+__all__ = ["START", "Course", "Disk", "at_rest", "fronts", "lined", "read_record", "recovered", "resume_line"]

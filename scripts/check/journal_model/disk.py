@@ -5,8 +5,9 @@ between; of a name, that it is there or not. Any bytes are too many to try: see 
 """
 
 import itertools
+from collections import Counter
 
-from .records import CUT, NAMED, RENAMED, SYNC, TAKEN_AWAY, TOLD, WRITE
+from .records import BEGUN, CUT, FOLDER, NAMED, RENAMED, SYNC, TAKEN_AWAY, TOLD, WRITE
 from .text import HEADER
 
 WHOLE = 512  # a longer write is torn in each way at some of its bytes alone
@@ -73,32 +74,46 @@ def outcomes(base, calls, chance):
 
 
 class Disk:
-    """Files by their numbers, with what is synced of them and the calls since then; and the files that a path may name."""
+    """Files by their numbers, with what is on the disk of each, the calls on it, and how many of these are there; and the files that a
+    path may name."""
 
     def __init__(self, path, file=None, held=None):
-        self.path, self.synced, self.waiting = path, {file: held}, {}
-        self.named = [file]
+        self.path, self.named = path, [file]
+        self.held, self.calls, self.kept = {file: held}, {}, Counter()
+        self.begun = {}
 
     def take(self, call):
-        """Has a call."""
+        """Has a call. A sync keeps what came before it began."""
         if call.kind in (WRITE, CUT):
-            self.waiting.setdefault(call.file, []).append(call)
-        elif call.kind == SYNC and call.file in self.waiting:
-            self.synced[call.file] = self.seen(call.file)
-            del self.waiting[call.file]
-        elif call.kind == SYNC and call.file not in self.synced:
-            self.named = [self.named[-1]]  # a folder
+            self.calls.setdefault(call.file, []).append(call)
+        elif call.kind == BEGUN:
+            self.begun[call.at] = len(self.calls.get(call.file, [])), len(self.named)
+        elif call.kind == SYNC:
+            self.sync(call.file, self.begun[call.at][0])
+        elif call.kind == FOLDER:
+            self.named = self.named[min(self.begun[call.at][1], len(self.named)) - 1 :]
         elif call.kind in (NAMED, RENAMED) and call.data == self.path:
             self.named.append(call.file)
         elif call.kind == TAKEN_AWAY and call.data == self.path:
             self.named.append(None)
 
-    def seen(self, file):
-        """What a read returns."""
-        held = self.synced.get(file) or b""
-        for call in self.waiting.get(file, []):
+    def sync(self, file, count):
+        """The first so many calls on a file are on the disk."""
+        for call in self.calls.get(file, [])[self.kept[file] : count]:
+            self.held[file] = effect(self.held.get(file) or b"", call)
+            self.kept[file] += 1
+
+    def waiting(self, file):
+        """The calls on a file that no sync has kept."""
+        return self.calls.get(file, [])[self.kept[file] :]
+
+    def seen(self):
+        """What is read at the path while nothing crashes, None where nothing is there."""
+        file = self.named[-1]
+        held = self.held.get(file) or b""
+        for call in self.waiting(file):
             held = effect(held, call)
-        return held
+        return None if file is None else held
 
     def left(self, chance):
         """The files that a crash may leave at the path, None for none."""
@@ -106,14 +121,16 @@ class Disk:
             if file is None:
                 yield None
             else:
-                yield from outcomes(self.synced.get(file) or b"", self.waiting.get(file, []), chance)
+                yield from outcomes(self.held.get(file) or b"", self.waiting(file), chance)
 
 
-def images(disk, calls, chance):
-    """For each front of the calls, what a crash may leave at the path then, with how many bytes had been told."""
-    told = 0
-    yield disk.left(chance), told
-    for call in calls:
-        disk.take(call)
-        told += len(call.data) if call.kind == TOLD else 0
-        yield disk.left(chance), told
+def fronts(disk, calls, told, chance):
+    """What a crash may leave at the path after each front of the calls. The bytes that each connection is told are counted in `told`; of
+    fronts that differ in these alone the last is taken."""
+    for call, after in zip([None, *calls], [*calls, None]):
+        if call is not None:
+            disk.take(call)
+        if call is not None and call.kind == TOLD:
+            told[call.file] += len(call.data)
+        if after is None or after.kind not in (TOLD, BEGUN):
+            yield disk.left(chance)

@@ -8,13 +8,14 @@ import threading
 import time
 from pathlib import Path
 
+from programs import words
 from workbook_model import Machine
 from workbook_model.hostile import compact
 from workbook_model.requests import BEGINNING, Requests
 
 from .course import HISTORY
-from .runs import slowed, words
-from .text import answered, recovered
+from .runs import slowed
+from .text import answered, lined, recovered
 
 LINES = 80  # that a program is given at most
 LEAST_REPLY = 10  # no reply has fewer bytes
@@ -66,7 +67,7 @@ def feed(process, pieces):
 def in_pieces(lines, chance):
     while lines:
         count = chance.choice([1, 1, 2, 5, 20, 100])
-        yield b"".join(line + b"\n" for line in lines[:count])
+        yield lined(lines[:count])
         lines = lines[count:]
 
 

@@ -2,14 +2,14 @@
 
 from typing import NamedTuple
 
-WRITE, CUT, SYNC, TOLD, NAMED, RENAMED, TAKEN_AWAY, FAILED = b"W", b"C", b"S", b"T", b"N", b"M", b"U", b"F"
+WRITE, CUT, BEGUN, SYNC, FOLDER, TOLD, NAMED, RENAMED, TAKEN_AWAY, FAILED = b"W", b"C", b"B", b"S", b"D", b"T", b"N", b"M", b"U", b"F"
 
 
 class Call(NamedTuple):
-    """A call: its kind, the number of the file or of the connection, where it writes or cuts, and its bytes."""
+    """A call: its kind, the number of the file or of the connection, where it writes or cuts or the thread that syncs, and its bytes."""
 
     kind: bytes
-    file: int
+    file: object
     at: int
     data: bytes
 

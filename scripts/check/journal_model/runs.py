@@ -1,16 +1,20 @@
-"""Runs of the program over a journal: one that is recorded, and openings of what a crash left."""
+"""Runs of the program over a journal: such that are recorded, and openings of what a crash left."""
 
 import os
 import select
 import signal
+import socket
 import subprocess
 import sys
 from pathlib import Path
+from typing import NamedTuple
 
-from .course import HISTORY
-from .records import read_record
+from programs import SECONDS, beginning, compacting, port_of, serving, words
 
-SECONDS = 60
+from .course import ANEW, HISTORY
+from .records import TOLD, Call, read_record
+from .text import lined
+
 ASKED, ENDED = 198, 199  # as in starter.c
 
 
@@ -18,16 +22,8 @@ class Strange(Exception):
     """The program did what no crash explains."""
 
 
-def words(program, journal):
-    return [program, "run", "--journal", journal]
-
-
-def compacting(program, journal):
-    return [program, "compact", journal]
-
-
-def recording(recorder, record):
-    return {**os.environ, "LD_PRELOAD": recorder, "RECORD_OF_CALLS": record}
+def recording(recorder, record, slowed_sync=0):
+    return {**os.environ, "LD_PRELOAD": recorder, "RECORD_OF_CALLS": record, "SLOWED_SYNC": str(slowed_sync)}
 
 
 def slowed(recorder):
@@ -35,12 +31,75 @@ def slowed(recorder):
     return {**os.environ, "LD_PRELOAD": recorder, "SLOWED_SYNC": "2000"}
 
 
+class Phase(NamedTuple):
+    """A run of a command: its name, its calls, and the file that it left."""
+
+    name: str
+    calls: list
+    left: bytes
+
+
+class Recording:
+    """Commands over a new journal in a folder, one after the other, whose calls are recorded."""
+
+    def __init__(self, program, recorder, room):
+        self.program, self.recorder, self.journal = program, recorder, os.path.join(room, "plan")
+        self.record, self.phases = os.path.join(room, "record"), []
+
+    def begun(self, words, slowed_sync=0):
+        """Begins a command."""
+        Path(self.record).write_bytes(b"")
+        env = recording(self.recorder, self.record, slowed_sync)
+        return subprocess.Popen(words, stdin=subprocess.PIPE, stdout=subprocess.PIPE, stderr=subprocess.PIPE, env=env)
+
+    def ended(self, name, process):
+        """Takes the calls of a command that has ended."""
+        said = process.stderr.read()
+        if process.wait(SECONDS) != 0 or said:
+            raise Strange("%s ended with status %d, and said %r" % (name, process.returncode, said[-300:]))
+        self.phases.append(Phase(name, read_record(Path(self.record).read_bytes()), Path(self.journal).read_bytes()))
+
+    def session(self, pieces, opening=None):
+        """Gives a session pieces, each once the lines of the one before were answered: all replies. With an opening it begins the journal
+        with that text of a history."""
+        if opening is None:
+            name, given, told = "run", words(self.program, self.journal), b""
+        else:
+            name, given, told = "run --resume", beginning(self.program, self.journal), opening.encode()
+        with self.begun(given) as process:
+            replies = play(process, pieces, told)
+            self.ended(name, process)
+        return replies
+
+    def compact(self):
+        """Makes the journal anew."""
+        with self.begun(compacting(self.program, self.journal)) as process:
+            told = play(process, [])
+            self.ended("compact", process)
+        if told:
+            raise Strange("compact told %r" % told)
+        self.phases[-1].calls.append(Call(TOLD, ANEW, 0, b"."))
+
+    def desk(self, seats, day, slowed_sync):
+        """Has seats ask at a desk until each has asked all; the calls have the day and the number of a seat in place of its descriptor."""
+        with self.begun(serving(self.program, len(seats), self.journal), slowed_sync) as process:
+            try:
+                process.stdin.close()
+                seats.ask_all(port_of(process))
+                printed = process.stdout.read()
+                self.ended("serve", process)
+            finally:
+                process.kill()
+        self.phases[-1] = self.phases[-1]._replace(calls=by_seat(self.phases[-1].calls, seats, day))
+        return printed
+
+
 def play(process, pieces, opening=b""):
     """Gives a program pieces of a session, each once the lines of the one before were answered: all replies. `opening` comes first."""
     told = []
     process.stdin.write(opening)
     for piece in pieces:
-        process.stdin.write(b"".join(line + b"\n" for line in piece))
+        process.stdin.write(lined(piece))
         process.stdin.flush()
         told += [process.stdout.readline() for _ in piece]
     process.stdin.close()
@@ -48,31 +107,17 @@ def play(process, pieces, opening=b""):
     return b"".join(told)
 
 
-def recorded(program, recorder, room, runs, opening=None):
-    """Runs one after the other over a new journal, each given its pieces: the calls, and the replies of all. With an opening the first
-    begins the journal with that text of a history."""
-    journal, record, told = os.path.join(room, "plan"), os.path.join(room, "record"), []
-    for path in (journal, record):
-        if os.path.exists(path):
-            os.unlink(path)
-    for number, pieces in enumerate(runs):
-        begins = opening is not None and number == 0
-        given = words(program, journal) + (["--resume"] if begins else [])
-        with subprocess.Popen(given, stdin=subprocess.PIPE, stdout=subprocess.PIPE, env=recording(recorder, record)) as process:
-            told.append(play(process, pieces, opening.encode() if begins else b""))
-            if process.wait(SECONDS) != 0:
-                raise Strange("it ended with status %d" % process.returncode)
-    return journal.encode(), read_record(Path(record).read_bytes()), b"".join(told)
-
-
-def compacted(program, recorder, room):
-    """Makes the journal anew that was recorded: the number of its file, what it held, and the calls."""
-    journal, record = os.path.join(room, "plan"), os.path.join(room, "anew")
-    number, held = os.stat(journal).st_ino, Path(journal).read_bytes()
-    done = subprocess.run(compacting(program, journal), stdin=subprocess.DEVNULL, capture_output=True, env=recording(recorder, record), timeout=SECONDS)
-    if (done.returncode, done.stdout) != (0, b""):
-        raise Strange("compact ended with status %d, and told %r" % (done.returncode, done.stdout))
-    return number, held, read_record(Path(record).read_bytes())
+def by_seat(calls, seats, day):
+    """The calls of a desk without those on its standard output, each connection by its seat: that which had just these bytes."""
+    streams = {}
+    for call in calls:
+        if call.kind == TOLD and call.file != 1:
+            streams[call.file] = streams.get(call.file, b"") + call.data
+    owners = {seat.received: seat.number for seat in seats}
+    if sorted(streams.values()) != sorted(filter(None, owners)) or len(owners) < len(seats):
+        raise Strange("the seats have other replies than were recorded")
+    return [call._replace(file=(day, owners[streams[call.file]])) if call.kind == TOLD else call
+            for call in calls if call.kind != TOLD or call.file != 1]
 
 
 class Opener:
@@ -133,6 +178,20 @@ class Opener:
         """The status, the reply to the question for the history, and the file afterwards."""
         self.put(image)
         return self.begun(), Path(self.told).read_bytes(), Path(self.journal).read_bytes()
+
+    def served(self, image):
+        """The same by a desk of one seat."""
+        self.put(image)
+        with subprocess.Popen(serving(self.program, 1, self.journal), stdin=subprocess.DEVNULL, stdout=subprocess.PIPE, stderr=subprocess.DEVNULL) as desk:
+            try:
+                with socket.create_connection(("127.0.0.1", port_of(desk)), SECONDS) as connection, connection.makefile("rb") as replies:
+                    connection.sendall(HISTORY)
+                    told = replies.readline()
+                desk.stdout.read()
+                status = desk.wait(SECONDS)
+            finally:
+                desk.kill()
+        return status, told, Path(self.journal).read_bytes()
 
     def recorded(self, image, recorder):
         """The calls of an opening, and the number of the file that it was made on."""

@@ -7,7 +7,6 @@ is refused and each line but a question makes one change.
 import json
 import os
 import random
-import select
 import selectors
 import signal
 import socket
@@ -16,16 +15,16 @@ import tempfile
 import time
 from pathlib import Path
 
+from programs import SECONDS, port_of, serving
 from workbook_model import Machine
 
 from .course import HISTORY, told
 from .runs import slowed
-from .text import answered, at_rest, numbered, recovered
+from .text import answered, at_rest, lined, numbered, recovered
 
 SEATS = 16
 ELEMENTS = 400
 DESKS = 10  # over one file
-SECONDS = 60
 
 
 class Seat:
@@ -63,7 +62,7 @@ class Seat:
             else:
                 lines.append(self.next_set() if self.sets < ELEMENTS and self.chance.random() < 0.9 else self.question)
         self.waiting = lines
-        self.connection.sendall(b"".join(line + b"\n" for line in lines))
+        self.connection.sendall(lined(lines))
 
     def hear(self):
         """Takes what came: whether the connection goes on."""
@@ -133,7 +132,7 @@ class Desks:
     """The desks over one file: their seats, and what the model makes of the file's lines."""
 
     def __init__(self, program, recorder, journal, chance):
-        self.recorder, self.words = recorder, [program, "serve", "--port", "0", "--seats", str(SEATS), "--journal", journal]
+        self.recorder, self.words = recorder, serving(program, SEATS, journal)
         self.journal, self.chance, self.machine, self.lines = journal, chance, Machine(), []
         self.seats = [Seat(number, chance) for number in range(SEATS)]
 
@@ -147,7 +146,7 @@ class Desks:
             try:
                 fault = self.under_load(desk)
             except (OSError, ValueError) as why:
-                fault = "a connection failed: %s" % why
+                fault = "it did not serve: %s" % why
             finally:
                 desk.kill()
             said = desk.stderr.read()[-300:]
@@ -159,13 +158,9 @@ class Desks:
 
     def under_load(self, desk):
         """Connects all seats to a desk that begins, and has them ask for some time: what is wrong with its history."""
-        if not select.select([desk.stdout], [], [], SECONDS)[0]:
-            return "the desk did not begin"
-        listening = desk.stdout.readline()
-        if not listening.startswith(b"listening on "):
-            return "the desk began with %r" % listening
+        port = port_of(desk)
         for seat in self.seats:
-            seat.connect(int(listening.rsplit(b":", 1)[1]))
+            seat.connect(port)
         fault = self.history_fault()
         self.load(time.monotonic() + self.chance.choice([0.02, 0.1, 0.5]) * self.chance.random())
         return fault

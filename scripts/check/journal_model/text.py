@@ -28,6 +28,11 @@ def at_rest(lines):
 START = at_rest([])
 
 
+def lined(lines):
+    """The text of lines."""
+    return b"".join(line + b"\n" for line in lines)
+
+
 def resume_line(text):
     """The line that a history begins with, by its text."""
     return kept.resume_line(text).encode()

@@ -192,6 +192,7 @@ def begin(path):
     make_whole(beside, START)
     try:
         os.link(beside, path)
+        sync_folder(path)
     except FileExistsError:
         pass
     finally:

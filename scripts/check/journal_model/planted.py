@@ -1,0 +1,115 @@
+"""Faults that are planted in what was recorded, each of which has to be noticed: as if the program had left out a sync, had begun it
+too early, or had told too early."""
+
+import random
+
+from .asking import Asker, Seats, Watcher
+from .course import ANEW, HISTORY
+from .crashing import COMPACT, kept_desk, kept_session
+from .records import BEGUN, FOLDER, NAMED, RENAMED, SYNC, TOLD, WRITE
+
+SEATS = 4
+FAR = 4  # so many syncs before
+
+
+def without_sync(calls, which):
+    """The calls without one of the syncs before each reply: the last, or the one before it."""
+    kept = []
+    for at, call in enumerate(calls):
+        later = [it.kind for it in calls[at + 1 :] if it.kind in (SYNC, TOLD)]
+        if call.kind != SYNC or TOLD not in later or later.index(TOLD) != which:
+            kept.append(call)
+    return kept
+
+
+def told_early(calls, is_early=lambda call: True, syncs=1):
+    """The calls with each reply before so many syncs."""
+    moved = []
+    for call in calls:
+        at = len(moved)
+        if call.kind == TOLD and is_early(call):
+            before = [place for place, it in enumerate(moved) if it.kind == SYNC]
+            at = before[-syncs] if len(before) >= syncs else at
+        moved.insert(at, call)
+    return moved
+
+
+def written_within(calls):
+    """The calls with each write of one byte within the sync behind it, after that began."""
+    moved = list(calls)
+    for at, (call, after) in enumerate(zip(moved, moved[1:])):
+        if call.kind == WRITE and len(call.data) == 1 and after.kind == BEGUN:
+            moved[at : at + 2] = [after, call]
+    return moved
+
+
+def named_first(calls):
+    """The calls with each name before the sync of its file."""
+    moved = list(calls)
+    for at, call in enumerate(calls):
+        if call.kind in (NAMED, RENAMED):
+            synced = [place for place in range(at) if moved[place].kind == SYNC and moved[place].file == call.file]
+            if synced:
+                moved.insert(synced[-1], moved.pop(at))
+    return moved
+
+
+def without_folder(calls):
+    """The calls without the sync of a folder."""
+    return [call for call in calls if call.kind != FOLDER]
+
+
+def each(changed, command):
+    """What changes the calls of a command."""
+    return lambda phases: [phase._replace(calls=changed(phase.calls)) if phase.name == command else phase for phase in phases]
+
+
+RUN, SERVE = {
+    "run, the mark not synced": lambda calls: without_sync(calls, 0),
+    "run, the lines not synced before the mark": lambda calls: without_sync(calls, 1),
+    "run, a reply before the sync": told_early,
+    "run, the mark written while the sync is under way": written_within,
+}, {
+    "serve, a mark not synced": lambda calls: without_sync(calls, 0),
+    "serve, lines not synced before their mark": lambda calls: without_sync(calls, 1),
+    "serve, a reply before its batch is kept": told_early,
+    "serve, a mark written while the sync is under way": written_within,
+    "serve, a seat that asks is told of changes before they are kept": lambda calls: told_early(calls, is_watcher, FAR),
+}
+BEGUN_WITH = {"run --resume, the history not synced before a reply": lambda calls: without_sync(calls, 0)}
+ANEW_WITH = {
+    "compact, the new file in place before it is synced": named_first,
+    "compact, ended before the folder is synced": without_folder,
+}
+
+
+def is_watcher(call):
+    return call.file[1] == SEATS
+
+
+def files_that_differ(recorded, changed, command):
+    """How many files differ once the calls of a command are changed so."""
+    phases = each(changed, command)(recorded.phases)
+    return sum(1 for _, _, fault in recorded.files(phases, random.Random(command)) if fault)
+
+
+def planted(program, recorder, room, lines, can):
+    """For each fault how many files differ: its name, and their number. `can` names the commands that the program has."""
+    runs = [[[line] for line in lines], *([COMPACT] if "compact" in can else [])]
+    session = kept_session("planted", program, recorder, room(), runs)
+    yield from tried(session, RUN, "run")
+    if "compact" in can:
+        yield from tried(session, ANEW_WITH, "compact")
+    if "run --resume" in can:
+        opening = session.course.machine.do({"op": "history"})["text"]
+        begun = kept_session("planted", program, recorder, room(), [[[HISTORY[:-1]]]], opening)
+        yield from tried(begun, BEGUN_WITH, "run --resume")
+    if "serve" in can:
+        chance = random.Random("planted")
+        seats = [*(Asker(number, SEATS, chance) for number in range(SEATS)), Watcher(SEATS, SEATS, chance)]
+        yield from tried(kept_desk("planted", program, recorder, room(), ["a day"], Seats(seats, 8), chance), SERVE, "serve")
+
+
+def tried(recorded, faults, command):
+    for what, changed in faults.items():
+        yield what, files_that_differ(recorded, changed, command)
