@@ -16,7 +16,7 @@ from .text import lined, numbered
 
 ELEMENTS = 6
 AT_ONCE = [1, 1, 1, 2, 3, 5]
-CHANGES = {"set": 6, "own": 2, "first": 3, "fill": 1, "undo": 4, "redo": 3, "cascade": 1}
+CHANGES = {"set": 6, "own": 3, "first": 3, "fill": 1, "undo": 4, "redo": 4, "cascade": 2}
 QUESTIONS = {"edits": 4, "get": 3, "state": 2, "history": 1, "nothing": 1}
 
 
@@ -85,10 +85,10 @@ class Asker:
     def element(self):
         return self.chance.randint(1, ELEMENTS)
 
-    def own_edit(self, in_force):
-        """An edit of this seat, seldom in the other state."""
+    def turned(self, op, in_force):
+        """A request with the number of an edit of this seat, seldom one in the other state; where there is none, another change."""
         edits = [k for k, now in self.edits.items() if now == in_force or self.chance.random() < 0.1]
-        return self.chance.choice(edits or [10**6])
+        return numbered(op, self.chance.choice(edits)) if edits else self.make_set()
 
     def make_set(self):
         return b'{"a":"A%d","i":%d,"op":"set","v":%d}' % (self.number, self.element(), self.chance.randint(-99, 99))
@@ -105,13 +105,13 @@ class Asker:
         return b'{"a":"A%d","on":"{%d..%d}","op":"fill","v":%d}' % (self.number, low, ELEMENTS, self.chance.randint(1, 9))
 
     def make_undo(self):
-        return numbered("undo", self.own_edit(True))
+        return self.turned("undo", True)
 
     def make_redo(self):
-        return numbered("redo", self.own_edit(False))
+        return self.turned("redo", False)
 
     def make_cascade(self):
-        return numbered("cascade", self.own_edit(True)) if self.number else self.make_set()
+        return self.turned("cascade", True) if self.number else self.make_set()
 
     def make_edits(self):
         return b'{"op":"edits"}'

@@ -74,7 +74,7 @@ def kept_desk(name, program, recorder, room, days, seats, chance):
 def random_desk(name, program, recorder, room, chance, compacts):
     """A desk of some seats, two days."""
     count = chance.choice([2, 3, 4, 8, 16])
-    seats = Seats([Asker(number, count, chance) for number in range(count)], chance.choice([3, 5, 8]) if count > 4 else 10)
+    seats = Seats([Asker(number, count, chance) for number in range(count)], chance.choice([3, 5, 8]) if count > 4 else 12)
     return kept_desk(name, program, recorder, room, ["a day", *([COMPACT] if compacts else []), "a day"], seats, chance)
 
 

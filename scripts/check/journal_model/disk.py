@@ -7,7 +7,7 @@ between; of a name, that it is there or not. Any bytes are too many to try: see 
 import itertools
 from collections import Counter
 
-from .records import BEGUN, CUT, FOLDER, NAMED, RENAMED, SYNC, TAKEN_AWAY, TOLD, WRITE
+from .records import BEGUN, CUT, ENDED, FOLDER, NAMED, RENAMED, SYNC, TAKEN_AWAY, TOLD, WRITE
 from .text import HEADER
 
 WHOLE = 512  # a longer write is torn in each way at some of its bytes alone
@@ -80,22 +80,30 @@ class Disk:
     def __init__(self, path, file=None, held=None):
         self.path, self.named = path, [file]
         self.held, self.calls, self.kept = {file: held}, {}, Counter()
-        self.begun = {}
+        self.under_way, self.begun = {}, {}  # by thread
 
     def take(self, call):
-        """Has a call. A sync keeps what came before it began."""
+        """Has a call. A sync keeps the calls that had ended before it began."""
         if call.kind in (WRITE, CUT):
             self.calls.setdefault(call.file, []).append(call)
+            self.under_way[call.thread] = call
+        elif call.kind == ENDED:
+            del self.under_way[call.thread]
         elif call.kind == BEGUN:
-            self.begun[call.at] = len(self.calls.get(call.file, [])), len(self.named)
+            self.begun[call.thread] = self.ended(call.file), len(self.named)
         elif call.kind == SYNC:
-            self.sync(call.file, self.begun[call.at][0])
+            self.sync(call.file, self.begun[call.thread][0])
         elif call.kind == FOLDER:
-            self.named = self.named[min(self.begun[call.at][1], len(self.named)) - 1 :]
+            self.named = self.named[min(self.begun[call.thread][1], len(self.named)) - 1 :]
         elif call.kind in (NAMED, RENAMED) and call.data == self.path:
             self.named.append(call.file)
         elif call.kind == TAKEN_AWAY and call.data == self.path:
             self.named.append(None)
+
+    def ended(self, file):
+        """How many calls on a file have ended, up to the first that has not."""
+        calls, going = self.calls.get(file, []), list(self.under_way.values())
+        return next((at for at, call in enumerate(calls) if any(call is other for other in going)), len(calls))
 
     def sync(self, file, count):
         """The first so many calls on a file are on the disk."""
@@ -132,5 +140,5 @@ def fronts(disk, calls, told, chance):
             disk.take(call)
         if call is not None and call.kind == TOLD:
             told[call.file] += len(call.data)
-        if after is None or after.kind not in (TOLD, BEGUN):
+        if after is None or after.kind not in (TOLD, BEGUN, ENDED):
             yield disk.left(chance)

@@ -1,12 +1,14 @@
 """Faults that are planted in what was recorded, each of which has to be noticed: as if the program had left out a sync, had begun it
-too early, or had told too early."""
+too early, had told too early, or had kept the changes of a desk in another order."""
 
 import random
 
 from .asking import Asker, Seats, Watcher
-from .course import ANEW, HISTORY
+from .course import HISTORY, Course
 from .crashing import COMPACT, kept_desk, kept_session
-from .records import BEGUN, FOLDER, NAMED, RENAMED, SYNC, TOLD, WRITE
+from .days import Day
+from .records import BEGUN, ENDED, FOLDER, NAMED, RENAMED, SYNC, TOLD, WRITE
+from .runs import Strange
 
 SEATS = 4
 FAR = 4  # so many syncs before
@@ -34,12 +36,12 @@ def told_early(calls, is_early=lambda call: True, syncs=1):
     return moved
 
 
-def written_within(calls):
-    """The calls with each write of one byte within the sync behind it, after that began."""
+def under_way(calls):
+    """The calls with the end of each write of one byte behind the next call, which a sync has begun with."""
     moved = list(calls)
-    for at, (call, after) in enumerate(zip(moved, moved[1:])):
-        if call.kind == WRITE and len(call.data) == 1 and after.kind == BEGUN:
-            moved[at : at + 2] = [after, call]
+    for at, (call, end, after) in enumerate(zip(moved, moved[1:], moved[2:])):
+        if call.kind == WRITE and len(call.data) == 1 and (end.kind, after.kind) == (ENDED, BEGUN):
+            moved[at + 1 : at + 3] = [after, end]
     return moved
 
 
@@ -68,12 +70,12 @@ RUN, SERVE = {
     "run, the mark not synced": lambda calls: without_sync(calls, 0),
     "run, the lines not synced before the mark": lambda calls: without_sync(calls, 1),
     "run, a reply before the sync": told_early,
-    "run, the mark written while the sync is under way": written_within,
+    "run, the mark not written before the sync begins": under_way,
 }, {
     "serve, a mark not synced": lambda calls: without_sync(calls, 0),
     "serve, lines not synced before their mark": lambda calls: without_sync(calls, 1),
     "serve, a reply before its batch is kept": told_early,
-    "serve, a mark written while the sync is under way": written_within,
+    "serve, a mark not written before the sync begins": under_way,
     "serve, a seat that asks is told of changes before they are kept": lambda calls: told_early(calls, is_watcher, FAR),
 }
 BEGUN_WITH = {"run --resume, the history not synced before a reply": lambda calls: without_sync(calls, 0)}
@@ -93,6 +95,25 @@ def files_that_differ(recorded, changed, command):
     return sum(1 for _, _, fault in recorded.files(phases, random.Random(command)) if fault)
 
 
+def swapped(changes):
+    """The changes with each two that stand side by side in the other order."""
+    return (changes[:at] + [changes[at + 1], changes[at]] + changes[at + 2 :] for at in range(len(changes) - 1))
+
+
+def lost(changes):
+    """The changes without each one of them."""
+    return (changes[:at] + changes[at + 1 :] for at in range(len(changes)))
+
+
+def differs(seats, changes):
+    """Whether these seats can't have been told what they were at a desk whose file has these changes."""
+    try:
+        Day(Course(), 0, seats, changes).go()
+        return False
+    except Strange:
+        return True
+
+
 def planted(program, recorder, room, lines, can):
     """For each fault how many files differ: its name, and their number. `can` names the commands that the program has."""
     runs = [[[line] for line in lines], *([COMPACT] if "compact" in can else [])]
@@ -105,9 +126,17 @@ def planted(program, recorder, room, lines, can):
         begun = kept_session("planted", program, recorder, room(), [[[HISTORY[:-1]]]], opening)
         yield from tried(begun, BEGUN_WITH, "run --resume")
     if "serve" in can:
-        chance = random.Random("planted")
-        seats = [*(Asker(number, SEATS, chance) for number in range(SEATS)), Watcher(SEATS, SEATS, chance)]
-        yield from tried(kept_desk("planted", program, recorder, room(), ["a day"], Seats(seats, 8), chance), SERVE, "serve")
+        yield from planted_at_a_desk(program, recorder, room())
+
+
+def planted_at_a_desk(program, recorder, room):
+    chance = random.Random("planted")
+    seats = Seats([*(Asker(number, SEATS, chance) for number in range(SEATS)), Watcher(SEATS, SEATS, chance)], 8)
+    desk = kept_desk("planted", program, recorder, room, ["a day"], seats, chance)
+    yield from tried(desk, SERVE, "serve")
+    yield "serve, two changes in another order", sum(differs(seats, changes) for changes in swapped(desk.course.changes))
+    missed = [changes for changes in lost(desk.course.changes) if not differs(seats, changes)]
+    yield "serve, a change left out, whichever", 0 if missed else len(desk.course.changes)
 
 
 def tried(recorded, faults, command):
