@@ -2,7 +2,6 @@
 leave."""
 
 import hashlib
-import random
 from collections import Counter, defaultdict
 
 from .asking import Asker, Seats

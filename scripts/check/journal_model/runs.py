@@ -182,7 +182,8 @@ class Opener:
     def served(self, image):
         """The same by a desk of one seat."""
         self.put(image)
-        with subprocess.Popen(serving(self.program, 1, self.journal), stdin=subprocess.DEVNULL, stdout=subprocess.PIPE, stderr=subprocess.DEVNULL) as desk:
+        given, none = serving(self.program, 1, self.journal), subprocess.DEVNULL
+        with subprocess.Popen(given, stdin=none, stdout=subprocess.PIPE, stderr=none) as desk:
             try:
                 with socket.create_connection(("127.0.0.1", port_of(desk)), SECONDS) as connection, connection.makefile("rb") as replies:
                     connection.sendall(HISTORY)
