@@ -23,10 +23,6 @@ class Failed(NotOpened):
     """The file failed: what it has is known when it is opened again."""
 
 
-class HasLines(Exception):
-    """A file has a line already."""
-
-
 def is_ours(held):
     """Whether a file begins with the header, or is the front of one that would."""
     front = min(len(held), len(HEADER))
@@ -117,7 +113,7 @@ class Journal:
     def begin(self, text):
         """Begins it with the text of a history, where it has no line."""
         if changes_of(self.held):
-            raise HasLines
+            raise NotOpened("the journal has lines already, and --resume begins a new one")
         self.repair()
         self.keep([resume_line(text)])
 
