@@ -54,6 +54,11 @@ class Course:
         self.begun.append(([resume_line(text)], len(self.changes)))
         self.tell(ANEW, b".")
 
+    def lines(self):
+        """The lines of the file that has all changes."""
+        first, count = self.begun[-1]
+        return first + self.changes[count:]
+
     def acknowledged(self, size, connection=OUTPUT):
         """How many changes a connection was told of by so many bytes of replies; one whose reply has begun is among them."""
         count = 0

@@ -5,7 +5,7 @@ import hashlib
 from collections import Counter, defaultdict
 
 from .asking import Asker, Seats
-from .course import ANEW, Course
+from .course import ANEW, OUTPUT, Course
 from .days import Day
 from .disk import Disk, fronts
 from .runs import Recording, Strange
@@ -39,14 +39,26 @@ def kept_session(name, program, recorder, room, runs, opening=None):
     recording, course = Recording(program, recorder, room), Course(opening=opening)
     for pieces in runs:
         if pieces == COMPACT:
-            recording.compact()
-            course.make_anew()
+            made_anew(recording, course)
             continue
-        wanted = b"".join([course.answer(1, line) for piece in pieces for line in piece])
+        wanted = b"".join([course.answer(OUTPUT, line) for piece in pieces for line in piece])
         if recording.session(pieces, opening) != wanted:
             raise Strange("its replies are others than the model's")
+        rests(recording, course)
         opening = None
     return Recorded(name, recording, course)
+
+
+def made_anew(recording, course):
+    recording.compact()
+    course.make_anew()
+    rests(recording, course)
+
+
+def rests(recording, course):
+    """The file that a command left has the lines of the course and is at rest."""
+    if recording.phases[-1].left != at_rest(course.lines()):
+        raise Strange("%s left the file %r" % (recording.phases[-1].name, recording.phases[-1].left))
 
 
 def kept_desk(name, program, recorder, room, days, seats, chance):
@@ -54,16 +66,14 @@ def kept_desk(name, program, recorder, room, days, seats, chance):
     recording, course = Recording(program, recorder, room), Course()
     for number, day in enumerate(days):
         if day == COMPACT:
-            recording.compact()
-            course.make_anew()
+            made_anew(recording, course)
             continue
         printed = recording.desk(seats, number, chance.choice([0, 500, 2000]))
-        first, _ = course.begun[-1]
-        before = first + course.changes[course.begun[-1][1] :]
-        lines = recovered(recording.phases[-1].left)
+        before, lines = course.lines(), recovered(recording.phases[-1].left)
         if lines is None or lines[: len(before)] != before:
             raise Strange("the desk's file has lost lines of before")
         Day(course, number, seats, lines[len(before) :]).go()
+        rests(recording, course)
         text = course.machine.do({"op": "print"})["text"]
         if not printed.startswith(b"settled ") or printed.split(b"\n", 1)[1] != text.encode():
             raise Strange("the desk ended with %r" % printed[:300])
