@@ -7,9 +7,9 @@ use Rattle.std.proofs.lemmas.Slice.Eq.{bytes_eq-Decides}
 use Rattle.clap.specs.Words.{ReadsOne, Row, Text, TriesOne, one_of, one_text, rows_of}
 use Rattle.clap.specs.declared.parser.matches.Found.{Found}
 use Rattle.clap.proofs.WalkLemmas.{one_text-rows}
-use Rattle.wb_command.specs.Asks.{HasNumber, HasWorkers, IsDesk, Means, Writes, is_set}
+use Rattle.wb_command.specs.Asks.{HasNumber, HasWorkers, IsDesk, Means, Writes, is_set, word_of}
 use Rattle.wb_command.specs.declared.Asked.{Asked}
-use Rattle.wb_command.specs.declared.Asked.TheVariants.{Run, RunKept, Check, Upgrade, Serve, ServeKept}
+use Rattle.wb_command.specs.declared.Asked.TheVariants.{Run, RunKept, Check, Upgrade, Compact, Serve, ServeKept}
 
 some≢none : {X : Type 0} (x : X) → Some x ≡ None → ⊥
 some≢none x e = true≢false (ap is_some e)
@@ -105,9 +105,10 @@ module _ (E : Type 0) where
 pub run_alone : (found : List Row) → ((n : ℕ) → HasWorkers found n → ⊥)
     → (asked : Asked) → Means (codes "run") found asked → ⊥
 run_alone found none (Run resume workers) m = none workers m.3
-run_alone found none (RunKept journal workers) m = none workers m.3
+run_alone found none (RunKept journal resume workers) m = none workers m.3
 run_alone found none Check m = absurd (true≢false (ap (bytes_eq (codes "run")) m))
 run_alone found none Upgrade m = absurd (true≢false (ap (bytes_eq (codes "run")) m))
+run_alone found none (Compact journal) m = absurd (true≢false (ap (bytes_eq (codes "run")) m.0))
 run_alone found none (Serve port seats resume workers) m = absurd (true≢false (ap (bytes_eq (codes "run")) m.0))
 run_alone found none (ServeKept journal port seats workers) m = absurd (true≢false (ap (bytes_eq (codes "run")) m.0))
 
@@ -115,8 +116,20 @@ run_alone found none (ServeKept journal port seats workers) m = absurd (true≢f
 pub serve_alone : (found : List Row) → ((port seats workers : ℕ) → IsDesk found port seats workers → ⊥)
     → (asked : Asked) → Means (codes "serve") found asked → ⊥
 serve_alone found none (Run resume workers) m = absurd (true≢false (ap (bytes_eq (codes "serve")) m.0))
-serve_alone found none (RunKept journal workers) m = absurd (true≢false (ap (bytes_eq (codes "serve")) m.0))
+serve_alone found none (RunKept journal resume workers) m = absurd (true≢false (ap (bytes_eq (codes "serve")) m.0))
 serve_alone found none Check m = absurd (true≢false (ap (bytes_eq (codes "serve")) m))
 serve_alone found none Upgrade m = absurd (true≢false (ap (bytes_eq (codes "serve")) m))
+serve_alone found none (Compact journal) m = absurd (true≢false (ap (bytes_eq (codes "serve")) m.0))
 serve_alone found none (Serve port seats resume workers) m = none port seats workers m.3
 serve_alone found none (ServeKept journal port seats workers) m = none port seats workers m.3
+
+-- `compact` means nothing where no file was found
+pub compact_alone : (found : List Row) → ((journal : Text) → word_of (codes "file") found ≡ Some journal → ⊥)
+    → (asked : Asked) → Means (codes "compact") found asked → ⊥
+compact_alone found none (Run resume workers) m = absurd (true≢false (ap (bytes_eq (codes "compact")) m.0))
+compact_alone found none (RunKept journal resume workers) m = absurd (true≢false (ap (bytes_eq (codes "compact")) m.0))
+compact_alone found none Check m = absurd (true≢false (ap (bytes_eq (codes "compact")) m))
+compact_alone found none Upgrade m = absurd (true≢false (ap (bytes_eq (codes "compact")) m))
+compact_alone found none (Compact journal) m = none journal m.1
+compact_alone found none (Serve port seats resume workers) m = absurd (true≢false (ap (bytes_eq (codes "compact")) m.0))
+compact_alone found none (ServeKept journal port seats workers) m = absurd (true≢false (ap (bytes_eq (codes "compact")) m.0))

@@ -4,7 +4,7 @@ use Rattle.std.specs.Prelude.{Result, Ok, Err, IfOk, IfErr, MatchResult, IsSomeA
 use Rattle.clap.specs.Words.{IsAmong, Row, Text, one_of, subcommand_of}
 use Rattle.wb_command.specs.Asks.{Asks, HasNumber, HasWorkers, IsDesk, IsMeant, Means, Refuses, Writes, program}
 use Rattle.wb_command.specs.declared.Asked.{Asked}
-use Rattle.wb_command.specs.declared.Asked.TheVariants.{Run, RunKept, Check, Upgrade, Serve, ServeKept}
+use Rattle.wb_command.specs.declared.Asked.TheVariants.{Run, RunKept, Check, Upgrade, Compact, Serve, ServeKept}
 use Rattle.wb_command.specs.declared.CommandErr.{CommandErr}
 use Rattle.wb_command.specs.declared.CommandErr.TheVariants.{Help, BadCommandLine, NoMemory}
 
@@ -41,40 +41,54 @@ one_desk make found p q t u w v m n = ap₂ (λ port seats. make port seats w) (
 
 one_meaning : (name : Text) (found : List Row) (a b : Asked) → Means name found a → Means name found b → a ≡ b
 one_meaning name found (Run r w) (Run s v) m n = ap₂ Run (m.1 ∙ sym n.1) (one_workers found w v m.3 n.3)
-one_meaning name found (Run r w) (RunKept j v) m n = absurd (no_word j (sym n.2 ∙ m.2))
+one_meaning name found (Run r w) (RunKept j s v) m n = absurd (no_word j (sym n.2 ∙ m.2))
 one_meaning name found (Run r w) Check m n = absurd (apart (codes "run") (codes "check") name refl refl m.0 n)
 one_meaning name found (Run r w) Upgrade m n = absurd (apart (codes "run") (codes "upgrade") name refl refl m.0 n)
+one_meaning name found (Run r w) (Compact j) m n = absurd (apart (codes "run") (codes "compact") name refl refl m.0 n.0)
 one_meaning name found (Run r w) (Serve q u s v) m n = absurd (apart (codes "run") (codes "serve") name refl refl m.0 n.0)
 one_meaning name found (Run r w) (ServeKept j q u v) m n = absurd (apart (codes "run") (codes "serve") name refl refl m.0 n.0)
-one_meaning name found (RunKept i w) (Run s v) m n = absurd (no_word i (sym m.2 ∙ n.2))
-one_meaning name found (RunKept i w) (RunKept j v) m n = ap₂ RunKept (same_word i j (sym m.2 ∙ n.2)) (one_workers found w v m.3 n.3)
-one_meaning name found (RunKept i w) Check m n = absurd (apart (codes "run") (codes "check") name refl refl m.0 n)
-one_meaning name found (RunKept i w) Upgrade m n = absurd (apart (codes "run") (codes "upgrade") name refl refl m.0 n)
-one_meaning name found (RunKept i w) (Serve q u s v) m n = absurd (apart (codes "run") (codes "serve") name refl refl m.0 n.0)
-one_meaning name found (RunKept i w) (ServeKept j q u v) m n = absurd (apart (codes "run") (codes "serve") name refl refl m.0 n.0)
+one_meaning name found (RunKept i r w) (Run s v) m n = absurd (no_word i (sym m.2 ∙ n.2))
+one_meaning name found (RunKept i r w) (RunKept j s v) m n =
+    ap₂ (λ path. RunKept path r) (same_word i j (sym m.2 ∙ n.2)) (one_workers found w v m.3 n.3) ∙ ap (λ resume. RunKept j resume v) (m.1 ∙ sym n.1)
+one_meaning name found (RunKept i r w) Check m n = absurd (apart (codes "run") (codes "check") name refl refl m.0 n)
+one_meaning name found (RunKept i r w) Upgrade m n = absurd (apart (codes "run") (codes "upgrade") name refl refl m.0 n)
+one_meaning name found (RunKept i r w) (Compact j) m n = absurd (apart (codes "run") (codes "compact") name refl refl m.0 n.0)
+one_meaning name found (RunKept i r w) (Serve q u s v) m n = absurd (apart (codes "run") (codes "serve") name refl refl m.0 n.0)
+one_meaning name found (RunKept i r w) (ServeKept j q u v) m n = absurd (apart (codes "run") (codes "serve") name refl refl m.0 n.0)
 one_meaning name found Check (Run s v) m n = absurd (apart (codes "check") (codes "run") name refl refl m n.0)
-one_meaning name found Check (RunKept j v) m n = absurd (apart (codes "check") (codes "run") name refl refl m n.0)
+one_meaning name found Check (RunKept j s v) m n = absurd (apart (codes "check") (codes "run") name refl refl m n.0)
 one_meaning name found Check Check m n = refl
 one_meaning name found Check Upgrade m n = absurd (apart (codes "check") (codes "upgrade") name refl refl m n)
+one_meaning name found Check (Compact j) m n = absurd (apart (codes "check") (codes "compact") name refl refl m n.0)
 one_meaning name found Check (Serve q u s v) m n = absurd (apart (codes "check") (codes "serve") name refl refl m n.0)
 one_meaning name found Check (ServeKept j q u v) m n = absurd (apart (codes "check") (codes "serve") name refl refl m n.0)
 one_meaning name found Upgrade (Run s v) m n = absurd (apart (codes "upgrade") (codes "run") name refl refl m n.0)
-one_meaning name found Upgrade (RunKept j v) m n = absurd (apart (codes "upgrade") (codes "run") name refl refl m n.0)
+one_meaning name found Upgrade (RunKept j s v) m n = absurd (apart (codes "upgrade") (codes "run") name refl refl m n.0)
 one_meaning name found Upgrade Check m n = absurd (apart (codes "upgrade") (codes "check") name refl refl m n)
 one_meaning name found Upgrade Upgrade m n = refl
+one_meaning name found Upgrade (Compact j) m n = absurd (apart (codes "upgrade") (codes "compact") name refl refl m n.0)
 one_meaning name found Upgrade (Serve q u s v) m n = absurd (apart (codes "upgrade") (codes "serve") name refl refl m n.0)
 one_meaning name found Upgrade (ServeKept j q u v) m n = absurd (apart (codes "upgrade") (codes "serve") name refl refl m n.0)
+one_meaning name found (Compact i) (Run s v) m n = absurd (apart (codes "compact") (codes "run") name refl refl m.0 n.0)
+one_meaning name found (Compact i) (RunKept j s v) m n = absurd (apart (codes "compact") (codes "run") name refl refl m.0 n.0)
+one_meaning name found (Compact i) Check m n = absurd (apart (codes "compact") (codes "check") name refl refl m.0 n)
+one_meaning name found (Compact i) Upgrade m n = absurd (apart (codes "compact") (codes "upgrade") name refl refl m.0 n)
+one_meaning name found (Compact i) (Compact j) m n = ap Compact (same_word i j (sym m.1 ∙ n.1))
+one_meaning name found (Compact i) (Serve q u s v) m n = absurd (apart (codes "compact") (codes "serve") name refl refl m.0 n.0)
+one_meaning name found (Compact i) (ServeKept j q u v) m n = absurd (apart (codes "compact") (codes "serve") name refl refl m.0 n.0)
 one_meaning name found (Serve p t r w) (Run s v) m n = absurd (apart (codes "serve") (codes "run") name refl refl m.0 n.0)
-one_meaning name found (Serve p t r w) (RunKept j v) m n = absurd (apart (codes "serve") (codes "run") name refl refl m.0 n.0)
+one_meaning name found (Serve p t r w) (RunKept j s v) m n = absurd (apart (codes "serve") (codes "run") name refl refl m.0 n.0)
 one_meaning name found (Serve p t r w) Check m n = absurd (apart (codes "serve") (codes "check") name refl refl m.0 n)
 one_meaning name found (Serve p t r w) Upgrade m n = absurd (apart (codes "serve") (codes "upgrade") name refl refl m.0 n)
+one_meaning name found (Serve p t r w) (Compact j) m n = absurd (apart (codes "serve") (codes "compact") name refl refl m.0 n.0)
 one_meaning name found (Serve p t r w) (Serve q u s v) m n =
     one_desk (λ port seats workers. Serve port seats r workers) found p q t u w v m.3 n.3 ∙ ap (λ resume. Serve q u resume v) (m.1 ∙ sym n.1)
 one_meaning name found (Serve p t r w) (ServeKept j q u v) m n = absurd (no_word j (sym n.2 ∙ m.2))
 one_meaning name found (ServeKept i p t w) (Run s v) m n = absurd (apart (codes "serve") (codes "run") name refl refl m.0 n.0)
-one_meaning name found (ServeKept i p t w) (RunKept j v) m n = absurd (apart (codes "serve") (codes "run") name refl refl m.0 n.0)
+one_meaning name found (ServeKept i p t w) (RunKept j s v) m n = absurd (apart (codes "serve") (codes "run") name refl refl m.0 n.0)
 one_meaning name found (ServeKept i p t w) Check m n = absurd (apart (codes "serve") (codes "check") name refl refl m.0 n)
 one_meaning name found (ServeKept i p t w) Upgrade m n = absurd (apart (codes "serve") (codes "upgrade") name refl refl m.0 n)
+one_meaning name found (ServeKept i p t w) (Compact j) m n = absurd (apart (codes "serve") (codes "compact") name refl refl m.0 n.0)
 one_meaning name found (ServeKept i p t w) (Serve q u s v) m n = absurd (no_word i (sym m.2 ∙ n.2))
 one_meaning name found (ServeKept i p t w) (ServeKept j q u v) m n =
     one_desk (ServeKept i) found p q t u w v m.3 n.3 ∙ ap (λ path. ServeKept path q u v) (same_word i j (sym m.2 ∙ n.2))

@@ -12,7 +12,7 @@ use Rattle.clap.specs.declared.error.Error.{Error}
 use Rattle.clap.specs.declared.error.kind.ErrorKind.{ErrorKind}
 use Rattle.clap.specs.declared.error.kind.ErrorKind.TheVariants.{DisplayHelp, DisplayVersion, OutOfMemory}
 use Rattle.wb_command.specs.declared.Asked.{Asked}
-use Rattle.wb_command.specs.declared.Asked.TheVariants.{Run, RunKept, Check, Upgrade, Serve, ServeKept}
+use Rattle.wb_command.specs.declared.Asked.TheVariants.{Run, RunKept, Check, Upgrade, Compact, Serve, ServeKept}
 use Rattle.wb_command.specs.declared.CommandErr.{CommandErr}
 use Rattle.wb_command.specs.declared.CommandErr.TheVariants.{Help, BadCommandLine, NoMemory}
 
@@ -35,11 +35,18 @@ needed option = record option { required = true }
 abbrev pub worded : Text → Rule
 worded name = record (new_rule name) { long = Some name; action = Some Set }
 
+-- a word that has to be given, without a name: `WORD`
+abbrev pub plain_word : Text → Rule
+plain_word name = record (new_rule name) { action = Some Set; required = true }
+
 abbrev pub resume_option : Rule
 resume_option = flag (codes "resume")
 
 abbrev pub journal_option : Rule
 journal_option = worded (codes "journal")
+
+abbrev pub file_word : Rule
+file_word = plain_word (codes "file")
 
 abbrev pub workers_option : Rule
 workers_option = number (codes "workers") 1 64
@@ -63,12 +70,15 @@ check_command = command (codes "check") []
 abbrev pub upgrade_command : Shape
 upgrade_command = command (codes "upgrade") []
 
+abbrev pub compact_command : Shape
+compact_command = command (codes "compact") (file_word ∷ [])
+
 abbrev pub serve_command : Shape
 serve_command = command (codes "serve") (port_option ∷ seats_option ∷ resume_option ∷ journal_option ∷ workers_option ∷ [])
 
 -- the commands of the program: one more is a line here and a line of `Means`
 abbrev pub commands : List Shape
-commands = run_command ∷ check_command ∷ upgrade_command ∷ serve_command ∷ []
+commands = run_command ∷ check_command ∷ upgrade_command ∷ compact_command ∷ serve_command ∷ []
 
 -- the program: it has a version, and one of its commands has to be named
 abbrev pub program : App
@@ -108,10 +118,11 @@ IsDesk found port seats workers = HasNumber 16 (codes "port") found port × HasN
 abbrev pub Means : Text → List Row → Asked → Type 0
 Means name found (Run resume workers) =
     (name ≡ codes "run") × (resume ≡ is_set (codes "resume") found) × (word_of (codes "journal") found ≡ None) × HasWorkers found workers
-Means name found (RunKept journal workers) =
-    (name ≡ codes "run") × (is_set (codes "resume") found ≡ false) × (word_of (codes "journal") found ≡ Some journal) × HasWorkers found workers
+Means name found (RunKept journal resume workers) =
+    (name ≡ codes "run") × (resume ≡ is_set (codes "resume") found) × (word_of (codes "journal") found ≡ Some journal) × HasWorkers found workers
 Means name found Check = name ≡ codes "check"
 Means name found Upgrade = name ≡ codes "upgrade"
+Means name found (Compact journal) = (name ≡ codes "compact") × (word_of (codes "file") found ≡ Some journal)
 Means name found (Serve port seats resume workers) =
     (name ≡ codes "serve") × (resume ≡ is_set (codes "resume") found) × (word_of (codes "journal") found ≡ None) × IsDesk found port seats workers
 Means name found (ServeKept journal port seats workers) =

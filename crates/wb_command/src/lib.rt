@@ -23,6 +23,8 @@ const CHECK_EXAMPLE: &str =
 const UPGRADE_EXAMPLE: &str =
     "Example:\n  printf 'chapel-workbook 1\\nrect D {1..4} none\\nend\\n' | workbook upgrade";
 
+const COMPACT_EXAMPLE: &str = "Example:\n  workbook compact plan.wb";
+
 const SERVE_EXAMPLE: &str = "Example:\n  workbook serve --port 7000 --seats 2";
 
 /// The path of a file, a word of the command line.
@@ -63,15 +65,21 @@ pub enum Asked<'a> {
         resume: bool,
         workers: u8,
     },
-    /// A session on the history that a journal has, which keeps each change there.
+    /// A session on the history that a journal has, which keeps each change there; or on the history whose text comes first,
+    /// with which it begins the journal.
     RunKept {
         journal: FilePath<'a>,
+        resume: bool,
         workers: u8,
     },
     /// Whether standard input is the text of a workbook or of a history.
     Check,
     /// The text of the history whose one edit is the load of the workbook text on standard input.
     Upgrade,
+    /// A journal made anew, with the same edits.
+    Compact {
+        journal: FilePath<'a>,
+    },
     /// A desk of 1 to 16 seats on a port, or on any port where that is 0; perhaps on the history whose text is standard
     /// input.
     Serve {
@@ -136,6 +144,7 @@ fn program<'a>(alloc: Global) -> Result<Command<'a>, AllocError>
         .subcommand(run_command(alloc)?)?
         .subcommand(check_command(alloc))?
         .subcommand(upgrade_command(alloc))?
+        .subcommand(compact_command(alloc)?)?
         .subcommand(serve_command(alloc)?)
 }
 
@@ -172,6 +181,17 @@ fn upgrade_command<'a>(alloc: Global) -> Command<'a>
         .after_help(UPGRADE_EXAMPLE)
 }
 
+// The command `compact` with its file.
+fn compact_command<'a>(alloc: Global) -> Result<Command<'a>, AllocError>
+    ensures { IfOk result (λ command. (shape_of command ≡ spec.compact_command)
+        × ((fields_of command).has_globals ≡ false)) }
+{
+    Command::new(alloc, "compact")
+        .about("Makes a journal anew, of one line that has its whole history")
+        .after_help(COMPACT_EXAMPLE)
+        .arg(file_word(alloc))
+}
+
 // The command `serve` with its options.
 fn serve_command<'a>(alloc: Global) -> Result<Command<'a>, AllocError>
     ensures { IfOk result (λ command. (shape_of command ≡ spec.serve_command)
@@ -202,6 +222,15 @@ fn journal_option<'a>(alloc: Global) -> Arg<'a>
 {
     Arg::new(alloc, "journal")
         .long("journal")
+        .action(ArgAction::Set)
+}
+
+// The journal that is made anew.
+fn file_word<'a>(alloc: Global) -> Arg<'a>
+    ensures { (rule_of result ≡ spec.file_word) × (result.global ≡ false) }
+{
+    Arg::new(alloc, "file")
+        .required(true)
         .action(ArgAction::Set)
 }
 
@@ -257,6 +286,7 @@ fn asked_by<'a>(name: &str, found: &ArgMatches<'a>) -> Option<Asked<'a>>
         "run" => run_of(found),
         "check" => Some(Asked::Check),
         "upgrade" => Some(Asked::Upgrade),
+        "compact" => compact_of(found),
         "serve" => serve_of(found),
         _ => None,
     }
@@ -270,11 +300,25 @@ fn run_of<'a>(found: &ArgMatches<'a>) -> Option<Asked<'a>>
 {
     let resume = is_resumed(found);
     let workers = workers_of(found)?;
-    match journal_of(found) {
+    match path_of(found, "journal") {
         None => Some(Asked::Run { resume, workers }),
-        // A journal has its own history, and no other is taken into it.
-        Some(_) if resume => None,
-        Some(journal) => Some(Asked::RunKept { journal, workers }),
+        Some(journal) => Some(Asked::RunKept {
+            journal,
+            resume,
+            workers,
+        }),
+    }
+}
+
+// What `compact` asks for.
+fn compact_of<'a>(found: &ArgMatches<'a>) -> Option<Asked<'a>>
+    ensures { MatchOption result
+        ((asked : Asked) → Means (codes "compact") (rows_of (found_of found.now)) asked → ⊥)
+        (Means (codes "compact") (rows_of (found_of found.now))) }
+{
+    match path_of(found, "file") {
+        Some(journal) => Some(Asked::Compact { journal }),
+        None => None,
     }
 }
 
@@ -288,13 +332,14 @@ fn serve_of<'a>(found: &ArgMatches<'a>) -> Option<Asked<'a>>
     let seats = seats_of(found)?;
     let resume = is_resumed(found);
     let workers = workers_of(found)?;
-    match journal_of(found) {
+    match path_of(found, "journal") {
         None => Some(Asked::Serve {
             port,
             seats,
             resume,
             workers,
         }),
+        // A desk's journal has its own history, and no other is taken into it.
         Some(_) if resume => None,
         Some(journal) => Some(Asked::ServeKept {
             journal,
@@ -330,11 +375,11 @@ fn is_resumed(found: &ArgMatches) -> bool
     found.get_one::<bool>("resume").unwrap_or(false)
 }
 
-// The path of the journal, if there is one.
-fn journal_of<'a>(found: &ArgMatches<'a>) -> Option<FilePath<'a>>
-    ensures { result ≡ word_of (codes "journal") (rows_of (found_of found.now)) }
+// The path of this name, if there is one.
+fn path_of<'a>(found: &ArgMatches<'a>, name: &str) -> Option<FilePath<'a>>
+    ensures { result ≡ word_of name.now (rows_of (found_of found.now)) }
 {
-    match found.get_str("journal") {
+    match found.get_str(name) {
         Some(word) => Some(FilePath::new(word)),
         None => None,
     }

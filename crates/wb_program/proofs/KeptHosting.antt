@@ -6,8 +6,8 @@ use Rattle.wb_lines.specs.declared.sink.Sink as Sink
 use Rattle.wb_lines.specs.declared.source.Source as Source
 use Rattle.wb_command.specs.declared.Asked.{Asked}
 use Rattle.wb_command.specs.declared.Asked.TheVariants.{ServeKept}
-use Rattle.wb_program.specs.Keeping.{ReadsNothing, Streams}
-use Rattle.wb_program.specs.KeptDays.{KeepsDay, RunsDesk, UsesDesk, its_writer}
+use Rattle.wb_program.specs.Keeping.{ReadsNothing, Streams, its_writer}
+use Rattle.wb_program.specs.KeptDays.{KeepsDay, RunsDesk, UsesDesk}
 use Rattle.wb_program.specs.declared.accepting.Accepts as Accepts
 use Rattle.wb_program.specs.declared.files.OpensFiles as OpensFiles
 use Rattle.wb_program.specs.declared.keeping.KeptRun.{KeptRun}
@@ -21,12 +21,12 @@ module _ {I O N D : Type 0} (source : Source.Ghosts I) (sink : Sink.Ghosts O) (a
   wrote_day file held seats run port_failed s (inr (inr (inl h))) = (did_nothing s h.nothing).1
   wrote_day file held seats run port_failed s (inr (inr (inr h))) = (did_nothing s h.nothing).1
 
-  pub wrote : {J : Type 0} (files : OpensFiles.Ghosts J D) (path : List ℕ) (seats status : ℕ) (port_failed : Bool) (after : J) (s : Streams)
+  pub wrote : {J H : Type 0} (files : OpensFiles.Ghosts J D H) (path : List ℕ) (seats status : ℕ) (port_failed : Bool) (after : J) (s : Streams)
       → UsesDesk source sink accepts device files path seats status port_failed after s → (text : List ℕ) × Appends s.sent s.told text
   wrote files path seats status port_failed after s (inl h) = wrote_day h.file h.held seats h.run port_failed s h.runs
   wrote files path seats status port_failed after s (inr h) = (did_nothing s h.nothing).1
 
-  pub kept_asked : {J : Type 0} (files : OpensFiles.Ghosts J D) (asked : Asked) (path : List ℕ) (port seats workers status : ℕ)
+  pub kept_asked : {J H : Type 0} (files : OpensFiles.Ghosts J D H) (asked : Asked) (path : List ℕ) (port seats workers status : ℕ)
       (port_failed : Bool) (after : J) (s : Streams) → asked ≡ ServeKept path port seats workers
       → ReadsNothing s → UsesDesk source sink accepts device files path seats status port_failed after (its_writer s)
       → KeepsDay source sink accepts device files asked status port_failed after s

@@ -8,6 +8,8 @@ pub mod Ending
 pub mod Hosting
 pub mod Finishing
 pub mod Opened
+pub mod Begun
+pub mod MadeAnew
 pub mod Used
 pub mod Judged
 pub mod KeptReading

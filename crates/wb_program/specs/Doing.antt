@@ -40,9 +40,9 @@ module _ {I O N : Type 0} (source : Source.Ghosts I) (sink : Sink.Ghosts O) (acc
   abbrev pub Does : Asked → ℕ → (read : List ℕ) → (left : Option (List ℕ)) → List ℕ → Type 0
   Does (ask.Run false workers) status read left text = IsRun status read left text
   Does (ask.Run true workers) status read left text = IsResumed status read left text
-  -- (what a session with a journal reads, writes and keeps is `UsesFiles`)
-  Does (ask.RunKept path workers) status read left text = Unit {0}
-  -- (what a desk with a journal writes and keeps is `KeepsDay`)
+  -- (what is read and written by a command with a journal, and what it keeps, is `UsesFiles`; of a desk it is `KeepsDay`)
+  Does (ask.RunKept path resume workers) status read left text = Unit {0}
+  Does (ask.Compact path) status read left text = Unit {0}
   Does (ask.ServeKept path port seats workers) status read left text = Unit {0}
   Does ask.Check status read left text = Judges read status text
   Does ask.Upgrade status read left text = Upgrades read status text
@@ -62,9 +62,9 @@ module _ {I O N : Type 0} (source : Source.Ghosts I) (sink : Sink.Ghosts O) (acc
   abbrev pub Fails : Asked → (old new : Option (List ℕ)) → (read_failed : Bool) → (before after : ℕ) → (port_failed write_failed : Bool) → Type 0
   Fails (ask.Run false workers) old new read_failed before after port_failed write_failed = HasFailed read_failed before after write_failed
   Fails (ask.Run true workers) old new read_failed before after port_failed write_failed = HasFailedByNow read_failed before after write_failed
-  -- (why a session with a journal fails stands in `UsesFiles`)
-  Fails (ask.RunKept path workers) old new read_failed before after port_failed write_failed = Unit {0}
-  -- (why a desk with a journal fails stands in `KeepsDay`)
+  -- (why a command with a journal fails stands in `UsesFiles`, and of a desk in `KeepsDay`)
+  Fails (ask.RunKept path resume workers) old new read_failed before after port_failed write_failed = Unit {0}
+  Fails (ask.Compact path) old new read_failed before after port_failed write_failed = Unit {0}
   Fails (ask.ServeKept path port seats workers) old new read_failed before after port_failed write_failed = Unit {0}
   Fails ask.Check old new read_failed before after port_failed write_failed = HasFailed read_failed before after write_failed
   Fails ask.Upgrade old new read_failed before after port_failed write_failed = HasFailed read_failed before after write_failed
@@ -76,7 +76,9 @@ module _ {I O N : Type 0} (source : Source.Ghosts I) (sink : Sink.Ghosts O) (acc
 -- How each command leaves its devices where it answered all: the input, where one is read, at its end, and the writer flushed.
 abbrev pub Finishes : Asked → ℕ → (left : Option (List ℕ)) → (flushed : Bool) → Type 0
 Finishes (ask.Run resume workers) status left flushed = status ≡ 0 → IsAtEnd left × (flushed ≡ true)
-Finishes (ask.RunKept path workers) status left flushed = status ≡ 0 → IsAtEnd left × (flushed ≡ true)
+Finishes (ask.RunKept path resume workers) status left flushed = status ≡ 0 → IsAtEnd left × (flushed ≡ true)
+-- (a journal that is made anew reads nothing, and what it prints is `UsesFiles`)
+Finishes (ask.Compact path) status left flushed = Unit {0}
 Finishes (ask.ServeKept path port seats workers) status left flushed = status ≡ 0 → flushed ≡ true
 Finishes ask.Check status left flushed = IsAnswered status → IsAtEnd left × (flushed ≡ true)
 Finishes ask.Upgrade status left flushed = IsAnswered status → IsAtEnd left × (flushed ≡ true)

@@ -1,5 +1,5 @@
 -- Sessions whose changes are kept in a journal, what is told of its file, and the exit status.
-use Rattle.std.specs.Prelude.{◌≡◌, ◌⊎◌, ◌<◌, ℕ, Bool, true, List, [], Option, None, Some, IsTrue, IsFalse}
+use Rattle.std.specs.Prelude.{◌≡◌, ◌⊎◌, ◌<◌, ℕ, Bool, true, false, List, [], Option, None, Some, IsTrue, IsFalse}
 use Rattle.std.specs.Io.KnownBytes.{Appends, IsAtEnd}
 use Rattle.wb_disk.specs.Device.{LeavesOnly, Only}
 use Rattle.wb_disk.specs.declared.device.Device as Device
@@ -17,8 +17,6 @@ use Rattle.wb_lines.specs.declared.sink.Sink as Sink
 use Rattle.wb_lines.specs.declared.source.Source as Source
 use Rattle.wb_proto.specs.Below.wb_history.Past.{Past}
 use Rattle.wb_granting.specs.Granting.{Answers, Grants, no_edit}
-use Rattle.wb_command.specs.declared.Asked.{Asked}
-use Rattle.wb_command.specs.declared.Asked.TheVariants as ask
 use Rattle.wb_program.specs.Checking.{IsAnswered, Says}
 use Rattle.wb_program.specs.Running.{HasFailed}
 use Rattle.wb_program.specs.declared.checking.Verdict.TheVariants.{Refused}
@@ -73,6 +71,34 @@ streams source sink old new before after = record {
   write_failed = sink.failed after;
 }
 
+-- a writer beside which nothing is read
+abbrev pub writer_alone : {W : Type 0} → Sink.Ghosts W → (before after : W) → Streams
+writer_alone sink before after = record {
+  unread = None;
+  left = None;
+  reads_before = 0;
+  reads_after = 0;
+  read_failed = false;
+  sent = sink.contents before;
+  told = sink.contents after;
+  flushed = sink.flushed after;
+  write_failed = sink.failed after;
+}
+
+-- the writer of these alone
+abbrev pub its_writer : Streams → Streams
+its_writer s = record {
+  unread = None;
+  left = None;
+  reads_before = 0;
+  reads_after = 0;
+  read_failed = false;
+  sent = s.sent;
+  told = s.told;
+  flushed = s.flushed;
+  write_failed = s.write_failed;
+}
+
 -- Nothing was read.
 abbrev pub ReadsNothing : Streams → Type 0
 ReadsNothing s = (s.left ≡ s.unread) × (s.reads_after ≡ s.reads_before)
@@ -107,10 +133,8 @@ module _ {D : Type 0} (device : Device.Ghosts D) where
   IsCause file held errs.Failed left =
       LeavesOnly device.moment device.left_since file left (StandsForTheSame held) × (device.faults file < device.faults left)
 
-  -- The journal was opened, and the lines were answered on its history, up to the end of input or a fault.
-  pub record ServesKept (file : D) (held : List ℕ) (run : KeptRun D) (s : Streams) : Type 0 where
-    pub opened : Kept Past D
-    pub is_opened : IsOpened file held opened
+  -- The lines were answered on a history that is kept, up to the end of input or a fault.
+  pub record ServesOn (opened : Kept Past D) (run : KeptRun D) (s : Streams) : Type 0 where
     pub end : KeptEnd
     pub after : Kept Past D
     pub session : KeepsSession end opened after s.unread s.left s.sent s.told
@@ -120,6 +144,12 @@ module _ {D : Type 0} (device : Device.Ghosts D) where
     pub is_status : run.status ≡ status_of_end end
     pub is_fault : run.fault ≡ fault_of_end end
     pub is_file : run.file ≡ after.log.device
+
+  -- The journal was opened, and the lines were answered on its history.
+  pub record ServesKept (file : D) (held : List ℕ) (run : KeptRun D) (s : Streams) : Type 0 where
+    pub opened : Kept Past D
+    pub is_opened : IsOpened file held opened
+    pub serves : ServesOn opened run s
 
   -- A line of the journal is not granted: that is refused, which is printed, and the file is untouched.
   pub record RefusesLines (file : D) (held : List ℕ) (run : KeptRun D) (s : Streams) : Type 0 where
@@ -170,16 +200,16 @@ FinishesKept status s = status ≡ 0 → IsAtEnd s.left × (s.flushed ≡ true)
 abbrev pub FailsKept : ℕ → Option FileFault → Streams → Type 0
 FailsKept status fault s = status ≡ 3 → HasFailed s.read_failed s.reads_before s.reads_after s.write_failed ⊎ ((why : FileFault) × (fault ≡ Some why))
 
-module _ {D J : Type 0} (device : Device.Ghosts D) (files : OpensFiles.Ghosts J D) where
-  -- The file at this path was opened, a session ran with it, and it was given back, with what is told of it.
-  pub record KeepsAt (path : List ℕ) (status : ℕ) (after : J) (s : Streams) : Type 0 where
+module _ {D J H : Type 0} (device : Device.Ghosts D) (files : OpensFiles.Ghosts J D H) where
+  -- The file at this path was opened, it was used so, and it was given back, with what is told of it.
+  pub record UsesFileAt (Uses : (file : D) → (held : List ℕ) → KeptRun D → Streams → Type 0) (path : List ℕ) (status : ℕ) (after : J) (s : Streams) : Type 0 where
     pub file : D
     pub held : List ℕ
     pub came : files.came after path file held
     pub seen : device.seen file ≡ held
     pub durable : Only (device.seen file) (device.may_leave file)
     pub run : KeptRun D
-    pub runs : RunsKept device file held run s
+    pub uses : Uses file held run s
     pub is_status : status ≡ run.status
     pub fails : FailsKept status run.fault s
     pub closed : files.closed after run.file
@@ -192,9 +222,6 @@ module _ {D J : Type 0} (device : Device.Ghosts D) (files : OpensFiles.Ghosts J 
     pub told : files.told after ≡ Some fault
     pub is_status : status ≡ status_of_fault fault
 
-  -- What a command does with files: a session with a journal opens one, and so does a desk with a journal; no other command does.
-  abbrev pub UsesFiles : Asked → ℕ → (before after : J) → Streams → Type 0
-  UsesFiles (ask.RunKept path workers) status before after s = KeepsAt path status after s ⊎ IsNotOpened status after s
-  -- (what a desk with a journal does with its file is `KeepsDay`)
-  UsesFiles (ask.ServeKept path port seats workers) status before after s = Unit {0}
-  UsesFiles asked status before after s = after ≡ before
+  -- it was used so, or not opened
+  abbrev pub UsesFile : (Uses : (file : D) → (held : List ℕ) → KeptRun D → Streams → Type 0) → (path : List ℕ) → (status : ℕ) → (after : J) → Streams → Type 0
+  UsesFile Uses path status after s = UsesFileAt Uses path status after s ⊎ IsNotOpened status after s

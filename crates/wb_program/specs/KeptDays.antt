@@ -16,7 +16,7 @@ use Rattle.wb_command.specs.declared.Asked.TheVariants as ask
 use Rattle.wb_program.specs.Checking.{IsFault}
 use Rattle.wb_program.specs.Days.{FailsDay, IsDay}
 use Rattle.wb_program.specs.Doing.{listening}
-use Rattle.wb_program.specs.Keeping.{FailsToOpen, IsKeptHistory, IsNotOpened, IsOpened, ReadsNothing, RefusesFile, RefusesLines, Streams}
+use Rattle.wb_program.specs.Keeping.{FailsToOpen, IsKeptHistory, IsNotOpened, IsOpened, ReadsNothing, RefusesFile, RefusesLines, Streams, its_writer}
 use Rattle.wb_program.specs.KeptSeats.{FailsOnce}
 use Rattle.wb_program.specs.Serving.{NeverSettles, PrintsSettled}
 use Rattle.wb_program.specs.declared.accepting.Accepts as Accepts
@@ -24,34 +24,6 @@ use Rattle.wb_program.specs.declared.files.FileFault.{FileFault}
 use Rattle.wb_program.specs.declared.files.FileFault.TheVariants as faults
 use Rattle.wb_program.specs.declared.files.OpensFiles as OpensFiles
 use Rattle.wb_program.specs.declared.keeping.KeptRun.{KeptRun}
-
--- a writer beside which nothing is read
-abbrev pub writer_alone : {W : Type 0} → Sink.Ghosts W → (before after : W) → Streams
-writer_alone sink before after = record {
-  unread = None;
-  left = None;
-  reads_before = 0;
-  reads_after = 0;
-  read_failed = false;
-  sent = sink.contents before;
-  told = sink.contents after;
-  flushed = sink.flushed after;
-  write_failed = sink.failed after;
-}
-
--- the writer of these alone
-abbrev pub its_writer : Streams → Streams
-its_writer s = record {
-  unread = None;
-  left = None;
-  reads_before = 0;
-  reads_after = 0;
-  read_failed = false;
-  sent = s.sent;
-  told = s.told;
-  flushed = s.flushed;
-  write_failed = s.write_failed;
-}
 
 module _ {D : Type 0} (device : Device.Ghosts D) where
   -- Nothing is told of the file; or that it failed, with status 3, which it did.
@@ -123,8 +95,8 @@ module _ {I O N D : Type 0} (source : Source.Ghosts I) (sink : Sink.Ghosts O) (a
   RunsDesk file held seats run port_failed s = ServesKeptDesk file held seats run port_failed s
       ⊎ (RefusesLines device file held run s ⊎ (RefusesFile device file held run s ⊎ FailsToOpen device file held run s))
 
-module _ {I O N D J : Type 0} (source : Source.Ghosts I) (sink : Sink.Ghosts O) (accepts : Accepts.Ghosts N I O) (device : Device.Ghosts D)
-    (files : OpensFiles.Ghosts J D) where
+module _ {I O N D J H : Type 0} (source : Source.Ghosts I) (sink : Sink.Ghosts O) (accepts : Accepts.Ghosts N I O) (device : Device.Ghosts D)
+    (files : OpensFiles.Ghosts J D H) where
   -- The file at this path was opened, a desk was served with it, and it was given back, with what is told of it.
   pub record KeepsDesk (path : List ℕ) (seats status : ℕ) (port_failed : Bool) (after : J) (s : Streams) : Type 0 where
     pub file : D

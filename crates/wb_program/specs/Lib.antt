@@ -7,5 +7,8 @@ pub mod Accepting
 pub mod Days
 pub mod Keeping
 pub mod KeptSeats
+pub mod Beginning
+pub mod Compacting
+pub mod Files
 pub mod Doing
 pub mod KeptDays

@@ -5,12 +5,18 @@ ghost use Rattle.wb_shared.specs.Openings.{nothing_done};
 ghost use Rattle.wb_program.specs.Checking.{IsFault};
 ghost use Rattle.wb_program.specs.Resuming.{left_in, failed_in, reads_in};
 ghost use Rattle.wb_program.specs.Running.{HasFailed};
-ghost use Rattle.wb_program.specs.Keeping.{FinishesKept, IsNotOpened, KeepsAt, UsesFiles, streams};
+ghost use Rattle.wb_keeping.specs.Opening.{IsOpening};
+ghost use Rattle.wb_program.specs.Beginning.{BeginsAt, RunsBegun};
+ghost use Rattle.wb_program.specs.Compacting.{Compacts};
+ghost use Rattle.wb_program.specs.Files.{UsesFiles};
+ghost use Rattle.wb_program.specs.Keeping.{FinishesKept, RunsKept, UsesFile, streams, writer_alone};
 ghost use Rattle.wb_program.specs.KeptDays.{KeepsDay};
 ghost use Rattle.wb_program.specs.Doing.{listening, Hosts, HostsHistory, Does, FailsToHost, FailsAfterInput, Finishes, Fails};
 
 use crate::accepting::{AcceptErr, Accepts, Binds};
+use crate::beginning::{begin_kept_with, opening_from};
 use crate::checking::{check_with, tell};
+use crate::compacting::compact_with;
 use crate::files::{FileFault, OpensFiles};
 use crate::keeping::{KeptRun, run_kept_with};
 use crate::kept_hosting::serve_kept;
@@ -23,7 +29,8 @@ use std::alloc::Global;
 use std::sync::Wait;
 use std::thread::Threads;
 use wb_command::Asked;
-use wb_disk::Device;
+use wb_disk::Replaces;
+use wb_keeping::Opening;
 use wb_lines::{Sink, Source};
 use wb_proto::below::history::History;
 use wb_redist::Mover;
@@ -149,7 +156,7 @@ fn host_input<
 }
 
 // A session on the history that the journal at a path has.
-fn run_kept<D: Device, J: OpensFiles<D>, R: Source, W: Sink, M: Mover>(
+fn run_kept<D: Replaces, J: OpensFiles<D>, R: Source, W: Sink, M: Mover>(
     alloc: Global,
     files: &mut J,
     path: &str,
@@ -157,8 +164,8 @@ fn run_kept<D: Device, J: OpensFiles<D>, R: Source, W: Sink, M: Mover>(
     writer: &mut W,
     mover: &M,
 ) -> u8
-    ensures keeps { KeepsAt D.Device J.OpensFiles path.now result files.new (streams R.Source W.Sink reader.old reader.new writer.old writer.new)
-        ⊎ IsNotOpened D.Device J.OpensFiles result files.new (streams R.Source W.Sink reader.old reader.new writer.old writer.new) }
+    ensures keeps { UsesFile D.Device J.OpensFiles (RunsKept D.Device) path.now result files.new
+        (streams R.Source W.Sink reader.old reader.new writer.old writer.new) }
     ensures done { FinishesKept result (streams R.Source W.Sink reader.old reader.new writer.old writer.new) }
 {
     match files.open(path) {
@@ -176,17 +183,102 @@ fn run_kept<D: Device, J: OpensFiles<D>, R: Source, W: Sink, M: Mover>(
     }
 }
 
+// A session on a history with which the file at a path is begun.
+fn run_begun<D: Replaces, J: OpensFiles<D>, R: Source, W: Sink, M: Mover>(
+    alloc: Global,
+    files: &mut J,
+    path: &str,
+    opening: Opening,
+    reader: &mut R,
+    writer: &mut W,
+    mover: &M,
+) -> u8
+    requires opening { IsOpening opening }
+    ensures keeps { UsesFile D.Device J.OpensFiles (RunsBegun D.Device opening.history) path.now result files.new
+        (streams R.Source W.Sink reader.old reader.new writer.old writer.new) }
+    ensures done { FinishesKept result (streams R.Source W.Sink reader.old reader.new writer.old writer.new) }
+{
+    match files.open(path) {
+        Ok((file, held)) => {
+            let KeptRun {
+                status,
+                fault,
+                file,
+            } = begin_kept_with(alloc, opening, file, &held, reader, writer, mover);
+            files.close(file, fault);
+            status
+        }
+        Err(FileFault::NoMemory) => NO_MEMORY,
+        Err(_) => INPUT_OR_OUTPUT_FAILED,
+    }
+}
+
+// The same, where the text of the history comes first.
+fn run_resumed<D: Replaces, J: OpensFiles<D>, R: Source, W: Sink, M: Mover>(
+    alloc: Global,
+    files: &mut J,
+    path: &str,
+    reader: &mut PutBack<R>,
+    writer: &mut W,
+    mover: &M,
+) -> u8
+    ensures keeps { BeginsAt D.Device J.OpensFiles path.now result files.old files.new (record {
+      unread = left_in R.remaining reader.old;
+      left = left_in R.remaining reader.new;
+      reads_before = reads_in reader.old;
+      reads_after = reads_in reader.new;
+      read_failed = failed_in reader.new;
+      sent = W.contents writer.old;
+      told = W.contents writer.new;
+      flushed = W.flushed writer.new;
+      write_failed = W.failed writer.new;
+    }) }
+    ensures done { result ≡ 0 → IsAtEnd (left_in R.remaining reader.new) × (W.flushed writer.new ≡ true) }
+{
+    match opening_from(alloc, reader, writer, mover) {
+        Ok(opening) => run_begun::<D, J, PutBack<R>, W, M>(
+            alloc, files, path, opening, reader, writer, mover,
+        ),
+        Err(status) => status,
+    }
+}
+
+// The journal at a path, made anew.
+fn compact_at<D: Replaces, J: OpensFiles<D>, W: Sink, M: Mover>(
+    alloc: Global,
+    files: &mut J,
+    path: &str,
+    writer: &mut W,
+    mover: &M,
+) -> u8
+    ensures keeps { UsesFile D.Device J.OpensFiles (Compacts D.Device) path.now result files.new (writer_alone W.Sink writer.old writer.new) }
+{
+    match files.open(path) {
+        Ok((file, held)) => {
+            let KeptRun {
+                status,
+                fault,
+                file,
+            } = compact_with(alloc, files.host(), file, &held, writer, mover);
+            files.close(file, fault);
+            status
+        }
+        Err(FileFault::NoMemory) => NO_MEMORY,
+        Err(_) => INPUT_OR_OUTPUT_FAILED,
+    }
+}
+
 /// Does what a command line asks for: the exit status. What is read and written is what the definition of each command says. Status 0
 /// comes only with the writer flushed, and, where an input is read, at its end; 3 only where a read, a write, a flush, a port, a
 /// connection or a thread failed, or what the definition of each command names besides. A desk listens on a port that `ports` gives. A
-/// journal is in the file that `files` gives for its path; no other command opens a file.
+/// journal is in the file that `files` gives for its path, also one that is made anew; no other command opens a file.
 pub fn do_asked<
     R: Threads + Wait + Sync,
     B: Binds<N, I, O>,
     N: Accepts<I, O> + Drop,
     I: Source + Send + Drop,
     O: Sink + Send + Drop,
-    D: Device + Send + Drop,
+    D: Replaces + Send + Drop,
     J: OpensFiles<D>,
     S: Source,
     W: Sink,
@@ -238,18 +330,29 @@ pub fn do_asked<
                 run_with(alloc, reader, writer, mover)
             }
         }
-        Asked::RunKept { journal, .. } => {
-            run_kept::<D, J, PutBack<S>, W, M>(
-                alloc,
-                files,
-                journal.as_str(),
-                reader,
-                writer,
-                mover,
-            )
+        Asked::RunKept {
+            journal,
+            resume,
+            ..
+        } => {
+            if resume {
+                run_resumed::<D, J, S, W, M>(alloc, files, journal.as_str(), reader, writer, mover)
+            } else {
+                run_kept::<D, J, PutBack<S>, W, M>(
+                    alloc,
+                    files,
+                    journal.as_str(),
+                    reader,
+                    writer,
+                    mover,
+                )
+            }
         }
         Asked::Check => check_with(alloc, reader, writer, mover),
         Asked::Upgrade => upgrade_with(alloc, reader, writer, mover),
+        Asked::Compact { journal } => {
+            compact_at::<D, J, W, M>(alloc, files, journal.as_str(), writer, mover)
+        }
         Asked::Serve {
             port,
             seats,

@@ -3,7 +3,7 @@ ghost use Rattle.std.specs.Prelude.{◌≡◌, ℕ, List, Option, Some, IfOk, If
 ghost use Rattle.wb_disk.specs.Device.{Only};
 
 use std::io::{self, ErrorKind};
-use wb_disk::{Device, DiskFile, OpenDiskErr, open_file};
+use wb_disk::{DiskFile, OpenDiskErr, Replaces, open_file};
 use wb_keep::START;
 
 /// Why no journal is kept in a file, where the file is the cause.
@@ -17,6 +17,8 @@ pub enum FileFault {
     NotAFile,
     /// It is a file of another kind.
     NotOurs,
+    /// It has a line already, and no other history begins it.
+    HasLines,
     /// It failed.
     Failed,
     /// A growth was refused.
@@ -24,7 +26,7 @@ pub enum FileFault {
 }
 
 /// What opens the file of a journal, and is told how that came out.
-pub trait OpensFiles<D: Device> {
+pub trait OpensFiles<D: Replaces> {
     ghost use Rattle.wb_program.specs.declared.files.FileFault.{FileFault};
 
     // For this path this file came, which held these bytes.
@@ -39,8 +41,11 @@ pub trait OpensFiles<D: Device> {
     /// Opens the file at a path, which is made where there is none: the file, and what it holds, all of it on the disk.
     fn open(&mut self, path: &str) -> Result<(D, Vec<u8>), FileFault>
         ensures came { IfOk result (λ opened. came self.new path.now opened.0 opened.1.items) }
-        ensures held { IfOk result (λ opened. (D.seen opened.0 ≡ opened.1.items) × Only (D.seen opened.0) (D.may_leave opened.0)) }
+        ensures held { IfOk result (λ opened. (D.Device.seen opened.0 ≡ opened.1.items) × Only (D.Device.seen opened.0) (D.Device.may_leave opened.0)) }
         ensures told { IfErr result (λ fault. told self.new ≡ Some fault) };
+
+    /// What a new file is put in place of another by.
+    fn host(&self) -> &D::Host;
 
     /// Takes a file back, and is told why it kept no journal, or no more of it.
     fn close(&mut self, file: D, fault: Option<FileFault>)
@@ -113,6 +118,10 @@ impl<'a> OpensFiles<DiskFile> for Files<'a> {
                 Err(fault)
             }
         }
+    }
+
+    fn host(&self) -> &HostRuntime {
+        self.rt
     }
 
     fn close(&mut self, file: DiskFile, fault: Option<FileFault>) {

@@ -5,7 +5,7 @@ ghost use Rattle.wb_kept.specs.Sessions.{KeepsUntil, ReadsUntil, WritesUntil};
 ghost use Rattle.wb_proto.specs.Below.wb_history.Past.{Past};
 ghost use Rattle.wb_granting.specs.Granting.{Answers, Grants};
 ghost use Rattle.wb_program.specs.Keeping.{IsCause, IsKeptHistory, IsOpened, KeepsSession, TurnsAway, fault_of_end, status_of_end};
-ghost use Rattle.wb_program.specs.Keeping.{FailsKept, FinishesKept, RunsKept, streams};
+ghost use Rattle.wb_program.specs.Keeping.{FailsKept, FinishesKept, RunsKept, ServesOn, streams};
 
 use crate::checking::{Verdict, say};
 use crate::files::FileFault;
@@ -72,7 +72,7 @@ pub(crate) fn opened<D: Device, M: Mover>(
     open::<KeptHistory, History, D, _>(alloc, &make, History::new(alloc), file, held)
 }
 
-// A session on it.
+// A session on a history that is kept.
 fn served<D: Device, R: Source, W: Sink, M: Mover>(
     alloc: Global,
     kept: &mut Kept<History, D>,
@@ -97,7 +97,29 @@ fn served<D: Device, R: Source, W: Sink, M: Mover>(
     serve_kept::<KeptHistory, History, D, _, R, W>(alloc, &answer, kept, reader, writer)
 }
 
-/// How it comes out where the journal is not opened.
+/// A session on a history that is kept in a file, and what is told of the file.
+pub(crate) fn serve_from<D: Device, R: Source, W: Sink, M: Mover>(
+    alloc: Global,
+    kept: Kept<History, D>,
+    reader: &mut R,
+    writer: &mut W,
+    mover: &M,
+) -> KeptRun<D>
+    requires { IsKeptHistory D.Device kept }
+    ensures serves { ServesOn D.Device kept result (streams R.Source W.Sink reader.old reader.new writer.old writer.new) }
+    ensures done { FinishesKept result.status (streams R.Source W.Sink reader.old reader.new writer.old writer.new) }
+    ensures failed { FailsKept result.status result.fault (streams R.Source W.Sink reader.old reader.new writer.old writer.new) }
+{
+    let mut kept = kept;
+    let end = served(alloc, &mut kept, reader, writer, mover);
+    KeptRun {
+        status: status_of_end(end),
+        fault: fault_of_end(end),
+        file: kept.log.device,
+    }
+}
+
+/// How it comes out where a journal is not opened.
 pub(crate) fn turned_away<D, W: Sink>(
     alloc: Global,
     why: OpenKeptErr,
@@ -140,15 +162,7 @@ pub fn run_kept_with<D: Device, R: Source, W: Sink, M: Mover>(
     ensures failed { FailsKept result.status result.fault (streams R.Source W.Sink reader.old reader.new writer.old writer.new) }
 {
     match opened(alloc, file, held, mover) {
-        Ok(kept) => {
-            let mut kept = kept;
-            let end = served(alloc, &mut kept, reader, writer, mover);
-            KeptRun {
-                status: status_of_end(end),
-                fault: fault_of_end(end),
-                file: kept.log.device,
-            }
-        }
+        Ok(kept) => serve_from(alloc, kept, reader, writer, mover),
         Err((why, file)) => turned_away(alloc, why, file, writer),
     }
 }

@@ -2,8 +2,8 @@
 ghost use Rattle.std.specs.Prelude.{◌≡◌, ◌⊎◌, ℕ, List, true};
 ghost use Rattle.std.specs.Io.KnownBytes.{Appends};
 ghost use Rattle.wb_disk.specs.Device.{Only};
-ghost use Rattle.wb_program.specs.Keeping.{IsKeptHistory};
-ghost use Rattle.wb_program.specs.KeptDays.{FailsKeptDay, HostsKept, RunsDesk, UsesDesk, writer_alone};
+ghost use Rattle.wb_program.specs.Keeping.{IsKeptHistory, writer_alone};
+ghost use Rattle.wb_program.specs.KeptDays.{FailsKeptDay, HostsKept, RunsDesk, UsesDesk};
 
 use crate::accepting::{Accepts, Binds};
 use crate::doing::listen;
@@ -14,7 +14,7 @@ use crate::running::{INPUT_OR_OUTPUT_FAILED, NO_MEMORY};
 use std::alloc::Global;
 use std::sync::Wait;
 use std::thread::Threads;
-use wb_disk::Device;
+use wb_disk::{Device, Replaces};
 use wb_kept::Kept;
 use wb_lines::{Sink, Source};
 use wb_proto::below::history::History;
@@ -110,7 +110,7 @@ pub(crate) fn serve_kept<
     N: Accepts<I, O> + Drop,
     I: Source + Send + Drop,
     O: Sink + Send + Drop,
-    D: Device + Send + Drop,
+    D: Replaces + Send + Drop,
     J: OpensFiles<D>,
     W: Sink,
     M: Mover + Sync,

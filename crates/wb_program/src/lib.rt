@@ -5,7 +5,9 @@
 
 mod accepting;
 mod answering;
+mod beginning;
 mod checking;
+mod compacting;
 mod cost;
 mod doing;
 mod files;
@@ -22,7 +24,9 @@ mod upgrading;
 
 pub use crate::accepting::{AcceptErr, Accepts, Binds, Connections, Ports};
 pub use crate::answering::session;
+pub use crate::beginning::begin_kept_with;
 pub use crate::checking::{REFUSED, Verdict, check_with, status_of_verdict, verdict_on};
+pub use crate::compacting::compact_with;
 pub use crate::doing::do_asked;
 pub use crate::files::{FileFault, Files, OpensFiles};
 pub use crate::keeping::{KeptRun, run_kept_with};

@@ -79,8 +79,8 @@ fn has_end(bytes: &[u8], from: usize) -> bool
     }
 }
 
-// Reads to the first line `end`, or to the end of input, and perhaps further.
-fn read_opening<R: Source>(alloc: Global, reader: &mut R) -> Result<Vec<u8>, LineFault>
+/// Reads to the first line `end`, or to the end of input, and perhaps further.
+pub(crate) fn read_opening<R: Source>(alloc: Global, reader: &mut R) -> Result<Vec<u8>, LineFault>
     ensures ok { IfOk result (λ bytes. Consumes (R.remaining reader.old) (R.remaining reader.new) bytes.items
         × (HasNoEnd bytes.items → IsAtEnd (R.remaining reader.new))) }
     ensures err { OnErr result ((got : List ℕ) × Consumes (R.remaining reader.old) (R.remaining reader.new) got) }
@@ -103,8 +103,8 @@ fn read_opening<R: Source>(alloc: Global, reader: &mut R) -> Result<Vec<u8>, Lin
     Err(LineFault::TooManyReads)
 }
 
-// What stands up to the first line `end`, and what comes behind it.
-fn parts(bytes: &[u8]) -> Option<(&[u8], &[u8])>
+/// What stands up to the first line `end`, and what comes behind it.
+pub(crate) fn parts(bytes: &[u8]) -> Option<(&[u8], &[u8])>
     ensures some { IfSome result (λ r. (bytes.now ≡ r.0.now ++ r.1.now) × IsUpToEnd r.0.now) }
     ensures none { IfNone result (HasNoEnd bytes.now) }
 {

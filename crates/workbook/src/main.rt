@@ -97,6 +97,9 @@ fn tell_of_file(rt: &HostRuntime, fault: FileFault, cause: Option<io::Error>) ->
         FileFault::Busy => eprint!(rt; "workbook: the journal is in use")?,
         FileFault::NotAFile => eprint!(rt; "workbook: the journal is no regular file")?,
         FileFault::NotOurs => eprint!(rt; "workbook: the file is no journal")?,
+        FileFault::HasLines => {
+            eprint!(rt; "workbook: the journal has lines already, and --resume begins a new one")?
+        }
         FileFault::Failed => eprint!(rt; "workbook: the journal failed")?,
         FileFault::NoMemory => eprint!(rt; "workbook: no memory for the journal")?,
     }
@@ -152,6 +155,7 @@ fn workers_of(asked: &Asked<'_>) -> usize {
         Asked::RunKept { workers, .. } => *workers as usize,
         Asked::Check => 1,
         Asked::Upgrade => 1,
+        Asked::Compact { .. } => 1,
         Asked::Serve { workers, .. } => *workers as usize,
         Asked::ServeKept { workers, .. } => *workers as usize,
     }

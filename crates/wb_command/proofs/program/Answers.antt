@@ -16,5 +16,7 @@ returns c =
     c.in_ok-subcommand-2.ensures one c.check_command.ensures in
     let three = command_added c.in_ok-subcommand-2.field-0 c.upgrade_command.result c.in_ok-subcommand-3.field-0 _ spec.upgrade_command
     c.in_ok-subcommand-3.ensures two c.upgrade_command.ensures in
-    IfOk-weaker c.subcommand-4.result _ _ (λ r added. command_added c.in_ok-subcommand-3.field-0 c.in_ok-serve_command.field-0 r _ spec.serve_command
-    added three c.in_ok-serve_command.ensures) c.subcommand-4.ensures
+    let four = command_added c.in_ok-subcommand-3.field-0 c.in_ok-compact_command.field-0 c.in_ok-subcommand-4.field-0 _ spec.compact_command
+    c.in_ok-subcommand-4.ensures three c.in_ok-compact_command.ensures in
+    IfOk-weaker c.subcommand-5.result _ _ (λ r added. command_added c.in_ok-subcommand-4.field-0 c.in_ok-serve_command.field-0 r _ spec.serve_command
+    added four c.in_ok-serve_command.ensures) c.subcommand-5.ensures

@@ -252,12 +252,31 @@ fn journals_are_judged(rt: HostRuntime) -> Result<(), Fail> {
     Ok(())
 }
 
-// One file in memory, at one path.
+/// One file in memory, at one path, and how many calls it does.
 #[derive(Drop)]
-struct OneFile {
+pub struct OneFile {
     alloc: Global,
-    told: Option<FileFault>,
-    file: Option<MemoryFile>,
+    held: &'static [u8],
+    calls: usize,
+    host: (),
+    /// What was told of it last.
+    pub told: Option<FileFault>,
+    /// What was given back.
+    pub file: Option<MemoryFile>,
+}
+
+impl OneFile {
+    /// A file that holds these bytes.
+    pub fn of(alloc: Global, held: &'static [u8], calls: usize) -> OneFile {
+        OneFile {
+            alloc,
+            held,
+            calls,
+            host: (),
+            told: None,
+            file: None,
+        }
+    }
 }
 
 impl OpensFiles<MemoryFile> for OneFile {
@@ -275,15 +294,19 @@ impl OpensFiles<MemoryFile> for OneFile {
             self.told = Some(FileFault::NotOpened);
             return Err(FileFault::NotOpened);
         }
-        let Ok(held) = START.to_vec(self.alloc) else {
+        let Ok(held) = self.held.to_vec(self.alloc) else {
             self.told = Some(FileFault::NoMemory);
             return Err(FileFault::NoMemory);
         };
-        let Ok(bytes) = START.to_vec(self.alloc) else {
+        let Ok(bytes) = self.held.to_vec(self.alloc) else {
             self.told = Some(FileFault::NoMemory);
             return Err(FileFault::NoMemory);
         };
-        Ok((MemoryFile::new(self.alloc, bytes, NEVER, 0), held))
+        Ok((MemoryFile::new(self.alloc, bytes, self.calls, 0), held))
+    }
+
+    fn host(&self) -> &() {
+        &self.host
     }
 
     fn close(&mut self, file: MemoryFile, fault: Option<FileFault>) {
@@ -298,17 +321,14 @@ fn a_command_line_keeps_a_journal_at_its_path(rt: HostRuntime) -> Result<(), Fai
     let alone = Crew::alone(&rt);
     for (path, status, written) in [("plan.wb", 0, REPLIES), ("other.wb", 3, b"".as_slice())] {
         let mut ports = Ports::of(&rt);
-        let mut files = OneFile {
-            alloc,
-            told: None,
-            file: None,
-        };
+        let mut files = OneFile::of(alloc, &START, NEVER);
         let mut output = Vec::new(alloc);
         let ended = do_asked(
             &rt,
             alloc,
             Asked::RunKept {
                 journal: FilePath::new(path),
+                resume: false,
                 workers: 1,
             },
             &mut ports,

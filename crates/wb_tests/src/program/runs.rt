@@ -38,12 +38,16 @@ workbook run --workers 64 --resume -> Run { resume: true, workers: 64 }
 workbook run --workers 0 -> bad command line
 workbook run --workers 65 -> bad command line
 workbook run --workers -> bad command line
-workbook run --journal plan.wb -> RunKept { journal: FilePath { word: "plan.wb" }, workers: 1 }
-workbook run --workers 4 --journal=plan.wb -> RunKept { journal: FilePath { word: "plan.wb" }, workers: 4 }
+workbook run --journal plan.wb -> RunKept { journal: FilePath { word: "plan.wb" }, resume: false, workers: 1 }
+workbook run --workers 4 --journal=plan.wb -> RunKept { journal: FilePath { word: "plan.wb" }, resume: false, workers: 4 }
 workbook run --journal -> bad command line
 workbook run --journal plan.wb --journal other.wb -> bad command line
-workbook run --journal plan.wb --resume -> bad command line
+workbook run --journal plan.wb --resume -> RunKept { journal: FilePath { word: "plan.wb" }, resume: true, workers: 1 }
 workbook check --journal plan.wb -> bad command line
+workbook compact plan.wb -> Compact { journal: FilePath { word: "plan.wb" } }
+workbook compact -> bad command line
+workbook compact plan.wb other.wb -> bad command line
+workbook compact --journal plan.wb -> bad command line
 workbook check --workers 2 -> bad command line
 workbook check -> Check
 workbook upgrade -> Upgrade

@@ -1,15 +1,18 @@
-use Rattle.std.proofs.Common.{[], rules, subst, sym}
+use Rattle.std.proofs.Common.{[], refl, rules, subst, sym}
+use Rattle.wb_program.specs.Compacting.{Compacts}
 use Rattle.wb_program.specs.Doing.{Does}
+use Rattle.wb_program.specs.Keeping.{RunsKept}
 use Rattle.wb_program.specs.Resuming.{left_in}
 use Rattle.wb_program.proofs.Finishing.{desk_fails, desk_finishes, resumed_desk_fails, resumed_desk_finishes}
 use Rattle.wb_program.proofs.Hosting.{history_hosted, hosted, resumed, upgraded}
 use Rattle.wb_program.proofs.KeptHosting.{kept_asked, wrote}
-use Rattle.wb_program.proofs.Used.{read_and_wrote}
+use Rattle.wb_program.proofs.Used.{began, keeps_anew, keeps_begun, keeps_run, made_anew, ran, read_and_wrote}
 use Rattle.wb_program.proofs.doing.do_asked.Goals as goal
 
-pub returns-in-RunKept-clause-does : goal.returns-in-RunKept-clause-does
-returns-in-RunKept-clause-does g c =
-    let both = read_and_wrote g.D.Device g.J.OpensFiles c.as_str.result.now c.run_kept.result c.run_kept.new.files _ c.run_kept.ensures.keeps in (
+pub returns-else-resume-2-clause-does : goal.returns-else-resume-2-clause-does
+returns-else-resume-2-clause-does g c =
+    let both = read_and_wrote g.D.Device g.J.OpensFiles (RunsKept g.D.Device) (ran g.D.Device) c.as_str.result.now c.run_kept.result c.run_kept.new.files _
+    c.run_kept.ensures.keeps in (
       both.0.0,
       both.0.1,
       (
@@ -43,8 +46,8 @@ returns-in-Upgrade-clause-does g c =
       (told.0, told.1, upgraded g.I.Source g.O.Sink g.N.Accepts c.args.asked c.upgrade_with.result read.0 _ told.0 c.in-Upgrade.is told.2),
     )
 
-pub returns-then-resume-2-clause-does : goal.returns-then-resume-2-clause-does
-returns-then-resume-2-clause-does g c =
+pub returns-then-resume-3-clause-does : goal.returns-then-resume-3-clause-does
+returns-then-resume-3-clause-does g c =
     let asked = c.in-Serve in
     let read = c.host_input.ensures.hosts in
     let told = read.2 in (
@@ -54,12 +57,12 @@ returns-then-resume-2-clause-does g c =
         told.0,
         told.1,
         history_hosted g.I.Source g.O.Sink g.N.Accepts c.args.asked asked.port asked.seats asked.workers asked.resume
-            c.host_input.result read.0 _ told.0 asked.is c.if-resume-2.true told.2,
+            c.host_input.result read.0 _ told.0 asked.is c.if-resume-3.true told.2,
       ),
     )
 
-pub returns-else-resume-2-clause-does : goal.returns-else-resume-2-clause-does
-returns-else-resume-2-clause-does g c =
+pub returns-else-resume-3-clause-does : goal.returns-else-resume-3-clause-does
+returns-else-resume-3-clause-does g c =
     let asked = c.in-Serve in
     let told = c.host.ensures.hosts in (
       [],
@@ -68,33 +71,33 @@ returns-else-resume-2-clause-does g c =
         told.0,
         told.1,
         hosted g.I.Source g.O.Sink g.N.Accepts c.args.asked asked.port asked.seats asked.workers asked.resume
-            c.host.result _ told.0 asked.is c.if-resume-2.false told.2,
+            c.host.result _ told.0 asked.is c.if-resume-3.false told.2,
       ),
     )
 
-pub returns-then-resume-2-clause-done : goal.returns-then-resume-2-clause-done
-returns-then-resume-2-clause-done g c =
+pub returns-then-resume-3-clause-done : goal.returns-then-resume-3-clause-done
+returns-then-resume-3-clause-done g c =
     let asked = c.in-Serve in
-    resumed_desk_finishes c.args.asked asked.port asked.seats asked.workers asked.resume c.host_input.result _ _ asked.is c.if-resume-2.true
+    resumed_desk_finishes c.args.asked asked.port asked.seats asked.workers asked.resume c.host_input.result _ _ asked.is c.if-resume-3.true
     c.host_input.ensures.done
 
-pub returns-then-resume-2-clause-failed : goal.returns-then-resume-2-clause-failed
-returns-then-resume-2-clause-failed g c h =
+pub returns-then-resume-3-clause-failed : goal.returns-then-resume-3-clause-failed
+returns-then-resume-3-clause-failed g c h =
     let asked = c.in-Serve in
     resumed_desk_fails g.I.Source g.O.Sink g.N.Accepts c.args.asked asked.port asked.seats asked.workers asked.resume _ _ _ _ _ _ _ asked.is
-    c.if-resume-2.true (c.host_input.ensures.failed h)
+    c.if-resume-3.true (c.host_input.ensures.failed h)
 
-pub returns-else-resume-2-clause-done : goal.returns-else-resume-2-clause-done
-returns-else-resume-2-clause-done g c =
+pub returns-else-resume-3-clause-done : goal.returns-else-resume-3-clause-done
+returns-else-resume-3-clause-done g c =
     let asked = c.in-Serve in
-    desk_finishes c.args.asked asked.port asked.seats asked.workers asked.resume c.host.result _ _ asked.is c.if-resume-2.false
+    desk_finishes c.args.asked asked.port asked.seats asked.workers asked.resume c.host.result _ _ asked.is c.if-resume-3.false
     c.host.ensures.flushed
 
-pub returns-else-resume-2-clause-failed : goal.returns-else-resume-2-clause-failed
-returns-else-resume-2-clause-failed g c h =
+pub returns-else-resume-3-clause-failed : goal.returns-else-resume-3-clause-failed
+returns-else-resume-3-clause-failed g c h =
     let asked = c.in-Serve in
     desk_fails g.I.Source g.O.Sink g.N.Accepts c.args.asked asked.port asked.seats asked.workers asked.resume _ _ _ _ _ _ _ asked.is
-    c.if-resume-2.false (c.host.ensures.failed h)
+    c.if-resume-3.false (c.host.ensures.failed h)
 
 pub returns-in-ServeKept-clause-does : goal.returns-in-ServeKept-clause-does
 returns-in-ServeKept-clause-does g c =
@@ -107,5 +110,50 @@ returns-in-ServeKept-clause-does g c =
         told.1,
         subst (λ a. Does g.I.Source g.O.Sink g.N.Accepts a c.serve_kept.result [] (left_in g.S.Source.remaining c.args.reader.now) told.0)
             (sym c.in-ServeKept.is) tt,
+      ),
+    )
+
+pub returns-else-resume-2-clause-keeps : goal.returns-else-resume-2-clause-keeps
+returns-else-resume-2-clause-keeps g c =
+    let asked = c.in-RunKept in
+    keeps_run g.D.Device g.J.OpensFiles c.args.asked asked.journal c.as_str.result.now asked.workers asked.resume c.run_kept.result c.args.files.now
+    c.run_kept.new.files _ asked.is c.if-resume-2.false c.as_str.ensures c.run_kept.ensures.keeps
+
+pub returns-then-resume-2-clause-keeps : goal.returns-then-resume-2-clause-keeps
+returns-then-resume-2-clause-keeps g c =
+    let asked = c.in-RunKept in
+    keeps_begun g.D.Device g.J.OpensFiles c.args.asked asked.journal c.as_str-2.result.now asked.workers asked.resume c.run_resumed.result c.args.files.now
+    c.run_resumed.new.files _ asked.is c.if-resume-2.true c.as_str-2.ensures c.run_resumed.ensures.keeps
+
+pub returns-then-resume-2-clause-does : goal.returns-then-resume-2-clause-does
+returns-then-resume-2-clause-does g c =
+    let both = began g.D.Device g.J.OpensFiles c.as_str-2.result.now c.run_resumed.result c.args.files.now c.run_resumed.new.files _ c.run_resumed.ensures.keeps in (
+      both.0.0,
+      both.0.1,
+      (
+        both.1.0,
+        both.1.1,
+        subst (λ a. Does g.I.Source g.O.Sink g.N.Accepts a c.run_resumed.result both.0.0 (left_in g.S.Source.remaining c.run_resumed.new.reader) both.1.0)
+            (sym c.in-RunKept.is) tt,
+      ),
+    )
+
+pub returns-in-Compact-clause-keeps : goal.returns-in-Compact-clause-keeps
+returns-in-Compact-clause-keeps g c =
+    let asked = c.in-Compact in
+    keeps_anew g.D.Device g.J.OpensFiles c.args.asked asked.journal c.as_str-3.result.now c.compact_at.result c.args.files.now
+    c.compact_at.new.files _ asked.is c.as_str-3.ensures (refl, refl) c.compact_at.ensures.keeps
+
+pub returns-in-Compact-clause-does : goal.returns-in-Compact-clause-does
+returns-in-Compact-clause-does g c =
+    let told = (read_and_wrote g.D.Device g.J.OpensFiles (Compacts g.D.Device) (made_anew g.D.Device) c.as_str-3.result.now c.compact_at.result c.compact_at.new.files _
+    c.compact_at.ensures.keeps).1 in (
+      [],
+      search rules,
+      (
+        told.0,
+        told.1,
+        subst (λ a. Does g.I.Source g.O.Sink g.N.Accepts a c.compact_at.result [] (left_in g.S.Source.remaining c.args.reader.now) told.0)
+            (sym c.in-Compact.is) tt,
       ),
     )

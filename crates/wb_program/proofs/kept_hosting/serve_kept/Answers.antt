@@ -1,5 +1,6 @@
 use Rattle.std.proofs.Common.{inl, refl, subst}
-use Rattle.wb_program.specs.KeptDays.{RunsDesk, writer_alone}
+use Rattle.wb_program.specs.Keeping.{writer_alone}
+use Rattle.wb_program.specs.KeptDays.{RunsDesk}
 use Rattle.wb_program.proofs.kept_hosting.serve_kept.Goals as goal
 
 pub returns-in-Ok-clause-keeps : goal.returns-in-Ok-clause-keeps

@@ -1,0 +1,269 @@
+//! Journals that are made anew, and such as begin with the text of a history.
+
+use crate::program::journals::OneFile;
+use std::alloc::{AllocError, Global};
+use std::process::Abort;
+use std::test::Fail;
+use wb_command::{Asked, FilePath};
+use wb_disk::MemoryFile;
+use wb_keep::START;
+use wb_lines::{Input, Output};
+use wb_program::{FileFault, Ports, PutBack, compact_with, do_asked, run_kept_with};
+use wb_redist::{Crew, Mover};
+
+// More calls than are made here.
+const NEVER: usize = 1000;
+
+const HELD: &[u8] =
+    b"chapel-workbook 3\n {\"d\":\"D\",\"is\":\"{1..2}\",\"map\":\"none\",\"op\":\"domain\"}\n {\"a\":\"A\",\"d\":\"D\",\"op\":\"array\"}\n {\"a\":\"A\",\"i\":2,\"op\":\"set\",\"v\":9}\n {\"k\":3,\"op\":\"undo\"}\n#";
+
+const ANEW: &[u8] =
+    b"chapel-workbook 3\n {\"op\":\"resume\",\"text\":\"chapel-workbook 2\\narray A over D [0, 0]\\nrect D {1..2} none\\nhistory 3\\n+ {\\\"d\\\":\\\"D\\\",\\\"is\\\":\\\"{1..2}\\\",\\\"map\\\":\\\"none\\\",\\\"op\\\":\\\"domain\\\"}\\n+ {\\\"a\\\":\\\"A\\\",\\\"d\\\":\\\"D\\\",\\\"op\\\":\\\"array\\\"}\\n- {\\\"a\\\":\\\"A\\\",\\\"i\\\":2,\\\"op\\\":\\\"set\\\",\\\"v\\\":9}\\nend\\n\"}\n#";
+
+const BEHIND: &[u8] = b" {\"k\":3,\"op\":\"redo\"}\n#";
+
+const REFUSED: &[u8] = b"refused\n";
+
+// The text of that history, and then two lines.
+const INPUT: &[u8] =
+    b"chapel-workbook 2\narray A over D [0, 0]\nrect D {1..2} none\nhistory 3\n+ {\"d\":\"D\",\"is\":\"{1..2}\",\"map\":\"none\",\"op\":\"domain\"}\n+ {\"a\":\"A\",\"d\":\"D\",\"op\":\"array\"}\n- {\"a\":\"A\",\"i\":2,\"op\":\"set\",\"v\":9}\nend\n{\"op\":\"redo\",\"k\":3}\n{\"op\":\"get\",\"a\":\"A\",\"i\":2}\n";
+
+const REPLIES: &[u8] = b"{\"n\":1,\"redone\":3}\n{\"value\":9}\n";
+
+const NO_HISTORY: &[u8] = b"chapel-workbook 2\nhistory 1\nend\n";
+
+// Files with lines that no history begins with.
+const STRANGE: [&[u8]; 6] = [
+    b"chapel-workbook 3\n \n#",
+    b"chapel-workbook 3\n {\"op\":\"resume\"}\n#",
+    b"chapel-workbook 3\n {\"op\":\"resume\",\"text\":\"chapel-workbook 1\\nend\\n\"}\n#",
+    b"chapel-workbook 3\n {\"op\": \"resume\",\"text\":\"chapel-workbook 2\\nhistory 0\\nend\\n\"}\n#",
+    b"chapel-workbook 3\n {\"op\":\"resume\",\"text\":\"chapel-workbook 2\\nhistory 0\\nend\\n\",\"x\":1}\n#",
+    b"chapel-workbook 3\n {\"d\":\"D\",\"is\":\"{1..2}\",\"map\":\"none\",\"op\":\"domain\"}\n {\"op\":\"resume\",\"text\":\"chapel-workbook 2\\nhistory 0\\nend\\n\"}\n#",
+];
+
+// How a journal came out that was to be made anew, what was printed, and what is left of its file.
+#[derive(Drop)]
+struct Outcome {
+    status: u8,
+    fault: Option<FileFault>,
+    written: Vec<u8>,
+    left: Vec<u8>,
+}
+
+// A file that holds these bytes, and does so many calls, made anew.
+fn made_anew<M: Mover>(
+    alloc: Global,
+    held: &[u8],
+    calls: usize,
+    mover: &M,
+) -> Result<Outcome, AllocError> {
+    let file = MemoryFile::new(alloc, held.to_vec(alloc)?, calls, 0);
+    let mut written = Vec::new(alloc);
+    let run = compact_with(
+        alloc,
+        &(),
+        file,
+        held,
+        &mut Output::new(&mut written),
+        mover,
+    );
+    let left = run.file.left().to_vec(alloc)?;
+    Ok(Outcome {
+        status: run.status,
+        fault: run.fault,
+        written,
+        left,
+    })
+}
+
+// That a file goes on as the journal: its third edit is redone.
+fn goes_on<M: Mover>(
+    rt: &impl Abort,
+    alloc: Global,
+    held: &[u8],
+    mover: &M,
+) -> Result<(), AllocError> {
+    let file = MemoryFile::new(alloc, held.to_vec(alloc)?, NEVER, 0);
+    let mut written = Vec::new(alloc);
+    let run = run_kept_with(
+        alloc,
+        file,
+        held,
+        &mut Input::new(
+            b"{\"op\":\"redo\",\"k\":3}\n{\"op\":\"get\",\"a\":\"A\",\"i\":2}\n".as_slice(),
+        ),
+        &mut Output::new(&mut written),
+        mover,
+    );
+    assert!(rt; run.status == 0);
+    assert_eq!(rt; written.as_slice(), REPLIES);
+    assert!(rt; run.file.bytes().ends_with(BEHIND));
+    Ok(())
+}
+
+#[test]
+fn a_journal_is_made_anew(rt: HostRuntime) -> Result<(), Fail> {
+    let alone = Crew::alone(&rt);
+    let anew = made_anew(rt.alloc(), HELD, NEVER, &alone)?;
+    assert!(rt; anew.status == 0 && anew.fault.is_none() && anew.written.is_empty());
+    assert_eq!(rt; anew.left.as_slice(), ANEW);
+    // Once more it is the same.
+    let again = made_anew(rt.alloc(), ANEW, NEVER, &alone)?;
+    assert!(rt; again.status == 0);
+    assert_eq!(rt; again.left.as_slice(), ANEW);
+    goes_on(&rt, rt.alloc(), ANEW, &alone)?;
+    Ok(())
+}
+
+#[test]
+fn a_crash_leaves_the_old_file_or_the_new_one(rt: HostRuntime) -> Result<(), Fail> {
+    let alone = Crew::alone(&rt);
+    // To open the file takes four calls, and to put the new one in its place four.
+    for calls in 0..8 {
+        let cut = made_anew(rt.alloc(), HELD, calls, &alone)?;
+        assert!(rt; cut.status == 3 && cut.fault == Some(FileFault::Failed));
+        assert!(rt; cut.written.is_empty());
+        goes_on(&rt, rt.alloc(), &cut.left, &alone)?;
+    }
+    Ok(())
+}
+
+#[test]
+fn strange_lines_are_refused(rt: HostRuntime) -> Result<(), Fail> {
+    let alone = Crew::alone(&rt);
+    // (The file does no call, so a call on it would be told as a fault.)
+    for held in &STRANGE {
+        let refused = made_anew(rt.alloc(), held, 0, &alone)?;
+        assert!(rt; refused.status == 1 && refused.fault.is_none());
+        assert_eq!(rt; refused.written.as_slice(), REFUSED);
+        assert_eq!(rt; refused.left.as_slice(), *held);
+    }
+    let foreign = made_anew(rt.alloc(), b"hello\n", 0, &alone)?;
+    assert!(rt; foreign.status == 3 && foreign.fault == Some(FileFault::NotOurs));
+    assert!(rt; foreign.written.is_empty());
+    Ok(())
+}
+
+// What a command line did with one file.
+#[derive(Drop)]
+struct Done {
+    status: u8,
+    fault: Option<FileFault>,
+    written: Vec<u8>,
+    left: Option<Vec<u8>>,
+}
+
+// A session with a journal that begins with the text of a history, or a journal made anew.
+fn done_with<M: Mover + Sync>(
+    rt: &HostRuntime,
+    resumes: bool,
+    held: &'static [u8],
+    calls: usize,
+    input: &[u8],
+    mover: &M,
+) -> Result<Done, AllocError> {
+    let alloc = rt.alloc();
+    let asked = if resumes {
+        Asked::RunKept {
+            journal: FilePath::new("plan.wb"),
+            resume: true,
+            workers: 1,
+        }
+    } else {
+        Asked::Compact {
+            journal: FilePath::new("plan.wb"),
+        }
+    };
+    let mut ports = Ports::of(rt);
+    let mut files = OneFile::of(alloc, held, calls);
+    let mut written = Vec::new(alloc);
+    let status = do_asked(
+        rt,
+        alloc,
+        asked,
+        &mut ports,
+        &mut files,
+        &mut PutBack::new(alloc, Input::new(input)),
+        &mut Output::new(&mut written),
+        mover,
+    );
+    let left = match &files.file {
+        Some(file) => Some(file.left().to_vec(alloc)?),
+        None => None,
+    };
+    Ok(Done {
+        status,
+        fault: files.told,
+        written,
+        left,
+    })
+}
+
+// That the file that was given back is this one.
+fn has_left(done: &Done, wanted: &[u8]) -> bool {
+    match &done.left {
+        Some(left) => left.as_slice() == wanted,
+        None => false,
+    }
+}
+
+#[test]
+fn a_file_begins_with_a_history(rt: HostRuntime) -> Result<(), Fail> {
+    let alone = Crew::alone(&rt);
+    let mut wanted = ANEW.strip_suffix(b"#").ok_or("a mark")?.to_vec(rt.alloc())?;
+    wanted.extend_from_slice(BEHIND)?;
+    // Also where a crash left a front of the header.
+    for held in [START.as_slice(), b"", b"chapel-work"] {
+        let begun = done_with(&rt, true, held, NEVER, INPUT, &alone)?;
+        assert!(rt; begun.status == 0 && begun.fault.is_none());
+        assert_eq!(rt; begun.written.as_slice(), REPLIES);
+        assert!(rt; has_left(&begun, &wanted));
+    }
+    Ok(())
+}
+
+#[test]
+fn a_history_is_kept_before_anything_is_answered(rt: HostRuntime) -> Result<(), Fail> {
+    let alone = Crew::alone(&rt);
+    // To open the file takes four calls, and to add its first line four.
+    for calls in 0..8 {
+        let cut = done_with(&rt, true, &START, calls, INPUT, &alone)?;
+        assert!(rt; cut.status == 3 && cut.fault == Some(FileFault::Failed));
+        assert!(rt; cut.written.is_empty());
+    }
+    let cut = done_with(&rt, true, &START, 8, INPUT, &alone)?;
+    assert!(rt; cut.status == 3 && cut.written.is_empty());
+    assert!(rt; has_left(&cut, ANEW));
+    Ok(())
+}
+
+#[test]
+fn a_file_with_a_line_is_not_begun(rt: HostRuntime) -> Result<(), Fail> {
+    let alone = Crew::alone(&rt);
+    for held in [HELD, ANEW] {
+        let refused = done_with(&rt, true, held, 0, INPUT, &alone)?;
+        assert!(rt; refused.status == 3 && refused.fault == Some(FileFault::HasLines));
+        assert!(rt; refused.written.is_empty());
+        assert!(rt; has_left(&refused, held));
+    }
+    let foreign = done_with(&rt, true, b"hello\n", 0, INPUT, &alone)?;
+    assert!(rt; foreign.status == 3 && foreign.fault == Some(FileFault::NotOurs));
+    assert!(rt; foreign.written.is_empty());
+    // Without a history no file is opened.
+    for input in [NO_HISTORY, b"", b"{\"op\":\"edits\"}\n"] {
+        let none = done_with(&rt, true, &START, 0, input, &alone)?;
+        assert!(rt; none.status == 1 && none.left.is_none());
+        assert_eq!(rt; none.written.as_slice(), REFUSED);
+    }
+    Ok(())
+}
+
+#[test]
+fn a_command_line_makes_a_journal_anew(rt: HostRuntime) -> Result<(), Fail> {
+    let alone = Crew::alone(&rt);
+    let anew = done_with(&rt, false, HELD, NEVER, b"", &alone)?;
+    assert!(rt; anew.status == 0 && anew.fault.is_none() && anew.written.is_empty());
+    assert!(rt; has_left(&anew, ANEW));
+    Ok(())
+}
