@@ -28,16 +28,6 @@ def program() -> str:
 PROGRAM = program()
 
 
-def with_journal(word: str) -> Any:
-    """A program whose command `serve` or `compact` takes a journal: the program, or what stands in where its command doesn't."""
-    options = ["--port", "0", "--seats", "1", "--journal"] if word == "serve" else []
-    try:  # in a folder that isn't there: status 3 where the words are taken, and 2 where they aren't
-        status = subprocess.run([PROGRAM, word, *options, str(HERE / "none" / "plan.wb")], stderr=subprocess.DEVNULL).returncode
-    except OSError:
-        status = 2
-    return PROGRAM if status == 3 else [sys.executable, str(HERE.with_name("kept_desk.py")), PROGRAM, word]
-
-
 class Server:
     """`workbook serve` on a free port. It ends once each of its seats was taken and left."""
 

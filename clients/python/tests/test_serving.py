@@ -9,7 +9,7 @@ import tempfile
 import time
 import unittest
 
-from tests.support import HERE, PROGRAM, with_journal
+from tests.support import HERE, PROGRAM
 from workbook_client import NoProgram, NoSeat, NotOpened, NotResumed, SessionEnded, Workbook, compact
 from workbook_client.language import Command, LanguageError, parse
 from workbook_client.session import Session
@@ -59,7 +59,7 @@ class Desks(Files):
 
     def test_kept_in_a_journal(self):
         """Desk, session, desk: each goes on from where the one before was, also from one that was ended by force."""
-        with Workbook.serve(seats=2, journal=self.path, program=with_journal("serve")) as desk:
+        with Workbook.serve(seats=2, journal=self.path, program=PROGRAM) as desk:
             self.assertEqual(desk.place(), f"127.0.0.1:{desk.port}, 2 seats: each change is kept in {self.path}, before it is told")
             one, two = desk.connect(), desk.connect()
             A = one.array("A", one.domain("D", range(1, 3)))
@@ -69,7 +69,7 @@ class Desks(Files):
         with self.opened() as book:
             self.assertEqual((book.history_text(), list(book["A"])), (text, [5, 5]))
             book.cascade(3)
-        with Workbook.serve(seats=1, journal=self.path, program=with_journal("serve")) as desk:
+        with Workbook.serve(seats=1, journal=self.path, program=PROGRAM) as desk:
             self.assertEqual(list(desk.connect()["A"]), [0, 0])
             self.assertIn("array A over D [0, 0]", desk.settled())
 
@@ -87,11 +87,11 @@ class Desks(Files):
                           ('chapel-workbook 3\n {"op":"print"}\n#', "a line of it is no change that is accepted")):
             path = self.write("list", text)
             with self.assertRaisesRegex(NotOpened, "list isn't opened: .*" + why):
-                Workbook.serve(journal=path, program=with_journal("serve"))
+                Workbook.serve(journal=path, program=PROGRAM)
             with open(path, encoding="utf-8") as file:
                 self.assertEqual(file.read(), text)
         with Workbook.run(PROGRAM, journal=self.path), self.assertRaisesRegex(NotOpened, "in use"):
-            Workbook.serve(journal=self.path, program=with_journal("serve"))
+            Workbook.serve(journal=self.path, program=PROGRAM)
 
     def test_what_is_no_desk(self):
         for words, error, why in (
@@ -125,24 +125,21 @@ class Desks(Files):
 class Compacting(Files):
     def test_the_same_edits(self):
         text, before = self.kept_plan(), os.path.getsize(self.path)
-        program = with_journal("compact")
-        done = compact(self.path, program)
+        done = compact(self.path, PROGRAM)
         self.assertEqual((done.place, done.before, done.after), (self.path, before, os.path.getsize(self.path)))
-        if program == PROGRAM:  # what stands in makes nothing anew
-            self.assertLess(done.after, before)
+        self.assertLess(done.after, before)
         with Workbook.run(PROGRAM, journal=self.path) as book:
             self.assertEqual(book.history_text(), text)
             book.redo(10)
         self.assertEqual(os.listdir(self.place), ["plan.wb"])
 
     def test_what_is_not_made_anew(self):
-        program = with_journal("compact")
         with Workbook.run(PROGRAM, journal=self.path), self.assertRaisesRegex(NotOpened, "in use"):
-            compact(self.path, program)
+            compact(self.path, PROGRAM)
         with self.assertRaisesRegex(NotOpened, "list isn't opened: the file is no journal"):
-            compact(self.write("list", "milk, bread\n"), program)
+            compact(self.write("list", "milk, bread\n"), PROGRAM)
         with self.assertRaisesRegex(NotOpened, "gone isn't opened: No such file"):
-            compact(os.path.join(self.place, "gone"), program)
+            compact(os.path.join(self.place, "gone"), PROGRAM)
         with self.assertRaisesRegex(NotOpened, "has no `compact`"):
             compact(self.path, [sys.executable, "-c", "import sys; sys.exit(2)"])
         with self.assertRaisesRegex(NoProgram, "can't be started"):
@@ -164,8 +161,7 @@ class Compacting(Files):
             self.assertIn("gone isn't opened: No such file", self.say(book, f"compact {self.place}/gone"))
         with Workbook.run(PROGRAM) as book:
             self.assertIn("this session has no journal file", self.say(book, "compact"))
-            if with_journal("compact") == PROGRAM:
-                self.assertRegex(self.say(book, f"compact {self.path}"), r"plan.wb: \d+ bytes, and \d+ before")
+            self.assertRegex(self.say(book, f"compact {self.path}"), r"plan.wb: \d+ bytes, and \d+ before")
 
     def test_the_word_is_a_name_too(self):
         self.assertEqual(parse("compact a b.wb ", lambda name: None), Command("compact", ("a b.wb",)))
