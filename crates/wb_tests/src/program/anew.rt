@@ -2,8 +2,11 @@
 
 use crate::program::journals::OneFile;
 use std::alloc::{AllocError, Global};
+use std::net::{Net, TcpListener, TcpStream};
 use std::process::Abort;
+use std::sync::Wait;
 use std::test::Fail;
+use std::thread::Threads;
 use wb_command::{Asked, FilePath};
 use wb_disk::MemoryFile;
 use wb_keep::START;
@@ -155,15 +158,18 @@ struct Done {
 }
 
 // A session with a journal that begins with the text of a history, or a journal made anew.
-fn done_with<M: Mover + Sync>(
-    rt: &HostRuntime,
+fn done_with<
+    R: Net<Listener = TcpListener, Stream = TcpStream> + Threads + Wait + Sync,
+    M: Mover + Sync,
+>(
+    rt: &R,
+    alloc: Global,
     resumes: bool,
     held: &'static [u8],
     calls: usize,
     input: &[u8],
     mover: &M,
 ) -> Result<Done, AllocError> {
-    let alloc = rt.alloc();
     let asked = if resumes {
         Asked::RunKept {
             journal: FilePath::new("plan.wb"),
@@ -215,7 +221,7 @@ fn a_file_begins_with_a_history(rt: HostRuntime) -> Result<(), Fail> {
     wanted.extend_from_slice(BEHIND)?;
     // Also where a crash left a front of the header.
     for held in [START.as_slice(), b"", b"chapel-work"] {
-        let begun = done_with(&rt, true, held, NEVER, INPUT, &alone)?;
+        let begun = done_with(&rt, rt.alloc(), true, held, NEVER, INPUT, &alone)?;
         assert!(rt; begun.status == 0 && begun.fault.is_none());
         assert_eq!(rt; begun.written.as_slice(), REPLIES);
         assert!(rt; has_left(&begun, &wanted));
@@ -228,11 +234,11 @@ fn a_history_is_kept_before_anything_is_answered(rt: HostRuntime) -> Result<(), 
     let alone = Crew::alone(&rt);
     // To open the file takes four calls, and to add its first line four.
     for calls in 0..8 {
-        let cut = done_with(&rt, true, &START, calls, INPUT, &alone)?;
+        let cut = done_with(&rt, rt.alloc(), true, &START, calls, INPUT, &alone)?;
         assert!(rt; cut.status == 3 && cut.fault == Some(FileFault::Failed));
         assert!(rt; cut.written.is_empty());
     }
-    let cut = done_with(&rt, true, &START, 8, INPUT, &alone)?;
+    let cut = done_with(&rt, rt.alloc(), true, &START, 8, INPUT, &alone)?;
     assert!(rt; cut.status == 3 && cut.written.is_empty());
     assert!(rt; has_left(&cut, ANEW));
     Ok(())
@@ -242,17 +248,17 @@ fn a_history_is_kept_before_anything_is_answered(rt: HostRuntime) -> Result<(), 
 fn a_file_with_a_line_is_not_begun(rt: HostRuntime) -> Result<(), Fail> {
     let alone = Crew::alone(&rt);
     for held in [HELD, ANEW] {
-        let refused = done_with(&rt, true, held, 0, INPUT, &alone)?;
+        let refused = done_with(&rt, rt.alloc(), true, held, 0, INPUT, &alone)?;
         assert!(rt; refused.status == 3 && refused.fault == Some(FileFault::HasLines));
         assert!(rt; refused.written.is_empty());
         assert!(rt; has_left(&refused, held));
     }
-    let foreign = done_with(&rt, true, b"hello\n", 0, INPUT, &alone)?;
+    let foreign = done_with(&rt, rt.alloc(), true, b"hello\n", 0, INPUT, &alone)?;
     assert!(rt; foreign.status == 3 && foreign.fault == Some(FileFault::NotOurs));
     assert!(rt; foreign.written.is_empty());
     // Without a history no file is opened.
     for input in [NO_HISTORY, b"", b"{\"op\":\"edits\"}\n"] {
-        let none = done_with(&rt, true, &START, 0, input, &alone)?;
+        let none = done_with(&rt, rt.alloc(), true, &START, 0, input, &alone)?;
         assert!(rt; none.status == 1 && none.left.is_none());
         assert_eq!(rt; none.written.as_slice(), REFUSED);
     }
@@ -262,7 +268,7 @@ fn a_file_with_a_line_is_not_begun(rt: HostRuntime) -> Result<(), Fail> {
 #[test]
 fn a_command_line_makes_a_journal_anew(rt: HostRuntime) -> Result<(), Fail> {
     let alone = Crew::alone(&rt);
-    let anew = done_with(&rt, false, HELD, NEVER, b"", &alone)?;
+    let anew = done_with(&rt, rt.alloc(), false, HELD, NEVER, b"", &alone)?;
     assert!(rt; anew.status == 0 && anew.fault.is_none() && anew.written.is_empty());
     assert!(rt; has_left(&anew, ANEW));
     Ok(())
