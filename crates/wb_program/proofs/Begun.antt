@@ -1,5 +1,5 @@
 -- How a journal begins with a history, or why it doesn't.
-use Rattle.std.proofs.Common.{◌≡◌, ◌⊎◌, ◌∙◌, inl, inr, ℕ, Bool, List, [], ◌++◌, Option, Some, None, IfSome, sym, ap, subst}
+use Rattle.std.proofs.Common.{◌≡◌, ◌⊎◌, ◌∙◌, inl, inr, ℕ, Bool, List, [], ◌++◌, Option, Some, None, IfNone, IfSome, sym, ap, subst}
 use Rattle.std.proofs.lemmas.List.{append_assoc}
 use Rattle.std.specs.Io.KnownBytes.{Consumes}
 use Rattle.wb_disk.specs.Device.{LeavesOnly}
@@ -10,8 +10,10 @@ use Rattle.wb_keeping.specs.declared.beginning.Opening.{Opening}
 use Rattle.wb_keeping.specs.declared.opening.BeginErr.{BeginErr}
 use Rattle.wb_keeping.specs.declared.opening.BeginErr.TheVariants as errs
 use Rattle.wb_proto.specs.Below.wb_history.Past.{Past}
+use Rattle.wb_record.specs.Text.{IsNoHistory}
 use Rattle.wb_program.specs.Beginning.{IsNotBegun, TellsOf}
-use Rattle.wb_program.specs.Keeping.{DoesNothing, FailsKept, FinishesKept, Streams}
+use Rattle.wb_program.specs.Checking.{IsNoRecord}
+use Rattle.wb_program.specs.Keeping.{DoesNothing, Streams}
 use Rattle.wb_program.specs.Resuming.{IsRecord}
 use Rattle.wb_program.specs.declared.files.FileFault.{FileFault}
 use Rattle.wb_program.specs.declared.files.FileFault.TheVariants as faults
@@ -21,10 +23,16 @@ use Rattle.wb_program.proofs.Opening.{behind}
 -- ---- the text that comes first
 
 -- what opens with a text has it
-pub opened_with : (bytes : List ℕ) (found : Option Opening) → IfSome found (OpensWith bytes) → IfSome found (λ o. IsOpening o × IsRecord bytes o.history)
-opened_with bytes None h = tt
-opened_with bytes (Some o) h =
-    (h.is_opening, record { legal = h.is_opening.begins.history.0; same = h.same; counted = h.is_opening.begins.counted })
+pub opened_with : (text bytes : List ℕ) (found : Option Opening) → text ≡ bytes → IfSome found (OpensWith text)
+    → IfSome found (λ o. IsOpening o × IsRecord bytes o.history)
+opened_with text bytes None same h = tt
+opened_with text bytes (Some o) same h =
+    (h.is_opening, record { legal = h.is_opening.begins.history.0; same = sym same ∙ h.same; counted = h.is_opening.begins.counted })
+
+-- no text of a history opens with none
+pub not_opened : (text bytes : List ℕ) (found : Option Opening) → text ≡ bytes → IfNone found (IsNoHistory text) → IfNone found (IsNoRecord bytes)
+not_opened text bytes None same h = inr (subst IsNoHistory same h)
+not_opened text bytes (Some o) same h = tt
 
 -- bytes were read, and what stands behind a place was put back
 pub put_front : (old mid : Option (List ℕ)) (bytes front back : List ℕ) → Consumes old mid bytes → bytes ≡ front ++ back → Consumes old (behind back mid) front
@@ -67,15 +75,16 @@ module _ {D : Type 0} (device : Device.Ghosts D) where
       }))
 
 -- then not all was answered
-pub not_begun_finishes : (why : BeginErr) (status : ℕ) (fault : Option FileFault) (s : Streams) → TellsOf why status fault → FinishesKept status s
-not_begun_finishes errs.NotOurs status fault s told e = absurd (cc (told.0, e))
-not_begun_finishes errs.HasLines status fault s told e = absurd (cc (told.0, e))
-not_begun_finishes errs.Memory status fault s told e = absurd (cc (told.0, e))
-not_begun_finishes errs.Failed status fault s told e = absurd (cc (told.0, e))
+pub not_begun_finishes : (why : BeginErr) (status : ℕ) (fault : Option FileFault) → TellsOf why status fault → status ≡ 0 → ⊥
+not_begun_finishes errs.NotOurs status fault told e = cc (told.0, e)
+not_begun_finishes errs.HasLines status fault told e = cc (told.0, e)
+not_begun_finishes errs.Memory status fault told e = cc (told.0, e)
+not_begun_finishes errs.Failed status fault told e = cc (told.0, e)
 
 -- and status 3 comes with what is told of the file
-pub not_begun_fails : (why : BeginErr) (status : ℕ) (fault : Option FileFault) (s : Streams) → TellsOf why status fault → FailsKept status fault s
-not_begun_fails errs.NotOurs status fault s told e = inr (faults.NotOurs, told.1)
-not_begun_fails errs.HasLines status fault s told e = inr (faults.HasLines, told.1)
-not_begun_fails errs.Memory status fault s told e = absurd (cc (told.0, e))
-not_begun_fails errs.Failed status fault s told e = inr (faults.Failed, told.1)
+pub not_begun_fails : (why : BeginErr) (status : ℕ) (fault : Option FileFault) → TellsOf why status fault → status ≡ 3
+    → (cause : FileFault) × (fault ≡ Some cause)
+not_begun_fails errs.NotOurs status fault told e = (faults.NotOurs, told.1)
+not_begun_fails errs.HasLines status fault told e = (faults.HasLines, told.1)
+not_begun_fails errs.Memory status fault told e = absurd (cc (told.0, e))
+not_begun_fails errs.Failed status fault told e = (faults.Failed, told.1)

@@ -1,5 +1,5 @@
 -- What a journal is that was made anew, and what a crash leaves of it.
-use Rattle.std.proofs.Common.{◌≡◌, ◌⊎◌, ◌∙◌, inl, inr, ℕ, List, ◌∷◌, [], Option, Result, Ok, Err, refl, sym, ap, subst}
+use Rattle.std.proofs.Common.{◌≡◌, ◌⊎◌, ◌∙◌, inl, inr, ℕ, List, ◌∷◌, [], Option, Some, Result, Ok, Err, refl, sym, ap, subst}
 use Rattle.std.specs.Prelude.{◌≢◌, ◌<◌, IfErr, IsErrOf, OnOk}
 use Rattle.wb_disk.specs.Device.{LeavesOnly}
 use Rattle.wb_disk.specs.declared.device.Device as Device
@@ -16,7 +16,7 @@ use Rattle.wb_kept.specs.Runs.{Leads}
 use Rattle.wb_kept.specs.declared.kept.Kept.{Kept}
 use Rattle.wb_proto.specs.Below.wb_history.Past.{Numbered, Past}
 use Rattle.wb_program.specs.Compacting.{EndsAnew, IsAnew, StandsForEdits, TellsOfAnew}
-use Rattle.wb_program.specs.Keeping.{FailsKept, IsOpened, Streams}
+use Rattle.wb_program.specs.Keeping.{IsOpened}
 use Rattle.wb_program.specs.declared.files.FileFault.{FileFault}
 use Rattle.wb_program.specs.declared.files.FileFault.TheVariants as faults
 use Rattle.wb_program.specs.declared.keeping.KeptRun.{KeptRun}
@@ -64,7 +64,8 @@ module _ {D : Type 0} (device : Device.Ghosts D) where
       inr (inr (told.0, told.1, subst (λ d. device.faults old.device < device.faults d) (sym is) (failed (λ e. cc))))
 
   -- status 3 comes with what is told of the file
-  pub anew_fails : (opened : D) (es : List Numbered) (run : KeptRun D) (s : Streams) → EndsAnew device opened es run → FailsKept run.status run.fault s
-  anew_fails opened es run s (inl done) e = absurd (cc (done.0, e))
-  anew_fails opened es run s (inr (inl memory)) e = absurd (cc (memory.0, e))
-  anew_fails opened es run s (inr (inr failed)) e = inr (faults.Failed, failed.1)
+  pub anew_fails : (opened : D) (es : List Numbered) (run : KeptRun D) → EndsAnew device opened es run → run.status ≡ 3
+      → (cause : FileFault) × (run.fault ≡ Some cause)
+  anew_fails opened es run (inl done) e = absurd (cc (done.0, e))
+  anew_fails opened es run (inr (inl memory)) e = absurd (cc (memory.0, e))
+  anew_fails opened es run (inr (inr failed)) e = (faults.Failed, failed.1)

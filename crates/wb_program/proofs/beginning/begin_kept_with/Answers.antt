@@ -28,7 +28,7 @@ returns-in-Err-clause-runs g c =
     c.requires.opening.begins c.in-Err.ensures.err c.not_begun.ensures.told c.not_begun.ensures.file ((refl, refl), refl))
 
 pub returns-in-Err-clause-done : goal.returns-in-Err-clause-done
-returns-in-Err-clause-done g c = not_begun_finishes c.in-Err.why c.not_begun.result.status c.not_begun.result.fault _ c.not_begun.ensures.told
+returns-in-Err-clause-done g c e = absurd (not_begun_finishes c.in-Err.why c.not_begun.result.status c.not_begun.result.fault c.not_begun.ensures.told e)
 
 pub returns-in-Err-clause-failed : goal.returns-in-Err-clause-failed
-returns-in-Err-clause-failed g c = not_begun_fails c.in-Err.why c.not_begun.result.status c.not_begun.result.fault _ c.not_begun.ensures.told
+returns-in-Err-clause-failed g c e = inr (not_begun_fails c.in-Err.why c.not_begun.result.status c.not_begun.result.fault c.not_begun.ensures.told e)

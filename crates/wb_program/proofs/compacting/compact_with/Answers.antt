@@ -1,4 +1,4 @@
-use Rattle.std.proofs.Common.{inl, refl}
+use Rattle.std.proofs.Common.{inl, inr, refl}
 use Rattle.wb_program.proofs.MadeAnew.{all_moments, anew_fails}
 use Rattle.wb_program.proofs.compacting.compact_with.Goals as goal
 
@@ -13,4 +13,4 @@ returns-in-Ok-clause-compacts g c =
     })
 
 pub returns-in-Ok-clause-failed : goal.returns-in-Ok-clause-failed
-returns-in-Ok-clause-failed g c = anew_fails g.D.Device c.in-Ok.kept.log.device c.in-Ok.kept.state.entries c.anew.result _ c.anew.ensures.ends
+returns-in-Ok-clause-failed g c e = inr (anew_fails g.D.Device c.in-Ok.kept.log.device c.in-Ok.kept.state.entries c.anew.result c.anew.ensures.ends e)

@@ -11,7 +11,7 @@ use Rattle.wb_program.proofs.doing.do_asked.Goals as goal
 
 pub returns-else-resume-2-clause-does : goal.returns-else-resume-2-clause-does
 returns-else-resume-2-clause-does g c =
-    let both = read_and_wrote g.D.Device g.J.OpensFiles (RunsKept g.D.Device) (ran g.D.Device) c.as_str.result.now c.run_kept.result c.run_kept.new.files _
+    let both = read_and_wrote g.D.Device g.J.OpensFiles (RunsKept g.D.Device) (ran g.D.Device) c.as_str-else-resume-2.result.now c.run_kept.result c.run_kept.new.files _
     c.run_kept.ensures.keeps in (
       both.0.0,
       both.0.1,
@@ -116,18 +116,18 @@ returns-in-ServeKept-clause-does g c =
 pub returns-else-resume-2-clause-keeps : goal.returns-else-resume-2-clause-keeps
 returns-else-resume-2-clause-keeps g c =
     let asked = c.in-RunKept in
-    keeps_run g.D.Device g.J.OpensFiles c.args.asked asked.journal c.as_str.result.now asked.workers asked.resume c.run_kept.result c.args.files.now
-    c.run_kept.new.files _ asked.is c.if-resume-2.false c.as_str.ensures c.run_kept.ensures.keeps
+    keeps_run g.D.Device g.J.OpensFiles c.args.asked asked.journal c.as_str-else-resume-2.result.now asked.workers asked.resume c.run_kept.result c.args.files.now
+    c.run_kept.new.files _ asked.is c.if-resume-2.false c.as_str-else-resume-2.ensures c.run_kept.ensures.keeps
 
 pub returns-then-resume-2-clause-keeps : goal.returns-then-resume-2-clause-keeps
 returns-then-resume-2-clause-keeps g c =
     let asked = c.in-RunKept in
-    keeps_begun g.D.Device g.J.OpensFiles c.args.asked asked.journal c.as_str-2.result.now asked.workers asked.resume c.run_resumed.result c.args.files.now
-    c.run_resumed.new.files _ asked.is c.if-resume-2.true c.as_str-2.ensures c.run_resumed.ensures.keeps
+    keeps_begun g.D.Device g.J.OpensFiles c.args.asked asked.journal c.as_str.result.now asked.workers asked.resume c.run_resumed.result c.args.files.now
+    c.run_resumed.new.files _ asked.is c.if-resume-2.true c.as_str.ensures c.run_resumed.ensures.keeps
 
 pub returns-then-resume-2-clause-does : goal.returns-then-resume-2-clause-does
 returns-then-resume-2-clause-does g c =
-    let both = began g.D.Device g.J.OpensFiles c.as_str-2.result.now c.run_resumed.result c.args.files.now c.run_resumed.new.files _ c.run_resumed.ensures.keeps in (
+    let both = began g.D.Device g.J.OpensFiles c.as_str.result.now c.run_resumed.result c.args.files.now c.run_resumed.new.files _ c.run_resumed.ensures.keeps in (
       both.0.0,
       both.0.1,
       (
@@ -141,12 +141,12 @@ returns-then-resume-2-clause-does g c =
 pub returns-in-Compact-clause-keeps : goal.returns-in-Compact-clause-keeps
 returns-in-Compact-clause-keeps g c =
     let asked = c.in-Compact in
-    keeps_anew g.D.Device g.J.OpensFiles c.args.asked asked.journal c.as_str-3.result.now c.compact_at.result c.args.files.now
-    c.compact_at.new.files _ asked.is c.as_str-3.ensures (refl, refl) c.compact_at.ensures.keeps
+    keeps_anew g.D.Device g.J.OpensFiles c.args.asked asked.journal c.as_str-in-Compact.result.now c.compact_at.result c.args.files.now
+    c.compact_at.new.files _ asked.is c.as_str-in-Compact.ensures (refl, refl) c.compact_at.ensures.keeps
 
 pub returns-in-Compact-clause-does : goal.returns-in-Compact-clause-does
 returns-in-Compact-clause-does g c =
-    let told = (read_and_wrote g.D.Device g.J.OpensFiles (Compacts g.D.Device) (made_anew g.D.Device) c.as_str-3.result.now c.compact_at.result c.compact_at.new.files _
+    let told = (read_and_wrote g.D.Device g.J.OpensFiles (Compacts g.D.Device) (made_anew g.D.Device) c.as_str-in-Compact.result.now c.compact_at.result c.compact_at.new.files _
     c.compact_at.ensures.keeps).1 in (
       [],
       search rules,
