@@ -6,7 +6,7 @@ use Rattle.wb_command.specs.Asks.{Asks, HasNumber, HasWorkers, IsDesk, IsMeant, 
 use Rattle.wb_command.specs.declared.Asked.{Asked}
 use Rattle.wb_command.specs.declared.Asked.TheVariants.{Run, RunKept, Check, Upgrade, Compact, Serve, ServeKept}
 use Rattle.wb_command.specs.declared.CommandErr.{CommandErr}
-use Rattle.wb_command.specs.declared.CommandErr.TheVariants.{Help, BadCommandLine, NoMemory}
+use Rattle.wb_command.specs.declared.CommandErr.TheVariants.{Help, BadCommandLine, NothingMeant, NoMemory}
 
 one_number_in : (bits : ℕ) (o : Option Text) (m n : ℕ) → IsSomeAnd o (λ text. Writes bits text m) → IsSomeAnd o (λ text. Writes bits text n) → m ≡ n
 one_number_in bits None m n h k = absurd h
@@ -99,8 +99,8 @@ one_meant (Some p) a b m n = one_meaning p.0 p.1 a b m n
 
 no_refusal : (words : List Text) (asked : Asked) (e : CommandErr) → Asks words asked → Refuses words e → e ≡ NoMemory
 no_refusal words asked (Help shown) asks h = absurd (subst (IsAmong _) asks.0 h.0)
-no_refusal words asked BadCommandLine asks (inl h) = absurd (subst (IsAmong h.0) asks.0 h.1)
-no_refusal words asked BadCommandLine asks (inr h) = absurd (h.1 asked asks.1)
+no_refusal words asked (BadCommandLine shown) asks h = absurd (subst (IsAmong _) asks.0 h.0)
+no_refusal words asked NothingMeant asks h = absurd (h.1 asked asks.1)
 no_refusal words asked NoMemory asks h = refl
 
 -- an answer that meets the other clauses is the only one

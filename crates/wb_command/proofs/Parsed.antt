@@ -12,7 +12,7 @@ use Rattle.clap.proofs.OnLiterals.{clap_on_literals}
 use Rattle.wb_command.specs.Asks.{Asks, IsMeant, IsRequest, Refuses, Tells, program}
 use Rattle.wb_command.specs.declared.Asked.{Asked}
 use Rattle.wb_command.specs.declared.CommandErr.{CommandErr}
-use Rattle.wb_command.specs.declared.CommandErr.TheVariants.{Help, BadCommandLine, NoMemory}
+use Rattle.wb_command.specs.declared.CommandErr.TheVariants.{Help, BadCommandLine, NothingMeant, NoMemory}
 
 -- clap's clauses say all of the program's command
 program_simple : is_simple program ≡ true
@@ -54,14 +54,14 @@ module _ (command : Command) (built : app_of command ≡ program) (words : List 
 -- the answer to words that clap takes
 pub answer_asked : (words : List Text) (r : Option Asked) (m : ArgMatches) → fault_of program words ≡ [] → subcommand_rows_of m ≡ subcommand_of program words
     → MatchOption r ((asked : Asked) → IsMeant (subcommand_rows_of m) asked → ⊥) (IsMeant (subcommand_rows_of m))
-    → IfOk (ok_or r BadCommandLine) (Asks words)
+    → IfOk (ok_or r NothingMeant) (Asks words)
 answer_asked words None m none found read = tt
 answer_asked words (Some asked) m none found read = (none, subst (λ o. IsMeant o asked) found read)
 
 pub answer_refused : (words : List Text) (r : Option Asked) (m : ArgMatches) → fault_of program words ≡ [] → subcommand_rows_of m ≡ subcommand_of program words
     → MatchOption r ((asked : Asked) → IsMeant (subcommand_rows_of m) asked → ⊥) (IsMeant (subcommand_rows_of m))
-    → IfErr (ok_or r BadCommandLine) (Refuses words)
-answer_refused words None m none found read = inr (none, λ asked meant. read asked (subst (λ o. IsMeant o asked) (sym found) meant))
+    → IfErr (ok_or r NothingMeant) (Refuses words)
+answer_refused words None m none found read = (none, λ asked meant. read asked (subst (λ o. IsMeant o asked) (sym found) meant))
 answer_refused words (Some asked) m none found read = tt
 
 -- the answer to words that clap refuses
@@ -70,6 +70,9 @@ answer_told words e (Help shown) (inl memory) told = absurd (no_request (kind_of
 answer_told words e (Help shown) (inr among) told =
     let same = ap kind_of (sym told.0) in
     (subst (λ k. IsAmong k (fault_of program words)) same among, subst IsRequest same told.1)
-answer_told words e BadCommandLine (inl memory) told = absurd (told.1 memory)
-answer_told words e BadCommandLine (inr among) told = inl (kind_of e, among, told.0)
+answer_told words e (BadCommandLine shown) (inl memory) told = absurd (told.2 memory)
+answer_told words e (BadCommandLine shown) (inr among) told =
+    let same = ap kind_of (sym told.0) in
+    (subst (λ k. IsAmong k (fault_of program words)) same among, λ request. told.1 (subst IsRequest (sym same) request))
+answer_told words e NothingMeant kind told = absurd told
 answer_told words e NoMemory kind told = tt

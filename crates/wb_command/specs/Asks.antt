@@ -14,7 +14,7 @@ use Rattle.clap.specs.declared.error.kind.ErrorKind.TheVariants.{DisplayHelp, Di
 use Rattle.wb_command.specs.declared.Asked.{Asked}
 use Rattle.wb_command.specs.declared.Asked.TheVariants.{Run, RunKept, Check, Upgrade, Compact, Serve, ServeKept}
 use Rattle.wb_command.specs.declared.CommandErr.{CommandErr}
-use Rattle.wb_command.specs.declared.CommandErr.TheVariants.{Help, BadCommandLine, NoMemory}
+use Rattle.wb_command.specs.declared.CommandErr.TheVariants.{Help, BadCommandLine, NothingMeant, NoMemory}
 
 -- ---- the commands of the program
 
@@ -147,19 +147,24 @@ IsRequest kind = (kind ≡ DisplayHelp) ⊎ (kind ≡ DisplayVersion)
 abbrev pub HasFault : List Text → ErrorKind → Type 0
 HasFault words kind = IsAmong kind (fault_of program words)
 
--- clap finds a fault in the words that is no call for help, or it finds none and they ask for nothing
-abbrev pub IsBad : List Text → Type 0
-IsBad words = ((kind : ErrorKind) × HasFault words kind × (IsRequest kind → ⊥))
-    ⊎ ((fault_of program words ≡ []) × ((asked : Asked) → IsMeant (subcommand_of program words) asked → ⊥))
+-- clap finds a fault of this kind in the words, and it is no call for help
+abbrev pub HasMistake : List Text → ErrorKind → Type 0
+HasMistake words kind = HasFault words kind × (IsRequest kind → ⊥)
+
+-- clap finds no fault in the words, and what it finds asks for nothing
+abbrev pub AsksNothing : List Text → Type 0
+AsksNothing words = (fault_of program words ≡ []) × ((asked : Asked) → IsMeant (subcommand_of program words) asked → ⊥)
 
 -- why the words ask for nothing; want of memory has no cause
 abbrev pub Refuses : List Text → CommandErr → Type 0
 Refuses words (Help shown) = HasFault words (kind_of shown) × IsRequest (kind_of shown)
-Refuses words BadCommandLine = IsBad words
+Refuses words (BadCommandLine shown) = HasMistake words (kind_of shown)
+Refuses words NothingMeant = AsksNothing words
 Refuses words NoMemory = ⊤
 
 -- an error of clap's, as the program tells it
 abbrev pub Tells : Error → CommandErr → Type 0
 Tells error (Help shown) = (shown ≡ error) × IsRequest (kind_of error)
-Tells error BadCommandLine = (IsRequest (kind_of error) → ⊥) × (kind_of error ≢ OutOfMemory)
+Tells error (BadCommandLine shown) = (shown ≡ error) × (IsRequest (kind_of error) → ⊥) × (kind_of error ≢ OutOfMemory)
+Tells error NothingMeant = ⊥
 Tells error NoMemory = kind_of error ≡ OutOfMemory

@@ -27,6 +27,21 @@ const COMPACT_EXAMPLE: &str = "Example:\n  workbook compact plan.wb";
 
 const SERVE_EXAMPLE: &str = "Example:\n  workbook serve --port 7000 --seats 2";
 
+const RUN_RESUME: &str = "Go on from the history whose text comes first";
+
+const SERVE_RESUME: &str =
+    "Begin with the history whose text is standard input, and print the text of the whole history at the end";
+
+const JOURNAL: &str =
+    "Keep each change in this file, and go on from those that it has; not with --resume";
+
+const WORKERS: &str =
+    "How many workers move arrays to another mapping; 1 where it is left out (1 to 64)";
+
+const PORT: &str = "The port to listen on; 0 takes any free one (0 to 65535)";
+
+const SEATS: &str = "How many connections are accepted, each once (1 to 16)";
+
 /// The path of a file, a word of the command line.
 #[derive(Debug, Drop)]
 pub struct FilePath<'a> {
@@ -102,8 +117,10 @@ pub enum Asked<'a> {
 pub enum CommandErr {
     /// They ask for help or for the version, which this prints.
     Help(clap::Error),
-    /// There is no such command.
-    BadCommandLine,
+    /// clap refuses them, and says why in its error.
+    BadCommandLine(clap::Error),
+    /// clap refuses nothing of them, but what it finds asks for nothing: the options don't go together.
+    NothingMeant,
     /// A growth was refused.
     NoMemory,
 }
@@ -117,7 +134,7 @@ pub fn command_of<'a>(alloc: Global, words: &'a [&'a str]) -> Result<Asked<'a>, 
 {
     let command = program(alloc).map_err(|_| CommandErr::NoMemory)?;
     match command.try_get_matches_from(words) {
-        Ok(matches) => read_off(&matches).ok_or(CommandErr::BadCommandLine),
+        Ok(matches) => read_off(&matches).ok_or(CommandErr::NothingMeant),
         Err(error) => Err(error_of(error)),
     }
 }
@@ -129,7 +146,7 @@ fn error_of(error: clap::Error) -> CommandErr
     match error.kind() {
         ErrorKind::DisplayHelp | ErrorKind::DisplayVersion => CommandErr::Help(error),
         ErrorKind::OutOfMemory => CommandErr::NoMemory,
-        _ => CommandErr::BadCommandLine,
+        _ => CommandErr::BadCommandLine(error),
     }
 }
 
@@ -156,7 +173,7 @@ fn run_command<'a>(alloc: Global) -> Result<Command<'a>, AllocError>
     Command::new(alloc, "run")
         .about("Answers each request line of standard input on standard output")
         .after_help(RUN_EXAMPLE)
-        .arg(resume_flag(alloc))?
+        .arg(resume_flag(alloc, RUN_RESUME))?
         .arg(journal_option(alloc))?
         .arg(workers_option(alloc))
 }
@@ -202,17 +219,18 @@ fn serve_command<'a>(alloc: Global) -> Result<Command<'a>, AllocError>
         .after_help(SERVE_EXAMPLE)
         .arg(port_option(alloc))?
         .arg(seats_option(alloc))?
-        .arg(resume_flag(alloc))?
+        .arg(resume_flag(alloc, SERVE_RESUME))?
         .arg(journal_option(alloc))?
         .arg(workers_option(alloc))
 }
 
-// Whether the text of a history comes first.
-fn resume_flag<'a>(alloc: Global) -> Arg<'a>
+// Whether the text of a history comes first, and what help says of that.
+fn resume_flag<'a>(alloc: Global, help: &'a str) -> Arg<'a>
     ensures { (rule_of result ≡ spec.resume_option) × (result.global ≡ false) }
 {
     Arg::new(alloc, "resume")
         .long("resume")
+        .help(help)
         .action(ArgAction::SetTrue)
 }
 
@@ -222,6 +240,7 @@ fn journal_option<'a>(alloc: Global) -> Arg<'a>
 {
     Arg::new(alloc, "journal")
         .long("journal")
+        .help(JOURNAL)
         .action(ArgAction::Set)
 }
 
@@ -240,6 +259,7 @@ fn workers_option<'a>(alloc: Global) -> Arg<'a>
 {
     Arg::new(alloc, "workers")
         .long("workers")
+        .help(WORKERS)
         .action(ArgAction::Set)
         .value_parser(clap::value_parser!(u8).range(1..=64))
 }
@@ -250,6 +270,7 @@ fn port_option<'a>(alloc: Global) -> Arg<'a>
 {
     Arg::new(alloc, "port")
         .long("port")
+        .help(PORT)
         .required(true)
         .action(ArgAction::Set)
         .value_parser(clap::value_parser!(u16))
@@ -261,6 +282,7 @@ fn seats_option<'a>(alloc: Global) -> Arg<'a>
 {
     Arg::new(alloc, "seats")
         .long("seats")
+        .help(SEATS)
         .required(true)
         .action(ArgAction::Set)
         .value_parser(clap::value_parser!(u8).range(1..=16))

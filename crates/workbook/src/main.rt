@@ -29,20 +29,25 @@ const NOTHING: &str = "/dev/null";
 struct Ending {
     /// The exit status.
     status: u8,
-    /// Why no journal is kept, or no more of it.
-    fault: Option<FileFault>,
-    /// The system's words for that.
-    cause: Option<io::Error>,
+    /// Why, if more is known than the status tells.
+    why: Option<Why>,
+}
+
+/// Why the program ends.
+#[derive(Drop)]
+enum Why {
+    /// The words of the command line are none, as the reader of words tells it.
+    Words(String),
+    /// They are options that don't go together.
+    Together,
+    /// No journal is kept, or no more of it, in the system's words if it has any.
+    File(FileFault, Option<io::Error>),
 }
 
 impl Ending {
     /// An end of which the status tells all.
     fn of(status: u8) -> Ending {
-        Ending {
-            status,
-            fault: None,
-            cause: None,
-        }
+        Ending { status, why: None }
     }
 }
 
@@ -55,8 +60,9 @@ fn main(rt: HostRuntime) -> ExitCode {
             _ => Ending::of(INPUT_OR_OUTPUT_FAILED),
         },
     };
-    tell(&rt, &ending);
-    ExitCode::from(ending.status)
+    let status = ending.status;
+    tell(&rt, ending);
+    ExitCode::from(status)
 }
 
 // Files in place of standard input, output and errors, where these are closed: without them the next file that is opened has
@@ -80,14 +86,43 @@ fn stand_in(rt: &HostRuntime, number: i32) -> Option<File> {
 }
 
 // Says on standard error why the program ends. Where that fails, the exit status stays what it is.
-fn tell(rt: &HostRuntime, ending: &Ending) {
-    let _ = match (ending.status, ending.fault) {
-        (INPUT_OR_OUTPUT_FAILED, Some(fault)) => tell_of_file(rt, fault, ending.cause),
-        (BAD_COMMAND_LINE, _) => eprintln!(rt; "workbook: bad command line"),
+fn tell(rt: &HostRuntime, ending: Ending) {
+    let Ending { status, why } = ending;
+    let _ = match (status, why) {
+        (BAD_COMMAND_LINE, why) => tell_of_words(rt, why),
+        (INPUT_OR_OUTPUT_FAILED, Some(Why::File(fault, cause))) => tell_of_file(rt, fault, cause),
         (INPUT_OR_OUTPUT_FAILED, _) => eprintln!(rt; "workbook: input or output failed"),
         (NO_MEMORY, _) => eprintln!(rt; "workbook: no memory"),
         _ => Ok(()),
     };
+}
+
+// The same, where the words of the command line are the cause: which, and where help is.
+fn tell_of_words(rt: &HostRuntime, why: Option<Why>) -> io::Result<()> {
+    eprintln!(rt; "workbook: bad command line")?;
+    match why {
+        Some(Why::Words(mistake)) => {
+            eprint!(rt; "workbook:")?;
+            tell_mistake(rt, mistake.as_str())?;
+            eprintln!(rt; "; for more, try '--help'")
+        }
+        Some(Why::Together) => {
+            eprintln!(rt; "workbook: these options don't go together; for more, try '--help'")
+        }
+        _ => Ok(()),
+    }
+}
+
+// What the reader of words tells first, on one line: it ends with the first line that is empty.
+fn tell_mistake(rt: &HostRuntime, mistake: &str) -> io::Result<()> {
+    let told = mistake.strip_prefix("error: ").unwrap_or(mistake);
+    for line in told.lines() {
+        if line.is_empty() {
+            return Ok(());
+        }
+        eprint!(rt; " {}", line.trim())?;
+    }
+    Ok(())
 }
 
 // The same, where the file of a journal is the cause.
@@ -131,7 +166,14 @@ fn by_words<R: Net<Listener = TcpListener, Stream = TcpStream> + Threads + Wait 
             error.print(rt)?;
             Ok(Ending::of(DONE))
         }
-        Err(CommandErr::BadCommandLine) => Ok(Ending::of(BAD_COMMAND_LINE)),
+        Err(CommandErr::BadCommandLine(error)) => Ok(Ending {
+            status: BAD_COMMAND_LINE,
+            why: format!(in alloc; "{error}").ok().map(Why::Words),
+        }),
+        Err(CommandErr::NothingMeant) => Ok(Ending {
+            status: BAD_COMMAND_LINE,
+            why: Some(Why::Together),
+        }),
         Err(CommandErr::NoMemory) => Ok(Ending::of(NO_MEMORY)),
     }
 }
@@ -181,9 +223,9 @@ fn on_devices<
         &mut output,
         mover,
     );
-    Ok(Ending {
-        status,
-        fault: files.told(),
-        cause: files.cause(),
-    })
+    let why = match files.told() {
+        Some(fault) => Some(Why::File(fault, files.cause())),
+        None => None,
+    };
+    Ok(Ending { status, why })
 }

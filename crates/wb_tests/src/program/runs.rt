@@ -62,7 +62,7 @@ workbook serve --port 0 --seats 1 -> Serve { port: 0, seats: 1, resume: false, w
 workbook serve --seats 16 --resume --port 65535 --workers 4 -> Serve { port: 65535, seats: 16, resume: true, workers: 4 }
 workbook serve --port 0 --seats 1 --journal plan.wb -> ServeKept { journal: FilePath { word: "plan.wb" }, port: 0, seats: 1, workers: 1 }
 workbook serve --port 7000 --seats 2 --journal plan.wb --workers 3 -> ServeKept { journal: FilePath { word: "plan.wb" }, port: 7000, seats: 2, workers: 3 }
-workbook serve --port 7000 --seats 2 --journal plan.wb --resume -> bad command line
+workbook serve --port 7000 --seats 2 --journal plan.wb --resume -> nothing is meant
 workbook serve --port 0 --seats 2 --journal -> bad command line
 workbook serve --port 0 --seats 2 --workers 0 -> bad command line
 workbook serve --port 0 --seats 2 --workers 65 -> bad command line
@@ -86,7 +86,8 @@ fn asked(alloc: Global, line: &str) -> Result<String, Fail> {
     match command_of(alloc, words.as_slice()) {
         Ok(asked) => Ok(format!(in alloc; "{asked:?}")?),
         Err(CommandErr::Help(_)) => Ok(String::from_str(alloc, "help")?),
-        Err(CommandErr::BadCommandLine) => Ok(String::from_str(alloc, "bad command line")?),
+        Err(CommandErr::BadCommandLine(_)) => Ok(String::from_str(alloc, "bad command line")?),
+        Err(CommandErr::NothingMeant) => Ok(String::from_str(alloc, "nothing is meant")?),
         Err(CommandErr::NoMemory) => Ok(String::from_str(alloc, "no memory")?),
     }
 }
