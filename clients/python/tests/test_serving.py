@@ -109,8 +109,11 @@ class Desks(Files):
             Workbook.serve(resume=EMPTY * 10_000, program=[sys.executable, "-c", "import sys; sys.exit(2)"])
         with self.assertRaises(ValueError):
             Workbook.serve(resume=EMPTY, journal=self.path)
-        with Workbook.serve(program=PROGRAM) as desk, self.assertRaisesRegex(SessionEnded, "ended with status"):
-            Workbook.serve(port=desk.port, program=PROGRAM)
+        with Workbook.serve(program=PROGRAM) as desk:
+            with self.assertRaisesRegex(SessionEnded, "ended with status 3"):
+                Workbook.serve(port=desk.port, program=PROGRAM)
+            with self.assertRaisesRegex(SessionEnded, "ended with status 3"):
+                Workbook.serve(port=desk.port, journal=self.path, program=with_journal("serve"))
 
     def test_a_desk_that_is_closed(self):
         desk = Workbook.serve(seats=1, program=PROGRAM)

@@ -14,6 +14,8 @@ GRACE = 5.0
 """So many seconds a program has to end after it closed its output."""
 LISTENING = b"listening on "
 """What a desk's first line begins with."""
+OTHER_FAULTS = ("workbook: input or output failed", "workbook: the port ")
+"""What a program's last words begin with where a desk isn't there, and its journal isn't the cause."""
 
 
 class Served:
@@ -75,7 +77,7 @@ class Served:
         self.close()
         if status == 1 and self.journal is None:
             return NotResumed("the program refused the text: it is no history's")
-        if self.journal is not None and not words.startswith("workbook: input or output failed"):
+        if self.journal is not None and not words.startswith(OTHER_FAULTS):
             return journals.not_opened(self.journal, status, words)
         return SessionEnded(f"the desk has ended with status {status} ({words or STATUSES.get(status, 'it says nothing')})")
 

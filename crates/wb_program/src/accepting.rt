@@ -134,6 +134,7 @@ pub trait Binds<N: Accepts<I, O>, I, O> {
 pub struct Ports<'a, R> {
     rt: &'a R,
     has_failed: bool,
+    cause: Option<io::Error>,
 }
 
 impl<'a, R> Ports<'a, R> {
@@ -142,32 +143,42 @@ impl<'a, R> Ports<'a, R> {
         Ports {
             rt,
             has_failed: false,
+            cause: None,
         }
+    }
+
+    /// Why a port could not be had, in the system's words.
+    pub fn cause(&self) -> Option<io::Error> {
+        self.cause
     }
 }
 
-// Listens on a port of this machine.
+// Listens on a port of this machine, and notes why that fails.
 fn listening<R: Net<Listener = TcpListener, Stream = TcpStream>>(
     rt: &R,
     port: u16,
+    cause: &mut Option<io::Error>,
 ) -> Result<(Connections, u16), AcceptErr>
     ensures { IfOk result (λ b. b.0.accepted ≡ 0) }
 {
     let listener = match TcpListener::bind(rt, ("127.0.0.1", port)) {
         Ok(listener) => listener,
-        Err(error) => return Err(of_error(error)),
+        Err(error) => return Err(noted(error, cause)),
     };
     match listener.local_addr() {
         Ok(address) => Ok((Connections::of(listener), address.port())),
-        Err(error) => Err(of_error(error)),
+        Err(error) => Err(noted(error, cause)),
     }
 }
 
-// Whether memory was refused, or something failed.
-fn of_error(error: io::Error) -> AcceptErr {
+// Whether memory was refused, or something failed, which is noted.
+fn noted(error: io::Error, cause: &mut Option<io::Error>) -> AcceptErr {
     match error.kind() {
         ErrorKind::OutOfMemory => AcceptErr::NoMemory,
-        _ => AcceptErr::Failed,
+        _ => {
+            *cause = Some(error);
+            AcceptErr::Failed
+        }
     }
 }
 
@@ -179,7 +190,8 @@ impl<'a, R: Net<Listener = TcpListener, Stream = TcpStream>> Binds<
     ghost failed = { λ s. s.has_failed };
 
     fn bind(&mut self, port: u16) -> Result<(Connections, u16), AcceptErr> {
-        let bound = listening(self.rt, port);
+        let rt = self.rt;
+        let bound = listening(rt, port, &mut self.cause);
         self.has_failed = matches!(bound, Err(AcceptErr::Failed));
         bound
     }

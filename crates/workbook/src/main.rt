@@ -40,6 +40,8 @@ enum Why {
     Words(String),
     /// They are options that don't go together.
     Together,
+    /// The port could not be had, in the system's words.
+    Port(io::Error),
     /// No journal is kept, or no more of it, in the system's words if it has any.
     File(FileFault, Option<io::Error>),
 }
@@ -90,6 +92,7 @@ fn tell(rt: &HostRuntime, ending: Ending) {
     let Ending { status, why } = ending;
     let _ = match (status, why) {
         (BAD_COMMAND_LINE, why) => tell_of_words(rt, why),
+        (INPUT_OR_OUTPUT_FAILED, Some(Why::Port(cause))) => tell_of_port(rt, cause),
         (INPUT_OR_OUTPUT_FAILED, Some(Why::File(fault, cause))) => tell_of_file(rt, fault, cause),
         (INPUT_OR_OUTPUT_FAILED, _) => eprintln!(rt; "workbook: input or output failed"),
         (NO_MEMORY, _) => eprintln!(rt; "workbook: no memory"),
@@ -123,6 +126,17 @@ fn tell_mistake(rt: &HostRuntime, mistake: &str) -> io::Result<()> {
         eprint!(rt; " {}", line.trim())?;
     }
     Ok(())
+}
+
+// The same, where the port is the cause.
+fn tell_of_port(rt: &HostRuntime, cause: io::Error) -> io::Result<()> {
+    match cause.kind() {
+        io::ErrorKind::AddrInUse => eprintln!(rt; "workbook: the port is in use: {cause}"),
+        io::ErrorKind::PermissionDenied => eprintln!(rt;
+            "workbook: the port is not allowed: {cause}"
+        ),
+        _ => eprintln!(rt; "workbook: the port was not opened: {cause}"),
+    }
 }
 
 // The same, where the file of a journal is the cause.
@@ -223,9 +237,10 @@ fn on_devices<
         &mut output,
         mover,
     );
-    let why = match files.told() {
-        Some(fault) => Some(Why::File(fault, files.cause())),
-        None => None,
+    let why = match (ports.cause(), files.told()) {
+        (Some(cause), _) => Some(Why::Port(cause)),
+        (None, Some(fault)) => Some(Why::File(fault, files.cause())),
+        (None, None) => None,
     };
     Ok(Ending { status, why })
 }
