@@ -15,3 +15,4 @@ pub mod Judged
 pub mod KeptReading
 pub mod KeptEnding
 pub mod KeptHosting
+pub mod Telling

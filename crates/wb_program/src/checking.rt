@@ -4,9 +4,11 @@ ghost use Rattle.std.specs.Prelude.{◌≡◌, ℕ, List, true, IfOk, IfNone, If
 ghost use Rattle.std.specs.Io.KnownBytes.{Appends, Consumes, IsAtEnd};
 ghost use Rattle.wb_proto.specs.Below.wb_reading.Reading.{IsNoBook};
 ghost use Rattle.wb_program.specs.Checking.{IsNoJournal, IsTextVerdict, IsVerdict, verdict_text, status_of_verdict, IsPrinted, Says, Judges, IsAnswered};
+ghost use Rattle.wb_program.specs.Reasons.{Tells, WhyNothing, told_of};
 ghost use Rattle.wb_program.specs.Running.{HasFailed};
 
 use crate::keeping::opened;
+use crate::reasons::{Reason, look_of};
 use crate::running::{DONE, INPUT_OR_OUTPUT_FAILED, NO_MEMORY};
 use std::alloc::{AllocError, Global};
 use std::str::from_utf8;
@@ -139,6 +141,16 @@ pub fn status_of_verdict(verdict: Verdict) -> u8
     }
 }
 
+// Why bytes are refused, if this is the verdict on them.
+fn told_of(verdict: Verdict, bytes: &[u8]) -> Option<Reason>
+    ensures { result ≡ told_of verdict bytes.now }
+{
+    match verdict {
+        Verdict::Workbook(_) | Verdict::History(_, _) | Verdict::Journal(_, _) => None,
+        Verdict::Refused => Some(look_of(bytes)),
+    }
+}
+
 /// Prints a text: the exit status.
 pub(crate) fn tell<W: Sink>(whole: &str, writer: &mut W) -> u8
     ensures told { (text : List ℕ) × Appends (W.contents writer.old) (W.contents writer.new) text × IsPrinted whole.now result text }
@@ -175,12 +187,13 @@ pub(crate) fn say<W: Sink>(alloc: Global, verdict: Verdict, writer: &mut W) -> u
 
 /// Reads the reader to its end and prints whether that is the text of a workbook or of a history, or a journal: `ok` and the number
 /// of its objects, for a history and a journal then that of its edits, with exit status 0; or `refused` with status 1; 3 only where the latest
-/// read, write or flush failed, or all reads that are allowed were made, and 4 where a growth was refused.
+/// read, write or flush failed, or all reads that are allowed were made, and 4 where a growth was refused. With 1 it tells why.
 pub fn check_with<R: Source, W: Sink, M: Mover>(
     alloc: Global,
     reader: &mut R,
     writer: &mut W,
     mover: &M,
+    why: &mut Option<Reason>,
 ) -> u8
     ensures judged { (read : List ℕ) × Consumes (R.remaining reader.old) (R.remaining reader.new) read
         × ((text : List ℕ) × Appends (W.contents writer.old) (W.contents writer.new) text
@@ -188,6 +201,7 @@ pub fn check_with<R: Source, W: Sink, M: Mover>(
     ensures done { IsAnswered result → IsAtEnd (R.remaining reader.new) × (W.flushed writer.new ≡ true) }
     ensures failed { result ≡ 3
         → HasFailed (R.failed reader.new) (R.reads reader.old) (R.reads reader.new) (W.failed writer.new) }
+    ensures why { result ≡ 1 → Tells WhyNothing (R.remaining reader.old) (R.remaining reader.new) why.new }
 {
     let bytes = match read_all(alloc, reader) {
         Ok(bytes) => bytes,
@@ -196,7 +210,10 @@ pub fn check_with<R: Source, W: Sink, M: Mover>(
         Err(LineFault::TooManyReads) => return INPUT_OR_OUTPUT_FAILED,
     };
     match verdict_on(alloc, &bytes, mover) {
-        Ok(verdict) => say(alloc, verdict, writer),
+        Ok(verdict) => {
+            *why = told_of(verdict, &bytes);
+            say(alloc, verdict, writer)
+        }
         Err(NoMemory) => NO_MEMORY,
     }
 }

@@ -3,6 +3,7 @@ ghost use Rattle.std.specs.Prelude.{◌≡◌, ◌⊎◌, ◌++◌, ℕ, List, t
 ghost use Rattle.std.specs.Io.KnownBytes.{Appends, Consumes, IsAtEnd};
 ghost use Rattle.wb_shared.specs.Openings.{nothing_done};
 ghost use Rattle.wb_program.specs.Checking.{IsFault};
+ghost use Rattle.wb_program.specs.Reasons.{Tells, TellsWhy, WhyNoHistory};
 ghost use Rattle.wb_program.specs.Resuming.{left_in, failed_in, reads_in};
 ghost use Rattle.wb_program.specs.Running.{HasFailed};
 ghost use Rattle.wb_keeping.specs.Opening.{IsOpening};
@@ -21,6 +22,7 @@ use crate::files::{FileFault, OpensFiles};
 use crate::keeping::{KeptRun, run_kept_with};
 use crate::kept_hosting::serve_kept;
 use crate::put_back::PutBack;
+use crate::reasons::Reason;
 use crate::resuming::{history_from, resume_with};
 use crate::running::{DONE, INPUT_OR_OUTPUT_FAILED, NO_MEMORY, run_with};
 use crate::serving::{serve_history, serve_on};
@@ -141,6 +143,7 @@ fn host_input<
     reader: &mut S,
     writer: &mut W,
     mover: &M,
+    why: &mut Option<Reason>,
 ) -> u8
     ensures hosts { (read : List ℕ) × Consumes (S.remaining reader.old) (S.remaining reader.new) read
         × ((text : List ℕ) × Appends (W.contents writer.old) (W.contents writer.new) text
@@ -148,8 +151,9 @@ fn host_input<
     ensures done { result ≡ 0 → IsAtEnd (S.remaining reader.new) × (W.flushed writer.new ≡ true) }
     ensures failed { result ≡ 3 → HasFailed (S.failed reader.new) (S.reads reader.old) (S.reads reader.new) (W.failed writer.new)
         ⊎ FailsAfterInput I.Source O.Sink N.Accepts seats (S.remaining reader.old) (S.remaining reader.new) (B.failed ports.new) (W.failed writer.new) }
+    ensures why { result ≡ 1 → Tells WhyNoHistory (S.remaining reader.old) (S.remaining reader.new) why.new }
 {
-    match history_from(alloc, reader, writer, mover) {
+    match history_from(alloc, reader, writer, mover, why) {
         Ok(history) => host_history(rt, alloc, ports, port, seats, history, writer, mover),
         Err(status) => status,
     }
@@ -271,7 +275,8 @@ fn compact_at<D: Replaces, J: OpensFiles<D>, W: Sink, M: Mover>(
 /// Does what a command line asks for: the exit status. What is read and written is what the definition of each command says. Status 0
 /// comes only with the writer flushed, and, where an input is read, at its end; 3 only where a read, a write, a flush, a port, a
 /// connection or a thread failed, or what the definition of each command names besides. A desk listens on a port that `ports` gives. A
-/// journal is in the file that `files` gives for its path, also one that is made anew; no other command opens a file.
+/// journal is in the file that `files` gives for its path, also one that is made anew; no other command opens a file. With status 1 it
+/// tells why the input is refused.
 pub fn do_asked<
     R: Threads + Wait + Sync,
     B: Binds<N, I, O>,
@@ -292,6 +297,7 @@ pub fn do_asked<
     reader: &mut PutBack<S>,
     writer: &mut W,
     mover: &M,
+    why: &mut Option<Reason>,
 ) -> u8
     ensures does { (read : List ℕ) × Consumes (left_in S.remaining reader.old) (left_in S.remaining reader.new) read
         × ((text : List ℕ) × Appends (W.contents writer.old) (W.contents writer.new) text
@@ -321,11 +327,12 @@ pub fn do_asked<
     ensures done { Finishes asked.entry result (left_in S.remaining reader.new) (W.flushed writer.new) }
     ensures failed { result ≡ 3 → Fails I.Source O.Sink N.Accepts asked.entry (left_in S.remaining reader.old) (left_in S.remaining reader.new)
         (failed_in reader.new) (reads_in reader.old) (reads_in reader.new) (B.failed ports.new) (W.failed writer.new) }
+    ensures why { result ≡ 1 → TellsWhy asked.entry (left_in S.remaining reader.old) (left_in S.remaining reader.new) why.new }
 {
     match asked {
         Asked::Run { resume, .. } => {
             if resume {
-                resume_with(alloc, reader, writer, mover)
+                resume_with(alloc, reader, writer, mover, why)
             } else {
                 run_with(alloc, reader, writer, mover)
             }
@@ -348,8 +355,8 @@ pub fn do_asked<
                 )
             }
         }
-        Asked::Check => check_with(alloc, reader, writer, mover),
-        Asked::Upgrade => upgrade_with(alloc, reader, writer, mover),
+        Asked::Check => check_with(alloc, reader, writer, mover, why),
+        Asked::Upgrade => upgrade_with(alloc, reader, writer, mover, why),
         Asked::Compact { journal } => {
             compact_at::<D, J, W, M>(alloc, files, journal.as_str(), writer, mover)
         }
@@ -361,7 +368,7 @@ pub fn do_asked<
         } => {
             if resume {
                 host_input::<R, B, N, I, O, PutBack<S>, W, M>(
-                    rt, alloc, ports, port, seats, reader, writer, mover,
+                    rt, alloc, ports, port, seats, reader, writer, mover, why,
                 )
             } else {
                 host(rt, alloc, ports, port, seats, writer, mover)

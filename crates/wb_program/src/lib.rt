@@ -16,6 +16,7 @@ mod kept_hosting;
 mod kept_seat;
 mod kept_serving;
 mod put_back;
+mod reasons;
 mod resuming;
 mod running;
 mod seat;
@@ -33,6 +34,7 @@ pub use crate::keeping::{KeptRun, run_kept_with};
 pub use crate::kept_hosting::host_kept_with;
 pub use crate::kept_serving::serve_kept_on;
 pub use crate::put_back::PutBack;
+pub use crate::reasons::Reason;
 pub use crate::resuming::{history_from, resume_with};
 pub use crate::running::{
     BAD_COMMAND_LINE, DONE, INPUT_OR_OUTPUT_FAILED, NO_MEMORY, run_with, status_of,

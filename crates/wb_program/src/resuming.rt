@@ -1,14 +1,18 @@
 //! Sessions and desks that go on from the text of a history.
-ghost use Rattle.std.specs.Prelude.{◌≡◌, ◌++◌, ◌⊎◌, ℕ, List, true, IfOk, IfErr, IfSome, IfNone, OnOk, OnErr, option_map};
+ghost use Rattle.std.specs.Prelude.{◌≡◌, ◌++◌, ◌⊎◌, ℕ, List, [], Some, true, IfOk, IfErr, IfSome, IfNone, OnOk, OnErr, option_map};
 ghost use Rattle.std.specs.Io.KnownBytes.{Appends, Consumes, IsAtEnd};
 ghost use Rattle.wb_lines.specs.Causes.{RisesBy, StopsReading};
-ghost use Rattle.wb_program.specs.Checking.{IsNoRecord, IsFault};
+ghost use Rattle.wb_program.specs.Checking.{IsNoRecord, IsFault, Says};
+ghost use Rattle.wb_program.specs.Reasons.{Tells, WhyNoHistory, WhyNoOpening};
 ghost use Rattle.wb_program.specs.Running.{HasFailed, HasFailedByNow};
 ghost use Rattle.wb_program.specs.Resuming.{left_in, failed_in, reads_in, IsRecord, IsUpToEnd, HasNoEnd, IsServed, IsResumed, IsOpening};
+ghost use Rattle.wb_program.specs.declared.checking.Verdict.TheVariants.{Refused};
+ghost use Rattle.wb_program.specs.declared.reasons.Reason.{Reason};
 
 use crate::answering::session;
 use crate::checking::{Verdict, say};
 use crate::put_back::PutBack;
+use crate::reasons::{Reason, look_of, why_no_history};
 use crate::running::{INPUT_OR_OUTPUT_FAILED, NO_MEMORY, status_of};
 use memchr::memmem;
 use std::alloc::Global;
@@ -40,13 +44,30 @@ fn history_of<M: Mover>(alloc: Global, bytes: &[u8], mover: &M) -> Result<Option
     }
 }
 
+// Prints that bytes are refused, which are the text of no history, and tells why: the exit status.
+fn refuse<W: Sink>(alloc: Global, bytes: &[u8], writer: &mut W, why: &mut Option<Reason>) -> u8
+    ensures says { (text : List ℕ) × Appends (W.contents writer.old) (W.contents writer.new) text
+        × (Says Refused result text ⊎ (IsFault result × (text ≡ []))) }
+    ensures failed { result ≡ 3 → W.failed writer.new ≡ true }
+    ensures why { result ≡ 1 → (reason : Reason) × WhyNoHistory bytes.now reason × (why.new ≡ Some reason) }
+{
+    match why_no_history(alloc, bytes) {
+        Ok(reason) => {
+            *why = Some(reason);
+            say(alloc, Verdict::Refused, writer)
+        }
+        Err(NoMemory) => NO_MEMORY,
+    }
+}
+
 /// Reads the reader to its end: the history of that text, or the exit status after `refused` was printed, where it is the
-/// text of no history, or after a fault.
+/// text of no history, or after a fault. With 1 it tells why.
 pub fn history_from<R: Source, W: Sink, M: Mover>(
     alloc: Global,
     reader: &mut R,
     writer: &mut W,
     mover: &M,
+    why: &mut Option<Reason>,
 ) -> Result<History, u8>
     ensures opens { (read : List ℕ) × Consumes (R.remaining reader.old) (R.remaining reader.new) read
         × ((text : List ℕ) × Appends (W.contents writer.old) (W.contents writer.new) text
@@ -54,6 +75,8 @@ pub fn history_from<R: Source, W: Sink, M: Mover>(
     ensures ended { IfOk result (λ _. IsAtEnd (R.remaining reader.new)) }
     ensures failed { IfErr result (λ status. status ≡ 3
         → HasFailed (R.failed reader.new) (R.reads reader.old) (R.reads reader.new) (W.failed writer.new)) }
+    ensures why { IfErr result (λ status. status ≡ 1
+        → Tells WhyNoHistory (R.remaining reader.old) (R.remaining reader.new) why.new) }
 {
     let bytes = match read_all(alloc, reader) {
         Ok(bytes) => bytes,
@@ -63,7 +86,7 @@ pub fn history_from<R: Source, W: Sink, M: Mover>(
     };
     match history_of(alloc, &bytes, mover) {
         Ok(Some(history)) => Ok(history),
-        Ok(None) => Err(say(alloc, Verdict::Refused, writer)),
+        Ok(None) => Err(refuse(alloc, &bytes, writer, why)),
         Err(NoMemory) => Err(NO_MEMORY),
     }
 }
@@ -141,12 +164,13 @@ fn go_on<R: Source, W: Sink, M: Mover>(
 /// Reads the text of a history up to its line `end`, and then answers each line behind it on that history: the exit status.
 /// What was read and written is a session from the history, a run of the machine over its lines. Where there is no such
 /// text it prints `refused`, with status 1; 3 only where the latest read, write or flush failed, or as many reads as are allowed
-/// were made in the call, or more, and 4 where a growth was refused.
+/// were made in the call, or more, and 4 where a growth was refused. With 1 it tells why.
 pub fn resume_with<R: Source, W: Sink, M: Mover>(
     alloc: Global,
     reader: &mut PutBack<R>,
     writer: &mut W,
     mover: &M,
+    why: &mut Option<Reason>,
 ) -> u8
     ensures resumes { (read : List ℕ) × Consumes (left_in R.remaining reader.old) (left_in R.remaining reader.new) read
         × ((text : List ℕ) × Appends (W.contents writer.old) (W.contents writer.new) text
@@ -154,6 +178,7 @@ pub fn resume_with<R: Source, W: Sink, M: Mover>(
     ensures done { result ≡ 0 → IsAtEnd (left_in R.remaining reader.new) × (W.flushed writer.new ≡ true) }
     ensures failed { result ≡ 3
         → HasFailedByNow (failed_in reader.new) (reads_in reader.old) (reads_in reader.new) (W.failed writer.new) }
+    ensures why { result ≡ 1 → Tells WhyNoOpening (left_in R.remaining reader.old) (left_in R.remaining reader.new) why.new }
 {
     let bytes = match read_opening(alloc, reader) {
         Ok(bytes) => bytes,
@@ -164,9 +189,12 @@ pub fn resume_with<R: Source, W: Sink, M: Mover>(
     match parts(&bytes) {
         Some((front, behind)) => match history_of(alloc, front, mover) {
             Ok(Some(history)) => go_on(alloc, history, behind, reader, writer, mover),
-            Ok(None) => say(alloc, Verdict::Refused, writer),
+            Ok(None) => refuse(alloc, front, writer, why),
             Err(NoMemory) => NO_MEMORY,
         },
-        None => say(alloc, Verdict::Refused, writer),
+        None => {
+            *why = Some(look_of(&bytes));
+            say(alloc, Verdict::Refused, writer)
+        }
     }
 }

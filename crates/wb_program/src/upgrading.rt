@@ -1,12 +1,16 @@
 //! The text of a workbook, made the text of a history: that of its load.
-ghost use Rattle.std.specs.Prelude.{◌≡◌, ℕ, List, true, IfOk, OnOk, IfSome, IfNone, string_bytes};
+ghost use Rattle.std.specs.Prelude.{◌≡◌, ◌⊎◌, ℕ, List, [], Some, true, IfOk, OnOk, IfSome, IfNone, string_bytes};
 ghost use Rattle.std.specs.Io.KnownBytes.{Appends, Consumes, IsAtEnd};
 ghost use Rattle.wb_record.specs.Text.{history_text};
-ghost use Rattle.wb_program.specs.Checking.{IsAnswered};
+ghost use Rattle.wb_program.specs.Checking.{IsAnswered, IsFault, Says};
+ghost use Rattle.wb_program.specs.Reasons.{Tells, WhyNoBook};
 ghost use Rattle.wb_program.specs.Running.{HasFailed};
 ghost use Rattle.wb_program.specs.Upgrading.{loaded, IsUpgraded, HasNoBook, Upgrades};
+ghost use Rattle.wb_program.specs.declared.checking.Verdict.TheVariants.{Refused};
+ghost use Rattle.wb_program.specs.declared.reasons.Reason.{Reason};
 
 use crate::checking::{Verdict, say, tell};
+use crate::reasons::{Reason, why_no_book};
 use crate::running::{INPUT_OR_OUTPUT_FAILED, NO_MEMORY};
 use std::alloc::Global;
 use std::str::from_utf8;
@@ -61,15 +65,39 @@ fn upgraded<M: Mover>(alloc: Global, bytes: &[u8], mover: &M) -> Result<Option<S
     }
 }
 
+// Prints that bytes are refused, which are the text of no workbook, and tells why: the exit status.
+fn refuse<W: Sink, M: Mover>(
+    alloc: Global,
+    bytes: &[u8],
+    writer: &mut W,
+    mover: &M,
+    why: &mut Option<Reason>,
+) -> u8
+    ensures says { (text : List ℕ) × Appends (W.contents writer.old) (W.contents writer.new) text
+        × (Says Refused result text ⊎ (IsFault result × (text ≡ []))) }
+    ensures flushed { IsAnswered result → W.flushed writer.new ≡ true }
+    ensures failed { result ≡ 3 → W.failed writer.new ≡ true }
+    ensures why { result ≡ 1 → (reason : Reason) × WhyNoBook bytes.now reason × (why.new ≡ Some reason) }
+{
+    match why_no_book(alloc, bytes, mover) {
+        Ok(reason) => {
+            *why = Some(reason);
+            say(alloc, Verdict::Refused, writer)
+        }
+        Err(NoMemory) => NO_MEMORY,
+    }
+}
+
 /// Reads the reader to its end, the text of a workbook, and prints the text of a history of the same workbook: one edit, the
 /// load of what was read, in force. It can be undone and redone as others are, and the history gone on from. Where no
 /// workbook has that text, it prints `refused`, with status 1; 3 only where the latest read, write or flush failed, or all reads
-/// that are allowed were made, and 4 where a growth was refused.
+/// that are allowed were made, and 4 where a growth was refused. With 1 it tells why.
 pub fn upgrade_with<R: Source, W: Sink, M: Mover>(
     alloc: Global,
     reader: &mut R,
     writer: &mut W,
     mover: &M,
+    why: &mut Option<Reason>,
 ) -> u8
     ensures upgrades { (read : List ℕ) × Consumes (R.remaining reader.old) (R.remaining reader.new) read
         × ((text : List ℕ) × Appends (W.contents writer.old) (W.contents writer.new) text
@@ -77,6 +105,7 @@ pub fn upgrade_with<R: Source, W: Sink, M: Mover>(
     ensures done { IsAnswered result → IsAtEnd (R.remaining reader.new) × (W.flushed writer.new ≡ true) }
     ensures failed { result ≡ 3
         → HasFailed (R.failed reader.new) (R.reads reader.old) (R.reads reader.new) (W.failed writer.new) }
+    ensures why { result ≡ 1 → Tells WhyNoBook (R.remaining reader.old) (R.remaining reader.new) why.new }
 {
     let bytes = match read_all(alloc, reader) {
         Ok(bytes) => bytes,
@@ -86,7 +115,7 @@ pub fn upgrade_with<R: Source, W: Sink, M: Mover>(
     };
     match upgraded(alloc, &bytes, mover) {
         Ok(Some(text)) => tell(text.as_str(), writer),
-        Ok(None) => say(alloc, Verdict::Refused, writer),
+        Ok(None) => refuse(alloc, &bytes, writer, mover, why),
         Err(NoMemory) => NO_MEMORY,
     }
 }

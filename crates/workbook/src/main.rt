@@ -14,7 +14,7 @@ use wb_command::{Asked, CommandErr, command_of};
 use wb_lines::{Input, Output};
 use wb_program::{
     BAD_COMMAND_LINE, DONE, FileFault, Files, INPUT_OR_OUTPUT_FAILED, NO_MEMORY, Ports, PutBack,
-    do_asked,
+    REFUSED, Reason, do_asked,
 };
 use wb_redist::{Crew, Mover};
 
@@ -44,6 +44,8 @@ enum Why {
     Port(io::Error),
     /// No journal is kept, or no more of it, in the system's words if it has any.
     File(FileFault, Option<io::Error>),
+    /// The input is refused.
+    Refused(Reason),
 }
 
 impl Ending {
@@ -91,6 +93,7 @@ fn stand_in(rt: &HostRuntime, number: i32) -> Option<File> {
 fn tell(rt: &HostRuntime, ending: Ending) {
     let Ending { status, why } = ending;
     let _ = match (status, why) {
+        (REFUSED, Some(Why::Refused(reason))) => tell_refused(rt, reason),
         (BAD_COMMAND_LINE, why) => tell_of_words(rt, why),
         (INPUT_OR_OUTPUT_FAILED, Some(Why::Port(cause))) => tell_of_port(rt, cause),
         (INPUT_OR_OUTPUT_FAILED, Some(Why::File(fault, cause))) => tell_of_file(rt, fault, cause),
@@ -98,6 +101,24 @@ fn tell(rt: &HostRuntime, ending: Ending) {
         (NO_MEMORY, _) => eprintln!(rt; "workbook: no memory"),
         _ => Ok(()),
     };
+}
+
+// The same, where an input is refused.
+fn tell_refused(rt: &HostRuntime, reason: Reason) -> io::Result<()> {
+    match reason {
+        Reason::Workbook => eprintln!(rt;
+            "workbook: it is the text of a workbook; 'workbook upgrade' makes it that of a history"
+        ),
+        Reason::History => eprintln!(rt; "workbook: it is the text of a history already"),
+        Reason::Journal => eprintln!(rt;
+            "workbook: it begins as a journal; 'workbook run --journal' takes one, or tells which line is not granted"
+        ),
+        Reason::CutShort => eprintln!(rt; "workbook: it is cut short: the last line is not 'end'"),
+        Reason::Altered => eprintln!(rt;
+            "workbook: it begins and ends as a text of the program, but is not as the program prints one"
+        ),
+        Reason::NotOurs => eprintln!(rt; "workbook: it does not begin with 'chapel-workbook'"),
+    }
 }
 
 // The same, where the words of the command line are the cause: which, and where help is.
@@ -227,6 +248,7 @@ fn on_devices<
     let mut files = Files::of(rt);
     let mut input = PutBack::new(alloc, Input::new(rt.stdin()));
     let mut output = Output::new(BufWriter::new(alloc, rt.stdout())?);
+    let mut reason = None;
     let status = do_asked(
         net,
         alloc,
@@ -236,11 +258,13 @@ fn on_devices<
         &mut input,
         &mut output,
         mover,
+        &mut reason,
     );
-    let why = match (ports.cause(), files.told()) {
-        (Some(cause), _) => Some(Why::Port(cause)),
-        (None, Some(fault)) => Some(Why::File(fault, files.cause())),
-        (None, None) => None,
+    let why = match (reason, ports.cause(), files.told()) {
+        (Some(reason), _, _) => Some(Why::Refused(reason)),
+        (None, Some(cause), _) => Some(Why::Port(cause)),
+        (None, None, Some(fault)) => Some(Why::File(fault, files.cause())),
+        (None, None, None) => None,
     };
     Ok(Ending { status, why })
 }

@@ -24,7 +24,13 @@ const ELEMENT: &str = "{\"op\":\"get\",\"a\":\"A\",\"i\":4}";
 fn history_of_the_text<M: Mover>(alloc: Global, mover: &M) -> Result<History, Fail> {
     let mut refused = Vec::new(alloc);
     let mut input = Input::new(TEXT.as_bytes());
-    match history_from(alloc, &mut input, &mut Output::new(&mut refused), mover) {
+    match history_from(
+        alloc,
+        &mut input,
+        &mut Output::new(&mut refused),
+        mover,
+        &mut None,
+    ) {
         Ok(history) => Ok(history),
         Err(_) => Err("a history")?,
     }

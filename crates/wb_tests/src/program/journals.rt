@@ -221,7 +221,13 @@ fn files_are_refused_untouched(rt: HostRuntime) -> Result<(), Fail> {
 fn judged<M: Mover>(alloc: Global, text: &[u8], mover: &M) -> (u8, Vec<u8>) {
     let mut output = Vec::new(alloc);
     let mut input = Input::new(text);
-    let status = check_with(alloc, &mut input, &mut Output::new(&mut output), mover);
+    let status = check_with(
+        alloc,
+        &mut input,
+        &mut Output::new(&mut output),
+        mover,
+        &mut None,
+    );
     (status, output)
 }
 
@@ -336,6 +342,7 @@ fn a_command_line_keeps_a_journal_at_its_path(rt: HostRuntime) -> Result<(), Fai
             &mut PutBack::new(alloc, Input::new(LINES)),
             &mut Output::new(&mut output),
             &alone,
+            &mut None,
         );
         assert_eq!(rt; ended, status);
         assert_eq!(rt; output.as_slice(), written);

@@ -125,7 +125,13 @@ fn judge<M: Mover>(
     let mut input = Input::new(text.as_bytes());
     let mut output = Vec::new(alloc);
     assert_eq!(rt;
-        check_with(alloc, &mut input, &mut Output::new(&mut output), mover),
+        check_with(
+            alloc,
+            &mut input,
+            &mut Output::new(&mut output),
+            mover,
+            &mut None
+        ),
         status
     );
     assert_eq!(rt; output.as_slice(), printed);
@@ -176,7 +182,13 @@ fn resumed<M: Mover>(
     let mut input = PutBack::new(alloc, Input::new(one.chain(two)));
     let mut output = Vec::new(alloc);
     assert_eq!(rt;
-        resume_with(alloc, &mut input, &mut Output::new(&mut output), mover),
+        resume_with(
+            alloc,
+            &mut input,
+            &mut Output::new(&mut output),
+            mover,
+            &mut None
+        ),
         status
     );
     assert_eq!(rt; output.as_slice(), written);
@@ -216,7 +228,7 @@ fn resumed_desk(rt: HostRuntime) -> Result<(), Fail> {
     stream.shutdown(Shutdown::Write)?;
     let mut writer = Output::new(&mut output);
     let mut input = Input::new(TEXT.as_bytes());
-    let Ok(history) = history_from(alloc, &mut input, &mut writer, &alone) else {
+    let Ok(history) = history_from(alloc, &mut input, &mut writer, &alone, &mut None) else {
         return Err("a history")?;
     };
     let status = serve_history(
@@ -240,6 +252,7 @@ fn resumed_desk(rt: HostRuntime) -> Result<(), Fail> {
         &mut Input::new(LINES),
         &mut Output::new(&mut refused),
         &alone,
+        &mut None,
     );
     assert!(rt; matches!(other, Err(1)));
     assert_eq!(rt; refused.as_slice(), REFUSED);

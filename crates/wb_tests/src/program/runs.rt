@@ -112,7 +112,13 @@ fn judge<M: Mover>(rt: &impl Abort, alloc: Global, texts: &[Text], status: u8, m
     for (text, printed) in texts {
         let mut input = Input::new(*text);
         let mut output = Vec::new(alloc);
-        let judged = check_with(alloc, &mut input, &mut Output::new(&mut output), mover);
+        let judged = check_with(
+            alloc,
+            &mut input,
+            &mut Output::new(&mut output),
+            mover,
+            &mut None,
+        );
         assert!(rt; judged == status && output.as_slice() == *printed);
     }
 }

@@ -61,7 +61,13 @@ impl Read for Broken {
 fn upgraded<M: Mover>(alloc: Global, text: &[u8], mover: &M) -> (u8, Vec<u8>) {
     let mut output = Vec::new(alloc);
     let mut input = Input::new(text);
-    let status = upgrade_with(alloc, &mut input, &mut Output::new(&mut output), mover);
+    let status = upgrade_with(
+        alloc,
+        &mut input,
+        &mut Output::new(&mut output),
+        mover,
+        &mut None,
+    );
     (status, output)
 }
 
@@ -69,7 +75,13 @@ fn upgraded<M: Mover>(alloc: Global, text: &[u8], mover: &M) -> (u8, Vec<u8>) {
 fn judged<M: Mover>(alloc: Global, text: &[u8], mover: &M) -> Vec<u8> {
     let mut output = Vec::new(alloc);
     let mut input = Input::new(text);
-    let _ = check_with(alloc, &mut input, &mut Output::new(&mut output), mover);
+    let _ = check_with(
+        alloc,
+        &mut input,
+        &mut Output::new(&mut output),
+        mover,
+        &mut None,
+    );
     output
 }
 
@@ -114,7 +126,13 @@ fn resumed_after_an_upgrade(rt: HostRuntime) {
     let (_, text) = upgraded(alloc, WORKBOOK, &alone);
     let mut input = PutBack::new(alloc, Input::new(text.as_slice().chain(MORE)));
     let mut output = Vec::new(alloc);
-    let status = resume_with(alloc, &mut input, &mut Output::new(&mut output), &alone);
+    let status = resume_with(
+        alloc,
+        &mut input,
+        &mut Output::new(&mut output),
+        &alone,
+        &mut None,
+    );
     assert_eq!(rt; status, 0);
     assert_eq!(rt; output.as_slice(), MORE_REPLIES);
 }
@@ -128,7 +146,13 @@ fn failing_input(rt: HostRuntime) -> Result<(), Fail> {
         let front = WORKBOOK.get(..place).ok_or("a place")?;
         let mut input = Input::new(front.chain(Broken {}));
         let mut output = Vec::new(alloc);
-        let status = upgrade_with(alloc, &mut input, &mut Output::new(&mut output), &alone);
+        let status = upgrade_with(
+            alloc,
+            &mut input,
+            &mut Output::new(&mut output),
+            &alone,
+            &mut None,
+        );
         assert_eq!(rt; status, 3);
         assert!(rt; output.is_empty());
     }
@@ -146,7 +170,13 @@ fn fails_at_each<M: Mover>(
     for limit in 0..=printed.len() {
         let mut input = Input::new(text);
         let mut output = Narrow::new(alloc, limit, AtLimit::FailsAtAll);
-        let status = upgrade_with(alloc, &mut input, &mut Output::new(&mut output), mover);
+        let status = upgrade_with(
+            alloc,
+            &mut input,
+            &mut Output::new(&mut output),
+            mover,
+            &mut None,
+        );
         assert_eq!(rt; status, 3);
         assert_eq!(rt;
             output.taken.as_slice(),

@@ -1,8 +1,10 @@
-use Rattle.std.proofs.Common.{[], refl, rules, subst, sym}
+use Rattle.std.proofs.Common.{◌∙◌, [], ap, refl, rules, subst, sym}
 use Rattle.wb_program.specs.Compacting.{Compacts}
 use Rattle.wb_program.specs.Doing.{Does}
 use Rattle.wb_program.specs.Keeping.{RunsKept}
+use Rattle.wb_program.specs.Reasons.{TellsWhy}
 use Rattle.wb_program.specs.Resuming.{left_in}
+use Rattle.wb_command.specs.declared.Asked.TheVariants.{Run, Serve}
 use Rattle.wb_program.proofs.Finishing.{desk_fails, desk_finishes, resumed_desk_fails, resumed_desk_finishes}
 use Rattle.wb_program.proofs.Hosting.{history_hosted, hosted, resumed, upgraded}
 use Rattle.wb_program.proofs.KeptHosting.{kept_asked, wrote}
@@ -157,3 +159,23 @@ returns-in-Compact-clause-does g c =
             (sym c.in-Compact.is) tt,
       ),
     )
+
+pub returns-then-resume-clause-why : goal.returns-then-resume-clause-why
+returns-then-resume-clause-why g c one =
+    let asked = c.in-Run in
+    subst (λ a. TellsWhy a _ _ _) (sym (asked.is ∙ ap (λ b. Run b asked.workers) c.if-resume.true)) (c.resume_with.ensures.why one)
+
+pub returns-then-resume-3-clause-why : goal.returns-then-resume-3-clause-why
+returns-then-resume-3-clause-why g c one =
+    let asked = c.in-Serve in
+    subst (λ a. TellsWhy a _ _ _) (sym (asked.is ∙ ap (λ b. Serve asked.port asked.seats b asked.workers) c.if-resume-3.true)) (c.host_input.ensures.why one)
+
+pub returns-else-resume-clause-why : goal.returns-else-resume-clause-why
+returns-else-resume-clause-why g c one =
+    let asked = c.in-Run in
+    subst (λ a. TellsWhy a _ _ _) (sym (asked.is ∙ ap (λ b. Run b asked.workers) c.if-resume.false)) tt
+
+pub returns-else-resume-3-clause-why : goal.returns-else-resume-3-clause-why
+returns-else-resume-3-clause-why g c one =
+    let asked = c.in-Serve in
+    subst (λ a. TellsWhy a _ _ _) (sym (asked.is ∙ ap (λ b. Serve asked.port asked.seats b asked.workers) c.if-resume-3.false)) tt

@@ -1,7 +1,8 @@
-use Rattle.std.proofs.Common.{[], inl, inr, subst}
+use Rattle.std.proofs.Common.{[], inl, inr, subst, true}
 use Rattle.std.proofs.KnownBytes.{Appends-trans}
 use Rattle.std.specs.Io.KnownBytes.{Appends}
 use Rattle.wb_program.proofs.Finishing.{no_opening_of_0}
+use Rattle.wb_program.proofs.Telling.{host_of_1}
 use Rattle.wb_program.proofs.doing.host_input.Goals as goal
 
 pub returns-in-Ok-clause-hosts : goal.returns-in-Ok-clause-hosts
@@ -30,3 +31,11 @@ returns-in-Err-clause-done g c h =
 
 pub returns-in-Err-clause-failed : goal.returns-in-Err-clause-failed
 returns-in-Err-clause-failed g c h = inl (c.in-Err.ensures.failed h)
+
+pub returns-in-Ok-clause-why : goal.returns-in-Ok-clause-why
+returns-in-Ok-clause-why g c one =
+    let hosts = c.host_history.ensures.hosts in
+    host_of_1 g.I.Source g.O.Sink g.N.Accepts _ true c.in-Ok.history _ c.host_history.result hosts.0 one hosts.2
+
+pub returns-in-Err-clause-why : goal.returns-in-Err-clause-why
+returns-in-Err-clause-why g c one = c.in-Err.ensures.why one
