@@ -6,6 +6,7 @@ use Rattle.wb_disk.specs.declared.device.Device as Device
 use Rattle.wb_keep.specs.Lines.{is_ours, recovered}
 use Rattle.wb_keep.specs.Repair.{StandsForTheSame}
 use Rattle.wb_kept.specs.Answering.{Granted}
+use Rattle.wb_kept.specs.Keeping.{IsPlace}
 use Rattle.wb_kept.specs.Runs.{Leads}
 use Rattle.wb_kept.specs.declared.kept.Kept.{Kept}
 use Rattle.wb_kept.specs.declared.kept.OpenKeptErr.{OpenKeptErr}
@@ -27,15 +28,15 @@ module _ {D : Type 0} (device : Device.Ghosts D) (file : D) (held : List ℕ) wh
       → (IsFalse ours → why ≡ errs.NotOurs) → (IsTrue ours → why ≢ errs.NotOurs)
       → LeavesOnly device.moment device.left_since file left (StandsForTheSame held)
       → (why ≢ errs.Failed → why ≢ errs.Memory → left ≡ file) → (why ≡ errs.Failed → device.faults file < device.faults left)
-      → IsCause device file held why left
-  by_cause true is errs.NotOurs left refused foreign ours_not moments untouched failed = absurd (ours_not refl refl)
-  by_cause false is errs.NotOurs left refused foreign ours_not moments untouched failed = (is, untouched (λ e. cc) (λ e. cc))
-  by_cause true is (errs.NotGranted at) left refused foreign ours_not moments untouched failed =
-      (is, (λ s led. let no : errs.NotGranted at ≡ errs.Memory = refused s led refl (λ e. cc) in cc), untouched (λ e. cc) (λ e. cc))
-  by_cause false is (errs.NotGranted at) left refused foreign ours_not moments untouched failed =
+      → IsPlace Grants no_edit (recovered held) why → IsCause device file held why left
+  by_cause true is errs.NotOurs left refused foreign ours_not moments untouched failed place = absurd (ours_not refl refl)
+  by_cause false is errs.NotOurs left refused foreign ours_not moments untouched failed place = (is, untouched (λ e. cc) (λ e. cc))
+  by_cause true is (errs.NotGranted at) left refused foreign ours_not moments untouched failed place =
+      (is, (λ s led. let no : errs.NotGranted at ≡ errs.Memory = refused s led refl (λ e. cc) in cc), place, untouched (λ e. cc) (λ e. cc))
+  by_cause false is (errs.NotGranted at) left refused foreign ours_not moments untouched failed place =
       let no : errs.NotGranted at ≡ errs.NotOurs = foreign refl in absurd (cc)
-  by_cause ours is errs.Memory left refused foreign ours_not moments untouched failed = moments
-  by_cause ours is errs.Failed left refused foreign ours_not moments untouched failed = (moments, failed refl)
+  by_cause ours is errs.Memory left refused foreign ours_not moments untouched failed place = moments
+  by_cause ours is errs.Failed left refused foreign ours_not moments untouched failed place = (moments, failed refl)
 
   is_ours_of : (ours : Bool) → is_ours held ≡ ours → (IsFalse ours → ⊥) → IsTrue (is_ours held)
   is_ours_of true is not_foreign = is
@@ -56,6 +57,7 @@ module _ {D : Type 0} (device : Device.Ghosts D) (file : D) (held : List ℕ) wh
       → (IsFalse (is_ours held) → IsErrAnd r (λ e. e.0 ≡ errs.NotOurs)) → (IsTrue (is_ours held) → IfErr r (λ e. e.0 ≢ errs.NotOurs))
       → IfErr r (λ e. LeavesOnly device.moment device.left_since file e.1 (StandsForTheSame held))
       → IfErr r (λ e. e.0 ≢ errs.Failed → e.0 ≢ errs.Memory → e.1 ≡ file) → IfErr r (λ e. e.0 ≡ errs.Failed → device.faults file < device.faults e.1)
-      → IfErr r (λ e. IsCause device file held e.0 e.1)
-  caused (Ok kept) refused foreign ours moments untouched failed = tt
-  caused (Err e) refused foreign ours moments untouched failed = by_cause (is_ours held) refl e.0 e.1 refused foreign ours moments untouched failed
+      → IfErr r (λ e. IsPlace Grants no_edit (recovered held) e.0) → IfErr r (λ e. IsCause device file held e.0 e.1)
+  caused (Ok kept) refused foreign ours moments untouched failed place = tt
+  caused (Err e) refused foreign ours moments untouched failed place =
+      by_cause (is_ours held) refl e.0 e.1 refused foreign ours moments untouched failed place

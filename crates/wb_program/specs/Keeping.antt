@@ -6,7 +6,7 @@ use Rattle.wb_disk.specs.declared.device.Device as Device
 use Rattle.wb_keep.specs.Lines.{is_ours, recovered}
 use Rattle.wb_keep.specs.Repair.{StandsForTheSame}
 use Rattle.wb_kept.specs.Keeping.{IsKept}
-use Rattle.wb_kept.specs.Runs.{Leads}
+use Rattle.wb_kept.specs.Runs.{Leads, StopsAt}
 use Rattle.wb_kept.specs.Sessions.{KeepsUntil, ReadsUntil, Session, WritesUntil}
 use Rattle.wb_kept.specs.declared.kept.Kept.{Kept}
 use Rattle.wb_kept.specs.declared.kept.OpenKeptErr.{OpenKeptErr}
@@ -127,8 +127,8 @@ module _ {D : Type 0} (device : Device.Ghosts D) where
   -- the way leaves the same lines.
   abbrev pub IsCause : (file : D) → (held : List ℕ) → OpenKeptErr → (left : D) → Type 0
   IsCause file held errs.NotOurs left = IsFalse (is_ours held) × (left ≡ file)
-  IsCause file held (errs.NotGranted at) left =
-      IsTrue (is_ours held) × ((p : Past) → Leads Grants no_edit (recovered held) p → ⊥) × (left ≡ file)
+  IsCause file held (errs.NotGranted place) left = IsTrue (is_ours held) × ((p : Past) → Leads Grants no_edit (recovered held) p → ⊥)
+      × StopsAt Grants no_edit (recovered held) place × (left ≡ file)
   IsCause file held errs.Memory left = LeavesOnly device.moment device.left_since file left (StandsForTheSame held)
   IsCause file held errs.Failed left =
       LeavesOnly device.moment device.left_since file left (StandsForTheSame held) × (device.faults file < device.faults left)
@@ -150,8 +150,7 @@ module _ {D : Type 0} (device : Device.Ghosts D) where
     pub opened : Kept Past D
     pub is_opened : IsOpened file held opened
     pub serves : ServesOn opened run s
-
-  -- A line of the journal is not granted: that is refused, which is printed, and the file is untouched.
+  -- A line of the journal is not granted: that is refused, which is printed, the first such line is told, and the file is untouched.
   pub record RefusesLines (file : D) (held : List ℕ) (run : KeptRun D) (s : Streams) : Type 0 where
     pub ours : IsTrue (is_ours held)
     pub not_granted : (p : Past) → Leads Grants no_edit (recovered held) p → ⊥
@@ -162,7 +161,9 @@ module _ {D : Type 0} (device : Device.Ghosts D) where
     pub says : Says Refused run.status text
     pub flushed : IsAnswered run.status → s.flushed ≡ true
     pub failed : run.status ≡ 3 → s.write_failed ≡ true
-    pub is_fault : run.fault ≡ None
+    pub place : ℕ
+    pub stops : StopsAt Grants no_edit (recovered held) place
+    pub is_fault : run.fault ≡ Some (faults.NotGranted place)
 
   -- The file is of another kind, and untouched.
   pub record RefusesFile (file : D) (held : List ℕ) (run : KeptRun D) (s : Streams) : Type 0 where
@@ -186,9 +187,9 @@ module _ {D : Type 0} (device : Device.Ghosts D) where
 -- what is made of each cause: the exit status, what is told of the file, and what is printed
 abbrev pub TurnsAway : OpenKeptErr → ℕ → Option FileFault → (sent told : Option (List ℕ)) → (flushed write_failed : Bool) → Type 0
 TurnsAway errs.NotOurs status fault sent told flushed write_failed = (told ≡ sent) × (status ≡ 3) × (fault ≡ Some faults.NotOurs)
-TurnsAway (errs.NotGranted at) status fault sent told flushed write_failed =
+TurnsAway (errs.NotGranted place) status fault sent told flushed write_failed =
     ((text : List ℕ) × Appends sent told text × Says Refused status text) × (IsAnswered status → flushed ≡ true)
-    × (status ≡ 3 → write_failed ≡ true) × (fault ≡ None)
+    × (status ≡ 3 → write_failed ≡ true) × (fault ≡ Some (faults.NotGranted place))
 TurnsAway errs.Memory status fault sent told flushed write_failed = (told ≡ sent) × (status ≡ 4) × (fault ≡ None)
 TurnsAway errs.Failed status fault sent told flushed write_failed = (told ≡ sent) × (status ≡ 3) × (fault ≡ Some faults.Failed)
 

@@ -19,6 +19,8 @@ pub enum FileFault {
     NotOurs,
     /// It has a line already, and no other history begins it.
     HasLines,
+    /// This change of it, from 0, is the first that is not granted.
+    NotGranted(usize),
     /// It failed.
     Failed,
     /// A growth was refused.

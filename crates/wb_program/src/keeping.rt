@@ -131,7 +131,10 @@ pub(crate) fn turned_away<D, W: Sink>(
 {
     let (status, fault) = match why {
         OpenKeptErr::NotOurs => (INPUT_OR_OUTPUT_FAILED, Some(FileFault::NotOurs)),
-        OpenKeptErr::NotGranted(_) => (say(alloc, Verdict::Refused, writer), None),
+        OpenKeptErr::NotGranted(place) => (
+            say(alloc, Verdict::Refused, writer),
+            Some(FileFault::NotGranted(place)),
+        ),
         OpenKeptErr::Memory => (NO_MEMORY, None),
         OpenKeptErr::Failed => (INPUT_OR_OUTPUT_FAILED, Some(FileFault::Failed)),
     };
@@ -144,7 +147,7 @@ pub(crate) fn turned_away<D, W: Sink>(
 
 /// Answers each line of the reader on the history that a journal has, whose file holds these bytes, and keeps there what a line
 /// changed before its reply is written. A crash at any moment leaves the history after the first so many lines. Where the file has a
-/// line that is not granted, it prints `refused`, with status 1; that file, and one of another kind, stays as it was. Status 3 comes
+/// line that is not granted, it prints `refused`, with status 1, and tells which; that file, and one of another kind, stays as it was. Status 3 comes
 /// only where a read, a write, a flush or the file failed, all reads that are allowed were made, or the file is of another kind; 4
 /// where a growth was refused.
 pub fn run_kept_with<D: Device, R: Source, W: Sink, M: Mover>(

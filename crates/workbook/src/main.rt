@@ -44,6 +44,8 @@ enum Why {
     Port(io::Error),
     /// No journal is kept, or no more of it, in the system's words if it has any.
     File(FileFault, Option<io::Error>),
+    /// This change of a journal, from 0, is not granted.
+    Line(usize),
     /// The input is refused.
     Refused(Reason),
 }
@@ -94,6 +96,7 @@ fn tell(rt: &HostRuntime, ending: Ending) {
     let Ending { status, why } = ending;
     let _ = match (status, why) {
         (REFUSED, Some(Why::Refused(reason))) => tell_refused(rt, reason),
+        (REFUSED, Some(Why::Line(place))) => tell_line(rt, place),
         (BAD_COMMAND_LINE, why) => tell_of_words(rt, why),
         (INPUT_OR_OUTPUT_FAILED, Some(Why::Port(cause))) => tell_of_port(rt, cause),
         (INPUT_OR_OUTPUT_FAILED, Some(Why::File(fault, cause))) => tell_of_file(rt, fault, cause),
@@ -119,6 +122,12 @@ fn tell_refused(rt: &HostRuntime, reason: Reason) -> io::Result<()> {
         ),
         Reason::NotOurs => eprintln!(rt; "workbook: it does not begin with 'chapel-workbook'"),
     }
+}
+
+// The same, where this change of a journal is the first that is not granted: its line, from 1, behind the header.
+fn tell_line(rt: &HostRuntime, place: usize) -> io::Result<()> {
+    let line = place.saturating_add(2);
+    eprintln!(rt; "workbook: line {line} of the journal is not granted")
 }
 
 // The same, where the words of the command line are the cause: which, and where help is.
@@ -170,6 +179,7 @@ fn tell_of_file(rt: &HostRuntime, fault: FileFault, cause: Option<io::Error>) ->
         FileFault::HasLines => {
             eprint!(rt; "workbook: the journal has lines already, and --resume begins a new one")?
         }
+        FileFault::NotGranted(_) => eprint!(rt; "workbook: the journal is refused")?,
         FileFault::Failed => eprint!(rt; "workbook: the journal failed")?,
         FileFault::NoMemory => eprint!(rt; "workbook: no memory for the journal")?,
     }
@@ -263,6 +273,7 @@ fn on_devices<
     let why = match (reason, ports.cause(), files.told()) {
         (Some(reason), _, _) => Some(Why::Refused(reason)),
         (None, Some(cause), _) => Some(Why::Port(cause)),
+        (None, None, Some(FileFault::NotGranted(place))) => Some(Why::Line(place)),
         (None, None, Some(fault)) => Some(Why::File(fault, files.cause())),
         (None, None, None) => None,
     };

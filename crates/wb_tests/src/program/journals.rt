@@ -210,10 +210,15 @@ fn files_are_refused_untouched(rt: HostRuntime) -> Result<(), Fail> {
     }
     for held in &NOT_GRANTED {
         let refused = session(rt.alloc(), held, LINES, 0, 0, &alone)?;
-        assert!(rt; refused.status == 1 && refused.fault.is_none());
+        assert!(rt; refused.status == 1 && refused.fault == Some(FileFault::NotGranted(0)));
         assert_eq!(rt; refused.written.as_slice(), REFUSED);
         assert_eq!(rt; refused.left.as_slice(), *held);
     }
+    let mut later = front(rt.alloc(), 2)?;
+    let _ = later.pop();
+    later.extend_from_slice(b" up\n#")?;
+    let refused = session(rt.alloc(), &later, LINES, 0, 0, &alone)?;
+    assert!(rt; refused.status == 1 && refused.fault == Some(FileFault::NotGranted(2)));
     Ok(())
 }
 

@@ -270,7 +270,7 @@ fn files_are_refused_before_a_port_is_told(rt: HostRuntime) -> Result<(), Fail> 
     assert!(rt; foreign.printed.is_empty() && foreign.one.is_empty());
     let strange = b"chapel-workbook 3\n {\"k\":1,\"op\":\"undo\"}\n#".as_slice();
     let refused = served_day(&rt, rt.alloc(), strange, [LINES, b""], 0, &alone)?;
-    assert!(rt; refused.status == 1 && refused.fault.is_none());
+    assert!(rt; refused.status == 1 && refused.fault == Some(FileFault::NotGranted(0)));
     assert_eq!(rt; refused.printed.as_slice(), b"refused\n".as_slice());
     assert_eq!(rt; refused.left.as_slice(), strange);
     Ok(())

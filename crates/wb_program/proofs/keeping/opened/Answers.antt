@@ -12,4 +12,4 @@ returns-clause-ok g c =
 pub returns-clause-err : goal.returns-clause-err
 returns-clause-err g c =
     let told = c.open.ensures in
-    caused g.D.Device c.args.file c.args.held.now c.open.result told.refused told.foreign told.ours told.any_moment_err told.untouched told.failed
+    caused g.D.Device c.args.file c.args.held.now c.open.result told.refused told.foreign told.ours told.any_moment_err told.untouched told.failed told.place
