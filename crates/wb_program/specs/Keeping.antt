@@ -150,6 +150,7 @@ module _ {D : Type 0} (device : Device.Ghosts D) where
     pub opened : Kept Past D
     pub is_opened : IsOpened file held opened
     pub serves : ServesOn opened run s
+
   -- A line of the journal is not granted: that is refused, which is printed, the first such line is told, and the file is untouched.
   pub record RefusesLines (file : D) (held : List ℕ) (run : KeptRun D) (s : Streams) : Type 0 where
     pub ours : IsTrue (is_ours held)
