@@ -4,6 +4,7 @@ pub mod Resuming
 pub mod Upgrading
 pub mod Reasons
 pub mod Serving
+pub mod Costs
 pub mod Accepting
 pub mod Days
 pub mod Keeping

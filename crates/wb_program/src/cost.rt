@@ -1,5 +1,8 @@
 //! What a line costs while a desk is locked for it, about, in bytes: eight for a cell that it touched, sixteen for a number that it
-//! lists, and the text that it printed.
+//! lists, and the text that it printed; and no more than a whole turn may.
+ghost use Rattle.std.specs.Prelude.{◌≡◌, ◌+◌, ◌*◌, length, min};
+ghost use Rattle.wb_lines.specs.Turns.{cost_limit};
+ghost use Rattle.wb_program.specs.Costs.{answer_cost, told_cost, last_cost, look_cost, request_cost, asked_cost};
 
 use wb_kept_seats::Said;
 use wb_proto::below::history::{Answer, Query, Refusal};
@@ -16,7 +19,9 @@ const CELL: u64 = 8;
 const NUMBER: u64 = 16;
 
 /// What it costs to answer what a line was read as, beyond what the reply tells of.
-pub(crate) fn cost_to_answer(asked: &Result<Request, Refusal>) -> u64 {
+pub(crate) fn cost_to_answer(asked: &Result<Request, Refusal>) -> u64
+    ensures { result ≡ asked_cost asked.now }
+{
     match asked {
         Ok(request) => cost_of_request(request),
         Err(_) => 0,
@@ -24,22 +29,35 @@ pub(crate) fn cost_to_answer(asked: &Result<Request, Refusal>) -> u64 {
 }
 
 /// The same of a line that was read as what can be kept.
-pub(crate) fn cost_to_answer_said(asked: &Result<Said, Refusal>) -> u64 {
+pub(crate) fn cost_to_answer_said(asked: &Result<Said, Refusal>) -> u64
+    ensures { result ≡ asked_cost asked.now }
+{
     match asked {
         Ok(said) => cost_of_request(said.request()),
         Err(_) => 0,
     }
 }
 
+/// What it costs to answer and what the reply tells of, together.
+pub(crate) fn cost_of_both(to_answer: u64, told: u64) -> u64
+    ensures { result ≡ min cost_limit (to_answer + told) }
+{
+    to_answer.saturating_add(told).min(WHOLE_TURN)
+}
+
 /// What the reply tells of that a pass got last.
-pub(crate) fn cost_of_last<L: Opening>(pass: &Pass<L>) -> u64 {
+pub(crate) fn cost_of_last<L: Opening>(pass: &Pass<L>) -> u64
+    ensures { result ≡ min cost_limit (last_cost pass.now.own) }
+{
     match pass.own().last() {
         Some(record) => cost_of(&record.entry().as_entry().reply),
         None => 0,
     }
 }
 
-fn cost_of_request(request: &Request) -> u64 {
+fn cost_of_request(request: &Request) -> u64
+    ensures { result ≡ request_cost request.now }
+{
     match request {
         Request::Ask(query) => cost_to_look(query),
         Request::Dependents(_) | Request::Cascade(_) => WHOLE_TURN,
@@ -53,7 +71,9 @@ fn cost_of_request(request: &Request) -> u64 {
 }
 
 // A reduction looks at all elements and replies with one.
-fn cost_to_look(query: &Query) -> u64 {
+fn cost_to_look(query: &Query) -> u64
+    ensures { result ≡ look_cost query.now }
+{
     match query {
         Query::Reduce(_, _) => WHOLE_TURN,
         Query::Get(_, _)
@@ -65,26 +85,32 @@ fn cost_to_look(query: &Query) -> u64 {
 }
 
 /// What a reply tells of.
-pub(crate) fn cost_of(reply: &Reply) -> u64 {
+pub(crate) fn cost_of(reply: &Reply) -> u64
+    ensures { result ≡ min cost_limit (told_cost reply.now) }
+{
     match reply {
-        Reply::Edited(_, cells) => cost_of_cells(*cells),
-        Reply::Undone(_, cells) => cost_of_cells(*cells),
-        Reply::Cascaded(_, cells) => cost_of_cells(*cells),
-        Reply::Redone(_, cells) => cost_of_cells(*cells),
-        Reply::Listed(numbers) => (numbers.as_slice().len() as u64).saturating_mul(NUMBER),
+        Reply::Edited(_, cells) => cost_of_many(*cells, CELL),
+        Reply::Undone(_, cells) => cost_of_many(*cells, CELL),
+        Reply::Cascaded(_, cells) => cost_of_many(*cells, CELL),
+        Reply::Redone(_, cells) => cost_of_many(*cells, CELL),
+        Reply::Listed(numbers) => cost_of_many(numbers.as_slice().len(), NUMBER),
         Reply::Answered(answer) => cost_of_answer(answer),
-        Reply::Printed(text) => text.as_str().len() as u64,
+        Reply::Printed(text) => cost_of_many(text.as_str().len(), 1),
         Reply::Counted(_, _) | Reply::Refused(_) => 0,
     }
 }
 
-fn cost_of_cells(cells: usize) -> u64 {
-    (cells as u64).saturating_mul(CELL)
-}
-
-fn cost_of_answer(answer: &Answer) -> u64 {
+fn cost_of_answer(answer: &Answer) -> u64
+    ensures { result ≡ min cost_limit (answer_cost answer.now) }
+{
     match answer {
-        Answer::Piece(piece) => (piece.pairs().len() as u64).saturating_mul(NUMBER),
+        Answer::Piece(piece) => cost_of_many(piece.pairs().len(), NUMBER),
         Answer::Value(_) | Answer::Size(_) | Answer::Locale(_) | Answer::InForce(_) => 0,
     }
+}
+
+fn cost_of_many(count: usize, each: u64) -> u64
+    ensures { result ≡ min cost_limit (each * count) }
+{
+    each.saturating_mul(count as u64).min(WHOLE_TURN)
 }

@@ -1,15 +1,16 @@
 //! A seat at a desk whose changes are kept, as what answers lines: a reply is told only after the changes of its turn are in the
 //! file.
-ghost use Rattle.std.specs.Prelude.{◌≡◌, ◌⊎◌, ℕ, List, true, false, IfOk, IfSome};
+ghost use Rattle.std.specs.Prelude.{◌≡◌, ◌⊎◌, ◌+◌, ◌<◌, ℕ, List, true, false, IfOk, IfSome};
 ghost use Rattle.std.specs.Io.KnownBytes.{Appends, Consumes};
 ghost use Rattle.wb_lines.specs.Causes.{ReadsUntil, WritesUntil};
-ghost use Rattle.wb_lines.specs.Turns.{ServesTurns};
+ghost use Rattle.wb_lines.specs.Turns.{ServesTurns, cost_limit, turn_limit};
 ghost use Rattle.wb_lines.specs.declared.machine.SessionEnd.{SessionEnd};
 ghost use Rattle.wb_proto.specs.Replies.{reply_of};
+ghost use Rattle.wb_program.specs.Costs.{kept_line_cost};
 ghost use Rattle.wb_program.specs.Serving.{AnswersSeat, IsReadAs};
 ghost use Rattle.wb_program.specs.KeptSeats.{FailsOnce, told_text};
 
-use crate::cost::{cost_of_last, cost_to_answer_said};
+use crate::cost::{cost_of_both, cost_of_last, cost_to_answer_said};
 use crate::seat::{Hold, Seat, text_of};
 use std::alloc::{AllocError, Global};
 use std::cell::Cell;
@@ -192,7 +193,8 @@ impl<'d, L: KeptOpening, D: Device + Drop> Turns<'d, L, D> {
         asked: Result<Said, Refusal>,
         mover: &M,
     ) -> (Told<L>, u64)
-        ensures { (line : List ℕ) → IsReadAs line asked → AnswersSeat L.opening pass.old line (told_text result.0) pass.new }
+        ensures answers { (line : List ℕ) → IsReadAs line asked → AnswersSeat L.opening pass.old line (told_text result.0) pass.new }
+        ensures cost { result.1 ≡ kept_line_cost asked pass.new.own }
     {
         let least = cost_to_answer_said(&asked);
         let mut turn = match self.under_way.take() {
@@ -201,7 +203,7 @@ impl<'d, L: KeptOpening, D: Device + Drop> Turns<'d, L, D> {
         };
         let told = reply_in(&mut turn, pass, asked, mover);
         end_turn(self.under_way.replace(Some(turn)));
-        let cost = cost_of_last(pass).saturating_add(least);
+        let cost = cost_of_both(least, cost_of_last(pass));
         (told, cost)
     }
 
@@ -279,7 +281,7 @@ fn serve_in_kept_turns<L: KeptOpening, D: Device + Drop, R: Wait, I: Source, O: 
 {
     // (each of the functions borrows variables of its own)
     let mut pass = pass;
-    let mut hold = Hold { is_held: false };
+    let mut hold = Hold::unspent();
     let to_read = alloc;
     let parse = |line: &[u8]| -> Result<Said, Refusal>
         ensures { IsReadAs line.now result }
@@ -288,10 +290,14 @@ fn serve_in_kept_turns<L: KeptOpening, D: Device + Drop, R: Wait, I: Source, O: 
         Told<L>,
         u64,
     )
-        ensures { (line : List ℕ) → IsReadAs line asked → AnswersSeat L.opening pass.old line (told_text result.0) pass.new }
+        requires room { (hold.old.spent < cost_limit) × (hold.old.answered < turn_limit) }
+        ensures answers { (line : List ℕ) → IsReadAs line asked → AnswersSeat L.opening pass.old line (told_text result.0) pass.new }
+        ensures cost { result.1 ≡ kept_line_cost asked pass.new.own }
+        ensures spends { (hold.new.spent ≡ hold.old.spent + result.1) × (hold.new.answered ≡ hold.old.answered + 1) }
     {
-        hold.is_held = true;
-        turns.answer(rt, pass, asked, mover)
+        let (told, cost) = turns.answer(rt, pass, asked, mover);
+        hold.answer(cost);
+        (told, cost)
     };
     let to_tell = alloc;
     let kept = turns;
@@ -301,10 +307,11 @@ fn serve_in_kept_turns<L: KeptOpening, D: Device + Drop, R: Wait, I: Source, O: 
     let held = turns;
     let at = rt;
     let let_go = |hold: &mut Hold|
-        ensures { hold.new.is_held ≡ false }
+        ensures free { hold.new.is_held ≡ false }
+        ensures unspent { (hold.new.spent ≡ 0) × (hold.new.answered ≡ 0) }
     {
         held.let_go(at);
-        hold.is_held = false;
+        hold.let_go();
     };
     let _ = serve_turns::<Seat<L>, Pass<L>, Hold, Result<Said, Refusal>, Told<L>, _, _, _, _, I, O>(
         alloc, &mut pass, &mut hold, &parse, &answer, &tell, &let_go, reader, writer,

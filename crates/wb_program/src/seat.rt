@@ -1,14 +1,15 @@
 //! A seat at a desk as what answers lines.
-ghost use Rattle.std.specs.Prelude.{◌≡◌, ◌⊎◌, ℕ, List, false, IfOk};
+ghost use Rattle.std.specs.Prelude.{◌≡◌, ◌⊎◌, ◌+◌, ◌<◌, ◌≤◌, ℕ, List, true, false, IfOk};
 ghost use Rattle.std.specs.Io.KnownBytes.{Appends, Consumes};
 ghost use Rattle.wb_lines.specs.Causes.{ReadsUntil, WritesUntil};
-ghost use Rattle.wb_lines.specs.Turns.{ServesTurns};
+ghost use Rattle.wb_lines.specs.Turns.{ServesTurns, cost_limit, turn_limit};
 ghost use Rattle.wb_lines.specs.declared.machine.SessionEnd.{SessionEnd};
 ghost use Rattle.wb_proto.specs.Replies.{reply_of};
 ghost use Rattle.wb_proto.specs.Requests.{request};
+ghost use Rattle.wb_program.specs.Costs.{line_cost};
 ghost use Rattle.wb_program.specs.Serving.{RepliesIfRead, NothingAsked, AnswersSeat, IsReadAs};
 
-use crate::cost::{cost_of, cost_to_answer};
+use crate::cost::{cost_of, cost_of_both, cost_to_answer};
 use std::alloc::{AllocError, Global};
 use std::marker::PhantomData;
 use std::sync::Wait;
@@ -23,14 +24,54 @@ pub(crate) struct Seat<L> {
     of: PhantomData<L>,
 }
 
-// Whether a turn may hold the desk's lock. Each function below that has the turn take the lock, or let it go, says so here.
+// Whether a turn may hold the desk's lock, what its lines have cost, and how many they are. Each function below that has the turn
+// take the lock, answer a line, or let the lock go, says so here.
 #[derive(Drop)]
 pub(crate) struct Hold {
     pub(crate) is_held: bool,
+    pub(crate) spent: u64,
+    pub(crate) answered: u64,
 }
 
 impl Holds for Hold {
     ghost held = { λ h. h.is_held };
+
+    ghost spent = { λ h. h.spent };
+
+    ghost answered = { λ h. h.answered };
+}
+
+impl Hold {
+    /// Of a turn that has not begun.
+    pub(crate) fn unspent() -> Hold
+        ensures { result ≡ record { is_held = false; spent = 0; answered = 0 } }
+    {
+        Hold {
+            is_held: false,
+            spent: 0,
+            answered: 0,
+        }
+    }
+
+    /// The turn may have taken the lock, for a line that cost so much.
+    pub(crate) fn answer(&mut self, cost: u64)
+        requires room { (self.old.spent < cost_limit) × (self.old.answered < turn_limit) }
+        requires cost { cost ≤ cost_limit }
+        ensures { self.new ≡ record { is_held = true; spent = self.old.spent + cost; answered = self.old.answered + 1 } }
+    {
+        self.is_held = true;
+        self.spent += cost;
+        self.answered += 1;
+    }
+
+    /// The turn let the lock go, and is over.
+    pub(crate) fn let_go(&mut self)
+        ensures { self.new ≡ record { is_held = false; spent = 0; answered = 0 } }
+    {
+        self.is_held = false;
+        self.spent = 0;
+        self.answered = 0;
+    }
 }
 
 impl<L: Opening> Machine<Pass<L>> for Seat<L> {
@@ -69,11 +110,12 @@ fn answer_asked<L: Opening, R: Wait, M: Mover>(
     asked: Result<Request, Refusal>,
     mover: &M,
 ) -> (Reply, u64)
-    ensures { (line : List ℕ) → IsReadAs line asked → AnswersSeat L.opening pass.old line (reply_of result.0) pass.new }
+    ensures answers { (line : List ℕ) → IsReadAs line asked → AnswersSeat L.opening pass.old line (reply_of result.0) pass.new }
+    ensures cost { result.1 ≡ line_cost asked result.0 }
 {
     let least = cost_to_answer(&asked);
     let reply = reply_to(rt, turn, pass, asked, mover);
-    let cost = cost_of(&reply).saturating_add(least);
+    let cost = cost_of_both(least, cost_of(&reply));
     (reply, cost)
 }
 
@@ -106,7 +148,7 @@ fn serve_in_turns<L: Opening, R: Wait, I: Source, O: Sink, M: Mover>(
 {
     // (each of the functions borrows variables of its own)
     let mut pass = pass;
-    let mut hold = Hold { is_held: false };
+    let mut hold = Hold::unspent();
     let to_read = alloc;
     let parse = |line: &[u8]| -> Result<Request, Refusal>
         ensures { IsReadAs line.now result }
@@ -115,10 +157,14 @@ fn serve_in_turns<L: Opening, R: Wait, I: Source, O: Sink, M: Mover>(
         Reply,
         u64,
     )
-        ensures { (line : List ℕ) → IsReadAs line asked → AnswersSeat L.opening pass.old line (reply_of result.0) pass.new }
+        requires room { (hold.old.spent < cost_limit) × (hold.old.answered < turn_limit) }
+        ensures answers { (line : List ℕ) → IsReadAs line asked → AnswersSeat L.opening pass.old line (reply_of result.0) pass.new }
+        ensures cost { result.1 ≡ line_cost asked result.0 }
+        ensures spends { (hold.new.spent ≡ hold.old.spent + result.1) × (hold.new.answered ≡ hold.old.answered + 1) }
     {
-        hold.is_held = true;
-        answer_asked(rt, turn, pass, asked, mover)
+        let (reply, cost) = answer_asked(rt, turn, pass, asked, mover);
+        hold.answer(cost);
+        (reply, cost)
     };
     let to_tell = alloc;
     let tell = |_hold: &Hold, reply: Reply| -> Result<Vec<u8>, AllocError>
@@ -126,10 +172,11 @@ fn serve_in_turns<L: Opening, R: Wait, I: Source, O: Sink, M: Mover>(
     { text_of(to_tell, &reply) };
     let held = turn;
     let let_go = |hold: &mut Hold|
-        ensures { hold.new.is_held ≡ false }
+        ensures free { hold.new.is_held ≡ false }
+        ensures unspent { (hold.new.spent ≡ 0) × (hold.new.answered ≡ 0) }
     {
         held.let_go();
-        hold.is_held = false;
+        hold.let_go();
     };
     let _ = serve_turns::<
         Seat<L>,
