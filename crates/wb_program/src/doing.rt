@@ -275,8 +275,8 @@ fn compact_at<D: Replaces, J: OpensFiles<D>, W: Sink, M: Mover>(
 /// Does what a command line asks for: the exit status. What is read and written is what the definition of each command says. Status 0
 /// comes only with the writer flushed, and, where an input is read, at its end; 3 only where a read, a write, a flush, a port, a
 /// connection or a thread failed, or what the definition of each command names besides. A desk listens on a port that `ports` gives. A
-/// journal is in the file that `files` gives for its path, also one that is made anew; no other command opens a file. With status 1 it
-/// tells why the input is refused.
+/// journal is in the file that `files` gives for its path, also one that begins with a history, and one that is made anew, which
+/// reads and prints nothing at status 0; no other command opens a file. With status 1 it tells why the input is refused.
 pub fn do_asked<
     R: Threads + Wait + Sync,
     B: Binds<N, I, O>,
