@@ -35,14 +35,26 @@ const REPLIES: &[u8] = b"{\"n\":1,\"redone\":3}\n{\"value\":9}\n";
 
 const NO_HISTORY: &[u8] = b"chapel-workbook 2\nhistory 1\nend\n";
 
-// Files with lines that no history begins with.
-const STRANGE: [&[u8]; 6] = [
-    b"chapel-workbook 3\n \n#",
-    b"chapel-workbook 3\n {\"op\":\"resume\"}\n#",
-    b"chapel-workbook 3\n {\"op\":\"resume\",\"text\":\"chapel-workbook 1\\nend\\n\"}\n#",
-    b"chapel-workbook 3\n {\"op\": \"resume\",\"text\":\"chapel-workbook 2\\nhistory 0\\nend\\n\"}\n#",
-    b"chapel-workbook 3\n {\"op\":\"resume\",\"text\":\"chapel-workbook 2\\nhistory 0\\nend\\n\",\"x\":1}\n#",
-    b"chapel-workbook 3\n {\"d\":\"D\",\"is\":\"{1..2}\",\"map\":\"none\",\"op\":\"domain\"}\n {\"op\":\"resume\",\"text\":\"chapel-workbook 2\\nhistory 0\\nend\\n\"}\n#",
+// Files with lines that no history begins with, and the first of them, from 0, that is not granted.
+const STRANGE: [(&[u8], usize); 6] = [
+    (b"chapel-workbook 3\n \n#", 0),
+    (b"chapel-workbook 3\n {\"op\":\"resume\"}\n#", 0),
+    (
+        b"chapel-workbook 3\n {\"op\":\"resume\",\"text\":\"chapel-workbook 1\\nend\\n\"}\n#",
+        0,
+    ),
+    (
+        b"chapel-workbook 3\n {\"op\": \"resume\",\"text\":\"chapel-workbook 2\\nhistory 0\\nend\\n\"}\n#",
+        0,
+    ),
+    (
+        b"chapel-workbook 3\n {\"op\":\"resume\",\"text\":\"chapel-workbook 2\\nhistory 0\\nend\\n\",\"x\":1}\n#",
+        0,
+    ),
+    (
+        b"chapel-workbook 3\n {\"d\":\"D\",\"is\":\"{1..2}\",\"map\":\"none\",\"op\":\"domain\"}\n {\"op\":\"resume\",\"text\":\"chapel-workbook 2\\nhistory 0\\nend\\n\"}\n#",
+        1,
+    ),
 ];
 
 // How a journal came out that was to be made anew, what was printed, and what is left of its file.
@@ -136,11 +148,11 @@ fn a_crash_leaves_the_old_file_or_the_new_one(rt: HostRuntime) -> Result<(), Fai
 fn strange_lines_are_refused(rt: HostRuntime) -> Result<(), Fail> {
     let alone = Crew::alone(&rt);
     // (The file does no call, so a call on it would be told as a fault.)
-    for held in &STRANGE {
+    for (held, place) in STRANGE {
         let refused = made_anew(rt.alloc(), held, 0, &alone)?;
-        assert!(rt; refused.status == 1 && refused.fault.is_none());
+        assert!(rt; refused.status == 1 && refused.fault == Some(FileFault::NotGranted(place)));
         assert_eq!(rt; refused.written.as_slice(), REFUSED);
-        assert_eq!(rt; refused.left.as_slice(), *held);
+        assert_eq!(rt; refused.left.as_slice(), held);
     }
     let foreign = made_anew(rt.alloc(), b"hello\n", 0, &alone)?;
     assert!(rt; foreign.status == 3 && foreign.fault == Some(FileFault::NotOurs));
@@ -193,6 +205,7 @@ fn done_with<
         &mut PutBack::new(alloc, Input::new(input)),
         &mut Output::new(&mut written),
         mover,
+        &mut None,
     );
     let left = match &files.file {
         Some(file) => Some(file.left().to_vec(alloc)?),
