@@ -1,10 +1,10 @@
-use Rattle.std.proofs.Common.{◌∙◌, inl, inr, rules, subst, sym}
+use Rattle.std.proofs.Common.{[], ◌∙◌, inl, inr, refl, rules, subst, sym}
 use Rattle.std.specs.Io.KnownBytes.{Consumes}
 use Rattle.wb_keeping.specs.Opening.{IsOpening}
 use Rattle.wb_program.specs.Checking.{IsNoRecord}
 use Rattle.wb_program.specs.Resuming.{HasNoEnd, IsRecord, left_in}
 use Rattle.wb_program.proofs.Begun.{put_front}
-use Rattle.wb_program.proofs.Opening.{of_none, of_some}
+use Rattle.wb_program.proofs.Opening.{nothing_more, of_none, of_some}
 use Rattle.wb_program.proofs.beginning.opening_from.Goals as goal
 
 pub returns-in_default-clause-refused : goal.returns-in_default-clause-refused
@@ -39,3 +39,10 @@ returns-in-Ok-None-clause-refused g c =
         inl (inr (c.in-Some.front.now, c.in-Some.behind.now, sym c.deref.ensures.value ∙ parts.0, parts.1, none), says.2),
       ),
     )
+
+pub returns-in-Ok-Some-clause-refused : goal.returns-in-Ok-Some-clause-refused
+returns-in-Ok-Some-clause-refused g c =
+    let bytes = c.in-Ok.bytes.items in
+    let kept = subst (λ r. Consumes (left_in g.R.Source.remaining c.args.reader.now) (left_in g.R.Source.remaining r) bytes)
+    (sym c.in-Err-put_back.ensures.err) c.in-Ok.ensures.ok.0 in
+    (bytes, kept, ([], nothing_more _, inr (inr refl, refl)))
