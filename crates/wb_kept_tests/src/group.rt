@@ -64,14 +64,14 @@ fn ten_turns<R: Wait, O: Opening>(
 ) -> Vec<u64>
     requires { (O.all ≡ O.parts) × (0 < O.all) }
 {
-    let mut told = Vec::new(alloc);
+    let mut numbers = Vec::new(alloc);
     for _ in 0..10 {
         match turn_kept(rt, alloc, desk, keeper, told) {
-            Some(number) if told.push(number).is_ok() => {}
-            _ => return told,
+            Some(number) if numbers.push(number).is_ok() => {}
+            _ => return numbers,
         }
     }
-    told
+    numbers
 }
 
 /// What two threads were told, and what their file has at the end.
