@@ -1,5 +1,5 @@
 -- How a journal is opened, or why it isn't.
-use Rattle.std.proofs.Common.{◌≡◌, ◌⊎◌, inl, inr, ℕ, Bool, true, false, List, refl, sym, ◌∙◌, true≢false}
+use Rattle.std.proofs.Common.{◌≡◌, ◌⊎◌, inl, inr, ℕ, Bool, true, false, List, refl, sym, ◌∙◌, true≢false, subst}
 use Rattle.std.specs.Prelude.{◌≢◌, ◌<◌, Result, Ok, Err, IfErr, IfOk, IsErrAnd, IsTrue, IsFalse}
 use Rattle.wb_disk.specs.Device.{LeavesOnly}
 use Rattle.wb_disk.specs.declared.device.Device as Device
@@ -13,7 +13,8 @@ use Rattle.wb_kept.specs.declared.kept.OpenKeptErr.{OpenKeptErr}
 use Rattle.wb_kept.specs.declared.kept.OpenKeptErr.TheVariants as errs
 use Rattle.wb_proto.specs.Below.wb_history.Past.{Past}
 use Rattle.wb_granting.specs.Granting.{Grants, no_edit}
-use Rattle.wb_program.specs.Keeping.{IsCause, IsKeptHistory, IsOpened}
+use Rattle.wb_program.specs.Keeping.{FailsToOpen, IsCause, IsKeptHistory, IsOpened, ReadsNothing, RefusesFile, RefusesLines, Streams, TurnsAway}
+use Rattle.wb_program.specs.declared.keeping.KeptRun.{KeptRun}
 
 -- what `make` says of a change is what `open` asks of it
 pub granted_by : {E : Type 0} (p : Past) (line : List ℕ) (r : Result Bool E) (q : Past)
@@ -61,3 +62,36 @@ module _ {D : Type 0} (device : Device.Ghosts D) (file : D) (held : List ℕ) wh
   caused (Ok kept) refused foreign ours moments untouched failed place = tt
   caused (Err e) refused foreign ours moments untouched failed place =
       by_cause (is_ours held) refl e.0 e.1 refused foreign ours moments untouched failed place
+
+  -- what comes of a file that is not opened
+  pub turned : (why : OpenKeptErr) (left : D) (run : KeptRun D) (s : Streams) → IsCause device file held why left
+      → TurnsAway why run.status run.fault s.sent s.told s.flushed s.write_failed → run.file ≡ left → ReadsNothing s
+      → RefusesLines device file held run s ⊎ (RefusesFile device file held run s ⊎ FailsToOpen device file held run s)
+  turned errs.NotOurs left run s cause told is nothing =
+      inr (inl (record { foreign = cause.0; untouched = is ∙ cause.1; nothing = (nothing, told.0); is_status = told.1; is_fault = told.2 }))
+  turned (errs.NotGranted place) left run s cause told is nothing = inl (record {
+    ours = cause.0;
+    not_granted = cause.1;
+    untouched = is ∙ cause.3;
+    nothing_read = nothing;
+    text = told.0.0;
+    written = told.0.1;
+    says = told.0.2;
+    flushed = told.1;
+    failed = told.2;
+    place = place;
+    stops = cause.2;
+    is_fault = told.3;
+  })
+  turned errs.Memory left run s cause told is nothing =
+      inr (inr (record {
+        nothing = (nothing, told.0);
+        any_moment = subst (λ d. LeavesOnly device.moment device.left_since file d (StandsForTheSame held)) (sym is) cause;
+        cause = inl (told.1, told.2);
+      }))
+  turned errs.Failed left run s cause told is nothing =
+      inr (inr (record {
+        nothing = (nothing, told.0);
+        any_moment = subst (λ d. LeavesOnly device.moment device.left_since file d (StandsForTheSame held)) (sym is) cause.0;
+        cause = inr (told.1, told.2, subst (λ d. device.faults file < device.faults d) (sym is) cause.1);
+      }))

@@ -14,7 +14,7 @@ use Rattle.wb_program.specs.declared.files.OpensFiles as OpensFiles
 use Rattle.wb_program.specs.declared.keeping.KeptRun.{KeptRun}
 use Rattle.wb_program.proofs.Begun.{reads_behind}
 
-nothing_consumed : (o : Option (List ℕ)) → Consumes o o []
+pub nothing_consumed : (o : Option (List ℕ)) → Consumes o o []
 nothing_consumed None = tt
 nothing_consumed (Some xs) = refl
 

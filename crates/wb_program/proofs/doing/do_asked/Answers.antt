@@ -8,7 +8,7 @@ use Rattle.wb_command.specs.declared.Asked.TheVariants.{Run, Serve}
 use Rattle.wb_program.proofs.Finishing.{desk_fails, desk_finishes, resumed_desk_fails, resumed_desk_finishes}
 use Rattle.wb_program.proofs.Hosting.{history_hosted, hosted, resumed, upgraded}
 use Rattle.wb_program.proofs.KeptHosting.{kept_asked, wrote}
-use Rattle.wb_program.proofs.Used.{began, keeps_anew, keeps_begun, keeps_run, made_anew, ran, read_and_wrote}
+use Rattle.wb_program.proofs.Used.{began, keeps_anew, keeps_begun, keeps_run, made_anew, nothing_consumed, ran, read_and_wrote}
 use Rattle.wb_program.proofs.doing.do_asked.Goals as goal
 
 pub returns-else-resume-2-clause-does : goal.returns-else-resume-2-clause-does
@@ -151,7 +151,7 @@ returns-in-Compact-clause-does g c =
     let told = (read_and_wrote g.D.Device g.J.OpensFiles (Compacts g.D.Device) (made_anew g.D.Device) c.as_str-in-Compact.result.now c.compact_at.result c.compact_at.new.files _
     c.compact_at.ensures.keeps).1 in (
       [],
-      search rules,
+      nothing_consumed (left_in g.S.Source.remaining c.args.reader.now),
       (
         told.0,
         told.1,

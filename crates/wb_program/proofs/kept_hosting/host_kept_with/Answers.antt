@@ -1,4 +1,6 @@
-use Rattle.std.proofs.Common.{inl}
+use Rattle.std.proofs.Common.{inl, inr, refl}
+use Rattle.wb_program.specs.Keeping.{writer_alone}
+use Rattle.wb_program.proofs.Opened.{turned}
 use Rattle.wb_program.proofs.kept_hosting.host_kept_with.Goals as goal
 
 pub returns-in-Ok-clause-runs : goal.returns-in-Ok-clause-runs
@@ -14,3 +16,9 @@ returns-in-Ok-clause-runs g c =
       flushed = told.flushed;
       failed = told.failed;
     })
+
+pub returns-in-Err-clause-runs : goal.returns-in-Err-clause-runs
+returns-in-Err-clause-runs g c =
+    inr
+    (turned g.D.Device c.args.file c.args.held.now c.in-Err.why c.in-Err.file c.turned_away.result
+    (writer_alone g.W.Sink c.args.writer.now c.turned_away.new.writer) c.in-Err.ensures.err c.turned_away.ensures.told c.turned_away.ensures.file (refl, refl))
