@@ -1,13 +1,12 @@
-use Rattle.std.proofs.Common.{◌∙◌, [], ap, refl, rules, subst, sym}
+use Rattle.std.proofs.Common.{[], false, refl, rules, subst, sym, true}
 use Rattle.wb_program.specs.Compacting.{Compacts}
 use Rattle.wb_program.specs.Doing.{Does}
 use Rattle.wb_program.specs.Keeping.{RunsKept}
-use Rattle.wb_program.specs.Reasons.{TellsWhy}
 use Rattle.wb_program.specs.Resuming.{left_in}
-use Rattle.wb_command.specs.declared.Asked.TheVariants.{Run, Serve}
 use Rattle.wb_program.proofs.Finishing.{desk_fails, desk_finishes, resumed_desk_fails, resumed_desk_finishes}
 use Rattle.wb_program.proofs.Hosting.{history_hosted, hosted, resumed, upgraded}
 use Rattle.wb_program.proofs.KeptHosting.{kept_asked, wrote}
+use Rattle.wb_program.proofs.Telling.{run_tells, serve_tells}
 use Rattle.wb_program.proofs.Used.{began, keeps_anew, keeps_begun, keeps_run, made_anew, nothing_consumed, ran, read_and_wrote}
 use Rattle.wb_program.proofs.doing.do_asked.Goals as goal
 
@@ -162,20 +161,18 @@ returns-in-Compact-clause-does g c =
 
 pub returns-then-resume-clause-why : goal.returns-then-resume-clause-why
 returns-then-resume-clause-why g c one =
-    let asked = c.in-Run in
-    subst (λ a. TellsWhy a _ _ _) (sym (asked.is ∙ ap (λ b. Run b asked.workers) c.if-resume.true)) (c.resume_with.ensures.why one)
+    let asked = c.in-Run in run_tells c.args.asked asked.workers asked.resume true _ _ _ asked.is c.if-resume.true (c.resume_with.ensures.why one)
 
 pub returns-then-resume-3-clause-why : goal.returns-then-resume-3-clause-why
 returns-then-resume-3-clause-why g c one =
     let asked = c.in-Serve in
-    subst (λ a. TellsWhy a _ _ _) (sym (asked.is ∙ ap (λ b. Serve asked.port asked.seats b asked.workers) c.if-resume-3.true)) (c.host_input.ensures.why one)
+    serve_tells c.args.asked asked.port asked.seats asked.workers asked.resume true _ _ _ asked.is c.if-resume-3.true (c.host_input.ensures.why one)
 
 pub returns-else-resume-clause-why : goal.returns-else-resume-clause-why
 returns-else-resume-clause-why g c one =
-    let asked = c.in-Run in
-    subst (λ a. TellsWhy a _ _ _) (sym (asked.is ∙ ap (λ b. Run b asked.workers) c.if-resume.false)) tt
+    let asked = c.in-Run in run_tells c.args.asked asked.workers asked.resume false _ _ _ asked.is c.if-resume.false tt
 
 pub returns-else-resume-3-clause-why : goal.returns-else-resume-3-clause-why
 returns-else-resume-3-clause-why g c one =
     let asked = c.in-Serve in
-    subst (λ a. TellsWhy a _ _ _) (sym (asked.is ∙ ap (λ b. Serve asked.port asked.seats b asked.workers) c.if-resume-3.false)) tt
+    serve_tells c.args.asked asked.port asked.seats asked.workers asked.resume false _ _ _ asked.is c.if-resume-3.false tt
