@@ -38,6 +38,20 @@ returns-then-resume-clause-does g c =
       ),
     )
 
+pub returns-in-Check-clause-does : goal.returns-in-Check-clause-does
+returns-in-Check-clause-does g c =
+    let read = c.check_with.ensures.judged in
+    let told = read.2 in (
+      read.0,
+      read.1,
+      (
+        told.0,
+        told.1,
+        subst (λ a. Does g.I.Source g.O.Sink g.N.Accepts a c.check_with.result read.0 (left_in g.S.Source.remaining c.check_with.new.reader) told.0)
+            (sym c.in-Check.is) told.2,
+      ),
+    )
+
 pub returns-in-Upgrade-clause-does : goal.returns-in-Upgrade-clause-does
 returns-in-Upgrade-clause-does g c =
     let read = c.upgrade_with.ensures.upgrades in
