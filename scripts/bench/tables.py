@@ -111,7 +111,7 @@ def of_journal(of):
     rows = [
         ("`set` at once, with a journal", "%s a second" % short(at_once["kept"]), aimed("%s of those without" % short(at_once["ratio"]), at_once["ratio"], 0.5, True)),
         ("`set` one by one, a session", "%s a second" % short(single["with a journal"]),
-         "%s without; %s writes and syncs alone" % (short(single["without"]), short(single["two writes and two syncs alone"]))),
+         "%s without; %s writes and syncs alone" % (short(single["without"]), short(single["a write and a sync alone"]))),
     ]
     if of.get("desks"):
         found = of["desks"]

@@ -105,6 +105,44 @@ class Grid(InABrowser):
         self.assertEqual(self.edits(browser), ["A[1, 1] = 12"])
         self.assertEqual(browser.faults, [])
 
+    def test_titles_and_digits_behind_a_point(self):
+        browser = self.grid(range(1, 3), range(1, 4))
+        with self.held() as book:
+            T = book.assoc("T", "text")
+            T |= {"Ada", "constructor"}
+            Row = book.array("Row", T)
+            Row.update({"Ada": 1, "constructor": 2})
+            book["A"].put([[150, 5, 0], [-275, 0, 0]])
+        self.line(browser, "label A rows Row", "show A / 100")
+        shown = "document.querySelector(\".value[data-key='{}']\").innerText"
+        browser.until(shown.format("A[1, 1]") + " === '1.50'")
+        self.assertEqual([browser.js(shown.format(key)) for key in ("A[1, 2]", "A[1, 3]", "A[2, 1]")], ["0.05", "0.00", "-2.75"])
+        heads = "[...document.querySelectorAll('table[aria-label=A] th')].map(x => x.innerText)"
+        self.assertEqual(browser.js(heads), ["", "1", "2", "3", "Ada", "constructor"])
+        self.assertIn("shown / 100", browser.js("document.querySelector('h3').innerText"))
+        self.assertEqual(browser.js("[...document.querySelectorAll('[aria-label=Row] .at')].map(x => x.innerText)"), ["Ada", "constructor"])
+        browser.drag(cell("A[1, 1]"), cell("A[2, 1]"))
+        self.assertIn("sum -1.25", browser.js("document.getElementById('picked').innerText"))
+        browser.key("c", CTRL)
+        self.assertEqual(browser.js(COPIED), "150\n-275")
+        browser.click(cell("A[1, 3]"))
+        browser.keys("1.5")
+        browser.key("Enter")
+        self.says(browser, "whole numbers only: 1.5 isn't one; here 150 is shown as 1.50")
+        browser.click(cell("A[1, 3]"))
+        browser.keys("150")
+        browser.key("Enter")
+        browser.until("document.querySelector(\".value[data-key='A[1, 3]']\").dataset.value === '150'")
+        browser.until(shown.format("A[1, 3]") + " === '1.50'")
+        browser.click(cell("A[1, 3]"))
+        browser.key("Enter")  # what is typed is the whole number
+        self.assertEqual(browser.js("document.activeElement.value"), "150")
+        browser.key("Escape")
+        self.line(browser, "show A / 1", "label A rows")
+        self.shows(browser, "A[1, 3]", 150)
+        browser.until(heads + ".join() === ',1,2,3,1,2'")
+        self.assertEqual(browser.faults, [])
+
     def test_undo_and_redo_by_keys(self):
         browser = self.grid()
         browser.click(cell("A[1, 1]"))

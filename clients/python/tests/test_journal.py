@@ -70,7 +70,7 @@ class Files(Kept):
             first.cascade()
             book.redo(3)
             book.undo()
-            wanted += ' {"k":4,"op":"undo"}\n {"k":3,"op":"undo"}\n {"k":3,"op":"redo"}\n {"k":3,"op":"undo"}\n'
+            wanted += '+{"k":4,"op":"undo"}\n {"k":3,"op":"undo"}\n {"k":3,"op":"redo"}\n {"k":3,"op":"undo"}\n'
             self.assertEqual(self.text(), wanted + "#")
         self.assertEqual(self.text(), wanted + "#")
         self.assertEqual(os.listdir(self.place), ["plan.wb"])
@@ -115,7 +115,7 @@ class Files(Kept):
 
     def test_an_end_that_a_crash_left(self):
         line = ' {"a":"A","i":4,"op":"set","v":9}\n'
-        for end in ("", "#", "#" + line[1:], "#" + line[1:] + "#", "#" + line[1:20], "\0\0\0", "#\n" + line, line[:-1]):
+        for end in ("", "#", "#" + line[1:], "+" + line[1:], "+" + line[1:] + "#" + line[1:], line[:9] + "\0" + line[10:], "#" + line[1:] + "#", "#" + line[1:20], "\0\0\0", "#\n" + line, line[:-1]):
             with self.subTest(end):
                 self.write(PLAN + end)
                 with self.open() as book:

@@ -37,6 +37,34 @@ class Notebook(unittest.TestCase):
         self.assertIn("a&lt;b&gt;&amp;c", html)
         self.assertEqual(self.rows(html), [["index", "element"], ["a<b>&c", "0"], ["\ufffdevil", "0"]])
 
+    def test_titles_and_digits_behind_a_point(self):
+        A = self.wb.array("A", self.wb.domain("D", (range(1, 3), range(1, 3))))
+        A.put([[150, 5], [-275, 0]])
+        T = self.wb.assoc("T", "text")
+        T |= {"Ada", "<b>"}
+        Row = self.wb.array("Row", T)
+        Row.update({"Ada": 1, "<b>": 2})
+        counts = self.wb.counts()
+        A.label("rows", Row)
+        self.assertEqual(self.rows(A._repr_html_()), [["", "1", "2"], ["Ada", "150", "5"], ["<b>", "-275", "0"]])
+        shown = A.shown(100)
+        self.assertIn("<caption>A over D = {1..2, 1..2}, shown / 100</caption>", shown._repr_html_())
+        self.assertEqual(self.rows(shown._repr_html_()), [["", "1", "2"], ["Ada", "1.50", "0.05"], ["<b>", "-2.75", "0.00"]])
+        self.assertEqual(str(shown).splitlines()[4:6], ["│ Ada │  1.50 │ 0.05 │", "│ <b> │ -2.75 │ 0.00 │"])
+        self.assertEqual(repr(shown), str(shown))
+        A.label("rows")
+        A.label("columns", "Row")
+        self.assertEqual(self.rows(A._repr_html_())[0], ["", "Ada", "<b>"])
+        B = self.wb.array("B", self.wb.domain("E", range(1, 4)))
+        B.label("rows", Row)
+        self.assertEqual(self.rows(B._repr_html_())[0], ["", "Ada", "<b>", "3"])
+        for wrong in (lambda: A.label("row", Row), lambda: A.label("rows", A), lambda: Row.label("rows", Row), lambda: B.label("columns", Row),
+                      lambda: A.shown(3), lambda: A.shown(0), lambda: A.shown(-10), lambda: A.shown(10**19), lambda: A.shown(True)):
+            with self.assertRaises(ValueError):
+                wrong()
+        self.assertEqual(self.wb.labels, {("A", "columns"): "Row", ("B", "rows"): "Row"})
+        self.assertEqual((self.wb.counts()[0], list(A)), (counts[0] + 2, [150, 5, -275, 0]))  # but for E and B nothing changed
+
     def test_what_is_large_is_cut(self):
         A = self.wb.array("A", self.wb.domain("D", (range(100), range(100))))
         html = A._repr_html_()

@@ -1,16 +1,19 @@
 """The page's server. How the page looks and is clicked is seen in a browser."""
 
 import http.client
+import io
 import json
 import os
 import re
 import socket
+import subprocess
+import sys
 import tempfile
 import threading
 import unittest
 from urllib.parse import urlsplit
 
-from tests.support import PROGRAM, Server
+from tests.support import HERE, PROGRAM, Server
 from workbook_client import Workbook, view
 from workbook_client.page import SCRIPTS, serve
 
@@ -106,7 +109,7 @@ class Page(unittest.TestCase):
         for word in view.TERMINAL_ALONE:
             with self.subTest(word):
                 self.assertNotIn(word, told)
-                line = {"colours": "colours on", "quit": "quit", "label": "label A rows"}.get(word, f"{word} A x")
+                line = {"colours": "colours on", "quit": "quit"}.get(word, f"{word} A x")
                 self.assertFalse(self.lines("D = {1..4}", "A over D", line)["ok"])
         self.assertFalse(self.lines("exit")["ok"])
 
@@ -120,6 +123,22 @@ class Page(unittest.TestCase):
             self.assertEqual(self.ask("/do", {"line": "D = {1..4}"}, key=key)[0], 403)
         self.assertEqual(self.ask("", key=self.key)[0], 403)
         self.assertEqual(self.ask("/text")[1], "chapel-workbook 1\nend\n")
+
+    def test_what_keeps_the_page_from_starting_is_told_in_a_sentence(self):
+        with socket.create_server(("127.0.0.1", 0)) as taken:
+            port = taken.getsockname()[1]
+            for words, why in (
+                (["--port", str(port)], f"the page can't have port {port}: Address already in use; --port 0 takes any that is free"),
+                (["--port", "65536"], "the page can't have port 65536: "), (["--port", "0", "--file", "/no/such"], "/no/such: No such file or directory"),
+            ):
+                with self.subTest(words):
+                    gone = subprocess.run(
+                        [sys.executable, "-m", "workbook_client.page", "--program", PROGRAM, *words], input="", capture_output=True, text=True,
+                        cwd=HERE.parents[1], timeout=60,
+                    )
+                    self.assertEqual(gone.returncode, 3)
+                    self.assertTrue(gone.stderr.startswith(f"workbook_client.page: {why}"), gone.stderr)
+                    self.assertNotIn("Traceback", gone.stderr)
 
     def test_another_server_has_another_key(self):
         self.open(Workbook.run(PROGRAM))
@@ -161,6 +180,41 @@ class Page(unittest.TestCase):
                 self.assertNotIn(mark, json.dumps([state, told, refused], ensure_ascii=False))
                 book["P"].drop()
                 book["T"].drop()
+
+    def test_titles_and_digits_behind_a_point(self):
+        self.open(Workbook.run(PROGRAM))
+        self.lines("D = {1..2, 1..2}", "A over D", "A[1, 2] = 150", "A[2, 1] = -5", "T = text", 'T |= {"Ada", "B\u202en"}', "Row over T")
+        self.lines('Row["Ada"] = 1', 'Row["B\u202en"] = 2', "T2 = text", 'T2 |= {"Mon"}', "Column over T2", 'Column["Mon"] = 1')
+        before = self.ask("/state")[1]
+        self.assertEqual([(a["down"], a["across"], a["decimals"]) for a in before["arrays"] if a["name"] == "A"], [({}, {}, 0)])
+        told = self.lines("label A rows Row")
+        self.assertEqual((told["ok"], told["say"].strip()), (True, "rows of A have titles from Row: 2 of them, on this page"))
+        self.assertTrue(self.lines("label A columns Column", "show A / 100")["ok"])
+        status, state = self.ask("/state?seen=" + before["version"])
+        self.assertEqual(status, 200)
+        (array,) = [a for a in state["arrays"] if a["name"] == "A"]
+        self.assertEqual((array["down"], array["across"], array["decimals"]), ({"1": "Ada", "2": "B\ufffdn"}, {"1": "Mon"}, 2))
+        self.assertEqual([value for _, _, value in array["values"]], ["0", "150", "-5", "0"])  # the workbook has whole numbers
+        self.assertEqual(self.ask("/csv?a=A")[1], ",Mon,2\nAda,0,150\nB\u202en,-5,0\n")
+        self.assertIn("│ 1.50 │", self.lines("A[1..1, 2..2]")["say"])
+        self.assertIn("│ -0.05 │", self.lines("A")["say"])
+        self.assertIn("whole numbers only: 1.5 isn't one", self.lines("A[1, 1] = 1.5")["say"])
+        self.lines('Row["Ada"] = 2')  # a title that goes elsewhere
+        (array,) = [a for a in self.ask("/state")[1]["arrays"] if a["name"] == "A"]
+        self.assertEqual(array["down"], {"2": "Ada"})
+        self.assertIn("whole numbers above", self.lines("label A rows", "label A columns", "show A / 1")["say"])
+        (array,) = [a for a in self.ask("/state")[1]["arrays"] if a["name"] == "A"]
+        self.assertEqual((array["down"], array["across"], array["decimals"]), ({}, {}, 0))
+        for line in ("label A rows T", "label Row rows Row", "label A rows X", "show A / 3", "label A"):
+            with self.subTest(line):
+                self.assertFalse(self.lines(line)["ok"])
+
+    def test_titles_that_were_given_before_the_page_began(self):
+        book = Workbook.run(PROGRAM)
+        book.from_csv("Hours", io.StringIO("who,Mon,Tue\nAda,8,8\nEmmy,4,0\n"))
+        self.open(book)
+        (array,) = [a for a in self.ask("/state")[1]["arrays"] if a["name"] == "Hours"]
+        self.assertEqual((array["down"], array["across"]), ({"1": "Ada", "2": "Emmy"}, {"1": "Mon", "2": "Tue"}))
 
     def test_pasted_cells_are_edits_of_their_own(self):
         self.open(Workbook.run(PROGRAM))

@@ -218,7 +218,7 @@ class Whole(unittest.TestCase):
     def run_with(self, script: str, *words: str) -> "subprocess.CompletedProcess[str]":
         return subprocess.run(
             [sys.executable, "-m", "workbook_client", "--program", PROGRAM, *words],
-            input=script, capture_output=True, text=True, cwd=PACKAGE, timeout=30,
+            input=script, capture_output=True, text=True, cwd=PACKAGE, timeout=60,
         )
 
     def test_statuses(self):
@@ -245,16 +245,17 @@ class Whole(unittest.TestCase):
                 (["--resume", sys.executable], "is no text in UTF-8"),
                 (["--program", junk], "can't be started"), (["--program", echo], "no reply of a workbook"),
                 (["--program", shutil.which("true") or "true"], "has ended with status 0"),
-                (["--connect", "127.0.0.1:1"], "nobody listens"), (["--connect", "127.0.0.1:99999"], "nobody listens"),
+                (["--connect", "127.0.0.1:1"], "nobody listens"), (["--connect", "127.0.0.1:99999"], "a port is 1 to 65535"),
                 (["--connect", "a..b:7"], "nobody listens"), (["--connect", "localhost"], "HOST:PORT is wanted"),
                 (["--connect", "http://127.0.0.1:70x"], "HOST:PORT is wanted"),
+                (["--connect", "127.0.0.1:0"], "a port is 1 to 65535"),
             ]:
                 for module in ("workbook_client", "workbook_client.page"):
                     with self.subTest(" ".join([module, *words])):
                         gone = subprocess.run(
-                            [sys.executable, "-m", module, *words], input="", capture_output=True, text=True, cwd=PACKAGE, timeout=30,
+                            [sys.executable, "-m", module, *words], input="", capture_output=True, text=True, cwd=PACKAGE, timeout=60,
                         )
-                        self.assertEqual((gone.returncode, gone.stdout), (2 if "HOST" in why else 3, ""))
+                        self.assertEqual((gone.returncode, gone.stdout), (2 if "HOST" in why or "a port" in why else 3, ""))
                         self.assertIn(why, gone.stderr)
                         self.assertNotIn("Traceback", gone.stderr)
 
@@ -271,7 +272,7 @@ class Whole(unittest.TestCase):
         for module in ("workbook_client", "workbook_client.page"):
             gone = subprocess.run(
                 [sys.executable, "-m", module, "--connect", f"127.0.0.1:{server.port}"],
-                input="", capture_output=True, text=True, cwd=PACKAGE, timeout=30,
+                input="", capture_output=True, text=True, cwd=PACKAGE, timeout=60,
             )
             self.assertEqual((gone.returncode, gone.stdout), (3, ""))
             self.assertIn("all its seats are taken", gone.stderr)

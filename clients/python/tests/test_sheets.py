@@ -3,8 +3,11 @@
 import io
 import os
 import re
+import sys
 import tempfile
+import types
 import unittest
+import unittest.mock
 from typing import Any, List
 
 from tests.support import HERE, PROGRAM
@@ -231,7 +234,6 @@ class NewTables(unittest.TestCase):
             A = wb.from_csv("Hours", io.StringIO(text))
             self.assertEqual(list(A), [value for row in rows for value in row])
             session = Session(wb, io.StringIO(), width=200)
-            session.labels.update({("Hours", "rows"): "HoursRow", ("Hours", "columns"): "HoursColumn"})
             path = os.path.join(place, "hours.csv")
             session.line(f"export Hours {path}")
             with open(path, encoding="utf-8") as file:
@@ -274,6 +276,16 @@ class Frames(unittest.TestCase):
                 with self.subTest(why), self.assertRaisesRegex((TypeError, ValueError), why):
                     wb.from_dataframe("C", self.make(values, [0, 1], columns))
             self.assertEqual(wb.print_text(), before)
+
+    def test_titles_come_out_again(self):
+        with Workbook.run(PROGRAM) as wb, unittest.mock.patch.dict(sys.modules, {"pandas": types.SimpleNamespace(DataFrame=Frame)}):
+            A = wb.from_dataframe("Hours", Frame([[8, 8, 0], [4, 0, -6]], ["Ada", "Emmy"], ["Mon", "Tue", "Wed"]))
+            frame = A.to_dataframe()
+            self.assertEqual((frame.values, frame.index, frame.columns), ([[8, 8, 0], [4, 0, -6]], ["Ada", "Emmy"], ["Mon", "Tue", "Wed"]))
+            self.assertEqual(A.to_csv(), ",Mon,Tue,Wed\nAda,8,8,0\nEmmy,4,0,-6\n")
+            wb["HoursRow"].set("Ada", 7)
+            A.label("columns")
+            self.assertEqual(A.to_csv(), ",1,2,3\n1,8,8,0\nEmmy,4,0,-6\n")
 
     @unittest.skipUnless(pandas, "pandas isn't there")
     def test_out(self):
@@ -401,7 +413,7 @@ class BySession(unittest.TestCase):
         for line, why in (
             ("A[1] = 1.5", "whole numbers only: 1.5 isn't one"), ("A[1] = -0.25", "whole numbers only: 0.25 isn't one"),
             ("A[1] = A[2] + 1.5", "1.5 isn't one"), ("A = 2.0", "2.0 isn't one"), ("A[1.5] = 2", "1.5 isn't one"),
-            ("show A / 3", "expected 10, 100, 1000"), ("show A / 1", "expected 10"), ("show X", "nothing is called X"), ("show", "expected an array"),
+            ("show A / 3", "expected 10, 100, 1000"), ("show A / 20", "expected 10"), ("show X", "nothing is called X"), ("show", "expected an array"),
             ("label A", "expected `rows` or `columns`"),
         ):
             with self.subTest(line), self.assertRaises(LanguageError) as no:

@@ -162,7 +162,7 @@ class Streams(unittest.TestCase):
         with socket.create_server(("127.0.0.1", 0)) as taken:
             port = taken.getsockname()[1]
         for where, status, why in [
-            ("redis://plan", 2, "redis://HOST/NAME is wanted"), ("redis://", 2, "is wanted"), ("redis://host/", 2, "a workbook's name has"),
+            ("redis://plan", 2, "redis://HOST/NAME is wanted, as redis://127.0.0.1/plan, not 'redis://plan', which names no workbook"), ("redis://", 2, "is wanted"), ("redis://host/", 2, "a workbook's name has"),
             ("redis://host/a b", 2, "a workbook's name has"), ("redis://host:99999/plan", 2, "is wanted"), ("redis://host/x/plan", 2, "is wanted"),
             (f"redis://127.0.0.1:{port}/plan", 3, "no redis at 127.0.0.1"), ("http://host/plan", 2, "is wanted"),
         ]:

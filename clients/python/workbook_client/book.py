@@ -17,6 +17,7 @@ from .requests import Request
 from .serving import Served
 from .snapshot import Snapshot
 from .streams import StreamChannel
+from .titles import Labels
 
 
 class Workbook:
@@ -37,6 +38,8 @@ class Workbook:
         """The edits that this session made or heard of, by number."""
         self.last_edit: Optional[Edit] = None
         """The latest edit of this session: of `A[4] = 9` or `A += B`, which are no expressions."""
+        self.labels: Labels = {}
+        """The titles that arrays have where this session shows them; nothing of it is in the workbook."""
         self.steps = turning.Steps(self)
         self._pipeline: Optional[Pipeline] = None
         self._anew: Optional[Callable[[], Workbook]] = None
@@ -206,7 +209,8 @@ class Workbook:
 
     def from_csv(self, name: str, source: Source) -> Array:
         """A new array from a file of a spreadsheet, with a new rectangle from 1 on under it, and with an array of titles for words
-        before the rows or above the columns; all or none. `Array.from_csv` is for an array that is there."""
+        before the rows or above the columns, with which this `Workbook` shows it; all or none. `Array.from_csv` is for an array
+        that is there."""
         labels.new_table(self, name, sheets.guessed(sheets.cells_of(files.text_of(source))))
         return Array(self, name)
 

@@ -1,7 +1,7 @@
 /* The cells as a grid: one is chosen, or a rectangle of them; keys and the mouse move, type, copy, paste and fill. */
 
 import {$, ask, button, tell} from "./talk.js";
-import {cardOf, light, marks, placeOf, setting, showArrays} from "./tables.js";
+import {cardOf, light, marks, placeOf, pointed, setting, showArrays, showNumber} from "./tables.js";
 import {placed, spelled, whole} from "./pasting.js";
 
 let chosen = null; // the array, the key of the cell that is chosen and of the one up to which cells are, or whether all are
@@ -70,7 +70,7 @@ function paint() {
 /** Tells of the cells that are chosen: how many, what they sum up to, and what is done with them. */
 function picked(many) {
   const sum = many.reduce((all, cell) => all + BigInt(cell.dataset.value), 0n);
-  const words = where(area()) + " · " + many.length + " cells · sum " + sum;
+  const words = where(area()) + " · " + many.length + " cells · sum " + pointed(String(sum), cardOf(chosen.name).decimals);
   $("picked").replaceChildren(words, button("", "fill", () => edit(cellAt(chosen.key), "", true)),
     "or type a number and press Ctrl-Enter");
   $("picked").hidden = false;
@@ -207,7 +207,7 @@ function done(set, onward) {
   editor = null;
   input.onblur = null;
   input.remove();
-  cell.textContent = cell.dataset.value;
+  showNumber(cell);
   if (onward && filling) onward.focus();
   else if (onward) choose(onward);
   if (set && filling) fill(typed);
@@ -217,20 +217,22 @@ function done(set, onward) {
 
 /** Sets one cell; until its reply comes it shows what was typed. */
 async function put(cell, typed) {
-  const {key, card} = placeOf(cell), line = key + " = " + typed;
+  const {key, card} = placeOf(cell), line = key + " = " + typed, wrong = whole(typed, card.decimals);
+  if (/^[+-]?[0-9]+\.[0-9]+$/.test(typed)) return tell(false, wrong);
   setting.add(key);
-  cell.textContent = typed;
+  if (wrong) cell.textContent = typed;
+  else showNumber(cell, typed.replace("+", ""));
   await ask({line}, line);
   setting.delete(key);
   const now = cardOf(card.name)?.cells.get(key);
-  if (now && now !== editor?.cell) now.textContent = now.dataset.value;
+  if (now && now !== editor?.cell) showNumber(now);
 }
 
 // --- many cells at once
 
 /** Sets all chosen cells to a number: by one fill where ranges say which they are. */
 async function fill(typed) {
-  const on = area(), many = on.cells.flat().filter(Boolean), wrong = whole(typed);
+  const on = area(), many = on.cells.flat().filter(Boolean), wrong = whole(typed, placeOf(many[0]).card.decimals);
   if (many.length === 1) return put(many[0], typed);
   if (wrong) return tell(false, wrong);
   if (spelled(on)) return setMany(many, {line: spelled(on) + " = " + typed}, spelled(on) + " = " + typed);

@@ -1,51 +1,19 @@
-"""Titles of rows and columns, which a workbook has as an array over texts: `B["Ada"] = 3` calls row 3 Ada."""
+"""New arrays from tables with headings, whose titles are arrays over texts."""
 
-from typing import TYPE_CHECKING, Dict, List, NamedTuple, Optional, Sequence
+from typing import TYPE_CHECKING, Dict, List, NamedTuple, Sequence
 
 from . import requests
 from .edits import Edit
 from .literals import label
 from .objects import Array
 from .sheets import Table
-from .snapshot import AssocDomain, RectDomain, Snapshot
+from .titles import WAYS
 
 if TYPE_CHECKING:
     from .book import Workbook
 
-WAYS = ("rows", "columns")
-"""The ways of a table, in the order of an index."""
 ENDINGS = {"rows": "Row", "columns": "Column"}
 """How the array of titles of a new table is called, behind the table's name."""
-
-
-def titles(shot: Snapshot, source: Optional[str]) -> Dict[int, str]:
-    """What each number is called; nothing where there is no such array now. Of two texts for one number the first counts."""
-    array = shot.arrays.get(source or "")
-    if array is None or not _is_of_texts(shot, array.over):
-        return {}
-    found: Dict[int, str] = {}
-    for text, number in shot.array(array.name).items():
-        found.setdefault(number, str(text))
-    return found
-
-
-def checked(shot: Snapshot, name: str, way: str, source: str) -> Snapshot:
-    """The workbook, in which the array has such a way, and the other array has texts. ValueError tells what isn't so."""
-    array = shot.arrays.get(name)
-    domain = shot.domains[array.over] if array else None
-    if not isinstance(domain, RectDomain) or len(domain.ranges) > 2:
-        raise ValueError(f"{name} has no rows and columns: an array over ranges of rank 1 or 2 has")
-    if way == "columns" and len(domain.ranges) == 1:
-        raise ValueError(f"{name} has one range: its elements are labelled by `label {name} rows {source}`")
-    other = shot.arrays.get(source)
-    if other is None or not _is_of_texts(shot, other.over):
-        raise ValueError(f'titles come from an array over texts: T = text, T |= {{"Ada", "Ben"}}, {source} over T, {source}["Ada"] = 1')
-    return shot
-
-
-def _is_of_texts(shot: Snapshot, domain: str) -> bool:
-    found = shot.domains[domain]
-    return isinstance(found, AssocDomain) and found.of == "text"
 
 
 class Made(NamedTuple):
@@ -75,6 +43,9 @@ def new_table(book: "Workbook", name: str, table: Table) -> Made:
                 edits += _titled(book, titles[way], headings)
             else:
                 left += headings
+    for way in WAYS:
+        book.labels.pop((name, way), None)
+    book.labels.update({(name, way): source for way, source in titles.items()})
     return Made(edits, titles, left)
 
 

@@ -204,7 +204,7 @@ class _Parser:
         return self.end(Command("quit" if word == "exit" else word))
 
     def show(self) -> Command:
-        """`show A`, `show A[1..20]`, and with `/ 100` two of its digits behind a point."""
+        """`show A`, `show A[1..20]`, and with `/ 100` two of its digits behind a point; with `/ 1` none."""
         name, part = self.there(), None
         if self.takes("["):
             part = self.literal()[1] if self.now.text == "{" else "{" + self.ranges() + "}"
@@ -212,7 +212,7 @@ class _Parser:
         if not self.takes("/"):
             return self.end(Command("show", (name, part)))
         by = self.now
-        if by.kind != "number" or not re.fullmatch("10{1,18}", by.text):
+        if by.kind != "number" or not re.fullmatch("10{0,18}", by.text):
             self.wrong("expected 10, 100, 1000 or so: that many digits stand behind a point")
         self.take()
         return self.end(Command("show", (name, part, len(by.text) - 1)))

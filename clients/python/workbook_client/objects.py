@@ -8,6 +8,8 @@ from .literals import Index, Indices, Ranges, index_back, ranges_of
 from .literals import index as as_index
 from .refusals import OutOfDomain
 from .snapshot import RectDomain, Snapshot
+from .tables import harmless, object_table
+from .titles import WAYS, checked, digits_of, looks
 
 if TYPE_CHECKING:
     from .book import Workbook
@@ -202,16 +204,37 @@ class Array(_Named):
         with self.book.trying(), self.book.pipeline():
             return [self.book.change(request) for request in made]
 
+    def label(self, way: str, source: "Union[str, Array, None]" = None) -> None:
+        """Titles for this array's "rows" or "columns", wherever this `Workbook` shows it: those of an array over texts, where
+        `B["Ada"] = 3` calls row 3 Ada. Without one it has its indices again. Nothing in the workbook changes."""
+        if way not in WAYS:
+            raise ValueError(f'{way!r:.40} is neither "rows" nor "columns"')
+        name = ours(self.book, source)
+        if name is not None:
+            name = name.name if isinstance(name, Array) else name
+            checked(self._shot(), self.name, way, name)
+            self.book.labels[self.name, way] = name
+        else:
+            self.book.labels.pop((self.name, way), None)
+
+    def shown(self, by: int = 1, width: int = 100) -> notebook.Shown:
+        """The array as a table, `print(A.shown())`, and in a notebook as such. With 10, 100 and so on that many digits of each number
+        stand behind a point: 150 is shown as 1.50, and stays 150."""
+        book, digits = self._shot(), digits_of(by)
+        drawn = looks(self.book.labels, book, self.name, digits)
+        return notebook.Shown(harmless(object_table(book, self.name, width, looks=drawn)), notebook.array_html(book, self.name, drawn))
+
     def _repr_html_(self) -> "Optional[str]":
         """The array as a notebook shows it; nothing where it isn't there."""
         book = self.book.snapshot()
-        return notebook.array_html(book, self.name) if self.name in book.arrays else None
+        return notebook.array_html(book, self.name, looks(self.book.labels, book, self.name)) if self.name in book.arrays else None
 
     def to_csv(self, path: "Union[str, os.PathLike[str], None]" = None) -> str:
         """The array as a file of a spreadsheet, which `from_csv` reads: its text, which is written to a file where a path is
-        given. The cells have commas between them, and tabs in a file that is named `.tsv` or `.tab`."""
-        place = "" if path is None else os.fspath(path)
-        text = sheets.written(self._shot(), self.name, sheets.separator_of(place))
+        given. The cells have commas between them, and tabs in a file that is named `.tsv` or `.tab`. Titles stand as headings."""
+        place, shot = "" if path is None else os.fspath(path), self._shot()
+        drawn = looks(self.book.labels, shot, self.name)
+        text = sheets.written(shot, self.name, sheets.separator_of(place), drawn.down, drawn.across)
         if path is not None:
             files.write(place, text)
         return text
@@ -311,15 +334,16 @@ class Array(_Named):
         return values
 
     def to_dataframe(self) -> Any:
-        """A table of pandas', with the array's indices as the names of its rows and columns; of an array of another rank than 2, one
-        column. pandas has to be there."""
+        """A table of pandas', with the array's titles or indices as the names of its rows and columns; of an array of another rank
+        than 2, one column. pandas has to be there."""
         import pandas
 
         shot = self._shot()
         values, domain = shot.array(self.name), shot.domains[shot.arrays[self.name].over]
         if isinstance(domain, RectDomain) and len(domain.ranges) == 2:
-            rows, columns = map(list, domain.ranges)
-            return pandas.DataFrame([[values[i, j] for j in columns] for i in rows], index=rows, columns=columns)
+            (rows, columns), drawn = domain.ranges, looks(self.book.labels, shot, self.name)
+            heads = [[titles.get(at, at) for at in along] for titles, along in ((drawn.down, rows), (drawn.across, columns))]
+            return pandas.DataFrame([[values[i, j] for j in columns] for i in rows], index=heads[0], columns=heads[1])
         return pandas.DataFrame({self.name: list(values.values())}, index=list(values))
 
     def drop(self) -> "Edit":

@@ -19,7 +19,7 @@ from typing import Any, Callable, Dict, List, Optional, Tuple
 from urllib.parse import parse_qs
 
 from .book import Workbook
-from .errors import SessionEnded, WorkbookError
+from .errors import SessionEnded, WorkbookError, sentence
 from .redis import RedisRefused
 from .session import Session
 from .terminal import arguments, may_leave, open_book
@@ -208,6 +208,14 @@ def serve(book: Workbook, port: int = 0) -> Server:
     return server
 
 
+def on_port(book: Workbook, port: int) -> Server:
+    """A server of the page on this port; WorkbookError tells in a sentence why there is none."""
+    try:
+        return serve(book, port)
+    except (OSError, OverflowError) as fault:  # OverflowError: no such port
+        raise WorkbookError(f"the page can't have port {port}: {sentence(fault)}; --port 0 takes any that is free") from fault
+
+
 def serve_until_left(server: Server, session: Session) -> None:
     """Answers the page until Ctrl-C. At a terminal a workbook that is kept nowhere is asked about first."""
     while True:
@@ -236,15 +244,15 @@ def main(words: Optional[List[str]] = None) -> int:
                 with open(args.file, encoding="utf-8") as lines:
                     for line in lines:
                         session.line(line.rstrip("\r\n"))
-            with serve(book, args.port) as server:
+            with on_port(book, args.port) as server:
                 print(f"the page is at {server.url} (Ctrl-C ends it)", flush=True)
                 if args.open:
                     webbrowser.open(server.url)
                 serve_until_left(server, session)
     except KeyboardInterrupt:
         print()
-    except (WorkbookError, RedisRefused, OSError, OverflowError, UnicodeDecodeError) as end:  # OverflowError: no such port
-        print(f"workbook_client.page: {end}", file=sys.stderr)
+    except (WorkbookError, RedisRefused, OSError, UnicodeDecodeError) as end:
+        print(f"workbook_client.page: {sentence(end)}", file=sys.stderr)
         return 3
     return 0
 

@@ -2,11 +2,19 @@
 
 const NUMBER = /^[+-]?[0-9]+$/, LEAST = -(2n ** 63n), GREATEST = 2n ** 63n - 1n;
 
-/** Why a text is no whole number of 64 bits; nothing where it is one. */
-export function whole(text) {
-  if (!NUMBER.test(text)) return "whole numbers only: " + (text || "an empty cell") + " isn't one";
+/** Why a text is no whole number of 64 bits; nothing where it is one. With decimals the table shows so many digits behind a point. */
+export function whole(text, decimals = 0) {
+  if (!NUMBER.test(text)) return "whole numbers only: " + (text || "an empty cell") + " isn't one" + meant(text, decimals);
   const value = BigInt(text.replace("+", ""));
   return value < LEAST || value > GREATEST ? "a number has 64 bits at most, and " + text + " has more" : "";
+}
+
+/** Which whole number is shown so, where the table shows numbers with a point. */
+function meant(text, decimals) {
+  const [, sign, before, behind] = text.match(/^([+-]?)([0-9]+)\.([0-9]+)$/) ?? [];
+  if (!behind || behind.length > decimals) return "";
+  const digits = behind.padEnd(decimals, "0");
+  return "; here " + sign + BigInt(before + digits) + " is shown as " + sign + before + "." + digits;
 }
 
 /** The cells of a text, row by row. A spreadsheet ends its last line too. */
@@ -20,7 +28,7 @@ function rowsOf(text) {
 export function placed(text, on) {
   const rows = rowsOf(text), wide = Math.max(...rows.map(row => row.length));
   if (rows.length === 1 && wide === 1) {
-    const wrong = whole(rows[0][0]);
+    const wrong = whole(rows[0][0], on.plane.card.decimals);
     return wrong ? {wrong} : {one: rows[0][0]};
   }
   const {plane, top, left} = on;
@@ -32,7 +40,7 @@ export function placed(text, on) {
     for (const [c, number] of row.entries()) {
       const cell = plane.cells[top + r][left + c];
       if (!cell && !number) continue; // nothing there, and nothing for it
-      const wrong = cell ? whole(number) : "there is no element";
+      const wrong = cell ? whole(number, on.plane.card.decimals) : "there is no element";
       if (wrong) return {wrong: "row " + (r + 1) + ", column " + (c + 1) + " of what is pasted: " + wrong};
       cells.push([cell, number]);
     }

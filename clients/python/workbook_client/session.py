@@ -7,20 +7,18 @@ import sys
 import textwrap
 from typing import Dict, List, Mapping, Optional, TextIO, Tuple
 
-from . import files, hearing, hints, journal, labels, sheets
+from . import files, hearing, hints, journal, labels, sheets, titles
 from . import literals as lit
 from .book import Workbook
 from .channel import ProgramChannel
 from .edits import Cascade, Edit
 from .errors import NotOpened, NotTakenBack, SessionEnded, WorkbookError, sentence
-from .labels import WAYS
 from .language import Command, LanguageError, parse
 from .literals import Index
 from .objects import Array
 from .refusals import Blocked, NotInForce, Refusal
 from .requests import Request
-from .snapshot import Snapshot
-from .tables import NEXT, Cell, Looks, elements_table, grid, harmless, object_table
+from .tables import NEXT, Cell, elements_table, grid, harmless, object_table
 
 HELP = """\
 Domains        D = {1..4}                    a new domain; on one that is there, a new value
@@ -69,6 +67,9 @@ SHOWN = 40
 class Session:
     """Runs lines of the short language on a workbook and prints what came of them."""
 
+    here = "in this session"
+    """Where titles are shown that were given here."""
+
     def __init__(
         self, book: Workbook, out: TextIO = sys.stdout, width: Optional[int] = None,
         barred: Optional[Mapping[str, str]] = None,
@@ -78,13 +79,11 @@ class Session:
         """Commands that aren't taken here, each with what is said instead."""
         self._width = width
         self.colours = False
-        self.labels: Dict[Tuple[str, str], str] = {}
-        """The array whose texts are the titles of an array's "rows" or "columns"."""
         self.failed = False
         """Whether the last line was refused, or wasn't of the language."""
         self.refusal: Optional[Refusal] = None
         """What the program refused it with."""
-        self._next: Optional[Tuple[str, Optional[str], int, int]] = None
+        self._next: Optional[Tuple[str, Optional[str], Optional[int], int]] = None
         """The page of a table that `more` shows."""
         self._kept = self._now()
         """Which edits there were, and which in force, when a file last had them."""
@@ -215,13 +214,13 @@ class Session:
         """Every line of the help whose command is taken here."""
         self.say("\n".join(line for line in HELP.splitlines() if line[15:].split()[0] not in self.barred))
 
-    def do_show(self, name: str, part: Optional[str] = None, decimals: int = 0, page: int = 0) -> None:
+    def do_show(self, name: str, part: Optional[str] = None, decimals: Optional[int] = None, page: int = 0) -> None:
         ranges = None if part is None else lit.spelled_ranges(part)
         book = self.book.snapshot()
         if name not in book.names():
             self.wrapped(f"nothing is called {name} now")
             return
-        locales, looks = self.locales(name, name in book.arrays), self.looks(book, name, decimals, page)
+        locales, looks = self.locales(name, name in book.arrays), titles.looks(self.book.labels, book, name, decimals or 0, page)
         table = object_table(book, name, self.width, locales, ranges, looks)
         self._next = (name, part, decimals, page + 1) if NEXT in table else None
         self.say(table)
@@ -232,19 +231,14 @@ class Session:
             raise ValueError("no table was shown that goes on")
         self.do_show(*self._next)
 
-    def looks(self, book: Snapshot, name: str, decimals: int = 0, page: int = 0) -> Looks:
-        """The titles that an array was given here, as they are now."""
-        down, across = (labels.titles(book, self.labels.get((name, way))) for way in WAYS)
-        return Looks(down, across, decimals, page)
-
     def do_label(self, name: str, way: str, source: Optional[str]) -> None:
-        self.labels.pop((name, way), None)
         if source is None:
+            self.book.labels.pop((name, way), None)
             self.say(f"  {way} of {name} have their numbers")
             return
-        found = labels.titles(labels.checked(self.book.snapshot(), name, way, source), source)
-        self.labels[name, way] = source
-        self.wrapped(f"{way} of {name} have titles from {source}: {len(found)} of them, in this session")
+        found = titles.titles(titles.checked(self.book.snapshot(), name, way, source), source)
+        self.book.labels[name, way] = source
+        self.wrapped(f"{way} of {name} have titles from {source}: {len(found)} of them, {self.here}")
 
     def do_import(self, name: str, path: str) -> None:
         text = files.read(path)
@@ -252,7 +246,6 @@ class Session:
             self.imported(f"{name} has", Array(self.book, name).from_csv(io.StringIO(text)))
             return
         made = labels.new_table(self.book, name, sheets.guessed(sheets.cells_of(text)))
-        self.labels.update({(name, way): source for way, source in made.titles.items()})
         self.imported(f"{name} is new, and has", made.edits)
         for way, source in made.titles.items():
             self.wrapped(f"its {way} have titles from {source}")
@@ -271,7 +264,7 @@ class Session:
             self.failed = True
             self.wrapped(f"no array is called {name}" + ("; that is a domain" if name in book.domains else ""))
             return
-        looks = self.looks(book, name)
+        looks = titles.looks(self.book.labels, book, name)
         files.write(path, sheets.written(book, name, sheets.separator_of(path), looks.down, looks.across))
         self.say(f"  {path}: {len(book.arrays[name].elements):,} elements of {name}")
 

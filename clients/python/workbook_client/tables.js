@@ -14,6 +14,13 @@ export const setting = new Set();
 export const placeOf = cell => places.get(cell);
 export const cardOf = name => cards.get(name);
 
+/** A number as it is shown, with so many of its digits behind a point; the workbook has whole numbers. */
+export function pointed(number, decimals) {
+  if (!decimals) return number;
+  const minus = number.startsWith("-") ? "-" : "", digits = number.slice(minus.length).padStart(decimals + 1, "0");
+  return minus + digits.slice(0, -decimals) + "." + digits.slice(-decimals);
+}
+
 /** Shows the arrays and domains as they were heard; `kept` is a card that isn't drawn anew now. */
 export function showArrays(root, tinted, kept) {
   const shown = state.arrays.map(a => cardFor(a, tinted, kept));
@@ -26,7 +33,8 @@ export function showArrays(root, tinted, kept) {
 }
 
 function cardFor(a, tinted, kept) {
-  const sign = JSON.stringify([a.over, a.words, a.size, a.irv, tinted && a.locales, a.values.map(v => v[1])]);
+  const looks = [a.down, a.across, a.decimals];
+  const sign = JSON.stringify([a.over, a.words, a.size, a.irv, tinted && a.locales, looks, a.values.map(v => v[1])]);
   const held = cards.get(a.name);
   if (held && held.sign !== sign && held === kept) return held;
   if (held) note(held, a);
@@ -59,13 +67,18 @@ function refresh(held, a) {
 /** What a cell shows, but for one in which somebody types. */
 function write(cell, value) {
   cell.dataset.value = value;
-  if (!cell.querySelector("input")) cell.textContent = value;
+  if (!cell.querySelector("input")) showNumber(cell);
+}
+
+/** Shows a cell's number, or another in its place, as the table's numbers are shown. */
+export function showNumber(cell, number = cell.dataset.value) {
+  cell.textContent = pointed(number, places.get(cell).card.decimals);
 }
 
 /** Shows whether a cell is marked. */
 export function light(cell) {
-  const {key, title} = places.get(cell), marked = marks.has(key);
-  if (cell.classList.toggle("changed", marked)) cell.title = title + ", was " + marks.get(key);
+  const {key, title, card} = places.get(cell), marked = marks.has(key);
+  if (cell.classList.toggle("changed", marked)) cell.title = title + ", was " + pointed(marks.get(key), card.decimals);
   else cell.title = title;
 }
 
@@ -104,11 +117,12 @@ function card(a, locales, sign) {
   const csv = make("a", "csv", "CSV");
   csv.href = "csv?a=" + a.name;
   csv.download = a.name + ".csv";
-  const title = make("h3", "", a.name, make("small", "", "over " + a.over + " = " + a.words), csv);
-  const made = {name: a.name, sign, ranged: a.ranged, root: make("section", "card", title), cells: new Map()};
+  const by = a.decimals ? ", shown / 1" + "0".repeat(a.decimals) : "";
+  const title = make("h3", "", a.name, make("small", "", "over " + a.over + " = " + a.words + by), csv);
+  const made = {name: a.name, sign, ranged: a.ranged, decimals: a.decimals, root: make("section", "card", title), cells: new Map()};
   const cells = a.values.map(([parts, at, value], n) => ({parts, at, value, locale: locales ? locales[n] : null}));
   made.root.append(elements(a, cells, made));
-  if (a.parent) made.root.append(make("p", "note", "elsewhere in " + a.parent + ": " + a.irv));
+  if (a.parent) made.root.append(make("p", "note", "elsewhere in " + a.parent + ": " + pointed(a.irv, a.decimals)));
   if (a.size > cells.length) made.root.append(make("p", "note", "the first " + cells.length + " of " + a.size + " elements"));
   if (locales) made.root.append(legend(locales));
   return made;
@@ -152,9 +166,16 @@ function grid(root, role, name) {
   return root;
 }
 
+/** The heading of a row or a column: its title, or its index. */
+function heading(tag, kind, titles, at) {
+  const titled = Object.hasOwn(titles, at), head = make(tag, kind, titled ? titles[at] : at);
+  if (titled) head.title = at;
+  return head;
+}
+
 function row(a, cells, card) {
   const boxes = grid(make("div", "cells"), "listbox", a.name), on = planeOf(card, [], [""], cells.map(c => c.parts[0]), true);
-  cells.forEach((c, n) => boxes.append(make("div", "box", make("div", "at", c.parts[0]), value(a, c, "div", on, 0, n))));
+  cells.forEach((c, n) => boxes.append(make("div", "box", heading("div", "at", a.down, c.parts[0]), value(a, c, "div", on, 0, n))));
   return boxes;
 }
 
@@ -165,9 +186,10 @@ function plane(a, cells, card, top) {
   if (cells.length < rows.length * columns.length) columns.sort((x, y) => (BigInt(x) < BigInt(y) ? -1 : 1));
   const on = planeOf(card, top, rows, columns, false);
   const there = new Map(cells.map(c => [c.parts[down] + "," + c.parts[across], c]));
-  const table = grid(make("table", "", make("tr", "", make("th"), ...columns.map(c => make("th", "", c)))), "grid", a.name);
+  const heads = columns.map(c => heading("th", "", top.length ? {} : a.across, c));
+  const table = grid(make("table", "", make("tr", "", make("th"), ...heads)), "grid", a.name);
   rows.forEach((r, n) => {
-    const line = make("tr", "", make("th", "", r));
+    const line = make("tr", "", heading("th", "", top.length ? {} : a.down, r));
     columns.forEach((c, m) => {
       const cell = there.get(r + "," + c);
       line.append(cell ? value(a, cell, "td", on, n, m) : make("td", "hole", "·"));
@@ -181,7 +203,7 @@ function plane(a, cells, card, top) {
 const shown = (a, c) => a.name + "[" + (c.at.startsWith('"') ? '"' + c.parts[0] + '"' : c.at) + "]";
 
 function value(a, c, tag, plane, r, n) {
-  const cell = make(tag, "value", c.value), key = keyOf(a.name, c.at);
+  const cell = make(tag, "value", pointed(c.value, a.decimals)), key = keyOf(a.name, c.at);
   const title = shown(a, c) + (c.locale === null ? "" : ", locale " + c.locale);
   cell.dataset.key = key;
   cell.dataset.value = c.value;

@@ -158,16 +158,20 @@ def address(text: str) -> Union[Desk, Log]:
     if text.startswith("redis://"):
         return log_at(text)
     host, colon, port = text.rpartition(":")
-    if not colon or not (port.isascii() and port.isdigit()):
+    if not colon or not (port.isascii() and port.isdigit() and len(port) < 6):
         raise argparse.ArgumentTypeError(f"HOST:PORT is wanted, as 127.0.0.1:7000, or redis://HOST/NAME, not {text!r}")
+    if not 1 <= int(port) <= 65535:
+        raise argparse.ArgumentTypeError(f"a port is 1 to 65535, and not {port}")
     return Desk(host.strip("[]") or "127.0.0.1", int(port))
 
 
 def log_at(text: str) -> Log:
     """redis://[user:password@]host[:port][/number]/NAME."""
     url, _, name = text.rpartition("/")
+    if not url.startswith("redis://"):
+        raise argparse.ArgumentTypeError(f"redis://HOST/NAME is wanted, as redis://127.0.0.1/plan, not {text!r}, which names no workbook")
     try:
-        place_of(url if url.startswith("redis://") else text + "/no name")
+        place_of(url)
         log.key(name, "requests")
     except ValueError as wrong:
         raise argparse.ArgumentTypeError(f"redis://HOST/NAME is wanted, as redis://127.0.0.1/plan: {wrong}") from wrong

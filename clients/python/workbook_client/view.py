@@ -9,7 +9,7 @@ import time
 from contextlib import contextmanager
 from typing import Any, Callable, Dict, Iterator, List, NamedTuple, Optional, Set, Tuple
 
-from . import hearing, requests, sheets
+from . import hearing, requests, sheets, titles
 from .book import Workbook
 from .edits import Cascade, Edit
 from .errors import NotTakenBack, SessionEnded, WorkbookError
@@ -21,7 +21,8 @@ from .reach import Reach, in_words
 from .refusals import Refusal
 from .session import Session
 from .snapshot import RectDomain, Snapshot, SparseDomain
-from .tables import harmless
+from .tables import harmless, pointed
+from .titles import Labels
 
 MOST = 4096
 """So many elements of an array are shown."""
@@ -36,7 +37,6 @@ APART = 1.5
 TERMINAL_ALONE = {
     **dict.fromkeys(("save", "load", "keep", "import", "export", "compact"), "Files are for the terminal; the links above give the texts."),
     "colours": "Colours by locale are the box above.",
-    "label": "Titles are for the session at the terminal.",
     "more": "Tables are shown above.",
     "quit": "The page is closed in the browser; its server ends by Ctrl-C in the terminal.",
 }
@@ -57,14 +57,31 @@ class Sight(NamedTuple):
 
 
 class Doing(Session):
-    """A session for one thing that the page does, which notes what was taken back and put back by it."""
+    """A session for one thing that the page does, which notes what was taken back and put back by it. `decimals` has how many digits
+    stand behind a point in the tables of the page."""
 
-    def __init__(self, book: Workbook, out: io.StringIO):
+    here = "on this page"
+
+    def __init__(self, book: Workbook, out: io.StringIO, decimals: Dict[str, int]):
         super().__init__(book, out, width=100, barred=TERMINAL_ALONE)
+        self.decimals = decimals
         self.undone: List[int] = []
         self.redone: List[int] = []
         self.cascade: List[int] = []
         """What a cascade took back."""
+
+    def do_show(self, name: str, part: Optional[str] = None, decimals: Optional[int] = None, page: int = 0) -> None:
+        """`show A / 100` shows the table of the page so from now on; else a table is told below."""
+        if part is not None or decimals is None or self.book.kind(name) != "array":
+            super().do_show(name, part, self.decimals.get(name, 0) if decimals is None else decimals, page)
+            return
+        self.decimals[name] = decimals
+        number = 15 * 10 ** (decimals - 1) if decimals else 0
+        if decimals:
+            self.wrapped(f"{name} is shown / {10**decimals} above: {number} as {pointed(number, decimals)}. The workbook has whole numbers, and "
+                         f"these are typed; `show {name} / 1` shows them again.")
+        else:
+            self.wrapped(f"{name} is shown in whole numbers above")
 
     def moved(self, how: str, edit: Edit) -> None:
         (self.undone if how == "taken back" else self.redone).append(edit.number)
@@ -95,6 +112,7 @@ class View:
         self._taken: List[int] = []  # one's own edits that another took back
         self._reach = Reach(book)
         self._news = ""  # what is told of a workbook that is there again
+        self._decimals: Dict[str, int] = {}  # how many digits stand behind a point, by array
 
     # --- a workbook that goes away
 
@@ -267,12 +285,19 @@ class View:
             "ranged": isinstance(domain, RectDomain),
             "values": [[_parts(i), _at(i), str(value)] for i, value in values[:MOST]],
             "locales": None,
+            **self._titles(shot, name),
         }
         if isinstance(lies, RectDomain) and lies.map != "none" and self.book.alone:
             shown["locales"] = self._locales(name, values[:MOST])
         if of is not None:
             shown["irv"], shown["parent"] = str(array.irv), of
         return shown
+
+    def _titles(self, shot: Snapshot, name: str) -> Json:
+        """What rows and columns of an array are called, by their indices as texts, and how many digits stand behind a point."""
+        drawn = titles.looks(self.book.labels, shot, name, self._decimals.get(name, 0))
+        down, across = ({str(at): harmless(title) for at, title in each.items()} for each in (drawn.down, drawn.across))
+        return {"down": down, "across": across, "decimals": drawn.decimals}
 
     def _locales(self, name: str, values: List[Tuple[Index, int]]) -> List[int]:
         pieces = Array(self.book, name).pieces()
@@ -296,8 +321,8 @@ class View:
 
     def _done(self, act: Callable[[Doing], object]) -> Json:
         """What came of it, in the words of the session."""
-        said, before = io.StringIO(), self._mine()
-        session = Doing(self.book, said)
+        said, before, looks = io.StringIO(), self._mine(), self._looks()
+        session = Doing(self.book, said, self._decimals)
         try:
             act(session)
         except Refusal as no:
@@ -312,6 +337,9 @@ class View:
         except (WorkbookError, LanguageError, ValueError, TypeError) as wrong:
             self._wrong(session, wrong)
         self._note(session, before)
+        if self._looks() != looks:
+            self._objects = None
+            self._version += 1
         told: Json = {"ok": not session.failed, "say": said.getvalue().rstrip()}
         refused = session.refusal
         if refused is not None:
@@ -320,6 +348,10 @@ class View:
             if by is not None and k is not None and refused.request["op"] == "undo":
                 self._hold(k, by)
         return told
+
+    def _looks(self) -> Tuple[Labels, Dict[str, int]]:
+        """How tables are shown: their titles, and the digits behind a point."""
+        return dict(self.book.labels), dict(self._decimals)
 
     def _wrong(self, session: Doing, wrong: Exception) -> None:
         session.failed = True
@@ -396,7 +428,10 @@ class View:
         """An array as a spreadsheet takes it; None where none has the name."""
         with self._there():
             shot = self.book.snapshot()
-            return sheets.written(shot, name) if name in shot.arrays else None
+            if name not in shot.arrays:
+                return None
+            drawn = titles.looks(self.book.labels, shot, name)
+            return sheets.written(shot, name, down=drawn.down, across=drawn.across)
 
 
 ACTS: Dict[str, Callable[[View, Doing, Json], None]] = {

@@ -21,7 +21,7 @@ none_of_sets {K = K} {V = V} order (x ∷ xs) c e =
       | None ↦ rest
     ]
 
-tied : {K : Type 0} {order : K → K → Ordering} → IsOrder order → (y x : K) → eq_by_cmp order y x ≡ true → y ≡ x
+pub tied : {K : Type 0} {order : K → K → Ordering} → IsOrder order → (y x : K) → eq_by_cmp order y x ≡ true → y ≡ x
 tied {order = order} ordered y x e = ordered.strict y x ((Equal-is (order y x)).0 e)
 
 module _ {K V : Type 0} {order : K → K → Ordering} where

@@ -6,6 +6,7 @@ use Rattle.std.specs.FinMap.{entries, nat_cmp-IsAntisymmetric}
 use Rattle.selective_undo.specs.Edit.{Schema, Seen, Change, Edit, Trace, refuse, write, look, needs}
 use Rattle.selective_undo.specs.History.{Entry, done, undone, replay, traces, undo, redo, dependents}
 use Rattle.selective_undo.specs.Evaluation.{trace_in}
+use Rattle.selective_undo.specs.Together.{all_of}
 use Rattle.selective_undo.proofs.Evaluation.{entries-replay, traces-in}
 
 data Place : Type 0 where
@@ -14,6 +15,7 @@ data Place : Type 0 where
 
 data Why : Type 0 where
   absent : Why
+  in_place : ℕ → Why → Why
 
 abbrev holds : Place → ℕ → Bool
 holds (at c) d = c == d
@@ -111,3 +113,27 @@ other_cell = refl
 -- an edit that is refused writes nothing, and has read what it was refused for
 nothing_there : trace_in (copy 1 2) ((3, 7) ∷ []) ≡ record { reads = at 1 ∷ []; outcome = Err absent; before = [] }
 nothing_there = refl
+
+-- ---- a transaction
+
+-- cell 1 gets 5, cell 2 gets one more than cell 1, and cell 1 gets 8
+abbrev three : Edit numbers
+three = all_of in_place (set 1 5 ∷ copy 1 2 ∷ set 1 8 ∷ [])
+
+-- the copy sees the 5; each cell is written once, and cell 1 was 4 before
+three_made : trace_in three ((1, 4) ∷ (3, 7) ∷ []) ≡ did (at 1 ∷ []) (to 1 8 ∷ to 2 6 ∷ []) (to 1 4 ∷ off 2 ∷ [])
+three_made = refl
+
+-- the second copy finds nothing: no cell is written, and the refusal has its place
+abbrev halted : Edit numbers
+halted = all_of in_place (set 1 5 ∷ copy 1 2 ∷ copy 4 3 ∷ copy 5 3 ∷ [])
+
+none_made : trace_in halted [] ≡ record { reads = at 1 ∷ at 4 ∷ []; outcome = Err (in_place 2 absent); before = [] }
+none_made = refl
+
+-- undone, it leaves nothing of any of the three
+abbrev at_once : List (Entry numbers)
+at_once = done (set 1 4) ∷ done three ∷ done (set 3 7) ∷ []
+
+three_undone : entries (replay (undo 1 at_once)) ≡ (1, 4) ∷ (3, 7) ∷ []
+three_undone = entries-replay (undo 1 at_once) ∙ refl

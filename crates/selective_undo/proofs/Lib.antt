@@ -10,4 +10,5 @@ pub mod FindDependents
 pub mod Log
 pub mod LogLaws
 pub mod Evaluation
+pub mod Together
 mod Examples

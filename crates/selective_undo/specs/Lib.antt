@@ -8,5 +8,7 @@ pub mod Log
 pub mod Runs
 -- the same over lists, where all computes:
 pub mod Evaluation
+-- several edits as one:
+pub mod Together
 -- and what holds of them all, which the functions of the module `laws` promise:
 pub mod Laws

@@ -1,9 +1,9 @@
 -- Attempts, look by look, where the search does not find them.
 use Rattle.std.proofs.Common.{◌≡◌, List, ◌++◌, Result, Ok, Err, sym, ap, ◌∙◌, append-nil}
 use Rattle.selective_undo.specs.Edit.{write, outcome, reads}
-use Rattle.wb_book.specs.declared.cells.pattern.Pattern.{Pattern}
-use Rattle.wb_book.specs.Cells.{Cells, Changes}
-use Rattle.wb_edit.specs.declared.refusal.Refusal.{Refusal}
+use Rattle.wb_cells.specs.declared.cells.pattern.Pattern.{Pattern}
+use Rattle.wb_cells.specs.Cells.{Cells, Changes}
+use Rattle.wb_cells.specs.declared.refusal.Refusal.{Refusal}
 use Rattle.wb_edit.specs.declared.attempt_err.AttemptErr.{AttemptErr}
 use Rattle.wb_edit.specs.declared.attempt_err.AttemptErr.TheVariants.{Refused, NoMemory}
 use Rattle.wb_edit.specs.Changed.{Judges}

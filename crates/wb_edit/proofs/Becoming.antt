@@ -8,16 +8,16 @@ use Rattle.std.specs.Ordering.{eq_by_cmp, is_eq, is_lt}
 use Rattle.std.specs.declared.cmp.Ordering.TheVariants.{Less, Equal, Greater}
 use Rattle.selective_undo.specs.Changes.{changes}
 use Rattle.selective_undo.proofs.Changes.{not_true, is_itself}
-use Rattle.wb_book.specs.declared.cells.cell.Cell.TheVariants.{Element}
-use Rattle.wb_book.specs.declared.cells.value.Value.TheVariants.{Number}
-use Rattle.wb_book.specs.declared.values.index.Index.{Index}
-use Rattle.wb_book.specs.Cells.{Name, Changes, cell_cmp, cell_order, index_cmp}
+use Rattle.wb_cells.specs.declared.cells.cell.Cell.TheVariants.{Element}
+use Rattle.wb_cells.specs.declared.cells.value.Value.TheVariants.{Number}
+use Rattle.wb_cells.specs.declared.values.index.Index.{Index}
+use Rattle.wb_cells.specs.Cells.{Name, Changes, cell_cmp, cell_order, index_cmp}
 use Rattle.wb_edit.specs.Commands.{number_cells}
 use Rattle.wb_edit.specs.Writes.{set_to}
 use Rattle.wb_edit.proofs.IndexedCells.{changes-append, map-append}
 use Rattle.wb_edit.proofs.Elements.{index_order}
-use Rattle.wb_resize.proofs.Gets.{same_key}
-use Rattle.wb_resize.proofs.Sorted.{first, second}
+use Rattle.wb_reshape.proofs.Gets.{same_key}
+use Rattle.wb_reshape.proofs.Sorted.{first, second}
 
 below_at : (k : Index) (es : List (Index × ℤ)) (i : ℕ) (d : Index × ℤ) → T (below_all index_cmp k es) → i < length es →
     T (is_lt (index_cmp k (get_or es i d).0))

@@ -5,17 +5,17 @@ use Rattle.std.proofs.lemmas.List.Kept.{IsStrictlySortedBy-filter}
 use Rattle.std.specs.Cmp.{eq_by_cmp_equiv}
 use Rattle.std.specs.List.{filter}
 use Rattle.std.specs.List.Sorted.{IsStrictlySortedBy}
-use Rattle.wb_assoc.proofs.Unique.{same_members}
-use Rattle.wb_book.specs.declared.values.index.Index.{Index}
-use Rattle.wb_book.specs.Cells.{index_cmp, index_cmp-IsAntisymmetric, is_same_index}
-use Rattle.wb_book.specs.WellFormed.{has}
-use Rattle.wb_resize.specs.declared.new_indices.SetOperation.{SetOperation}
-use Rattle.wb_resize.specs.declared.new_indices.SetOperation.TheVariants.{Union, Intersection, Difference, SymmetricDifference}
-use Rattle.wb_resize.specs.Resized.{without}
-use Rattle.wb_resize.specs.Sources.{among, combined, keeps}
-use Rattle.wb_resize.proofs.Members.{index_total, Contains-has, has-Contains}
-use Rattle.wb_resize.proofs.Sources.{has-among, has-combined}
-use Rattle.wb_resize.proofs.Without.{has-without}
+use Rattle.wb_sets.proofs.Unique.{same_members}
+use Rattle.wb_cells.specs.declared.values.index.Index.{Index}
+use Rattle.wb_cells.specs.Cells.{index_cmp, index_cmp-IsAntisymmetric, is_same_index}
+use Rattle.wb_cells.specs.WellFormed.{has}
+use Rattle.wb_reshape.specs.declared.new_indices.SetOperation.{SetOperation}
+use Rattle.wb_reshape.specs.declared.new_indices.SetOperation.TheVariants.{Union, Intersection, Difference, SymmetricDifference}
+use Rattle.wb_reshape.specs.Resized.{without}
+use Rattle.wb_reshape.specs.Sources.{among, combined, keeps}
+use Rattle.wb_reshape.proofs.Members.{index_total, Contains-has, has-Contains}
+use Rattle.wb_reshape.proofs.Sources.{has-among, has-combined}
+use Rattle.wb_reshape.proofs.Without.{has-without}
 
 -- ---- filters of the elements of a list
 

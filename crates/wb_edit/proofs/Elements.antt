@@ -11,24 +11,24 @@ use Rattle.std.specs.Option.{option_and_then}
 use Rattle.std.specs.Ordering.{is_eq, is_lt, nat_cmp, ordering_then}
 use Rattle.std.specs.declared.cmp.Ordering.TheVariants.{Less, Equal, Greater}
 use Rattle.wb_range.specs.Domain.{IsListedOnce}
-use Rattle.wb_assoc.proofs.Ascending.{IsListedOnce-sorted}
-use Rattle.wb_book.specs.declared.cells.cell.Cell.{Cell}
-use Rattle.wb_book.specs.declared.cells.pattern.Pattern.{Pattern}
-use Rattle.wb_book.specs.declared.cells.cell.Cell.TheVariants.{Element}
-use Rattle.wb_book.specs.declared.cells.pattern.Pattern.TheVariants.{Elements}
-use Rattle.wb_book.specs.declared.cells.value.Value.{Value}
-use Rattle.wb_book.specs.declared.cells.value.Value.TheVariants.{Number}
-use Rattle.wb_book.specs.declared.values.index.Index.{Index}
-use Rattle.wb_book.specs.Cells.{Name, Cells, cell_cmp, index_cmp, cell_order, index_cmp-IsAntisymmetric, is_same_name, matches}
-use Rattle.wb_book.specs.contracts.values.index.IndexOrd.TheImpl.Laws as laws
-use Rattle.wb_book.specs.Readers.{element_in, elements}
+use Rattle.wb_sets.proofs.Ascending.{IsListedOnce-sorted}
+use Rattle.wb_cells.specs.declared.cells.cell.Cell.{Cell}
+use Rattle.wb_cells.specs.declared.cells.pattern.Pattern.{Pattern}
+use Rattle.wb_cells.specs.declared.cells.cell.Cell.TheVariants.{Element}
+use Rattle.wb_cells.specs.declared.cells.pattern.Pattern.TheVariants.{Elements}
+use Rattle.wb_cells.specs.declared.cells.value.Value.{Value}
+use Rattle.wb_cells.specs.declared.cells.value.Value.TheVariants.{Number}
+use Rattle.wb_cells.specs.declared.values.index.Index.{Index}
+use Rattle.wb_cells.specs.Cells.{Name, Cells, cell_cmp, index_cmp, cell_order, index_cmp-IsAntisymmetric, is_same_name, matches}
+use Rattle.wb_cells.specs.contracts.values.index.IndexOrd.TheImpl.Laws as laws
+use Rattle.wb_cells.specs.Readers.{element_in, elements}
 use Rattle.selective_undo.specs.Changes.{IsOrder}
 use Rattle.selective_undo.specs.Edit.{reads}
 use Rattle.wb_edit.specs.Elements as looks
 use Rattle.wb_edit.specs.Plans.{Gives}
 use Rattle.selective_undo.proofs.Evaluation.{entries-retain_keys}
-use Rattle.wb_resize.proofs.States.{same_name}
-use Rattle.wb_resize.proofs.Sorted.{both, first, second, none_below, of_entries}
+use Rattle.wb_reshape.proofs.States.{same_name}
+use Rattle.wb_reshape.proofs.Sorted.{both, first, second, none_below, of_entries}
 
 pub index_order : IsOrder index_cmp
 index_order = record { total = laws.total-law; strict = index_cmp-IsAntisymmetric }

@@ -8,22 +8,22 @@ use Rattle.std.specs.Ordering.{eq_by_cmp}
 use Rattle.selective_undo.specs.Changes.{changes}
 use Rattle.selective_undo.proofs.Changes.{not_true, is_itself}
 use Rattle.wb_range.specs.Domain.{IsListedOnce}
-use Rattle.wb_book.specs.declared.cells.cell.Cell.{Cell}
-use Rattle.wb_book.specs.declared.cells.cell.Cell.TheVariants.{Element}
-use Rattle.wb_book.specs.declared.cells.kind.DomainKind.{DomainKind}
-use Rattle.wb_book.specs.declared.cells.kind.DomainKind.TheVariants.{Rectangular, Sparse, Associative}
-use Rattle.wb_book.specs.declared.cells.kind.Kind.{Kind}
-use Rattle.wb_book.specs.declared.cells.kind.Kind.TheVariants.{Rectangular as over_rectangular, Sparse as over_sparse, Associative as over_associative}
-use Rattle.wb_book.specs.declared.cells.value.Value.{Value}
-use Rattle.wb_book.specs.declared.cells.value.Value.TheVariants.{Number, Present}
-use Rattle.wb_book.specs.declared.values.index.Index.{Index}
-use Rattle.wb_book.specs.Cells.{Name, Changes, cell_cmp, cell_order, is_same_index}
-use Rattle.wb_book.specs.Kinds.{kind_of}
-use Rattle.wb_book.specs.WellFormed.{has}
-use Rattle.wb_resize.specs.Resized.{without, exchanged, elements_exchanged}
-use Rattle.wb_resize.specs.Writes.{put_all, clear_all}
-use Rattle.wb_resize.proofs.Gets.{same_key}
-use Rattle.wb_resize.proofs.Without.{without-apart}
+use Rattle.wb_cells.specs.declared.cells.cell.Cell.{Cell}
+use Rattle.wb_cells.specs.declared.cells.cell.Cell.TheVariants.{Element}
+use Rattle.wb_cells.specs.declared.cells.kind.DomainKind.{DomainKind}
+use Rattle.wb_cells.specs.declared.cells.kind.DomainKind.TheVariants.{Rectangular, Sparse, Associative}
+use Rattle.wb_cells.specs.declared.cells.kind.Kind.{Kind}
+use Rattle.wb_cells.specs.declared.cells.kind.Kind.TheVariants.{Rectangular as over_rectangular, Sparse as over_sparse, Associative as over_associative}
+use Rattle.wb_cells.specs.declared.cells.value.Value.{Value}
+use Rattle.wb_cells.specs.declared.cells.value.Value.TheVariants.{Number, Present}
+use Rattle.wb_cells.specs.declared.values.index.Index.{Index}
+use Rattle.wb_cells.specs.Cells.{Name, Changes, cell_cmp, cell_order, is_same_index}
+use Rattle.wb_cells.specs.Kinds.{kind_of}
+use Rattle.wb_cells.specs.WellFormed.{has}
+use Rattle.wb_reshape.specs.Resized.{without, exchanged, elements_exchanged}
+use Rattle.wb_reshape.specs.Writes.{put_all, clear_all}
+use Rattle.wb_reshape.proofs.Gets.{same_key}
+use Rattle.wb_reshape.proofs.Without.{without-apart}
 use Rattle.wb_edit.specs.declared.indexed_cells.IndexedCells.{IndexedCells}
 use Rattle.wb_edit.specs.declared.indexed_cells.IndexedCells.TheVariants.{Membership}
 use Rattle.wb_edit.specs.Changed.{set_all, AreApart}

@@ -8,13 +8,14 @@ use Rattle.std.specs.List.{zip}
 use Rattle.std.specs.Map.{keys_of}
 use Rattle.std.specs.Result.{IfOk, IfErr, OnOk}
 use Rattle.wb_range.specs.Domain.{IsListedOnce}
-use Rattle.wb_book.specs.declared.cells.cell.Cell.TheVariants.{Implicit}
-use Rattle.wb_book.specs.declared.cells.pattern.Pattern.{Pattern}
-use Rattle.wb_book.specs.Cells.{Name, Cells}
+use Rattle.wb_cells.specs.declared.cells.cell.Cell.TheVariants.{Implicit}
+use Rattle.wb_cells.specs.declared.cells.pattern.Pattern.{Pattern}
+use Rattle.wb_cells.specs.Cells.{Name, Cells}
 use Rattle.wb_edit.specs.declared.attempt_err.AttemptErr.{AttemptErr}
 use Rattle.wb_edit.specs.declared.attempt_err.AttemptErr.TheVariants.{NoMemory}
 use Rattle.wb_edit.specs.Changed.{items_of}
-use Rattle.wb_edit.specs.Plans.{Gives, Looks, one_of}
+use Rattle.wb_edit.specs.Plans.{Gives, Looks}
+use Rattle.wb_cells.specs.Reads.{one_of}
 use Rattle.wb_edit.specs.Resizing.{number_or_zero, implicits}
 use Rattle.wb_edit.specs.Rectangles.{read_all}
 use Rattle.wb_edit.proofs.IndexedCells.{map-append}

@@ -6,11 +6,11 @@ use Rattle.std.specs.Cmp.{Equal-is}
 use Rattle.selective_undo.specs.Changes.{changes}
 use Rattle.selective_undo.proofs.Changes.{not_true}
 use Rattle.wb_range.specs.Domain.{IsListedOnce}
-use Rattle.wb_book.specs.declared.cells.cell.Cell.{Cell}
-use Rattle.wb_book.specs.declared.cells.kind.Kind.TheVariants.{Rectangular, Sparse, Associative}
-use Rattle.wb_book.specs.declared.cells.value.Value.{Value}
-use Rattle.wb_book.specs.declared.values.index.Index.{Index}
-use Rattle.wb_book.specs.Cells.{cell_cmp, cell_order, Changes}
+use Rattle.wb_cells.specs.declared.cells.cell.Cell.{Cell}
+use Rattle.wb_cells.specs.declared.cells.kind.Kind.TheVariants.{Rectangular, Sparse, Associative}
+use Rattle.wb_cells.specs.declared.cells.value.Value.{Value}
+use Rattle.wb_cells.specs.declared.values.index.Index.{Index}
+use Rattle.wb_cells.specs.Cells.{cell_cmp, cell_order, Changes}
 use Rattle.wb_edit.specs.declared.indexed_cells.IndexedCells.{IndexedCells}
 use Rattle.wb_edit.specs.declared.indexed_cells.IndexedCells.TheVariants.{Inside, Elements, Membership}
 use Rattle.wb_edit.specs.Plans.{cell_at}

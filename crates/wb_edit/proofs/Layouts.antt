@@ -1,11 +1,11 @@
 -- What the tests on mappings let through.
 use Rattle.std.proofs.Common.{◌≡◌, ℕ, ◌≤◌, Bool, true, false, length, Result, Ok, Err, refl, sym, subst, le-leb, eqb-true}
 use Rattle.wb_dist.specs.Maps.{LayoutMap, whole, block, cyclic, block_cyclic, is_rank}
-use Rattle.wb_book.specs.declared.cells.kind.DomainKind.{DomainKind}
-use Rattle.wb_book.specs.declared.cells.kind.DomainKind.TheVariants.{Rectangular, Sparse, Associative}
-use Rattle.wb_book.specs.Layouts.{is_of_rank, IsMapping, IsLayout}
-use Rattle.wb_edit.specs.declared.refusal.Refusal.{Refusal}
-use Rattle.wb_edit.specs.declared.refusal.Refusal.TheVariants.{BadMapping}
+use Rattle.wb_cells.specs.declared.cells.kind.DomainKind.{DomainKind}
+use Rattle.wb_cells.specs.declared.cells.kind.DomainKind.TheVariants.{Rectangular, Sparse, Associative}
+use Rattle.wb_cells.specs.Layouts.{is_of_rank, IsMapping, IsLayout}
+use Rattle.wb_cells.specs.declared.refusal.Refusal.{Refusal}
+use Rattle.wb_cells.specs.declared.refusal.Refusal.TheVariants.{BadMapping}
 use Rattle.wb_edit.specs.Kinds.{rank_of}
 use Rattle.wb_edit.specs.Layouts.{for_rank}
 

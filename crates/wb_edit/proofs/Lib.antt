@@ -17,6 +17,5 @@ pub mod Combined
 pub mod Loading
 pub mod Kept
 pub mod Once
-pub mod Runs
 pub mod Ranges
 pub mod Numbered

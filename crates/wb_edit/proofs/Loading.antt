@@ -16,25 +16,25 @@ use Rattle.selective_undo.specs.Edit.{seen}
 use Rattle.selective_undo.proofs.Changes.{same_states}
 use Rattle.selective_undo.proofs.Evaluation.{entries-retain_keys}
 use Rattle.selective_undo.proofs.Locality.{or_neither}
-use Rattle.wb_book.proofs.Order.{entries-state_of}
-use Rattle.wb_book.specs.declared.cells.cell.Cell.{Cell}
-use Rattle.wb_book.specs.declared.cells.cell.Cell.TheVariants.{Object, Shape, In, Member, Mapping, Use, Implicit, Element}
-use Rattle.wb_book.specs.declared.cells.pattern.Pattern.TheVariants.{Objects}
-use Rattle.wb_book.specs.declared.cells.value.Value.{Value}
-use Rattle.wb_book.specs.declared.values.index.Index.{Index}
-use Rattle.wb_book.specs.Cells.{Name, Cells, Changes, cell_cmp, cell_order, matches, state_of}
-use Rattle.wb_book.specs.Readers.{object_of, objects}
-use Rattle.wb_book.specs.WellFormed.{IsWellFormed, IsShape, IsMember, HasMapping, IsImplicit, IsElement, domain_in, array_in, ranges_in, inside_of, use_of}
-use Rattle.wb_book.specs.WellFormed.{is_index_of_array}
-use Rattle.wb_edit.specs.declared.refusal.Refusal.{Refusal}
-use Rattle.wb_edit.specs.declared.refusal.Refusal.TheVariants.{NotEmpty}
+use Rattle.wb_cells.proofs.Order.{entries-state_of}
+use Rattle.wb_cells.specs.declared.cells.cell.Cell.{Cell}
+use Rattle.wb_cells.specs.declared.cells.cell.Cell.TheVariants.{Object, Shape, In, Member, Mapping, Use, Implicit, Element}
+use Rattle.wb_cells.specs.declared.cells.pattern.Pattern.TheVariants.{Objects}
+use Rattle.wb_cells.specs.declared.cells.value.Value.{Value}
+use Rattle.wb_cells.specs.declared.values.index.Index.{Index}
+use Rattle.wb_cells.specs.Cells.{Name, Cells, Changes, cell_cmp, cell_order, matches, state_of}
+use Rattle.wb_cells.specs.Readers.{object_of, objects}
+use Rattle.wb_cells.specs.WellFormed.{IsWellFormed, IsShape, IsMember, HasMapping, IsImplicit, IsElement, domain_in, array_in, ranges_in, inside_of, use_of}
+use Rattle.wb_cells.specs.WellFormed.{is_index_of_array}
+use Rattle.wb_cells.specs.declared.refusal.Refusal.{Refusal}
+use Rattle.wb_cells.specs.declared.refusal.Refusal.TheVariants.{NotEmpty}
 use Rattle.wb_edit.specs.Commands.{book_cells}
 use Rattle.wb_edit.specs.Objects.{is_empty}
-use Rattle.wb_edit.specs.Schema.{workbook}
+use Rattle.wb_cells.specs.Schema.{workbook}
 use Rattle.wb_edit.specs.Writes.{put_each}
 use Rattle.wb_edit.proofs.IndexedCells.{changes-append}
-use Rattle.wb_resize.proofs.Gets.{after, get-apply, same_key}
-use Rattle.wb_resize.proofs.Sorted.{first, second}
+use Rattle.wb_reshape.proofs.Gets.{after, get-apply, same_key}
+use Rattle.wb_reshape.proofs.Sorted.{first, second}
 
 -- ---- pairs whose cells rise name each cell once
 

@@ -9,20 +9,20 @@ use Rattle.std.specs.List.Sorted.{IsStrictlySortedBy}
 use Rattle.std.specs.Ordering.{eq_by_cmp, is_eq, nat_cmp}
 use Rattle.std.specs.declared.cmp.Ordering.TheVariants.{Less}
 use Rattle.wb_range.specs.Domain.{IsListedOnce}
-use Rattle.wb_assoc.proofs.Ascending.{IsListedOnce-sorted}
-use Rattle.wb_book.specs.declared.cells.cell.Cell.{Cell}
-use Rattle.wb_book.specs.declared.cells.cell.Cell.TheVariants.{Object, Shape, In, Member, Mapping, Use, Implicit, Element}
-use Rattle.wb_book.specs.declared.cells.kind.DomainKind.{DomainKind}
-use Rattle.wb_book.specs.declared.cells.pattern.Pattern.TheVariants.{Members}
-use Rattle.wb_book.specs.declared.cells.value.Value.{Value}
-use Rattle.wb_book.specs.declared.values.index.Index.{Index}
-use Rattle.wb_book.specs.contracts.values.index.IndexOrd.TheImpl.Laws as index_laws
-use Rattle.wb_book.specs.Cells.{Name, Cells, cell_cmp, index_cmp, index_cmp-IsAntisymmetric, is_same_name}
-use Rattle.wb_book.specs.Readers.{seen}
-use Rattle.wb_book.specs.WellFormed.{IsMember, has, present_if}
-use Rattle.wb_resize.proofs.Seen.{AreNamed, seen_named, seen_sorted, find_seen, same_family, second_less, second_tie}
-use Rattle.wb_resize.proofs.Sorted.{first, second}
-use Rattle.wb_resize.proofs.States.{itself}
+use Rattle.wb_sets.proofs.Ascending.{IsListedOnce-sorted}
+use Rattle.wb_cells.specs.declared.cells.cell.Cell.{Cell}
+use Rattle.wb_cells.specs.declared.cells.cell.Cell.TheVariants.{Object, Shape, In, Member, Mapping, Use, Implicit, Element}
+use Rattle.wb_cells.specs.declared.cells.kind.DomainKind.{DomainKind}
+use Rattle.wb_cells.specs.declared.cells.pattern.Pattern.TheVariants.{Members}
+use Rattle.wb_cells.specs.declared.cells.value.Value.{Value}
+use Rattle.wb_cells.specs.declared.values.index.Index.{Index}
+use Rattle.wb_cells.specs.contracts.values.index.IndexOrd.TheImpl.Laws as index_laws
+use Rattle.wb_cells.specs.Cells.{Name, Cells, cell_cmp, index_cmp, index_cmp-IsAntisymmetric, is_same_name}
+use Rattle.wb_cells.specs.Readers.{seen}
+use Rattle.wb_cells.specs.WellFormed.{IsMember, has, present_if}
+use Rattle.wb_reshape.proofs.Seen.{AreNamed, seen_named, seen_sorted, find_seen, same_family, second_less, second_tie}
+use Rattle.wb_reshape.proofs.Sorted.{first, second}
+use Rattle.wb_reshape.proofs.States.{itself}
 use Rattle.wb_edit.specs.Looks.{member_in}
 
 -- ---- ascending

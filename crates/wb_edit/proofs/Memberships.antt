@@ -1,12 +1,12 @@
 -- Whether a sparse or associative domain has an index: the tests with which its changes begin.
 use Rattle.std.proofs.Common.{◌≡◌, List, Option, Result, Ok}
-use Rattle.wb_book.specs.declared.cells.cell.Cell.TheVariants.{Member}
-use Rattle.wb_book.specs.declared.cells.kind.DomainKind.{DomainKind}
-use Rattle.wb_book.specs.declared.cells.pattern.Pattern.{Pattern}
-use Rattle.wb_book.specs.declared.cells.value.Value.{Value}
-use Rattle.wb_book.specs.declared.values.index.Index.{Index}
-use Rattle.wb_book.specs.Cells.{Name, Cells, Changes}
-use Rattle.wb_book.specs.Kinds.{kind_of}
+use Rattle.wb_cells.specs.declared.cells.cell.Cell.TheVariants.{Member}
+use Rattle.wb_cells.specs.declared.cells.kind.DomainKind.{DomainKind}
+use Rattle.wb_cells.specs.declared.cells.pattern.Pattern.{Pattern}
+use Rattle.wb_cells.specs.declared.cells.value.Value.{Value}
+use Rattle.wb_cells.specs.declared.values.index.Index.{Index}
+use Rattle.wb_cells.specs.Cells.{Name, Cells, Changes}
+use Rattle.wb_cells.specs.Kinds.{kind_of}
 use Rattle.wb_edit.specs.declared.attempt_err.AttemptErr.{AttemptErr}
 use Rattle.wb_edit.specs.Trees.{Tree, read}
 use Rattle.wb_edit.specs.Plans.{Attempts, Gives, stopped}

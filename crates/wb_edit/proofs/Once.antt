@@ -10,30 +10,30 @@ use Rattle.selective_undo.specs.Changes.{changes, AllOnce}
 use Rattle.selective_undo.specs.Edit.{seen, refuse, write}
 use Rattle.wb_range.specs.Domain.{IsListedOnce}
 use Rattle.wb_dist.specs.Maps.{LayoutMap}
-use Rattle.wb_book.specs.declared.cells.cell.Cell.{Cell}
-use Rattle.wb_book.specs.declared.cells.cell.Cell.TheVariants.{Object, Shape, In, Member, Mapping, Use, Implicit, Element}
-use Rattle.wb_book.specs.declared.cells.kind.DomainKind.{DomainKind}
-use Rattle.wb_book.specs.declared.cells.kind.DomainKind.TheVariants.{Rectangular, Sparse, Associative}
-use Rattle.wb_book.specs.declared.cells.kind.KeyType.{KeyType}
-use Rattle.wb_book.specs.declared.cells.kind.Kind.{Kind}
-use Rattle.wb_book.specs.declared.cells.value.Binding.TheVariants.{Sparse}
-use Rattle.wb_book.specs.declared.cells.pattern.Pattern.TheVariants.{Objects}
-use Rattle.wb_book.specs.declared.cells.value.Value.{Value}
-use Rattle.wb_book.specs.declared.cells.value.Value.TheVariants.{Domain, Mapping, Present, Bound, Number}
-use Rattle.wb_book.specs.declared.values.index.Index.{Index}
-use Rattle.wb_book.specs.Cells.{Name, Cells, cell_cmp}
-use Rattle.wb_book.specs.Kinds.{kind_of}
-use Rattle.wb_book.specs.Readers as readers
-use Rattle.wb_book.specs.Shapes.{Range, indices}
-use Rattle.wb_book.specs.WellFormed.{IsWellFormed}
-use Rattle.wb_resize.specs.Dropped.{dropped_domain_cells}
-use Rattle.wb_resize.proofs.Fills.{arrays, zeros_once}
-use Rattle.wb_resize.proofs.Users.{users}
+use Rattle.wb_cells.specs.declared.cells.cell.Cell.{Cell}
+use Rattle.wb_cells.specs.declared.cells.cell.Cell.TheVariants.{Object, Shape, In, Member, Mapping, Use, Implicit, Element}
+use Rattle.wb_cells.specs.declared.cells.kind.DomainKind.{DomainKind}
+use Rattle.wb_cells.specs.declared.cells.kind.DomainKind.TheVariants.{Rectangular, Sparse, Associative}
+use Rattle.wb_cells.specs.declared.cells.kind.KeyType.{KeyType}
+use Rattle.wb_cells.specs.declared.cells.kind.Kind.{Kind}
+use Rattle.wb_cells.specs.declared.cells.value.Binding.TheVariants.{Sparse}
+use Rattle.wb_cells.specs.declared.cells.pattern.Pattern.TheVariants.{Objects}
+use Rattle.wb_cells.specs.declared.cells.value.Value.{Value}
+use Rattle.wb_cells.specs.declared.cells.value.Value.TheVariants.{Domain, Mapping, Present, Bound, Number}
+use Rattle.wb_cells.specs.declared.values.index.Index.{Index}
+use Rattle.wb_cells.specs.Cells.{Name, Cells, cell_cmp}
+use Rattle.wb_cells.specs.Kinds.{kind_of}
+use Rattle.wb_cells.specs.Readers as readers
+use Rattle.wb_cells.specs.Shapes.{Range, indices}
+use Rattle.wb_cells.specs.WellFormed.{IsWellFormed}
+use Rattle.wb_reshape.specs.Dropped.{dropped_domain_cells}
+use Rattle.wb_reshape.proofs.Fills.{arrays, zeros_once}
+use Rattle.wb_reshape.proofs.Users.{users}
 use Rattle.wb_edit.specs.declared.asked_rectangle.AskedRectangle.TheVariants.{Ranges, Indices}
 use Rattle.wb_edit.specs.declared.edit.Edit.TheVariants.{Domain, Remap, Sparse, Assoc, Array, Set, Irv, Copy, Fill, FillAll, DropArray, All, Add, Remove}
 use Rattle.wb_edit.specs.declared.edit.Edit.TheVariants.{DropDomain, Reshape, Load}
 use Rattle.wb_edit.specs.declared.operation.Operation.{Operation}
-use Rattle.wb_edit.specs.declared.refusal.Refusal.TheVariants.{WrongKind}
+use Rattle.wb_cells.specs.declared.refusal.Refusal.TheVariants.{WrongKind}
 use Rattle.wb_edit.specs.Changed.{set_all}
 use Rattle.wb_edit.specs.Commands.{new_domain_changes, domain, remap, sparse, assoc, new_array_changes, array, set, irv, copy, fill, fill_all, dropped_cells}
 use Rattle.wb_edit.specs.Commands.{drop_array, number_cells, all_results, all, drop_domain, add_unless, remove_if, book_cells, load}
@@ -47,7 +47,7 @@ use Rattle.wb_edit.specs.Objects.{is_empty}
 use Rattle.wb_edit.specs.Numbers.{element_or_refusal, fits_integer, sum}
 use Rattle.wb_edit.specs.Rectangles.{of_rank, all_there, over_rectangle, all_elements}
 use Rattle.wb_edit.specs.Resizing.{has_members, with_members, zeros}
-use Rattle.wb_edit.specs.Schema.{workbook}
+use Rattle.wb_cells.specs.Schema.{workbook}
 use Rattle.wb_edit.specs.Looks.{is_free, domain_kind, array_kind, is_there, fits, domain_named, array_named, index_fits, element, domain_indices}
 use Rattle.wb_edit.specs.Users.{is_unused, unused}
 use Rattle.wb_edit.specs.Writes.{set_to, put_all, clear_all}
@@ -58,7 +58,7 @@ use Rattle.wb_edit.proofs.SideBySide.{kept_ascend}
 use Rattle.wb_edit.proofs.Once.IndexedCells.{once_indexed, once_resized, once_ended, once_seen}
 use Rattle.wb_edit.proofs.Once.Looks.{Once, once_read, once_judged, once_test, once_all, once_indices, rectangle_once, none_once, none_apart}
 use Rattle.wb_edit.proofs.Once.Sources.{resized_once, reshape_once}
-use Rattle.wb_reading.specs.Texts.Books.{cells_in}
+use Rattle.wb_text.specs.Texts.Books.{cells_in}
 
 domain_once : (d : Name) (rs : List Range) (m : LayoutMap) → IsListedOnce (indices rs) → AllOnce cell_cmp (new_domain_changes d rs m)
 domain_once d rs m once =

@@ -1,17 +1,15 @@
 -- Changes at every index of a rectangle, by its ranges and cell by cell.
 use Rattle.std.proofs.Common.{◌≡◌, ℤ, List, [], ◌∷◌, map, Option, Some, option_map, refl, ap}
 use Rattle.std.specs.List.{zip}
-use Rattle.wb_book.specs.declared.changes.row.Row.{Row}
-use Rattle.wb_book.specs.declared.changes.row.Row.TheVariants.{Elements}
-use Rattle.wb_book.specs.declared.values.index.Index.TheVariants.{Point}
-use Rattle.wb_book.specs.Cells.{Name}
-use Rattle.wb_book.specs.Runs.{cell_of, value_of, change_at, packed_changes, rectangle_entries, numbered_entries}
-use Rattle.wb_book.specs.Shapes.{Range, indices}
+use Rattle.wb_cells.specs.declared.changes.row.Row.{Row}
+use Rattle.wb_cells.specs.declared.changes.row.Row.TheVariants.{Elements}
+use Rattle.wb_cells.specs.declared.values.index.Index.TheVariants.{Point}
+use Rattle.wb_cells.specs.Cells.{Name}
+use Rattle.wb_cells.specs.Runs.{cell_of, value_of, change_at, packed_changes, rectangle_entries, numbered_entries}
+use Rattle.wb_cells.specs.Shapes.{Range, indices}
 use Rattle.wb_rect.specs.Product.{product}
 use Rattle.wb_edit.specs.Changed.{set_all}
 use Rattle.wb_edit.specs.Commands.{number_cells}
-use Rattle.wb_edit.specs.Plans.{one_of}
-use Rattle.wb_edit.specs.Reads.{patterns_of}
 
 set_at : (row : Row) (n : Option ℤ) (ps : List (List ℤ)) →
     packed_changes row (map (λ p. (p, n)) ps) ≡ set_all (map (cell_of row) (map Point ps)) (option_map (value_of row) n)
@@ -22,16 +20,6 @@ set_at row n (p ∷ ps) = ap (λ xs. change_at row (p, n) ∷ xs) (set_at row n 
 pub rectangle_set : (row : Row) (rs : List Range) (n : Option ℤ) →
     packed_changes row (rectangle_entries rs n) ≡ set_all (map (cell_of row) (indices rs)) (option_map (value_of row) n)
 rectangle_set row rs n = set_at row n (product rs)
-
-read_at : (row : Row) (n : Option ℤ) (ps : List (List ℤ)) →
-    patterns_of (packed_changes row (map (λ p. (p, n)) ps)) ≡ map one_of (map (cell_of row) (map Point ps))
-read_at row n [] = refl
-read_at row n (p ∷ ps) = ap (λ xs. one_of (cell_of row (Point p)) ∷ xs) (read_at row n ps)
-
--- the patterns of the cells, one after another
-pub rectangle_read : (row : Row) (rs : List Range) (n : Option ℤ) →
-    patterns_of (packed_changes row (rectangle_entries rs n)) ≡ map one_of (map (cell_of row) (indices rs))
-rectangle_read row rs n = read_at row n (product rs)
 
 numbers_at : (a : Name) (ps : List (List ℤ)) (ns : List ℤ) →
     packed_changes (Elements a) (zip ps (map (λ n. Some n) ns)) ≡ number_cells a (zip (map Point ps) ns)

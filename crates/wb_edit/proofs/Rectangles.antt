@@ -5,12 +5,13 @@ use Rattle.std.proofs.lemmas.List.Folds.{list_any-append}
 use Rattle.std.specs.FinMap.{get}
 use Rattle.std.specs.List.{list_all, list_any}
 use Rattle.selective_undo.specs.Edit.{reads}
-use Rattle.wb_book.specs.declared.cells.cell.Cell.{Cell}
-use Rattle.wb_book.specs.declared.cells.pattern.Pattern.{Pattern}
-use Rattle.wb_book.specs.declared.cells.value.Value.{Value}
-use Rattle.wb_book.specs.declared.values.index.Index.{Index}
-use Rattle.wb_book.specs.Cells.{Cells}
-use Rattle.wb_edit.specs.Plans.{Gives, one_of}
+use Rattle.wb_cells.specs.declared.cells.cell.Cell.{Cell}
+use Rattle.wb_cells.specs.declared.cells.pattern.Pattern.{Pattern}
+use Rattle.wb_cells.specs.declared.cells.value.Value.{Value}
+use Rattle.wb_cells.specs.declared.values.index.Index.{Index}
+use Rattle.wb_cells.specs.Cells.{Cells}
+use Rattle.wb_edit.specs.Plans.{Gives}
+use Rattle.wb_cells.specs.Reads.{one_of}
 use Rattle.wb_edit.specs.Rectangles.{read_all}
 use Rattle.wb_edit.proofs.IndexedCells.{take_more, map-append}
 use Rattle.wb_edit.proofs.Trees.{gives_read}

@@ -13,19 +13,19 @@ use Rattle.std.specs.Ordering.{eq_by_cmp, is_eq, is_lt}
 use Rattle.std.specs.declared.cmp.Ordering.TheVariants.{Less, Equal, Greater}
 use Rattle.selective_undo.specs.Edit.{outcome, write}
 use Rattle.selective_undo.proofs.Changes.{not_true, is_itself}
-use Rattle.wb_book.specs.declared.cells.cell.Cell.TheVariants.{Object, Element}
-use Rattle.wb_book.specs.declared.cells.pattern.Pattern.{Pattern}
-use Rattle.wb_book.specs.declared.cells.kind.Kind.{Kind}
-use Rattle.wb_book.specs.declared.cells.value.Value.{Value}
-use Rattle.wb_book.specs.declared.cells.value.Value.TheVariants.{Array}
-use Rattle.wb_book.specs.declared.values.index.Index.{Index}
-use Rattle.wb_book.specs.Cells.{Name, Cells, Changes, index_cmp, is_same_index, is_same_name}
-use Rattle.wb_book.specs.Kinds.{kind_of}
-use Rattle.wb_book.specs.Readers.{elements}
-use Rattle.wb_book.specs.WellFormed.{IsWellFormed, IsElement, array_in, domain_at, array_at, is_index_of_array}
+use Rattle.wb_cells.specs.declared.cells.cell.Cell.TheVariants.{Object, Element}
+use Rattle.wb_cells.specs.declared.cells.pattern.Pattern.{Pattern}
+use Rattle.wb_cells.specs.declared.cells.kind.Kind.{Kind}
+use Rattle.wb_cells.specs.declared.cells.value.Value.{Value}
+use Rattle.wb_cells.specs.declared.cells.value.Value.TheVariants.{Array}
+use Rattle.wb_cells.specs.declared.values.index.Index.{Index}
+use Rattle.wb_cells.specs.Cells.{Name, Cells, Changes, index_cmp, is_same_index, is_same_name}
+use Rattle.wb_cells.specs.Kinds.{kind_of}
+use Rattle.wb_cells.specs.Readers.{elements}
+use Rattle.wb_cells.specs.WellFormed.{IsWellFormed, IsElement, array_in, domain_at, array_at, is_index_of_array}
 use Rattle.wb_edit.specs.declared.operation.Operation.{Operation}
-use Rattle.wb_edit.specs.declared.refusal.Refusal.{Refusal}
-use Rattle.wb_edit.specs.declared.refusal.Refusal.TheVariants.{Overflow}
+use Rattle.wb_cells.specs.declared.refusal.Refusal.{Refusal}
+use Rattle.wb_cells.specs.declared.refusal.Refusal.TheVariants.{Overflow}
 use Rattle.wb_edit.specs.declared.attempt_err.AttemptErr.{AttemptErr}
 use Rattle.wb_edit.specs.declared.attempt_err.AttemptErr.TheVariants.{Refused}
 use Rattle.wb_edit.specs.Changed.{Judges}
@@ -36,10 +36,10 @@ use Rattle.wb_edit.specs.Plans.{Gives, stopped}
 use Rattle.wb_edit.specs.Looks.{array_kind, array_named}
 use Rattle.wb_edit.specs.Writes.{set_to}
 use Rattle.wb_edit.proofs.Elements.{index_order, number_of, elements_ascend, find_element}
-use Rattle.wb_resize.proofs.States.{same_name}
+use Rattle.wb_reshape.proofs.States.{same_name}
 use Rattle.wb_edit.proofs.Kept.Steps.{array_is}
 use Rattle.wb_edit.proofs.Rectangles.{whole}
-use Rattle.wb_resize.proofs.Sorted.{both, first, second}
+use Rattle.wb_reshape.proofs.Sorted.{both, first, second}
 use Rattle.wb_edit.proofs.Sums.{is_i64-fits}
 use Rattle.wb_edit.proofs.Trees.{seen_value}
 

@@ -5,15 +5,15 @@ use Rattle.std.specs.FinMap.{get, find, entries, get-entries}
 use Rattle.std.specs.FinMap.Entries.{where_key}
 use Rattle.selective_undo.proofs.Evaluation.{entries-retain_keys}
 use Rattle.selective_undo.specs.Edit.{outcome, reads, seen}
-use Rattle.wb_book.specs.declared.cells.cell.Cell.{Cell}
-use Rattle.wb_book.specs.declared.cells.pattern.Pattern.{Pattern}
-use Rattle.wb_book.specs.declared.cells.pattern.Pattern.TheVariants.{One}
-use Rattle.wb_book.specs.declared.cells.value.Value.{Value}
-use Rattle.wb_book.specs.Cells.{cell_cmp, cell_order, Cells}
-use Rattle.wb_edit.specs.declared.refusal.Refusal.{Refusal}
+use Rattle.wb_cells.specs.declared.cells.cell.Cell.{Cell}
+use Rattle.wb_cells.specs.declared.cells.pattern.Pattern.{Pattern}
+use Rattle.wb_cells.specs.declared.cells.pattern.Pattern.TheVariants.{One}
+use Rattle.wb_cells.specs.declared.cells.value.Value.{Value}
+use Rattle.wb_cells.specs.Cells.{cell_cmp, cell_order, Cells}
+use Rattle.wb_cells.specs.declared.refusal.Refusal.{Refusal}
 use Rattle.wb_edit.specs.declared.attempt_err.AttemptErr.{AttemptErr}
 use Rattle.wb_edit.specs.declared.attempt_err.AttemptErr.TheVariants.{Refused, NoMemory}
-use Rattle.wb_edit.specs.Schema.{workbook}
+use Rattle.wb_cells.specs.Schema.{workbook}
 use Rattle.wb_edit.specs.Trees.{Look, first_value, read, judged}
 use Rattle.wb_edit.specs.Plans.{Gives, Looks, stopped}
 

@@ -38,4 +38,4 @@ pub use Rattle.wb_edit.specs.Commands.Remove.{left, remove_if, remove}
 pub use Rattle.wb_edit.specs.Commands.Load.{book_cells, load}
 pub use Rattle.wb_edit.specs.Commands.Meaning.{meaning}
 pub use Rattle.wb_edit.specs.Resizing.{resized}
-pub use Rattle.wb_resize.specs.Dropped.{cells_beside_indices, dropped_domain_cells}
+pub use Rattle.wb_reshape.specs.Dropped.{cells_beside_indices, dropped_domain_cells}

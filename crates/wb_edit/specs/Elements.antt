@@ -3,14 +3,14 @@ use Rattle.std.specs.Prelude.{Bool, true, false, ℤ, pos, ◌+ℤ◌, ◌-ℤ�
 use Rattle.std.specs.List.{filter_map, list_all}
 use Rattle.std.specs.Map.{keys_of}
 use Rattle.selective_undo.specs.Edit.{look}
-use Rattle.wb_book.specs.declared.cells.pattern.Pattern.TheVariants.{Elements}
-use Rattle.wb_book.specs.declared.values.index.Index.{Index}
-use Rattle.wb_book.specs.Cells.{Name, is_same_name, is_same_index}
-use Rattle.wb_book.specs.Readers.{element_in}
+use Rattle.wb_cells.specs.declared.cells.pattern.Pattern.TheVariants.{Elements}
+use Rattle.wb_cells.specs.declared.values.index.Index.{Index}
+use Rattle.wb_cells.specs.Cells.{Name, is_same_name, is_same_index}
+use Rattle.wb_cells.specs.Readers.{element_in}
 use Rattle.wb_edit.specs.declared.operation.Operation.{Operation}
 use Rattle.wb_edit.specs.declared.operation.Operation.TheVariants.{Assign, Sum, Difference, Product}
-use Rattle.wb_edit.specs.declared.refusal.Refusal.{Refusal}
-use Rattle.wb_edit.specs.declared.refusal.Refusal.TheVariants.{WrongKind, Overflow}
+use Rattle.wb_cells.specs.declared.refusal.Refusal.{Refusal}
+use Rattle.wb_cells.specs.declared.refusal.Refusal.TheVariants.{WrongKind, Overflow}
 use Rattle.wb_edit.specs.Trees.{Look, judged}
 use Rattle.wb_edit.specs.Numbers.{is_i64}
 

@@ -1,16 +1,16 @@
 -- The element of an array, or its implicit value: the indices of a sparse domain's parent that are not in the domain have it
 -- (Chapel Language Specification, Arrays).
 use Rattle.std.specs.Prelude.{ℤ, Option, Some, None, Result, Ok, Err}
-use Rattle.wb_book.specs.declared.cells.cell.Cell.TheVariants.{Object, In, Implicit, Element}
-use Rattle.wb_book.specs.declared.cells.kind.DomainKind.TheVariants.{Rectangular, Sparse, Associative}
-use Rattle.wb_book.specs.declared.cells.kind.Kind.{Kind}
-use Rattle.wb_book.specs.declared.cells.kind.Kind.TheVariants.{Rectangular, Sparse, Associative}
-use Rattle.wb_book.specs.declared.cells.value.Value.{Value}
-use Rattle.wb_book.specs.declared.cells.value.Value.TheVariants.{Domain}
-use Rattle.wb_book.specs.declared.values.index.Index.{Index}
-use Rattle.wb_book.specs.Cells.{Name}
-use Rattle.wb_edit.specs.declared.refusal.Refusal.{Refusal}
-use Rattle.wb_edit.specs.declared.refusal.Refusal.TheVariants.{OutOfDomain}
+use Rattle.wb_cells.specs.declared.cells.cell.Cell.TheVariants.{Object, In, Implicit, Element}
+use Rattle.wb_cells.specs.declared.cells.kind.DomainKind.TheVariants.{Rectangular, Sparse, Associative}
+use Rattle.wb_cells.specs.declared.cells.kind.Kind.{Kind}
+use Rattle.wb_cells.specs.declared.cells.kind.Kind.TheVariants.{Rectangular, Sparse, Associative}
+use Rattle.wb_cells.specs.declared.cells.value.Value.{Value}
+use Rattle.wb_cells.specs.declared.cells.value.Value.TheVariants.{Domain}
+use Rattle.wb_cells.specs.declared.values.index.Index.{Index}
+use Rattle.wb_cells.specs.Cells.{Name}
+use Rattle.wb_cells.specs.declared.refusal.Refusal.{Refusal}
+use Rattle.wb_cells.specs.declared.refusal.Refusal.TheVariants.{OutOfDomain}
 use Rattle.wb_edit.specs.Trees.{Look, ◌>>=◌, read, judged}
 use Rattle.wb_edit.specs.Numbers.{element_or_refusal}
 use Rattle.wb_edit.specs.Looks.{is_there}

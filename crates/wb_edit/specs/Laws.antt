@@ -1,8 +1,8 @@
 -- What holds of every command.
 use Rattle.selective_undo.specs.Changes.{AllOnce}
 use Rattle.selective_undo.specs.Edit.{outcome, step, written}
-use Rattle.wb_book.specs.Cells.{Cells, cell_cmp}
-use Rattle.wb_book.specs.WellFormed.{IsWellFormed}
+use Rattle.wb_cells.specs.Cells.{Cells, cell_cmp}
+use Rattle.wb_cells.specs.WellFormed.{IsWellFormed}
 use Rattle.wb_edit.specs.declared.edit.Edit.{Edit as Command}
 use Rattle.wb_edit.specs.Commands.{meaning}
 use Rattle.wb_edit.specs.Valid.{IsValid, ListsOnce}

@@ -1,9 +1,9 @@
 -- Tests on mappings: for which rank one is (Chapel Language Specification, Domain Maps).
 use Rattle.std.specs.Prelude.{ℕ, true, false, Result, Ok, Err}
 use Rattle.wb_dist.specs.Maps.{LayoutMap}
-use Rattle.wb_book.specs.Layouts.{is_of_rank}
-use Rattle.wb_edit.specs.declared.refusal.Refusal.{Refusal}
-use Rattle.wb_edit.specs.declared.refusal.Refusal.TheVariants.{BadMapping}
+use Rattle.wb_cells.specs.Layouts.{is_of_rank}
+use Rattle.wb_cells.specs.declared.refusal.Refusal.{Refusal}
+use Rattle.wb_cells.specs.declared.refusal.Refusal.TheVariants.{BadMapping}
 use Rattle.wb_edit.specs.Trees.{Look, judged}
 
 -- ---- judgements

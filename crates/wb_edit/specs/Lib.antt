@@ -1,5 +1,3 @@
-pub mod Below
-pub mod Schema
 pub mod Trees
 pub mod Looks
 pub mod Kinds
@@ -16,7 +14,6 @@ pub mod Reshaping
 pub mod Sources
 pub mod Commands
 pub mod Plans
-pub mod Reads
 pub mod Changed
 pub mod ValidSources
 pub mod Valid

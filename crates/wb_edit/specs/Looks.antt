@@ -3,21 +3,21 @@
 use Rattle.std.specs.Prelude.{true, false, List, [], Option, Some, None, Result, Ok, Err}
 use Rattle.std.specs.List.{filter_map}
 use Rattle.selective_undo.specs.Edit.{look}
-use Rattle.wb_book.specs.declared.cells.cell.Cell.TheVariants.{Object, Shape, Element}
-use Rattle.wb_book.specs.declared.cells.kind.DomainKind.{DomainKind}
-use Rattle.wb_book.specs.declared.cells.kind.DomainKind.TheVariants.{Rectangular, Sparse, Associative}
-use Rattle.wb_book.specs.declared.cells.kind.Kind.{Kind}
-use Rattle.wb_book.specs.declared.cells.pattern.Pattern.TheVariants.{Members}
-use Rattle.wb_book.specs.declared.cells.value.Value.{Value}
-use Rattle.wb_book.specs.declared.cells.value.Value.TheVariants.{Domain, Array}
-use Rattle.wb_book.specs.declared.values.index.Index.{Index}
-use Rattle.wb_book.specs.Cells.{Name}
-use Rattle.wb_book.specs.Kinds.{is_key}
-pub use Rattle.wb_book.specs.Readers.{member_in}
-use Rattle.wb_book.specs.Shapes.{Range, indices}
-pub use Rattle.wb_book.specs.WellFormed.{ranges_in}
-use Rattle.wb_edit.specs.declared.refusal.Refusal.{Refusal}
-use Rattle.wb_edit.specs.declared.refusal.Refusal.TheVariants.{NameTaken, NoSuchName, WrongKind, OutOfDomain}
+use Rattle.wb_cells.specs.declared.cells.cell.Cell.TheVariants.{Object, Shape, Element}
+use Rattle.wb_cells.specs.declared.cells.kind.DomainKind.{DomainKind}
+use Rattle.wb_cells.specs.declared.cells.kind.DomainKind.TheVariants.{Rectangular, Sparse, Associative}
+use Rattle.wb_cells.specs.declared.cells.kind.Kind.{Kind}
+use Rattle.wb_cells.specs.declared.cells.pattern.Pattern.TheVariants.{Members}
+use Rattle.wb_cells.specs.declared.cells.value.Value.{Value}
+use Rattle.wb_cells.specs.declared.cells.value.Value.TheVariants.{Domain, Array}
+use Rattle.wb_cells.specs.declared.values.index.Index.{Index}
+use Rattle.wb_cells.specs.Cells.{Name}
+use Rattle.wb_cells.specs.Kinds.{is_key}
+pub use Rattle.wb_cells.specs.Readers.{member_in}
+use Rattle.wb_cells.specs.Shapes.{Range, indices}
+pub use Rattle.wb_cells.specs.WellFormed.{ranges_in}
+use Rattle.wb_cells.specs.declared.refusal.Refusal.{Refusal}
+use Rattle.wb_cells.specs.declared.refusal.Refusal.TheVariants.{NameTaken, NoSuchName, WrongKind, OutOfDomain}
 use Rattle.wb_edit.specs.Trees.{Look, ◌>>=◌, read, judged}
 
 -- ---- judgements of what a cell holds

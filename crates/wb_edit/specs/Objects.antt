@@ -1,11 +1,11 @@
 -- Whether a workbook has objects.
 use Rattle.std.specs.Prelude.{List, [], ◌∷◌, Result, Ok, Err}
 use Rattle.selective_undo.specs.Edit.{look}
-use Rattle.wb_book.specs.declared.cells.cell.Cell.{Cell}
-use Rattle.wb_book.specs.declared.cells.pattern.Pattern.TheVariants.{Objects}
-use Rattle.wb_book.specs.declared.cells.value.Value.{Value}
-use Rattle.wb_edit.specs.declared.refusal.Refusal.{Refusal}
-use Rattle.wb_edit.specs.declared.refusal.Refusal.TheVariants.{NotEmpty}
+use Rattle.wb_cells.specs.declared.cells.cell.Cell.{Cell}
+use Rattle.wb_cells.specs.declared.cells.pattern.Pattern.TheVariants.{Objects}
+use Rattle.wb_cells.specs.declared.cells.value.Value.{Value}
+use Rattle.wb_cells.specs.declared.refusal.Refusal.{Refusal}
+use Rattle.wb_cells.specs.declared.refusal.Refusal.TheVariants.{NotEmpty}
 use Rattle.wb_edit.specs.Trees.{Look, judged}
 
 -- nothing was seen; else the workbook is not empty

@@ -2,11 +2,10 @@
 use Rattle.std.specs.declared.vec.Vec.{Vec}
 use Rattle.std.specs.Prelude.{◌≡◌, ℕ, List, ◌++◌, Result, Ok, Err, ⊤}
 use Rattle.selective_undo.specs.Edit.{outcome, reads}
-use Rattle.wb_book.specs.declared.cells.cell.Cell.{Cell}
-use Rattle.wb_book.specs.declared.cells.cell.Cell.TheVariants.{In, Element}
-use Rattle.wb_book.specs.declared.cells.pattern.Pattern.{Pattern}
-use Rattle.wb_book.specs.declared.cells.pattern.Pattern.TheVariants.{One}
-use Rattle.wb_book.specs.Cells.{Cells, Changes, count_of}
+use Rattle.wb_cells.specs.declared.cells.cell.Cell.{Cell}
+use Rattle.wb_cells.specs.declared.cells.cell.Cell.TheVariants.{In, Element}
+use Rattle.wb_cells.specs.declared.cells.pattern.Pattern.{Pattern}
+use Rattle.wb_cells.specs.Cells.{Cells, Changes, count_of}
 use Rattle.wb_edit.specs.declared.indexed_cells.IndexedCells.{IndexedCells}
 use Rattle.wb_edit.specs.declared.indexed_cells.IndexedCells.TheVariants.{Inside, Elements, Membership}
 use Rattle.wb_edit.specs.declared.planning.PlanErr.{PlanErr}
@@ -15,10 +14,10 @@ use Rattle.wb_edit.specs.declared.looks.indices.Indices.{Indices}
 use Rattle.wb_edit.specs.declared.looks.indices.Indices.TheVariants.{Product, Listed}
 use Rattle.wb_edit.specs.declared.attempt_err.AttemptErr.{AttemptErr}
 use Rattle.wb_edit.specs.declared.attempt_err.AttemptErr.TheVariants.{Refused as AttemptRefused, NoMemory as AttemptNoMemory}
-use Rattle.wb_edit.specs.declared.refusal.Refusal.{Refusal}
-use Rattle.wb_book.specs.declared.values.index.Index.{Index}
-use Rattle.wb_book.specs.Shapes.{indices}
-use Rattle.wb_book.specs.WellFormed.{index_cell}
+use Rattle.wb_cells.specs.declared.refusal.Refusal.{Refusal}
+use Rattle.wb_cells.specs.declared.values.index.Index.{Index}
+use Rattle.wb_cells.specs.Shapes.{indices}
+use Rattle.wb_cells.specs.WellFormed.{index_cell}
 use Rattle.wb_edit.specs.Trees.{Tree, Look}
 
 -- A plan is what the tree says of the cells: the changes, or the refusal; the reads in their order; and how many cells change,
@@ -80,7 +79,3 @@ abbrev pub cell_at : IndexedCells → Index → Cell
 cell_at (Inside d) i = In d i
 cell_at (Elements a) i = Element a i
 cell_at (Membership kind d) i = index_cell kind d i
-
--- the pattern of one cell
-abbrev pub one_of : Cell → Pattern
-one_of c = One c

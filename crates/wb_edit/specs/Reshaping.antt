@@ -2,18 +2,18 @@
 use Rattle.std.specs.Prelude.{Bool, true, false, List, ◌∷◌, map, Option, Some, is_some, Result, Ok, Err, length}
 use Rattle.std.specs.List.{flat_map, list_any}
 use Rattle.selective_undo.specs.Edit.{write}
-use Rattle.wb_book.specs.declared.cells.cell.Cell.{Cell}
-use Rattle.wb_book.specs.declared.cells.cell.Cell.TheVariants.{Shape, Member}
-use Rattle.wb_book.specs.declared.cells.kind.Kind.TheVariants.{Rectangular}
-use Rattle.wb_book.specs.declared.cells.value.Binding.TheVariants.{Array, Sparse}
-use Rattle.wb_book.specs.declared.cells.value.Value.{Value}
-use Rattle.wb_book.specs.declared.cells.value.Value.TheVariants.{Ranges}
-use Rattle.wb_book.specs.declared.values.index.Index.{Index}
-use Rattle.wb_book.specs.Cells.{Name, Changes}
-use Rattle.wb_book.specs.Shapes.{Range, indices}
-use Rattle.wb_resize.specs.Resized.{without, resized_cells}
-use Rattle.wb_edit.specs.declared.refusal.Refusal.{Refusal}
-use Rattle.wb_edit.specs.declared.refusal.Refusal.TheVariants.{WrongKind, InUse}
+use Rattle.wb_cells.specs.declared.cells.cell.Cell.{Cell}
+use Rattle.wb_cells.specs.declared.cells.cell.Cell.TheVariants.{Shape, Member}
+use Rattle.wb_cells.specs.declared.cells.kind.Kind.TheVariants.{Rectangular}
+use Rattle.wb_cells.specs.declared.cells.value.Binding.TheVariants.{Array, Sparse}
+use Rattle.wb_cells.specs.declared.cells.value.Value.{Value}
+use Rattle.wb_cells.specs.declared.cells.value.Value.TheVariants.{Ranges}
+use Rattle.wb_cells.specs.declared.values.index.Index.{Index}
+use Rattle.wb_cells.specs.Cells.{Name, Changes}
+use Rattle.wb_cells.specs.Shapes.{Range, indices}
+use Rattle.wb_reshape.specs.Resized.{without, resized_cells}
+use Rattle.wb_cells.specs.declared.refusal.Refusal.{Refusal}
+use Rattle.wb_cells.specs.declared.refusal.Refusal.TheVariants.{WrongKind, InUse}
 use Rattle.wb_edit.specs.Trees.{Tree, Look, ◌>>=◌, read, judged}
 use Rattle.wb_edit.specs.Rectangles.{read_all}
 use Rattle.wb_edit.specs.Resizing.{zeros}

@@ -2,18 +2,18 @@
 use Rattle.std.specs.Prelude.{Bool, true, false, ℤ, List, map, Option, is_some, Result, Ok, Err}
 use Rattle.std.specs.List.{list_all, zip}
 use Rattle.selective_undo.specs.Edit.{write}
-use Rattle.wb_book.specs.declared.cells.cell.Cell.TheVariants.{In, Implicit}
-use Rattle.wb_book.specs.declared.cells.kind.DomainKind.{DomainKind}
-use Rattle.wb_book.specs.declared.cells.kind.DomainKind.TheVariants.{Rectangular, Sparse, Associative}
-use Rattle.wb_book.specs.declared.cells.value.Binding.TheVariants.{Array}
-use Rattle.wb_book.specs.declared.cells.value.Value.{Value}
-use Rattle.wb_book.specs.declared.values.index.Index.{Index}
-use Rattle.wb_book.specs.Cells.{Name}
-use Rattle.wb_book.specs.Kinds.{kind_of}
-use Rattle.wb_resize.specs.Resized.{resized_cells}
-pub use Rattle.wb_resize.specs.Fills.{number_or_zero, zeros}
-use Rattle.wb_edit.specs.declared.refusal.Refusal.{Refusal}
-use Rattle.wb_edit.specs.declared.refusal.Refusal.TheVariants.{WrongKind, OutOfParent}
+use Rattle.wb_cells.specs.declared.cells.cell.Cell.TheVariants.{In, Implicit}
+use Rattle.wb_cells.specs.declared.cells.kind.DomainKind.{DomainKind}
+use Rattle.wb_cells.specs.declared.cells.kind.DomainKind.TheVariants.{Rectangular, Sparse, Associative}
+use Rattle.wb_cells.specs.declared.cells.value.Binding.TheVariants.{Array}
+use Rattle.wb_cells.specs.declared.cells.value.Value.{Value}
+use Rattle.wb_cells.specs.declared.values.index.Index.{Index}
+use Rattle.wb_cells.specs.Cells.{Name}
+use Rattle.wb_cells.specs.Kinds.{kind_of}
+use Rattle.wb_reshape.specs.Resized.{resized_cells}
+pub use Rattle.wb_reshape.specs.Fills.{number_or_zero, zeros}
+use Rattle.wb_cells.specs.declared.refusal.Refusal.{Refusal}
+use Rattle.wb_cells.specs.declared.refusal.Refusal.TheVariants.{WrongKind, OutOfParent}
 use Rattle.wb_edit.specs.Trees.{Tree, Look, ◌>>=◌, judged}
 use Rattle.wb_edit.specs.Rectangles.{read_all}
 use Rattle.wb_edit.specs.Users.{bound, uses}

@@ -4,20 +4,20 @@ use Rattle.std.specs.List.{list_all}
 use Rattle.selective_undo.specs.Edit.{refuse}
 use Rattle.wb_rect.specs.ShiftTests.{has_unit_strides}
 use Rattle.wb_rect.specs.Slices.{sliced}
-use Rattle.wb_book.specs.declared.cells.kind.KeyType.{KeyType}
-use Rattle.wb_book.specs.declared.cells.kind.KeyType.TheVariants.{Int, Text}
-use Rattle.wb_book.specs.declared.cells.kind.Kind.{Kind}
-use Rattle.wb_book.specs.declared.cells.kind.Kind.TheVariants.{Sparse as over_sparse, Associative as over_associative}
-use Rattle.wb_book.specs.declared.values.index.Index.{Index}
-use Rattle.wb_book.specs.Cells.{Name}
-use Rattle.wb_book.specs.Kinds.{kind_of, is_key}
-use Rattle.wb_book.specs.Shapes.{Range}
-use Rattle.wb_resize.specs.declared.operand.Operand.{Operand}
-use Rattle.wb_resize.specs.declared.operand.Operand.TheVariants.{Rectangle, Items, Named}
-use Rattle.wb_resize.specs.declared.new_indices.Displacement.{Displacement}
-use Rattle.wb_resize.specs.Sources.{displaced, can_displace}
-use Rattle.wb_edit.specs.declared.refusal.Refusal.{Refusal}
-use Rattle.wb_edit.specs.declared.refusal.Refusal.TheVariants.{WrongKind, TooLarge}
+use Rattle.wb_cells.specs.declared.cells.kind.KeyType.{KeyType}
+use Rattle.wb_cells.specs.declared.cells.kind.KeyType.TheVariants.{Int, Text}
+use Rattle.wb_cells.specs.declared.cells.kind.Kind.{Kind}
+use Rattle.wb_cells.specs.declared.cells.kind.Kind.TheVariants.{Sparse as over_sparse, Associative as over_associative}
+use Rattle.wb_cells.specs.declared.values.index.Index.{Index}
+use Rattle.wb_cells.specs.Cells.{Name}
+use Rattle.wb_cells.specs.Kinds.{kind_of, is_key}
+use Rattle.wb_cells.specs.Shapes.{Range}
+use Rattle.wb_reshape.specs.declared.operand.Operand.{Operand}
+use Rattle.wb_reshape.specs.declared.operand.Operand.TheVariants.{Rectangle, Items, Named}
+use Rattle.wb_reshape.specs.declared.new_indices.Displacement.{Displacement}
+use Rattle.wb_reshape.specs.Sources.{displaced, can_displace}
+use Rattle.wb_cells.specs.declared.refusal.Refusal.{Refusal}
+use Rattle.wb_cells.specs.declared.refusal.Refusal.TheVariants.{WrongKind, TooLarge}
 use Rattle.wb_edit.specs.Trees.{Look, ◌>>=◌, judged}
 use Rattle.wb_edit.specs.Rectangles.{of_rank}
 use Rattle.wb_edit.specs.Reshaping.{shape}

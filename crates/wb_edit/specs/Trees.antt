@@ -1,11 +1,11 @@
 -- Edits as trees, and how they look at cells.
 use Rattle.std.specs.Prelude.{List, [], ◌∷◌, Option, Some, None, Result, Ok, Err}
 use Rattle.selective_undo.specs.Edit.{Edit, refuse, look}
-use Rattle.wb_book.specs.declared.cells.cell.Cell.{Cell}
-use Rattle.wb_book.specs.declared.cells.pattern.Pattern.TheVariants.{One}
-use Rattle.wb_book.specs.declared.cells.value.Value.{Value}
-use Rattle.wb_edit.specs.declared.refusal.Refusal.{Refusal}
-use Rattle.wb_edit.specs.Schema.{workbook}
+use Rattle.wb_cells.specs.declared.cells.cell.Cell.{Cell}
+use Rattle.wb_cells.specs.declared.cells.pattern.Pattern.TheVariants.{One}
+use Rattle.wb_cells.specs.declared.cells.value.Value.{Value}
+use Rattle.wb_cells.specs.declared.refusal.Refusal.{Refusal}
+use Rattle.wb_cells.specs.Schema.{workbook}
 
 -- An edit of a workbook is a tree: `refuse why`, `write changes`, or a look and what follows for each thing that it may show.
 abbrev pub Tree : Type 0

@@ -2,12 +2,12 @@
 use Rattle.std.specs.Prelude.{List, [], ◌∷◌, Result, Ok, Err}
 use Rattle.std.specs.List.{filter_map}
 use Rattle.selective_undo.specs.Edit.{look}
-use Rattle.wb_book.specs.declared.cells.pattern.Pattern.TheVariants.{Uses}
-use Rattle.wb_book.specs.declared.cells.value.Binding.{Binding}
-use Rattle.wb_book.specs.Cells.{Name}
-pub use Rattle.wb_resize.specs.Users.{binding_in, user_in, named, bound}
-use Rattle.wb_edit.specs.declared.refusal.Refusal.{Refusal}
-use Rattle.wb_edit.specs.declared.refusal.Refusal.TheVariants.{InUse}
+use Rattle.wb_cells.specs.declared.cells.pattern.Pattern.TheVariants.{Uses}
+use Rattle.wb_cells.specs.declared.cells.value.Binding.{Binding}
+use Rattle.wb_cells.specs.Cells.{Name}
+pub use Rattle.wb_reshape.specs.Users.{binding_in, user_in, named, bound}
+use Rattle.wb_cells.specs.declared.refusal.Refusal.{Refusal}
+use Rattle.wb_cells.specs.declared.refusal.Refusal.TheVariants.{InUse}
 use Rattle.wb_edit.specs.Trees.{Look, ◌>>=◌, judged}
 
 -- ---- judgements of what was seen

@@ -2,16 +2,16 @@
 use Rattle.std.specs.Prelude.{◌≡◌, true, length, FitsSigned, ⊤}
 use Rattle.std.specs.Int.{w64}
 use Rattle.wb_range.specs.Domain.{IsListedOnce}
-use Rattle.wb_book.specs.Names.{is_name}
-use Rattle.wb_book.specs.Kinds.{IsIndex}
-use Rattle.wb_book.specs.Layouts.{IsLayout}
-use Rattle.wb_book.specs.Shapes.{indices}
-use Rattle.wb_book.specs.WellFormed.{IsRectangle}
+use Rattle.wb_cells.specs.Names.{is_name}
+use Rattle.wb_cells.specs.Kinds.{IsIndex}
+use Rattle.wb_cells.specs.Layouts.{IsLayout}
+use Rattle.wb_cells.specs.Shapes.{indices}
+use Rattle.wb_cells.specs.WellFormed.{IsRectangle}
 use Rattle.wb_edit.specs.declared.asked_rectangle.AskedRectangle.{AskedRectangle}
 use Rattle.wb_edit.specs.declared.asked_rectangle.AskedRectangle.TheVariants.{Ranges, Indices}
 use Rattle.wb_edit.specs.declared.edit.Edit.{Edit as Command}
 use Rattle.wb_edit.specs.ValidSources.{AreNewIndices, AreNewIndicesOnce}
-use Rattle.wb_reading.specs.Texts.Books.{IsBookText}
+use Rattle.wb_text.specs.Texts.Books.{IsBookText}
 use Rattle.wb_edit.specs.declared.edit.Edit.TheVariants.{Domain, Remap, Sparse, Assoc, Array, Set, Irv, Copy, Fill, FillAll, DropArray, All, Add, Remove}
 use Rattle.wb_edit.specs.declared.edit.Edit.TheVariants.{DropDomain, Reshape, Load}
 

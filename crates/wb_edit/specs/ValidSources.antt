@@ -2,12 +2,12 @@
 use Rattle.std.specs.Prelude.{length, ⊤}
 use Rattle.std.specs.List.{All}
 use Rattle.wb_range.specs.Domain.{IsListedOnce}
-use Rattle.wb_book.specs.Kinds.{IsIndex}
-use Rattle.wb_book.specs.WellFormed.{IsRectangle}
-use Rattle.wb_resize.specs.declared.operand.Operand.{Operand}
-use Rattle.wb_resize.specs.declared.operand.Operand.TheVariants.{Rectangle, Items, Named}
-use Rattle.wb_resize.specs.declared.new_indices.NewIndices.{NewIndices}
-use Rattle.wb_resize.specs.declared.new_indices.NewIndices.TheVariants.{To, Slice, Displace, Combine}
+use Rattle.wb_cells.specs.Kinds.{IsIndex}
+use Rattle.wb_cells.specs.WellFormed.{IsRectangle}
+use Rattle.wb_reshape.specs.declared.operand.Operand.{Operand}
+use Rattle.wb_reshape.specs.declared.operand.Operand.TheVariants.{Rectangle, Items, Named}
+use Rattle.wb_reshape.specs.declared.new_indices.NewIndices.{NewIndices}
+use Rattle.wb_reshape.specs.declared.new_indices.NewIndices.TheVariants.{To, Slice, Displace, Combine}
 
 -- what is given for a domain: a rectangle within the limits, indices made of integers of 64 bits or of texts of labels, or a name
 abbrev pub IsOperand : Operand → Type 0

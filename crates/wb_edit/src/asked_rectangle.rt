@@ -1,7 +1,7 @@
 ghost use Rattle.std.specs.Prelude.{◌≡◌};
 ghost use Rattle.std.specs.Bool.{Decides};
 
-use wb_book::AnyRect;
+use wb_cells::AnyRect;
 
 /// The rectangle that a command is asked for.
 #[derive(Clone, Copy)]

@@ -1,7 +1,7 @@
 ghost use Rattle.std.specs.Prelude.{◌≡◌};
 ghost use Rattle.wb_edit.specs.Plans.{stopped};
 
-use crate::refusal::Refusal;
+use wb_cells::Refusal;
 
 /// Why an attempt stopped.
 #[derive(Clone, Copy, Debug)]

@@ -5,10 +5,10 @@ ghost use Rattle.wb_edit.specs.ValidSources.{IsOperand, IsOperandOnce, AreNewInd
 use crate::asked_rectangle::AskedRectangle;
 use crate::operation::Operation;
 use std::alloc::Global;
-use wb_book::{AnyIndex, AnyLayout, KeyType, Name, index_validity, indices_validity};
+use wb_cells::{AnyIndex, AnyLayout, KeyType, Name, index_validity, indices_validity};
 use wb_range::{Domain, NoMemory};
-use wb_reading::BookText;
-use wb_resize::{NewIndices, Operand};
+use wb_reshape::{NewIndices, Operand};
+use wb_text::BookText;
 
 /// A command that changes a workbook, as it is asked for.
 ///

@@ -1,13 +1,13 @@
 ghost use Rattle.std.specs.Prelude.{◌≡◌, List, [], ◌∷◌, ◌++◌, map, OnOk, OnErr};
-ghost use Rattle.wb_book.specs.Runs.{cell_of};
-ghost use Rattle.wb_book.specs.Shapes.{indices};
-ghost use Rattle.wb_edit.specs.Plans.{one_of};
-ghost use Rattle.wb_edit.specs.Reads.{all_read};
+ghost use Rattle.wb_cells.specs.Runs.{cell_of};
+ghost use Rattle.wb_cells.specs.Shapes.{indices};
+ghost use Rattle.wb_cells.specs.Reads.{one_of};
+ghost use Rattle.wb_cells.specs.Reads.{all_read};
 
-use crate::read_run::{ReadRun, put, put_rectangle};
 use std::alloc::Global;
 use std::marker::Model;
-use wb_book::{AnyRect, Pattern, Row};
+use wb_cells::reads::{ReadRun, put, put_rectangle};
+use wb_cells::{AnyRect, Pattern, Row};
 use wb_range::NoMemory;
 
 /// So many are kept as they are; those behind them go into runs.
@@ -33,8 +33,8 @@ impl Drop for Footprint {
 
 impl Model for Footprint {
     ghost use Rattle.std.specs.Prelude.{List, ◌++◌};
-    ghost use Rattle.wb_book.specs.declared.cells.pattern.Pattern.{Pattern};
-    ghost use Rattle.wb_edit.specs.Reads.{all_read};
+    ghost use Rattle.wb_cells.specs.declared.cells.pattern.Pattern.{Pattern};
+    ghost use Rattle.wb_cells.specs.Reads.{all_read};
 
     ghost Value = { List Pattern };
 

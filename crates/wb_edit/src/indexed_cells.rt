@@ -1,12 +1,12 @@
 //! Cells that belong to indices: one for each index of a domain.
 
 ghost use Rattle.std.specs.Prelude.{◌≡◌};
-ghost use Rattle.wb_book.specs.Runs.{cell_of};
-ghost use Rattle.wb_book.specs.WellFormed.{index_cell};
-ghost use Rattle.wb_book.specs.declared.values.index.Index.{Index};
+ghost use Rattle.wb_cells.specs.Runs.{cell_of};
+ghost use Rattle.wb_cells.specs.WellFormed.{index_cell};
+ghost use Rattle.wb_cells.specs.declared.values.index.Index.{Index};
 ghost use Rattle.wb_edit.specs.Plans.{cell_at};
 
-use wb_book::{AnyIndex, Cell, Kind, Name, Row};
+use wb_cells::{AnyIndex, Cell, Kind, Name, Row};
 
 /// A cell for each index of a domain.
 #[derive(Clone, Copy)]

@@ -1,7 +1,7 @@
 //! What holds of every command: each law is the contract of a function that does nothing.
 
 ghost use Rattle.selective_undo.specs.Laws.{LocalityLaw};
-ghost use Rattle.wb_edit.specs.Schema.{workbook};
+ghost use Rattle.wb_cells.specs.Schema.{workbook};
 ghost use Rattle.wb_edit.specs.Laws.{EachCellOnce, KeepsWellFormed};
 
 /// A valid command, accepted or refused, leaves a well-formed workbook well formed.

@@ -6,7 +6,6 @@
 
 mod asked_rectangle;
 mod attempt_err;
-pub mod below;
 mod commands;
 mod edit;
 mod footprint;
@@ -15,8 +14,6 @@ pub mod laws;
 mod looks;
 mod operation;
 mod planning;
-mod read_run;
-mod refusal;
 mod same;
 
 pub use crate::asked_rectangle::AskedRectangle;
@@ -27,5 +24,3 @@ pub use crate::looks::judgements;
 pub use crate::looks::numbers::element_or_refusal;
 pub use crate::operation::Operation;
 pub use crate::planning::{PlanErr, plan};
-pub use crate::read_run::ReadRun;
-pub use crate::refusal::Refusal;

@@ -9,10 +9,9 @@ use crate::commands::{
 };
 use crate::edit::Edit;
 use crate::footprint::Footprint;
-use crate::refusal::Refusal;
 use std::alloc::Global;
-use wb_book::Delta;
-use wb_reading::below::shelf::Book;
+use wb_book::Book;
+use wb_cells::{Delta, Refusal};
 
 /// Why there is no plan.
 #[derive(Drop)]

@@ -4,7 +4,7 @@ ghost use Rattle.std.specs.Bool.{Decides};
 
 use crate::asked_rectangle::AskedRectangle;
 use crate::edit::Edit;
-use wb_book::{AnyIndex, Name};
+use wb_cells::{AnyIndex, Name};
 
 fn are_same_names(one: &Name, other: &Name, two: &Name, another: &Name) -> bool
     ensures { Decides result ((one.now ≡ two.now) × (other.now ≡ another.now)) }

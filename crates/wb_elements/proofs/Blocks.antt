@@ -13,12 +13,12 @@ use Rattle.std.proofs.lemmas.List.{length-map, get_or-map, take_more}
 use Rattle.std.proofs.lemmas.List.Folds.{list_all-append}
 use Rattle.std.proofs.lemmas.Map.{keys-set_value}
 use Rattle.std.proofs.lemmas.Slice.Zip.{length-zip}
-use Rattle.wb_book.specs.contracts.values.index.IndexOrd.TheImpl.Laws as index_laws
-use Rattle.wb_book.specs.declared.values.index.Index.{Index}
-use Rattle.wb_book.specs.declared.values.index.Index.TheVariants.{Point}
-use Rattle.wb_book.specs.Cells.{index_cmp, is_same_index}
-use Rattle.wb_book.specs.Runs.{rectangle_entries, numbered_entries}
-use Rattle.wb_book.specs.Shapes.{indices}
+use Rattle.wb_cells.specs.contracts.values.index.IndexOrd.TheImpl.Laws as index_laws
+use Rattle.wb_cells.specs.declared.values.index.Index.{Index}
+use Rattle.wb_cells.specs.declared.values.index.Index.TheVariants.{Point}
+use Rattle.wb_cells.specs.Cells.{index_cmp, is_same_index}
+use Rattle.wb_cells.specs.Runs.{rectangle_entries, numbered_entries}
+use Rattle.wb_cells.specs.Shapes.{indices}
 use Rattle.wb_rect.specs.Product.{product}
 use Rattle.wb_elements.specs.Blocks.{IsWhole}
 use Rattle.wb_elements.specs.Entries.{element_at, sets_one, with_one, with_all}

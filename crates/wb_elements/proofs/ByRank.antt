@@ -2,7 +2,7 @@
 use Rattle.std.proofs.Common.{◌≡◌, ℕ, zero, suc, ◌+◌, ◌<◌, ℤ, List, [], ◌∷◌, map, take, length, get_or, Some, refl, sym, ap, ◌∙◌, arith, add-one}
 use Rattle.std.specs.List.{slice_get}
 use Rattle.std.specs.Map.{keys_of}
-use Rattle.wb_book.specs.declared.values.index.Index.{Index}
+use Rattle.wb_cells.specs.declared.values.index.Index.{Index}
 use Rattle.wb_elements.specs.Piecewise.Indexed.{indexed}
 
 -- one element more that stands where it should

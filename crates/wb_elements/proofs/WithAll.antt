@@ -1,7 +1,7 @@
 -- The elements with the changes of a list made, one after another: the last of them is made last.
 use Rattle.std.proofs.Common.{◌≡◌, ℕ, ◌+◌, ◌<◌, ℤ, List, [], ◌∷◌, ◌++◌, length, take, get_or, Option, refl, sym, ap, ◌∙◌}
 use Rattle.std.proofs.lemmas.List.{take_more}
-use Rattle.wb_book.specs.declared.values.index.Index.{Index}
+use Rattle.wb_cells.specs.declared.values.index.Index.{Index}
 use Rattle.wb_elements.specs.Entries.{with_one, with_all}
 
 module _ {I : Type 0} (f : I → Index) where

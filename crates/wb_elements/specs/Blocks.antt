@@ -1,8 +1,8 @@
 -- Changes of elements at the indices of a rectangle.
 use Rattle.std.specs.Prelude.{◌≡◌, ℤ, List, length, Option}
-use Rattle.wb_book.specs.declared.values.index.Index.{Index}
-use Rattle.wb_book.specs.declared.values.index.Index.TheVariants.{Point}
-use Rattle.wb_book.specs.Runs.{rectangle_entries, numbered_entries}
+use Rattle.wb_cells.specs.declared.values.index.Index.{Index}
+use Rattle.wb_cells.specs.declared.values.index.Index.TheVariants.{Point}
+use Rattle.wb_cells.specs.Runs.{rectangle_entries, numbered_entries}
 use Rattle.wb_rect.specs.Product.{product}
 use Rattle.wb_elements.specs.declared.kept.Kept.{Kept}
 use Rattle.wb_elements.specs.declared.kept.Kept.TheVariants.{Listed, Same, Each}

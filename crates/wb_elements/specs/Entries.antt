@@ -2,10 +2,10 @@
 use Rattle.std.specs.Prelude.{ℤ, Bool, ◌&&◌, List, [], ◌∷◌, map, Option, Some, None, option_map, is_some}
 use Rattle.std.specs.BTreeMap.{is_at}
 use Rattle.std.specs.Map.{lookup, set_value}
-use Rattle.wb_book.specs.declared.changes.row.Row.{Row}
-use Rattle.wb_book.specs.declared.values.index.Index.{Index}
-use Rattle.wb_book.specs.Cells.{Changes, index_cmp}
-use Rattle.wb_book.specs.Runs.{cell_of, value_of}
+use Rattle.wb_cells.specs.declared.changes.row.Row.{Row}
+use Rattle.wb_cells.specs.declared.values.index.Index.{Index}
+use Rattle.wb_cells.specs.Cells.{Changes, index_cmp}
+use Rattle.wb_cells.specs.Runs.{cell_of, value_of}
 
 -- the changes of the cells of a row, where f says for which index a key stands
 abbrev pub row_changes : {I : Type 0} → (I → Index) → Row → List (I × Option ℤ) → Changes

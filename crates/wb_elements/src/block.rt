@@ -1,10 +1,10 @@
 //! Changes at the indices of a rectangle, whether to one number or to a number each.
 
 ghost use Rattle.std.specs.Prelude.{◌≡◌, ◌<◌, ℤ, List, Option, true, false, length, min, get_or, slice_get, IfOk};
-ghost use Rattle.wb_book.specs.declared.changes.row.Row.{Row as row_type};
-ghost use Rattle.wb_book.specs.declared.values.index.Index.TheVariants.{Point as point_index};
-ghost use Rattle.wb_book.specs.Runs.{rectangle_entries, numbered_entries};
-ghost use Rattle.wb_book.specs.Shapes.{indices};
+ghost use Rattle.wb_cells.specs.declared.changes.row.Row.{Row as row_type};
+ghost use Rattle.wb_cells.specs.declared.values.index.Index.TheVariants.{Point as point_index};
+ghost use Rattle.wb_cells.specs.Runs.{rectangle_entries, numbered_entries};
+ghost use Rattle.wb_cells.specs.Shapes.{indices};
 ghost use Rattle.std.specs.Map.{keys_of};
 ghost use Rattle.wb_elements.specs.Blocks.{IsWhole, listed};
 ghost use Rattle.wb_elements.specs.Entries.{with_all};
@@ -13,7 +13,7 @@ ghost use Rattle.wb_elements.specs.Piecewise.Marked.{as_changes};
 use crate::elements::Elements;
 use crate::kept::Kept;
 use std::alloc::Global;
-use wb_book::{AnyIndex, AnyRect, RectangleChanges, RectangleNumbers, Row};
+use wb_cells::{AnyIndex, AnyRect, RectangleChanges, RectangleNumbers, Row};
 use wb_range::NoMemory;
 
 /// Changes of cells of a row at the indices of a rectangle.

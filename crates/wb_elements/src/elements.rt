@@ -1,20 +1,20 @@
 ghost use Rattle.std.specs.Prelude.{◌≡◌, ◌≤◌, true, false, length, map, option_map, Err, IsSome, IfOk, IfSome};
 ghost use Rattle.std.specs.List.{zip};
-ghost use Rattle.wb_book.specs.Layouts.{is_of_rank};
+ghost use Rattle.wb_cells.specs.Layouts.{is_of_rank};
 ghost use Rattle.std.specs.List.Sorted.{IsStrictlySortedBy};
 ghost use Rattle.std.specs.Map.{set_value, keys_of};
 ghost use Rattle.std.specs.BTreeMap.{is_at};
-ghost use Rattle.wb_array.specs.Elements.{value_at};
-ghost use Rattle.wb_book.specs.Cells.{index_cmp};
-ghost use Rattle.wb_book.specs.Shapes.{indices};
+ghost use Rattle.wb_arrays.specs.Elements.{value_at};
+ghost use Rattle.wb_cells.specs.Cells.{index_cmp};
+ghost use Rattle.wb_cells.specs.Shapes.{indices};
 ghost use Rattle.wb_elements.specs.Piecewise.Changed.{changed_at, all_set};
 ghost use Rattle.wb_elements.specs.Piecewise.Lent.{lent, piece_in};
 ghost use Rattle.wb_elements.specs.Piecewise.Indexed.{indexed, AllOf};
 ghost use Rattle.wb_elements.specs.Piecewise.Marked.{as_changes};
 ghost use Rattle.wb_elements.specs.Piecewise.Seen.{seen_of, is_of_form, MayLie, IsKept};
-ghost use Rattle.wb_redist.specs.Reductions.{IsReduced};
-ghost use Rattle.wb_book.specs.declared.values.index.Index.{Index as any_index};
-ghost use Rattle.wb_book.specs.declared.values.index.Index.TheVariants.{Point as point_index};
+ghost use Rattle.wb_arrays.specs.Reductions.{IsReduced};
+ghost use Rattle.wb_cells.specs.declared.values.index.Index.{Index as any_index};
+ghost use Rattle.wb_cells.specs.declared.values.index.Index.TheVariants.{Point as point_index};
 
 pub(crate) mod typed;
 
@@ -27,14 +27,12 @@ use crate::ranged::are_at;
 use std::alloc::Global;
 use std::collections::BTreeMap;
 use std::marker::Model;
-use wb_array::Store;
-use wb_assoc::{Assoc, Label};
-use wb_book::{AnyIndex, AnyLayout, AnyRect, Laid};
+use wb_arrays::{MoveErr, Mover, Op, Pieces, ReduceErr, Store, reduce};
+use wb_cells::{AnyIndex, AnyLayout, AnyRect, Laid};
 use wb_dist::{Distribution, Home, Layout};
-use wb_pieces::Pieces;
 use wb_range::{Domain, Mapping, NoMemory};
 use wb_rect::Rect;
-use wb_redist::{MoveErr, Mover, Op, ReduceErr, reduce};
+use wb_sets::{Assoc, Label};
 
 /// The elements of an array, by the form of its indices.
 #[derive(Drop)]
@@ -64,7 +62,7 @@ impl Drop for Elements {
 
 impl Model for Elements {
     ghost use Rattle.std.specs.Prelude.{List, ℕ, ℤ};
-    ghost use Rattle.wb_book.specs.declared.values.index.Index.{Index};
+    ghost use Rattle.wb_cells.specs.declared.values.index.Index.{Index};
     ghost use Rattle.wb_dist.specs.Maps.{LayoutMap};
 
     ghost Value = { List (Index × ℤ) × (LayoutMap × ℕ) };

@@ -4,7 +4,7 @@ ghost use Rattle.std.specs.Prelude.{◌≡◌, ◌<◌, [], ◌∷◌, ◌++◌,
 ghost use Rattle.std.specs.List.Sorted.{IsStrictlySortedBy};
 ghost use Rattle.std.specs.Map.{keys_of};
 ghost use Rattle.std.specs.declared.cmp.Ordering.TheVariants.{Less};
-ghost use Rattle.wb_book.specs.declared.values.index.Index.TheVariants.{Point as point_index};
+ghost use Rattle.wb_cells.specs.declared.values.index.Index.TheVariants.{Point as point_index};
 ghost use Rattle.wb_elements.specs.Piecewise.Changed.{all_set};
 ghost use Rattle.wb_elements.specs.Piecewise.Indexed.{indexed, AllOf};
 ghost use Rattle.wb_elements.specs.Piecewise.Marked.{as_changes};
@@ -13,7 +13,7 @@ use crate::block::Block;
 use crate::key::AsIndex;
 use std::alloc::Global;
 use std::cmp::Ordering;
-use wb_pieces::Pieces;
+use wb_arrays::Pieces;
 use wb_range::{Domain, Key, Mapping, NoMemory};
 
 /// Elements by a mapping, at each index of a rectangle the number that is set there; `None` where the indices don't ascend,

@@ -1,6 +1,6 @@
 //! Changes of the elements of an array, kept in the least room.
 
-use wb_book::{AnyIndex, RectangleChanges, RectangleNumbers};
+use wb_cells::{AnyIndex, RectangleChanges, RectangleNumbers};
 
 /// How changes of the elements of an array are kept.
 #[derive(Drop)]

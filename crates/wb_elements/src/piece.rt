@@ -1,18 +1,18 @@
 //! The pieces of the elements of an array, lent.
 
 ghost use Rattle.std.specs.Prelude.{◌≡◌, true, option_map};
-ghost use Rattle.wb_book.specs.Kinds.{is_point, is_text};
-ghost use Rattle.wb_book.specs.Layouts.{is_of_rank};
-ghost use Rattle.wb_book.specs.declared.values.index.Index.TheVariants.{Point as point_index, Text as text_index};
+ghost use Rattle.wb_cells.specs.Kinds.{is_point, is_text};
+ghost use Rattle.wb_cells.specs.Layouts.{is_of_rank};
+ghost use Rattle.wb_cells.specs.declared.values.index.Index.TheVariants.{Point as point_index, Text as text_index};
 ghost use Rattle.wb_dist.specs.Maps.{whole};
 ghost use Rattle.wb_elements.specs.Piecewise.Indexed.{indexed, AllOf};
 ghost use Rattle.wb_elements.specs.Piecewise.Lent.{piece_in};
 
-use wb_assoc::{Assoc, Label};
+use wb_arrays::Pieces;
 use wb_dist::{Home, Layout};
-use wb_pieces::Pieces;
 use wb_range::Mapping;
 use wb_rect::Rect;
+use wb_sets::{Assoc, Label};
 
 /// The elements of one locale, each after its index, ascending, lent by the form of their indices.
 #[derive(Clone, Copy, Drop)]

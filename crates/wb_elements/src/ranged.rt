@@ -3,9 +3,9 @@
 ghost use Rattle.std.specs.Prelude.{◌≡◌, Some, true, length};
 ghost use Rattle.std.specs.List.{slice_get};
 ghost use Rattle.std.specs.Map.{keys_of};
-ghost use Rattle.wb_book.specs.Shapes.{indices};
+ghost use Rattle.wb_cells.specs.Shapes.{indices};
 
-use wb_book::{AnyIndex, AnyRect};
+use wb_cells::{AnyIndex, AnyRect};
 
 /// Whether pairs stand at the indices of a rectangle, one after another.
 pub(crate) fn are_at(pairs: &[(AnyIndex, i64)], ranges: &AnyRect) -> bool

@@ -2,14 +2,14 @@
 
 ghost use Rattle.std.specs.Prelude.{◌≡◌, ◌<◌, ◌++◌, ℤ, List, Option, length, get_or, OnOk};
 ghost use Rattle.std.specs.List.{list_all};
-ghost use Rattle.wb_book.specs.declared.values.index.Index.TheVariants.{Point as point_index};
+ghost use Rattle.wb_cells.specs.declared.values.index.Index.TheVariants.{Point as point_index};
 ghost use Rattle.wb_elements.specs.Entries.{element_at, sets_one, with_one, with_all};
 ghost use Rattle.wb_elements.specs.Piecewise.Marked.{as_changes};
 
 use crate::block::Block;
 use crate::elements::Elements;
 use std::alloc::Global;
-use wb_book::AnyIndex;
+use wb_cells::AnyIndex;
 use wb_range::NoMemory;
 
 /// Whether each change sets an element that is there.

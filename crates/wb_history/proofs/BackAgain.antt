@@ -4,9 +4,9 @@ use Rattle.selective_undo.specs.Edit.{Edit}
 use Rattle.selective_undo.specs.History.{done, undone, undo, redo, IsLegal, CanUndo, CanRedo}
 use Rattle.std.specs.FinMap.{empty}
 use Rattle.selective_undo.proofs.Inverses.{edit_at, undo_after_redo_law, redo_after_undo_law, redo_back_law}
-use Rattle.wb_book.specs.Cells.{count_of}
-use Rattle.wb_log.specs.Below.wb_edit.Schema.{workbook}
-use Rattle.wb_log.specs.Below.wb_edit.edit.Edit as command
+use Rattle.wb_cells.specs.Cells.{count_of}
+use Rattle.wb_cells.specs.Schema.{workbook}
+use Rattle.wb_edit.specs.declared.edit.Edit as command
 use Rattle.wb_log.specs.declared.refusal.Refusal.{Refusal}
 use Rattle.wb_log.specs.declared.refusal.Refusal.TheVariants.{NoMemory}
 use Rattle.wb_log.specs.Past.{Numbered, meant, entry_at, out_of_force, into_force}

@@ -1,7 +1,7 @@
 -- What an undo with dependents answers is the least that has the edit.
 use Rattle.std.proofs.Common.{ℕ, List, Result, Ok, Err, IfOk}
 use Rattle.selective_undo.specs.History.{Entry, IsLegal}
-use Rattle.wb_log.specs.Below.wb_edit.Schema.{workbook}
+use Rattle.wb_cells.specs.Schema.{workbook}
 use Rattle.wb_log.specs.Cascades.{CascadeReply, NoShorter}
 use Rattle.wb_log.specs.declared.refusal.Refusal.{Refusal}
 use Rattle.wb_log.proofs.Shortest.{no_shorter}

@@ -6,9 +6,9 @@ use Rattle.selective_undo.specs.Edit.{Edit, Trace, trace, outcome}
 use Rattle.selective_undo.specs.History.{Entry, done, undone, traces, replay, InForce, IsLast, Blocks, CanUndo, CanRedo}
 use Rattle.selective_undo.specs.Log.{Least, BlocksRedo}
 use Rattle.selective_undo.proofs.Inverses.{edit_at}
-use Rattle.wb_book.specs.Cells.{Changes, count_of}
-use Rattle.wb_log.specs.Below.wb_edit.Schema.{workbook}
-use Rattle.wb_log.specs.Below.wb_edit.refusal.Refusal as command_refusal
+use Rattle.wb_cells.specs.Cells.{Changes, count_of}
+use Rattle.wb_cells.specs.Schema.{workbook}
+use Rattle.wb_cells.specs.declared.refusal.Refusal as command_refusal
 use Rattle.wb_log.specs.declared.refusal.Refusal.{Refusal}
 use Rattle.wb_log.specs.declared.refusal.Refusal.TheVariants.{BadRequest, BadLiteral, Refused, NoSuchEdit, NotInForce, InForce as IsInForce, Blocked}
 use Rattle.wb_log.specs.declared.refusal.Refusal.TheVariants.{RefusedInPlace, NoMemory, StrangePass}

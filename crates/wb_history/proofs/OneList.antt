@@ -2,7 +2,7 @@
 use Rattle.std.proofs.Common.{◌≡◌, ◌≢◌, ℕ, zero, suc, List, [], ◌∷◌, Some, None, Result, Ok, Err, slice_get, inl, inr, refl, sym, ap, ◌∙◌, subst, arith}
 use Rattle.selective_undo.specs.Edit.{Edit, Trace}
 use Rattle.selective_undo.specs.History.{Entry, undone, traces, InForce, Has, Falls}
-use Rattle.wb_log.specs.Below.wb_edit.Schema.{workbook}
+use Rattle.wb_cells.specs.Schema.{workbook}
 use Rattle.wb_log.specs.Cascades.{AreDependents, DependentsReply}
 use Rattle.wb_log.specs.declared.refusal.Refusal.{Refusal}
 use Rattle.wb_log.specs.declared.refusal.Refusal.TheVariants.{BadRequest, BadLiteral, Refused, NoSuchEdit, NotInForce, InForce as IsInForce, Blocked}

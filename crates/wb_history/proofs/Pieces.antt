@@ -4,26 +4,26 @@ use Rattle.std.proofs.Common.{Err, refl, sym, ap, subst, ◌∙◌, if◌then◌
 use Rattle.std.specs.FinMap.{get}
 use Rattle.std.proofs.lemmas.List.Elements.{filter_agree}
 use Rattle.wb_dist.specs.Maps.{LayoutMap, whole, locale_count_of}
-use Rattle.wb_book.specs.declared.cells.cell.Cell.TheVariants.{Object, Mapping}
-use Rattle.wb_book.specs.declared.cells.kind.DomainKind.{DomainKind}
-use Rattle.wb_book.specs.declared.cells.kind.DomainKind.TheVariants.{Rectangular, Sparse, Associative}
-use Rattle.wb_book.specs.declared.cells.kind.KeyType.TheVariants.{Int, Text}
-use Rattle.wb_book.specs.declared.cells.kind.Kind.{Kind}
-use Rattle.wb_book.specs.declared.cells.value.Value.{Value}
-use Rattle.wb_book.specs.declared.cells.value.Value.TheVariants.{Domain, Array, Ranges, Mapping as MappingIs, Present, Bound, Number}
-use Rattle.wb_book.specs.declared.values.index.Index.{Index}
-use Rattle.wb_book.specs.declared.values.index.Index.TheVariants.{Point, Text as TextIs}
-use Rattle.wb_book.specs.Cells.{Name, Cells}
-use Rattle.wb_book.specs.Kinds.{kind_of}
-use Rattle.wb_book.specs.Layouts.{locale_in}
-use Rattle.wb_book.specs.Locales.{mapping_in}
-use Rattle.wb_book.specs.Readers.{elements}
-use Rattle.wb_book.specs.WellFormed.{IsWellFormed, HasMapping, domain_at, domain_in, array_in}
-use Rattle.wb_log.specs.Below.wb_edit.refusal.Refusal as why
-use Rattle.wb_log.specs.Below.wb_edit.refusal.Refusal.TheVariants.{OutOfDomain}
-use Rattle.wb_log.specs.Below.wb_edit.Looks.{domain_kind, array_kind}
-use Rattle.wb_log.specs.Below.wb_shelf.Piecewise.Lent.{piece_in}
-use Rattle.wb_log.specs.Below.wb_shelf.Shelf.{mapping_of, lies_by, piece_at, piece_by}
+use Rattle.wb_cells.specs.declared.cells.cell.Cell.TheVariants.{Object, Mapping}
+use Rattle.wb_cells.specs.declared.cells.kind.DomainKind.{DomainKind}
+use Rattle.wb_cells.specs.declared.cells.kind.DomainKind.TheVariants.{Rectangular, Sparse, Associative}
+use Rattle.wb_cells.specs.declared.cells.kind.KeyType.TheVariants.{Int, Text}
+use Rattle.wb_cells.specs.declared.cells.kind.Kind.{Kind}
+use Rattle.wb_cells.specs.declared.cells.value.Value.{Value}
+use Rattle.wb_cells.specs.declared.cells.value.Value.TheVariants.{Domain, Array, Ranges, Mapping as MappingIs, Present, Bound, Number}
+use Rattle.wb_cells.specs.declared.values.index.Index.{Index}
+use Rattle.wb_cells.specs.declared.values.index.Index.TheVariants.{Point, Text as TextIs}
+use Rattle.wb_cells.specs.Cells.{Name, Cells}
+use Rattle.wb_cells.specs.Kinds.{kind_of}
+use Rattle.wb_cells.specs.Layouts.{locale_in}
+use Rattle.wb_cells.specs.Locales.{mapping_in}
+use Rattle.wb_cells.specs.Readers.{elements}
+use Rattle.wb_cells.specs.WellFormed.{IsWellFormed, HasMapping, domain_at, domain_in, array_in}
+use Rattle.wb_cells.specs.declared.refusal.Refusal as why
+use Rattle.wb_cells.specs.declared.refusal.Refusal.TheVariants.{OutOfDomain}
+use Rattle.wb_edit.specs.Looks.{domain_kind, array_kind}
+use Rattle.wb_book.specs.Piecewise.Lent.{piece_in}
+use Rattle.wb_book.specs.Shelf.{mapping_of, lies_by, piece_at, piece_by}
 use Rattle.wb_history.specs.Pieces.{mapped_as, piece_from, piece_of}
 
 -- the elements on a locale, by the mapping of a domain, if it has one

@@ -4,12 +4,12 @@ use Rattle.std.specs.Prelude.{FitsSigned, OkIff, IfErr, MatchOption}
 use Rattle.std.specs.Int.{w64}
 use Rattle.std.proofs.lemmas.Bool.{lt-ltb}
 use Rattle.std.proofs.lemmas.Int.{ints}
-use Rattle.wb_log.specs.Below.wb_edit.Numbers.{is_i64, fits_integer}
-use Rattle.wb_log.specs.Below.wb_edit.Sums.{is_i64-fits}
+use Rattle.wb_edit.specs.Numbers.{is_i64, fits_integer}
+use Rattle.wb_edit.proofs.Sums.{is_i64-fits}
 use Rattle.wb_history.specs.Queries.{value_answer}
 use Rattle.wb_history.specs.Reductions.{reduced, made_answer}
-use Rattle.wb_redist.specs.declared.reduction.ReduceErr.{ReduceErr}
-use Rattle.wb_redist.specs.declared.reduction.ReduceErr.TheVariants.{Empty, Overflow, NoMemory}
+use Rattle.wb_arrays.specs.declared.reduction.ReduceErr.{ReduceErr}
+use Rattle.wb_arrays.specs.declared.reduction.ReduceErr.TheVariants.{Empty, Overflow, NoMemory}
 
 fits-is_i64 : (z : ℤ) → FitsSigned w64 z → is_i64 z ≡ true
 fits-is_i64 (pos n) h = lt-ltb n (2 ^ 63) (omega (arith, ints))

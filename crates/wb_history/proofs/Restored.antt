@@ -8,11 +8,11 @@ use Rattle.selective_undo.specs.History.{Entry, done, undone, replay_from, trace
 use Rattle.selective_undo.specs.Log.{Logged, IsKept, history, entry_of, footprints, footprint_of}
 use Rattle.selective_undo.proofs.Log.{append-map, last_or, get-map}
 use Rattle.std.specs.FinMap.{empty}
-use Rattle.wb_book.specs.Cells.{Cells, count_of, written_more}
-use Rattle.wb_log.specs.Below.wb_edit.edit.Edit as command
-use Rattle.wb_log.specs.Below.wb_edit.Schema.{workbook}
-use Rattle.wb_log.specs.Below.wb_edit.Commands.{meaning}
-use Rattle.wb_log.specs.Below.wb_edit.Valid.{IsValid}
+use Rattle.wb_cells.specs.Cells.{Cells, count_of, written_more}
+use Rattle.wb_edit.specs.declared.edit.Edit as command
+use Rattle.wb_cells.specs.Schema.{workbook}
+use Rattle.wb_edit.specs.Commands.{meaning}
+use Rattle.wb_edit.specs.Valid.{IsValid}
 use Rattle.wb_log.specs.declared.entry.Entry as kept
 use Rattle.wb_log.specs.declared.refusal.Refusal.{Refusal}
 use Rattle.wb_log.specs.declared.refusal.Refusal.TheVariants.{BadRequest, BadLiteral, Refused, NoSuchEdit, NotInForce, InForce as IsInForce, Blocked}

@@ -1,4 +1,3 @@
-pub mod Below
 pub use Rattle.wb_log.specs.Past
 pub use Rattle.wb_log.specs.Replies
 pub use Rattle.wb_log.specs.Cascades

@@ -1,15 +1,15 @@
 -- On which locale an index of a domain lies, or why it lies on none (Chapel Language Specification, Domain Maps).
 use Rattle.std.specs.Prelude.{ℕ, Result, Ok, Err, unwrap_or}
 use Rattle.std.specs.FinMap.{get}
-use Rattle.wb_book.specs.declared.cells.cell.Cell.TheVariants.{Object}
-use Rattle.wb_book.specs.declared.cells.kind.DomainKind.{DomainKind}
-use Rattle.wb_book.specs.declared.values.index.Index.{Index}
-use Rattle.wb_book.specs.Cells.{Name, Cells}
-use Rattle.wb_book.specs.Kinds.{kind_of}
-use Rattle.wb_book.specs.Locales.{locale_at}
-use Rattle.wb_book.specs.WellFormed.{index_cell}
-use Rattle.wb_log.specs.Below.wb_edit.refusal.Refusal as why
-use Rattle.wb_log.specs.Below.wb_edit.Looks.{domain_kind, fits, is_there}
+use Rattle.wb_cells.specs.declared.cells.cell.Cell.TheVariants.{Object}
+use Rattle.wb_cells.specs.declared.cells.kind.DomainKind.{DomainKind}
+use Rattle.wb_cells.specs.declared.values.index.Index.{Index}
+use Rattle.wb_cells.specs.Cells.{Name, Cells}
+use Rattle.wb_cells.specs.Kinds.{kind_of}
+use Rattle.wb_cells.specs.Locales.{locale_at}
+use Rattle.wb_cells.specs.WellFormed.{index_cell}
+use Rattle.wb_cells.specs.declared.refusal.Refusal as why
+use Rattle.wb_edit.specs.Looks.{domain_kind, fits, is_there}
 use Rattle.wb_history.specs.declared.query.Answer.{Answer}
 use Rattle.wb_history.specs.declared.query.Answer.TheVariants.{Locale}
 use Rattle.wb_log.specs.declared.refusal.Refusal.{Refusal}

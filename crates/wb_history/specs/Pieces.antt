@@ -2,17 +2,17 @@
 -- Maps).
 use Rattle.std.specs.Prelude.{◌≡◌, Bool, ℕ, ◌==◌, nat_lt, ℤ, List, filter, Result, Ok, Err, ⊤, unwrap_or, if◌then◌else◌}
 use Rattle.std.specs.FinMap.{get}
-use Rattle.wb_book.specs.declared.cells.cell.Cell.TheVariants.{Object}
-use Rattle.wb_book.specs.declared.cells.kind.DomainKind.{DomainKind}
-use Rattle.wb_book.specs.declared.cells.kind.DomainKind.TheVariants.{Rectangular, Sparse, Associative}
-use Rattle.wb_book.specs.declared.cells.kind.Kind.{Kind}
-use Rattle.wb_book.specs.declared.values.index.Index.{Index}
-use Rattle.wb_book.specs.Cells.{Name, Cells}
-use Rattle.wb_book.specs.Locales.{locale_by, locale_count_at}
-use Rattle.wb_book.specs.Readers.{elements}
-use Rattle.wb_log.specs.Below.wb_edit.refusal.Refusal as why
-use Rattle.wb_log.specs.Below.wb_edit.refusal.Refusal.TheVariants.{OutOfDomain}
-use Rattle.wb_log.specs.Below.wb_edit.Looks.{domain_kind, array_kind}
+use Rattle.wb_cells.specs.declared.cells.cell.Cell.TheVariants.{Object}
+use Rattle.wb_cells.specs.declared.cells.kind.DomainKind.{DomainKind}
+use Rattle.wb_cells.specs.declared.cells.kind.DomainKind.TheVariants.{Rectangular, Sparse, Associative}
+use Rattle.wb_cells.specs.declared.cells.kind.Kind.{Kind}
+use Rattle.wb_cells.specs.declared.values.index.Index.{Index}
+use Rattle.wb_cells.specs.Cells.{Name, Cells}
+use Rattle.wb_cells.specs.Locales.{locale_by, locale_count_at}
+use Rattle.wb_cells.specs.Readers.{elements}
+use Rattle.wb_cells.specs.declared.refusal.Refusal as why
+use Rattle.wb_cells.specs.declared.refusal.Refusal.TheVariants.{OutOfDomain}
+use Rattle.wb_edit.specs.Looks.{domain_kind, array_kind}
 use Rattle.wb_history.specs.declared.query.Answer.{Answer}
 use Rattle.wb_history.specs.declared.query.Answer.TheVariants.{Piece}
 use Rattle.wb_log.specs.declared.refusal.Refusal.{Refusal}

@@ -1,17 +1,17 @@
 -- What queries are answered, from the cells of the workbook and the history.
 use Rattle.std.specs.Prelude.{◌≡◌, Bool, ℕ, ℤ, List, Option, Some, None, Result, Ok, Err, unwrap_or}
 use Rattle.std.specs.FinMap.{get}
-use Rattle.wb_book.specs.declared.cells.cell.Cell.TheVariants.{Object, In, Implicit, Element}
-use Rattle.wb_book.specs.declared.cells.kind.DomainKind.{DomainKind}
-use Rattle.wb_book.specs.declared.cells.kind.Kind.{Kind}
-use Rattle.wb_book.specs.declared.cells.value.Value.{Value}
-use Rattle.wb_book.specs.declared.values.index.Index.{Index}
-use Rattle.wb_book.specs.Cells.{Name, Cells}
-use Rattle.wb_book.specs.Readers.{size_at}
-use Rattle.wb_log.specs.Below.wb_edit.refusal.Refusal as why
-use Rattle.wb_log.specs.Below.wb_edit.Implicit.{has_implicit, parent_in}
-use Rattle.wb_log.specs.Below.wb_edit.Numbers.{element_or_refusal}
-use Rattle.wb_log.specs.Below.wb_edit.Looks.{domain_kind, array_kind, is_there, fits}
+use Rattle.wb_cells.specs.declared.cells.cell.Cell.TheVariants.{Object, In, Implicit, Element}
+use Rattle.wb_cells.specs.declared.cells.kind.DomainKind.{DomainKind}
+use Rattle.wb_cells.specs.declared.cells.kind.Kind.{Kind}
+use Rattle.wb_cells.specs.declared.cells.value.Value.{Value}
+use Rattle.wb_cells.specs.declared.values.index.Index.{Index}
+use Rattle.wb_cells.specs.Cells.{Name, Cells}
+use Rattle.wb_cells.specs.Readers.{size_at}
+use Rattle.wb_cells.specs.declared.refusal.Refusal as why
+use Rattle.wb_edit.specs.Implicit.{has_implicit, parent_in}
+use Rattle.wb_edit.specs.Numbers.{element_or_refusal}
+use Rattle.wb_edit.specs.Looks.{domain_kind, array_kind, is_there, fits}
 use Rattle.wb_history.specs.declared.query.Answer.{Answer}
 use Rattle.wb_history.specs.declared.query.Answer.TheVariants.{Value as ValueIs, Size as SizeIs, InForce}
 use Rattle.wb_history.specs.declared.query.Query.{Query}

@@ -2,22 +2,22 @@
 -- Reductions and Scans).
 use Rattle.std.specs.Prelude.{ℤ, Option, Some, None, Result, Ok, Err}
 use Rattle.std.specs.FinMap.{get}
-use Rattle.wb_book.specs.declared.cells.cell.Cell.TheVariants.{Object}
-use Rattle.wb_book.specs.declared.cells.kind.Kind.{Kind}
-use Rattle.wb_book.specs.Cells.{Name, Cells}
-use Rattle.wb_book.specs.Readers.{elements}
-use Rattle.wb_log.specs.Below.wb_edit.refusal.Refusal as why
-use Rattle.wb_log.specs.Below.wb_edit.refusal.Refusal.TheVariants as refusals
-use Rattle.wb_log.specs.Below.wb_edit.Numbers.{fits_integer}
-use Rattle.wb_log.specs.Below.wb_edit.Looks.{array_kind}
+use Rattle.wb_cells.specs.declared.cells.cell.Cell.TheVariants.{Object}
+use Rattle.wb_cells.specs.declared.cells.kind.Kind.{Kind}
+use Rattle.wb_cells.specs.Cells.{Name, Cells}
+use Rattle.wb_cells.specs.Readers.{elements}
+use Rattle.wb_cells.specs.declared.refusal.Refusal as why
+use Rattle.wb_cells.specs.declared.refusal.Refusal.TheVariants as refusals
+use Rattle.wb_edit.specs.Numbers.{fits_integer}
+use Rattle.wb_edit.specs.Looks.{array_kind}
 use Rattle.wb_history.specs.declared.query.Answer.{Answer}
 use Rattle.wb_history.specs.declared.query.Answer.TheVariants.{Value}
 use Rattle.wb_log.specs.declared.refusal.Refusal.{Refusal}
 use Rattle.wb_log.specs.declared.refusal.Refusal.TheVariants.{Refused, NoMemory}
-use Rattle.wb_redist.specs.Reductions.{reduction}
-use Rattle.wb_redist.specs.declared.reduction.Op.{Op}
-use Rattle.wb_redist.specs.declared.reduction.ReduceErr.{ReduceErr}
-use Rattle.wb_redist.specs.declared.reduction.ReduceErr.TheVariants as none
+use Rattle.wb_arrays.specs.Reductions.{reduction}
+use Rattle.wb_arrays.specs.declared.reduction.Op.{Op}
+use Rattle.wb_arrays.specs.declared.reduction.ReduceErr.{ReduceErr}
+use Rattle.wb_arrays.specs.declared.reduction.ReduceErr.TheVariants as none
 
 -- a reduction in plain integers, if there is one and it is within 64 bits: a sum is judged once, as a whole
 abbrev pub reduced : Option ℤ → Result ℤ why.Refusal

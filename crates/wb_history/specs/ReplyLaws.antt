@@ -4,7 +4,7 @@ use Rattle.std.specs.Prelude.{◌≡◌, ◌≢◌, ℕ, ◌-◌, List, Result, 
 use Rattle.selective_undo.specs.Edit.{Edit}
 use Rattle.selective_undo.specs.History as h
 use Rattle.selective_undo.specs.History.{IsLegal}
-use Rattle.wb_log.specs.Below.wb_edit.Schema.{workbook}
+use Rattle.wb_cells.specs.Schema.{workbook}
 use Rattle.wb_log.specs.Cascades.{DependentsReply, OfNumber}
 use Rattle.wb_log.specs.Past.{Numbered, meant, out_of_force, into_force}
 use Rattle.wb_log.specs.Replies.{EditReply, UndoReply, LastReply, RedoReply, ByNumber}

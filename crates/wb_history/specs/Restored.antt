@@ -2,9 +2,9 @@
 use Rattle.std.specs.Prelude.{◌≡◌, ℕ, zero, suc, ◌+◌, Bool, List, [], ◌∷◌, ◌++◌, map, Option, Some, None, Result, Ok, Err, slice_get, ⊤}
 use Rattle.selective_undo.specs.Edit.{Trace, written}
 use Rattle.selective_undo.specs.History.{traces, IsLegal}
-use Rattle.wb_book.specs.Cells.{count_of, written_more}
-use Rattle.wb_log.specs.Below.wb_edit.edit.Edit as command
-use Rattle.wb_log.specs.Below.wb_edit.Schema.{workbook}
+use Rattle.wb_cells.specs.Cells.{count_of, written_more}
+use Rattle.wb_edit.specs.declared.edit.Edit as command
+use Rattle.wb_cells.specs.Schema.{workbook}
 use Rattle.wb_history.specs.declared.restore.RestoreErr.{RestoreErr}
 use Rattle.wb_history.specs.declared.restore.RestoreErr.TheVariants.{NotLegal, NoMemory}
 use Rattle.wb_log.specs.declared.refusal.Refusal.{Refusal}

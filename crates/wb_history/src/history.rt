@@ -1,7 +1,7 @@
 ghost use Rattle.std.specs.Prelude.{◌≡◌, ℕ, ◌+◌, ◌-◌, ◌<◌, ◌≤◌, length, take, [], ◌∷◌, ◌++◌, OnOk, OnErr, IfOk, IfErr, Ok, Err, true, false, option_map};
 ghost use Rattle.selective_undo.specs.History.{replay, IsLegal};
-ghost use Rattle.wb_book.specs.Cells.{written_more};
-ghost use Rattle.wb_log.specs.Below.wb_edit.Commands.{meaning};
+ghost use Rattle.wb_cells.specs.Cells.{written_more};
+ghost use Rattle.wb_edit.specs.Commands.{meaning};
 ghost use Rattle.wb_log.specs.Cascades.{DependentsReply, CascadeReply, OfNumber, NoShorter, OthersStay, OtherCellsStay, all_out_of_force, places, set_back};
 ghost use Rattle.wb_log.specs.Past.{meant, out_of_force, into_force, force_of};
 ghost use Rattle.wb_log.specs.Records.{lent_edit};
@@ -16,11 +16,11 @@ use crate::query::{Answer, Query, count_answer, element_of, force_answer, size_o
 use crate::reduction::reduce_answer;
 use std::alloc::Global;
 use std::marker::Model;
-use wb_log::below::edit::Edit;
-use wb_log::below::shelf::Book;
+use wb_arrays::Mover;
+use wb_book::Book;
+use wb_edit::Edit;
 use wb_log::{Index, LentEdit, Record, Refusal, Undoer, steps};
 use wb_range::NoMemory;
-use wb_redist::Mover;
 
 /// A workbook, and the edits that made it, each in force or out of force.
 pub struct History {

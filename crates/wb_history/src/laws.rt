@@ -3,7 +3,7 @@
 
 ghost use Rattle.selective_undo.specs.Laws.{AppendLaw, UndoLaw, SetBackLaw, LastLaw, RedoLaw, UndoAfterRedoLaw, RedoAfterUndoLaw, RedoBackLaw, DependentsLaw};
 ghost use Rattle.selective_undo.specs.Laws.{NoShorterLaw, RecordLaw, RunLaw};
-ghost use Rattle.wb_log.specs.Below.wb_edit.Schema.{workbook};
+ghost use Rattle.wb_cells.specs.Schema.{workbook};
 ghost use Rattle.wb_history.specs.ReplyLaws.{EditAnswerLaw, UndoAnswerLaw, LastAnswerLaw, RedoAnswerLaw, DependentsAnswerLaw, UndoAfterRedoAnswerLaw};
 ghost use Rattle.wb_history.specs.ReplyLaws.{RedoAfterLastAnswerLaw, RedoBackAnswerLaw};
 

@@ -15,4 +15,4 @@ pub use crate::history::History;
 pub use crate::piece::Piece;
 pub use crate::query::{Answer, Query};
 pub use crate::restore::RestoreErr;
-pub use wb_log::{LentEdit, Refusal, Undoer, below};
+pub use wb_log::{LentEdit, Refusal, Undoer};

@@ -4,17 +4,17 @@ ghost use Rattle.std.specs.Prelude.{◌≡◌};
 ghost use Rattle.wb_history.specs.Locales.{where_answer, locale_answer};
 
 use crate::query::Answer;
-use wb_book::{AnyIndex, Cell, Name};
+use wb_book::Book;
+use wb_cells::{AnyIndex, Cell, Name};
+use wb_edit::judgements;
 use wb_log::Refusal;
-use wb_log::below::edit::judgements;
-use wb_log::below::shelf::Book;
 
 /// The locale of an index of a domain, or why it lies on none.
 pub(crate) fn locale_of(
     book: &Book,
     domain: Name,
     index: AnyIndex,
-) -> Result<usize, wb_log::below::edit::Refusal>
+) -> Result<usize, wb_cells::Refusal>
     ensures { result ≡ where_answer book.now.cells domain index }
 {
     let kind = judgements::domain_kind(book.get(&Cell::Object(domain)))?;
@@ -23,9 +23,7 @@ pub(crate) fn locale_of(
     Ok(book.locale_of(&domain, &index).unwrap_or(0))
 }
 
-pub(crate) fn locale_answer(
-    found: Result<usize, wb_log::below::edit::Refusal>,
-) -> Result<Answer, Refusal>
+pub(crate) fn locale_answer(found: Result<usize, wb_cells::Refusal>) -> Result<Answer, Refusal>
     ensures { result ≡ locale_answer found }
 {
     match found {

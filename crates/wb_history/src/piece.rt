@@ -2,17 +2,17 @@
 
 ghost use Rattle.std.specs.Prelude.{◌≡◌, IfOk};
 ghost use Rattle.std.specs.Bool.{Decides};
-ghost use Rattle.wb_log.specs.Below.wb_shelf.Piecewise.Indexed.{indexed};
-ghost use Rattle.wb_log.specs.Below.wb_shelf.Piecewise.Lent.{lent};
+ghost use Rattle.wb_book.specs.Piecewise.Indexed.{indexed};
+ghost use Rattle.wb_book.specs.Piecewise.Lent.{lent};
 ghost use Rattle.wb_history.specs.Pieces.{piece_of, piece_answer, OrNoMemory};
 
 use crate::query::Answer;
 use std::alloc::Global;
 use std::marker::Model;
-use wb_book::{AnyIndex, Cell, Name};
+use wb_book::{AsIndex, Book, Pairs};
+use wb_cells::{AnyIndex, Cell, Name};
+use wb_edit::judgements;
 use wb_log::Refusal;
-use wb_log::below::edit::judgements;
-use wb_log::below::shelf::{AsIndex, Book, Pairs};
 use wb_range::NoMemory;
 
 /// The elements of an array on one locale, each after its index, ascending by index. Contracts see the list of them.
@@ -23,7 +23,7 @@ pub struct Piece {
 
 impl Model for Piece {
     ghost use Rattle.std.specs.Prelude.{List, ℤ};
-    ghost use Rattle.wb_book.specs.declared.values.index.Index.{Index};
+    ghost use Rattle.wb_cells.specs.declared.values.index.Index.{Index};
 
     ghost Value = { List (Index × ℤ) };
 
@@ -123,7 +123,7 @@ pub(crate) fn piece_answer(
         Err(why) => return Err(Refusal::Refused(why)),
     }
     match book.piece(&array, locale as usize) {
-        None => Err(Refusal::Refused(wb_log::below::edit::Refusal::OutOfDomain)),
+        None => Err(Refusal::Refused(wb_cells::Refusal::OutOfDomain)),
         Some(pairs) => match piece_of(alloc, pairs) {
             Ok(piece) => Ok(Answer::Piece(piece)),
             Err(_) => Err(Refusal::NoMemory),

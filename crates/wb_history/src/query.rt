@@ -4,12 +4,12 @@ ghost use Rattle.wb_history.specs.Queries.{element_or_implicit, get_answer, valu
 
 use crate::piece::Piece;
 use std::alloc::Global;
-use wb_book::{AnyIndex, Cell, Kind, Name};
+use wb_arrays::Op;
+use wb_book::Book;
+use wb_cells::{AnyIndex, Cell, Kind, Name};
+use wb_edit::{element_or_refusal, has_implicit, judgements, parent_in};
 use wb_log::Refusal;
-use wb_log::below::edit::{element_or_refusal, has_implicit, judgements, parent_in};
-use wb_log::below::shelf::Book;
 use wb_range::NoMemory;
-use wb_redist::Op;
 
 /// A question about the workbook or its history.
 #[derive(Clone, Copy, Debug)]
@@ -115,7 +115,7 @@ pub(crate) fn element_of(
     book: &Book,
     array: Name,
     index: AnyIndex,
-) -> Result<i64, wb_log::below::edit::Refusal>
+) -> Result<i64, wb_cells::Refusal>
     ensures { result ≡ get_answer book.now.cells array index }
 {
     let (domain, kind) = judgements::array_kind(book.get(&Cell::Object(array)))?;
@@ -133,7 +133,7 @@ fn implicit_value(
     domain: Name,
     kind: Kind,
     index: AnyIndex,
-) -> Result<i64, wb_log::below::edit::Refusal>
+) -> Result<i64, wb_cells::Refusal>
     ensures { result ≡ element_or_implicit book.now.cells array domain kind index None }
 {
     has_implicit(&kind)?;
@@ -143,16 +143,14 @@ fn implicit_value(
 }
 
 /// How many indices a domain has, or why there is none.
-pub(crate) fn size_of(book: &Book, domain: Name) -> Result<usize, wb_log::below::edit::Refusal>
+pub(crate) fn size_of(book: &Book, domain: Name) -> Result<usize, wb_cells::Refusal>
     ensures { result ≡ size_answer book.now.cells domain }
 {
     judgements::domain_kind(book.get(&Cell::Object(domain)))?;
     Ok(book.size(&domain).unwrap_or(0))
 }
 
-pub(crate) fn value_answer(
-    found: Result<i64, wb_log::below::edit::Refusal>,
-) -> Result<Answer, Refusal>
+pub(crate) fn value_answer(found: Result<i64, wb_cells::Refusal>) -> Result<Answer, Refusal>
     ensures { result ≡ value_answer found }
 {
     match found {
@@ -161,9 +159,7 @@ pub(crate) fn value_answer(
     }
 }
 
-pub(crate) fn count_answer(
-    found: Result<usize, wb_log::below::edit::Refusal>,
-) -> Result<Answer, Refusal>
+pub(crate) fn count_answer(found: Result<usize, wb_cells::Refusal>) -> Result<Answer, Refusal>
     ensures { result ≡ count_answer found }
 {
     match found {

@@ -5,11 +5,11 @@ ghost use Rattle.wb_history.specs.Queries.{value_answer};
 ghost use Rattle.wb_history.specs.Reductions.{reduce_answer, made_answer};
 
 use crate::query::Answer;
-use wb_book::{Cell, Name};
+use wb_arrays::{Mover, Op, ReduceErr};
+use wb_book::Book;
+use wb_cells::{Cell, Name};
+use wb_edit::judgements;
 use wb_log::Refusal;
-use wb_log::below::edit::judgements;
-use wb_log::below::shelf::Book;
-use wb_redist::{Mover, Op, ReduceErr};
 
 // What a workbook makes of the elements as an answer.
 fn made_answer(made: Result<i64, ReduceErr>) -> Result<Answer, Refusal>
@@ -17,8 +17,8 @@ fn made_answer(made: Result<i64, ReduceErr>) -> Result<Answer, Refusal>
 {
     match made {
         Ok(value) => Ok(Answer::Value(value)),
-        Err(ReduceErr::Empty) => Err(Refusal::Refused(wb_log::below::edit::Refusal::Empty)),
-        Err(ReduceErr::Overflow) => Err(Refusal::Refused(wb_log::below::edit::Refusal::Overflow)),
+        Err(ReduceErr::Empty) => Err(Refusal::Refused(wb_cells::Refusal::Empty)),
+        Err(ReduceErr::Overflow) => Err(Refusal::Refused(wb_cells::Refusal::Overflow)),
         Err(ReduceErr::NoMemory) => Err(Refusal::NoMemory),
     }
 }

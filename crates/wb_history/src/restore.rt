@@ -5,9 +5,9 @@ ghost use Rattle.wb_history.specs.Restored.{one_of, marked, stopped, IsCounted, 
 use crate::history::History;
 use std::alloc::Global;
 use thiserror::Error;
+use wb_arrays::Mover;
+use wb_edit::Edit;
 use wb_log::Refusal;
-use wb_log::below::edit::Edit;
-use wb_redist::Mover;
 
 /// Why a list of edits gives no history.
 #[derive(Clone, Copy, Debug, PartialEq, Eq, Error)]

@@ -1,135 +1,210 @@
--- What a crash leaves in each of the two steps of an `append`.
-use Rattle.std.proofs.Common.{◌≡◌, ◌≢◌, inl, inr, ℕ, suc, ◌+◌, ◌-◌, List, [], ◌∷◌, ◌++◌, length, get_or, take, drop, refl, sym, ◌∙◌, ap, subst, arith, append_assoc, length-append, length-drop, take-append-drop}
-use Rattle.std.proofs.lemmas.Bool.{cases_eq}
-use Rattle.std.proofs.lemmas.List.{take_at, drop_at, drop_more, take_all, drop_all, append-nil, take_rest}
-use Rattle.std.proofs.lemmas.List.Concat.{flat_map-append}
-use Rattle.wb_disk.specs.Device.{Holds, Torn, Only}
-use Rattle.wb_keep.specs.Lines.{lines_of, counted, header, recovered, marked, at_rest}
-use Rattle.wb_keep.specs.Keep.{IsSettled, IsBeforeOrAfter}
-use Rattle.wb_keep.specs.declared.keep.LineLog.{LineLog}
-use Rattle.wb_keep.proofs.Feeds.{not_counted}
-use Rattle.wb_keep.proofs.Fronts.{AreLines, front, has_header, recovered_front}
+-- What a crash leaves of a batch that is written over the mark behind whole batches.
+use Rattle.std.proofs.Common.{◌≡◌, ◌⊎◌, ◌≤◌, inl, inr, ℕ, zero, suc, ◌+◌, ◌-◌, true, List, [], ◌∷◌, ◌++◌, length, get_or, take, drop, refl, sym, ◌∙◌, ap, subst, arith, append_assoc, append-nil, length-append, take-append-drop}
+use Rattle.std.proofs.lemmas.List.{take_at, drop_all, get_or-drop, get_or-append_right}
+use Rattle.wb_keep.specs.Disk.Device.{Holds, Torn, OneOf}
+use Rattle.wb_keep.specs.Lines.{onto, lines_of, stuffed, has_hole, with_next, counted, marked, header, recovered, HasHeader, IsWhole, IsAtRest}
+use Rattle.wb_keep.specs.Keep.{IsBeforeOrAfter}
+use Rattle.wb_keep.proofs.Feeds.{IsLine, AreLines, lines_of_other}
+use Rattle.wb_keep.proofs.Batches.{with_hole, no_hole, not_counted, stuffed_line, marked_line, marked_alone, whole_marked, whole_append}
 
--- a mark that does not count ends the lines, whatever stands behind it
-pub recovered_closed : (lines : List (List ℕ)) → AreLines lines → (rest : List ℕ) → recovered (front lines ++ 35 ∷ rest) ≡ lines
-recovered_closed lines are rest = recovered_front lines are (35 ∷ rest) ∙ ap (λ (ls : List (List ℕ)). lines ++ ls) (not_counted 35 rest (omega arith)) ∙ append-nil lines
+-- each byte is one of the block, or 0, which stands for what is missing too
+abbrev pub Holed : List ℕ → List ℕ → Type 0
+Holed block left = (i : ℕ) → (get_or left i 0 ≡ get_or block i 0) ⊎ (get_or left i 0 ≡ 0)
 
-module _ (old new : List (List ℕ)) (are_old : AreLines old) (are_new : AreLines new) (mark : ℕ) (at : mark + 1 ≡ length (at_rest old)) (block : List ℕ) (holds_new : 32 ∷ block ≡ marked new ++ 35 ∷ []) where
-  size : length (front old) ≡ mark
-  size = omega (arith, at, length-append (front old) (35 ∷ []))
+-- the first line has a hole, or none is ended
+abbrev pub Spoiled : List (List ℕ) → Type 0
+Spoiled [] = Unit {0}
+Spoiled (line ∷ lines) = has_hole line ≡ true
 
-  long : length (at_rest old) ≡ mark + 1
-  long = sym at
+spoiled_here : (lines : List (List ℕ)) → Spoiled (onto 0 lines)
+spoiled_here [] = tt
+spoiled_here (line ∷ lines) = refl
 
-  -- the file with a block behind the mark that closes it
-  abbrev pub staged : List ℕ
-  staged = front old ++ 35 ∷ block
+spoiled_more : (byte : ℕ) (lines : List (List ℕ)) → Spoiled lines → Spoiled (onto byte lines)
+spoiled_more byte [] spoiled = tt
+spoiled_more zero (line ∷ lines) spoiled = refl
+spoiled_more (suc byte) (line ∷ lines) spoiled = no_hole (suc byte) line (omega arith) ∙ spoiled
 
-  pub closed_before : (rest : List ℕ) → IsBeforeOrAfter old new (front old ++ 35 ∷ rest)
-  closed_before rest = record { head = has_header old (35 ∷ rest); lines = inl (recovered_closed old are_old rest) }
+spoiled_none : (mark : ℕ) (lines : List (List ℕ)) → Spoiled lines → counted (onto mark lines) ≡ []
+spoiled_none mark [] spoiled = refl
+spoiled_none mark (line ∷ lines) spoiled = with_hole mark line lines spoiled
 
-  -- the block stands for the new lines once its mark counts
-  pub any_mark : (byte : ℕ) → IsBeforeOrAfter old new (front old ++ byte ∷ block)
-  any_mark byte = elim (cases_eq byte 32) [
-    | inl counts ↦ record {
-      head = has_header old (byte ∷ block);
-      lines =
-          inr (
-          recovered_front old are_old (byte ∷ block)
-          ∙ ap (λ (b : ℕ). old ++ counted (lines_of (b ∷ block))) counts
-          ∙ ap (λ (l : List ℕ). old ++ counted (lines_of l)) holds_new
-          ∙ ap (λ (ls : List (List ℕ)). old ++ ls) (new_alone)
-          );
-    }
-    | inr other ↦ record {
-      head = has_header old (byte ∷ block);
-      lines = inl (recovered_front old are_old (byte ∷ block) ∙ ap (λ (ls : List (List ℕ)). old ++ ls) (not_counted byte block other) ∙ append-nil old);
-    }
+-- what is left of a line, its feed and what stands behind: the line is whole, or it is spoiled
+first_line : (line rest left : List ℕ) → IsLine line → Holed (line ++ 10 ∷ rest) left → Spoiled (lines_of left) ⊎ ((more : List ℕ) × (left ≡ line ++ 10 ∷ more) × Holed rest more)
+first_line line rest [] is holed = inl tt
+first_line [] rest (byte ∷ left) is holed = elim (holed 0) [
+  | inl feed ↦ inr (left, ap (λ (b : ℕ). b ∷ left) feed, λ i. holed (suc i))
+  | inr hole ↦ inl (subst (λ (b : ℕ). Spoiled (lines_of (b ∷ left))) (sym hole) (spoiled_here (lines_of left)))
+]
+first_line (byte ∷ line) rest (b ∷ left) is holed = elim (holed 0) [
+  | inl same ↦ elim (first_line line rest left is.1 (λ i. holed (suc i))) [
+    | inl spoiled ↦
+        let all : lines_of (b ∷ left) ≡ onto byte (lines_of left) = ap (λ (x : ℕ). lines_of (x ∷ left)) same ∙ lines_of_other byte left is.0 in
+        inl (subst Spoiled (sym all) (spoiled_more byte (lines_of left) spoiled))
+    | inr found ↦ inr (found.0, (λ i. same i ∷ found.1 i), found.2)
   ]
-    where
-      new_alone : counted (lines_of (marked new ++ 35 ∷ [])) ≡ new
-      new_alone = recovered_closed new are_new []
+  | inr hole ↦ inl (subst (λ (x : ℕ). Spoiled (lines_of (x ∷ left))) (sym hole) (spoiled_here (lines_of left)))
+]
 
-  -- the mark stands in each outcome of the first write
-  pub torn_behind : (n : ℕ) (c : List ℕ) → Torn (mark + 1) n (at_rest old) c → IsBeforeOrAfter old new c
-  torn_behind n c torn =
-      let start : take (mark + 1) c ≡ front old ++ 35 ∷ [] = torn.before ∙ take_all _ _ (omega (arith, long)) in
-      let whole : c ≡ front old ++ 35 ∷ drop (mark + 1) c =
-      sym (take-append-drop (mark + 1) c) ∙ ap (λ (l : List ℕ). l ++ drop (mark + 1) c) start ∙ append_assoc (front old) (35 ∷ []) (drop (mark + 1) c) in
-      subst (IsBeforeOrAfter old new) (sym whole) (closed_before (drop (mark + 1) c))
+-- nothing of a batch counts, or all of it
+abbrev pub NoneOrAll : List (List ℕ) → List ℕ → Type 0
+NoneOrAll new left = (counted (lines_of left) ≡ []) ⊎ (counted (lines_of left) ≡ new)
 
-  pub written_behind : (c : List ℕ) → Holds (at_rest old) (mark + 1) block c → c ≡ staged
-  written_behind c holds =
+hole_first : (left : List ℕ) → counted (lines_of (0 ∷ left)) ≡ []
+hole_first left = not_counted 0 left (omega arith) (omega arith)
+
+-- of the mark behind a batch
+left_of_mark : (left : List ℕ) → Holed (35 ∷ []) left → counted (lines_of left) ≡ []
+left_of_mark [] holed = refl
+left_of_mark (byte ∷ left) holed = elim (holed 0) [
+  | inl mark ↦ ap (λ (b : ℕ). counted (lines_of (b ∷ left))) mark ∙ not_counted 35 left (omega arith) (omega arith)
+  | inr hole ↦ ap (λ (b : ℕ). counted (lines_of (b ∷ left))) hole ∙ hole_first left
+]
+
+pub left_of_batch : (new : List (List ℕ)) → AreLines new → (left : List ℕ) → Holed (marked new ++ 35 ∷ []) left → NoneOrAll new left
+left_of_batch [] are left holed = inl (left_of_mark left holed)
+left_of_batch (line ∷ []) are [] holed = inl refl
+left_of_batch (line ∷ []) are (byte ∷ left) holed = elim (holed 0) [
+  | inr hole ↦ inl (ap (λ (b : ℕ). counted (lines_of (b ∷ left))) hole ∙ hole_first left)
+  | inl mark ↦
+      let behind : Holed (stuffed line ++ 10 ∷ 35 ∷ []) left = subst (λ (l : List ℕ). Holed l left) (append_assoc (stuffed line) (10 ∷ []) (35 ∷ [])) (λ i. holed (suc i)) in
+      let marked_so : counted (lines_of (byte ∷ left)) ≡ counted (onto 32 (lines_of left)) = ap (λ (b : ℕ). counted (lines_of (b ∷ left))) mark in
+      elim (first_line (stuffed line) (35 ∷ []) left (stuffed_line line are.0) behind) [
+        | inl spoiled ↦ inl (marked_so ∙ spoiled_none 32 (lines_of left) spoiled)
+        | inr found ↦ inr (
+            marked_so ∙ ap (λ (l : List ℕ). counted (onto 32 (lines_of l))) found.1 ∙ marked_line 32 line (omega arith) are.0 found.0
+            ∙ ap (λ (ls : List (List ℕ)). line ∷ ls) (left_of_mark found.0 found.2)
+            )
+      ]
+]
+left_of_batch (line ∷ next ∷ lines) are [] holed = inl refl
+left_of_batch (line ∷ next ∷ lines) are (byte ∷ left) holed = elim (holed 0) [
+  | inr hole ↦ inl (ap (λ (b : ℕ). counted (lines_of (b ∷ left))) hole ∙ hole_first left)
+  | inl mark ↦
+      let more = marked (next ∷ lines) in
+      let behind : Holed (stuffed line ++ (10 ∷ (more ++ 35 ∷ []))) left = subst (λ (l : List ℕ). Holed l left) (append_assoc (stuffed line) (10 ∷ more) (35 ∷ [])) (λ i. holed (suc i)) in
+      let marked_so : counted (lines_of (byte ∷ left)) ≡ counted (onto 43 (lines_of left)) = ap (λ (b : ℕ). counted (lines_of (b ∷ left))) mark in
+      elim (first_line (stuffed line) (more ++ 35 ∷ []) left (stuffed_line line are.0) behind) [
+        | inl spoiled ↦ inl (marked_so ∙ spoiled_none 43 (lines_of left) spoiled)
+        | inr found ↦
+            let so_far = marked_so ∙ ap (λ (l : List ℕ). counted (onto 43 (lines_of l))) found.1 ∙ marked_line 43 line (omega arith) are.0 found.0 in
+            elim (left_of_batch (next ∷ lines) are.1 found.0 found.2) [
+              | inl none ↦ inl (so_far ∙ ap (with_next line) none)
+              | inr all ↦ inr (so_far ∙ ap (with_next line) all)
+            ]
+      ]
+]
+
+-- a mark that does not count, over which the batch is written, may still stand there
+left_of_write : (new : List (List ℕ)) → AreLines new → (left : List ℕ) → ((i : ℕ) → OneOf (get_or (35 ∷ []) i 0) (get_or (marked new ++ 35 ∷ []) i 0) (get_or left i 0)) → NoneOrAll new left
+left_of_write new are [] each = inl refl
+left_of_write new are (byte ∷ left) each = elim (each 0) [
+  | inl old ↦ inl (ap (λ (b : ℕ). counted (lines_of (b ∷ left))) old ∙ not_counted 35 left (omega arith) (omega arith))
+  | inr first ↦ left_of_batch new are (byte ∷ left) (holed first)
+]
+  where
+    behind : (i : ℕ) → OneOf (get_or (35 ∷ []) (suc i) 0) (get_or (marked new ++ 35 ∷ []) (suc i) 0) (get_or left i 0) → (get_or left i 0 ≡ get_or (marked new ++ 35 ∷ []) (suc i) 0) ⊎ (get_or left i 0 ≡ 0)
+    behind i (inl none) = inr none
+    behind i (inr one) = one
+
+    holed : (byte ≡ get_or (marked new ++ 35 ∷ []) 0 0) ⊎ (byte ≡ 0) → Holed (marked new ++ 35 ∷ []) (byte ∷ left)
+    holed first zero = first
+    holed first (suc i) = behind i (each (suc i))
+
+-- what a file at rest stands for
+pub recovered_rest : (batches rest : List ℕ) → IsWhole batches → counted (lines_of rest) ≡ [] → recovered (header ++ batches ++ rest) ≡ counted (lines_of batches)
+recovered_rest batches rest whole none = whole rest ∙ ap (λ (ls : List (List ℕ)). counted (lines_of batches) ++ ls) none ∙ append-nil (counted (lines_of batches))
+
+pub mark_none : counted (lines_of (35 ∷ [])) ≡ []
+mark_none = refl
+
+module _ (file : List ℕ) (rest : IsAtRest file) (new : List (List ℕ)) (are : AreLines new) (mark : ℕ) (at : mark + 1 ≡ length file) (block : List ℕ) (holds_new : block ≡ marked new ++ 35 ∷ []) where
+  abbrev pub front : List ℕ
+  front = header ++ rest.batches
+
+  abbrev pub old : List (List ℕ)
+  old = counted (lines_of rest.batches)
+
+  is : file ≡ front ++ 35 ∷ []
+  is = rest.is
+
+  stands_for : recovered file ≡ old
+  stands_for = ap recovered is ∙ recovered_rest rest.batches (35 ∷ []) rest.whole mark_none
+
+  size : length front ≡ mark
+  size = omega (arith, at, ap length is, length-append front (35 ∷ []))
+
+  before : take mark file ≡ front
+  before = ap (λ (l : List ℕ). take mark l) is ∙ take_at front (35 ∷ []) mark size
+
+  was : (i : ℕ) → get_or file (mark + i) 0 ≡ get_or (35 ∷ []) i 0
+  was i =
+      let same : mark + i - mark ≡ i = omega arith in
+      ap (λ (l : List ℕ). get_or l (mark + i) 0) is ∙ get_or-append_right front (35 ∷ []) mark (mark + i) 0 size (omega arith) ∙ ap (λ (n : ℕ). get_or (35 ∷ []) n 0) same
+
+  -- behind the batches stands what is left of the write
+  stands : (c : List ℕ) → c ≡ front ++ drop mark c → NoneOrAll new (drop mark c) → IsBeforeOrAfter (recovered file) new c
+  stands c split (inl none) = record {
+    head = subst HasHeader (sym split) refl;
+    lines = inl (ap recovered split ∙ recovered_rest rest.batches (drop mark c) rest.whole none ∙ sym stands_for);
+  }
+  stands c split (inr all) = record {
+    head = subst HasHeader (sym split) refl;
+    lines = inr (ap recovered split ∙ rest.whole (drop mark c) ∙ (λ i. sym stands_for i ++ all i));
+  }
+
+  pub torn_batch : (c : List ℕ) → Torn mark block file c → IsBeforeOrAfter (recovered file) new c
+  torn_batch c torn =
+      let split : c ≡ front ++ drop mark c = sym (take-append-drop mark c) ∙ ap (λ (l : List ℕ). l ++ drop mark c) (torn.before ∙ before) in
+      stands c split
+      (left_of_write new are (drop mark c)
+      (λ i. subst (λ (x : ℕ). OneOf (get_or (35 ∷ []) i 0) (get_or (marked new ++ 35 ∷ []) i 0) x) (sym (get_or-drop mark c i 0))
+      (subst (λ (x : ℕ). OneOf x (get_or (marked new ++ 35 ∷ []) i 0) (get_or c (mark + i) 0)) (was i)
+      (subst (λ (b : List ℕ). OneOf (get_or file (mark + i) 0) (get_or b i 0) (get_or c (mark + i) 0)) holds_new (torn.each i)))))
+
+  -- all of it is written
+  abbrev pub all_batches : List ℕ
+  all_batches = rest.batches ++ marked new
+
+  all_whole : IsWhole all_batches
+  all_whole = whole_append rest.batches (marked new) rest.whole (whole_marked new are)
+
+  many : 1 ≤ length block
+  many = omega (arith, ap length holds_new, length-append (marked new) (35 ∷ []))
+
+  written : (c : List ℕ) → Holds file mark block c → c ≡ header ++ all_batches ++ 35 ∷ []
+  written c holds =
+      let nothing : drop (mark + length block) file ≡ [] = drop_all (mark + length block) file (omega (arith, at, many)) in
       holds
-      ∙ ap (λ (l : List ℕ). l ++ block ++ drop (mark + 1 + length block) (at_rest old)) (take_all _ _ (omega (arith, long)))
-      ∙ ap (λ (l : List ℕ). at_rest old ++ block ++ l) (drop_all (mark + 1 + length block) (at_rest old) (omega (arith, long)))
-      ∙ append-nil (at_rest old ++ block)
-      ∙ append_assoc (front old) (35 ∷ []) block
+      ∙ (λ i. before i ++ block ++ nothing i)
+      ∙ append-nil (front ++ block)
+      ∙ ap (λ (l : List ℕ). front ++ l) holds_new
+      ∙ ap (λ (l : List ℕ). header ++ l) (sym (append_assoc rest.batches (marked new) (35 ∷ [])))
 
-  staged_front : take mark staged ≡ front old
-  staged_front = take_at (front old) (35 ∷ block) mark size
+  pub written_rest : (c : List ℕ) → Holds file mark block c → IsAtRest c
+  written_rest c holds = record { batches = all_batches; is = written c holds; whole = all_whole }
 
-  staged_back : drop (mark + 1) staged ≡ block
-  staged_back = ap (λ (l : List ℕ). drop (mark + 1) l) (sym (append_assoc (front old) (35 ∷ []) block)) ∙ drop_at (at_rest old) block (mark + 1) long
+  pub written_lines : (c : List ℕ) → Holds file mark block c → recovered c ≡ recovered file ++ new
+  written_lines c holds =
+      ap recovered (written c holds) ∙ recovered_rest all_batches (35 ∷ []) all_whole mark_none
+      ∙ rest.whole (marked new) ∙ (λ i. sym stands_for i ++ marked_alone new are i)
 
-  pub length-staged : length staged ≡ mark + 1 + length block
-  length-staged = omega (arith, size, length-append (front old) (35 ∷ block))
-
-  -- the block stands whole in each outcome of the second write
-  pub torn_mark : (c : List ℕ) → Torn mark 1 staged c → IsBeforeOrAfter old new c
-  torn_mark c torn =
-      let byte = get_or c mark 0 in
-      let rest : drop mark c ≡ byte ∷ block =
-      drop_more c mark 0 (omega (arith, length-staged, torn.no_shorter)) ∙ ap (λ (l : List ℕ). byte ∷ l) (torn.after ∙ staged_back) in
-      let whole : c ≡ front old ++ byte ∷ block =
-      sym (take-append-drop mark c) ∙ ap (λ (l : List ℕ). l ++ drop mark c) (torn.before ∙ staged_front) ∙ ap (λ (l : List ℕ). front old ++ l) rest in
-      subst (IsBeforeOrAfter old new) (sym whole) (any_mark byte)
-
-  opened : front old ++ 32 ∷ block ≡ at_rest (old ++ new)
-  opened =
-      ap (λ (l : List ℕ). front old ++ l) holds_new
-      ∙ sym (append_assoc (front old) (marked new) (35 ∷ []))
-      ∙ ap (λ (l : List ℕ). l ++ 35 ∷ []) (append_assoc header (marked old) (marked new) ∙ ap (λ (l : List ℕ). header ++ l) (sym (flat_map-append (λ (line : List ℕ). 32 ∷ line ++ 10 ∷ []) old new)))
-
-  pub length-opened : length (at_rest (old ++ new)) ≡ mark + 1 + length block
-  length-opened = omega (arith, ap length opened, size, length-append (front old) (32 ∷ block))
-
-  pub written_mark : (c : List ℕ) → Holds staged mark (32 ∷ []) c → c ≡ at_rest (old ++ new)
-  written_mark c holds =
-      holds
-      ∙ ap (λ (l : List ℕ). l ++ (32 ∷ []) ++ drop (mark + 1) staged) staged_front
-      ∙ ap (λ (l : List ℕ). front old ++ (32 ∷ []) ++ l) staged_back
-      ∙ append_assoc (front old) (32 ∷ []) block
-      ∙ opened
-
--- a file at rest, all of it on the disk
-pub settled : {D : Type 0} (seen : D → List ℕ) (may_leave : D → List ℕ → Type 0) (log : LineLog D) (lines : List (List ℕ)) → AreLines lines → seen log.device ≡ at_rest lines → log.mark + 1 ≡ length (at_rest lines) → Only (seen log.device) (may_leave log.device) → IsSettled seen may_leave log × (recovered (seen log.device) ≡ lines)
-settled seen may_leave log lines are is at only =
-    let stands_for : recovered (seen log.device) ≡ lines = ap recovered is ∙ recovered_closed lines are [] in (
-      record {
-        file = is ∙ ap at_rest (sym stands_for);
-        mark = at ∙ ap length (sym is);
-        durable = only;
-      },
-      stands_for,
-    )
-
--- the block behind its first mark
-pub block_behind : (new : List (List ℕ)) (block : List ℕ) → block ≡ marked new ++ 35 ∷ [] → length block ≢ 1 → 32 ∷ take (length block - 1) (drop 1 block) ≡ marked new ++ 35 ∷ []
-block_behind [] block is many = absurd (many (ap length is))
-block_behind (line ∷ new) block is many = ap (λ (l : List ℕ). 32 ∷ l) (take_rest block 1 ∙ ap (λ (l : List ℕ). drop 1 l) is)
-
-pub length-block_behind : (block : List ℕ) → length (take (length block - 1) (drop 1 block)) ≡ length block - 1
-length-block_behind block = ap length (take_rest block 1) ∙ length-drop 1 block
+  pub length-written : (c : List ℕ) → Holds file mark block c → length c ≡ mark + length block
+  length-written c holds =
+      omega (arith, ap length (written c holds), size, ap length holds_new, length-append header rest.batches, length-append header all_batches, length-append (header ++ all_batches) (35 ∷ []), length-append all_batches (35 ∷ []), length-append rest.batches (marked new), length-append (marked new) (35 ∷ []))
 
 -- a block that is a mark alone has no line
 pub no_new : (new : List (List ℕ)) (block : List ℕ) → block ≡ marked new ++ 35 ∷ [] → length block ≡ 1 → new ≡ []
 no_new [] block is one = refl
-no_new (line ∷ new) block is one =
-    let rest = (line ++ 10 ∷ []) ++ marked new in
-    let size : length block ≡ suc (length (rest ++ 35 ∷ [])) = ap length is in
-    absurd (omega (arith, one, size, length-append rest (35 ∷ [])))
+no_new (line ∷ []) block is one = let size = ap length is in absurd (omega (arith, one, size, length-append (32 ∷ stuffed line ++ 10 ∷ []) (35 ∷ []), length-append (stuffed line) (10 ∷ [])))
+no_new (line ∷ next ∷ lines) block is one =
+    let more = marked (next ∷ lines) in
+    let size = ap length is in
+    absurd (omega (arith, one, size, length-append (43 ∷ stuffed line ++ 10 ∷ more) (35 ∷ []), length-append (stuffed line) (10 ∷ more)))
 
-pub are_append : (old new : List (List ℕ)) → AreLines old → AreLines new → AreLines (old ++ new)
-are_append [] new are_old are_new = are_new
-are_append (line ∷ old) new are_old are_new = (are_old.0, are_append old new are_old.1 are_new)
+-- a new file of one batch
+pub one_batch : (new : List (List ℕ)) → AreLines new → (file : List ℕ) → file ≡ header ++ marked new ++ 35 ∷ [] → IsAtRest file × (recovered file ≡ new)
+one_batch new are file is = (
+  record { batches = marked new; is = is; whole = whole_marked new are },
+  ap recovered is ∙ recovered_rest (marked new) (35 ∷ []) (whole_marked new are) mark_none ∙ marked_alone new are,
+)

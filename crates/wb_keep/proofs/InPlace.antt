@@ -1,27 +1,31 @@
 -- What a crash leaves while a new log is put in place of another.
-use Rattle.std.proofs.Common.{◌≡◌, ◌⊎◌, inl, inr, ⊎_elim, ℕ, List, [], ◌∷◌, ◌≤◌, length, subst, sym, ap, ◌∙◌, arith, length-append}
-use Rattle.wb_disk.specs.Device.{Only, Elapses, LeavesOnly}
-use Rattle.wb_disk.proofs.Moments.{started, goes_on}
-use Rattle.wb_keep.specs.Lines.{lines_of, recovered, at_rest}
-use Rattle.wb_keep.specs.Keep.{IsOldOrNew}
-use Rattle.wb_keep.proofs.Fronts.{are_lines, front, has_header}
-use Rattle.wb_keep.proofs.Crash.{recovered_closed}
+use Rattle.std.proofs.Common.{◌≡◌, ◌⊎◌, inl, inr, ⊎_elim, ℕ, ◌-◌, List, [], ◌∷◌, ◌++◌, ◌≤◌, length, refl, subst, sym, ap, ◌∙◌, arith, length-append}
+use Rattle.wb_keep.specs.Disk.Device.{Only, Elapses, LeavesOnly}
+use Rattle.wb_keep.proofs.Disks.Moments.{started, goes_on}
+use Rattle.wb_keep.specs.Lines.{lines_of, header, marked, recovered, HasHeader, IsAtRest}
+use Rattle.wb_keep.specs.Keep.{IsOldOrNew, IsSettled}
+use Rattle.wb_keep.specs.declared.keep.LineLog.{LineLog}
+use Rattle.wb_keep.proofs.Feeds.{are_lines}
+use Rattle.wb_keep.proofs.Crash.{one_batch}
 
--- a file at rest, of the old lines or of the new ones
-is_old : (old new : List (List ℕ)) (c : List ℕ) → c ≡ at_rest old → recovered (at_rest old) ≡ old → IsOldOrNew old new c
-is_old old new c is stands = subst (IsOldOrNew old new) (sym is) (record { head = has_header old (35 ∷ []); lines = inl stands })
+-- a file at rest has its header
+pub rest_has_header : (file : List ℕ) → IsAtRest file → HasHeader file
+rest_has_header file rest = subst HasHeader (sym rest.is) refl
 
-is_new : (old : List (List ℕ)) (lines c : List ℕ) → c ≡ at_rest (lines_of lines) → IsOldOrNew old (lines_of lines) c
+is_old : (file : List ℕ) (new : List (List ℕ)) (c : List ℕ) → IsAtRest file → c ≡ file → IsOldOrNew (recovered file) new c
+is_old file new c rest is = subst (IsOldOrNew (recovered file) new) (sym is) (record { head = rest_has_header file rest; lines = inl refl })
+
+is_new : (old : List (List ℕ)) (lines c : List ℕ) → c ≡ header ++ marked (lines_of lines) ++ 35 ∷ [] → IsOldOrNew old (lines_of lines) c
 is_new old lines c is =
-    let new = lines_of lines in
-    subst (IsOldOrNew old new) (sym is) (record { head = has_header new (35 ∷ []); lines = inr (recovered_closed new (are_lines lines) []) })
+    let one = one_batch (lines_of lines) (are_lines lines) c is in
+    record { head = rest_has_header c one.0; lines = inr one.1 }
 
 module _ {D : Type 0} (seen : D → List ℕ) (moment : D → ℕ) (left_since : D → ℕ → List ℕ → Type 0) (may_leave : D → List ℕ → Type 0) (old new : D)
-    (rest : seen old ≡ at_rest (recovered (seen old))) (durable : Only (seen old) (may_leave old)) where
+    (rest : IsAtRest (seen old)) (durable : Only (seen old) (may_leave old)) where
   stood : (lines c : List ℕ) → may_leave old c → IsOldOrNew (recovered (seen old)) (lines_of lines) c
-  stood lines c left = is_old (recovered (seen old)) (lines_of lines) c (durable c left ∙ rest) (ap recovered (sym rest))
+  stood lines c left = is_old (seen old) (lines_of lines) c rest (durable c left)
 
-  pub each_moment : (lines file : List ℕ) → file ≡ at_rest (lines_of lines) → ((c : List ℕ) → left_since old (moment old) c → may_leave old c)
+  pub each_moment : (lines file : List ℕ) → file ≡ header ++ marked (lines_of lines) ++ 35 ∷ [] → ((c : List ℕ) → left_since old (moment old) c → may_leave old c)
       → ((c : List ℕ) → may_leave new c → may_leave old c ⊎ (c ≡ file)) → Elapses (moment old) (moment new) (left_since old) (left_since new) (may_leave new)
       → LeavesOnly moment left_since old new (IsOldOrNew (recovered (seen old)) (lines_of lines))
   each_moment lines file is only_now crash time =
@@ -31,6 +35,16 @@ module _ {D : Type 0} (seen : D → List ℕ) (moment : D → ℕ) (left_since :
       time
       (λ c now. ⊎_elim (λ was. stood lines c was) (λ put. is_new (recovered (seen old)) lines c (put ∙ is)) (crash c now))
 
--- a file at rest has its mark
-pub long_rest : (lines : List (List ℕ)) → 1 ≤ length (at_rest lines)
-long_rest lines = omega (arith, length-append (front lines) (35 ∷ []))
+-- a new log is settled
+pub settled : {D : Type 0} (seen : D → List ℕ) (may_leave : D → List ℕ → Type 0) (log : LineLog D) (lines file : List ℕ) → file ≡ header ++ marked (lines_of lines) ++ 35 ∷ [] → seen log.device ≡ file
+    → log.mark ≡ length file - 1 → Only file (may_leave log.device) → IsSettled seen may_leave log × (recovered (seen log.device) ≡ lines_of lines)
+settled seen may_leave log lines file is held end durable =
+    let one = one_batch (lines_of lines) (are_lines lines) file is in
+    let size : 1 ≤ length file = omega (arith, ap length is, length-append (marked (lines_of lines)) (35 ∷ []), length-append header (marked (lines_of lines) ++ 35 ∷ [])) in (
+      record {
+        file = subst IsAtRest (sym held) one.0;
+        mark = omega (arith, end, size, ap length held);
+        durable = subst (λ (f : List ℕ). Only f (may_leave log.device)) (sym held) durable;
+      },
+      ap recovered held ∙ one.1,
+    )

@@ -1,8 +1,10 @@
+pub mod Disks
 mod Appending
+mod Batches
 mod Crash
 mod Feeds
-mod Fronts
 mod InPlace
+mod Reading
 mod Repair
 mod Runs
 mod Steps

@@ -1,12 +1,12 @@
 -- What a log that is open keeps.
 use Rattle.std.specs.Prelude.{◌≡◌, ◌⊎◌, ℕ, ◌+◌, List, ◌++◌, length}
-use Rattle.wb_disk.specs.Device.{Only}
-use Rattle.wb_keep.specs.Lines.{recovered, at_rest, HasHeader}
+use Rattle.wb_keep.specs.Disk.Device.{Only}
+use Rattle.wb_keep.specs.Lines.{recovered, IsAtRest, HasHeader}
 use Rattle.wb_keep.specs.declared.keep.LineLog.{LineLog}
 
 -- the file is at rest, all of it on the disk
 pub record IsSettled {D : Type 0} (seen : D → List ℕ) (may_leave : D → List ℕ → Type 0) (log : LineLog D) : Type 0 where
-  pub file : seen log.device ≡ at_rest (recovered (seen log.device))
+  pub file : IsAtRest (seen log.device)
   pub mark : log.mark + 1 ≡ length (seen log.device)
   pub durable : Only (seen log.device) (may_leave log.device)
 

@@ -1,4 +1,6 @@
+pub mod Disk
 pub mod Keep
 pub mod Lines
 pub mod Repair
 pub mod Run
+pub mod Reading

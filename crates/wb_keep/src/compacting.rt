@@ -1,13 +1,13 @@
 //! A new log in place of another, with lines of its own.
-ghost use Rattle.std.specs.Prelude.{◌≡◌, ◌≢◌, ◌<◌, ◌≤◌, IfOk, IfErr, OnOk, OnErr, IsErrOf};
-ghost use Rattle.wb_disk.specs.Device.{LeavesOnly};
-ghost use Rattle.wb_keep.specs.Lines.{lines_of, recovered, at_rest};
+ghost use Rattle.std.specs.Prelude.{◌++◌, [], ◌∷◌, ◌≡◌, ◌≢◌, ◌<◌, ◌≤◌, IfOk, IfErr, OnOk, OnErr, IsErrOf};
+ghost use Rattle.wb_keep.specs.Disk.Device.{LeavesOnly};
+ghost use Rattle.wb_keep.specs.Lines.{lines_of, header, marked, recovered};
 ghost use Rattle.wb_keep.specs.Keep.{IsSettled, IsOldOrNew};
 
+use crate::disk::{ReplaceErr, Replaces};
 use crate::keep::{HEADER, LineLog};
 use crate::lines::block_of;
 use std::alloc::{AllocError, Global};
-use wb_disk::{ReplaceErr, Replaces};
 
 /// Why no new log is put in place of another.
 #[derive(Clone, Copy, Debug, PartialEq, Eq)]
@@ -22,7 +22,7 @@ pub enum CompactErr {
 
 /// The file of a log at rest that has these lines.
 fn file_of(alloc: Global, lines: &[u8]) -> Result<Vec<u8>, AllocError>
-    ensures { IfOk result (λ file. file.items ≡ at_rest (lines_of lines.now)) }
+    ensures { IfOk result (λ file. file.items ≡ header ++ marked (lines_of lines.now) ++ 35 ∷ []) }
 {
     let mut file = HEADER.to_vec(alloc)?;
     let block = block_of(alloc, lines)?;

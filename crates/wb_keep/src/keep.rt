@@ -1,15 +1,15 @@
-//! The log: a header, lines that count, and the mark of a line that does not.
-ghost use Rattle.std.specs.Prelude.{◌≡◌, ◌≢◌, ◌<◌, ◌≤◌, ◌^◌, ◌++◌, [], length, take, map, IsTrue, IsFalse, IfOk, IfErr, IsErrAnd, OnOk, OnErr, IsErrOf, Err};
-ghost use Rattle.wb_disk.specs.Device.{Only, LeavesOnly, Torn, Cut, Holds};
-ghost use Rattle.wb_keep.specs.Lines.{lines_of, recovered, at_rest, is_ours};
+//! The log: a header, batches of lines, and the mark of a line that does not count.
+ghost use Rattle.std.specs.Prelude.{◌≡◌, ◌≢◌, ◌<◌, ◌≤◌, ◌^◌, ◌++◌, ◌+◌, max, [], length, map, IsTrue, IsFalse, IfOk, IfErr, IsErrAnd, OnOk, OnErr, IsErrOf, Err};
+ghost use Rattle.wb_keep.specs.Disk.Device.{Only, LeavesOnly, Torn, Holds};
+ghost use Rattle.wb_keep.specs.Lines.{lines_of, recovered, IsAtRest, is_ours};
 ghost use Rattle.wb_keep.specs.Keep.{IsSettled, IsBeforeOrAfter};
 ghost use Rattle.wb_keep.specs.Run.{lines_in, HasSome};
 ghost use Rattle.wb_keep.specs.declared.keep.AppendErr.TheVariants.{Memory, Failed};
 ghost use Rattle.wb_keep.specs.Repair.{IsRepairable, StandsForTheSame, tail_at};
 
-use crate::lines::{CLOSED, COUNTS, block_of, counted_lines};
+use crate::disk::{Device, DeviceFault};
+use crate::lines::{CLOSED, block_of, counted_lines};
 use std::alloc::{AllocError, Global};
-use wb_disk::{Device, DeviceFault};
 
 /// The first line.
 pub(crate) const HEADER: [u8; 18] = *b"chapel-workbook 3\n";
@@ -73,33 +73,19 @@ fn tail_at(end: usize) -> &'static [u8]
     if end == 0 { &START } else { &[CLOSED] }
 }
 
-/// Writes bytes at a place of a file, all of which is on the disk, and syncs. A crash at any moment leaves the file as it
-/// was, but for any bytes at that place.
+/// Writes bytes at a place of a file, all of which is on the disk, and syncs. A crash at any moment leaves what a write
+/// that is cut short may leave.
 fn put<D: Device>(device: &mut D, at: usize, bytes: &[u8]) -> Result<(), DeviceFault>
     requires durable { Only (D.seen device.old) (D.may_leave device.old) }
     requires within { at ≤ length (D.seen device.old) }
     ensures written { OnOk result (Holds (D.seen device.old) at bytes.now (D.seen device.new)) }
     ensures durable { OnOk result (Only (D.seen device.new) (D.may_leave device.new)) }
-    ensures any_moment { LeavesOnly D.moment D.left_since device.old device.new (Torn at (length bytes.now) (D.seen device.old)) }
+    ensures any_moment { LeavesOnly D.moment D.left_since device.old device.new (Torn at bytes.now (D.seen device.old)) }
     ensures failed { OnErr result (D.faults device.old < D.faults device.new) }
     ensures faults { D.faults device.old ≤ D.faults device.new }
 {
     device.write_at(at, bytes)?;
-    // Before this a crash may leave any bytes there.
-    device.sync()
-}
-
-/// Cuts a file, all of which is on the disk, and syncs. A crash at any moment leaves some length between.
-fn shorten<D: Device>(device: &mut D, len: usize) -> Result<(), DeviceFault>
-    requires durable { Only (D.seen device.old) (D.may_leave device.old) }
-    requires within { len ≤ length (D.seen device.old) }
-    ensures cut { OnOk result (D.seen device.new ≡ take len (D.seen device.old)) }
-    ensures durable { OnOk result (Only (D.seen device.new) (D.may_leave device.new)) }
-    ensures any_moment { LeavesOnly D.moment D.left_since device.old device.new (Cut len (D.seen device.old)) }
-    ensures failed { OnErr result (D.faults device.old < D.faults device.new) }
-    ensures faults { D.faults device.old ≤ D.faults device.new }
-{
-    device.cut(len)?;
+    // Before this a crash may leave a part of them.
     device.sync()
 }
 
@@ -107,14 +93,16 @@ fn shorten<D: Device>(device: &mut D, len: usize) -> Result<(), DeviceFault>
 fn repair<D: Device>(device: &mut D, end: usize) -> Result<(), DeviceFault>
     requires durable { Only (D.seen device.old) (D.may_leave device.old) }
     requires repairable { IsRepairable (D.seen device.old) end }
-    ensures at_rest { OnOk result (D.seen device.new ≡ at_rest (recovered (D.seen device.old))) }
+    ensures at_rest { OnOk result (IsAtRest (D.seen device.new) × (recovered (D.seen device.new) ≡ recovered (D.seen device.old))) }
+    ensures mark { OnOk result (max end 18 + 1 ≡ length (D.seen device.new)) }
     ensures durable { OnOk result (Only (D.seen device.new) (D.may_leave device.new)) }
     ensures any_moment { LeavesOnly D.moment D.left_since device.old device.new (StandsForTheSame (D.seen device.old)) }
     ensures failed { OnErr result (D.faults device.old < D.faults device.new) }
 {
-    // The cut is on the disk first: behind a mark that is torn open, what was there would count.
-    shorten(device, end)?;
-    put(device, end, tail_at(end))
+    // One sync is enough for both: with the mark, without it and with a part of the old end the file stands for the same.
+    device.cut(end)?;
+    device.write_at(end, tail_at(end))?;
+    device.sync()
 }
 
 /// Whether a file begins with our header, or is the front of one that would.
@@ -247,8 +235,7 @@ impl<D: Device> LineLog<D> {
         if mark >= MAX_LENGTH {
             return Err(AppendErr::Full);
         }
-        put(&mut self.device, mark + 1, &block[1..])?;
-        put(&mut self.device, mark, &[COUNTS])?;
+        put(&mut self.device, mark, &block)?;
         self.mark = mark + (block.len() - 1);
         Ok(())
     }

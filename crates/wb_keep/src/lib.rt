@@ -2,6 +2,7 @@
 #![tactic(auto)]
 
 mod compacting;
+pub mod disk;
 mod keep;
 mod lines;
 

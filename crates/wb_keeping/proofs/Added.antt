@@ -2,21 +2,21 @@
 use Rattle.std.proofs.Common.{◌≡◌, ◌≢◌, ◌⊎◌, inl, inr, ℕ, zero, suc, ◌+◌, ◌<◌, List, [], ◌∷◌, ◌++◌, length, take, get_or, Some, Result, Ok, Err, OnOk, IfOk, refl, sym, ◌∙◌, ap}
 use Rattle.std.proofs.Common.{subst, arith, append-nil, append_assoc}
 use Rattle.wb_lines.specs.Lines.{IsUnbroken}
-use Rattle.wb_proto.specs.Below.wb_edit.edit.Edit.{Edit}
-use Rattle.wb_proto.specs.Below.wb_history.Past.{Past}
-use Rattle.wb_proto.specs.Below.wb_log.refusal.Refusal.{Refusal}
-use Rattle.wb_proto.specs.Below.wb_log.refusal.Refusal.TheVariants.{NoMemory}
-use Rattle.wb_proto.specs.Machine.{Changes, Step, StepIfRead, NothingDone}
-use Rattle.wb_proto.specs.Replies.{reply_of}
-use Rattle.wb_proto.specs.Requests.{request}
-use Rattle.wb_proto.specs.declared.replies.reply.Reply.{Reply}
-use Rattle.wb_proto.specs.declared.replies.reply.Reply.TheVariants.{Edited, Refused}
-use Rattle.wb_proto.specs.declared.requests.request.Request.{Request}
-use Rattle.wb_proto.specs.declared.requests.request.Request.TheVariants.{Change, Undo}
-use Rattle.wb_record.proofs.Unbroken.{unbroken_value}
-use Rattle.wb_wire.specs.Encoded.{request_data, request_line}
-use Rattle.wb_wire.specs.Proper.{IsProperRequest}
-use Rattle.wb_granting.specs.Granting.{AreLinesOf, AddsLinesOf, AddsIfEdited, Answers, IsLineOf, IsOther, changes_made, undos_made, undos_of}
+use Rattle.wb_edit.specs.declared.edit.Edit.{Edit}
+use Rattle.wb_history.specs.Past.{Past}
+use Rattle.wb_log.specs.declared.refusal.Refusal.{Refusal}
+use Rattle.wb_log.specs.declared.refusal.Refusal.TheVariants.{NoMemory}
+use Rattle.wb_protocol.specs.Machine.{Changes, Step, StepIfRead, NothingDone}
+use Rattle.wb_protocol.specs.Replies.{reply_of}
+use Rattle.wb_protocol.specs.Requests.{request}
+use Rattle.wb_protocol.specs.declared.replies.reply.Reply.{Reply}
+use Rattle.wb_protocol.specs.declared.replies.reply.Reply.TheVariants.{Edited, Refused}
+use Rattle.wb_protocol.specs.declared.requests.request.Request.{Request}
+use Rattle.wb_protocol.specs.declared.requests.request.Request.TheVariants.{Change, Undo}
+use Rattle.wb_protocol.proofs.HistoryTexts.Unbroken.{unbroken_value}
+use Rattle.wb_protocol.specs.Wire.Encoded.{request_data, request_line}
+use Rattle.wb_protocol.specs.Wire.Proper.{IsProperRequest}
+use Rattle.wb_keeping.specs.Granting.Granting.{AreLinesOf, AddsLinesOf, AddsIfEdited, Answers, IsLineOf, IsOther, changes_made, undos_made, undos_of}
 
 -- ---- one line
 

@@ -2,14 +2,14 @@
 use Rattle.std.proofs.Common.{◌≡◌, ◌≢◌, inr, ⊎_elim, ℕ, List, [], ◌∷◌, ◌++◌, refl, sym, ◌∙◌, ap, subst, arith}
 use Rattle.std.proofs.lemmas.Bool.Decides.{nat_tests}
 use Rattle.selective_undo.specs.History.{traces}
-use Rattle.wb_book.specs.Cells.{written_more}
+use Rattle.wb_cells.specs.Cells.{written_more}
 use Rattle.wb_keep.specs.Keep.{IsOldOrNew}
-use Rattle.wb_keep.specs.Lines.{onto, lines_of, recovered, at_rest, HasHeader}
+use Rattle.wb_keep.specs.Lines.{onto, lines_of, recovered, IsAtRest, HasHeader}
 use Rattle.wb_kept.specs.Runs.{Leads}
 use Rattle.wb_lines.specs.Lines.{IsUnbroken}
-use Rattle.wb_proto.specs.Below.wb_history.Past.{Numbered, Past, meant}
-use Rattle.wb_proto.specs.Below.wb_history.Restored.{IsCounted, cells_written}
-use Rattle.wb_granting.specs.Granting.{Grants, Begins, no_edit}
+use Rattle.wb_history.specs.Past.{Numbered, Past, meant}
+use Rattle.wb_history.specs.Restored.{IsCounted, cells_written}
+use Rattle.wb_keeping.specs.Granting.Granting.{Grants, Begins, no_edit}
 use Rattle.wb_keeping.specs.Anew.{HasEdits}
 
 -- ---- a line and its end are one line
@@ -50,5 +50,5 @@ module _ (h : Past) (line : List ℕ) (begins : (q : Past) → q.entries ≡ h.e
       (λ now. begun file (now ∙ one) which.head)
       which.lines
 
-pub head_at_rest : (file : List ℕ) (lines : List (List ℕ)) → file ≡ at_rest lines → HasHeader file
-head_at_rest file lines is = subst HasHeader (sym is) refl
+pub head_at_rest : (file : List ℕ) → IsAtRest file → HasHeader file
+head_at_rest file rest = subst HasHeader (sym rest.is) refl

@@ -6,11 +6,11 @@ use Rattle.serde_json.specs.Find.{get, as_str}
 use Rattle.serde_json.specs.Read.{read, max_depth}
 use Rattle.serde_json.specs.Written.{compact_text}
 use Rattle.wb_lines.specs.Lines.{IsUnbroken}
-use Rattle.wb_proto.specs.Below.wb_history.Past.{Past}
-use Rattle.wb_proto.specs.Below.wb_history.Restored.{IsCounted}
-use Rattle.wb_record.specs.Text.{history_text, IsHistory, IsNoHistory}
-use Rattle.wb_record.proofs.Unbroken.{unbroken_value}
-use Rattle.wb_granting.specs.Granting.{Begins, resume_data}
+use Rattle.wb_history.specs.Past.{Past}
+use Rattle.wb_history.specs.Restored.{IsCounted}
+use Rattle.wb_protocol.specs.Histories.Text.{history_text, IsHistory, IsNoHistory}
+use Rattle.wb_protocol.proofs.HistoryTexts.Unbroken.{unbroken_value}
+use Rattle.wb_keeping.specs.Granting.Granting.{Begins, resume_data}
 
 some_same : {A : Type 0} (a b : A) → Some a ≡ Some b → a ≡ b
 some_same a b e = cc

@@ -1,3 +1,4 @@
+pub mod Grants
 pub mod Added
 pub mod Anew
 pub mod Begun

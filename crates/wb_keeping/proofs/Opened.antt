@@ -1,14 +1,14 @@
 -- A file that has no line, before and after it is begun with a history.
 use Rattle.std.proofs.Common.{◌≡◌, inl, inr, ⊎_elim, ℕ, List, [], ◌∷◌, ◌++◌, length, map, arith, refl, sym, ◌∙◌, ap, ap₂, subst, string_bytes}
 use Rattle.std.specs.Prelude.{Bool, true, false, IsFalse, IsTrue, Result, Ok, Err}
-use Rattle.wb_disk.specs.Device.{LeavesOnly, Only}
-use Rattle.wb_disk.proofs.Moments.{started, joined, weaker}
+use Rattle.wb_keep.specs.Disk.Device.{LeavesOnly, Only}
+use Rattle.wb_keep.proofs.Disks.Moments.{started, joined, weaker}
 use Rattle.wb_keep.specs.Keep.{IsBeforeOrAfter}
 use Rattle.wb_keep.specs.Lines.{is_ours, lines_of, recovered}
 use Rattle.wb_keep.specs.Repair.{StandsForTheSame}
 use Rattle.wb_kept.specs.Runs.{Leads}
 use Rattle.wb_lines.specs.Lines.{IsUnbroken}
-use Rattle.wb_granting.specs.Granting.{Grants, no_edit}
+use Rattle.wb_keeping.specs.Granting.Granting.{Grants, no_edit}
 use Rattle.wb_keeping.specs.Opening.{IsOldOrBegun, IsOpening}
 use Rattle.wb_keeping.specs.declared.beginning.Opening.{Opening}
 use Rattle.wb_keeping.proofs.Anew.{one_line}

@@ -1,18 +1,18 @@
 -- What a step of a logged request says of its grant.
 use Rattle.std.proofs.Common.{◌≡◌, ◌≢◌, inl, inr, ℕ, Bool, true, false, IfOk, List, [], Some, Result, Ok, Err, refl, sym, ◌∙◌, subst}
 use Rattle.wb_history.proofs.OneAnswer.{edit_answer_law, undo_answer_law, redo_answer_law}
-use Rattle.wb_proto.specs.Below.wb_edit.Commands.{meaning}
-use Rattle.wb_proto.specs.Below.wb_history.Past.{Past, meant}
-use Rattle.wb_proto.specs.Below.wb_log.refusal.Refusal.{Refusal}
-use Rattle.wb_proto.specs.Below.wb_log.refusal.Refusal.TheVariants.{NoMemory}
-use Rattle.wb_proto.specs.Machine.{Step}
-use Rattle.wb_proto.specs.Requests.{request}
-use Rattle.wb_proto.specs.declared.replies.reply.Reply.{Reply}
-use Rattle.wb_proto.specs.declared.replies.reply.Reply.TheVariants.{Edited, Undone, Redone, Refused}
-use Rattle.wb_proto.specs.declared.requests.request.Request.{Request}
-use Rattle.wb_proto.specs.declared.requests.request.Request.TheVariants.{Change, Undo, Redo}
-use Rattle.wb_granting.specs.Granting.{Grants, GrantsRequest, IsLogged, Begins}
-use Rattle.wb_granting.proofs.Beginning.{no_request}
+use Rattle.wb_edit.specs.Commands.{meaning}
+use Rattle.wb_history.specs.Past.{Past, meant}
+use Rattle.wb_log.specs.declared.refusal.Refusal.{Refusal}
+use Rattle.wb_log.specs.declared.refusal.Refusal.TheVariants.{NoMemory}
+use Rattle.wb_protocol.specs.Machine.{Step}
+use Rattle.wb_protocol.specs.Requests.{request}
+use Rattle.wb_protocol.specs.declared.replies.reply.Reply.{Reply}
+use Rattle.wb_protocol.specs.declared.replies.reply.Reply.TheVariants.{Edited, Undone, Redone, Refused}
+use Rattle.wb_protocol.specs.declared.requests.request.Request.{Request}
+use Rattle.wb_protocol.specs.declared.requests.request.Request.TheVariants.{Change, Undo, Redo}
+use Rattle.wb_keeping.specs.Granting.Granting.{Grants, GrantsRequest, IsLogged, Begins}
+use Rattle.wb_keeping.specs.Granting.Beginning.{no_request}
 
 ok_not : {X : Type 0} {x : X} {e : Refusal} → Ok x ≡ Err e → ⊥
 ok_not h = cc

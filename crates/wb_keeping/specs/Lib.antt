@@ -1,2 +1,3 @@
+pub mod Granting
 pub mod Anew
 pub mod Opening

@@ -1,11 +1,11 @@
 -- What a file of lines is before, while and after it is begun with a history.
 use Rattle.std.specs.Prelude.{◌≡◌, ◌≢◌, ◌⊎◌, ◌<◌, ℕ, List, [], ◌∷◌, IsTrue, IsFalse, string_bytes}
-use Rattle.wb_disk.specs.Device.{LeavesOnly}
-use Rattle.wb_disk.specs.declared.device.Device as Device
-use Rattle.wb_granting.specs.Granting.{Begins}
+use Rattle.wb_keep.specs.Disk.Device.{LeavesOnly}
+use Rattle.wb_keep.specs.declared.disk.device.Device as Device
+use Rattle.wb_keeping.specs.Granting.Granting.{Begins}
 use Rattle.wb_keep.specs.Lines.{recovered, is_ours, HasHeader}
 use Rattle.wb_lines.specs.Lines.{IsUnbroken}
-use Rattle.wb_record.specs.Text.{history_text}
+use Rattle.wb_protocol.specs.Histories.Text.{history_text}
 use Rattle.wb_keeping.specs.declared.opening.BeginErr.{BeginErr}
 use Rattle.wb_keeping.specs.declared.opening.BeginErr.TheVariants as errs
 use Rattle.wb_keeping.specs.declared.beginning.Opening.{Opening}

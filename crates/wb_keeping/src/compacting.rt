@@ -1,17 +1,17 @@
 // A log made anew, of the text of its history.
 ghost use Rattle.std.specs.Prelude.{◌≡◌, ◌≢◌, ◌<◌, ◌≤◌, ℕ, List, ◌∷◌, [], IfErr, OnOk, IsErrOf};
-ghost use Rattle.wb_disk.specs.Device.{LeavesOnly};
+ghost use Rattle.wb_keep.specs.Disk.Device.{LeavesOnly};
 ghost use Rattle.wb_keep.specs.Keep.{IsSettled};
 ghost use Rattle.wb_keep.specs.Lines.{recovered};
 ghost use Rattle.wb_kept.specs.Runs.{Leads};
-ghost use Rattle.wb_granting.specs.Granting.{Grants, no_edit};
+ghost use Rattle.wb_keeping.specs.Granting.Granting.{Grants, no_edit};
 ghost use Rattle.wb_keeping.specs.Anew.{HasEdits};
 
 use crate::beginning::resume_line;
 use std::alloc::Global;
-use wb_disk::Replaces;
+use wb_history::History;
+use wb_keep::disk::Replaces;
 use wb_keep::{CompactErr, LineLog};
-use wb_proto::below::history::History;
 
 /// Puts a log that has the text of a history alone in place of the one whose changes led to it.
 pub fn compact<D: Replaces>(

@@ -5,6 +5,7 @@
 mod answering;
 mod beginning;
 mod compacting;
+pub mod granting;
 mod lines;
 mod machine;
 mod making;

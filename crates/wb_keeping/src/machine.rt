@@ -1,14 +1,14 @@
 // What is said of a history whose changes are kept.
-ghost use Rattle.wb_granting.specs.Granting.{no_edit, Grants, Answers};
+ghost use Rattle.wb_keeping.specs.Granting.Granting.{no_edit, Grants, Answers};
 
+use wb_history::History;
 use wb_kept::Machine;
-use wb_proto::below::history::History;
 
 /// A history, as a machine whose changes are kept.
 pub struct KeptHistory;
 
 impl Machine<History> for KeptHistory {
-    ghost use Rattle.wb_granting.proofs.Leading.{changes_lead, one_history};
+    ghost use Rattle.wb_keeping.specs.Granting.Leading.{changes_lead, one_history};
 
     ghost start = { no_edit };
 

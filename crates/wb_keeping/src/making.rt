@@ -1,14 +1,14 @@
 // A change made again.
 ghost use Rattle.std.specs.Prelude.{◌≡◌, ◌≢◌, true, false, IfOk};
-ghost use Rattle.wb_proto.specs.Below.wb_history.Past.{Past};
-ghost use Rattle.wb_granting.specs.Granting.{Grants, GrantsRequest, IsLogged};
+ghost use Rattle.wb_history.specs.Past.{Past};
+ghost use Rattle.wb_keeping.specs.Granting.Granting.{Grants, GrantsRequest, IsLogged};
 
 use crate::beginning::begin;
 use crate::stepping::step;
 use std::alloc::{AllocError, Global};
-use wb_proto::below::history::{History, Refusal};
-use wb_proto::{Reply, Request, read_request};
-use wb_redist::Mover;
+use wb_arrays::Mover;
+use wb_history::{History, Refusal};
+use wb_protocol::{Reply, Request, read_request};
 
 /// Whether a request is one that a log has.
 fn is_logged(request: &Request) -> bool

@@ -1,17 +1,17 @@
 // A log that begins with the text of a history.
 ghost use Rattle.std.specs.Prelude.{◌≡◌, [], ◌∷◌, IfOk, IfErr, IsTrue, string_bytes};
-ghost use Rattle.wb_disk.specs.Device.{LeavesOnly, Only};
+ghost use Rattle.wb_keep.specs.Disk.Device.{LeavesOnly, Only};
 ghost use Rattle.wb_keep.specs.Lines.{recovered, is_ours};
 ghost use Rattle.wb_kept.specs.Keeping.{IsKept};
-ghost use Rattle.wb_granting.specs.Granting.{Grants, no_edit};
+ghost use Rattle.wb_keeping.specs.Granting.Granting.{Grants, no_edit};
 ghost use Rattle.wb_keeping.specs.Opening.{IsOpening, IsNoBeginning, IsOldOrBegun};
 
 use crate::beginning::Opening;
 use std::alloc::Global;
-use wb_disk::Device;
+use wb_history::History;
+use wb_keep::disk::Device;
 use wb_keep::{AppendErr, OpenErr, read, resume};
 use wb_kept::Kept;
-use wb_proto::below::history::History;
 
 /// Why a file is not begun with a history.
 #[derive(Clone, Copy, Debug, PartialEq, Eq)]

@@ -1,10 +1,10 @@
 // The one call of the machine of requests and replies.
-ghost use Rattle.wb_proto.specs.Machine.{Step};
+ghost use Rattle.wb_protocol.specs.Machine.{Step};
 
 use std::alloc::Global;
-use wb_proto::below::history::History;
-use wb_proto::{Reply, Request, answer_request};
-use wb_redist::Mover;
+use wb_arrays::Mover;
+use wb_history::History;
+use wb_protocol::{Reply, Request, answer_request};
 
 /// Answers a request.
 pub(crate) fn step<M: Mover>(

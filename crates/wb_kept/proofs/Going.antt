@@ -4,8 +4,8 @@ use Rattle.std.proofs.Common.{append_assoc, append-nil, length-append, arith}
 use Rattle.std.proofs.lemmas.List.{take_all, take-append-le, length-map}
 use Rattle.std.specs.Io.KnownBytes.{Appends, Consumes, Keeps}
 use Rattle.std.proofs.KnownBytes.{Appends-nil, Appends-kept, Appends-trans, Consumes-nil, Consumes-trans}
-use Rattle.wb_disk.specs.Device.{LeavesOnly}
-use Rattle.wb_disk.proofs.Moments.{joined}
+use Rattle.wb_keep.specs.Disk.Device.{LeavesOnly}
+use Rattle.wb_keep.proofs.Disks.Moments.{joined}
 use Rattle.wb_keep.specs.Lines.{recovered}
 use Rattle.wb_keep.specs.Keep.{IsSettled}
 use Rattle.wb_lines.specs.Lines.{finished_lines, ended}

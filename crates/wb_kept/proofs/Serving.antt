@@ -1,7 +1,7 @@
 -- A turn while it is answered, and as it ends.
 use Rattle.std.proofs.Common.{◌≡◌, inl, inr, ⊎_elim, ◌+◌, ℕ, List, [], ◌∷◌, ◌++◌, length, refl, sym, ap, ◌∙◌, subst, append_assoc, append-nil, length-append, arith}
-use Rattle.wb_disk.specs.Device.{LeavesOnly}
-use Rattle.wb_disk.proofs.Moments.{started}
+use Rattle.wb_keep.specs.Disk.Device.{LeavesOnly}
+use Rattle.wb_keep.proofs.Disks.Moments.{started}
 use Rattle.wb_keep.specs.Lines.{recovered}
 use Rattle.wb_keep.specs.Keep.{IsSettled, IsBeforeOrAfter}
 use Rattle.wb_keep.specs.declared.keep.LineLog.{LineLog}

@@ -1,7 +1,7 @@
 -- What a session does, up to its end.
 use Rattle.std.specs.Prelude.{◌≡◌, ◌<◌, ◌≤◌, ℕ, List, ◌++◌, length, take, Option, Bool, true}
 use Rattle.std.specs.Io.KnownBytes.{Appends, Consumes, IsAtEnd}
-use Rattle.wb_disk.specs.Device.{LeavesOnly}
+use Rattle.wb_keep.specs.Disk.Device.{LeavesOnly}
 use Rattle.wb_keep.specs.Lines.{recovered}
 use Rattle.wb_lines.specs.Causes.{RisesBy}
 use Rattle.wb_lines.specs.Lines.{lines, whole_lines, finished_lines}

@@ -1,6 +1,6 @@
 //! A state and the log of its changes.
 ghost use Rattle.std.specs.Prelude.{◌≡◌, ◌≢◌, ◌<◌, ◌≤◌, ◌^◌, ◌++◌, ℕ, true, false, List, [], ◌∷◌, IfOk, IfErr, OnOk, OnErr, IsErrOf, map, IsTrue, IsFalse, IsErrAnd};
-ghost use Rattle.wb_disk.specs.Device.{Only, LeavesOnly};
+ghost use Rattle.wb_keep.specs.Disk.Device.{Only, LeavesOnly};
 ghost use Rattle.wb_keep.specs.Lines.{recovered, is_ours};
 ghost use Rattle.wb_keep.specs.Keep.{IsSettled, IsBeforeOrAfter};
 ghost use Rattle.wb_keep.specs.Repair.{StandsForTheSame};
@@ -13,7 +13,7 @@ ghost use Rattle.wb_kept.specs.Keeping.{IsKept, IsPlace};
 use crate::changes::Changes;
 use crate::machine::Machine;
 use std::alloc::{AllocError, Global};
-use wb_disk::Device;
+use wb_keep::disk::Device;
 use wb_keep::{AppendErr, LineLog, OpenErr};
 use wb_lines::Line;
 

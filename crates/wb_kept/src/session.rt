@@ -16,7 +16,7 @@ use crate::changes::Changes;
 use crate::kept::{Acknowledged, Kept, Turn};
 use crate::machine::Machine;
 use std::alloc::{AllocError, Global};
-use wb_disk::Device;
+use wb_keep::disk::Device;
 use wb_keep::{AppendErr, LineLog};
 use wb_lines::{
     Hears, Line, LineBuffer, LineFault, NothingHeld, Sends, WriteFault, next_line, send,

@@ -3,9 +3,9 @@ use Rattle.std.proofs.Common.{◌≡◌, ℕ, ◌+◌, ◌<◌, ◌≤◌, Resul
 use Rattle.std.specs.Prelude.{◌^◌, IfErr}
 use Rattle.std.proofs.lemmas.List.{take_more}
 use Rattle.std.proofs.lemmas.List.Concat.{flat_map-append}
-use Rattle.wb_disk.specs.Device.{LeavesOnly}
-use Rattle.wb_disk.proofs.Moments.{started}
-use Rattle.wb_keep.specs.Lines.{recovered, at_rest, HasHeader}
+use Rattle.wb_keep.specs.Disk.Device.{LeavesOnly}
+use Rattle.wb_keep.proofs.Disks.Moments.{started}
+use Rattle.wb_keep.specs.Lines.{recovered, HasHeader}
 use Rattle.wb_keep.specs.Keep.{IsSettled, IsBeforeOrAfter}
 use Rattle.wb_keep.specs.declared.keep.AppendErr.{AppendErr}
 use Rattle.wb_keep.specs.declared.keep.AppendErr.TheVariants.{Failed, Full, Memory}
@@ -28,15 +28,12 @@ pub lines_behind : (opening : List (List ℕ)) (before turns : List (List (List 
 lines_behind opening before turns = append_assoc opening (changes_in before) (changes_in turns) ∙ ap (λ (ls : List (List ℕ)). opening ++ ls) (sym (changes-append before turns))
 
 module _ {D : Type 0} (seen : D → List ℕ) (may_leave : D → List ℕ → Type 0) (moment : D → ℕ) (left_since : D → ℕ → List ℕ → Type 0) where
-  at_rest_has : (lines : List (List ℕ)) → HasHeader (at_rest lines)
-  at_rest_has lines = refl
-
   -- without a call, a crash leaves the lines from before
   pub idle : ((file : D) (c : List ℕ) → left_since file (moment file) c → may_leave file c) → (log : LineLog D) (more : List (List ℕ)) → IsSettled seen may_leave log
       → LeavesOnly moment left_since log.device log.device (IsBeforeOrAfter (recovered (seen log.device)) more)
   idle only_now log more s = started moment left_since log.device (IsBeforeOrAfter (recovered (seen log.device)) more)
       (λ c left. subst (IsBeforeOrAfter (recovered (seen log.device)) more) (sym (s.durable c (only_now log.device c left)))
-      (record { head = subst HasHeader (sym s.file) (at_rest_has (recovered (seen log.device))); lines = inl refl }))
+      (record { head = subst HasHeader (sym s.file.is) refl; lines = inl refl }))
 
 -- an error of a call on a log, of which each kind has its cause, tells truly of the call
 pub tells_truly : {D X : Type 0} (faults : D → ℕ) (r : Result X AppendErr) (old new : LineLog D) → (r ≡ Err Memory → new ≡ old)

@@ -1,7 +1,7 @@
 -- Turns, each the changes that it made, in a file.
 use Rattle.std.specs.Prelude.{ℕ, ◌≡◌, ◌<◌, ◌≤◌, ◌^◌, List, ◌++◌}
 use Rattle.std.specs.List.{flat_map}
-use Rattle.wb_disk.specs.Device.{LeavesOnly}
+use Rattle.wb_keep.specs.Disk.Device.{LeavesOnly}
 use Rattle.wb_keep.specs.Lines.{recovered}
 use Rattle.wb_keep.specs.Keep.{IsSettled, IsBeforeOrAfter}
 use Rattle.wb_keep.specs.declared.keep.AppendErr.{AppendErr}

@@ -1,10 +1,10 @@
 //! A file that has the changes of turns.
 ghost use Rattle.std.specs.Prelude.{◌≡◌, ◌++◌};
 
+use crate::group::{Group, Store};
 use std::alloc::Global;
 use std::marker::{Brand, PhantomData};
-use wb_disk::Device;
-use wb_group::{Group, Store};
+use wb_keep::disk::Device;
 use wb_keep::{AppendErr, LineLog};
 use wb_kept::Changes;
 
@@ -53,7 +53,7 @@ impl<O: Opening, D: Device> Journal<O, D> {
 
 impl<O: Opening, D: Device> Store<Changes, AppendErr> for Journal<O, D> {
     ghost use Rattle.std.specs.Prelude.{◌≡◌, ◌++◌};
-    ghost use Rattle.wb_disk.specs.Device.{LeavesOnly};
+    ghost use Rattle.wb_keep.specs.Disk.Device.{LeavesOnly};
     ghost use Rattle.wb_keep.specs.Lines.{recovered};
     ghost use Rattle.wb_keep.specs.Keep.{IsSettled, IsBeforeOrAfter};
     ghost use Rattle.wb_kept_group.specs.Together.{changes_in, Tells};

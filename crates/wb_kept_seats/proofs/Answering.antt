@@ -4,23 +4,23 @@ use mathlib.Core.List.{IsPrefix}
 use Rattle.wb_kept.specs.Runs.{Leads}
 use Rattle.wb_kept.proofs.Steps.{leads_append}
 use Rattle.wb_kept_group.specs.Together.{changes_in}
-use Rattle.wb_proto.specs.Below.wb_history.Past.{Past}
-use Rattle.wb_proto.specs.Below.wb_log.refusal.Refusal.{Refusal}
-use Rattle.wb_proto.specs.Machine.{Step, StepIfRead}
-use Rattle.wb_proto.specs.Replies.{reply_of}
-use Rattle.wb_proto.specs.declared.replies.reply.Reply.{Reply}
-use Rattle.wb_proto.specs.declared.replies.reply.Reply.TheVariants.{Edited, Undone, Cascaded, Redone, Listed, Answered, Printed, Counted, Refused}
-use Rattle.wb_proto.specs.declared.requests.request.Request.{Request}
-use Rattle.wb_proto.specs.declared.requests.request.Request.TheVariants.{Change}
-use Rattle.wb_granting.specs.Granting.{Grants, no_edit, AddsIfEdited, AddsLinesOf, AreLinesOf, changes_made}
-use Rattle.wb_granting.proofs.Leading.{changes_lead}
+use Rattle.wb_history.specs.Past.{Past}
+use Rattle.wb_log.specs.declared.refusal.Refusal.{Refusal}
+use Rattle.wb_protocol.specs.Machine.{Step, StepIfRead}
+use Rattle.wb_protocol.specs.Replies.{reply_of}
+use Rattle.wb_protocol.specs.declared.replies.reply.Reply.{Reply}
+use Rattle.wb_protocol.specs.declared.replies.reply.Reply.TheVariants.{Edited, Undone, Cascaded, Redone, Listed, Answered, Printed, Counted, Refused}
+use Rattle.wb_protocol.specs.declared.requests.request.Request.{Request}
+use Rattle.wb_protocol.specs.declared.requests.request.Request.TheVariants.{Change}
+use Rattle.wb_keeping.specs.Granting.Granting.{Grants, no_edit, AddsIfEdited, AddsLinesOf, AreLinesOf, changes_made}
+use Rattle.wb_keeping.specs.Granting.Leading.{changes_lead}
 use Rattle.wb_keeping.proofs.Added.{adds_none, edit_added, other_added}
-use Rattle.wb_wire.specs.Encoded.{request_line}
-use Rattle.wb_journal.proofs.Runs.{course_more}
-use Rattle.wb_journal.specs.Courses.{Course}
-use Rattle.wb_journal.specs.Entries.{is_entered, leaves_all}
-use Rattle.wb_journal.specs.Serving.{AnswersCourse, Enters, IsStrange, entry, share_after}
-use Rattle.wb_journal.specs.declared.entry.Entry.{Entry}
+use Rattle.wb_protocol.specs.Wire.Encoded.{request_line}
+use Rattle.wb_desk.proofs.Runs.{course_more}
+use Rattle.wb_desk.specs.Courses.{Course}
+use Rattle.wb_desk.specs.Entries.{is_entered, leaves_all}
+use Rattle.wb_desk.specs.Serving.{AnswersCourse, Enters, IsStrange, entry, share_after}
+use Rattle.wb_desk.specs.declared.entry.Entry.{Entry}
 use Rattle.wb_kept_seats.specs.Lines.{IsSaid, IsLineOfEdit, IsAhead, Adds}
 use Rattle.wb_kept_seats.specs.KeptCourses.{KeptCourse, StandsForFront, IsKeptCourse}
 use Rattle.wb_kept_seats.specs.Answering.{AnswersKept}

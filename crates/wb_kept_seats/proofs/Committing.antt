@@ -1,8 +1,8 @@
 -- Why the changes of a turn are not kept.
 use Rattle.std.proofs.Common.{◌≡◌, ◌<◌, ℕ, Result, Ok, Err, refl, sym, ◌∙◌}
 use Rattle.std.specs.Prelude.{◌≢◌}
-use Rattle.wb_group.specs.declared.keeper.KeepErr.{KeepErr}
-use Rattle.wb_group.specs.declared.keeper.KeepErr.TheVariants as keeping
+use Rattle.wb_kept_group.specs.declared.group.keeper.KeepErr.{KeepErr}
+use Rattle.wb_kept_group.specs.declared.group.keeper.KeepErr.TheVariants as keeping
 use Rattle.wb_keep.specs.declared.keep.AppendErr.{AppendErr}
 use Rattle.wb_keep.specs.declared.keep.AppendErr.TheVariants as appending
 use Rattle.wb_keep.specs.declared.keep.LineLog.{LineLog}

@@ -1,7 +1,7 @@
 -- Turns behind turns in a file.
 use Rattle.std.proofs.Common.{◌≡◌, ◌<◌, ℕ, ⊎_elim, List, [], ◌∷◌, ◌++◌, length, refl, sym, ap, ◌∙◌, subst, append_assoc, append-nil, arith}
 use mathlib.Core.List.{IsPrefix}
-use Rattle.wb_disk.specs.Device.{LeavesOnly}
+use Rattle.wb_keep.specs.Disk.Device.{LeavesOnly}
 use Rattle.wb_keep.specs.Lines.{recovered}
 use Rattle.wb_keep.specs.Keep.{IsSettled, IsBeforeOrAfter}
 use Rattle.wb_keep.specs.declared.keep.LineLog.{LineLog}

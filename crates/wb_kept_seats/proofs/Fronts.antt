@@ -7,10 +7,10 @@ use Rattle.wb_keep.specs.declared.keep.LineLog.{LineLog}
 use Rattle.wb_kept.specs.Runs.{Leads}
 use Rattle.wb_kept.specs.Sessions.{IsFront}
 use Rattle.wb_kept_group.specs.Together.{changes_in}
-use Rattle.wb_proto.specs.Below.wb_history.Past.{Past}
-use Rattle.wb_granting.specs.Granting.{Grants, no_edit}
-use Rattle.wb_journal.specs.Courses.{Course, IsCourse, Runs}
-use Rattle.wb_journal.specs.declared.entry.Entry.{Entry}
+use Rattle.wb_history.specs.Past.{Past}
+use Rattle.wb_keeping.specs.Granting.Granting.{Grants, no_edit}
+use Rattle.wb_desk.specs.Courses.{Course, IsCourse, Runs}
+use Rattle.wb_desk.specs.declared.entry.Entry.{Entry}
 use Rattle.wb_kept_seats.specs.KeptCourses.{KeptCourse, StandsForFront, EachFrontStands, IsKeptCourse}
 use Rattle.wb_kept_seats.specs.Files.{LeavesTurns, LeavesFronts}
 use Rattle.wb_kept_seats.proofs.Beginnings.{each_front_more, front_of_none, turn_behind}

@@ -1,11 +1,11 @@
 -- What a request of a pass does to what is locked.
 use Rattle.std.specs.Prelude.{◌≡◌, ℕ, true, List, Ok}
-use Rattle.wb_proto.specs.declared.replies.reply.Reply.{Reply}
-use Rattle.wb_proto.specs.declared.requests.request.Request.{Request}
-use Rattle.wb_granting.specs.Granting.{AddsLinesOf, changes_made}
-use Rattle.wb_journal.specs.Entries.{leaves_all}
-use Rattle.wb_journal.specs.Serving.{AnswersCourse, IsStrange, share_after}
-use Rattle.wb_journal.specs.declared.entry.Entry.{Entry}
+use Rattle.wb_protocol.specs.declared.replies.reply.Reply.{Reply}
+use Rattle.wb_protocol.specs.declared.requests.request.Request.{Request}
+use Rattle.wb_keeping.specs.Granting.Granting.{AddsLinesOf, changes_made}
+use Rattle.wb_desk.specs.Entries.{leaves_all}
+use Rattle.wb_desk.specs.Serving.{AnswersCourse, IsStrange, share_after}
+use Rattle.wb_desk.specs.declared.entry.Entry.{Entry}
 use Rattle.wb_kept_seats.specs.KeptCourses.{KeptCourse}
 
 -- It is answered as at any desk, and the lines of what it changed come to the changes of the turn under way. The turns that were made are

@@ -1,6 +1,6 @@
 -- Why the changes of a turn are not kept.
-use Rattle.wb_group.specs.declared.keeper.KeepErr.{KeepErr}
-use Rattle.wb_group.specs.declared.keeper.KeepErr.TheVariants as keeping
+use Rattle.wb_kept_group.specs.declared.group.keeper.KeepErr.{KeepErr}
+use Rattle.wb_kept_group.specs.declared.group.keeper.KeepErr.TheVariants as keeping
 use Rattle.wb_keep.specs.declared.keep.AppendErr.{AppendErr}
 use Rattle.wb_keep.specs.declared.keep.AppendErr.TheVariants as appending
 use Rattle.wb_kept_seats.specs.declared.commit.CommitErr.{CommitErr}

@@ -5,8 +5,8 @@ use Rattle.wb_keep.specs.Lines.{recovered}
 use Rattle.wb_keep.specs.Keep.{IsSettled}
 use Rattle.wb_keep.specs.declared.keep.LineLog.{LineLog}
 use Rattle.wb_kept_group.specs.Together.{changes_in}
-use Rattle.wb_proto.specs.Below.wb_history.Past.{Past}
-use Rattle.wb_journal.specs.declared.entry.Entry.{Entry}
+use Rattle.wb_history.specs.Past.{Past}
+use Rattle.wb_desk.specs.declared.entry.Entry.{Entry}
 use Rattle.wb_kept_seats.specs.KeptCourses.{StandsForFront}
 
 -- A crash at any moment since the desk was opened leaves a file that has the lines of the opening, with the changes of a front of the turns

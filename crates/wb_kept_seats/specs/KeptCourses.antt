@@ -4,11 +4,11 @@ use mathlib.Core.List.{IsPrefix}
 use Rattle.wb_kept.specs.Runs.{Leads}
 use Rattle.wb_kept.specs.Sessions.{IsFront}
 use Rattle.wb_kept_group.specs.Together.{changes_in}
-use Rattle.wb_proto.specs.Below.wb_history.Past.{Past}
-use Rattle.wb_granting.specs.Granting.{Grants, no_edit}
-use Rattle.wb_journal.specs.Courses.{Course, IsCourse, Runs}
-use Rattle.wb_journal.specs.declared.entry.Entry.{Entry}
-use Rattle.wb_shared.specs.Locked.{Locked}
+use Rattle.wb_history.specs.Past.{Past}
+use Rattle.wb_keeping.specs.Granting.Granting.{Grants, no_edit}
+use Rattle.wb_desk.specs.Courses.{Course, IsCourse, Runs}
+use Rattle.wb_desk.specs.declared.entry.Entry.{Entry}
+use Rattle.wb_desk.specs.Locked.{Locked}
 
 -- Its course and the total of its ledger; all turns that were made, each the changes that it made, and those of them that were taken to
 -- be kept; the changes of the turn under way; and whether there may be more.

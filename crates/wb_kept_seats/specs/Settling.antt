@@ -1,7 +1,7 @@
 -- Why a desk whose changes are kept is not settled.
 use Rattle.std.specs.Prelude.{◌≡◌, false, List}
-use Rattle.wb_journal.specs.Serving.{Held}
-use Rattle.wb_journal.specs.Settling.{IsCause}
+use Rattle.wb_desk.specs.Serving.{Held}
+use Rattle.wb_desk.specs.Settling.{IsCause}
 use Rattle.wb_kept_seats.specs.KeptCourses.{KeptCourse}
 use Rattle.wb_kept_seats.specs.declared.settling.SettleErr.{SettleErr}
 use Rattle.wb_kept_seats.specs.declared.settling.SettleErr.TheVariants.{Passes, NotKept}

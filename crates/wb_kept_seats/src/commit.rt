@@ -2,8 +2,8 @@
 ghost use Rattle.std.specs.Prelude.{◌≡◌};
 ghost use Rattle.wb_kept_seats.specs.Committing.{commit_err};
 
-use wb_group::KeepErr;
 use wb_keep::AppendErr;
+use wb_kept_group::group::KeepErr;
 
 /// Why the changes of a turn are not kept.
 #[derive(Clone, Copy, Debug, PartialEq, Eq)]

@@ -4,9 +4,9 @@ ghost use Rattle.wb_keep.specs.Lines.{recovered};
 ghost use Rattle.wb_keep.specs.declared.keep.LineLog.{LineLog};
 ghost use Rattle.wb_kept.specs.Keeping.{IsKept};
 ghost use Rattle.wb_kept_group.specs.Together.{IsGivenUp};
-ghost use Rattle.wb_granting.specs.Granting.{Grants, no_edit};
-ghost use Rattle.wb_journal.specs.Serving.{new_passes};
-ghost use Rattle.wb_shared.specs.Seats.{IsNumberOfSeats, IsSeatsErr};
+ghost use Rattle.wb_keeping.specs.Granting.Granting.{Grants, no_edit};
+ghost use Rattle.wb_desk.specs.Serving.{new_passes};
+ghost use Rattle.wb_desk.specs.Seats.{IsNumberOfSeats, IsSeatsErr};
 ghost use Rattle.wb_kept_seats.specs.Files.{WasKept};
 
 use crate::commit::CommitErr;
@@ -18,12 +18,12 @@ use crate::turn::Turn;
 use std::alloc::Global;
 use std::sync::ledger::Blank;
 use std::sync::{Mutex, Wait};
-use wb_disk::Device;
-use wb_group::{Front, Keeper, Opened, Told};
+use wb_desk::{DeskErr, Pass};
+use wb_history::History;
 use wb_keep::AppendErr;
+use wb_keep::disk::Device;
 use wb_kept::{Changes, Kept};
-use wb_proto::below::history::History;
-use wb_shared::{DeskErr, Pass};
+use wb_kept_group::group::{Front, Keeper, Opened, Told};
 
 /// A workbook that several seats share, and whose changes are kept in a file. Turns are made under one lock and kept under
 /// another: while some are brought to the disk, others are made.
@@ -102,7 +102,7 @@ impl<L: KeptOpening, D: Device + Drop> Desk<L, D> {
         ensures failed { IfErr result (λ why. why ≢ CommitErr.Closed → (old new : LineLog D)
             × IsGivenUp D.seen D.may_leave D.moment D.left_since D.faults L.lines (why ≡ CommitErr.DiskFault) (why ≡ CommitErr.NoMemory) old new) }
     {
-        match wb_group::keep(
+        match wb_kept_group::group::keep(
             rt,
             self.alloc,
             &self.seats,

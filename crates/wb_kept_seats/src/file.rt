@@ -4,11 +4,11 @@ ghost use Rattle.wb_kept_seats.specs.Files.{HasTurns};
 
 use crate::opening::{KeptOpening, Turns};
 use std::alloc::Global;
-use wb_disk::Device;
-use wb_group::Store;
+use wb_keep::disk::Device;
 use wb_keep::{AppendErr, LineLog};
 use wb_kept::Changes;
 use wb_kept_group::Journal;
+use wb_kept_group::group::Store;
 
 /// A file that has the lines with which a desk was opened, and behind them the changes of its turns.
 #[derive(Drop)]
@@ -37,7 +37,7 @@ impl<L: KeptOpening, D: Device> File<L, D> {
 
 impl<L: KeptOpening, D: Device> Store<Changes, AppendErr> for File<L, D> {
     ghost use Rattle.std.specs.Prelude.{◌≡◌, ◌++◌};
-    ghost use Rattle.wb_disk.specs.Device.{LeavesOnly};
+    ghost use Rattle.wb_keep.specs.Disk.Device.{LeavesOnly};
     ghost use Rattle.wb_keep.specs.Keep.{IsBeforeOrAfter};
     ghost use Rattle.wb_kept_group.specs.Together.{changes_in, Tells};
     ghost use Rattle.wb_kept_seats.specs.Files.{HasTurns};

@@ -1,14 +1,14 @@
 //! The lines of the changes that an answered request made.
 ghost use Rattle.std.specs.Prelude.{◌≡◌, true, false, OnOk};
-ghost use Rattle.wb_proto.specs.declared.requests.request.Request.{Request};
-ghost use Rattle.wb_journal.specs.Entries.{leaves_all};
+ghost use Rattle.wb_protocol.specs.declared.requests.request.Request.{Request};
+ghost use Rattle.wb_desk.specs.Entries.{leaves_all};
 ghost use Rattle.wb_kept_seats.specs.Lines.{IsSaid, IsAhead, Adds};
 
 use std::alloc::{AllocError, Global};
 use wb_keeping::{push_edit, push_made};
 use wb_kept::Changes;
-use wb_proto::{Reply, Request};
-use wb_wire::edit_text;
+use wb_protocol::wire::edit_text;
+use wb_protocol::{Reply, Request};
 
 /// The line of a request, which is given away as it is answered.
 #[derive(Drop)]

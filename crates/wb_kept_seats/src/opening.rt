@@ -2,8 +2,8 @@
 
 use std::marker::{Brand, PhantomData};
 use std::sync::ledger::Ledger;
-use wb_group::Group;
-use wb_shared::Opening;
+use wb_desk::Opening;
+use wb_kept_group::group::Group;
 
 /// A desk's ledger, with the history that the desk is opened with and its number of seats, and what else its opening fixes.
 pub trait KeptOpening: Opening {

@@ -1,12 +1,12 @@
 //! Requests that were read of lines.
 ghost use Rattle.std.specs.Prelude.{◌≡◌, ◌≢◌, Ok, Err, IfOk, IfErr};
-ghost use Rattle.wb_proto.specs.Requests.{request};
+ghost use Rattle.wb_protocol.specs.Requests.{request};
 ghost use Rattle.wb_kept_seats.specs.Lines.{IsSaid};
 
 use std::alloc::Global;
 use std::marker::Model;
-use wb_proto::below::history::Refusal;
-use wb_proto::{Request, read_request};
+use wb_history::Refusal;
+use wb_protocol::{Request, read_request};
 
 /// A request that was read of a line, so that a line can say it. Contracts see the request.
 #[derive(Drop)]
@@ -15,7 +15,7 @@ pub struct Said {
 }
 
 impl Model for Said {
-    ghost use Rattle.wb_proto.specs.declared.requests.request.Request.{Request};
+    ghost use Rattle.wb_protocol.specs.declared.requests.request.Request.{Request};
     ghost use Rattle.wb_kept_seats.specs.Lines.{IsSaid};
 
     ghost Value = { Request };

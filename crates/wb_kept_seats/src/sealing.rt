@@ -5,9 +5,9 @@ ghost use Rattle.wb_kept_seats.specs.Files.{WasKept};
 
 use crate::opening::{KeptOpening, Turns};
 use std::marker::{Model, PhantomData};
-use wb_disk::Device;
-use wb_group::Front;
+use wb_keep::disk::Device;
 use wb_kept::Changes;
+use wb_kept_group::group::Front;
 
 /// The first so many turns of a desk, in the order of its lock.
 pub type MadeTurns<L> = Front<Turns<L>, Changes>;

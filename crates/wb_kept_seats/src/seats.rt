@@ -3,10 +3,10 @@ ghost use Rattle.std.specs.Prelude.{◌≡◌, ◌≢◌, ◌<◌, ◌↔◌, �
 ghost use Rattle.wb_keep.specs.declared.keep.LineLog.{LineLog};
 ghost use Rattle.wb_kept.specs.Runs.{Leads};
 ghost use Rattle.wb_kept_group.specs.Together.{changes_in};
-ghost use Rattle.wb_granting.specs.Granting.{Grants, no_edit};
-ghost use Rattle.wb_journal.specs.Courses.{IsCourse};
-ghost use Rattle.wb_journal.specs.Serving.{own_after, share_after, new_passes};
-ghost use Rattle.wb_shared.specs.Seats.{IsNumberOfSeats, IsSeatsErr};
+ghost use Rattle.wb_keeping.specs.Granting.Granting.{Grants, no_edit};
+ghost use Rattle.wb_desk.specs.Courses.{IsCourse};
+ghost use Rattle.wb_desk.specs.Serving.{own_after, share_after, new_passes};
+ghost use Rattle.wb_desk.specs.Seats.{IsNumberOfSeats, IsSeatsErr};
 ghost use Rattle.wb_kept_seats.specs.KeptCourses.{EachFrontStands};
 ghost use Rattle.wb_kept_seats.specs.Files.{HasTurns, LeavesTurns};
 ghost use Rattle.wb_kept_seats.specs.Answering.{AnswersKept};
@@ -21,14 +21,14 @@ use std::alloc::Global;
 use std::marker::Model;
 use std::mem;
 use std::sync::ledger::{Blank, Share};
-use wb_disk::Device;
-use wb_group::{Batch, Desk, Front, Keeper, Opened, Waiting};
+use wb_arrays::Mover;
+use wb_desk::{DeskErr, Pass, Shared, serve};
+use wb_history::History;
+use wb_keep::disk::Device;
 use wb_keep::{AppendErr, LineLog};
 use wb_kept::Changes;
-use wb_proto::Reply;
-use wb_proto::below::history::History;
-use wb_redist::Mover;
-use wb_shared::{DeskErr, Pass, Shared, serve};
+use wb_kept_group::group::{Batch, Desk, Front, Keeper, Opened, Waiting};
+use wb_protocol::Reply;
 
 /// What a desk keeps under its lock: the history with its journal, the turns whose changes wait to be kept, and the changes of
 /// the turn under way. It is closed for good where a line is missing.

@@ -2,9 +2,9 @@
 ghost use Rattle.std.specs.Prelude.{◌≡◌, ◌<◌, false, length, IfOk, IfErr, MatchResult};
 ghost use Rattle.wb_keep.specs.declared.keep.LineLog.{LineLog};
 ghost use Rattle.wb_kept.specs.Keeping.{IsKept};
-ghost use Rattle.wb_granting.specs.Granting.{Grants, no_edit};
-ghost use Rattle.wb_journal.specs.Courses.{IsCourse};
-ghost use Rattle.wb_journal.specs.Settling.{IsSettled, total_of_passes};
+ghost use Rattle.wb_keeping.specs.Granting.Granting.{Grants, no_edit};
+ghost use Rattle.wb_desk.specs.Courses.{IsCourse};
+ghost use Rattle.wb_desk.specs.Settling.{IsSettled, total_of_passes};
 ghost use Rattle.wb_kept_seats.specs.Files.{LeavesFronts};
 ghost use Rattle.wb_kept_seats.specs.Settling.{IsSettleCause};
 
@@ -12,9 +12,9 @@ use crate::commit::CommitErr;
 use crate::desk::Desk;
 use crate::opening::KeptOpening;
 use crate::seats::Seats;
-use wb_disk::Device;
+use wb_desk::{Cause, Pass};
 use wb_keep::LineLog;
-use wb_shared::{Cause, Pass};
+use wb_keep::disk::Device;
 
 /// Why a desk is not settled.
 #[derive(Clone, Copy, Debug, PartialEq, Eq)]

@@ -3,9 +3,9 @@ ghost use Rattle.std.specs.Prelude.{◌≡◌, ◌≢◌, ◌↔◌, ◌++◌, �
 ghost use Rattle.std.specs.Sync.Mutex.{mutex_guard_value};
 ghost use Rattle.wb_kept.specs.Runs.{Leads};
 ghost use Rattle.wb_kept_group.specs.Together.{changes_in};
-ghost use Rattle.wb_granting.specs.Granting.{Grants, no_edit};
-ghost use Rattle.wb_journal.specs.Serving.{own_after, share_after};
-ghost use Rattle.wb_shared.specs.Answering.{AnswersAmong};
+ghost use Rattle.wb_keeping.specs.Granting.Granting.{Grants, no_edit};
+ghost use Rattle.wb_desk.specs.Serving.{own_after, share_after};
+ghost use Rattle.wb_desk.specs.Answering.{AnswersAmong};
 ghost use Rattle.wb_kept_seats.specs.Answering.{AnswersKept};
 
 use crate::commit::CommitErr;
@@ -14,11 +14,11 @@ use crate::said::Said;
 use crate::sealing::Sealed;
 use crate::seats::Seats;
 use std::sync::MutexGuard;
-use wb_group::Front;
+use wb_arrays::Mover;
+use wb_desk::Pass;
 use wb_kept::Changes;
-use wb_proto::Reply;
-use wb_redist::Mover;
-use wb_shared::Pass;
+use wb_kept_group::group::Front;
+use wb_protocol::Reply;
 
 /// A turn at a desk, which holds the desk's lock. Its replies are sealed until its changes are kept. It has to be ended.
 pub struct Turn<'d, L: KeptOpening> {

@@ -3,7 +3,7 @@ use std::alloc::{AllocError, Global};
 use std::os::unix::fs::symlink;
 use std::test::Fail;
 use std::{fs, process};
-use wb_disk::{MemoryFile, OpenDiskErr, open_file};
+use wb_keep::disk::{MemoryFile, OpenDiskErr, open_file};
 use wb_keep::{CompactErr, START, open};
 
 const NEVER: usize = 1000;
@@ -60,7 +60,7 @@ fn a_new_log_has_its_lines_alone(rt: HostRuntime) -> Result<(), Fail> {
     for (lines, bytes) in [
         (
             b"a\n b\n".as_slice(),
-            b"chapel-workbook 3\n a\n  b\n three\n#".as_slice(),
+            b"chapel-workbook 3\n+a\n  b\n three\n#".as_slice(),
         ),
         (b"", b"chapel-workbook 3\n three\n#"),
         (b"no line", b"chapel-workbook 3\n three\n#"),
@@ -80,16 +80,16 @@ fn a_new_log_has_its_lines_alone(rt: HostRuntime) -> Result<(), Fail> {
 fn a_crash_in_each_step_leaves_the_old_log_or_the_new_one(rt: HostRuntime) -> Result<(), Fail> {
     let alloc = rt.alloc();
     let mut new_by_chance = false;
-    // To open the file takes four calls, the new log four, and the line behind it four.
-    for calls in 0..13 {
+    // To open the file takes three calls, the new log four, and the line behind it two.
+    for calls in 0..10 {
         for torn in 0..10 {
             let (left, count) = cut_off(alloc, calls, torn)?;
             let Some(found) = found_in(alloc, &left)? else {
                 panic!(rt; "in between");
             };
             assert!(rt; count <= found);
-            assert!(rt; calls >= 6 || found == 0);
-            assert!(rt; calls < 8 || count >= 1);
+            assert!(rt; calls >= 5 || found == 0);
+            assert!(rt; calls < 7 || count >= 1);
             new_by_chance |= count == 0 && found == 1;
         }
     }
@@ -101,10 +101,10 @@ fn a_crash_in_each_step_leaves_the_old_log_or_the_new_one(rt: HostRuntime) -> Re
 fn a_log_goes_on_where_no_new_one_can_be_made(rt: HostRuntime) -> Result<(), Fail> {
     let alloc = rt.alloc();
     for (calls, error) in [
+        (3, CompactErr::NotMade),
         (4, CompactErr::NotMade),
-        (5, CompactErr::NotMade),
+        (5, CompactErr::Failed),
         (6, CompactErr::Failed),
-        (7, CompactErr::Failed),
     ] {
         let file = MemoryFile::new(alloc, HELD.to_vec(alloc)?, calls, 0);
         let Ok((mut log, _)) = open(alloc, file, HELD) else {
@@ -152,7 +152,7 @@ fn a_real_file_is_put_in_place_of_another(rt: HostRuntime) -> Result<(), Fail> {
     assert!(rt; compact_at(&rt, b"a\nb\n", b"c\n")? == Some(Ok(())));
     assert_eq!(rt;
         fs::read(&rt, PATH)?.as_slice(),
-        b"chapel-workbook 3\n a\n b\n c\n#".as_slice()
+        b"chapel-workbook 3\n+a\n b\n c\n#".as_slice()
     );
     assert!(rt; !fs::exists(&rt, beside.as_str())?);
     assert!(rt; compact_at(&rt, b"abc\n", b"d\n")? == Some(Ok(())));

@@ -1,7 +1,7 @@
 //! A real file: written, read again, and open once.
 use std::fs;
 use std::test::Fail;
-use wb_disk::{Device, DeviceFault, OpenDiskErr, open_file};
+use wb_keep::disk::{Device, DeviceFault, OpenDiskErr, open_file};
 
 const PATH: &str = "wb_disk_test.log";
 

@@ -3,8 +3,8 @@ use crate::tally::{Tally, answer, make};
 use std::alloc::{AllocError, Global};
 use std::fs;
 use std::test::Fail;
-use wb_disk::{MemoryFile, open_file};
 use wb_keep::START;
+use wb_keep::disk::{MemoryFile, open_file};
 use wb_kept::{Changes, KeptEnd, OpenKeptErr, open, serve_kept};
 use wb_lines::{Input, Output};
 
@@ -55,7 +55,7 @@ fn cut_off(
 fn files_are_opened_or_refused(rt: HostRuntime) -> Result<(), Fail> {
     let alloc = rt.alloc();
     assert!(rt; state_of(alloc, b"")? == Ok(0));
-    assert!(rt; state_of(alloc, b"chapel-workbook 3\n up\n up\n# up\n")? == Ok(2));
+    assert!(rt; state_of(alloc, b"chapel-workbook 3\n up\n+up\n up\n+up\n# up\n")? == Ok(3));
     assert!(rt;
         state_of(alloc, b"chapel-workbook 3\n up\n down\n#")? == Err(OpenKeptErr::NotGranted(1))
     );
@@ -72,8 +72,8 @@ fn files_are_opened_or_refused(rt: HostRuntime) -> Result<(), Fail> {
 #[test]
 fn questions_make_no_call(rt: HostRuntime) -> Result<(), Fail> {
     let alloc = rt.alloc();
-    // To open the file takes four calls.
-    let (end, written, left) = cut_off(alloc, b"how many\nhow many\n", 4, 0)?;
+    // To open the file takes three calls.
+    let (end, written, left) = cut_off(alloc, b"how many\nhow many\n", 3, 0)?;
     assert!(rt; end == KeptEnd::Done(2));
     assert_eq!(rt; written.as_slice(), b"b\nb\n".as_slice());
     assert_eq!(rt; left.as_slice(), b"chapel-workbook 3\n up\n#".as_slice());
@@ -113,7 +113,7 @@ fn a_real_file_outlives_its_sessions(rt: HostRuntime) -> Result<(), Fail> {
     assert!(rt; serve_at(&rt, b"how many\nup\n")?.as_deref() == Some(b"d\nok\n".as_slice()));
     assert_eq!(rt;
         fs::read(&rt, PATH)?.as_slice(),
-        b"chapel-workbook 3\n up\n up\n up\n up\n#".as_slice()
+        b"chapel-workbook 3\n+up\n+up\n up\n up\n#".as_slice()
     );
     fs::remove_file(&rt, PATH)?;
     Ok(())
@@ -127,7 +127,7 @@ fn a_session_is_cut_off_in_each_call(rt: HostRuntime) -> Result<(), Fail> {
     assert!(rt; end == KeptEnd::Done(4));
     assert_eq!(rt; written.as_slice(), b"ok\nok\ne\nok\n".as_slice());
     assert!(rt; state_of(alloc, &left)? == Ok(5));
-    for calls in 0..8 {
+    for calls in 0..5 {
         for torn in 0..20 {
             let (end, written, left) = cut_off(alloc, lines, calls, torn)?;
             assert!(rt; end == KeptEnd::DiskFault(0));

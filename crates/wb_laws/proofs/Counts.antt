@@ -6,12 +6,12 @@ use Rattle.selective_undo.specs.Changes.{inverse, AllOnce}
 use Rattle.selective_undo.specs.Edit.{Edit, Trace, outcome, trace, step, written}
 use Rattle.selective_undo.specs.History.{Entry, undone, replay, replay_from, traces_from, InForce}
 use Rattle.selective_undo.proofs.Changes.{changes-inverse}
-use Rattle.wb_book.specs.Cells.{Cells, Changes, cell_cmp, is_counted, count_of}
-use Rattle.wb_book.specs.WellFormed.{IsWellFormed}
-use Rattle.wb_book.proofs.Empty.{empty_is_well_formed}
+use Rattle.wb_cells.specs.Cells.{Cells, Changes, cell_cmp, is_counted, count_of}
+use Rattle.wb_cells.specs.WellFormed.{IsWellFormed}
+use Rattle.wb_cells.proofs.Empty.{empty_is_well_formed}
 use Rattle.wb_edit.specs.declared.edit.Edit as command
 use Rattle.wb_edit.specs.Commands.{meaning}
-use Rattle.wb_edit.specs.Schema.{workbook}
+use Rattle.wb_cells.specs.Schema.{workbook}
 use Rattle.wb_edit.specs.Valid.{IsValid, ListsOnce}
 use Rattle.wb_edit.proofs.Kept.{keeps_well_formed}
 use Rattle.wb_edit.proofs.Once.{each_cell_once}

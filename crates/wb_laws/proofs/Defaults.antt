@@ -2,18 +2,18 @@
 use Rattle.std.proofs.Common.{◌≡◌, Bool, true, false, Option, Some, None, is_some, refl, sym, ap, subst, ◌∙◌}
 use Rattle.std.specs.Prelude.{option_and_then}
 use Rattle.std.specs.FinMap.{get}
-use Rattle.wb_book.specs.declared.cells.cell.Cell.TheVariants.{Object, Mapping, Element}
-use Rattle.wb_book.specs.declared.cells.kind.DomainKind.{DomainKind}
-use Rattle.wb_book.specs.declared.cells.kind.DomainKind.TheVariants.{Rectangular, Sparse, Associative}
-use Rattle.wb_book.specs.declared.cells.value.Value.{Value}
-use Rattle.wb_book.specs.declared.cells.value.Value.TheVariants.{Domain}
-use Rattle.wb_book.specs.declared.values.index.Index.{Index}
-use Rattle.wb_book.specs.Cells.{Name, Cells}
-use Rattle.wb_book.specs.Kinds.{kind_of}
-use Rattle.wb_book.specs.Layouts.{locale_in}
-use Rattle.wb_book.specs.Locales.{mapping_in, locale_by, locale_count_at}
-use Rattle.wb_book.specs.WellFormed.{IsWellFormed, IsElement, HasMapping, domain_at, domain_in, index_cell, is_index_of_array}
-use Rattle.wb_book.proofs.Lying.{size_there, locale_there}
+use Rattle.wb_cells.specs.declared.cells.cell.Cell.TheVariants.{Object, Mapping, Element}
+use Rattle.wb_cells.specs.declared.cells.kind.DomainKind.{DomainKind}
+use Rattle.wb_cells.specs.declared.cells.kind.DomainKind.TheVariants.{Rectangular, Sparse, Associative}
+use Rattle.wb_cells.specs.declared.cells.value.Value.{Value}
+use Rattle.wb_cells.specs.declared.cells.value.Value.TheVariants.{Domain}
+use Rattle.wb_cells.specs.declared.values.index.Index.{Index}
+use Rattle.wb_cells.specs.Cells.{Name, Cells}
+use Rattle.wb_cells.specs.Kinds.{kind_of}
+use Rattle.wb_cells.specs.Layouts.{locale_in}
+use Rattle.wb_cells.specs.Locales.{mapping_in, locale_by, locale_count_at}
+use Rattle.wb_cells.specs.WellFormed.{IsWellFormed, IsElement, HasMapping, domain_at, domain_in, index_cell, is_index_of_array}
+use Rattle.wb_cells.proofs.Lying.{size_there, locale_there}
 use Rattle.wb_edit.specs.Looks.{domain_kind}
 use Rattle.wb_history.specs.Pieces.{mapped_as, mapped_at, mapped_by}
 use Rattle.wb_laws.specs.Defaults.{GoesByMapping, DefaultsLaw}

@@ -6,17 +6,17 @@ use Rattle.std.specs.Option.{option_map_or}
 use Rattle.wb_dist.specs.Grid.{is_grid}
 use Rattle.wb_dist.specs.Maps.{LayoutMap, whole, block, cyclic, block_cyclic, is_layout, locale_of, locale_count_of}
 use Rattle.wb_dist.proofs.Places.{some_locales}
-use Rattle.wb_book.specs.declared.cells.cell.Cell.TheVariants.{Mapping}
-use Rattle.wb_book.specs.declared.cells.kind.DomainKind.{DomainKind}
-use Rattle.wb_book.specs.declared.cells.kind.DomainKind.TheVariants.{Rectangular, Sparse, Associative}
-use Rattle.wb_book.specs.declared.cells.value.Value.{Value}
-use Rattle.wb_book.specs.declared.values.index.Index.{Index}
-use Rattle.wb_book.specs.declared.values.index.Index.TheVariants.{Point, Text}
-use Rattle.wb_book.specs.Cells.{Name, Cells}
-use Rattle.wb_book.specs.Layouts.{is_of_rank, locale_in}
-use Rattle.wb_book.specs.Locales.{mapping_in, locale_by, locale_count_at, has_index, locale_of_kind, locale_within}
-use Rattle.wb_book.specs.WellFormed.{IsWellFormed, HasMapping, domain_at}
-use Rattle.wb_book.proofs.Lying.{locale_there}
+use Rattle.wb_cells.specs.declared.cells.cell.Cell.TheVariants.{Mapping}
+use Rattle.wb_cells.specs.declared.cells.kind.DomainKind.{DomainKind}
+use Rattle.wb_cells.specs.declared.cells.kind.DomainKind.TheVariants.{Rectangular, Sparse, Associative}
+use Rattle.wb_cells.specs.declared.cells.value.Value.{Value}
+use Rattle.wb_cells.specs.declared.values.index.Index.{Index}
+use Rattle.wb_cells.specs.declared.values.index.Index.TheVariants.{Point, Text}
+use Rattle.wb_cells.specs.Cells.{Name, Cells}
+use Rattle.wb_cells.specs.Layouts.{is_of_rank, locale_in}
+use Rattle.wb_cells.specs.Locales.{mapping_in, locale_by, locale_count_at, has_index, locale_of_kind, locale_within}
+use Rattle.wb_cells.specs.WellFormed.{IsWellFormed, HasMapping, domain_at}
+use Rattle.wb_cells.proofs.Lying.{locale_there}
 use Rattle.wb_laws.proofs.LocalesBelow.{locale_below, last_of}
 
 -- ---- a mapping

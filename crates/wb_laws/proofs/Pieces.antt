@@ -8,21 +8,21 @@ use Rattle.std.specs.List.{AllByRecursion, Contains}
 use Rattle.selective_undo.proofs.Log.{get-map}
 use Rattle.wb_range.proofs.Members.{Contains-filter}
 use Rattle.wb_range.specs.Domain.{IsListedOnce}
-use Rattle.wb_book.specs.declared.cells.cell.Cell.TheVariants.{Object, Element}
-use Rattle.wb_book.specs.declared.cells.kind.Kind.{Kind}
-use Rattle.wb_book.specs.declared.cells.value.Value.{Value}
-use Rattle.wb_book.specs.declared.cells.value.Value.TheVariants.{Number}
-use Rattle.wb_book.specs.declared.values.index.Index.{Index}
-use Rattle.wb_book.specs.Cells.{Name, Cells, is_same_index}
-use Rattle.wb_book.specs.Locales.{locale_by}
-use Rattle.wb_book.specs.Readers.{elements}
-use Rattle.wb_book.specs.WellFormed.{IsWellFormed, array_at}
-use Rattle.wb_resize.proofs.Sorted.{of_entries}
-use Rattle.wb_resize.proofs.States.{array_in-is, same_index}
-use Rattle.wb_resize.proofs.Without.{IsListedOnce-filter}
+use Rattle.wb_cells.specs.declared.cells.cell.Cell.TheVariants.{Object, Element}
+use Rattle.wb_cells.specs.declared.cells.kind.Kind.{Kind}
+use Rattle.wb_cells.specs.declared.cells.value.Value.{Value}
+use Rattle.wb_cells.specs.declared.cells.value.Value.TheVariants.{Number}
+use Rattle.wb_cells.specs.declared.values.index.Index.{Index}
+use Rattle.wb_cells.specs.Cells.{Name, Cells, is_same_index}
+use Rattle.wb_cells.specs.Locales.{locale_by}
+use Rattle.wb_cells.specs.Readers.{elements}
+use Rattle.wb_cells.specs.WellFormed.{IsWellFormed, array_at}
+use Rattle.wb_reshape.proofs.Sorted.{of_entries}
+use Rattle.wb_reshape.proofs.States.{array_in-is, same_index}
+use Rattle.wb_reshape.proofs.Without.{IsListedOnce-filter}
 use Rattle.wb_edit.specs.Looks.{array_kind}
-use Rattle.wb_edit.specs.declared.refusal.Refusal as why
-use Rattle.wb_edit.specs.declared.refusal.Refusal.TheVariants.{OutOfDomain}
+use Rattle.wb_cells.specs.declared.refusal.Refusal as why
+use Rattle.wb_cells.specs.declared.refusal.Refusal.TheVariants.{OutOfDomain}
 use Rattle.wb_edit.proofs.Elements.{number_of, index_order, elements_ascend, find_element, elements_once}
 use Rattle.wb_edit.proofs.Kept.Resized.{holds_at}
 use Rattle.wb_history.specs.Pieces.{mapped_at, locales_of, lies_on, piece_on, piece_by, piece_from, piece_of}

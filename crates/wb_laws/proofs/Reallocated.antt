@@ -5,30 +5,30 @@ use Rattle.std.specs.FinMap.{get, find}
 use Rattle.std.specs.List.{Contains}
 use Rattle.std.specs.Option.{option_map_or}
 use Rattle.std.specs.Ordering.{is_eq}
-use Rattle.wb_array.specs.Elements.{value_at}
+use Rattle.wb_arrays.specs.Elements.{value_at}
 use Rattle.wb_range.specs.Lookup as by_order
-use Rattle.wb_book.specs.declared.cells.cell.Cell.TheVariants.{Object, Shape, In, Member, Use, Implicit, Element}
-use Rattle.wb_book.specs.declared.cells.kind.DomainKind.{DomainKind}
-use Rattle.wb_book.specs.declared.cells.kind.DomainKind.TheVariants.{Rectangular, Sparse, Associative}
-use Rattle.wb_book.specs.declared.cells.kind.Kind.{Kind}
-use Rattle.wb_book.specs.declared.cells.kind.Kind.TheVariants.{Rectangular as OverRectangular, Sparse as OverSparse, Associative as OverAssociative}
-use Rattle.wb_book.specs.declared.cells.value.Binding.TheVariants.{Array as BoundArray}
-use Rattle.wb_book.specs.declared.cells.value.Value.{Value}
-use Rattle.wb_book.specs.declared.cells.value.Value.TheVariants.{Present, Bound, Number}
-use Rattle.wb_book.specs.declared.values.index.Index.{Index}
-use Rattle.wb_book.specs.Cells.{Name, Cells, index_cmp, is_same_name}
-use Rattle.wb_book.specs.Kinds.{kind_of}
-use Rattle.wb_book.specs.Locales.{has_index, is_index_at}
-use Rattle.wb_book.specs.Readers.{elements, members, indices_of, listed_at}
-use Rattle.wb_book.specs.Shapes.{indices}
-use Rattle.wb_book.specs.WellFormed.{IsWellFormed, IsShape, IsElement, IsImplicit, domain_at, domain_in, array_at, index_cell, inside_of, present_if, ranges_in, has, use_of}
-use Rattle.wb_book.specs.WellFormed.{is_index_of_array}
-use Rattle.wb_resize.specs.Laws.{AreFills}
-use Rattle.wb_resize.specs.Resized.{without}
-use Rattle.wb_resize.proofs.Exchanged.{has_ranges, exchanged_at}
-use Rattle.wb_resize.proofs.Resized.{IsResized}
-use Rattle.wb_resize.proofs.States.{itself, array_in-is, array_over}
-use Rattle.wb_resize.proofs.Without.{has-without}
+use Rattle.wb_cells.specs.declared.cells.cell.Cell.TheVariants.{Object, Shape, In, Member, Use, Implicit, Element}
+use Rattle.wb_cells.specs.declared.cells.kind.DomainKind.{DomainKind}
+use Rattle.wb_cells.specs.declared.cells.kind.DomainKind.TheVariants.{Rectangular, Sparse, Associative}
+use Rattle.wb_cells.specs.declared.cells.kind.Kind.{Kind}
+use Rattle.wb_cells.specs.declared.cells.kind.Kind.TheVariants.{Rectangular as OverRectangular, Sparse as OverSparse, Associative as OverAssociative}
+use Rattle.wb_cells.specs.declared.cells.value.Binding.TheVariants.{Array as BoundArray}
+use Rattle.wb_cells.specs.declared.cells.value.Value.{Value}
+use Rattle.wb_cells.specs.declared.cells.value.Value.TheVariants.{Present, Bound, Number}
+use Rattle.wb_cells.specs.declared.values.index.Index.{Index}
+use Rattle.wb_cells.specs.Cells.{Name, Cells, index_cmp, is_same_name}
+use Rattle.wb_cells.specs.Kinds.{kind_of}
+use Rattle.wb_cells.specs.Locales.{has_index, is_index_at}
+use Rattle.wb_cells.specs.Readers.{elements, members, indices_of, listed_at}
+use Rattle.wb_cells.specs.Shapes.{indices}
+use Rattle.wb_cells.specs.WellFormed.{IsWellFormed, IsShape, IsElement, IsImplicit, domain_at, domain_in, array_at, index_cell, inside_of, present_if, ranges_in, has, use_of}
+use Rattle.wb_cells.specs.WellFormed.{is_index_of_array}
+use Rattle.wb_reshape.specs.Laws.{AreFills}
+use Rattle.wb_reshape.specs.Resized.{without}
+use Rattle.wb_reshape.proofs.Exchanged.{has_ranges, exchanged_at}
+use Rattle.wb_reshape.proofs.Resized.{IsResized}
+use Rattle.wb_reshape.proofs.States.{itself, array_in-is, array_over}
+use Rattle.wb_reshape.proofs.Without.{has-without}
 use Rattle.wb_edit.proofs.Elements.{number_of, find_element}
 use Rattle.wb_edit.proofs.Members.{members_has}
 use Rattle.wb_laws.specs.Reshaped.{IsReallocated, IsReshaped}

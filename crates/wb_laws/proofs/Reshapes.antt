@@ -8,41 +8,41 @@ use Rattle.std.specs.List.{Contains, filter_map, zip}
 use Rattle.std.specs.Ordering.{eq_by_cmp}
 use Rattle.selective_undo.specs.Changes.{apply}
 use Rattle.selective_undo.specs.Edit.{outcome, refuse, write, written}
-use Rattle.wb_assoc.proofs.Members.{contains_cons}
+use Rattle.wb_sets.proofs.Members.{contains_cons}
 use Rattle.wb_rect.proofs.Rectangles.{IsRectangle-sliced}
 use Rattle.wb_rect.specs.Slices.{sliced}
-use Rattle.wb_book.specs.declared.cells.cell.Cell.{Cell}
-use Rattle.wb_book.specs.declared.cells.cell.Cell.TheVariants.{Object, Shape, In, Member, Mapping, Use, Implicit, Element}
-use Rattle.wb_book.specs.declared.cells.kind.DomainKind.{DomainKind}
-use Rattle.wb_book.specs.declared.cells.kind.DomainKind.TheVariants.{Rectangular, Sparse, Associative}
-use Rattle.wb_book.specs.declared.cells.kind.Kind.TheVariants.{Rectangular as OverRectangular}
-use Rattle.wb_book.specs.declared.cells.pattern.Pattern.TheVariants.{Members}
-use Rattle.wb_book.specs.declared.cells.value.Binding.TheVariants.{Sparse as BoundSparse}
-use Rattle.wb_book.specs.declared.cells.value.Value.{Value}
-use Rattle.wb_book.specs.declared.cells.value.Value.TheVariants.{Ranges, Number}
-use Rattle.wb_book.specs.declared.values.index.Index.{Index}
-use Rattle.wb_book.specs.Cells.{Name, Cells, Changes, cell_cmp, cell_order}
-use Rattle.wb_book.specs.Kinds.{kind_of}
-use Rattle.wb_book.specs.Locales.{is_index_at}
-use Rattle.wb_book.specs.Readers.{seen}
-use Rattle.wb_book.specs.Shapes.{Range, indices}
-use Rattle.wb_book.specs.WellFormed.{IsWellFormed, IsRectangle, IsShape, IsImplicit, IsNumber, domain_at, domain_in, ranges_in, has, present_if, inside_of}
-use Rattle.wb_resize.specs.declared.new_indices.Displacement.{Displacement}
-use Rattle.wb_resize.specs.declared.new_indices.NewIndices.{NewIndices}
-use Rattle.wb_resize.specs.declared.new_indices.NewIndices.TheVariants.{To, Slice, Displace, Combine}
-use Rattle.wb_resize.specs.declared.new_indices.SetOperation.{SetOperation}
-use Rattle.wb_resize.specs.declared.operand.Operand.{Operand}
-use Rattle.wb_resize.specs.declared.operand.Operand.TheVariants.{Rectangle, Items, Named}
-use Rattle.wb_resize.specs.Fills.{number_or_zero}
-use Rattle.wb_resize.specs.Laws.{AreFills}
-use Rattle.wb_resize.specs.Resized.{without, resized_cells}
-use Rattle.wb_resize.specs.Sources.{combined, keeps}
-use Rattle.wb_resize.proofs.Fills.{arrays, zeros_fill, implicits_fill}
-use Rattle.wb_resize.proofs.Gets.{after, get-apply}
-use Rattle.wb_resize.proofs.Resized.{IsResized, is_resized, is_shape}
-use Rattle.wb_resize.proofs.Sources.{has-combined}
-use Rattle.wb_resize.proofs.States.{array_over}
-use Rattle.wb_resize.proofs.Users.{users}
+use Rattle.wb_cells.specs.declared.cells.cell.Cell.{Cell}
+use Rattle.wb_cells.specs.declared.cells.cell.Cell.TheVariants.{Object, Shape, In, Member, Mapping, Use, Implicit, Element}
+use Rattle.wb_cells.specs.declared.cells.kind.DomainKind.{DomainKind}
+use Rattle.wb_cells.specs.declared.cells.kind.DomainKind.TheVariants.{Rectangular, Sparse, Associative}
+use Rattle.wb_cells.specs.declared.cells.kind.Kind.TheVariants.{Rectangular as OverRectangular}
+use Rattle.wb_cells.specs.declared.cells.pattern.Pattern.TheVariants.{Members}
+use Rattle.wb_cells.specs.declared.cells.value.Binding.TheVariants.{Sparse as BoundSparse}
+use Rattle.wb_cells.specs.declared.cells.value.Value.{Value}
+use Rattle.wb_cells.specs.declared.cells.value.Value.TheVariants.{Ranges, Number}
+use Rattle.wb_cells.specs.declared.values.index.Index.{Index}
+use Rattle.wb_cells.specs.Cells.{Name, Cells, Changes, cell_cmp, cell_order}
+use Rattle.wb_cells.specs.Kinds.{kind_of}
+use Rattle.wb_cells.specs.Locales.{is_index_at}
+use Rattle.wb_cells.specs.Readers.{seen}
+use Rattle.wb_cells.specs.Shapes.{Range, indices}
+use Rattle.wb_cells.specs.WellFormed.{IsWellFormed, IsRectangle, IsShape, IsImplicit, IsNumber, domain_at, domain_in, ranges_in, has, present_if, inside_of}
+use Rattle.wb_reshape.specs.declared.new_indices.Displacement.{Displacement}
+use Rattle.wb_reshape.specs.declared.new_indices.NewIndices.{NewIndices}
+use Rattle.wb_reshape.specs.declared.new_indices.NewIndices.TheVariants.{To, Slice, Displace, Combine}
+use Rattle.wb_reshape.specs.declared.new_indices.SetOperation.{SetOperation}
+use Rattle.wb_reshape.specs.declared.operand.Operand.{Operand}
+use Rattle.wb_reshape.specs.declared.operand.Operand.TheVariants.{Rectangle, Items, Named}
+use Rattle.wb_reshape.specs.Fills.{number_or_zero}
+use Rattle.wb_reshape.specs.Laws.{AreFills}
+use Rattle.wb_reshape.specs.Resized.{without, resized_cells}
+use Rattle.wb_reshape.specs.Sources.{combined, keeps}
+use Rattle.wb_reshape.proofs.Fills.{arrays, zeros_fill, implicits_fill}
+use Rattle.wb_reshape.proofs.Gets.{after, get-apply}
+use Rattle.wb_reshape.proofs.Resized.{IsResized, is_resized, is_shape}
+use Rattle.wb_reshape.proofs.Sources.{has-combined}
+use Rattle.wb_reshape.proofs.States.{array_over}
+use Rattle.wb_reshape.proofs.Users.{users}
 use Rattle.wb_edit.specs.Trees.{Tree, judged}
 use Rattle.wb_edit.specs.Commands.Reshape.{to_rectangle, slice_rectangle, displace_rectangle, with_indices, to_set, combine_set, no_source, reshape_kind, reshape}
 use Rattle.wb_edit.specs.Looks.{domain_kind, member_in, members}

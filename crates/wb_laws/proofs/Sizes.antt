@@ -9,10 +9,10 @@ use Rattle.std.specs.Ordering.{eq_by_cmp}
 use Rattle.selective_undo.specs.declared.Change.{Change}
 use Rattle.selective_undo.specs.Changes.{changes, AllOnce}
 use Rattle.wb_range.specs.Domain.{IsListedOnce}
-use Rattle.wb_book.specs.declared.cells.cell.Cell.{Cell}
-use Rattle.wb_book.specs.declared.cells.value.Value.{Value}
-use Rattle.wb_book.specs.Cells.{Changes, cell_cmp, cell_cmp_total, cell_order, is_counted, count_of}
-use Rattle.wb_resize.proofs.Gets.{same_key}
+use Rattle.wb_cells.specs.declared.cells.cell.Cell.{Cell}
+use Rattle.wb_cells.specs.declared.cells.value.Value.{Value}
+use Rattle.wb_cells.specs.Cells.{Changes, cell_cmp, cell_cmp_total, cell_order, is_counted, count_of}
+use Rattle.wb_reshape.proofs.Gets.{same_key}
 use Rattle.wb_laws.specs.Sizes.{HasSize}
 
 -- ---- lists

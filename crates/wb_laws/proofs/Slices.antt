@@ -9,11 +9,11 @@ use Rattle.wb_rect.specs.Slices.{IsCommon, sliced}
 use Rattle.wb_rect.proofs.Common.{common_product}
 use Rattle.wb_rect.proofs.Rectangles.{IsRectangle-sliced}
 use Rattle.wb_rect.proofs.Slices.{common_is}
-use Rattle.wb_book.specs.declared.values.index.Index.{Index}
-use Rattle.wb_book.specs.declared.values.index.Index.TheVariants.{Point, Text}
-use Rattle.wb_book.specs.Shapes.{indices}
-use Rattle.wb_book.specs.WellFormed.{has}
-use Rattle.wb_book.proofs.Inside.{has_point, has_no_text}
+use Rattle.wb_cells.specs.declared.values.index.Index.{Index}
+use Rattle.wb_cells.specs.declared.values.index.Index.TheVariants.{Point, Text}
+use Rattle.wb_cells.specs.Shapes.{indices}
+use Rattle.wb_cells.specs.WellFormed.{has}
+use Rattle.wb_cells.proofs.Inside.{has_point, has_no_text}
 
 common_at : (rs ts : List (List ℤ)) → length ts ≡ length rs → All IsRange rs → (p : ℕ) → p < length rs →
     IsCommon (get_or rs p []) (get_or ts p []) (get_or (sliced rs ts) p [])

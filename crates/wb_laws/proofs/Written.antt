@@ -2,10 +2,10 @@
 use Rattle.std.proofs.Common.{◌≡◌, List, [], map, Option, Result, Ok, Err, refl, sym, subst}
 use Rattle.std.specs.FinMap.{get}
 use Rattle.selective_undo.specs.Edit.{outcome}
-use Rattle.wb_book.specs.declared.cells.cell.Cell.{Cell}
-use Rattle.wb_book.specs.declared.cells.value.Value.{Value}
-use Rattle.wb_book.specs.Cells.{Cells, Changes}
-use Rattle.wb_edit.specs.declared.refusal.Refusal.{Refusal}
+use Rattle.wb_cells.specs.declared.cells.cell.Cell.{Cell}
+use Rattle.wb_cells.specs.declared.cells.value.Value.{Value}
+use Rattle.wb_cells.specs.Cells.{Cells, Changes}
+use Rattle.wb_cells.specs.declared.refusal.Refusal.{Refusal}
 use Rattle.wb_edit.specs.Rectangles.{read_all}
 use Rattle.wb_edit.specs.Trees.{Tree, read, judged}
 use Rattle.wb_edit.proofs.Rectangles.{gives_all}

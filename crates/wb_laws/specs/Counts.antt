@@ -2,11 +2,11 @@
 use Rattle.std.specs.Prelude.{◌≡◌, ℕ, suc, Bool, ◌&&◌, List, [], ◌∷◌, Some, Ok, slice_get, ⊤}
 use Rattle.selective_undo.specs.Edit.{Edit, Trace, trace, writes}
 use Rattle.selective_undo.specs.History.{undone, traces, replay, InForce}
-use Rattle.wb_book.specs.declared.cells.cell.Cell.{Cell}
-use Rattle.wb_book.specs.Cells.{is_counted}
+use Rattle.wb_cells.specs.declared.cells.cell.Cell.{Cell}
+use Rattle.wb_cells.specs.Cells.{is_counted}
 use Rattle.wb_edit.specs.declared.edit.Edit as command
 use Rattle.wb_edit.specs.Commands.{meaning}
-use Rattle.wb_edit.specs.Schema.{workbook}
+use Rattle.wb_cells.specs.Schema.{workbook}
 use Rattle.wb_edit.specs.Valid.{IsValid, ListsOnce}
 use Rattle.wb_log.specs.Past.{Numbered, meant, AreValid}
 use Rattle.wb_log.specs.Replies.{EditReply, UndoReply, LastReply, RedoReply, ByNumber}

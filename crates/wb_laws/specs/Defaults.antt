@@ -2,16 +2,16 @@
 -- workbook for want of a cell.
 use Rattle.std.specs.Prelude.{◌≡◌, Option, Some, None, IsSome}
 use Rattle.std.specs.FinMap.{get}
-use Rattle.wb_book.specs.declared.cells.cell.Cell.TheVariants.{Object, Element}
-use Rattle.wb_book.specs.declared.cells.kind.DomainKind.{DomainKind}
-use Rattle.wb_book.specs.declared.cells.kind.DomainKind.TheVariants.{Rectangular, Sparse, Associative}
-use Rattle.wb_book.specs.declared.cells.value.Value.TheVariants.{Domain}
-use Rattle.wb_book.specs.declared.values.index.Index.{Index}
-use Rattle.wb_book.specs.Cells.{Name, Cells}
-use Rattle.wb_book.specs.Kinds.{kind_of}
-use Rattle.wb_book.specs.Locales.{locale_by, locale_count_at, locale_at}
-use Rattle.wb_book.specs.Readers.{size_at}
-use Rattle.wb_book.specs.WellFormed.{IsWellFormed, array_at, index_cell}
+use Rattle.wb_cells.specs.declared.cells.cell.Cell.TheVariants.{Object, Element}
+use Rattle.wb_cells.specs.declared.cells.kind.DomainKind.{DomainKind}
+use Rattle.wb_cells.specs.declared.cells.kind.DomainKind.TheVariants.{Rectangular, Sparse, Associative}
+use Rattle.wb_cells.specs.declared.cells.value.Value.TheVariants.{Domain}
+use Rattle.wb_cells.specs.declared.values.index.Index.{Index}
+use Rattle.wb_cells.specs.Cells.{Name, Cells}
+use Rattle.wb_cells.specs.Kinds.{kind_of}
+use Rattle.wb_cells.specs.Locales.{locale_by, locale_count_at, locale_at}
+use Rattle.wb_cells.specs.Readers.{size_at}
+use Rattle.wb_cells.specs.WellFormed.{IsWellFormed, array_at, index_cell}
 use Rattle.wb_history.specs.Pieces.{mapped_at}
 
 -- what goes by a mapping is there for a rectangular and for a sparse domain; an associative one has no mapping: all of it lies

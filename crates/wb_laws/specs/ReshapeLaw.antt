@@ -1,9 +1,9 @@
 -- An accepted reshape of a domain is its assignment in the words of index sets and arrays.
 use Rattle.std.specs.Prelude.{◌≡◌, Ok}
 use Rattle.selective_undo.specs.Edit.{outcome, step}
-use Rattle.wb_book.specs.Cells.{Name, Cells, Changes}
-use Rattle.wb_book.specs.WellFormed.{IsWellFormed}
-use Rattle.wb_resize.specs.declared.new_indices.NewIndices.{NewIndices}
+use Rattle.wb_cells.specs.Cells.{Name, Cells, Changes}
+use Rattle.wb_cells.specs.WellFormed.{IsWellFormed}
+use Rattle.wb_reshape.specs.declared.new_indices.NewIndices.{NewIndices}
 use Rattle.wb_edit.specs.declared.edit.Edit.TheVariants.{Reshape}
 use Rattle.wb_edit.specs.Commands.{meaning}
 use Rattle.wb_edit.specs.Valid.{IsValid}

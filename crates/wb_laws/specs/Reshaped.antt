@@ -2,22 +2,22 @@
 -- Specification, Domains and Arrays).
 use Rattle.std.specs.Prelude.{◌≡◌, Bool, false, ◌&&◌, ℤ, List, Option, Some, None, IsSome}
 use Rattle.std.specs.FinMap.{get}
-use Rattle.wb_array.specs.Elements.{value_at, reallocated}
-use Rattle.wb_book.specs.declared.cells.cell.Cell.TheVariants.{Object, Shape, Implicit, Element}
-use Rattle.wb_book.specs.declared.cells.kind.Kind.{Kind}
-use Rattle.wb_book.specs.declared.cells.value.Value.TheVariants.{Number}
-use Rattle.wb_book.specs.declared.values.index.Index.{Index}
-use Rattle.wb_book.specs.Cells.{Name, Cells, index_cmp, is_same_name}
-use Rattle.wb_book.specs.Locales.{is_index_at}
-use Rattle.wb_book.specs.Readers.{elements, listed_at}
-use Rattle.wb_book.specs.Shapes.{Range, indices}
-use Rattle.wb_book.specs.WellFormed.{domain_at, array_at, ranges_in, has}
-use Rattle.wb_resize.specs.declared.new_indices.Displacement.{Displacement}
-use Rattle.wb_resize.specs.declared.new_indices.NewIndices.{NewIndices}
-use Rattle.wb_resize.specs.declared.new_indices.NewIndices.TheVariants.{To, Slice, Displace, Combine}
-use Rattle.wb_resize.specs.declared.operand.Operand.{Operand}
-use Rattle.wb_resize.specs.declared.operand.Operand.TheVariants.{Rectangle, Items, Named}
-use Rattle.wb_resize.specs.Sources.{displaced, keeps}
+use Rattle.wb_arrays.specs.Elements.{value_at, reallocated}
+use Rattle.wb_cells.specs.declared.cells.cell.Cell.TheVariants.{Object, Shape, Implicit, Element}
+use Rattle.wb_cells.specs.declared.cells.kind.Kind.{Kind}
+use Rattle.wb_cells.specs.declared.cells.value.Value.TheVariants.{Number}
+use Rattle.wb_cells.specs.declared.values.index.Index.{Index}
+use Rattle.wb_cells.specs.Cells.{Name, Cells, index_cmp, is_same_name}
+use Rattle.wb_cells.specs.Locales.{is_index_at}
+use Rattle.wb_cells.specs.Readers.{elements, listed_at}
+use Rattle.wb_cells.specs.Shapes.{Range, indices}
+use Rattle.wb_cells.specs.WellFormed.{domain_at, array_at, ranges_in, has}
+use Rattle.wb_reshape.specs.declared.new_indices.Displacement.{Displacement}
+use Rattle.wb_reshape.specs.declared.new_indices.NewIndices.{NewIndices}
+use Rattle.wb_reshape.specs.declared.new_indices.NewIndices.TheVariants.{To, Slice, Displace, Combine}
+use Rattle.wb_reshape.specs.declared.operand.Operand.{Operand}
+use Rattle.wb_reshape.specs.declared.operand.Operand.TheVariants.{Rectangle, Items, Named}
+use Rattle.wb_reshape.specs.Sources.{displaced, keeps}
 
 -- ---- which indices a source gives
 

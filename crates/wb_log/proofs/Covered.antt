@@ -6,12 +6,12 @@ use Rattle.std.proofs.lemmas.Cmp.{eq_by_cmp_equiv}
 use Rattle.std.proofs.lemmas.List.Folds.{list_any-append}
 use Rattle.selective_undo.specs.Changes.{changes}
 use Rattle.selective_undo.specs.Edit.{covers}
-use Rattle.wb_book.specs.declared.cells.cell.Cell.{Cell}
-use Rattle.wb_book.specs.declared.cells.pattern.Pattern.{Pattern}
-use Rattle.wb_book.specs.Cells.{Changes, cell_cmp, cell_cmp_total, matches}
-use Rattle.wb_foot.specs.Below.wb_edit.read_run.ReadRun.{ReadRun}
-use Rattle.wb_foot.specs.Below.wb_edit.Reads.{patterns_of, read_in, all_read}
-use Rattle.wb_foot.specs.Below.wb_edit.Schema.{workbook}
+use Rattle.wb_cells.specs.declared.cells.cell.Cell.{Cell}
+use Rattle.wb_cells.specs.declared.cells.pattern.Pattern.{Pattern}
+use Rattle.wb_cells.specs.Cells.{Changes, cell_cmp, cell_cmp_total, matches}
+use Rattle.wb_cells.specs.declared.reads.ReadRun.{ReadRun}
+use Rattle.wb_cells.specs.Reads.{patterns_of, read_in, all_read}
+use Rattle.wb_cells.specs.Schema.{workbook}
 
 or_false : (a : Bool) → a || false ≡ a
 or_false true = refl

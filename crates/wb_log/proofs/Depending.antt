@@ -6,7 +6,7 @@ use Rattle.selective_undo.specs.History as h
 use Rattle.selective_undo.specs.Log.{footprint_of, footprints, blocks_undo, meets_any}
 use Rattle.selective_undo.proofs.Locality.{needs_true, needs_false}
 use Rattle.selective_undo.proofs.Log.{footprint_there, trace_of, some_footprint}
-use Rattle.wb_foot.specs.Below.wb_edit.Schema.{workbook}
+use Rattle.wb_cells.specs.Schema.{workbook}
 use Rattle.wb_log.specs.declared.entry.Entry as kept
 use Rattle.wb_log.specs.Kept.{footprint_at_number, by_number, entries_meant, Shows}
 use Rattle.wb_log.specs.Needed as by_footprints

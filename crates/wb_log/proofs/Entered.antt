@@ -5,11 +5,11 @@ use Rattle.std.proofs.lemmas.Bool.Decides.{nat_tests}
 use Rattle.std.proofs.lemmas.List.{length-append}
 use Rattle.selective_undo.specs.Log.{Footprint, first_from}
 use Rattle.selective_undo.proofs.Log.{set-map, append-map}
-use Rattle.wb_book.specs.Cells.{Contents}
-use Rattle.wb_foot.specs.Below.wb_edit.Schema.{workbook}
-use Rattle.wb_foot.specs.declared.foot_index.FootIndex.{FootIndex}
-use Rattle.wb_foot.specs.Footprints.{Footprints, IsIndexOf, with_footprint}
-use Rattle.wb_foot.specs.Relation.{IsLeastAfter, IsGreatest}
+use Rattle.wb_cells.specs.Cells.{Contents}
+use Rattle.wb_cells.specs.Schema.{workbook}
+use Rattle.wb_footprints.specs.declared.foot_index.FootIndex.{FootIndex}
+use Rattle.wb_footprints.specs.Footprints.{Footprints, IsIndexOf, with_footprint}
+use Rattle.wb_footprints.specs.Relation.{IsLeastAfter, IsGreatest}
 use Rattle.wb_log.specs.declared.entry.Entry as kept
 use Rattle.wb_log.specs.declared.index.Index.{Index}
 use Rattle.wb_log.specs.declared.refusal.Refusal.{Refusal}

@@ -6,13 +6,13 @@ use Rattle.selective_undo.specs.Edit.{outcome, reads}
 use Rattle.selective_undo.specs.History.{traces, replay}
 use Rattle.selective_undo.specs.Log.{Footprint, IsKept, history, entry_of, footprints, blocks_undo, first_from}
 use Rattle.selective_undo.proofs.Log.{get-map, set-map, append-map, kept_append, kept_undo, trace_there, undo_least}
-use Rattle.wb_book.specs.Cells.{Changes, Contents, count_of}
-use Rattle.wb_foot.specs.Below.wb_edit.Schema.{workbook}
-use Rattle.wb_foot.specs.Below.wb_edit.Commands.{meaning}
-use Rattle.wb_foot.specs.Below.wb_edit.Plans.{IsPlan}
-use Rattle.wb_foot.specs.Below.wb_edit.edit.Edit as command
-use Rattle.wb_foot.specs.Below.wb_edit.planning.PlanErr.{PlanErr}
-use Rattle.wb_foot.specs.Below.wb_edit.planning.PlanErr.TheVariants.{Refused as PlanRefused, NoMemory as PlanNoMemory}
+use Rattle.wb_cells.specs.Cells.{Changes, Contents, count_of}
+use Rattle.wb_cells.specs.Schema.{workbook}
+use Rattle.wb_edit.specs.Commands.{meaning}
+use Rattle.wb_edit.specs.Plans.{IsPlan}
+use Rattle.wb_edit.specs.declared.edit.Edit as command
+use Rattle.wb_edit.specs.declared.planning.PlanErr.{PlanErr}
+use Rattle.wb_edit.specs.declared.planning.PlanErr.TheVariants.{Refused as PlanRefused, NoMemory as PlanNoMemory}
 use Rattle.wb_log.specs.declared.entry.Entry as kept
 use Rattle.wb_log.specs.declared.entry.Kept.{Kept}
 use Rattle.wb_log.specs.declared.refusal.Refusal.{Refusal}

@@ -3,7 +3,7 @@ use Rattle.std.proofs.Common.{◌≡◌, ℕ, zero, suc, ◌+◌, ◌-◌, ◌�
 use Rattle.std.proofs.Common.{◌∙◌, arith, add-zero, zero-add, suc-add, inl, inr}
 use Rattle.std.proofs.lemmas.Bool.{cases_eq}
 use Rattle.selective_undo.specs.Log.{first_from}
-use Rattle.wb_foot.specs.Relation.{IsLeastAfter}
+use Rattle.wb_footprints.specs.Relation.{IsLeastAfter}
 use Rattle.wb_log.specs.Kept.{footprint_at_number}
 
 abbrev IsLeastFrom : (ℕ → Bool) → ℕ → Option ℕ → Type 0

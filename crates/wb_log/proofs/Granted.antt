@@ -6,8 +6,8 @@ use Rattle.selective_undo.specs.History.{Entry, undone, undo, redo, traces, repl
 use Rattle.selective_undo.proofs.Inverses.{set_back_law, last_law}
 use Rattle.selective_undo.proofs.Redo.{redo_law}
 use Rattle.selective_undo.proofs.Undo.{undo_law}
-use Rattle.wb_book.specs.Cells.{Cells}
-use Rattle.wb_foot.specs.Below.wb_edit.Schema.{workbook}
+use Rattle.wb_cells.specs.Cells.{Cells}
+use Rattle.wb_cells.specs.Schema.{workbook}
 use Rattle.wb_log.specs.declared.entry.Entry as kept
 use Rattle.wb_log.specs.declared.refusal.Refusal.{Refusal}
 use Rattle.wb_log.specs.Past.{Numbered, meant, entry_at, out_of_force, into_force}

@@ -6,8 +6,8 @@ use Rattle.selective_undo.specs.Edit.{Trace}
 use Rattle.selective_undo.specs.History.{undone, traces, InForce, IsLast}
 use Rattle.selective_undo.specs.Log.{Footprint, footprint_of, footprints, blocks_undo, first_from}
 use Rattle.selective_undo.proofs.Log.{get-map, footprint_there}
-use Rattle.wb_book.specs.Cells.{Cells}
-use Rattle.wb_foot.specs.Below.wb_edit.Schema.{workbook}
+use Rattle.wb_cells.specs.Cells.{Cells}
+use Rattle.wb_cells.specs.Schema.{workbook}
 use Rattle.wb_log.specs.declared.entry.Entry as kept
 use Rattle.wb_log.specs.declared.entry.Kept.{Kept}
 use Rattle.wb_log.specs.declared.refusal.Refusal.{Refusal}

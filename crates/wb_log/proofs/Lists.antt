@@ -3,9 +3,9 @@ use Rattle.std.proofs.Common.{◌≡◌, ℕ, zero, suc, ◌==◌, List, [], ◌
 use Rattle.std.proofs.lemmas.Bool.{cases_eq}
 use Rattle.std.proofs.lemmas.Bool.Decides.{nat_tests}
 use Rattle.selective_undo.specs.Log.{Footprint}
-use Rattle.wb_foot.specs.Below.wb_edit.Schema.{workbook}
-use Rattle.wb_foot.specs.declared.foot_index.FootIndex.{FootIndex}
-use Rattle.wb_foot.specs.Footprints.{IsIndexOf, with_footprint, touched_by, read_by}
+use Rattle.wb_cells.specs.Schema.{workbook}
+use Rattle.wb_footprints.specs.declared.foot_index.FootIndex.{FootIndex}
+use Rattle.wb_footprints.specs.Footprints.{IsIndexOf, with_footprint, touched_by, read_by}
 use Rattle.wb_log.specs.Kept.{footprint_at_number}
 
 abbrev Kept : Type 0

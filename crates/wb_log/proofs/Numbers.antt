@@ -5,8 +5,8 @@ use Rattle.std.specs.Ordering.{eq_by_cmp, is_eq}
 use Rattle.std.specs.declared.cmp.Ordering.{Ordering}
 use Rattle.std.specs.declared.cmp.Ordering.TheVariants.{Less, Equal, Greater}
 use Rattle.selective_undo.specs.Changes.{inverse}
-use Rattle.wb_book.specs.declared.cells.cell.Cell.{Cell}
-use Rattle.wb_book.specs.Cells.{Cells, Changes, cell_cmp, cell_cmp-IsAntisymmetric}
+use Rattle.wb_cells.specs.declared.cells.cell.Cell.{Cell}
+use Rattle.wb_cells.specs.Cells.{Cells, Changes, cell_cmp, cell_cmp-IsAntisymmetric}
 use Rattle.wb_log.specs.declared.entry.Form.{Form}
 use Rattle.wb_log.specs.declared.entry.Form.TheVariants.{Set, Copy, Irv, Whole}
 use Rattle.wb_log.specs.Records.{kept_of}

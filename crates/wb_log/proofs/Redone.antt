@@ -9,14 +9,14 @@ use Rattle.selective_undo.specs.History.{Entry, undone, traces, replay, CanRedo}
 use Rattle.selective_undo.specs.Log.{IsKept, Least, history, footprint_of, footprints, planned, blocks_redo, first_from, BlocksRedo}
 use Rattle.selective_undo.proofs.Log.{get-map, set-map, kept_redo, redo_can, redo_free, redo_least, first_planned}
 use Rattle.wb_log.proofs.Entries.{history-log, kept-log, log_at}
-use Rattle.wb_book.specs.declared.cells.pattern.Pattern.{Pattern}
-use Rattle.wb_book.specs.Cells.{Cells, Changes, count_of, is_counted}
-use Rattle.wb_foot.specs.Below.wb_edit.Schema.{workbook}
-use Rattle.wb_foot.specs.Below.wb_edit.Commands.{meaning}
-use Rattle.wb_foot.specs.Below.wb_edit.Plans.{IsPlan}
-use Rattle.wb_foot.specs.Below.wb_edit.refusal.Refusal as command_refusal
-use Rattle.wb_foot.specs.Below.wb_edit.planning.PlanErr.{PlanErr}
-use Rattle.wb_foot.specs.Below.wb_edit.planning.PlanErr.TheVariants.{Refused as PlanRefused, NoMemory as PlanNoMemory}
+use Rattle.wb_cells.specs.declared.cells.pattern.Pattern.{Pattern}
+use Rattle.wb_cells.specs.Cells.{Cells, Changes, count_of, is_counted}
+use Rattle.wb_cells.specs.Schema.{workbook}
+use Rattle.wb_edit.specs.Commands.{meaning}
+use Rattle.wb_edit.specs.Plans.{IsPlan}
+use Rattle.wb_cells.specs.declared.refusal.Refusal as command_refusal
+use Rattle.wb_edit.specs.declared.planning.PlanErr.{PlanErr}
+use Rattle.wb_edit.specs.declared.planning.PlanErr.TheVariants.{Refused as PlanRefused, NoMemory as PlanNoMemory}
 use Rattle.wb_log.specs.declared.entry.Entry as kept
 use Rattle.wb_log.specs.declared.entry.Kept.{Kept}
 use Rattle.wb_log.specs.declared.refusal.Refusal.{Refusal}

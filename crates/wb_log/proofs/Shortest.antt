@@ -3,7 +3,7 @@ use Rattle.std.proofs.Common.{◌≡◌, ◌≢◌, ◌≤◌, ◌-◌, ◌++◌
 use Rattle.std.proofs.lemmas.List.{length-map}
 use Rattle.selective_undo.specs.History.{Entry, traces, IsLegal, CanUndoAll, Has, Falls}
 use Rattle.selective_undo.proofs.Dependents.{no_shorter_law}
-use Rattle.wb_foot.specs.Below.wb_edit.Schema.{workbook}
+use Rattle.wb_cells.specs.Schema.{workbook}
 use Rattle.wb_log.specs.Cascades.{IsDependent, DependentsReply, NoShorter}
 
 -- ---- falling lists

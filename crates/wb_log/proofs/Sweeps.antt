@@ -5,16 +5,16 @@ use Rattle.std.proofs.lemmas.Bool.{cases_eq}
 use Rattle.selective_undo.specs.History.{Has, Falls}
 use Rattle.selective_undo.specs.Log.{Footprint, blocks_undo}
 use Rattle.selective_undo.proofs.Log.{cases_lt}
-use Rattle.wb_book.specs.Cells.{Changes}
-use Rattle.wb_foot.specs.Below.wb_edit.Schema.{workbook}
-use Rattle.wb_foot.specs.declared.numbers.Numbers.{Numbers}
-use Rattle.wb_foot.specs.declared.foot_index.FootIndex.{FootIndex}
-use Rattle.wb_foot.specs.Footprints.{Footprints, IsIndexOf}
-use Rattle.wb_foot.specs.Numbers.{numbered}
-use Rattle.wb_foot.specs.declared.swept.SweptCells.{SweptCells}
-use Rattle.wb_foot.specs.Relation.{IsLeast, JoinedAfter}
-use Rattle.wb_foot.specs.Swept.{AreSwept}
-use Rattle.wb_foot.proofs.Added.{at_self, at_other, added_here, added_from}
+use Rattle.wb_cells.specs.Cells.{Changes}
+use Rattle.wb_cells.specs.Schema.{workbook}
+use Rattle.wb_footprints.specs.declared.numbers.Numbers.{Numbers}
+use Rattle.wb_footprints.specs.declared.foot_index.FootIndex.{FootIndex}
+use Rattle.wb_footprints.specs.Footprints.{Footprints, IsIndexOf}
+use Rattle.wb_footprints.specs.Numbers.{numbered}
+use Rattle.wb_footprints.specs.declared.swept.SweptCells.{SweptCells}
+use Rattle.wb_footprints.specs.Relation.{IsLeast, JoinedAfter}
+use Rattle.wb_footprints.specs.Swept.{AreSwept}
+use Rattle.wb_footprints.proofs.Added.{at_self, at_other, added_here, added_from}
 use Rattle.wb_log.specs.declared.entry.Entry as kept
 use Rattle.wb_log.specs.Kept.{by_number}
 use Rattle.wb_log.proofs.Entered.{none_past}
@@ -147,7 +147,11 @@ all_swept footprints k size ns last w h none = (h.falls, λ n. (h.found n, λ d.
 pub cells_taken : (m : FootIndex) (s : SweptCells) (w v : Numbers) (last j : ℕ) → AreSwept m s w last → last < j →
     ((n : ℕ) → numbered v n ≡ (if j == n then false else numbered w n)) → AreSwept m s v j
 cells_taken m s w v last j h low taken = record {
-  waits = λ c k n is up met.
-      let apart : j ≡ n → ⊥ = λ same. omega (arith, up, same) in
-      taken n ∙ ap (λ b. if b then false else numbered w n) (at_other j n apart) ∙ h.waits c k n is (omega (arith, low, up)) met;
+  cells = λ c k n is up met. still n up (h.cells c k n is (omega (arith, low, up)) met);
+  families = λ c k n is up met. still n up (h.families c k n is (omega (arith, low, up)) met);
 }
+  where
+    still : (n : ℕ) → j < n → numbered w n ≡ true → numbered v n ≡ true
+    still n up had =
+        let apart : j ≡ n → ⊥ = λ same. omega (arith, up, same) in
+        taken n ∙ ap (λ b. if b then false else numbered w n) (at_other j n apart) ∙ had

@@ -7,9 +7,9 @@ use Rattle.std.proofs.lemmas.List.{take-append-drop}
 use Rattle.selective_undo.specs.Edit.{Trace}
 use Rattle.selective_undo.specs.History.{Entry, undo, traces, InForce, CanUndo, CanUndoAll}
 use Rattle.selective_undo.proofs.Log.{append-map, get-map, trace_there}
-use Rattle.wb_book.specs.Cells.{written_more}
-use Rattle.wb_foot.specs.Below.wb_edit.Schema.{workbook}
-use Rattle.wb_foot.specs.Below.wb_edit.Commands.{meaning}
+use Rattle.wb_cells.specs.Cells.{written_more}
+use Rattle.wb_cells.specs.Schema.{workbook}
+use Rattle.wb_edit.specs.Commands.{meaning}
 use Rattle.wb_log.specs.declared.entry.Entry as kept
 use Rattle.wb_log.specs.declared.refusal.Refusal.{Refusal}
 use Rattle.wb_log.specs.declared.refusal.Refusal.TheVariants.{NotInForce, NoMemory}

@@ -6,13 +6,13 @@ use Rattle.std.specs.FinMap.{empty}
 use Rattle.selective_undo.specs.Changes.{apply}
 use Rattle.selective_undo.specs.Edit.{outcome, written, step}
 use Rattle.selective_undo.specs.History.{replay, replay_from}
-use Rattle.wb_book.specs.Cells.{Cells, Changes, Contents, count_of, written_more}
-use Rattle.wb_book.specs.WellFormed.{IsWellFormed}
-use Rattle.wb_book.proofs.Empty.{empty_is_well_formed}
-use Rattle.wb_foot.specs.Below.wb_edit.edit.Edit as command
-use Rattle.wb_foot.specs.Below.wb_edit.Commands.{meaning}
-use Rattle.wb_foot.specs.Below.wb_edit.Valid.{IsValid}
-use Rattle.wb_foot.specs.Below.wb_edit.Kept.{keeps_well_formed}
+use Rattle.wb_cells.specs.Cells.{Cells, Changes, Contents, count_of, written_more}
+use Rattle.wb_cells.specs.WellFormed.{IsWellFormed}
+use Rattle.wb_cells.proofs.Empty.{empty_is_well_formed}
+use Rattle.wb_edit.specs.declared.edit.Edit as command
+use Rattle.wb_edit.specs.Commands.{meaning}
+use Rattle.wb_edit.specs.Valid.{IsValid}
+use Rattle.wb_edit.proofs.Kept.{keeps_well_formed}
 use Rattle.wb_log.specs.declared.entry.Entry as kept
 use Rattle.wb_log.specs.declared.entry.Kept.{Kept}
 use Rattle.wb_log.specs.declared.refusal.Refusal.{Refusal}

@@ -10,8 +10,8 @@ use Rattle.selective_undo.proofs.Dependents.{dependents_law, gone, others_stay}
 use Rattle.selective_undo.proofs.Inverses.{set_back_law}
 use Rattle.selective_undo.proofs.Log.{cases_lt}
 use Rattle.selective_undo.proofs.Undo.{undo_law, still}
-use Rattle.wb_book.specs.Cells.{Cells}
-use Rattle.wb_foot.specs.Below.wb_edit.Schema.{workbook}
+use Rattle.wb_cells.specs.Cells.{Cells}
+use Rattle.wb_cells.specs.Schema.{workbook}
 use Rattle.wb_log.specs.declared.entry.Entry as kept
 use Rattle.wb_log.specs.Past.{Numbered, meant, entry_at, out_of_force}
 use Rattle.wb_log.specs.Kept.{numbered, numbered_entries, entries_meant, Shows}

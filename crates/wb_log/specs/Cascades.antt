@@ -5,9 +5,9 @@ use Rattle.std.specs.FinMap.{get}
 use Rattle.selective_undo.specs.Edit.{Edit, Trace, writes}
 use Rattle.selective_undo.specs.History as h
 use Rattle.selective_undo.specs.History.{undone, undo, traces, replay, InForce, Dependent, CanUndo, CanUndoAll, Has, Falls}
-use Rattle.wb_book.specs.declared.cells.cell.Cell.{Cell}
-use Rattle.wb_book.specs.Cells.{count_of, written_more}
-use Rattle.wb_foot.specs.Below.wb_edit.Schema.{workbook}
+use Rattle.wb_cells.specs.declared.cells.cell.Cell.{Cell}
+use Rattle.wb_cells.specs.Cells.{count_of, written_more}
+use Rattle.wb_cells.specs.Schema.{workbook}
 use Rattle.wb_log.specs.declared.refusal.Refusal.{Refusal}
 use Rattle.wb_log.specs.declared.refusal.Refusal.TheVariants.{NoSuchEdit, NotInForce, NoMemory}
 use Rattle.wb_log.specs.Past.{Numbered, meant, out_of_force}

@@ -1,12 +1,12 @@
 -- What the indexes of a history say of its edits: as much as has entered of what is kept, by number.
 use Rattle.std.specs.Prelude.{◌≡◌, ℕ, ◌≤◌, nat_lt, List, length, None, is_some, if◌then◌else◌}
-use Rattle.wb_foot.specs.Footprints.{Footprints, IsIndexOf}
-use Rattle.wb_foot.specs.Numbers.{numbered}
+use Rattle.wb_footprints.specs.Footprints.{Footprints, IsIndexOf}
+use Rattle.wb_footprints.specs.Numbers.{numbered}
 use Rattle.wb_log.specs.declared.entry.Entry.{Entry}
 use Rattle.wb_log.specs.declared.index.Index.{Index}
 use Rattle.wb_log.specs.declared.index.by_footprint.ByFootprint.{ByFootprint}
 use Rattle.wb_log.specs.declared.index.in_force.InForce.{InForce}
-use Rattle.wb_book.specs.Cells.{Cells}
+use Rattle.wb_cells.specs.Cells.{Cells}
 use Rattle.wb_log.specs.Kept.{Shows, by_number, numbered_entries}
 use Rattle.wb_log.specs.Past.{AreValid}
 

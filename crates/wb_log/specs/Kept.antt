@@ -4,15 +4,15 @@ use Rattle.selective_undo.specs.Changes.{apply}
 use Rattle.selective_undo.specs.Edit.{outcome, reads}
 use Rattle.selective_undo.specs.History as h
 use Rattle.selective_undo.specs.Log.{Footprint, Logged, IsKept, blocks_undo, blocks_redo, first_from}
-use Rattle.wb_book.specs.declared.cells.pattern.Pattern.{Pattern}
-use Rattle.wb_book.specs.Cells.{Cells, Changes, Contents, count_of, written_more}
-use Rattle.wb_book.specs.WellFormed.{IsWellFormed}
-use Rattle.wb_foot.specs.Below.wb_edit.planning.PlanErr.{PlanErr}
-use Rattle.wb_foot.specs.Below.wb_edit.planning.PlanErr.TheVariants.{Refused as PlanRefused, NoMemory as PlanNoMemory}
-use Rattle.wb_foot.specs.Below.wb_edit.refusal.Refusal as command_refusal
-use Rattle.wb_foot.specs.Below.wb_edit.Schema.{workbook}
-use Rattle.wb_foot.specs.Below.wb_edit.Commands.{meaning}
-use Rattle.wb_foot.specs.Footprints.{Footprints}
+use Rattle.wb_cells.specs.declared.cells.pattern.Pattern.{Pattern}
+use Rattle.wb_cells.specs.Cells.{Cells, Changes, Contents, count_of, written_more}
+use Rattle.wb_cells.specs.WellFormed.{IsWellFormed}
+use Rattle.wb_edit.specs.declared.planning.PlanErr.{PlanErr}
+use Rattle.wb_edit.specs.declared.planning.PlanErr.TheVariants.{Refused as PlanRefused, NoMemory as PlanNoMemory}
+use Rattle.wb_cells.specs.declared.refusal.Refusal as command_refusal
+use Rattle.wb_cells.specs.Schema.{workbook}
+use Rattle.wb_edit.specs.Commands.{meaning}
+use Rattle.wb_footprints.specs.Footprints.{Footprints}
 use Rattle.wb_log.specs.declared.entry.Entry as kept
 use Rattle.wb_log.specs.declared.entry.Kept.{Kept}
 use Rattle.wb_log.specs.declared.refusal.Refusal.{Refusal}

@@ -1,4 +1,3 @@
-pub mod Below
 pub mod Past
 pub mod Replies
 pub mod Cascades

@@ -3,11 +3,11 @@ use Rattle.std.specs.Prelude.{◌≡◌, ℕ, zero, suc, Bool, true, false, List
 use Rattle.std.proofs.Common.{ap}
 use Rattle.std.specs.Coded.{Coded, code_by, coded×, coded_list, coded_bool, coded_ℕ}
 use Rattle.selective_undo.specs.History as h
-use Rattle.wb_foot.specs.Below.wb_edit.Edit as edit_row
-use Rattle.wb_foot.specs.Below.wb_edit.edit.Edit as command
-use Rattle.wb_foot.specs.Below.wb_edit.Schema.{workbook}
-use Rattle.wb_foot.specs.Below.wb_edit.Commands.{meaning}
-use Rattle.wb_foot.specs.Below.wb_edit.Valid.{IsValid}
+use Rattle.wb_edit.specs.contracts.edit.Edit as edit_row
+use Rattle.wb_edit.specs.declared.edit.Edit as command
+use Rattle.wb_cells.specs.Schema.{workbook}
+use Rattle.wb_edit.specs.Commands.{meaning}
+use Rattle.wb_edit.specs.Valid.{IsValid}
 
 -- an edit of a history, with whether it is in force
 pub record Numbered : Type 0 where

@@ -1,16 +1,16 @@
 -- What the records stand for in which entries are kept.
 use Rattle.std.specs.Prelude.{ℤ, List, [], ◌∷◌, Option, Some, None, option_map}
 use Rattle.selective_undo.specs.Log.{Footprint}
-use Rattle.wb_book.specs.declared.cells.cell.Cell.{Cell}
-use Rattle.wb_book.specs.declared.cells.cell.Cell.TheVariants.{Object, Implicit, Element}
-use Rattle.wb_book.specs.declared.cells.value.Value.TheVariants.{Number}
-use Rattle.wb_book.specs.declared.cells.pattern.Pattern.{Pattern}
-use Rattle.wb_book.specs.declared.cells.pattern.Pattern.TheVariants.{One}
-use Rattle.wb_book.specs.declared.values.index.Index.{Index}
-use Rattle.wb_book.specs.Cells.{Name, Changes}
-use Rattle.wb_foot.specs.Below.wb_edit.Schema.{workbook}
-use Rattle.wb_foot.specs.Below.wb_edit.edit.Edit as command
-use Rattle.wb_foot.specs.Below.wb_edit.edit.Edit.TheVariants.{Set as SetTo, Copy as CopyTo, Irv as IrvTo}
+use Rattle.wb_cells.specs.declared.cells.cell.Cell.{Cell}
+use Rattle.wb_cells.specs.declared.cells.cell.Cell.TheVariants.{Object, Implicit, Element}
+use Rattle.wb_cells.specs.declared.cells.value.Value.TheVariants.{Number}
+use Rattle.wb_cells.specs.declared.cells.pattern.Pattern.{Pattern}
+use Rattle.wb_cells.specs.declared.cells.pattern.Pattern.TheVariants.{One}
+use Rattle.wb_cells.specs.declared.values.index.Index.{Index}
+use Rattle.wb_cells.specs.Cells.{Name, Changes}
+use Rattle.wb_cells.specs.Schema.{workbook}
+use Rattle.wb_edit.specs.declared.edit.Edit as command
+use Rattle.wb_edit.specs.declared.edit.Edit.TheVariants.{Set as SetTo, Copy as CopyTo, Irv as IrvTo}
 use Rattle.wb_log.specs.declared.entry.Entry.{Entry}
 use Rattle.wb_log.specs.declared.entry.Kept.{Kept}
 use Rattle.wb_log.specs.declared.entry.Form.{Form}

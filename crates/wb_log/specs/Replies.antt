@@ -7,9 +7,9 @@ use Rattle.selective_undo.specs.Edit.{Edit, Trace, trace, outcome, writes}
 use Rattle.selective_undo.specs.History as h
 use Rattle.selective_undo.specs.History.{undone, traces, replay, Blocks, CanUndo, CanRedo, InForce, IsLast, state_before}
 use Rattle.selective_undo.specs.Log.{Least, BlocksRedo}
-use Rattle.wb_book.specs.declared.cells.cell.Cell.{Cell}
-use Rattle.wb_book.specs.Cells.{Changes, count_of}
-use Rattle.wb_foot.specs.Below.wb_edit.Schema.{workbook}
+use Rattle.wb_cells.specs.declared.cells.cell.Cell.{Cell}
+use Rattle.wb_cells.specs.Cells.{Changes, count_of}
+use Rattle.wb_cells.specs.Schema.{workbook}
 use Rattle.wb_log.specs.declared.refusal.Refusal.{Refusal}
 use Rattle.wb_log.specs.declared.refusal.Refusal.TheVariants.{Refused, NoSuchEdit, NotInForce, InForce as IsInForce, Blocked, RefusedInPlace, NoMemory}
 

@@ -5,16 +5,15 @@ ghost use Rattle.std.specs.Prelude.{◌≡◌, ℕ, ◌+◌, ◌^◌, ◌<◌, �
 ghost use Rattle.selective_undo.specs.Changes.{changes};
 ghost use Rattle.selective_undo.specs.Edit.{covers};
 ghost use Rattle.selective_undo.specs.Log.{meets_any, blocks_undo, blocks_redo, first_from};
-ghost use Rattle.wb_book.specs.Cells.{cell_cmp};
-ghost use Rattle.wb_foot.specs.Below.wb_edit.Reads.{all_read, read_in, patterns_of};
-ghost use Rattle.wb_foot.specs.Below.wb_edit.Schema.{workbook};
+ghost use Rattle.wb_cells.specs.Cells.{cell_cmp};
+ghost use Rattle.wb_cells.specs.Reads.{all_read, read_in, patterns_of};
+ghost use Rattle.wb_cells.specs.Schema.{workbook};
 ghost use Rattle.wb_log.specs.Kept.{footprint, kept_in, kept_all};
 ghost use Rattle.wb_log.specs.Records.{lent_footprint};
 
 use crate::entry::{LentFootprint, Record};
 use crate::steps::making::is_same;
-use wb_book::{Cell, Changes, Pattern};
-use wb_foot::below::edit::ReadRun;
+use wb_cells::{Cell, Changes, Pattern, ReadRun};
 
 fn is_changed(wrote: &Changes, cell: &Cell) -> bool
     ensures { result ≡ changes cell_cmp wrote.now cell.now }

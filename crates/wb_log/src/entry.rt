@@ -2,18 +2,20 @@
 
 ghost use Rattle.std.specs.Prelude.{◌≡◌, [], ◌∷◌, ◌++◌, None, IfOk, is_some, option_map};
 ghost use Rattle.selective_undo.specs.Changes.{AllOnce};
-ghost use Rattle.wb_book.specs.declared.cells.cell.Cell.TheVariants as cell;
-ghost use Rattle.wb_book.specs.declared.cells.pattern.Pattern.TheVariants as pattern;
-ghost use Rattle.wb_book.specs.Cells.{cell_cmp};
-ghost use Rattle.wb_foot.specs.Below.wb_edit.edit.Edit.TheVariants as command;
-ghost use Rattle.wb_foot.specs.Below.wb_edit.Reads.{all_read};
+ghost use Rattle.wb_cells.specs.declared.cells.cell.Cell.TheVariants as cell;
+ghost use Rattle.wb_cells.specs.declared.cells.pattern.Pattern.TheVariants as pattern;
+ghost use Rattle.wb_cells.specs.Cells.{cell_cmp};
+ghost use Rattle.wb_edit.specs.declared.edit.Edit.TheVariants as command;
+ghost use Rattle.wb_cells.specs.Reads.{all_read};
 ghost use Rattle.wb_log.specs.Kept.{kept_in};
 ghost use Rattle.wb_log.specs.Records.{element_reads, copy_reads, implicit_reads, number_before as before_of, lent_edit, lent_footprint, shown, kept_of};
 
 use std::alloc::Global;
 use std::marker::Model;
-use wb_book::{AnyCell, AnyIndex, Cell, CellChange, Changes, Inverse, Name, Pattern, Value};
-use wb_foot::below::edit::{Edit, Footprint, ReadRun};
+use wb_cells::{
+    AnyCell, AnyIndex, Cell, CellChange, Changes, Inverse, Name, Pattern, ReadRun, Value,
+};
+use wb_edit::{Edit, Footprint};
 use wb_range::NoMemory;
 
 /// What an edit in force read, and what takes it back.

@@ -17,4 +17,3 @@ pub use crate::entry::{
 pub use crate::index::Index;
 pub use crate::refusal::Refusal;
 pub use crate::steps::undoer::Undoer;
-pub use wb_foot::below;

@@ -14,7 +14,7 @@ pub enum Refusal {
     BadLiteral,
     /// E03 to E10, E15 and E18: the edit or the query is refused.
     #[error("{0}")]
-    Refused(wb_foot::below::edit::Refusal),
+    Refused(wb_cells::Refusal),
     /// E11: no edit of that number, or nothing in force for undo of the latest.
     #[error("no-such-edit")]
     NoSuchEdit,
@@ -29,7 +29,7 @@ pub enum Refusal {
     Blocked(u64),
     /// E16: redo of an edit that would be refused now.
     #[error("refused-in-place")]
-    RefusedInPlace(wb_foot::below::edit::Refusal),
+    RefusedInPlace(wb_cells::Refusal),
     /// E90: a growth was refused, or a mover had no thread.
     #[error("no-memory")]
     NoMemory,

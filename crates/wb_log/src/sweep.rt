@@ -1,15 +1,15 @@
 //! Which edits have to be undone with one, found by one sweep over the index: from each that is found to those that need it,
-//! all of them by one pass over its cells, in which a cell that stood alone before is not asked for again.
+//! all of them by one pass over its cells, in which a cell or a family that was asked for before is not asked for again.
 
 ghost use Rattle.std.specs.Prelude.{◌<◌, ◌≤◌, ◌^◌, length, OnOk, IfOk};
-ghost use Rattle.wb_foot.specs.Footprints.{IsIndexOf};
-ghost use Rattle.wb_foot.specs.Swept.{AreSwept};
+ghost use Rattle.wb_footprints.specs.Footprints.{IsIndexOf};
+ghost use Rattle.wb_footprints.specs.Swept.{AreSwept};
 ghost use Rattle.wb_log.specs.Kept.{by_number};
 ghost use Rattle.wb_log.specs.Needed.{AreFromFootprints, Joined};
 
 use crate::entry::Record;
 use std::alloc::Global;
-use wb_foot::{FootIndex, Numbers, SweptCells};
+use wb_footprints::{FootIndex, Numbers, SweptCells};
 use wb_range::NoMemory;
 
 /// The edits wait that need the one of a number.

@@ -2,15 +2,15 @@
 use Rattle.std.proofs.Common.{◌≡◌, ◌⊎◌, ◌∙◌, inl, inr, ℕ, Bool, List, [], ◌++◌, Option, Some, None, IfNone, IfSome, sym, ap, subst}
 use Rattle.std.proofs.lemmas.List.{append_assoc}
 use Rattle.std.specs.Io.KnownBytes.{Consumes}
-use Rattle.wb_disk.specs.Device.{LeavesOnly}
-use Rattle.wb_disk.specs.declared.device.Device as Device
-use Rattle.wb_granting.specs.Granting.{Begins}
+use Rattle.wb_keep.specs.Disk.Device.{LeavesOnly}
+use Rattle.wb_keep.specs.declared.disk.device.Device as Device
+use Rattle.wb_keeping.specs.Granting.Granting.{Begins}
 use Rattle.wb_keeping.specs.Opening.{HasFailedSince, IsNoBeginning, IsOldOrBegun, IsOpening, OpensWith}
 use Rattle.wb_keeping.specs.declared.beginning.Opening.{Opening}
 use Rattle.wb_keeping.specs.declared.opening.BeginErr.{BeginErr}
 use Rattle.wb_keeping.specs.declared.opening.BeginErr.TheVariants as errs
-use Rattle.wb_proto.specs.Below.wb_history.Past.{Past}
-use Rattle.wb_record.specs.Text.{IsNoHistory}
+use Rattle.wb_history.specs.Past.{Past}
+use Rattle.wb_protocol.specs.Histories.Text.{IsNoHistory}
 use Rattle.wb_program.specs.Beginning.{IsNotBegun, TellsOf}
 use Rattle.wb_program.specs.Checking.{IsNoRecord}
 use Rattle.wb_program.specs.Keeping.{DoesNothing, Streams}

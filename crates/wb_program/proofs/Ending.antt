@@ -2,11 +2,11 @@
 use Rattle.std.proofs.Common.{◌≡◌, ◌∙◌, ℕ, List, subst}
 use Rattle.wb_lines.specs.declared.sink.Sink as Sink
 use Rattle.wb_lines.specs.declared.source.Source as Source
-use Rattle.wb_proto.specs.Below.wb_history.Past.{Past}
-use Rattle.wb_journal.specs.Courses.{Course, IsCourse}
-use Rattle.wb_journal.specs.Serving.{Held, new_passes}
-use Rattle.wb_journal.specs.Settling.{IsSettled, IsCause}
-use Rattle.wb_journal.specs.declared.settling.Cause.{Cause}
+use Rattle.wb_history.specs.Past.{Past}
+use Rattle.wb_desk.specs.Courses.{Course, IsCourse}
+use Rattle.wb_desk.specs.Serving.{Held, new_passes}
+use Rattle.wb_desk.specs.Settling.{IsSettled, IsCause}
+use Rattle.wb_desk.specs.declared.settling.Cause.{Cause}
 use Rattle.wb_program.specs.Days.{AllBack, Disagrees, Ended, IsDay}
 use Rattle.wb_program.specs.declared.accepting.Accepts as Accepts
 

@@ -5,7 +5,7 @@ use Rattle.wb_lines.specs.declared.sink.Sink as Sink
 use Rattle.wb_lines.specs.declared.source.Source as Source
 use Rattle.wb_command.specs.declared.Asked.{Asked}
 use Rattle.wb_command.specs.declared.Asked.TheVariants.{Serve}
-use Rattle.wb_proto.specs.Below.wb_history.Past.{Past}
+use Rattle.wb_history.specs.Past.{Past}
 use Rattle.wb_program.specs.Doing.{Fails, FailsAfterInput, FailsToHost, Finishes}
 use Rattle.wb_program.specs.Resuming.{IsOpening}
 use Rattle.wb_program.specs.Running.{HasFailed, opening}

@@ -1,6 +1,6 @@
 -- How a day of a desk ends whose changes are kept.
 use Rattle.std.proofs.Common.{◌≡◌, ◌⊎◌, ◌∙◌, inl, inr, refl, ℕ, Bool, true, List, [], None, Some, sym, ap, subst}
-use Rattle.wb_disk.specs.declared.device.Device as Device
+use Rattle.wb_keep.specs.declared.disk.device.Device as Device
 use Rattle.wb_kept.specs.declared.kept.Kept.{Kept}
 use Rattle.wb_keep.specs.declared.keep.LineLog.{LineLog}
 use Rattle.wb_kept_seats.specs.KeptCourses.{KeptCourse}
@@ -9,12 +9,12 @@ use Rattle.wb_kept_seats.specs.declared.settling.SettleErr.{SettleErr}
 use Rattle.wb_kept_seats.specs.declared.settling.SettleErr.TheVariants.{Passes}
 use Rattle.wb_lines.specs.declared.sink.Sink as Sink
 use Rattle.wb_lines.specs.declared.source.Source as Source
-use Rattle.wb_proto.specs.Below.wb_history.Past.{Past}
-use Rattle.wb_journal.specs.Courses.{IsCourse}
-use Rattle.wb_journal.specs.Serving.{Held, new_passes}
-use Rattle.wb_journal.specs.Settling.{IsCause}
-use Rattle.wb_journal.specs.declared.settling.Cause.{Cause}
-use Rattle.wb_shared.specs.Seats.{IsNumberOfSeats}
+use Rattle.wb_history.specs.Past.{Past}
+use Rattle.wb_desk.specs.Courses.{IsCourse}
+use Rattle.wb_desk.specs.Serving.{Held, new_passes}
+use Rattle.wb_desk.specs.Settling.{IsCause}
+use Rattle.wb_desk.specs.declared.settling.Cause.{Cause}
+use Rattle.wb_desk.specs.Seats.{IsNumberOfSeats}
 use Rattle.wb_program.specs.Days.{AllBack}
 use Rattle.wb_program.specs.KeptDays.{BreaksOff, EndsKeptDay, FailsKeptDay, HasNoDesk, LeavesDesk, SettlesKept}
 use Rattle.wb_program.specs.KeptSeats.{FailsOnce}

@@ -1,9 +1,9 @@
 -- What a line was read as that can be kept.
 use Rattle.std.proofs.Common.{◌≡◌, inl, inr, refl, List, ℕ, Result, Ok, Err, IfOk, IfErr}
-use Rattle.wb_proto.specs.Below.wb_log.refusal.Refusal.{Refusal}
-use Rattle.wb_proto.specs.Below.wb_log.refusal.Refusal.TheVariants as why
-use Rattle.wb_proto.specs.Requests.{request}
-use Rattle.wb_proto.specs.declared.requests.request.Request.{Request}
+use Rattle.wb_log.specs.declared.refusal.Refusal.{Refusal}
+use Rattle.wb_log.specs.declared.refusal.Refusal.TheVariants as why
+use Rattle.wb_protocol.specs.Requests.{request}
+use Rattle.wb_protocol.specs.declared.requests.request.Request.{Request}
 use Rattle.wb_program.specs.Serving.{IsReadAs}
 
 by_why : (line : List ℕ) (r : Refusal) → ((r ≡ why.NoMemory → ⊥) → request line ≡ Err r) → IsReadAs line (Err r)

@@ -16,3 +16,5 @@ pub mod KeptReading
 pub mod KeptEnding
 pub mod KeptHosting
 pub mod Telling
+pub mod Heard
+pub mod Behind

@@ -6,22 +6,22 @@ use Rattle.selective_undo.specs.Edit.{Trace, outcome, seen, trace, write, writte
 use Rattle.selective_undo.specs.Changes.{apply}
 use Rattle.selective_undo.specs.History.{IsLegal, replay}
 use Rattle.selective_undo.proofs.Evaluation.{entries-empty, entries-retain_keys}
-use Rattle.wb_book.specs.declared.cells.pattern.Pattern.TheVariants.{Objects}
-use Rattle.wb_book.specs.Cells.{cell_cmp, cell_order, matches}
-use Rattle.wb_proto.specs.Below.wb_edit.Commands.{book_cells, load}
-use Rattle.wb_proto.specs.Below.wb_edit.Trees.{judged}
-use Rattle.wb_proto.specs.Below.wb_edit.Objects.{is_empty}
-use Rattle.wb_proto.specs.Below.wb_edit.Schema.{workbook}
-use Rattle.wb_proto.specs.Below.wb_edit.edit.Edit.{Edit}
-use Rattle.wb_proto.specs.Below.wb_edit.edit.Edit.TheVariants.{Load}
-use Rattle.wb_proto.specs.Below.wb_edit.Loading.{becomes}
-use Rattle.wb_proto.specs.Below.wb_history.Past.{Numbered, meant}
-use Rattle.wb_proto.specs.Below.wb_history.Restored.{RestoreReply, marked}
-use Rattle.wb_proto.specs.Below.wb_history.restore.RestoreErr.{RestoreErr}
-use Rattle.wb_proto.specs.Below.wb_history.restore.RestoreErr.TheVariants.{NotLegal}
-use Rattle.wb_record.specs.Text.{AreProper, AreSaid, history_text}
-use Rattle.wb_proto.specs.Below.wb_reading.Books.{IsBookText, book_in, cells_in, is_book_text}
-use Rattle.wb_proto.specs.Below.wb_reading.Back.{book_back, cells_back}
+use Rattle.wb_cells.specs.declared.cells.pattern.Pattern.TheVariants.{Objects}
+use Rattle.wb_cells.specs.Cells.{cell_cmp, cell_order, matches}
+use Rattle.wb_edit.specs.Commands.{book_cells, load}
+use Rattle.wb_edit.specs.Trees.{judged}
+use Rattle.wb_edit.specs.Objects.{is_empty}
+use Rattle.wb_cells.specs.Schema.{workbook}
+use Rattle.wb_edit.specs.declared.edit.Edit.{Edit}
+use Rattle.wb_edit.specs.declared.edit.Edit.TheVariants.{Load}
+use Rattle.wb_edit.proofs.Loading.{becomes}
+use Rattle.wb_history.specs.Past.{Numbered, meant}
+use Rattle.wb_history.specs.Restored.{RestoreReply, marked}
+use Rattle.wb_history.specs.declared.restore.RestoreErr.{RestoreErr}
+use Rattle.wb_history.specs.declared.restore.RestoreErr.TheVariants.{NotLegal}
+use Rattle.wb_protocol.specs.Histories.Text.{AreProper, AreSaid, history_text}
+use Rattle.wb_text.specs.Texts.Books.{IsBookText, book_in, cells_in, is_book_text}
+use Rattle.wb_text.proofs.Texts.Back.{book_back, cells_back}
 use Rattle.wb_program.specs.Checking.{IsPrinted}
 use Rattle.wb_program.specs.Upgrading.{loaded, IsUpgraded, Prints}
 

@@ -1,10 +1,10 @@
 -- What a journal is that was made anew, and what a crash leaves of it.
 use Rattle.std.proofs.Common.{◌≡◌, ◌⊎◌, ◌∙◌, inl, inr, ℕ, List, ◌∷◌, [], Option, Some, Result, Ok, Err, refl, sym, ap, subst}
 use Rattle.std.specs.Prelude.{◌≢◌, ◌<◌, IfErr, IsErrOf, OnOk}
-use Rattle.wb_disk.specs.Device.{LeavesOnly}
-use Rattle.wb_disk.specs.declared.device.Device as Device
-use Rattle.wb_disk.proofs.Moments.{joined, weaker}
-use Rattle.wb_granting.specs.Granting.{Grants, no_edit}
+use Rattle.wb_keep.specs.Disk.Device.{LeavesOnly}
+use Rattle.wb_keep.specs.declared.disk.device.Device as Device
+use Rattle.wb_keep.proofs.Disks.Moments.{joined, weaker}
+use Rattle.wb_keeping.specs.Granting.Granting.{Grants, no_edit}
 use Rattle.wb_keep.specs.Keep.{IsSettled}
 use Rattle.wb_keep.specs.Lines.{recovered}
 use Rattle.wb_keep.specs.Repair.{StandsForTheSame}
@@ -14,7 +14,7 @@ use Rattle.wb_keep.specs.declared.keep.LineLog.{LineLog}
 use Rattle.wb_keeping.specs.Anew.{HasEdits}
 use Rattle.wb_kept.specs.Runs.{Leads}
 use Rattle.wb_kept.specs.declared.kept.Kept.{Kept}
-use Rattle.wb_proto.specs.Below.wb_history.Past.{Numbered, Past}
+use Rattle.wb_history.specs.Past.{Numbered, Past}
 use Rattle.wb_program.specs.Compacting.{EndsAnew, IsAnew, StandsForEdits, TellsOfAnew}
 use Rattle.wb_program.specs.Keeping.{IsOpened}
 use Rattle.wb_program.specs.declared.files.FileFault.{FileFault}

@@ -1,8 +1,8 @@
 -- How a journal is opened, or why it isn't.
 use Rattle.std.proofs.Common.{◌≡◌, ◌⊎◌, inl, inr, ℕ, Bool, true, false, List, refl, sym, ◌∙◌, true≢false, subst}
 use Rattle.std.specs.Prelude.{◌≢◌, ◌<◌, Result, Ok, Err, IfErr, IfOk, IsErrAnd, IsTrue, IsFalse}
-use Rattle.wb_disk.specs.Device.{LeavesOnly}
-use Rattle.wb_disk.specs.declared.device.Device as Device
+use Rattle.wb_keep.specs.Disk.Device.{LeavesOnly}
+use Rattle.wb_keep.specs.declared.disk.device.Device as Device
 use Rattle.wb_keep.specs.Lines.{is_ours, recovered}
 use Rattle.wb_keep.specs.Repair.{StandsForTheSame}
 use Rattle.wb_kept.specs.Answering.{Granted}
@@ -11,8 +11,8 @@ use Rattle.wb_kept.specs.Runs.{Leads}
 use Rattle.wb_kept.specs.declared.kept.Kept.{Kept}
 use Rattle.wb_kept.specs.declared.kept.OpenKeptErr.{OpenKeptErr}
 use Rattle.wb_kept.specs.declared.kept.OpenKeptErr.TheVariants as errs
-use Rattle.wb_proto.specs.Below.wb_history.Past.{Past}
-use Rattle.wb_granting.specs.Granting.{Grants, no_edit}
+use Rattle.wb_history.specs.Past.{Past}
+use Rattle.wb_keeping.specs.Granting.Granting.{Grants, no_edit}
 use Rattle.wb_program.specs.Keeping.{FailsToOpen, IsCause, IsKeptHistory, IsOpened, ReadsNothing, RefusesFile, RefusesLines, Streams, TurnsAway}
 use Rattle.wb_program.specs.declared.keeping.KeptRun.{KeptRun}
 

@@ -1,12 +1,12 @@
 -- What a line was read as, and what is replied to that.
 use Rattle.std.proofs.Common.{◌≡◌, ◌⊎◌, inl, inr, List, ℕ, Result, Ok, Err, refl, sym, subst}
-use Rattle.wb_proto.specs.Below.wb_history.Past.{Past}
-use Rattle.wb_proto.specs.Below.wb_log.refusal.Refusal.{Refusal}
-use Rattle.wb_proto.specs.Requests.{request}
-use Rattle.wb_proto.specs.declared.replies.reply.Reply.{Reply}
-use Rattle.wb_proto.specs.declared.replies.reply.Reply.TheVariants.{Refused}
-use Rattle.wb_proto.specs.declared.requests.request.Request.{Request}
-use Rattle.wb_journal.specs.Serving.{Held, AnswersSome, own_after, share_after}
+use Rattle.wb_history.specs.Past.{Past}
+use Rattle.wb_log.specs.declared.refusal.Refusal.{Refusal}
+use Rattle.wb_protocol.specs.Requests.{request}
+use Rattle.wb_protocol.specs.declared.replies.reply.Reply.{Reply}
+use Rattle.wb_protocol.specs.declared.replies.reply.Reply.TheVariants.{Refused}
+use Rattle.wb_protocol.specs.declared.requests.request.Request.{Request}
+use Rattle.wb_desk.specs.Serving.{Held, AnswersSome, own_after, share_after}
 use Rattle.wb_program.specs.Serving.{RepliesIfRead, NothingAsked, IsReadAs, held_after}
 
 held_is : (h k : Held) (asked : Request) (r : Reply) → k.seat ≡ h.seat → k.own ≡ own_after h.seat h.own asked r →

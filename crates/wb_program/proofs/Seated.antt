@@ -3,8 +3,8 @@ use Rattle.std.proofs.Common.{◌≡◌, ◌∙◌, ℕ, List, Some, get_or, sli
 use Rattle.std.proofs.lemmas.Option.{get_or_from_slice_get}
 use Rattle.wb_lines.specs.declared.sink.Sink as Sink
 use Rattle.wb_lines.specs.declared.source.Source as Source
-use Rattle.wb_proto.specs.Below.wb_history.Past.{Past}
-use Rattle.wb_journal.specs.Serving.{Held}
+use Rattle.wb_history.specs.Past.{Past}
+use Rattle.wb_desk.specs.Serving.{Held}
 use Rattle.wb_program.specs.Days.{CameBack, ServedOn}
 use Rattle.wb_program.specs.declared.accepting.Accepts as Accepts
 

@@ -6,7 +6,7 @@ use Rattle.wb_lines.specs.declared.sink.Sink as Sink
 use Rattle.wb_lines.specs.declared.source.Source as Source
 use Rattle.wb_lines.specs.declared.machine.SessionEnd.{SessionEnd}
 use Rattle.wb_lines.specs.declared.machine.SessionEnd.TheVariants.{Done, ReadFault, WriteFault, TooManyReads, NoMemory}
-use Rattle.wb_proto.specs.Below.wb_history.Past.{Past}
+use Rattle.wb_history.specs.Past.{Past}
 use Rattle.wb_program.specs.Checking.{IsFault, IsPrinted, Says, status_of_verdict}
 use Rattle.wb_program.specs.Reasons.{TellsWhy, look_of, told_of}
 use Rattle.wb_program.specs.Running.{status_of}

@@ -4,10 +4,10 @@ use Rattle.std.proofs.KnownBytes.{Appends-nil}
 use Rattle.std.specs.Io.KnownBytes.{Appends, Consumes}
 use Rattle.wb_command.specs.declared.Asked.{Asked}
 use Rattle.wb_command.specs.declared.Asked.TheVariants.{Compact, RunKept}
-use Rattle.wb_disk.specs.declared.device.Device as Device
+use Rattle.wb_keep.specs.declared.disk.device.Device as Device
 use Rattle.wb_program.specs.Files.{UsesFiles}
 use Rattle.wb_program.specs.Keeping.{DoesNothing, ReadsNothing, RunsKept, Streams, UsesFile, its_writer}
-use Rattle.wb_proto.specs.Below.wb_history.Past.{Past}
+use Rattle.wb_history.specs.Past.{Past}
 use Rattle.wb_program.specs.Beginning.{BeginsAt, RunsBegun}
 use Rattle.wb_program.specs.Compacting.{Compacts}
 use Rattle.wb_program.specs.declared.files.OpensFiles as OpensFiles

@@ -1,16 +1,16 @@
 -- Journals that begin with the history whose text comes first.
 use Rattle.std.specs.Prelude.{◌≡◌, ◌≢◌, ◌⊎◌, ◌<◌, ℕ, Bool, true, List, [], ◌∷◌, Option, None, Some, IsTrue}
 use Rattle.std.specs.Io.KnownBytes.{Appends, Consumes}
-use Rattle.wb_disk.specs.Device.{LeavesOnly}
-use Rattle.wb_disk.specs.declared.device.Device as Device
-use Rattle.wb_granting.specs.Granting.{Begins}
+use Rattle.wb_keep.specs.Disk.Device.{LeavesOnly}
+use Rattle.wb_keep.specs.declared.disk.device.Device as Device
+use Rattle.wb_keeping.specs.Granting.Granting.{Begins}
 use Rattle.wb_keep.specs.Lines.{is_ours, recovered}
 use Rattle.wb_keeping.specs.declared.opening.BeginErr.{BeginErr}
 use Rattle.wb_keeping.specs.declared.opening.BeginErr.TheVariants as errs
 use Rattle.wb_keeping.specs.Opening.{HasFailedSince, IsOldOrBegun}
 use Rattle.wb_kept.specs.declared.kept.Kept.{Kept}
 use Rattle.wb_lines.specs.Causes.{RisesBy}
-use Rattle.wb_proto.specs.Below.wb_history.Past.{Past}
+use Rattle.wb_history.specs.Past.{Past}
 use Rattle.wb_program.specs.Checking.{IsAnswered, IsFault, Says}
 use Rattle.wb_program.specs.Keeping.{DoesNothing, IsKeptHistory, IsNotOpened, RefusesFile, ServesOn, Streams, UsesFile}
 use Rattle.wb_program.specs.Resuming.{IsRecord, IsUpToEnd, NoOpening}

@@ -2,17 +2,17 @@
 use Rattle.std.specs.Prelude.{◌≡◌, ◌⊎◌, ◌≤◌, ℕ, List, [], ◌++◌, codes, decimal, length, take, IsTrue}
 use Rattle.std.specs.Str.{IsUtf8}
 use Rattle.selective_undo.specs.History.{replay, IsLegal}
-use Rattle.wb_book.specs.Cells.{Cells}
-use Rattle.wb_book.specs.Readers.{objects}
-use Rattle.wb_book.specs.WellFormed.{IsWellFormed}
+use Rattle.wb_cells.specs.Cells.{Cells}
+use Rattle.wb_cells.specs.Readers.{objects}
+use Rattle.wb_cells.specs.WellFormed.{IsWellFormed}
 use Rattle.wb_keep.specs.Lines.{is_ours, recovered}
 use Rattle.wb_kept.specs.Runs.{Leads}
-use Rattle.wb_granting.specs.Granting.{Grants, no_edit}
-use Rattle.wb_proto.specs.Below.wb_encode.Text.{history_text}
-use Rattle.wb_proto.specs.Below.wb_history.Past.{Numbered, Past, meant}
-use Rattle.wb_proto.specs.Below.wb_reading.Reading.{IsNoBook}
-use Rattle.wb_record.specs.Text.{IsNoHistory}
-use Rattle.wb_proto.specs.Below.wb_text.Lines.{book_text}
+use Rattle.wb_keeping.specs.Granting.Granting.{Grants, no_edit}
+use Rattle.wb_protocol.specs.Encoding.Text.{history_text}
+use Rattle.wb_history.specs.Past.{Numbered, Past, meant}
+use Rattle.wb_reading.specs.Reading.{IsNoBook}
+use Rattle.wb_protocol.specs.Histories.Text.{IsNoHistory}
+use Rattle.wb_text.specs.Lines.{book_text}
 use Rattle.wb_program.specs.declared.checking.Verdict.{Verdict}
 use Rattle.wb_program.specs.declared.checking.Verdict.TheVariants.{Workbook, History, Journal, Refused}
 

@@ -1,15 +1,15 @@
 -- Journals that are made anew, and what is told of the file.
 use Rattle.std.specs.Prelude.{◌≡◌, ◌⊎◌, ◌<◌, ℕ, List, [], ◌∷◌, Option, None, Some, Result, Ok, Err}
-use Rattle.wb_disk.specs.Device.{LeavesOnly, Only}
-use Rattle.wb_disk.specs.declared.device.Device as Device
-use Rattle.wb_granting.specs.Granting.{Grants, no_edit}
+use Rattle.wb_keep.specs.Disk.Device.{LeavesOnly, Only}
+use Rattle.wb_keep.specs.declared.disk.device.Device as Device
+use Rattle.wb_keeping.specs.Granting.Granting.{Grants, no_edit}
 use Rattle.wb_keep.specs.Lines.{HasHeader, recovered}
 use Rattle.wb_keep.specs.declared.compacting.CompactErr.{CompactErr}
 use Rattle.wb_keep.specs.declared.compacting.CompactErr.TheVariants as errs
 use Rattle.wb_keeping.specs.Anew.{HasEdits}
 use Rattle.wb_kept.specs.Runs.{Leads}
 use Rattle.wb_kept.specs.declared.kept.Kept.{Kept}
-use Rattle.wb_proto.specs.Below.wb_history.Past.{Numbered, Past}
+use Rattle.wb_history.specs.Past.{Numbered, Past}
 use Rattle.wb_program.specs.Keeping.{DoesNothing, FailsToOpen, IsOpened, RefusesFile, RefusesLines, Streams}
 use Rattle.wb_program.specs.declared.files.FileFault.{FileFault}
 use Rattle.wb_program.specs.declared.files.FileFault.TheVariants as faults

@@ -1,16 +1,16 @@
 -- What a line costs while a desk is locked for it, about, in bytes; and no line costs more than a whole turn may.
 use Rattle.std.specs.Prelude.{ℕ, ◌+◌, ◌-◌, ◌*◌, min, List, length, slice_get, Option, None, Some, Result, Ok, Err}
 use Rattle.wb_lines.specs.Turns.{cost_limit}
-use Rattle.wb_proto.specs.Below.wb_history.query.Answer.{Answer}
-use Rattle.wb_proto.specs.Below.wb_history.query.Answer.TheVariants as answers
-use Rattle.wb_proto.specs.Below.wb_history.query.Query.{Query}
-use Rattle.wb_proto.specs.Below.wb_history.query.Query.TheVariants.{Get, Size, Where, Piece, Reduce, State}
-use Rattle.wb_proto.specs.Below.wb_log.refusal.Refusal.{Refusal}
-use Rattle.wb_proto.specs.declared.replies.reply.Reply.{Reply}
-use Rattle.wb_proto.specs.declared.replies.reply.Reply.TheVariants.{Edited, Undone, Cascaded, Redone, Listed, Answered, Printed, Counted, Refused}
-use Rattle.wb_proto.specs.declared.requests.request.Request.{Request}
-use Rattle.wb_proto.specs.declared.requests.request.Request.TheVariants.{Change, Undo, Redo, Cascade, Dependents, Ask, Print, History, Edits}
-use Rattle.wb_journal.specs.declared.entry.Entry.{Entry}
+use Rattle.wb_history.specs.declared.query.Answer.{Answer}
+use Rattle.wb_history.specs.declared.query.Answer.TheVariants as answers
+use Rattle.wb_history.specs.declared.query.Query.{Query}
+use Rattle.wb_history.specs.declared.query.Query.TheVariants.{Get, Size, Where, Piece, Reduce, State}
+use Rattle.wb_log.specs.declared.refusal.Refusal.{Refusal}
+use Rattle.wb_protocol.specs.declared.replies.reply.Reply.{Reply}
+use Rattle.wb_protocol.specs.declared.replies.reply.Reply.TheVariants.{Edited, Undone, Cascaded, Redone, Listed, Answered, Printed, Counted, Refused}
+use Rattle.wb_protocol.specs.declared.requests.request.Request.{Request}
+use Rattle.wb_protocol.specs.declared.requests.request.Request.TheVariants.{Change, Undo, Redo, Cascade, Dependents, Ask, Print, History, Edits}
+use Rattle.wb_desk.specs.declared.entry.Entry.{Entry}
 
 -- ---- what a reply tells of
 

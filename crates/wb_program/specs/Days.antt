@@ -1,33 +1,35 @@
 -- A day of a desk: each seat is served on a connection of its own, and the desk is settled.
-use Rattle.std.specs.Prelude.{◌≡◌, ◌⊎◌, ℕ, Bool, true, List, Some, length, slice_get}
+use Rattle.std.specs.Prelude.{◌≡◌, ◌⊎◌, ℕ, Bool, true, List, Some, option_map, length, slice_get}
 use Rattle.std.specs.Io.KnownBytes.{Appends, Consumes}
 use Rattle.wb_lines.specs.Causes.{ReadsUntil, WritesUntil}
 use Rattle.wb_lines.specs.Turns.{ServesTurns}
 use Rattle.wb_lines.specs.declared.machine.SessionEnd.{SessionEnd}
 use Rattle.wb_lines.specs.declared.sink.Sink as Sink
 use Rattle.wb_lines.specs.declared.source.Source as Source
-use Rattle.wb_proto.specs.Below.wb_history.Past.{Past}
-use Rattle.wb_journal.specs.Courses.{Course, IsCourse}
-use Rattle.wb_journal.specs.Serving.{Held, new_passes}
-use Rattle.wb_journal.specs.Settling.{IsSettled, IsCause}
-use Rattle.wb_journal.specs.declared.settling.Cause.{Cause}
+use Rattle.wb_history.specs.Past.{Past}
+use Rattle.wb_desk.specs.Courses.{Course, IsCourse}
+use Rattle.wb_desk.specs.Serving.{Held, new_passes}
+use Rattle.wb_desk.specs.Settling.{IsSettled, IsCause}
+use Rattle.wb_desk.specs.declared.settling.Cause.{Cause}
+use Rattle.wb_program.specs.Door.{heard, left_at, failed_at, reads_at}
 use Rattle.wb_program.specs.Serving.{AnswersSeat, PrintsSettled, NeverSettles}
 use Rattle.wb_program.specs.declared.accepting.Accepts as Accepts
+use Rattle.wb_program.specs.declared.door.Door.{Door}
 
 module _ {I O : Type 0} (source : Source.Ghosts I) (sink : Sink.Ghosts O) where
-  -- A pass was served from a reader to a writer, and is another one then: a session of the desk's replies, up to the end of input or a
-  -- fault.
+  -- A pass was served on a connection, and is another one then: a session of the desk's replies to what is heard of its reader, up to the
+  -- end of that or a fault.
   pub record ServedOn (opening : Past) (h : Held) (i : I) (o : O) (k : Held) : Type 0 where
     pub end : SessionEnd
-    pub reader : I
+    pub door : Door I
     pub writer : O
-    pub reads : ReadsUntil end (source.remaining reader) (source.failed reader) (source.reads i) (source.reads reader)
+    pub reads : ReadsUntil end (left_at source.remaining door) (failed_at source.failed door) (source.reads i) (reads_at source.reads door)
     pub writes : WritesUntil end (sink.flushed writer) (sink.failed writer)
     pub read : List ℕ
-    pub consumed : Consumes (source.remaining i) (source.remaining reader) read
+    pub consumed : Consumes (option_map heard (source.remaining i)) (left_at source.remaining door) read
     pub text : List ℕ
     pub appended : Appends (sink.contents o) (sink.contents writer) text
-    pub session : ServesTurns (AnswersSeat opening) end h read (source.remaining reader) text k
+    pub session : ServesTurns (AnswersSeat opening) end h read (left_at source.remaining door) text k
 
 module _ {I O N : Type 0} (source : Source.Ghosts I) (sink : Sink.Ghosts O) (accepts : Accepts.Ghosts N I O) where
   -- The connection of this number came, and the pass was served on it.

@@ -2,7 +2,7 @@
 use Rattle.std.specs.Prelude.{◌≡◌, ℕ, true, false}
 use Rattle.wb_command.specs.declared.Asked.{Asked}
 use Rattle.wb_command.specs.declared.Asked.TheVariants as ask
-use Rattle.wb_disk.specs.declared.device.Device as Device
+use Rattle.wb_keep.specs.declared.disk.device.Device as Device
 use Rattle.wb_program.specs.Beginning.{BeginsAt}
 use Rattle.wb_program.specs.Compacting.{Compacts}
 use Rattle.wb_program.specs.Keeping.{ReadsNothing, RunsKept, Streams, UsesFile, its_writer}

@@ -1,8 +1,8 @@
 -- Sessions whose changes are kept in a journal, what is told of its file, and the exit status.
 use Rattle.std.specs.Prelude.{◌≡◌, ◌⊎◌, ◌<◌, ℕ, Bool, true, false, List, [], Option, None, Some, IsTrue, IsFalse}
 use Rattle.std.specs.Io.KnownBytes.{Appends, IsAtEnd}
-use Rattle.wb_disk.specs.Device.{LeavesOnly, Only}
-use Rattle.wb_disk.specs.declared.device.Device as Device
+use Rattle.wb_keep.specs.Disk.Device.{LeavesOnly, Only}
+use Rattle.wb_keep.specs.declared.disk.device.Device as Device
 use Rattle.wb_keep.specs.Lines.{is_ours, recovered}
 use Rattle.wb_keep.specs.Repair.{StandsForTheSame}
 use Rattle.wb_kept.specs.Keeping.{IsKept}
@@ -15,8 +15,8 @@ use Rattle.wb_kept.specs.declared.session.KeptEnd.{KeptEnd}
 use Rattle.wb_kept.specs.declared.session.KeptEnd.TheVariants as ends
 use Rattle.wb_lines.specs.declared.sink.Sink as Sink
 use Rattle.wb_lines.specs.declared.source.Source as Source
-use Rattle.wb_proto.specs.Below.wb_history.Past.{Past}
-use Rattle.wb_granting.specs.Granting.{Answers, Grants, no_edit}
+use Rattle.wb_history.specs.Past.{Past}
+use Rattle.wb_keeping.specs.Granting.Granting.{Answers, Grants, no_edit}
 use Rattle.wb_program.specs.Checking.{IsAnswered, Says}
 use Rattle.wb_program.specs.Running.{HasFailed}
 use Rattle.wb_program.specs.declared.checking.Verdict.TheVariants.{Refused}

@@ -1,16 +1,16 @@
 -- A day of a desk whose changes are kept in a journal, and what is done with its file.
 use Rattle.std.specs.Prelude.{◌≡◌, ◌⊎◌, ℕ, Bool, true, false, List, [], ◌++◌, None, Some, Option, take}
 use Rattle.std.specs.Io.KnownBytes.{Appends}
-use Rattle.wb_disk.specs.Device.{Only}
-use Rattle.wb_disk.specs.declared.device.Device as Device
+use Rattle.wb_keep.specs.Disk.Device.{Only}
+use Rattle.wb_keep.specs.declared.disk.device.Device as Device
 use Rattle.wb_kept.specs.declared.kept.Kept.{Kept}
 use Rattle.wb_keep.specs.declared.keep.LineLog.{LineLog}
 use Rattle.wb_kept_seats.specs.Files.{LeavesFronts}
 use Rattle.wb_kept_seats.specs.KeptCourses.{KeptCourse}
 use Rattle.wb_lines.specs.declared.sink.Sink as Sink
 use Rattle.wb_lines.specs.declared.source.Source as Source
-use Rattle.wb_proto.specs.Below.wb_history.Past.{Past}
-use Rattle.wb_journal.specs.Courses.{IsCourse}
+use Rattle.wb_history.specs.Past.{Past}
+use Rattle.wb_desk.specs.Courses.{IsCourse}
 use Rattle.wb_command.specs.declared.Asked.{Asked}
 use Rattle.wb_command.specs.declared.Asked.TheVariants as ask
 use Rattle.wb_program.specs.Checking.{IsFault}

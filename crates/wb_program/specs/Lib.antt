@@ -3,6 +3,7 @@ pub mod Checking
 pub mod Resuming
 pub mod Upgrading
 pub mod Reasons
+pub mod Door
 pub mod Serving
 pub mod Costs
 pub mod Accepting

@@ -4,7 +4,7 @@ use Rattle.std.specs.Io.KnownBytes.{Consumes}
 use Rattle.std.specs.List.{ends_with, starts_with}
 use Rattle.wb_command.specs.declared.Asked.{Asked}
 use Rattle.wb_command.specs.declared.Asked.TheVariants as ask
-use Rattle.wb_proto.specs.Below.wb_history.Past.{Past}
+use Rattle.wb_history.specs.Past.{Past}
 use Rattle.wb_program.specs.Checking.{IsNoRecord, IsTextOf}
 use Rattle.wb_program.specs.Resuming.{HasNoEnd, IsRecord, IsUpToEnd, last_line}
 use Rattle.wb_program.specs.Upgrading.{HasNoBook}

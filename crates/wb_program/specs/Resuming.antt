@@ -2,12 +2,12 @@
 use Rattle.std.specs.Prelude.{◌≡◌, ◌⊎◌, ◌+◌, ℕ, Bool, List, [], ◌++◌, codes, length, Option, None, Some, option_map, Result, Ok, Err}
 use Rattle.memchr.specs.Find.{FindsNeedle}
 use Rattle.selective_undo.specs.History.{IsLegal}
-use Rattle.wb_proto.specs.Below.wb_encode.Text.{history_text}
-use Rattle.wb_proto.specs.Below.wb_history.Past.{Past, meant}
-use Rattle.wb_proto.specs.Below.wb_history.Restored.{IsCounted}
+use Rattle.wb_protocol.specs.Encoding.Text.{history_text}
+use Rattle.wb_history.specs.Past.{Past, meant}
+use Rattle.wb_history.specs.Restored.{IsCounted}
 use Rattle.wb_lines.specs.Session.{Serves}
 use Rattle.wb_lines.specs.declared.machine.SessionEnd.{SessionEnd}
-use Rattle.wb_proto.specs.Machine.{AnswersText}
+use Rattle.wb_protocol.specs.Machine.{AnswersText}
 use Rattle.wb_program.specs.Checking.{IsNoRecord, IsFault, Says}
 use Rattle.wb_program.specs.Running.{status_of}
 use Rattle.wb_program.specs.declared.checking.Verdict.TheVariants.{Refused}

@@ -1,12 +1,12 @@
 -- Sessions of the program, and the exit status after each.
 use Rattle.std.specs.Prelude.{◌≡◌, ◌⊎◌, ℕ, ◌≤◌, List, [], Bool, true, Option}
-use Rattle.wb_proto.specs.Below.wb_history.Past.{Past}
+use Rattle.wb_history.specs.Past.{Past}
 use Rattle.wb_lines.specs.Causes.{RisesBy}
 use Rattle.wb_lines.specs.Reading.{read_limit}
 use Rattle.wb_lines.specs.Session.{Serves}
 use Rattle.wb_lines.specs.declared.machine.SessionEnd.{SessionEnd}
 use Rattle.wb_lines.specs.declared.machine.SessionEnd.TheVariants.{Done, ReadFault, WriteFault, TooManyReads, NoMemory}
-use Rattle.wb_proto.specs.Machine.{AnswersText}
+use Rattle.wb_protocol.specs.Machine.{AnswersText}
 
 -- 0 where all was answered, 3 where input or output failed, 4 where a growth was refused
 abbrev pub status_of : SessionEnd → ℕ

@@ -1,19 +1,19 @@
 -- What a connection at a desk is written, and what the program prints once a desk is settled.
 use Rattle.std.specs.Prelude.{◌≡◌, ◌⊎◌, ℕ, Bool, true, false, List, [], ◌++◌, codes, decimal, length, Result, Ok, Err}
 use Rattle.selective_undo.specs.History.{replay}
-use Rattle.wb_proto.specs.Below.wb_history.Past.{Past, Numbered, meant}
-use Rattle.wb_proto.specs.Below.wb_log.refusal.Refusal.{Refusal}
-use Rattle.wb_proto.specs.Below.wb_log.refusal.Refusal.TheVariants.{NoMemory}
-use Rattle.wb_proto.specs.Replies.{reply_of}
-use Rattle.wb_proto.specs.Requests.{request}
-use Rattle.wb_proto.specs.declared.replies.reply.Reply.{Reply}
-use Rattle.wb_proto.specs.declared.replies.reply.Reply.TheVariants.{Refused}
-use Rattle.wb_proto.specs.declared.requests.request.Request.{Request}
-use Rattle.wb_journal.specs.Courses.{Course}
-use Rattle.wb_shared.specs.Seats.{IsNumberOfSeats}
-use Rattle.wb_journal.specs.Serving.{Held, own_after, share_after, AnswersSome}
-use Rattle.wb_proto.specs.Below.wb_text.Lines.{book_text}
-use Rattle.wb_proto.specs.Below.wb_encode.Text.{history_text}
+use Rattle.wb_history.specs.Past.{Past, Numbered, meant}
+use Rattle.wb_log.specs.declared.refusal.Refusal.{Refusal}
+use Rattle.wb_log.specs.declared.refusal.Refusal.TheVariants.{NoMemory}
+use Rattle.wb_protocol.specs.Replies.{reply_of}
+use Rattle.wb_protocol.specs.Requests.{request}
+use Rattle.wb_protocol.specs.declared.replies.reply.Reply.{Reply}
+use Rattle.wb_protocol.specs.declared.replies.reply.Reply.TheVariants.{Refused}
+use Rattle.wb_protocol.specs.declared.requests.request.Request.{Request}
+use Rattle.wb_desk.specs.Courses.{Course}
+use Rattle.wb_desk.specs.Seats.{IsNumberOfSeats}
+use Rattle.wb_desk.specs.Serving.{Held, own_after, share_after, AnswersSome}
+use Rattle.wb_text.specs.Lines.{book_text}
+use Rattle.wb_protocol.specs.Encoding.Text.{history_text}
 use Rattle.wb_program.specs.Checking.{IsFault, IsPrinted}
 
 -- a pass after a reply to its request

@@ -2,14 +2,14 @@
 use Rattle.std.specs.Prelude.{◌≡◌, ◌⊎◌, ℕ, true, List, [], ◌∷◌}
 use Rattle.std.specs.Str.{IsUtf8}
 use Rattle.selective_undo.specs.History.{replay}
-use Rattle.wb_book.specs.Cells.{Cells}
-use Rattle.wb_book.specs.WellFormed.{IsWellFormed}
-use Rattle.wb_proto.specs.Below.wb_edit.edit.Edit.TheVariants.{Load}
-use Rattle.wb_proto.specs.Below.wb_history.Past.{Numbered, meant}
-use Rattle.wb_proto.specs.Below.wb_history.Restored.{one_of}
-use Rattle.wb_proto.specs.Below.wb_reading.Reading.{IsNoBook}
-use Rattle.wb_record.specs.Text.{history_text, IsHistory}
-use Rattle.wb_proto.specs.Below.wb_text.Lines.{book_text}
+use Rattle.wb_cells.specs.Cells.{Cells}
+use Rattle.wb_cells.specs.WellFormed.{IsWellFormed}
+use Rattle.wb_edit.specs.declared.edit.Edit.TheVariants.{Load}
+use Rattle.wb_history.specs.Past.{Numbered, meant}
+use Rattle.wb_history.specs.Restored.{one_of}
+use Rattle.wb_reading.specs.Reading.{IsNoBook}
+use Rattle.wb_protocol.specs.Histories.Text.{history_text, IsHistory}
+use Rattle.wb_text.specs.Lines.{book_text}
 use Rattle.wb_program.specs.Checking.{IsFault, IsPrinted, Says}
 use Rattle.wb_program.specs.declared.checking.Verdict.TheVariants.{Refused}
 

@@ -4,13 +4,13 @@ ghost use Rattle.std.specs.Prelude.{ℕ, List, IfOk, OnErr};
 ghost use Rattle.std.specs.Io.KnownBytes.{Appends, Consumes};
 ghost use Rattle.wb_lines.specs.Causes.{ReadsUntil, WritesUntil};
 ghost use Rattle.wb_lines.specs.Session.{MayAnswer, Serves};
-ghost use Rattle.wb_proto.specs.Machine.{AnswersText};
+ghost use Rattle.wb_protocol.specs.Machine.{AnswersText};
 
 use std::alloc::{AllocError, Global};
+use wb_arrays::Mover;
+use wb_history::History;
 use wb_lines::{Machine, SessionEnd, Sink, Source, serve_lines};
-use wb_proto::answer_line;
-use wb_proto::below::history::History;
-use wb_redist::Mover;
+use wb_protocol::answer_line;
 
 /// A history answers a line with the text of a reply to its request.
 struct HistoryMachine;

@@ -1,7 +1,7 @@
 //! Sessions whose journal begins with the history whose text comes first.
 ghost use Rattle.std.specs.Prelude.{◌≡◌, ◌⊎◌, ℕ, List, [], true, IfOk, IfErr, IfSome, IfNone};
 ghost use Rattle.std.specs.Io.KnownBytes.{Appends, Consumes};
-ghost use Rattle.wb_disk.specs.Device.{Only};
+ghost use Rattle.wb_keep.specs.Disk.Device.{Only};
 ghost use Rattle.wb_keeping.specs.Opening.{IsOpening};
 ghost use Rattle.wb_lines.specs.Causes.{RisesBy};
 ghost use Rattle.wb_program.specs.Beginning.{RunsBegun, TellsOf};
@@ -19,11 +19,11 @@ use crate::resuming::{parts, read_opening};
 use crate::running::{INPUT_OR_OUTPUT_FAILED, NO_MEMORY};
 use std::alloc::Global;
 use std::str::from_utf8;
-use wb_disk::Device;
+use wb_arrays::Mover;
+use wb_keep::disk::Device;
 use wb_keeping::{BeginErr, Opening, begin_kept, opening_of};
 use wb_lines::{LineFault, Sink, Source};
 use wb_range::NoMemory;
-use wb_redist::Mover;
 
 // The history of these bytes, with the line that it begins with, if they are the text of one.
 fn opening_in<M: Mover>(alloc: Global, bytes: &[u8], mover: &M) -> Result<Option<Opening>, NoMemory>

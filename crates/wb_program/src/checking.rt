@@ -2,7 +2,7 @@
 
 ghost use Rattle.std.specs.Prelude.{◌≡◌, ℕ, List, true, IfOk, IfNone, IfSome, string_bytes};
 ghost use Rattle.std.specs.Io.KnownBytes.{Appends, Consumes, IsAtEnd};
-ghost use Rattle.wb_proto.specs.Below.wb_reading.Reading.{IsNoBook};
+ghost use Rattle.wb_reading.specs.Reading.{IsNoBook};
 ghost use Rattle.wb_program.specs.Checking.{IsNoJournal, IsTextVerdict, IsVerdict, verdict_text, status_of_verdict, IsPrinted, Says, Judges, IsAnswered};
 ghost use Rattle.wb_program.specs.Reasons.{Tells, WhyNothing, told_of};
 ghost use Rattle.wb_program.specs.Running.{HasFailed};
@@ -12,13 +12,13 @@ use crate::reasons::{Reason, look_of};
 use crate::running::{DONE, INPUT_OR_OUTPUT_FAILED, NO_MEMORY};
 use std::alloc::{AllocError, Global};
 use std::str::from_utf8;
-use wb_disk::MemoryFile;
+use wb_arrays::Mover;
+use wb_keep::disk::MemoryFile;
 use wb_kept::OpenKeptErr;
 use wb_lines::{LineFault, NothingHeld, Sink, Source, read_all, send};
-use wb_proto::below::reading::{BookErr, read_book};
+use wb_protocol::histories::{HistoryErr, read_history};
 use wb_range::NoMemory;
-use wb_record::{HistoryErr, read_history};
-use wb_redist::Mover;
+use wb_reading::{BookErr, read_book};
 
 /// The exit status where the input is no text that is wanted.
 pub const REFUSED: u8 = 1;

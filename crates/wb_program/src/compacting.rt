@@ -1,6 +1,6 @@
 //! Journals that are made anew, and the exit status after each.
 ghost use Rattle.std.specs.Prelude.{◌≡◌};
-ghost use Rattle.wb_disk.specs.Device.{LeavesOnly, Only};
+ghost use Rattle.wb_keep.specs.Disk.Device.{LeavesOnly, Only};
 ghost use Rattle.wb_keeping.specs.Anew.{HasEdits};
 ghost use Rattle.wb_program.specs.Compacting.{Compacts, EndsAnew, TellsOfAnew};
 ghost use Rattle.wb_program.specs.Keeping.{FailsKept, IsKeptHistory, writer_alone};
@@ -9,13 +9,13 @@ use crate::files::FileFault;
 use crate::keeping::{KeptRun, opened, turned_away};
 use crate::running::{DONE, INPUT_OR_OUTPUT_FAILED, NO_MEMORY};
 use std::alloc::Global;
-use wb_disk::Replaces;
+use wb_arrays::Mover;
+use wb_history::History;
 use wb_keep::CompactErr;
+use wb_keep::disk::Replaces;
 use wb_keeping::compact;
 use wb_kept::Kept;
 use wb_lines::Sink;
-use wb_proto::below::history::History;
-use wb_redist::Mover;
 
 // The exit status after a journal was to be made anew, and what is told of its file.
 fn outcome_of(made: Result<(), CompactErr>) -> (u8, Option<FileFault>)

@@ -4,10 +4,10 @@ ghost use Rattle.std.specs.Prelude.{◌≡◌, ◌+◌, ◌*◌, length, min};
 ghost use Rattle.wb_lines.specs.Turns.{cost_limit};
 ghost use Rattle.wb_program.specs.Costs.{answer_cost, told_cost, last_cost, look_cost, request_cost, asked_cost};
 
+use wb_desk::{Opening, Pass};
+use wb_history::{Answer, Query, Refusal};
 use wb_kept_seats::Said;
-use wb_proto::below::history::{Answer, Query, Refusal};
-use wb_proto::{Reply, Request};
-use wb_shared::{Opening, Pass};
+use wb_protocol::{Reply, Request};
 
 // As much as a whole turn may.
 const WHOLE_TURN: u64 = 65_536;

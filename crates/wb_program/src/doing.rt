@@ -1,7 +1,7 @@
 //! What the program does by what its command line asks for.
 ghost use Rattle.std.specs.Prelude.{◌≡◌, ◌⊎◌, ◌++◌, ℕ, List, true, false, IfOk, IfErr, take};
 ghost use Rattle.std.specs.Io.KnownBytes.{Appends, Consumes, IsAtEnd};
-ghost use Rattle.wb_shared.specs.Openings.{nothing_done};
+ghost use Rattle.wb_desk.specs.Openings.{nothing_done};
 ghost use Rattle.wb_program.specs.Checking.{IsFault};
 ghost use Rattle.wb_program.specs.Reasons.{Tells, TellsWhy, WhyNoHistory};
 ghost use Rattle.wb_program.specs.Resuming.{left_in, failed_in, reads_in};
@@ -30,12 +30,12 @@ use crate::upgrading::upgrade_with;
 use std::alloc::Global;
 use std::sync::Wait;
 use std::thread::Threads;
+use wb_arrays::Mover;
 use wb_command::Asked;
-use wb_disk::Replaces;
+use wb_history::History;
+use wb_keep::disk::Replaces;
 use wb_keeping::Opening;
 use wb_lines::{Sink, Source};
-use wb_proto::below::history::History;
-use wb_redist::Mover;
 
 /// Listens on a port and tells which one: what connections come from, or the exit status after a fault.
 pub(crate) fn listen<B: Binds<N, I, O>, N: Accepts<I, O> + Drop, I, O, W: Sink>(

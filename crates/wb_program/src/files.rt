@@ -1,10 +1,10 @@
 //! What a journal is kept in: a file of this machine.
 ghost use Rattle.std.specs.Prelude.{◌≡◌, ℕ, List, Option, Some, IfOk, IfErr};
-ghost use Rattle.wb_disk.specs.Device.{Only};
+ghost use Rattle.wb_keep.specs.Disk.Device.{Only};
 
 use std::io::{self, ErrorKind};
-use wb_disk::{DiskFile, OpenDiskErr, Replaces, open_file};
 use wb_keep::START;
+use wb_keep::disk::{DiskFile, OpenDiskErr, Replaces, open_file};
 
 /// Why no journal is kept in a file, where the file is the cause.
 #[derive(Clone, Copy, Debug, PartialEq, Eq)]
@@ -102,7 +102,7 @@ fn fault_of(error: OpenDiskErr) -> (FileFault, Option<io::Error>) {
 
 impl<'a> OpensFiles<DiskFile> for Files<'a> {
     ghost use Rattle.std.specs.Prelude.{◌≡◌, Some};
-    ghost use Rattle.wb_disk.specs.Calls.{IsHeld};
+    ghost use Rattle.wb_keep.specs.Disk.Calls.{IsHeld};
 
     ghost came = { λ s path file held. IsHeld held file.calls };
 

@@ -1,9 +1,9 @@
 //! Sessions whose changes are kept in a journal, and the exit status after each.
 ghost use Rattle.std.specs.Prelude.{◌≡◌, ◌++◌, ℕ, List, true, false, IfOk, IfErr};
-ghost use Rattle.wb_disk.specs.Device.{Only};
+ghost use Rattle.wb_keep.specs.Disk.Device.{Only};
 ghost use Rattle.wb_kept.specs.Sessions.{KeepsUntil, ReadsUntil, WritesUntil};
-ghost use Rattle.wb_proto.specs.Below.wb_history.Past.{Past};
-ghost use Rattle.wb_granting.specs.Granting.{Answers, Grants};
+ghost use Rattle.wb_history.specs.Past.{Past};
+ghost use Rattle.wb_keeping.specs.Granting.Granting.{Answers, Grants};
 ghost use Rattle.wb_program.specs.Keeping.{IsCause, IsKeptHistory, IsOpened, KeepsSession, TurnsAway, fault_of_end, status_of_end};
 ghost use Rattle.wb_program.specs.Keeping.{FailsKept, FinishesKept, RunsKept, ServesOn, streams};
 
@@ -11,12 +11,12 @@ use crate::checking::{Verdict, say};
 use crate::files::FileFault;
 use crate::running::{DONE, INPUT_OR_OUTPUT_FAILED, NO_MEMORY};
 use std::alloc::{AllocError, Global};
-use wb_disk::Device;
+use wb_arrays::Mover;
+use wb_history::History;
+use wb_keep::disk::Device;
 use wb_keeping::{KeptHistory, answer, make};
 use wb_kept::{Changes, Kept, KeptEnd, OpenKeptErr, open, serve_kept};
 use wb_lines::{Sink, Source};
-use wb_proto::below::history::History;
-use wb_redist::Mover;
 
 /// How a session with a journal came out.
 #[derive(Drop)]

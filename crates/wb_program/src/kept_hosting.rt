@@ -1,7 +1,7 @@
 //! A desk on a port whose changes are kept in the journal at a path.
 ghost use Rattle.std.specs.Prelude.{◌≡◌, ◌⊎◌, ℕ, List, true};
 ghost use Rattle.std.specs.Io.KnownBytes.{Appends};
-ghost use Rattle.wb_disk.specs.Device.{Only};
+ghost use Rattle.wb_keep.specs.Disk.Device.{Only};
 ghost use Rattle.wb_program.specs.Keeping.{IsKeptHistory, writer_alone};
 ghost use Rattle.wb_program.specs.KeptDays.{FailsKeptDay, HostsKept, RunsDesk, UsesDesk};
 
@@ -14,11 +14,11 @@ use crate::running::{INPUT_OR_OUTPUT_FAILED, NO_MEMORY};
 use std::alloc::Global;
 use std::sync::Wait;
 use std::thread::Threads;
-use wb_disk::{Device, Replaces};
+use wb_arrays::Mover;
+use wb_history::History;
+use wb_keep::disk::{Device, Replaces};
 use wb_kept::Kept;
 use wb_lines::{Sink, Source};
-use wb_proto::below::history::History;
-use wb_redist::Mover;
 
 // A desk on a port, on the history of a journal that was opened.
 fn host_kept<

@@ -5,24 +5,26 @@ ghost use Rattle.std.specs.Io.KnownBytes.{Appends, Consumes};
 ghost use Rattle.wb_lines.specs.Causes.{ReadsUntil, WritesUntil};
 ghost use Rattle.wb_lines.specs.Turns.{ServesTurns, cost_limit, turn_limit};
 ghost use Rattle.wb_lines.specs.declared.machine.SessionEnd.{SessionEnd};
-ghost use Rattle.wb_proto.specs.Replies.{reply_of};
+ghost use Rattle.wb_protocol.specs.Replies.{reply_of};
 ghost use Rattle.wb_program.specs.Costs.{kept_line_cost};
+ghost use Rattle.wb_program.specs.Door.{left_at, failed_at, reads_at};
 ghost use Rattle.wb_program.specs.Serving.{AnswersSeat, IsReadAs};
 ghost use Rattle.wb_program.specs.KeptSeats.{FailsOnce, told_text};
 
 use crate::cost::{cost_of_both, cost_of_last, cost_to_answer_said};
+use crate::door::Door;
 use crate::seat::{Hold, Seat, text_of};
 use std::alloc::{AllocError, Global};
 use std::cell::Cell;
 use std::marker::{Model, PhantomData};
 use std::sync::{Mutex, Wait};
-use wb_disk::Device;
+use wb_arrays::Mover;
+use wb_desk::Pass;
+use wb_history::Refusal;
+use wb_keep::disk::Device;
 use wb_kept_seats::{CommitErr, Desk, KeptOpening, Receipt, Said, Sealed, SettleErr, Turn};
 use wb_lines::{Asks, Sink, Source, Tells, serve_turns};
-use wb_proto::Reply;
-use wb_proto::below::history::Refusal;
-use wb_redist::Mover;
-use wb_shared::Pass;
+use wb_protocol::Reply;
 
 /// Whether a commit was refused since the file failed.
 #[derive(Drop)]
@@ -268,16 +270,16 @@ fn serve_in_kept_turns<L: KeptOpening, D: Device + Drop, R: Wait, I: Source, O: 
     alloc: Global,
     turns: &Turns<'_, L, D>,
     pass: Pass<L>,
-    reader: &mut I,
+    door: &mut Door<I>,
     writer: &mut O,
     mover: &M,
 ) -> Pass<L>
     ensures { (end : SessionEnd)
-        × ReadsUntil end (I.remaining reader.new) (I.failed reader.new) (I.reads reader.old) (I.reads reader.new)
+        × ReadsUntil end (left_at I.remaining door.new) (failed_at I.failed door.new) (reads_at I.reads door.old) (reads_at I.reads door.new)
         × WritesUntil end (O.flushed writer.new) (O.failed writer.new)
-        × ((read : List ℕ) × Consumes (I.remaining reader.old) (I.remaining reader.new) read
+        × ((read : List ℕ) × Consumes (left_at I.remaining door.old) (left_at I.remaining door.new) read
         × ((text : List ℕ) × Appends (O.contents writer.old) (O.contents writer.new) text
-        × ServesTurns (AnswersSeat L.opening) end pass read (I.remaining reader.new) text result)) }
+        × ServesTurns (AnswersSeat L.opening) end pass read (left_at I.remaining door.new) text result)) }
 {
     // (each of the functions borrows variables of its own)
     let mut pass = pass;
@@ -313,15 +315,27 @@ fn serve_in_kept_turns<L: KeptOpening, D: Device + Drop, R: Wait, I: Source, O: 
         held.let_go(at);
         hold.let_go();
     };
-    let _ = serve_turns::<Seat<L>, Pass<L>, Hold, Result<Said, Refusal>, Told<L>, _, _, _, _, I, O>(
-        alloc, &mut pass, &mut hold, &parse, &answer, &tell, &let_go, reader, writer,
+    let _ = serve_turns::<
+        Seat<L>,
+        Pass<L>,
+        Hold,
+        Result<Said, Refusal>,
+        Told<L>,
+        _,
+        _,
+        _,
+        _,
+        Door<I>,
+        O,
+    >(
+        alloc, &mut pass, &mut hold, &parse, &answer, &tell, &let_go, door, writer,
     );
     pass
 }
 
-/// Answers each line that is read at a seat of a desk whose changes are kept, as `serve_seat` does at another: it writes exactly
-/// the texts of the replies, each with a line end, and each the desk's to the pass as it was then. The changes of a turn are in
-/// the file before its replies are made texts. Where they can't be kept, nothing more is told, and the session ends.
+/// Answers each line that comes through the door at a seat of a desk whose changes are kept, as `serve_seat` does at another: it
+/// writes exactly the texts of the replies, each with a line end, and each the desk's to the pass as it was then. The changes of
+/// a turn are in the file before its replies are made texts. Where they can't be kept, nothing more is told, and the session ends.
 pub(crate) fn serve_kept_seat<
     L: KeptOpening,
     D: Device + Drop,
@@ -334,19 +348,19 @@ pub(crate) fn serve_kept_seat<
     alloc: Global,
     desk: &KeptDesk<L, D>,
     pass: Pass<L>,
-    reader: &mut I,
+    door: &mut Door<I>,
     writer: &mut O,
     mover: &M,
 ) -> Pass<L>
     ensures { (end : SessionEnd)
-        × ReadsUntil end (I.remaining reader.new) (I.failed reader.new) (I.reads reader.old) (I.reads reader.new)
+        × ReadsUntil end (left_at I.remaining door.new) (failed_at I.failed door.new) (reads_at I.reads door.old) (reads_at I.reads door.new)
         × WritesUntil end (O.flushed writer.new) (O.failed writer.new)
-        × ((read : List ℕ) × Consumes (I.remaining reader.old) (I.remaining reader.new) read
+        × ((read : List ℕ) × Consumes (left_at I.remaining door.old) (left_at I.remaining door.new) read
         × ((text : List ℕ) × Appends (O.contents writer.old) (O.contents writer.new) text
-        × ServesTurns (AnswersSeat L.opening) end pass read (I.remaining reader.new) text result)) }
+        × ServesTurns (AnswersSeat L.opening) end pass read (left_at I.remaining door.new) text result)) }
 {
     let turns = Turns::at(desk);
-    let pass = serve_in_kept_turns(rt, alloc, &turns, pass, reader, writer, mover);
+    let pass = serve_in_kept_turns(rt, alloc, &turns, pass, door, writer, mover);
     turns.end();
     pass
 }

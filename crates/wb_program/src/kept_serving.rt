@@ -1,7 +1,7 @@
 //! A desk on connections whose changes are kept in a journal: a day of it, and the file that is given back.
 ghost use Rattle.std.specs.Prelude.{◌≡◌, ◌⊎◌, ℕ, List, [], false, true, None, Some, IfOk, IfErr};
 ghost use Rattle.std.specs.Io.KnownBytes.{Appends};
-ghost use Rattle.wb_journal.specs.Serving.{new_passes};
+ghost use Rattle.wb_desk.specs.Serving.{new_passes};
 ghost use Rattle.wb_keep.specs.Lines.{recovered};
 ghost use Rattle.wb_program.specs.Checking.{IsFault};
 ghost use Rattle.wb_program.specs.Days.{AllBack, ServedOn};
@@ -10,6 +10,7 @@ ghost use Rattle.wb_program.specs.KeptDays.{BreaksOff, EndsKeptDay, FailsKeptDay
 ghost use Rattle.wb_program.specs.KeptSeats.{FailsOnce};
 
 use crate::accepting::{AcceptErr, Accepts};
+use crate::door::Door;
 use crate::files::FileFault;
 use crate::keeping::KeptRun;
 use crate::kept_seat::{Failing, KeptDesk, serve_kept_seat};
@@ -22,15 +23,15 @@ use std::sync::Wait;
 use std::sync::ledger::Blank;
 use std::thread;
 use std::thread::Threads;
-use wb_disk::Device;
-use wb_group::Opened;
+use wb_arrays::Mover;
+use wb_desk::{Cause, DeskErr, Pass};
+use wb_history::History;
 use wb_keep::LineLog;
+use wb_keep::disk::Device;
 use wb_kept::{Changes, Kept};
+use wb_kept_group::group::Opened;
 use wb_kept_seats::{Desk, KeptOpening, Seats, SettleErr, Settled, Unsettled, settle};
 use wb_lines::{Sink, Source};
-use wb_proto::below::history::History;
-use wb_redist::Mover;
-use wb_shared::{Cause, DeskErr, Pass};
 
 // The exit status of a day that was not settled, and what is told of the file: where it failed, that is the cause.
 fn blamed<D: Device + Drop>(failing: &Failing<D>, status: u8) -> (u8, Option<FileFault>)
@@ -154,7 +155,7 @@ fn settled<L: KeptOpening, N: Accepts<I, O>, I: Source, O: Sink, D: Device + Dro
     }
 }
 
-// Answers the lines of a connection at a seat until its end or a fault, and gives the pass back.
+// Answers what is heard of a connection at a seat until its end or a fault, and gives the pass back.
 fn serve_kept_connection<
     L: KeptOpening,
     D: Device + Drop,
@@ -173,9 +174,9 @@ fn serve_kept_connection<
 ) -> Pass<L>
     ensures { ServedOn I.Source O.Sink L.opening pass reader writer result }
 {
-    let mut reader = reader;
+    let mut door = Door::of(reader);
     let mut writer = writer;
-    serve_kept_seat(rt, alloc, desk, pass, &mut reader, &mut writer, mover)
+    serve_kept_seat(rt, alloc, desk, pass, &mut door, &mut writer, mover)
 }
 
 // Accepts a connection for each pass, serves it there in a thread of its own, and joins them all: the passes, or the exit

@@ -4,10 +4,10 @@ ghost use Rattle.wb_program.specs.Reasons.{WhyNoBook, WhyNoHistory, look_of};
 
 use std::alloc::Global;
 use std::str::from_utf8;
-use wb_proto::below::reading::{BookErr, read_book};
+use wb_arrays::Mover;
+use wb_protocol::histories::{HistoryErr, read_history};
 use wb_range::NoMemory;
-use wb_record::{HistoryErr, read_history};
-use wb_redist::Mover;
+use wb_reading::{BookErr, read_book};
 
 // What each text of ours begins with.
 const FIRST_WORD: &[u8] = b"chapel-workbook ";

@@ -17,11 +17,11 @@ use crate::running::{INPUT_OR_OUTPUT_FAILED, NO_MEMORY, status_of};
 use memchr::memmem;
 use std::alloc::Global;
 use std::str::from_utf8;
+use wb_arrays::Mover;
+use wb_history::History;
 use wb_lines::{LineFault, READ_LIMIT, Sink, Source, read_all, read_more};
-use wb_proto::below::history::History;
+use wb_protocol::histories::{HistoryErr, read_history};
 use wb_range::NoMemory;
-use wb_record::{HistoryErr, read_history};
-use wb_redist::Mover;
 
 // The last line of the text of a history, with the line end before it.
 const LAST_LINE: &[u8] = b"\nend\n";

@@ -8,9 +8,9 @@ ghost use Rattle.wb_program.specs.Running.{status_of, HasFailed, ServesFromEmpty
 
 use crate::answering::session;
 use std::alloc::Global;
+use wb_arrays::Mover;
+use wb_history::History;
 use wb_lines::{SessionEnd, Sink, Source};
-use wb_proto::below::history::History;
-use wb_redist::Mover;
 
 /// The exit status of a session that was answered to its end.
 pub const DONE: u8 = 0;

@@ -4,20 +4,22 @@ ghost use Rattle.std.specs.Io.KnownBytes.{Appends, Consumes};
 ghost use Rattle.wb_lines.specs.Causes.{ReadsUntil, WritesUntil};
 ghost use Rattle.wb_lines.specs.Turns.{ServesTurns, cost_limit, turn_limit};
 ghost use Rattle.wb_lines.specs.declared.machine.SessionEnd.{SessionEnd};
-ghost use Rattle.wb_proto.specs.Replies.{reply_of};
-ghost use Rattle.wb_proto.specs.Requests.{request};
+ghost use Rattle.wb_protocol.specs.Replies.{reply_of};
+ghost use Rattle.wb_protocol.specs.Requests.{request};
 ghost use Rattle.wb_program.specs.Costs.{line_cost};
+ghost use Rattle.wb_program.specs.Door.{left_at, failed_at, reads_at};
 ghost use Rattle.wb_program.specs.Serving.{RepliesIfRead, NothingAsked, AnswersSeat, IsReadAs};
 
 use crate::cost::{cost_of, cost_of_both, cost_to_answer};
+use crate::door::Door;
 use std::alloc::{AllocError, Global};
 use std::marker::PhantomData;
 use std::sync::Wait;
+use wb_arrays::Mover;
+use wb_desk::{Desk, Opening, Pass, Turn};
+use wb_history::Refusal;
 use wb_lines::{Asks, Holds, Machine, Sink, Source, Tells, serve_turns};
-use wb_proto::below::history::Refusal;
-use wb_proto::{Reply, Request, read_request, reply_text};
-use wb_redist::Mover;
-use wb_shared::{Desk, Opening, Pass, Turn};
+use wb_protocol::{Reply, Request, read_request, reply_text};
 
 // What a seat at a desk of this name may answer.
 pub(crate) struct Seat<L> {
@@ -135,16 +137,16 @@ fn serve_in_turns<L: Opening, R: Wait, I: Source, O: Sink, M: Mover>(
     alloc: Global,
     turn: &Turn<'_, L>,
     pass: Pass<L>,
-    reader: &mut I,
+    door: &mut Door<I>,
     writer: &mut O,
     mover: &M,
 ) -> Pass<L>
     ensures { (end : SessionEnd)
-        × ReadsUntil end (I.remaining reader.new) (I.failed reader.new) (I.reads reader.old) (I.reads reader.new)
+        × ReadsUntil end (left_at I.remaining door.new) (failed_at I.failed door.new) (reads_at I.reads door.old) (reads_at I.reads door.new)
         × WritesUntil end (O.flushed writer.new) (O.failed writer.new)
-        × ((read : List ℕ) × Consumes (I.remaining reader.old) (I.remaining reader.new) read
+        × ((read : List ℕ) × Consumes (left_at I.remaining door.old) (left_at I.remaining door.new) read
         × ((text : List ℕ) × Appends (O.contents writer.old) (O.contents writer.new) text
-        × ServesTurns (AnswersSeat L.opening) end pass read (I.remaining reader.new) text result)) }
+        × ServesTurns (AnswersSeat L.opening) end pass read (left_at I.remaining door.new) text result)) }
 {
     // (each of the functions borrows variables of its own)
     let mut pass = pass;
@@ -188,16 +190,16 @@ fn serve_in_turns<L: Opening, R: Wait, I: Source, O: Sink, M: Mover>(
         _,
         _,
         _,
-        I,
+        Door<I>,
         O,
     >(
-        alloc, &mut pass, &mut hold, &parse, &answer, &tell, &let_go, reader, writer,
+        alloc, &mut pass, &mut hold, &parse, &answer, &tell, &let_go, door, writer,
     );
     pass
 }
 
-/// Answers each line that is read at a seat of a desk, in order, until the end of input or a fault, and gives the pass
-/// back: it writes exactly the texts of the replies, each with a line end, and each the desk's to the pass as it was then.
+/// Answers each line that comes through the door at a seat of a desk, in order, until the end of input or a fault, and gives the
+/// pass back: it writes exactly the texts of the replies, each with a line end, and each the desk's to the pass as it was then.
 /// Lines that lie ahead are read first, and then answered in turns of the lock. A turn ends after 256 lines, or once they have
 /// cost 65,536 by the cells that they touched, the numbers that they list and the texts that they print; a reduction is as dear
 /// as a whole turn. Texts are made and sent after the lock is let go.
@@ -206,19 +208,19 @@ pub fn serve_seat<L: Opening, R: Wait, I: Source, O: Sink, M: Mover>(
     alloc: Global,
     desk: &Desk<L>,
     pass: Pass<L>,
-    reader: &mut I,
+    door: &mut Door<I>,
     writer: &mut O,
     mover: &M,
 ) -> Pass<L>
     ensures { (end : SessionEnd)
-        × ReadsUntil end (I.remaining reader.new) (I.failed reader.new) (I.reads reader.old) (I.reads reader.new)
+        × ReadsUntil end (left_at I.remaining door.new) (failed_at I.failed door.new) (reads_at I.reads door.old) (reads_at I.reads door.new)
         × WritesUntil end (O.flushed writer.new) (O.failed writer.new)
-        × ((read : List ℕ) × Consumes (I.remaining reader.old) (I.remaining reader.new) read
+        × ((read : List ℕ) × Consumes (left_at I.remaining door.old) (left_at I.remaining door.new) read
         × ((text : List ℕ) × Appends (O.contents writer.old) (O.contents writer.new) text
-        × ServesTurns (AnswersSeat L.opening) end pass read (I.remaining reader.new) text result)) }
+        × ServesTurns (AnswersSeat L.opening) end pass read (left_at I.remaining door.new) text result)) }
 {
     let turn = Turn::at(desk);
-    let pass = serve_in_turns(rt, alloc, &turn, pass, reader, writer, mover);
+    let pass = serve_in_turns(rt, alloc, &turn, pass, door, writer, mover);
     turn.end();
     pass
 }

@@ -1,13 +1,14 @@
 //! A desk on connections: each seat's lines come on a connection of its own, in a thread of its own.
 ghost use Rattle.std.specs.Prelude.{◌≡◌, ℕ, List, IfOk, IfErr, string_bytes, true, false};
 ghost use Rattle.std.specs.Io.KnownBytes.{Appends};
-ghost use Rattle.wb_shared.specs.Openings.{nothing_done};
+ghost use Rattle.wb_desk.specs.Openings.{nothing_done};
 ghost use Rattle.wb_program.specs.Checking.{IsFault};
 ghost use Rattle.wb_program.specs.Serving.{shown, settled_text, PrintsSettled};
 ghost use Rattle.wb_program.specs.Days.{ServedOn, AllBack, EndsDay, FailsDay};
 
 use crate::accepting::{AcceptErr, Accepts};
 use crate::checking::tell;
+use crate::door::Door;
 use crate::running::{BAD_COMMAND_LINE, INPUT_OR_OUTPUT_FAILED, NO_MEMORY};
 use crate::seat::serve_seat;
 use std::alloc::Global;
@@ -17,13 +18,13 @@ use std::sync::Wait;
 use std::sync::ledger::Blank;
 use std::thread;
 use std::thread::{Promise, Threads};
+use wb_arrays::Mover;
+use wb_desk::{Desk, DeskErr, Opening, Pass, Shared, settle};
+use wb_history::History;
 use wb_lines::{Sink, Source};
-use wb_proto::below::encode::print_history;
-use wb_proto::below::history::History;
-use wb_proto::below::text::print_book;
+use wb_protocol::encoding::print_history;
 use wb_range::NoMemory;
-use wb_redist::Mover;
-use wb_shared::{Desk, DeskErr, Opening, Pass, Shared, settle};
+use wb_reading::print_book;
 
 /// What the thread of a seat promises: its pass, served on the connection.
 pub(crate) struct Promised<L: Opening, I, O> {
@@ -46,7 +47,7 @@ impl<L: Opening, I: Source, O: Sink> Promise<Pass<L>> for Promised<L, I, O> {
     ghost kept_by = { λ p k. ServedOn I.Source O.Sink L.opening p.pass.value p.reader.value p.writer.value k };
 }
 
-// Answers the lines of a connection at a seat until its end or a fault, and gives the pass back. Replies are gathered while
+// Answers what is heard of a connection at a seat until its end or a fault, and gives the pass back. Replies are gathered while
 // more lines lie ahead.
 fn serve_connection<L: Opening, R: Wait, I: Source + Drop, O: Sink + Drop, M: Mover>(
     rt: &R,
@@ -59,9 +60,9 @@ fn serve_connection<L: Opening, R: Wait, I: Source + Drop, O: Sink + Drop, M: Mo
 ) -> Pass<L>
     ensures { ServedOn I.Source O.Sink L.opening pass reader writer result }
 {
-    let mut reader = reader;
+    let mut door = Door::of(reader);
     let mut writer = writer;
-    serve_seat(rt, alloc, desk, pass, &mut reader, &mut writer, mover)
+    serve_seat(rt, alloc, desk, pass, &mut door, &mut writer, mover)
 }
 
 // Accepts a connection for each pass, serves it there in a thread of its own, and joins them all: the passes, or the exit

@@ -1,7 +1,7 @@
 //! The text of a workbook, made the text of a history: that of its load.
 ghost use Rattle.std.specs.Prelude.{◌≡◌, ◌⊎◌, ℕ, List, [], Some, true, IfOk, OnOk, IfSome, IfNone, string_bytes};
 ghost use Rattle.std.specs.Io.KnownBytes.{Appends, Consumes, IsAtEnd};
-ghost use Rattle.wb_record.specs.Text.{history_text};
+ghost use Rattle.wb_protocol.specs.Histories.Text.{history_text};
 ghost use Rattle.wb_program.specs.Checking.{IsAnswered, IsFault, Says};
 ghost use Rattle.wb_program.specs.Reasons.{Tells, WhyNoBook};
 ghost use Rattle.wb_program.specs.Running.{HasFailed};
@@ -14,13 +14,14 @@ use crate::reasons::{Reason, why_no_book};
 use crate::running::{INPUT_OR_OUTPUT_FAILED, NO_MEMORY};
 use std::alloc::Global;
 use std::str::from_utf8;
+use wb_arrays::Mover;
+use wb_edit::Edit;
+use wb_history::{History, RestoreErr};
 use wb_lines::{LineFault, Sink, Source, read_all};
-use wb_proto::below::edit::Edit;
-use wb_proto::below::history::{History, RestoreErr};
-use wb_proto::below::reading::{BookErr, BookText, read_text};
+use wb_protocol::histories::print_history;
 use wb_range::NoMemory;
-use wb_record::print_history;
-use wb_redist::Mover;
+use wb_reading::{BookErr, read_text};
+use wb_text::BookText;
 
 // The history that has one edit, the load of this text, in force.
 fn loaded<M: Mover>(alloc: Global, text: BookText, mover: &M) -> Result<History, NoMemory>

@@ -1,1 +1,5 @@
-pub mod Texts
+pub mod Storing
+pub mod Columnwise
+pub mod Linewise
+pub mod Agreeing
+pub mod Fitting

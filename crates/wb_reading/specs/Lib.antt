@@ -1,3 +1,2 @@
-pub mod Below
-pub mod Texts
+pub mod Laid
 pub mod Reading

@@ -1,24 +1,27 @@
-//! A workbook from its text, and the text of a workbook as such.
+//! A workbook printed, and read from its text.
 //!
 //! The lines of the text are read, the workbook that they tell of is made, and its own text is compared with the one
 //! that was given. So a text is read just where it is the text of a workbook.
 #![tactic(auto)]
 
-pub mod below;
-mod text;
+mod books;
+mod objects;
+mod printed;
+mod workbook;
 
 ghost use Rattle.std.specs.Prelude.{◌≡◌, ◌≢◌, true, false, Some, None, IfOk, IfErr, IfSome, IfNone, map, option_map};
 ghost use Rattle.wb_reading.specs.Reading.{IsNoBook};
 ghost use Rattle.wb_text.specs.Lines.{book_text};
 ghost use Rattle.wb_text.specs.Said.{line_of};
-ghost use Rattle.wb_reading.specs.Texts.Books.{told_by, book_in, is_book_text};
+ghost use Rattle.wb_text.specs.Texts.Books.{told_by, book_in, is_book_text};
 
-pub use crate::text::{BookText, laws};
+pub use crate::printed::print_book;
+pub use crate::workbook::rebuild;
 use std::alloc::Global;
 use thiserror::Error;
+use wb_book::Book;
 use wb_range::NoMemory;
-use wb_text::below::shelf::Book;
-use wb_text::{ObjectLine, print_book, read_lines, rebuild};
+use wb_text::{BookText, ObjectLine, read_lines};
 
 /// Why a text is not read.
 #[derive(Clone, Copy, Debug, PartialEq, Eq, Error)]

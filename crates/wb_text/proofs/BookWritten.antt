@@ -3,22 +3,22 @@ use Rattle.std.proofs.Common.{◌≡◌, ℕ, ℤ, Bool, true, false, List, [], 
 use Rattle.std.specs.FinMap.{get}
 use Rattle.std.specs.List.{cons_option, filter_map}
 use Rattle.wb_dist.specs.Maps.{whole}
-use Rattle.wb_book.specs.declared.cells.cell.Cell.TheVariants.{Object, Shape, Mapping, Implicit, Element}
-use Rattle.wb_book.specs.declared.cells.kind.DomainKind.{DomainKind}
-use Rattle.wb_book.specs.declared.cells.kind.DomainKind.TheVariants.{Rectangular, Sparse, Associative}
-use Rattle.wb_book.specs.declared.cells.kind.Kind.{Kind}
-use Rattle.wb_book.specs.declared.cells.kind.Kind.TheVariants as kinds
-use Rattle.wb_book.specs.declared.cells.value.Value.{Value}
-use Rattle.wb_book.specs.declared.cells.value.Value.TheVariants as values
-use Rattle.wb_book.specs.declared.values.index.Index.{Index}
-use Rattle.wb_book.specs.Cells.{Name, Cells}
-use Rattle.wb_book.specs.Kinds.{kind_of}
-use Rattle.wb_book.specs.Locales.{mapping_in}
-use Rattle.wb_book.specs.Names.{is_name}
-use Rattle.wb_book.specs.Readers.{objects}
-use Rattle.wb_book.specs.WellFormed as wf
-use Rattle.wb_book.specs.WellFormed.{IsWellFormed, IsShape, HasMapping, IsElement, IsNumber, array_at, array_in, domain_at, domain_in, is_index_of_array}
-use Rattle.wb_book.specs.WellFormed.{ranges_in}
+use Rattle.wb_cells.specs.declared.cells.cell.Cell.TheVariants.{Object, Shape, Mapping, Implicit, Element}
+use Rattle.wb_cells.specs.declared.cells.kind.DomainKind.{DomainKind}
+use Rattle.wb_cells.specs.declared.cells.kind.DomainKind.TheVariants.{Rectangular, Sparse, Associative}
+use Rattle.wb_cells.specs.declared.cells.kind.Kind.{Kind}
+use Rattle.wb_cells.specs.declared.cells.kind.Kind.TheVariants as kinds
+use Rattle.wb_cells.specs.declared.cells.value.Value.{Value}
+use Rattle.wb_cells.specs.declared.cells.value.Value.TheVariants as values
+use Rattle.wb_cells.specs.declared.values.index.Index.{Index}
+use Rattle.wb_cells.specs.Cells.{Name, Cells}
+use Rattle.wb_cells.specs.Kinds.{kind_of}
+use Rattle.wb_cells.specs.Locales.{mapping_in}
+use Rattle.wb_cells.specs.Names.{is_name}
+use Rattle.wb_cells.specs.Readers.{objects}
+use Rattle.wb_cells.specs.WellFormed as wf
+use Rattle.wb_cells.specs.WellFormed.{IsWellFormed, IsShape, HasMapping, IsElement, IsNumber, array_at, array_in, domain_at, domain_in, is_index_of_array}
+use Rattle.wb_cells.specs.WellFormed.{ranges_in}
 use Rattle.wb_text.specs.Said.{Line, domain_said, said_in, said_of, said}
 use Rattle.wb_text.specs.Lines.{number_in, element_at, elements_at, indices_in, implicit_in, book_text}
 use Rattle.wb_text.proofs.Readable.{Each}

@@ -6,8 +6,3 @@ pub mod Returned
 pub mod SoundSaid
 pub mod Steps
 pub mod ComingBack
-pub mod Storing
-pub mod Columnwise
-pub mod Linewise
-pub mod Agreeing
-pub mod Fitting

@@ -19,3 +19,4 @@ pub mod SameCells
 pub mod NamesAscend
 pub mod Parsed
 pub mod FromLines
+pub mod Texts

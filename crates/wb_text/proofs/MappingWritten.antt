@@ -8,8 +8,8 @@ use Rattle.wb_range.specs.Sequence.{or_zero}
 use Rattle.wb_rect.specs.Product.{IsRectangle}
 use Rattle.wb_dist.specs.Grid.{size_of_grid, are_positive, is_grid}
 use Rattle.wb_dist.specs.Maps.{LayoutMap, whole, block, cyclic, block_cyclic, is_rank, is_box}
-use Rattle.wb_book.specs.Layouts.{IsMapping}
-use Rattle.wb_literal.specs.Integer.{IsWithin}
+use Rattle.wb_cells.specs.Layouts.{IsMapping}
+use Rattle.wb_literals.specs.Integer.{IsWithin}
 use Rattle.wb_text.proofs.Readable.{Each, both}
 use Rattle.wb_text.proofs.Numbers.{fit_within}
 use Rattle.wb_text.proofs.ReadIndices.{AreWithin, IsPoint}

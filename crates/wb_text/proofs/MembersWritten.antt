@@ -9,25 +9,25 @@ use Rattle.std.specs.Ordering.{eq_by_cmp}
 use Rattle.wb_range.specs.Canonical.{IsRange}
 use Rattle.wb_rect.specs.Product.{IsRectangle, product}
 use Rattle.wb_rect.proofs.Common.{pair_of}
-use Rattle.wb_assoc.specs.Labels.{is_plain}
-use Rattle.wb_book.specs.declared.cells.cell.Cell.{Cell}
-use Rattle.wb_book.specs.declared.cells.cell.Cell.TheVariants.{Shape, In, Member}
-use Rattle.wb_book.specs.declared.cells.kind.DomainKind.{DomainKind}
-use Rattle.wb_book.specs.declared.cells.kind.DomainKind.TheVariants.{Rectangular, Sparse, Associative}
-use Rattle.wb_book.specs.declared.cells.kind.KeyType.TheVariants as types
-use Rattle.wb_book.specs.declared.cells.kind.KeyType.{KeyType}
-use Rattle.wb_book.specs.declared.cells.kind.Kind.TheVariants as kinds
-use Rattle.wb_book.specs.declared.cells.pattern.Pattern.{Pattern}
-use Rattle.wb_book.specs.declared.cells.pattern.Pattern.TheVariants.{Members}
-use Rattle.wb_book.specs.declared.cells.value.Value.{Value}
-use Rattle.wb_book.specs.declared.cells.value.Value.TheVariants.{Present}
-use Rattle.wb_book.specs.declared.values.index.Index.{Index}
-use Rattle.wb_book.specs.declared.values.index.Index.TheVariants.{Point, Text}
-use Rattle.wb_book.specs.Cells.{Name, Cells, cell_cmp, cell_order, same_names, matches}
-use Rattle.wb_book.specs.Kinds.{is_key, IsIndex}
-use Rattle.wb_book.specs.Shapes.{indices}
-use Rattle.wb_book.specs.WellFormed.{IsWellFormed, IsShape, IsMember, MayHave, domain_at, has, inside_of, present_if, ranges_in}
-use Rattle.wb_book.proofs.Inside.{has_point, has_no_text, has_none_of_other_rank}
+use Rattle.wb_sets.specs.Labels.{is_plain}
+use Rattle.wb_cells.specs.declared.cells.cell.Cell.{Cell}
+use Rattle.wb_cells.specs.declared.cells.cell.Cell.TheVariants.{Shape, In, Member}
+use Rattle.wb_cells.specs.declared.cells.kind.DomainKind.{DomainKind}
+use Rattle.wb_cells.specs.declared.cells.kind.DomainKind.TheVariants.{Rectangular, Sparse, Associative}
+use Rattle.wb_cells.specs.declared.cells.kind.KeyType.TheVariants as types
+use Rattle.wb_cells.specs.declared.cells.kind.KeyType.{KeyType}
+use Rattle.wb_cells.specs.declared.cells.kind.Kind.TheVariants as kinds
+use Rattle.wb_cells.specs.declared.cells.pattern.Pattern.{Pattern}
+use Rattle.wb_cells.specs.declared.cells.pattern.Pattern.TheVariants.{Members}
+use Rattle.wb_cells.specs.declared.cells.value.Value.{Value}
+use Rattle.wb_cells.specs.declared.cells.value.Value.TheVariants.{Present}
+use Rattle.wb_cells.specs.declared.values.index.Index.{Index}
+use Rattle.wb_cells.specs.declared.values.index.Index.TheVariants.{Point, Text}
+use Rattle.wb_cells.specs.Cells.{Name, Cells, cell_cmp, cell_order, same_names, matches}
+use Rattle.wb_cells.specs.Kinds.{is_key, IsIndex}
+use Rattle.wb_cells.specs.Shapes.{indices}
+use Rattle.wb_cells.specs.WellFormed.{IsWellFormed, IsShape, IsMember, MayHave, domain_at, has, inside_of, present_if, ranges_in}
+use Rattle.wb_cells.proofs.Inside.{has_point, has_no_text, has_none_of_other_rank}
 use Rattle.wb_text.specs.Lines.{member_in, members}
 use Rattle.wb_text.proofs.Readable.{Each, both}
 use Rattle.wb_text.proofs.Numbers.{fit_within}

@@ -9,10 +9,10 @@ use Rattle.std.specs.List.{AllByRecursion, cons_option, filter_map}
 use Rattle.std.specs.List.Sorted.{IsStrictlySortedBy}
 use Rattle.std.specs.Ordering.{is_lt, nat_cmp}
 use Rattle.std.specs.declared.cmp.Ordering.TheVariants.{Less, Equal, Greater}
-use Rattle.wb_book.specs.declared.cells.cell.Cell.{Cell}
-use Rattle.wb_book.specs.declared.cells.cell.Cell.TheVariants.{Object}
-use Rattle.wb_book.specs.Cells.{Name, Cells, cell_cmp}
-use Rattle.wb_book.specs.Readers.{object_of, objects}
+use Rattle.wb_cells.specs.declared.cells.cell.Cell.{Cell}
+use Rattle.wb_cells.specs.declared.cells.cell.Cell.TheVariants.{Object}
+use Rattle.wb_cells.specs.Cells.{Name, Cells, cell_cmp}
+use Rattle.wb_cells.specs.Readers.{object_of, objects}
 use Rattle.wb_text.specs.Said.{Line, name_of, said_of, said}
 use Rattle.wb_text.proofs.ReadIndices.{some_same}
 use Rattle.wb_text.proofs.LineOfName.{IsNamed, said_named}

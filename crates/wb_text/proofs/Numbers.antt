@@ -3,7 +3,7 @@ use Rattle.std.proofs.Common.{ℤ, pos, negsuc, FitsSigned, w64, List, [], ◌�
 use Rattle.std.proofs.lemmas.Int.{ints}
 use Rattle.std.proofs.lemmas.List.Elements.{recursion_from_All}
 use Rattle.std.specs.List.{All, AllByRecursion}
-use Rattle.wb_literal.specs.Integer.{IsWithin}
+use Rattle.wb_literals.specs.Integer.{IsWithin}
 use Rattle.wb_text.proofs.ReadIndices.{AreWithin}
 
 pub fits_within : (z : ℤ) → FitsSigned w64 z → IsWithin z

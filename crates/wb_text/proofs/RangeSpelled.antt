@@ -15,8 +15,8 @@ use Rattle.wb_range.proofs.Places.{above_zero}
 use Rattle.wb_range.proofs.Spelling.{AreBoundsOf, bounds_up, bounds_down}
 use Rattle.wb_range.proofs.Steps.{Between-steps, stride_of-steps}
 use Rattle.wb_range.proofs.Walk.{sequence-is}
-use Rattle.wb_literal.specs.Integer.{IsWithin}
-use Rattle.wb_literal.specs.RangeText.{IsStride}
+use Rattle.wb_literals.specs.Integer.{IsWithin}
+use Rattle.wb_literals.specs.RangeText.{IsStride}
 use Rattle.wb_text.proofs.ReadRanges.{IsSpelled}
 
 -- ---- numbers of 64 bits

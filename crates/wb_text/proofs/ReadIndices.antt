@@ -3,12 +3,12 @@ use Rattle.std.proofs.Common.{◌≡◌, ◌≢◌, ◌==◌, ◌&&◌, ◌||◌
 use Rattle.std.proofs.Common.{ap, ◌∙◌, append_assoc, arith}
 use Rattle.std.specs.Fmt.{signed_decimal}
 use Rattle.std.specs.List.{list_all}
-use Rattle.wb_assoc.specs.Labels.{is_plain}
-use Rattle.wb_book.specs.Names.{is_name, is_name_part, is_letter}
-use Rattle.wb_book.specs.declared.values.index.Index.{Index}
-use Rattle.wb_book.specs.declared.values.index.Index.TheVariants.{Point, Text}
-use Rattle.wb_literal.specs.Integer.{integer_at, IsWithin}
-use Rattle.wb_literal.proofs.DigitsBack.{EndsDigits, integer_back}
+use Rattle.wb_sets.specs.Labels.{is_plain}
+use Rattle.wb_cells.specs.Names.{is_name, is_name_part, is_letter}
+use Rattle.wb_cells.specs.declared.values.index.Index.{Index}
+use Rattle.wb_cells.specs.declared.values.index.Index.TheVariants.{Point, Text}
+use Rattle.wb_literals.specs.Integer.{integer_at, IsWithin}
+use Rattle.wb_literals.proofs.DigitsBack.{EndsDigits, integer_back}
 use Rattle.wb_text.specs.Literals.{enclosed, point_text, index_text, set_text, integers_text}
 use Rattle.wb_text.proofs.Readable.{IsRead, IsNever, Each, Any, bytes_until, head_same, tail_same, enclosed_read}
 

@@ -4,12 +4,12 @@ use Rattle.std.proofs.lemmas.List.{append_cancel_left}
 use Rattle.std.specs.Fmt.{signed_decimal}
 use Rattle.std.specs.List.{list_all, flat_map}
 use Rattle.wb_dist.specs.Maps.{LayoutMap}
-use Rattle.wb_book.specs.declared.cells.kind.KeyType.{KeyType}
-use Rattle.wb_book.specs.declared.cells.kind.KeyType.TheVariants.{Int, Text}
-use Rattle.wb_book.specs.declared.values.index.Index.{Index}
-use Rattle.wb_book.specs.Cells.{Name}
-use Rattle.wb_book.specs.Names.{is_name, is_name_part}
-use Rattle.wb_literal.specs.Integer.{IsWithin}
+use Rattle.wb_cells.specs.declared.cells.kind.KeyType.{KeyType}
+use Rattle.wb_cells.specs.declared.cells.kind.KeyType.TheVariants.{Int, Text}
+use Rattle.wb_cells.specs.declared.values.index.Index.{Index}
+use Rattle.wb_cells.specs.Cells.{Name}
+use Rattle.wb_cells.specs.Names.{is_name, is_name_part}
+use Rattle.wb_literals.specs.Integer.{IsWithin}
 use Rattle.wb_text.specs.Literals.{rectangle_text, set_text, integers_text, mapping_text}
 use Rattle.wb_text.specs.Lines.{rectangular_line, sparse_line, type_text, associative_line, implicit_text, array_line}
 use Rattle.wb_text.specs.Said.{Line, rectangular, sparse, associative, array, line_text, lines_text}

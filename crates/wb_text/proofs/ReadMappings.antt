@@ -2,7 +2,7 @@
 use Rattle.std.proofs.Common.{◌≡◌, ℕ, ℤ, List, ◌++◌, codes, refl, sym, ap₂, ◌∙◌, append_assoc}
 use Rattle.std.proofs.lemmas.List.{append_cancel_left}
 use Rattle.wb_dist.specs.Maps.{LayoutMap, BlockMap, CyclicMap, BlockCyclicMap, whole, block, cyclic, block_cyclic}
-use Rattle.wb_literal.proofs.DigitsBack.{EndsDigits}
+use Rattle.wb_literals.proofs.DigitsBack.{EndsDigits}
 use Rattle.wb_text.specs.Literals.{rectangle_text, point_text, integers_text, last_grid_text, mapping_text}
 use Rattle.wb_text.proofs.Readable.{IsRead, Each, Any, tail_same, other_first}
 use Rattle.wb_text.proofs.ReadIndices.{AreWithin, IsPoint, integers_read, point_read}

@@ -7,9 +7,9 @@ use Rattle.std.specs.Ordering.{int_eq}
 use Rattle.wb_range.specs.Canonical.{bounds_of}
 use Rattle.wb_range.specs.Sequence.{sequence}
 use Rattle.wb_range.specs.Steps.{stride_of}
-use Rattle.wb_literal.specs.Integer.{is_digit, IsWithin}
-use Rattle.wb_literal.specs.RangeText.{range_text}
-use Rattle.wb_literal.proofs.DigitsBack.{EndsDigits}
+use Rattle.wb_literals.specs.Integer.{is_digit, IsWithin}
+use Rattle.wb_literals.specs.RangeText.{range_text}
+use Rattle.wb_literals.proofs.DigitsBack.{EndsDigits}
 use Rattle.wb_text.specs.Literals.{written_stride, text_of_range, rectangle_text}
 use Rattle.wb_text.proofs.Readable.{IsRead, IsNever, Each, Any, head_same, tail_same, enclosed_read}
 use Rattle.wb_text.proofs.ReadIndices.{integer_read, no_integer, some_same}

@@ -4,22 +4,22 @@ use Rattle.std.specs.Cmp.{Equal-is, eq_by_cmp_equiv}
 use Rattle.std.specs.FinMap.{get}
 use Rattle.std.specs.List.{cons_option, filter_map}
 use Rattle.selective_undo.proofs.Changes.{or_right, same_states}
-use Rattle.wb_book.specs.contracts.values.index.IndexOrd.TheImpl.Laws as index_laws
-use Rattle.wb_book.specs.declared.cells.cell.Cell.{Cell}
-use Rattle.wb_book.specs.declared.cells.cell.Cell.TheVariants.{Object, Shape, In, Member, Mapping, Use, Implicit, Element}
-use Rattle.wb_book.specs.declared.cells.kind.DomainKind.{DomainKind}
-use Rattle.wb_book.specs.declared.cells.kind.DomainKind.TheVariants.{Rectangular, Sparse, Associative}
-use Rattle.wb_book.specs.declared.cells.kind.KeyType.{KeyType}
-use Rattle.wb_book.specs.declared.cells.kind.Kind.{Kind}
-use Rattle.wb_book.specs.declared.cells.kind.Kind.TheVariants as kinds
-use Rattle.wb_book.specs.declared.cells.value.Value.{Value}
-use Rattle.wb_book.specs.declared.cells.value.Value.TheVariants as values
-use Rattle.wb_book.specs.declared.values.index.Index.{Index}
-use Rattle.wb_book.specs.Cells.{Name, Cells, cell_order, index_cmp-IsAntisymmetric, is_same_index}
-use Rattle.wb_book.specs.Kinds.{kind_of}
-use Rattle.wb_book.specs.Shapes.{Range, indices}
-use Rattle.wb_book.specs.WellFormed.{IsWellFormed, IsElement, IsMember, IsNumber, MayHave, array_at, array_in, domain_at, has, index_cell, inside_of}
-use Rattle.wb_book.specs.WellFormed.{is_index_of_array, present_if, ranges_in}
+use Rattle.wb_cells.specs.contracts.values.index.IndexOrd.TheImpl.Laws as index_laws
+use Rattle.wb_cells.specs.declared.cells.cell.Cell.{Cell}
+use Rattle.wb_cells.specs.declared.cells.cell.Cell.TheVariants.{Object, Shape, In, Member, Mapping, Use, Implicit, Element}
+use Rattle.wb_cells.specs.declared.cells.kind.DomainKind.{DomainKind}
+use Rattle.wb_cells.specs.declared.cells.kind.DomainKind.TheVariants.{Rectangular, Sparse, Associative}
+use Rattle.wb_cells.specs.declared.cells.kind.KeyType.{KeyType}
+use Rattle.wb_cells.specs.declared.cells.kind.Kind.{Kind}
+use Rattle.wb_cells.specs.declared.cells.kind.Kind.TheVariants as kinds
+use Rattle.wb_cells.specs.declared.cells.value.Value.{Value}
+use Rattle.wb_cells.specs.declared.cells.value.Value.TheVariants as values
+use Rattle.wb_cells.specs.declared.values.index.Index.{Index}
+use Rattle.wb_cells.specs.Cells.{Name, Cells, cell_order, index_cmp-IsAntisymmetric, is_same_index}
+use Rattle.wb_cells.specs.Kinds.{kind_of}
+use Rattle.wb_cells.specs.Shapes.{Range, indices}
+use Rattle.wb_cells.specs.WellFormed.{IsWellFormed, IsElement, IsMember, IsNumber, MayHave, array_at, array_in, domain_at, has, index_cell, inside_of}
+use Rattle.wb_cells.specs.WellFormed.{is_index_of_array, present_if, ranges_in}
 use Rattle.wb_text.specs.Said.{sparse, associative, array, said}
 use Rattle.wb_text.specs.Lines.{element_at, elements_at, indices_in, members, number_in}
 use Rattle.wb_text.proofs.Readable.{Each}

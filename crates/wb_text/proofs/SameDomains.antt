@@ -2,15 +2,15 @@
 use Rattle.std.proofs.Common.{◌≡◌, ℕ, ℤ, List, [], Option, Some, None, unwrap_or, length, refl, sym, ap, ◌∙◌, subst}
 use Rattle.std.specs.FinMap.{get}
 use Rattle.wb_dist.specs.Maps.{LayoutMap}
-use Rattle.wb_book.specs.declared.cells.cell.Cell.TheVariants.{Object, Shape}
-use Rattle.wb_book.specs.declared.cells.kind.DomainKind.{DomainKind}
-use Rattle.wb_book.specs.declared.cells.kind.DomainKind.TheVariants.{Rectangular, Sparse, Associative}
-use Rattle.wb_book.specs.declared.cells.kind.KeyType.{KeyType}
-use Rattle.wb_book.specs.declared.cells.value.Value.{Value}
-use Rattle.wb_book.specs.declared.cells.value.Value.TheVariants as values
-use Rattle.wb_book.specs.declared.values.index.Index.{Index}
-use Rattle.wb_book.specs.Cells.{Name, Cells}
-use Rattle.wb_book.specs.WellFormed.{IsWellFormed, IsShape, domain_at, domain_in, ranges_in}
+use Rattle.wb_cells.specs.declared.cells.cell.Cell.TheVariants.{Object, Shape}
+use Rattle.wb_cells.specs.declared.cells.kind.DomainKind.{DomainKind}
+use Rattle.wb_cells.specs.declared.cells.kind.DomainKind.TheVariants.{Rectangular, Sparse, Associative}
+use Rattle.wb_cells.specs.declared.cells.kind.KeyType.{KeyType}
+use Rattle.wb_cells.specs.declared.cells.value.Value.{Value}
+use Rattle.wb_cells.specs.declared.cells.value.Value.TheVariants as values
+use Rattle.wb_cells.specs.declared.values.index.Index.{Index}
+use Rattle.wb_cells.specs.Cells.{Name, Cells}
+use Rattle.wb_cells.specs.WellFormed.{IsWellFormed, IsShape, domain_at, domain_in, ranges_in}
 use Rattle.wb_text.specs.Said.{Line, rectangular, sparse, associative, array, domain_said, said_in, said_of, said}
 use Rattle.wb_text.proofs.ReadIndices.{some_same}
 use Rattle.wb_text.proofs.LineOfName.{same_line}

@@ -2,5 +2,4 @@ pub mod Inserted
 pub mod Told
 pub mod Made
 pub mod Found
-pub mod Laid
 pub mod Rebuilt

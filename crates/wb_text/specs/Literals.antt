@@ -7,9 +7,9 @@ use Rattle.std.specs.Ordering.{int_eq}
 use Rattle.wb_range.specs.Canonical.{bounds_of}
 use Rattle.wb_range.specs.Steps.{stride_of}
 use Rattle.wb_dist.specs.Maps.{LayoutMap, whole, block, cyclic, block_cyclic}
-use Rattle.wb_literal.specs.RangeText.{range_text}
-use Rattle.wb_book.specs.declared.values.index.Index.{Index}
-use Rattle.wb_book.specs.declared.values.index.Index.TheVariants.{Point, Text}
+use Rattle.wb_literals.specs.RangeText.{range_text}
+use Rattle.wb_cells.specs.declared.values.index.Index.{Index}
+use Rattle.wb_cells.specs.declared.values.index.Index.TheVariants.{Point, Text}
 
 -- ---- lists
 

@@ -3,17 +3,17 @@ use Rattle.std.specs.Prelude.{ℕ, ℤ, List, [], ◌∷◌, ◌++◌, codes, co
 use Rattle.std.specs.FinMap.{get}
 use Rattle.std.specs.List.{filter_map, flat_map}
 use Rattle.wb_dist.specs.Maps.{LayoutMap, whole}
-use Rattle.wb_book.specs.declared.cells.cell.Cell.TheVariants.{Object, Shape, Mapping}
-use Rattle.wb_book.specs.declared.cells.kind.DomainKind.{DomainKind}
-use Rattle.wb_book.specs.declared.cells.kind.DomainKind.TheVariants.{Rectangular, Sparse, Associative}
-use Rattle.wb_book.specs.declared.cells.kind.KeyType.{KeyType}
-use Rattle.wb_book.specs.declared.cells.value.Value.{Value}
-use Rattle.wb_book.specs.declared.cells.value.Value.TheVariants.{Domain, Array}
-use Rattle.wb_book.specs.declared.values.index.Index.{Index}
-use Rattle.wb_book.specs.Cells.{Name, Cells, is_same_name}
-use Rattle.wb_book.specs.Locales.{mapping_in}
-use Rattle.wb_book.specs.Readers.{objects}
-use Rattle.wb_book.specs.WellFormed.{ranges_in}
+use Rattle.wb_cells.specs.declared.cells.cell.Cell.TheVariants.{Object, Shape, Mapping}
+use Rattle.wb_cells.specs.declared.cells.kind.DomainKind.{DomainKind}
+use Rattle.wb_cells.specs.declared.cells.kind.DomainKind.TheVariants.{Rectangular, Sparse, Associative}
+use Rattle.wb_cells.specs.declared.cells.kind.KeyType.{KeyType}
+use Rattle.wb_cells.specs.declared.cells.value.Value.{Value}
+use Rattle.wb_cells.specs.declared.cells.value.Value.TheVariants.{Domain, Array}
+use Rattle.wb_cells.specs.declared.values.index.Index.{Index}
+use Rattle.wb_cells.specs.Cells.{Name, Cells, is_same_name}
+use Rattle.wb_cells.specs.Locales.{mapping_in}
+use Rattle.wb_cells.specs.Readers.{objects}
+use Rattle.wb_cells.specs.WellFormed.{ranges_in}
 use Rattle.wb_text.specs.Lines.{members, indices_in, elements_at, implicit_in, rectangular_line, sparse_line, associative_line, array_line}
 use Rattle.wb_text.specs.declared.said.ObjectLine.{ObjectLine}
 use Rattle.wb_text.specs.declared.said.ObjectLine.TheVariants as lines

@@ -7,7 +7,7 @@ use crate::literals::{push_list, push_set};
 use crate::mappings::{push_any_layout, push_any_rect};
 use std::alloc::{AllocError, Global};
 use std::fmt::Write;
-use wb_book::{AnyIndex, AnyLayout, AnyRect, KeyType, Name};
+use wb_cells::{AnyIndex, AnyLayout, AnyRect, KeyType, Name};
 
 // The ranges of a rectangular domain in braces.
 fn push_ranges(alloc: Global, out: &mut String, ranges: &Option<AnyRect>) -> Result<(), AllocError>
@@ -20,7 +20,7 @@ fn push_ranges(alloc: Global, out: &mut String, ranges: &Option<AnyRect>) -> Res
 }
 
 /// The line of a rectangular domain.
-pub(crate) fn push_rectangular_line(
+pub fn push_rectangular_line(
     alloc: Global,
     out: &mut String,
     domain: &Name,
@@ -38,7 +38,7 @@ pub(crate) fn push_rectangular_line(
 }
 
 /// The line of a sparse domain.
-pub(crate) fn push_sparse_line(
+pub fn push_sparse_line(
     out: &mut String,
     domain: &Name,
     parent: &Name,
@@ -63,7 +63,7 @@ fn type_text(key: KeyType) -> &'static str
 }
 
 /// The line of an associative domain.
-pub(crate) fn push_associative_line(
+pub fn push_associative_line(
     out: &mut String,
     domain: &Name,
     key: KeyType,
@@ -89,7 +89,7 @@ fn push_implicit(out: &mut String, implicit: Option<i64>) -> Result<(), AllocErr
 }
 
 /// The line of an array.
-pub(crate) fn push_array_line(
+pub fn push_array_line(
     out: &mut String,
     array: &Name,
     domain: &Name,

@@ -7,7 +7,7 @@ ghost use Rattle.wb_text.specs.Literals.{further, text_of_range, index_text};
 use crate::literals::{push_index, push_range};
 use std::alloc::AllocError;
 use std::fmt::Write;
-use wb_book::AnyIndex;
+use wb_cells::AnyIndex;
 use wb_range::Range;
 
 // Integers, each after a comma.

@@ -5,7 +5,7 @@ ghost use Rattle.wb_text.specs.Literals.{written_stride, text_of_range, rectangl
 use crate::lists::{push_indices, push_integers, push_ranges};
 use std::alloc::AllocError;
 use std::fmt::Write;
-use wb_book::{AnyIndex, Index};
+use wb_cells::{AnyIndex, Index};
 use wb_range::Range;
 
 // The stride, if it is written.

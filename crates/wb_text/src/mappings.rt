@@ -5,7 +5,7 @@ ghost use Rattle.wb_text.specs.Literals.{rectangle_text, point_text, last_grid_t
 
 use crate::literals::{push_list, push_point, push_rectangle};
 use std::alloc::{AllocError, Global};
-use wb_book::{AnyLayout, AnyRect, Laid, Ranked};
+use wb_cells::{AnyLayout, AnyRect, Laid, Ranked};
 use wb_dist::{Block, BlockCyclic, Cyclic, Distribution, Layout};
 use wb_range::Range;
 use wb_rect::Rect;

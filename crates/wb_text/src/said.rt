@@ -1,6 +1,6 @@
 //! What a line of the text of a workbook says.
 
-use wb_book::{AnyIndex, AnyLayout, AnyRect, KeyType, Name};
+use wb_cells::{AnyIndex, AnyLayout, AnyRect, KeyType, Name};
 
 /// What the line of an object says.
 #[derive(Drop)]

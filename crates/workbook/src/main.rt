@@ -10,13 +10,13 @@ use std::os::fd::AsRawFd;
 use std::process::ExitCode;
 use std::sync::Wait;
 use std::thread::Threads;
+use wb_arrays::{Crew, Mover};
 use wb_command::{Asked, CommandErr, command_of};
 use wb_lines::{Input, Output};
 use wb_program::{
     BAD_COMMAND_LINE, DONE, FileFault, Files, INPUT_OR_OUTPUT_FAILED, NO_MEMORY, Ports, PutBack,
     REFUSED, Reason, do_asked,
 };
-use wb_redist::{Crew, Mover};
 
 /// The words of most command lines: so many are lent without memory of their own.
 const FEW: usize = 8;

@@ -6,6 +6,7 @@ Nothing of the program is used: text 3 is read by docs/PROTOCOL.md, and what its
 from .course import Course
 from .disk import Disk, fronts
 from .records import read_record
-from .text import START, at_rest, lined, recovered, resume_line
+from .text import START, at_rest, is_at_rest, lined, recovered, repaired, resume_line
 
-__all__ = ["START", "Course", "Disk", "at_rest", "fronts", "lined", "read_record", "recovered", "resume_line"]
+__all__ = ["START", "Course", "Disk", "at_rest", "fronts", "is_at_rest", "lined", "read_record", "recovered", "repaired",
+           "resume_line"]

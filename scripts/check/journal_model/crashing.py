@@ -9,7 +9,7 @@ from .course import ANEW, OUTPUT, Course
 from .days import Day
 from .disk import Disk, fronts
 from .runs import Recording, Strange
-from .text import at_rest, recovered
+from .text import is_at_rest, recovered, repaired
 
 EACH_OPENING = EACH_SERVED = 100
 SHOWN = 5
@@ -57,7 +57,7 @@ def made_anew(recording, course):
 
 def rests(recording, course):
     """The file that a command left has the lines of the course and is at rest."""
-    if recording.phases[-1].left != at_rest(course.lines()):
+    if not is_at_rest(recording.phases[-1].left, course.lines()):
         raise Strange("%s left the file %r" % (recording.phases[-1].name, recording.phases[-1].left))
 
 
@@ -144,7 +144,7 @@ class Crash:
         count, _ = self.course.stands_for(lines)
         if (status, told) != (0, self.course.histories[count]):
             self.found.differs("status %d, and %r is told of the file %r" % (status, told[:300], image))
-        elif left != at_rest(lines):
+        elif left != repaired(image or b""):
             self.found.differs("opening the file %r leaves %r" % (image, left))
 
     def in_an_opening(self, phase, image):

@@ -1,14 +1,14 @@
 """A disk by its calls, and what a crash may leave of one of its files.
 
-What was synced stays. Of a write that was not, a crash may leave any bytes at its place and any length between; of a cut, any length
-between; of a name, that it is there or not. Any bytes are too many to try: see `torn` for those that are.
+What was synced stays. Of a write that was not, a crash may leave in each byte of its place what was there, what was written, or 0, and
+any length between; of a cut, any length between; of a name, that it is there or not. These are too many to try: see `torn` for those
+that are.
 """
 
 import itertools
 from collections import Counter
 
 from .records import BEGUN, CUT, ENDED, FOLDER, NAMED, RENAMED, SYNC, TAKEN_AWAY, TOLD, WRITE
-from .text import HEADER
 
 WHOLE = 512  # a longer write is torn in each way at some of its bytes alone
 SOME = 48
@@ -25,27 +25,25 @@ def effect(old, call):
     return laid(old, call.at, call.data) if call.kind == WRITE else old[: call.at]
 
 
-def before(old, size):
-    """So many bytes as the disk may have held before: the file's own lines once more, from the first."""
-    held = old[len(HEADER) :] or HEADER
-    return (held * (size // len(held) + 1))[:size]
-
-
 def torn(old, call, chance):
-    """What a crash may leave of a write: the file as it was and as it is to be; torn at each byte, with the rest as it was, zeros,
-    bytes of before or any; the other way round; zeros that are shorter; and each byte, where it writes one."""
+    """What a crash may leave of a write: torn at each byte, in front of it and behind it, and with each byte alone left out, where what
+    is left out is as it was, zeros, or some of each by chance; and cut off where it is torn."""
     at, data, size = call.at, call.data, len(call.data)
-    if size == 1:
-        yield old
-        yield from (laid(old, at, bytes([byte])) for byte in range(256))
-        return
-    stale, zeros, noise = before(old, size), bytes(size), chance.randbytes(size)
-    yield from (laid(old, at, data[:k]) for k in range(size + 1))
-    for k in range(size + 1) if size <= WHOLE else sorted(chance.sample(range(size + 1), SOME)):
-        yield laid(old, at, zeros[:k])
-        for other in (zeros, stale, noise):
-            yield laid(old, at, data[:k] + other[k:])
-            yield laid(old, at, other[:k] + data[k:])
+    was = old[at : at + size].ljust(size, b"\0")
+    either = bytes(chance.choice(two) for two in zip(was, bytes(size)))
+    some = bytes(chance.choice(three) for three in zip(was, data, bytes(size)))
+    for other in dict.fromkeys([was, bytes(size), either, some]):
+        for k in range(size + 1) if size <= WHOLE else sorted(chance.sample(range(size + 1), SOME)):
+            yield from shorter(old, laid(old, at, data[:k] + other[k:]), at + k)
+            yield from shorter(old, laid(old, at, other[:k] + data[k:]), at + k)
+            yield laid(old, at, data[:k] + other[k : k + 1] + data[k + 1 :])
+
+
+def shorter(old, new, at):
+    """A file that a write has made, and the same cut off at a place, where that makes it no shorter than it was."""
+    yield new
+    if len(old) <= at < len(new):
+        yield new[:at]
 
 
 def taken(old, call, chance):

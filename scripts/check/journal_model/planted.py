@@ -11,15 +11,15 @@ from .records import BEGUN, ENDED, FOLDER, NAMED, RENAMED, SYNC, TOLD, WRITE
 from .runs import Strange
 
 SEATS = 4
-FAR = 4  # so many syncs before
+FAR = 2  # so many syncs before
 
 
-def without_sync(calls, which):
-    """The calls without one of the syncs before each reply: the last, or the one before it."""
+def without_sync(calls):
+    """The calls without the last sync before each reply."""
     kept = []
     for at, call in enumerate(calls):
         later = [it.kind for it in calls[at + 1 :] if it.kind in (SYNC, TOLD)]
-        if call.kind != SYNC or TOLD not in later or later.index(TOLD) != which:
+        if call.kind != SYNC or later[:1] != [TOLD]:
             kept.append(call)
     return kept
 
@@ -37,10 +37,10 @@ def told_early(calls, is_early=lambda call: True, syncs=1):
 
 
 def under_way(calls):
-    """The calls with the end of each write of one byte behind the next call, which a sync has begun with."""
+    """The calls with the end of each write behind the next call, which a sync has begun with."""
     moved = list(calls)
     for at, (call, end, after) in enumerate(zip(moved, moved[1:], moved[2:])):
-        if call.kind == WRITE and len(call.data) == 1 and (end.kind, after.kind) == (ENDED, BEGUN):
+        if call.kind == WRITE and (end.kind, after.kind) == (ENDED, BEGUN):
             moved[at + 1 : at + 3] = [after, end]
     return moved
 
@@ -67,18 +67,16 @@ def each(changed, command):
 
 
 RUN, SERVE = {
-    "run, the mark not synced": lambda calls: without_sync(calls, 0),
-    "run, the lines not synced before the mark": lambda calls: without_sync(calls, 1),
+    "run, a batch not synced": without_sync,
     "run, a reply before the sync": told_early,
-    "run, the mark not written before the sync begins": under_way,
+    "run, a batch not written before the sync begins": under_way,
 }, {
-    "serve, a mark not synced": lambda calls: without_sync(calls, 0),
-    "serve, lines not synced before their mark": lambda calls: without_sync(calls, 1),
+    "serve, a batch not synced": without_sync,
     "serve, a reply before its batch is kept": told_early,
-    "serve, a mark not written before the sync begins": under_way,
+    "serve, a batch not written before the sync begins": under_way,
     "serve, a seat that asks is told of changes before they are kept": lambda calls: told_early(calls, is_watcher, FAR),
 }
-BEGUN_WITH = {"run --resume, the history not synced before a reply": lambda calls: without_sync(calls, 0)}
+BEGUN_WITH = {"run --resume, the history not synced before a reply": without_sync}
 ANEW_WITH = {
     "compact, the new file in place before it is synced": named_first,
     "compact, ended before the folder is synced": without_folder,

@@ -13,6 +13,7 @@ from .saved import restored as of_text
 
 HEADER = b"chapel-workbook 3\n"
 START = HEADER + b"#"
+ENDS, GOES_ON = b" ", b"+"  # the mark of a line that ends a batch, and of one that counts with the next
 
 
 class NotOpened(Exception):
@@ -31,12 +32,38 @@ def is_ours(held):
 
 def changes_of(held):
     """The lines that a file stands for, whatever a crash made of its end."""
-    found = []
+    return batches_of(held)[0]
+
+
+def batches_of(held):
+    """The lines of the whole batches of a file, and where these end."""
+    found, waiting, at, end = [], [], len(HEADER), len(HEADER)
     for line in held[len(HEADER) :].split(b"\n")[:-1]:
-        if line[:1] != b" ":
+        if line[:1] not in (ENDS, GOES_ON) or b"\0" in line:
             break
-        found.append(line[1:])
-    return found
+        at += len(line) + 1
+        waiting.append(unstuffed(line[1:]))
+        if line[:1] == ENDS:
+            found, waiting, end = found + waiting, [], at
+    return found, end
+
+
+def unstuffed(line):
+    """A line of a file: behind a byte 1 stands the digit of a byte."""
+    plain, escaped = bytearray(), False
+    for byte in line:
+        if byte == 1 and not escaped:
+            escaped = True
+            continue
+        plain.append(max(byte - ord("0"), 0) if escaped else byte)
+        escaped = False
+    return bytes(plain)
+
+
+def batch_of(lines):
+    """Lines that are kept together, as a file has them. No line of a change has a byte 0 or 1."""
+    marks = [GOES_ON] * (len(lines) - 1) + [ENDS]
+    return b"".join(mark + line.encode() + b"\n" for mark, line in zip(marks, lines))
 
 
 def make(machine, line):
@@ -136,19 +163,17 @@ class Journal:
             sync_folder(self.path)
 
     def put_right(self):
-        whole = len(HEADER) + sum(len(line) + 2 for line in changes_of(self.held))
-        end = whole if len(self.held) >= len(HEADER) else 0
+        _, end = batches_of(self.held)
+        self.mark = end
+        if len(self.held) < len(HEADER):
+            end = 0
         os.ftruncate(self.file, end)
-        os.fdatasync(self.file)
         write_at(self.file, end, b"#" if end else START)
         os.fdatasync(self.file)
-        self.mark = whole
 
     def append(self, lines):
-        block = b"".join(b" %s\n" % line.encode() for line in lines)
-        write_at(self.file, self.mark + 1, block[1:] + b"#")
-        os.fdatasync(self.file)
-        write_at(self.file, self.mark, b" ")
+        block = batch_of(lines)
+        write_at(self.file, self.mark, block + b"#")
         os.fdatasync(self.file)
         self.mark += len(block)
 

@@ -1,11 +1,11 @@
 -- A new index of a sparse or associative domain keeps a workbook well formed.
 use Rattle.std.proofs.Common.{◌≡◌, [], ◌∷◌, Some, None, ap, ◌∙◌}
-use Rattle.wb_book.specs.declared.cells.cell.Cell.TheVariants.{Object, Member}
-use Rattle.wb_book.specs.declared.cells.kind.DomainKind.{DomainKind}
-use Rattle.wb_book.specs.declared.values.index.Index.{Index}
-use Rattle.wb_book.specs.Cells.{Name, Cells}
-use Rattle.wb_book.specs.Kinds.{kind_of, IsIndex}
-use Rattle.wb_book.specs.WellFormed.{IsWellFormed, domain_in, domain_at}
+use Rattle.wb_cells.specs.declared.cells.cell.Cell.TheVariants.{Object, Member}
+use Rattle.wb_cells.specs.declared.cells.kind.DomainKind.{DomainKind}
+use Rattle.wb_cells.specs.declared.values.index.Index.{Index}
+use Rattle.wb_cells.specs.Cells.{Name, Cells}
+use Rattle.wb_cells.specs.Kinds.{kind_of, IsIndex}
+use Rattle.wb_cells.specs.WellFormed.{IsWellFormed, domain_in, domain_at}
 use Rattle.wb_edit.specs.Commands.{add, add_unless}
 use Rattle.wb_edit.specs.Trees.{Tree, judged, read}
 use Rattle.wb_edit.specs.Resizing.{has_members, with_members}

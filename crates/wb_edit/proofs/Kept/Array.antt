@@ -4,27 +4,27 @@ use Rattle.std.specs.Int.{w64}
 use Rattle.std.specs.FinMap.{get}
 use Rattle.selective_undo.specs.Changes.{apply}
 use Rattle.selective_undo.specs.Edit.{write}
-use Rattle.wb_book.specs.declared.cells.cell.Cell.{Cell}
-use Rattle.wb_book.specs.declared.cells.cell.Cell.TheVariants.{Object, Shape, In, Member, Mapping, Use, Implicit, Element}
-use Rattle.wb_book.specs.declared.cells.value.Binding.TheVariants.{Array}
-use Rattle.wb_book.specs.declared.cells.kind.DomainKind.{DomainKind}
-use Rattle.wb_book.specs.declared.cells.kind.DomainKind.TheVariants.{Rectangular, Sparse, Associative}
-use Rattle.wb_book.specs.declared.cells.kind.Kind.{Kind}
-use Rattle.wb_book.specs.declared.cells.kind.Kind.TheVariants.{Rectangular, Sparse, Associative}
-use Rattle.wb_book.specs.Kinds.{kind_of}
-use Rattle.wb_book.specs.declared.cells.value.Value.{Value}
-use Rattle.wb_book.specs.declared.cells.value.Value.TheVariants.{Domain, Array, Bound, Number}
-use Rattle.wb_book.specs.declared.values.index.Index.{Index}
-use Rattle.wb_book.specs.Names.{is_name}
-use Rattle.wb_book.specs.Cells.{Name, Cells, cell_cmp, cell_order, is_same_name}
-use Rattle.wb_book.specs.WellFormed.{IsWellFormed, IsImplicit, IsElement, has, present_if, domain_in, array_in, use_of, domain_at, array_at, index_cell}
-use Rattle.wb_book.specs.WellFormed.{is_index_of_array}
+use Rattle.wb_cells.specs.declared.cells.cell.Cell.{Cell}
+use Rattle.wb_cells.specs.declared.cells.cell.Cell.TheVariants.{Object, Shape, In, Member, Mapping, Use, Implicit, Element}
+use Rattle.wb_cells.specs.declared.cells.value.Binding.TheVariants.{Array}
+use Rattle.wb_cells.specs.declared.cells.kind.DomainKind.{DomainKind}
+use Rattle.wb_cells.specs.declared.cells.kind.DomainKind.TheVariants.{Rectangular, Sparse, Associative}
+use Rattle.wb_cells.specs.declared.cells.kind.Kind.{Kind}
+use Rattle.wb_cells.specs.declared.cells.kind.Kind.TheVariants.{Rectangular, Sparse, Associative}
+use Rattle.wb_cells.specs.Kinds.{kind_of}
+use Rattle.wb_cells.specs.declared.cells.value.Value.{Value}
+use Rattle.wb_cells.specs.declared.cells.value.Value.TheVariants.{Domain, Array, Bound, Number}
+use Rattle.wb_cells.specs.declared.values.index.Index.{Index}
+use Rattle.wb_cells.specs.Names.{is_name}
+use Rattle.wb_cells.specs.Cells.{Name, Cells, cell_cmp, cell_order, is_same_name}
+use Rattle.wb_cells.specs.WellFormed.{IsWellFormed, IsImplicit, IsElement, has, present_if, domain_in, array_in, use_of, domain_at, array_at, index_cell}
+use Rattle.wb_cells.specs.WellFormed.{is_index_of_array}
 use Rattle.wb_edit.specs.Commands.{array, new_array_changes}
 use Rattle.wb_edit.specs.Looks.{is_free, domain_kind, domain_named, domain_indices}
 use Rattle.wb_edit.specs.Trees.{Tree, judged}
-use Rattle.wb_resize.proofs.Gets.{after, after-column, after-beside, get-apply}
-use Rattle.wb_resize.proofs.States.{in_column, second_first, no_element, IsMember-same, index_cell_same, indices_same, was_free, domains_stay, stays}
-use Rattle.wb_resize.proofs.States.{names_kept, objects_kept}
+use Rattle.wb_reshape.proofs.Gets.{after, after-column, after-beside, get-apply}
+use Rattle.wb_reshape.proofs.States.{in_column, second_first, no_element, IsMember-same, index_cell_same, indices_same, was_free, domains_stay, stays}
+use Rattle.wb_reshape.proofs.States.{names_kept, objects_kept}
 use Rattle.wb_edit.proofs.Kept.Indices.{keeps_indices}
 use Rattle.wb_edit.proofs.Kept.Steps.{Keeps, keeps_read, keeps_judged, free_is, domain_is}
 

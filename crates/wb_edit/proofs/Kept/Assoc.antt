@@ -3,20 +3,20 @@ use Rattle.std.proofs.Common.{◌≡◌, true, [], ◌∷◌, None, refl, sym, �
 use Rattle.std.specs.FinMap.{get}
 use Rattle.selective_undo.specs.Changes.{apply}
 use Rattle.selective_undo.specs.Edit.{write}
-use Rattle.wb_book.specs.declared.cells.cell.Cell.{Cell}
-use Rattle.wb_book.specs.declared.cells.cell.Cell.TheVariants.{Object, Shape, In, Member, Mapping, Use, Implicit, Element}
-use Rattle.wb_book.specs.declared.cells.kind.DomainKind.TheVariants.{Associative}
-use Rattle.wb_book.specs.declared.cells.kind.KeyType.{KeyType}
-use Rattle.wb_book.specs.declared.cells.value.Value.TheVariants.{Domain}
-use Rattle.wb_book.specs.Names.{is_name}
-use Rattle.wb_book.specs.Cells.{Name, Cells, Changes, cell_cmp, cell_order}
-use Rattle.wb_book.specs.WellFormed.{IsWellFormed, use_of}
+use Rattle.wb_cells.specs.declared.cells.cell.Cell.{Cell}
+use Rattle.wb_cells.specs.declared.cells.cell.Cell.TheVariants.{Object, Shape, In, Member, Mapping, Use, Implicit, Element}
+use Rattle.wb_cells.specs.declared.cells.kind.DomainKind.TheVariants.{Associative}
+use Rattle.wb_cells.specs.declared.cells.kind.KeyType.{KeyType}
+use Rattle.wb_cells.specs.declared.cells.value.Value.TheVariants.{Domain}
+use Rattle.wb_cells.specs.Names.{is_name}
+use Rattle.wb_cells.specs.Cells.{Name, Cells, Changes, cell_cmp, cell_order}
+use Rattle.wb_cells.specs.WellFormed.{IsWellFormed, use_of}
 use Rattle.wb_edit.specs.Commands.{assoc}
 use Rattle.wb_edit.specs.Trees.{judged}
 use Rattle.wb_edit.specs.Looks.{is_free}
 use Rattle.wb_edit.specs.Writes.{set_to}
-use Rattle.wb_resize.proofs.Gets.{after, get-apply}
-use Rattle.wb_resize.proofs.States.{stays}
+use Rattle.wb_reshape.proofs.Gets.{after, get-apply}
+use Rattle.wb_reshape.proofs.States.{stays}
 use Rattle.wb_edit.proofs.Kept.NewSet.{HasNewSet, IsPlain, set_added}
 use Rattle.wb_edit.proofs.Kept.Steps.{Keeps, keeps_read, keeps_judged, free_is}
 

@@ -1,12 +1,12 @@
 -- An element that becomes another one and a number more keeps a workbook well formed.
 use Rattle.std.proofs.Common.{Option, Some, None, [], ◌∷◌, ℤ, ◌+ℤ◌, ◌∙◌}
-use Rattle.wb_book.specs.declared.cells.cell.Cell.TheVariants.{Object, In, Implicit, Element}
-use Rattle.wb_book.specs.declared.cells.kind.Kind.{Kind}
-use Rattle.wb_book.specs.declared.cells.value.Value.TheVariants.{Number}
-use Rattle.wb_book.specs.declared.cells.value.Value.{Value}
-use Rattle.wb_book.specs.declared.values.index.Index.{Index}
-use Rattle.wb_book.specs.Cells.{Name, Cells}
-use Rattle.wb_book.specs.WellFormed.{IsWellFormed}
+use Rattle.wb_cells.specs.declared.cells.cell.Cell.TheVariants.{Object, In, Implicit, Element}
+use Rattle.wb_cells.specs.declared.cells.kind.Kind.{Kind}
+use Rattle.wb_cells.specs.declared.cells.value.Value.TheVariants.{Number}
+use Rattle.wb_cells.specs.declared.cells.value.Value.{Value}
+use Rattle.wb_cells.specs.declared.values.index.Index.{Index}
+use Rattle.wb_cells.specs.Cells.{Name, Cells}
+use Rattle.wb_cells.specs.WellFormed.{IsWellFormed}
 use Rattle.selective_undo.specs.Edit.{write}
 use Rattle.wb_edit.specs.Commands.{copy}
 use Rattle.wb_edit.specs.Trees.{Tree, read, judged}

@@ -4,32 +4,32 @@ use Rattle.std.specs.FinMap.{get}
 use Rattle.selective_undo.specs.Changes.{apply}
 use Rattle.selective_undo.specs.Edit.{refuse, write}
 use Rattle.wb_dist.specs.Maps.{LayoutMap}
-use Rattle.wb_book.specs.declared.cells.cell.Cell.{Cell}
-use Rattle.wb_book.specs.declared.cells.cell.Cell.TheVariants.{Object, Shape, In, Member, Mapping, Use, Implicit, Element}
-use Rattle.wb_book.specs.declared.cells.kind.DomainKind.TheVariants.{Rectangular}
-use Rattle.wb_book.specs.declared.cells.kind.Kind.{Kind}
-use Rattle.wb_book.specs.declared.cells.value.Value.{Value}
-use Rattle.wb_book.specs.declared.cells.value.Value.TheVariants.{Domain, Ranges, Mapping, Present}
-use Rattle.wb_book.specs.declared.values.index.Index.{Index}
-use Rattle.wb_book.specs.Names.{is_name}
-use Rattle.wb_book.specs.Layouts.{IsMapping, IsLayout}
-use Rattle.wb_book.specs.Shapes.{Range, indices}
-use Rattle.wb_book.specs.Cells.{Name, Cells, cell_cmp, cell_order, is_same_name}
-use Rattle.wb_book.specs.WellFormed.{IsWellFormed, IsRectangle, IsShape, IsMember, HasMapping, has, present_if, domain_in, array_in, ranges_in, inside_of}
-use Rattle.wb_book.specs.WellFormed.{use_of, domain_at, array_at, index_cell}
-use Rattle.wb_book.specs.Kinds.{kind_of}
+use Rattle.wb_cells.specs.declared.cells.cell.Cell.{Cell}
+use Rattle.wb_cells.specs.declared.cells.cell.Cell.TheVariants.{Object, Shape, In, Member, Mapping, Use, Implicit, Element}
+use Rattle.wb_cells.specs.declared.cells.kind.DomainKind.TheVariants.{Rectangular}
+use Rattle.wb_cells.specs.declared.cells.kind.Kind.{Kind}
+use Rattle.wb_cells.specs.declared.cells.value.Value.{Value}
+use Rattle.wb_cells.specs.declared.cells.value.Value.TheVariants.{Domain, Ranges, Mapping, Present}
+use Rattle.wb_cells.specs.declared.values.index.Index.{Index}
+use Rattle.wb_cells.specs.Names.{is_name}
+use Rattle.wb_cells.specs.Layouts.{IsMapping, IsLayout}
+use Rattle.wb_cells.specs.Shapes.{Range, indices}
+use Rattle.wb_cells.specs.Cells.{Name, Cells, cell_cmp, cell_order, is_same_name}
+use Rattle.wb_cells.specs.WellFormed.{IsWellFormed, IsRectangle, IsShape, IsMember, HasMapping, has, present_if, domain_in, array_in, ranges_in, inside_of}
+use Rattle.wb_cells.specs.WellFormed.{use_of, domain_at, array_at, index_cell}
+use Rattle.wb_cells.specs.Kinds.{kind_of}
 use Rattle.wb_edit.specs.declared.asked_rectangle.AskedRectangle.{AskedRectangle}
 use Rattle.wb_edit.specs.declared.asked_rectangle.AskedRectangle.TheVariants.{Ranges as Asked, Indices}
-use Rattle.wb_edit.specs.declared.refusal.Refusal.TheVariants.{WrongKind}
+use Rattle.wb_cells.specs.declared.refusal.Refusal.TheVariants.{WrongKind}
 use Rattle.wb_edit.specs.Commands.{domain, new_domain_changes}
 use Rattle.wb_edit.specs.Valid.{IsAsked}
 use Rattle.wb_edit.specs.Looks.{is_free}
 use Rattle.wb_edit.specs.Layouts.{for_rank, mapped}
 use Rattle.wb_edit.specs.Trees.{Tree, judged}
 use Rattle.wb_edit.proofs.Layouts.{mapping_for}
-use Rattle.wb_resize.proofs.Gets.{after, after-column, after-beside, get-apply}
-use Rattle.wb_resize.proofs.States.{in_column, domain_of_array, of_kind, no_inside, no_member, IsMember-same, index_cell_same, indices_same, was_free, apart}
-use Rattle.wb_resize.proofs.States.{stays, names_kept, objects_kept}
+use Rattle.wb_reshape.proofs.Gets.{after, after-column, after-beside, get-apply}
+use Rattle.wb_reshape.proofs.States.{in_column, domain_of_array, of_kind, no_inside, no_member, IsMember-same, index_cell_same, indices_same, was_free, apart}
+use Rattle.wb_reshape.proofs.States.{stays, names_kept, objects_kept}
 use Rattle.wb_edit.proofs.Kept.Steps.{Keeps, keeps_read, keeps_judged, free_is}
 
 -- The workbook t is s with a domain of these ranges and this mapping.

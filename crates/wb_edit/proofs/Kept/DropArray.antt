@@ -9,24 +9,24 @@ use Rattle.std.specs.Map.{keys_of}
 use Rattle.std.specs.Option.{option_and_then}
 use Rattle.selective_undo.specs.Changes.{apply}
 use Rattle.selective_undo.specs.Edit.{write}
-use Rattle.wb_book.specs.declared.cells.cell.Cell.{Cell}
-use Rattle.wb_book.specs.declared.cells.cell.Cell.TheVariants.{Object, Shape, In, Member, Mapping, Use, Implicit, Element}
-use Rattle.wb_book.specs.declared.cells.value.Binding.TheVariants.{Array}
-use Rattle.wb_book.specs.declared.cells.kind.Kind.{Kind}
-use Rattle.wb_book.specs.declared.cells.value.Value.{Value}
-use Rattle.wb_book.specs.declared.cells.value.Value.TheVariants.{Array, Bound}
-use Rattle.wb_book.specs.declared.values.index.Index.{Index}
-use Rattle.wb_book.specs.Cells.{Name, Cells, cell_cmp, cell_order, index_cmp, is_same_name}
-use Rattle.wb_book.specs.Readers as readers
-use Rattle.wb_book.specs.WellFormed.{IsWellFormed, IsImplicit, IsElement, has, domain_in, array_in, use_of, domain_at, array_at, is_index_of_array}
+use Rattle.wb_cells.specs.declared.cells.cell.Cell.{Cell}
+use Rattle.wb_cells.specs.declared.cells.cell.Cell.TheVariants.{Object, Shape, In, Member, Mapping, Use, Implicit, Element}
+use Rattle.wb_cells.specs.declared.cells.value.Binding.TheVariants.{Array}
+use Rattle.wb_cells.specs.declared.cells.kind.Kind.{Kind}
+use Rattle.wb_cells.specs.declared.cells.value.Value.{Value}
+use Rattle.wb_cells.specs.declared.cells.value.Value.TheVariants.{Array, Bound}
+use Rattle.wb_cells.specs.declared.values.index.Index.{Index}
+use Rattle.wb_cells.specs.Cells.{Name, Cells, cell_cmp, cell_order, index_cmp, is_same_name}
+use Rattle.wb_cells.specs.Readers as readers
+use Rattle.wb_cells.specs.WellFormed.{IsWellFormed, IsImplicit, IsElement, has, domain_in, array_in, use_of, domain_at, array_at, is_index_of_array}
 use Rattle.wb_edit.specs.Commands.{drop_array, dropped_cells}
 use Rattle.wb_edit.specs.Elements.{elements}
 use Rattle.wb_edit.specs.Trees.{Tree, judged}
 use Rattle.wb_edit.specs.Looks.{array_kind}
 use Rattle.wb_edit.specs.Writes.{clear_all}
 use Rattle.wb_edit.proofs.Elements.{number_of, find_element}
-use Rattle.wb_resize.proofs.Gets.{after, cond-or, list_any-nowhere, get-apply}
-use Rattle.wb_resize.proofs.States.{same_name, in_column, second_first, indices_same, index_cell_same, IsObject-same, IsMember-same}
+use Rattle.wb_reshape.proofs.Gets.{after, cond-or, list_any-nowhere, get-apply}
+use Rattle.wb_reshape.proofs.States.{same_name, in_column, second_first, indices_same, index_cell_same, IsObject-same, IsMember-same}
 use Rattle.wb_edit.proofs.Kept.Steps.{Keeps, keeps_read, keeps_judged, array_is}
 
 -- ---- cells that become absent

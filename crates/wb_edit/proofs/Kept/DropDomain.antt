@@ -3,18 +3,18 @@ use Rattle.std.proofs.Common.{◌≡◌, List, [], ◌∷◌, Some, Ok, refl, sy
 use Rattle.std.specs.FinMap.{get}
 use Rattle.std.specs.List.{filter_map}
 use Rattle.selective_undo.specs.Edit.{write}
-use Rattle.wb_book.specs.declared.cells.cell.Cell.TheVariants.{Object}
-use Rattle.wb_book.specs.declared.cells.kind.DomainKind.{DomainKind}
-use Rattle.wb_book.specs.declared.cells.pattern.Pattern.TheVariants.{Uses}
-use Rattle.wb_book.specs.declared.cells.value.Binding.{Binding}
-use Rattle.wb_book.specs.declared.cells.value.Value.TheVariants.{Domain}
-use Rattle.wb_book.specs.declared.values.index.Index.{Index}
-use Rattle.wb_book.specs.Cells.{Name, Cells}
-use Rattle.wb_book.specs.Readers.{seen}
-use Rattle.wb_book.specs.WellFormed.{IsWellFormed, has, domain_in}
-use Rattle.wb_resize.proofs.Dropped.{keeps_drops}
-use Rattle.wb_resize.proofs.States.{present_is}
-use Rattle.wb_resize.proofs.Users as users
+use Rattle.wb_cells.specs.declared.cells.cell.Cell.TheVariants.{Object}
+use Rattle.wb_cells.specs.declared.cells.kind.DomainKind.{DomainKind}
+use Rattle.wb_cells.specs.declared.cells.pattern.Pattern.TheVariants.{Uses}
+use Rattle.wb_cells.specs.declared.cells.value.Binding.{Binding}
+use Rattle.wb_cells.specs.declared.cells.value.Value.TheVariants.{Domain}
+use Rattle.wb_cells.specs.declared.values.index.Index.{Index}
+use Rattle.wb_cells.specs.Cells.{Name, Cells}
+use Rattle.wb_cells.specs.Readers.{seen}
+use Rattle.wb_cells.specs.WellFormed.{IsWellFormed, has, domain_in}
+use Rattle.wb_reshape.proofs.Dropped.{keeps_drops}
+use Rattle.wb_reshape.proofs.States.{present_is}
+use Rattle.wb_reshape.proofs.Users as users
 use Rattle.wb_edit.specs.Commands.{drop_domain, dropped_domain_cells}
 use Rattle.wb_edit.specs.Trees.{Tree, judged}
 use Rattle.wb_edit.specs.Looks.{domain_kind, domain_indices}

@@ -3,20 +3,20 @@ use Rattle.std.proofs.Common.{◌≡◌, true, false, cond, [], ◌∷◌, Some,
 use Rattle.std.specs.Int.{w64}
 use Rattle.std.specs.FinMap.{get, insert}
 use Rattle.selective_undo.specs.Edit.{write}
-use Rattle.wb_book.specs.declared.cells.cell.Cell.TheVariants.{Object, Shape, In, Member, Mapping, Use, Implicit, Element}
-use Rattle.wb_book.specs.declared.cells.kind.Kind.{Kind}
-use Rattle.wb_book.specs.declared.cells.kind.Kind.TheVariants.{Rectangular, Sparse, Associative}
-use Rattle.wb_book.specs.declared.cells.value.Value.TheVariants.{Number}
-use Rattle.wb_book.specs.declared.values.index.Index.{Index}
-use Rattle.wb_book.specs.Cells.{Name, Cells, cell_order, is_same_name}
-use Rattle.wb_book.specs.WellFormed.{IsWellFormed, IsImplicit, domain_at, array_in, array_at}
+use Rattle.wb_cells.specs.declared.cells.cell.Cell.TheVariants.{Object, Shape, In, Member, Mapping, Use, Implicit, Element}
+use Rattle.wb_cells.specs.declared.cells.kind.Kind.{Kind}
+use Rattle.wb_cells.specs.declared.cells.kind.Kind.TheVariants.{Rectangular, Sparse, Associative}
+use Rattle.wb_cells.specs.declared.cells.value.Value.TheVariants.{Number}
+use Rattle.wb_cells.specs.declared.values.index.Index.{Index}
+use Rattle.wb_cells.specs.Cells.{Name, Cells, cell_order, is_same_name}
+use Rattle.wb_cells.specs.WellFormed.{IsWellFormed, IsImplicit, domain_at, array_in, array_at}
 use Rattle.wb_edit.specs.Commands.{irv}
 use Rattle.wb_edit.specs.Kinds.{is_sparse, over_sparse}
 use Rattle.wb_edit.specs.Trees.{Tree, judged}
 use Rattle.wb_edit.specs.Looks.{array_kind}
 use Rattle.wb_edit.specs.Writes.{set_to}
-use Rattle.wb_resize.proofs.Gets.{get-apply}
-use Rattle.wb_resize.proofs.States.{same_name, IsObject-same, IsMember-same, index_cell_same, indices_same}
+use Rattle.wb_reshape.proofs.Gets.{get-apply}
+use Rattle.wb_reshape.proofs.States.{same_name, IsObject-same, IsMember-same, index_cell_same, indices_same}
 use Rattle.wb_edit.proofs.Kept.Steps.{Keeps, keeps_read, keeps_judged, array_is}
 
 -- over a sparse domain any number of 64 bits is one

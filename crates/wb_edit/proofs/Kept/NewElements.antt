@@ -4,15 +4,15 @@ use Rattle.std.specs.Int.{w64}
 use Rattle.std.specs.Ordering.{eq_by_cmp}
 use Rattle.std.specs.FinMap.{get, insert}
 use Rattle.selective_undo.specs.Changes.{apply}
-use Rattle.wb_book.specs.declared.cells.cell.Cell.{Cell}
-use Rattle.wb_book.specs.declared.cells.cell.Cell.TheVariants.{Element}
-use Rattle.wb_book.specs.declared.cells.value.Value.{Value}
-use Rattle.wb_book.specs.declared.cells.value.Value.TheVariants.{Number}
-use Rattle.wb_book.specs.declared.values.index.Index.{Index}
-use Rattle.wb_book.specs.Cells.{Name, Cells, Changes, cell_cmp, cell_order}
-use Rattle.wb_book.specs.WellFormed.{IsWellFormed}
+use Rattle.wb_cells.specs.declared.cells.cell.Cell.{Cell}
+use Rattle.wb_cells.specs.declared.cells.cell.Cell.TheVariants.{Element}
+use Rattle.wb_cells.specs.declared.cells.value.Value.{Value}
+use Rattle.wb_cells.specs.declared.cells.value.Value.TheVariants.{Number}
+use Rattle.wb_cells.specs.declared.values.index.Index.{Index}
+use Rattle.wb_cells.specs.Cells.{Name, Cells, Changes, cell_cmp, cell_order}
+use Rattle.wb_cells.specs.WellFormed.{IsWellFormed}
 use Rattle.wb_edit.specs.Writes.{set_to, put_all}
-use Rattle.wb_resize.proofs.Gets.{get-apply}
+use Rattle.wb_reshape.proofs.Gets.{get-apply}
 use Rattle.wb_edit.proofs.Kept.Set.{element_set}
 
 -- elements of a that are there, with numbers of 64 bits

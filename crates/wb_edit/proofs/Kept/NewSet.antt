@@ -1,15 +1,15 @@
 -- A new domain with no index yet, sparse or associative: what the workbook is then, and that it stays well formed.
 use Rattle.std.proofs.Common.{◌≡◌, true, false, cond, Option, Some, None, refl, ◌∙◌}
 use Rattle.std.specs.FinMap.{get}
-use Rattle.wb_book.specs.declared.cells.cell.Cell.TheVariants.{Object, Shape, In, Member, Mapping, Use, Implicit, Element}
-use Rattle.wb_book.specs.declared.cells.kind.DomainKind.{DomainKind}
-use Rattle.wb_book.specs.declared.cells.value.Value.{Value}
-use Rattle.wb_book.specs.declared.cells.value.Value.TheVariants.{Domain}
-use Rattle.wb_book.specs.declared.values.index.Index.{Index}
-use Rattle.wb_book.specs.Names.{is_name}
-use Rattle.wb_book.specs.Cells.{Name, Cells, is_same_name}
-use Rattle.wb_book.specs.WellFormed.{IsWellFormed, IsObject, IsShape, IsMember, HasMapping, domain_in, array_in, use_of, domain_at, array_at}
-use Rattle.wb_resize.proofs.States.{no_shape, no_member, no_mapping, IsMember-same, index_cell_same, indices_same, was_free, stays, names_kept, objects_kept}
+use Rattle.wb_cells.specs.declared.cells.cell.Cell.TheVariants.{Object, Shape, In, Member, Mapping, Use, Implicit, Element}
+use Rattle.wb_cells.specs.declared.cells.kind.DomainKind.{DomainKind}
+use Rattle.wb_cells.specs.declared.cells.value.Value.{Value}
+use Rattle.wb_cells.specs.declared.cells.value.Value.TheVariants.{Domain}
+use Rattle.wb_cells.specs.declared.values.index.Index.{Index}
+use Rattle.wb_cells.specs.Names.{is_name}
+use Rattle.wb_cells.specs.Cells.{Name, Cells, is_same_name}
+use Rattle.wb_cells.specs.WellFormed.{IsWellFormed, IsObject, IsShape, IsMember, HasMapping, domain_in, array_in, use_of, domain_at, array_at}
+use Rattle.wb_reshape.proofs.States.{no_shape, no_member, no_mapping, IsMember-same, index_cell_same, indices_same, was_free, stays, names_kept, objects_kept}
 
 -- The workbook t is s with a domain and no cells of it; how it is bound is said apart.
 pub record HasNewSet (s t : Cells) (d : Name) (kind : DomainKind) : Type 0 where

@@ -4,23 +4,23 @@ use Rattle.std.specs.Ordering.{eq_by_cmp}
 use Rattle.std.specs.FinMap.{get, insert}
 use Rattle.selective_undo.specs.Edit.{write}
 use Rattle.wb_dist.specs.Maps.{LayoutMap}
-use Rattle.wb_book.specs.declared.cells.cell.Cell.{Cell}
-use Rattle.wb_book.specs.declared.cells.cell.Cell.TheVariants.{Object, Shape, In, Member, Mapping, Use, Implicit, Element}
-use Rattle.wb_book.specs.declared.cells.kind.DomainKind.TheVariants.{Rectangular}
-use Rattle.wb_book.specs.declared.cells.value.Value.TheVariants.{Domain, Mapping}
-use Rattle.wb_book.specs.declared.values.index.Index.{Index}
-use Rattle.wb_book.specs.Cells.{Name, Cells, cell_cmp, cell_order}
-use Rattle.wb_book.specs.Layouts.{IsMapping, IsLayout}
-use Rattle.wb_book.specs.WellFormed.{IsWellFormed, HasMapping, domain_in, domain_at, array_at}
+use Rattle.wb_cells.specs.declared.cells.cell.Cell.{Cell}
+use Rattle.wb_cells.specs.declared.cells.cell.Cell.TheVariants.{Object, Shape, In, Member, Mapping, Use, Implicit, Element}
+use Rattle.wb_cells.specs.declared.cells.kind.DomainKind.TheVariants.{Rectangular}
+use Rattle.wb_cells.specs.declared.cells.value.Value.TheVariants.{Domain, Mapping}
+use Rattle.wb_cells.specs.declared.values.index.Index.{Index}
+use Rattle.wb_cells.specs.Cells.{Name, Cells, cell_cmp, cell_order}
+use Rattle.wb_cells.specs.Layouts.{IsMapping, IsLayout}
+use Rattle.wb_cells.specs.WellFormed.{IsWellFormed, HasMapping, domain_in, domain_at, array_at}
 use Rattle.wb_edit.specs.Commands.{remap}
 use Rattle.wb_edit.specs.Kinds.{rank_of, rectangular}
 use Rattle.wb_edit.specs.Layouts.{for_rank, mapped}
 use Rattle.wb_edit.specs.Trees.{Tree, judged}
 use Rattle.wb_edit.specs.Looks.{domain_kind}
 use Rattle.wb_edit.specs.Writes.{set_to}
-use Rattle.wb_resize.proofs.Gets.{same_key, get-apply}
+use Rattle.wb_reshape.proofs.Gets.{same_key, get-apply}
 use Rattle.wb_edit.proofs.Layouts.{kind_is, mapping_for}
-use Rattle.wb_resize.proofs.States.{IsObject-same, IsMember-same, index_cell_same, indices_same, shape_of_domain}
+use Rattle.wb_reshape.proofs.States.{IsObject-same, IsMember-same, index_cell_same, indices_same, shape_of_domain}
 use Rattle.wb_edit.proofs.Kept.Steps.{Keeps, keeps_read, keeps_judged, domain_is}
 
 same_domain : (n d : Name) → ◌≡◌ {A = Cell} (Mapping n) (Mapping d) → n ≡ d

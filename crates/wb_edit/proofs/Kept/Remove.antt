@@ -1,14 +1,14 @@
 -- The end of an index of a sparse or associative domain keeps a workbook well formed.
 use Rattle.std.proofs.Common.{◌≡◌, [], ◌∷◌, Some, None, ap, ◌∙◌, arith}
 use Rattle.std.specs.List.{Contains}
-use Rattle.wb_book.specs.declared.cells.cell.Cell.TheVariants.{Object, Member}
-use Rattle.wb_book.specs.declared.cells.kind.DomainKind.{DomainKind}
-use Rattle.wb_book.specs.declared.values.index.Index.{Index}
-use Rattle.wb_book.specs.Cells.{Name, Cells}
-use Rattle.wb_book.specs.Kinds.{kind_of}
-use Rattle.wb_book.specs.WellFormed.{IsWellFormed, domain_in, domain_at}
-use Rattle.wb_resize.proofs.Fills.{arrays, zeros_fill}
-use Rattle.wb_resize.proofs.Sets.{keeps_sets}
+use Rattle.wb_cells.specs.declared.cells.cell.Cell.TheVariants.{Object, Member}
+use Rattle.wb_cells.specs.declared.cells.kind.DomainKind.{DomainKind}
+use Rattle.wb_cells.specs.declared.values.index.Index.{Index}
+use Rattle.wb_cells.specs.Cells.{Name, Cells}
+use Rattle.wb_cells.specs.Kinds.{kind_of}
+use Rattle.wb_cells.specs.WellFormed.{IsWellFormed, domain_in, domain_at}
+use Rattle.wb_reshape.proofs.Fills.{arrays, zeros_fill}
+use Rattle.wb_reshape.proofs.Sets.{keeps_sets}
 use Rattle.wb_edit.specs.Commands.{remove, remove_if}
 use Rattle.wb_edit.specs.Trees.{Tree, judged, read}
 use Rattle.wb_edit.specs.Resizing.{has_members, with_members, zeros}

@@ -1,16 +1,16 @@
 -- A new value of a domain keeps a workbook well formed.
 use Rattle.std.proofs.Common.{◌≡◌, Some, ap, ◌∙◌}
-use Rattle.wb_book.specs.declared.cells.cell.Cell.TheVariants.{Object}
-use Rattle.wb_book.specs.declared.cells.kind.DomainKind.{DomainKind}
-use Rattle.wb_book.specs.declared.cells.kind.DomainKind.TheVariants.{Rectangular, Sparse, Associative}
-use Rattle.wb_book.specs.Cells.{Name, Cells}
-use Rattle.wb_book.specs.WellFormed.{IsWellFormed, domain_in, domain_at}
+use Rattle.wb_cells.specs.declared.cells.cell.Cell.TheVariants.{Object}
+use Rattle.wb_cells.specs.declared.cells.kind.DomainKind.{DomainKind}
+use Rattle.wb_cells.specs.declared.cells.kind.DomainKind.TheVariants.{Rectangular, Sparse, Associative}
+use Rattle.wb_cells.specs.Cells.{Name, Cells}
+use Rattle.wb_cells.specs.WellFormed.{IsWellFormed, domain_in, domain_at}
 use Rattle.selective_undo.specs.Edit.{refuse}
-use Rattle.wb_resize.specs.declared.operand.Operand.{Operand}
-use Rattle.wb_resize.specs.declared.operand.Operand.TheVariants.{Rectangle, Items, Named}
-use Rattle.wb_resize.specs.declared.new_indices.NewIndices.{NewIndices}
-use Rattle.wb_resize.specs.declared.new_indices.NewIndices.TheVariants.{To, Slice, Displace, Combine}
-use Rattle.wb_edit.specs.declared.refusal.Refusal.TheVariants.{WrongKind}
+use Rattle.wb_reshape.specs.declared.operand.Operand.{Operand}
+use Rattle.wb_reshape.specs.declared.operand.Operand.TheVariants.{Rectangle, Items, Named}
+use Rattle.wb_reshape.specs.declared.new_indices.NewIndices.{NewIndices}
+use Rattle.wb_reshape.specs.declared.new_indices.NewIndices.TheVariants.{To, Slice, Displace, Combine}
+use Rattle.wb_cells.specs.declared.refusal.Refusal.TheVariants.{WrongKind}
 use Rattle.wb_edit.specs.Trees.{Tree, judged}
 use Rattle.wb_edit.specs.Commands.Reshape.{no_source, reshape_kind, reshape}
 use Rattle.wb_edit.specs.Looks.{domain_kind}

@@ -11,29 +11,29 @@ use Rattle.wb_rect.proofs.Rectangles.{IsRectangle-sliced, IsRectangle-each_shift
 use Rattle.wb_rect.proofs.ShiftTests.{Decides-can_shift}
 use Rattle.wb_rect.specs.ShiftTests.{has_unit_strides}
 use Rattle.wb_rect.specs.Slices.{sliced}
-use Rattle.wb_book.specs.declared.cells.cell.Cell.TheVariants.{Object, Shape, Member}
-use Rattle.wb_book.specs.declared.cells.kind.DomainKind.{DomainKind}
-use Rattle.wb_book.specs.declared.cells.kind.DomainKind.TheVariants.{Rectangular, Sparse, Associative}
-use Rattle.wb_book.specs.declared.cells.kind.Kind.TheVariants.{Rectangular as over_rectangular}
-use Rattle.wb_book.specs.declared.cells.value.Binding.TheVariants.{Sparse as bound_sparse}
-use Rattle.wb_book.specs.declared.cells.value.Value.{Value}
-use Rattle.wb_book.specs.declared.cells.value.Value.TheVariants.{Ranges}
-use Rattle.wb_book.specs.declared.values.index.Index.{Index}
-use Rattle.wb_book.specs.Cells.{Name, Cells}
-use Rattle.wb_book.specs.Kinds.{kind_of}
-use Rattle.wb_book.specs.Shapes.{Range, indices}
-use Rattle.wb_book.specs.WellFormed.{IsWellFormed, IsRectangle, IsShape, domain_in, domain_at}
-use Rattle.wb_resize.specs.declared.operand.Operand.{Operand}
-use Rattle.wb_resize.specs.declared.operand.Operand.TheVariants.{Rectangle, Items, Named}
-use Rattle.wb_resize.specs.declared.new_indices.Displacement.{Displacement}
-use Rattle.wb_resize.specs.declared.new_indices.Displacement.TheVariants.{Translate, Expand}
-use Rattle.wb_resize.specs.Resized.{without, resized_cells}
-use Rattle.wb_resize.specs.Sources.{displaced, can_displace}
-use Rattle.wb_resize.proofs.Fills.{arrays, zeros_fill, loses_none}
-use Rattle.wb_resize.proofs.Rectangles.{keeps_rectangles}
-use Rattle.wb_resize.proofs.Users.{users}
-use Rattle.wb_edit.specs.declared.refusal.Refusal.{Refusal}
-use Rattle.wb_edit.specs.declared.refusal.Refusal.TheVariants.{WrongKind}
+use Rattle.wb_cells.specs.declared.cells.cell.Cell.TheVariants.{Object, Shape, Member}
+use Rattle.wb_cells.specs.declared.cells.kind.DomainKind.{DomainKind}
+use Rattle.wb_cells.specs.declared.cells.kind.DomainKind.TheVariants.{Rectangular, Sparse, Associative}
+use Rattle.wb_cells.specs.declared.cells.kind.Kind.TheVariants.{Rectangular as over_rectangular}
+use Rattle.wb_cells.specs.declared.cells.value.Binding.TheVariants.{Sparse as bound_sparse}
+use Rattle.wb_cells.specs.declared.cells.value.Value.{Value}
+use Rattle.wb_cells.specs.declared.cells.value.Value.TheVariants.{Ranges}
+use Rattle.wb_cells.specs.declared.values.index.Index.{Index}
+use Rattle.wb_cells.specs.Cells.{Name, Cells}
+use Rattle.wb_cells.specs.Kinds.{kind_of}
+use Rattle.wb_cells.specs.Shapes.{Range, indices}
+use Rattle.wb_cells.specs.WellFormed.{IsWellFormed, IsRectangle, IsShape, domain_in, domain_at}
+use Rattle.wb_reshape.specs.declared.operand.Operand.{Operand}
+use Rattle.wb_reshape.specs.declared.operand.Operand.TheVariants.{Rectangle, Items, Named}
+use Rattle.wb_reshape.specs.declared.new_indices.Displacement.{Displacement}
+use Rattle.wb_reshape.specs.declared.new_indices.Displacement.TheVariants.{Translate, Expand}
+use Rattle.wb_reshape.specs.Resized.{without, resized_cells}
+use Rattle.wb_reshape.specs.Sources.{displaced, can_displace}
+use Rattle.wb_reshape.proofs.Fills.{arrays, zeros_fill, loses_none}
+use Rattle.wb_reshape.proofs.Rectangles.{keeps_rectangles}
+use Rattle.wb_reshape.proofs.Users.{users}
+use Rattle.wb_cells.specs.declared.refusal.Refusal.{Refusal}
+use Rattle.wb_cells.specs.declared.refusal.Refusal.TheVariants.{WrongKind}
 use Rattle.wb_edit.specs.Trees.{Tree, judged}
 use Rattle.wb_edit.specs.Rectangles.{of_rank}
 use Rattle.wb_edit.specs.Reshaping.{shape_in, absent_if, none_present, shape, member_cells, none_there, reshaped_cells, reshaped}

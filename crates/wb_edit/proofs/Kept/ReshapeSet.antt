@@ -6,28 +6,28 @@ use Rattle.std.proofs.lemmas.Map.Views.{Contains-from_any, list_any-from_Contain
 use Rattle.std.specs.Cmp.{eq_by_cmp_equiv}
 use Rattle.std.specs.FinMap.{get}
 use Rattle.std.specs.List.{All, AllByRecursion, Contains, filter, filter_map, list_all}
-use Rattle.wb_book.specs.declared.cells.cell.Cell.TheVariants.{Object, Member}
-use Rattle.wb_book.specs.declared.cells.kind.DomainKind.{DomainKind}
-use Rattle.wb_book.specs.declared.cells.kind.DomainKind.TheVariants.{Rectangular, Sparse, Associative}
-use Rattle.wb_book.specs.declared.cells.kind.KeyType.{KeyType}
-use Rattle.wb_book.specs.declared.cells.kind.KeyType.TheVariants.{Int, Text}
-use Rattle.wb_book.specs.declared.cells.kind.Kind.TheVariants.{Associative as over_associative}
-use Rattle.wb_book.specs.declared.cells.pattern.Pattern.TheVariants.{Members}
-use Rattle.wb_book.specs.declared.cells.value.Value.TheVariants.{Present}
-use Rattle.wb_book.specs.declared.values.index.Index.{Index}
-use Rattle.wb_book.specs.Cells.{Name, Cells, is_same_index}
-use Rattle.wb_book.specs.Kinds.{kind_of, is_key, IsIndex}
-use Rattle.wb_book.specs.Readers.{seen}
-use Rattle.wb_book.specs.WellFormed.{IsWellFormed, IsMember, has, present_if, domain_in, domain_at}
-use Rattle.wb_resize.specs.declared.operand.Operand.{Operand}
-use Rattle.wb_resize.specs.declared.operand.Operand.TheVariants.{Rectangle, Items, Named}
-use Rattle.wb_resize.specs.declared.new_indices.SetOperation.{SetOperation}
-use Rattle.wb_resize.specs.declared.new_indices.SetOperation.TheVariants.{Union, Intersection, Difference, SymmetricDifference}
-use Rattle.wb_resize.specs.Laws.{HasMembers}
-use Rattle.wb_resize.specs.Resized.{without}
-use Rattle.wb_resize.specs.Sources.{combined}
-use Rattle.wb_resize.proofs.States.{same_index}
-use Rattle.wb_resize.proofs.Without.{has-without}
+use Rattle.wb_cells.specs.declared.cells.cell.Cell.TheVariants.{Object, Member}
+use Rattle.wb_cells.specs.declared.cells.kind.DomainKind.{DomainKind}
+use Rattle.wb_cells.specs.declared.cells.kind.DomainKind.TheVariants.{Rectangular, Sparse, Associative}
+use Rattle.wb_cells.specs.declared.cells.kind.KeyType.{KeyType}
+use Rattle.wb_cells.specs.declared.cells.kind.KeyType.TheVariants.{Int, Text}
+use Rattle.wb_cells.specs.declared.cells.kind.Kind.TheVariants.{Associative as over_associative}
+use Rattle.wb_cells.specs.declared.cells.pattern.Pattern.TheVariants.{Members}
+use Rattle.wb_cells.specs.declared.cells.value.Value.TheVariants.{Present}
+use Rattle.wb_cells.specs.declared.values.index.Index.{Index}
+use Rattle.wb_cells.specs.Cells.{Name, Cells, is_same_index}
+use Rattle.wb_cells.specs.Kinds.{kind_of, is_key, IsIndex}
+use Rattle.wb_cells.specs.Readers.{seen}
+use Rattle.wb_cells.specs.WellFormed.{IsWellFormed, IsMember, has, present_if, domain_in, domain_at}
+use Rattle.wb_reshape.specs.declared.operand.Operand.{Operand}
+use Rattle.wb_reshape.specs.declared.operand.Operand.TheVariants.{Rectangle, Items, Named}
+use Rattle.wb_reshape.specs.declared.new_indices.SetOperation.{SetOperation}
+use Rattle.wb_reshape.specs.declared.new_indices.SetOperation.TheVariants.{Union, Intersection, Difference, SymmetricDifference}
+use Rattle.wb_reshape.specs.Laws.{HasMembers}
+use Rattle.wb_reshape.specs.Resized.{without}
+use Rattle.wb_reshape.specs.Sources.{combined}
+use Rattle.wb_reshape.proofs.States.{same_index}
+use Rattle.wb_reshape.proofs.Without.{has-without}
 use Rattle.wb_edit.specs.Trees.{Tree, judged}
 use Rattle.wb_edit.specs.Commands.Reshape.{with_indices, to_set, combine_set}
 use Rattle.wb_edit.specs.Sources.{is_same_type, is_alike, alike, all_fit, gives_set, indices_given}

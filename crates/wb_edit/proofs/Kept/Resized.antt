@@ -5,21 +5,21 @@ use Rattle.std.proofs.lemmas.Simd.{map-map}
 use Rattle.std.specs.FinMap.{get}
 use Rattle.std.specs.List.{AllByRecursion, Contains, list_all, zip}
 use Rattle.selective_undo.specs.Edit.{write}
-use Rattle.wb_book.specs.declared.cells.cell.Cell.{Cell}
-use Rattle.wb_book.specs.declared.cells.cell.Cell.TheVariants.{Shape, In, Implicit}
-use Rattle.wb_book.specs.declared.cells.kind.DomainKind.{DomainKind}
-use Rattle.wb_book.specs.declared.cells.kind.DomainKind.TheVariants.{Rectangular, Sparse, Associative}
-use Rattle.wb_book.specs.declared.cells.kind.Kind.{Kind}
-use Rattle.wb_book.specs.declared.cells.kind.Kind.TheVariants.{Associative as over_associative}
-use Rattle.wb_book.specs.declared.cells.value.Value.TheVariants.{Present}
-use Rattle.wb_book.specs.declared.values.index.Index.{Index}
-use Rattle.wb_book.specs.Cells.{Name, Cells}
-use Rattle.wb_book.specs.Kinds.{kind_of, is_key, IsIndex}
-use Rattle.wb_book.specs.WellFormed.{IsWellFormed, MayHave, domain_at, present_if, inside_of, ranges_in}
-use Rattle.wb_resize.specs.Laws.{AreFills, HasMembers}
-use Rattle.wb_resize.specs.Resized.{resized_cells}
-use Rattle.wb_resize.proofs.Fills.{arrays, zeros_fill, implicits_fill}
-use Rattle.wb_resize.proofs.Sets.{keeps_sets}
+use Rattle.wb_cells.specs.declared.cells.cell.Cell.{Cell}
+use Rattle.wb_cells.specs.declared.cells.cell.Cell.TheVariants.{Shape, In, Implicit}
+use Rattle.wb_cells.specs.declared.cells.kind.DomainKind.{DomainKind}
+use Rattle.wb_cells.specs.declared.cells.kind.DomainKind.TheVariants.{Rectangular, Sparse, Associative}
+use Rattle.wb_cells.specs.declared.cells.kind.Kind.{Kind}
+use Rattle.wb_cells.specs.declared.cells.kind.Kind.TheVariants.{Associative as over_associative}
+use Rattle.wb_cells.specs.declared.cells.value.Value.TheVariants.{Present}
+use Rattle.wb_cells.specs.declared.values.index.Index.{Index}
+use Rattle.wb_cells.specs.Cells.{Name, Cells}
+use Rattle.wb_cells.specs.Kinds.{kind_of, is_key, IsIndex}
+use Rattle.wb_cells.specs.WellFormed.{IsWellFormed, MayHave, domain_at, present_if, inside_of, ranges_in}
+use Rattle.wb_reshape.specs.Laws.{AreFills, HasMembers}
+use Rattle.wb_reshape.specs.Resized.{resized_cells}
+use Rattle.wb_reshape.proofs.Fills.{arrays, zeros_fill, implicits_fill}
+use Rattle.wb_reshape.proofs.Sets.{keeps_sets}
 use Rattle.wb_edit.specs.Commands.{resized}
 use Rattle.wb_edit.specs.Trees.{Tree, judged}
 use Rattle.wb_edit.specs.Resizing.{has_members, inside_if, all_inside, all_in_parent, number_or_zero, defaults, fills}

@@ -5,19 +5,19 @@ use Rattle.std.specs.Int.{w64}
 use Rattle.std.specs.Ordering.{eq_by_cmp}
 use Rattle.std.specs.FinMap.{get, insert}
 use Rattle.selective_undo.specs.Edit.{write}
-use Rattle.wb_book.specs.declared.cells.cell.Cell.{Cell}
-use Rattle.wb_book.specs.declared.cells.cell.Cell.TheVariants.{Object, Shape, In, Member, Mapping, Use, Implicit, Element}
-use Rattle.wb_book.specs.declared.cells.value.Value.{Value}
-use Rattle.wb_book.specs.declared.cells.value.Value.TheVariants.{Number}
-use Rattle.wb_book.specs.declared.values.index.Index.{Index}
-use Rattle.wb_book.specs.Cells.{Name, Cells, cell_cmp, cell_order}
-use Rattle.wb_book.specs.WellFormed.{IsWellFormed, IsElement, IsNumber, domain_at, array_at, is_index_of_array}
+use Rattle.wb_cells.specs.declared.cells.cell.Cell.{Cell}
+use Rattle.wb_cells.specs.declared.cells.cell.Cell.TheVariants.{Object, Shape, In, Member, Mapping, Use, Implicit, Element}
+use Rattle.wb_cells.specs.declared.cells.value.Value.{Value}
+use Rattle.wb_cells.specs.declared.cells.value.Value.TheVariants.{Number}
+use Rattle.wb_cells.specs.declared.values.index.Index.{Index}
+use Rattle.wb_cells.specs.Cells.{Name, Cells, cell_cmp, cell_order}
+use Rattle.wb_cells.specs.WellFormed.{IsWellFormed, IsElement, IsNumber, domain_at, array_at, is_index_of_array}
 use Rattle.wb_edit.specs.Commands.{set}
 use Rattle.wb_edit.specs.Trees.{Tree, judged}
 use Rattle.wb_edit.specs.Looks.{array_kind, is_there, fits, index_fits, element}
 use Rattle.wb_edit.specs.Writes.{set_to}
-use Rattle.wb_resize.proofs.Gets.{same_key, get-apply}
-use Rattle.wb_resize.proofs.States.{IsObject-same, IsMember-same, index_cell_same, indices_same}
+use Rattle.wb_reshape.proofs.Gets.{same_key, get-apply}
+use Rattle.wb_reshape.proofs.States.{IsObject-same, IsMember-same, index_cell_same, indices_same}
 use Rattle.wb_edit.proofs.Kept.Steps.{Keeps, keeps_read, keeps_judged, there_is}
 
 -- where an element is there, it is at an index of the array, and so may be another number

@@ -3,24 +3,24 @@ use Rattle.std.proofs.Common.{◌≡◌, ℕ, Bool, true, false, cond, ◌&&◌,
 use Rattle.std.specs.FinMap.{get}
 use Rattle.selective_undo.specs.Changes.{apply}
 use Rattle.selective_undo.specs.Edit.{write}
-use Rattle.wb_book.specs.declared.cells.cell.Cell.{Cell}
-use Rattle.wb_book.specs.declared.cells.cell.Cell.TheVariants.{Object, Shape, In, Member, Mapping, Use, Implicit, Element}
-use Rattle.wb_book.specs.declared.cells.kind.DomainKind.{DomainKind}
-use Rattle.wb_book.specs.declared.cells.kind.DomainKind.TheVariants.{Rectangular, Sparse}
-use Rattle.wb_book.specs.declared.cells.value.Binding.TheVariants.{Sparse}
-use Rattle.wb_book.specs.declared.cells.value.Value.{Value}
-use Rattle.wb_book.specs.declared.cells.value.Value.TheVariants.{Domain, Bound}
-use Rattle.wb_book.specs.Names.{is_name}
-use Rattle.wb_book.specs.Cells.{Name, Cells, Changes, cell_cmp, cell_order, is_same_name}
-use Rattle.wb_book.specs.WellFormed.{IsWellFormed, domain_in, use_of, domain_at}
+use Rattle.wb_cells.specs.declared.cells.cell.Cell.{Cell}
+use Rattle.wb_cells.specs.declared.cells.cell.Cell.TheVariants.{Object, Shape, In, Member, Mapping, Use, Implicit, Element}
+use Rattle.wb_cells.specs.declared.cells.kind.DomainKind.{DomainKind}
+use Rattle.wb_cells.specs.declared.cells.kind.DomainKind.TheVariants.{Rectangular, Sparse}
+use Rattle.wb_cells.specs.declared.cells.value.Binding.TheVariants.{Sparse}
+use Rattle.wb_cells.specs.declared.cells.value.Value.{Value}
+use Rattle.wb_cells.specs.declared.cells.value.Value.TheVariants.{Domain, Bound}
+use Rattle.wb_cells.specs.Names.{is_name}
+use Rattle.wb_cells.specs.Cells.{Name, Cells, Changes, cell_cmp, cell_order, is_same_name}
+use Rattle.wb_cells.specs.WellFormed.{IsWellFormed, domain_in, use_of, domain_at}
 use Rattle.wb_edit.specs.Commands.{sparse}
 use Rattle.wb_edit.specs.Kinds.{rank_of, rectangular}
 use Rattle.wb_edit.specs.Trees.{Tree, judged}
 use Rattle.wb_edit.specs.Looks.{is_free, domain_kind, domain_named}
 use Rattle.wb_edit.specs.Writes.{set_to}
-use Rattle.wb_resize.proofs.Gets.{after, get-apply}
+use Rattle.wb_reshape.proofs.Gets.{after, get-apply}
 use Rattle.wb_edit.proofs.Layouts.{kind_is}
-use Rattle.wb_resize.proofs.States.{second_first, was_free, domains_stay}
+use Rattle.wb_reshape.proofs.States.{second_first, was_free, domains_stay}
 use Rattle.wb_edit.proofs.Kept.NewSet.{HasNewSet, IsPlain, set_added}
 use Rattle.wb_edit.proofs.Kept.Steps.{Keeps, keeps_read, keeps_judged, free_is, domain_is}
 

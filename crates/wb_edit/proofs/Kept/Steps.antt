@@ -2,15 +2,15 @@
 use Rattle.std.proofs.Common.{◌≡◌, Bool, true, false, Option, Some, None, Result, Ok, Err, refl, sym, subst}
 use Rattle.std.specs.FinMap.{get}
 use Rattle.selective_undo.specs.Edit.{step}
-use Rattle.wb_book.specs.declared.cells.cell.Cell.{Cell}
-use Rattle.wb_book.specs.declared.cells.kind.DomainKind.{DomainKind}
-use Rattle.wb_book.specs.declared.cells.kind.Kind.{Kind}
-use Rattle.wb_book.specs.declared.cells.value.Value.{Value}
-use Rattle.wb_book.specs.declared.cells.value.Value.TheVariants.{Domain, Array}
-use Rattle.wb_book.specs.Cells.{Name, Cells}
-use Rattle.wb_book.specs.WellFormed.{IsWellFormed}
-use Rattle.wb_edit.specs.declared.refusal.Refusal.{Refusal}
-use Rattle.wb_edit.specs.declared.refusal.Refusal.TheVariants.{WrongKind}
+use Rattle.wb_cells.specs.declared.cells.cell.Cell.{Cell}
+use Rattle.wb_cells.specs.declared.cells.kind.DomainKind.{DomainKind}
+use Rattle.wb_cells.specs.declared.cells.kind.Kind.{Kind}
+use Rattle.wb_cells.specs.declared.cells.value.Value.{Value}
+use Rattle.wb_cells.specs.declared.cells.value.Value.TheVariants.{Domain, Array}
+use Rattle.wb_cells.specs.Cells.{Name, Cells}
+use Rattle.wb_cells.specs.WellFormed.{IsWellFormed}
+use Rattle.wb_cells.specs.declared.refusal.Refusal.{Refusal}
+use Rattle.wb_cells.specs.declared.refusal.Refusal.TheVariants.{WrongKind}
 use Rattle.wb_edit.specs.Trees.{Tree, read, judged}
 use Rattle.wb_edit.specs.Looks.{is_free, domain_kind, array_kind, is_there}
 use Rattle.wb_edit.proofs.Trees.{seen_value}

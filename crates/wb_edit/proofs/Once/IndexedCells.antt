@@ -10,23 +10,23 @@ use Rattle.selective_undo.specs.declared.Change.{Change}
 use Rattle.selective_undo.specs.Changes.{changes, AllOnce}
 use Rattle.selective_undo.proofs.Changes.{not_true, is_itself}
 use Rattle.wb_range.specs.Domain.{IsListedOnce}
-use Rattle.wb_book.specs.declared.cells.cell.Cell.{Cell}
-use Rattle.wb_book.specs.declared.cells.cell.Cell.TheVariants.{Object, Shape, In, Member, Mapping, Use, Element}
-use Rattle.wb_book.specs.declared.cells.kind.DomainKind.{DomainKind}
-use Rattle.wb_book.specs.declared.cells.kind.DomainKind.TheVariants.{Rectangular, Sparse, Associative}
-use Rattle.wb_book.specs.declared.cells.kind.Kind.{Kind}
-use Rattle.wb_book.specs.declared.cells.kind.Kind.TheVariants.{Rectangular as over_rectangular, Sparse as over_sparse, Associative as over_associative}
-use Rattle.wb_book.specs.declared.cells.value.Value.{Value}
-use Rattle.wb_book.specs.declared.cells.value.Value.TheVariants.{Number, Present}
-use Rattle.wb_book.specs.declared.values.index.Index.{Index}
-use Rattle.wb_book.specs.Cells.{Name, Changes, cell_cmp, cell_order, index_cmp}
-use Rattle.wb_book.specs.Kinds.{kind_of}
-use Rattle.wb_book.specs.WellFormed.{index_cell}
-use Rattle.wb_resize.specs.Dropped.{cells_beside_indices, dropped_domain_cells}
-use Rattle.wb_resize.specs.Resized.{exchanged, elements_exchanged, resized_cells}
-use Rattle.wb_resize.specs.Writes.{put_all, clear_all}
-use Rattle.wb_resize.proofs.Gets.{same_key}
-use Rattle.wb_resize.proofs.Sorted.{first, second}
+use Rattle.wb_cells.specs.declared.cells.cell.Cell.{Cell}
+use Rattle.wb_cells.specs.declared.cells.cell.Cell.TheVariants.{Object, Shape, In, Member, Mapping, Use, Element}
+use Rattle.wb_cells.specs.declared.cells.kind.DomainKind.{DomainKind}
+use Rattle.wb_cells.specs.declared.cells.kind.DomainKind.TheVariants.{Rectangular, Sparse, Associative}
+use Rattle.wb_cells.specs.declared.cells.kind.Kind.{Kind}
+use Rattle.wb_cells.specs.declared.cells.kind.Kind.TheVariants.{Rectangular as over_rectangular, Sparse as over_sparse, Associative as over_associative}
+use Rattle.wb_cells.specs.declared.cells.value.Value.{Value}
+use Rattle.wb_cells.specs.declared.cells.value.Value.TheVariants.{Number, Present}
+use Rattle.wb_cells.specs.declared.values.index.Index.{Index}
+use Rattle.wb_cells.specs.Cells.{Name, Changes, cell_cmp, cell_order, index_cmp}
+use Rattle.wb_cells.specs.Kinds.{kind_of}
+use Rattle.wb_cells.specs.WellFormed.{index_cell}
+use Rattle.wb_reshape.specs.Dropped.{cells_beside_indices, dropped_domain_cells}
+use Rattle.wb_reshape.specs.Resized.{exchanged, elements_exchanged, resized_cells}
+use Rattle.wb_reshape.specs.Writes.{put_all, clear_all}
+use Rattle.wb_reshape.proofs.Gets.{same_key}
+use Rattle.wb_reshape.proofs.Sorted.{first, second}
 use Rattle.wb_edit.specs.Changed.{set_all, AreApart}
 use Rattle.wb_edit.proofs.Becoming.{less_and_equal}
 use Rattle.wb_edit.proofs.IndexedCells.{changes-append, elsewhere}

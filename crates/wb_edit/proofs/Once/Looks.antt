@@ -8,18 +8,18 @@ use Rattle.selective_undo.specs.Changes.{AllOnce}
 use Rattle.selective_undo.specs.Edit.{outcome, written}
 use Rattle.wb_range.specs.Domain.{IsListedOnce}
 use Rattle.wb_rect.specs.Product.{product}
-use Rattle.wb_book.proofs.Points.{once_points}
-use Rattle.wb_book.specs.declared.cells.cell.Cell.{Cell}
-use Rattle.wb_book.specs.declared.cells.cell.Cell.TheVariants.{Shape, In, Implicit}
-use Rattle.wb_book.specs.declared.cells.kind.DomainKind.{DomainKind}
-use Rattle.wb_book.specs.declared.cells.kind.DomainKind.TheVariants.{Rectangular, Sparse, Associative}
-use Rattle.wb_book.specs.declared.cells.value.Value.{Value}
-use Rattle.wb_book.specs.declared.values.index.Index.{Index}
-use Rattle.wb_book.specs.Cells.{Name, Cells, cell_cmp}
-use Rattle.wb_book.specs.Shapes.{Range, indices}
-use Rattle.wb_book.specs.WellFormed.{IsWellFormed, IsRectangle, IsShape, domain_at, ranges_in}
-use Rattle.wb_resize.proofs.Fills.{arrays, zeros_once, held_once}
-use Rattle.wb_edit.specs.declared.refusal.Refusal.{Refusal}
+use Rattle.wb_cells.proofs.Points.{once_points}
+use Rattle.wb_cells.specs.declared.cells.cell.Cell.{Cell}
+use Rattle.wb_cells.specs.declared.cells.cell.Cell.TheVariants.{Shape, In, Implicit}
+use Rattle.wb_cells.specs.declared.cells.kind.DomainKind.{DomainKind}
+use Rattle.wb_cells.specs.declared.cells.kind.DomainKind.TheVariants.{Rectangular, Sparse, Associative}
+use Rattle.wb_cells.specs.declared.cells.value.Value.{Value}
+use Rattle.wb_cells.specs.declared.values.index.Index.{Index}
+use Rattle.wb_cells.specs.Cells.{Name, Cells, cell_cmp}
+use Rattle.wb_cells.specs.Shapes.{Range, indices}
+use Rattle.wb_cells.specs.WellFormed.{IsWellFormed, IsRectangle, IsShape, domain_at, ranges_in}
+use Rattle.wb_reshape.proofs.Fills.{arrays, zeros_once, held_once}
+use Rattle.wb_cells.specs.declared.refusal.Refusal.{Refusal}
 use Rattle.wb_edit.specs.Trees.{Tree, judged, read}
 use Rattle.wb_edit.specs.Rectangles.{read_all}
 use Rattle.wb_edit.specs.Reshaping.{shape_in, shape}

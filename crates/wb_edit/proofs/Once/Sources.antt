@@ -9,34 +9,34 @@ use Rattle.wb_range.specs.Domain.{IsListedOnce}
 use Rattle.wb_rect.proofs.Rectangles.{IsRectangle-sliced}
 use Rattle.wb_rect.specs.ShiftTests.{has_unit_strides}
 use Rattle.wb_rect.specs.Slices.{sliced}
-use Rattle.wb_book.specs.declared.cells.cell.Cell.TheVariants.{Object, Shape}
-use Rattle.wb_book.specs.declared.cells.kind.DomainKind.{DomainKind}
-use Rattle.wb_book.specs.declared.cells.kind.DomainKind.TheVariants.{Rectangular, Sparse, Associative}
-use Rattle.wb_book.specs.declared.cells.kind.Kind.{Kind}
-use Rattle.wb_book.specs.declared.cells.kind.Kind.TheVariants.{Rectangular as over_rectangular}
-use Rattle.wb_book.specs.declared.cells.pattern.Pattern.TheVariants.{Members}
-use Rattle.wb_book.specs.declared.cells.value.Binding.TheVariants.{Sparse as bound_sparse}
-use Rattle.wb_book.specs.declared.cells.value.Value.TheVariants.{Present}
-use Rattle.wb_book.specs.declared.values.index.Index.{Index}
-use Rattle.wb_book.specs.Cells.{Name, Cells, cell_cmp}
-use Rattle.wb_book.specs.Kinds.{kind_of}
-use Rattle.wb_book.specs.Readers.{seen}
-use Rattle.wb_book.specs.Shapes.{Range, indices}
-use Rattle.wb_book.specs.WellFormed.{IsWellFormed, IsRectangle, index_cell}
-use Rattle.wb_resize.specs.declared.operand.Operand.{Operand}
-use Rattle.wb_resize.specs.declared.operand.Operand.TheVariants.{Rectangle, Items, Named}
-use Rattle.wb_resize.specs.declared.new_indices.Displacement.{Displacement}
-use Rattle.wb_resize.specs.declared.new_indices.SetOperation.{SetOperation}
-use Rattle.wb_resize.specs.declared.new_indices.NewIndices.{NewIndices}
-use Rattle.wb_resize.specs.declared.new_indices.NewIndices.TheVariants.{To, Slice, Displace, Combine}
-use Rattle.wb_resize.specs.Resized.{without, elements_exchanged, resized_cells, exchanged as exchanged_cells}
-use Rattle.wb_resize.specs.Sources.{combined, displaced, can_displace}
-use Rattle.wb_resize.proofs.Fills.{arrays, zeros_once}
-use Rattle.wb_resize.proofs.Sources.{IsListedOnce-combined}
-use Rattle.wb_resize.proofs.Users.{users}
-use Rattle.wb_resize.proofs.Without.{IsListedOnce-without}
-use Rattle.wb_edit.specs.declared.refusal.Refusal.{Refusal}
-use Rattle.wb_edit.specs.declared.refusal.Refusal.TheVariants.{WrongKind}
+use Rattle.wb_cells.specs.declared.cells.cell.Cell.TheVariants.{Object, Shape}
+use Rattle.wb_cells.specs.declared.cells.kind.DomainKind.{DomainKind}
+use Rattle.wb_cells.specs.declared.cells.kind.DomainKind.TheVariants.{Rectangular, Sparse, Associative}
+use Rattle.wb_cells.specs.declared.cells.kind.Kind.{Kind}
+use Rattle.wb_cells.specs.declared.cells.kind.Kind.TheVariants.{Rectangular as over_rectangular}
+use Rattle.wb_cells.specs.declared.cells.pattern.Pattern.TheVariants.{Members}
+use Rattle.wb_cells.specs.declared.cells.value.Binding.TheVariants.{Sparse as bound_sparse}
+use Rattle.wb_cells.specs.declared.cells.value.Value.TheVariants.{Present}
+use Rattle.wb_cells.specs.declared.values.index.Index.{Index}
+use Rattle.wb_cells.specs.Cells.{Name, Cells, cell_cmp}
+use Rattle.wb_cells.specs.Kinds.{kind_of}
+use Rattle.wb_cells.specs.Readers.{seen}
+use Rattle.wb_cells.specs.Shapes.{Range, indices}
+use Rattle.wb_cells.specs.WellFormed.{IsWellFormed, IsRectangle, index_cell}
+use Rattle.wb_reshape.specs.declared.operand.Operand.{Operand}
+use Rattle.wb_reshape.specs.declared.operand.Operand.TheVariants.{Rectangle, Items, Named}
+use Rattle.wb_reshape.specs.declared.new_indices.Displacement.{Displacement}
+use Rattle.wb_reshape.specs.declared.new_indices.SetOperation.{SetOperation}
+use Rattle.wb_reshape.specs.declared.new_indices.NewIndices.{NewIndices}
+use Rattle.wb_reshape.specs.declared.new_indices.NewIndices.TheVariants.{To, Slice, Displace, Combine}
+use Rattle.wb_reshape.specs.Resized.{without, elements_exchanged, resized_cells, exchanged as exchanged_cells}
+use Rattle.wb_reshape.specs.Sources.{combined, displaced, can_displace}
+use Rattle.wb_reshape.proofs.Fills.{arrays, zeros_once}
+use Rattle.wb_reshape.proofs.Sources.{IsListedOnce-combined}
+use Rattle.wb_reshape.proofs.Users.{users}
+use Rattle.wb_reshape.proofs.Without.{IsListedOnce-without}
+use Rattle.wb_cells.specs.declared.refusal.Refusal.{Refusal}
+use Rattle.wb_cells.specs.declared.refusal.Refusal.TheVariants.{WrongKind}
 use Rattle.wb_edit.specs.Changed.{AreApart}
 use Rattle.wb_edit.specs.Trees.{Tree, judged}
 use Rattle.wb_edit.specs.Rectangles.{of_rank}

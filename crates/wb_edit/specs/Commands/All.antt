@@ -1,10 +1,10 @@
 -- All elements of an array become what they and those of another one make.
 use Rattle.std.specs.Prelude.{ℤ, List, map}
 use Rattle.selective_undo.specs.Edit.{write}
-use Rattle.wb_book.specs.declared.cells.cell.Cell.TheVariants.{Element}
-use Rattle.wb_book.specs.declared.cells.value.Value.TheVariants.{Number}
-use Rattle.wb_book.specs.declared.values.index.Index.{Index}
-use Rattle.wb_book.specs.Cells.{Name, Changes}
+use Rattle.wb_cells.specs.declared.cells.cell.Cell.TheVariants.{Element}
+use Rattle.wb_cells.specs.declared.cells.value.Value.TheVariants.{Number}
+use Rattle.wb_cells.specs.declared.values.index.Index.{Index}
+use Rattle.wb_cells.specs.Cells.{Name, Changes}
 use Rattle.wb_edit.specs.declared.operation.Operation.{Operation}
 use Rattle.wb_edit.specs.Trees.{Tree, ◌>>=◌}
 use Rattle.wb_edit.specs.Looks.{array_named}

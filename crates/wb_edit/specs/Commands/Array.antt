@@ -1,13 +1,13 @@
 -- A new array (Chapel Language Specification, Arrays).
 use Rattle.std.specs.Prelude.{pos, List, ◌∷◌, map}
 use Rattle.selective_undo.specs.Edit.{write}
-use Rattle.wb_book.specs.declared.cells.cell.Cell.TheVariants.{Object, Use, Implicit, Element}
-use Rattle.wb_book.specs.declared.cells.value.Binding.TheVariants.{Array}
-use Rattle.wb_book.specs.declared.cells.kind.Kind.{Kind}
-use Rattle.wb_book.specs.declared.cells.value.Value.TheVariants.{Array, Bound, Number}
-use Rattle.wb_book.specs.declared.values.index.Index.{Index}
-use Rattle.wb_book.specs.Cells.{Name, Changes}
-use Rattle.wb_book.specs.Kinds.{kind_of}
+use Rattle.wb_cells.specs.declared.cells.cell.Cell.TheVariants.{Object, Use, Implicit, Element}
+use Rattle.wb_cells.specs.declared.cells.value.Binding.TheVariants.{Array}
+use Rattle.wb_cells.specs.declared.cells.kind.Kind.{Kind}
+use Rattle.wb_cells.specs.declared.cells.value.Value.TheVariants.{Array, Bound, Number}
+use Rattle.wb_cells.specs.declared.values.index.Index.{Index}
+use Rattle.wb_cells.specs.Cells.{Name, Changes}
+use Rattle.wb_cells.specs.Kinds.{kind_of}
 use Rattle.wb_edit.specs.Trees.{Tree, ◌>>=◌}
 use Rattle.wb_edit.specs.Looks.{free_name, domain_named, domain_indices}
 use Rattle.wb_edit.specs.Writes.{set_to, put_all}

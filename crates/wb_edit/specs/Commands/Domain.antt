@@ -2,11 +2,11 @@
 use Rattle.std.specs.Prelude.{List, ◌∷◌, map, length}
 use Rattle.selective_undo.specs.Edit.{write}
 use Rattle.wb_dist.specs.Maps.{LayoutMap}
-use Rattle.wb_book.specs.declared.cells.cell.Cell.TheVariants.{Object, Shape, In, Mapping}
-use Rattle.wb_book.specs.declared.cells.kind.DomainKind.TheVariants.{Rectangular}
-use Rattle.wb_book.specs.declared.cells.value.Value.TheVariants.{Domain, Ranges, Mapping, Present}
-use Rattle.wb_book.specs.Cells.{Name, Changes}
-use Rattle.wb_book.specs.Shapes.{Range, indices}
+use Rattle.wb_cells.specs.declared.cells.cell.Cell.TheVariants.{Object, Shape, In, Mapping}
+use Rattle.wb_cells.specs.declared.cells.kind.DomainKind.TheVariants.{Rectangular}
+use Rattle.wb_cells.specs.declared.cells.value.Value.TheVariants.{Domain, Ranges, Mapping, Present}
+use Rattle.wb_cells.specs.Cells.{Name, Changes}
+use Rattle.wb_cells.specs.Shapes.{Range, indices}
 use Rattle.wb_edit.specs.declared.asked_rectangle.AskedRectangle.{AskedRectangle}
 use Rattle.wb_edit.specs.Trees.{Tree, ◌>>=◌}
 use Rattle.wb_edit.specs.Looks.{free_name}

@@ -2,9 +2,9 @@
 use Rattle.std.specs.Prelude.{List, ◌∷◌, map}
 use Rattle.std.specs.Map.{keys_of}
 use Rattle.selective_undo.specs.Edit.{write}
-use Rattle.wb_book.specs.declared.cells.cell.Cell.TheVariants.{Object, Use, Implicit, Element}
-use Rattle.wb_book.specs.declared.values.index.Index.{Index}
-use Rattle.wb_book.specs.Cells.{Name, Changes}
+use Rattle.wb_cells.specs.declared.cells.cell.Cell.TheVariants.{Object, Use, Implicit, Element}
+use Rattle.wb_cells.specs.declared.values.index.Index.{Index}
+use Rattle.wb_cells.specs.Cells.{Name, Changes}
 use Rattle.wb_edit.specs.Trees.{Tree, ◌>>=◌}
 use Rattle.wb_edit.specs.Looks.{array_named}
 use Rattle.wb_edit.specs.Elements.{elements}

@@ -1,10 +1,10 @@
 -- One number as the elements at the indices of a rectangle.
 use Rattle.std.specs.Prelude.{ℤ, map, length}
 use Rattle.selective_undo.specs.Edit.{write}
-use Rattle.wb_book.specs.declared.cells.cell.Cell.TheVariants.{Element}
-use Rattle.wb_book.specs.declared.cells.value.Value.TheVariants.{Number}
-use Rattle.wb_book.specs.Cells.{Name}
-use Rattle.wb_book.specs.Shapes.{indices}
+use Rattle.wb_cells.specs.declared.cells.cell.Cell.TheVariants.{Element}
+use Rattle.wb_cells.specs.declared.cells.value.Value.TheVariants.{Number}
+use Rattle.wb_cells.specs.Cells.{Name}
+use Rattle.wb_cells.specs.Shapes.{indices}
 use Rattle.wb_edit.specs.declared.asked_rectangle.AskedRectangle.{AskedRectangle}
 use Rattle.wb_edit.specs.Trees.{Tree, ◌>>=◌}
 use Rattle.wb_edit.specs.Looks.{array_named}

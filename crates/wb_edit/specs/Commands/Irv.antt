@@ -1,9 +1,9 @@
 -- A new implicit value (Chapel Language Specification, Arrays).
 use Rattle.std.specs.Prelude.{ℤ, [], ◌∷◌}
 use Rattle.selective_undo.specs.Edit.{write}
-use Rattle.wb_book.specs.declared.cells.cell.Cell.TheVariants.{Implicit}
-use Rattle.wb_book.specs.declared.cells.value.Value.TheVariants.{Number}
-use Rattle.wb_book.specs.Cells.{Name}
+use Rattle.wb_cells.specs.declared.cells.cell.Cell.TheVariants.{Implicit}
+use Rattle.wb_cells.specs.declared.cells.value.Value.TheVariants.{Number}
+use Rattle.wb_cells.specs.Cells.{Name}
 use Rattle.wb_edit.specs.Trees.{Tree, ◌>>=◌}
 use Rattle.wb_edit.specs.Looks.{array_named}
 use Rattle.wb_edit.specs.Kinds.{over_sparse}

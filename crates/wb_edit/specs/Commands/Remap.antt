@@ -2,9 +2,9 @@
 use Rattle.std.specs.Prelude.{[], ◌∷◌}
 use Rattle.selective_undo.specs.Edit.{write}
 use Rattle.wb_dist.specs.Maps.{LayoutMap}
-use Rattle.wb_book.specs.declared.cells.cell.Cell.TheVariants.{Mapping}
-use Rattle.wb_book.specs.declared.cells.value.Value.TheVariants.{Mapping}
-use Rattle.wb_book.specs.Cells.{Name}
+use Rattle.wb_cells.specs.declared.cells.cell.Cell.TheVariants.{Mapping}
+use Rattle.wb_cells.specs.declared.cells.value.Value.TheVariants.{Mapping}
+use Rattle.wb_cells.specs.Cells.{Name}
 use Rattle.wb_edit.specs.Trees.{Tree, ◌>>=◌}
 use Rattle.wb_edit.specs.Looks.{domain_named}
 use Rattle.wb_edit.specs.Kinds.{rectangular}

@@ -1,18 +1,18 @@
 -- The end of an index of a domain (Chapel Language Specification, Domains).
 use Rattle.std.specs.Prelude.{[], ◌∷◌, Option, Some, None}
 use Rattle.selective_undo.specs.Edit.{write}
-use Rattle.wb_book.specs.declared.cells.cell.Cell.TheVariants.{Member}
-use Rattle.wb_book.specs.declared.cells.value.Binding.TheVariants.{Array}
-use Rattle.wb_book.specs.declared.cells.kind.DomainKind.{DomainKind}
-use Rattle.wb_book.specs.declared.cells.value.Value.{Value}
-use Rattle.wb_book.specs.declared.values.index.Index.{Index}
-use Rattle.wb_book.specs.Cells.{Name}
-use Rattle.wb_book.specs.Kinds.{kind_of}
+use Rattle.wb_cells.specs.declared.cells.cell.Cell.TheVariants.{Member}
+use Rattle.wb_cells.specs.declared.cells.value.Binding.TheVariants.{Array}
+use Rattle.wb_cells.specs.declared.cells.kind.DomainKind.{DomainKind}
+use Rattle.wb_cells.specs.declared.cells.value.Value.{Value}
+use Rattle.wb_cells.specs.declared.values.index.Index.{Index}
+use Rattle.wb_cells.specs.Cells.{Name}
+use Rattle.wb_cells.specs.Kinds.{kind_of}
 use Rattle.wb_edit.specs.Trees.{Tree, ◌>>=◌, read}
 use Rattle.wb_edit.specs.Looks.{domain_named, index_fits}
 use Rattle.wb_edit.specs.Users.{bound, uses}
 use Rattle.wb_edit.specs.Resizing.{zeros, with_members}
-use Rattle.wb_resize.specs.Resized.{resized_cells}
+use Rattle.wb_reshape.specs.Resized.{resized_cells}
 
 -- an index leaves a domain, and the arrays over it lose their elements there: it is seen which these are
 abbrev pub left : Name → DomainKind → Index → Tree

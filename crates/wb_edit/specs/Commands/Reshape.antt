@@ -2,20 +2,20 @@
 -- set operations on associative domains). Each kind of domain has its own sources.
 use Rattle.std.specs.Prelude.{ℕ, ℤ, List, length}
 use Rattle.selective_undo.specs.Edit.{refuse}
-use Rattle.wb_book.specs.declared.cells.kind.DomainKind.{DomainKind}
-use Rattle.wb_book.specs.declared.cells.kind.DomainKind.TheVariants.{Rectangular, Sparse, Associative}
-use Rattle.wb_book.specs.declared.values.index.Index.{Index}
-use Rattle.wb_book.specs.Cells.{Name}
-use Rattle.wb_book.specs.Kinds.{kind_of}
-use Rattle.wb_resize.specs.declared.operand.Operand.{Operand}
-use Rattle.wb_resize.specs.declared.operand.Operand.TheVariants.{Rectangle, Items, Named}
-use Rattle.wb_resize.specs.declared.new_indices.Displacement.{Displacement}
-use Rattle.wb_resize.specs.declared.new_indices.SetOperation.{SetOperation}
-use Rattle.wb_resize.specs.declared.new_indices.NewIndices.{NewIndices}
-use Rattle.wb_resize.specs.declared.new_indices.NewIndices.TheVariants.{To, Slice, Displace, Combine}
-use Rattle.wb_resize.specs.Resized.{without}
-use Rattle.wb_resize.specs.Sources.{combined}
-use Rattle.wb_edit.specs.declared.refusal.Refusal.TheVariants.{WrongKind}
+use Rattle.wb_cells.specs.declared.cells.kind.DomainKind.{DomainKind}
+use Rattle.wb_cells.specs.declared.cells.kind.DomainKind.TheVariants.{Rectangular, Sparse, Associative}
+use Rattle.wb_cells.specs.declared.values.index.Index.{Index}
+use Rattle.wb_cells.specs.Cells.{Name}
+use Rattle.wb_cells.specs.Kinds.{kind_of}
+use Rattle.wb_reshape.specs.declared.operand.Operand.{Operand}
+use Rattle.wb_reshape.specs.declared.operand.Operand.TheVariants.{Rectangle, Items, Named}
+use Rattle.wb_reshape.specs.declared.new_indices.Displacement.{Displacement}
+use Rattle.wb_reshape.specs.declared.new_indices.SetOperation.{SetOperation}
+use Rattle.wb_reshape.specs.declared.new_indices.NewIndices.{NewIndices}
+use Rattle.wb_reshape.specs.declared.new_indices.NewIndices.TheVariants.{To, Slice, Displace, Combine}
+use Rattle.wb_reshape.specs.Resized.{without}
+use Rattle.wb_reshape.specs.Sources.{combined}
+use Rattle.wb_cells.specs.declared.refusal.Refusal.TheVariants.{WrongKind}
 use Rattle.wb_edit.specs.Trees.{Tree, ◌>>=◌, judged}
 use Rattle.wb_edit.specs.Reshaping.{shape, reshaped}
 use Rattle.wb_edit.specs.Resizing.{resized}

@@ -1,10 +1,10 @@
 -- A new element.
 use Rattle.std.specs.Prelude.{ℤ, [], ◌∷◌}
 use Rattle.selective_undo.specs.Edit.{write}
-use Rattle.wb_book.specs.declared.cells.cell.Cell.TheVariants.{Element}
-use Rattle.wb_book.specs.declared.cells.value.Value.TheVariants.{Number}
-use Rattle.wb_book.specs.declared.values.index.Index.{Index}
-use Rattle.wb_book.specs.Cells.{Name}
+use Rattle.wb_cells.specs.declared.cells.cell.Cell.TheVariants.{Element}
+use Rattle.wb_cells.specs.declared.cells.value.Value.TheVariants.{Number}
+use Rattle.wb_cells.specs.declared.values.index.Index.{Index}
+use Rattle.wb_cells.specs.Cells.{Name}
 use Rattle.wb_edit.specs.Trees.{Tree, ◌>>=◌}
 use Rattle.wb_edit.specs.Looks.{array_named, index_fits, element}
 use Rattle.wb_edit.specs.Writes.{set_to}

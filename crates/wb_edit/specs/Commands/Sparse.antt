@@ -1,11 +1,11 @@
 -- A new sparse domain (Chapel Language Specification, Domains).
 use Rattle.std.specs.Prelude.{[], ◌∷◌}
 use Rattle.selective_undo.specs.Edit.{write}
-use Rattle.wb_book.specs.declared.cells.cell.Cell.TheVariants.{Object, Use}
-use Rattle.wb_book.specs.declared.cells.value.Binding.TheVariants.{Sparse}
-use Rattle.wb_book.specs.declared.cells.kind.DomainKind.TheVariants.{Sparse}
-use Rattle.wb_book.specs.declared.cells.value.Value.TheVariants.{Domain, Bound}
-use Rattle.wb_book.specs.Cells.{Name}
+use Rattle.wb_cells.specs.declared.cells.cell.Cell.TheVariants.{Object, Use}
+use Rattle.wb_cells.specs.declared.cells.value.Binding.TheVariants.{Sparse}
+use Rattle.wb_cells.specs.declared.cells.kind.DomainKind.TheVariants.{Sparse}
+use Rattle.wb_cells.specs.declared.cells.value.Value.TheVariants.{Domain, Bound}
+use Rattle.wb_cells.specs.Cells.{Name}
 use Rattle.wb_edit.specs.Trees.{Tree, ◌>>=◌}
 use Rattle.wb_edit.specs.Looks.{free_name, domain_named}
 use Rattle.wb_edit.specs.Kinds.{rectangular}

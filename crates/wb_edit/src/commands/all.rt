@@ -2,9 +2,9 @@ ghost use Rattle.std.specs.Prelude.{◌≡◌, T, length};
 ghost use Rattle.std.specs.FinMap.{is_sorted};
 ghost use Rattle.std.specs.List.{zip};
 ghost use Rattle.std.specs.Map.{keys_of};
-ghost use Rattle.wb_book.specs.Cells.{index_cmp};
-ghost use Rattle.wb_book.specs.Readers as readers;
-ghost use Rattle.wb_book.specs.Shapes.{indices};
+ghost use Rattle.wb_cells.specs.Cells.{index_cmp};
+ghost use Rattle.wb_cells.specs.Readers as readers;
+ghost use Rattle.wb_cells.specs.Shapes.{indices};
 ghost use Rattle.wb_edit.specs.Changed.{Judges, items_of, numbered, made_of, numbers_within};
 ghost use Rattle.wb_edit.specs.Commands.{all, all_results, number_cells};
 ghost use Rattle.wb_edit.specs.Elements.{result_of, results, all_within};
@@ -16,10 +16,9 @@ use crate::commands::seen::put_elements;
 use crate::footprint::Footprint;
 use crate::looks::{elements, numbers, one_cell};
 use crate::operation::Operation;
-use crate::refusal::Refusal;
 use std::alloc::Global;
-use wb_book::{AnyIndex, AnyRect, Delta, Name, Row};
-use wb_reading::below::shelf::Book;
+use wb_book::Book;
+use wb_cells::{AnyIndex, AnyRect, Delta, Name, Refusal, Row};
 
 /// Each element of an array becomes what it and another array's element at the same index make.
 pub(crate) fn plan_all(

@@ -10,8 +10,8 @@ use crate::indexed_cells::IndexedCells;
 use crate::looks::indices::{Indices, domain_indices};
 use crate::looks::one_cell;
 use std::alloc::Global;
-use wb_book::{Binding, Cell, Delta, Kind, Name, Value};
-use wb_reading::below::shelf::Book;
+use wb_book::Book;
+use wb_cells::{Binding, Cell, Delta, Kind, Name, Value};
 
 /// A new array over a domain.
 pub(crate) fn plan_array(

@@ -1,7 +1,7 @@
 ghost use Rattle.std.specs.Prelude.{◌≡◌, [], ◌∷◌};
-ghost use Rattle.wb_book.specs.declared.cells.cell.Cell.TheVariants.{Object};
-ghost use Rattle.wb_book.specs.declared.cells.kind.DomainKind.TheVariants.{Associative};
-ghost use Rattle.wb_book.specs.declared.cells.value.Value.TheVariants.{Domain};
+ghost use Rattle.wb_cells.specs.declared.cells.cell.Cell.TheVariants.{Object};
+ghost use Rattle.wb_cells.specs.declared.cells.kind.DomainKind.TheVariants.{Associative};
+ghost use Rattle.wb_cells.specs.declared.cells.value.Value.TheVariants.{Domain};
 ghost use Rattle.wb_edit.specs.Commands.{assoc};
 ghost use Rattle.wb_edit.specs.Plans.{Attempts, Makes};
 ghost use Rattle.wb_edit.specs.Writes.{set_to};
@@ -11,8 +11,8 @@ use crate::commands::writes::put;
 use crate::footprint::Footprint;
 use crate::looks::one_cell;
 use std::alloc::Global;
-use wb_book::{AnyDomain, Cell, Delta, DomainKind, KeyType, Name, Value};
-use wb_reading::below::shelf::Book;
+use wb_book::Book;
+use wb_cells::{AnyDomain, Cell, Delta, DomainKind, KeyType, Name, Value};
 
 /// A new associative domain.
 pub(crate) fn plan_assoc(

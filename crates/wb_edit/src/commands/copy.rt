@@ -8,8 +8,8 @@ use crate::footprint::Footprint;
 use crate::looks::implicit::{ArrayRef, element_or_implicit};
 use crate::looks::{judgements, numbers, one_cell};
 use std::alloc::Global;
-use wb_book::{AnyIndex, Delta, Name};
-use wb_reading::below::shelf::Book;
+use wb_book::Book;
+use wb_cells::{AnyIndex, Delta, Name};
 
 /// An element that is another one and a number more.
 pub(crate) fn plan_copy(

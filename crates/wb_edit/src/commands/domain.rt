@@ -9,8 +9,8 @@ use crate::footprint::Footprint;
 use crate::indexed_cells::IndexedCells;
 use crate::looks::{layouts, one_cell, rectangles};
 use std::alloc::Global;
-use wb_book::{AnyDomain, AnyLayout, AnyRect, Cell, Delta, DomainKind, Name, Value};
-use wb_reading::below::shelf::Book;
+use wb_book::Book;
+use wb_cells::{AnyDomain, AnyLayout, AnyRect, Cell, Delta, DomainKind, Name, Value};
 
 /// A new rectangular domain.
 pub(crate) fn plan_domain(

@@ -10,8 +10,8 @@ use crate::indexed_cells::IndexedCells;
 use crate::looks::indices::Indices;
 use crate::looks::{elements, one_cell};
 use std::alloc::Global;
-use wb_book::{Cell, Delta, Name};
-use wb_reading::below::shelf::Book;
+use wb_book::Book;
+use wb_cells::{Cell, Delta, Name};
 
 /// The end of an array.
 pub(crate) fn plan_drop_array(

@@ -1,6 +1,6 @@
 ghost use Rattle.std.specs.Prelude.{◌≡◌, [], ◌∷◌};
 ghost use Rattle.wb_range.specs.Domain.{IsListedOnce};
-ghost use Rattle.wb_book.specs.declared.cells.cell.Cell.TheVariants.{Object, Shape, Mapping, Use};
+ghost use Rattle.wb_cells.specs.declared.cells.cell.Cell.TheVariants.{Object, Shape, Mapping, Use};
 ghost use Rattle.wb_edit.specs.Commands.{drop_domain, dropped_domain_cells, cells_beside_indices};
 ghost use Rattle.wb_edit.specs.Plans.{Attempts, Makes, indices_in};
 ghost use Rattle.wb_edit.specs.Writes.{clear_all};
@@ -13,8 +13,8 @@ use crate::looks::indices::{Indices, domain_indices};
 use crate::looks::one_cell;
 use crate::looks::users::unused;
 use std::alloc::Global;
-use wb_book::{AnyDomain, Cell, Delta, DomainKind, Name};
-use wb_reading::below::shelf::Book;
+use wb_book::Book;
+use wb_cells::{AnyDomain, Cell, Delta, DomainKind, Name};
 
 /// The end of a domain.
 pub(crate) fn plan_drop_domain(

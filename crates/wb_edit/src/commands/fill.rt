@@ -1,7 +1,7 @@
 ghost use Rattle.std.specs.Prelude.{◌≡◌, map};
-ghost use Rattle.wb_book.specs.Shapes.{indices};
-ghost use Rattle.wb_book.specs.declared.cells.cell.Cell.TheVariants.{Element};
-ghost use Rattle.wb_book.specs.declared.cells.value.Value.TheVariants.{Number};
+ghost use Rattle.wb_cells.specs.Shapes.{indices};
+ghost use Rattle.wb_cells.specs.declared.cells.cell.Cell.TheVariants.{Element};
+ghost use Rattle.wb_cells.specs.declared.cells.value.Value.TheVariants.{Number};
 ghost use Rattle.wb_edit.specs.Commands.{fill};
 ghost use Rattle.wb_edit.specs.Plans.{Attempts, Makes};
 ghost use Rattle.wb_edit.specs.Writes.{put_all};
@@ -13,8 +13,8 @@ use crate::footprint::Footprint;
 use crate::indexed_cells::IndexedCells;
 use crate::looks::{one_cell, rectangles};
 use std::alloc::Global;
-use wb_book::{AnyRect, Delta, Name, Value};
-use wb_reading::below::shelf::Book;
+use wb_book::Book;
+use wb_cells::{AnyRect, Delta, Name, Value};
 
 /// One number at the indices of a rectangle.
 pub(crate) fn plan_fill(

@@ -1,7 +1,7 @@
 ghost use Rattle.std.specs.Prelude.{◌≡◌, map};
 ghost use Rattle.wb_range.specs.Domain.{IsListedOnce};
-ghost use Rattle.wb_book.specs.declared.cells.cell.Cell.TheVariants.{Element};
-ghost use Rattle.wb_book.specs.declared.cells.value.Value.TheVariants.{Number};
+ghost use Rattle.wb_cells.specs.declared.cells.cell.Cell.TheVariants.{Element};
+ghost use Rattle.wb_cells.specs.declared.cells.value.Value.TheVariants.{Number};
 ghost use Rattle.wb_edit.specs.Commands.{fill_all};
 ghost use Rattle.wb_edit.specs.Plans.{Attempts, Makes, indices_in};
 ghost use Rattle.wb_edit.specs.Writes.{put_all};
@@ -13,8 +13,8 @@ use crate::indexed_cells::IndexedCells;
 use crate::looks::indices::Indices;
 use crate::looks::{elements, one_cell};
 use std::alloc::Global;
-use wb_book::{Delta, Name, Value};
-use wb_reading::below::shelf::Book;
+use wb_book::Book;
+use wb_cells::{Delta, Name, Value};
 
 /// One number as every element of an array.
 pub(crate) fn plan_fill_all(

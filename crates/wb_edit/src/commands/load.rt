@@ -1,8 +1,8 @@
 ghost use Rattle.std.specs.Prelude.{◌≡◌};
-ghost use Rattle.wb_book.specs.Cells.{state_of};
+ghost use Rattle.wb_cells.specs.Cells.{state_of};
 ghost use Rattle.wb_edit.specs.Commands.{book_cells, load};
 ghost use Rattle.wb_edit.specs.Plans.{Attempts, Makes};
-ghost use Rattle.wb_reading.specs.Texts.Books.{cells_in};
+ghost use Rattle.wb_text.specs.Texts.Books.{cells_in};
 
 use crate::attempt_err::AttemptErr;
 use crate::commands::writes::put;
@@ -10,9 +10,9 @@ use crate::footprint::Footprint;
 use crate::looks::objects;
 use std::alloc::Global;
 use std::collections::BTreeMap;
-use wb_book::{Cell, Delta, Value};
-use wb_reading::BookText;
-use wb_reading::below::shelf::Book;
+use wb_book::Book;
+use wb_cells::{Cell, Delta, Value};
+use wb_text::BookText;
 
 /// The workbook of a text.
 pub(crate) fn plan_load(

@@ -1,6 +1,6 @@
 ghost use Rattle.std.specs.Prelude.{◌≡◌, [], ◌∷◌};
-ghost use Rattle.wb_book.specs.declared.cells.cell.Cell.TheVariants.{Mapping};
-ghost use Rattle.wb_book.specs.declared.cells.value.Value.TheVariants.{Mapping as mapping_value};
+ghost use Rattle.wb_cells.specs.declared.cells.cell.Cell.TheVariants.{Mapping};
+ghost use Rattle.wb_cells.specs.declared.cells.value.Value.TheVariants.{Mapping as mapping_value};
 ghost use Rattle.wb_edit.specs.Commands.{remap};
 ghost use Rattle.wb_edit.specs.Plans.{Attempts, Makes};
 ghost use Rattle.wb_edit.specs.Writes.{set_to};
@@ -10,8 +10,8 @@ use crate::commands::writes::put;
 use crate::footprint::Footprint;
 use crate::looks::{kinds, layouts, one_cell};
 use std::alloc::Global;
-use wb_book::{AnyLayout, Cell, Delta, Name, Value};
-use wb_reading::below::shelf::Book;
+use wb_book::Book;
+use wb_cells::{AnyLayout, Cell, Delta, Name, Value};
 
 /// A new mapping of a rectangular domain.
 pub(crate) fn plan_remap(

@@ -9,8 +9,8 @@ use crate::looks::resizing::{has_members, zeros};
 use crate::looks::users::{arrays, uses};
 use crate::looks::{judgements, one_cell};
 use std::alloc::Global;
-use wb_book::{AnyDomain, AnyIndex, Cell, Delta, Name, Value};
-use wb_reading::below::shelf::Book;
+use wb_book::Book;
+use wb_cells::{AnyDomain, AnyIndex, Cell, Delta, Name, Value};
 
 /// The end of an index of a sparse or associative domain.
 pub(crate) fn plan_remove(

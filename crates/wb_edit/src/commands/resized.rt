@@ -4,20 +4,20 @@ ghost use Rattle.std.specs.Prelude.{◌≡◌};
 ghost use Rattle.std.specs.Map.{keys_of};
 ghost use Rattle.selective_undo.specs.Edit.{write};
 ghost use Rattle.wb_range.specs.Domain.{IsListedOnce};
-ghost use Rattle.wb_book.specs.Kinds.{kind_of};
+ghost use Rattle.wb_cells.specs.Kinds.{kind_of};
 ghost use Rattle.wb_edit.specs.Changed.{AreApart};
 ghost use Rattle.wb_edit.specs.Commands.{resized};
 ghost use Rattle.wb_edit.specs.Plans.{Attempts, Makes};
 ghost use Rattle.wb_edit.specs.Resizing.{fills};
-ghost use Rattle.wb_resize.specs.Resized.{resized_cells};
+ghost use Rattle.wb_reshape.specs.Resized.{resized_cells};
 
 use crate::attempt_err::AttemptErr;
 use crate::commands::writes::{NamedDomain, resize};
 use crate::footprint::Footprint;
 use crate::looks::resizing::{all_in_parent, fills};
 use std::alloc::Global;
-use wb_book::{AnyDomain, AnyIndex, Delta, Name};
-use wb_reading::below::shelf::Book;
+use wb_book::Book;
+use wb_cells::{AnyDomain, AnyIndex, Delta, Name};
 
 /// Indices leave a sparse or associative domain and others come to it.
 pub(crate) fn plan_resized(

@@ -3,15 +3,15 @@
 ghost use Rattle.std.specs.Prelude.{◌≡◌, ◌++◌, false, T, Some, OnOk, IfErr};
 ghost use Rattle.std.specs.FinMap.{is_sorted};
 ghost use Rattle.selective_undo.specs.Changes.{changes};
-ghost use Rattle.wb_book.specs.Cells.{cell_cmp, index_cmp};
-ghost use Rattle.wb_book.specs.declared.cells.cell.Cell.TheVariants.{Element};
-ghost use Rattle.wb_book.specs.declared.values.index.Index.{Index};
+ghost use Rattle.wb_cells.specs.Cells.{cell_cmp, index_cmp};
+ghost use Rattle.wb_cells.specs.declared.cells.cell.Cell.TheVariants.{Element};
+ghost use Rattle.wb_cells.specs.declared.values.index.Index.{Index};
 ghost use Rattle.wb_edit.specs.Commands.{number_cells};
 ghost use Rattle.wb_edit.specs.declared.attempt_err.AttemptErr.TheVariants.{NoMemory};
 
 use crate::attempt_err::AttemptErr;
 use crate::commands::writes::change_indexed;
-use wb_book::{AnyIndex, Delta, IndexedChange, Name, Row};
+use wb_cells::{AnyIndex, Delta, IndexedChange, Name, Row};
 
 // The number of an element, which is to be there.
 fn number_of(element: &(AnyIndex, i64)) -> Option<i64>

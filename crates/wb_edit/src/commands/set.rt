@@ -1,6 +1,6 @@
 ghost use Rattle.std.specs.Prelude.{◌≡◌, [], ◌∷◌};
-ghost use Rattle.wb_book.specs.declared.cells.cell.Cell.TheVariants.{Element};
-ghost use Rattle.wb_book.specs.declared.cells.value.Value.TheVariants.{Number};
+ghost use Rattle.wb_cells.specs.declared.cells.cell.Cell.TheVariants.{Element};
+ghost use Rattle.wb_cells.specs.declared.cells.value.Value.TheVariants.{Number};
 ghost use Rattle.wb_edit.specs.Commands.{set};
 ghost use Rattle.wb_edit.specs.Plans.{Attempts, Makes};
 ghost use Rattle.wb_edit.specs.Writes.{set_to};
@@ -10,8 +10,8 @@ use crate::commands::writes::put;
 use crate::footprint::Footprint;
 use crate::looks::{judgements, one_cell};
 use std::alloc::Global;
-use wb_book::{AnyIndex, Cell, Delta, Name, Value};
-use wb_reading::below::shelf::Book;
+use wb_book::Book;
+use wb_cells::{AnyIndex, Cell, Delta, Name, Value};
 
 /// A new element.
 pub(crate) fn plan_set(

@@ -1,8 +1,8 @@
 ghost use Rattle.std.specs.Prelude.{◌≡◌, [], ◌∷◌};
-ghost use Rattle.wb_book.specs.declared.cells.cell.Cell.TheVariants.{Object, Use};
-ghost use Rattle.wb_book.specs.declared.cells.kind.DomainKind.TheVariants.{Sparse};
-ghost use Rattle.wb_book.specs.declared.cells.value.Binding.TheVariants.{Sparse as bound_sparse};
-ghost use Rattle.wb_book.specs.declared.cells.value.Value.TheVariants.{Domain, Bound};
+ghost use Rattle.wb_cells.specs.declared.cells.cell.Cell.TheVariants.{Object, Use};
+ghost use Rattle.wb_cells.specs.declared.cells.kind.DomainKind.TheVariants.{Sparse};
+ghost use Rattle.wb_cells.specs.declared.cells.value.Binding.TheVariants.{Sparse as bound_sparse};
+ghost use Rattle.wb_cells.specs.declared.cells.value.Value.TheVariants.{Domain, Bound};
 ghost use Rattle.wb_edit.specs.Commands.{sparse};
 ghost use Rattle.wb_edit.specs.Plans.{Attempts, Makes};
 ghost use Rattle.wb_edit.specs.Writes.{set_to};
@@ -12,8 +12,8 @@ use crate::commands::writes::put;
 use crate::footprint::Footprint;
 use crate::looks::{kinds, one_cell};
 use std::alloc::Global;
-use wb_book::{AnyDomain, Binding, Cell, Delta, DomainKind, Name, Value};
-use wb_reading::below::shelf::Book;
+use wb_book::Book;
+use wb_cells::{AnyDomain, Binding, Cell, Delta, DomainKind, Name, Value};
 
 /// A new sparse domain in a rectangular one.
 pub(crate) fn plan_sparse(

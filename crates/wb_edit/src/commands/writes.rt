@@ -3,24 +3,24 @@
 ghost use Rattle.std.specs.Prelude.{◌≡◌, ℕ, List, [], ◌∷◌, ◌++◌, false, map, slice_get, Some, option_map, OnOk, IfErr};
 ghost use Rattle.std.specs.Map.{keys_of};
 ghost use Rattle.selective_undo.specs.Changes.{changes};
-ghost use Rattle.wb_book.specs.Cells.{cell_cmp};
-ghost use Rattle.wb_book.specs.Runs.{cell_of, value_of, indexed_change};
-ghost use Rattle.wb_book.specs.Shapes.{indices};
-ghost use Rattle.wb_book.specs.WellFormed.{index_cell};
-ghost use Rattle.wb_book.specs.declared.cells.cell.Cell.TheVariants.{Element};
-ghost use Rattle.wb_book.specs.declared.cells.value.Value.TheVariants.{Number};
-ghost use Rattle.wb_book.specs.declared.values.index.Index.{Index};
+ghost use Rattle.wb_cells.specs.Cells.{cell_cmp};
+ghost use Rattle.wb_cells.specs.Runs.{cell_of, value_of, indexed_change};
+ghost use Rattle.wb_cells.specs.Shapes.{indices};
+ghost use Rattle.wb_cells.specs.WellFormed.{index_cell};
+ghost use Rattle.wb_cells.specs.declared.cells.cell.Cell.TheVariants.{Element};
+ghost use Rattle.wb_cells.specs.declared.cells.value.Value.TheVariants.{Number};
+ghost use Rattle.wb_cells.specs.declared.values.index.Index.{Index};
 ghost use Rattle.wb_range.specs.Domain.{IsListedOnce};
 ghost use Rattle.wb_edit.specs.Plans.{cell_at, indices_in};
 ghost use Rattle.wb_edit.specs.Changed.{set_all, AreApart};
 ghost use Rattle.wb_edit.specs.Writes.{set_to, put_all};
-ghost use Rattle.wb_resize.specs.Resized.{exchanged, elements_exchanged, resized_cells};
+ghost use Rattle.wb_reshape.specs.Resized.{exchanged, elements_exchanged, resized_cells};
 ghost use Rattle.wb_edit.specs.declared.attempt_err.AttemptErr.TheVariants.{NoMemory};
 
 use crate::attempt_err::AttemptErr;
 use crate::indexed_cells::{IndexedCells, cell_at, row_of};
 use crate::looks::indices::Indices;
-use wb_book::{AnyIndex, AnyRect, Cell, Delta, IndexedChange, Kind, Name, Row, Value};
+use wb_cells::{AnyIndex, AnyRect, Cell, Delta, IndexedChange, Kind, Name, Row, Value};
 
 /// Adds that a cell, which is not there yet, becomes a value, or absent.
 pub(crate) fn change(delta: &mut Delta, cell: Cell, value: Option<Value>) -> Result<(), AttemptErr>

@@ -3,19 +3,18 @@
 ghost use Rattle.std.specs.Prelude.{◌≡◌, [], ◌∷◌, ◌++◌, IfOk, IfErr, OnOk};
 ghost use Rattle.std.specs.Map.{keys_of};
 ghost use Rattle.wb_range.specs.Domain.{IsListedOnce};
-ghost use Rattle.wb_book.specs.Readers as readers;
-ghost use Rattle.wb_book.specs.declared.cells.pattern.Pattern.TheVariants.{Elements};
+ghost use Rattle.wb_cells.specs.Readers as readers;
+ghost use Rattle.wb_cells.specs.declared.cells.pattern.Pattern.TheVariants.{Elements};
 ghost use Rattle.wb_edit.specs.Elements.{element_indices, same_domain};
 ghost use Rattle.wb_edit.specs.Plans.{Looks, indices_in, shown_indices};
 
 use crate::attempt_err::AttemptErr;
 use crate::footprint::Footprint;
 use crate::looks::indices::Indices;
-use crate::refusal::Refusal;
 use std::alloc::Global;
-use wb_book::{AnyIndex, Name, Pattern};
+use wb_book::Book;
+use wb_cells::{AnyIndex, Name, Pattern, Refusal};
 use wb_range::NoMemory;
-use wb_reading::below::shelf::Book;
 
 /// All elements of an array are looked at, whether or not they are listed.
 pub(crate) fn look_at_elements(footprint: &mut Footprint, array: Name) -> Result<(), AttemptErr>

@@ -10,9 +10,8 @@ use crate::footprint::Footprint;
 use crate::looks::judgements::is_there;
 use crate::looks::numbers::element_or_refusal;
 use crate::looks::one_cell::read;
-use crate::refusal::Refusal;
-use wb_book::{AnyIndex, Cell, DomainKind, Kind, Name, Value};
-use wb_reading::below::shelf::Book;
+use wb_book::Book;
+use wb_cells::{AnyIndex, Cell, DomainKind, Kind, Name, Refusal, Value};
 
 /// That an array over a domain of this kind has an implicit value of its own; `OutOfDomain` where it has none.
 pub fn has_implicit(kind: &Kind) -> Result<(), Refusal>

@@ -3,9 +3,9 @@
 ghost use Rattle.std.specs.Prelude.{◌≡◌, [], ◌∷◌, ◌++◌, IfOk, IfErr, OnOk};
 ghost use Rattle.std.specs.List.Sorted.{IsStrictlySortedBy};
 ghost use Rattle.wb_range.specs.Domain.{IsListedOnce};
-ghost use Rattle.wb_book.specs.Cells.{index_cmp};
-ghost use Rattle.wb_book.specs.Readers as readers;
-ghost use Rattle.wb_book.specs.declared.cells.pattern.Pattern.TheVariants.{Members};
+ghost use Rattle.wb_cells.specs.Cells.{index_cmp};
+ghost use Rattle.wb_cells.specs.Readers as readers;
+ghost use Rattle.wb_cells.specs.declared.cells.pattern.Pattern.TheVariants.{Members};
 ghost use Rattle.wb_edit.specs.Looks.{members, points, indices_of, domain_indices};
 ghost use Rattle.wb_edit.specs.Plans.{Looks, found_members, indices_in, shown_indices};
 
@@ -14,9 +14,9 @@ use crate::footprint::Footprint;
 use crate::looks::judgements;
 use crate::looks::one_cell::read;
 use std::alloc::Global;
-use wb_book::{AnyDomain, AnyIndex, AnyRect, Cell, DomainKind, Name, Pattern, members_in};
+use wb_book::Book;
+use wb_cells::{AnyDomain, AnyIndex, AnyRect, Cell, DomainKind, Name, Pattern, members_in};
 use wb_range::NoMemory;
-use wb_reading::below::shelf::Book;
 
 /// The indices of a domain, in its order.
 #[derive(Drop)]

@@ -3,8 +3,7 @@
 ghost use Rattle.std.specs.Prelude.{◌≡◌, option_map};
 ghost use Rattle.wb_edit.specs.Looks.{is_free, domain_kind, array_kind, is_there, fits, ranges_in};
 
-use crate::refusal::Refusal;
-use wb_book::{AnyDomain, AnyIndex, AnyRect, Kind, Name, Value};
+use wb_cells::{AnyDomain, AnyIndex, AnyRect, Kind, Name, Refusal, Value};
 
 /// That nothing has the name whose object is given; `NameTaken` where something has.
 pub fn is_free(object: Option<Value>) -> Result<(), Refusal>

@@ -3,8 +3,7 @@
 ghost use Rattle.std.specs.Prelude.{◌≡◌};
 ghost use Rattle.wb_edit.specs.Kinds.{rank_of, is_sparse};
 
-use crate::refusal::Refusal;
-use wb_book::{AnyDomain, DomainKind, Kind};
+use wb_cells::{AnyDomain, DomainKind, Kind, Refusal};
 
 /// The rank of a rectangular domain; `WrongKind` for another one.
 pub fn rank_of(kind: &AnyDomain) -> Result<u8, Refusal>

@@ -5,8 +5,7 @@ ghost use Rattle.wb_edit.specs.Layouts.{for_rank};
 ghost use Rattle.wb_edit.specs.Plans.{stopped};
 
 use crate::attempt_err::{AttemptErr, stopped};
-use crate::refusal::Refusal;
-use wb_book::{AnyLayout, AnyRect};
+use wb_cells::{AnyLayout, AnyRect, Refusal};
 
 /// That the mapping is for domains of the rank; `BadMapping` where it is not.
 pub fn for_rank(rank: u8, mapping: &AnyLayout) -> Result<(), Refusal>

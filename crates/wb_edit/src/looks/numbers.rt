@@ -3,8 +3,7 @@
 ghost use Rattle.std.specs.Prelude.{◌≡◌, ◌+ℤ◌, ◌-ℤ◌, ◌*ℤ◌};
 ghost use Rattle.wb_edit.specs.Numbers.{element_or_refusal, fits_integer};
 
-use crate::refusal::Refusal;
-use wb_book::Value;
+use wb_cells::{Refusal, Value};
 
 /// The element that a cell holds.
 pub fn element_or_refusal(element: Option<Value>) -> Result<i64, Refusal>

@@ -1,16 +1,15 @@
 //! Whether a workbook has objects.
 
 ghost use Rattle.std.specs.Prelude.{◌≡◌};
-ghost use Rattle.wb_book.specs.Readers.{seen};
-ghost use Rattle.wb_book.specs.declared.cells.pattern.Pattern.TheVariants.{Objects};
+ghost use Rattle.wb_cells.specs.Readers.{seen};
+ghost use Rattle.wb_cells.specs.declared.cells.pattern.Pattern.TheVariants.{Objects};
 ghost use Rattle.wb_edit.specs.Objects.{is_empty, no_object};
 ghost use Rattle.wb_edit.specs.Plans.{Looks};
 
 use crate::attempt_err::{AttemptErr, stopped};
 use crate::footprint::Footprint;
-use crate::refusal::Refusal;
-use wb_book::Pattern;
-use wb_reading::below::shelf::Book;
+use wb_book::Book;
+use wb_cells::{Pattern, Refusal};
 
 // That a look at all objects shows none; `NotEmpty` where it shows one.
 fn is_empty(book: &Book) -> Result<(), Refusal>

@@ -9,8 +9,8 @@ ghost use Rattle.wb_edit.specs.Plans.{Looks};
 use crate::attempt_err::{AttemptErr, stopped};
 use crate::footprint::Footprint;
 use crate::looks::judgements;
-use wb_book::{AnyCell, AnyDomain, AnyIndex, Cell, Kind, Name, Pattern, Value};
-use wb_reading::below::shelf::Book;
+use wb_book::Book;
+use wb_cells::{AnyCell, AnyDomain, AnyIndex, Cell, Kind, Name, Pattern, Value};
 
 /// What a cell holds.
 pub(crate) fn read(

@@ -5,19 +5,19 @@ ghost use Rattle.std.specs.Prelude.{◌≡◌, List, [], ◌∷◌, ◌++◌, ma
 ghost use Rattle.std.specs.FinMap.{get};
 ghost use Rattle.std.specs.List.{list_all};
 ghost use Rattle.std.specs.Map.{keys_of};
-ghost use Rattle.wb_book.specs.Readers.{elements};
-ghost use Rattle.wb_book.specs.Shapes.{indices};
-ghost use Rattle.wb_book.specs.declared.cells.cell.Cell.TheVariants.{Element};
-ghost use Rattle.wb_edit.specs.Plans.{Looks, one_of, stopped};
+ghost use Rattle.wb_cells.specs.Readers.{elements};
+ghost use Rattle.wb_cells.specs.Shapes.{indices};
+ghost use Rattle.wb_cells.specs.declared.cells.cell.Cell.TheVariants.{Element};
+ghost use Rattle.wb_edit.specs.Plans.{Looks, stopped};
+ghost use Rattle.wb_cells.specs.Reads.{one_of};
 ghost use Rattle.wb_edit.specs.Rectangles.{ranges_of, is_rectangular_of, of_rank, there_if, all_elements};
 ghost use Rattle.wb_edit.specs.declared.attempt_err.AttemptErr.TheVariants.{NoMemory};
 
 use crate::asked_rectangle::AskedRectangle;
 use crate::attempt_err::{AttemptErr, stopped};
 use crate::footprint::Footprint;
-use crate::refusal::Refusal;
-use wb_book::{AnyCell, AnyIndex, AnyRect, Cell, Kind, Name, Pattern, Row};
-use wb_reading::below::shelf::Book;
+use wb_book::Book;
+use wb_cells::{AnyCell, AnyIndex, AnyRect, Cell, Kind, Name, Pattern, Refusal, Row};
 
 /// The ranges of the rectangle that is asked for; `WrongKind` where a set is in its place.
 pub fn ranges_of(asked: &AskedRectangle) -> Result<AnyRect, Refusal>

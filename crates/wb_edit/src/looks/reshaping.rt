@@ -3,8 +3,9 @@
 ghost use Rattle.std.specs.Prelude.{◌≡◌, List, [], ◌∷◌, ◌++◌, map, ◌||◌, is_some, OnOk, IfOk, IfErr};
 ghost use Rattle.std.specs.FinMap.{get};
 ghost use Rattle.std.specs.List.{list_any};
-ghost use Rattle.wb_book.specs.declared.cells.cell.Cell.TheVariants.{Member};
-ghost use Rattle.wb_edit.specs.Plans.{Looks, one_of};
+ghost use Rattle.wb_cells.specs.declared.cells.cell.Cell.TheVariants.{Member};
+ghost use Rattle.wb_edit.specs.Plans.{Looks};
+ghost use Rattle.wb_cells.specs.Reads.{one_of};
 ghost use Rattle.wb_edit.specs.Reshaping.{shape_in, absent_if, shape, member_cells, none_there};
 ghost use Rattle.wb_edit.specs.declared.attempt_err.AttemptErr.TheVariants.{NoMemory};
 
@@ -12,9 +13,8 @@ use crate::attempt_err::{AttemptErr, stopped};
 use crate::footprint::Footprint;
 use crate::looks::one_cell::read;
 use crate::looks::rectangles::is_present;
-use crate::refusal::Refusal;
-use wb_book::{AnyIndex, AnyRect, Cell, Name, Value};
-use wb_reading::below::shelf::Book;
+use wb_book::Book;
+use wb_cells::{AnyIndex, AnyRect, Cell, Name, Refusal, Value};
 
 /// The ranges that a cell holds; `WrongKind` where it holds none.
 pub fn shape_in(shape: Option<Value>) -> Result<AnyRect, Refusal>

@@ -4,10 +4,11 @@ ghost use Rattle.std.specs.Prelude.{◌≡◌, List, [], ◌∷◌, ◌++◌, ma
 ghost use Rattle.std.specs.FinMap.{get};
 ghost use Rattle.std.specs.List.{list_all};
 ghost use Rattle.std.specs.Map.{keys_of};
-ghost use Rattle.wb_book.specs.declared.cells.cell.Cell.TheVariants.{Implicit};
+ghost use Rattle.wb_cells.specs.declared.cells.cell.Cell.TheVariants.{Implicit};
 ghost use Rattle.wb_range.specs.Domain.{IsListedOnce};
 ghost use Rattle.wb_edit.specs.Changed.{items_of};
-ghost use Rattle.wb_edit.specs.Plans.{Looks, cell_at, one_of};
+ghost use Rattle.wb_edit.specs.Plans.{Looks, cell_at};
+ghost use Rattle.wb_cells.specs.Reads.{one_of};
 ghost use Rattle.wb_edit.specs.Resizing.{has_members, inside_if, number_or_zero, zeros, all_in_domain, all_in_parent, implicits, defaults, fills};
 ghost use Rattle.wb_edit.specs.declared.attempt_err.AttemptErr.TheVariants.{NoMemory};
 
@@ -16,10 +17,9 @@ use crate::footprint::Footprint;
 use crate::indexed_cells::{IndexedCells, cell_at};
 use crate::looks::rectangles::{both_answers, is_present};
 use crate::looks::users::{arrays, uses};
-use crate::refusal::Refusal;
 use std::alloc::{AllocError, Global};
-use wb_book::{AnyCell, AnyDomain, AnyIndex, Cell, DomainKind, Name, Pattern, Value};
-use wb_reading::below::shelf::Book;
+use wb_book::Book;
+use wb_cells::{AnyCell, AnyDomain, AnyIndex, Cell, DomainKind, Name, Pattern, Refusal, Value};
 
 /// That a domain is sparse or associative; `WrongKind` where it is rectangular.
 pub fn has_members(kind: &AnyDomain) -> Result<(), Refusal>

@@ -3,8 +3,8 @@
 ghost use Rattle.std.specs.Prelude.{◌≡◌, IfOk, IfErr};
 ghost use Rattle.std.specs.List.{list_all};
 ghost use Rattle.std.specs.List.Sorted.{IsStrictlySortedBy};
-ghost use Rattle.wb_book.specs.Cells.{index_cmp};
-ghost use Rattle.wb_book.specs.Kinds.{is_key};
+ghost use Rattle.wb_cells.specs.Cells.{index_cmp};
+ghost use Rattle.wb_cells.specs.Kinds.{is_key};
 ghost use Rattle.wb_range.specs.Domain.{IsListedOnce};
 ghost use Rattle.wb_edit.specs.Plans.{Looks, found_members};
 ghost use Rattle.wb_edit.specs.declared.attempt_err.AttemptErr.TheVariants.{NoMemory};
@@ -17,15 +17,14 @@ use crate::looks::indices::members;
 use crate::looks::one_cell::domain_named;
 use crate::looks::rectangles::{both_answers, of_rank};
 use crate::looks::reshaping::shape;
-use crate::refusal::Refusal;
 use std::alloc::Global;
-use wb_assoc::Assoc;
-use wb_book::{AnyIndex, AnyRect, KeyType, Kind, Name, Point};
+use wb_book::Book;
+use wb_cells::{AnyIndex, AnyRect, KeyType, Kind, Name, Point, Refusal};
 use wb_range::Domain;
-use wb_reading::below::shelf::Book;
 use wb_rect::RectErr;
-use wb_resize::new_rectangles::displaced;
-use wb_resize::{Displacement, Operand};
+use wb_reshape::new_rectangles::displaced;
+use wb_reshape::{Displacement, Operand};
+use wb_sets::Assoc;
 
 /// That there are so many dimensions as a domain of the rank has; `WrongKind` where there are not.
 pub fn same_rank(rank: usize, dimensions: usize) -> Result<(), Refusal>

@@ -2,9 +2,9 @@
 
 ghost use Rattle.std.specs.Prelude.{◌≡◌, IfOk, IfErr};
 ghost use Rattle.std.specs.List.{filter_map};
-ghost use Rattle.wb_book.specs.Readers.{seen};
-ghost use Rattle.wb_book.specs.declared.cells.pattern.Pattern.TheVariants.{Uses};
-ghost use Rattle.wb_book.specs.declared.cells.value.Binding.TheVariants.{Array, Sparse};
+ghost use Rattle.wb_cells.specs.Readers.{seen};
+ghost use Rattle.wb_cells.specs.declared.cells.pattern.Pattern.TheVariants.{Uses};
+ghost use Rattle.wb_cells.specs.declared.cells.value.Binding.TheVariants.{Array, Sparse};
 ghost use Rattle.wb_edit.specs.Changed.{items_of};
 ghost use Rattle.wb_edit.specs.Plans.{Looks};
 ghost use Rattle.wb_edit.specs.Users.{binding_in, user_in, named, bound, is_unused, uses, unused};
@@ -12,10 +12,9 @@ ghost use Rattle.wb_edit.specs.declared.attempt_err.AttemptErr.TheVariants.{NoMe
 
 use crate::attempt_err::{AttemptErr, stopped};
 use crate::footprint::Footprint;
-use crate::refusal::Refusal;
 use std::alloc::{AllocError, Global};
-use wb_book::{Binding, Cell, Name, Pattern, Value};
-use wb_reading::below::shelf::Book;
+use wb_book::Book;
+use wb_cells::{Binding, Cell, Name, Pattern, Refusal, Value};
 
 // How a value says that an object is bound, if it does.
 fn binding_in(value: &Value) -> Option<Binding>

@@ -12,10 +12,10 @@ use Rattle.std.specs.Option.{option_or}
 use Rattle.std.specs.BTreeMap.{insert_entry}
 use Rattle.std.proofs.lemmas.List.{take_more}
 use Rattle.selective_undo.proofs.Log.{append-map}
-use Rattle.wb_array.specs.Elements.{value_at}
-use Rattle.wb_book.specs.declared.values.index.Index.{Index}
-use Rattle.wb_book.specs.contracts.values.index.IndexOrd.TheImpl.Laws as index_laws
-use Rattle.wb_book.specs.Cells.{index_cmp, index_cmp-IsAntisymmetric, is_same_index}
+use Rattle.wb_arrays.specs.Elements.{value_at}
+use Rattle.wb_cells.specs.declared.values.index.Index.{Index}
+use Rattle.wb_cells.specs.contracts.values.index.IndexOrd.TheImpl.Laws as index_laws
+use Rattle.wb_cells.specs.Cells.{index_cmp, index_cmp-IsAntisymmetric, is_same_index}
 use Rattle.wb_elements.specs.Piecewise.Indexed.{indexed, AllOf}
 use Rattle.wb_elements.specs.Piecewise.Changed.{changed_at, all_set}
 use Rattle.wb_elements.proofs.Piecewise.Indexed.{value_at-indexed}

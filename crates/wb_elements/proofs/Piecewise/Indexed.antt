@@ -7,10 +7,10 @@ use Rattle.std.specs.List.{AllByRecursion}
 use Rattle.std.specs.List.Sorted.{IsStrictlySortedBy}
 use Rattle.std.specs.Map.{set_value, keys_of}
 use Rattle.std.specs.BTreeMap.{is_at}
-use Rattle.wb_array.specs.Elements.{value_at}
-use Rattle.wb_array.proofs.Changes.{set_value-none}
-use Rattle.wb_book.specs.declared.values.index.Index.{Index}
-use Rattle.wb_book.specs.Cells.{index_cmp, index_cmp-IsAntisymmetric}
+use Rattle.wb_arrays.specs.Elements.{value_at}
+use Rattle.wb_arrays.proofs.Changes.{set_value-none}
+use Rattle.wb_cells.specs.declared.values.index.Index.{Index}
+use Rattle.wb_cells.specs.Cells.{index_cmp, index_cmp-IsAntisymmetric}
 use Rattle.wb_elements.specs.Piecewise.Indexed.{indexed, AllOf}
 
 is_equal : (o : Ordering) → is_eq o ≡ true → o ≡ Equal

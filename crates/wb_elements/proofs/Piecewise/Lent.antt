@@ -3,14 +3,14 @@ use Rattle.std.proofs.Common.{◌≡◌, ℕ, ◌<◌, ◌≤◌, ℤ, ◌==◌,
 use Rattle.std.proofs.Common.{eqb-true, arith, Bor}
 use Rattle.std.specs.Option.{unwrap_or, option_map, MatchOption, IfSome}
 use Rattle.std.proofs.lemmas.Bool.{eq-eqb, lt-ltb, le-ltb}
-use Rattle.wb_book.specs.declared.values.index.Index.{Index}
-use Rattle.wb_book.specs.declared.values.index.Index.TheVariants.{Point}
-use Rattle.wb_book.specs.Kinds.{is_point}
-use Rattle.wb_book.specs.Layouts.{is_of_rank, locale_in}
+use Rattle.wb_cells.specs.declared.values.index.Index.{Index}
+use Rattle.wb_cells.specs.declared.values.index.Index.TheVariants.{Point}
+use Rattle.wb_cells.specs.Kinds.{is_point}
+use Rattle.wb_cells.specs.Layouts.{is_of_rank, locale_in}
 use Rattle.wb_dist.specs.Maps.{LayoutMap, locale_of, locale_count_of}
 use Rattle.wb_elements.specs.Piecewise.Indexed.{indexed, AllOf}
 use Rattle.wb_elements.specs.Piecewise.Lent.{lies_on, piece_in}
-use Rattle.wb_pieces.specs.Pieces.{piece_of, LieBelow}
+use Rattle.wb_arrays.specs.Pieces.{piece_of, LieBelow}
 
 pub point_locale : (m : LayoutMap) (r : ℕ) (is : List ℤ) → is_of_rank r m ≡ true → is_point r (Point is) ≡ true →
     unwrap_or (locale_in m (Point is)) 0 ≡ locale_of m is

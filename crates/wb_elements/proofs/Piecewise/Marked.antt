@@ -13,10 +13,10 @@ use Rattle.std.specs.Option.{option_flatten}
 use Rattle.std.specs.Ordering.{is_eq, eq_by_cmp}
 use Rattle.std.proofs.lemmas.List.{append-nil, append_assoc}
 use Rattle.selective_undo.proofs.Log.{append-map}
-use Rattle.wb_array.specs.Elements.{value_at}
-use Rattle.wb_book.specs.declared.values.index.Index.{Index}
-use Rattle.wb_book.specs.contracts.values.index.IndexOrd.TheImpl.Laws as index_laws
-use Rattle.wb_book.specs.Cells.{index_cmp, is_same_index}
+use Rattle.wb_arrays.specs.Elements.{value_at}
+use Rattle.wb_cells.specs.declared.values.index.Index.{Index}
+use Rattle.wb_cells.specs.contracts.values.index.IndexOrd.TheImpl.Laws as index_laws
+use Rattle.wb_cells.specs.Cells.{index_cmp, is_same_index}
 use Rattle.wb_elements.specs.Piecewise.Indexed.{indexed, AllOf}
 use Rattle.wb_elements.specs.Piecewise.Changed.{changed_at}
 use Rattle.wb_elements.specs.Piecewise.Marked.{as_changes, marked_at, AllMarked, with_number, numbers_of}

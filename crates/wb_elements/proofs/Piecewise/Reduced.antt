@@ -1,11 +1,11 @@
 -- The reduction of elements, whatever their keys stand for.
 use Rattle.std.proofs.Common.{◌≡◌, ℤ, List, [], ◌∷◌, Result, refl, ap}
-use Rattle.wb_book.specs.declared.values.index.Index.{Index}
+use Rattle.wb_cells.specs.declared.values.index.Index.{Index}
 use Rattle.wb_elements.specs.Piecewise.Indexed.{indexed}
-use Rattle.wb_redist.specs.declared.reduction.Op.{Op}
-use Rattle.wb_redist.specs.declared.reduction.Op.TheVariants.{Sum, Min, Max}
-use Rattle.wb_redist.specs.declared.reduction.ReduceErr.{ReduceErr}
-use Rattle.wb_redist.specs.Reductions.{elements_of, IsReduced}
+use Rattle.wb_arrays.specs.declared.reduction.Op.{Op}
+use Rattle.wb_arrays.specs.declared.reduction.Op.TheVariants.{Sum, Min, Max}
+use Rattle.wb_arrays.specs.declared.reduction.ReduceErr.{ReduceErr}
+use Rattle.wb_arrays.specs.Reductions.{elements_of, IsReduced}
 
 module _ {I : Type 0} (f : I → Index) where
   elements-indexed : (es : List (I × ℤ)) → elements_of (indexed f es) ≡ elements_of es

@@ -1,8 +1,8 @@
 -- The pieces of the elements of an array (Chapel Language Specification, Domain Maps).
 use Rattle.std.specs.Prelude.{ℕ, ◌==◌, ℤ, Bool, nat_lt, List, filter, Option, Some, None, unwrap_or, if◌then◌else◌}
-use Rattle.wb_book.specs.declared.values.index.Index.{Index}
-use Rattle.wb_book.specs.declared.values.index.Index.TheVariants.{Point, Text}
-use Rattle.wb_book.specs.Layouts.{locale_in}
+use Rattle.wb_cells.specs.declared.values.index.Index.{Index}
+use Rattle.wb_cells.specs.declared.values.index.Index.TheVariants.{Point, Text}
+use Rattle.wb_cells.specs.Layouts.{locale_in}
 use Rattle.wb_dist.specs.Maps.{LayoutMap, locale_count_of}
 use Rattle.wb_elements.specs.declared.piece.Pairs.{Pairs}
 use Rattle.wb_elements.specs.declared.piece.Pairs.TheVariants.{Line, Plane, Solid, Text as Texts}

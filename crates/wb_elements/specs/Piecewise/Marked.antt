@@ -1,6 +1,6 @@
 -- Marks at keys, one after another: a number that is set, or that none is there.
 use Rattle.std.specs.Prelude.{◌≡◌, ℤ, Bool, true, List, [], ◌∷◌, map, Option, Some, None}
-use Rattle.wb_book.specs.declared.values.index.Index.{Index}
+use Rattle.wb_cells.specs.declared.values.index.Index.{Index}
 use Rattle.wb_elements.specs.Piecewise.Changed.{changed_at}
 
 module _ {I : Type 0} where

@@ -1,11 +1,11 @@
 -- How the elements of an array are seen, whatever the kind of its domain.
 use Rattle.std.specs.Prelude.{◌≡◌, ◌≤◌, ℕ, zero, suc, ℤ, Bool, true, List, Option, Some, None}
 use Rattle.std.specs.Map.{keys_of}
-use Rattle.wb_book.specs.declared.values.index.Index.{Index}
-use Rattle.wb_book.specs.declared.values.index.Index.TheVariants.{Point, Text}
-use Rattle.wb_book.specs.Kinds.{is_point, is_text}
-use Rattle.wb_book.specs.Layouts.{is_of_rank}
-use Rattle.wb_book.specs.Shapes.{indices}
+use Rattle.wb_cells.specs.declared.values.index.Index.{Index}
+use Rattle.wb_cells.specs.declared.values.index.Index.TheVariants.{Point, Text}
+use Rattle.wb_cells.specs.Kinds.{is_point, is_text}
+use Rattle.wb_cells.specs.Layouts.{is_of_rank}
+use Rattle.wb_cells.specs.Shapes.{indices}
 use Rattle.wb_dist.specs.Maps.{LayoutMap, whole}
 use Rattle.wb_elements.specs.declared.elements.Form.{Form}
 use Rattle.wb_elements.specs.declared.elements.Form.TheVariants.{Line, Plane, Solid, Text as Texts}

@@ -5,12 +5,12 @@ ghost use Rattle.std.specs.List.{list_all};
 ghost use Rattle.wb_elements.specs.Entries.{element_at, sets_one, with_one, with_all, read_one, read_at};
 ghost use Rattle.wb_elements.specs.Piecewise.Indexed.{indexed, AllOf};
 ghost use Rattle.wb_elements.specs.Piecewise.Seen.{seen_of, IsKept};
-ghost use Rattle.wb_book.specs.declared.values.index.Index.TheVariants.{Point as point_index};
+ghost use Rattle.wb_cells.specs.declared.values.index.Index.TheVariants.{Point as point_index};
 
 use crate::elements::{Elements, Form, set_in};
 use crate::key::AsIndex;
 use std::alloc::Global;
-use wb_pieces::Pieces;
+use wb_arrays::Pieces;
 use wb_range::{Domain, Mapping, NoMemory};
 
 /// A key by which an array keeps its elements, where its indices have the key's form.

@@ -2,7 +2,7 @@
 
 ghost use Rattle.std.specs.Prelude.{◌≡◌, ℕ, ◌+◌, ◌^◌, ◌<◌, length, drop, Some, None, OnOk, OnErr, IfOk};
 ghost use Rattle.selective_undo.specs.Log.{blocks_undo, blocks_redo, first_from};
-ghost use Rattle.wb_foot.specs.Footprints.{Footprints, IsIndexOf, footprint, with_footprint};
+ghost use Rattle.wb_footprints.specs.Footprints.{Footprints, IsIndexOf, footprint, with_footprint};
 ghost use Rattle.wb_log.specs.Indexed.{IsByFootprint};
 ghost use Rattle.wb_log.specs.Kept.{by_number, kept_in, kept_all};
 ghost use Rattle.wb_log.specs.Records.{lent_footprint};
@@ -12,9 +12,9 @@ use crate::blockers;
 use crate::entry::{LentFootprint, Record};
 use crate::sweep::needing;
 use std::alloc::Global;
-use wb_book::Changes;
-use wb_foot::FootIndex;
-use wb_foot::below::edit::Footprint;
+use wb_cells::Changes;
+use wb_edit::Footprint;
+use wb_footprints::FootIndex;
 use wb_range::NoMemory;
 
 /// An index of the footprints of the first `entered` edits.

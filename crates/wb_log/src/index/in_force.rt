@@ -2,14 +2,14 @@
 
 ghost use Rattle.std.specs.Prelude.{◌≡◌, ℕ, ◌+◌, ◌^◌, ◌<◌, length, Some, None, OnOk, OnErr};
 ghost use Rattle.selective_undo.specs.Log.{Footprint};
-ghost use Rattle.wb_foot.specs.Below.wb_edit.Schema.{workbook};
-ghost use Rattle.wb_foot.specs.Footprints.{Footprints, with_footprint};
+ghost use Rattle.wb_cells.specs.Schema.{workbook};
+ghost use Rattle.wb_footprints.specs.Footprints.{Footprints, with_footprint};
 ghost use Rattle.wb_log.specs.Indexed.{AreInForce};
 ghost use Rattle.wb_log.specs.Kept.{IsLatest, by_number, kept_in, kept_all};
 
 use crate::entry::Record;
 use std::alloc::Global;
-use wb_foot::Numbers;
+use wb_footprints::Numbers;
 use wb_range::NoMemory;
 
 /// Which of the first `entered` edits are in force.

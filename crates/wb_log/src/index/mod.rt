@@ -6,7 +6,7 @@ mod by_footprint;
 mod in_force;
 
 ghost use Rattle.std.specs.Prelude.{◌≡◌, ℕ, ◌+◌, ◌^◌, ◌<◌, Some, None};
-ghost use Rattle.wb_foot.specs.Footprints.{Footprints, with_footprint};
+ghost use Rattle.wb_footprints.specs.Footprints.{Footprints, with_footprint};
 ghost use Rattle.wb_log.specs.Indexed.{Indexes};
 ghost use Rattle.wb_log.specs.Records.{lent_footprint};
 

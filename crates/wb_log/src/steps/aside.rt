@@ -2,7 +2,7 @@ ghost use Rattle.std.specs.Prelude.{◌≡◌, [], ◌∷◌, ◌++◌, OnOk, On
 
 use crate::entry::Record;
 use std::alloc::Global;
-use wb_foot::below::edit::Edit;
+use wb_edit::Edit;
 use wb_range::NoMemory;
 
 /// Keeps an edit as the last one, out of force.

@@ -2,7 +2,7 @@
 
 ghost use Rattle.std.specs.Prelude.{◌≡◌, ◌<◌, ◌≤◌, ◌^◌, true, false, length, take, Ok, Err, OnErr, IfOk, IfErr};
 ghost use Rattle.selective_undo.specs.History.{CanUndoAll};
-ghost use Rattle.wb_book.specs.Cells.{written_more};
+ghost use Rattle.wb_cells.specs.Cells.{written_more};
 ghost use Rattle.wb_log.specs.Cascades.{DependentsReply, CascadeReply, AreUndone, OthersStay, OtherCellsStay, all_out_of_force, places, set_back};
 ghost use Rattle.wb_log.specs.Indexed.{IsIndexed};
 ghost use Rattle.wb_log.specs.Kept.{Shows, IsShown, entries_meant, numbered_entries};
@@ -13,9 +13,9 @@ use crate::entry::Record;
 use crate::index::Index;
 use crate::refusal::Refusal;
 use crate::steps::undoer::Undoer;
-use wb_foot::below::shelf::Book;
+use wb_arrays::Mover;
+use wb_book::Book;
 use wb_range::NoMemory;
-use wb_redist::Mover;
 
 /// The numbers of the edits that have to be undone with the one at a place, from the greatest down.
 pub fn dependents_at(entries: &[Record], index: &mut Index, at: usize) -> Result<Vec<u64>, Refusal>

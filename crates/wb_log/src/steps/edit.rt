@@ -1,10 +1,10 @@
 ghost use Rattle.std.specs.Prelude.{◌≡◌, ℕ, ◌+◌, length, [], ◌∷◌, ◌++◌, OnOk, OnErr, IfOk, Ok, true};
 ghost use Rattle.selective_undo.specs.Changes.{apply};
 ghost use Rattle.selective_undo.specs.Edit.{outcome, reads};
-ghost use Rattle.wb_book.specs.Cells.{written_more, count_of};
-ghost use Rattle.wb_book.specs.WellFormed.{IsWellFormed};
-ghost use Rattle.wb_foot.specs.Below.wb_edit.Commands.{meaning};
-ghost use Rattle.wb_foot.specs.Below.wb_edit.Valid.{IsValid};
+ghost use Rattle.wb_cells.specs.Cells.{written_more, count_of};
+ghost use Rattle.wb_cells.specs.WellFormed.{IsWellFormed};
+ghost use Rattle.wb_edit.specs.Commands.{meaning};
+ghost use Rattle.wb_edit.specs.Valid.{IsValid};
 ghost use Rattle.wb_log.specs.declared.entry.Entry.{Entry};
 ghost use Rattle.wb_log.specs.Kept.{Shows, entries_meant, numbered_entries, plan_refusal};
 ghost use Rattle.wb_log.specs.Past.{AreValid};
@@ -14,11 +14,11 @@ use crate::entry::Record;
 use crate::refusal::Refusal;
 use crate::steps::making::make;
 use std::alloc::Global;
-use wb_book::Delta;
-use wb_foot::below::edit::{Edit, Footprint, PlanErr, plan};
-use wb_foot::below::shelf::Book;
+use wb_arrays::Mover;
+use wb_book::Book;
+use wb_cells::Delta;
+use wb_edit::{Edit, Footprint, PlanErr, plan};
 use wb_range::NoMemory;
-use wb_redist::Mover;
 
 /// Makes an edit, and keeps it as the last.
 pub fn add<M: Mover>(

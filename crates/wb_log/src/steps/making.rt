@@ -4,17 +4,17 @@ ghost use Rattle.std.specs.Prelude.{◌≡◌, [], ◌∷◌, Some, IfOk, IfSome
 ghost use Rattle.std.specs.FinMap.{get};
 ghost use Rattle.std.specs.Ordering.{eq_by_cmp};
 ghost use Rattle.selective_undo.specs.Changes.{apply, inverse};
-ghost use Rattle.wb_book.specs.Cells.{Cells, cell_cmp, written_more, count_of};
-ghost use Rattle.wb_book.specs.WellFormed.{IsWellFormed};
+ghost use Rattle.wb_cells.specs.Cells.{Cells, cell_cmp, written_more, count_of};
+ghost use Rattle.wb_cells.specs.WellFormed.{IsWellFormed};
 ghost use Rattle.wb_log.specs.Records.{shown, kept_of, number_before};
 
 use crate::entry::{Entry, Form, Kept, Record};
 use std::alloc::Global;
-use wb_book::{Cell, Changes, Delta, Pattern, Value};
-use wb_foot::below::edit::{Edit, Footprint};
-use wb_foot::below::shelf::Book;
+use wb_arrays::Mover;
+use wb_book::Book;
+use wb_cells::{Cell, Changes, Delta, Pattern, Value};
+use wb_edit::{Edit, Footprint};
 use wb_range::NoMemory;
-use wb_redist::Mover;
 
 // Whether the cells are one.
 pub(crate) fn is_same(a: &Cell, b: &Cell) -> bool

@@ -1,10 +1,10 @@
 ghost use Rattle.std.specs.Prelude.{◌≡◌, ℕ, ◌+◌, ◌^◌, ◌<◌, length, [], None, Some, Err, OnOk, OnErr, IfOk, IfErr};
 ghost use Rattle.selective_undo.specs.Changes.{apply, inverse};
-ghost use Rattle.wb_book.specs.Cells.{written_more, count_of};
-ghost use Rattle.wb_book.specs.WellFormed.{IsWellFormed};
-ghost use Rattle.wb_foot.specs.Below.wb_edit.Commands.{meaning};
-ghost use Rattle.wb_foot.specs.Below.wb_edit.Plans.{IsPlan};
-ghost use Rattle.wb_foot.specs.Footprints.{Footprints, with_footprint};
+ghost use Rattle.wb_cells.specs.Cells.{written_more, count_of};
+ghost use Rattle.wb_cells.specs.WellFormed.{IsWellFormed};
+ghost use Rattle.wb_edit.specs.Commands.{meaning};
+ghost use Rattle.wb_edit.specs.Plans.{IsPlan};
+ghost use Rattle.wb_footprints.specs.Footprints.{Footprints, with_footprint};
 ghost use Rattle.wb_log.specs.Indexed.{Indexes, IsIndexed};
 ghost use Rattle.wb_log.specs.Kept.{kept_in, Shows, PlansAgain, redo_blocker, stopped_refusal, entries_meant, numbered_entries};
 ghost use Rattle.wb_log.specs.Past.{into_force, AreValid};
@@ -15,11 +15,11 @@ use crate::index::Index;
 use crate::refusal::Refusal;
 use crate::steps::making::make;
 use std::alloc::Global;
-use wb_book::{Changes, Delta};
-use wb_foot::below::edit::{Footprint, PlanErr, plan};
-use wb_foot::below::shelf::Book;
+use wb_arrays::Mover;
+use wb_book::Book;
+use wb_cells::{Changes, Delta};
+use wb_edit::{Footprint, PlanErr, plan};
 use wb_range::NoMemory;
-use wb_redist::Mover;
 
 /// What an entry's edit would change in a workbook.
 fn plan_of(alloc: Global, book: &Book, entry: &Record) -> Result<(Delta, Footprint, usize), PlanErr>

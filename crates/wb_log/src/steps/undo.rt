@@ -1,6 +1,6 @@
 ghost use Rattle.std.specs.Prelude.{◌≡◌, ℕ, ◌+◌, ◌-◌, ◌^◌, ◌<◌, length, None, OnOk, OnErr, IfOk, IfErr};
-ghost use Rattle.wb_book.specs.Cells.{written_more};
-ghost use Rattle.wb_foot.specs.Footprints.{Footprints, with_footprint};
+ghost use Rattle.wb_cells.specs.Cells.{written_more};
+ghost use Rattle.wb_footprints.specs.Footprints.{Footprints, with_footprint};
 ghost use Rattle.wb_log.specs.Indexed.{Indexes, IsIndexed};
 ghost use Rattle.wb_log.specs.Kept.{kept_in, Shows, MayUndo, TakenBack, LeavesWellFormed, refusal_of, entries_meant, numbered_entries};
 ghost use Rattle.wb_log.specs.Past.{out_of_force, AreValid};
@@ -9,8 +9,8 @@ ghost use Rattle.wb_log.specs.Replies.{UndoReply, LastReply, SetsBack, LeavesOth
 use crate::entry::Record;
 use crate::index::Index;
 use crate::refusal::Refusal;
-use wb_foot::below::shelf::Book;
-use wb_redist::Mover;
+use wb_arrays::Mover;
+use wb_book::Book;
 
 /// Whether an edit may not be undone.
 fn undo_refusal(entries: &[Record], index: &mut Index, at: usize) -> Option<Refusal>

@@ -1,7 +1,7 @@
 //! What makes the undos of a cascade, and alone says which of them wanted memory.
 
 ghost use Rattle.std.specs.Prelude.{◌≡◌, ◌^◌, ◌<◌, false, length, Ok, OnOk, OnErr, IfOk, is_err};
-ghost use Rattle.wb_book.specs.Cells.{written_more};
+ghost use Rattle.wb_cells.specs.Cells.{written_more};
 ghost use Rattle.wb_log.specs.Cascades.{IsFree};
 ghost use Rattle.wb_log.specs.Indexed.{IsIndexed};
 ghost use Rattle.wb_log.specs.Kept.{Shows, entries_meant, numbered_entries};
@@ -12,9 +12,9 @@ ghost use Rattle.wb_log.specs.Wants.{has_wanted};
 use crate::entry::Record;
 use crate::index::Index;
 use crate::steps::undo::undo_at;
-use wb_foot::below::shelf::Book;
+use wb_arrays::Mover;
+use wb_book::Book;
 use wb_range::NoMemory;
-use wb_redist::Mover;
 
 /// What undoes edits that may be undone, one by one, and takes down whether the undo that it made last wanted memory. Its
 /// field is written by `undo` alone: outside of this file nothing can say that there was such a want.

@@ -3,7 +3,7 @@ use Rattle.std.specs.Global.{Vec}
 use Rattle.wb_text.specs.Parsed.Lines as lines
 use Rattle.wb_text.specs.Said.{Line, line_of}
 use Rattle.wb_text.specs.declared.said.ObjectLine.{ObjectLine}
-use Rattle.wb_reading.specs.Texts.Books.{told_by, book_in}
+use Rattle.wb_text.specs.Texts.Books.{told_by, book_in}
 use Rattle.wb_reading.proofs.book_of.Goals as goal
 
 same_if : {T E X : Type 0} (f : T → X) (x y : X) (r : Result T E) → x ≡ y → IfOk r (λ t. f t ≡ x) → IfOk r (λ t. f t ≡ y)

@@ -1,7 +1,7 @@
 use Rattle.std.proofs.Common.{◌≡◌, Option, Some, None, option_map, sym, ap, ◌∙◌}
-use Rattle.wb_book.specs.Cells.{Cells, Contents}
-use Rattle.wb_reading.specs.Texts.Books.{book_in}
-use Rattle.wb_reading.proofs.Texts.Back.{book_back}
+use Rattle.wb_cells.specs.Cells.{Cells, Contents}
+use Rattle.wb_text.specs.Texts.Books.{book_in}
+use Rattle.wb_text.proofs.Texts.Back.{book_back}
 use Rattle.wb_reading.proofs.read_book.Goals as goal
 
 none_some : {X : Type 0} (x : X) → None ≡ Some x → ⊥

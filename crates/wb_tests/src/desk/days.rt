@@ -1,6 +1,6 @@
 //! Days of a desk: what is done there before, by all seats at once, and after, and how it is settled.
 ghost use Rattle.std.specs.Prelude.{◌≡◌};
-ghost use Rattle.wb_shared.specs.Openings.{nothing_done};
+ghost use Rattle.wb_desk.specs.Openings.{nothing_done};
 
 use crate::desk::threads::{Work, all_at_once};
 use std::alloc::Global;
@@ -9,9 +9,9 @@ use std::sync::Wait;
 use std::sync::ledger::Blank;
 use std::test::Fail;
 use std::thread::Threads;
-use wb_proto::{Reply, Request, read_request, reply_text};
-use wb_redist::{Crew, Mover};
-use wb_shared::{Cause, Desk, DeskErr, Entry, Opening, Pass, Record, settle};
+use wb_arrays::{Crew, Mover};
+use wb_desk::{Cause, Desk, DeskErr, Entry, Opening, Pass, Record, settle};
+use wb_protocol::{Reply, Request, read_request, reply_text};
 
 const NEW_SET: &str = "{\"op\":\"assoc\",\"d\":\"N\",\"of\":\"int\"}";
 

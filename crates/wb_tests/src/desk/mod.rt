@@ -1,4 +1,4 @@
-//! Days of a desk: `wb_shared`.
+//! Days of a desk: `wb_desk`.
 mod days;
 mod openings;
 mod threads;

@@ -7,13 +7,13 @@ use std::marker::Brand;
 use std::sync::Wait;
 use std::sync::ledger::Blank;
 use std::test::Fail;
+use wb_arrays::{Crew, Mover};
+use wb_desk::{Desk, DeskErr, Opening, settle};
+use wb_history::History;
 use wb_lines::{Input, Output};
 use wb_program::history_from;
-use wb_proto::below::encode::print_history;
-use wb_proto::below::history::History;
-use wb_proto::reply_text;
-use wb_redist::{Crew, Mover};
-use wb_shared::{Desk, DeskErr, Opening, settle};
+use wb_protocol::encoding::print_history;
+use wb_protocol::reply_text;
 
 const TEXT: &str =
     "chapel-workbook 2\narray A over D [0, 0, 0, 0]\nrect D {1..4} none\nhistory 3\n+ {\"d\":\"D\",\"is\":\"{1..4}\",\"map\":\"none\",\"op\":\"domain\"}\n+ {\"a\":\"A\",\"d\":\"D\",\"op\":\"array\"}\n- {\"a\":\"A\",\"i\":4,\"op\":\"set\",\"v\":9}\nend\n";

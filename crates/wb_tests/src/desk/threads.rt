@@ -5,10 +5,10 @@ use std::alloc::Global;
 use std::sync::Wait;
 use std::thread;
 use std::thread::Threads;
-use wb_proto::Reply;
-use wb_proto::below::history::Answer;
-use wb_redist::Mover;
-use wb_shared::{Desk, Opening, Pass};
+use wb_arrays::Mover;
+use wb_desk::{Desk, Opening, Pass};
+use wb_history::Answer;
+use wb_protocol::Reply;
 
 /// What each seat does.
 #[derive(Clone, Copy, Debug, PartialEq, Eq)]

@@ -1,6 +1,6 @@
 //! Arrays: kept whole and in pieces, over every kind of domain, and what a change of domain does to them.
 ghost use Rattle.std.specs.Prelude.{IfOk};
-ghost use Rattle.wb_array.specs.Elements.{HoldsExactly};
+ghost use Rattle.wb_arrays.specs.Elements.{HoldsExactly};
 
 use crate::index_sets::mappings::layout;
 use crate::index_sets::rectangles::rectangle;
@@ -9,9 +9,8 @@ use crate::index_sets::sets::{integers, sparse};
 use std::alloc::Global;
 use std::fmt::Debug;
 use std::test::Fail;
-use wb_array::{Bound, Store};
+use wb_arrays::{Bound, Pieces, Store};
 use wb_dist::{Cyclic, Home, Layout};
-use wb_pieces::Pieces;
 use wb_range::{Domain, Key, Mapping, NoMemory};
 use wb_rect::Rect;
 

@@ -2,7 +2,7 @@
 
 use crate::index_sets::arrays::{numbered, there_and_back};
 use std::test::Fail;
-use wb_array::{OutOfDomain, Store};
+use wb_arrays::{OutOfDomain, Store};
 use wb_range::Range;
 use wb_rect::Rect;
 

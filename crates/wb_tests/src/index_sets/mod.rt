@@ -1,4 +1,4 @@
-//! Index sets, mappings and arrays: the crates from `wb_range` to `wb_redist`.
+//! Index sets, mappings and arrays: the crates from `wb_range` to `wb_arrays`.
 mod arrays;
 mod bounds;
 mod mappings;

@@ -9,12 +9,10 @@ use std::process::Abort;
 use std::sync::atomic::{AtomicUsize, Ordering};
 use std::test::Fail;
 use std::thread::Threads;
-use wb_array::{Bound, Store};
+use wb_arrays::{BadWorkers, Bound, Crew, Gate, MoveErr, Mover, Open, Pieces, Store, Way, Workers};
 use wb_dist::{BadMapping, Layout};
-use wb_pieces::Pieces;
 use wb_range::Range;
 use wb_rect::Rect;
-use wb_redist::{BadWorkers, Crew, Gate, MoveErr, Mover, Open, Way, Workers};
 
 // The elements at 1, 2 .., in the pieces of the mapping. A refused growth is tried again once.
 fn pieces_of(

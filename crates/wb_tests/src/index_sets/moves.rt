@@ -6,8 +6,7 @@ use std::process::Abort;
 use std::sync::atomic::{AtomicUsize, Ordering};
 use std::test::Fail;
 use std::thread::Threads;
-use wb_array::Store;
-use wb_redist::{Crew, Gate, Mover, Workers};
+use wb_arrays::{Crew, Gate, Mover, Store, Workers};
 
 // Moves the tens by the mover, and gathers them: they are the array, and there is no fifth piece.
 fn gathers_the_tens<X: Mover>(rt: &impl Abort, alloc: Global, mover: &X) -> Result<(), Fail> {

@@ -4,10 +4,9 @@ use crate::index_sets::rectangles::rectangle;
 use crate::index_sets::rows::{Subject, Words, place, play, runs, shown, unknown};
 use std::alloc::Global;
 use std::test::Fail;
-use wb_assoc::{Assoc, BadLabel, Label};
 use wb_range::NoMemory;
 use wb_rect::Rect;
-use wb_sparse::{Sparse, SparseErr};
+use wb_sets::{Assoc, BadLabel, Label, Sparse, SparseErr};
 
 // The bounds of texts, and what else is no label.
 #[test]

@@ -7,12 +7,12 @@ use std::process::Abort;
 use std::sync::Wait;
 use std::test::Fail;
 use std::thread::Threads;
+use wb_arrays::{Crew, Mover};
 use wb_command::{Asked, FilePath};
-use wb_disk::MemoryFile;
 use wb_keep::START;
+use wb_keep::disk::MemoryFile;
 use wb_lines::{Input, Output};
 use wb_program::{FileFault, Ports, PutBack, compact_with, do_asked, run_kept_with};
-use wb_redist::{Crew, Mover};
 
 // More calls than are made here.
 const NEVER: usize = 1000;
@@ -134,8 +134,8 @@ fn a_journal_is_made_anew(rt: HostRuntime) -> Result<(), Fail> {
 #[test]
 fn a_crash_leaves_the_old_file_or_the_new_one(rt: HostRuntime) -> Result<(), Fail> {
     let alone = Crew::alone(&rt);
-    // To open the file takes four calls, and to put the new one in its place four.
-    for calls in 0..8 {
+    // To open the file takes three calls, and to put the new one in its place four.
+    for calls in 0..7 {
         let cut = made_anew(rt.alloc(), HELD, calls, &alone)?;
         assert!(rt; cut.status == 3 && cut.fault == Some(FileFault::Failed));
         assert!(rt; cut.written.is_empty());
@@ -245,13 +245,13 @@ fn a_file_begins_with_a_history(rt: HostRuntime) -> Result<(), Fail> {
 #[test]
 fn a_history_is_kept_before_anything_is_answered(rt: HostRuntime) -> Result<(), Fail> {
     let alone = Crew::alone(&rt);
-    // To open the file takes four calls, and to add its first line four.
-    for calls in 0..8 {
+    // To open the file takes three calls, and to add its first line two.
+    for calls in 0..5 {
         let cut = done_with(&rt, rt.alloc(), true, &START, calls, INPUT, &alone)?;
         assert!(rt; cut.status == 3 && cut.fault == Some(FileFault::Failed));
         assert!(rt; cut.written.is_empty());
     }
-    let cut = done_with(&rt, rt.alloc(), true, &START, 8, INPUT, &alone)?;
+    let cut = done_with(&rt, rt.alloc(), true, &START, 5, INPUT, &alone)?;
     assert!(rt; cut.status == 3 && cut.written.is_empty());
     assert!(rt; has_left(&cut, ANEW));
     Ok(())

@@ -1,5 +1,5 @@
-//! Seats on connections of this machine: two-way talk, a connection that is cut within a line, one that is never read, and one
-//! that sends many lines at once.
+//! Seats on connections of this machine: two-way talk, a connection that is cut within a line, one that is never read, one that
+//! sends many lines at once, and one of a browser.
 
 use std::alloc::Global;
 use std::io::{self, Write};
@@ -8,9 +8,9 @@ use std::sync::Wait;
 use std::test::Fail;
 use std::thread;
 use std::thread::Threads;
+use wb_arrays::Crew;
 use wb_lines::{Input, Line, LineBuffer, LineFault, NothingHeld, Output, Sink, next_line};
 use wb_program::{Connections, serve_on};
-use wb_redist::Crew;
 
 const MAKE_X: &[u8] = b"{\"op\":\"domain\",\"d\":\"X\",\"is\":\"{1..1}\"}\n";
 
@@ -30,6 +30,16 @@ const PRINT: &[u8] = b"{\"op\":\"print\"}\n";
 
 // As dear as a whole turn, so that the lines behind it are the first of the next.
 const SUM: &[u8] = b"{\"op\":\"reduce\",\"a\":\"N\",\"how\":\"+\"}\n";
+
+// The first line of a browser, and what follows.
+const POST: &[u8] = b"POST / HTTP/1.1\r\n";
+
+const POSTED: &[u8] =
+    b"Host: 127.0.0.1\r\nContent-Length: 38\r\n\r\n{\"op\":\"domain\",\"d\":\"X\",\"is\":\"{1..1}\"}\n";
+
+const BAD_REQUEST: &[u8] = b"{\"error\":\"E01\",\"name\":\"bad-request\"}";
+
+const NOTHING_DONE: &[u8] = b"settled 0\nchapel-workbook 1\nend\n";
 
 const IS_THERE: &[u8] = b"{\"size\":1}";
 
@@ -237,5 +247,42 @@ fn cut_silent_and_crowded_connections(rt: HostRuntime) -> Result<(), Fail> {
     for first in [First::IsCut, First::NeverReads, First::SendsMany] {
         assert!(rt; ends_well(&rt, rt.alloc(), first)?);
     }
+    Ok(())
+}
+
+// What a browser is told: whether its first line is answered, and the connection ends then, whatever else it sends.
+fn is_turned_away(alloc: Global, stream: TcpStream) -> io::Result<bool> {
+    let mut stream = stream;
+    let mut buffer = LineBuffer::new(alloc);
+    stream.write_all(POST)?;
+    let told = line_from(&mut stream, &mut buffer) == Ok(Line::Whole)
+        && buffer.line() == BAD_REQUEST;
+    let _ = stream.write_all(POSTED);
+    let next = line_from(&mut stream, &mut buffer);
+    Ok(told && (next == Ok(Line::End) || next == Err(LineFault::ReadFault)))
+}
+
+#[test]
+fn browsers_are_turned_away(rt: HostRuntime) -> Result<(), Fail> {
+    let alone = Crew::alone(&rt);
+    let alloc = rt.alloc();
+    let listener = TcpListener::bind(&rt, "127.0.0.1:0")?;
+    let port = listener.local_addr()?.port();
+    let mut output = Vec::new(alloc);
+    let stream = TcpStream::connect(&rt, ("127.0.0.1", port))?;
+    let (status, turned_away) = thread::join(
+        &rt,
+        || serve_on(
+            &rt,
+            alloc,
+            Connections::of(listener),
+            1,
+            &mut Output::new(&mut output),
+            &alone,
+        ),
+        || is_turned_away(alloc, stream),
+    );
+    assert!(rt; status == 0 && turned_away?);
+    assert_eq!(rt; output.as_slice(), NOTHING_DONE);
     Ok(())
 }

@@ -5,12 +5,12 @@ use std::alloc::{AllocError, Global};
 use std::io::{self, Read};
 use std::process::Abort;
 use std::test::Fail;
+use wb_arrays::{Crew, Mover};
 use wb_command::{Asked, FilePath};
-use wb_disk::MemoryFile;
 use wb_keep::START;
+use wb_keep::disk::MemoryFile;
 use wb_lines::{Input, Output};
 use wb_program::{FileFault, OpensFiles, Ports, PutBack, check_with, do_asked, run_kept_with};
-use wb_redist::{Crew, Mover};
 
 // More calls than a session makes here.
 const NEVER: usize = 1000;
@@ -25,7 +25,11 @@ const REPLIES: &[u8] =
 const CHANGES: [usize; 10] = [0, 1, 2, 3, 4, 4, 4, 5, 6, 8];
 
 const JOURNAL: &[u8] =
-    b"chapel-workbook 3\n {\"d\":\"D\",\"is\":\"{1..4}\",\"map\":\"none\",\"op\":\"domain\"}\n {\"a\":\"A\",\"d\":\"D\",\"op\":\"array\"}\n {\"a\":\"A\",\"i\":1,\"op\":\"set\",\"v\":5}\n {\"a\":\"A\",\"b\":\"A\",\"c\":1,\"i\":2,\"j\":1,\"op\":\"copy\"}\n {\"k\":4,\"op\":\"undo\"}\n {\"k\":4,\"op\":\"redo\"}\n {\"k\":4,\"op\":\"undo\"}\n {\"k\":3,\"op\":\"undo\"}\n#";
+    b"chapel-workbook 3\n {\"d\":\"D\",\"is\":\"{1..4}\",\"map\":\"none\",\"op\":\"domain\"}\n {\"a\":\"A\",\"d\":\"D\",\"op\":\"array\"}\n {\"a\":\"A\",\"i\":1,\"op\":\"set\",\"v\":5}\n {\"a\":\"A\",\"b\":\"A\",\"c\":1,\"i\":2,\"j\":1,\"op\":\"copy\"}\n {\"k\":4,\"op\":\"undo\"}\n {\"k\":4,\"op\":\"redo\"}\n+{\"k\":4,\"op\":\"undo\"}\n {\"k\":3,\"op\":\"undo\"}\n#";
+
+// The same where all lines lie ahead, and their changes are one batch.
+const JOURNAL_AT_ONCE: &[u8] =
+    b"chapel-workbook 3\n+{\"d\":\"D\",\"is\":\"{1..4}\",\"map\":\"none\",\"op\":\"domain\"}\n+{\"a\":\"A\",\"d\":\"D\",\"op\":\"array\"}\n+{\"a\":\"A\",\"i\":1,\"op\":\"set\",\"v\":5}\n+{\"a\":\"A\",\"b\":\"A\",\"c\":1,\"i\":2,\"j\":1,\"op\":\"copy\"}\n+{\"k\":4,\"op\":\"undo\"}\n+{\"k\":4,\"op\":\"redo\"}\n+{\"k\":4,\"op\":\"undo\"}\n {\"k\":3,\"op\":\"undo\"}\n#";
 
 const MORE: &[u8] = b"{\"op\":\"get\",\"a\":\"A\",\"i\":1}\n{\"op\":\"redo\",\"k\":3}\n";
 
@@ -153,23 +157,23 @@ fn stands<M: Mover>(rt: &impl Abort, alloc: Global, cut: &Outcome, mover: &M) ->
     Ok(())
 }
 
-// After how many bytes a call is cut off. Calls come in fours: to write lines, to sync, to write the mark, to sync; to open a file
-// takes the first four.
+// After how many bytes a call is cut off. To open a file takes the first three: to cut, to write, to sync. Then they come in twos: to
+// write, to sync.
 fn most_torn(call: usize) -> usize {
-    if call % 4 == 0 { 60 } else { 2 }
+    if call % 2 == 1 { 60 } else { 2 }
 }
 
 #[test]
 fn a_session_is_cut_off_in_each_call(rt: HostRuntime) -> Result<(), Fail> {
     let alone = Crew::alone(&rt);
-    for call in 0..34 {
+    for call in 0..19 {
         for torn in 0..most_torn(call) {
             let cut = session(rt.alloc(), &START, LINES, call, torn, &alone)?;
-            // (Seven lines make changes, and thirty-two calls are all that are made.)
-            assert!(rt; cut.status == if call < 32 { 3 } else { 0 });
+            // (Seven lines make changes, and seventeen calls are all that are made.)
+            assert!(rt; cut.status == if call < 17 { 3 } else { 0 });
             assert!(rt;
                 cut.fault
-                    == if call < 32 {
+                    == if call < 17 {
                         Some(FileFault::Failed)
                     } else {
                         None
@@ -292,7 +296,7 @@ impl OneFile {
 
 impl OpensFiles<MemoryFile> for OneFile {
     ghost use Rattle.std.specs.Prelude.{◌≡◌, Some};
-    ghost use Rattle.wb_disk.specs.Calls.{IsHeld};
+    ghost use Rattle.wb_keep.specs.Disk.Calls.{IsHeld};
 
     ghost came = { λ s path file held. IsHeld held file.calls };
 
@@ -353,7 +357,9 @@ fn a_command_line_keeps_a_journal_at_its_path(rt: HostRuntime) -> Result<(), Fai
         assert_eq!(rt; output.as_slice(), written);
         assert_eq!(rt; files.told.is_some(), ended == 3);
         assert_eq!(rt;
-            files.file.is_some_and(|file| file.bytes() == JOURNAL),
+            files
+                .file
+                .is_some_and(|file| file.bytes() == JOURNAL_AT_ONCE),
             ended == 0
         );
     }

@@ -7,11 +7,11 @@ use std::io::{self, ErrorKind, Read, Write};
 use std::sync::{Mutex, Wait};
 use std::test::Fail;
 use std::thread::{SpawnError, Threads};
-use wb_disk::MemoryFile;
+use wb_arrays::{Crew, Mover};
 use wb_keep::START;
+use wb_keep::disk::MemoryFile;
 use wb_lines::{Input, Output};
 use wb_program::{AcceptErr, Accepts, Binds, FileFault, KeptRun, host_kept_with};
-use wb_redist::{Crew, Mover};
 
 // More calls than a day makes here.
 const NEVER: usize = 1000;
@@ -237,12 +237,12 @@ fn a_day_is_kept_and_gone_on_with(rt: HostRuntime) -> Result<(), Fail> {
     Ok(())
 }
 
-// To open the file takes four calls, as does each of the three turns that change something. What was replied is in the file, and
+// To open the file takes three calls, and each of the three turns that change something two. What was replied is in the file, and
 // nothing was printed.
 #[test]
 fn a_file_fails_in_a_call(rt: HostRuntime) -> Result<(), Fail> {
     let alone = Crew::alone(&rt);
-    for call in 4..16usize {
+    for call in 3..9usize {
         let cut = served_day(&rt, rt.alloc(), &START, [LINES, b""], call, &alone)?;
         assert!(rt; cut.status == 3 && cut.fault == Some(FileFault::Failed));
         assert_eq!(rt;
@@ -251,7 +251,7 @@ fn a_file_fails_in_a_call(rt: HostRuntime) -> Result<(), Fail> {
         );
         assert!(rt; REPLIES.starts_with(&cut.one));
         let told = cut.one.iter().filter(|byte| **byte == b'\n').count();
-        assert_eq!(rt; told, call / 4 - 1);
+        assert_eq!(rt; told, (call - 3) / 2);
         let again = served_day(&rt, rt.alloc(), &cut.left, [b"", b""], NEVER, &alone)?;
         assert!(rt; again.status == 0);
         let fewer = FRONTS.get(told).ok_or("so many changes")?;

@@ -2,8 +2,8 @@
 
 use std::process::Abort;
 use std::test::Fail;
-use wb_book::{AnyCell, AnyIndex, Cell, CellChange, Changes, Index, Name, Pattern, Point};
-use wb_foot::FootIndex;
+use wb_cells::{AnyCell, AnyIndex, Cell, CellChange, Changes, Index, Name, Pattern, Point};
+use wb_footprints::FootIndex;
 
 fn element(array: Name, i: i64) -> Cell {
     Cell::Element(array, AnyIndex::new(Index::Point(Point::single(i))))

@@ -6,10 +6,10 @@ use std::alloc::Global;
 use std::io::{self, BufWriter};
 use std::process::Abort;
 use std::test::Fail;
+use wb_arrays::{Crew, Mover};
 use wb_lines::{
     Input, Line, LineBuffer, LineFault, NothingHeld, Output, SessionEnd, Sink, next_line, read_all,
 };
-use wb_redist::{Crew, Mover};
 
 const LINES: &[u8] =
     b"{\"op\":\"domain\",\"d\":\"D\",\"is\":\"{1..4}\"}\n{\"op\":\"array\",\"a\":\"A\",\"d\":\"D\"}\n{\"op\":\"set\",\"a\":\"A\",\"i\":4,\"v\":9}\n{\"op\":\"undo\"}\n{\"op\":\"get\",\"a\":\"A\",\"i\":4}\n";

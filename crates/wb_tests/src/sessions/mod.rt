@@ -1,4 +1,4 @@
-//! The index of footprints, worked histories, lines of requests and sessions: the crates from `wb_book` to `wb_record`.
+//! The index of footprints, worked histories, lines of requests and sessions: the crates from `wb_cells` to `wb_protocol`.
 
 pub mod devices;
 mod footprints;

@@ -5,11 +5,11 @@ use crate::index_sets::movers::Threadless;
 use crate::sessions::scripts::play;
 use std::marker::PhantomData;
 use std::test::Fail;
-use wb_book::Name;
-use wb_proto::below::history::History;
-use wb_proto::below::shelf::Book;
+use wb_arrays::Crew;
+use wb_book::Book;
+use wb_cells::Name;
+use wb_history::History;
 use wb_range::NoMemory;
-use wb_redist::Crew;
 
 const MADE: &str = r#"
 {"op":"domain","d":"D","is":"{0..5}","map":"blockDist({0..5}, [2])"} -> {"edit":1,"n":3}

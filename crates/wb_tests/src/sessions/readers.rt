@@ -3,11 +3,11 @@
 use crate::sessions::scripts::play;
 use std::process::Abort;
 use std::test::Fail;
-use wb_assoc::Label;
-use wb_book::{AnyIndex, Index, Name, Point};
-use wb_proto::below::history::History;
-use wb_proto::below::shelf::Book;
-use wb_redist::Crew;
+use wb_arrays::Crew;
+use wb_book::Book;
+use wb_cells::{AnyIndex, Index, Name, Point};
+use wb_history::History;
+use wb_sets::Label;
 
 // A rectangle that runs downward, a sparse domain in it, two arrays over the rectangle and one over the sparse domain; and
 // labels, whose array is dropped again.

@@ -2,10 +2,10 @@
 
 use std::alloc::Global;
 use std::test::Fail;
-use wb_book::Name;
-use wb_proto::below::edit::Edit;
-use wb_proto::below::history::{History, RestoreErr};
-use wb_redist::{Crew, Mover};
+use wb_arrays::{Crew, Mover};
+use wb_cells::Name;
+use wb_edit::Edit;
+use wb_history::{History, RestoreErr};
 
 // The history of an array without its domain.
 fn of_an_array_alone<M: Mover>(

@@ -2,8 +2,8 @@
 
 use crate::sessions::scripts::play;
 use std::test::Fail;
-use wb_proto::below::history::History;
-use wb_redist::Crew;
+use wb_arrays::Crew;
+use wb_history::History;
 
 // A request with its reply, and how many cells were set then.
 const ROWS: [(&str, u128); 10] = [

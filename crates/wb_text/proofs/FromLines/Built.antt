@@ -2,8 +2,8 @@
 use Rattle.std.proofs.Common.{◌≡◌, Bool, true, false, cond, List, [], ◌∷◌, Option, Some, None, is_some, refl, ap, ◌∙◌}
 use Rattle.std.specs.Cmp.{Equal-is}
 use Rattle.std.specs.FinMap.{get, empty, get-empty}
-use Rattle.wb_book.specs.declared.cells.cell.Cell.{Cell}
-use Rattle.wb_book.specs.Cells.{Cells, cell_cmp, cell_order, is_same_name, same_names}
+use Rattle.wb_cells.specs.declared.cells.cell.Cell.{Cell}
+use Rattle.wb_cells.specs.Cells.{Cells, cell_cmp, cell_order, is_same_name, same_names}
 use Rattle.wb_text.specs.Said.{Line, name_of, first_line_of}
 use Rattle.wb_text.specs.FromLines.Inserted.{inserted, or_else, last_of}
 use Rattle.wb_text.specs.FromLines.Told.{owner, cells_of, cells_put, are_distinct, told_by, told}

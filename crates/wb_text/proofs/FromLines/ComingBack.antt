@@ -3,8 +3,8 @@ use Rattle.std.proofs.Common.{◌≡◌, true, false, List, sym, ap, ◌∙◌}
 use Rattle.std.specs.FinMap.{get, empty}
 use Rattle.std.specs.List.{AllByRecursion, list_all}
 use Rattle.selective_undo.proofs.Changes.{same_states}
-use Rattle.wb_book.specs.Cells.{Cells, cell_order}
-use Rattle.wb_book.specs.WellFormed.{IsWellFormed}
+use Rattle.wb_cells.specs.Cells.{Cells, cell_order}
+use Rattle.wb_cells.specs.WellFormed.{IsWellFormed}
 use Rattle.wb_text.specs.Said.{Line, said}
 use Rattle.wb_text.specs.FromLines.Made.{IsMade}
 use Rattle.wb_text.specs.FromLines.Told.{is_sound, are_distinct, cells_put, told}

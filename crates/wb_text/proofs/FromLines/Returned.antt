@@ -5,23 +5,23 @@ use Rattle.std.specs.Cmp.{Equal-is}
 use Rattle.std.specs.FinMap.{get}
 use Rattle.std.specs.List.{filter_map, cons_option, zip}
 use Rattle.wb_dist.specs.Maps.{whole}
-use Rattle.wb_book.specs.declared.cells.cell.Cell.{Cell}
-use Rattle.wb_book.specs.declared.cells.cell.Cell.TheVariants.{Object, Shape, In, Member, Mapping, Use, Implicit, Element}
-use Rattle.wb_book.specs.declared.cells.kind.DomainKind.{DomainKind}
-use Rattle.wb_book.specs.declared.cells.kind.DomainKind.TheVariants as domains
-use Rattle.wb_book.specs.declared.cells.kind.Kind.{Kind}
-use Rattle.wb_book.specs.declared.cells.kind.Kind.TheVariants.{Rectangular, Sparse, Associative}
-use Rattle.wb_book.specs.declared.cells.value.Binding.TheVariants as bindings
-use Rattle.wb_book.specs.declared.cells.value.Value.{Value}
-use Rattle.wb_book.specs.declared.cells.value.Value.TheVariants as values
-use Rattle.wb_book.specs.declared.values.index.Index.{Index}
-use Rattle.wb_book.specs.Cells.{Name, Cells, index_cmp, index_cmp-IsAntisymmetric, is_same_name, is_same_index}
-use Rattle.wb_book.specs.Kinds.{kind_of}
-use Rattle.wb_book.specs.Locales.{mapping_in}
-use Rattle.wb_book.specs.Readers.{indices_at}
-use Rattle.wb_book.specs.Shapes.{Range, indices}
-use Rattle.wb_book.specs.WellFormed.{IsWellFormed, IsShape, HasMapping, IsMember, MayHave, IsImplicit, IsElement, domain_in, domain_at, array_in, ranges_in}
-use Rattle.wb_book.specs.WellFormed.{inside_of, use_of, has, present_if, is_index_of_array}
+use Rattle.wb_cells.specs.declared.cells.cell.Cell.{Cell}
+use Rattle.wb_cells.specs.declared.cells.cell.Cell.TheVariants.{Object, Shape, In, Member, Mapping, Use, Implicit, Element}
+use Rattle.wb_cells.specs.declared.cells.kind.DomainKind.{DomainKind}
+use Rattle.wb_cells.specs.declared.cells.kind.DomainKind.TheVariants as domains
+use Rattle.wb_cells.specs.declared.cells.kind.Kind.{Kind}
+use Rattle.wb_cells.specs.declared.cells.kind.Kind.TheVariants.{Rectangular, Sparse, Associative}
+use Rattle.wb_cells.specs.declared.cells.value.Binding.TheVariants as bindings
+use Rattle.wb_cells.specs.declared.cells.value.Value.{Value}
+use Rattle.wb_cells.specs.declared.cells.value.Value.TheVariants as values
+use Rattle.wb_cells.specs.declared.values.index.Index.{Index}
+use Rattle.wb_cells.specs.Cells.{Name, Cells, index_cmp, index_cmp-IsAntisymmetric, is_same_name, is_same_index}
+use Rattle.wb_cells.specs.Kinds.{kind_of}
+use Rattle.wb_cells.specs.Locales.{mapping_in}
+use Rattle.wb_cells.specs.Readers.{indices_at}
+use Rattle.wb_cells.specs.Shapes.{Range, indices}
+use Rattle.wb_cells.specs.WellFormed.{IsWellFormed, IsShape, HasMapping, IsMember, MayHave, IsImplicit, IsElement, domain_in, domain_at, array_in, ranges_in}
+use Rattle.wb_cells.specs.WellFormed.{inside_of, use_of, has, present_if, is_index_of_array}
 use Rattle.wb_text.specs.Lines.{indices_in, number_in, element_at, elements_at, implicit_in}
 use Rattle.wb_text.specs.Said.{Line, first_line_of, domain_said, said_in, said}
 use Rattle.wb_text.proofs.LineOfName.{line_of_name}

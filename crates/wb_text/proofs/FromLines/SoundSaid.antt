@@ -10,23 +10,23 @@ use Rattle.std.specs.Ordering.{is_eq, nat_cmp}
 use Rattle.std.specs.declared.cmp.Ordering.TheVariants.{Less}
 use Rattle.wb_dist.specs.Grid.{are_positive, is_grid}
 use Rattle.wb_dist.specs.Maps.{LayoutMap, whole, block, cyclic, block_cyclic, is_rank, is_box, is_layout}
-use Rattle.wb_book.specs.declared.cells.cell.Cell.TheVariants.{Object, In, Member, Mapping}
-use Rattle.wb_book.specs.declared.cells.kind.DomainKind.{DomainKind}
-use Rattle.wb_book.specs.declared.cells.kind.DomainKind.TheVariants as domains
-use Rattle.wb_book.specs.declared.cells.kind.KeyType.{KeyType}
-use Rattle.wb_book.specs.declared.cells.kind.Kind.{Kind}
-use Rattle.wb_book.specs.declared.cells.kind.Kind.TheVariants.{Associative}
-use Rattle.wb_book.specs.declared.cells.value.Value.{Value}
-use Rattle.wb_book.specs.declared.cells.value.Value.TheVariants as values
-use Rattle.wb_book.specs.declared.values.index.Index.{Index}
-use Rattle.wb_book.specs.Cells.{Name, Cells}
-use Rattle.wb_book.specs.Kinds.{is_key}
-use Rattle.wb_book.specs.Layouts.{is_of_rank}
-use Rattle.wb_book.specs.Locales.{mapping_in}
-use Rattle.wb_book.specs.Readers.{objects}
-use Rattle.wb_book.specs.Shapes.{indices}
-use Rattle.wb_book.specs.WellFormed.{IsWellFormed, HasMapping, MayHave, domain_at, domain_in, ranges_in, inside_of, has}
-use Rattle.wb_book.specs.declared.cells.value.Value.TheVariants.{Present}
+use Rattle.wb_cells.specs.declared.cells.cell.Cell.TheVariants.{Object, In, Member, Mapping}
+use Rattle.wb_cells.specs.declared.cells.kind.DomainKind.{DomainKind}
+use Rattle.wb_cells.specs.declared.cells.kind.DomainKind.TheVariants as domains
+use Rattle.wb_cells.specs.declared.cells.kind.KeyType.{KeyType}
+use Rattle.wb_cells.specs.declared.cells.kind.Kind.{Kind}
+use Rattle.wb_cells.specs.declared.cells.kind.Kind.TheVariants.{Associative}
+use Rattle.wb_cells.specs.declared.cells.value.Value.{Value}
+use Rattle.wb_cells.specs.declared.cells.value.Value.TheVariants as values
+use Rattle.wb_cells.specs.declared.values.index.Index.{Index}
+use Rattle.wb_cells.specs.Cells.{Name, Cells}
+use Rattle.wb_cells.specs.Kinds.{is_key}
+use Rattle.wb_cells.specs.Layouts.{is_of_rank}
+use Rattle.wb_cells.specs.Locales.{mapping_in}
+use Rattle.wb_cells.specs.Readers.{objects}
+use Rattle.wb_cells.specs.Shapes.{indices}
+use Rattle.wb_cells.specs.WellFormed.{IsWellFormed, HasMapping, MayHave, domain_at, domain_in, ranges_in, inside_of, has}
+use Rattle.wb_cells.specs.declared.cells.value.Value.TheVariants.{Present}
 use Rattle.wb_text.specs.Lines.{members, indices_in, element_at, elements_at}
 use Rattle.wb_text.specs.Said.{Line, name_of, first_line_of, said_in, said_of, said}
 use Rattle.wb_text.proofs.MembersWritten.{has_members, members_each, present_known}

@@ -9,7 +9,7 @@ use Rattle.std.specs.Cmp.{eq_by_cmp_equiv}
 use Rattle.std.specs.Cmp.Lexicographic.{slice_cmp, nat_list_cmp_total}
 use Rattle.std.specs.List.{AllByRecursion, list_all}
 use Rattle.std.specs.Ordering.{nat_cmp}
-use Rattle.wb_book.specs.Cells.{Name, is_same_name}
+use Rattle.wb_cells.specs.Cells.{Name, is_same_name}
 use Rattle.wb_text.specs.Said.{Line, name_of, first_line_of, line_of}
 use Rattle.wb_text.specs.declared.said.ObjectLine.{ObjectLine}
 use Rattle.wb_text.specs.FromLines.Found.{Finds}

@@ -8,23 +8,23 @@ use Rattle.std.specs.Cmp.{Equal-is}
 use Rattle.std.specs.FinMap.{get}
 use Rattle.std.specs.List.{AllByRecursion, list_all, zip}
 use Rattle.wb_dist.specs.Maps.{LayoutMap, whole, block, cyclic, block_cyclic, is_rank}
-use Rattle.wb_book.specs.declared.cells.cell.Cell.{Cell}
-use Rattle.wb_book.specs.declared.cells.cell.Cell.TheVariants.{Object, Shape, In, Member, Mapping, Use, Implicit, Element}
-use Rattle.wb_book.specs.declared.cells.kind.DomainKind.{DomainKind}
-use Rattle.wb_book.specs.declared.cells.kind.DomainKind.TheVariants as domains
-use Rattle.wb_book.specs.declared.cells.kind.Kind.{Kind}
-use Rattle.wb_book.specs.declared.cells.kind.Kind.TheVariants.{Rectangular, Sparse, Associative}
-use Rattle.wb_book.specs.declared.cells.value.Value.{Value}
-use Rattle.wb_book.specs.declared.cells.value.Value.TheVariants as values
-use Rattle.wb_book.specs.declared.cells.value.Binding.TheVariants as bindings
-use Rattle.wb_book.specs.declared.values.index.Index.{Index}
-use Rattle.wb_book.specs.Cells.{Name, Cells, index_cmp, index_cmp-IsAntisymmetric, is_same_name, is_same_index, same_names}
-use Rattle.wb_book.specs.Kinds.{kind_of, is_key, IsIndex}
-use Rattle.wb_book.specs.Layouts.{is_of_rank, IsMapping, IsLayout}
-use Rattle.wb_book.specs.Names.{is_name}
-use Rattle.wb_book.specs.Shapes.{indices}
-use Rattle.wb_book.specs.WellFormed.{IsWellFormed, IsObject, IsShape, HasMapping, IsMember, MayHave, IsImplicit, IsElement, domain_in, array_in, ranges_in}
-use Rattle.wb_book.specs.WellFormed.{inside_of, use_of, has, present_if, index_cell, is_index_of_array}
+use Rattle.wb_cells.specs.declared.cells.cell.Cell.{Cell}
+use Rattle.wb_cells.specs.declared.cells.cell.Cell.TheVariants.{Object, Shape, In, Member, Mapping, Use, Implicit, Element}
+use Rattle.wb_cells.specs.declared.cells.kind.DomainKind.{DomainKind}
+use Rattle.wb_cells.specs.declared.cells.kind.DomainKind.TheVariants as domains
+use Rattle.wb_cells.specs.declared.cells.kind.Kind.{Kind}
+use Rattle.wb_cells.specs.declared.cells.kind.Kind.TheVariants.{Rectangular, Sparse, Associative}
+use Rattle.wb_cells.specs.declared.cells.value.Value.{Value}
+use Rattle.wb_cells.specs.declared.cells.value.Value.TheVariants as values
+use Rattle.wb_cells.specs.declared.cells.value.Binding.TheVariants as bindings
+use Rattle.wb_cells.specs.declared.values.index.Index.{Index}
+use Rattle.wb_cells.specs.Cells.{Name, Cells, index_cmp, index_cmp-IsAntisymmetric, is_same_name, is_same_index, same_names}
+use Rattle.wb_cells.specs.Kinds.{kind_of, is_key, IsIndex}
+use Rattle.wb_cells.specs.Layouts.{is_of_rank, IsMapping, IsLayout}
+use Rattle.wb_cells.specs.Names.{is_name}
+use Rattle.wb_cells.specs.Shapes.{indices}
+use Rattle.wb_cells.specs.WellFormed.{IsWellFormed, IsObject, IsShape, HasMapping, IsMember, MayHave, IsImplicit, IsElement, domain_in, array_in, ranges_in}
+use Rattle.wb_cells.specs.WellFormed.{inside_of, use_of, has, present_if, index_cell, is_index_of_array}
 use Rattle.wb_text.specs.Said.{Line, rectangular, sparse, associative, array, name_of, first_line_of}
 use Rattle.wb_text.proofs.Readable.{both}
 use Rattle.wb_text.proofs.ReadIndices.{some_same}

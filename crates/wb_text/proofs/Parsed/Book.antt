@@ -1,7 +1,7 @@
 -- The lines of each workbook's text are read.
 use Rattle.std.proofs.Common.{◌≡◌, Some, ap, ◌∙◌}
-use Rattle.wb_book.specs.Cells.{Cells}
-use Rattle.wb_book.specs.WellFormed.{IsWellFormed}
+use Rattle.wb_cells.specs.Cells.{Cells}
+use Rattle.wb_cells.specs.WellFormed.{IsWellFormed}
 use Rattle.wb_text.specs.Lines.{book_text}
 use Rattle.wb_text.specs.Said.{said}
 use Rattle.wb_text.proofs.BookLines.{text_of_lines}

@@ -5,24 +5,24 @@ use Rattle.std.specs.FinMap.{get}
 use Rattle.std.specs.List.{cons_option, filter_map}
 use Rattle.wb_rect.specs.Product.{IsRectangle}
 use Rattle.wb_dist.specs.Maps.{whole}
-use Rattle.wb_book.specs.declared.cells.cell.Cell.TheVariants.{Object, Shape, In, Member, Mapping}
-use Rattle.wb_book.specs.declared.cells.kind.DomainKind.{DomainKind}
-use Rattle.wb_book.specs.declared.cells.kind.DomainKind.TheVariants.{Rectangular, Sparse, Associative}
-use Rattle.wb_book.specs.declared.cells.kind.KeyType.{KeyType}
-use Rattle.wb_book.specs.declared.cells.kind.KeyType.TheVariants as types
-use Rattle.wb_book.specs.declared.cells.kind.Kind.TheVariants as kinds
-use Rattle.wb_book.specs.declared.cells.value.Value.{Value}
-use Rattle.wb_book.specs.declared.cells.value.Value.TheVariants as values
-use Rattle.wb_book.specs.declared.values.index.Index.{Index}
-use Rattle.wb_book.specs.declared.values.index.Index.TheVariants.{Point, Text}
-use Rattle.wb_book.specs.Cells.{Name, Cells}
-use Rattle.wb_book.specs.Kinds.{is_point, is_key, IsIndex}
-use Rattle.wb_book.specs.Layouts.{IsMapping}
-use Rattle.wb_book.specs.Locales.{mapping_in}
-use Rattle.wb_book.specs.Readers.{objects}
-use Rattle.wb_book.specs.Shapes.{indices}
-use Rattle.wb_book.specs.WellFormed.{IsWellFormed, IsShape, HasMapping, IsMember, MayHave, domain_at, domain_in, has, inside_of, present_if, ranges_in}
-use Rattle.wb_book.proofs.Inside.{has_no_text, has_none_of_other_rank}
+use Rattle.wb_cells.specs.declared.cells.cell.Cell.TheVariants.{Object, Shape, In, Member, Mapping}
+use Rattle.wb_cells.specs.declared.cells.kind.DomainKind.{DomainKind}
+use Rattle.wb_cells.specs.declared.cells.kind.DomainKind.TheVariants.{Rectangular, Sparse, Associative}
+use Rattle.wb_cells.specs.declared.cells.kind.KeyType.{KeyType}
+use Rattle.wb_cells.specs.declared.cells.kind.KeyType.TheVariants as types
+use Rattle.wb_cells.specs.declared.cells.kind.Kind.TheVariants as kinds
+use Rattle.wb_cells.specs.declared.cells.value.Value.{Value}
+use Rattle.wb_cells.specs.declared.cells.value.Value.TheVariants as values
+use Rattle.wb_cells.specs.declared.values.index.Index.{Index}
+use Rattle.wb_cells.specs.declared.values.index.Index.TheVariants.{Point, Text}
+use Rattle.wb_cells.specs.Cells.{Name, Cells}
+use Rattle.wb_cells.specs.Kinds.{is_point, is_key, IsIndex}
+use Rattle.wb_cells.specs.Layouts.{IsMapping}
+use Rattle.wb_cells.specs.Locales.{mapping_in}
+use Rattle.wb_cells.specs.Readers.{objects}
+use Rattle.wb_cells.specs.Shapes.{indices}
+use Rattle.wb_cells.specs.WellFormed.{IsWellFormed, IsShape, HasMapping, IsMember, MayHave, domain_at, domain_in, has, inside_of, present_if, ranges_in}
+use Rattle.wb_cells.proofs.Inside.{has_no_text, has_none_of_other_rank}
 use Rattle.wb_text.specs.Lines.{members}
 use Rattle.wb_text.specs.Said.{Line, domain_said, said_in, said_of, said}
 use Rattle.wb_text.proofs.MembersWritten.{members_each, sparse_members, associative_members}

@@ -8,7 +8,7 @@ use Rattle.std.proofs.lemmas.Str.{utf8_valid_len-IsUtf8, IsUtf8-from_ascii}
 use Rattle.std.proofs.lemmas.Str.Ascii.{IsAscii-nil, IsAscii-cons}
 use Rattle.std.specs.List.{list_all, position_or_len}
 use Rattle.std.specs.Str.{IsUtf8, IsAscii}
-use Rattle.wb_book.specs.Names.{is_name, is_name_part, is_letter}
+use Rattle.wb_cells.specs.Names.{is_name, is_name_part, is_letter}
 use Rattle.wb_text.proofs.Readable.{Each, both}
 use Rattle.wb_text.proofs.ReadIndices.{name_parts}
 use Rattle.wb_text.specs.Parsed.Parts.{is_space, is_named, name_of, name_up_to, name_at}

@@ -4,7 +4,7 @@ use Rattle.std.specs.BTreeMap.{BTreeMap}
 use Rattle.std.specs.BTreeMap as tree
 use Rattle.std.specs.Cmp.Lexicographic.{slice_cmp}
 use Rattle.std.specs.Ordering.{nat_cmp}
-use Rattle.wb_book.specs.Cells.{Name}
+use Rattle.wb_cells.specs.Cells.{Name}
 use Rattle.wb_text.specs.Said.{Line, first_line_of}
 
 -- by its place, the first line of each name among some of the lines is found, and a name of none of them has no place

@@ -3,9 +3,9 @@ use Rattle.std.specs.Prelude.{◌≡◌, true, length, FitsSigned, IfSome}
 use Rattle.std.specs.Int.{w64}
 use Rattle.std.specs.List.{All}
 use Rattle.wb_rect.specs.Product.{IsRectangle}
-use Rattle.wb_book.specs.Kinds.{IsIndex}
-use Rattle.wb_book.specs.Layouts.{IsLayout}
-use Rattle.wb_book.specs.Names.{is_name}
+use Rattle.wb_cells.specs.Kinds.{IsIndex}
+use Rattle.wb_cells.specs.Layouts.{IsLayout}
+use Rattle.wb_cells.specs.Names.{is_name}
 use Rattle.wb_text.specs.Said.{Line, rectangular, sparse, associative, array}
 
 abbrev pub IsMade : Line → Type 0

@@ -1,7 +1,7 @@
 -- The law of a workbook's lines: a well-formed workbook comes back from them.
 use Rattle.std.specs.Prelude.{◌≡◌, List, map, Option, Some, option_map}
-use Rattle.wb_book.specs.Cells.{Cells, Contents}
-use Rattle.wb_book.specs.WellFormed.{IsWellFormed}
+use Rattle.wb_cells.specs.Cells.{Cells, Contents}
+use Rattle.wb_cells.specs.WellFormed.{IsWellFormed}
 use Rattle.wb_text.specs.declared.said.ObjectLine.{ObjectLine}
 use Rattle.wb_text.specs.Said.{line_of, said}
 

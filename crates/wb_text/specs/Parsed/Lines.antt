@@ -1,9 +1,9 @@
 -- What the lines of a text say, read from its front.
 use Rattle.std.specs.Prelude.{◌≡◌, ℕ, zero, suc, List, [], ◌∷◌, length, codes, bytes_eq, Bool, Option, Some, None, option_map, option_and_then, if◌then◌else◌}
 use Rattle.std.specs.Option.{option_map_or}
-use Rattle.wb_book.specs.Cells.{Cells}
-use Rattle.wb_book.specs.WellFormed.{IsWellFormed}
-use Rattle.wb_literal.specs.Tokens.{after}
+use Rattle.wb_cells.specs.Cells.{Cells}
+use Rattle.wb_cells.specs.WellFormed.{IsWellFormed}
+use Rattle.wb_literals.specs.Tokens.{after}
 use Rattle.wb_text.specs.Lines.{book_text}
 use Rattle.wb_text.specs.Said.{Line, rectangular, sparse, associative, array, said}
 use Rattle.wb_text.specs.Parsed.Parts.{◌>>=◌, name_at, names_at, typed_at, ranges_at, layout_at, members_at, elements_at, implicit_at}

@@ -5,20 +5,20 @@ use Rattle.std.specs.Option.{option_map_or}
 use Rattle.std.specs.Result.{result_ok}
 use Rattle.std.specs.Str.Lossy.{utf8_valid_len}
 use Rattle.wb_dist.specs.Maps.{LayoutMap}
-use Rattle.wb_book.specs.declared.cells.kind.KeyType.{KeyType}
-use Rattle.wb_book.specs.declared.cells.kind.KeyType.TheVariants.{Int, Text}
-use Rattle.wb_book.specs.declared.values.index.Index.{Index}
-use Rattle.wb_book.specs.Cells.{Name}
-use Rattle.wb_book.specs.Names.{is_name}
-use Rattle.wb_book.specs.Shapes.{Range}
-use Rattle.wb_literal.specs.Integer.{integer_at}
-use Rattle.wb_literal.specs.Integers.{integers_at}
-use Rattle.wb_literal.specs.Mapping.{mapping_at}
-use Rattle.wb_literal.specs.Rectangle.{rectangle_at}
-use Rattle.wb_literal.specs.Set.{set_at}
-use Rattle.wb_literal.specs.Tokens.{after}
-use Rattle.wb_limits.specs.Literals.{domain_within, listed_in}
-use Rattle.wb_limits.specs.Mappings.{mapping_within}
+use Rattle.wb_cells.specs.declared.cells.kind.KeyType.{KeyType}
+use Rattle.wb_cells.specs.declared.cells.kind.KeyType.TheVariants.{Int, Text}
+use Rattle.wb_cells.specs.declared.values.index.Index.{Index}
+use Rattle.wb_cells.specs.Cells.{Name}
+use Rattle.wb_cells.specs.Names.{is_name}
+use Rattle.wb_cells.specs.Shapes.{Range}
+use Rattle.wb_literals.specs.Integer.{integer_at}
+use Rattle.wb_literals.specs.Integers.{integers_at}
+use Rattle.wb_literals.specs.Mapping.{mapping_at}
+use Rattle.wb_literals.specs.Rectangle.{rectangle_at}
+use Rattle.wb_literals.specs.Set.{set_at}
+use Rattle.wb_literals.specs.Tokens.{after}
+use Rattle.wb_literals.specs.Limits.Literals.{domain_within, listed_in}
+use Rattle.wb_literals.specs.Limits.Mappings.{mapping_within}
 
 -- "by o, get x, and go on", where there is one
 infixr 10 ◌>>=◌

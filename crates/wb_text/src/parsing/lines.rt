@@ -8,7 +8,7 @@ use crate::parsing::parts::{
     elements_at, implicit_at, layout_at, members_at, name_at, names_at, ranges_at, typed_at,
 };
 use std::alloc::{AllocError, Global};
-use wb_literal::after;
+use wb_literals::after;
 
 // A rectangular domain: its name, its ranges and its mapping.
 fn rectangular_at(bytes: &[u8]) -> Option<(ObjectLine, &[u8])>

@@ -4,9 +4,9 @@ ghost use Rattle.wb_text.specs.Parsed.Parts.{is_space, name_of, name_up_to, name
 ghost use Rattle.wb_text.specs.Parsed.Parts.{elements_at, last_integer_at, implicit_at};
 
 use std::alloc::{AllocError, Global};
-use wb_book::{AnyIndex, AnyLayout, AnyRect, KeyType, Name};
-use wb_limits::{domain_within, listed_in, mapping_within};
-use wb_literal::{after, integer_at, integers_at, mapping_at, rectangle_at, set_at};
+use wb_cells::{AnyIndex, AnyLayout, AnyRect, KeyType, Name};
+use wb_literals::limits::{domain_within, listed_in, mapping_within};
+use wb_literals::{after, integer_at, integers_at, mapping_at, rectangle_at, set_at};
 
 // The place of the first space.
 fn space_in(bytes: &[u8]) -> Option<usize>

@@ -6,7 +6,7 @@ ghost use Rattle.wb_text.specs.Parsed.Lines.{book_of, ReadsLines};
 use crate::ObjectLine;
 use crate::parsing::lines::lines_of;
 use std::alloc::{AllocError, Global};
-use wb_literal::after;
+use wb_literals::after;
 
 // The lines behind the first one.
 fn book_of(alloc: Global, bytes: &[u8]) -> Result<Option<Vec<ObjectLine>>, AllocError>

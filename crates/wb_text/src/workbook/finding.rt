@@ -8,7 +8,7 @@ ghost use Rattle.wb_text.specs.FromLines.Told.{are_distinct};
 use crate::ObjectLine;
 use std::alloc::Global;
 use std::collections::BTreeMap;
-use wb_book::Name;
+use wb_cells::Name;
 use wb_range::NoMemory;
 
 // The name of the object that a line tells of.
@@ -44,7 +44,7 @@ pub fn places_of(
 }
 
 /// The line of a name.
-pub(crate) fn find<'a>(
+pub fn find<'a>(
     lines: &'a [ObjectLine],
     places: &BTreeMap<Name, usize>,
     name: &Name,

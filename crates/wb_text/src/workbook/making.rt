@@ -3,10 +3,10 @@ ghost use Rattle.wb_text.specs.Said.{line_of};
 ghost use Rattle.wb_text.specs.FromLines.Made.{IsMade};
 
 use crate::ObjectLine;
-use wb_book::{indices_validity, numbers_validity};
+use wb_cells::{indices_validity, numbers_validity};
 
 /// Computes nothing. Callers learn what a line is made of.
-pub(crate) fn line_validity(line: &ObjectLine)
+pub fn line_validity(line: &ObjectLine)
     ensures { IsMade (line_of line.now) }
 {
     match line {

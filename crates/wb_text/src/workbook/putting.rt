@@ -1,15 +1,15 @@
 //! Cells put into a map.
 ghost use Rattle.std.specs.Prelude.{◌≡◌, IfOk, OnOk};
 ghost use Rattle.std.specs.FinMap as map;
-ghost use Rattle.wb_book.specs.Cells.{state_of};
-ghost use Rattle.wb_book.specs.Shapes.{indices as product_indices};
-ghost use Rattle.wb_book.specs.WellFormed.{index_cell};
+ghost use Rattle.wb_cells.specs.Cells.{state_of};
+ghost use Rattle.wb_cells.specs.Shapes.{indices as product_indices};
+ghost use Rattle.wb_cells.specs.WellFormed.{index_cell};
 ghost use Rattle.wb_text.specs.FromLines.Inserted.{inserted};
 ghost use Rattle.wb_text.specs.FromLines.Told.{presents};
 
 use std::alloc::{AllocError, Global};
 use std::collections::BTreeMap;
-use wb_book::{AnyIndex, AnyRect, Cell, Kind, Name, Value};
+use wb_cells::{AnyIndex, AnyRect, Cell, Kind, Name, Value};
 use wb_range::NoMemory;
 
 /// Sets a cell.

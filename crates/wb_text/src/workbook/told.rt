@@ -1,10 +1,10 @@
 //! The stored cells that a line tells of.
 ghost use Rattle.std.specs.Prelude.{◌≡◌, ◌==◌, [], Some, unwrap_or, length, map, is_some, true, IfOk, IfSome};
 ghost use Rattle.std.specs.List.{list_all};
-ghost use Rattle.wb_book.specs.Cells.{state_of};
-ghost use Rattle.wb_book.specs.Kinds.{is_key};
-ghost use Rattle.wb_book.specs.Layouts.{is_of_rank};
-ghost use Rattle.wb_book.specs.declared.cells.kind.Kind.TheVariants.{Associative as over_associative};
+ghost use Rattle.wb_cells.specs.Cells.{state_of};
+ghost use Rattle.wb_cells.specs.Kinds.{is_key};
+ghost use Rattle.wb_cells.specs.Layouts.{is_of_rank};
+ghost use Rattle.wb_cells.specs.declared.cells.kind.Kind.TheVariants.{Associative as over_associative};
 ghost use Rattle.wb_text.specs.Said.{first_line_of, line_of};
 ghost use Rattle.wb_text.specs.FromLines.Found.{Finds};
 ghost use Rattle.wb_text.specs.FromLines.Inserted.{inserted};
@@ -16,7 +16,7 @@ use crate::workbook::finding::find;
 use crate::workbook::putting::{points_of, put, put_presents};
 use std::alloc::{AllocError, Global};
 use std::collections::BTreeMap;
-use wb_book::{
+use wb_cells::{
     AnyDomain, AnyIndex, AnyLayout, AnyRect, Binding, Cell, DomainKind, KeyType, Kind, Name, Value,
 };
 use wb_range::NoMemory;

@@ -1,5 +1,5 @@
 use Rattle.selective_undo.proofs.Locality.{locality_law}
-use Rattle.wb_edit.specs.Schema.{workbook}
+use Rattle.wb_cells.specs.Schema.{workbook}
 use Rattle.wb_edit.proofs.laws.locality.Goals as goal
 
 pub returns : goal.returns

@@ -9,9 +9,9 @@ use crate::commands::reshape::sets::{plan_reshape_associative, plan_reshape_spar
 use crate::footprint::Footprint;
 use crate::looks::one_cell::domain_named;
 use std::alloc::Global;
-use wb_book::{AnyDomain, Delta, DomainKind, Name};
-use wb_reading::below::shelf::Book;
-use wb_resize::NewIndices;
+use wb_book::Book;
+use wb_cells::{AnyDomain, Delta, DomainKind, Name};
+use wb_reshape::NewIndices;
 
 fn plan_reshape_kind(
     alloc: Global,

@@ -6,10 +6,9 @@ ghost use Rattle.wb_edit.specs.Commands.Reshape.{no_source};
 use crate::attempt_err::AttemptErr;
 use crate::footprint::Footprint;
 use crate::looks::one_cell::domain_named;
-use crate::refusal::Refusal;
-use wb_book::Delta;
-use wb_reading::below::shelf::Book;
-use wb_resize::Operand;
+use wb_book::Book;
+use wb_cells::{Delta, Refusal};
+use wb_reshape::Operand;
 
 /// There is no such source for the domain; a name that is given is tested first.
 pub(crate) fn plan_no_source(

@@ -5,12 +5,12 @@
 
 ghost use Rattle.std.specs.Prelude.{◌≡◌, [], IfOk};
 ghost use Rattle.std.specs.List.Sorted.{IsStrictlySortedBy};
-ghost use Rattle.wb_book.specs.Cells.{index_cmp};
-ghost use Rattle.wb_book.specs.Readers.{members};
-ghost use Rattle.wb_book.specs.WellFormed.{has};
-ghost use Rattle.wb_book.specs.declared.cells.kind.DomainKind.TheVariants.{Associative};
-ghost use Rattle.wb_resize.specs.Resized.{without};
-ghost use Rattle.wb_resize.specs.Sources.{among, combined};
+ghost use Rattle.wb_cells.specs.Cells.{index_cmp};
+ghost use Rattle.wb_cells.specs.Readers.{members};
+ghost use Rattle.wb_cells.specs.WellFormed.{has};
+ghost use Rattle.wb_cells.specs.declared.cells.kind.DomainKind.TheVariants.{Associative};
+ghost use Rattle.wb_reshape.specs.Resized.{without};
+ghost use Rattle.wb_reshape.specs.Sources.{among, combined};
 ghost use Rattle.wb_edit.specs.Commands.Reshape.{with_indices, combine_set};
 ghost use Rattle.wb_edit.specs.Plans.{Attempts};
 
@@ -20,11 +20,11 @@ use crate::footprint::Footprint;
 use crate::looks::indices::{listed_members, look_at_members};
 use crate::looks::sources::{gives_set, indices_given};
 use std::alloc::Global;
-use wb_book::{AnyDomain, AnyIndex, Cell, Delta, DomainKind, KeyType, Kind, Name};
+use wb_book::Book;
+use wb_cells::{AnyDomain, AnyIndex, Cell, Delta, DomainKind, KeyType, Kind, Name};
 use wb_range::NoMemory;
-use wb_reading::below::shelf::Book;
-use wb_resize::set_operations::without;
-use wb_resize::{Operand, SetOperation};
+use wb_reshape::set_operations::without;
+use wb_reshape::{Operand, SetOperation};
 
 // Whether a sparse or associative domain has an index.
 fn has_member(book: &Book, domain: Name, index: &AnyIndex) -> bool

@@ -11,10 +11,10 @@ use crate::footprint::Footprint;
 use crate::looks::reshaping::shape;
 use crate::looks::sources::{displacement_of, gives_rectangle, ranges_given, same_rank, slice_of};
 use std::alloc::Global;
-use wb_book::{AnyRect, Delta, Name, Point};
-use wb_reading::below::shelf::Book;
-use wb_resize::new_rectangles::left_out;
-use wb_resize::{Displacement, NewIndices, Operand};
+use wb_book::Book;
+use wb_cells::{AnyRect, Delta, Name, Point};
+use wb_reshape::new_rectangles::left_out;
+use wb_reshape::{Displacement, NewIndices, Operand};
 
 // A rectangular domain with some ranges gets new ones.
 fn plan_reshaped(

@@ -13,8 +13,8 @@ use crate::looks::reshaping::none_there;
 use crate::looks::resizing::zeros;
 use crate::looks::users::{arrays, sparse_domains, uses};
 use std::alloc::Global;
-use wb_book::{AnyIndex, AnyRect, Cell, Delta, Kind, Name, Value};
-use wb_reading::below::shelf::Book;
+use wb_book::Book;
+use wb_cells::{AnyIndex, AnyRect, Cell, Delta, Kind, Name, Value};
 
 /// A rectangular domain gets new ranges, so that indices leave it and others come to it.
 pub(crate) fn plan_replaced(

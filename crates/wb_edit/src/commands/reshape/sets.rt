@@ -1,7 +1,7 @@
 //! New indices of a sparse or associative domain, by their source.
 
 ghost use Rattle.wb_range.specs.Domain.{IsListedOnce};
-ghost use Rattle.wb_book.specs.declared.cells.kind.DomainKind.TheVariants.{Associative};
+ghost use Rattle.wb_cells.specs.declared.cells.kind.DomainKind.TheVariants.{Associative};
 ghost use Rattle.wb_edit.specs.Plans.{Attempts};
 ghost use Rattle.wb_edit.specs.Commands.Reshape.{with_indices, to_set, reshape_sparse, reshape_associative};
 
@@ -12,12 +12,11 @@ use crate::commands::resized::plan_resized;
 use crate::footprint::Footprint;
 use crate::looks::indices::members;
 use crate::looks::sources::{gives_set, indices_given};
-use crate::refusal::Refusal;
 use std::alloc::Global;
-use wb_book::{AnyDomain, AnyIndex, Delta, DomainKind, KeyType, Name};
-use wb_reading::below::shelf::Book;
-use wb_resize::set_operations::without;
-use wb_resize::{NewIndices, Operand};
+use wb_book::Book;
+use wb_cells::{AnyDomain, AnyIndex, Delta, DomainKind, KeyType, Name, Refusal};
+use wb_reshape::set_operations::without;
+use wb_reshape::{NewIndices, Operand};
 
 // A domain with some indices gets others.
 fn plan_with_indices(

@@ -1,6 +1,6 @@
 use Rattle.std.proofs.Common.{refl, sym, ap, ◌∙◌}
-use Rattle.wb_array.specs.Elements.{value_at}
-use Rattle.wb_book.specs.Cells.{index_cmp}
+use Rattle.wb_arrays.specs.Elements.{value_at}
+use Rattle.wb_cells.specs.Cells.{index_cmp}
 use Rattle.wb_elements.specs.Piecewise.Indexed.{indexed}
 use Rattle.wb_elements.proofs.Piecewise.Indexed.{value_at-indexed, value_at-none}
 use Rattle.wb_elements.proofs.elements.value_near.Goals as goal

@@ -1,7 +1,7 @@
 use Rattle.std.proofs.Common.{◌≡◌, take}
 use Rattle.std.specs.List.Sorted.{IsStrictlySortedBy}
 use Rattle.std.specs.Map.{keys_of}
-use Rattle.wb_book.specs.declared.values.index.Index.TheVariants.{Point}
+use Rattle.wb_cells.specs.declared.values.index.Index.TheVariants.{Point}
 use Rattle.wb_elements.specs.Piecewise.Changed.{all_set}
 use Rattle.wb_elements.specs.Piecewise.Indexed.{indexed, AllOf}
 use Rattle.wb_elements.specs.Piecewise.Marked.{as_changes}

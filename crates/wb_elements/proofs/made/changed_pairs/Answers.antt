@@ -1,7 +1,7 @@
 use Rattle.std.proofs.Common.{◌≡◌, ℤ, Bool, true, false, true≢false, Option, Some, None, IsSome, refl, sym, ap, ◌∙◌}
-use Rattle.wb_array.specs.Elements.{value_at}
-use Rattle.wb_book.specs.declared.values.index.Index.{Index}
-use Rattle.wb_book.specs.Cells.{index_cmp}
+use Rattle.wb_arrays.specs.Elements.{value_at}
+use Rattle.wb_cells.specs.declared.values.index.Index.{Index}
+use Rattle.wb_cells.specs.Cells.{index_cmp}
 use Rattle.wb_elements.specs.Piecewise.Changed.{changed_at}
 use Rattle.wb_elements.specs.Piecewise.Indexed.{indexed, AllOf}
 use Rattle.wb_elements.proofs.Piecewise.Indexed.{value_at-none}

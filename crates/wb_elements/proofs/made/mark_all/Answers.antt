@@ -1,6 +1,6 @@
 use Rattle.std.proofs.Common.{ℤ, cond, Option, sym, ap, ◌∙◌}
-use Rattle.wb_book.specs.declared.values.index.Index.{Index}
-use Rattle.wb_book.specs.Cells.{is_same_index}
+use Rattle.wb_cells.specs.declared.values.index.Index.{Index}
+use Rattle.wb_cells.specs.Cells.{is_same_index}
 use Rattle.wb_elements.specs.Piecewise.Marked.{marked_at}
 use Rattle.wb_elements.proofs.Piecewise.Changed.{changed_more}
 use Rattle.wb_elements.proofs.made.mark_all.Goals as goal

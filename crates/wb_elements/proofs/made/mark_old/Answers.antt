@@ -1,7 +1,7 @@
 use Rattle.std.proofs.Common.{rules, w64, ℤ, cond, Some, sym, ap, ◌∙◌}
 use Rattle.std.proofs.lemmas.Int.{to_z-of_z}
-use Rattle.wb_book.specs.declared.values.index.Index.{Index}
-use Rattle.wb_book.specs.Cells.{is_same_index}
+use Rattle.wb_cells.specs.declared.values.index.Index.{Index}
+use Rattle.wb_cells.specs.Cells.{is_same_index}
 use Rattle.wb_elements.specs.Piecewise.Marked.{marked_at}
 use Rattle.wb_elements.proofs.Piecewise.Changed.{set_more}
 use Rattle.wb_elements.proofs.made.mark_old.Goals as goal

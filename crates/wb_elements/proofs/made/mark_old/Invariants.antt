@@ -1,5 +1,5 @@
 use Rattle.std.proofs.Common.{◌≡◌, true, take}
-use Rattle.wb_book.specs.declared.values.index.Index.{Index}
+use Rattle.wb_cells.specs.declared.values.index.Index.{Index}
 use Rattle.wb_elements.specs.Piecewise.Changed.{changed_at, all_set}
 use Rattle.wb_elements.specs.Piecewise.Marked.{marked_at, AllMarked}
 use Rattle.wb_elements.proofs.made.mark_old.Given as goal

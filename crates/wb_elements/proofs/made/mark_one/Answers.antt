@@ -1,6 +1,6 @@
 use Rattle.std.proofs.Common.{rules, ◌≡◌, ℤ, Bool, true, false, true≢false, cond, Option, [], ◌∷◌, ◌++◌, refl, sym, ap, ◌∙◌}
-use Rattle.wb_book.specs.declared.values.index.Index.{Index}
-use Rattle.wb_book.specs.Cells.{is_same_index}
+use Rattle.wb_cells.specs.declared.values.index.Index.{Index}
+use Rattle.wb_cells.specs.Cells.{is_same_index}
 use Rattle.wb_elements.specs.Piecewise.Marked.{marked_at}
 use Rattle.wb_elements.proofs.Piecewise.Changed.{one_index}
 use Rattle.wb_elements.proofs.Piecewise.Marked.{marked-last, all_marked-last}

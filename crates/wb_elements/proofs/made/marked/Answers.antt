@@ -1,6 +1,6 @@
 use Rattle.std.proofs.Common.{◌≡◌, ℤ, Option, None, ap, ◌∙◌}
-use Rattle.wb_array.specs.Elements.{value_at}
-use Rattle.wb_book.specs.Cells.{index_cmp}
+use Rattle.wb_arrays.specs.Elements.{value_at}
+use Rattle.wb_cells.specs.Cells.{index_cmp}
 use Rattle.wb_elements.specs.Piecewise.Changed.{changed_at, all_set}
 use Rattle.wb_elements.specs.Piecewise.Marked.{marked_at}
 use Rattle.wb_elements.proofs.Piecewise.Changed.{all_there, or_nothing}

@@ -1,7 +1,7 @@
 use Rattle.std.proofs.Common.{◌≡◌, true, sym, ap, ◌∙◌}
-use Rattle.wb_book.specs.declared.values.index.Index.TheVariants.{Point}
-use Rattle.wb_book.specs.Kinds.{is_point}
-use Rattle.wb_book.specs.Layouts.{is_of_rank}
+use Rattle.wb_cells.specs.declared.values.index.Index.TheVariants.{Point}
+use Rattle.wb_cells.specs.Kinds.{is_point}
+use Rattle.wb_cells.specs.Layouts.{is_of_rank}
 use Rattle.wb_dist.specs.Maps.{LayoutMap, locale_of}
 use Rattle.wb_elements.proofs.Piecewise.Lent.{piece_is, point_locale}
 use Rattle.wb_elements.proofs.piece.points_on.Goals as goal

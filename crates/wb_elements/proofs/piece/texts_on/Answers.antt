@@ -1,6 +1,6 @@
 use Rattle.std.proofs.Common.{refl}
-use Rattle.wb_book.specs.declared.values.index.Index.TheVariants.{Text}
-use Rattle.wb_book.specs.Kinds.{is_text}
+use Rattle.wb_cells.specs.declared.values.index.Index.TheVariants.{Text}
+use Rattle.wb_cells.specs.Kinds.{is_text}
 use Rattle.wb_dist.specs.Maps.{whole}
 use Rattle.wb_elements.proofs.Piecewise.Lent.{piece_is}
 use Rattle.wb_elements.proofs.piece.texts_on.Goals as goal

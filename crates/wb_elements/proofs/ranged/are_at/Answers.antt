@@ -1,4 +1,4 @@
-use Rattle.wb_book.specs.Shapes.{indices}
+use Rattle.wb_cells.specs.Shapes.{indices}
 use Rattle.wb_elements.proofs.ByRank.{one_key_more}
 use Rattle.wb_elements.proofs.ranged.are_at.Goals as goal
 

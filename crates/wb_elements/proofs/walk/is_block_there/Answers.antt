@@ -1,5 +1,5 @@
 use Rattle.std.proofs.Common.{sym, ap, ◌∙◌}
-use Rattle.wb_book.specs.Shapes.{indices}
+use Rattle.wb_cells.specs.Shapes.{indices}
 use Rattle.wb_elements.proofs.Blocks.{whole_there}
 use Rattle.wb_elements.proofs.walk.is_block_there.Goals as goal
 

@@ -1,5 +1,5 @@
 use Rattle.std.proofs.Common.{◌<◌, length, sym, arith, ◌∙◌}
-use Rattle.wb_book.specs.declared.values.index.Index.TheVariants.{Point}
+use Rattle.wb_cells.specs.declared.values.index.Index.TheVariants.{Point}
 use Rattle.wb_elements.specs.Entries.{element_at, sets_one}
 use Rattle.wb_elements.proofs.Blocks.{fail_entry}
 use Rattle.wb_elements.proofs.walk.is_each_there.Goals as goal

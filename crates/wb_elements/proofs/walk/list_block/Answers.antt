@@ -1,6 +1,6 @@
 use Rattle.std.proofs.Common.{◌++◌, ap, arith, ◌∙◌}
 use Rattle.std.proofs.lemmas.List.{take_all}
-use Rattle.wb_book.specs.declared.values.index.Index.TheVariants.{Point}
+use Rattle.wb_cells.specs.declared.values.index.Index.TheVariants.{Point}
 use Rattle.wb_elements.specs.Piecewise.Marked.{as_changes}
 use Rattle.wb_elements.proofs.Blocks.{many_changes}
 use Rattle.wb_elements.proofs.walk.list_block.Goals as goal

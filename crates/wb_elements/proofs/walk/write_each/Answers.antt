@@ -1,6 +1,6 @@
 use Rattle.std.proofs.Common.{◌<◌, length, ap, arith, ◌∙◌}
 use Rattle.std.proofs.lemmas.List.{take_all}
-use Rattle.wb_book.specs.declared.values.index.Index.TheVariants.{Point}
+use Rattle.wb_cells.specs.declared.values.index.Index.TheVariants.{Point}
 use Rattle.wb_elements.specs.Entries.{with_all}
 use Rattle.wb_elements.proofs.Blocks.{write_entry}
 use Rattle.wb_elements.proofs.walk.write_each.Goals as goal

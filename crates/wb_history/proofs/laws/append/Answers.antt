@@ -1,5 +1,5 @@
 use Rattle.selective_undo.proofs.Undo.{append_law}
-use Rattle.wb_log.specs.Below.wb_edit.Schema.{workbook}
+use Rattle.wb_cells.specs.Schema.{workbook}
 use Rattle.wb_history.proofs.laws.append.Goals as goal
 
 pub returns : goal.returns

@@ -1,5 +1,5 @@
 use Rattle.selective_undo.proofs.LogLaws.{record_law}
-use Rattle.wb_log.specs.Below.wb_edit.Schema.{workbook}
+use Rattle.wb_cells.specs.Schema.{workbook}
 use Rattle.wb_history.proofs.laws.records.Goals as goal
 
 pub returns : goal.returns

@@ -1,5 +1,5 @@
 use Rattle.selective_undo.proofs.Inverses.{undo_after_redo_law}
-use Rattle.wb_log.specs.Below.wb_edit.Schema.{workbook}
+use Rattle.wb_cells.specs.Schema.{workbook}
 use Rattle.wb_history.proofs.laws.undo_after_redo.Goals as goal
 
 pub returns : goal.returns

@@ -1,5 +1,5 @@
 use Rattle.std.proofs.Common.{◌≡◌, take}
-use Rattle.wb_log.specs.Below.wb_shelf.Piecewise.Indexed.{indexed}
+use Rattle.wb_book.specs.Piecewise.Indexed.{indexed}
 use Rattle.wb_history.proofs.piece.listed.Given as goal
 
 abbrev pub invariant-loop-key : goal.invariant-loop-key

@@ -1,8 +1,8 @@
 use Rattle.std.proofs.Common.{◌≡◌, None, Ok, sym, ap, ◌∙◌}
 use Rattle.std.specs.FinMap.{get}
-use Rattle.wb_book.specs.declared.cells.cell.Cell.TheVariants.{Object}
-use Rattle.wb_log.specs.Below.wb_edit.Looks.{array_kind}
-use Rattle.wb_log.specs.Below.wb_shelf.Shelf.{piece_at}
+use Rattle.wb_cells.specs.declared.cells.cell.Cell.TheVariants.{Object}
+use Rattle.wb_edit.specs.Looks.{array_kind}
+use Rattle.wb_book.specs.Shelf.{piece_at}
 use Rattle.wb_history.specs.Pieces.{piece_answer}
 use Rattle.wb_history.proofs.Pieces.{or_outside, piece_is_lent}
 use Rattle.wb_history.proofs.piece.piece_answer.Goals as goal

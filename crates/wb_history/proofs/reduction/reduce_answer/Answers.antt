@@ -1,12 +1,12 @@
 use Rattle.std.proofs.Common.{◌≡◌, Result, Ok, sym, ap, ◌∙◌}
 use Rattle.std.specs.FinMap.{get}
-use Rattle.wb_book.specs.declared.cells.cell.Cell.TheVariants.{Object}
-use Rattle.wb_book.specs.declared.cells.kind.Kind.{Kind}
-use Rattle.wb_book.specs.Cells.{Name}
-use Rattle.wb_book.specs.Readers.{elements}
-use Rattle.wb_log.specs.Below.wb_edit.refusal.Refusal as why
-use Rattle.wb_log.specs.Below.wb_edit.Looks.{array_kind}
-use Rattle.wb_redist.specs.Reductions.{reduction}
+use Rattle.wb_cells.specs.declared.cells.cell.Cell.TheVariants.{Object}
+use Rattle.wb_cells.specs.declared.cells.kind.Kind.{Kind}
+use Rattle.wb_cells.specs.Cells.{Name}
+use Rattle.wb_cells.specs.Readers.{elements}
+use Rattle.wb_cells.specs.declared.refusal.Refusal as why
+use Rattle.wb_edit.specs.Looks.{array_kind}
+use Rattle.wb_arrays.specs.Reductions.{reduction}
 use Rattle.wb_history.specs.Queries.{value_answer}
 use Rattle.wb_history.specs.Reductions.{reduce_from}
 use Rattle.wb_history.proofs.Reduced.{made_is}

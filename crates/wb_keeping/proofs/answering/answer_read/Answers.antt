@@ -1,5 +1,5 @@
 use Rattle.std.proofs.Common.{rules}
-use Rattle.wb_granting.specs.Granting.{IsOther}
+use Rattle.wb_keeping.specs.Granting.Granting.{IsOther}
 use Rattle.wb_keeping.proofs.Added.{is_other}
 use Rattle.wb_keeping.proofs.answering.answer_read.Goals as goal
 

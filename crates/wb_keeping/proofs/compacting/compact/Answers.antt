@@ -1,10 +1,10 @@
 use Rattle.std.proofs.Common.{rules, ◌≡◌, ◌∷◌, ◌++◌, [], ◌∙◌, ap}
 use Rattle.std.specs.Prelude.{string_bytes}
 use Rattle.std.proofs.lemmas.Result.{on_ok_weaker}
-use Rattle.wb_disk.proofs.Moments.{weaker}
+use Rattle.wb_keep.proofs.Disks.Moments.{weaker}
 use Rattle.wb_keep.specs.Keep.{IsOldOrNew}
 use Rattle.wb_keep.specs.Lines.{lines_of, recovered}
-use Rattle.wb_granting.proofs.Beginning.{lines_ask}
+use Rattle.wb_keeping.specs.Granting.Beginning.{lines_ask}
 use Rattle.wb_keeping.specs.Anew.{HasEdits}
 use Rattle.wb_keeping.proofs.Anew.{begun, head_at_rest, old_or_new, one_line}
 use Rattle.wb_keeping.proofs.compacting.compact.Goals as goal
@@ -30,7 +30,7 @@ returns-clause-has_edits g c =
     let ends : c.deref.result.now ≡ line ++ 10 ∷ [] = search rules in
     let one = ap lines_of ends ∙ one_line line c.in-Ok.ensures.unbroken in
     let begins = c.in-Ok.ensures.begins (lines_ask old past c.requires.leads) in
-    on_ok_weaker c.compact.result (λ made. begun past line begins file (made.1 ∙ one) (head_at_rest file (recovered file) made.0.file)) c.compact.ensures.compacted
+    on_ok_weaker c.compact.result (λ made. begun past line begins file (made.1 ∙ one) (head_at_rest file made.0.file)) c.compact.ensures.compacted
 
 pub returns-clause-one_line : goal.returns-clause-one_line
 returns-clause-one_line g c =

@@ -1,5 +1,5 @@
 use Rattle.std.proofs.Common.{take}
-use Rattle.wb_granting.specs.Granting.{AddsLinesOf, undos_of}
+use Rattle.wb_keeping.specs.Granting.Granting.{AddsLinesOf, undos_of}
 use Rattle.wb_keeping.proofs.lines.push_undos.Given as goal
 
 abbrev pub invariant-loop-number : goal.invariant-loop-number

@@ -90,3 +90,16 @@ returns-in-Err-Failed-clause-err g c =
         search rules,
       ),
     )
+
+pub returns : goal.returns
+returns g c =
+    let D = g.D.Device in
+    let line = string_bytes c.args.opening.line in
+    let none : length c.in-Ok.read.0.items ≡ 0 = search rules in
+    let empty = no_lines _ c.in-Ok.read.0.items (recovered c.args.held.now) c.in-Ok.ensures.lines none in
+    let ends : c.deref.result.now ≡ line ++ 10 ∷ [] = search rules in
+    let moments =
+    begun_moments D.seen D.moment D.left_since D.may_leave c.args.held.now line c.args.device c.in-Ok-resume.log.device c.append.new.self.device
+    c.deref.result.now c.requires.read empty ends c.requires.opening.unbroken c.in-Ok-resume.ensures.settled.1 c.in-Ok-resume.ensures.any_moment
+    c.append.ensures.any_moment in
+    record { kept = tt; begun = tt; empty = tt; any_moment = tt; err = moments }

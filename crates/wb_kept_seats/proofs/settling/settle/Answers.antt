@@ -1,9 +1,9 @@
 use Rattle.std.proofs.Common.{◌≡◌, ◌<◌, List, Err, sym, ap, ◌∙◌, subst}
 use Rattle.wb_keep.specs.declared.keep.LineLog.{LineLog}
-use Rattle.wb_journal.proofs.Whole.{whole_journal}
-use Rattle.wb_journal.specs.Courses.{Course, IsCourse}
-use Rattle.wb_journal.specs.Serving.{Held}
-use Rattle.wb_journal.specs.Settling.{IsSettled}
+use Rattle.wb_desk.proofs.Whole.{whole_journal}
+use Rattle.wb_desk.specs.Courses.{Course, IsCourse}
+use Rattle.wb_desk.specs.Serving.{Held}
+use Rattle.wb_desk.specs.Settling.{IsSettled}
 use Rattle.wb_kept_seats.specs.Files.{LeavesTurns, LeavesFronts}
 use Rattle.wb_kept_seats.specs.KeptCourses.{KeptCourse}
 use Rattle.wb_kept_seats.specs.declared.commit.CommitErr.TheVariants.{DiskFault}

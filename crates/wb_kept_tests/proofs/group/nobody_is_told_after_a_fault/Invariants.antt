@@ -1,4 +1,4 @@
-use Rattle.wb_disk.specs.Calls.{seen_after}
+use Rattle.wb_keep.specs.Disk.Calls.{seen_after}
 use Rattle.wb_keep.specs.Lines.{recovered}
 use Rattle.wb_kept_tests.proofs.group.nobody_is_told_after_a_fault.Given as goal
 

@@ -1,4 +1,4 @@
-use Rattle.wb_disk.specs.Calls.{seen_after}
+use Rattle.wb_keep.specs.Disk.Calls.{seen_after}
 use Rattle.wb_keep.specs.Lines.{recovered}
 use Rattle.wb_kept_tests.proofs.group.turns_that_wait_are_kept_all_or_none.Given as goal
 

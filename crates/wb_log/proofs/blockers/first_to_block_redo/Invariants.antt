@@ -1,6 +1,6 @@
 use Rattle.std.proofs.Common.{◌≡◌, ◌+◌, ◌++◌, drop}
 use Rattle.selective_undo.specs.Log.{blocks_redo, first_from}
-use Rattle.wb_foot.specs.Below.wb_edit.Reads.{all_read}
+use Rattle.wb_cells.specs.Reads.{all_read}
 use Rattle.wb_log.specs.Kept.{footprint, kept_all}
 use Rattle.wb_log.proofs.blockers.first_to_block_redo.Given as goal
 

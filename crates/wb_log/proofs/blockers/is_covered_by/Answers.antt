@@ -3,9 +3,9 @@ use Rattle.std.specs.List.{list_any}
 use Rattle.std.proofs.lemmas.List.{take_all}
 use Rattle.std.proofs.lemmas.List.Folds.{list_any_more, list_any_at}
 use Rattle.selective_undo.specs.Edit.{covers}
-use Rattle.wb_foot.specs.Below.wb_edit.read_run.ReadRun.{ReadRun}
-use Rattle.wb_foot.specs.Below.wb_edit.Reads.{read_in}
-use Rattle.wb_foot.specs.Below.wb_edit.Schema.{workbook}
+use Rattle.wb_cells.specs.declared.reads.ReadRun.{ReadRun}
+use Rattle.wb_cells.specs.Reads.{read_in}
+use Rattle.wb_cells.specs.Schema.{workbook}
 use Rattle.wb_log.proofs.Covered.{any_covers}
 use Rattle.wb_log.proofs.blockers.is_covered_by.Goals as goal
 

@@ -1,8 +1,8 @@
 use Rattle.std.proofs.Common.{◌≡◌, false, take}
 use Rattle.std.specs.List.{list_any}
 use Rattle.selective_undo.specs.Edit.{covers}
-use Rattle.wb_foot.specs.Below.wb_edit.Reads.{read_in}
-use Rattle.wb_foot.specs.Below.wb_edit.Schema.{workbook}
+use Rattle.wb_cells.specs.Reads.{read_in}
+use Rattle.wb_cells.specs.Schema.{workbook}
 use Rattle.wb_log.proofs.blockers.is_covered_by.Given as goal
 
 abbrev pub invariant-loop-run : goal.invariant-loop-run

@@ -3,11 +3,11 @@ use Rattle.std.proofs.lemmas.List.Folds.{list_any_more, list_any_at}
 use Rattle.selective_undo.specs.Changes.{changes}
 use Rattle.selective_undo.specs.Edit.{covers}
 use Rattle.selective_undo.specs.declared.Change.{Change}
-use Rattle.wb_book.specs.declared.cells.cell.Cell.{Cell}
-use Rattle.wb_book.specs.declared.cells.value.Value.{Value}
-use Rattle.wb_book.specs.Cells.{cell_cmp}
-use Rattle.wb_foot.specs.Below.wb_edit.Reads.{all_read}
-use Rattle.wb_foot.specs.Below.wb_edit.Schema.{workbook}
+use Rattle.wb_cells.specs.declared.cells.cell.Cell.{Cell}
+use Rattle.wb_cells.specs.declared.cells.value.Value.{Value}
+use Rattle.wb_cells.specs.Cells.{cell_cmp}
+use Rattle.wb_cells.specs.Reads.{all_read}
+use Rattle.wb_cells.specs.Schema.{workbook}
 use Rattle.wb_log.proofs.blockers.meets_any.Goals as goal
 
 pub returns-then-meets : goal.returns-then-meets

@@ -1,6 +1,6 @@
 use Rattle.std.proofs.Common.{◌≡◌, ◌++◌, false, take}
 use Rattle.selective_undo.specs.Log.{meets_any}
-use Rattle.wb_foot.specs.Below.wb_edit.Reads.{all_read}
+use Rattle.wb_cells.specs.Reads.{all_read}
 use Rattle.wb_log.specs.Kept.{footprint}
 use Rattle.wb_log.proofs.blockers.meets_any.Given as goal
 

@@ -1,5 +1,5 @@
 use Rattle.std.proofs.Common.{length, reverse, ◌-◌}
-use Rattle.wb_foot.specs.Swept.{AreSwept}
+use Rattle.wb_footprints.specs.Swept.{AreSwept}
 use Rattle.wb_log.specs.Kept.{by_number}
 use Rattle.wb_log.proofs.Sweeps.{Swept}
 use Rattle.wb_log.proofs.sweep.needing.Given as goal

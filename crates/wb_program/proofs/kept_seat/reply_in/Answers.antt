@@ -1,5 +1,5 @@
 use Rattle.std.proofs.Common.{refl}
-use Rattle.wb_proto.specs.declared.replies.reply.Reply.TheVariants.{Refused}
+use Rattle.wb_protocol.specs.declared.replies.reply.Reply.TheVariants.{Refused}
 use Rattle.wb_program.proofs.Reading.{asked_here, refused_here}
 use Rattle.wb_program.proofs.kept_seat.reply_in.Goals as goal
 

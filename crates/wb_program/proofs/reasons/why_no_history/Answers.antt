@@ -1,6 +1,6 @@
 use Rattle.std.proofs.Common.{◌≡◌, inl, inr, length, refl, rules, subst}
-use Rattle.wb_book.specs.Readers.{objects}
-use Rattle.wb_proto.specs.Below.wb_reading.Reading.{IsNoBook}
+use Rattle.wb_cells.specs.Readers.{objects}
+use Rattle.wb_reading.specs.Reading.{IsNoBook}
 use Rattle.wb_program.proofs.reasons.why_no_history.Goals as goal
 
 pub returns-in-Ok-read_book : goal.returns-in-Ok-read_book

@@ -1,4 +1,4 @@
-use Rattle.wb_shared.specs.Openings.{nothing_done}
+use Rattle.wb_desk.specs.Openings.{nothing_done}
 use Rattle.wb_program.proofs.serving.serve_on.Given as goal
 
 abbrev pub ghosts-serve_day-L-Ledger : goal.ghosts-serve_day-L-Ledger

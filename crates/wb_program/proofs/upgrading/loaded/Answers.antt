@@ -1,7 +1,7 @@
 use Rattle.std.proofs.Common.{[], ◌∷◌, ◌++◌, Bool, true, ◌∙◌, sym, ap}
-use Rattle.wb_proto.specs.Below.wb_edit.SideBySide.{pushed}
-use Rattle.wb_proto.specs.Below.wb_edit.edit.Edit.{Edit}
-use Rattle.wb_proto.specs.Below.wb_edit.edit.Edit.TheVariants.{Load}
+use Rattle.wb_edit.proofs.SideBySide.{pushed}
+use Rattle.wb_edit.specs.declared.edit.Edit.{Edit}
+use Rattle.wb_edit.specs.declared.edit.Edit.TheVariants.{Load}
 use Rattle.wb_program.proofs.Loading.{no_other}
 use Rattle.wb_program.proofs.upgrading.loaded.Goals as goal
 

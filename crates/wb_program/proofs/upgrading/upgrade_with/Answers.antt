@@ -1,5 +1,5 @@
 use Rattle.std.proofs.Common.{◌≡◌, inl, inr, rules, string_bytes, subst}
-use Rattle.wb_record.specs.Text.{history_text}
+use Rattle.wb_protocol.specs.Histories.Text.{history_text}
 use Rattle.wb_program.specs.Upgrading.{loaded, HasNoBook, IsUpgraded}
 use Rattle.wb_program.proofs.Loading.{prints}
 use Rattle.wb_program.specs.Reasons.{WhyNoBook}

@@ -16,10 +16,10 @@ use std::alloc::Global;
 use std::io::{Read, Write};
 use std::process::Abort;
 use std::test::Fail;
+use wb_arrays::{Crew, Mover};
+use wb_history::History;
 use wb_lines::{Input, Output, SessionEnd};
 use wb_program::session;
-use wb_proto::below::history::History;
-use wb_redist::{Crew, Mover};
 
 const NO_MEMORY: &str = "{\"error\":\"E90\",\"name\":\"no-memory\"}\n";
 

@@ -4,13 +4,13 @@ use Rattle.std.proofs.lemmas.List.{map-id}
 use Rattle.std.specs.Fmt.{signed_decimal}
 use Rattle.std.specs.List.{flat_map}
 use Rattle.std.specs.Option.{option_map_or}
-use Rattle.wb_literal.specs.Integer.{integer_at, IsWithin}
-use Rattle.wb_literal.specs.Integers.{filled_at, integers_at}
-use Rattle.wb_literal.specs.Tokens.{after, close_at}
-use Rattle.wb_literal.proofs.DigitsBack.{integer_back}
-use Rattle.wb_literal.proofs.ListGrammar.{bracket}
-use Rattle.wb_literal.proofs.RangeGrammar.{Ends, Starts, ends_digits, integer_starts, starts_unspaced}
-use Rattle.wb_literal.proofs.TokenLemmas.{NoSpace, skip_over, not_after}
+use Rattle.wb_literals.specs.Integer.{integer_at, IsWithin}
+use Rattle.wb_literals.specs.Integers.{filled_at, integers_at}
+use Rattle.wb_literals.specs.Tokens.{after, close_at}
+use Rattle.wb_literals.proofs.DigitsBack.{integer_back}
+use Rattle.wb_literals.proofs.ListGrammar.{bracket}
+use Rattle.wb_literals.proofs.RangeGrammar.{Ends, Starts, ends_digits, integer_starts, starts_unspaced}
+use Rattle.wb_literals.proofs.TokenLemmas.{NoSpace, skip_over, not_after}
 use Rattle.wb_text.specs.Literals.{further, integers_text}
 use Rattle.wb_text.specs.Lines.{implicit_text}
 use Rattle.wb_text.proofs.ReadIndices.{AreWithin}

@@ -3,12 +3,12 @@ use Rattle.std.proofs.Common.{◌≡◌, ℕ, zero, suc, ◌<◌, List, [], ◌�
 use Rattle.std.proofs.Common.{arith}
 use Rattle.std.proofs.lemmas.List.{length-append}
 use Rattle.std.specs.List.{join_by, flat_map}
-use Rattle.wb_literal.specs.Tokens.{comma_at}
-use Rattle.wb_literal.specs.Set.{items_at}
-use Rattle.wb_literal.proofs.Listing.{last_at, more_at}
-use Rattle.wb_literal.proofs.ListGrammar.{Closes, closing_ends, comma_ends}
-use Rattle.wb_literal.proofs.RangeGrammar.{Ends}
-use Rattle.wb_literal.proofs.TokenLemmas.{NoSpace, comma_over, no_comma}
+use Rattle.wb_literals.specs.Tokens.{comma_at}
+use Rattle.wb_literals.specs.Set.{items_at}
+use Rattle.wb_literals.proofs.Listing.{last_at, more_at}
+use Rattle.wb_literals.proofs.ListGrammar.{Closes, closing_ends, comma_ends}
+use Rattle.wb_literals.proofs.RangeGrammar.{Ends}
+use Rattle.wb_literals.proofs.TokenLemmas.{NoSpace, comma_over, no_comma}
 use Rattle.wb_text.specs.Literals.{further, enclosed}
 use Rattle.wb_text.proofs.Readable.{Each}
 use Rattle.wb_text.proofs.Parsed.Back.Spelled.{comma_spelled}

@@ -5,11 +5,11 @@ use Rattle.std.proofs.lemmas.List.{length-append}
 use Rattle.std.specs.List.{flat_map}
 use Rattle.wb_rect.specs.Product.{IsRectangle}
 use Rattle.wb_dist.specs.Maps.{LayoutMap}
-use Rattle.wb_book.specs.declared.cells.kind.KeyType.TheVariants.{Int, Text}
-use Rattle.wb_book.specs.declared.values.index.Index.{Index}
-use Rattle.wb_book.specs.Cells.{Name}
-use Rattle.wb_book.specs.Layouts.{IsMapping}
-use Rattle.wb_book.specs.Names.{is_name}
+use Rattle.wb_cells.specs.declared.cells.kind.KeyType.TheVariants.{Int, Text}
+use Rattle.wb_cells.specs.declared.values.index.Index.{Index}
+use Rattle.wb_cells.specs.Cells.{Name}
+use Rattle.wb_cells.specs.Layouts.{IsMapping}
+use Rattle.wb_cells.specs.Names.{is_name}
 use Rattle.wb_text.specs.Literals.{rectangle_text, set_text, integers_text, mapping_text}
 use Rattle.wb_text.specs.Lines.{implicit_text}
 use Rattle.wb_text.specs.Said.{Line, rectangular, sparse, associative, array, line_text, lines_text}

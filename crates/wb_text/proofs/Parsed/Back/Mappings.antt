@@ -5,12 +5,12 @@ use Rattle.std.proofs.lemmas.List.Elements.{recursion_from_All}
 use Rattle.wb_range.specs.Canonical.{IsRange}
 use Rattle.wb_dist.specs.Grid.{are_positive, is_grid}
 use Rattle.wb_dist.specs.Maps.{LayoutMap, whole, block, cyclic, block_cyclic, is_rank, is_box, is_layout}
-use Rattle.wb_book.specs.Layouts.{IsMapping}
-use Rattle.wb_literal.specs.Grammar as grammar
-use Rattle.wb_literal.specs.declared.mapping.MappingLiteral.{MappingLiteral}
-use Rattle.wb_literal.specs.declared.mapping.MappingLiteral.TheVariants.{Whole, Block, Cyclic, BlockCyclic}
-use Rattle.wb_literal.proofs.MappingGrammar.{mapping_read}
-use Rattle.wb_limits.specs.Mappings.{coordinates_of, counts_of, judged, mapping_within}
+use Rattle.wb_cells.specs.Layouts.{IsMapping}
+use Rattle.wb_literals.specs.Grammar as grammar
+use Rattle.wb_literals.specs.declared.mapping.MappingLiteral.{MappingLiteral}
+use Rattle.wb_literals.specs.declared.mapping.MappingLiteral.TheVariants.{Whole, Block, Cyclic, BlockCyclic}
+use Rattle.wb_literals.proofs.MappingGrammar.{mapping_read}
+use Rattle.wb_literals.specs.Limits.Mappings.{coordinates_of, counts_of, judged, mapping_within}
 use Rattle.wb_text.specs.Literals.{rectangle_text, point_text, integers_text, last_grid_text, mapping_text}
 use Rattle.wb_text.proofs.Readable.{both}
 use Rattle.wb_text.proofs.ReadIndices.{AreWithin, IsPoint}

@@ -8,16 +8,16 @@ use Rattle.std.specs.Ordering.{int_eq}
 use Rattle.wb_range.specs.Canonical.{bounds_of, IsRange}
 use Rattle.wb_range.specs.Steps.{stride_of}
 use Rattle.wb_rect.specs.Product.{IsRectangle, product}
-use Rattle.wb_literal.specs.Integer.{IsWithin}
-use Rattle.wb_literal.specs.RangeText.{unaligned, IsStride}
-use Rattle.wb_literal.specs.Grammar as grammar
-use Rattle.wb_literal.specs.declared.range.RangeLiteral.{RangeLiteral}
-use Rattle.wb_literal.specs.declared.range.Upper.TheVariants.{To}
-use Rattle.wb_literal.specs.declared.rectangle.RectangleLiteral.{RectangleLiteral}
-use Rattle.wb_literal.specs.declared.rectangle.RectangleLiteral.TheVariants.{Line, Plane, Solid}
-use Rattle.wb_literal.proofs.RectangleGrammar.{rectangle_read}
-use Rattle.wb_limits.specs.Literals.{stride_in, align_in, range_within, range_of, rectangle_within, domain_within}
-use Rattle.wb_limits.proofs.Within.{within}
+use Rattle.wb_literals.specs.Integer.{IsWithin}
+use Rattle.wb_literals.specs.RangeText.{unaligned, IsStride}
+use Rattle.wb_literals.specs.Grammar as grammar
+use Rattle.wb_literals.specs.declared.range.RangeLiteral.{RangeLiteral}
+use Rattle.wb_literals.specs.declared.range.Upper.TheVariants.{To}
+use Rattle.wb_literals.specs.declared.rectangle.RectangleLiteral.{RectangleLiteral}
+use Rattle.wb_literals.specs.declared.rectangle.RectangleLiteral.TheVariants.{Line, Plane, Solid}
+use Rattle.wb_literals.proofs.RectangleGrammar.{rectangle_read}
+use Rattle.wb_literals.specs.Limits.Literals.{stride_in, align_in, range_within, range_of, rectangle_within, domain_within}
+use Rattle.wb_literals.proofs.WithinLimits.Within.{within}
 use Rattle.wb_text.specs.Literals.{written_stride, text_of_range, rectangle_text}
 use Rattle.wb_text.proofs.Readable.{Each}
 use Rattle.wb_text.proofs.RangeSpelled.{range_bounded}

@@ -6,22 +6,22 @@ use Rattle.std.proofs.Math.Seq.{take-append_seam, drop-append-add}
 use Rattle.std.specs.Fmt.{signed_decimal}
 use Rattle.std.specs.List.{list_all, flat_map}
 use Rattle.std.specs.Option.{option_map_or}
-use Rattle.wb_assoc.specs.Labels.{IsLabel, is_plain}
-use Rattle.wb_book.specs.declared.values.index.Index.{Index}
-use Rattle.wb_book.specs.declared.values.index.Index.TheVariants.{Point, Text}
-use Rattle.wb_literal.specs.Integer.{integer_at}
-use Rattle.wb_literal.specs.Index.{index_at}
-use Rattle.wb_literal.specs.Tokens.{after, close_at}
-use Rattle.wb_literal.specs.Set.{Items, nothing, integers, pairs, triples, texts, items_at, listed_at, as_pair, pair_at, as_triple, triple_at, is_quote}
-use Rattle.wb_literal.specs.Set.{label_of, quoted_at, text_at, indices_at, texts_at, filled_at, set_at}
-use Rattle.wb_literal.specs.declared.index.IndexLiteral.{IndexLiteral}
-use Rattle.wb_literal.proofs.DigitsBack.{integer_back}
-use Rattle.wb_literal.proofs.IndexGrammar.{index_read}
-use Rattle.wb_literal.proofs.ListGrammar.{brace}
-use Rattle.wb_literal.proofs.RangeGrammar.{Ends, Starts, ends_digits, integer_starts}
-use Rattle.wb_literal.proofs.Texts.{label_yes}
-use Rattle.wb_literal.proofs.TokenLemmas.{NoSpace, skip_over, not_after}
-use Rattle.wb_limits.specs.Literals.{listed_in}
+use Rattle.wb_sets.specs.Labels.{IsLabel, is_plain}
+use Rattle.wb_cells.specs.declared.values.index.Index.{Index}
+use Rattle.wb_cells.specs.declared.values.index.Index.TheVariants.{Point, Text}
+use Rattle.wb_literals.specs.Integer.{integer_at}
+use Rattle.wb_literals.specs.Index.{index_at}
+use Rattle.wb_literals.specs.Tokens.{after, close_at}
+use Rattle.wb_literals.specs.Set.{Items, nothing, integers, pairs, triples, texts, items_at, listed_at, as_pair, pair_at, as_triple, triple_at, is_quote}
+use Rattle.wb_literals.specs.Set.{label_of, quoted_at, text_at, indices_at, texts_at, filled_at, set_at}
+use Rattle.wb_literals.specs.declared.index.IndexLiteral.{IndexLiteral}
+use Rattle.wb_literals.proofs.DigitsBack.{integer_back}
+use Rattle.wb_literals.proofs.IndexGrammar.{index_read}
+use Rattle.wb_literals.proofs.ListGrammar.{brace}
+use Rattle.wb_literals.proofs.RangeGrammar.{Ends, Starts, ends_digits, integer_starts}
+use Rattle.wb_literals.proofs.Texts.{label_yes}
+use Rattle.wb_literals.proofs.TokenLemmas.{NoSpace, skip_over, not_after}
+use Rattle.wb_literals.specs.Limits.Literals.{listed_in}
 use Rattle.wb_text.specs.Literals.{further, point_text, index_text, set_text}
 use Rattle.wb_text.proofs.Readable.{Each, both}
 use Rattle.wb_text.proofs.ReadIndices.{AreWithin}

@@ -2,19 +2,19 @@
 use Rattle.std.proofs.Common.{ℕ, ◌≤◌, ℤ, pos, List, [], ◌∷◌, map, codes, length, Option, refl, sym, ap, ◌∙◌, append-nil, arith}
 use Rattle.std.specs.Fmt.{signed_decimal}
 use Rattle.std.specs.List.{join_by, flat_map}
-use Rattle.wb_literal.specs.Integer.{integer_at, IsWithin}
-use Rattle.wb_literal.specs.Spelling.{IsInteger}
-use Rattle.wb_literal.specs.RangeText.{range_text, unaligned, IsStride}
-use Rattle.wb_literal.specs.Grammar.{IsComma, AreMore, AreListed, IsEnclosed, IsRange, IsIndex, IsGrid}
-use Rattle.wb_literal.specs.declared.index.GridLiteral.{GridLiteral}
-use Rattle.wb_literal.specs.declared.index.GridLiteral.TheVariants as grids
-use Rattle.wb_literal.specs.declared.index.IndexLiteral.{IndexLiteral}
-use Rattle.wb_literal.specs.declared.index.IndexLiteral.TheVariants.{Integer, Pair, Triple}
-use Rattle.wb_literal.specs.declared.range.Upper.TheVariants.{To}
-use Rattle.wb_literal.proofs.DigitsBack.{integer_back}
-use Rattle.wb_literal.proofs.PrintedRange.{range_back}
-use Rattle.wb_literal.proofs.RangeGrammar.{range_exact}
-use Rattle.wb_literal.proofs.Spelled.{integer_whole}
+use Rattle.wb_literals.specs.Integer.{integer_at, IsWithin}
+use Rattle.wb_literals.specs.Spelling.{IsInteger}
+use Rattle.wb_literals.specs.RangeText.{range_text, unaligned, IsStride}
+use Rattle.wb_literals.specs.Grammar.{IsComma, AreMore, AreListed, IsEnclosed, IsRange, IsIndex, IsGrid}
+use Rattle.wb_literals.specs.declared.index.GridLiteral.{GridLiteral}
+use Rattle.wb_literals.specs.declared.index.GridLiteral.TheVariants as grids
+use Rattle.wb_literals.specs.declared.index.IndexLiteral.{IndexLiteral}
+use Rattle.wb_literals.specs.declared.index.IndexLiteral.TheVariants.{Integer, Pair, Triple}
+use Rattle.wb_literals.specs.declared.range.Upper.TheVariants.{To}
+use Rattle.wb_literals.proofs.DigitsBack.{integer_back}
+use Rattle.wb_literals.proofs.PrintedRange.{range_back}
+use Rattle.wb_literals.proofs.RangeGrammar.{range_exact}
+use Rattle.wb_literals.proofs.Spelled.{integer_whole}
 use Rattle.wb_text.specs.Literals.{further, enclosed, point_text, integers_text}
 use Rattle.wb_text.proofs.Readable.{Each}
 use Rattle.wb_text.proofs.ReadIndices.{AreWithin}

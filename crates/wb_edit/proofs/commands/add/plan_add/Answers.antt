@@ -1,10 +1,10 @@
 use Rattle.std.proofs.Common.{◌≡◌, Ok, Err, sym, ap, ◌∙◌}
 use Rattle.std.proofs.lemmas.Result.{err_from_is_err_and}
-use Rattle.wb_book.specs.declared.cells.cell.Cell.TheVariants.{Member}
-use Rattle.wb_book.specs.declared.cells.kind.DomainKind.{DomainKind}
-use Rattle.wb_book.specs.declared.values.index.Index.{Index}
-use Rattle.wb_book.specs.Cells.{Name}
-use Rattle.wb_book.specs.Kinds.{kind_of}
+use Rattle.wb_cells.specs.declared.cells.cell.Cell.TheVariants.{Member}
+use Rattle.wb_cells.specs.declared.cells.kind.DomainKind.{DomainKind}
+use Rattle.wb_cells.specs.declared.values.index.Index.{Index}
+use Rattle.wb_cells.specs.Cells.{Name}
+use Rattle.wb_cells.specs.Kinds.{kind_of}
 use Rattle.wb_edit.specs.Commands.{add_unless}
 use Rattle.wb_edit.specs.Trees.{read}
 use Rattle.wb_edit.specs.Plans.{stopped}

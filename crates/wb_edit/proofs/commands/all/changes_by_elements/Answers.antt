@@ -1,7 +1,7 @@
 use Rattle.std.proofs.Common.{ℤ, List, T, sym, subst}
 use Rattle.std.specs.FinMap.{is_sorted}
-use Rattle.wb_book.specs.declared.values.index.Index.{Index}
-use Rattle.wb_book.specs.Cells.{index_cmp}
+use Rattle.wb_cells.specs.declared.values.index.Index.{Index}
+use Rattle.wb_cells.specs.Cells.{index_cmp}
 use Rattle.wb_edit.proofs.Elements.{elements_ascend}
 use Rattle.wb_edit.proofs.SideBySide.{kept_ascend}
 use Rattle.wb_edit.proofs.commands.all.changes_by_elements.Goals as goal

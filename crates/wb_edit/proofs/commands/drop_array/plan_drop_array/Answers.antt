@@ -1,9 +1,9 @@
 use Rattle.std.proofs.Common.{List, Err}
 use Rattle.std.proofs.lemmas.Result.{err_from_is_err_and}
 use Rattle.selective_undo.specs.Edit.{write}
-use Rattle.wb_book.specs.declared.cells.kind.Kind.{Kind}
-use Rattle.wb_book.specs.declared.values.index.Index.{Index}
-use Rattle.wb_book.specs.Cells.{Name}
+use Rattle.wb_cells.specs.declared.cells.kind.Kind.{Kind}
+use Rattle.wb_cells.specs.declared.values.index.Index.{Index}
+use Rattle.wb_cells.specs.Cells.{Name}
 use Rattle.wb_edit.specs.Commands.{dropped_cells}
 use Rattle.wb_edit.specs.Elements.{element_indices}
 use Rattle.wb_edit.specs.Trees.{Tree}

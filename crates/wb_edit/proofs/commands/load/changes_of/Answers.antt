@@ -1,8 +1,8 @@
 use Rattle.std.proofs.Common.{List, ◌++◌, sym, ap, ◌∙◌, append-nil}
-use Rattle.wb_book.proofs.Order.{entries-state_of}
-use Rattle.wb_book.specs.declared.cells.cell.Cell.{Cell}
-use Rattle.wb_book.specs.declared.cells.value.Value.{Value}
-use Rattle.wb_book.specs.Cells.{Changes}
+use Rattle.wb_cells.proofs.Order.{entries-state_of}
+use Rattle.wb_cells.specs.declared.cells.cell.Cell.{Cell}
+use Rattle.wb_cells.specs.declared.cells.value.Value.{Value}
+use Rattle.wb_cells.specs.Cells.{Changes}
 use Rattle.wb_edit.specs.Writes.{set_to, put_each}
 use Rattle.wb_edit.proofs.Loading.{next_new, all_once}
 use Rattle.wb_edit.proofs.commands.load.changes_of.Goals as goal

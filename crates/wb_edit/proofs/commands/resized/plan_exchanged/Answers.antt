@@ -1,10 +1,10 @@
 use Rattle.std.proofs.Common.{ℤ, List, subst}
 use Rattle.selective_undo.specs.Edit.{write}
-use Rattle.wb_book.specs.declared.cells.kind.DomainKind.{DomainKind}
-use Rattle.wb_book.specs.declared.values.index.Index.{Index}
-use Rattle.wb_book.specs.Cells.{Name}
-use Rattle.wb_book.specs.Kinds.{kind_of}
-use Rattle.wb_resize.specs.Resized.{resized_cells}
+use Rattle.wb_cells.specs.declared.cells.kind.DomainKind.{DomainKind}
+use Rattle.wb_cells.specs.declared.values.index.Index.{Index}
+use Rattle.wb_cells.specs.Cells.{Name}
+use Rattle.wb_cells.specs.Kinds.{kind_of}
+use Rattle.wb_reshape.specs.Resized.{resized_cells}
 use Rattle.wb_edit.specs.Trees.{Tree}
 use Rattle.wb_edit.specs.Plans.{Makes}
 use Rattle.wb_edit.specs.Resizing.{fills}

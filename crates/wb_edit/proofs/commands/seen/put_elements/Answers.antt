@@ -1,9 +1,9 @@
 use Rattle.std.proofs.Common.{◌≡◌, ℤ, List, [], ◌∷◌, ◌++◌, Option, option_map, take, sym, ap, subst, ◌∙◌, append_assoc, false}
 use Rattle.selective_undo.specs.Changes.{changes}
-use Rattle.wb_book.specs.declared.cells.cell.Cell.TheVariants.{Element}
-use Rattle.wb_book.specs.declared.cells.value.Value.TheVariants.{Number}
-use Rattle.wb_book.specs.declared.values.index.Index.{Index}
-use Rattle.wb_book.specs.Cells.{Changes, cell_cmp}
+use Rattle.wb_cells.specs.declared.cells.cell.Cell.TheVariants.{Element}
+use Rattle.wb_cells.specs.declared.cells.value.Value.TheVariants.{Number}
+use Rattle.wb_cells.specs.declared.values.index.Index.{Index}
+use Rattle.wb_cells.specs.Cells.{Changes, cell_cmp}
 use Rattle.wb_edit.specs.Commands.{number_cells}
 use Rattle.wb_edit.proofs.Becoming.{next_is_new, becomes_more}
 use Rattle.wb_edit.proofs.commands.seen.put_elements.Goals as goal

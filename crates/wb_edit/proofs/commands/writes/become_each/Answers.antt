@@ -1,5 +1,5 @@
 use Rattle.std.proofs.Common.{◌≡◌, ◌<◌, length, arith, ◌++◌, ◌∷◌, [], map, take, Some, slice_get, sym, ap, ◌∙◌, append_assoc}
-use Rattle.wb_book.specs.Shapes.{indices}
+use Rattle.wb_cells.specs.Shapes.{indices}
 use Rattle.wb_edit.specs.Plans.{cell_at}
 use Rattle.wb_edit.specs.Changed.{set_all}
 use Rattle.wb_edit.proofs.IndexedCells.{next_is_new, grows, nothing_there}

@@ -1,5 +1,5 @@
 use Rattle.std.proofs.Common.{◌≡◌, ◌++◌, map, take}
-use Rattle.wb_book.specs.Shapes.{indices}
+use Rattle.wb_cells.specs.Shapes.{indices}
 use Rattle.wb_edit.specs.Plans.{cell_at}
 use Rattle.wb_edit.specs.Changed.{set_all}
 use Rattle.wb_edit.proofs.commands.writes.become_each.Given as goal

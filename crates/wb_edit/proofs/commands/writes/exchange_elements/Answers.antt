@@ -1,10 +1,10 @@
 use Rattle.std.proofs.Common.{◌≡◌, ℤ, List, ◌++◌, take, sym, ap, subst, ◌∙◌, append_assoc, false}
 use Rattle.selective_undo.specs.Changes.{changes}
-use Rattle.wb_book.specs.declared.cells.cell.Cell.TheVariants.{Element}
-use Rattle.wb_book.specs.declared.cells.value.Value.TheVariants.{Number}
-use Rattle.wb_book.specs.declared.values.index.Index.{Index}
-use Rattle.wb_book.specs.Cells.{Name, Changes, cell_cmp}
-use Rattle.wb_resize.specs.Resized.{exchanged, elements_exchanged}
+use Rattle.wb_cells.specs.declared.cells.cell.Cell.TheVariants.{Element}
+use Rattle.wb_cells.specs.declared.cells.value.Value.TheVariants.{Number}
+use Rattle.wb_cells.specs.declared.values.index.Index.{Index}
+use Rattle.wb_cells.specs.Cells.{Name, Changes, cell_cmp}
+use Rattle.wb_reshape.specs.Resized.{exchanged, elements_exchanged}
 use Rattle.wb_edit.proofs.Exchanges.{next_array, elements_more}
 use Rattle.wb_edit.proofs.commands.writes.exchange_elements.Goals as goal
 

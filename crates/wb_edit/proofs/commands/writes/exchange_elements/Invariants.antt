@@ -1,5 +1,5 @@
 use Rattle.std.proofs.Common.{◌≡◌, ◌++◌, take}
-use Rattle.wb_resize.specs.Resized.{elements_exchanged}
+use Rattle.wb_reshape.specs.Resized.{elements_exchanged}
 use Rattle.wb_edit.proofs.commands.writes.exchange_elements.Given as goal
 
 -- the elements of the arrays so far are there

@@ -1,5 +1,5 @@
 use Rattle.std.proofs.lemmas.Result.{err_from_is_err_and}
-use Rattle.wb_book.specs.declared.cells.cell.Cell.TheVariants.{Element}
+use Rattle.wb_cells.specs.declared.cells.cell.Cell.TheVariants.{Element}
 use Rattle.wb_edit.specs.Implicit.{or_implicit}
 use Rattle.wb_edit.specs.Trees.{read}
 use Rattle.wb_edit.proofs.Trees.{halts, then_looks}

@@ -1,7 +1,7 @@
 use Rattle.std.proofs.Common.{sym, ap, subst, ◌∙◌}
 use Rattle.std.specs.List.{filter_map}
 use Rattle.std.specs.List.Sorted.{IsStrictlySortedBy}
-use Rattle.wb_book.specs.Cells.{index_cmp}
+use Rattle.wb_cells.specs.Cells.{index_cmp}
 use Rattle.wb_edit.specs.Looks.{member_in}
 use Rattle.wb_edit.proofs.Members.{members_ascending}
 use Rattle.wb_edit.proofs.looks.indices.listed_members.Goals as goal

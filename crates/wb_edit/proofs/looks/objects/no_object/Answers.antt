@@ -1,9 +1,9 @@
 use Rattle.std.proofs.Common.{◌≡◌, List, ◌∷◌, [], ◌++◌, refl, sym, ap, ◌∙◌, append_assoc}
 use Rattle.selective_undo.specs.Edit.{seen, reads, look}
-use Rattle.wb_book.specs.declared.cells.pattern.Pattern.{Pattern}
-use Rattle.wb_book.specs.declared.cells.pattern.Pattern.TheVariants.{Objects}
+use Rattle.wb_cells.specs.declared.cells.pattern.Pattern.{Pattern}
+use Rattle.wb_cells.specs.declared.cells.pattern.Pattern.TheVariants.{Objects}
 use Rattle.wb_edit.specs.Objects.{is_empty}
-use Rattle.wb_edit.specs.Schema.{workbook}
+use Rattle.wb_cells.specs.Schema.{workbook}
 use Rattle.wb_edit.proofs.Trees.{then_judged}
 use Rattle.wb_edit.proofs.looks.objects.no_object.Goals as goal
 

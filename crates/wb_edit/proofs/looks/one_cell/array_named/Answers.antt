@@ -1,5 +1,5 @@
 use Rattle.std.proofs.lemmas.Result.{err_from_is_err_and}
-use Rattle.wb_book.specs.declared.cells.cell.Cell.TheVariants.{Object}
+use Rattle.wb_cells.specs.declared.cells.cell.Cell.TheVariants.{Object}
 use Rattle.wb_edit.specs.Trees.{read, judged}
 use Rattle.wb_edit.specs.Looks.{array_kind}
 use Rattle.wb_edit.proofs.Trees.{halts, then_judged}

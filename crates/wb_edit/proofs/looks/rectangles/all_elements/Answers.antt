@@ -1,9 +1,9 @@
 use Rattle.std.proofs.Common.{List, map, ◌++◌}
 use Rattle.std.specs.FinMap.{get}
-use Rattle.wb_book.specs.Shapes.{indices}
-use Rattle.wb_book.specs.declared.cells.cell.Cell.{Cell}
-use Rattle.wb_book.specs.declared.cells.cell.Cell.TheVariants.{Element}
-use Rattle.wb_edit.specs.Plans.{one_of}
+use Rattle.wb_cells.specs.Shapes.{indices}
+use Rattle.wb_cells.specs.declared.cells.cell.Cell.{Cell}
+use Rattle.wb_cells.specs.declared.cells.cell.Cell.TheVariants.{Element}
+use Rattle.wb_cells.specs.Reads.{one_of}
 use Rattle.wb_edit.specs.Rectangles.{read_all, all_there}
 use Rattle.wb_edit.proofs.Rectangles.{gives_all}
 use Rattle.wb_edit.proofs.Trees.{then_judged}

@@ -1,5 +1,5 @@
 use Rattle.std.proofs.Common.{sym}
-use Rattle.wb_book.specs.Shapes.{indices}
+use Rattle.wb_cells.specs.Shapes.{indices}
 use Rattle.wb_edit.proofs.Elements.{indices_there}
 use Rattle.wb_edit.proofs.looks.rectangles.all_present.Goals as goal
 

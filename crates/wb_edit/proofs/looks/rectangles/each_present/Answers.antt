@@ -1,9 +1,9 @@
 use Rattle.std.proofs.Common.{◌≡◌, ◌<◌, length, arith, List, map, Some, is_some, slice_get, sym, ap, ◌∙◌}
 use Rattle.std.specs.FinMap.{get}
 use Rattle.std.specs.List.{list_all}
-use Rattle.wb_book.specs.Shapes.{indices}
-use Rattle.wb_book.specs.declared.cells.cell.Cell.TheVariants.{Element}
-use Rattle.wb_book.specs.declared.values.index.Index.{Index}
+use Rattle.wb_cells.specs.Shapes.{indices}
+use Rattle.wb_cells.specs.declared.cells.cell.Cell.TheVariants.{Element}
+use Rattle.wb_cells.specs.declared.values.index.Index.{Index}
 use Rattle.wb_edit.proofs.IndexedCells.{nothing_there}
 use Rattle.wb_edit.proofs.Rectangles.{whole, all_more}
 use Rattle.wb_edit.proofs.looks.rectangles.each_present.Goals.{in-Some, in-None}

@@ -1,8 +1,8 @@
 use Rattle.std.proofs.Common.{◌≡◌, List, ◌∷◌, [], ◌++◌, map, arith, Some, slice_get, sym, ap, ◌∙◌}
 use Rattle.std.proofs.lemmas.Option.{slice_get-get_or}
-use Rattle.wb_book.specs.declared.cells.cell.Cell.TheVariants.{Member}
-use Rattle.wb_book.specs.declared.values.index.Index.{Index}
-use Rattle.wb_edit.specs.Plans.{one_of}
+use Rattle.wb_cells.specs.declared.cells.cell.Cell.TheVariants.{Member}
+use Rattle.wb_cells.specs.declared.values.index.Index.{Index}
+use Rattle.wb_cells.specs.Reads.{one_of}
 use Rattle.wb_edit.proofs.Rectangles.{whole, reads_more, any_more}
 use Rattle.wb_edit.proofs.looks.reshaping.has_some.Goals as goal
 

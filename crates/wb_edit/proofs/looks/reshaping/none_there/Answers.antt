@@ -1,7 +1,7 @@
 use Rattle.std.proofs.Common.{List, map, ◌++◌}
 use Rattle.std.specs.FinMap.{get}
-use Rattle.wb_book.specs.declared.cells.cell.Cell.{Cell}
-use Rattle.wb_edit.specs.Plans.{one_of}
+use Rattle.wb_cells.specs.declared.cells.cell.Cell.{Cell}
+use Rattle.wb_cells.specs.Reads.{one_of}
 use Rattle.wb_edit.specs.Rectangles.{read_all}
 use Rattle.wb_edit.specs.Reshaping.{member_cells, none_present}
 use Rattle.wb_edit.proofs.Rectangles.{gives_all}

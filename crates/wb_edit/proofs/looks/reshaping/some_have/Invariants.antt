@@ -1,7 +1,7 @@
 use Rattle.std.proofs.Common.{◌≡◌, ◌++◌, map, take, is_some}
 use Rattle.std.specs.FinMap.{get}
 use Rattle.std.specs.List.{list_any}
-use Rattle.wb_edit.specs.Plans.{one_of}
+use Rattle.wb_cells.specs.Reads.{one_of}
 use Rattle.wb_edit.specs.Reshaping.{member_cells}
 use Rattle.wb_edit.proofs.looks.reshaping.some_have.Given as goal
 

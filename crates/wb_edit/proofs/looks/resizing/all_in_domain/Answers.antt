@@ -1,8 +1,9 @@
 use Rattle.std.proofs.Common.{List, map, ◌++◌}
 use Rattle.std.specs.FinMap.{get}
-use Rattle.wb_book.specs.declared.cells.cell.Cell.{Cell}
+use Rattle.wb_cells.specs.declared.cells.cell.Cell.{Cell}
 use Rattle.wb_edit.specs.declared.indexed_cells.IndexedCells.TheVariants.{Inside}
-use Rattle.wb_edit.specs.Plans.{cell_at, one_of}
+use Rattle.wb_edit.specs.Plans.{cell_at}
+use Rattle.wb_cells.specs.Reads.{one_of}
 use Rattle.wb_edit.specs.Rectangles.{read_all}
 use Rattle.wb_edit.specs.Resizing.{all_inside}
 use Rattle.wb_edit.proofs.Rectangles.{gives_all}

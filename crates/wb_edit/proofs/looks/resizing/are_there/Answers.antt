@@ -1,7 +1,8 @@
 use Rattle.std.proofs.Common.{◌≡◌, List, ◌∷◌, [], ◌++◌, Some, slice_get, sym, ap, ◌∙◌}
 use Rattle.std.proofs.lemmas.Option.{slice_get-get_or}
-use Rattle.wb_book.specs.declared.values.index.Index.{Index}
-use Rattle.wb_edit.specs.Plans.{cell_at, one_of}
+use Rattle.wb_cells.specs.declared.values.index.Index.{Index}
+use Rattle.wb_edit.specs.Plans.{cell_at}
+use Rattle.wb_cells.specs.Reads.{one_of}
 use Rattle.wb_edit.proofs.Rectangles.{reads_more, all_more}
 use Rattle.wb_edit.proofs.looks.resizing.are_there.Goals as goal
 

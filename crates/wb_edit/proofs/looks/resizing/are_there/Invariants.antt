@@ -1,7 +1,8 @@
 use Rattle.std.proofs.Common.{◌≡◌, ◌++◌, map, take, is_some}
 use Rattle.std.specs.FinMap.{get}
 use Rattle.std.specs.List.{list_all}
-use Rattle.wb_edit.specs.Plans.{cell_at, one_of}
+use Rattle.wb_edit.specs.Plans.{cell_at}
+use Rattle.wb_cells.specs.Reads.{one_of}
 use Rattle.wb_edit.proofs.looks.resizing.are_there.Given as goal
 
 -- the cells of the indices so far were looked at

@@ -1,10 +1,10 @@
 use Rattle.std.proofs.Common.{◌≡◌, pos, List, sym, subst, ◌∙◌}
 use Rattle.std.specs.FinMap.{get}
-use Rattle.wb_book.specs.declared.cells.cell.Cell.TheVariants.{Implicit}
-use Rattle.wb_book.specs.declared.cells.kind.DomainKind.{DomainKind}
-use Rattle.wb_book.specs.declared.cells.kind.DomainKind.TheVariants.{Sparse}
-use Rattle.wb_book.specs.Cells.{Name}
-use Rattle.wb_resize.proofs.Fills.{keys-numbered}
+use Rattle.wb_cells.specs.declared.cells.cell.Cell.TheVariants.{Implicit}
+use Rattle.wb_cells.specs.declared.cells.kind.DomainKind.{DomainKind}
+use Rattle.wb_cells.specs.declared.cells.kind.DomainKind.TheVariants.{Sparse}
+use Rattle.wb_cells.specs.Cells.{Name}
+use Rattle.wb_reshape.proofs.Fills.{keys-numbered}
 use Rattle.wb_edit.specs.Changed.{items_of}
 use Rattle.wb_edit.specs.Plans.{Looks}
 use Rattle.wb_edit.specs.Resizing.{defaults, number_or_zero, zeros}

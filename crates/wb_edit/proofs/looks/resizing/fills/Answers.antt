@@ -1,12 +1,12 @@
 use Rattle.std.proofs.Common.{◌≡◌, List, sym, ap, subst, ◌∙◌}
 use Rattle.std.proofs.lemmas.Result.{err_from_is_err_and}
 use Rattle.wb_range.specs.Domain.{IsListedOnce}
-use Rattle.wb_book.specs.declared.cells.kind.DomainKind.{DomainKind}
-use Rattle.wb_book.specs.declared.cells.value.Binding.{Binding}
-use Rattle.wb_book.specs.declared.cells.value.Binding.TheVariants.{Array}
-use Rattle.wb_book.specs.Cells.{Name}
-use Rattle.wb_resize.proofs.Fills.{arrays}
-use Rattle.wb_resize.proofs.Users.{bound_once}
+use Rattle.wb_cells.specs.declared.cells.kind.DomainKind.{DomainKind}
+use Rattle.wb_cells.specs.declared.cells.value.Binding.{Binding}
+use Rattle.wb_cells.specs.declared.cells.value.Binding.TheVariants.{Array}
+use Rattle.wb_cells.specs.Cells.{Name}
+use Rattle.wb_reshape.proofs.Fills.{arrays}
+use Rattle.wb_reshape.proofs.Users.{bound_once}
 use Rattle.wb_edit.specs.Changed.{items_of}
 use Rattle.wb_edit.specs.Plans.{Looks}
 use Rattle.wb_edit.specs.Resizing.{defaults}

@@ -1,7 +1,7 @@
 use Rattle.std.proofs.Common.{◌≡◌, ℤ, List, ◌∷◌, [], ◌++◌, sym, ap, ◌∙◌}
-use Rattle.wb_book.specs.declared.cells.cell.Cell.TheVariants.{Implicit}
-use Rattle.wb_book.specs.Cells.{Name}
-use Rattle.wb_edit.specs.Plans.{one_of}
+use Rattle.wb_cells.specs.declared.cells.cell.Cell.TheVariants.{Implicit}
+use Rattle.wb_cells.specs.Cells.{Name}
+use Rattle.wb_cells.specs.Reads.{one_of}
 use Rattle.wb_edit.proofs.Fills.{reads_more, values_more}
 use Rattle.wb_edit.proofs.SideBySide.{pushed}
 use Rattle.wb_edit.proofs.looks.resizing.with_implicits.Goals as goal

@@ -1,7 +1,7 @@
 use Rattle.std.proofs.Common.{◌≡◌, ◌++◌, map, take}
 use Rattle.std.specs.FinMap.{get}
-use Rattle.wb_book.specs.declared.cells.cell.Cell.TheVariants.{Implicit}
-use Rattle.wb_edit.specs.Plans.{one_of}
+use Rattle.wb_cells.specs.declared.cells.cell.Cell.TheVariants.{Implicit}
+use Rattle.wb_cells.specs.Reads.{one_of}
 use Rattle.wb_edit.specs.Resizing.{number_or_zero}
 use Rattle.wb_edit.proofs.looks.resizing.with_implicits.Given as goal
 

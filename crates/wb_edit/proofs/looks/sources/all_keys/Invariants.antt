@@ -1,6 +1,6 @@
 use Rattle.std.proofs.Common.{◌≡◌, take}
 use Rattle.std.specs.List.{list_all}
-use Rattle.wb_book.specs.Kinds.{is_key}
+use Rattle.wb_cells.specs.Kinds.{is_key}
 use Rattle.wb_edit.proofs.looks.sources.all_keys.Given as goal
 
 -- whether those so far are

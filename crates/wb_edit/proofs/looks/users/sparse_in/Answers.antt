@@ -1,7 +1,7 @@
 use Rattle.std.proofs.Common.{refl}
 use Rattle.std.proofs.lemmas.Iterator.{YieldsList-from_slice, items_from_collect}
 use Rattle.std.proofs.lemmas.Iterator.Consumers.{YieldsList-at, YieldsList-from_filter_map}
-use Rattle.wb_book.specs.declared.cells.value.Binding.TheVariants.{Sparse}
+use Rattle.wb_cells.specs.declared.cells.value.Binding.TheVariants.{Sparse}
 use Rattle.wb_edit.specs.Users.{named}
 use Rattle.wb_edit.proofs.looks.users.sparse_in.Goals as goal
 

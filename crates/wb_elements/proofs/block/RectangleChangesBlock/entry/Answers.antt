@@ -1,8 +1,8 @@
 use Rattle.std.proofs.Common.{◌≡◌, ℤ, List, Option, Some, slice_get, get_or, sym, ap, subst, ◌∙◌}
-use Rattle.wb_book.specs.declared.values.index.Index.{Index}
-use Rattle.wb_book.specs.declared.values.index.Index.TheVariants.{Point}
-use Rattle.wb_book.specs.Runs.{rectangle_entries}
-use Rattle.wb_book.specs.Shapes.{indices}
+use Rattle.wb_cells.specs.declared.values.index.Index.{Index}
+use Rattle.wb_cells.specs.declared.values.index.Index.TheVariants.{Point}
+use Rattle.wb_cells.specs.Runs.{rectangle_entries}
+use Rattle.wb_cells.specs.Shapes.{indices}
 use Rattle.wb_elements.specs.Piecewise.Marked.{as_changes}
 use Rattle.wb_elements.proofs.Blocks.{same_entry}
 use Rattle.wb_elements.proofs.block.RectangleChangesBlock.entry.Goals as goal

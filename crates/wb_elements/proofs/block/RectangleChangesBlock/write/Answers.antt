@@ -1,7 +1,7 @@
 use Rattle.std.proofs.Common.{rules, ◌≡◌, ℤ, map, Option, w64, to_z, of_z, sym, ap, ◌∙◌}
 use Rattle.std.proofs.lemmas.Int.{to_z-of_z}
-use Rattle.wb_book.specs.declared.values.index.Index.TheVariants.{Point}
-use Rattle.wb_book.specs.Runs.{rectangle_entries}
+use Rattle.wb_cells.specs.declared.values.index.Index.TheVariants.{Point}
+use Rattle.wb_cells.specs.Runs.{rectangle_entries}
 use Rattle.wb_elements.specs.Entries.{with_all}
 use Rattle.wb_elements.proofs.Blocks.{filled_is}
 use Rattle.wb_elements.proofs.block.RectangleChangesBlock.write.Goals as goal

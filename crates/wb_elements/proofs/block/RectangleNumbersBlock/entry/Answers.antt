@@ -1,6 +1,6 @@
 use Rattle.std.proofs.Common.{◌≡◌, ◌<◌, ℤ, List, Some, None, length, slice_get, sym, ap, arith, ◌∙◌}
-use Rattle.wb_book.specs.declared.values.index.Index.{Index}
-use Rattle.wb_book.specs.Shapes.{indices}
+use Rattle.wb_cells.specs.declared.values.index.Index.{Index}
+use Rattle.wb_cells.specs.Shapes.{indices}
 use Rattle.wb_elements.proofs.Blocks.{each_entry, many_each, none_at}
 use Rattle.wb_elements.proofs.block.RectangleNumbersBlock.entry.Goals as goal
 

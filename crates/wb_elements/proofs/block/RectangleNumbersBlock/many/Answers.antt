@@ -1,5 +1,5 @@
 use Rattle.std.proofs.Common.{◌≡◌, ℤ, List, length, min, sym, ap, ◌∙◌}
-use Rattle.wb_book.specs.Shapes.{indices}
+use Rattle.wb_cells.specs.Shapes.{indices}
 use Rattle.wb_elements.proofs.Blocks.{many_each}
 use Rattle.wb_elements.proofs.block.RectangleNumbersBlock.many.Goals as goal
 

@@ -1,6 +1,6 @@
 use Rattle.std.proofs.Common.{◌≡◌, ap, sym, ◌∙◌}
-use Rattle.wb_book.specs.declared.values.index.Index.TheVariants.{Point}
-use Rattle.wb_book.specs.Shapes.{indices}
+use Rattle.wb_cells.specs.declared.values.index.Index.TheVariants.{Point}
+use Rattle.wb_cells.specs.Shapes.{indices}
 use Rattle.wb_elements.specs.Piecewise.Changed.{all_set}
 use Rattle.wb_elements.specs.Piecewise.Indexed.{indexed}
 use Rattle.wb_elements.specs.Piecewise.Marked.{as_changes}

@@ -1,5 +1,5 @@
 use Rattle.std.proofs.Common.{◌++◌, ◌<◌, ℕ, List, length, ◌∙◌, ap, rules, arith}
-use Rattle.wb_disk.proofs.Moments.{joined}
+use Rattle.wb_keep.proofs.Disks.Moments.{joined}
 use Rattle.wb_keep.specs.Lines.{lines_of, recovered}
 use Rattle.wb_keep.specs.Keep.{IsBeforeOrAfter}
 use Rattle.wb_keep.specs.Run.{HasSome}

@@ -1,5 +1,5 @@
 use Rattle.std.proofs.Common.{◌≡◌, ◌≤◌, ◌++◌, take}
-use Rattle.wb_disk.specs.Device.{LeavesOnly}
+use Rattle.wb_keep.specs.Disk.Device.{LeavesOnly}
 use Rattle.wb_keep.specs.Lines.{recovered}
 use Rattle.wb_keep.specs.Keep.{IsSettled}
 use Rattle.wb_keep.specs.Run.{lines_in, HasSome}

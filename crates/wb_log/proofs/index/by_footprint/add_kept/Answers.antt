@@ -1,6 +1,6 @@
 use Rattle.std.proofs.Common.{Some, subst, sym, ap, ◌∙◌}
 use Rattle.std.proofs.lemmas.Result.{on_ok_weaker}
-use Rattle.wb_foot.specs.Footprints.{IsIndexOf, footprint, with_footprint}
+use Rattle.wb_footprints.specs.Footprints.{IsIndexOf, footprint, with_footprint}
 use Rattle.wb_log.specs.Records.{lent_footprint}
 use Rattle.wb_log.proofs.index.by_footprint.add_kept.Goals as goal
 

@@ -1,5 +1,5 @@
 use Rattle.std.proofs.Common.{Some, sym, ap, ◌∙◌}
-use Rattle.wb_foot.specs.Footprints.{footprint}
+use Rattle.wb_footprints.specs.Footprints.{footprint}
 use Rattle.wb_log.specs.Records.{lent_footprint}
 use Rattle.wb_log.proofs.index.by_footprint.take_kept.Goals as goal
 

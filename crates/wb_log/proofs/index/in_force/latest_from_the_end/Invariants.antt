@@ -1,6 +1,6 @@
 use Rattle.std.proofs.Common.{◌≡◌, ◌≤◌, ℕ, Some, length, slice_get}
 use Rattle.selective_undo.specs.Log.{Footprint}
-use Rattle.wb_foot.specs.Below.wb_edit.Schema.{workbook}
+use Rattle.wb_cells.specs.Schema.{workbook}
 use Rattle.wb_log.specs.Kept.{kept_all}
 use Rattle.wb_log.proofs.index.in_force.latest_from_the_end.Given as goal
 

@@ -1,9 +1,9 @@
 use Rattle.std.proofs.Common.{None, sym, ap, ◌∙◌, arith}
 use Rattle.std.specs.Ordering.{eq_by_cmp}
 use Rattle.selective_undo.specs.declared.Change.{Change}
-use Rattle.wb_book.specs.declared.cells.cell.Cell.{Cell}
-use Rattle.wb_book.specs.declared.cells.value.Value.{Value}
-use Rattle.wb_book.specs.Cells.{cell_cmp}
+use Rattle.wb_cells.specs.declared.cells.cell.Cell.{Cell}
+use Rattle.wb_cells.specs.declared.cells.value.Value.{Value}
+use Rattle.wb_cells.specs.Cells.{cell_cmp}
 use Rattle.wb_log.proofs.Numbers.{one_change}
 use Rattle.wb_log.proofs.steps.making.changes_one.Goals as goal
 

@@ -1,5 +1,5 @@
 use Rattle.std.proofs.Common.{sym, ap, ◌∙◌}
-use Rattle.wb_book.specs.declared.cells.pattern.Pattern.TheVariants.{One}
+use Rattle.wb_cells.specs.declared.cells.pattern.Pattern.TheVariants.{One}
 use Rattle.wb_log.proofs.Numbers.{same_cell}
 use Rattle.wb_log.proofs.steps.making.is_same_one.Goals as goal
 

@@ -1,5 +1,5 @@
 use Rattle.std.proofs.Common.{◌+◌, option_map, subst, sym, ap, ◌∙◌}
-use Rattle.wb_foot.specs.Footprints.{with_footprint}
+use Rattle.wb_footprints.specs.Footprints.{with_footprint}
 use Rattle.wb_log.specs.Indexed.{Indexes}
 use Rattle.wb_log.specs.Records.{lent_footprint}
 use Rattle.wb_log.proofs.steps.redo.put_in.Goals as goal

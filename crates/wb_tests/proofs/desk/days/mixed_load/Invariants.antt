@@ -1,4 +1,4 @@
-use Rattle.wb_shared.specs.Openings.{nothing_done}
+use Rattle.wb_desk.specs.Openings.{nothing_done}
 use Rattle.wb_tests.proofs.desk.days.mixed_load.Given as goal
 
 abbrev pub ghosts-day_of-L-Ledger : goal.ghosts-day_of-L-Ledger

@@ -1,4 +1,4 @@
-use Rattle.wb_array.specs.Elements.{HoldsExactly}
+use Rattle.wb_arrays.specs.Elements.{HoldsExactly}
 use Rattle.wb_tests.proofs.index_sets.arrays.numbered.Given as goal
 
 abbrev pub invariant-loop-p : goal.invariant-loop-p

@@ -1,5 +1,5 @@
 use Rattle.std.proofs.Common.{arith}
-use Rattle.wb_book.specs.Shapes.{indices}
+use Rattle.wb_cells.specs.Shapes.{indices}
 use Rattle.wb_text.proofs.Listing.{take_got, is_there}
 use Rattle.wb_text.proofs.workbook.putting.points_of.Goals as goal
 use Rattle.wb_text.proofs.workbook.putting.points_of.Goals.{in-Some+in_ok-push, in_default}

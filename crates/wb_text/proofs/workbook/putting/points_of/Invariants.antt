@@ -1,5 +1,5 @@
 use Rattle.std.proofs.Common.{◌≡◌, take}
-use Rattle.wb_book.specs.Shapes.{indices}
+use Rattle.wb_cells.specs.Shapes.{indices}
 use Rattle.wb_text.proofs.workbook.putting.points_of.Given as goal
 
 abbrev pub invariant-loop-p : goal.invariant-loop-p

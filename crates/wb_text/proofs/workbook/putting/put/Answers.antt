@@ -1,4 +1,4 @@
-use Rattle.wb_book.proofs.Shown.{set-state_of}
+use Rattle.wb_cells.proofs.Shown.{set-state_of}
 use Rattle.wb_text.proofs.workbook.putting.put.Goals as goal
 
 pub returns-in-Ok : goal.returns-in-Ok

@@ -1,6 +1,6 @@
 use Rattle.std.proofs.Common.{◌≡◌, drop}
-use Rattle.wb_book.specs.Cells.{state_of}
-use Rattle.wb_book.specs.WellFormed.{index_cell}
+use Rattle.wb_cells.specs.Cells.{state_of}
+use Rattle.wb_cells.specs.WellFormed.{index_cell}
 use Rattle.wb_text.specs.FromLines.Inserted.{inserted}
 use Rattle.wb_text.specs.FromLines.Told.{presents}
 use Rattle.wb_text.proofs.workbook.putting.put_presents.Given as goal

@@ -1,7 +1,7 @@
 use Rattle.std.proofs.Common.{◌≡◌, true, take}
 use Rattle.std.specs.List.{list_all}
-use Rattle.wb_book.specs.Shapes.{indices}
-use Rattle.wb_book.specs.WellFormed.{has}
+use Rattle.wb_cells.specs.Shapes.{indices}
+use Rattle.wb_cells.specs.WellFormed.{has}
 use Rattle.wb_text.proofs.workbook.told.are_within.Given as goal
 
 abbrev pub invariant-loop-index : goal.invariant-loop-index

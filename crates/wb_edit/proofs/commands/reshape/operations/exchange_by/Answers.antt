@@ -1,6 +1,6 @@
 use Rattle.std.proofs.Common.{List, sym, ◌∙◌}
-use Rattle.wb_book.specs.declared.values.index.Index.{Index}
-use Rattle.wb_book.specs.Readers.{members}
+use Rattle.wb_cells.specs.declared.values.index.Index.{Index}
+use Rattle.wb_cells.specs.Readers.{members}
 use Rattle.wb_edit.proofs.Combined.{leaves-union, leaves-intersection, leaves-difference, leaves-symmetric}
 use Rattle.wb_edit.proofs.Combined.{comes-union, comes-intersection, comes-difference, comes-symmetric}
 use Rattle.wb_edit.proofs.Members.{members_ascending}

@@ -1,7 +1,7 @@
 use Rattle.std.proofs.Common.{◌≡◌, take}
-use Rattle.wb_book.specs.Readers.{members}
-use Rattle.wb_resize.specs.Resized.{without}
-use Rattle.wb_resize.specs.Sources.{among}
+use Rattle.wb_cells.specs.Readers.{members}
+use Rattle.wb_reshape.specs.Resized.{without}
+use Rattle.wb_reshape.specs.Sources.{among}
 use Rattle.wb_edit.proofs.commands.reshape.operations.part.Given as goal
 
 -- those of the indices so far

@@ -1,14 +1,14 @@
 use Rattle.std.proofs.Common.{◌≡◌, List, Some, slice_get, sym, subst, ◌∙◌}
-use Rattle.wb_assoc.proofs.Ascending.{IsListedOnce-sorted}
-use Rattle.wb_book.specs.declared.values.index.Index.{Index}
-use Rattle.wb_book.specs.Cells.{index_cmp, index_cmp-IsAntisymmetric}
-use Rattle.wb_book.specs.Readers.{members}
+use Rattle.wb_sets.proofs.Ascending.{IsListedOnce-sorted}
+use Rattle.wb_cells.specs.declared.values.index.Index.{Index}
+use Rattle.wb_cells.specs.Cells.{index_cmp, index_cmp-IsAntisymmetric}
+use Rattle.wb_cells.specs.Readers.{members}
 use Rattle.wb_range.specs.Domain.{IsListedOnce}
-use Rattle.wb_resize.specs.Resized.{without}
-use Rattle.wb_resize.specs.Sources.{combined}
-use Rattle.wb_resize.proofs.Members.{index_total}
-use Rattle.wb_resize.proofs.Sources.{IsListedOnce-combined}
-use Rattle.wb_resize.proofs.Without.{IsListedOnce-without}
+use Rattle.wb_reshape.specs.Resized.{without}
+use Rattle.wb_reshape.specs.Sources.{combined}
+use Rattle.wb_reshape.proofs.Members.{index_total}
+use Rattle.wb_reshape.proofs.Sources.{IsListedOnce-combined}
+use Rattle.wb_reshape.proofs.Without.{IsListedOnce-without}
 use Rattle.wb_edit.proofs.Exchanges.{apart_without}
 use Rattle.wb_edit.proofs.Members.{members_once}
 use Rattle.wb_edit.proofs.commands.reshape.operations.plan_combined.Goals as goal

@@ -1,6 +1,6 @@
 use Rattle.std.proofs.Common.{◌≡◌, ℤ, List, length, Ok, sym, ap, ◌∙◌}
-use Rattle.wb_book.specs.Cells.{Name}
-use Rattle.wb_book.specs.Shapes.{Range}
+use Rattle.wb_cells.specs.Cells.{Name}
+use Rattle.wb_cells.specs.Shapes.{Range}
 use Rattle.wb_edit.specs.Trees.{Tree, judged}
 use Rattle.wb_edit.specs.Plans.{stopped}
 use Rattle.wb_edit.specs.Reshaping.{shape, reshaped}

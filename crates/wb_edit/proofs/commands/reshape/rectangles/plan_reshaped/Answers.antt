@@ -1,7 +1,7 @@
 use Rattle.std.proofs.Common.{◌≡◌, List, Some, slice_get, subst, ◌∙◌}
-use Rattle.wb_book.specs.declared.values.index.Index.{Index}
-use Rattle.wb_book.specs.Shapes.{indices}
-use Rattle.wb_resize.specs.Resized.{without}
+use Rattle.wb_cells.specs.declared.values.index.Index.{Index}
+use Rattle.wb_cells.specs.Shapes.{indices}
+use Rattle.wb_reshape.specs.Resized.{without}
 use Rattle.wb_edit.proofs.Exchanges.{apart_without}
 use Rattle.wb_edit.proofs.commands.reshape.rectangles.plan_reshaped.Goals as goal
 

@@ -2,13 +2,13 @@ use Rattle.std.proofs.Common.{◌≡◌, List, Ok, Err, sym, ap, subst, ◌∙�
 use Rattle.std.proofs.lemmas.Result.{err_from_is_err_and}
 use Rattle.selective_undo.specs.Edit.{write}
 use Rattle.wb_range.specs.Domain.{IsListedOnce}
-use Rattle.wb_book.specs.declared.cells.value.Binding.{Binding}
-use Rattle.wb_book.specs.declared.cells.value.Binding.TheVariants.{Array, Sparse}
-use Rattle.wb_book.specs.declared.values.index.Index.{Index}
-use Rattle.wb_book.specs.Cells.{Name}
-use Rattle.wb_book.specs.Shapes.{Range}
-use Rattle.wb_resize.proofs.Fills.{arrays}
-use Rattle.wb_resize.proofs.Users.{bound_once}
+use Rattle.wb_cells.specs.declared.cells.value.Binding.{Binding}
+use Rattle.wb_cells.specs.declared.cells.value.Binding.TheVariants.{Array, Sparse}
+use Rattle.wb_cells.specs.declared.values.index.Index.{Index}
+use Rattle.wb_cells.specs.Cells.{Name}
+use Rattle.wb_cells.specs.Shapes.{Range}
+use Rattle.wb_reshape.proofs.Fills.{arrays}
+use Rattle.wb_reshape.proofs.Users.{bound_once}
 use Rattle.wb_edit.specs.Trees.{Tree}
 use Rattle.wb_edit.specs.Plans.{Looks, Makes}
 use Rattle.wb_edit.specs.Reshaping.{none_there, reshaped_cells}

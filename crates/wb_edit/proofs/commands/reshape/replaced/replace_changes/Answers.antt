@@ -1,8 +1,8 @@
 use Rattle.std.proofs.Common.{◌≡◌, ℤ, pos, List, sym, ap, subst, ◌∙◌}
 use Rattle.std.specs.Map.{keys_of}
 use Rattle.wb_range.specs.Domain.{IsListedOnce}
-use Rattle.wb_book.specs.Cells.{Name}
-use Rattle.wb_resize.proofs.Fills.{keys-numbered}
+use Rattle.wb_cells.specs.Cells.{Name}
+use Rattle.wb_reshape.proofs.Fills.{keys-numbered}
 use Rattle.wb_edit.specs.Resizing.{zeros}
 use Rattle.wb_edit.proofs.commands.reshape.replaced.replace_changes.Goals as goal
 

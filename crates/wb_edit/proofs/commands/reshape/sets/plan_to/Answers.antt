@@ -1,11 +1,11 @@
 use Rattle.std.proofs.Common.{◌≡◌, List, Ok, subst}
 use Rattle.std.proofs.lemmas.Result.{err_from_is_err_and}
-use Rattle.wb_book.specs.declared.cells.kind.DomainKind.{DomainKind}
-use Rattle.wb_book.specs.declared.cells.kind.Kind.{Kind}
-use Rattle.wb_book.specs.declared.values.index.Index.{Index}
-use Rattle.wb_book.specs.Cells.{Name}
-use Rattle.wb_book.specs.Kinds.{kind_of}
-use Rattle.wb_resize.specs.declared.operand.Operand.{Operand}
+use Rattle.wb_cells.specs.declared.cells.kind.DomainKind.{DomainKind}
+use Rattle.wb_cells.specs.declared.cells.kind.Kind.{Kind}
+use Rattle.wb_cells.specs.declared.values.index.Index.{Index}
+use Rattle.wb_cells.specs.Cells.{Name}
+use Rattle.wb_cells.specs.Kinds.{kind_of}
+use Rattle.wb_reshape.specs.declared.operand.Operand.{Operand}
 use Rattle.wb_edit.specs.Trees.{Tree}
 use Rattle.wb_edit.specs.Plans.{Attempts, Looks}
 use Rattle.wb_edit.specs.Commands.Reshape.{with_indices}

@@ -1,6 +1,6 @@
 use Rattle.std.proofs.Common.{◌≡◌, List, Some, slice_get, subst, ◌∙◌}
-use Rattle.wb_book.specs.declared.values.index.Index.{Index}
-use Rattle.wb_resize.specs.Resized.{without}
+use Rattle.wb_cells.specs.declared.values.index.Index.{Index}
+use Rattle.wb_reshape.specs.Resized.{without}
 use Rattle.wb_edit.proofs.Exchanges.{apart_without}
 use Rattle.wb_edit.proofs.commands.reshape.sets.plan_with_indices.Goals as goal
 

@@ -1,6 +1,6 @@
 use Rattle.std.proofs.Common.{ap, ◌∙◌}
 use Rattle.std.specs.Map.{keys_of}
-use Rattle.wb_book.specs.declared.values.index.Index.TheVariants.{Point}
+use Rattle.wb_cells.specs.declared.values.index.Index.TheVariants.{Point}
 use Rattle.wb_elements.specs.Piecewise.Seen.{seen_of}
 use Rattle.wb_elements.proofs.Blocks.{still_ranged, keys-with_all}
 use Rattle.wb_elements.proofs.elements.typed.ArrayI643PieceKey.set_all.Goals as goal

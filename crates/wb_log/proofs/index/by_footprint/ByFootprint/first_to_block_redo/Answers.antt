@@ -1,7 +1,7 @@
 use Rattle.std.proofs.Common.{refl, ap, sym, subst, ◌∙◌, ◌+◌}
 use Rattle.selective_undo.specs.Log.{blocks_redo, first_from}
-use Rattle.wb_foot.specs.Footprints.{footprint}
-use Rattle.wb_foot.specs.Relation.{IsLeastAfter}
+use Rattle.wb_footprints.specs.Footprints.{footprint}
+use Rattle.wb_footprints.specs.Relation.{IsLeastAfter}
 use Rattle.wb_log.specs.Kept.{by_number, kept_in, kept_all}
 use Rattle.wb_log.proofs.Entries.{drop-map}
 use Rattle.wb_log.proofs.Entered.{first_is, index_whole}

@@ -1,6 +1,6 @@
 use Rattle.wb_log.proofs.Entered.{not_0}
 use Rattle.std.proofs.Common.{Some, ◌+◌}
-use Rattle.wb_foot.specs.Footprints.{with_footprint}
+use Rattle.wb_footprints.specs.Footprints.{with_footprint}
 use Rattle.wb_log.specs.Records.{lent_footprint}
 use Rattle.wb_log.proofs.index.by_footprint.ByFootprint.put_back.Goals as goal
 

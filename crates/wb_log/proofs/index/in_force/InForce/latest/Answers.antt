@@ -1,5 +1,5 @@
 use Rattle.std.proofs.Common.{Some, None}
-use Rattle.wb_foot.specs.Numbers.{numbered}
+use Rattle.wb_footprints.specs.Numbers.{numbered}
 use Rattle.wb_log.proofs.Entered.{greatest_whole, latest_none, latest_some, latest_positive}
 use Rattle.wb_log.proofs.index.in_force.InForce.latest.Goals as goal
 

@@ -1,0 +1,55 @@
+"""Titles of rows and columns, which a workbook has as an array over texts: `B["Ada"] = 3` calls row 3 Ada."""
+
+from typing import Dict, Mapping, Optional, Tuple
+
+from .snapshot import AssocDomain, RectDomain, Snapshot
+from .tables import Looks
+
+WAYS = ("rows", "columns")
+"""The ways of a table, in the order of an index."""
+Labels = Dict[Tuple[str, str], str]
+"""Of an array's "rows" or "columns", the array whose texts are their titles."""
+
+
+def titles(shot: Snapshot, source: Optional[str]) -> Dict[int, str]:
+    """What each number is called; nothing where there is no such array now. Of two texts for one number the first counts."""
+    array = shot.arrays.get(source or "")
+    if array is None or not _is_of_texts(shot, array.over):
+        return {}
+    found: Dict[int, str] = {}
+    for text, number in shot.array(array.name).items():
+        found.setdefault(number, str(text))
+    return found
+
+
+def checked(shot: Snapshot, name: str, way: str, source: str) -> Snapshot:
+    """The workbook, in which the array has such a way, and the other array has texts. ValueError tells what isn't so."""
+    array = shot.arrays.get(name)
+    domain = shot.domains[array.over] if array else None
+    if not isinstance(domain, RectDomain) or len(domain.ranges) > 2:
+        raise ValueError(f"{name} has no rows and columns: an array over ranges of rank 1 or 2 has")
+    if way == "columns" and len(domain.ranges) == 1:
+        raise ValueError(f"{name} has one range: its elements are labelled by `label {name} rows {source}`")
+    other = shot.arrays.get(source)
+    if other is None or not _is_of_texts(shot, other.over):
+        raise ValueError(f'titles come from an array over texts: T = text, T |= {{"Ada", "Ben"}}, {source} over T, {source}["Ada"] = 1')
+    return shot
+
+
+def _is_of_texts(shot: Snapshot, domain: str) -> bool:
+    found = shot.domains[domain]
+    return isinstance(found, AssocDomain) and found.of == "text"
+
+
+def looks(labels: Mapping[Tuple[str, str], str], shot: Snapshot, name: str, decimals: int = 0, page: int = 0) -> Looks:
+    """How an array is shown: with the titles that it was given, as they are now."""
+    down, across = (titles(shot, labels.get((name, way))) for way in WAYS)
+    return Looks(down, across, decimals, page)
+
+
+def digits_of(by: int) -> int:
+    """How many digits stand behind a point where numbers are shown / 1, 10, 100 and so on; ValueError for another."""
+    digits = len(str(by)) - 1
+    if isinstance(by, bool) or not isinstance(by, int) or not 0 <= digits <= 18 or by != 10**digits:
+        raise ValueError(f"{by!r:.40} isn't 1, 10, 100, 1000 or so: that many digits stand behind a point")
+    return digits

@@ -1,0 +1,7 @@
+use Rattle.selective_undo.specs.Laws.{OverlaidLaw}
+use Rattle.selective_undo.proofs.AllOrNothing.{of_each}
+use Rattle.selective_undo.proofs.Together.{overlaid_law}
+use Rattle.selective_undo.proofs.laws.overlaid.Goals as goal
+
+pub returns : goal.returns
+returns g c = of_each g.row.Cell.Denot g.row.Value.Denot g.row.Pattern.Denot g.row.Refusal.Denot OverlaidLaw overlaid_law

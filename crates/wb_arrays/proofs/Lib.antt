@@ -1,0 +1,9 @@
+pub mod Places
+pub mod Changes
+pub mod Splits
+pub mod Parts
+pub mod PiecePlaces
+pub mod Writes
+pub mod Replaced
+pub mod Reducing
+pub mod Sharing

@@ -1,0 +1,5 @@
+pub mod Elements
+pub mod Pieces
+pub mod Reductions
+pub mod Shares
+pub mod Ways

@@ -1,6 +1,0 @@
-use Rattle.std.proofs.Common.{sym, ◌∙◌}
-use Rattle.wb_book.proofs.Shown.{get-state_of}
-use Rattle.wb_book.proofs.book.store.look.Goals as goal
-
-pub returns : goal.returns
-returns c = c.copied.ensures ∙ c.get.ensures.value ∙ sym (get-state_of c.args.cells.now c.args.cell)

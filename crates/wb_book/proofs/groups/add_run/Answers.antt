@@ -1,0 +1,80 @@
+use Rattle.std.proofs.Common.{◌++◌, List, ℕ, true, sym, ap, subst, ◌∙◌}
+use Rattle.std.specs.List.{list_all}
+use Rattle.std.specs.Prelude.{OnOk}
+use Rattle.wb_cells.specs.declared.changes.row.Row.{Row}
+use Rattle.wb_cells.specs.Cells.{Changes}
+use Rattle.wb_cells.specs.Runs.{changes_in as run_changes, packed_changes, rectangle_entries, numbered_entries}
+use Rattle.wb_book.specs.Groups.{LeadTo, changes_in, is_numeric}
+use Rattle.wb_book.proofs.ElementsSet.{both_true}
+use Rattle.wb_book.proofs.Entries.{never_named, on_ok_ever}
+use Rattle.wb_book.proofs.groups.add_run.Goals as goal
+
+pub add_change-requires : goal.add_change-requires
+add_change-requires c =
+    (both_true (is_numeric c.in-One.change) true (ap (λ f. list_all is_numeric (run_changes f)) (sym c.in-One.is) ∙ c.requires)).0
+
+pub returns-in-One-clause-lead : goal.returns-in-One-clause-lead
+returns-in-One-clause-lead c = λ before lead.
+    subst (λ (ys : Changes). OnOk c.add_change.result ((b : List ℕ) → LeadTo (before ++ ys) b (changes_in c.add_change.new.groups.entries b)))
+    (sym (ap run_changes c.in-One.is)) (c.add_change.ensures.lead before lead)
+
+pub returns-in-Line-clause-lead : goal.returns-in-Line-clause-lead
+returns-in-Line-clause-lead c = λ before lead.
+    subst (λ (ys : Changes). OnOk c.add_entries.result ((b : List ℕ) → LeadTo (before ++ ys) b (changes_in c.add_entries.new.groups.entries b)))
+    (ap (λ (r : Row). packed_changes r c.changes.result.now) c.row.ensures
+    ∙ ap (packed_changes c.in-Line.packed.row) c.changes.ensures ∙ sym (ap run_changes c.in-Line.is))
+    (c.add_entries.ensures.lead before lead)
+
+pub returns-in-Line-clause-object : goal.returns-in-Line-clause-object
+returns-in-Line-clause-object c =
+    on_ok_ever c.add_entries.result (λ b e. absurd (never_named c.args.form.now c.in-Line.packed.row c.in-Line.packed.changes.items b
+    (ap run_changes c.in-Line.is) e))
+
+pub returns-in-Plane-clause-lead : goal.returns-in-Plane-clause-lead
+returns-in-Plane-clause-lead c = λ before lead.
+    subst (λ (ys : Changes). OnOk c.add_entries-in-Plane.result
+    ((b : List ℕ) → LeadTo (before ++ ys) b (changes_in c.add_entries-in-Plane.new.groups.entries b)))
+    (ap (λ (r : Row). packed_changes r c.changes-in-Plane.result.now) c.row-in-Plane.ensures
+    ∙ ap (packed_changes c.in-Plane.packed.row) c.changes-in-Plane.ensures ∙ sym (ap run_changes c.in-Plane.is))
+    (c.add_entries-in-Plane.ensures.lead before lead)
+
+pub returns-in-Plane-clause-object : goal.returns-in-Plane-clause-object
+returns-in-Plane-clause-object c =
+    on_ok_ever c.add_entries-in-Plane.result (λ b e. absurd (never_named c.args.form.now c.in-Plane.packed.row c.in-Plane.packed.changes.items b
+    (ap run_changes c.in-Plane.is) e))
+
+pub returns-in-Solid-clause-lead : goal.returns-in-Solid-clause-lead
+returns-in-Solid-clause-lead c = λ before lead.
+    subst (λ (ys : Changes). OnOk c.add_entries-in-Solid.result
+    ((b : List ℕ) → LeadTo (before ++ ys) b (changes_in c.add_entries-in-Solid.new.groups.entries b)))
+    (ap (λ (r : Row). packed_changes r c.changes-in-Solid.result.now) c.row-in-Solid.ensures
+    ∙ ap (packed_changes c.in-Solid.packed.row) c.changes-in-Solid.ensures ∙ sym (ap run_changes c.in-Solid.is))
+    (c.add_entries-in-Solid.ensures.lead before lead)
+
+pub returns-in-Solid-clause-object : goal.returns-in-Solid-clause-object
+returns-in-Solid-clause-object c =
+    on_ok_ever c.add_entries-in-Solid.result (λ b e. absurd (never_named c.args.form.now c.in-Solid.packed.row c.in-Solid.packed.changes.items b
+    (ap run_changes c.in-Solid.is) e))
+
+pub returns-in-Rectangle-clause-lead : goal.returns-in-Rectangle-clause-lead
+returns-in-Rectangle-clause-lead c = λ before lead.
+    subst (λ (ys : Changes). OnOk c.add_block.result ((b : List ℕ) → LeadTo (before ++ ys) b (changes_in c.add_block.new.groups.entries b)))
+    (sym (ap run_changes c.in-Rectangle.is)) (c.add_block.ensures.lead before lead)
+
+pub returns-in-Rectangle-clause-object : goal.returns-in-Rectangle-clause-object
+returns-in-Rectangle-clause-object c =
+    let r = c.in-Rectangle.block in
+    on_ok_ever c.add_block.result
+    (λ b e. absurd (never_named c.args.form.now r.row (rectangle_entries r.ranges r.number) b (ap run_changes c.in-Rectangle.is) e))
+
+pub returns-in-Numbers-clause-lead : goal.returns-in-Numbers-clause-lead
+returns-in-Numbers-clause-lead c = λ before lead.
+    subst (λ (ys : Changes). OnOk c.add_block-in-Numbers.result
+    ((b : List ℕ) → LeadTo (before ++ ys) b (changes_in c.add_block-in-Numbers.new.groups.entries b)))
+    (sym (ap run_changes c.in-Numbers.is)) (c.add_block-in-Numbers.ensures.lead before lead)
+
+pub returns-in-Numbers-clause-object : goal.returns-in-Numbers-clause-object
+returns-in-Numbers-clause-object c =
+    let r = c.in-Numbers.block in
+    on_ok_ever c.add_block-in-Numbers.result
+    (λ b e. absurd (never_named c.args.form.now r.row (numbered_entries r.ranges r.numbers.items) b (ap run_changes c.in-Numbers.is) e))

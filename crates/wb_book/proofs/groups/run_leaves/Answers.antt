@@ -1,0 +1,43 @@
+use Rattle.std.proofs.Common.{sym, ap, ◌∙◌}
+use Rattle.std.specs.List.{list_all}
+use Rattle.wb_cells.specs.Runs.{changes_in, change_at, rectangle_entries, numbered_entries}
+use Rattle.wb_cells.specs.declared.values.index.Index.TheVariants.{Point}
+use Rattle.wb_book.specs.Joined.{stored_in}
+use Rattle.wb_book.specs.Groups.{leaves}
+use Rattle.wb_book.proofs.Entries.{all_pass, leaves_row}
+use Rattle.wb_book.proofs.groups.run_leaves.Goals as goal
+
+pub returns-in-Line : goal.returns-in-Line
+returns-in-Line c =
+    let p = leaves (stored_in c.args.cells.now.entries) in
+    let row = c.in-Line.field-0.row in
+    sym (ap (λ f. list_all p (changes_in f)) c.in-Line.is
+    ∙ all_pass p (change_at row) (λ e. leaves_row (stored_in c.args.cells.now.entries) row (Point e.0) _) c.in-Line.field-0.changes.items)
+
+pub returns-in-Plane : goal.returns-in-Plane
+returns-in-Plane c =
+    let p = leaves (stored_in c.args.cells.now.entries) in
+    let row = c.in-Plane.field-0.row in
+    sym (ap (λ f. list_all p (changes_in f)) c.in-Plane.is
+    ∙ all_pass p (change_at row) (λ e. leaves_row (stored_in c.args.cells.now.entries) row (Point e.0) _) c.in-Plane.field-0.changes.items)
+
+pub returns-in-Solid : goal.returns-in-Solid
+returns-in-Solid c =
+    let p = leaves (stored_in c.args.cells.now.entries) in
+    let row = c.in-Solid.field-0.row in
+    sym (ap (λ f. list_all p (changes_in f)) c.in-Solid.is
+    ∙ all_pass p (change_at row) (λ e. leaves_row (stored_in c.args.cells.now.entries) row (Point e.0) _) c.in-Solid.field-0.changes.items)
+
+pub returns-in-Rectangle : goal.returns-in-Rectangle
+returns-in-Rectangle c =
+    let p = leaves (stored_in c.args.cells.now.entries) in
+    let r = c.in-Rectangle.field-0 in
+    sym (ap (λ f. list_all p (changes_in f)) c.in-Rectangle.is
+    ∙ all_pass p (change_at r.row) (λ e. leaves_row (stored_in c.args.cells.now.entries) r.row (Point e.0) _) (rectangle_entries r.ranges r.number))
+
+pub returns-in-Numbers : goal.returns-in-Numbers
+returns-in-Numbers c =
+    let p = leaves (stored_in c.args.cells.now.entries) in
+    let r = c.in-Numbers.field-0 in
+    sym (ap (λ f. list_all p (changes_in f)) c.in-Numbers.is
+    ∙ all_pass p (change_at r.row) (λ e. leaves_row (stored_in c.args.cells.now.entries) r.row (Point e.0) _) (numbered_entries r.ranges r.numbers.items))

@@ -1,5 +1,0 @@
-use Rattle.wb_dist.specs.Same.{same_layout-exact}
-use Rattle.wb_book.proofs.values.same.is_laid_plane.Goals as goal
-
-pub returns-in-Plane : goal.returns-in-Plane
-returns-in-Plane c = rw (c.eq.ensures, c.in-Plane.is) (same_layout-exact c.args.one.now c.in-Plane.layout)

@@ -1,5 +1,0 @@
-use Rattle.wb_dist.specs.Same.{same_box-exact}
-use Rattle.wb_book.proofs.values.same.is_solid.Goals as goal
-
-pub returns-in-Solid : goal.returns-in-Solid
-returns-in-Solid c = rw (c.eq.ensures, c.in-Solid.is) (same_box-exact c.args.one.now c.in-Solid.rect)

@@ -1,0 +1,333 @@
+//! Changes are made whole or not at all.
+
+ghost use Rattle.std.specs.Prelude.{◌≡◌, ℕ, ℤ, ◌&&◌, List, [], ◌∷◌, ◌++◌, Option, Some, None, false, true, not, cond, is_some, IsSome, IfOk, OnOk, OnErr, Err};
+ghost use Rattle.std.specs.List.{count_by};
+ghost use Rattle.std.specs.BTreeMap.{BTreeMap as tree};
+ghost use Rattle.std.specs.FinMap as map;
+ghost use Rattle.std.specs.Map.{keys_of};
+ghost use Rattle.std.specs.List.Sorted.{IsStrictlySortedBy};
+ghost use Rattle.std.specs.Cmp.Lexicographic.{slice_cmp};
+ghost use Rattle.std.specs.Ordering.{nat_cmp, eq_by_cmp};
+ghost use Rattle.selective_undo.specs.Changes.{apply, inverse, sets, clears, changes, AllOnce, HasRoom};
+ghost use Rattle.wb_cells.specs.declared.cells.cell.Cell.{Cell as cell_type};
+ghost use Rattle.wb_cells.specs.declared.cells.cell.Cell.TheVariants.{Object};
+ghost use Rattle.wb_cells.specs.declared.cells.value.Value.{Value as value_type};
+ghost use Rattle.wb_cells.specs.declared.values.index.Index.{Index};
+ghost use Rattle.wb_cells.specs.Cells.{cell_cmp, state_of, is_same_name};
+ghost use Rattle.wb_cells.specs.WellFormed.{IsWellFormed};
+ghost use Rattle.wb_book.specs.Joined.{stored_in, element_in, is_stored};
+ghost use Rattle.wb_book.specs.After.{lies_at, AreFormed, AreAfter, is_array};
+ghost use Rattle.wb_book.specs.Kept.{Pieced, array_in};
+ghost use Rattle.wb_book.specs.Moved.{put_over};
+ghost use Rattle.wb_book.specs.Shelf.{cells_of, IsShelf};
+
+use crate::groups::Group;
+use crate::{after, groups, keep, moving};
+use std::alloc::Global;
+use std::collections::BTreeMap;
+use std::slice;
+use wb_arrays::{MoveErr, Mover};
+use wb_cells::{AnyIndex, AnyLayout, Cell, CellChange, Changes, Name, Value, store};
+use wb_elements::Elements;
+use wb_range::NoMemory;
+
+// Whether an object is an array.
+fn is_array(cells: &BTreeMap<Cell, Value>, name: &Name) -> bool
+    ensures { result ≡ is_array (stored_in cells.now.entries (Object name.now)) }
+{
+    match cells.get(&Cell::Object(*name)) {
+        Some(Value::Array(_, _)) => true,
+        _ => false,
+    }
+}
+
+/// Puts an empty array of a name, where there is none.
+fn put_empty(
+    alloc: Global,
+    arrays: &mut BTreeMap<Name, Elements>,
+    name: &Name,
+) -> Result<(), NoMemory>
+    ensures others { (b : List ℕ) → is_same_name name.now b ≡ false → array_in arrays.new.entries b ≡ array_in arrays.old.entries b }
+    ensures stays { (b : List ℕ) (p : Pieced) → array_in arrays.old.entries b ≡ Some p → array_in arrays.new.entries b ≡ Some p }
+    ensures elements { (b : List ℕ) (i : Index) → element_in arrays.new.entries b i ≡ element_in arrays.old.entries b i }
+    ensures there { OnOk result (IsSome (array_in arrays.new.entries name.now)) }
+{
+    if arrays.contains_key(name) {
+        return Ok(());
+    }
+    let pairs: Vec<(AnyIndex, i64)> = Vec::new(alloc);
+    let changes: Vec<(AnyIndex, Option<i64>)> = Vec::new(alloc);
+    let whole = AnyLayout::whole();
+    let Ok(empty) = Elements::made(alloc, pairs.as_slice(), changes.as_slice(), &whole, 1) else {
+        return Err(NoMemory);
+    };
+    match arrays.insert(*name, empty) {
+        Ok(_) => Ok(()),
+        Err(_) => Err(NoMemory),
+    }
+}
+
+fn put_new_one(
+    alloc: Global,
+    cells: &BTreeMap<Cell, Value>,
+    arrays: &mut BTreeMap<Name, Elements>,
+    change: &CellChange,
+) -> Result<(), NoMemory>
+    ensures others { (b : List ℕ) → eq_by_cmp cell_cmp (Object b) change.now.cell ≡ false → array_in arrays.new.entries b ≡ array_in arrays.old.entries b }
+    ensures stays { (b : List ℕ) (p : Pieced) → array_in arrays.old.entries b ≡ Some p → array_in arrays.new.entries b ≡ Some p }
+    ensures elements { (b : List ℕ) (i : Index) → element_in arrays.new.entries b i ≡ element_in arrays.old.entries b i }
+    ensures there { OnOk result ((b : List ℕ) → eq_by_cmp cell_cmp (Object b) change.now.cell ≡ true →
+        is_array (stored_in cells.now.entries (Object b)) ≡ true → IsSome (array_in arrays.new.entries b)) }
+{
+    match change.as_cell() {
+        Cell::Object(name) => {
+            if is_array(cells, name) {
+                return put_empty(alloc, arrays, name);
+            }
+            Ok(())
+        }
+        _ => Ok(()),
+    }
+}
+
+/// Puts an empty array of each name that the changes make an array's and that has none. It may stop midway.
+fn put_new(
+    alloc: Global,
+    cells: &BTreeMap<Cell, Value>,
+    arrays: &mut BTreeMap<Name, Elements>,
+    stored: &[CellChange],
+) -> Result<(), NoMemory>
+    ensures others { (b : List ℕ) → changes cell_cmp stored.now (Object b) ≡ false → array_in arrays.new.entries b ≡ array_in arrays.old.entries b }
+    ensures stays { (b : List ℕ) (p : Pieced) → array_in arrays.old.entries b ≡ Some p → array_in arrays.new.entries b ≡ Some p }
+    ensures elements { (b : List ℕ) (i : Index) → element_in arrays.new.entries b i ≡ element_in arrays.old.entries b i }
+    ensures there { OnOk result ((b : List ℕ) → changes cell_cmp stored.now (Object b) ≡ true → is_array (stored_in cells.now.entries (Object b)) ≡ true →
+        IsSome (array_in arrays.new.entries b)) }
+{
+    for change in stored {
+        put_new_one(alloc, cells, arrays, change)?;
+    }
+    Ok(())
+}
+
+fn drop_array(arrays: &mut BTreeMap<Name, Elements>, name: &Name)
+    ensures { (b : List ℕ) → array_in arrays.new.entries b ≡ cond (is_same_name name.now b) None (array_in arrays.old.entries b) }
+{
+    arrays.remove(name);
+}
+
+fn drop_one(
+    cells: &BTreeMap<Cell, Value>,
+    arrays: &mut BTreeMap<Name, Elements>,
+    change: &CellChange,
+)
+    ensures { (b : List ℕ) → array_in arrays.new.entries b ≡ cond
+        (eq_by_cmp cell_cmp (Object b) change.now.cell && not (is_array (stored_in cells.now.entries (Object b)))) None (array_in arrays.old.entries b) }
+{
+    match change.as_cell() {
+        Cell::Object(name) => {
+            if is_array(cells, name) {
+                return;
+            }
+            drop_array(arrays, name);
+        }
+        _ => {}
+    }
+}
+
+/// Drops the array of each name among the changes that is no array's.
+fn drop_gone(
+    cells: &BTreeMap<Cell, Value>,
+    arrays: &mut BTreeMap<Name, Elements>,
+    stored: &[CellChange],
+)
+    ensures arrays { (b : List ℕ) → array_in arrays.new.entries b ≡ cond
+        (changes cell_cmp stored.now (Object b) && not (is_array (stored_in cells.now.entries (Object b)))) None (array_in arrays.old.entries b) }
+    ensures ascending { IsStrictlySortedBy (slice_cmp nat_cmp) (keys_of arrays.new.entries) }
+{
+    for change in stored {
+        drop_one(cells, arrays, change);
+    }
+    let _ = arrays.len();
+}
+
+// Sets the cell of a change that gives it a value.
+fn set_one(cells: &mut BTreeMap<Cell, Value>, change: &CellChange) -> Result<(), NoMemory>
+    ensures others { (c : cell_type) → changes cell_cmp (sets (change.now ∷ [])) c ≡ false → map.get (state_of cells.new) c ≡ map.get (state_of cells.old) c }
+    ensures stays { (c : cell_type) → IsSome (map.get (state_of cells.old) c) → IsSome (map.get (state_of cells.new) c) }
+    ensures set { OnOk result (state_of cells.new ≡ apply (sets (change.now ∷ [])) (state_of cells.old)) }
+{
+    match change.value() {
+        Some(_) => store::set_present(cells, slice::from_ref(change)),
+        None => Ok(()),
+    }
+}
+
+/// Sets the cells that the changes give a value, and touches no other. It may stop midway.
+fn set_given(cells: &mut BTreeMap<Cell, Value>, stored: &[CellChange]) -> Result<(), NoMemory>
+    ensures others { (c : cell_type) → changes cell_cmp (sets stored.now) c ≡ false → map.get (state_of cells.new) c ≡ map.get (state_of cells.old) c }
+    ensures stays { (c : cell_type) → IsSome (map.get (state_of cells.old) c) → IsSome (map.get (state_of cells.new) c) }
+    ensures set { OnOk result (state_of cells.new ≡ apply (sets stored.now) (state_of cells.old)) }
+{
+    for change in stored {
+        set_one(cells, change)?;
+    }
+    Ok(())
+}
+
+/// What can fail of changes: sets the stored cells that they give a value, puts an array of each new name, and makes the
+/// arrays that are others afterwards. It may stop midway.
+fn prepared<V: Mover>(
+    alloc: Global,
+    cells: &mut BTreeMap<Cell, Value>,
+    arrays: &mut BTreeMap<Name, Elements>,
+    groups: &BTreeMap<Name, Group>,
+    stored: &[CellChange],
+    mover: &V,
+) -> Result<Vec<(Name, Elements)>, MoveErr>
+    requires { (ready : tree cell_type value_type) (grown : List (List ℕ × Pieced)) → state_of ready ≡ apply (sets stored.now) (state_of cells.old) →
+        ((b : List ℕ) (i : Index) → element_in grown b i ≡ element_in arrays.old.entries b i) →
+        AreFormed (lies_at (stored_in ready.entries)) grown groups.now.entries }
+    ensures others_cells { (c : cell_type) → changes cell_cmp (sets stored.now) c ≡ false → map.get (state_of cells.new) c ≡ map.get (state_of cells.old) c }
+    ensures stays_cells { (c : cell_type) → IsSome (map.get (state_of cells.old) c) → IsSome (map.get (state_of cells.new) c) }
+    ensures others { (b : List ℕ) → changes cell_cmp stored.now (Object b) ≡ false → array_in arrays.new.entries b ≡ array_in arrays.old.entries b }
+    ensures stays { (b : List ℕ) (p : Pieced) → array_in arrays.old.entries b ≡ Some p → array_in arrays.new.entries b ≡ Some p }
+    ensures elements { (b : List ℕ) (i : Index) → element_in arrays.new.entries b i ≡ element_in arrays.old.entries b i }
+    ensures set { OnOk result (state_of cells.new ≡ apply (sets stored.now) (state_of cells.old)) }
+    ensures there { OnOk result ((b : List ℕ) → changes cell_cmp stored.now (Object b) ≡ true → is_array (stored_in cells.new.entries (Object b)) ≡ true →
+        IsSome (array_in arrays.new.entries b)) }
+    ensures built { IfOk result (λ v. AreAfter (lies_at (stored_in cells.new.entries)) arrays.new.entries groups.now.entries v.items) }
+    ensures no_thread { result ≡ Err MoveErr.NoThread → V.may_lack_threads mover.now }
+{
+    if set_given(cells, stored).is_err() {
+        return Err(MoveErr::NoMemory);
+    }
+    if put_new(alloc, cells, arrays, stored).is_err() {
+        return Err(MoveErr::NoMemory);
+    }
+    after::built(alloc, cells, arrays, groups, mover)
+}
+
+/// What can't fail of changes: clears the stored cells that they give no value, puts the arrays in that are others, and
+/// drops those that are none any more.
+fn finish(
+    cells: &mut BTreeMap<Cell, Value>,
+    arrays: &mut BTreeMap<Name, Elements>,
+    stored: &[CellChange],
+    built: Vec<(Name, Elements)>,
+)
+    requires { IsStrictlySortedBy (slice_cmp nat_cmp) (keys_of built.items) }
+    ensures cells { state_of cells.new ≡ apply (clears stored.now) (state_of cells.old) }
+    ensures arrays { (b : List ℕ) → array_in arrays.new.entries b ≡ cond
+        (changes cell_cmp stored.now (Object b) && not (is_array (stored_in cells.new.entries (Object b)))) None
+        (put_over (array_in arrays.old.entries b) (array_in built.items b)) }
+    ensures ascending_cells { IsStrictlySortedBy cell_cmp (keys_of cells.new.entries) }
+    ensures ascending { IsStrictlySortedBy (slice_cmp nat_cmp) (keys_of arrays.new.entries) }
+{
+    store::clear_absent(cells, stored);
+    moving::put_in(arrays, built);
+    drop_gone(cells, arrays, stored);
+    let _ = cells.len();
+}
+
+fn given_count(stored: &[CellChange]) -> usize
+    ensures { result ≡ count_by (λ x. is_some x.value) stored.now }
+{
+    stored.iter().filter(|x| x.value().is_some()).count()
+}
+
+// Adds the change that sets a cell to what it is now, where a change gives it a value.
+fn add_before(
+    cells: &BTreeMap<Cell, Value>,
+    change: &CellChange,
+    before: &mut Vec<CellChange>,
+) -> Result<(), NoMemory>
+    ensures { OnOk result (before.new.items ≡ before.old.items ++ inverse (sets (change.now ∷ [])) (state_of cells.now)) }
+{
+    match change.value() {
+        Some(_) => {
+            let cell = change.cell();
+            let value = cells.get(&cell).copied();
+            Ok(before.push(CellChange::new(cell, value))?)
+        }
+        None => Ok(()),
+    }
+}
+
+/// The changes that set the cells that changes give a value to what they are now.
+fn given_before(
+    alloc: Global,
+    cells: &BTreeMap<Cell, Value>,
+    stored: &[CellChange],
+) -> Result<Vec<CellChange>, NoMemory>
+    ensures { IfOk result (λ v. v.items ≡ inverse (sets stored.now) (state_of cells.now)) }
+{
+    let mut before = Vec::with_capacity(alloc, given_count(stored))?;
+    for change in stored {
+        add_before(cells, change, &mut before)?;
+    }
+    Ok(before)
+}
+
+/// Sets the stored cells back, and drops the arrays that were put.
+fn take_back(
+    cells: &mut BTreeMap<Cell, Value>,
+    arrays: &mut BTreeMap<Name, Elements>,
+    stored: &[CellChange],
+    before: &[CellChange],
+)
+    requires once { AllOnce cell_cmp before.now }
+    requires room { HasRoom before.now (state_of cells.old) }
+    ensures cells { state_of cells.new ≡ apply before.now (state_of cells.old) }
+    ensures arrays { (b : List ℕ) → array_in arrays.new.entries b ≡ cond
+        (changes cell_cmp stored.now (Object b) && not (is_array (stored_in cells.new.entries (Object b)))) None (array_in arrays.old.entries b) }
+    ensures ascending_cells { IsStrictlySortedBy cell_cmp (keys_of cells.new.entries) }
+    ensures ascending { IsStrictlySortedBy (slice_cmp nat_cmp) (keys_of arrays.new.entries) }
+{
+    store::put_back(cells, before);
+    drop_gone(cells, arrays, stored);
+    let _ = cells.len();
+}
+
+/// Makes all the changes, or none where the mover refuses or no memory is left. Where they do no more than set elements
+/// that are there, it takes no memory.
+pub(crate) fn change_all<V: Mover>(
+    alloc: Global,
+    cells: &mut BTreeMap<Cell, Value>,
+    arrays: &mut BTreeMap<Name, Elements>,
+    delta: &Changes,
+    mover: &V,
+) -> Result<(), MoveErr>
+    requires once { AllOnce cell_cmp delta.now }
+    requires shelf { IsShelf cells.old arrays.old }
+    requires formed { IsWellFormed (apply delta.now (cells_of cells.old arrays.old)) }
+    ensures ok { OnOk result (cells_of cells.new arrays.new ≡ apply delta.now (cells_of cells.old arrays.old)) }
+    ensures err { OnErr result (cells_of cells.new arrays.new ≡ cells_of cells.old arrays.old) }
+    ensures shelf { IsShelf cells.new arrays.new }
+    ensures no_thread { result ≡ Err MoveErr.NoThread → V.may_lack_threads mover.now }
+{
+    if keep::are_set(arrays, delta) {
+        keep::set_all(arrays, delta);
+        return Ok(());
+    }
+    let Ok(stored) = after::stored_changes(alloc, delta) else {
+        return Err(MoveErr::NoMemory);
+    };
+    let changed = stored.as_slice();
+    let Ok(before) = given_before(alloc, cells, changed) else {
+        return Err(MoveErr::NoMemory);
+    };
+    let back = before.as_slice();
+    let Ok(groups) = groups::concerned(alloc, cells, arrays, delta) else {
+        return Err(MoveErr::NoMemory);
+    };
+    match prepared(alloc, cells, arrays, &groups, changed, mover) {
+        Ok(built) => {
+            finish(cells, arrays, changed, built);
+            Ok(())
+        }
+        Err(why) => {
+            take_back(cells, arrays, changed, back);
+            Err(why)
+        }
+    }
+}

@@ -1,0 +1,162 @@
+ghost use Rattle.std.specs.Prelude.{◌≡◌, IfOk, IfErr, OnOk, OnErr, Err};
+ghost use Rattle.selective_undo.specs.Changes.{apply, inverse, AllOnce};
+ghost use Rattle.wb_cells.specs.Cells.{cell_cmp, written_more, count_of};
+ghost use Rattle.wb_cells.specs.Readers.{elements, seen};
+ghost use Rattle.wb_cells.specs.WellFormed.{IsWellFormed};
+ghost use Rattle.std.specs.FinMap as map;
+
+mod parts;
+mod readers;
+
+use crate::{after, change, keep, looks};
+use std::alloc::Global;
+use std::collections::BTreeMap;
+use std::marker::Model;
+use std::mem;
+use wb_arrays::{MoveErr, Mover};
+use wb_cells::{AnyIndex, Cell, Changes, Delta, Inverse, Name, Pattern, Value};
+use wb_elements::Elements;
+use wb_range::NoMemory;
+
+/// A workbook: its cells, well formed, and how many were set so far.
+pub struct Book {
+    alloc: Global,
+    cells: BTreeMap<Cell, Value>,
+    arrays: BTreeMap<Name, Elements>,
+    writes: u128,
+}
+
+// In a function of its own, so that a crate above need not prove anew how each field is let go.
+impl Drop for Book {
+    fn drop(self) {
+        let Book {
+            alloc: _,
+            cells: _,
+            arrays: _,
+            writes: _,
+        } = self;
+    }
+}
+
+impl Model for Book {
+    ghost use Rattle.wb_cells.specs.Cells.{Contents, contents_code};
+
+    ghost Value = { Contents };
+
+    ghost coded = { contents_code };
+
+    ghost use Rattle.wb_book.specs.Shelf.{cells_of, IsShelf};
+
+    ghost view = { λ a. record { cells = cells_of a.cells a.arrays; writes = a.writes } };
+
+    ghost invariant = { λ a. IsShelf a.cells a.arrays };
+}
+
+impl Book {
+    /// The empty workbook.
+    pub fn new(alloc: Global) -> Book
+        ensures { result ≡ record { cells = map.empty; writes = 0 } }
+    {
+        Book {
+            alloc,
+            cells: BTreeMap::new(alloc),
+            arrays: BTreeMap::new(alloc),
+            writes: 0,
+        }
+    }
+
+    /// What stands in a cell.
+    pub fn get(&self, cell: &Cell) -> Option<Value>
+        ensures { result ≡ map.get self.now.cells cell.now }
+    {
+        keep::look(&self.cells, &self.arrays, cell)
+    }
+
+    /// What a look at a pattern shows: the cells that it names and that are there, with their values, in their order.
+    pub fn seen(&self, alloc: Global, pattern: &Pattern) -> Result<Vec<(Cell, Value)>, NoMemory>
+        ensures { IfOk result (λ v. v.items ≡ seen self.now.cells pattern.now) }
+    {
+        match pattern {
+            Pattern::Elements(array) => {
+                let pairs = looks::elements(alloc, &self.arrays, array)?;
+                looks::element_cells(alloc, array, pairs.as_slice())
+            }
+            Pattern::One(cell) => {
+                let cell = cell.cell();
+                looks::one_cell(alloc, cell, keep::look(&self.cells, &self.arrays, &cell))
+            }
+            Pattern::Objects => wb_cells::seen(alloc, &self.cells, pattern),
+            Pattern::Members(_) => wb_cells::seen(alloc, &self.cells, pattern),
+            Pattern::Uses(_) => wb_cells::seen(alloc, &self.cells, pattern),
+        }
+    }
+
+    /// The elements of the array of a name, each after its index, in the order of the indices; `NoMemory` where none is
+    /// left.
+    pub fn elements(&self, name: &Name) -> Result<Vec<(AnyIndex, i64)>, NoMemory>
+        ensures { IfOk result (λ v. v.items ≡ elements self.now.cells name.now) }
+    {
+        let _ = &self.cells;
+        looks::elements(self.alloc, &self.arrays, name)
+    }
+
+    // Makes the changes, or none where the mover refuses or no memory is left.
+    fn change<V: Mover>(&mut self, changes: &Changes, mover: &V) -> Result<(), MoveErr>
+        requires once { AllOnce cell_cmp changes.now }
+        requires formed { IsWellFormed (apply changes.now self.old.cells) }
+        ensures cells { OnOk result (self.new.cells ≡ apply changes.now self.old.cells) }
+        ensures writes { self.new.writes ≡ self.old.writes }
+        ensures err { OnErr result (self.new ≡ self.old) }
+        ensures no_thread { result ≡ Err MoveErr.NoThread → V.may_lack_threads mover.now }
+    {
+        let mut arrays = mem::replace(&mut self.arrays, BTreeMap::new(self.alloc));
+        let made = change::change_all(self.alloc, &mut self.cells, &mut arrays, changes, mover);
+        self.arrays = arrays;
+        made
+    }
+
+    /// Makes the changes, or none where the mover refuses or no memory is left, and gives what takes them back.
+    pub fn apply<V: Mover>(&mut self, delta: Delta, mover: &V) -> Result<Inverse, (Delta, MoveErr)>
+        requires { IsWellFormed (apply delta self.old.cells) }
+        ensures inverse { IfOk result (λ i. i ≡ inverse delta self.old.cells) }
+        ensures cells { OnOk result (self.new.cells ≡ apply delta self.old.cells) }
+        ensures writes { OnOk result (self.new.writes ≡ written_more self.old.writes (count_of delta)) }
+        ensures err { OnErr result (self.new ≡ self.old) }
+        ensures given_back { IfErr result (λ e. e.0 ≡ delta) }
+        ensures no_thread { IfErr result (λ e. e.1 ≡ MoveErr.NoThread → V.may_lack_threads mover.now) }
+    {
+        let Ok(before) = after::values_before(
+            self.alloc,
+            &self.cells,
+            &self.arrays,
+            delta.changes(),
+        ) else {
+            return Err((delta, MoveErr::NoMemory));
+        };
+        match self.change(delta.changes(), mover) {
+            Ok(()) => {
+                self.writes = self.writes.saturating_add(delta.count() as u128);
+                Ok(Inverse::new(before))
+            }
+            Err(why) => Err((delta, why)),
+        }
+    }
+
+    /// Sets the cells back to what they were before, each cell once, or none where the mover refuses or no memory is left.
+    pub fn revert<V: Mover>(&mut self, before: &Changes, mover: &V) -> Result<(), MoveErr>
+        requires once { AllOnce cell_cmp before.now }
+        requires well_formed { IsWellFormed (apply before.now self.old.cells) }
+        ensures cells { OnOk result (self.new.cells ≡ apply before.now self.old.cells) }
+        ensures writes { OnOk result (self.new.writes ≡ written_more self.old.writes (count_of before.now)) }
+        ensures err { OnErr result (self.new ≡ self.old) }
+        ensures no_thread { result ≡ Err MoveErr.NoThread → V.may_lack_threads mover.now }
+    {
+        match self.change(before, mover) {
+            Ok(()) => {
+                self.writes = self.writes.saturating_add(before.count() as u128);
+                Ok(())
+            }
+            Err(why) => Err(why),
+        }
+    }
+}

@@ -1,0 +1,33 @@
+//! A workbook from its parts.
+
+ghost use Rattle.std.specs.Prelude.{◌≡◌};
+ghost use Rattle.wb_cells.specs.Cells.{Cells};
+ghost use Rattle.wb_book.specs.Parts.{AreParts};
+
+use crate::shelf::Book;
+use std::alloc::Global;
+use std::collections::BTreeMap;
+use wb_cells::{Cell, Name, Value};
+use wb_elements::Elements;
+
+impl Book {
+    /// The workbook of these stored cells and arrays, which were set by no change. Who reads a workbook's text makes each
+    /// array at once, so that no element is ever a cell.
+    pub fn of_parts(
+        alloc: Global,
+        cells: BTreeMap<Cell, Value>,
+        arrays: BTreeMap<Name, Elements>,
+    ) -> Book
+        requires { (s : Cells) × AreParts cells arrays s }
+        ensures { (s : Cells) → AreParts cells arrays s → result ≡ record { cells = s; writes = 0 } }
+    {
+        let _cells = cells.keys();
+        let _arrays = arrays.keys();
+        Book {
+            alloc,
+            cells,
+            arrays,
+            writes: 0,
+        }
+    }
+}

@@ -1,0 +1,23 @@
+use Rattle.std.proofs.Common.{length, slice_get, refl, ap, sym, ◌∙◌, arith}
+use Rattle.std.proofs.lemmas.List.{length-map}
+use Rattle.std.proofs.lemmas.Option.{slice_get-map, slice_get_read, get_or_from_slice_get}
+use Rattle.std.specs.Prelude.{option_map}
+use Rattle.wb_cells.specs.Runs.{change_at, packed_changes}
+use Rattle.wb_cells.proofs.changes.packed.Packed.cell.Goals as goal
+
+pub returns : goal.returns
+returns g c = λ d.
+    let row = c.args.self.now.row in
+    let es = c.args.self.now.changes.items in
+    let seen = c.as_slice-changes.result.now in
+    let entry = c.index-changes-at.result in
+    let at = slice_get_read seen (length seen) c.args.at entry refl (omega (
+      arith,
+      c.requires.place,
+      c.as_slice-changes.ensures.len,
+      length-map es (change_at row),
+    )) c.index-changes-at.is in
+    let there = slice_get-map (change_at row) es c.args.at
+    ∙ ap (λ xs. option_map (change_at row) (slice_get xs c.args.at)) (sym c.as_slice-changes.ensures.value)
+    ∙ ap (option_map (change_at row)) at in
+    c.cell_at.ensures ∙ ap (λ x. x.cell) (sym (get_or_from_slice_get (packed_changes row es) c.args.at (change_at row entry) d there))

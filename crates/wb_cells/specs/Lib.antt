@@ -1,0 +1,14 @@
+pub mod Packed
+pub mod Names
+pub mod Ranks
+pub mod Shapes
+pub mod Kinds
+pub mod Layouts
+pub mod Cells
+pub mod Runs
+pub mod Reads
+pub mod Schema
+pub mod WellFormed
+pub mod Locales
+pub mod Readers
+pub mod Families

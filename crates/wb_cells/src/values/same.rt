@@ -1,0 +1,136 @@
+//! Whether rectangles and mappings are equal, by their ranks.
+
+ghost use Rattle.std.specs.Prelude.{◌≡◌, ◌≢◌};
+ghost use Rattle.std.specs.Bool.{Decides};
+ghost use Rattle.wb_dist.specs.Maps.{whole};
+ghost use Rattle.wb_cells.specs.Layouts.{map_of};
+ghost use Rattle.wb_cells.specs.Ranks.{ranges_of};
+
+use crate::values::layout::Laid;
+use crate::values::rectangle::Ranked;
+use wb_dist::{Distribution, Layout};
+use wb_range::Mapping;
+use wb_rect::Rect;
+
+// Whether a rectangle of rank 1 is the other one; likewise of rank 2 and 3.
+pub(crate) fn is_line(one: &Rect<1>, two: &Ranked) -> bool
+    ensures { Decides result (one.now ≡ ranges_of two.now) }
+{
+    let _one = one.rank();
+    match two {
+        Ranked::Line(rect) => one == rect,
+        Ranked::Plane(rect) => {
+            let _two = rect.rank();
+            false
+        }
+        Ranked::Solid(rect) => {
+            let _two = rect.rank();
+            false
+        }
+    }
+}
+
+pub(crate) fn is_plane(one: &Rect<2>, two: &Ranked) -> bool
+    ensures { Decides result (one.now ≡ ranges_of two.now) }
+{
+    let _one = one.rank();
+    match two {
+        Ranked::Line(rect) => {
+            let _two = rect.rank();
+            false
+        }
+        Ranked::Plane(rect) => one == rect,
+        Ranked::Solid(rect) => {
+            let _two = rect.rank();
+            false
+        }
+    }
+}
+
+pub(crate) fn is_solid(one: &Rect<3>, two: &Ranked) -> bool
+    ensures { Decides result (one.now ≡ ranges_of two.now) }
+{
+    let _one = one.rank();
+    match two {
+        Ranked::Line(rect) => {
+            let _two = rect.rank();
+            false
+        }
+        Ranked::Plane(rect) => {
+            let _two = rect.rank();
+            false
+        }
+        Ranked::Solid(rect) => one == rect,
+    }
+}
+
+// Whether all is on one locale.
+fn is_on_one<const R: usize>(layout: &Layout<R>) -> bool
+    ensures { Decides result (layout.now ≡ whole) }
+{
+    match layout.distribution() {
+        Distribution::Whole => true,
+        Distribution::Block(_) => false,
+        Distribution::Cyclic(_) => false,
+        Distribution::BlockCyclic(_) => false,
+    }
+}
+
+// Mappings for domains of different ranks are equal where both keep all on one locale.
+#[tactic(auto, using(crate::proofs::TwoRanks::of_two_ranks))]
+fn are_whole<const R: usize, const S: usize>(one: &Layout<R>, two: &Layout<S>) -> bool
+    requires { R ≢ S }
+    ensures { Decides result (one.now ≡ two.now) }
+{
+    let _one = one.locales();
+    let _two = two.locales();
+    if !is_on_one(one) {
+        return false;
+    }
+    is_on_one(two)
+}
+
+// Whether a mapping of rank 1 is the other one; likewise of rank 2 and 3.
+pub(crate) fn is_laid_line(one: &Layout<1>, two: &Laid) -> bool
+    ensures { Decides result (one.now ≡ map_of two.now) }
+{
+    match two {
+        Laid::Whole => is_on_one(one),
+        Laid::Line(layout) => one == layout,
+        Laid::Plane(layout) => are_whole(one, layout),
+        Laid::Solid(layout) => are_whole(one, layout),
+    }
+}
+
+pub(crate) fn is_laid_plane(one: &Layout<2>, two: &Laid) -> bool
+    ensures { Decides result (one.now ≡ map_of two.now) }
+{
+    match two {
+        Laid::Whole => is_on_one(one),
+        Laid::Line(layout) => are_whole(one, layout),
+        Laid::Plane(layout) => one == layout,
+        Laid::Solid(layout) => are_whole(one, layout),
+    }
+}
+
+pub(crate) fn is_laid_solid(one: &Layout<3>, two: &Laid) -> bool
+    ensures { Decides result (one.now ≡ map_of two.now) }
+{
+    match two {
+        Laid::Whole => is_on_one(one),
+        Laid::Line(layout) => are_whole(one, layout),
+        Laid::Plane(layout) => are_whole(one, layout),
+        Laid::Solid(layout) => one == layout,
+    }
+}
+
+pub(crate) fn is_laid_whole(two: &Laid) -> bool
+    ensures { Decides result (whole ≡ map_of two.now) }
+{
+    match two {
+        Laid::Whole => true,
+        Laid::Line(layout) => is_on_one(layout),
+        Laid::Plane(layout) => is_on_one(layout),
+        Laid::Solid(layout) => is_on_one(layout),
+    }
+}

@@ -1,0 +1,193 @@
+-- Which replies leave the history.
+use Rattle.std.proofs.Common.{◌≡◌, ℕ, zero, suc, List, Bool, true, false, Option, Some, None, Ok, Err, MatchBool, Result, ap}
+use Rattle.wb_history.specs.Past.{Past}
+use Rattle.wb_history.specs.declared.query.Answer.{Answer}
+use Rattle.wb_log.specs.declared.refusal.Refusal.{Refusal}
+use Rattle.wb_log.specs.declared.refusal.Refusal.TheVariants.{NoSuchEdit}
+use Rattle.wb_log.specs.Cascades.{DependentsReply, CascadeReply, OfNumber}
+use Rattle.wb_protocol.specs.Machine.{Step}
+use Rattle.wb_protocol.specs.declared.replies.reply.Reply.{Reply}
+use Rattle.wb_protocol.specs.declared.replies.reply.Reply.TheVariants.{Edited, Undone, Cascaded, Redone, Listed, Answered, Printed, Counted, Refused}
+use Rattle.wb_protocol.specs.declared.requests.request.Request.{Request}
+use Rattle.wb_protocol.specs.declared.requests.request.Request.TheVariants.{Change, Undo, Redo, Cascade, Dependents, Ask, Print, History, Edits}
+use Rattle.wb_desk.specs.Entries.{is_entered, is_long, leaves_all, cascade_in}
+use Rattle.wb_desk.specs.Records.{is_set, sets_or_asks, sets_element}
+use Rattle.wb_desk.specs.Courses.{Course}
+use Rattle.wb_desk.specs.Serving.{Enters, AnswersCourse}
+
+refused_leaves : (p : Past) (asked : Request) (why : Refusal) (q : Past) → Step p asked (Refused why) q → q ≡ p
+refused_leaves p (Change e) why q s = s.1
+refused_leaves p (Undo (Some k)) why q s = s.1
+refused_leaves p (Undo None) why q s = s.1
+refused_leaves p (Redo k) why q s = s.1
+refused_leaves p (Cascade k) why q s = s.1
+refused_leaves p (Dependents k) why q s = s.1
+refused_leaves p (Ask a) why q s = s.1
+refused_leaves p Print why q s = s.1
+refused_leaves p History why q s = s.1
+refused_leaves p Edits why q s = absurd s
+
+answered_leaves : (p : Past) (asked : Request) (a : Answer) (q : Past) → Step p asked (Answered a) q → q ≡ p
+answered_leaves p (Change e) a q s = absurd s
+answered_leaves p (Undo (Some k)) a q s = absurd s
+answered_leaves p (Undo None) a q s = absurd s
+answered_leaves p (Redo k) a q s = absurd s
+answered_leaves p (Cascade k) a q s = absurd s
+answered_leaves p (Dependents k) a q s = absurd s
+answered_leaves p (Ask asked) a q s = s.1
+answered_leaves p Print a q s = absurd s
+answered_leaves p History a q s = absurd s
+answered_leaves p Edits a q s = absurd s
+
+printed_leaves : (p : Past) (asked : Request) (t : _) (q : Past) → Step p asked (Printed t) q → q ≡ p
+printed_leaves p (Change e) t q s = absurd s
+printed_leaves p (Undo (Some k)) t q s = absurd s
+printed_leaves p (Undo None) t q s = absurd s
+printed_leaves p (Redo k) t q s = absurd s
+printed_leaves p (Cascade k) t q s = absurd s
+printed_leaves p (Dependents k) t q s = absurd s
+printed_leaves p (Ask asked) t q s = absurd s
+printed_leaves p Print t q s = s.1
+printed_leaves p History t q s = s.1
+printed_leaves p Edits t q s = absurd s
+
+listed_leaves : (p : Past) (asked : Request) (ks : List ℕ) (q : Past) → Step p asked (Listed ks) q → q ≡ p
+listed_leaves p (Change e) ks q s = absurd s
+listed_leaves p (Undo (Some k)) ks q s = absurd s
+listed_leaves p (Undo None) ks q s = absurd s
+listed_leaves p (Redo k) ks q s = absurd s
+listed_leaves p (Cascade k) ks q s = absurd s
+listed_leaves p (Dependents k) ks q s = s.1
+listed_leaves p (Ask asked) ks q s = absurd s
+listed_leaves p Print ks q s = absurd s
+listed_leaves p History ks q s = absurd s
+listed_leaves p Edits ks q s = absurd s
+
+counted_leaves : (p : Past) (asked : Request) (n w : ℕ) (q : Past) → Step p asked (Counted n w) q → q ≡ p
+counted_leaves p (Change e) n w q s = absurd s
+counted_leaves p (Undo (Some k)) n w q s = absurd s
+counted_leaves p (Undo None) n w q s = absurd s
+counted_leaves p (Redo k) n w q s = absurd s
+counted_leaves p (Cascade k) n w q s = absurd s
+counted_leaves p (Dependents k) n w q s = absurd s
+counted_leaves p (Ask asked) n w q s = absurd s
+counted_leaves p Print n w q s = absurd s
+counted_leaves p History n w q s = absurd s
+counted_leaves p Edits n w q s = s.2
+
+-- Only an undo with dependents is replied by what it undid.
+cascaded_leaves : (p : Past) (asked : Request) (ks : List ℕ) (n : ℕ) (q : Past) → cascade_in asked ≡ None → Step p asked (Cascaded ks n) q → q ≡ p
+cascaded_leaves p (Change e) ks n q none s = absurd s
+cascaded_leaves p (Undo (Some k)) ks n q none s = absurd s
+cascaded_leaves p (Undo None) ks n q none s = absurd s
+cascaded_leaves p (Redo k) ks n q none s = absurd s
+cascaded_leaves p (Cascade k) ks n q none s = cc
+cascaded_leaves p (Dependents k) ks n q none s = absurd s
+cascaded_leaves p (Ask asked) ks n q none s = absurd s
+cascaded_leaves p Print ks n q none s = absurd s
+cascaded_leaves p History ks n q none s = absurd s
+cascaded_leaves p Edits ks n q none s = absurd s
+
+pub is_cascade : (asked : Request) (k : ℕ) → cascade_in asked ≡ Some k → asked ≡ Cascade k
+is_cascade (Cascade j) k is = cc
+is_cascade (Change e) k is = cc
+is_cascade (Undo j) k is = cc
+is_cascade (Redo j) k is = cc
+is_cascade (Dependents j) k is = cc
+is_cascade (Ask asked) k is = cc
+is_cascade Print k is = cc
+is_cascade History k is = cc
+is_cascade Edits k is = cc
+
+err_same : {X Y : Type 0} (v w : Refusal) → ◌≡◌ {A = Result X Refusal} (Err v) (Err w) → ◌≡◌ {A = Result Y Refusal} (Err v) (Err w)
+err_same v w e = let same : v ≡ w = cc in ap Err same
+
+-- An undo with dependents is refused as the question for them is.
+pub refused_alike : (es : _) (number : ℕ) (why : Refusal) → OfNumber (DependentsReply es) number (Err why) → OfNumber (CascadeReply es) number (Err why)
+refused_alike es zero why reply = err_same why NoSuchEdit reply
+refused_alike es (suc k) why reply = reply
+
+pub unentered_leaves : (p : Past) (asked : Request) (r : Reply) (q : Past) → Step p asked r q → is_entered r ≡ false → q ≡ p
+unentered_leaves p asked (Edited k n) q s e = cc
+unentered_leaves p asked (Undone k n) q s e = cc
+unentered_leaves p asked (Cascaded ks n) q s e = cc
+unentered_leaves p asked (Redone k n) q s e = cc
+unentered_leaves p asked (Listed ks) q s e = cc
+unentered_leaves p asked (Answered a) q s e = cc
+unentered_leaves p asked (Printed t) q s e = cc
+unentered_leaves p asked (Counted n w) q s e = cc
+unentered_leaves p asked (Refused why) q s e = refused_leaves p asked why q s
+
+pub long_leaves : (p : Past) (asked : Request) (r : Reply) (q : Past) → cascade_in asked ≡ None → Step p asked r q → is_long r ≡ true → q ≡ p
+long_leaves p asked (Edited k n) q none s e = cc
+long_leaves p asked (Undone k n) q none s e = cc
+long_leaves p asked (Cascaded ks n) q none s e = cascaded_leaves p asked ks n q none s
+long_leaves p asked (Redone k n) q none s e = cc
+long_leaves p asked (Listed ks) q none s e = listed_leaves p asked ks q s
+long_leaves p asked (Answered a) q none s e = answered_leaves p asked a q s
+long_leaves p asked (Printed t) q none s e = printed_leaves p asked t q s
+long_leaves p asked (Counted n w) q none s e = cc
+long_leaves p asked (Refused why) q none s e = cc
+
+pub left : (p : Past) (asked : Request) (r : Reply) (q : Past) → Step p asked r q → leaves_all r ≡ true → q ≡ p
+left p asked (Edited k n) q s e = cc
+left p asked (Undone k n) q s e = cc
+left p asked (Cascaded ks n) q s e = cc
+left p asked (Redone k n) q s e = cc
+left p asked (Listed ks) q s e = listed_leaves p asked ks q s
+left p asked (Answered a) q s e = answered_leaves p asked a q s
+left p asked (Printed t) q s e = printed_leaves p asked t q s
+left p asked (Counted n w) q s e = counted_leaves p asked n w q s
+left p asked (Refused why) q s e = refused_leaves p asked why q s
+
+pub course_left : (c : Course) (k : ℕ) (asked : Request) (r : Reply) (d : Course) → AnswersCourse c k asked r d → leaves_all r ≡ true → d.history ≡ c.history
+course_left c k asked r d a e = by_entered (is_entered r) a
+  where
+    by_entered : (b : Bool) → MatchBool b (Enters c k asked r d) (d ≡ c) → d.history ≡ c.history
+    by_entered true enters = left c.history asked r d.history enters.reply e
+    by_entered false same = ap (λ (x : Course). x.history) same
+
+-- What is kept by its numbers leaves the history, but for a new value that was accepted.
+change_leaves : (p : Past) (e : _) (r : Reply) (q : Past) → is_set e ≡ true → Step p (Change e) r q → sets_element (Change e) r ≡ false → q ≡ p
+change_leaves p e (Edited k n) q set s off = cc (set, off)
+change_leaves p e (Undone k n) q set s off = absurd s
+change_leaves p e (Cascaded ks n) q set s off = absurd s
+change_leaves p e (Redone k n) q set s off = absurd s
+change_leaves p e (Listed ks) q set s off = absurd s
+change_leaves p e (Answered a) q set s off = absurd s
+change_leaves p e (Printed t) q set s off = absurd s
+change_leaves p e (Counted n w) q set s off = absurd s
+change_leaves p e (Refused why) q set s off = refused_leaves p (Change e) why q s
+
+ask_leaves : (p : Past) (a : _) (r : Reply) (q : Past) → Step p (Ask a) r q → q ≡ p
+ask_leaves p a (Edited k n) q s = absurd s
+ask_leaves p a (Undone k n) q s = absurd s
+ask_leaves p a (Cascaded ks n) q s = absurd s
+ask_leaves p a (Redone k n) q s = absurd s
+ask_leaves p a (Listed ks) q s = absurd s
+ask_leaves p a (Answered v) q s = answered_leaves p (Ask a) v q s
+ask_leaves p a (Printed t) q s = absurd s
+ask_leaves p a (Counted n w) q s = absurd s
+ask_leaves p a (Refused why) q s = refused_leaves p (Ask a) why q s
+
+edits_leaves : (p : Past) (r : Reply) (q : Past) → Step p Edits r q → q ≡ p
+edits_leaves p (Edited k n) q s = absurd s
+edits_leaves p (Undone k n) q s = absurd s
+edits_leaves p (Cascaded ks n) q s = absurd s
+edits_leaves p (Redone k n) q s = absurd s
+edits_leaves p (Listed ks) q s = absurd s
+edits_leaves p (Answered a) q s = absurd s
+edits_leaves p (Printed t) q s = absurd s
+edits_leaves p (Counted n w) q s = s.2
+edits_leaves p (Refused why) q s = absurd s
+
+pub element_leaves : (p : Past) (asked : Request) (r : Reply) (q : Past) → sets_or_asks asked ≡ true → Step p asked r q → sets_element asked r ≡ false → q ≡ p
+element_leaves p (Change e) r q small s off = change_leaves p e r q small s off
+element_leaves p (Ask a) r q small s off = ask_leaves p a r q s
+element_leaves p (Undo k) r q small s off = cc
+element_leaves p (Redo k) r q small s off = cc
+element_leaves p (Cascade k) r q small s off = cc
+element_leaves p (Dependents k) r q small s off = cc
+element_leaves p Print r q small s off = cc
+element_leaves p History r q small s off = cc
+element_leaves p Edits r q small s off = edits_leaves p r q s

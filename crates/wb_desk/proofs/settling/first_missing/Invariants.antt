@@ -1,0 +1,6 @@
+use Rattle.std.proofs.Common.{ℕ, ◌<◌}
+use Rattle.wb_desk.specs.Settling.{HasOnePass}
+use Rattle.wb_desk.proofs.settling.first_missing.Given as goal
+
+abbrev pub invariant-loop-seat : goal.invariant-loop-seat
+invariant-loop-seat g l = (k : ℕ) → k < l.seat → HasOnePass l.passes k

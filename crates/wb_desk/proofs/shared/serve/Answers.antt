@@ -1,0 +1,28 @@
+-- A desk's answer is that of what it keeps, and keeps what is locked.
+use Rattle.std.proofs.Common.{◌≡◌, ◌∙◌, length, arith, ap}
+use Rattle.wb_desk.specs.Locked.{Locked}
+use Rattle.wb_desk.proofs.shared.serve.Goals as goal
+
+pub invariant_of-shared : goal.invariant_of-shared
+invariant_of-shared g c =
+    let told = c.answer.ensures in
+    let total : c.answer.new.self.calls.total ≡ length c.answer.new.self.journal.entries = cc (told.total, told.entries, c.shared.invariant.0) in
+    (total, c.shared.invariant.1, omega (arith, told.seats, c.shared.invariant.2), told.seats ∙ c.shared.invariant.3, told.course g.L.Opening.opening c.shared.invariant.4)
+
+pub returns-clause-strange : goal.returns-clause-strange
+returns-clause-strange g c = rw (ap (λ (s : Locked). s.course) c.shared.view_is) at c.answer.ensures.strange
+
+pub returns-clause-answers : goal.returns-clause-answers
+returns-clause-answers g c = rw (ap (λ (s : Locked). s.course) c.shared.view_is) at c.answer.ensures.answers
+
+pub returns-clause-left : goal.returns-clause-left
+returns-clause-left g c = rw (ap (λ (s : Locked). s.course) c.shared.view_is) at c.answer.ensures.left
+
+pub returns-clause-total : goal.returns-clause-total
+returns-clause-total g c = rw (ap (λ (s : Locked). s.total) c.shared.view_is) at c.answer.ensures.total
+
+pub returns-clause-own : goal.returns-clause-own
+returns-clause-own g c = c.answer.ensures.own
+
+pub returns-clause-share : goal.returns-clause-share
+returns-clause-share g c = c.answer.ensures.share

@@ -1,0 +1,9 @@
+pub mod Entries
+pub mod Records
+pub mod Courses
+pub mod Serving
+pub mod Settling
+pub mod Openings
+pub mod Seats
+pub mod Locked
+pub mod Answering

@@ -1,0 +1,163 @@
+//! A desk: opened, asked under its lock, and settled.
+
+ghost use Rattle.std.specs.Prelude.{◌≡◌, length, IfOk, IfErr, MatchResult};
+ghost use Rattle.wb_desk.specs.Settling.{IsSettled, IsCause, total_of_passes};
+ghost use Rattle.wb_desk.specs.Openings.{nothing_done};
+ghost use Rattle.wb_desk.specs.Courses.{IsCourse};
+ghost use Rattle.wb_desk.specs.Seats.{IsNumberOfSeats, IsSeatsErr};
+ghost use Rattle.wb_desk.specs.Answering.{AnswersAmong};
+ghost use Rattle.wb_desk.specs.Serving.{own_after, share_after, new_passes};
+
+use crate::opening::Opening;
+use crate::shared::Shared;
+use crate::turn::Turn;
+use crate::{Cause, Pass};
+use std::alloc::Global;
+use std::sync::ledger::Blank;
+use std::sync::{Mutex, MutexGuard, Wait};
+use std::thread::yield_now;
+use thiserror::Error;
+use wb_arrays::Mover;
+use wb_history::History;
+use wb_protocol::{Reply, Request};
+
+/// Why there is no desk.
+#[derive(Clone, Copy, Debug, PartialEq, Eq, Error)]
+pub enum DeskErr {
+    /// A desk has 1 to 16 seats.
+    #[error("no desk of so many seats")]
+    BadSeats,
+    /// A growth was refused.
+    #[error("no memory")]
+    NoMemory,
+}
+
+// How often a thread looks for the lock before it sleeps.
+const LOOKS: u32 = 1_000;
+
+/// A workbook that several seats share. Whoever wants its lock takes the door first, and keeps it until the lock is had: who lets
+/// the lock go can't have it again before the one at the door had it.
+#[derive(Drop)]
+pub struct Desk<L: Opening> {
+    door: Mutex<()>,
+    shared: Mutex<Shared<L>>,
+}
+
+// Takes a lock. What a lock is held for is mostly done sooner than a thread that sleeps is woken, so this looks a while before it
+// sleeps, and lets other threads run between two looks.
+fn taken<'m, R: Wait, T>(lock: &'m Mutex<T>, rt: &R) -> MutexGuard<'m, T> {
+    for _ in 0..LOOKS {
+        if let Some(guard) = lock.try_lock() {
+            return guard;
+        }
+        yield_now();
+    }
+    lock.lock(rt)
+}
+
+impl<L: Opening> Desk<L> {
+    /// A desk of 1 to 16 seats on an empty workbook, and a pass for each seat.
+    pub fn new(
+        alloc: Global,
+        blank: Blank,
+        seats: usize,
+    ) -> Result<(Desk<L>, Vec<Pass<L>>), DeskErr>
+        requires name { blank.name ≡ L.name }
+        requires parts { blank.parts ≡ L.parts }
+        requires sixteen { blank.parts ≡ 16 }
+        requires opening { L.opening ≡ nothing_done }
+        requires seats { L.seats ≡ seats }
+        ensures ok { IfOk result (λ r. IsNumberOfSeats seats × (r.1.items ≡ new_passes seats)) }
+        ensures bad { IfErr result (λ why. IsSeatsErr seats why) }
+    {
+        match Desk::open_at(alloc, blank, seats, History::new(alloc)) {
+            Ok(opened) => Ok(opened),
+            Err((_, why)) => Err(why),
+        }
+    }
+
+    /// A desk of 1 to 16 seats on the workbook of a history, and a pass for each seat. Where there is none, the history is given back.
+    pub fn open_at(
+        alloc: Global,
+        blank: Blank,
+        seats: usize,
+        history: History,
+    ) -> Result<(Desk<L>, Vec<Pass<L>>), (History, DeskErr)>
+        requires name { blank.name ≡ L.name }
+        requires parts { blank.parts ≡ L.parts }
+        requires sixteen { blank.parts ≡ 16 }
+        requires opening { L.opening ≡ history }
+        requires seats { L.seats ≡ seats }
+        ensures ok { IfOk result (λ r. IsNumberOfSeats seats × (r.1.items ≡ new_passes seats)) }
+        ensures bad { IfErr result (λ e. IsSeatsErr seats e.1) }
+        ensures back { IfErr result (λ e. e.0 ≡ history) }
+    {
+        match Shared::open_at(alloc, blank, seats, history) {
+            Ok((shared, passes)) => {
+                let door = Mutex::new(());
+                let shared = Mutex::new(shared);
+                Ok((Desk { door, shared }, passes))
+            }
+            Err(left) => Err(left),
+        }
+    }
+
+    // Takes the lock, after the door.
+    pub(crate) fn taken<R: Wait>(&self, rt: &R) -> MutexGuard<'_, Shared<L>> {
+        let door = taken(&self.door, rt);
+        let guard = taken(&self.shared, rt);
+        drop(door);
+        guard
+    }
+
+    /// Takes the lock, and answers one request of a pass.
+    pub fn call<M: Mover>(
+        &self,
+        rt: &impl Wait,
+        pass: &mut Pass<L>,
+        request: Request,
+        mover: &M,
+    ) -> Reply
+        ensures reply { AnswersAmong L.seats L.opening pass.old.seat pass.old.own request result }
+        ensures seat { pass.new.seat ≡ pass.old.seat }
+        ensures own { pass.new.own ≡ own_after pass.old.seat pass.old.own request result }
+        ensures share { pass.new.share ≡ share_after pass.old.share result }
+    {
+        let turn = Turn::at(self);
+        let reply = turn.call(rt, pass, request, mover);
+        turn.end();
+        reply
+    }
+}
+
+/// What is left where a desk is not settled: the locked value, the passes as they were handed in, and why.
+#[derive(Drop)]
+pub struct Unsettled<L: Opening> {
+    pub shared: Shared<L>,
+    pub passes: Vec<Pass<L>>,
+    pub cause: Cause,
+}
+
+/// Takes the locked value out of a desk, where each seat has one pass and the journal's entries of the seat, in order, are
+/// the list of that pass.
+pub fn settle<L: Opening>(desk: Desk<L>, passes: Vec<Pass<L>>) -> Result<Shared<L>, Unsettled<L>>
+    ensures course { MatchResult result (λ s. IsCourse L.opening s.course) (λ u. IsCourse L.opening u.shared.course) }
+    ensures seats { MatchResult result (λ s. s.course.seats ≡ L.seats) (λ u. u.shared.course.seats ≡ L.seats) }
+    ensures ok { IfOk result (λ s. IsSettled s.course.seats s.course.entries passes.items) }
+    ensures whole { IfOk result (λ s. length s.course.entries ≡ total_of_passes s.course.seats passes.items) }
+    ensures passes { IfErr result (λ u. u.passes.items ≡ passes.items) }
+    ensures cause { IfErr result (λ u. IsCause u.shared.course.seats u.shared.course.entries passes.items u.cause) }
+{
+    let Desk { door: _, shared } = desk;
+    let shared = shared.into_inner();
+    match shared.cause(&passes) {
+        None => Ok(shared),
+        Some(cause) => {
+            Err(Unsettled {
+                shared,
+                passes,
+                cause,
+            })
+        }
+    }
+}

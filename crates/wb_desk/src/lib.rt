@@ -1,0 +1,25 @@
+//! The journal of a desk: what was asked and replied, the passes of the seats, and whether both agree.
+//!
+//! A desk: one workbook that several seats share, with the journal of all that was asked and replied.
+#![tactic(auto)]
+
+mod counted;
+mod desk;
+mod entry;
+mod journal;
+mod opening;
+mod pass;
+mod replying;
+mod settling;
+mod shared;
+mod turn;
+
+pub use crate::counted::Counted;
+pub use crate::desk::{Desk, DeskErr, Unsettled, settle};
+pub use crate::entry::{CountedEdits, Entry, Form, LentEntry, NewElement, ReadElement, Record};
+pub use crate::journal::Journal;
+pub use crate::opening::Opening;
+pub use crate::pass::Pass;
+pub use crate::settling::Cause;
+pub use crate::shared::{Shared, serve};
+pub use crate::turn::Turn;

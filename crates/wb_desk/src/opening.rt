@@ -1,0 +1,23 @@
+//! With which history a desk is opened, and for how many seats: facts of its ledger that no value carries.
+
+use std::marker::Brand;
+use std::sync::ledger::Ledger;
+
+/// A desk's ledger, and with it the history that the desk is opened with, and its number of seats.
+pub trait Opening: Ledger {
+    ghost use Rattle.std.specs.Prelude.{ℕ};
+    ghost use Rattle.wb_history.specs.Past.{Past};
+
+    ghost opening: { Past };
+
+    ghost seats: { ℕ };
+}
+
+/// Whoever opens a desk picks both.
+impl Opening for Brand {
+    ghost use Rattle.wb_desk.specs.Openings.{nothing_done};
+
+    ghost opening = { nothing_done };
+
+    ghost seats = { 1 };
+}

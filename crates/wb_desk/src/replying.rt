@@ -1,0 +1,282 @@
+// One request answered by a history, with a record of it for the journal and another one for the pass.
+ghost use Rattle.std.specs.Prelude.{◌≡◌, Bool, true, false, None, Ok, IfOk, OnErr};
+ghost use Rattle.wb_history.specs.Cascades.{DependentsReply, OfNumber};
+ghost use Rattle.wb_history.specs.Past.{meant};
+ghost use Rattle.wb_protocol.specs.Machine.{Step};
+ghost use Rattle.wb_protocol.specs.declared.requests.request.Request.TheVariants.{Cascade};
+ghost use Rattle.wb_desk.specs.Entries.{is_told, is_entered, is_long, cascade_in};
+ghost use Rattle.wb_desk.specs.Records.{sets_or_asks};
+ghost use Rattle.wb_desk.specs.Serving.{entry};
+
+use crate::entry::{Entry, Record, is_of_numbers, small_record};
+use std::alloc::Global;
+use wb_arrays::Mover;
+use wb_history::{History, Refusal, Undoer};
+use wb_protocol::{EditNumbers, Reply, Request, answer_request};
+use wb_range::NoMemory;
+
+fn is_told(refusal: Refusal) -> bool
+    ensures { result ≡ is_told refusal }
+{
+    match refusal {
+        Refusal::NoMemory => false,
+        Refusal::StrangePass => false,
+        Refusal::BadRequest => true,
+        Refusal::BadLiteral => true,
+        Refusal::Refused(_) => true,
+        Refusal::NoSuchEdit => true,
+        Refusal::NotInForce => true,
+        Refusal::InForce => true,
+        Refusal::Blocked(_) => true,
+        Refusal::RefusedInPlace(_) => true,
+    }
+}
+
+/// Whether a reply is entered.
+pub(crate) fn is_entered(reply: &Reply) -> bool
+    ensures { result ≡ is_entered reply.now }
+{
+    match reply {
+        Reply::Edited(_, _) => true,
+        Reply::Undone(_, _) => true,
+        Reply::Cascaded(_, _) => true,
+        Reply::Redone(_, _) => true,
+        Reply::Listed(_) => true,
+        Reply::Answered(_) => true,
+        Reply::Printed(_) => true,
+        Reply::Counted(_, _) => true,
+        Reply::Refused(why) => is_told(*why),
+    }
+}
+
+// An equal reply. Only an answer, a list or a text may find no memory.
+fn copied(alloc: Global, reply: &Reply) -> Result<Reply, NoMemory>
+    ensures ok { IfOk result (λ r. r ≡ reply.now) }
+    ensures err { OnErr result (is_long reply.now ≡ true) }
+{
+    match reply {
+        Reply::Edited(edit, count) => Ok(Reply::Edited(*edit, *count)),
+        Reply::Undone(edit, count) => Ok(Reply::Undone(*edit, *count)),
+        Reply::Cascaded(edits, count) => Ok(Reply::Cascaded(edits.copy(alloc)?, *count)),
+        Reply::Redone(edit, count) => Ok(Reply::Redone(*edit, *count)),
+        Reply::Listed(edits) => Ok(Reply::Listed(edits.copy(alloc)?)),
+        Reply::Answered(answer) => Ok(Reply::Answered(answer.copy(alloc)?)),
+        Reply::Printed(text) => Ok(Reply::Printed(text.copy(alloc)?)),
+        Reply::Counted(edits, writes) => Ok(Reply::Counted(*edits, *writes)),
+        Reply::Refused(why) => Ok(Reply::Refused(*why)),
+    }
+}
+
+// The number of the edit that a request undoes with all that need it.
+fn cascade_in(request: &Request) -> Option<u64>
+    ensures { result ≡ cascade_in request.now }
+{
+    match request {
+        Request::Cascade(number) => Some(*number),
+        Request::Change(_)
+        | Request::Undo(_)
+        | Request::Redo(_)
+        | Request::Dependents(_)
+        | Request::Ask(_)
+        | Request::Print
+        | Request::History
+        | Request::Edits => None,
+    }
+}
+
+// Undo with dependents, which are these: the copies of the list are made before anything is undone.
+fn cascade_listed<M: Mover>(
+    alloc: Global,
+    history: &mut History,
+    number: u64,
+    listed: EditNumbers,
+    mover: &M,
+) -> Result<(Reply, Reply, Reply), NoMemory>
+    requires { OfNumber (DependentsReply (meant history.old.entries)) number (Ok listed) }
+    ensures ok { IfOk result (λ r. (is_entered r.0 ≡ true) × Step history.old (Cascade number) r.0 history.new × (r.1 ≡ r.0) × (r.2 ≡ r.0)) }
+    ensures err { OnErr result (history.new ≡ history.old) }
+{
+    let first = listed.copy(alloc)?;
+    let second = listed.copy(alloc)?;
+    let (done, count) = history.cascade_listed(
+        number,
+        listed.as_slice(),
+        &mut Undoer::new(),
+        mover,
+    )?;
+    Ok((
+        Reply::Cascaded(listed.first(done), count),
+        Reply::Cascaded(first.first(done), count),
+        Reply::Cascaded(second.first(done), count),
+    ))
+}
+
+// Undo with dependents: the reply, and two equal ones.
+fn replied_to_cascade<M: Mover>(
+    alloc: Global,
+    history: &mut History,
+    number: u64,
+    mover: &M,
+) -> Result<(Reply, Reply, Reply), NoMemory>
+    ensures ok { IfOk result (λ r. (is_entered r.0 ≡ true) × Step history.old (Cascade number) r.0 history.new × (r.1 ≡ r.0) × (r.2 ≡ r.0)) }
+    ensures err { OnErr result (history.new ≡ history.old) }
+{
+    match history.dependents(number) {
+        Ok(listed) => cascade_listed(alloc, history, number, EditNumbers::new(listed), mover),
+        Err(why) => {
+            if !is_told(why) {
+                return Err(NoMemory);
+            }
+            Ok((
+                Reply::Refused(why),
+                Reply::Refused(why),
+                Reply::Refused(why),
+            ))
+        }
+    }
+}
+
+// The reply to any other request, and two equal ones.
+#[tactic(auto, using(crate::proofs::Replies::unentered_leaves, crate::proofs::Replies::long_leaves))]
+fn replied_to_other<M: Mover>(
+    alloc: Global,
+    history: &mut History,
+    request: Request,
+    mover: &M,
+) -> Result<(Reply, Reply, Reply), NoMemory>
+    requires { cascade_in request ≡ None }
+    ensures ok { IfOk result (λ r. (is_entered r.0 ≡ true) × Step history.old request r.0 history.new × (r.1 ≡ r.0) × (r.2 ≡ r.0)) }
+    ensures err { OnErr result (history.new ≡ history.old) }
+{
+    let reply = answer_request(alloc, history, request, mover);
+    if !is_entered(&reply) {
+        return Err(NoMemory);
+    }
+    let first = copied(alloc, &reply)?;
+    let second = copied(alloc, &reply)?;
+    Ok((reply, first, second))
+}
+
+// Answers a request: the reply, and two equal ones. Where no memory is left, nothing is changed.
+fn replied<M: Mover>(
+    alloc: Global,
+    history: &mut History,
+    request: Request,
+    mover: &M,
+) -> Result<(Reply, Reply, Reply), NoMemory>
+    ensures ok { IfOk result (λ r. (is_entered r.0 ≡ true) × Step history.old request r.0 history.new × (r.1 ≡ r.0) × (r.2 ≡ r.0)) }
+    ensures err { OnErr result (history.new ≡ history.old) }
+{
+    match cascade_in(&request) {
+        Some(number) => replied_to_cascade(alloc, history, number, mover),
+        None => replied_to_other(alloc, history, request, mover),
+    }
+}
+
+// An entry without its reply yet.
+fn opened(alloc: Global, seat: usize, request: Request) -> Result<Box<Entry>, NoMemory>
+    ensures { IfOk result (λ b. (b.value.seat ≡ seat) × (b.value.request ≡ request)) }
+{
+    let reply = Reply::Refused(Refusal::NoMemory);
+    Ok(Box::new(
+        alloc,
+        Entry {
+            seat,
+            request,
+            reply,
+        },
+    )?)
+}
+
+// The record of a request and its reply.
+fn copied_entry(
+    alloc: Global,
+    seat: usize,
+    request: &Request,
+    reply: &Reply,
+) -> Result<Record, NoMemory>
+    ensures { IfOk result (λ x. x ≡ entry seat request.now reply.now) }
+{
+    let request = request.copy(alloc)?;
+    let reply = reply.copy(alloc)?;
+    Record::whole(
+        alloc,
+        Entry {
+            seat,
+            request,
+            reply,
+        },
+    )
+}
+
+// Answers a request that asks for an element, for a new value of one, or how many edits there are: the reply, and two
+// records of it.
+fn recorded_small<M: Mover>(
+    alloc: Global,
+    history: &mut History,
+    seat: usize,
+    asked: &Request,
+    request: Request,
+    mover: &M,
+) -> Result<(Reply, Record, Record), NoMemory>
+    requires same { asked.now ≡ request }
+    requires element { sets_or_asks request ≡ true }
+    ensures ok { IfOk result (λ r. (is_entered r.0 ≡ true) × Step history.old request r.0 history.new × (r.1 ≡ entry seat request r.0) ×
+        (r.2 ≡ entry seat request r.0)) }
+    ensures err { OnErr result (history.new ≡ history.old) }
+{
+    let reply = answer_request(alloc, history, request, mover);
+    if !is_entered(&reply) {
+        return Err(NoMemory);
+    }
+    if let Some(first) = small_record(seat, asked, &reply) {
+        if let Some(second) = small_record(seat, asked, &reply) {
+            return Ok((reply, first, second));
+        }
+    }
+    let first = copied_entry(alloc, seat, asked, &reply)?;
+    let second = copied_entry(alloc, seat, asked, &reply)?;
+    Ok((reply, first, second))
+}
+
+// Answers any request: room for the two records is made first.
+fn recorded_any<M: Mover>(
+    alloc: Global,
+    history: &mut History,
+    seat: usize,
+    asked: Request,
+    request: Request,
+    mover: &M,
+) -> Result<(Reply, Record, Record), NoMemory>
+    requires same { asked ≡ request }
+    ensures ok { IfOk result (λ r. (is_entered r.0 ≡ true) × Step history.old request r.0 history.new × (r.1 ≡ entry seat request r.0) ×
+        (r.2 ≡ entry seat request r.0)) }
+    ensures err { OnErr result (history.new ≡ history.old) }
+{
+    let told = asked.copy(alloc)?;
+    let mut first = opened(alloc, seat, asked)?;
+    let mut second = opened(alloc, seat, told)?;
+    let (reply, one, other) = replied(alloc, history, request, mover)?;
+    first.reply = one;
+    second.reply = other;
+    Ok((reply, Record::of_box(first), Record::of_box(second)))
+}
+
+/// Answers a request of a seat: the reply, and two records of both. Where no memory is left, nothing is changed.
+pub(crate) fn recorded<M: Mover>(
+    alloc: Global,
+    history: &mut History,
+    seat: usize,
+    request: Request,
+    mover: &M,
+) -> Result<(Reply, Record, Record), NoMemory>
+    ensures ok { IfOk result (λ r. (is_entered r.0 ≡ true) × Step history.old request r.0 history.new × (r.1 ≡ entry seat request r.0) ×
+        (r.2 ≡ entry seat request r.0)) }
+    ensures err { OnErr result (history.new ≡ history.old) }
+{
+    let asked = request.copy(alloc)?;
+    if is_of_numbers(&asked) {
+        return recorded_small(alloc, history, seat, &asked, request, mover);
+    }
+    recorded_any(alloc, history, seat, asked, request, mover)
+}

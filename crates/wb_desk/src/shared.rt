@@ -1,0 +1,162 @@
+//! What a desk keeps under its lock, and how it answers one request.
+
+ghost use Rattle.std.specs.Prelude.{◌≡◌, ◌≤◌, ◌+◌, Bool, true, false, List, ◌++◌, ◌∷◌, [], length, IfOk, IfErr, OnOk, MatchOption};
+ghost use Rattle.wb_desk.specs.Entries.{leaves_all};
+ghost use Rattle.wb_desk.specs.Courses.{IsCourse};
+ghost use Rattle.wb_desk.specs.Settling.{IsSettled, IsCause};
+ghost use Rattle.wb_desk.specs.Serving.{IsStrange, AnswersCourse, own_after, share_after, new_passes};
+ghost use Rattle.wb_desk.specs.Seats.{IsNumberOfSeats, IsSeatsErr};
+
+use crate::desk::DeskErr;
+use crate::opening::Opening;
+use crate::{Cause, Counted, Journal, Pass};
+use std::alloc::Global;
+use std::marker::Model;
+use std::sync::ledger::{Blank, Ledger, Share};
+use wb_arrays::Mover;
+use wb_history::History;
+use wb_protocol::{Reply, Request};
+use wb_range::NoMemory;
+
+/// The locked value of a desk: the history, the journal, each seat's number of entries, and the ledger's book.
+pub struct Shared<L: Opening> {
+    pub(crate) alloc: Global,
+    pub(crate) kept: Counted<L>,
+    pub(crate) rest: Share<L>,
+}
+
+// In a function of its own, so that a crate above need not prove anew how each field is let go.
+impl<L: Opening> Drop for Shared<L> {
+    fn drop(self) {
+        let Shared {
+            alloc: _,
+            kept: _,
+            rest: _,
+        } = self;
+    }
+}
+
+impl<L: Opening> Model for Shared<L> {
+    ghost use Rattle.std.specs.Prelude.{◌≡◌, ◌+◌, length};
+    ghost use Rattle.wb_desk.specs.Courses.{IsCourse};
+    ghost use Rattle.wb_desk.specs.Locked.{Locked, locked_code};
+
+    ghost Value = { Locked };
+
+    ghost coded = { locked_code };
+
+    ghost view = { λ a. record { course = a.kept.journal; total = a.kept.calls.total } };
+
+    ghost invariant = { λ a. (a.kept.calls.total ≡ length a.kept.journal.entries) × (a.rest.amount ≡ 0) × (a.rest.parts + a.kept.journal.seats ≡ 16) ×
+        (a.kept.journal.seats ≡ L.seats) × IsCourse L.opening a.kept.journal };
+}
+
+// A pass for each of so many seats, each with a part of a share.
+fn first_passes<L: Ledger>(
+    alloc: Global,
+    rest: &mut Share<L>,
+    seats: usize,
+) -> Result<Vec<Pass<L>>, NoMemory>
+    requires parts { seats ≤ rest.old.parts }
+    requires amount { rest.old.amount ≡ 0 }
+    ensures passes { IfOk result (λ v. v.items ≡ new_passes seats) }
+    ensures parts { OnOk result (rest.new.parts + seats ≡ rest.old.parts) }
+    ensures amount { OnOk result (rest.new.amount ≡ 0) }
+{
+    let mut passes = Vec::new(alloc);
+    for seat in 0..seats {
+        let share = rest.split_off(1, 0);
+        let pass = Pass::of_parts(seat, Vec::new(alloc), share);
+        if passes.push(pass).is_err() {
+            return Err(NoMemory);
+        }
+    }
+    Ok(passes)
+}
+
+impl<L: Opening> Shared<L> {
+    /// What a desk of 1 to 16 seats keeps on the workbook of a history, with no entry yet, and a pass for each seat. Where
+    /// there is no such desk, the history is given back.
+    pub fn open_at(
+        alloc: Global,
+        blank: Blank,
+        seats: usize,
+        history: History,
+    ) -> Result<(Shared<L>, Vec<Pass<L>>), (History, DeskErr)>
+        requires name { blank.name ≡ L.name }
+        requires parts { blank.parts ≡ L.parts }
+        requires sixteen { blank.parts ≡ 16 }
+        requires opening { L.opening ≡ history }
+        requires seats { L.seats ≡ seats }
+        ensures opened { IfOk result (λ r. r.0.course ≡ record { seats = seats; entries = []; history = history }) }
+        ensures ok { IfOk result (λ r. IsNumberOfSeats seats × (r.1.items ≡ new_passes seats)) }
+        ensures bad { IfErr result (λ e. IsSeatsErr seats e.1) }
+        ensures back { IfErr result (λ e. e.0 ≡ history) }
+    {
+        if seats == 0 || seats > 16 {
+            return Err((history, DeskErr::BadSeats));
+        }
+        let (calls, mut rest) = blank.open::<L>();
+        let Ok(passes) = first_passes(alloc, &mut rest, seats) else {
+            return Err((history, DeskErr::NoMemory));
+        };
+        match Journal::at(alloc, seats, history) {
+            Ok(journal) => {
+                let shared = Shared {
+                    alloc,
+                    kept: Counted { journal, calls },
+                    rest,
+                };
+                Ok((shared, passes))
+            }
+            Err(history) => Err((history, DeskErr::NoMemory)),
+        }
+    }
+
+    /// The length of the journal.
+    pub fn entries(&self) -> usize
+        ensures count { result ≡ length self.now.course.entries }
+        ensures total { self.now.total ≡ length self.now.course.entries }
+    {
+        self.kept.journal.len()
+    }
+
+    /// The history that came of the journal.
+    pub fn history(&self) -> &History
+        ensures history { result.now ≡ self.now.course.history }
+        ensures course { IsCourse L.opening self.now.course }
+        ensures seats { self.now.course.seats ≡ L.seats }
+    {
+        self.kept.journal.history()
+    }
+
+    /// Why these passes and the journal do not agree.
+    pub fn cause(&self, passes: &[Pass<L>]) -> Option<Cause>
+        ensures course { IsCourse L.opening self.now.course }
+        ensures seats { self.now.course.seats ≡ L.seats }
+        ensures cause { MatchOption result (IsSettled self.now.course.seats self.now.course.entries passes.now)
+            (λ why. IsCause self.now.course.seats self.now.course.entries passes.now why) }
+    {
+        self.kept.journal.cause(passes)
+    }
+}
+
+/// Answers one request of a pass.
+pub fn serve<L: Opening, M: Mover>(
+    shared: &mut Shared<L>,
+    pass: &mut Pass<L>,
+    request: Request,
+    mover: &M,
+) -> Reply
+    ensures course { IsCourse L.opening shared.old.course }
+    ensures seats { shared.old.course.seats ≡ L.seats }
+    ensures strange { IsStrange shared.old.course pass.old.seat pass.old.own result }
+    ensures answers { AnswersCourse shared.old.course pass.old.seat request result shared.new.course }
+    ensures left { leaves_all result ≡ true → shared.new.course.history ≡ shared.old.course.history }
+    ensures total { shared.new.total ≡ share_after shared.old.total result }
+    ensures seat { pass.new.seat ≡ pass.old.seat }
+    ensures own { pass.new.own ≡ own_after pass.old.seat pass.old.own request result }
+    ensures share { pass.new.share ≡ share_after pass.old.share result }
+{
+    shared.kept.answer(shared.alloc, pass, request, mover)
+}

@@ -1,0 +1,63 @@
+//! A turn at a desk: its lock, held from one request to the next.
+
+ghost use Rattle.std.specs.Prelude.{◌≡◌};
+ghost use Rattle.wb_desk.specs.Answering.{AnswersAmong};
+ghost use Rattle.wb_desk.specs.Serving.{own_after, share_after};
+
+use crate::Pass;
+use crate::desk::Desk;
+use crate::opening::Opening;
+use crate::shared::{Shared, serve};
+use std::cell::Cell;
+use std::sync::{MutexGuard, Wait};
+use wb_arrays::Mover;
+use wb_protocol::{Reply, Request};
+
+/// A turn at a desk. It takes the desk's lock for its first request, and holds it until it is let go. It has to be ended.
+pub struct Turn<'d, L: Opening> {
+    desk: &'d Desk<L>,
+    held: Cell<Option<MutexGuard<'d, Shared<L>>>>,
+}
+
+impl<'d, L: Opening> Turn<'d, L> {
+    /// A turn that does not hold the lock yet.
+    pub fn at(desk: &'d Desk<L>) -> Turn<'d, L> {
+        Turn {
+            desk,
+            held: Cell::new(None),
+        }
+    }
+
+    /// Answers one request of a pass under the lock, which stays held.
+    pub fn call<M: Mover>(
+        &self,
+        rt: &impl Wait,
+        pass: &mut Pass<L>,
+        request: Request,
+        mover: &M,
+    ) -> Reply
+        ensures reply { AnswersAmong L.seats L.opening pass.old.seat pass.old.own request result }
+        ensures seat { pass.new.seat ≡ pass.old.seat }
+        ensures own { pass.new.own ≡ own_after pass.old.seat pass.old.own request result }
+        ensures share { pass.new.share ≡ share_after pass.old.share result }
+    {
+        let mut guard = match self.held.take() {
+            Some(guard) => guard,
+            None => self.desk.taken(rt),
+        };
+        let reply = serve(&mut guard, pass, request, mover);
+        self.held.set(Some(guard));
+        reply
+    }
+
+    /// Lets the lock go, if it is held.
+    pub fn let_go(&self) {
+        self.held.set(None);
+    }
+
+    /// Ends the turn, and with it lets the lock go.
+    pub fn end(self) {
+        let Turn { desk: _, held } = self;
+        let _ = held.into_inner();
+    }
+}

@@ -1,4 +1,0 @@
-mod Cuts
-pub mod Moments
-mod Numbers
-mod Replaced

@@ -1,3 +1,0 @@
-pub use Rattle.wb_history.specs.Below.wb_reading.Reading
-pub use Rattle.wb_history.specs.Below.wb_reading.Books
-pub use Rattle.wb_history.specs.Below.wb_reading.Back

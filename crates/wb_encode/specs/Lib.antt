@@ -1,5 +1,0 @@
-pub mod Below
-pub mod Values
-pub mod Table
-pub mod Encoded
-pub mod Text

@@ -1,7 +1,0 @@
-use Rattle.std.proofs.Common.{◌≡◌, false, take}
-use Rattle.wb_foot.specs.Points.{Coordinates}
-use Rattle.wb_foot.specs.Blocks.{in_blocks}
-use Rattle.wb_foot.proofs.blocks.Blocks.place_of.Given as goal
-
-abbrev pub invariant-loop-block : goal.invariant-loop-block
-invariant-loop-block l = record { at : l.place ≡ l.block-index; none : (p : Coordinates) → in_blocks (take l.block-index l.self.list.items) p l.number ≡ false }

@@ -1,0 +1,185 @@
+-- Blocks: what is in them, after one is added and after those of a number are taken away.
+use Rattle.std.proofs.Common.{◌≡◌, ◌⊎◌, inl, inr, ℕ, ◌<◌, ◌≤◌, ◌+◌, ◌-◌, Bool, true, false, ◌&&◌, ◌||◌, ◌==◌, if◌then◌else◌, List, [], ◌∷◌, ◌++◌, Option, Some}
+use Rattle.std.proofs.Common.{None, Result, Ok, Err, length, take, drop, get_or, suc, zero, refl, sym, ap, subst, ◌∙◌, arith}
+use Rattle.std.specs.Cmp.{IsTotalOrder}
+use Rattle.std.specs.Cmp.Lexicographic.{lists_total}
+use Rattle.std.specs.Cmp.{int_cmp_total}
+use Rattle.std.specs.FinMap.{IsAntisymmetric, int_cmp-IsAntisymmetric, slice_cmp-IsAntisymmetric}
+use Rattle.std.specs.List.{list_any, AllByRecursion}
+use Rattle.std.specs.List.Sorted.{IsStrictlySortedBy, IsBinarySearchResult, IsSearchInRange}
+use Rattle.std.specs.Ordering.{is_eq, is_lt, eq_by_cmp, ordering_reverse}
+use Rattle.std.specs.declared.cmp.Ordering.{Ordering}
+use Rattle.std.specs.Result.{is_ok}
+use Rattle.std.specs.declared.cmp.Ordering.TheVariants.{Less, Equal, Greater}
+use Rattle.std.proofs.lemmas.Bool.{cases_lt}
+use Rattle.std.proofs.lemmas.List.Folds.{list_any_at, list_any_none, list_any_more}
+use Rattle.std.proofs.lemmas.Bool.Decides.{nat_tests}
+use Rattle.wb_sets.specs.Places.{IsGap}
+use Rattle.wb_sets.proofs.Ascending.{gap_by}
+use Rattle.wb_footprints.specs.declared.blocks.Block.{Block}
+use Rattle.wb_footprints.specs.Relation.{Sets, IsLeastAfter}
+use Rattle.wb_footprints.specs.Points.{Coordinates, point_cmp, in_points}
+use Rattle.wb_footprints.specs.Blocks.{in_blocks}
+use Rattle.wb_footprints.proofs.Meeting.{least_like}
+
+pub points_total : IsTotalOrder point_cmp
+points_total = lists_total int_cmp_total
+
+pub points_exact : IsAntisymmetric point_cmp
+points_exact = slice_cmp-IsAntisymmetric int_cmp-IsAntisymmetric
+
+-- what a binary search says of ascending points
+pub among : (xs : List Coordinates) (p : Coordinates) (r : Result ℕ ℕ) → IsStrictlySortedBy point_cmp xs → IsSearchInRange r (length xs) →
+    IsBinarySearchResult (λ y. point_cmp y p) xs r → is_ok r ≡ in_points xs p
+among xs p (Ok q) s l h = sym (list_any_at (λ y. eq_by_cmp point_cmp y p) xs q p l (ap is_eq (h p)))
+among xs p (Err q) s l h =
+    let gap : IsGap point_cmp xs p q = gap_by point_cmp points_total points_exact xs p (Err q) s l h in
+    sym (list_any_none (λ y. eq_by_cmp point_cmp y p) xs (λ k d below. by gap k d below (cases_lt k q)))
+  where
+    by : IsGap point_cmp xs p q → (k : ℕ) (d : Coordinates) → k < length xs → (k < q) ⊎ (q ≤ k) → eq_by_cmp point_cmp (get_or xs k d) p ≡ false
+    by gap k d below (inl l) = ap is_eq (gap.below k d (omega arith) l)
+    by gap k d below (inr l) = ap is_eq (gap.above k d l below)
+
+number_is : (m n : ℕ) → (m == n) ≡ true → m ≡ n
+number_is m n e = grind (arith, nat_tests)
+
+-- ---- points below another
+
+pub all_below : (xs : List Coordinates) (p d : Coordinates) (i : ℕ) → IsStrictlySortedBy point_cmp xs → i + 1 ≡ length xs →
+    point_cmp (get_or xs i d) p ≡ Less → AllByRecursion (λ y. point_cmp y p ≡ Less) xs
+unfolding IsStrictlySortedBy
+all_below [] p d i s e h = tt
+all_below (x ∷ []) p d zero s e h = (h, tt)
+all_below (x ∷ []) p d (suc i) s e h = let no : ⊥ = omega arith in absurd no
+all_below (x ∷ y ∷ ys) p d zero s e h = let no : ⊥ = omega arith in absurd no
+all_below (x ∷ y ∷ ys) p d (suc i) s e h =
+    let rest = all_below (y ∷ ys) p d i s.1 (omega arith) h in
+    (points_total.trans x y p s.0.0 rest.0, rest)
+
+before_last : (n : ℕ) → (n == 0) ≡ false → (n - 1) + 1 ≡ n
+before_last zero e = cc
+before_last (suc n) e = omega arith
+
+pub less_of : (o : Ordering) → is_lt o ≡ true → o ≡ Less
+less_of Less e = refl
+less_of Equal e = cc
+less_of Greater e = cc
+
+-- ---- numbers in blocks
+
+below_apart : (a n : ℕ) → n < a → (a == n) ≡ false
+below_apart a n l = grind (arith, nat_tests)
+
+above_apart : (a n : ℕ) → a < n → (a == n) ≡ false
+above_apart a n l = grind (arith, nat_tests)
+
+itself : (n : ℕ) → (n == n) ≡ true
+itself n = grind (arith, nat_tests)
+
+and_out : (a b : Bool) → b ≡ false → a && b ≡ false
+and_out true b e = e
+and_out false b e = refl
+
+or_out : (a b : Bool) → a ≡ false → b ≡ false → a || b ≡ false
+or_out true b e f = cc
+or_out false b e f = f
+
+pub or_in : (a b : Bool) → a ≡ true → a || b ≡ true
+or_in true b e = refl
+or_in false b e = cc
+
+pub or_last : (a b : Bool) → b ≡ true → a || b ≡ true
+or_last true b e = refl
+or_last false b e = e
+
+-- ---- points outside of ascending ones
+
+pub none_in : (xs : List Coordinates) (p : Coordinates) → (length xs == 0) ≡ true → in_points xs p ≡ false
+none_in [] p e = refl
+none_in (x ∷ xs) p e = let no : length (x ∷ xs) ≡ 0 = number_is (length (x ∷ xs)) 0 e in let bad : ⊥ = omega arith in absurd bad
+
+out_of_lower : (xs : List Coordinates) (p : Coordinates) → AllByRecursion (λ y. point_cmp y p ≡ Less) xs → in_points xs p ≡ false
+out_of_lower [] p a = refl
+out_of_lower (x ∷ xs) p a = or_out _ _ (ap is_eq a.0) (out_of_lower xs p a.1)
+
+out_of_higher : (xs : List Coordinates) (p : Coordinates) → AllByRecursion (λ y. point_cmp p y ≡ Less) xs → in_points xs p ≡ false
+out_of_higher [] p a = refl
+out_of_higher (x ∷ xs) p a = or_out _ _ (ap is_eq (points_total.antisymm x p ∙ ap ordering_reverse a.0)) (out_of_higher xs p a.1)
+
+all_after : (xs : List Coordinates) (p x : Coordinates) → point_cmp p x ≡ Less →
+    AllByRecursion (λ y. point_cmp x y ≡ Less) xs → AllByRecursion (λ y. point_cmp p y ≡ Less) xs
+all_after [] p x l a = tt
+all_after (y ∷ ys) p x l a = (points_total.trans p x y l a.0, all_after ys p x l a.1)
+
+pub below_first : (xs : List Coordinates) (p x : Coordinates) → IsStrictlySortedBy point_cmp xs → (length xs == 0) ≡ false →
+    x ≡ get_or xs 0 x → point_cmp p x ≡ Less → in_points xs p ≡ false
+unfolding IsStrictlySortedBy
+below_first [] p x s some is less = cc
+below_first (y ∷ ys) p x s some is less =
+    let first : point_cmp p y ≡ Less = ap (point_cmp p) (sym is) ∙ less in
+    out_of_higher (y ∷ ys) p (first, all_after ys p y first s.0)
+
+pub above_last : (xs : List Coordinates) (p x : Coordinates) → IsStrictlySortedBy point_cmp xs → (length xs == 0) ≡ false →
+    x ≡ get_or xs (length xs - 1) x → point_cmp x p ≡ Less → in_points xs p ≡ false
+above_last xs p x s some is less =
+    let last = ap (λ y. point_cmp y p) (sym is) ∙ less in
+    out_of_lower xs p (all_below xs p x (length xs - 1) s (before_last (length xs) some) last)
+
+-- ---- the least number
+
+module _ (p : ℕ → Bool) (hit : Bool) (number after : ℕ) where
+  abbrev more : ℕ → Bool
+  more n = p n || (hit && (number == n))
+
+  pub too_low : (first : Option ℕ) → number ≤ after → IsLeastAfter p after first → IsLeastAfter more after first
+  too_low None low h = λ n up. or_out (p n) _ (h n up) (and_out hit _ (above_apart number n (omega arith)))
+  too_low (Some j) low h = (h.0, or_in (p j) _ h.1, λ n up down. or_out (p n) _ (h.2 n up down) (and_out hit _ (above_apart number n (omega arith))))
+
+  pub too_high : (j : ℕ) → j ≤ number → IsLeastAfter p after (Some j) → IsLeastAfter more after (Some j)
+  too_high j high h = (h.0, or_in (p j) _ h.1, λ n up down. or_out (p n) _ (h.2 n up down) (and_out hit _ (below_apart number n (omega arith))))
+
+  pub not_hit : (first : Option ℕ) → hit ≡ false → IsLeastAfter p after first → IsLeastAfter more after first
+  not_hit None e h = λ n up. or_out (p n) _ (h n up) (ap (λ b. b && (number == n)) e)
+  not_hit (Some j) e h = (h.0, or_in (p j) _ h.1, λ n up down. or_out (p n) _ (h.2 n up down) (ap (λ b. b && (number == n)) e))
+
+  at_number : hit ≡ true → more number ≡ true
+  at_number e = or_last (p number) _ (ap (λ b. b && (number == number)) e ∙ itself number)
+
+  pub first_hit : hit ≡ true → after < number → IsLeastAfter p after None → IsLeastAfter more after (Some number)
+  first_hit e up h = (up, at_number e, λ n above down. or_out (p n) _ (h n above) (and_out hit _ (below_apart number n down)))
+
+  pub lesser_hit : (j : ℕ) → hit ≡ true → after < number → number < j → IsLeastAfter p after (Some j) → IsLeastAfter more after (Some number)
+  lesser_hit j e up low h = (up, at_number e, λ n above down. or_out (p n) _ (h.2 n above (omega arith)) (and_out hit _ (below_apart number n down)))
+
+-- ---- a list of blocks
+
+removed_any : {X : Type 0} (f : X → Bool) (xs : List X) (i : ℕ) (d : X) → i < length xs → f (get_or xs i d) ≡ false →
+    list_any f (take i xs ++ drop (i + 1) xs) ≡ list_any f xs
+removed_any f [] i d l h = let no : ⊥ = omega arith in absurd no
+removed_any f (x ∷ xs) zero d l h = sym (ap (λ b. b || list_any f xs) h)
+removed_any f (x ∷ xs) (suc i) d l h = let e : suc i + 1 ≡ suc (i + 1) = omega arith in rw e (ap (λ b. f x || b) (removed_any f xs i d (omega arith) h))
+
+pub without : (xs ys : List Block) (number i : ℕ) (d : Block) → i < length xs → ((get_or xs i d).number == number) ≡ true → ys ≡ take i xs ++ drop (i + 1) xs →
+    (p : Coordinates) (n : ℕ) → (number == n) ≡ false → in_blocks ys p n ≡ in_blocks xs p n
+without xs ys number i d l its e p n other =
+    let apart : ((get_or xs i d).number == n) ≡ false = ap (λ k. k == n) (number_is _ _ its) ∙ other in
+    rw e (removed_any (λ b. in_points b.points p && (b.number == n)) xs i d l (and_out (in_points (get_or xs i d).points p) _ apart))
+
+pub cleared : (old new : List Block) (number : ℕ) → ((p : Coordinates) (n : ℕ) → (number == n) ≡ false → in_blocks new p n ≡ in_blocks old p n) →
+    ((p : Coordinates) → in_blocks new p number ≡ false) → Sets (in_blocks old) (in_blocks new) (λ p. true) number false
+cleared old new number others gone = record { at = λ p n. by p n (number == n) refl }
+  where
+    by : (p : Coordinates) (n : ℕ) (b : Bool) → (number == n) ≡ b → in_blocks new p n ≡ (if true && b then false else in_blocks old p n)
+    by p n true e = subst (λ (k : ℕ). in_blocks new p k ≡ false) (number_is number n e) (gone p)
+    by p n false e = others p n e
+
+pub one_apart : (xs : List Block) (i number : ℕ) (d : Block) → i < length xs → (x : Block) → x ≡ get_or xs i d → (x.number == number) ≡ false →
+    ((p : Coordinates) → in_blocks (take i xs) p number ≡ false) → (p : Coordinates) → in_blocks (take (i + 1) xs) p number ≡ false
+one_apart xs i number d l x e apart h p =
+    list_any_more (λ b. in_points b.points p && (b.number == number)) xs i d l
+    ∙ or_out _ _ (h p) (and_out _ _ (ap (λ (y : Block). y.number == number) (sym e) ∙ apart))
+
+pub least_more : (xs : List Block) (i after : ℕ) (d : Block) → i < length xs → (x : Block) → x ≡ get_or xs i d → (p : Coordinates) (r : Option ℕ) →
+    IsLeastAfter (λ n. in_blocks (take i xs) p n || (in_points x.points p && (x.number == n))) after r → IsLeastAfter (in_blocks (take (i + 1) xs) p) after r
+least_more xs i after d l x e p r h = least_like (λ n. in_blocks (take i xs) p n || (in_points x.points p && (x.number == n))) (in_blocks (take (i + 1) xs) p)
+    after r (λ n. rw e (list_any_more (λ b. in_points b.points p && (b.number == n)) xs i d l)) h

@@ -1,0 +1,60 @@
+-- The cells of a run are of one family.
+use Rattle.std.proofs.Common.{◌≡◌, ℕ, ℤ, ◌+◌, ◌<◌, Bool, ◌||◌, true, false, List, [], ◌∷◌, Option, map, length, take, get_or, refl, sym, ap}
+use Rattle.std.proofs.Common.{subst, ◌∙◌, arith}
+use Rattle.std.specs.Cmp.Lexicographic.{slice_cmp}
+use Rattle.std.specs.List.{list_any}
+use Rattle.std.specs.Ordering.{nat_cmp, eq_by_cmp}
+use Rattle.std.proofs.lemmas.List.Folds.{list_any-append}
+use Rattle.selective_undo.specs.declared.Change.{Change}
+use Rattle.wb_cells.specs.declared.cells.cell.Cell.{Cell}
+use Rattle.wb_cells.specs.declared.cells.value.Value.{Value}
+use Rattle.wb_cells.specs.declared.changes.row.Row.{Row}
+use Rattle.wb_cells.specs.declared.changes.row.Row.TheVariants.{Inside, Members, Elements}
+use Rattle.wb_cells.specs.declared.changes.run.ChangeRun.{ChangeRun}
+use Rattle.wb_cells.specs.declared.changes.run.Form.{Form}
+use Rattle.wb_cells.specs.declared.changes.run.Form.TheVariants.{One, Line, Plane, Solid, Rectangle, Numbers}
+use Rattle.wb_cells.specs.declared.values.index.Index.TheVariants.{Point}
+use Rattle.wb_cells.specs.Cells.{Name, same_names}
+use Rattle.wb_cells.specs.Runs.{cell_of, change_at, packed_changes, rectangle_entries, numbered_entries, changes_in, all_changes}
+use Rattle.wb_footprints.specs.declared.foot_index.FootIndex.{FootIndex}
+use Rattle.wb_footprints.specs.declared.place.Place.{Place}
+use Rattle.wb_footprints.specs.Places.{family, place_marked}
+use Rattle.wb_footprints.specs.Footprints.{marked_family}
+use Rattle.wb_footprints.proofs.Joining.{more_runs}
+use Rattle.wb_footprints.proofs.Meeting.{any_like, any_map, at_family}
+use Rattle.wb_footprints.proofs.Ranges.{equal_from}
+use Rattle.wb_footprints.proofs.ReadPlaces.{or_false}
+use Rattle.wb_footprints.proofs.RunPlaces.{always}
+
+pub one_name : (d e : Name) → eq_by_cmp (slice_cmp nat_cmp) d e ≡ true → d ≡ e
+one_name d e is = same_names d e (equal_from (slice_cmp nat_cmp d e) is)
+
+module _ (g : Option Place → Bool) where
+  -- changes made alike, each of one family
+  made_alike : {X : Type 0} (h : X → Change Cell Value) (b : Bool) → ((e : X) → g (family (h e).cell) ≡ b) → (es : List X) (d : Change Cell Value) (c : Cell) →
+      0 < length (map h es) → c ≡ (get_or (map h es) 0 d).cell → list_any (λ x. g (family x.cell)) (map h es) ≡ g (family c)
+  made_alike h b is [] d c some first = let no : ⊥ = omega arith in absurd no
+  made_alike h b is (e ∷ es) d c some first =
+      any_map (λ x. g (family x.cell)) h (e ∷ es)
+      ∙ any_like (λ y. g (family (h y).cell)) (λ y. b) (e ∷ es) is
+      ∙ always b (e ∷ es) (omega arith)
+      ∙ sym (ap (λ k. g (family k)) first ∙ is e)
+
+  in_row : (row : Row) (es : List (List ℤ × Option ℤ)) (d : Change Cell Value) (c : Cell) → 0 < length (packed_changes row es) →
+      c ≡ (get_or (packed_changes row es) 0 d).cell → list_any (λ x. g (family x.cell)) (packed_changes row es) ≡ g (family c)
+  in_row (Inside n) = made_alike (change_at (Inside n)) (g (family (cell_of (Inside n) (Point [])))) (λ e. refl)
+  in_row (Members n) = made_alike (change_at (Members n)) (g (family (cell_of (Members n) (Point [])))) (λ e. refl)
+  in_row (Elements n) = made_alike (change_at (Elements n)) (g (family (cell_of (Elements n) (Point [])))) (λ e. refl)
+
+  pub one_family : (form : Form) (d : Change Cell Value) (c : Cell) → 0 < length (changes_in form) → c ≡ (get_or (changes_in form) 0 d).cell →
+      list_any (λ x. g (family x.cell)) (changes_in form) ≡ g (family c)
+  one_family (One x) d c some first = or_false (g (family x.cell)) ∙ ap (λ k. g (family k)) (sym first)
+  one_family (Line p) d c some first = in_row p.row p.changes.items d c some first
+  one_family (Plane p) d c some first = in_row p.row p.changes.items d c some first
+  one_family (Solid p) d c some first = in_row p.row p.changes.items d c some first
+  one_family (Rectangle r) d c some first = in_row r.row (rectangle_entries r.ranges r.number) d c some first
+  one_family (Numbers r) d c some first = in_row r.row (numbered_entries r.ranges r.numbers.items) d c some first
+
+pub of_one_family : (m : FootIndex) (n : ℕ) (form : Form) (d : Change Cell Value) (c : Cell) → 0 < length (changes_in form) →
+    c ≡ (get_or (changes_in form) 0 d).cell → list_any (λ x. marked_family m x.cell n) (changes_in form) ≡ marked_family m c n
+of_one_family m n = one_family (at_family (λ f. place_marked m.read f n))

@@ -1,0 +1,137 @@
+-- Cells that a sweep went through, and families that it asked for.
+use Rattle.std.proofs.Common.{if◌then◌else◌, ◌≡◌, ℕ, ◌+◌, ◌<◌, ◌==◌, Bool, true, false, true≢false, ◌&&◌, ◌||◌, List, length, take, get_or, refl, sym, ap, ◌∙◌}
+use Rattle.std.proofs.Common.{subst, arith, ◌⊎◌, inl, inr, [], ◌∷◌, ◌++◌}
+use Rattle.std.proofs.lemmas.List.Folds.{list_any_more, list_any-append}
+use Rattle.std.specs.List.{list_any}
+use Rattle.std.specs.Ordering.{eq_by_cmp}
+use Rattle.std.specs.Cmp.{Equal-is}
+use Rattle.wb_cells.specs.declared.cells.cell.Cell.{Cell}
+use Rattle.wb_cells.specs.Cells.{Name, cell_cmp, cell_order}
+use Rattle.wb_footprints.specs.declared.foot_index.FootIndex.{FootIndex}
+use Rattle.wb_footprints.specs.declared.marks.Marks.{Marks}
+use Rattle.wb_footprints.specs.declared.numbers.Numbers.{Numbers}
+use Rattle.wb_footprints.specs.declared.part.Kind.{Kind}
+use Rattle.wb_footprints.specs.declared.swept.SweptCells.{SweptCells}
+use Rattle.wb_footprints.specs.Numbers.{numbered}
+use Rattle.wb_footprints.specs.Marks.{marked}
+use Rattle.wb_footprints.specs.Points.{Coordinates}
+use Rattle.wb_footprints.specs.Places.{cell_at}
+use Rattle.wb_footprints.specs.Footprints.{marked_own, marked_family}
+use Rattle.wb_footprints.specs.Relation.{Sets, JoinedAfter}
+use Rattle.wb_footprints.specs.Swept.{AreSwept, AreWaiting, FailsBehind}
+use Rattle.wb_footprints.proofs.InBlocks.{or_last}
+use Rattle.wb_footprints.proofs.Meeting.{any_in_front}
+
+-- what is to join waits already
+pub wait_already : (old : Numbers) (p : ℕ → Bool) (after : ℕ) → ((n : ℕ) → after < n → p n ≡ true → numbered old n ≡ true) → JoinedAfter old old p after
+wait_already old p after all = record { from = λ n has. inl has; stay = λ n had. had; all = all }
+
+-- more numbers wait
+pub swept_stays : (m : FootIndex) (s : SweptCells) (w v : Numbers) (after : ℕ) → AreSwept m s w after →
+    ((n : ℕ) → numbered w n ≡ true → numbered v n ≡ true) → AreSwept m s v after
+swept_stays m s w v after h stay = record {
+  cells = λ c k n is up met. stay n (h.cells c k n is up met);
+  families = λ c k n is up met. stay n (h.families c k n is up met);
+}
+
+one_cell : (c d : Cell) → eq_by_cmp cell_cmp c d ≡ true → c ≡ d
+one_cell c d e = cell_order.strict c d ((Equal-is (cell_cmp c d)).0 e)
+
+both_first : (a b : Bool) → a && b ≡ true → a ≡ true
+both_first true b e = refl
+both_first false b e = e
+
+-- the numbers of a test wait that are above another one, at each cell of some marks
+abbrev pub Wait : (Cell → ℕ → Bool) → Marks Cell → Numbers → ℕ → Type 0
+Wait f s w after = (c : Cell) (k n : ℕ) → marked cell_cmp s c k ≡ true → after < n → f c n ≡ true → numbered w n ≡ true
+
+-- one cell more
+wait_more : (f : Cell → ℕ → Bool) (s t : Marks Cell) (w v : Numbers) (after : ℕ) (c : Cell) → Wait f s w after → JoinedAfter w v (f c) after →
+    Sets (marked cell_cmp s) (marked cell_cmp t) (eq_by_cmp cell_cmp c) 1 true → Wait f t v after
+wait_more f s t w v after c h joined sets = λ d k n is up met. by d k n up met (eq_by_cmp cell_cmp c d && (1 == k)) refl (sym (sets.at d k) ∙ is)
+  where
+    by : (d : Cell) (k n : ℕ) → after < n → f d n ≡ true → (b : Bool) → eq_by_cmp cell_cmp c d && (1 == k) ≡ b →
+        (if b then true else marked cell_cmp s d k) ≡ true → numbered v n ≡ true
+    by d k n up met true e is = joined.all n up (subst (λ x. f x n ≡ true) (sym (one_cell c d (both_first _ _ e))) met)
+    by d k n up met false e is = joined.stay n (h d k n is up met)
+
+-- the same marks, and more numbers wait
+wait_stays : (f : Cell → ℕ → Bool) (s t : Marks Cell) (w v : Numbers) (after : ℕ) → t ≡ s → ((n : ℕ) → numbered w n ≡ true → numbered v n ≡ true) →
+    Wait f s w after → Wait f t v after
+wait_stays f s t w v after e stay h = λ c k n is up met. stay n (h c k n (sym (ap (λ x. marked cell_cmp x c k) e) ∙ is) up met)
+
+-- the sweep goes through a cell, of which all wait
+pub swept_more : (m : FootIndex) (s t : SweptCells) (w v : Numbers) (after : ℕ) (c : Cell) → AreSwept m s w after → JoinedAfter w v (marked_own m c) after →
+    Sets (marked cell_cmp s.cells) (marked cell_cmp t.cells) (eq_by_cmp cell_cmp c) 1 true → t.families ≡ s.families → AreSwept m t v after
+swept_more m s t w v after c h joined sets same = record {
+  cells = wait_more (marked_own m) s.cells t.cells w v after c h.cells joined sets;
+  families = wait_stays (marked_family m) s.families t.families w v after same joined.stay h.families;
+}
+
+-- it asks for a family, of which all wait
+pub asked_more : (m : FootIndex) (s t : SweptCells) (w v : Numbers) (after : ℕ) (c : Cell) → AreSwept m s w after → JoinedAfter w v (marked_family m c) after →
+    Sets (marked cell_cmp s.families) (marked cell_cmp t.families) (eq_by_cmp cell_cmp c) 1 true → t.cells ≡ s.cells → AreSwept m t v after
+asked_more m s t w v after c h joined sets same = record {
+  cells = wait_stays (marked_own m) s.cells t.cells w v after same joined.stay h.cells;
+  families = wait_more (marked_family m) s.families t.families w v after c h.families joined sets;
+}
+
+-- ---- the points of a run
+
+pub any_here : {X : Type 0} (f : X → Bool) (xs : List X) (i : ℕ) (d : X) → i < length xs → f (get_or xs i d) ≡ true → list_any f xs ≡ true
+any_here f xs i d low is = any_in_front f xs (i + 1) (list_any_more f xs i d low ∙ or_last (list_any f (take i xs)) (f (get_or xs i d)) is)
+
+-- one point more of those of which all wait
+pub run_more : (m : FootIndex) (s t : SweptCells) (w : Numbers) (after : ℕ) (kind : Kind) (name : Name) (ps : List Coordinates) (i : ℕ) (p : Coordinates) (c : Cell) →
+    AreSwept m s w after → AreWaiting m kind name ps w after → i < length ps → p ≡ get_or ps i p → c ≡ cell_at kind name p →
+    Sets (marked cell_cmp s.cells) (marked cell_cmp t.cells) (eq_by_cmp cell_cmp c) 1 true → t.families ≡ s.families → AreSwept m t w after
+run_more m s t w after kind name ps i p c h waits low is at sets same =
+    swept_more m s t w w after c h
+    (wait_already w (marked_own m c) after (λ n up met. waits n up (any_here (λ q. marked_own m (cell_at kind name q) n) ps i p low
+    (ap (λ q. marked_own m (cell_at kind name q) n) (sym is) ∙ ap (λ x. marked_own m x n) (sym at) ∙ met))))
+    sets same
+
+not_true : (b : Bool) → (b ≡ true → ⊥) → b ≡ false
+not_true true never = absurd (never refl)
+not_true false never = refl
+
+-- those of the new points join, and those of the others wait already
+pub new_joined : (m : FootIndex) (s : SweptCells) (w v : Numbers) (after : ℕ) (kind : Kind) (name : Name) (fresh ps : List Coordinates) →
+    AreSwept m s w after → ((f : Coordinates → Bool) → FailsBehind s kind name f → list_any f fresh ≡ list_any f ps) →
+    JoinedAfter w v (λ n. list_any (λ p. marked_own m (cell_at kind name p) n) fresh) after →
+    JoinedAfter w v (λ n. list_any (λ p. marked_own m (cell_at kind name p) n) ps) after
+new_joined m s w v after kind name fresh ps h is joined = record {
+  from = λ n has. came n has (numbered w n) refl;
+  stay = joined.stay;
+  all = λ n up met. come n up met (numbered w n) refl;
+}
+  where
+    fails : (n : ℕ) → after < n → numbered w n ≡ false → FailsBehind s kind name (λ p. marked_own m (cell_at kind name p) n)
+    fails n up none = λ p k gone. not_true (marked_own m (cell_at kind name p) n)
+        (λ met. true≢false (sym (h.cells (cell_at kind name p) k n gone up met) ∙ none))
+
+    came : (n : ℕ) → numbered v n ≡ true → (b : Bool) → numbered w n ≡ b →
+        (numbered w n ≡ true) ⊎ ((after < n) × (list_any (λ p. marked_own m (cell_at kind name p) n) ps ≡ true))
+    came n has true e = inl e
+    came n has false e = elim (joined.from n has) [
+      | inl had ↦ inl had
+      | inr met ↦ inr (met.0, sym (is (λ p. marked_own m (cell_at kind name p) n) (fails n met.0 e)) ∙ met.1)
+    ]
+
+    come : (n : ℕ) → after < n → list_any (λ p. marked_own m (cell_at kind name p) n) ps ≡ true → (b : Bool) → numbered w n ≡ b → numbered v n ≡ true
+    come n up met true e = joined.stay n e
+    come n up met false e = joined.all n up (is (λ p. marked_own m (cell_at kind name p) n) (fails n up e) ∙ met)
+
+-- ---- new points
+
+or_nothing : (b : Bool) → b ≡ (b || false)
+or_nothing true = refl
+or_nothing false = refl
+
+-- a point at which the test fails is left out
+pub none_new : (f : Coordinates → Bool) (ps : List Coordinates) (p : Coordinates) → f p ≡ false → list_any f ps ≡ (list_any f ps || f p)
+none_new f ps p e = or_nothing (list_any f ps) ∙ ap (λ b. list_any f ps || b) (sym e)
+
+-- a point comes last
+pub one_new : (f : Coordinates → Bool) (ps qs : List Coordinates) (p : Coordinates) → qs ≡ ps ++ p ∷ [] → list_any f qs ≡ (list_any f ps || f p)
+one_new f ps qs p e = ap (list_any f) e ∙ list_any-append f ps (p ∷ []) ∙ ap (λ b. list_any f ps || b) (sym (or_nothing (f p)))

@@ -1,0 +1,10 @@
+use Rattle.std.proofs.Common.{ℕ, Option, take}
+use Rattle.selective_undo.specs.Log.{Footprint}
+use Rattle.wb_cells.specs.Schema.{workbook}
+use Rattle.wb_footprints.specs.Relation.{IsLeastAfter}
+use Rattle.wb_footprints.specs.Footprints.{IsIndexOf, touched_under}
+use Rattle.wb_footprints.proofs.foot_index.FootIndex.first_to_touch.Given as goal
+
+abbrev pub invariant-loop-x : goal.invariant-loop-x
+invariant-loop-x l = (footprints : ℕ → Option (Footprint workbook)) → IsIndexOf l.self footprints →
+    IsLeastAfter (λ n. touched_under (footprints n) (take l.x-index l.reads)) l.after l.first

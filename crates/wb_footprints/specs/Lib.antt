@@ -1,0 +1,14 @@
+pub mod Numbers
+pub mod Relation
+pub mod Marks
+pub mod Slots
+pub mod Points
+pub mod Held
+pub mod PointMarks
+pub mod Blocks
+pub mod Parts
+pub mod Spots
+pub mod Places
+pub mod Footprints
+pub mod Swept
+pub mod Rows

@@ -1,0 +1,62 @@
+-- Which numbers stand at which parts of an object.
+use Rattle.std.specs.Prelude.{ℕ, Bool, false, ◌||◌, List}
+use Rattle.std.specs.List.{list_any}
+use Rattle.std.specs.Cmp.Lexicographic.{slice_cmp}
+use Rattle.std.specs.Ordering.{nat_cmp, eq_by_cmp}
+use Rattle.wb_cells.specs.declared.values.index.Index.{Index}
+use Rattle.wb_cells.specs.declared.values.index.Index.TheVariants.{Point, Text}
+use Rattle.wb_cells.specs.Cells.{Name, is_same_name, is_same_index}
+use Rattle.wb_footprints.specs.declared.part.Kind.{Kind}
+use Rattle.wb_footprints.specs.declared.part.Kind.TheVariants.{Inside, Members, Elements}
+use Rattle.wb_footprints.specs.declared.part.Part.{Part}
+use Rattle.wb_footprints.specs.declared.part.Part.TheVariants.{Slot, In, Member, User, Element}
+use Rattle.wb_footprints.specs.declared.index_marks.IndexMarks.{IndexMarks}
+use Rattle.wb_footprints.specs.declared.name_marks.NameMarks.{NameMarks}
+use Rattle.wb_footprints.specs.Marks.{marked}
+use Rattle.wb_footprints.specs.Slots.{slot_cmp, slot_marked}
+use Rattle.wb_footprints.specs.PointMarks.{point_marked}
+use Rattle.wb_footprints.specs.Points.{Coordinates}
+use Rattle.wb_footprints.specs.Blocks.{in_blocks}
+
+-- a part of the object of a name
+abbrev pub Spot : Type 0
+Spot = Name × Part
+
+-- whether a number stands at an index: alone, or in a block
+abbrev pub index_marked : IndexMarks → Index → ℕ → Bool
+index_marked m (Point p) n = point_marked m.points p n || in_blocks m.blocks.list.items p n
+index_marked m (Text t) n = marked (slice_cmp nat_cmp) m.texts t n
+
+-- whether an index is one of some points
+abbrev pub in_index : List Coordinates → Index → Bool
+in_index ps i = list_any (λ p. is_same_index (Point p) i) ps
+
+-- whether a part is one of its kind at one of some points
+abbrev pub in_run : Kind → List Coordinates → Part → Bool
+in_run Inside ps (In i) = in_index ps i
+in_run Members ps (Member i) = in_index ps i
+in_run Elements ps (Element i) = in_index ps i
+in_run _ _ _ = false
+
+-- the part of its kind at a point
+abbrev pub part_at : Kind → Coordinates → Part
+part_at Inside p = In (Point p)
+part_at Members p = Member (Point p)
+part_at Elements p = Element (Point p)
+
+-- whether two parts are one
+abbrev pub is_same_part : Part → Part → Bool
+is_same_part (Slot s) (Slot t) = eq_by_cmp slot_cmp s t
+is_same_part (In i) (In j) = is_same_index i j
+is_same_part (Member i) (Member j) = is_same_index i j
+is_same_part (User m) (User n) = is_same_name m n
+is_same_part (Element i) (Element j) = is_same_index i j
+is_same_part _ _ = false
+
+-- whether a number stands at a part
+abbrev pub part_marked : NameMarks → Part → ℕ → Bool
+part_marked m (Slot s) n = slot_marked m.slots s n
+part_marked m (In i) n = index_marked m.inside i n
+part_marked m (Member i) n = index_marked m.members i n
+part_marked m (User u) n = marked (slice_cmp nat_cmp) m.users u n
+part_marked m (Element i) n = index_marked m.elements i n

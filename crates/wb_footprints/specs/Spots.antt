@@ -1,0 +1,29 @@
+-- Which numbers stand at which parts of which objects.
+use Rattle.std.specs.Prelude.{ℕ, Bool, false, ◌&&◌, Option, Some, None, List}
+use Rattle.std.specs.BTreeMap.{get}
+use Rattle.std.specs.Cmp.Lexicographic.{slice_cmp}
+use Rattle.std.specs.Ordering.{nat_cmp}
+use Rattle.wb_cells.specs.Cells.{Name, is_same_name}
+use Rattle.wb_footprints.specs.declared.part.Kind.{Kind}
+use Rattle.wb_footprints.specs.declared.part.Part.{Part}
+use Rattle.wb_footprints.specs.declared.name_marks.NameMarks.{NameMarks}
+use Rattle.wb_footprints.specs.declared.spots.SpotMarks.{SpotMarks}
+use Rattle.wb_footprints.specs.Points.{Coordinates}
+use Rattle.wb_footprints.specs.Parts.{Spot, is_same_part, in_run, part_marked}
+
+-- whether a number stands at a part of an object that may have no marks at all
+abbrev pub at_name : Option NameMarks → Part → ℕ → Bool
+at_name None p n = false
+at_name (Some m) p n = part_marked m p n
+
+-- whether a number stands at a part of the object of a name
+abbrev pub spot_marked : SpotMarks → Spot → ℕ → Bool
+spot_marked m s n = at_name (get (slice_cmp nat_cmp) m.names s.0) s.1 n
+
+-- whether they are one part of one object
+abbrev pub is_same_spot : Spot → Spot → Bool
+is_same_spot s t = is_same_name s.0 t.0 && is_same_part s.1 t.1
+
+-- whether it is one of its kind, of the object of a name, at one of some points
+abbrev pub in_spots : Name → Kind → List Coordinates → Spot → Bool
+in_spots d k ps s = is_same_name d s.0 && in_run k ps s.1

@@ -1,0 +1,76 @@
+//! The index itself: footprints come and go by their numbers.
+
+ghost use Rattle.std.specs.Prelude.{◌≡◌, ◌++◌, Some, None, OnOk, OnErr};
+ghost use Rattle.wb_cells.specs.Reads.{all_read};
+ghost use Rattle.wb_footprints.specs.Footprints.{Footprints, IsIndexOf, footprint, with_footprint};
+
+use crate::cell_lists::{mark_all, unmark_all};
+use crate::marking::Marking;
+use crate::place_marks::PlaceMarks;
+use crate::reading::{read_all, unread_all};
+use std::alloc::Global;
+use wb_cells::{Changes, Pattern, ReadRun};
+use wb_range::NoMemory;
+
+/// An index of footprints by the cells that they read and touched. It owns none: its contracts speak of those that it
+/// is of.
+pub struct FootIndex {
+    pub(crate) touched: PlaceMarks,
+    pub(crate) read: PlaceMarks,
+}
+
+// In a function of its own, so that a crate above need not prove anew how each field is let go.
+impl Drop for FootIndex {
+    fn drop(self) {
+        let FootIndex {
+            touched: _,
+            read: _,
+        } = self;
+    }
+}
+
+impl FootIndex {
+    /// The index without footprints.
+    pub fn new(alloc: Global) -> FootIndex
+        ensures { IsIndexOf result (λ n. None) }
+    {
+        FootIndex {
+            touched: PlaceMarks::new(alloc),
+            read: PlaceMarks::new(alloc),
+        }
+    }
+
+    /// Adds a footprint at a number that has none, or nothing where no memory is left. What was read is the patterns that
+    /// come first, and the runs of those behind them.
+    pub fn add(
+        &mut self,
+        number: u64,
+        reads: &[Pattern],
+        runs: &[ReadRun],
+        before: &Changes,
+    ) -> Result<(), NoMemory>
+        ensures ok { OnOk result ((footprints : Footprints) → IsIndexOf self.old footprints → footprints number ≡ None →
+            IsIndexOf self.new (with_footprint footprints number (Some (footprint (reads.now ++ all_read runs.now) before.now)))) }
+        ensures err { OnErr result ((footprints : Footprints) → IsIndexOf self.old footprints → footprints number ≡ None → IsIndexOf self.new footprints) }
+    {
+        if mark_all(&mut self.touched, Marking::Families, before, number).is_err() {
+            unmark_all(&mut self.touched, Marking::Families, before, number);
+            return Err(NoMemory);
+        }
+        if read_all(&mut self.read, reads, runs, number).is_err() {
+            unread_all(&mut self.read, reads, runs, number);
+            unmark_all(&mut self.touched, Marking::Families, before, number);
+            return Err(NoMemory);
+        }
+        Ok(())
+    }
+
+    /// Takes away the footprint at a number. It takes no memory.
+    pub fn take(&mut self, number: u64, reads: &[Pattern], runs: &[ReadRun], before: &Changes)
+        ensures { (footprints : Footprints) → IsIndexOf self.old footprints → footprints number ≡ Some (footprint (reads.now ++ all_read runs.now) before.now) →
+            IsIndexOf self.new (with_footprint footprints number None) }
+    {
+        unmark_all(&mut self.touched, Marking::Families, before, number);
+        unread_all(&mut self.read, reads, runs, number);
+    }
+}

@@ -1,0 +1,142 @@
+//! Which numbers stand at which indices.
+
+ghost use Rattle.std.specs.Prelude.{◌≡◌, ℕ, ◌&&◌, false, true, Some, None, IsTrue, OnOk, OnErr, if◌then◌else◌};
+ghost use Rattle.std.specs.Ordering.{eq_by_cmp};
+ghost use Rattle.wb_cells.specs.declared.values.index.Index.{Index};
+ghost use Rattle.wb_cells.specs.Cells.{is_same_index};
+ghost use Rattle.std.specs.List.{list_any};
+ghost use Rattle.wb_footprints.specs.Marks.{marked};
+ghost use Rattle.wb_footprints.specs.Points.{Coordinates, point_cmp};
+ghost use Rattle.wb_footprints.specs.Relation.{Sets, Clears, IsLeastAfter, JoinedAfter};
+ghost use Rattle.wb_footprints.specs.Parts.{index_marked, in_index};
+
+use crate::blocks::{Block, Blocks};
+use crate::earlier::earlier;
+use crate::marks::Marks;
+use crate::numbers::Numbers;
+use crate::point_marks::PointMarks;
+use crate::points::Points;
+use std::alloc::Global;
+use wb_cells::{AnyIndex, Index, Point};
+use wb_range::NoMemory;
+use wb_sets::Label;
+
+/// Numbers at indices.
+#[derive(Drop)]
+pub struct IndexMarks {
+    points: PointMarks,
+    texts: Marks<Label>,
+    blocks: Blocks,
+}
+
+impl IndexMarks {
+    /// No marks.
+    pub fn new(alloc: Global) -> IndexMarks
+        ensures { (i : Index) (n : ℕ) → index_marked result i n ≡ false }
+    {
+        IndexMarks {
+            points: PointMarks::new(alloc),
+            texts: Marks::new(alloc),
+            blocks: Blocks::new(alloc),
+        }
+    }
+
+    /// Adds a number at an index.
+    pub fn add(&mut self, index: &AnyIndex, number: u64) -> Result<(), NoMemory>
+        ensures ok { OnOk result (Sets (index_marked self.old) (index_marked self.new) (is_same_index index.now) number true) }
+        ensures err { OnErr result (self.new ≡ self.old) }
+    {
+        match index.index() {
+            Index::Point(point) => self.points.add(point, number),
+            Index::Text(label) => self.texts.add(label, number),
+        }
+    }
+
+    /// Adds a number at many points, and says whether it did. Where not, they may go one by one.
+    pub fn add_block(&mut self, block: Block) -> bool
+        ensures { Sets (index_marked self.old) (index_marked self.new) (λ i. result && in_index block.points i) block.number true }
+    {
+        self.blocks.add(block)
+    }
+
+    /// Takes a number away from an index, and from all points where it stands in a block.
+    pub fn take(&mut self, index: &AnyIndex, number: u64)
+        ensures { Clears (index_marked self.old) (index_marked self.new) (is_same_index index.now) number }
+    {
+        match index.index() {
+            Index::Point(point) => {
+                self.blocks.take(number);
+                self.points.take(point, number);
+            }
+            Index::Text(label) => self.texts.take(label, number),
+        }
+    }
+
+    /// Whether the number is seen to stand at no point: none has marks alone, and no block is of the number.
+    pub fn is_clear(&self, number: u64) -> bool
+        ensures { IsTrue result → (p : Coordinates) → index_marked self.now (Index.Point p) number ≡ false }
+    {
+        if !self.points.is_empty() {
+            return false;
+        }
+        self.blocks.is_clear(number)
+    }
+
+    /// The least number above `after` at one of several points.
+    pub fn least_in(&self, points: &Points, after: u64) -> Option<u64>
+        ensures { IsLeastAfter (λ n. list_any (λ p. index_marked self.now (Index.Point p) n) points.now) after result }
+    {
+        let alone = self.points.least_in(points, after);
+        earlier(alone, self.blocks.least_in(points, after))
+    }
+
+    /// The least number above `after` at an index.
+    pub fn least_after(&self, index: &AnyIndex, after: u64) -> Option<u64>
+        ensures { IsLeastAfter (index_marked self.now index.now) after result }
+    {
+        match index.index() {
+            Index::Point(point) => {
+                let alone = self.points.least_after(point, after);
+                earlier(alone, self.blocks.least_after(&point, after))
+            }
+            Index::Text(label) => self.texts.least_after(label, after),
+        }
+    }
+
+    /// Those above `after` at one of several points join the numbers that wait.
+    pub fn join_in(
+        &self,
+        points: &Points,
+        after: u64,
+        waiting: &mut Numbers,
+    ) -> Result<(), NoMemory>
+        ensures { OnOk result (JoinedAfter waiting.old waiting.new
+            (λ n. list_any (λ p. index_marked self.now (Index.Point p) n) points.now) after) }
+    {
+        self.points.join_in(points, after, waiting)?;
+        self.blocks.join_in(points, after, waiting)
+    }
+
+    // Those above `after` at a point.
+    fn join_at(&self, point: Point, after: u64, waiting: &mut Numbers) -> Result<(), NoMemory>
+        ensures { OnOk result (JoinedAfter waiting.old waiting.new (index_marked self.now (Index.Point point)) after) }
+    {
+        self.points.join_after(point, after, waiting)?;
+        self.blocks.join_after(&point, after, waiting)
+    }
+
+    /// Those above `after` at an index join the numbers that wait.
+    pub fn join_after(
+        &self,
+        index: &AnyIndex,
+        after: u64,
+        waiting: &mut Numbers,
+    ) -> Result<(), NoMemory>
+        ensures { OnOk result (JoinedAfter waiting.old waiting.new (index_marked self.now index.now) after) }
+    {
+        match index.index() {
+            Index::Point(point) => self.join_at(point, after, waiting),
+            Index::Text(label) => self.texts.join_after(label, after, waiting),
+        }
+    }
+}

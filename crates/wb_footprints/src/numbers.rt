@@ -1,0 +1,97 @@
+//! Which numbers have a footprint.
+
+ghost use Rattle.std.specs.Prelude.{◌≡◌, ℕ, ◌==◌, false, true, OnOk, OnErr, IfOk, IfSome, IfNone, if◌then◌else◌};
+ghost use Rattle.wb_footprints.specs.Relation.{AreAllAfter, IsGreatest, IsLeast, IsLeastAfter, JoinedAfter};
+ghost use Rattle.wb_footprints.specs.Numbers.{numbered};
+
+use std::alloc::Global;
+use std::collections::BTreeSet;
+use std::ops::Bound;
+use wb_range::NoMemory;
+
+/// A set of numbers.
+#[derive(Drop)]
+pub struct Numbers {
+    set: BTreeSet<u64>,
+}
+
+impl Numbers {
+    /// No numbers.
+    pub fn new(alloc: Global) -> Numbers
+        ensures { (n : ℕ) → numbered result n ≡ false }
+    {
+        Numbers {
+            set: BTreeSet::new(alloc),
+        }
+    }
+
+    /// Adds a number.
+    pub fn add(&mut self, number: u64) -> Result<(), NoMemory>
+        ensures ok { OnOk result ((n : ℕ) → numbered self.new n ≡ (if number == n then true else numbered self.old n)) }
+        ensures err { OnErr result (self.new ≡ self.old) }
+    {
+        match self.set.insert(number) {
+            Ok(_) => Ok(()),
+            Err(_) => Err(NoMemory),
+        }
+    }
+
+    /// Takes a number away.
+    pub fn take(&mut self, number: u64)
+        ensures { (n : ℕ) → numbered self.new n ≡ (if number == n then false else numbered self.old n) }
+    {
+        self.set.remove(&number);
+    }
+
+    /// Takes the least number away.
+    pub fn take_least(&mut self) -> Option<u64>
+        ensures least { IsLeast (numbered self.old) result }
+        ensures taken { IfSome result (λ j. (n : ℕ) → numbered self.new n ≡ (if j == n then false else numbered self.old n)) }
+        ensures none { IfNone result ((n : ℕ) → numbered self.new n ≡ numbered self.old n) }
+    {
+        self.set.pop_first()
+    }
+
+    /// The least number above `after`.
+    pub fn least_after(&self, after: u64) -> Option<u64>
+        ensures { IsLeastAfter (numbered self.now) after result }
+    {
+        let from = (Bound::Excluded(after), Bound::Unbounded);
+        self.set.range(from).next().copied()
+    }
+
+    /// Those above `after` join the numbers that wait.
+    pub fn join_after(&self, after: u64, waiting: &mut Numbers) -> Result<(), NoMemory>
+        ensures { OnOk result (JoinedAfter waiting.old waiting.new (numbered self.now) after) }
+    {
+        let mut from = after;
+        while let Some(number) = self.least_after(from) {
+            waiting.add(number)?;
+            from = number;
+        }
+        Ok(())
+    }
+
+    /// Those above `after`, ascending.
+    pub fn above(&self, alloc: Global, after: u64) -> Result<Vec<u64>, NoMemory>
+        ensures { IfOk result (λ v. AreAllAfter (numbered self.now) after v.items) }
+    {
+        let mut found = Vec::new(alloc);
+        let mut from = after;
+        while let Some(number) = self.least_after(from) {
+            match found.push(number) {
+                Ok(()) => {}
+                Err(_) => return Err(NoMemory),
+            }
+            from = number;
+        }
+        Ok(found)
+    }
+
+    /// The greatest number.
+    pub fn greatest(&self) -> Option<u64>
+        ensures { IsGreatest (numbered self.now) result }
+    {
+        self.set.last().copied()
+    }
+}

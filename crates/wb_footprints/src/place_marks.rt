@@ -1,0 +1,123 @@
+//! Which numbers stand at which places.
+
+ghost use Rattle.std.specs.Prelude.{◌≡◌, ℕ, ◌&&◌, false, true, IsTrue, OnOk, OnErr};
+ghost use Rattle.wb_footprints.specs.declared.place.Place.{Place};
+ghost use Rattle.std.specs.List.{list_any};
+ghost use Rattle.wb_footprints.specs.Relation.{Sets, Clears, IsLeastAfter, JoinedAfter};
+ghost use Rattle.wb_footprints.specs.Points.{Coordinates};
+ghost use Rattle.wb_footprints.specs.Places.{own, cell_at, place_marked, is_same_place, in_places};
+
+use crate::blocks::Block;
+use crate::marks::Marks;
+use crate::numbers::Numbers;
+use crate::part::Kind;
+use crate::place::Place;
+use crate::points::Points;
+use crate::runs::Row;
+use crate::spots::SpotMarks;
+use std::alloc::Global;
+use wb_cells::Name;
+use wb_range::NoMemory;
+
+/// Numbers at places.
+#[derive(Drop)]
+pub struct PlaceMarks {
+    objects: Marks<bool>,
+    spots: SpotMarks,
+    pub(crate) alloc: Global,
+}
+
+impl PlaceMarks {
+    /// No marks.
+    pub fn new(alloc: Global) -> PlaceMarks
+        ensures { (p : Place) (n : ℕ) → place_marked result p n ≡ false }
+    {
+        PlaceMarks {
+            objects: Marks::new(alloc),
+            spots: SpotMarks::new(alloc),
+            alloc,
+        }
+    }
+
+    /// Adds a number at a place.
+    pub fn add(&mut self, place: &Place, number: u64) -> Result<(), NoMemory>
+        ensures ok { OnOk result (Sets (place_marked self.old) (place_marked self.new) (is_same_place place.now) number true) }
+        ensures err { OnErr result ((p : Place) (n : ℕ) → place_marked self.new p n ≡ place_marked self.old p n) }
+    {
+        match place {
+            Place::Objects => self.objects.add(true, number),
+            Place::Of(name, part) => self.spots.add(*name, part, number),
+        }
+    }
+
+    /// Adds a number at many points of the object of a name, and says whether it did. Where not, they may go one by one.
+    pub fn add_block(&mut self, name: Name, kind: Kind, block: Block) -> bool
+        ensures { Sets (place_marked self.old) (place_marked self.new) (λ q. result && in_places name kind block.points q) block.number true }
+    {
+        self.spots.add_block(name, kind, block)
+    }
+
+    /// Takes a number away from a place, and from others where it stands in a block with it.
+    pub fn take(&mut self, place: &Place, number: u64)
+        ensures { Clears (place_marked self.old) (place_marked self.new) (is_same_place place.now) number }
+    {
+        match place {
+            Place::Objects => self.objects.take(true, number),
+            Place::Of(name, part) => self.spots.take(*name, part, number),
+        }
+    }
+
+    /// Whether the number is seen to stand at no point of the kind, of the object of a name.
+    pub fn is_clear(&self, name: Name, kind: Kind, number: u64) -> bool
+        ensures { IsTrue result → (p : Coordinates) (q : Place) → is_same_place (own (cell_at kind name p)) q ≡ true → place_marked self.now q number ≡ false }
+    {
+        self.spots.is_clear(name, kind, number)
+    }
+
+    /// The least number above `after` at the own place of one of the cells of a row at several points.
+    pub fn least_in(&self, row: &Row, points: &Points, after: u64) -> Option<u64>
+        ensures { IsLeastAfter (λ n. list_any (λ p. place_marked self.now (own (cell_at row.now.kind row.now.name p)) n) points.now) after result }
+    {
+        self.spots.least_in(row.name, row.kind, points, after)
+    }
+
+    /// The least number above `after` at a place.
+    pub fn least_after(&self, place: &Place, after: u64) -> Option<u64>
+        ensures { IsLeastAfter (place_marked self.now place.now) after result }
+    {
+        match place {
+            Place::Objects => self.objects.least_after(true, after),
+            Place::Of(name, part) => self.spots.least_after(*name, part, after),
+        }
+    }
+
+    /// Those above `after` at the own place of one of the cells of a row at several points join the numbers that wait.
+    pub fn join_in(
+        &self,
+        row: &Row,
+        points: &Points,
+        after: u64,
+        waiting: &mut Numbers,
+    ) -> Result<(), NoMemory>
+        ensures { OnOk result (JoinedAfter waiting.old waiting.new
+            (λ n. list_any (λ p. place_marked self.now (own (cell_at row.now.kind row.now.name p)) n) points.now) after) }
+    {
+        self.spots
+            .join_in(row.name, row.kind, points, after, waiting)
+    }
+
+    /// Those above `after` at a place join the numbers that wait.
+    pub fn join_after(
+        &self,
+        place: &Place,
+        after: u64,
+        waiting: &mut Numbers,
+    ) -> Result<(), NoMemory>
+        ensures { OnOk result (JoinedAfter waiting.old waiting.new (place_marked self.now place.now) after) }
+    {
+        match place {
+            Place::Objects => self.objects.join_after(true, after, waiting),
+            Place::Of(name, part) => self.spots.join_after(*name, part, after, waiting),
+        }
+    }
+}

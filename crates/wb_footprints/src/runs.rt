@@ -1,0 +1,201 @@
+//! Runs: the elements, members or indices inside of one object, by their points in ascending order.
+
+ghost use Rattle.std.specs.Prelude.{◌≡◌, ◌<◌, ◌≤◌, Bool, IfSome, IsTrue, length, map};
+ghost use Rattle.std.specs.List.{list_any};
+ghost use Rattle.wb_cells.specs.declared.values.index.Index.TheVariants.{Point as at_point};
+ghost use Rattle.wb_cells.specs.Runs.{cell_of, changes_in, packed_changes, rectangle_entries, numbered_entries};
+ghost use Rattle.wb_cells.specs.Shapes.{indices};
+ghost use Rattle.wb_footprints.specs.declared.marking.Marking.{Marking};
+ghost use Rattle.wb_footprints.specs.declared.place.Place.{Place};
+ghost use Rattle.wb_footprints.specs.Points.{Coordinates};
+ghost use Rattle.wb_footprints.specs.Places.{cell_at, family};
+ghost use Rattle.wb_footprints.specs.Rows.{AreOfRow, AreAt};
+ghost use Rattle.wb_footprints.specs.Footprints.{family_by, marked_at, run_marked};
+
+use crate::marking::Marking;
+use crate::part::{Kind, Part, Slot};
+use crate::place::Place;
+use crate::points::{Points, with_room};
+use std::alloc::Global;
+use wb_cells::{
+    AnyIndex, Cell, ChangeRun, Form, Index, Name, Packed, Point, RectangleChanges,
+    RectangleNumbers, Row as ChangeRow,
+};
+
+/// So many cells at least go into one block.
+pub(crate) const LEAST: usize = 64;
+
+/// The cells of one object that are of one kind.
+#[derive(Clone, Copy)]
+pub struct Row {
+    pub(crate) name: Name,
+    pub(crate) kind: Kind,
+}
+
+impl Row {
+    /// Those of a row of changes.
+    pub(crate) fn of(row: &ChangeRow) -> Row
+        ensures { (p : Coordinates) → cell_at result.kind result.name p ≡ cell_of row.now (at_point p) }
+    {
+        match row {
+            ChangeRow::Inside(name) => Row {
+                name: *name,
+                kind: Kind::Inside,
+            },
+            ChangeRow::Members(name) => Row {
+                name: *name,
+                kind: Kind::Members,
+            },
+            ChangeRow::Elements(name) => Row {
+                name: *name,
+                kind: Kind::Elements,
+            },
+        }
+    }
+
+    /// Those of which the cells of a run are.
+    pub(crate) fn of_form(form: &Form) -> Option<Row>
+        ensures { IfSome result (λ row. AreOfRow row.kind row.name (changes_in form.now)) }
+    {
+        match form {
+            Form::One(_) => None,
+            Form::Line(line) => Some(Row::of(line.row())),
+            Form::Plane(plane) => Some(Row::of(plane.row())),
+            Form::Solid(solid) => Some(Row::of(solid.row())),
+            Form::Rectangle(rectangle) => Some(Row::of(rectangle.row())),
+            Form::Numbers(rectangle) => Some(Row::of(rectangle.row())),
+        }
+    }
+
+    /// The cell at a point.
+    pub(crate) fn cell(&self, point: &Point) -> Cell
+        ensures { result ≡ cell_at self.now.kind self.now.name point.now }
+    {
+        let index = AnyIndex::new(Index::Point(*point));
+        match self.kind {
+            Kind::Inside => Cell::In(self.name, index),
+            Kind::Members => Cell::Member(self.name, index),
+            Kind::Elements => Cell::Element(self.name, index),
+        }
+    }
+
+    /// The place of their family, if they are marked at that too.
+    pub(crate) fn family(&self, marking: Marking) -> Option<Place>
+        ensures { (p : Coordinates) → result ≡ family_by marking (cell_at self.now.kind self.now.name p) }
+    {
+        match marking {
+            Marking::Own => None,
+            Marking::Families => self.named_family(),
+        }
+    }
+
+    // The place of their family, where patterns name it.
+    fn named_family(&self) -> Option<Place>
+        ensures { (p : Coordinates) → result ≡ family (cell_at self.now.kind self.now.name p) }
+    {
+        match self.kind {
+            Kind::Inside => None,
+            Kind::Members => Some(Place::Of(self.name, Part::Slot(Slot::Members))),
+            Kind::Elements => Some(Place::Of(self.name, Part::Slot(Slot::Elements))),
+        }
+    }
+}
+
+/// Cells of one row, by their points in ascending order.
+#[derive(Drop)]
+pub struct Run {
+    pub(crate) row: Row,
+    pub(crate) points: Points,
+}
+
+impl Run {
+    /// The run that cells are, in whichever order, if all are of one row, and there is memory.
+    pub(crate) fn of_cells(alloc: Global, cells: &ChangeRun) -> Option<Run>
+        ensures some { IfSome result (λ run. 0 < length run.points) }
+        ensures cells { IfSome result (λ run. AreAt run.row.kind run.row.name run.points (changes_in cells.now.form)) }
+        ensures marked { IfSome result (λ run. (m : Marking) (q : Place) →
+            marked_at m (changes_in cells.now.form) q ≡ run_marked m run.row.kind run.row.name run.points q) }
+    {
+        let run = Run::of_form(alloc, cells.form())?;
+        if run.points.len() == 0 {
+            return None;
+        }
+        Some(run)
+    }
+
+    // The same, though of no cells too.
+    fn of_form(alloc: Global, form: &Form) -> Option<Run>
+        ensures { IfSome result (λ run. AreAt run.row.kind run.row.name run.points (changes_in form.now)) }
+    {
+        match form {
+            Form::One(_) => None,
+            Form::Line(line) => packed_run(alloc, line),
+            Form::Plane(plane) => packed_run(alloc, plane),
+            Form::Solid(solid) => packed_run(alloc, solid),
+            Form::Rectangle(rectangle) => Some(rectangle_run(rectangle)),
+            Form::Numbers(rectangle) => numbers_run(rectangle),
+        }
+    }
+}
+
+// The run that packed cells are, if there is memory.
+fn packed_run<const R: usize>(alloc: Global, packed: &Packed<R>) -> Option<Run>
+    requires { R ≤ 3 }
+    ensures { IfSome result (λ run. AreAt run.row.kind run.row.name run.points (packed_changes packed.now.row packed.now.changes.items)) }
+{
+    let points = packed_points(alloc, packed.changes())?;
+    Some(Run {
+        row: Row::of(packed.row()),
+        points,
+    })
+}
+
+// The points of packed changes, if there is memory.
+fn packed_points<const R: usize>(
+    alloc: Global,
+    changes: &[([i64; R], Option<i64>)],
+) -> Option<Points>
+    requires { R ≤ 3 }
+    ensures { IfSome result (λ ps. (f : Coordinates → Bool) → list_any f ps ≡ list_any f (map (λ e. e.0) changes.now)) }
+{
+    let mut points = with_room(alloc, changes.len())?;
+    for change in changes {
+        match points.push(Point::of(&change.0)) {
+            Ok(()) => {}
+            Err(_) => return None,
+        }
+    }
+    Some(Points::sorted(points))
+}
+
+// The run that the cells at the indices of a rectangle are: as its ranges.
+fn rectangle_run(rectangle: &RectangleChanges) -> Run
+    ensures { AreAt result.row.kind result.row.name result.points
+        (packed_changes rectangle.now.row (rectangle_entries rectangle.now.ranges rectangle.now.number)) }
+{
+    Run {
+        row: Row::of(rectangle.row()),
+        points: Points::within(rectangle.ranges()),
+    }
+}
+
+// Whether there is a number for each index of a rectangle, and no more.
+fn is_full(rectangle: &RectangleNumbers) -> bool
+    ensures { IsTrue result → length rectangle.now.numbers.items ≡ length (indices rectangle.now.ranges) }
+{
+    rectangle.numbers().len() == rectangle.ranges().size()
+}
+
+// The run that the cells at the indices of a rectangle are that get a number each, if each does: as its ranges.
+fn numbers_run(rectangle: &RectangleNumbers) -> Option<Run>
+    ensures { IfSome result (λ run. AreAt run.row.kind run.row.name run.points
+        (packed_changes rectangle.now.row (numbered_entries rectangle.now.ranges rectangle.now.numbers.items))) }
+{
+    if !is_full(rectangle) {
+        return None;
+    }
+    Some(Run {
+        row: Row::of(rectangle.row()),
+        points: Points::within(rectangle.ranges()),
+    })
+}

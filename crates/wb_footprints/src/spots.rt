@@ -1,0 +1,143 @@
+//! Which numbers stand at which parts of which objects.
+
+ghost use Rattle.std.specs.Prelude.{◌≡◌, ℕ, ◌&&◌, false, true, IsTrue, OnOk, OnErr};
+ghost use Rattle.std.specs.List.{list_any};
+ghost use Rattle.wb_footprints.specs.Relation.{Sets, Clears, IsLeastAfter, JoinedAfter};
+ghost use Rattle.wb_footprints.specs.Points.{Coordinates};
+ghost use Rattle.wb_footprints.specs.Parts.{Spot, part_at};
+ghost use Rattle.wb_footprints.specs.Spots.{spot_marked, is_same_spot, in_spots};
+
+use crate::blocks::Block;
+use crate::name_marks::NameMarks;
+use crate::numbers::Numbers;
+use crate::part::{Kind, Part};
+use crate::points::Points;
+use std::alloc::Global;
+use std::collections::BTreeMap;
+use wb_cells::Name;
+use wb_range::NoMemory;
+
+/// Numbers at the parts of the objects of all names.
+#[derive(Drop)]
+pub struct SpotMarks {
+    alloc: Global,
+    names: BTreeMap<Name, NameMarks>,
+}
+
+impl SpotMarks {
+    /// No marks.
+    pub fn new(alloc: Global) -> SpotMarks
+        ensures { (s : Spot) (n : ℕ) → spot_marked result s n ≡ false }
+    {
+        SpotMarks {
+            alloc,
+            names: BTreeMap::new(alloc),
+        }
+    }
+
+    /// Adds a number at a part of the object of a name.
+    pub fn add(&mut self, name: Name, part: &Part, number: u64) -> Result<(), NoMemory>
+        ensures ok { OnOk result (Sets (spot_marked self.old) (spot_marked self.new) (is_same_spot (name, part.now)) number true) }
+        ensures err { OnErr result ((s : Spot) (n : ℕ) → spot_marked self.new s n ≡ spot_marked self.old s n) }
+    {
+        if let Some(marks) = self.names.get_mut(&name) {
+            return marks.add(part, number);
+        }
+        let mut marks = NameMarks::new(self.alloc);
+        marks.add(part, number)?;
+        match self.names.insert(name, marks) {
+            Ok(_) => Ok(()),
+            Err(_) => Err(NoMemory),
+        }
+    }
+
+    /// Adds a number at many points of the object of a name, and says whether it did.
+    pub fn add_block(&mut self, name: Name, kind: Kind, block: Block) -> bool
+        ensures { Sets (spot_marked self.old) (spot_marked self.new) (λ s. result && in_spots name kind block.points s) block.number true }
+    {
+        if let Some(marks) = self.names.get_mut(&name) {
+            return marks.add_block(kind, block);
+        }
+        let mut marks = NameMarks::new(self.alloc);
+        if !marks.add_block(kind, block) {
+            return false;
+        }
+        match self.names.insert(name, marks) {
+            Ok(_) => true,
+            Err(_) => false,
+        }
+    }
+
+    /// Takes a number away from a part of the object of a name, and from others of it where it stands in a block.
+    pub fn take(&mut self, name: Name, part: &Part, number: u64)
+        ensures { Clears (spot_marked self.old) (spot_marked self.new) (is_same_spot (name, part.now)) number }
+    {
+        if let Some(marks) = self.names.get_mut(&name) {
+            marks.take(part, number);
+        }
+    }
+
+    /// Whether the number is seen to stand at no point of the kind, of the object of a name.
+    pub fn is_clear(&self, name: Name, kind: Kind, number: u64) -> bool
+        ensures { IsTrue result → (p : Coordinates) → spot_marked self.now (name, part_at kind p) number ≡ false }
+    {
+        match self.names.get(&name) {
+            Some(marks) => marks.is_clear(kind, number),
+            None => true,
+        }
+    }
+
+    /// The least number above `after` at one of several points of the kind, of the object of a name.
+    pub fn least_in(&self, name: Name, kind: Kind, points: &Points, after: u64) -> Option<u64>
+        ensures { IsLeastAfter (λ n. list_any (λ p. spot_marked self.now (name, part_at kind p) n) points.now) after result }
+    {
+        match self.names.get(&name) {
+            Some(marks) => marks.least_in(kind, points, after),
+            None => None,
+        }
+    }
+
+    /// The least number above `after` at a part of the object of a name.
+    pub fn least_after(&self, name: Name, part: &Part, after: u64) -> Option<u64>
+        ensures { IsLeastAfter (spot_marked self.now (name, part.now)) after result }
+    {
+        match self.names.get(&name) {
+            Some(marks) => marks.least_after(part, after),
+            None => None,
+        }
+    }
+
+    /// Those above `after` at one of several points of the kind, of the object of a name, join the numbers that wait.
+    pub fn join_in(
+        &self,
+        name: Name,
+        kind: Kind,
+        points: &Points,
+        after: u64,
+        waiting: &mut Numbers,
+    ) -> Result<(), NoMemory>
+        ensures { OnOk result (JoinedAfter waiting.old waiting.new
+            (λ n. list_any (λ p. spot_marked self.now (name, part_at kind p) n) points.now) after) }
+    {
+        match self.names.get(&name) {
+            Some(marks) => marks.join_in(kind, points, after, waiting),
+            None => Ok(()),
+        }
+    }
+
+    /// Those above `after` at a part of the object of a name join the numbers that wait.
+    pub fn join_after(
+        &self,
+        name: Name,
+        part: &Part,
+        after: u64,
+        waiting: &mut Numbers,
+    ) -> Result<(), NoMemory>
+        ensures { OnOk result (JoinedAfter waiting.old waiting.new (spot_marked self.now (name, part.now)) after) }
+    {
+        match self.names.get(&name) {
+            Some(marks) => marks.join_after(part, after, waiting),
+            None => Ok(()),
+        }
+    }
+}

@@ -1,0 +1,128 @@
+//! The cells that a sweep over the index went through, and the families that it asked for.
+
+ghost use Rattle.std.specs.Prelude.{◌≡◌, ℕ, ◌||◌, Bool, true, IsTrue, IfSome, OnOk};
+ghost use Rattle.std.specs.List.{list_any};
+ghost use Rattle.std.specs.Ordering.{eq_by_cmp};
+ghost use Rattle.wb_cells.specs.Cells.{cell_cmp};
+ghost use Rattle.wb_footprints.specs.declared.foot_index.FootIndex.{FootIndex};
+ghost use Rattle.wb_footprints.specs.declared.numbers.Numbers.{Numbers};
+ghost use Rattle.wb_footprints.specs.Marks.{marked};
+ghost use Rattle.wb_footprints.specs.Places.{family};
+ghost use Rattle.wb_footprints.specs.Points.{Coordinates};
+ghost use Rattle.wb_footprints.specs.Relation.{Sets};
+ghost use Rattle.wb_footprints.specs.Swept.{AreSwept, AreWaiting, FailsBehind};
+
+use crate::marks::Marks;
+use crate::points::Points;
+use crate::runs::{Row, Run};
+use std::alloc::Global;
+use wb_cells::{AnyIndex, Cell, Index, Point};
+use wb_range::NoMemory;
+
+/// The cells that a sweep over the index went through, from the least number up, and the families that it asked for, each by
+/// one cell of it: what met one of them waits already, so that each is asked for once, however many edits touched it.
+#[derive(Drop)]
+pub struct SweptCells {
+    pub(crate) cells: Marks<Cell>,
+    pub(crate) families: Marks<Cell>,
+}
+
+impl SweptCells {
+    /// None yet.
+    pub fn new(alloc: Global) -> SweptCells
+        ensures { (index : FootIndex) (waiting : Numbers) (after : ℕ) → AreSwept index result waiting after }
+    {
+        SweptCells {
+            cells: Marks::new(alloc),
+            families: Marks::new(alloc),
+        }
+    }
+
+    /// Whether the sweep went through the cell.
+    pub(crate) fn has(&self, cell: &Cell) -> bool
+        ensures { IsTrue result → (k : ℕ) × (marked cell_cmp self.now.cells cell.now k ≡ true) }
+    {
+        self.cells.least_after(*cell, 0).is_some()
+    }
+
+    /// Whether it asked for a family by the cell.
+    pub(crate) fn has_family(&self, cell: &Cell) -> bool
+        ensures { IsTrue result → (k : ℕ) × (marked cell_cmp self.now.families cell.now k ≡ true) }
+    {
+        self.families.least_after(*cell, 0).is_some()
+    }
+
+    /// The sweep goes through the cell.
+    pub(crate) fn add(&mut self, cell: &Cell) -> Result<(), NoMemory>
+        ensures cells { OnOk result (Sets (marked cell_cmp self.old.cells) (marked cell_cmp self.new.cells) (eq_by_cmp cell_cmp cell.now) 1 true) }
+        ensures families { self.new.families ≡ self.old.families }
+    {
+        self.cells.add(*cell, 1)
+    }
+
+    /// It asks for a family by the cell.
+    pub(crate) fn add_family(&mut self, cell: &Cell) -> Result<(), NoMemory>
+        ensures families { OnOk result (Sets (marked cell_cmp self.old.families) (marked cell_cmp self.new.families) (eq_by_cmp cell_cmp cell.now) 1 true) }
+        ensures cells { self.new.cells ≡ self.old.cells }
+    {
+        self.families.add(*cell, 1)
+    }
+
+    /// The sweep goes through the cells of a run.
+    pub(crate) fn add_run(&mut self, run: &Run) -> Result<(), NoMemory>
+        ensures { OnOk result ((index : FootIndex) (waiting : Numbers) (after : ℕ) → AreSwept index self.old waiting after →
+            AreWaiting index run.now.row.kind run.now.row.name run.now.points waiting after → AreSwept index self.new waiting after) }
+    {
+        for at in 0..run.points.len() {
+            let point = run.points.point(at);
+            self.add(&run.row.cell(&point))?;
+        }
+        Ok(())
+    }
+
+    // Adds a point to others where the sweep did not go through its cell.
+    fn add_new(&self, row: &Row, point: &Point, points: &mut Vec<Point>) -> Result<(), NoMemory>
+        ensures { OnOk result ((f : Coordinates → Bool) → FailsBehind self.now row.now.kind row.now.name f →
+            list_any f points.new.items ≡ (list_any f points.old.items || f point.now)) }
+    {
+        if self.has(&row.cell(point)) {
+            return Ok(());
+        }
+        match points.push(*point) {
+            Ok(()) => Ok(()),
+            Err(_) => Err(NoMemory),
+        }
+    }
+
+    /// The points of a run whose cells the sweep did not go through, if there is memory for them.
+    pub(crate) fn new_points(&self, alloc: Global, run: &Run) -> Option<Points>
+        ensures { IfSome result (λ ps. (f : Coordinates → Bool) → FailsBehind self.now run.now.row.kind run.now.row.name f →
+            list_any f ps ≡ list_any f run.now.points) }
+    {
+        let mut points = Vec::new(alloc);
+        for at in 0..run.points.len() {
+            match self.add_new(&run.row, &run.points.point(at), &mut points) {
+                Ok(()) => {}
+                Err(_) => return None,
+            }
+        }
+        Some(Points::sorted(points))
+    }
+}
+
+/// A cell by which the family of another is asked for: the same for all cells of a name that are of one kind.
+pub(crate) fn of_family(cell: &Cell) -> Cell
+    ensures { family result ≡ family cell.now }
+{
+    let first = AnyIndex::new(Index::Point(Point::single(0)));
+    match *cell {
+        Cell::Object(name) => Cell::Object(name),
+        Cell::Member(name, _) => Cell::Member(name, first),
+        Cell::Use(name, _) => Cell::Use(name, name),
+        Cell::Element(name, _) => Cell::Element(name, first),
+        Cell::Shape(name) => Cell::Shape(name),
+        Cell::In(name, _) => Cell::Shape(name),
+        Cell::Mapping(name) => Cell::Mapping(name),
+        Cell::Implicit(name) => Cell::Implicit(name),
+    }
+}

@@ -1,5 +1,0 @@
-use Rattle.wb_granting.proofs.Beginning.{lines_ask}
-use Rattle.wb_granting.proofs.lines_ask.Goals as goal
-
-pub returns : goal.returns
-returns c = lines_ask

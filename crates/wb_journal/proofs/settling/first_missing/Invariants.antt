@@ -1,6 +1,0 @@
-use Rattle.std.proofs.Common.{ℕ, ◌<◌}
-use Rattle.wb_journal.specs.Settling.{HasOnePass}
-use Rattle.wb_journal.proofs.settling.first_missing.Given as goal
-
-abbrev pub invariant-loop-seat : goal.invariant-loop-seat
-invariant-loop-seat g l = (k : ℕ) → k < l.seat → HasOnePass l.passes k

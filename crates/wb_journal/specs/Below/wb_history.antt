@@ -1,1 +1,0 @@
-pub use Rattle.wb_proto.specs.Below.wb_history.Past

@@ -1,0 +1,5 @@
+pub mod Cuts
+pub mod Moments
+pub mod Numbers
+pub mod Replaced
+pub mod Writes

@@ -1,0 +1,16 @@
+pub mod Digits
+pub mod Spaces
+pub mod DigitsBack
+pub mod PrintedRange
+pub mod Spelled
+pub mod Texts
+pub mod Listing
+pub mod TokenLemmas
+pub mod Exact
+pub mod RangeGrammar
+pub mod ListGrammar
+pub mod RectangleGrammar
+pub mod IndexGrammar
+pub mod MappingGrammar
+pub mod SetGrammar
+pub mod WithinLimits

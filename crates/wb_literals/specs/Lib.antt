@@ -1,0 +1,14 @@
+pub mod Tokens
+pub mod Integer
+pub mod Spelling
+pub mod Range
+pub mod RangeText
+pub mod Rectangle
+pub mod Index
+pub mod Mapping
+pub mod Set
+pub mod Integers
+pub mod Domain
+pub mod Said
+pub mod Grammar
+pub mod Limits

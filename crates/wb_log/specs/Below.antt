@@ -1,5 +1,0 @@
--- What is passed on of crates below, for crates above that list this one and not those.
-pub mod wb_edit
-pub mod wb_reading
-pub mod wb_shelf
-pub mod wb_text

@@ -1,6 +1,0 @@
-use Rattle.std.proofs.Common.{◌≡◌, [], replicate}
-use Rattle.wb_pieces.specs.Pieces.{lists_of}
-use Rattle.wb_pieces.proofs.part.empty_pieces.Given as goal
-
-abbrev pub invariant-loop : goal.invariant-loop
-invariant-loop g l = lists_of l.pieces.items ≡ replicate l.counter []

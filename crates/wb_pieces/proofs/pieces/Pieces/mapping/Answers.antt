@@ -1,4 +1,0 @@
-use Rattle.wb_pieces.proofs.pieces.Pieces.mapping.Goals as goal
-
-pub returns-clause-below : goal.returns-clause-below
-returns-clause-below g c = rw (← c.self.view_is) c.self.invariant.below

@@ -1,4 +1,0 @@
-pub mod Counts
-pub mod Lines
-pub mod Pieces
-pub mod Texts

@@ -1,1 +1,0 @@
-pub use Rattle.wb_encode.specs.Text

@@ -1,0 +1,7 @@
+pub mod Encodings
+pub mod Counts
+pub mod Lines
+pub mod Pieces
+pub mod Texts
+pub mod OnTheWire
+pub mod HistoryTexts

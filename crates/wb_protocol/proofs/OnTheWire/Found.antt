@@ -1,0 +1,504 @@
+-- What is read as a request is that request.
+use Rattle.std.proofs.Common.{◌≡◌, ◌+◌, ℕ, ℤ, true, false, List, [], ◌∷◌, codes, length, Option, Some, None, Result, Ok, Err, refl, sym, ◌∙◌, subst, nat_eq}
+use Rattle.std.proofs.Common.{if◌then◌else◌, arith, eqb-true}
+use Rattle.std.specs.Prelude.{bytes_eq}
+use Rattle.std.specs.Option.{option_map_or}
+use Rattle.std.proofs.lemmas.Slice.Eq.{bytes_eq-Decides}
+use Rattle.serde_json.specs.Data.{Data, null, boolean, number as json_number, string, array, object, Members}
+use Rattle.serde_json.specs.Find.{get_member}
+use Rattle.wb_cells.specs.Cells.{Name}
+use Rattle.wb_cells.specs.declared.values.index.Index.TheVariants.{Point}
+use Rattle.wb_edit.specs.declared.asked_rectangle.AskedRectangle.TheVariants.{Ranges, Indices}
+use Rattle.wb_edit.specs.declared.edit.Edit.TheVariants.{Domain, Remap, Reshape, Sparse, Assoc}
+use Rattle.wb_edit.specs.declared.edit.Edit.TheVariants.{DropDomain, Add, Remove, Array, Set, Irv, Copy}
+use Rattle.wb_edit.specs.declared.edit.Edit.TheVariants.{Fill, FillAll, DropArray, All, Load}
+use Rattle.wb_history.specs.declared.query.Query.TheVariants.{Get, Size, Where, Piece, Reduce, State}
+use Rattle.wb_log.specs.declared.refusal.Refusal.{Refusal}
+use Rattle.wb_log.specs.declared.refusal.Refusal.TheVariants.{BadRequest}
+use Rattle.wb_literals.specs.Domain as literals
+use Rattle.wb_literals.specs.Grammar as grammar
+use Rattle.wb_literals.specs.declared.mapping.MappingLiteral.{MappingLiteral}
+use Rattle.wb_reshape.specs.declared.operand.Operand.{Operand}
+use Rattle.wb_reshape.specs.declared.operand.Operand.TheVariants.{Rectangle}
+use Rattle.wb_reshape.specs.declared.new_indices.Displacement.{Displacement}
+use Rattle.wb_reshape.specs.declared.new_indices.Displacement.TheVariants.{Translate, Expand}
+use Rattle.wb_reshape.specs.declared.new_indices.SetOperation.{SetOperation}
+use Rattle.wb_reshape.specs.declared.new_indices.SetOperation.TheVariants.{Union, Intersection, Difference, SymmetricDifference}
+use Rattle.wb_reshape.specs.declared.new_indices.NewIndices.{NewIndices}
+use Rattle.wb_reshape.specs.declared.new_indices.NewIndices.TheVariants.{To, Slice, Displace, Combine}
+use Rattle.wb_protocol.specs.Fields.{◌>>=◌, member_count, has_fields, has_fields_and, text_field, optional_text, text_if_there, name_field, index_field, i64_field}
+use Rattle.wb_protocol.specs.Fields.{u64_field, key_type_field, operation_field, reduction_field}
+use Rattle.wb_protocol.specs.Literals.{literal_domain, literal_mapping, optional_mapping as mapping_if_there, text_of_book, domain_within, mapping_within}
+use Rattle.wb_protocol.specs.Sources.{given_by, offsets_by, to_by, slice_by, displace_by, combine_by, combination_of, source_of}
+use Rattle.wb_protocol.specs.Requests.{domain_with, domain_by, domain_of, remap_of, reshape_of, fill_over, fill_of, load_of, undo_by_number, undo_of, print_of}
+use Rattle.wb_protocol.specs.Requests.{history_of, edits_of, by_op, request_of, array_of, drop_array_of, set_of, fill_all_of, copy_of, irv_of, all_of, sparse_of}
+use Rattle.wb_protocol.specs.Requests.{assoc_of, add_of, remove_of, drop_domain_of, redo_of, cascade_of, dependents_of, get_of, where_of, size_of, piece_of}
+use Rattle.wb_protocol.specs.Requests.{reduce_of, state_of}
+use Rattle.wb_protocol.specs.declared.requests.request.Request.{Request}
+use Rattle.wb_protocol.specs.declared.requests.request.Request.TheVariants.{Change, Undo, Redo, Cascade, Dependents, Ask, Print, History, Edits}
+use Rattle.wb_protocol.specs.Wire.Table.{Meaning, word, name, integer, index, given, mapping, optional_mapping, book, some_set, Fields, op, table}
+use Rattle.wb_protocol.specs.Wire.Spelled.{IsIndex, IsOperand, Says, HasFields, IsRequest}
+use Rattle.wb_protocol.proofs.OnTheWire.Members.{are_apart, is_needed, are_needed, AllSay, there, is_there, exactly, has_fields as has_fields_of}
+use Rattle.wb_protocol.proofs.OnTheWire.Values.{step, ok_same, no_ok, text_found, says_text, valued, word_found, name_found, index_found, integer_found, natural_found}
+use Rattle.wb_protocol.proofs.OnTheWire.Values.{type_found, operation_found, reduction_found}
+use Rattle.wb_protocol.proofs.OnTheWire.Spellings.{count_found, domain_found, rectangle_found, given_found, offsets_found, mapping_found, book_found, optional_found}
+use Rattle.wb_protocol.proofs.OnTheWire.Spellings.{optional_count}
+use Rattle.wb_protocol.proofs.OnTheWire.Steps.{one, two, two_of, three, five}
+
+-- what a reader reads of an object that names the op
+abbrev pub IsFound : List ℕ → (Data → Result Request Refusal) → Type 0
+IsFound op read = (ms : Members) (r : Request) → Says (get_member (codes "op") ms) (word op) → read (object ms) ≡ Ok r → HasFields ms (table r)
+
+-- as many members as the table has, which all say what they have to
+pub as_table : (ms : Members) (q r : Request) → ◌≡◌ {A = Result Request Refusal} (Ok q) (Ok r) → are_apart (table q) ≡ true → are_needed (table q) ≡ true →
+    member_count ms ≡ length (table q) → AllSay (table q) ms → HasFields ms (table r)
+as_table ms q r e h k n a = subst (λ r. HasFields ms (table r)) (ok_same q r e) (exactly (table q) ms h k n a)
+
+sparse_found : IsFound (codes "sparse") sparse_of
+sparse_found ms r s e =
+    let x = two (has_fields 3 (object ms)) (name_field (codes "d") (object ms)) (name_field (codes "of") (object ms))
+    (λ d parent. Ok (Change (Sparse d parent))) r e in
+    as_table ms (Change (Sparse x.0 x.1)) r x.5 refl refl (count_found ms 3 tt x.2)
+    (name_found (get_member (codes "d") ms) x.0 x.3, (name_found (get_member (codes "of") ms) x.1 x.4, (s, tt)))
+
+assoc_found : IsFound (codes "assoc") assoc_of
+assoc_found ms r s e =
+    let x = two (has_fields 3 (object ms)) (name_field (codes "d") (object ms)) (key_type_field (codes "of") (object ms))
+    (λ d type. Ok (Change (Assoc d type))) r e in
+    as_table ms (Change (Assoc x.0 x.1)) r x.5 refl refl (count_found ms 3 tt x.2)
+    (name_found (get_member (codes "d") ms) x.0 x.3, (type_found (get_member (codes "of") ms) x.1 x.4, (s, tt)))
+
+drop_domain_found : IsFound (codes "drop_domain") drop_domain_of
+drop_domain_found ms r s e =
+    let x = one (has_fields 2 (object ms)) (name_field (codes "d") (object ms)) (λ d. Ok (Change (DropDomain d))) r e in
+    as_table ms (Change (DropDomain x.0)) r x.3 refl refl (count_found ms 2 tt x.1) (name_found (get_member (codes "d") ms) x.0 x.2, (s, tt))
+
+add_found : IsFound (codes "add") add_of
+add_found ms r s e =
+    let x = two (has_fields 3 (object ms)) (name_field (codes "d") (object ms)) (index_field (codes "i") (object ms)) (λ d i. Ok (Change (Add d i))) r e in
+    as_table ms (Change (Add x.0 x.1)) r x.5 refl refl (count_found ms 3 tt x.2)
+    (name_found (get_member (codes "d") ms) x.0 x.3, (index_found (get_member (codes "i") ms) x.1 x.4, (s, tt)))
+
+remove_found : IsFound (codes "remove") remove_of
+remove_found ms r s e =
+    let x = two (has_fields 3 (object ms)) (name_field (codes "d") (object ms)) (index_field (codes "i") (object ms)) (λ d i. Ok (Change (Remove d i))) r e in
+    as_table ms (Change (Remove x.0 x.1)) r x.5 refl refl (count_found ms 3 tt x.2)
+    (name_found (get_member (codes "d") ms) x.0 x.3, (index_found (get_member (codes "i") ms) x.1 x.4, (s, tt)))
+
+array_found : IsFound (codes "array") array_of
+array_found ms r s e =
+    let x = two (has_fields 3 (object ms)) (name_field (codes "a") (object ms)) (name_field (codes "d") (object ms)) (λ a d. Ok (Change (Array a d))) r e in
+    as_table ms (Change (Array x.0 x.1)) r x.5 refl refl (count_found ms 3 tt x.2)
+    (name_found (get_member (codes "a") ms) x.0 x.3, (name_found (get_member (codes "d") ms) x.1 x.4, (s, tt)))
+
+drop_array_found : IsFound (codes "drop_array") drop_array_of
+drop_array_found ms r s e =
+    let x = one (has_fields 2 (object ms)) (name_field (codes "a") (object ms)) (λ a. Ok (Change (DropArray a))) r e in
+    as_table ms (Change (DropArray x.0)) r x.3 refl refl (count_found ms 2 tt x.1) (name_found (get_member (codes "a") ms) x.0 x.2, (s, tt))
+
+set_found : IsFound (codes "set") set_of
+set_found ms r s e =
+    let x = three (has_fields 4 (object ms)) (name_field (codes "a") (object ms)) (index_field (codes "i") (object ms)) (i64_field (codes "v") (object ms))
+    (λ a i v. Ok (Change (Set a i v))) r e in
+    as_table ms (Change (Set x.0 x.1 x.2)) r x.7 refl refl (count_found ms 4 tt x.3) (
+      name_found (get_member (codes "a") ms) x.0 x.4,
+      (
+        index_found (get_member (codes "i") ms) x.1 x.5,
+        (s, (integer_found (get_member (codes "v") ms) x.2 x.6, tt)),
+      ),
+    )
+
+fill_all_found : IsFound (codes "fill_all") fill_all_of
+fill_all_found ms r s e =
+    let x = two (has_fields 3 (object ms)) (name_field (codes "a") (object ms)) (i64_field (codes "v") (object ms)) (λ a v. Ok (Change (FillAll a v))) r e in
+    as_table ms (Change (FillAll x.0 x.1)) r x.5 refl refl (count_found ms 3 tt x.2)
+    (name_found (get_member (codes "a") ms) x.0 x.3, (s, (integer_found (get_member (codes "v") ms) x.1 x.4, tt)))
+
+irv_found : IsFound (codes "irv") irv_of
+irv_found ms r s e =
+    let x = two (has_fields 3 (object ms)) (name_field (codes "a") (object ms)) (i64_field (codes "v") (object ms)) (λ a v. Ok (Change (Irv a v))) r e in
+    as_table ms (Change (Irv x.0 x.1)) r x.5 refl refl (count_found ms 3 tt x.2)
+    (name_found (get_member (codes "a") ms) x.0 x.3, (s, (integer_found (get_member (codes "v") ms) x.1 x.4, tt)))
+
+copy_found : IsFound (codes "copy") copy_of
+copy_found ms r s e =
+    let x = five (has_fields 6 (object ms)) (name_field (codes "a") (object ms)) (index_field (codes "i") (object ms)) (name_field (codes "b") (object ms))
+    (index_field (codes "j") (object ms)) (i64_field (codes "c") (object ms)) (λ a i b j c. Ok (Change (Copy a i b j c))) r e in
+    as_table ms (Change (Copy x.0 x.1 x.2 x.3 x.4)) r x.11 refl refl (count_found ms 6 tt x.5) (
+      name_found (get_member (codes "a") ms) x.0 x.6,
+      (
+        name_found (get_member (codes "b") ms) x.2 x.8,
+        (
+          integer_found (get_member (codes "c") ms) x.4 x.10,
+          (
+            index_found (get_member (codes "i") ms) x.1 x.7,
+            (index_found (get_member (codes "j") ms) x.3 x.9, (s, tt)),
+          ),
+        ),
+      ),
+    )
+
+all_found_of : IsFound (codes "all") all_of
+all_found_of ms r s e =
+    let x = three (has_fields 4 (object ms)) (name_field (codes "a") (object ms)) (operation_field (codes "how") (object ms))
+    (name_field (codes "b") (object ms)) (λ a how b. Ok (Change (All a how b))) r e in
+    as_table ms (Change (All x.0 x.1 x.2)) r x.7 refl refl (count_found ms 4 tt x.3) (
+      name_found (get_member (codes "a") ms) x.0 x.4,
+      (
+        name_found (get_member (codes "b") ms) x.2 x.6,
+        (operation_found (get_member (codes "how") ms) x.1 x.5, (s, tt)),
+      ),
+    )
+
+redo_found : IsFound (codes "redo") redo_of
+redo_found ms r s e =
+    let x = one (has_fields 2 (object ms)) (u64_field (codes "k") (object ms)) (λ k. Ok (Redo k)) r e in
+    as_table ms (Redo x.0) r x.3 refl refl (count_found ms 2 tt x.1) (natural_found (get_member (codes "k") ms) x.0 x.2, (s, tt))
+
+cascade_found : IsFound (codes "cascade") cascade_of
+cascade_found ms r s e =
+    let x = one (has_fields 2 (object ms)) (u64_field (codes "k") (object ms)) (λ k. Ok (Cascade k)) r e in
+    as_table ms (Cascade x.0) r x.3 refl refl (count_found ms 2 tt x.1) (natural_found (get_member (codes "k") ms) x.0 x.2, (s, tt))
+
+dependents_found : IsFound (codes "dependents") dependents_of
+dependents_found ms r s e =
+    let x = one (has_fields 2 (object ms)) (u64_field (codes "k") (object ms)) (λ k. Ok (Dependents k)) r e in
+    as_table ms (Dependents x.0) r x.3 refl refl (count_found ms 2 tt x.1) (natural_found (get_member (codes "k") ms) x.0 x.2, (s, tt))
+
+get_found : IsFound (codes "get") get_of
+get_found ms r s e =
+    let x = two (has_fields 3 (object ms)) (name_field (codes "a") (object ms)) (index_field (codes "i") (object ms)) (λ a i. Ok (Ask (Get a i))) r e in
+    as_table ms (Ask (Get x.0 x.1)) r x.5 refl refl (count_found ms 3 tt x.2)
+    (name_found (get_member (codes "a") ms) x.0 x.3, (index_found (get_member (codes "i") ms) x.1 x.4, (s, tt)))
+
+where_found : IsFound (codes "where") where_of
+where_found ms r s e =
+    let x = two (has_fields 3 (object ms)) (name_field (codes "d") (object ms)) (index_field (codes "i") (object ms)) (λ d i. Ok (Ask (Where d i))) r e in
+    as_table ms (Ask (Where x.0 x.1)) r x.5 refl refl (count_found ms 3 tt x.2)
+    (name_found (get_member (codes "d") ms) x.0 x.3, (index_found (get_member (codes "i") ms) x.1 x.4, (s, tt)))
+
+size_found : IsFound (codes "size") size_of
+size_found ms r s e =
+    let x = one (has_fields 2 (object ms)) (name_field (codes "d") (object ms)) (λ d. Ok (Ask (Size d))) r e in
+    as_table ms (Ask (Size x.0)) r x.3 refl refl (count_found ms 2 tt x.1) (name_found (get_member (codes "d") ms) x.0 x.2, (s, tt))
+
+piece_found : IsFound (codes "piece") piece_of
+piece_found ms r s e =
+    let x = two (has_fields 3 (object ms)) (name_field (codes "a") (object ms)) (u64_field (codes "l") (object ms)) (λ a l. Ok (Ask (Piece a l))) r e in
+    as_table ms (Ask (Piece x.0 x.1)) r x.5 refl refl (count_found ms 3 tt x.2)
+    (name_found (get_member (codes "a") ms) x.0 x.3, (natural_found (get_member (codes "l") ms) x.1 x.4, (s, tt)))
+
+reduce_found : IsFound (codes "reduce") reduce_of
+reduce_found ms r s e =
+    let x = two (has_fields 3 (object ms)) (name_field (codes "a") (object ms)) (reduction_field (codes "how") (object ms)) (λ a how. Ok (Ask (Reduce a how)))
+    r e in
+    as_table ms (Ask (Reduce x.0 x.1)) r x.5 refl refl (count_found ms 3 tt x.2)
+    (name_found (get_member (codes "a") ms) x.0 x.3, (reduction_found (get_member (codes "how") ms) x.1 x.4, (s, tt)))
+
+state_found : IsFound (codes "state") state_of
+state_found ms r s e =
+    let x = one (has_fields 2 (object ms)) (u64_field (codes "k") (object ms)) (λ k. Ok (Ask (State k))) r e in
+    as_table ms (Ask (State x.0)) r x.3 refl refl (count_found ms 2 tt x.1) (natural_found (get_member (codes "k") ms) x.0 x.2, (s, tt))
+
+-- ---- the ops with literals
+
+remap_found : IsFound (codes "remap") remap_of
+remap_found ms r s e =
+    let x = two (has_fields 3 (object ms)) (name_field (codes "d") (object ms)) (text_field (codes "map") (object ms))
+    (λ d text. literal_mapping text >>= (λ spelled. mapping_within spelled >>= (λ m. Ok (Change (Remap d m))))) r e in
+    let l = step (literal_mapping x.1) (λ spelled. mapping_within spelled >>= (λ m. Ok (Change (Remap x.0 m)))) r x.5 in
+    let m = step (mapping_within l.0) (λ m. Ok (Change (Remap x.0 m))) r l.2 in
+    as_table ms (Change (Remap x.0 m.0)) r m.2 refl refl (count_found ms 3 tt x.2) (
+      name_found (get_member (codes "d") ms) x.0 x.3,
+      (
+        says_text (get_member (codes "map") ms) (mapping m.0) x.1
+            (text_found (get_member (codes "map") ms) x.1 x.4) (mapping_found x.1 l.0 m.0 l.1 m.1),
+        (s, tt),
+      ),
+    )
+
+fill_over_found : (ms : Members) (a : Name) (text : List ℕ) (v : ℤ) (l : literals.Domain) (r : Request) →
+    Says (get_member (codes "op") ms) (word (codes "fill")) → member_count ms ≡ 4
+    → Says (get_member (codes "a") ms) (name a) → get_member (codes "on") ms ≡ Some (string text) → Says (get_member (codes "v") ms) (integer v) →
+    grammar.IsDomain text l → fill_over a l v ≡ Ok r → HasFields ms (table r)
+fill_over_found ms a text v (literals.rectangle l) r s n named on value spelled e =
+    let x = step (domain_within l) (λ ranges. Ok (Change (Fill a (Ranges ranges) v))) r e in
+    as_table ms (Change (Fill a (Ranges x.0) v)) r x.2 refl refl n (
+      named,
+      (says_text (get_member (codes "on") ms) (given (Rectangle x.0)) text on (text, l, refl, spelled, rectangle_found l x.0 x.1), (s, (value, tt))),
+    )
+fill_over_found ms a text v (literals.set listed) r s n named on value spelled e =
+    as_table ms (Change (Fill a Indices v)) r e refl refl n (
+      named,
+      (says_text (get_member (codes "on") ms) some_set text on (text, listed, refl, spelled), (s, (value, tt))),
+    )
+
+fill_found : IsFound (codes "fill") fill_of
+fill_found ms r s e =
+    let x = three (has_fields 4 (object ms)) (name_field (codes "a") (object ms)) (text_field (codes "on") (object ms)) (i64_field (codes "v") (object ms))
+    (λ a text v. literal_domain text >>= (λ l. fill_over a l v)) r e in
+    let l = step (literal_domain x.1) (λ l. fill_over x.0 l x.2) r x.7 in
+    fill_over_found ms x.0 x.1 x.2 l.0 r s (count_found ms 4 tt x.3) (name_found (get_member (codes "a") ms) x.0 x.4)
+    (text_found (get_member (codes "on") ms) x.1 x.5) (integer_found (get_member (codes "v") ms) x.2 x.6) (domain_found x.1 l.0 l.1) l.2
+
+load_found : IsFound (codes "load") load_of
+load_found ms r s e =
+    let x = one (has_fields 2 (object ms)) (text_field (codes "text") (object ms)) (λ text. text_of_book text >>= (λ t. Ok (Change (Load t)))) r e in
+    let t = step (text_of_book x.0) (λ t. Ok (Change (Load t))) r x.3 in
+    as_table ms (Change (Load t.0)) r t.2 refl refl (count_found ms 2 tt x.1)
+    (s, (says_text (get_member (codes "text") ms) (book t.0) x.0 (text_found (get_member (codes "text") ms) x.0 x.2) (book_found x.0 t.0 t.1), tt))
+
+-- ---- domains, whose mapping may be missing
+
+-- all members but the mapping have to be there
+domain_fields : (ms : Members) (q r : Request) (d : Name) (is map : Meaning) →
+    table q ≡ (codes "d", name d) ∷ (codes "is", is) ∷ (codes "map", map) ∷ op (codes "domain") ∷ [] → is_needed is ≡ true
+    → ◌≡◌ {A = Result Request Refusal} (Ok q) (Ok r) → 3 + there (get_member (codes "map") ms) ≡ member_count ms
+    → Says (get_member (codes "d") ms) (name d) → Says (get_member (codes "is") ms) is → Says (get_member (codes "map") ms) map →
+    Says (get_member (codes "op") ms) (word (codes "domain")) → HasFields ms (table r)
+domain_fields ms q r d is map t needed e n named spelled mapped s =
+    let fs : Fields = (codes "d", name d) ∷ (codes "is", is) ∷ (codes "map", map) ∷ op (codes "domain") ∷ [] in
+    let one = is_there (get_member (codes "d") ms) (name d) refl named in
+    let two = is_there (get_member (codes "is") ms) is needed spelled in
+    let three = is_there (get_member (codes "op") ms) (word (codes "domain")) refl s in
+    subst (λ r. HasFields ms (table r)) (ok_same q r e) (subst (HasFields ms) (sym t)
+    (has_fields_of fs ms refl (omega (arith, n, one, two, three)) (named, (spelled, (mapped, (s, tt))))))
+
+domain_with_found : (ms : Members) (d : Name) (text : List ℕ) (t : Option (List ℕ)) (l : literals.Domain) (m : MappingLiteral) (r : Request) →
+    Says (get_member (codes "op") ms) (word (codes "domain"))
+    → 3 + there (get_member (codes "map") ms) ≡ member_count ms → Says (get_member (codes "d") ms) (name d) → get_member (codes "is") ms ≡ Some (string text) →
+    grammar.IsDomain text l
+    → text_if_there (get_member (codes "map") ms) ≡ Ok t → mapping_if_there t ≡ Ok m → domain_with d l m ≡ Ok r → HasFields ms (table r)
+domain_with_found ms d text t (literals.rectangle l) m r s n named is spelled there mapped e =
+    let x = step (domain_within l) (λ ranges. mapping_within m >>= (λ map. Ok (Change (Domain d (Ranges ranges) map)))) r e in
+    let y = step (mapping_within m) (λ map. Ok (Change (Domain d (Ranges x.0) map))) r x.2 in
+    domain_fields ms (Change (Domain d (Ranges x.0) y.0)) r d (given (Rectangle x.0)) (optional_mapping y.0) refl refl y.2 n named
+    (says_text (get_member (codes "is") ms) (given (Rectangle x.0)) text is (text, l, refl, spelled, rectangle_found l x.0 x.1))
+    (optional_found (get_member (codes "map") ms) t m y.0 there mapped y.1) s
+domain_with_found ms d text t (literals.set listed) m r s n named is spelled there mapped e =
+    let y = step (mapping_within m) (λ map. Ok (Change (Domain d Indices map))) r e in
+    domain_fields ms (Change (Domain d Indices y.0)) r d some_set (optional_mapping y.0) refl refl y.2 n named
+    (says_text (get_member (codes "is") ms) some_set text is (text, listed, refl, spelled))
+    (optional_found (get_member (codes "map") ms) t m y.0 there mapped y.1) s
+
+domain_found_of : IsFound (codes "domain") domain_of
+domain_found_of ms r s e =
+    let t = step (optional_text (codes "map") (object ms)) (λ map. two_of (has_fields_and 3 map (object ms)) (name_field (codes "d") (object ms))
+    (text_field (codes "is") (object ms)) (λ d text. domain_by d text map)) r e in
+    let x = two (has_fields_and 3 t.0 (object ms)) (name_field (codes "d") (object ms)) (text_field (codes "is") (object ms)) (λ d text. domain_by d text t.0)
+    r t.2 in
+    let l = step (literal_domain x.1) (λ l. mapping_if_there t.0 >>= (λ m. domain_with x.0 l m)) r x.5 in
+    let m = step (mapping_if_there t.0) (λ m. domain_with x.0 l.0 m) r l.2 in
+    domain_with_found ms x.0 x.1 t.0 l.0 m.0 r s (optional_count (get_member (codes "map") ms) t.0 ms tt t.1 x.2)
+    (name_found (get_member (codes "d") ms) x.0 x.3) (text_found (get_member (codes "is") ms) x.1 x.4)
+    (domain_found x.1 l.0 l.1) t.1 m.1 m.2
+
+-- ---- reshape, by which source there is
+
+-- the one that is there, or the next ones
+source_by : (o : Option Data) (by : Data → Result NewIndices Refusal) (more : Result NewIndices Refusal) (s : NewIndices) (P : Type 0) →
+    option_map_or by o more ≡ Ok s
+    → ((v : Data) → o ≡ Some v → by v ≡ Ok s → P) → (more ≡ Ok s → P) → P
+source_by None by more s P e here on = on e
+source_by (Some v) by more s P e here on = here v refl e
+
+to_found : (v : Data) (s : NewIndices) → to_by v ≡ Ok s → (g : Operand) × (IsOperand v g) × (To g ≡ s)
+to_found v s e = let x = step (given_by v) (λ g. Ok (To g)) s e in (x.0, given_found v x.0 x.1, ok_same (To x.0) s x.2)
+
+slice_found : (v : Data) (s : NewIndices) → slice_by v ≡ Ok s → (g : Operand) × (IsOperand v g) × (Slice g ≡ s)
+slice_found v s e = let x = step (given_by v) (λ g. Ok (Slice g)) s e in (x.0, given_found v x.0 x.1, ok_same (Slice x.0) s x.2)
+
+combine_found : (how : SetOperation) (v : Data) (s : NewIndices) → combine_by how v ≡ Ok s → (g : Operand) × (IsOperand v g) × (Combine how g ≡ s)
+combine_found how v s e = let x = step (given_by v) (λ g. Ok (Combine how g)) s e in (x.0, given_found v x.0 x.1, ok_same (Combine how x.0) s x.2)
+
+displace_found : (how : Displacement) (v : Data) (s : NewIndices) → displace_by how v ≡ Ok s → (is : List ℤ) × (IsIndex v (Point is)) × (Displace how is ≡ s)
+displace_found how v s e = let x = step (offsets_by v) (λ is. Ok (Displace how is)) s e in (x.0, offsets_found v x.0 x.1, ok_same (Displace how x.0) s x.2)
+
+module _ (ms : Members) (d : Name) (s : Says (get_member (codes "op") ms) (word (codes "reshape"))) (n : member_count ms ≡ 3)
+    (named : Says (get_member (codes "d") ms) (name d)) where
+  here : (x : NewIndices) (y : NewIndices) → are_apart (table (Change (Reshape d x))) ≡ true → are_needed (table (Change (Reshape d x))) ≡ true →
+      3 ≡ length (table (Change (Reshape d x)))
+      → x ≡ y → AllSay (table (Change (Reshape d x))) ms → HasFields ms (table (Change (Reshape d y)))
+  here x y h k l e a = subst (λ y. HasFields ms (table (Change (Reshape d y)))) e (exactly (table (Change (Reshape d x))) ms h k (n ∙ l) a)
+
+  combination_found : (y : NewIndices) → combination_of (object ms) ≡ Ok y → HasFields ms (table (Change (Reshape d y)))
+  combination_found y e =
+      let P : Type 0 = HasFields ms (table (Change (Reshape d y))) in
+      source_by (get_member (codes "or") ms) (combine_by Union) _ y P e
+      (λ v at by. let g = combine_found Union v y by in here (Combine Union g.0) y refl refl refl g.2
+      (named, (s, (valued (get_member (codes "or") ms) v (given g.0) at g.1, tt)))) (λ e.
+      source_by (get_member (codes "and") ms) (combine_by Intersection) _ y P e
+      (λ v at by. let g = combine_found Intersection v y by in here (Combine Intersection g.0) y refl refl refl g.2
+      (valued (get_member (codes "and") ms) v (given g.0) at g.1, (named, (s, tt)))) (λ e.
+      source_by (get_member (codes "minus") ms) (combine_by Difference) _ y P e
+      (λ v at by. let g = combine_found Difference v y by in here (Combine Difference g.0) y refl refl refl g.2
+      (named, (valued (get_member (codes "minus") ms) v (given g.0) at g.1, (s, tt)))) (λ e.
+      source_by (get_member (codes "xor") ms) (combine_by SymmetricDifference) _ y P e
+      (λ v at by. let g = combine_found SymmetricDifference v y by in
+      here (Combine SymmetricDifference g.0) y refl refl refl g.2 (named, (s, (valued (get_member (codes "xor") ms) v (given g.0) at g.1, tt)))) (λ e.
+      no_ok BadRequest y e))))
+
+  source_found : (y : NewIndices) → source_of (object ms) ≡ Ok y → HasFields ms (table (Change (Reshape d y)))
+  source_found y e =
+      let P : Type 0 = HasFields ms (table (Change (Reshape d y))) in
+      source_by (get_member (codes "to") ms) to_by _ y P e (λ v at by. let g = to_found v y by in
+      here (To g.0) y refl refl refl g.2 (named, (s, (valued (get_member (codes "to") ms) v (given g.0) at g.1, tt)))) (λ e.
+      source_by (get_member (codes "slice") ms) slice_by _ y P e (λ v at by. let g = slice_found v y by in
+      here (Slice g.0) y refl refl refl g.2 (named, (s, (valued (get_member (codes "slice") ms) v (given g.0) at g.1, tt)))) (λ e.
+      source_by (get_member (codes "translate") ms) (displace_by Translate) _ y P e
+      (λ v at by. let g = displace_found Translate v y by in here (Displace Translate g.0) y refl refl refl g.2
+      (named, (s, (valued (get_member (codes "translate") ms) v (index (Point g.0)) at g.1, tt)))) (λ e.
+      source_by (get_member (codes "expand") ms) (displace_by Expand) _ y P e
+      (λ v at by. let g = displace_found Expand v y by in here (Displace Expand g.0) y refl refl refl g.2
+      (named, (valued (get_member (codes "expand") ms) v (index (Point g.0)) at g.1, (s, tt)))) (λ e.
+      combination_found y e))))
+
+reshape_found : IsFound (codes "reshape") reshape_of
+reshape_found ms r s e =
+    let x = two (has_fields 3 (object ms)) (name_field (codes "d") (object ms)) (source_of (object ms)) (λ d y. Ok (Change (Reshape d y))) r e in
+    subst (λ r. HasFields ms (table r)) (ok_same (Change (Reshape x.0 x.1)) r x.5)
+    (source_found ms x.0 s (count_found ms 3 tt x.2) (name_found (get_member (codes "d") ms) x.0 x.3) x.1 x.4)
+
+-- ---- the ops without a field, or with one that may be missing
+
+print_found : IsFound (codes "print") print_of
+print_found ms r s e =
+    let x = step (has_fields 1 (object ms)) (λ u. Ok Print) r e in
+    as_table ms Print r x.2 refl refl (count_found ms 1 tt x.1) (s, tt)
+
+history_found : IsFound (codes "history") history_of
+history_found ms r s e =
+    let x = step (has_fields 1 (object ms)) (λ u. Ok History) r e in
+    as_table ms History r x.2 refl refl (count_found ms 1 tt x.1) (s, tt)
+
+edits_found : IsFound (codes "edits") edits_of
+edits_found ms r s e =
+    let x = step (has_fields 1 (object ms)) (λ u. Ok Edits) r e in
+    as_table ms Edits r x.2 refl refl (count_found ms 1 tt x.1) (s, tt)
+
+undo_found : IsFound (codes "undo") undo_of
+undo_found ms r s e = elim (nat_eq (member_count ms) 1) as (λ b. nat_eq (member_count ms) 1 ≡ b →
+    (if b then Ok (Undo None) else undo_by_number (object ms)) ≡ Ok r → HasFields ms (table r)) [
+      | true ↦ λ h f. as_table ms (Undo None) r f refl refl (eqb-true (member_count ms) 1 h) (s, tt)
+      | false ↦ λ h f.
+          let x = one (has_fields 2 (object ms)) (u64_field (codes "k") (object ms)) (λ k. Ok (Undo (Some k))) r f in
+          as_table ms (Undo (Some x.0)) r x.3 refl refl (count_found ms 2 tt x.1) (natural_found (get_member (codes "k") ms) x.0 x.2, (s, tt))
+    ] refl e
+
+-- ---- by the op
+
+-- an op and its reader
+abbrev pub Reader : Type 0
+Reader = List ℕ × (Data → Result Request Refusal)
+
+-- by the first reader of the op
+abbrev pub by_first : List Reader → List ℕ → Data → Result Request Refusal
+by_first [] op d = Err BadRequest
+by_first (x ∷ xs) op d = if bytes_eq op x.0 then x.1 d else by_first xs op d
+
+abbrev AllFound : List Reader → Type 0
+AllFound [] = Unit {0}
+AllFound (x ∷ xs) = IsFound x.0 x.1 × AllFound xs
+
+first_found : (xs : List Reader) → AllFound xs → (ms : Members) (op : List ℕ) (r : Request) → Says (get_member (codes "op") ms) (word op) →
+    by_first xs op (object ms) ≡ Ok r → HasFields ms (table r)
+first_found [] h ms op r s e = no_ok BadRequest r e
+first_found (x ∷ xs) h ms op r s e = elim (bytes_eq op x.0) as
+    (λ b. bytes_eq op x.0 ≡ b → (if b then x.1 (object ms) else by_first xs op (object ms)) ≡ Ok r → HasFields ms (table r)) [
+      | true ↦ λ is f. h.0 ms r (subst (λ w. Says (get_member (codes "op") ms) (word w)) ((bytes_eq-Decides op x.0).0 is) s) f
+      | false ↦ λ is f. first_found xs h.1 ms op r s f
+    ] refl e
+
+abbrev pub readers : List Reader
+readers = (codes "domain", domain_of) ∷ (codes "remap", remap_of) ∷ (codes "sparse", sparse_of) ∷ (codes "assoc", assoc_of) ∷
+    (codes "drop_domain", drop_domain_of) ∷ (codes "reshape", reshape_of) ∷ (codes "add", add_of)
+    ∷ (codes "remove", remove_of) ∷ (codes "load", load_of) ∷ (codes "array", array_of) ∷ (codes "drop_array", drop_array_of) ∷ (codes "set", set_of) ∷
+    (codes "fill", fill_of) ∷ (codes "fill_all", fill_all_of) ∷ (codes "irv", irv_of)
+    ∷ (codes "copy", copy_of) ∷ (codes "all", all_of) ∷ (codes "undo", undo_of) ∷ (codes "redo", redo_of) ∷ (codes "cascade", cascade_of) ∷
+    (codes "dependents", dependents_of) ∷ (codes "get", get_of) ∷ (codes "where", where_of) ∷ (codes "size", size_of) ∷ (codes "piece", piece_of)
+    ∷ (codes "reduce", reduce_of) ∷ (codes "state", state_of) ∷ (codes "print", print_of) ∷ (codes "history", history_of) ∷ (codes "edits", edits_of) ∷ []
+
+all_found : AllFound readers
+all_found = (
+  domain_found_of,
+  (
+    remap_found,
+    (
+      sparse_found,
+      (
+        assoc_found,
+        (
+          drop_domain_found,
+          (
+            reshape_found,
+            (
+              add_found,
+              (
+                remove_found,
+                (
+                  load_found,
+                  (
+                    array_found,
+                    (
+                      drop_array_found,
+                      (
+                        set_found,
+                        (
+                          fill_found,
+                          (
+                            fill_all_found,
+                            (
+                              irv_found,
+                              (
+                                copy_found,
+                                (
+                                  all_found_of,
+                                  (
+                                    undo_found,
+                                    (
+                                      redo_found,
+                                      (
+                                        cascade_found,
+                                        (
+                                          dependents_found,
+                                          (
+                                            get_found,
+                                            (
+                                              where_found,
+                                              (size_found, (piece_found, (reduce_found, (state_found, (print_found, (history_found, (edits_found, tt))))))),
+                                            ),
+                                          ),
+                                        ),
+                                      ),
+                                    ),
+                                  ),
+                                ),
+                              ),
+                            ),
+                          ),
+                        ),
+                      ),
+                    ),
+                  ),
+                ),
+              ),
+            ),
+          ),
+        ),
+      ),
+    ),
+  ),
+)
+
+by_object : (ms : Members) (r : Request) → request_of (object ms) ≡ Ok r → HasFields ms (table r)
+by_object ms r e =
+    let x = step (text_field (codes "op") (object ms)) (λ op. by_op op (object ms)) r e in
+    first_found readers all_found ms x.0 r (word_found (get_member (codes "op") ms) x.0 x.1) x.2
+
+pub request_found : (d : Data) (r : Request) → request_of d ≡ Ok r → IsRequest d r
+request_found (object ms) r e = (ms, refl, by_object ms r e)
+request_found null r e = no_ok BadRequest r e
+request_found (boolean b) r e = no_ok BadRequest r e
+request_found (json_number n) r e = no_ok BadRequest r e
+request_found (string s) r e = no_ok BadRequest r e
+request_found (array ds) r e = no_ok BadRequest r e

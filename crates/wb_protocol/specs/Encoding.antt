@@ -1,0 +1,4 @@
+pub mod Values
+pub mod Table
+pub mod Encoded
+pub mod Text

@@ -1,0 +1,12 @@
+pub mod Encoding
+pub mod Answers
+pub mod Fields
+pub mod Literals
+pub mod Sources
+pub mod Requests
+pub mod Pieces
+pub mod Replies
+pub mod Printed
+pub mod Machine
+pub mod Wire
+pub mod Histories

@@ -1,0 +1,100 @@
+-- Which JSON objects (RFC 8259, section 4) are requests, apart from how they are read: an object has the members that the
+-- table lists, each once and in any order, and no others, and the value of each spells what the table says.
+use Rattle.std.specs.Prelude.{◌≡◌, ℕ, ℤ, List, [], ◌∷◌, true, if◌then◌else◌, bytes_eq, Option, Some, None, Ok}
+use Rattle.serde_json.specs.Data.{Num, Data, number as json_number, string, array, object, no_items, item, Members, no_members, member}
+use Rattle.serde_json.specs.Find.{get_member, as_i64, as_u64}
+use Rattle.wb_sets.specs.Labels.{is_label}
+use Rattle.wb_dist.specs.Maps.{LayoutMap, whole}
+use Rattle.wb_cells.specs.Names.{is_name}
+use Rattle.wb_cells.specs.declared.values.index.Index.{Index}
+use Rattle.wb_cells.specs.declared.values.index.Index.TheVariants.{Point, Text}
+use Rattle.wb_literals.specs.Grammar as grammar
+use Rattle.wb_literals.specs.Set.{Items as Listed}
+use Rattle.wb_literals.specs.declared.mapping.MappingLiteral.{MappingLiteral}
+use Rattle.wb_literals.specs.declared.rectangle.RectangleLiteral.{RectangleLiteral}
+use Rattle.wb_literals.specs.Limits.Literals.{listed_in, domain_within}
+use Rattle.wb_literals.specs.Limits.Mappings.{mapping_within}
+use Rattle.wb_reshape.specs.Sources.{ascending}
+use Rattle.wb_reshape.specs.declared.operand.Operand.{Operand}
+use Rattle.wb_reshape.specs.declared.operand.Operand.TheVariants.{Rectangle, Items, Named}
+use Rattle.wb_text.specs.Texts.Books.{is_book_text}
+use Rattle.wb_protocol.specs.declared.requests.request.Request.{Request}
+use Rattle.wb_protocol.specs.Wire.Table.{Meaning, word, name, integer, number, index, given, mapping, optional_mapping, book, some_set}
+use Rattle.wb_protocol.specs.Wire.Table.{Fields, table}
+
+-- ---- what one value spells
+
+-- a number without fraction or exponent, of 64 bits with a sign
+abbrev pub IsInteger : Data → ℤ → Type 0
+IsInteger d z = (n : Num) × (d ≡ json_number n) × (as_i64 n ≡ Some z)
+
+-- the same without a sign
+abbrev pub IsNumber : Data → ℕ → Type 0
+IsNumber d k = (n : Num) × (d ≡ json_number n) × (as_u64 n ≡ Some k)
+
+-- an index: an integer, an array of two or three, or a text that is a label
+abbrev pub IsIndex : Data → Index → Type 0
+IsIndex d (Point []) = ⊥
+IsIndex d (Point (i ∷ [])) = IsInteger d i
+IsIndex d (Point (i ∷ j ∷ [])) = (a b : Data) × (d ≡ array (item a (item b no_items))) × IsInteger a i × IsInteger b j
+IsIndex d (Point (i ∷ j ∷ k ∷ [])) = (a b c : Data) × (d ≡ array (item a (item b (item c no_items)))) × IsInteger a i × IsInteger b j × IsInteger c k
+IsIndex d (Point (i ∷ j ∷ k ∷ l ∷ is)) = ⊥
+IsIndex d (Text t) = (d ≡ string t) × (is_label t ≡ true)
+
+-- What is given for a domain: the literal of a rectangle within the limits, the literal of a set, which stands for its
+-- indices, ascending and each once, or a name. (A literal begins with a brace, and no name does.)
+abbrev pub IsOperand : Data → Operand → Type 0
+IsOperand d (Rectangle ranges) = (text : List ℕ) × (literal : RectangleLiteral) × (d ≡ string text) × grammar.IsRectangle text literal ×
+    (domain_within literal ≡ Ok ranges)
+IsOperand d (Items is) = (text : List ℕ) × (listed : Listed) × (d ≡ string text) × grammar.IsSet text listed × (ascending (listed_in listed) ≡ is)
+IsOperand d (Named n) = (d ≡ string n) × (is_name n ≡ true)
+
+-- the literal of a mapping within the limits, all its parts of one rank
+abbrev pub IsMapping : Data → LayoutMap → Type 0
+IsMapping d m = (text : List ℕ) × (literal : MappingLiteral) × (d ≡ string text) × grammar.IsMapping text literal × (mapping_within literal ≡ Ok m)
+
+abbrev pub Spells : Data → Meaning → Type 0
+Spells d (word w) = d ≡ string w
+Spells d (name n) = (d ≡ string n) × (is_name n ≡ true)
+Spells d (integer z) = IsInteger d z
+Spells d (number k) = IsNumber d k
+Spells d (index i) = IsIndex d i
+Spells d (given g) = IsOperand d g
+Spells d (mapping m) = IsMapping d m
+Spells d (optional_mapping m) = IsMapping d m
+Spells d (book text) = (d ≡ string text) × (is_book_text text ≡ true)
+Spells d some_set = (text : List ℕ) × (listed : Listed) × (d ≡ string text) × grammar.IsSet text listed
+
+-- what a missing member spells
+abbrev pub MayLack : Meaning → Type 0
+MayLack (optional_mapping m) = m ≡ whole
+MayLack (word w) = ⊥
+MayLack (name n) = ⊥
+MayLack (integer z) = ⊥
+MayLack (number k) = ⊥
+MayLack (index i) = ⊥
+MayLack (given g) = ⊥
+MayLack (mapping m) = ⊥
+MayLack (book text) = ⊥
+MayLack some_set = ⊥
+
+-- what a member spells, if there is one
+abbrev pub Says : Option Data → Meaning → Type 0
+Says (Some d) x = Spells d x
+Says None x = MayLack x
+
+-- ---- what an object says
+
+-- the members without the one of a key
+abbrev pub without : List ℕ → Members → Members
+without k no_members = no_members
+without k (member l d ms) = if bytes_eq k l then ms else member l d (without k ms)
+
+-- The fields are there, in any order, each saying what it has to, and no other members.
+abbrev pub HasFields : Members → Fields → Type 0
+HasFields ms [] = ms ≡ no_members
+HasFields ms (f ∷ fs) = Says (get_member f.0 ms) f.1 × HasFields (without f.0 ms) fs
+
+-- a JSON value that is the request
+abbrev pub IsRequest : Data → Request → Type 0
+IsRequest d r = (ms : Members) × (d ≡ object ms) × HasFields ms (table r)

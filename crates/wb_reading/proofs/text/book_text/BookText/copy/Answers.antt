@@ -1,6 +1,0 @@
-use Rattle.std.proofs.Common.{sym, subst, ◌∙◌}
-use Rattle.wb_reading.specs.Texts.Books.{IsBookText}
-use Rattle.wb_reading.proofs.text.book_text.BookText.copy.Goals as goal
-
-pub new-requires : goal.new-requires
-new-requires c = subst IsBookText (sym (c.in-Ok.ensures.ok ∙ c.as_str.ensures.same)) c.as_str.ensures.book

@@ -1,5 +1,0 @@
-use Rattle.wb_reading.proofs.Texts.Back.{book_back}
-use Rattle.wb_reading.proofs.text.laws.found_in_its_text.Goals as goal
-
-pub returns : goal.returns
-returns c = book_back

@@ -1,0 +1,166 @@
+//! What the lines of a workbook's objects say, read from the book.
+ghost use Rattle.std.specs.Prelude.{◌≡◌, [], IfOk, unwrap_or};
+ghost use Rattle.std.specs.FinMap as map;
+ghost use Rattle.std.specs.List.{filter_map};
+ghost use Rattle.wb_cells.specs.Locales.{mapping_in};
+ghost use Rattle.wb_cells.specs.Readers.{indices_at, object_of, objects};
+ghost use Rattle.wb_cells.specs.Shapes.{indices};
+ghost use Rattle.wb_cells.specs.WellFormed.{ranges_in};
+ghost use Rattle.wb_cells.specs.declared.cells.cell.Cell.TheVariants.{Shape, Mapping};
+ghost use Rattle.wb_text.specs.Lines.{members, indices_in, number_in, element_at, elements_at, implicit_in};
+
+use std::alloc::{AllocError, Global};
+use wb_book::Book;
+use wb_cells::{
+    AnyIndex, AnyLayout, AnyRect, Cell, Kind, Name, Pattern, Value, members_in, object_of,
+};
+use wb_range::NoMemory;
+
+fn objects_in(alloc: Global, shown: &[(Cell, Value)]) -> Result<Vec<Name>, AllocError>
+    ensures { IfOk result (λ v. v.items ≡ filter_map (λ x. object_of x.0) shown.now) }
+{
+    shown
+        .iter()
+        .filter_map(
+            |x: &(Cell, Value)| -> Option<Name>
+                ensures { result ≡ object_of x.now.0 }
+            { object_of(&x.0) },
+        )
+        .collect(alloc)
+}
+
+/// The names of the objects, ascending, by one walk over them.
+#[tactic(auto, using(wb_text::proofs::ObjectNames::objects_shown))]
+pub(crate) fn objects(alloc: Global, book: &Book) -> Result<Vec<Name>, NoMemory>
+    ensures { IfOk result (λ v. v.items ≡ objects book.now.cells) }
+{
+    let shown = book.seen(alloc, &Pattern::Objects)?;
+    Ok(objects_in(alloc, &shown)?)
+}
+
+/// The indices of a sparse or associative domain, ascending.
+pub(crate) fn members(alloc: Global, book: &Book, domain: &Name) -> Result<Vec<AnyIndex>, NoMemory>
+    ensures { IfOk result (λ v. v.items ≡ members book.now.cells domain.now) }
+{
+    let shown = book.seen(alloc, &Pattern::Members(*domain))?;
+    Ok(members_in(alloc, &shown)?)
+}
+
+// The indices of a rectangle, row by row.
+fn points_of(alloc: Global, ranges: &AnyRect) -> Result<Vec<AnyIndex>, AllocError>
+    ensures { IfOk result (λ v. v.items ≡ indices ranges.now) }
+{
+    let mut points = Vec::new(alloc);
+    for p in 0..ranges.size() {
+        if let Some(index) = ranges.nth(p) {
+            points.push(index)?;
+        }
+    }
+    Ok(points)
+}
+
+/// The ranges of a rectangular domain.
+pub(crate) fn ranges_at(book: &Book, domain: &Name) -> Option<AnyRect>
+    ensures { result ≡ ranges_in (map.get book.now.cells (Shape domain.now)) }
+{
+    match book.get(&Cell::Shape(*domain))? {
+        Value::Ranges(ranges) => Some(ranges),
+        Value::Domain(_)
+        | Value::Array(_, _)
+        | Value::Mapping(_)
+        | Value::Present
+        | Value::Bound(_)
+        | Value::Number(_) => None,
+    }
+}
+
+/// The mapping of a rectangular domain.
+pub(crate) fn mapping_at(book: &Book, domain: &Name) -> Option<AnyLayout>
+    ensures { result ≡ mapping_in (map.get book.now.cells (Mapping domain.now)) }
+{
+    match book.get(&Cell::Mapping(*domain))? {
+        Value::Mapping(layout) => Some(layout),
+        Value::Domain(_)
+        | Value::Array(_, _)
+        | Value::Ranges(_)
+        | Value::Present
+        | Value::Bound(_)
+        | Value::Number(_) => None,
+    }
+}
+
+// The indices of a rectangular domain, row by row.
+fn points(alloc: Global, book: &Book, domain: &Name) -> Result<Vec<AnyIndex>, NoMemory>
+    ensures { IfOk result (λ v. v.items ≡ unwrap_or (indices_at book.now.cells domain.now) []) }
+{
+    match ranges_at(book, domain) {
+        None => Ok(Vec::new(alloc)),
+        Some(ranges) => Ok(points_of(alloc, &ranges)?),
+    }
+}
+
+/// The indices of a domain of the kind, in its order.
+pub(crate) fn indices_in(
+    alloc: Global,
+    book: &Book,
+    domain: &Name,
+    kind: Kind,
+) -> Result<Vec<AnyIndex>, NoMemory>
+    ensures { IfOk result (λ v. v.items ≡ indices_in book.now.cells domain.now kind) }
+{
+    match kind {
+        Kind::Rectangular(_) => points(alloc, book, domain),
+        Kind::Sparse(_) => members(alloc, book, domain),
+        Kind::Associative(_) => members(alloc, book, domain),
+    }
+}
+
+fn number_in(value: Option<Value>) -> Option<i64>
+    ensures { result ≡ number_in value }
+{
+    match value? {
+        Value::Number(number) => Some(number),
+        Value::Domain(_)
+        | Value::Array(_, _)
+        | Value::Ranges(_)
+        | Value::Mapping(_)
+        | Value::Present
+        | Value::Bound(_) => None,
+    }
+}
+
+// The element of an array at an index.
+fn element_at(book: &Book, array: &Name, index: &AnyIndex) -> Option<i64>
+    ensures { result ≡ element_at book.now.cells array.now index.now }
+{
+    number_in(book.get(&Cell::Element(*array, *index)))
+}
+
+/// The elements of an array at the indices, in their order.
+pub(crate) fn elements_at(
+    alloc: Global,
+    book: &Book,
+    array: &Name,
+    indices: &[AnyIndex],
+) -> Result<Vec<i64>, NoMemory>
+    ensures { IfOk result (λ v. v.items ≡ elements_at book.now.cells array.now indices.now) }
+{
+    let mut elements = Vec::new(alloc);
+    for index in indices {
+        if let Some(element) = element_at(book, array, index) {
+            elements.push(element)?;
+        }
+    }
+    Ok(elements)
+}
+
+/// The implicit value of an array over a domain of the kind, where it is written.
+pub(crate) fn implicit_in(book: &Book, array: &Name, kind: Kind) -> Option<i64>
+    ensures { result ≡ implicit_in book.now.cells array.now kind }
+{
+    match kind {
+        Kind::Rectangular(_) => None,
+        Kind::Sparse(_) => number_in(book.get(&Cell::Implicit(*array))),
+        Kind::Associative(_) => None,
+    }
+}

@@ -1,0 +1,88 @@
+//! The elements of one array.
+
+ghost use Rattle.std.specs.Prelude.{◌≡◌, true, map, IfOk};
+ghost use Rattle.std.specs.List.{list_all, zip, AllByRecursion};
+ghost use Rattle.wb_book.specs.Piecewise.Changed.{all_set};
+ghost use Rattle.wb_text.specs.FromLines.Found.{Finds};
+ghost use Rattle.wb_text.specs.FromLines.Made.{IsMade};
+ghost use Rattle.wb_text.specs.FromLines.Told.{is_sound};
+ghost use Rattle.wb_reading.specs.Laid.{rectangle_lies, lies_told, IsColumn};
+ghost use Rattle.wb_text.specs.Said.{first_line_of, line_of};
+
+use std::alloc::Global;
+use std::collections::BTreeMap;
+use wb_book::Elements;
+use wb_cells::{AnyIndex, AnyLayout, KeyType, Name};
+use wb_range::NoMemory;
+use wb_text::{ObjectLine, find, indices_of};
+
+// The mapping of a rectangular domain, and its rank.
+fn rectangle_lies(
+    lines: &[ObjectLine],
+    places: &BTreeMap<Name, usize>,
+    name: &Name,
+) -> (AnyLayout, u8)
+    requires { Finds places.now (map line_of lines.now) (map line_of lines.now) }
+    ensures { result ≡ rectangle_lies (first_line_of name.now (map line_of lines.now)) }
+{
+    match find(lines, places, name) {
+        Some(ObjectLine::Rectangular(_, ranges, mapping)) => (*mapping, ranges.rank()),
+        Some(ObjectLine::Sparse(_, _, _)) => (AnyLayout::whole(), 1),
+        Some(ObjectLine::Associative(_, _, _)) => (AnyLayout::whole(), 1),
+        Some(ObjectLine::Array(_, _, _, _)) => (AnyLayout::whole(), 1),
+        None => (AnyLayout::whole(), 1),
+    }
+}
+
+// How the arrays over a domain lie.
+fn lies(lines: &[ObjectLine], places: &BTreeMap<Name, usize>, name: &Name) -> (AnyLayout, u8)
+    requires { Finds places.now (map line_of lines.now) (map line_of lines.now) }
+    ensures { result ≡ lies_told (map line_of lines.now) (first_line_of name.now (map line_of lines.now)) }
+{
+    match find(lines, places, name) {
+        Some(ObjectLine::Rectangular(_, ranges, mapping)) => (*mapping, ranges.rank()),
+        Some(ObjectLine::Sparse(_, parent, _)) => rectangle_lies(lines, places, parent),
+        Some(ObjectLine::Associative(_, KeyType::Int, _)) => (AnyLayout::whole(), 1),
+        Some(ObjectLine::Associative(_, KeyType::Text, _)) => (AnyLayout::whole(), 0),
+        Some(ObjectLine::Array(_, _, _, _)) => (AnyLayout::whole(), 1),
+        None => (AnyLayout::whole(), 1),
+    }
+}
+
+// The changes that set the numbers at the indices.
+fn changes_of(
+    alloc: Global,
+    indices: &[AnyIndex],
+    numbers: &[i64],
+) -> Result<Vec<(AnyIndex, Option<i64>)>, NoMemory>
+    ensures { IfOk result (λ v. v.items ≡ all_set (zip indices.now numbers.now)) }
+{
+    let changes = indices
+        .iter()
+        .zip(numbers.iter())
+        .map(|x| (*x.0, Some(*x.1)))
+        .collect(alloc)?;
+    Ok(changes)
+}
+
+/// The array over the domain of a name that has these elements, in the order of the domain's indices.
+pub(crate) fn column(
+    alloc: Global,
+    lines: &[ObjectLine],
+    places: &BTreeMap<Name, usize>,
+    domain: &Name,
+    numbers: &[i64],
+) -> Result<Elements, NoMemory>
+    requires finds { Finds places.now (map line_of lines.now) (map line_of lines.now) }
+    requires sound { list_all (is_sound (map line_of lines.now)) (map line_of lines.now) ≡ true }
+    requires are_made { AllByRecursion IsMade (map line_of lines.now) }
+    ensures { IfOk result (λ e. IsColumn (map line_of lines.now) domain.now numbers.now e) }
+{
+    let Ok(indices) = indices_of(alloc, lines, places, domain) else {
+        return Err(NoMemory);
+    };
+    let changes = changes_of(alloc, &indices, numbers)?;
+    let (layout, rank) = lies(lines, places, domain);
+    let none: Vec<(AnyIndex, i64)> = Vec::new(alloc);
+    Elements::made(alloc, none.as_slice(), changes.as_slice(), &layout, rank)
+}

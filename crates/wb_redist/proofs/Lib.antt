@@ -1,2 +1,0 @@
-pub mod Reducing
-pub mod Sharing

@@ -1,3 +1,0 @@
-pub mod Reductions
-pub mod Shares
-pub mod Ways

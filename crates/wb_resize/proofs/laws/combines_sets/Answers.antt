@@ -1,5 +1,0 @@
-use Rattle.wb_resize.proofs.Sources.{IsListedOnce-combined, has-combined}
-use Rattle.wb_resize.proofs.laws.combines_sets.Goals as goal
-
-pub returns : goal.returns
-returns c = λ how given old g o. (IsListedOnce-combined how given old g o, has-combined how given old)

@@ -1,5 +1,0 @@
-use Rattle.wb_resize.proofs.Rectangles.{keeps_rectangles}
-use Rattle.wb_resize.proofs.laws.keeps_rectangles.Goals as goal
-
-pub returns : goal.returns
-returns c = keeps_rectangles

@@ -1,5 +1,0 @@
-use Rattle.wb_resize.proofs.Sets.{keeps_sets}
-use Rattle.wb_resize.proofs.laws.keeps_sets.Goals as goal
-
-pub returns : goal.returns
-returns c = keeps_sets

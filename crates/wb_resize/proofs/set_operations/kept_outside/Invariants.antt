@@ -1,6 +1,0 @@
-use Rattle.std.proofs.Common.{◌≡◌, take}
-use Rattle.wb_resize.specs.Resized.{without}
-use Rattle.wb_resize.proofs.set_operations.kept_outside.Given as goal
-
-abbrev pub invariant-loop-index : goal.invariant-loop-index
-invariant-loop-index l = l.kept.items ≡ without l.set (take l.index-index l.listed)

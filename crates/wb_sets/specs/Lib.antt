@@ -1,0 +1,5 @@
+pub mod Labels
+pub mod Packed
+pub mod Merge
+pub mod Places
+pub mod Subset

@@ -1,2 +1,0 @@
-pub use Rattle.wb_shelf.specs.Piecewise
-pub use Rattle.wb_shelf.specs.Shelf

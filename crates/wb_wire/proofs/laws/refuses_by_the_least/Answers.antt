@@ -1,5 +1,0 @@
-use Rattle.wb_wire.proofs.Refused.{refused_least, least_refused}
-use Rattle.wb_wire.proofs.laws.refuses_by_the_least.Goals as goal
-
-pub returns : goal.returns
-returns c = λ d why. (refused_least d why, least_refused d why)
