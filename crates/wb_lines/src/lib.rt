@@ -1,6 +1,6 @@
 //! Lines read from any reader, replies sent to any writer, and the session that joins them.
 //!
-//! Its tests are in the crate `wb_tests`.
+//! Its tests are in the crate `wb_program_tests`.
 #![tactic(auto)]
 
 mod buffer;

@@ -4,7 +4,6 @@
 #![tactic(auto)]
 
 mod accepting;
-mod answering;
 mod beginning;
 mod checking;
 mod compacting;
@@ -25,7 +24,6 @@ mod serving;
 mod upgrading;
 
 pub use crate::accepting::{AcceptErr, Accepts, Binds, Connections, Ports};
-pub use crate::answering::session;
 pub use crate::beginning::begin_kept_with;
 pub use crate::checking::{REFUSED, Verdict, check_with, status_of_verdict, verdict_on};
 pub use crate::compacting::compact_with;

@@ -9,7 +9,6 @@ ghost use Rattle.wb_program.specs.Resuming.{left_in, failed_in, reads_in, IsReco
 ghost use Rattle.wb_program.specs.declared.checking.Verdict.TheVariants.{Refused};
 ghost use Rattle.wb_program.specs.declared.reasons.Reason.{Reason};
 
-use crate::answering::session;
 use crate::checking::{Verdict, say};
 use crate::put_back::PutBack;
 use crate::reasons::{Reason, look_of, why_no_history};
@@ -21,6 +20,7 @@ use wb_arrays::Mover;
 use wb_history::History;
 use wb_lines::{LineFault, READ_LIMIT, Sink, Source, read_all, read_more};
 use wb_protocol::histories::{HistoryErr, read_history};
+use wb_protocol::session;
 use wb_range::NoMemory;
 
 // The last line of the text of a history, with the line end before it.

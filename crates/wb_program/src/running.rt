@@ -6,11 +6,11 @@ ghost use Rattle.wb_lines.specs.Causes.{ReadsUntil, WritesUntil};
 ghost use Rattle.wb_lines.specs.declared.machine.SessionEnd.{SessionEnd};
 ghost use Rattle.wb_program.specs.Running.{status_of, HasFailed, ServesFromEmpty};
 
-use crate::answering::session;
 use std::alloc::Global;
 use wb_arrays::Mover;
 use wb_history::History;
 use wb_lines::{SessionEnd, Sink, Source};
+use wb_protocol::session;
 
 /// The exit status of a session that was answered to its end.
 pub const DONE: u8 = 0;

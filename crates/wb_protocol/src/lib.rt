@@ -17,4 +17,5 @@ pub use crate::replies::text::reply_text;
 pub use crate::requests::reading::read_request;
 pub use crate::requests::request::Request;
 pub use crate::serving::lines::answer_line;
+pub use crate::serving::session::session;
 pub use crate::serving::steps::answer_request;

@@ -10,9 +10,8 @@ use std::test::Fail;
 use wb_arrays::{Crew, Mover};
 use wb_desk::{Desk, DeskErr, Opening, settle};
 use wb_history::History;
-use wb_lines::{Input, Output};
-use wb_program::history_from;
 use wb_protocol::encoding::print_history;
+use wb_protocol::histories::read_history;
 use wb_protocol::reply_text;
 
 const TEXT: &str =
@@ -22,15 +21,7 @@ const ELEMENT: &str = "{\"op\":\"get\",\"a\":\"A\",\"i\":4}";
 
 // The history of the text.
 fn history_of_the_text<M: Mover>(alloc: Global, mover: &M) -> Result<History, Fail> {
-    let mut refused = Vec::new(alloc);
-    let mut input = Input::new(TEXT.as_bytes());
-    match history_from(
-        alloc,
-        &mut input,
-        &mut Output::new(&mut refused),
-        mover,
-        &mut None,
-    ) {
+    match read_history(alloc, TEXT, mover) {
         Ok(history) => Ok(history),
         Err(_) => Err("a history")?,
     }

@@ -13,37 +13,18 @@ mod sessions;
 mod texts;
 
 use std::alloc::Global;
-use std::io::{Read, Write};
 use std::process::Abort;
 use std::test::Fail;
 use wb_arrays::{Crew, Mover};
 use wb_history::History;
 use wb_lines::{Input, Output, SessionEnd};
-use wb_program::session;
+use wb_protocol::session;
 
 const NO_MEMORY: &str = "{\"error\":\"E90\",\"name\":\"no-memory\"}\n";
 
 // Lines over which a history begins, and those that follow, each with ` -> ` and what it is replied; and how many edits
 // there are then, and how many cells were set.
 type Script = (&'static str, &'static str, u64, u128);
-
-/// How a session over a new history ends, and how many edits the history has then.
-pub fn ended<R: Read + Drop, W: Write, M: Mover>(
-    alloc: Global,
-    input: R,
-    output: &mut W,
-    mover: &M,
-) -> (SessionEnd, u64) {
-    let mut history = History::new(alloc);
-    let end = session(
-        alloc,
-        &mut history,
-        mover,
-        &mut Input::new(input),
-        &mut Output::new(output),
-    );
-    (end, history.len())
-}
 
 // What a session over these bytes writes.
 fn replies_to<M: Mover>(
@@ -165,7 +146,13 @@ fn goes_so<M: Mover>(
     mover: &M,
 ) {
     let mut output = Vec::new(alloc);
-    let (end, _) = ended(alloc, bytes, &mut output, mover);
+    let end = session(
+        alloc,
+        &mut History::new(alloc),
+        mover,
+        &mut Input::new(bytes),
+        &mut Output::new(&mut output),
+    );
     assert!(rt; end == SessionEnd::Done(count));
     assert!(rt; output.as_slice() == text.as_bytes());
 }

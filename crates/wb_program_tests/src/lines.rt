@@ -1,15 +1,16 @@
 //! Lines and sessions over devices that give or take a byte a call, fail, or hold bytes back.
 
-use crate::sessions::devices::{AtLimit, Narrow, OneByOne};
-use crate::sessions::scripts::ended;
+use crate::devices::{AtLimit, Narrow, OneByOne};
 use std::alloc::Global;
-use std::io::{self, BufWriter};
+use std::io::{self, BufWriter, Read, Write};
 use std::process::Abort;
 use std::test::Fail;
 use wb_arrays::{Crew, Mover};
+use wb_history::History;
 use wb_lines::{
     Input, Line, LineBuffer, LineFault, NothingHeld, Output, SessionEnd, Sink, next_line, read_all,
 };
+use wb_protocol::session;
 
 const LINES: &[u8] =
     b"{\"op\":\"domain\",\"d\":\"D\",\"is\":\"{1..4}\"}\n{\"op\":\"array\",\"a\":\"A\",\"d\":\"D\"}\n{\"op\":\"set\",\"a\":\"A\",\"i\":4,\"v\":9}\n{\"op\":\"undo\"}\n{\"op\":\"get\",\"a\":\"A\",\"i\":4}\n";
@@ -38,6 +39,24 @@ fn reply_length(lines: u64) -> usize {
         4 => 70,
         _ => 82,
     }
+}
+
+// How a session over a new history ends, and how many edits the history has then.
+fn ended<R: Read + Drop, W: Write, M: Mover>(
+    alloc: Global,
+    input: R,
+    output: &mut W,
+    mover: &M,
+) -> (SessionEnd, u64) {
+    let mut history = History::new(alloc);
+    let end = session(
+        alloc,
+        &mut history,
+        mover,
+        &mut Input::new(input),
+        &mut Output::new(output),
+    );
+    (end, history.len())
 }
 
 // That a session which reads up to a fault, if there is one, and writes so many bytes, ends so, when so many were sent,

@@ -1,6 +1,6 @@
 //! The command line, the first run, and texts of workbooks and of none.
 
-use crate::program::texts::{OTHERS, Text, WORKBOOKS};
+use crate::texts::{OTHERS, Text, WORKBOOKS};
 use std::alloc::Global;
 use std::process::Abort;
 use std::test::Fail;

@@ -1,6 +1,6 @@
 //! Journals that are made anew, and such as begin with the text of a history.
 
-use crate::program::journals::OneFile;
+use crate::journals::OneFile;
 use std::alloc::{AllocError, Global};
 use std::net::{Net, TcpListener, TcpStream};
 use std::process::Abort;

@@ -1,8 +1,8 @@
 //! Texts of workbooks made texts of histories, which are judged and gone on from; texts of no workbook; and input and output
 //! that fail.
 
-use crate::program::texts::{OTHERS, WORKBOOKS};
-use crate::sessions::devices::{AtLimit, Narrow};
+use crate::devices::{AtLimit, Narrow};
+use crate::texts::{OTHERS, WORKBOOKS};
 use std::alloc::Global;
 use std::io::{self, ErrorKind, Read, Write};
 use std::process::Abort;

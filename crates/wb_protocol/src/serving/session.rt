@@ -6,11 +6,11 @@ ghost use Rattle.wb_lines.specs.Causes.{ReadsUntil, WritesUntil};
 ghost use Rattle.wb_lines.specs.Session.{MayAnswer, Serves};
 ghost use Rattle.wb_protocol.specs.Machine.{AnswersText};
 
+use crate::serving::lines::answer_line;
 use std::alloc::{AllocError, Global};
 use wb_arrays::Mover;
 use wb_history::History;
 use wb_lines::{Machine, SessionEnd, Sink, Source, serve_lines};
-use wb_protocol::answer_line;
 
 /// A history answers a line with the text of a reply to its request.
 struct HistoryMachine;
