@@ -104,7 +104,7 @@ fn of_pairs<R: Threads + Sync, G, I: Copy + Send + Sync>(
     }
 }
 
-// The same in the caller's thread.
+// What the operation makes of the elements of pairs, one after another in the caller's thread; `None` where there is none.
 fn alone<I: Copy>(op: Op, pairs: &[(I, i64)]) -> Option<i128>
     ensures value { result ≡ reduce (op_in_128 op) (elements_of pairs.now) }
     ensures small { AreSmall pairs.now }
@@ -116,7 +116,8 @@ fn alone<I: Copy>(op: Op, pairs: &[(I, i64)]) -> Option<i128>
     done
 }
 
-// The same by threads, where there are enough elements for two.
+// What the operation makes of the elements of pairs, by threads where there are enough elements for two; `None` where there is
+// none.
 fn by_threads<R: Threads + Sync, I: Copy + Send + Sync>(
     rt: &R,
     op: Op,

@@ -319,7 +319,8 @@ fn elements_before(
     }
 }
 
-// The same of the cells of a row.
+// The changes that set the cells of a row at the indices of a rectangle to what they are now, as a run; `None` where they are to
+// be told one by one.
 fn rectangle_before(
     alloc: Global,
     cells: &BTreeMap<Cell, Value>,
@@ -338,7 +339,8 @@ fn rectangle_before(
     }
 }
 
-// The same of changes at the indices of a rectangle to the same number, or to absent.
+// The changes that take back a rectangle of changes to one number, or to absent: they set its cells to what they are now, as a
+// run. `None` where they are to be told one by one.
 fn same_before(
     alloc: Global,
     cells: &BTreeMap<Cell, Value>,
@@ -352,7 +354,8 @@ fn same_before(
     rectangle_before(alloc, cells, arrays, block.row(), block.ranges())
 }
 
-// The same of changes to a number each.
+// The changes that take back a rectangle of changes to a number each: they set its cells to what they are now, as a run. `None`
+// where they are to be told one by one.
 fn each_before(
     alloc: Global,
     cells: &BTreeMap<Cell, Value>,
@@ -400,7 +403,7 @@ fn line_before(
     }
 }
 
-// The same at pairs.
+// The changes that set elements at pairs to what they are now, as a run; `None` where the cells are no elements.
 fn plane_before(
     alloc: Global,
     arrays: &BTreeMap<Name, Elements>,
@@ -418,7 +421,7 @@ fn plane_before(
     }
 }
 
-// The same at triples.
+// The changes that set elements at triples to what they are now, as a run; `None` where the cells are no elements.
 fn solid_before(
     alloc: Global,
     arrays: &BTreeMap<Name, Elements>,
@@ -473,7 +476,7 @@ fn add_each_before(
     Ok(())
 }
 
-// The same, as a run where that can be.
+// Adds the changes that set the cells of a run to what they are now, as a run where that can be.
 fn add_run_before(
     alloc: Global,
     cells: &BTreeMap<Cell, Value>,
@@ -491,7 +494,7 @@ fn add_run_before(
     }
 }
 
-// The same of runs, one after another.
+// Adds the changes that set the cells of runs to what they are now, one run after another.
 fn add_runs_before(
     alloc: Global,
     cells: &BTreeMap<Cell, Value>,
@@ -561,7 +564,7 @@ pub(crate) fn after_one<V: Mover>(
     }
 }
 
-// The same of changes at the indices of a rectangle.
+// The elements of an array after changes at the indices of a rectangle, by how it lies then; `None` where they are as they were.
 fn after_block<V: Mover, B: Block>(
     alloc: Global,
     block: &B,
@@ -590,7 +593,7 @@ fn after_block<V: Mover, B: Block>(
     after_one(alloc, changes.as_slice(), elements, lies, mover)
 }
 
-// The same of changes that are kept for an array.
+// The elements of an array after the changes that are kept for it, by how it lies then; `None` where they are as they were.
 fn after_group<V: Mover>(
     alloc: Global,
     group: &Group,

@@ -234,7 +234,7 @@ fn add_all<I: AsIndex>(
     }
 }
 
-// The same of changes of cells of a row.
+// Adds changes of cells of a row to those of their array, which it names; where the cells are no elements, it adds nothing.
 fn add_entries<I: AsIndex>(
     alloc: Global,
     groups: &mut BTreeMap<Name, Group>,
@@ -273,7 +273,8 @@ fn add_over<B: Block>(
     }
 }
 
-// The same of changes of cells of a row at the indices of a rectangle.
+// Adds changes of cells of a row at the indices of a rectangle to those of their array, which it names; where the cells are no
+// elements, it adds nothing.
 fn add_block<B: Block>(
     alloc: Global,
     groups: &mut BTreeMap<Name, Group>,
@@ -293,7 +294,7 @@ fn add_block<B: Block>(
     }
 }
 
-// The same of the changes of a run.
+// Adds the changes of a run to those of the arrays whose elements they set; each object that changes is named as well.
 fn add_run(alloc: Global, groups: &mut BTreeMap<Name, Group>, form: &Form) -> Result<(), NoMemory>
     requires { list_all is_numeric (run_changes form.now) ≡ true }
     ensures lead { (before : List (Change cell_type value_type)) → ((b : List ℕ) → LeadTo before b (changes_in groups.old.entries b)) →
@@ -311,7 +312,8 @@ fn add_run(alloc: Global, groups: &mut BTreeMap<Name, Group>, form: &Form) -> Re
     }
 }
 
-// The same of the changes of runs, one after another.
+// Adds the changes of runs, one run after another, to those of the arrays whose elements they set; each object that changes is
+// named as well.
 fn add_runs(
     alloc: Global,
     groups: &mut BTreeMap<Name, Group>,
@@ -380,7 +382,8 @@ fn leaves(cells: &BTreeMap<Cell, Value>, change: &CellChange) -> bool
     }
 }
 
-// The same of each change of a run. No cell of a row, and none of a rectangle, is an object or a mapping.
+// Whether each change of a run leaves each object and each mapping that is there as it is, or clears it. No cell of a row, and
+// none of a rectangle, is an object or a mapping.
 fn run_leaves(cells: &BTreeMap<Cell, Value>, form: &Form) -> bool
     ensures { result ≡ list_all (leaves (stored_in cells.now.entries)) (run_changes form.now) }
 {
@@ -394,7 +397,7 @@ fn run_leaves(cells: &BTreeMap<Cell, Value>, form: &Form) -> bool
     }
 }
 
-// The same of each change of runs.
+// Whether each change of runs leaves each object and each mapping that is there as it is, or clears it.
 fn runs_leave(cells: &BTreeMap<Cell, Value>, runs: &[ChangeRun]) -> bool
     ensures { result ≡ list_all (leaves (stored_in cells.now.entries)) (all_changes runs.now) }
 {

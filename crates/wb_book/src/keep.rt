@@ -159,7 +159,7 @@ fn is_set(arrays: &BTreeMap<Name, Elements>, change: &CellChange) -> bool
     }
 }
 
-// The same of each change of cells of a row.
+// Whether each change of cells of a row sets an element that is there.
 fn are_entries_set<I: PieceKey>(
     arrays: &BTreeMap<Name, Elements>,
     row: &Row,
@@ -177,7 +177,7 @@ fn are_entries_set<I: PieceKey>(
     }
 }
 
-// The same of each change at the indices of a rectangle.
+// Whether each change at the indices of a rectangle sets an element that is there.
 fn is_block_set<B: Block>(arrays: &BTreeMap<Name, Elements>, block: &B) -> bool
     ensures { result ≡ list_all (is_set (element_in arrays.now.entries)) (packed_changes (B.row_of block.now) (B.entries block.now)) }
 {
@@ -191,7 +191,7 @@ fn is_block_set<B: Block>(arrays: &BTreeMap<Name, Elements>, block: &B) -> bool
     }
 }
 
-// The same of each change of a run.
+// Whether each change of a run sets an element that is there.
 fn is_run_set(arrays: &BTreeMap<Name, Elements>, form: &Form) -> bool
     ensures { result ≡ list_all (is_set (element_in arrays.now.entries)) (changes_in form.now) }
 {
@@ -205,7 +205,7 @@ fn is_run_set(arrays: &BTreeMap<Name, Elements>, form: &Form) -> bool
     }
 }
 
-// The same of each change of runs.
+// Whether each change of runs sets an element that is there.
 fn are_runs_set(arrays: &BTreeMap<Name, Elements>, runs: &[ChangeRun]) -> bool
     ensures { result ≡ list_all (is_set (element_in arrays.now.entries)) (all_changes runs.now) }
 {
@@ -310,7 +310,7 @@ fn set_block<B: Block>(arrays: &mut BTreeMap<Name, Elements>, block: &B)
     }
 }
 
-// The same of the changes of a run.
+// Makes the changes of a run, each of which sets an element that is there.
 fn set_run(arrays: &mut BTreeMap<Name, Elements>, form: &Form)
     requires { list_all (is_set (element_in arrays.old.entries)) (changes_in form.now) ≡ true }
     ensures agree { (s : Cells) → Agree arrays.old.entries s → Agree arrays.new.entries (apply (changes_in form.now) s) }
@@ -328,7 +328,7 @@ fn set_run(arrays: &mut BTreeMap<Name, Elements>, form: &Form)
     }
 }
 
-// The same of the changes of runs, one after another.
+// Makes the changes of runs, one run after another, each of which sets an element that is there.
 fn set_runs(arrays: &mut BTreeMap<Name, Elements>, runs: &[ChangeRun])
     requires { list_all (is_set (element_in arrays.old.entries)) (all_changes runs.now) ≡ true }
     ensures agree { (s : Cells) → Agree arrays.old.entries s → Agree arrays.new.entries (apply (all_changes runs.now) s) }

@@ -18,7 +18,7 @@ use wb_range::NoMemory;
 pub enum ReadRun {
     /// One pattern.
     Single(Pattern),
-    /// Those of single cells, kept as the changes that clear the cells, since a list of changes is packed.
+    /// Patterns of single cells, kept as the changes that clear the cells, since a list of changes is packed.
     Cells(Changes),
 }
 

@@ -103,7 +103,8 @@ pub enum Asked<'a> {
         resume: bool,
         workers: u8,
     },
-    /// The same on the history that a journal has, which keeps each change there.
+    /// A desk of 1 to 16 seats on a port, or on any port where that is 0, on the history that a journal has, which keeps each
+    /// change there.
     ServeKept {
         journal: FilePath<'a>,
         port: u16,

@@ -25,7 +25,7 @@ pub fn is_block_there<B: Block>(elements: &Elements, block: &B) -> bool
     is_each_there(elements, block)
 }
 
-// The same, by a look at each.
+// Whether each change sets an element that is there, by a look at each element.
 fn is_each_there<B: Block>(elements: &Elements, block: &B) -> bool
     ensures { result ≡ list_all (sets_one point_index (element_at elements.now.0)) (B.entries block.now) }
 {
@@ -66,7 +66,7 @@ pub fn write_block<B: Block>(elements: &mut Elements, block: &B)
     write_each(elements, block);
 }
 
-// The same, one after another.
+// Replaces the elements that are there and that the changes set, one after another.
 fn write_each<B: Block>(elements: &mut Elements, block: &B)
     ensures elements { elements.new.0 ≡ with_all point_index elements.old.0 (B.entries block.now) }
     ensures mapping { elements.new.1 ≡ elements.old.1 }

@@ -23,7 +23,7 @@ pub(crate) fn upward(ranked: &Ranked) -> AnyRect
     }
 }
 
-// The same, by the rank.
+// The rectangle of one rank that has the same indices and whose ranges go upward, so that its points ascend.
 fn upward_in<const R: usize>(rect: &Rect<R>) -> Rect<R>
     ensures ascending { IsStrictlySortedBy point_cmp (product result) }
     ensures alike { (f : Coordinates → Bool) → list_any f (product result) ≡ list_any f (product rect.now) }
@@ -54,7 +54,7 @@ pub(crate) fn point_in(ranked: &Ranked, at: usize) -> Point
     }
 }
 
-// The same, by the rank.
+// The point at a place of a rectangle of one rank.
 fn point_at<const R: usize>(rect: &Rect<R>, at: usize) -> Point
     requires within { at < length (product rect.now) }
     requires rank { R ≤ 3 }
@@ -89,14 +89,14 @@ pub(crate) fn have_common(ranked: &Ranked, other: &Ranked) -> bool
     }
 }
 
-// The same of rectangles of one rank.
+// Whether two rectangles of one rank have a point in common.
 fn have_common_in<const R: usize>(rect: &Rect<R>, other: &Rect<R>) -> bool
     ensures { result ≡ list_any (in_points (product rect.now)) (product other.now) }
 {
     rect.slice(other).nth(0).is_some()
 }
 
-// The same of rectangles of different ranks, which have none.
+// Whether two rectangles of different ranks have a point in common, which they never have.
 fn have_common_across<const R: usize, const S: usize>(rect: &Rect<R>, other: &Rect<S>) -> bool
     requires { R ≢ S }
     ensures { result ≡ list_any (in_points (product rect.now)) (product other.now) }

@@ -29,7 +29,7 @@ impl FootIndex {
         self.read.join_after(&place, after, waiting)
     }
 
-    /// The same of the cells of a run, asked together.
+    /// Those above `after` at the own place of one of the cells of a run join the numbers that wait; the cells are asked together.
     fn join_own_together(
         &self,
         run: &Run,
@@ -43,7 +43,8 @@ impl FootIndex {
         self.read.join_in(&run.row, &run.points, after, waiting)
     }
 
-    /// The same, but of a cell that the sweep went through before nothing is asked: they wait already.
+    /// Those above `after` at the own place of the cell join the numbers that wait. A cell that the sweep went through before is
+    /// not asked: they wait already.
     fn join_own_once(
         &self,
         cell: &Cell,
@@ -62,7 +63,8 @@ impl FootIndex {
         swept.add(cell)
     }
 
-    /// The same of the cells of a run, asked one by one.
+    /// Those above `after` at the own place of one of the cells of a run join the numbers that wait; the cells are asked one by
+    /// one, each once in a sweep.
     fn join_own_each(
         &self,
         cells: &ChangeRun,
@@ -82,7 +84,8 @@ impl FootIndex {
         Ok(())
     }
 
-    /// The same of the cells of a run that the sweep comes to for the first time.
+    /// Those above `after` at the own place of one of the cells of a run join the numbers that wait; the sweep comes to the cells
+    /// for the first time.
     fn join_own_new(
         &self,
         run: &Run,
@@ -99,7 +102,8 @@ impl FootIndex {
         swept.add_run(run)
     }
 
-    /// The same of the cells of a run, of which those are asked that the sweep did not go through.
+    /// Those above `after` at the own place of one of the cells of a run join the numbers that wait; those cells are asked that the
+    /// sweep did not go through.
     fn join_own_run(
         &self,
         run: &Run,
@@ -121,7 +125,8 @@ impl FootIndex {
         }
     }
 
-    /// The same of the cells of a run: of few one by one, of others all together.
+    /// Those above `after` at the own place of one of the cells of a run join the numbers that wait; few cells are asked one by
+    /// one, others all together.
     fn join_own_in(
         &self,
         cells: &ChangeRun,
@@ -143,7 +148,7 @@ impl FootIndex {
         }
     }
 
-    /// The same of the cells of runs.
+    /// Those above `after` at the own place of one of the cells of runs join the numbers that wait.
     fn join_own_all(
         &self,
         runs: &[ChangeRun],
@@ -172,7 +177,8 @@ impl FootIndex {
         }
     }
 
-    /// The same by a cell of the family, once in a sweep.
+    /// Those above `after` that read the family of the cell join the numbers that wait; the family is asked for by this cell once
+    /// in a sweep.
     fn join_family_by(
         &self,
         cell: &Cell,
@@ -191,7 +197,7 @@ impl FootIndex {
         swept.add_family(cell)
     }
 
-    /// The same, where the sweep did not ask for the family before.
+    /// Those above `after` that read the family of the cell join the numbers that wait; the family is asked for once in a sweep.
     fn join_family_once(
         &self,
         cell: &Cell,
@@ -206,7 +212,7 @@ impl FootIndex {
         self.join_family_by(&of_family(cell), after, waiting, swept)
     }
 
-    /// The same of the cells of a run, which are of one family.
+    /// Those above `after` that read the family of the cells of a run, which are of one, join the numbers that wait.
     fn join_family_of(
         &self,
         cells: &ChangeRun,
@@ -225,7 +231,7 @@ impl FootIndex {
         self.join_family_once(&cells.cell(0), after, waiting, swept)
     }
 
-    /// The same of the cells of runs.
+    /// Those above `after` that read the family of one of the cells of runs join the numbers that wait.
     fn join_families(
         &self,
         runs: &[ChangeRun],
@@ -263,7 +269,7 @@ impl FootIndex {
         }
     }
 
-    /// The same of a cell.
+    /// Those above `after` at the own place of the cell, or at that of its family, join the numbers that wait.
     fn join_once(
         &self,
         cell: &Cell,
@@ -279,7 +285,7 @@ impl FootIndex {
         self.join_family_once(cell, after, waiting, swept)
     }
 
-    /// The same of the cells of runs.
+    /// Those above `after` at the own place of one of the cells of runs, or at that of its family, join the numbers that wait.
     fn join_runs(
         &self,
         runs: &[ChangeRun],

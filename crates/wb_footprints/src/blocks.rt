@@ -43,7 +43,7 @@ impl Block {
         Some(self.number)
     }
 
-    /// The same where the number stands at one of several points.
+    /// The lesser of the number, where it is above `after` and stands at one of several points, and of a first one.
     fn or_first_in(&self, first: Option<u64>, points: &Points, after: u64) -> Option<u64>
         ensures { (p : ℕ → Bool) → IsLeastAfter p after first →
             IsLeastAfter (λ n. p n || (list_any (in_points self.now.points) points.now && (self.now.number == n))) after result }
@@ -75,7 +75,7 @@ impl Block {
         waiting.add(self.number)
     }
 
-    /// The same where the number stands at one of several points.
+    /// The number, where it is above `after` and stands at one of several points, joins those that wait.
     fn join_in(&self, points: &Points, after: u64, waiting: &mut Numbers) -> Result<(), NoMemory>
         ensures { OnOk result (JoinedAfter waiting.old waiting.new
             (λ n. list_any (in_points self.now.points) points.now && (self.now.number == n)) after) }

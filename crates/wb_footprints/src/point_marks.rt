@@ -158,7 +158,7 @@ fn least_single(marks: &Marks<i64>, points: &Points, after: u64) -> Option<u64>
     first
 }
 
-// The same of the others.
+// The least number above `after` that stands at one of several points, of those kept by the whole point.
 fn least_other(marks: &Marks<Point>, points: &Points, after: u64) -> Option<u64>
     ensures { IsLeastAfter (λ n. list_any (λ p. marked point_cmp marks.now p n) points.now) after result }
 {
@@ -237,7 +237,7 @@ fn join_single(
     Ok(())
 }
 
-// The first place behind one at whose point a number above `after` may stand, of the others.
+// The first place behind one at whose point a number above `after` may stand, of those kept by the whole point.
 fn next_other(marks: &Marks<Point>, points: &Points, at: usize, after: u64) -> usize
     requires { at < length points.now }
     ensures behind { at < result }
@@ -252,7 +252,7 @@ fn next_other(marks: &Marks<Point>, points: &Points, at: usize, after: u64) -> u
     }
 }
 
-// Those above `after` at one of several points join the numbers that wait, of the others.
+// Those above `after` at one of several points join the numbers that wait, of those kept by the whole point.
 fn join_others(
     marks: &Marks<Point>,
     points: &Points,

@@ -97,7 +97,7 @@ impl Points {
         }
     }
 
-    // The same where the others are the points of a rectangle.
+    // Whether one of the others, which are the points of a rectangle, is one of them.
     fn meets_area(&self, others: &Points, area: &AnyRect) -> bool
         requires { others.now ≡ product area.now }
         ensures { result ≡ list_any (in_points self.now) others.now }

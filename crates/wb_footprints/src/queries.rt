@@ -71,8 +71,8 @@ impl FootIndex {
         first
     }
 
-    /// The same: of few, and of cells that do not ascend, one by one; of others all together, but for the first, which may be met
-    /// by the number right above already.
+    /// The least number above `after` whose footprint read or touched one of the cells. Few cells, and those that do not ascend,
+    /// are asked one by one; others all together, but for the first, which may be met by the number right above already.
     fn met_in(&self, cells: &ChangeRun, after: u64) -> Option<u64>
         ensures least { (footprints : Footprints) → IsIndexOf self.now footprints →
             IsLeastAfter (λ n. any_met (footprints n) (changes_in cells.now.form)) after result }
@@ -91,7 +91,7 @@ impl FootIndex {
         }
     }
 
-    /// The same of runs.
+    /// The least number above `after` whose footprint read or touched one of the cells of runs.
     fn met_in_runs(&self, runs: &[ChangeRun], after: u64) -> Option<u64>
         ensures least { (footprints : Footprints) → IsIndexOf self.now footprints →
             IsLeastAfter (λ n. any_met (footprints n) (all_changes runs.now)) after result }
@@ -107,7 +107,7 @@ impl FootIndex {
         first
     }
 
-    /// The same of a change that may be there.
+    /// The least number above `after` whose footprint read or touched the cell of a change; none where there is no change.
     fn met_first(&self, first: &Option<CellChange>, after: u64) -> Option<u64>
         ensures least { (footprints : Footprints) → IsIndexOf self.now footprints →
             IsLeastAfter (λ n. any_met (footprints n) (in_first first.now)) after result }
@@ -170,8 +170,8 @@ impl FootIndex {
         first
     }
 
-    /// The same: of few, and of cells that do not ascend, one by one; of others all together, but for the first, which may be touched
-    /// by the number right above already.
+    /// The least number above `after` whose footprint touched one of the cells. Few cells, and those that do not ascend, are asked
+    /// one by one; others all together, but for the first, which may be touched by the number right above already.
     fn touched_in(&self, cells: &ChangeRun, after: u64) -> Option<u64>
         ensures { (footprints : Footprints) → IsIndexOf self.now footprints →
             IsLeastAfter (λ n. list_any (λ x. touched_by (footprints n) (own x.cell)) (changes_in cells.now.form)) after result }
@@ -189,7 +189,7 @@ impl FootIndex {
         }
     }
 
-    /// The same of runs.
+    /// The least number above `after` whose footprint touched one of the cells of runs.
     fn touched_in_runs(&self, runs: &[ChangeRun], after: u64) -> Option<u64>
         ensures { (footprints : Footprints) → IsIndexOf self.now footprints →
             IsLeastAfter (λ n. list_any (λ x. touched_by (footprints n) (own x.cell)) (all_changes runs.now)) after result }
@@ -204,7 +204,7 @@ impl FootIndex {
         first
     }
 
-    /// The same of a change that may be there.
+    /// The least number above `after` whose footprint touched the cell of a change; none where there is no change.
     fn touched_first(&self, first: &Option<CellChange>, after: u64) -> Option<u64>
         ensures { (footprints : Footprints) → IsIndexOf self.now footprints →
             IsLeastAfter (λ n. list_any (λ x. touched_by (footprints n) (own x.cell)) (in_first first.now)) after result }
@@ -215,7 +215,7 @@ impl FootIndex {
         }
     }
 
-    /// The same of the patterns of cells.
+    /// The least number above `after` whose footprint touched the place of one of the patterns that name the cells, one each.
     fn first_to_touch_cells(&self, cells: &Changes, after: u64) -> Option<u64>
         ensures { (footprints : Footprints) → IsIndexOf self.now footprints →
             IsLeastAfter (λ n. touched_under (footprints n) (patterns_of cells.now)) after result }
@@ -227,7 +227,7 @@ impl FootIndex {
         )
     }
 
-    /// The same of one pattern.
+    /// The least number above `after` whose footprint touched the place of a pattern that stands alone.
     fn first_to_touch_one(&self, pattern: &Pattern, after: u64) -> Option<u64>
         ensures { (footprints : Footprints) → IsIndexOf self.now footprints →
             IsLeastAfter (λ n. touched_under (footprints n) (pattern.now ∷ [])) after result }
@@ -235,7 +235,7 @@ impl FootIndex {
         self.touched_after(pattern, after)
     }
 
-    /// The same of the patterns of a run.
+    /// The least number above `after` whose footprint touched the place of one of the patterns of a run.
     fn first_to_touch_run(&self, run: &ReadRun, after: u64) -> Option<u64>
         ensures { (footprints : Footprints) → IsIndexOf self.now footprints →
             IsLeastAfter (λ n. touched_under (footprints n) (read_in run.now)) after result }
@@ -246,7 +246,7 @@ impl FootIndex {
         }
     }
 
-    /// The same of the patterns of runs.
+    /// The least number above `after` whose footprint touched the place of one of the patterns of runs.
     fn first_to_touch_runs(&self, runs: &[ReadRun], after: u64) -> Option<u64>
         ensures { (footprints : Footprints) → IsIndexOf self.now footprints →
             IsLeastAfter (λ n. touched_under (footprints n) (all_read runs.now)) after result }

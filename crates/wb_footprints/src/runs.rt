@@ -33,7 +33,7 @@ pub struct Row {
 }
 
 impl Row {
-    /// Those of a row of changes.
+    /// The cells that a row of changes is of.
     pub(crate) fn of(row: &ChangeRow) -> Row
         ensures { (p : Coordinates) → cell_at result.kind result.name p ≡ cell_of row.now (at_point p) }
     {
@@ -53,7 +53,7 @@ impl Row {
         }
     }
 
-    /// Those of which the cells of a run are.
+    /// The row that the cells of a run are of, if they are of one.
     pub(crate) fn of_form(form: &Form) -> Option<Row>
         ensures { IfSome result (λ row. AreOfRow row.kind row.name (changes_in form.now)) }
     {
@@ -123,7 +123,7 @@ impl Run {
         Some(run)
     }
 
-    // The same, though of no cells too.
+    // The run that cells are, in whichever order, if all are of one row, and there is memory; it may be of no cells.
     fn of_form(alloc: Global, form: &Form) -> Option<Run>
         ensures { IfSome result (λ run. AreAt run.row.kind run.row.name run.points (changes_in form.now)) }
     {

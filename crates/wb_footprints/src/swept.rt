@@ -45,7 +45,7 @@ impl SweptCells {
         self.cells.least_after(*cell, 0).is_some()
     }
 
-    /// Whether it asked for a family by the cell.
+    /// Whether the sweep asked for a family by the cell.
     pub(crate) fn has_family(&self, cell: &Cell) -> bool
         ensures { IsTrue result → (k : ℕ) × (marked cell_cmp self.now.families cell.now k ≡ true) }
     {
@@ -60,7 +60,7 @@ impl SweptCells {
         self.cells.add(*cell, 1)
     }
 
-    /// It asks for a family by the cell.
+    /// The sweep asks for a family by the cell.
     pub(crate) fn add_family(&mut self, cell: &Cell) -> Result<(), NoMemory>
         ensures families { OnOk result (Sets (marked cell_cmp self.old.families) (marked cell_cmp self.new.families) (eq_by_cmp cell_cmp cell.now) 1 true) }
         ensures cells { self.new.cells ≡ self.old.cells }

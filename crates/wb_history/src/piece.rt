@@ -94,7 +94,7 @@ fn listed<K: AsIndex>(alloc: Global, pairs: &[(K, i64)]) -> Result<Vec<(AnyIndex
     Ok(found)
 }
 
-// The same, whatever the form of the indices.
+// The piece of elements that are lent, each after its index, whatever the form of the indices.
 fn piece_of(alloc: Global, pairs: Pairs<'_>) -> Result<Piece, NoMemory>
     ensures { IfOk result (λ p. p ≡ lent pairs.entry) }
 {

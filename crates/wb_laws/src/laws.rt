@@ -36,7 +36,7 @@ pub fn undo_count()
     ensures { UndoCountLaw }
 {}
 
-/// So is that of an undo of the latest.
+/// The count of an undo of the latest is the size of the set of cells that its edit touched.
 pub fn undo_last_count()
     ensures { LastCountLaw }
 {}

@@ -95,7 +95,7 @@ fn meets_any(reads: &[Pattern], runs: &[ReadRun], wrote: &Changes, cells: &Chang
     false
 }
 
-// The same of an edit of which that is kept.
+// Whether an edit of which this footprint is kept reads or writes one of the cells.
 fn is_met(kept: &LentFootprint<'_>, cells: &Changes) -> bool
     ensures { result ≡ meets_any (lent_footprint kept.now) cells.now }
 {

@@ -28,7 +28,7 @@ pub(crate) fn cost_to_answer(asked: &Result<Request, Refusal>) -> u64
     }
 }
 
-/// The same of a line that was read as what can be kept.
+/// What it costs to answer what a line was read as, where that can be kept, beyond what the reply tells of.
 pub(crate) fn cost_to_answer_said(asked: &Result<Said, Refusal>) -> u64
     ensures { result ≡ asked_cost asked.now }
 {

@@ -86,7 +86,7 @@ fn host<
     }
 }
 
-// The same on the workbook of a history.
+// A desk of so many seats on a port, on the workbook of a history.
 fn host_history<
     R: Threads + Wait + Sync,
     B: Binds<N, I, O>,
@@ -124,7 +124,7 @@ fn host_history<
     }
 }
 
-// The same on the workbook of the history whose text is the input.
+// A desk of so many seats on a port, on the workbook of the history whose text is the input.
 fn host_input<
     R: Threads + Wait + Sync,
     B: Binds<N, I, O>,
@@ -217,7 +217,7 @@ fn run_begun<D: Replaces, J: OpensFiles<D>, R: Source, W: Sink, M: Mover>(
     }
 }
 
-// The same, where the text of the history comes first.
+// A session on the history whose text comes first, with which the file at a path is begun.
 fn run_resumed<D: Replaces, J: OpensFiles<D>, R: Source, W: Sink, M: Mover>(
     alloc: Global,
     files: &mut J,

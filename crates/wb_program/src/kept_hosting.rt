@@ -103,7 +103,8 @@ pub fn host_kept_with<
     }
 }
 
-/// The same with the journal at a path, whose file is given back.
+/// A desk of so many seats on a port, on the history that the journal at a path has, as `host_kept_with` serves it; the file is
+/// given back.
 pub(crate) fn serve_kept<
     R: Threads + Wait + Sync,
     B: Binds<N, I, O>,

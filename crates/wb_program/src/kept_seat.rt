@@ -45,7 +45,7 @@ impl<D: Device> Model for Failing<D> {
 }
 
 impl<D: Device> Failing<D> {
-    // It has not.
+    // No commit was refused.
     fn not_yet() -> Failing<D>
         ensures { result ≡ false }
     {
@@ -55,7 +55,7 @@ impl<D: Device> Failing<D> {
         }
     }
 
-    // It has.
+    // A commit was refused, since the file failed.
     fn noted() -> Failing<D>
         requires { FailsOnce D.faults }
     {

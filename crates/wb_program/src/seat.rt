@@ -131,7 +131,7 @@ pub(crate) fn text_of(alloc: Global, reply: &Reply) -> Result<Vec<u8>, AllocErro
     }
 }
 
-// As `serve_seat`, by a turn at the desk.
+// Answers each line that comes through the door by turns of a seat at a desk, as `serve_seat` does, and gives the pass back.
 fn serve_in_turns<L: Opening, R: Wait, I: Source, O: Sink, M: Mover>(
     rt: &R,
     alloc: Global,

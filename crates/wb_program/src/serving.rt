@@ -252,8 +252,8 @@ pub fn serve_on<
     )
 }
 
-/// The same on the workbook of a history: the journal runs from that history, and the text of the whole history is printed in
-/// the place of the workbook's.
+/// Serves a desk of so many seats as `serve_on` does, with its exit statuses, but on the workbook of a history: the journal runs
+/// from that history, and the text of the whole history is printed in the place of the workbook's.
 pub fn serve_history<
     R: Threads + Wait + Sync,
     N: Accepts<I, O> + Drop,

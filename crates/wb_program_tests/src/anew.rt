@@ -123,7 +123,7 @@ fn a_journal_is_made_anew(rt: HostRuntime) -> Result<(), Fail> {
     let anew = made_anew(rt.alloc(), HELD, NEVER, &alone)?;
     assert!(rt; anew.status == 0 && anew.fault.is_none() && anew.written.is_empty());
     assert_eq!(rt; anew.left.as_slice(), ANEW);
-    // Once more it is the same.
+    // A journal that is made anew once more stays the same.
     let again = made_anew(rt.alloc(), ANEW, NEVER, &alone)?;
     assert!(rt; again.status == 0);
     assert_eq!(rt; again.left.as_slice(), ANEW);
@@ -232,7 +232,7 @@ fn a_file_begins_with_a_history(rt: HostRuntime) -> Result<(), Fail> {
     let alone = Crew::alone(&rt);
     let mut wanted = ANEW.strip_suffix(b"#").ok_or("a mark")?.to_vec(rt.alloc())?;
     wanted.extend_from_slice(BEHIND)?;
-    // Also where a crash left a front of the header.
+    // A crash may have left a front of the header.
     for held in [START.as_slice(), b"", b"chapel-work"] {
         let begun = done_with(&rt, rt.alloc(), true, held, NEVER, INPUT, &alone)?;
         assert!(rt; begun.status == 0 && begun.fault.is_none());

@@ -27,7 +27,7 @@ const CHANGES: [usize; 10] = [0, 1, 2, 3, 4, 4, 4, 5, 6, 8];
 const JOURNAL: &[u8] =
     b"chapel-workbook 3\n {\"d\":\"D\",\"is\":\"{1..4}\",\"map\":\"none\",\"op\":\"domain\"}\n {\"a\":\"A\",\"d\":\"D\",\"op\":\"array\"}\n {\"a\":\"A\",\"i\":1,\"op\":\"set\",\"v\":5}\n {\"a\":\"A\",\"b\":\"A\",\"c\":1,\"i\":2,\"j\":1,\"op\":\"copy\"}\n {\"k\":4,\"op\":\"undo\"}\n {\"k\":4,\"op\":\"redo\"}\n+{\"k\":4,\"op\":\"undo\"}\n {\"k\":3,\"op\":\"undo\"}\n#";
 
-// The same where all lines lie ahead, and their changes are one batch.
+// The journal of `LINES` where all of them lie ahead, and their changes are one batch.
 const JOURNAL_AT_ONCE: &[u8] =
     b"chapel-workbook 3\n+{\"d\":\"D\",\"is\":\"{1..4}\",\"map\":\"none\",\"op\":\"domain\"}\n+{\"a\":\"A\",\"d\":\"D\",\"op\":\"array\"}\n+{\"a\":\"A\",\"i\":1,\"op\":\"set\",\"v\":5}\n+{\"a\":\"A\",\"b\":\"A\",\"c\":1,\"i\":2,\"j\":1,\"op\":\"copy\"}\n+{\"k\":4,\"op\":\"undo\"}\n+{\"k\":4,\"op\":\"redo\"}\n+{\"k\":4,\"op\":\"undo\"}\n {\"k\":3,\"op\":\"undo\"}\n#";
 

@@ -78,7 +78,7 @@ fn stand_ins(rt: &HostRuntime) -> (Option<File>, Option<File>, Option<File>) {
     (stand_in(rt, 0), stand_in(rt, 1), stand_in(rt, 2))
 }
 
-// The same of one of them, if it is closed.
+// A file in place of standard input, output or errors, which is the one of this number, if it is closed.
 fn stand_in(rt: &HostRuntime, number: i32) -> Option<File> {
     let is_input = number == 0;
     match OpenOptions::new()
@@ -106,7 +106,7 @@ fn tell(rt: &HostRuntime, ending: Ending) {
     };
 }
 
-// The same, where an input is refused.
+// Says on standard error why an input is refused.
 fn tell_refused(rt: &HostRuntime, reason: Reason) -> io::Result<()> {
     match reason {
         Reason::Workbook => eprintln!(rt;
@@ -124,13 +124,13 @@ fn tell_refused(rt: &HostRuntime, reason: Reason) -> io::Result<()> {
     }
 }
 
-// The same, where this change of a journal is the first that is not granted: its line, from 1, behind the header.
+// Says on standard error which line of a journal has the first change that is not granted. Lines count from 1, the header's.
 fn tell_line(rt: &HostRuntime, place: usize) -> io::Result<()> {
     let line = place.saturating_add(2);
     eprintln!(rt; "workbook: line {line} of the journal is not granted")
 }
 
-// The same, where the words of the command line are the cause: which, and where help is.
+// Says on standard error what is wrong with the words of the command line, and where help is.
 fn tell_of_words(rt: &HostRuntime, why: Option<Why>) -> io::Result<()> {
     eprintln!(rt; "workbook: bad command line")?;
     match why {
@@ -158,7 +158,7 @@ fn tell_mistake(rt: &HostRuntime, mistake: &str) -> io::Result<()> {
     Ok(())
 }
 
-// The same, where the port is the cause.
+// Says on standard error why a port can't be had.
 fn tell_of_port(rt: &HostRuntime, cause: io::Error) -> io::Result<()> {
     match cause.kind() {
         io::ErrorKind::AddrInUse => eprintln!(rt; "workbook: the port is in use: {cause}"),
@@ -169,7 +169,7 @@ fn tell_of_port(rt: &HostRuntime, cause: io::Error) -> io::Result<()> {
     }
 }
 
-// The same, where the file of a journal is the cause.
+// Says on standard error what is wrong with the file of a journal.
 fn tell_of_file(rt: &HostRuntime, fault: FileFault, cause: Option<io::Error>) -> io::Result<()> {
     match fault {
         FileFault::NotOpened => eprint!(rt; "workbook: the journal was not opened")?,

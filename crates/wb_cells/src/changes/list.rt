@@ -102,7 +102,7 @@ impl Changes {
         Ok(())
     }
 
-    /// The same of a change of a cell that has an index.
+    /// Adds a change of a cell that has an index behind the others, or nothing where no memory is left.
     pub fn push_indexed(&mut self, alloc: Global, change: &IndexedChange) -> Result<(), NoMemory>
         ensures ok { OnOk result (self.new ≡ self.old ++ indexed_change change.now ∷ []) }
         ensures err { OnErr result (self.new ≡ self.old) }
@@ -176,7 +176,7 @@ impl Changes {
     }
 }
 
-// The same of a change of a cell that has an index.
+// Adds a change of a cell that has an index to the last run, if there is one and the change may be packed with it.
 fn add_indexed(runs: &mut Option<Vec<ChangeRun>>, change: &IndexedChange) -> Result<bool, NoMemory>
     ensures added { result ≡ Ok true → all_changes (runs_in runs.new) ≡ all_changes (runs_in runs.old) ++ indexed_change change.now ∷ [] }
     ensures other { result ≡ Ok false → all_changes (runs_in runs.new) ≡ all_changes (runs_in runs.old) }
@@ -229,7 +229,8 @@ fn cell_behind(runs: &Option<Vec<ChangeRun>>, before: usize, at: usize, near: &m
     }
 }
 
-// The same of runs.
+// The cell that changes at a place of the list, looked for in the runs, before which so many changes stand. `near` is a run to look
+// at first, and becomes the run of the place.
 fn cell_in(runs: &[ChangeRun], before: usize, at: usize, near: &mut usize) -> Cell
     requires started { AreStarted before runs.now }
     requires behind { before ≤ at }

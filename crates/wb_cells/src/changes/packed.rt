@@ -145,7 +145,7 @@ impl<const R: usize> Packed<R> {
         Ok(true)
     }
 
-    /// The same of a change of a cell that has an index.
+    /// Adds a change of a cell that has an index behind the others, if it is one of the row.
     pub(crate) fn add_indexed(&mut self, change: &IndexedChange) -> Result<bool, NoMemory>
         requires { R ≤ 3 }
         ensures added { result ≡ Ok true →

@@ -22,7 +22,7 @@ pub enum Row {
 }
 
 impl Row {
-    /// Those of which the cell is one, if it has an index.
+    /// The row of which the cell is one, if the cell has an index.
     pub(crate) fn of(cell: &Cell) -> Option<Row> {
         match cell {
             Cell::In(domain, _) => Some(Row::Inside(*domain)),

@@ -80,7 +80,7 @@ impl Form {
 }
 
 impl Form {
-    // The same of a change of a cell that has an index.
+    // Adds a change of a cell that has an index behind the others, if it may be packed with them.
     pub(crate) fn add_indexed(&mut self, change: &IndexedChange) -> Result<bool, NoMemory>
         ensures added { result ≡ Ok true → changes_in self.new ≡ changes_in self.old ++ indexed_change change.now ∷ [] }
         ensures other { result ≡ Ok false → changes_in self.new ≡ changes_in self.old }

@@ -12,7 +12,7 @@ use wb_dist::{Distribution, Layout};
 use wb_range::Mapping;
 use wb_rect::Rect;
 
-// Whether a rectangle of rank 1 is the other one; likewise of rank 2 and 3.
+// Whether a rectangle of rank 1 is the other one, which may be of any rank.
 pub(crate) fn is_line(one: &Rect<1>, two: &Ranked) -> bool
     ensures { Decides result (one.now ≡ ranges_of two.now) }
 {
@@ -30,6 +30,7 @@ pub(crate) fn is_line(one: &Rect<1>, two: &Ranked) -> bool
     }
 }
 
+// Whether a rectangle of rank 2 is the other one, which may be of any rank.
 pub(crate) fn is_plane(one: &Rect<2>, two: &Ranked) -> bool
     ensures { Decides result (one.now ≡ ranges_of two.now) }
 {
@@ -47,6 +48,7 @@ pub(crate) fn is_plane(one: &Rect<2>, two: &Ranked) -> bool
     }
 }
 
+// Whether a rectangle of rank 3 is the other one, which may be of any rank.
 pub(crate) fn is_solid(one: &Rect<3>, two: &Ranked) -> bool
     ensures { Decides result (one.now ≡ ranges_of two.now) }
 {
@@ -90,7 +92,7 @@ fn are_whole<const R: usize, const S: usize>(one: &Layout<R>, two: &Layout<S>) -
     is_on_one(two)
 }
 
-// Whether a mapping of rank 1 is the other one; likewise of rank 2 and 3.
+// Whether a mapping for rank 1 is the other one, which may be for any rank.
 pub(crate) fn is_laid_line(one: &Layout<1>, two: &Laid) -> bool
     ensures { Decides result (one.now ≡ map_of two.now) }
 {
@@ -102,6 +104,7 @@ pub(crate) fn is_laid_line(one: &Layout<1>, two: &Laid) -> bool
     }
 }
 
+// Whether a mapping for rank 2 is the other one, which may be for any rank.
 pub(crate) fn is_laid_plane(one: &Layout<2>, two: &Laid) -> bool
     ensures { Decides result (one.now ≡ map_of two.now) }
 {
@@ -113,6 +116,7 @@ pub(crate) fn is_laid_plane(one: &Layout<2>, two: &Laid) -> bool
     }
 }
 
+// Whether a mapping for rank 3 is the other one, which may be for any rank.
 pub(crate) fn is_laid_solid(one: &Layout<3>, two: &Laid) -> bool
     ensures { Decides result (one.now ≡ map_of two.now) }
 {

@@ -38,7 +38,8 @@ pub(crate) fn plan_all(
     plan_all_results(alloc, book, footprint, array, how, other)
 }
 
-/// The same, where the arrays are there, over one domain.
+/// Each element of an array becomes what it and another array's element at the same index make, where both arrays are there, over
+/// one domain.
 fn plan_all_results(
     alloc: Global,
     book: &Book,
@@ -72,7 +73,7 @@ fn all_changes(
     }
 }
 
-// The same, where the indices are those of ranges.
+// What the elements of two arrays at the same indices make, by numbers alone, where the indices are those of ranges.
 fn changes_by_numbers(
     alloc: Global,
     book: &Book,
@@ -95,7 +96,7 @@ fn changes_by_numbers(
     rectangle_changes(alloc, array, ranges, zs)
 }
 
-// The same, element by element.
+// What the elements of two arrays at the same indices make, element by element.
 fn changes_by_elements(
     alloc: Global,
     book: &Book,

@@ -21,7 +21,7 @@ use wb_range::NoMemory;
 /// The indices of a domain, in its order.
 #[derive(Drop)]
 pub(crate) enum Indices {
-    /// Those of a rectangular domain with these ranges.
+    /// The indices of a rectangular domain with these ranges.
     Product(AnyRect),
     /// One by one, each once.
     Listed(Vec<AnyIndex>),

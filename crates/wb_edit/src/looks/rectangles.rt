@@ -135,7 +135,7 @@ fn all_present(book: &Book, array: Name, on: &AnyRect) -> bool
     each_present(book, array, on)
 }
 
-// The same; they are looked at.
+// Whether an array has an element at each index of a rectangle; the footprint keeps that they are looked at.
 fn are_present(
     book: &Book,
     footprint: &mut Footprint,

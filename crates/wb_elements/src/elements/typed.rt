@@ -187,7 +187,7 @@ where
     true
 }
 
-// The same where the elements are kept by keys of another form.
+// Whether each change sets an element that is there, where the elements are kept by keys of another form.
 fn are_set_by<I: AsIndex>(elements: &Elements, changes: &[(I, Option<i64>)]) -> bool
     ensures { result ≡ list_all (sets_one I.as_index (element_at elements.now.0)) changes.now }
 {
@@ -242,7 +242,7 @@ where
     }
 }
 
-// The same where the elements are kept by keys of another form.
+// Makes each change of an element, if it is there and a number is given, where the elements are kept by keys of another form.
 fn set_others_in<D: Domain, M: Mapping<Index = D::Index>, I: AsIndex>(
     pieces: &mut Pieces<D, M>,
     changes: &[(I, Option<i64>)],
@@ -313,7 +313,7 @@ where
     Ok(found)
 }
 
-// The same where the elements are kept by keys of another form.
+// The keys of changes with the elements there, where these are kept by keys of another form.
 fn read_all_by<I: AsIndex>(
     alloc: Global,
     elements: &Elements,

@@ -105,7 +105,7 @@ impl InForce {
     }
 }
 
-/// The same, found from the end.
+/// The place of the latest edit in force, found from the end.
 fn latest_from_the_end(entries: &[Record]) -> Option<usize>
     ensures { IsLatest (kept_all entries.now) result }
 {

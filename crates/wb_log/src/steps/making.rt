@@ -127,7 +127,7 @@ fn make_whole<M: Mover>(
     }
 }
 
-// The same of an edit that has no entry yet.
+// Makes the changes of an edit that has no entry yet: the form that keeps the edit and all that takes them back.
 fn make_new<M: Mover>(
     alloc: Global,
     book: &mut Book,
@@ -151,7 +151,7 @@ fn make_new<M: Mover>(
     }
 }
 
-// The same of a form, which is kept whole then.
+// Makes the changes of a form, which is kept whole then, with all that takes them back.
 fn make_unlike<M: Mover>(
     alloc: Global,
     book: &mut Book,

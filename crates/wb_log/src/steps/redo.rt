@@ -79,7 +79,7 @@ fn plan_blocker(
         .first_to_block_redo(entries, at, footprint, delta.changes())
 }
 
-/// The same of a plan that is refused.
+/// The number of the first later edit that a refused plan meets, by what it read alone.
 fn refused_blocker(
     entries: &[Record],
     index: &mut Index,

@@ -96,14 +96,14 @@ fn named_value(alloc: Global, error: &str, name: &str) -> Result<Value, AllocErr
     json!(in alloc; {"error": error, "name": name})
 }
 
-// That of a blocked undo or redo, by its blocker.
+// The object of a blocked undo or redo, by its blocker.
 fn blocked_value(alloc: Global, by: u64) -> Result<Value, AllocError>
     ensures { IfOk result (λ v. view v ≡ refusal_data (Blocked by)) }
 {
     json!(in alloc; {"by": by, "error": "E14", "name": "blocked"})
 }
 
-// That of a redo which is refused in its place, by the code of why.
+// The object of a redo which is refused in its place, by the code of why.
 fn in_place_value(alloc: Global, code: &str) -> Result<Value, AllocError>
     ensures { IfOk result (λ v. view v ≡ object (member (codes "code") (string code.now)
         (member (codes "error") (string (codes "E16")) (member (codes "name") (string (codes "refused-in-place")) no_members)))) }
@@ -157,7 +157,7 @@ fn counts_text(alloc: Global, edits: u64, writes: u128) -> Result<String, AllocE
     format!(in alloc; "{{\"edits\":{edits},\"writes\":{writes}}}")
 }
 
-// The object of an element, written in the same way.
+// The object of an element, written as a text at once.
 fn value_text(alloc: Global, value: i64) -> Result<String, AllocError>
     ensures { IfOk result (λ s. string_bytes s ≡ value_text value) }
 {

@@ -84,7 +84,7 @@ fn by_history_op(op: &str, value: &Value) -> Result<Request, Refusal>
     }
 }
 
-// The same, or a change to an array.
+// What is asked by the word of an op: a change to an array, or what is asked of a history.
 #[tactic(auto, using(crate::proofs::Lines::as_answer))]
 fn by_array_op(alloc: Global, op: &str, value: &Value) -> Result<Request, Refusal>
     ensures { IsAnswer (by_array_op op.now (view value.now)) result }
@@ -102,7 +102,8 @@ fn by_array_op(alloc: Global, op: &str, value: &Value) -> Result<Request, Refusa
     }
 }
 
-// The same, or a change to a domain, or a workbook that is loaded.
+// What is asked by the word of an op: a change to a domain, a workbook that is loaded, a change to an array, or what is asked of a
+// history.
 #[tactic(auto, using(crate::proofs::Lines::as_answer))]
 fn by_op(alloc: Global, op: &str, value: &Value) -> Result<Request, Refusal>
     ensures { IsAnswer (by_op op.now (view value.now)) result }

@@ -8,7 +8,7 @@ pub fn reads_exactly()
     ensures { ReadsExactly }
 {}
 
-/// The same of lines: they are UTF-8 that is JSON.
+/// A line is read as a request exactly where it is UTF-8 that is the JSON of that request.
 pub fn reads_lines_exactly()
     ensures { ReadsLinesExactly }
 {}

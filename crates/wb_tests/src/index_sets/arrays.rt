@@ -78,7 +78,8 @@ pub fn there_and_back<I: Key + Debug, S: Store<Index = I>>(
     Ok(format!(in alloc; "{between} {lost} {back} {count}")?)
 }
 
-// The same by an array in pieces, whose first element and element of new indices are given.
+// What becomes of an array in pieces over `old` that goes to `new` and back, at these indices, and before it what setting a 9
+// outside gave. The first element and that of new indices are given.
 fn in_pieces<I: Key + Debug, D: Domain<Index = I>, M: Mapping<Index = I>>(
     alloc: Global,
     given: (i64, i64),

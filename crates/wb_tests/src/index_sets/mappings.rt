@@ -42,7 +42,8 @@ block_cyclic 1 1 257 -> BadMapping
 block_cyclic 1 1 256 1 -> (0, 256)
 ";
 
-// The same at rank 2, also by the layout that a mapping is put into; and whether two layouts are the same.
+// The locale of an index at rank 2, and how many locales there are, also by the layout that a mapping is put into; and whether two
+// layouts are the same.
 const PLANES: &str = r"
 block 1 4 1 _ 1 4 1 _ 2 2 3 2 -> (2, 4)
 block 1 4 1 _ 1 0 1 _ 2 2 -> BadMapping

@@ -19,7 +19,7 @@ fn of_an_array_alone<M: Mover>(
     Ok(History::restore(alloc, edits, mover))
 }
 
-// In force it is no history's list; out of force it isn't tried, and has its number.
+// An array without its domain, in force, is no history's list; out of force it isn't tried, and has its number.
 #[test]
 fn restore_of_an_array_without_its_domain(rt: HostRuntime) -> Result<(), Fail> {
     let alloc = rt.alloc();

@@ -65,7 +65,7 @@ fn put_line(
     Ok(true)
 }
 
-// The same for all lines; `None` where one of them is not sound.
+// The cells that the lines tell of, by the places of their names; `None` where one of the lines is not sound.
 fn put_lines(
     alloc: Global,
     lines: &[ObjectLine],

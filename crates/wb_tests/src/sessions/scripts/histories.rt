@@ -129,7 +129,7 @@ const COPY_DEPENDS_ON_ITS_SOURCE: &str = r#"
 {"op":"undo","k":3} -> {"by":4,"error":"E14","name":"blocked"}
 "#;
 
-// The same, undone and redone.
+// A copy depends on its source: both are undone, the copy is redone, and then it stands in the way of the source's redo.
 const COST_OF_THE_COPY: &str = r#"
 {"op":"set","a":"A","i":1,"v":5} -> {"edit":3,"n":1}
 {"op":"copy","a":"A","i":2,"b":"A","j":1,"c":1} -> {"edit":4,"n":1}
