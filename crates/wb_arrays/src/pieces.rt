@@ -145,6 +145,7 @@ impl<D: Domain, M: Mapping<Index = D::Index>> Pieces<D, M> {
         ensures value { result ≡ self.now.1 }
         ensures below { LieBelow (M.locale self.now.1) (M.locale_count self.now.1) self.now.0 }
     {
+        // For the proof: the invariant, which speaks of the pieces too.
         let _ = &self.pieces;
         self.mapping
     }
@@ -155,6 +156,7 @@ impl<D: Domain, M: Mapping<Index = D::Index>> Pieces<D, M> {
         ensures value { result.now ≡ piece_of (M.locale self.now.1) self.now.0 locale }
         ensures ascending { IsStrictlySortedBy D.Index.cmp (keys_of result.now) }
     {
+        // For the proof: the invariant, which speaks of the mapping too.
         let _ = &self.mapping;
         list_at(self.pieces.as_slice(), locale)
     }
@@ -177,6 +179,7 @@ impl<D: Domain, M: Mapping<Index = D::Index>> Pieces<D, M> {
         let locale = self.mapping().locale_of(index);
         match place_near(self.list_of(locale), index, near) {
             Some(place) => {
+                // What was there is not wanted.
                 let _old = self.write(locale, place, (index, value));
                 place
             }
@@ -242,6 +245,7 @@ impl<D: Domain, M: Mapping<Index = D::Index>> Store for Pieces<D, M> {
     ghost same_layout = { λ p q. p.1 ≡ q.1 };
 
     fn len(&self) -> usize {
+        // For the proof: the invariant, which speaks of the mapping too.
         let _ = &self.mapping;
         self.size
     }

@@ -78,6 +78,7 @@ where
     ensures value { result ≡ reduce (op_of op) (elements_of of.now.0) }
     ensures small { AreSmall of.now.0 }
 {
+    // For the proof: there are fewer than 2^64 elements, so their sum fits.
     let _ = of.len();
     let mut done = None;
     for locale in 0..of.mapping().locales() {

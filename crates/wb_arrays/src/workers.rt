@@ -70,6 +70,7 @@ impl<R: Threads + Sync, G: Gate + Sync> Mover for Workers<R, G> {
     ghost may_lack_threads = { λ m. ⊥ };
 
     fn way(&self) -> Way<'_, R, G> {
+        // For the proof: the invariant, which says that there are 1 to 64 workers.
         let _ = &self.count;
         Way::Team(Team::new(&self.rt, &self.gate, self.count))
     }

@@ -161,6 +161,7 @@ fn stored_in_runs(runs: &[ChangeRun]) -> usize
 fn stored_count(delta: &Changes) -> usize
     ensures { result ≡ count_by (λ x. is_stored x.cell) delta.now }
 {
+    // For the proof: there are fewer than 2^64 changes.
     let _fits = delta.len();
     let (first, runs) = delta.parts();
     match first {
@@ -580,6 +581,7 @@ fn after_block<V: Mover, B: Block>(
     if elements.len() == 0 {
         match Elements::of_block(alloc, block, &lies.0, lies.1) {
             Ok(Some(fresh)) => {
+                // For the proof: the elements stand in the order of their indices.
                 let _ascending = fresh.len();
                 return Ok(Some(fresh));
             }

@@ -147,6 +147,7 @@ fn drop_gone(
     for change in stored {
         drop_one(cells, arrays, change);
     }
+    // For the proof: the names of the arrays ascend.
     let _ = arrays.len();
 }
 
@@ -226,6 +227,7 @@ fn finish(
     store::clear_absent(cells, stored);
     moving::put_in(arrays, built);
     drop_gone(cells, arrays, stored);
+    // For the proof: the cells ascend.
     let _ = cells.len();
 }
 
@@ -285,6 +287,7 @@ fn take_back(
 {
     store::put_back(cells, before);
     drop_gone(cells, arrays, stored);
+    // For the proof: the cells ascend.
     let _ = cells.len();
 }
 

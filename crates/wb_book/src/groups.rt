@@ -441,6 +441,7 @@ pub(crate) fn concerned(
     if !are_left(cells, delta) {
         name_all(alloc, &mut groups, arrays)?;
     }
+    // For the proof: the names ascend.
     let _ = groups.len();
     Ok(groups)
 }

@@ -40,6 +40,7 @@ pub(crate) fn ranges(arrays: &BTreeMap<Name, Elements>, array: &Name) -> Option<
 {
     match arrays.get(array) {
         Some(elements) => {
+            // For the proof: the indices of the elements ascend.
             let _ = elements.len();
             elements.ranges()
         }
@@ -58,6 +59,7 @@ pub(crate) fn numbers(
 {
     match arrays.get(array) {
         Some(elements) => {
+            // For the proof: the indices of the elements ascend.
             let _ = elements.len();
             elements.numbers(alloc)
         }
@@ -77,6 +79,7 @@ pub(crate) fn piece<'a>(
 {
     match arrays.get(array) {
         Some(elements) => {
+            // For the proof: the indices of the elements ascend.
             let _ = elements.len();
             elements.piece(locale)
         }
@@ -109,6 +112,7 @@ pub(crate) fn reduce<V: Mover>(
 {
     match arrays.get(array) {
         Some(elements) => {
+            // For the proof: the indices of the elements ascend.
             let _ = elements.len();
             elements.reduce(op, mover)
         }

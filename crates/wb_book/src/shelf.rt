@@ -96,6 +96,7 @@ impl Book {
     pub fn elements(&self, name: &Name) -> Result<Vec<(AnyIndex, i64)>, NoMemory>
         ensures { IfOk result (λ v. v.items ≡ elements self.now.cells name.now) }
     {
+        // For the proof: the invariant, which speaks of the cells too.
         let _ = &self.cells;
         looks::elements(self.alloc, &self.arrays, name)
     }

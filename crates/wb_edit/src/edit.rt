@@ -116,35 +116,46 @@ impl Edit {
     {
         match self {
             Edit::Domain(domain, asked, mapping) => {
+                // For the proof: the bytes are those of a name.
                 let _name = domain.as_bytes();
                 asked_validity(asked);
+                // For the proof: the mapping is within the limits.
                 let _fits = mapping.is_of_rank(1);
             }
             Edit::Remap(_, mapping) => {
+                // For the proof: the mapping is within the limits.
                 let _fits = mapping.is_of_rank(1);
             }
             Edit::Sparse(domain, _) => {
+                // For the proof: the bytes are those of a name.
                 let _name = domain.as_bytes();
             }
             Edit::Assoc(domain, _) => {
+                // For the proof: the bytes are those of a name.
                 let _name = domain.as_bytes();
             }
             Edit::Array(array, _) => {
+                // For the proof: the bytes are those of a name.
                 let _name = array.as_bytes();
             }
             Edit::Set(_, _, value) => {
+                // For the proof: the number is one of 64 bits.
                 let _value = *value;
             }
             Edit::Irv(_, value) => {
+                // For the proof: the number is one of 64 bits.
                 let _value = *value;
             }
             Edit::Copy(_, _, _, _, more) => {
+                // For the proof: the number is one of 64 bits.
                 let _more = *more;
             }
             Edit::Fill(_, _, value) => {
+                // For the proof: the number is one of 64 bits.
                 let _value = *value;
             }
             Edit::FillAll(_, value) => {
+                // For the proof: the number is one of 64 bits.
                 let _value = *value;
             }
             Edit::DropArray(_) => {}
@@ -154,6 +165,7 @@ impl Edit {
             Edit::DropDomain(_) => {}
             Edit::Reshape(_, source) => source_validity(source),
             Edit::Load(text) => {
+                // For the proof: the text is a workbook's.
                 let _text = text.as_str();
             }
         }
@@ -191,6 +203,7 @@ fn asked_listing(asked: &AskedRectangle)
 {
     match asked {
         AskedRectangle::Ranges(ranges) => {
+            // For the proof: each index of the ranges is listed once.
             let _once = ranges.size();
         }
         AskedRectangle::Indices => {}
@@ -216,6 +229,7 @@ fn given_listing(given: &Operand)
     match given {
         Operand::Rectangle(_) => {}
         Operand::Items(items) => {
+            // For the proof: each index of the set is listed once.
             let _once = items.size();
         }
         Operand::Named(_) => {}
@@ -228,6 +242,7 @@ fn asked_validity(asked: &AskedRectangle)
 {
     match asked {
         AskedRectangle::Ranges(ranges) => {
+            // For the proof: the ranges are those of a rectangle.
             let _rank = ranges.rank();
         }
         AskedRectangle::Indices => {}
@@ -252,6 +267,7 @@ fn given_validity(given: &Operand)
 {
     match given {
         Operand::Rectangle(ranges) => {
+            // For the proof: the ranges are those of a rectangle.
             let _rank = ranges.rank();
         }
         Operand::Items(items) => indices_validity(items.as_slice()),

@@ -92,6 +92,7 @@ impl Block for RectangleChanges {
     }
 
     fn write(&self, elements: &mut Elements) -> bool {
+        // For the proof: the indices of the elements ascend.
         let _ascending = elements.len();
         match self.number() {
             Some(number) => elements.fill(&number),
@@ -148,6 +149,7 @@ impl Block for RectangleNumbers {
     }
 
     fn write(&self, elements: &mut Elements) -> bool {
+        // For the proof: the indices of the elements ascend.
         let _ascending = elements.len();
         elements.set_numbers(self.numbers())
     }

@@ -225,6 +225,7 @@ impl Elements {
     pub fn ranges(&self) -> Option<AnyRect>
         ensures { IfSome result (λ rs. keys_of self.now.0 ≡ indices rs) }
     {
+        // For the proof: the invariant, which says that the elements stand at the ranges.
         let _ = &self.form;
         self.ranges
     }
@@ -235,6 +236,7 @@ impl Elements {
         ensures same { result ≡ true → keys_of self.now.0 ≡ indices ranges.now }
         ensures ascending { IsStrictlySortedBy index_cmp (keys_of self.now.0) }
     {
+        // For the proof: the indices of the elements ascend.
         let _ascending = self.len();
         match self.ranges() {
             Some(known) => known.is_same(ranges),
@@ -462,10 +464,12 @@ fn line_of(to: &AnyLayout) -> Layout<1>
     match to.laid() {
         Laid::Line(layout) => layout,
         Laid::Plane(layout) => {
+            // For the proof: the mapping is one for rank 2.
             let _good = layout.locales();
             Layout::new(Distribution::Whole)
         }
         Laid::Solid(layout) => {
+            // For the proof: the mapping is one for rank 3.
             let _good = layout.locales();
             Layout::new(Distribution::Whole)
         }
@@ -480,11 +484,13 @@ fn plane_of(to: &AnyLayout) -> Layout<2>
 {
     match to.laid() {
         Laid::Line(layout) => {
+            // For the proof: the mapping is one for rank 1.
             let _good = layout.locales();
             Layout::new(Distribution::Whole)
         }
         Laid::Plane(layout) => layout,
         Laid::Solid(layout) => {
+            // For the proof: the mapping is one for rank 3.
             let _good = layout.locales();
             Layout::new(Distribution::Whole)
         }
@@ -499,10 +505,12 @@ fn solid_of(to: &AnyLayout) -> Layout<3>
 {
     match to.laid() {
         Laid::Line(layout) => {
+            // For the proof: the mapping is one for rank 1.
             let _good = layout.locales();
             Layout::new(Distribution::Whole)
         }
         Laid::Plane(layout) => {
+            // For the proof: the mapping is one for rank 2.
             let _good = layout.locales();
             Layout::new(Distribution::Whole)
         }
@@ -561,6 +569,7 @@ where
     ensures pairs { IfOk result (λ v. v.items ≡ indexed D.Index.as_index pieces.now.0) }
     ensures ascending { IfOk result (λ v. IsStrictlySortedBy index_cmp (keys_of v.items)) }
 {
+    // For the proof: the indices of the elements ascend.
     let _ = len_of(pieces);
     if let Some(all) = only_piece(pieces) {
         let pairs = pairs_on(alloc, all)?;

@@ -31,6 +31,7 @@ pub enum Pairs<'a> {
 fn rank_validity<const R: usize>(mapping: &Layout<R>)
     ensures { is_of_rank R mapping.now ≡ true }
 {
+    // For the proof: the mapping is one for the rank R.
     let _good = mapping.locales();
 }
 
@@ -42,6 +43,7 @@ pub(crate) fn points_on<const R: usize>(
     requires { AllOf point_index (is_point R) pieces.now.0 }
     ensures { option_map (λ s. indexed point_index s.now) result ≡ piece_in pieces.now.1 (indexed point_index pieces.now.0) locale }
 {
+    // For the proof: the mapping is one for the rank of the indices.
     rank_validity(&pieces.mapping());
     pieces.pairs(locale)
 }

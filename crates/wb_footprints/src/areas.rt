@@ -101,6 +101,7 @@ fn have_common_across<const R: usize, const S: usize>(rect: &Rect<R>, other: &Re
     requires { R ≢ S }
     ensures { result ≡ list_any (in_points (product rect.now)) (product other.now) }
 {
+    // For the proof: each rectangle has as many ranges as its rank says.
     let _rank = rect.rank();
     let _other = other.rank();
     false

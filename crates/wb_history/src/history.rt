@@ -92,6 +92,7 @@ impl History {
         ensures writes { IfOk result (λ r. self.new.writes ≡ written_more self.old.writes r.1) }
         ensures err { OnErr result (self.new ≡ self.old) }
     {
+        // For the proof: what every edit is, which the entries are to keep.
         edit.validity();
         steps::edit::add(self.alloc, &mut self.book, &mut self.entries, edit, mover)
     }
@@ -276,6 +277,7 @@ impl History {
         ensures writes { self.new.writes ≡ self.old.writes }
         ensures err { OnErr result (self.new ≡ self.old) }
     {
+        // For the proof: what every edit is, which the entries are to keep.
         aside.validity();
         steps::aside::keep_aside(self.alloc, &mut self.entries, aside)
     }

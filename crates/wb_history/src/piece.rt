@@ -117,6 +117,7 @@ pub(crate) fn piece_answer(
 ) -> Result<Answer, Refusal>
     ensures { OrNoMemory (piece_answer (piece_of book.now.cells array locale)) result }
 {
+    // For the proof: the workbook is well formed.
     let _formed = book.writes();
     match judgements::array_kind(book.get(&Cell::Object(array))) {
         Ok(_) => {}

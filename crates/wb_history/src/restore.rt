@@ -78,6 +78,7 @@ impl History {
                 return Err(why);
             }
         }
+        // For the proof: the history is legal.
         let _legal = history.book();
         Ok(history)
     }

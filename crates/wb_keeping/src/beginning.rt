@@ -32,6 +32,7 @@ fn line_of(alloc: Global, text: &str) -> Result<String, AllocError>
 {
     let value = resume_value(alloc, text)?;
     let line = value.to_string(alloc)?;
+    // For the proof: the line is UTF-8.
     let _line = line.as_str();
     Ok(line)
 }

@@ -97,6 +97,7 @@ fn give_out<D: Device, W: Sends<NothingHeld>>(
         × IsFront text acknowledged.now.turn.replies.items) }
     ensures failed { OnErr result (W.failed writer.new ≡ true) }
 {
+    // The log is there for the contract alone, which says what it has on the disk.
     let _log = log;
     send(writer, &NothingHeld, acknowledged.replies())
 }

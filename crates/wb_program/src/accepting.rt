@@ -111,6 +111,7 @@ impl Accepts<Input<TcpStream>, Output<BufWriter<TcpStream>>> for Connections {
     }
 
     fn note_refused<F>(&mut self, refused: &SpawnError<F>) {
+        // Only that a thread was refused counts, not why.
         let _ = refused;
         self.has_failed = true;
     }

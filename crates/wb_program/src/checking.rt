@@ -59,6 +59,7 @@ fn verdict_on_text<M: Mover>(alloc: Global, text: &str, mover: &M) -> Result<Ver
 {
     match read_book(alloc, text) {
         Ok(book) => {
+            // For the proof: the workbook is well formed.
             let _well_formed = book.writes();
             Ok(Verdict::Workbook(book.objects()))
         }

@@ -69,6 +69,7 @@ fn broken_off<L: KeptOpening, D: Device + Drop>(
     ensures off { BreaksOff D.Device L.opening L.begun L.seats result [] }
     ensures cause { result.status ≡ 3 → (status ≡ 3) ⊎ ((result.fault ≡ Some FileFault.Failed) × FailsOnce D.faults) }
 {
+    // The seats are there for the contract alone.
     let _ = seats;
     let (status, fault) = blamed(failing, status);
     KeptRun {

@@ -60,6 +60,7 @@ pub(crate) fn why_no_history(alloc: Global, bytes: &[u8]) -> Result<Reason, NoMe
     };
     match read_book(alloc, text) {
         Ok(book) => {
+            // For the proof: the workbook is well formed.
             let _well_formed = book.writes();
             Ok(Reason::Workbook)
         }
@@ -81,6 +82,7 @@ pub(crate) fn why_no_book<M: Mover>(
     };
     match read_history(alloc, text, mover) {
         Ok(history) => {
+            // For the proof: the history is legal.
             let _legal = history.book();
             Ok(Reason::History)
         }

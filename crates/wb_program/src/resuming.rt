@@ -36,6 +36,7 @@ fn history_of<M: Mover>(alloc: Global, bytes: &[u8], mover: &M) -> Result<Option
     };
     match read_history(alloc, text, mover) {
         Ok(history) => {
+            // For the proof: the history is legal.
             let _legal = history.book();
             Ok(Some(history))
         }

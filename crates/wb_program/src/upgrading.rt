@@ -43,6 +43,7 @@ fn text_of_load<M: Mover>(alloc: Global, text: BookText, mover: &M) -> Result<St
     ensures text { IfOk result (λ t. string_bytes t ≡ history_text (loaded text)) }
     ensures upgraded { OnOk result (IsUpgraded text) }
 {
+    // For the proof: the text is a workbook's.
     let _workbook = text.as_str();
     let history = loaded(alloc, text, mover)?;
     print_history(alloc, &history)

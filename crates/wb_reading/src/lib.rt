@@ -94,6 +94,7 @@ pub fn read_text(alloc: Global, text: &str) -> Result<BookText, BookErr>
     ensures none { IfErr result (λ why. why ≡ BookErr.Bad → IsNoBook text.now) }
 {
     let book = read_book(alloc, text)?;
+    // For the proof: the workbook is well formed.
     let _well_formed = book.writes();
     match String::from_str(alloc, text) {
         Ok(copy) => Ok(BookText::new(copy)),

@@ -58,6 +58,7 @@ impl Ending {
 }
 
 fn main(rt: HostRuntime) -> ExitCode {
+    // They stay open to the end of the program.
     let _held = stand_ins(&rt);
     let ending = match by_words(&rt, &rt) {
         Ok(ending) => ending,

@@ -21,7 +21,9 @@ impl Book {
         requires { (s : Cells) × AreParts cells arrays s }
         ensures { (s : Cells) → AreParts cells arrays s → result ≡ record { cells = s; writes = 0 } }
     {
+        // For the proof: the cells ascend.
         let _cells = cells.keys();
+        // For the proof: the names of the arrays ascend.
         let _arrays = arrays.keys();
         Book {
             alloc,

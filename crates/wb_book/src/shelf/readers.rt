@@ -24,6 +24,7 @@ impl Book {
     pub fn objects(&self) -> usize
         ensures { result ≡ length (objects self.now.cells) }
     {
+        // For the proof: the invariant, which speaks of the arrays too.
         let _ = &self.arrays;
         object_count(&self.cells)
     }
@@ -32,6 +33,7 @@ impl Book {
     pub fn object(&self, p: usize) -> Option<Name>
         ensures { result ≡ slice_get (objects self.now.cells) p }
     {
+        // For the proof: the invariant, which speaks of the arrays too.
         let _ = &self.arrays;
         object_at(&self.cells, p)
     }
@@ -40,6 +42,7 @@ impl Book {
     pub fn user(&self, name: &Name, p: usize) -> Option<Name>
         ensures { result ≡ slice_get (users self.now.cells name.now) p }
     {
+        // For the proof: the invariant, which speaks of the arrays too.
         let _ = &self.arrays;
         user_at(&self.cells, *name, p)
     }
@@ -50,6 +53,7 @@ impl Book {
         ensures value { result ≡ size_at self.now.cells name.now }
         ensures there { is_some result ≡ is_some (domain_at self.now.cells name.now) }
     {
+        // For the proof: the invariant, which speaks of the arrays too.
         let _ = &self.arrays;
         size_at(&self.cells, *name)
     }
@@ -59,6 +63,7 @@ impl Book {
     pub fn index(&self, name: &Name, p: usize) -> Option<AnyIndex>
         ensures { result ≡ index_at self.now.cells name.now p }
     {
+        // For the proof: the invariant, which speaks of the arrays too.
         let _ = &self.arrays;
         index_at(&self.cells, *name, p)
     }
@@ -70,6 +75,7 @@ impl Book {
         ensures value { result ≡ locale_at self.now.cells domain.now index.now }
         ensures there { is_some result ≡ is_index_at self.now.cells domain.now index.now }
     {
+        // For the proof: the invariant, which speaks of the arrays too.
         let _ = &self.arrays;
         locale_at(&self.cells, *domain, index)
     }
@@ -80,6 +86,7 @@ impl Book {
     pub fn piece(&self, array: &Name, locale: usize) -> Option<Pairs<'_>>
         ensures { option_map lent result ≡ piece_at self.now.cells array.now locale }
     {
+        // For the proof: the invariant, which speaks of the cells too.
         let _ = &self.cells;
         looks::piece(&self.arrays, array, locale)
     }
@@ -89,6 +96,7 @@ impl Book {
     pub fn rectangle(&self, array: &Name) -> Option<AnyRect>
         ensures { IfSome result (λ rs. keys_of (elements self.now.cells array.now) ≡ indices rs) }
     {
+        // For the proof: the invariant, which speaks of the cells too.
         let _ = &self.cells;
         looks::ranges(&self.arrays, array)
     }
@@ -97,6 +105,7 @@ impl Book {
     pub fn numbers(&self, array: &Name) -> Result<Vec<i64>, NoMemory>
         ensures { IfOk result (λ v. v.items ≡ map (λ e. e.1) (elements self.now.cells array.now)) }
     {
+        // For the proof: the invariant, which speaks of the cells too.
         let _ = &self.cells;
         looks::numbers(self.alloc, &self.arrays, array)
     }
@@ -108,6 +117,7 @@ impl Book {
         ensures answer { IsReduced op (elements self.now.cells array.now) result }
         ensures overflow { result ≡ Err ReduceErr.Overflow → op ≡ Op.Sum }
     {
+        // For the proof: the invariant, which speaks of the cells too.
         let _ = &self.cells;
         looks::reduce(&self.arrays, array, op, mover)
     }
@@ -118,6 +128,7 @@ impl Book {
         ensures value { result ≡ self.now.writes }
         ensures kept { IsWellFormed self.now.cells }
     {
+        // For the proof: the invariant, which says that the book is well formed.
         let _ = &self.arrays;
         self.writes
     }

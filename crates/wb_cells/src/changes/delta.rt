@@ -81,6 +81,7 @@ impl Delta {
         ensures ok { OnOk result (self.new ≡ self.old ++ packed_changes row.now (rectangle_entries ranges.now number)) }
         ensures err { OnErr result (self.new ≡ self.old) }
     {
+        // For the proof: each index of the ranges is listed once.
         let _once = ranges.size();
         let made = RectangleChanges::new(*row, *ranges, number);
         self.changes.push_run(self.alloc, Form::Rectangle(made))
@@ -98,6 +99,7 @@ impl Delta {
         ensures ok { OnOk result (self.new ≡ self.old ++ packed_changes row.now (numbered_entries ranges.now numbers.items)) }
         ensures err { OnErr result (self.new ≡ self.old) }
     {
+        // For the proof: each index of the ranges is listed once.
         let _once = ranges.size();
         let made = RectangleNumbers::new(*row, *ranges, numbers);
         self.changes.push_run(self.alloc, Form::Numbers(made))

@@ -149,18 +149,22 @@ fn is_whole<const R: usize>(layout: &Layout<R>) -> bool
     ensures is { result ≡ true → layout.now ≡ whole }
     ensures other { result ≡ false → IsDealt R layout.now }
 {
+    // For the proof: the mapping is one for the rank R.
     let _kept = layout.locales();
     match layout.distribution() {
         Distribution::Whole => true,
         Distribution::Block(block) => {
+            // For the proof: the box is a rectangle of the rank R.
             let _kept = block.bounds().rank();
             false
         }
         Distribution::Cyclic(cyclic) => {
+            // For the proof: the numbers of the start are of 64 bits.
             numbers_validity(&cyclic.start());
             false
         }
         Distribution::BlockCyclic(block_cyclic) => {
+            // For the proof: the numbers of the start and of the size are of 64 bits.
             numbers_validity(&block_cyclic.start());
             numbers_validity(&block_cyclic.size());
             false

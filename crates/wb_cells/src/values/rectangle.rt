@@ -83,6 +83,7 @@ impl AnyRect {
     pub fn line(rect: Rect<1>) -> AnyRect
         ensures { result ≡ rect }
     {
+        // For the proof: the ranges are those of a rectangle of rank 1.
         let _kept = rect.rank();
         AnyRect {
             ranked: Ranked::Line(rect),
@@ -93,6 +94,7 @@ impl AnyRect {
     pub fn plane(rect: Rect<2>) -> AnyRect
         ensures { result ≡ rect }
     {
+        // For the proof: the ranges are those of a rectangle of rank 2.
         let _kept = rect.rank();
         AnyRect {
             ranked: Ranked::Plane(rect),
@@ -103,6 +105,7 @@ impl AnyRect {
     pub fn solid(rect: Rect<3>) -> AnyRect
         ensures { result ≡ rect }
     {
+        // For the proof: the ranges are those of a rectangle of rank 3.
         let _kept = rect.rank();
         AnyRect {
             ranked: Ranked::Solid(rect),
@@ -269,6 +272,7 @@ fn nth_in<const R: usize>(rect: &Rect<R>, p: usize) -> Option<AnyIndex>
 fn contains_in<const R: usize>(rect: &Rect<R>, point: &Point) -> bool
     ensures { result ≡ has (indices rect.now) (point_index point.now) }
 {
+    // For the proof: the ranges are those of a rectangle of the rank R.
     let _kept = rect.rank();
     let coordinates = point.coordinates();
     if coordinates.len() != R {

@@ -16,14 +16,17 @@ use wb_rect::Rect;
 pub(crate) fn is_line(one: &Rect<1>, two: &Ranked) -> bool
     ensures { Decides result (one.now ≡ ranges_of two.now) }
 {
+    // For the proof: it has one range.
     let _one = one.rank();
     match two {
         Ranked::Line(rect) => one == rect,
         Ranked::Plane(rect) => {
+            // For the proof: it has two ranges.
             let _two = rect.rank();
             false
         }
         Ranked::Solid(rect) => {
+            // For the proof: it has three ranges.
             let _two = rect.rank();
             false
         }
@@ -34,14 +37,17 @@ pub(crate) fn is_line(one: &Rect<1>, two: &Ranked) -> bool
 pub(crate) fn is_plane(one: &Rect<2>, two: &Ranked) -> bool
     ensures { Decides result (one.now ≡ ranges_of two.now) }
 {
+    // For the proof: it has two ranges.
     let _one = one.rank();
     match two {
         Ranked::Line(rect) => {
+            // For the proof: it has one range.
             let _two = rect.rank();
             false
         }
         Ranked::Plane(rect) => one == rect,
         Ranked::Solid(rect) => {
+            // For the proof: it has three ranges.
             let _two = rect.rank();
             false
         }
@@ -52,13 +58,16 @@ pub(crate) fn is_plane(one: &Rect<2>, two: &Ranked) -> bool
 pub(crate) fn is_solid(one: &Rect<3>, two: &Ranked) -> bool
     ensures { Decides result (one.now ≡ ranges_of two.now) }
 {
+    // For the proof: it has three ranges.
     let _one = one.rank();
     match two {
         Ranked::Line(rect) => {
+            // For the proof: it has one range.
             let _two = rect.rank();
             false
         }
         Ranked::Plane(rect) => {
+            // For the proof: it has two ranges.
             let _two = rect.rank();
             false
         }
@@ -84,6 +93,7 @@ fn are_whole<const R: usize, const S: usize>(one: &Layout<R>, two: &Layout<S>) -
     requires { R ≢ S }
     ensures { Decides result (one.now ≡ two.now) }
 {
+    // For the proof: each is a mapping for its own rank.
     let _one = one.locales();
     let _two = two.locales();
     if !is_on_one(one) {

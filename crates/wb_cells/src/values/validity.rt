@@ -12,6 +12,7 @@ pub fn numbers_validity(numbers: &[i64])
     ensures { All (FitsSigned w64) numbers.now }
 {
     for number in numbers {
+        // For the proof: a number that is read is one of 64 bits.
         let _number = *number;
     }
 }
@@ -23,6 +24,7 @@ pub fn index_validity(index: &AnyIndex)
     match index.index() {
         Index::Point(point) => numbers_validity(point.coordinates()),
         Index::Text(label) => {
+            // For the proof: the text is that of a label.
             let _label = label.as_str();
         }
     }

@@ -34,6 +34,7 @@ pub(crate) fn plan_all(
     let (domain, _kind) = one_cell::array_named(book, footprint, array)?;
     let (over, _kind_of_other) = one_cell::array_named(book, footprint, other)?;
     stopped(elements::same_domain(domain, over))?;
+    // For the proof: the workbook is well formed, so arrays over one domain have the same indices.
     let _writes = book.writes();
     plan_all_results(alloc, book, footprint, array, how, other)
 }

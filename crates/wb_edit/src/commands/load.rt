@@ -40,6 +40,7 @@ fn load_changes(alloc: Global, text: &BookText) -> Result<Delta, AttemptErr>
 fn changes_of(alloc: Global, cells: &BTreeMap<Cell, Value>) -> Result<Delta, AttemptErr>
     ensures { Makes (book_cells (state_of cells.now)) result }
 {
+    // For the proof: the cells ascend, so each is there once.
     let _count = cells.len();
     let mut delta = Delta::new(alloc);
     for (cell, value) in cells {

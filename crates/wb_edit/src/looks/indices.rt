@@ -93,6 +93,7 @@ fn indices_of(alloc: Global, ranges: Option<AnyRect>) -> Indices
 {
     match ranges {
         Some(ranges) => {
+            // For the proof: each index of the ranges is listed once.
             let _once = ranges.size();
             Indices::Product(ranges)
         }

@@ -211,6 +211,7 @@ fn listed(alloc: Global, items: &Assoc<AnyIndex>) -> Result<Vec<AnyIndex>, Attem
     ensures ascending { IfOk result (λ v. IsStrictlySortedBy index_cmp v.items) }
     ensures only { IfErr result (λ e. e ≡ NoMemory) }
 {
+    // For the proof: each index of the set is listed once.
     let _once = items.size();
     match Vec::from_slice(alloc, items.as_slice()) {
         Ok(found) => Ok(found),

@@ -63,6 +63,7 @@ fn block_layout<const R: usize>(bounds: Rect<R>, grid: [i64; R]) -> Result<Layou
     requires high { R ≤ 3 }
     ensures { result ≡ blocks bounds.entry grid.entry }
 {
+    // For the proof: the box is a rectangle of the rank R.
     let _kept = bounds.rank();
     match Block::new(bounds, grid) {
         Ok(block) => Ok(Layout::new(Distribution::Block(block))),
@@ -102,6 +103,7 @@ fn block_cyclic_layout<const R: usize>(
 fn line_blocks(bounds: Rect<1>, grid: &GridLiteral) -> Result<AnyLayout, LimitErr>
     ensures { result ≡ blocks bounds (counts_of grid.now) }
 {
+    // For the proof: the box is a rectangle of rank 1.
     let _kept = bounds.rank();
     match grid {
         GridLiteral::Line(n) => Ok(AnyLayout::line(block_layout(bounds, [*n])?)),
@@ -114,6 +116,7 @@ fn line_blocks(bounds: Rect<1>, grid: &GridLiteral) -> Result<AnyLayout, LimitEr
 fn plane_blocks(bounds: Rect<2>, grid: &GridLiteral) -> Result<AnyLayout, LimitErr>
     ensures { result ≡ blocks bounds (counts_of grid.now) }
 {
+    // For the proof: the box is a rectangle of rank 2.
     let _kept = bounds.rank();
     match grid {
         GridLiteral::Line(_) => Err(LimitErr::BadMapping),
@@ -126,6 +129,7 @@ fn plane_blocks(bounds: Rect<2>, grid: &GridLiteral) -> Result<AnyLayout, LimitE
 fn solid_blocks(bounds: Rect<3>, grid: &GridLiteral) -> Result<AnyLayout, LimitErr>
     ensures { result ≡ blocks bounds (counts_of grid.now) }
 {
+    // For the proof: the box is a rectangle of rank 3.
     let _kept = bounds.rank();
     match grid {
         GridLiteral::Line(_) => Err(LimitErr::BadMapping),

@@ -110,6 +110,7 @@ pub fn line_of(alloc: Global, value: &Value) -> Result<String, AllocError>
         (read (string_bytes s) ≡ Some (view value.now))) }
 {
     let text = value.to_string(alloc)?;
+    // For the proof: the text is UTF-8.
     let _line = text.as_str();
     Ok(text)
 }

@@ -15,6 +15,7 @@ pub fn print_history(alloc: Global, history: &History) -> Result<String, NoMemor
     ensures said { OnOk result (AreProper history.now.entries → AreSaid history.now.entries) }
     ensures asked { OnOk result (AreAsked history.now.entries → IsHistory history.now.entries) }
 {
+    // For the proof: the history is legal.
     let _legal = history.book();
     crate::encoding::print_history(alloc, history)
 }

@@ -57,6 +57,7 @@ pub fn rebuild(alloc: Global, lines: &[ObjectLine]) -> Result<Option<Book>, NoMe
     ensures sound { IfOk result (λ r. is_some r ≡ are_sound (map line_of lines.now)) }
     ensures cells { IfOk result (λ r. IfSome r (λ b. b.cells ≡ cells_told (map line_of lines.now))) }
 {
+    // For the proof: what the lines are made of.
     lines_validity(lines);
     let Some(places) = places_of(alloc, lines)? else {
         return Ok(None);

@@ -11,21 +11,27 @@ pub fn line_validity(line: &ObjectLine)
 {
     match line {
         ObjectLine::Rectangular(domain, ranges, mapping) => {
+            // For the proof: the bytes are those of a name.
             let _name = domain.as_bytes();
             let rank = ranges.rank();
+            // For the proof: the mapping is within the limits.
             let _fits = mapping.is_of_rank(rank);
         }
         ObjectLine::Sparse(domain, _, _) => {
+            // For the proof: the bytes are those of a name.
             let _name = domain.as_bytes();
         }
         ObjectLine::Associative(domain, _, indices) => {
+            // For the proof: the bytes are those of a name.
             let _name = domain.as_bytes();
             indices_validity(indices);
         }
         ObjectLine::Array(array, _, elements, implicit) => {
+            // For the proof: the bytes are those of a name.
             let _name = array.as_bytes();
             numbers_validity(elements);
             if let Some(value) = implicit {
+                // For the proof: the number is one of 64 bits.
                 let _value = *value;
             }
         }

@@ -22,6 +22,7 @@ pub(crate) fn plan_no_source(
         Operand::Rectangle(_) => Err(AttemptErr::Refused(Refusal::WrongKind)),
         Operand::Items(_) => Err(AttemptErr::Refused(Refusal::WrongKind)),
         Operand::Named(name) => {
+            // The domain is only looked for: its kind doesn't matter.
             let _kind = domain_named(book, footprint, *name)?;
             Err(AttemptErr::Refused(Refusal::WrongKind))
         }
