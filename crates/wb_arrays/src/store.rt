@@ -84,13 +84,20 @@ pub trait Store {
         new: &Self::Dom,
         default: i64,
     ) -> Result<Dropped<Self::Index>, NoMemory>
+        // The array has an element at each index of `old`, and no other.
         requires { HoldsExactly Self.Index.cmp (contents self.old) (Self.Dom.indices old.now) }
+
+        // The elements afterwards, and the pairs that come back.
         ensures elements { OnOk result ((q : Self.Index) → value_at Self.Index.cmp (contents self.new) q ≡ reallocated Self.Index.cmp (contents self.old)
             (Self.Dom.indices old.now) (Self.Dom.indices new.now) default q) }
         ensures dropped { IfOk result (λ d. d ≡ left_out Self.Index.cmp (contents self.old) (Self.Dom.indices new.now)) }
+
+        // What stays, and what holds of both afterwards.
         ensures layout { same_layout self.old self.new }
         ensures holds { OnOk result (HoldsExactly Self.Index.cmp (contents self.new) (Self.Dom.indices new.now)) }
         ensures pairs { IfOk result (λ d. HoldsDropped Self.Index.cmp d (Self.Dom.indices old.now) (Self.Dom.indices new.now)) }
+
+        // Without memory nothing changes.
         ensures err { OnErr result (self.new ≡ self.old) };
 
     /// Takes back a `reshape` from `old` to `new`: indices of both keep their
@@ -123,15 +130,22 @@ pub trait Store {
     ) -> Result<(), (Dropped<Self::Index>, NoMemory)>
     where
         Self: Sized,
+        // The array is over `new`, and the pairs are some that a `reshape` from `old` drops.
         requires holds { HoldsExactly Self.Index.cmp (contents self.old) (Self.Dom.indices new.now) }
         requires pairs { HoldsDropped Self.Index.cmp dropped (Self.Dom.indices old.now) (Self.Dom.indices new.now) }
+
+        // The elements afterwards, and what stays.
         ensures elements { OnOk result ((q : Self.Index) → value_at Self.Index.cmp (contents self.new) q ≡ restored Self.Index.cmp (contents self.old) dropped
             (Self.Dom.indices old.now) (Self.Dom.indices new.now) q) }
         ensures layout { same_layout self.old self.new }
         ensures holds { OnOk result (HoldsExactly Self.Index.cmp (contents self.new) (Self.Dom.indices old.now)) }
+
+        // Where the pairs were dropped from an array, its elements are as before.
         ensures undoes { OnOk result ((before : List (Self.Index × ℤ)) → HoldsExactly Self.Index.cmp before (Self.Dom.indices old.now) →
             dropped ≡ left_out Self.Index.cmp before (Self.Dom.indices new.now) → AgreeOnCommon Self.Index.cmp before (contents self.old) → (q : Self.Index) →
             value_at Self.Index.cmp (contents self.new) q ≡ value_at Self.Index.cmp before q) }
+
+        // Without memory the pairs come back, and nothing changes.
         ensures back { IfErr result (λ e. e.0 ≡ dropped) }
         ensures err { OnErr result (self.new ≡ self.old) }
     {

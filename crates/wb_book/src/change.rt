@@ -185,18 +185,25 @@ fn prepared<V: Mover>(
     stored: &[CellChange],
     mover: &V,
 ) -> Result<Vec<(Name, Elements)>, MoveErr>
+    // Each element that the changes leave stands at an index of its array's form, once the cells are set.
     requires { (ready : tree cell_type value_type) (grown : List (List ℕ × Pieced)) → state_of ready ≡ apply (sets stored.now) (state_of cells.old) →
         ((b : List ℕ) (i : Index) → element_in grown b i ≡ element_in arrays.old.entries b i) →
         AreFormed (lies_at (stored_in ready.entries)) grown groups.now.entries }
+
+    // What stays, also where it stops midway.
     ensures others_cells { (c : cell_type) → changes cell_cmp (sets stored.now) c ≡ false → map.get (state_of cells.new) c ≡ map.get (state_of cells.old) c }
     ensures stays_cells { (c : cell_type) → IsSome (map.get (state_of cells.old) c) → IsSome (map.get (state_of cells.new) c) }
     ensures others { (b : List ℕ) → changes cell_cmp stored.now (Object b) ≡ false → array_in arrays.new.entries b ≡ array_in arrays.old.entries b }
     ensures stays { (b : List ℕ) (p : Pieced) → array_in arrays.old.entries b ≡ Some p → array_in arrays.new.entries b ≡ Some p }
     ensures elements { (b : List ℕ) (i : Index) → element_in arrays.new.entries b i ≡ element_in arrays.old.entries b i }
+
+    // What is set, put and made at the end.
     ensures set { OnOk result (state_of cells.new ≡ apply (sets stored.now) (state_of cells.old)) }
     ensures there { OnOk result ((b : List ℕ) → changes cell_cmp stored.now (Object b) ≡ true → is_array (stored_in cells.new.entries (Object b)) ≡ true →
         IsSome (array_in arrays.new.entries b)) }
     ensures built { IfOk result (λ v. AreAfter (lies_at (stored_in cells.new.entries)) arrays.new.entries groups.now.entries v.items) }
+
+    // Only by a mover that may lack threads does it fail for want of one.
     ensures no_thread { result ≡ Err MoveErr.NoThread → V.may_lack_threads mover.now }
 {
     if set_given(cells, stored).is_err() {
@@ -300,12 +307,17 @@ pub(crate) fn change_all<V: Mover>(
     delta: &Changes,
     mover: &V,
 ) -> Result<(), MoveErr>
+    // Each cell changes once, and the changes lead from a workbook to one.
     requires once { AllOnce cell_cmp delta.now }
     requires shelf { IsShelf cells.old arrays.old }
     requires formed { IsWellFormed (apply delta.now (cells_of cells.old arrays.old)) }
+
+    // All changes are made, or none, and the parts are a workbook's.
     ensures ok { OnOk result (cells_of cells.new arrays.new ≡ apply delta.now (cells_of cells.old arrays.old)) }
     ensures err { OnErr result (cells_of cells.new arrays.new ≡ cells_of cells.old arrays.old) }
     ensures shelf { IsShelf cells.new arrays.new }
+
+    // Only by a mover that may lack threads does it fail for want of one.
     ensures no_thread { result ≡ Err MoveErr.NoThread → V.may_lack_threads mover.now }
 {
     if keep::are_set(arrays, delta) {

@@ -118,12 +118,19 @@ impl Book {
 
     /// Makes the changes, or none where the mover refuses or no memory is left, and gives what takes them back.
     pub fn apply<V: Mover>(&mut self, delta: Delta, mover: &V) -> Result<Inverse, (Delta, MoveErr)>
+        // The changes lead to a well-formed workbook.
         requires { IsWellFormed (apply delta self.old.cells) }
+
+        // What takes them back, the cells, and how many were set so far.
         ensures inverse { IfOk result (λ i. i ≡ inverse delta self.old.cells) }
         ensures cells { OnOk result (self.new.cells ≡ apply delta self.old.cells) }
         ensures writes { OnOk result (self.new.writes ≡ written_more self.old.writes (count_of delta)) }
+
+        // After an error nothing has changed, and the changes come back.
         ensures err { OnErr result (self.new ≡ self.old) }
         ensures given_back { IfErr result (λ e. e.0 ≡ delta) }
+
+        // Only by a mover that may lack threads does it fail for want of one.
         ensures no_thread { IfErr result (λ e. e.1 ≡ MoveErr.NoThread → V.may_lack_threads mover.now) }
     {
         let Ok(before) = after::values_before(

@@ -31,12 +31,15 @@ impl<L: Ledger> Counted<L> {
         request: Request,
         mover: &M,
     ) -> Reply
+        // The journal goes on as a course, by the answer to this request.
         ensures course { (opening : Past) → IsCourse opening self.old.journal → IsCourse opening self.new.journal }
         ensures strange { IsStrange self.old.journal pass.old.seat pass.old.own result }
         ensures answers { AnswersCourse self.old.journal pass.old.seat request result self.new.journal }
         ensures left { leaves_all result ≡ true → self.new.journal.history ≡ self.old.journal.history }
         ensures seats { self.new.journal.seats ≡ self.old.journal.seats }
         ensures entries { length self.new.journal.entries ≡ share_after (length self.old.journal.entries) result }
+
+        // The total counts an entry, and so does the pass, which has it.
         ensures total { self.new.calls.total ≡ share_after self.old.calls.total result }
         ensures seat { pass.new.seat ≡ pass.old.seat }
         ensures own { pass.new.own ≡ own_after pass.old.seat pass.old.own request result }

@@ -62,11 +62,14 @@ impl<L: Opening> Desk<L> {
         blank: Blank,
         seats: usize,
     ) -> Result<(Desk<L>, Vec<Pass<L>>), DeskErr>
+        // A new ledger of sixteen parts, and what the desk is opened on.
         requires name { blank.name ≡ L.name }
         requires parts { blank.parts ≡ L.parts }
         requires sixteen { blank.parts ≡ 16 }
         requires opening { L.opening ≡ nothing_done }
         requires seats { L.seats ≡ seats }
+
+        // A pass for each seat, or why there is no desk.
         ensures ok { IfOk result (λ r. IsNumberOfSeats seats × (r.1.items ≡ new_passes seats)) }
         ensures bad { IfErr result (λ why. IsSeatsErr seats why) }
     {
@@ -83,11 +86,14 @@ impl<L: Opening> Desk<L> {
         seats: usize,
         history: History,
     ) -> Result<(Desk<L>, Vec<Pass<L>>), (History, DeskErr)>
+        // A new ledger of sixteen parts, and what the desk is opened on.
         requires name { blank.name ≡ L.name }
         requires parts { blank.parts ≡ L.parts }
         requires sixteen { blank.parts ≡ 16 }
         requires opening { L.opening ≡ history }
         requires seats { L.seats ≡ seats }
+
+        // A pass for each seat, or why there is no desk; then the history comes back.
         ensures ok { IfOk result (λ r. IsNumberOfSeats seats × (r.1.items ≡ new_passes seats)) }
         ensures bad { IfErr result (λ e. IsSeatsErr seats e.1) }
         ensures back { IfErr result (λ e. e.0 ≡ history) }

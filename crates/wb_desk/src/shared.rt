@@ -83,13 +83,18 @@ impl<L: Opening> Shared<L> {
         seats: usize,
         history: History,
     ) -> Result<(Shared<L>, Vec<Pass<L>>), (History, DeskErr)>
+        // A new ledger of sixteen parts, and what the desk is opened on.
         requires name { blank.name ≡ L.name }
         requires parts { blank.parts ≡ L.parts }
         requires sixteen { blank.parts ≡ 16 }
         requires opening { L.opening ≡ history }
         requires seats { L.seats ≡ seats }
+
+        // The course without entries, and a pass for each seat.
         ensures opened { IfOk result (λ r. r.0.course ≡ record { seats = seats; entries = []; history = history }) }
         ensures ok { IfOk result (λ r. IsNumberOfSeats seats × (r.1.items ≡ new_passes seats)) }
+
+        // Why there is no desk; then the history comes back.
         ensures bad { IfErr result (λ e. IsSeatsErr seats e.1) }
         ensures back { IfErr result (λ e. e.0 ≡ history) }
     {
@@ -148,11 +153,16 @@ pub fn serve<L: Opening, M: Mover>(
     request: Request,
     mover: &M,
 ) -> Reply
+    // What is kept before is a course of the desk.
     ensures course { IsCourse L.opening shared.old.course }
     ensures seats { shared.old.course.seats ≡ L.seats }
+
+    // The answer, by the course before and after.
     ensures strange { IsStrange shared.old.course pass.old.seat pass.old.own result }
     ensures answers { AnswersCourse shared.old.course pass.old.seat request result shared.new.course }
     ensures left { leaves_all result ≡ true → shared.new.course.history ≡ shared.old.course.history }
+
+    // The total counts an entry, and so does the pass, which has it.
     ensures total { shared.new.total ≡ share_after shared.old.total result }
     ensures seat { pass.new.seat ≡ pass.old.seat }
     ensures own { pass.new.own ≡ own_after pass.old.seat pass.old.own request result }

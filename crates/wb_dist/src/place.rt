@@ -7,10 +7,13 @@ use crate::axis::{block_coordinate, block_cyclic_coordinate, cyclic_coordinate};
 
 // The place of `index` where the box between the corners is cut into blocks.
 pub(crate) fn block_place(low: &[i64], high: &[i64], grid: &[i64], index: &[i64]) -> u64
+    // The grid is one, and all are of its rank.
     requires low_rank { length low.now ≡ length grid.now }
     requires high_rank { length high.now ≡ length grid.now }
     requires index_rank { length index.now ≡ length grid.now }
     requires good { is_grid grid.now ≡ true }
+
+    // The place is that of the coordinates of `index` among the points of the grid.
     ensures value { result ≡ place grid.now (block_coordinates low.now high.now grid.now index.now) }
     ensures row_major { slice_get (points grid.now) result
         ≡ Some (block_coordinates low.now high.now grid.now index.now) }
@@ -44,11 +47,14 @@ pub(crate) fn cyclic_place(start: &[i64], grid: &[i64], index: &[i64]) -> u64
 
 // The place of `index` where the indices are dealt out in blocks of `size` from `start` on.
 pub(crate) fn block_cyclic_place(start: &[i64], size: &[i64], grid: &[i64], index: &[i64]) -> u64
+    // The grid is one, all are of its rank, and no block is empty.
     requires start_rank { length start.now ≡ length grid.now }
     requires size_rank { length size.now ≡ length grid.now }
     requires index_rank { length index.now ≡ length grid.now }
     requires filled { are_positive size.now ≡ true }
     requires good { is_grid grid.now ≡ true }
+
+    // The place is that of the coordinates of `index` among the points of the grid.
     ensures value { result ≡ place grid.now (block_cyclic_coordinates start.now size.now grid.now index.now) }
     ensures row_major { slice_get (points grid.now) result
         ≡ Some (block_cyclic_coordinates start.now size.now grid.now index.now) }

@@ -440,10 +440,15 @@ fn fill_form(form: &mut Form, number: &i64) -> bool
 }
 
 fn number_form(form: &mut Form, numbers: &[i64]) -> bool
+    // The indices have the form that they are kept in.
     requires { IsKept form.old }
+
+    // The elements become the numbers, in order, if there are as many; else they stay.
     ensures done { result ≡ true → (seen_of form.new).0 ≡ zip (keys_of (seen_of form.old).0) numbers.now }
     ensures many { result ≡ true → length numbers.now ≡ length (seen_of form.old).0 }
     ensures left { result ≡ false → (seen_of form.new).0 ≡ (seen_of form.old).0 }
+
+    // What stays.
     ensures mapping { (seen_of form.new).1 ≡ (seen_of form.old).1 }
     ensures kept { IsKept form.new }
     ensures names { keys_of (seen_of form.new).0 ≡ keys_of (seen_of form.old).0 }
@@ -598,10 +603,15 @@ fn set_numbers_in<D: Domain, M: Mapping<Index = D::Index>>(
 ) -> bool
 where
     D::Index: AsIndex,
+    // The indices have the form that they are kept in.
     requires { AllOf D.Index.as_index D.Index.is_of pieces.old.0 }
+
+    // The elements become the numbers, in order, if there are as many; else they stay.
     ensures done { result ≡ true → indexed D.Index.as_index pieces.new.0 ≡ zip (keys_of (indexed D.Index.as_index pieces.old.0)) numbers.now }
     ensures many { result ≡ true → length numbers.now ≡ length (indexed D.Index.as_index pieces.old.0) }
     ensures left { result ≡ false → indexed D.Index.as_index pieces.new.0 ≡ indexed D.Index.as_index pieces.old.0 }
+
+    // What stays.
     ensures mapping { pieces.new.1 ≡ pieces.old.1 }
     ensures kept { AllOf D.Index.as_index D.Index.is_of pieces.new.0 }
     ensures names { keys_of (indexed D.Index.as_index pieces.new.0) ≡ keys_of (indexed D.Index.as_index pieces.old.0) }

@@ -157,13 +157,18 @@ impl Points {
 
     // The half of some places in which the search goes on for the first whose point is not below a point.
     fn half(&self, low: usize, high: usize, point: &Point) -> (usize, usize)
+        // The points ascend, and the places are some of theirs.
         requires ascending { IsStrictlySortedBy point_cmp self.now }
         requires order { low < high }
         requires within { high ≤ length self.now }
+
+        // The half lies within the places, and is shorter.
         ensures from { low ≤ result.0 }
         ensures order { result.0 ≤ result.1 }
         ensures within { result.1 ≤ high }
         ensures shorter { result.1 < high + (result.0 - low) }
+
+        // The points before it are below the point.
         ensures below { (i : ℕ) (d : Coordinates) → low ≤ i → i < result.0 → point_cmp (slice_index_or self.now i d) point.now ≡ Less }
     {
         let middle = low + (high - low) / 2;

@@ -159,14 +159,19 @@ impl History {
         undoer: &mut Undoer,
         mover: &M,
     ) -> Result<(Vec<u64>, usize), Refusal>
+        // The answer: which edits are undone, or why none is.
         ensures reply { IfOk result (λ r. OfNumber (CascadeReply (meant self.old.entries)) number (Ok (r.0.items, r.1))) }
         ensures why { IfErr result (λ e. OfNumber (CascadeReply (meant self.old.entries)) number (Err e)) }
         ensures whole { IfOk result (λ r. has_wanted undoer.new ≡ false → OfNumber (DependentsReply (meant self.old.entries)) number (Ok r.0.items)) }
         ensures shortest { IfOk result (λ r. NoShorter (meant self.old.entries) (number - 1) r.0.items) }
+
+        // They are out of force; the others stay, with their cells; the cells set back are counted.
         ensures entries { IfOk result (λ r. self.new.entries ≡ all_out_of_force r.0.items self.old.entries) }
         ensures others { IfOk result (λ r. OthersStay (meant self.old.entries) (places r.0.items) (meant self.new.entries)) }
         ensures cells { IfOk result (λ r. OtherCellsStay (meant self.old.entries) (places r.0.items) (meant self.new.entries)) }
         ensures writes { IfOk result (λ r. self.new.writes ≡ written_more self.old.writes (set_back (meant self.old.entries) (places r.0.items))) }
+
+        // After a refusal nothing has changed.
         ensures err { OnErr result (self.new ≡ self.old) }
     {
         if number == 0 {
@@ -195,15 +200,22 @@ impl History {
         undoer: &mut Undoer,
         mover: &M,
     ) -> Result<(usize, usize), NoMemory>
+        // The numbers are those that `dependents` answers.
         requires { OfNumber (DependentsReply (meant self.old.entries)) number (Ok listed.now) }
+
+        // How many are undone; fewer than all only where an undo wanted memory.
         ensures within { IfOk result (λ r. r.0 ≤ length listed.now) }
         ensures reply { IfOk result (λ r. OfNumber (CascadeReply (meant self.old.entries)) number (Ok (take r.0 listed.now, r.1))) }
         ensures whole { IfOk result (λ r. r.0 < length listed.now → has_wanted undoer.new ≡ true) }
         ensures wanted { OnErr result (has_wanted undoer.new ≡ true) }
+
+        // They are out of force; the others stay, with their cells; the cells set back are counted.
         ensures entries { IfOk result (λ r. self.new.entries ≡ all_out_of_force (take r.0 listed.now) self.old.entries) }
         ensures others { IfOk result (λ r. OthersStay (meant self.old.entries) (places (take r.0 listed.now)) (meant self.new.entries)) }
         ensures cells { IfOk result (λ r. OtherCellsStay (meant self.old.entries) (places (take r.0 listed.now)) (meant self.new.entries)) }
         ensures writes { IfOk result (λ r. self.new.writes ≡ written_more self.old.writes (set_back (meant self.old.entries) (places (take r.0 listed.now)))) }
+
+        // Without memory nothing has changed.
         ensures err { OnErr result (self.new ≡ self.old) }
     {
         steps::cascade::undo_listed(

@@ -76,11 +76,18 @@ fn tail_at(end: usize) -> &'static [u8]
 /// Writes bytes at a place of a file, all of which is on the disk, and syncs. A crash at any moment leaves what a write
 /// that is cut short may leave.
 fn put<D: Device>(device: &mut D, at: usize, bytes: &[u8]) -> Result<(), DeviceFault>
+    // All of the file is on the disk, and the place is within it or at its end.
     requires durable { Only (D.seen device.old) (D.may_leave device.old) }
     requires within { at ≤ length (D.seen device.old) }
+
+    // The bytes stand there, and all is on the disk.
     ensures written { OnOk result (Holds (D.seen device.old) at bytes.now (D.seen device.new)) }
     ensures durable { OnOk result (Only (D.seen device.new) (D.may_leave device.new)) }
+
+    // A crash at any moment leaves what a write that is cut short may leave.
     ensures any_moment { LeavesOnly D.moment D.left_since device.old device.new (Torn at bytes.now (D.seen device.old)) }
+
+    // It doesn't give up by itself.
     ensures failed { OnErr result (D.faults device.old < D.faults device.new) }
     ensures faults { D.faults device.old ≤ D.faults device.new }
 {
@@ -91,12 +98,19 @@ fn put<D: Device>(device: &mut D, at: usize, bytes: &[u8]) -> Result<(), DeviceF
 
 /// Puts the end of a file right that a crash may have left. It may crash too.
 fn repair<D: Device>(device: &mut D, end: usize) -> Result<(), DeviceFault>
+    // All of the file is on the disk, and its end can be put right.
     requires durable { Only (D.seen device.old) (D.may_leave device.old) }
     requires repairable { IsRepairable (D.seen device.old) end }
+
+    // The lines are the same, the file is at rest, and all is on the disk.
     ensures at_rest { OnOk result (IsAtRest (D.seen device.new) × (recovered (D.seen device.new) ≡ recovered (D.seen device.old))) }
     ensures mark { OnOk result (max end 18 + 1 ≡ length (D.seen device.new)) }
     ensures durable { OnOk result (Only (D.seen device.new) (D.may_leave device.new)) }
+
+    // A crash at any moment leaves the same lines.
     ensures any_moment { LeavesOnly D.moment D.left_since device.old device.new (StandsForTheSame (D.seen device.old)) }
+
+    // It doesn't give up by itself.
     ensures failed { OnErr result (D.faults device.old < D.faults device.new) }
 {
     // One sync is enough for both: with the mark, without it and with a part of the old end the file stands for the same.

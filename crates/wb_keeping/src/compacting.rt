@@ -30,6 +30,7 @@ pub fn compact<D: Replaces>(
     ensures has_edits { OnOk result (HasEdits history.now.entries (D.seen log.new.device)) }
     ensures one_line { OnOk result ((line : List ℕ) × (recovered (D.seen log.new.device) ≡ line ∷ [])) }
 
+    // Without memory nothing has changed. It doesn't give up by itself.
     ensures memory { IsErrOf result CompactErr.Memory → log.new ≡ log.old }
     ensures failed { IfErr result (λ e. e ≢ CompactErr.Memory → D.faults log.old.device < D.faults log.new.device) }
 {

@@ -117,18 +117,25 @@ fn serve_turn<
     line: Line,
     writer: &mut W,
 ) -> Result<u64, (u64, Stop)>
+    // `answer` answers as the machine does, the log is settled, and a line was read.
     requires callable { F.IsAlwaysCallable answer.now }
     requires answers { AnswersBy F.Fn answer.now M.answers }
     requires settled { IsSettled D.seen D.may_leave kept.old.log }
     requires text { (text : List ℕ) × IsText line buffer.old.line text }
+
+    // The lines are answered, their changes kept and their replies given out.
     ensures ok { IfOk result (λ count. (first : List ℕ) → IsText line buffer.old.line first → (steps : List Step)
         × Turned M.answers D.seen D.moment D.left_since kept.old kept.new first buffer.old buffer.new steps kept.new.state
         × IsCommitted D.seen D.may_leave kept.old kept.new steps kept.new.state count
         × Appends (W.contents writer.old) (W.contents writer.new) (replies_of steps)
         × AnswersEach first buffer.old buffer.new steps) }
+
+    // After a fault: what was answered, and what of it was kept and given out.
     ensures err { IfErr result (λ halt. (first : List ℕ) → IsText line buffer.old.line first → (steps : List Step) × (last : S)
         × Turned M.answers D.seen D.moment D.left_since kept.old kept.new first buffer.old buffer.new steps last
         × Halts D.seen D.may_leave kept.old kept.new (W.contents writer.old) (W.contents writer.new) steps last halt.0 halt.1) }
+
+    // A fault is the writer's or the device's.
     ensures failed { IfErr result (λ halt. halt.1 ≡ Stop.WriteFault → W.failed writer.new ≡ true) }
     ensures disk { IfErr result (λ halt. halt.1 ≡ Stop.DiskFault → D.faults kept.old.log.device < D.faults kept.new.log.device) }
     ensures faults { D.faults kept.old.log.device ≤ D.faults kept.new.log.device }
@@ -190,11 +197,16 @@ pub fn serve_kept<
     R: Hears<NothingHeld, W>,
     W: Sends<NothingHeld>,
 >(alloc: Global, answer: &F, kept: &mut Kept<S, D>, reader: &mut R, writer: &mut W) -> KeptEnd
+    // `answer` answers as the machine does, and the file stands for the state.
     requires callable { F.IsAlwaysCallable answer.now }
     requires answers { AnswersBy F.Fn answer.now M.answers }
     requires kept { IsKept M.start M.grants D.seen D.may_leave kept.old }
+
+    // What was read, answered, kept and given out.
     ensures session { Session M.start M.grants M.answers D.seen D.may_leave D.moment D.left_since result kept.old kept.new
         (R.remaining reader.old) (R.remaining reader.new) (W.contents writer.old) (W.contents writer.new) }
+
+    // Why the session ended, by the reader, the writer and the device.
     ensures read { ReadsUntil result (R.remaining reader.new) (R.failed reader.new) (R.reads reader.old) (R.reads reader.new) }
     ensures written { WritesUntil result (W.flushed writer.new) (W.failed writer.new) }
     ensures disk { KeepsUntil result (D.faults kept.old.log.device) (D.faults kept.new.log.device) }

@@ -46,16 +46,21 @@ impl<L: KeptOpening, D: Device + Drop> Desk<L, D> {
         seats: usize,
         kept: Kept<History, D>,
     ) -> Result<(Desk<L, D>, Vec<Pass<L>>), (Kept<History, D>, DeskErr)>
+        // Two new ledgers and a new book, which are the desk's.
         requires name { blank.name ≡ L.name }
         requires parts { blank.parts ≡ L.parts }
         requires sixteen { blank.parts ≡ 16 }
         requires book { opened.seen.book ≡ L.book }
         requires taking { (taking.name ≡ L.taking) × (taking.parts ≡ 1) }
+
+        // What the desk is opened on: the history that the file stands for, at this moment.
         requires opening { L.opening ≡ kept.state }
         requires seats { L.seats ≡ seats }
         requires begun { L.begun ≡ D.moment kept.log.device }
         requires lines { L.lines ≡ recovered (D.seen kept.log.device) }
         requires kept { IsKept no_edit Grants D.seen D.may_leave kept }
+
+        // A pass for each seat, or why there is no desk; then the history and its log come back.
         ensures ok { IfOk result (λ r. IsNumberOfSeats seats × (r.1.items ≡ new_passes seats)) }
         ensures bad { IfErr result (λ e. IsSeatsErr seats e.1) }
         ensures back { IfErr result (λ e. e.0 ≡ kept) }

@@ -70,18 +70,25 @@ impl<L: KeptOpening> Seats<L> {
         seats: usize,
         history: History,
     ) -> Result<OpenedSeats<L>, (History, DeskErr)>
+        // Two new ledgers and a new book, which are the desk's.
         requires name { blank.name ≡ L.name }
         requires parts { blank.parts ≡ L.parts }
         requires sixteen { blank.parts ≡ 16 }
         requires book { opened.seen.book ≡ L.book }
         requires taking { (taking.name ≡ L.taking) × (taking.parts ≡ 1) }
+
+        // What the desk is opened on: a history that the lines of its file lead to.
         requires opening { L.opening ≡ history }
         requires seats { L.seats ≡ seats }
         requires leads { Leads Grants no_edit L.lines history }
+
+        // The course without entries, no turn yet, and a pass for each seat.
         ensures opened { IfOk result (λ r. r.seats.course ≡ record { seats = seats; entries = []; history = history }) }
         ensures turns { IfOk result (λ r. (r.seats.made ≡ []) × (r.seats.taken ≡ []) × (r.seats.waiting ≡ []) × (r.seats.is_open ≡ true)) }
         ensures front { IfOk result (λ r. (r.front ≡ []) × (r.mark.parts ≡ 1) × (r.mark.amount ≡ 0)) }
         ensures ok { IfOk result (λ r. IsNumberOfSeats seats × (r.passes.items ≡ new_passes seats)) }
+
+        // Why there is no desk; then the history comes back.
         ensures bad { IfErr result (λ e. IsSeatsErr seats e.1) }
         ensures back { IfErr result (λ e. e.0 ≡ history) }
     {

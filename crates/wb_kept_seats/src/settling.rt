@@ -69,14 +69,20 @@ pub fn settle<L: KeptOpening, D: Device + Drop>(
     desk: Desk<L, D>,
     passes: Vec<Pass<L>>,
 ) -> Result<Settled<L, D>, Unsettled<L, D>>
+    // Settled or not, there is a course of the desk.
     ensures course { MatchResult result (λ s. IsCourse L.opening s.seats.course) (λ u. IsCourse L.opening u.seats.course) }
     ensures seats { MatchResult result (λ s. s.seats.course.seats ≡ L.seats) (λ u. u.seats.course.seats ≡ L.seats) }
+
+    // Settled: the entries of each seat are those of its pass, and the file stands for the history.
     ensures ok { IfOk result (λ s. IsSettled s.seats.course.seats s.seats.course.entries passes.items) }
     ensures whole { IfOk result (λ s. length s.seats.course.entries ≡ total_of_passes s.seats.course.seats passes.items) }
     ensures kept { IfOk result (λ s. IsKept no_edit Grants D.seen D.may_leave (record { state = s.seats.course.history; log = s.log })) }
+
     // A crash at any moment since the opening leaves a file that stands for the history after the first so many entries.
     ensures any_moment { MatchResult result (λ s. LeavesFronts D.moment D.left_since L.opening L.begun s.seats.course.entries s.log)
         (λ u. LeavesFronts D.moment D.left_since L.opening L.begun u.seats.course.entries u.log) }
+
+    // Not settled: the passes come back, and the cause.
     ensures passes { IfErr result (λ u. u.passes.items ≡ passes.items) }
     ensures cause { IfErr result (λ u. IsSettleCause u.seats passes.items u.cause) }
     ensures disk { IfErr result (λ u. u.cause ≡ SettleErr.NotKept CommitErr.DiskFault → (old : LineLog D) × (D.faults old.device < D.faults u.log.device)) }

@@ -234,14 +234,21 @@ impl LineBuffer {
         writer: &W,
         hold: &K,
     ) -> Result<bool, LineFault>
+        // No byte lies ahead; the writer is flushed and nothing is held, since a read may wait.
         requires empty { self.old.ahead ≡ [] }
         requires flushed { W.flushed writer.now ≡ true }
         requires free { K.held hold.now ≡ false }
+
+        // The bytes that come lie ahead then.
         ensures bytes { Consumes (R.remaining reader.old) (R.remaining reader.new) self.new.ahead }
         ensures refills { Refills self.old self.new }
+
+        // Whether there may be more, and where the input ends.
         ensures more { IfOk result (λ b. b ≡ true → self.new.reads ≡ self.old.reads + 1) }
         ensures last { IfOk result (λ b. b ≡ false → (self.new.at_end ≡ true) × (self.new.ahead ≡ [])) }
         ensures end { KnowsEnd self.old (R.remaining reader.old) → KnowsEnd self.new (R.remaining reader.new) }
+
+        // What failed, and how often the reader was read.
         ensures fault { IfErr result (λ f. FaultLeaves f self.old self.new × FailedAt f (R.failed reader.new)) }
         ensures counted { CountsReads self.old self.new (R.reads reader.old) (R.reads reader.new) }
     {
@@ -294,16 +301,23 @@ fn read_line<K: Holds, R: Hears<K, W>, W: Sends<K>>(
     hold: &K,
     buffer: &mut LineBuffer,
 ) -> Result<Line, LineFault>
+    // The writer is flushed or a line lies ahead, and nothing is held, since a read may wait.
     requires flushed { (W.flushed writer.now ≡ true) ⊎ BeginsWithLine buffer.old.ahead }
     requires free { K.held hold.now ≡ false }
+
+    // A line or a fault, by the bytes that came.
     ensures ok { IfOk result (λ line. (got : List ℕ)
         × Consumes (R.remaining reader.old) (R.remaining reader.new) got
         × Gives line buffer.old buffer.new got) }
     ensures err { IfErr result (λ fault. (got : List ℕ)
         × Consumes (R.remaining reader.old) (R.remaining reader.new) got
         × Breaks fault buffer.old buffer.new got) }
+
+    // What failed, and how often the reader was read.
     ensures failed { IfErr result (λ fault. FailedAt fault (R.failed reader.new)) }
     ensures counted { CountsReads buffer.old buffer.new (R.reads reader.old) (R.reads reader.new) }
+
+    // What the buffer knows of the end of input is still right, and it keeps its fault.
     ensures end { KnowsEnd buffer.old (R.remaining reader.old) → KnowsEnd buffer.new (R.remaining reader.new) }
     ensures kept { buffer.new.fault ≡ buffer.old.fault }
 {
@@ -332,19 +346,28 @@ pub fn next_line<K: Holds, R: Hears<K, W>, W: Sends<K>>(
     hold: &K,
     buffer: &mut LineBuffer,
 ) -> Result<Line, LineFault>
+    // The writer is flushed or a line lies ahead, and nothing is held, since a read may wait.
     requires flushed { (W.flushed writer.now ≡ true) ⊎ BeginsWithLine buffer.old.ahead }
     requires free { K.held hold.now ≡ false }
+
+    // A line, by the bytes that came; there was no fault before.
     ensures ok { IfOk result (λ line. (got : List ℕ)
         × Consumes (R.remaining reader.old) (R.remaining reader.new) got
         × Gives line buffer.old buffer.new got) }
     ensures fresh { IfOk result (λ _. (buffer.old.fault ≡ None) × (buffer.new.fault ≡ None)) }
+
+    // A fault, by the bytes that came; what failed, and how often the reader was read.
     ensures err { buffer.old.fault ≡ None → IfErr result (λ fault. (buffer.new.fault ≡ Some fault)
         × ((got : List ℕ) × Consumes (R.remaining reader.old) (R.remaining reader.new) got
         × Breaks fault buffer.old buffer.new got)) }
     ensures failed { buffer.old.fault ≡ None → IfErr result (λ fault. FailedAt fault (R.failed reader.new)) }
     ensures counted { CountsReads buffer.old buffer.new (R.reads reader.old) (R.reads reader.new) }
+
+    // After a fault the same fault comes again.
     ensures again { IfSome buffer.old.fault (λ fault. (result ≡ Err fault) × (buffer.new ≡ buffer.old)
         × (R.remaining reader.new ≡ R.remaining reader.old)) }
+
+    // What the buffer knows of the end of input is still right.
     ensures end { KnowsEnd buffer.old (R.remaining reader.old) → KnowsEnd buffer.new (R.remaining reader.new) }
 {
     if let Some(fault) = buffer.fault() {

@@ -84,10 +84,15 @@ pub trait Hears<K: Holds, W: Sends<K>> {
 
     /// Reads into the front of the bytes: how many. None means the end of input.
     fn read(&mut self, writer: &W, hold: &K, bytes: &mut [u8]) -> Result<usize, ReadErr>
+        // The writer is flushed and nothing is held, since a read may wait.
         requires flushed { W.flushed writer.now ≡ true }
         requires free { K.held hold.now ≡ false }
+
+        // How many bytes came, and which.
         ensures bound { ReadsAtMost result bytes.new }
         ensures bytes { ReadConsumes (remaining self.old) (remaining self.new) result bytes.new }
+
+        // What failed, and how often it was read.
         ensures cause { failed self.new ≡ is_failed result }
         ensures counted { 0 < length bytes.old → RisesBy 1 (reads self.old) (reads self.new) }
         ensures idle { length bytes.old ≡ 0 → reads self.new ≡ reads self.old };

@@ -95,10 +95,13 @@ fn reply_to<
     Q,
     F: Fn(&mut S, &mut K, P) -> (Q, u64),
 >(state: &mut S, hold: &mut K, answer: &F, asked: Option<P>) -> (Option<Q>, u64)
+    // `answer` answers as the machine does, and counts what it costs; a turn has room for one more.
     requires callable { AnswersWithin F.Fn answer.now K.spent K.answered }
     requires answers { AnswersReadBy F.Fn answer.now M.reads M.text M.answers }
     requires spends { CountsCost F.Fn answer.now K.spent K.answered }
     requires room { HasRoom K.spent K.answered hold.old }
+
+    // The reply, and what it cost.
     ensures reply { (line : List ℕ) → IsTaken M.reads line asked → AnswersLine M.answers state.old line (reply_text M.text result.0) state.new }
     ensures spent { K.spent hold.new ≡ K.spent hold.old + result.1 }
     ensures answered { K.answered hold.new ≤ K.answered hold.old + 1 }
@@ -127,17 +130,24 @@ fn answer_lines<
     taken: &mut VecDeque<Option<P>>,
     replies: &mut VecDeque<Option<Q>>,
 ) -> Result<(), AllocError>
+    // `answer` answers as the machine does, and counts what it costs.
     requires callable { AnswersWithin F.Fn answer.now K.spent K.answered }
     requires answers { AnswersReadBy F.Fn answer.now M.reads M.text M.answers }
     requires spends { CountsCost F.Fn answer.now K.spent K.answered }
+
+    // Nothing is spent, 256 lines at most were taken, and no reply waits.
     requires unspent { IsUnspent K.spent K.answered hold.old }
     requires short { length taken.old.items ≤ 256 }
     requires empty { replies.old.items ≡ [] }
+
+    // The first of the lines are answered, in order, and the others stay.
     ensures ok { OnOk result ((asked : List (List ℕ)) → AreTaken M.reads asked taken.old.items → (done rest : List (List ℕ))
         × (asked ≡ done ++ rest) × AreTaken M.reads rest taken.new.items
         × GetReplies M.answers M.text state.old done replies.new.items state.new) }
     ensures err { OnErr result ((asked : List (List ℕ)) → AreTaken M.reads asked taken.old.items → (done rest : List (List ℕ))
         × (asked ≡ done ++ rest) × ((texts : List ℕ) × Replies (AnswersLine M.answers) state.old done texts state.new)) }
+
+    // Each line is answered or stays, and one is answered at least.
     ensures count { OnOk result (length replies.new.items + length taken.new.items ≡ length taken.old.items) }
     ensures some { OnOk result (0 < length taken.old.items → 0 < length replies.new.items) }
 {
@@ -221,15 +231,20 @@ fn tell_replies<
     writer: &mut W,
     replies: &mut VecDeque<Option<Q>>,
 ) -> Result<u64, (u64, Stop)>
+    // `tell` makes the text of a reply while nothing is held; there are 256 at most.
     requires callable { TellsWhileFree T.Fn tell.now K.held }
     requires tells { TellsBy T.Fn tell.now M.text }
     requires free { K.held hold.now ≡ false }
     requires short { length replies.old.items ≤ 256 }
+
+    // All were sent; or the first so many, and a part of the next.
     ensures ok { IfOk result (λ count. Appends (W.contents writer.old) (W.contents writer.new) (all_texts M.text replies.old.items)
         × (count ≡ length replies.old.items)) }
     ensures err { IfErr result (λ halt. (sent left : List (Option Q)) × (first : Option Q) × (k : ℕ)
         × (replies.old.items ≡ sent ++ first ∷ left) × (halt.0 ≡ length sent) × (k < length (ended (reply_text M.text first)))
         × Appends (W.contents writer.old) (W.contents writer.new) (all_texts M.text sent ++ take k (ended (reply_text M.text first)))) }
+
+    // A write fault is the writer's.
     ensures failed { IfErr result (λ halt. halt.1 ≡ Stop.WriteFault → W.failed writer.new ≡ true) }
 {
     let mut told = 0;
@@ -274,6 +289,7 @@ fn answer_turn<
     writer: &mut W,
     taken: &mut VecDeque<Option<P>>,
 ) -> Result<u64, (u64, Stop)>
+    // What `answer`, `tell` and `let_go` do, which are handed in.
     requires callable { AnswersWithin F.Fn answer.now K.spent K.answered }
     requires answers { AnswersReadBy F.Fn answer.now M.reads M.text M.answers }
     requires spends { CountsCost F.Fn answer.now K.spent K.answered }
@@ -281,10 +297,16 @@ fn answer_turn<
     requires tells { TellsBy T.Fn tell.now M.text }
     requires let_go_at_any_time { H.IsAlwaysCallable let_go.now }
     requires lets_go { LetsGo H.Fn let_go.now K.held K.spent K.answered }
+
+    // 256 lines at most were taken, and nothing is spent.
     requires short { length taken.old.items ≤ 256 }
     requires unspent { IsUnspent K.spent K.answered hold.old }
+
+    // Nothing is held or spent afterwards.
     ensures free { K.held hold.new ≡ false }
     ensures unspent { IsUnspent K.spent K.answered hold.new }
+
+    // What was answered and sent, of the lines that were taken.
     ensures ok { IfOk result (λ count. (asked : List (List ℕ)) → AreTaken M.reads asked taken.old.items → (done rest : List (List ℕ))
         × (asked ≡ done ++ rest) × AreTaken M.reads rest taken.new.items
         × ((text : List ℕ) × Appends (W.contents writer.old) (W.contents writer.new) text
@@ -292,6 +314,8 @@ fn answer_turn<
     ensures err { IfErr result (λ halt. (asked : List (List ℕ)) → AreTaken M.reads asked taken.old.items → (text : List ℕ)
         × Appends (W.contents writer.old) (W.contents writer.new) text
         × AnswersTold M.answers state.old asked text halt.0 state.new) }
+
+    // How many lines that are, and whose a write fault is.
     ensures count { IfOk result (λ count. count + length taken.new.items ≡ length taken.old.items) }
     ensures halted { IfErr result (λ halt. halt.0 ≤ length taken.old.items) }
     ensures some { IfOk result (λ count. 0 < length taken.old.items → 0 < count) }
@@ -327,6 +351,7 @@ fn answer_taken<
     writer: &mut W,
     taken: &mut VecDeque<Option<P>>,
 ) -> Result<u64, (u64, Stop)>
+    // What `answer`, `tell` and `let_go` do, which are handed in.
     requires callable { AnswersWithin F.Fn answer.now K.spent K.answered }
     requires answers { AnswersReadBy F.Fn answer.now M.reads M.text M.answers }
     requires spends { CountsCost F.Fn answer.now K.spent K.answered }
@@ -334,17 +359,25 @@ fn answer_taken<
     requires tells { TellsBy T.Fn tell.now M.text }
     requires let_go_at_any_time { H.IsAlwaysCallable let_go.now }
     requires lets_go { LetsGo H.Fn let_go.now K.held K.spent K.answered }
+
+    // 256 lines at most were taken, and nothing is held or spent.
     requires short { length taken.old.items ≤ 256 }
     requires free { K.held hold.old ≡ false }
     requires unspent { IsUnspent K.spent K.answered hold.old }
+
+    // Nothing is held or spent afterwards.
     ensures free { K.held hold.new ≡ false }
     ensures unspent { IsUnspent K.spent K.answered hold.new }
+
+    // What was answered and sent, of the lines that were taken.
     ensures ok { IfOk result (λ count. (asked : List (List ℕ)) → AreTaken M.reads asked taken.old.items → (text : List ℕ)
         × Appends (W.contents writer.old) (W.contents writer.new) text
         × AnswersAll M.answers state.old asked text count state.new) }
     ensures err { IfErr result (λ halt. (asked : List (List ℕ)) → AreTaken M.reads asked taken.old.items → (text : List ℕ)
         × Appends (W.contents writer.old) (W.contents writer.new) text
         × AnswersTold M.answers state.old asked text halt.0 state.new) }
+
+    // A write fault is the writer's.
     ensures failed { IfErr result (λ halt. halt.1 ≡ Stop.WriteFault → W.failed writer.new ≡ true) }
 {
     let mut answered = 0;
@@ -383,6 +416,7 @@ fn serve_turn<
     buffer: &mut LineBuffer,
     line: Line,
 ) -> Result<u64, (u64, Stop)>
+    // What `parse`, `answer`, `tell` and `let_go` do, which are handed in.
     requires readable { G.IsAlwaysCallable parse.now }
     requires reads { ReadsBy G.Fn parse.now M.reads }
     requires callable { AnswersWithin F.Fn answer.now K.spent K.answered }
@@ -392,10 +426,14 @@ fn serve_turn<
     requires tells { TellsBy T.Fn tell.now M.text }
     requires let_go_at_any_time { H.IsAlwaysCallable let_go.now }
     requires lets_go { LetsGo H.Fn let_go.now K.held K.spent K.answered }
+
+    // Nothing is held or spent, before and afterwards.
     requires free { K.held hold.old ≡ false }
     requires unspent { IsUnspent K.spent K.answered hold.old }
     ensures free { K.held hold.new ≡ false }
     ensures unspent { IsUnspent K.spent K.answered hold.new }
+
+    // What was answered and sent, of the line and those that lay ahead.
     ensures ok { IfOk result (λ count. (first : List ℕ) → IsText line buffer.old.line first → (more : List (List ℕ))
         × TakesLines buffer.old buffer.new more
         × ((text : List ℕ) × Appends (W.contents writer.old) (W.contents writer.new) text
@@ -404,6 +442,8 @@ fn serve_turn<
         × TakesLines buffer.old buffer.new more
         × ((text : List ℕ) × Appends (W.contents writer.old) (W.contents writer.new) text
         × AnswersTold M.answers state.old (first ∷ more) text halt.0 state.new)) }
+
+    // A write fault is the writer's.
     ensures failed { IfErr result (λ halt. halt.1 ≡ Stop.WriteFault → W.failed writer.new ≡ true) }
 {
     let mut turn = VecDeque::new(alloc);
@@ -443,6 +483,7 @@ pub fn serve_turns<
     reader: &mut R,
     writer: &mut W,
 ) -> SessionEnd
+    // What `parse`, `answer`, `tell` and `let_go` do, which are handed in.
     requires readable { G.IsAlwaysCallable parse.now }
     requires reads { ReadsBy G.Fn parse.now M.reads }
     requires callable { AnswersWithin F.Fn answer.now K.spent K.answered }
@@ -452,13 +493,19 @@ pub fn serve_turns<
     requires tells { TellsBy T.Fn tell.now M.text }
     requires let_go_at_any_time { H.IsAlwaysCallable let_go.now }
     requires lets_go { LetsGo H.Fn let_go.now K.held K.spent K.answered }
+
+    // Nothing is held or spent, before and afterwards.
     requires free { K.held hold.old ≡ false }
     requires unspent { IsUnspent K.spent K.answered hold.old }
     ensures free { K.held hold.new ≡ false }
     ensures unspent { IsUnspent K.spent K.answered hold.new }
+
+    // What was read, answered and sent.
     ensures serves { (read : List ℕ) × Consumes (R.remaining reader.old) (R.remaining reader.new) read
         × ((text : List ℕ) × Appends (W.contents writer.old) (W.contents writer.new) text
         × ServesTurns M.answers result state.old read (R.remaining reader.new) text state.new) }
+
+    // Why the session ended, by the reader and the writer.
     ensures read { ReadsUntil result (R.remaining reader.new) (R.failed reader.new) (R.reads reader.old) (R.reads reader.new) }
     ensures written { WritesUntil result (W.flushed writer.new) (W.failed writer.new) }
 {

@@ -47,11 +47,14 @@ pub(crate) fn opening_from<R: Source, W: Sink, M: Mover>(
     writer: &mut W,
     mover: &M,
 ) -> Result<Opening, u8>
+    // The history, by its text up to the end; nothing is printed.
     ensures opening { IfOk result (λ o. IsOpening o) }
     ensures text { IfOk result (λ o. (front : List ℕ) × Consumes (left_in R.remaining reader.old) (left_in R.remaining reader.new) front
         × IsUpToEnd front × IsRecord front o.history) }
     ensures counted { IfOk result (λ _. (made : ℕ) × RisesBy made (reads_in reader.old) (reads_in reader.new)) }
     ensures silent { IfOk result (λ _. writer.new ≡ writer.old) }
+
+    // The exit status, with what was read and printed, and what failed.
     ensures refused { IfErr result (λ status. (read : List ℕ) × Consumes (left_in R.remaining reader.old) (left_in R.remaining reader.new) read
         × ((text : List ℕ) × Appends (W.contents writer.old) (W.contents writer.new) text
         × ((NoOpening read × Says Refused status text) ⊎ (IsFault status × (text ≡ []))))) }

@@ -299,9 +299,12 @@ pub fn do_asked<
     mover: &M,
     why: &mut Option<Reason>,
 ) -> u8
+    // What is read and written.
     ensures does { (read : List ℕ) × Consumes (left_in S.remaining reader.old) (left_in S.remaining reader.new) read
         × ((text : List ℕ) × Appends (W.contents writer.old) (W.contents writer.new) text
         × Does I.Source O.Sink N.Accepts asked.entry result read (left_in S.remaining reader.new) text) }
+
+    // What becomes of the files.
     ensures keeps { UsesFiles D.Device J.OpensFiles asked.entry result files.old files.new (record {
       unread = left_in S.remaining reader.old;
       left = left_in S.remaining reader.new;
@@ -313,6 +316,8 @@ pub fn do_asked<
       flushed = W.flushed writer.new;
       write_failed = W.failed writer.new;
     }) }
+
+    // What a desk with a journal does.
     ensures desk { KeepsDay I.Source O.Sink N.Accepts D.Device J.OpensFiles asked.entry result (B.failed ports.new) files.new (record {
       unread = left_in S.remaining reader.old;
       left = left_in S.remaining reader.new;
@@ -324,6 +329,8 @@ pub fn do_asked<
       flushed = W.flushed writer.new;
       write_failed = W.failed writer.new;
     }) }
+
+    // What the exit statuses 0, 3 and 1 tell.
     ensures done { Finishes asked.entry result (left_in S.remaining reader.new) (W.flushed writer.new) }
     ensures failed { result ≡ 3 → Fails I.Source O.Sink N.Accepts asked.entry (left_in S.remaining reader.old) (left_in S.remaining reader.new)
         (failed_in reader.new) (reads_in reader.old) (reads_in reader.new) (B.failed ports.new) (W.failed writer.new) }

@@ -271,17 +271,24 @@ fn serve_kept_day<
     writer: &mut W,
     mover: &M,
 ) -> KeptRun<D>
+    // Two new ledgers and a new book, which are the desk's.
     requires name { blank.name ≡ L.name }
     requires parts { blank.parts ≡ L.parts }
     requires sixteen { blank.parts ≡ 16 }
     requires book { opened.seen.book ≡ L.book }
     requires taking { (taking.name ≡ L.taking) × (taking.parts ≡ 1) }
+
+    // What the desk is opened on: the history that the file stands for, at this moment.
     requires opening { L.opening ≡ kept.state }
     requires seats { L.seats ≡ seats }
     requires begun { L.begun ≡ D.moment kept.log.device }
     requires lines { L.lines ≡ recovered (D.seen kept.log.device) }
     requires kept { IsKeptHistory D.Device kept }
+
+    // No connection came yet.
     requires first { N.accepted connections ≡ 0 }
+
+    // How the day ends, and what the exit statuses 0 and 3 tell.
     ensures ends { (text : List ℕ) × Appends (W.contents writer.old) (W.contents writer.new) text
         × EndsKeptDay I.Source O.Sink N.Accepts D.Device L.opening L.begun L.seats kept.log.device result text }
     ensures flushed { result.status ≡ 0 → W.flushed writer.new ≡ true }

@@ -193,12 +193,15 @@ fn serve_day<
     writer: &mut W,
     mover: &M,
 ) -> u8
+    // A new ledger of sixteen parts, and what the desk is opened on; no connection came yet.
     requires name { blank.name ≡ L.name }
     requires parts { blank.parts ≡ L.parts }
     requires sixteen { blank.parts ≡ 16 }
     requires opening { L.opening ≡ history }
     requires seats { L.seats ≡ seats }
     requires first { N.accepted connections ≡ 0 }
+
+    // What is printed, and what the exit statuses 0 and 3 tell.
     ensures prints { (text : List ℕ) × Appends (W.contents writer.old) (W.contents writer.new) text
         × EndsDay I.Source O.Sink N.Accepts whole L.opening seats result text }
     ensures flushed { result ≡ 0 → W.flushed writer.new ≡ true }

@@ -96,6 +96,7 @@ impl<const R: usize> Sparse<R> {
     /// [`SparseErr::OutOfParent`] where `index` is outside the parent. Where it is there already nothing changes and no
     /// memory is taken. After an error the set is as it was.
     pub fn add(&mut self, index: [i64; R]) -> Result<usize, SparseErr>
+        // The index is there afterwards, and is counted where it was not; the parent stays.
         ensures members { OnOk result ((i : List ℤ) → Contains self.new.indices i
             ↔ (Contains self.old.indices i ⊎ (i ≡ index.entry))) }
         ensures count { IfOk result (λ n. length self.new.indices ≡ length self.old.indices + n) }
@@ -104,6 +105,7 @@ impl<const R: usize> Sparse<R> {
         ensures absent { ¬ (Contains self.old.indices index.entry) → IfOk result (λ n. n ≡ 1) }
         ensures parent { self.new.parent ≡ self.old.parent }
 
+        // The index is inside the parent; outside it is refused, and nothing changes.
         ensures inside { OnOk result (Contains (product self.old.parent) index.entry) }
         ensures out_of_parent { (result ≡ Err SparseErr.OutOfParent) ↔ (¬ Contains (product self.old.parent) index.entry) }
         ensures err { OnErr result (self.new ≡ self.old) }

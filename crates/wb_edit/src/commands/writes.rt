@@ -232,11 +232,16 @@ fn exchange_elements(
     leaving: &[AnyIndex],
     coming: &[AnyIndex],
 ) -> Result<(), AttemptErr>
+    // Each array and each index is listed once, and none both leaves and comes.
     requires once { IsListedOnce (keys_of fills.now) }
     requires leaving { IsListedOnce leaving.now }
     requires coming { IsListedOnce coming.now }
     requires apart { AreApart leaving.now coming.now }
+
+    // No element is changed yet.
     requires new { (a : List ℕ) (i : Index) → changes cell_cmp delta.old (Element a i) ≡ false }
+
+    // The changes are added, or memory ran out.
     ensures ok { OnOk result (delta.new ≡ delta.old ++ elements_exchanged fills.now leaving.now coming.now) }
     ensures only { IfErr result (λ e. e ≡ NoMemory) }
 {
@@ -260,12 +265,17 @@ pub(crate) fn resize(
     leaving: &[AnyIndex],
     coming: &[AnyIndex],
 ) -> Result<(), AttemptErr>
+    // Each array and each index is listed once, and none both leaves and comes.
     requires once { IsListedOnce (keys_of fills.now) }
     requires leaving { IsListedOnce leaving.now }
     requires coming { IsListedOnce coming.now }
     requires apart { AreApart leaving.now coming.now }
+
+    // No index of the domain and no element is changed yet.
     requires members { (i : Index) → changes cell_cmp delta.old (index_cell domain.now.kind domain.now.name i) ≡ false }
     requires elements { (a : List ℕ) (i : Index) → changes cell_cmp delta.old (Element a i) ≡ false }
+
+    // The changes are added, or memory ran out.
     ensures ok { OnOk result (delta.new ≡ delta.old ++ resized_cells domain.now.kind domain.now.name fills.now leaving.now coming.now) }
     ensures only { IfErr result (λ e. e ≡ NoMemory) }
 {

@@ -98,14 +98,23 @@ impl<G: Group, C: Drop, E: Drop, T: Store<C, E> + Drop> Keeper<G, C, E, T> {
     /// Keeps all turns that wait at a desk, and gives the store back, which has all that were made there then. After an error
     /// it is what is left of a call that added turns to it.
     pub fn keep_all<W: Desk<G, C>>(self, alloc: Global, desk: &mut W) -> Result<T, (KeepErr<E>, T)>
+        // There is a ledger, and all of its parts are there.
         requires { (G.all ≡ G.parts) × (0 < G.all) }
+
+        // The store has all turns that were made, and leaves at any moment what one leaves that adds them.
         ensures kept { IfOk result (λ store. (self.is_open ≡ true) × T.has store (W.made desk.old)) }
         ensures any_moment { IfOk result (λ store. (turns : List C) × (W.made desk.old ≡ self.turns ++ turns) × T.leaves self.store store self.turns turns) }
+
+        // After an error: what is left, and why.
         ensures left { IfErr result (λ e. IsLeft T.has T.leaves (W.made desk.old) e.1) }
         ensures failed { IfErr result (λ e. (error : E) → e.0 ≡ KeepErr.Failed error → T.has self.store self.turns × ((turns : List C)
             × T.leaves self.store e.1 self.turns turns × T.tells error self.store e.1)) }
+
+        // A keeper that is closed leaves the store untouched.
         ensures stays { IfErr result (λ e. (self.is_open ≡ false) ↔ (e.0 ≡ KeepErr.Closed)) }
         ensures untouched { self.is_open ≡ false → IfErr result (λ e. e.1 ≡ self.store) }
+
+        // The desk has the turns that it had.
         ensures made { W.made desk.new ≡ W.made desk.old }
     {
         let Keeper {

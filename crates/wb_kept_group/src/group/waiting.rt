@@ -17,11 +17,16 @@ pub trait Desk<G: Group, C: Drop> {
 
     /// Takes all turns that wait. The share that says how many were taken says then that these were, too.
     fn take(&mut self, alloc: Global, mark: &mut Share<G>) -> Batch<G, C>
+        // The share is all of its ledger.
         requires whole { (mark.old.parts ≡ G.all) × (G.all ≡ G.parts) × (0 < G.all) }
+
+        // The batch: all turns that were made, behind those that were taken before.
         ensures told { mark.old.amount ≡ length (taken self.old) }
         ensures before { result.before ≡ taken self.old }
         ensures after { result.after ≡ made self.old }
         ensures turns { made self.old ≡ taken self.old ++ result.turns.items }
+
+        // All that were made are taken then, as the share says.
         ensures made { made self.new ≡ made self.old }
         ensures taken { taken self.new ≡ made self.old }
         ensures mark { (mark.new.parts ≡ mark.old.parts) × (mark.new.amount ≡ length (made self.old)) };

@@ -19,10 +19,13 @@ use wb_range::NoMemory;
 
 /// The numbers of the edits that have to be undone with the one at a place, from the greatest down.
 pub fn dependents_at(entries: &[Record], index: &mut Index, at: usize) -> Result<Vec<u64>, Refusal>
+    // The place is in the log, whose index this is.
     requires in_log { at < length entries.now }
     requires few { length entries.now < 2 ^ 63 }
     requires kept { IsShown entries.now }
     requires indexed { IsIndexed index.old entries.now }
+
+    // The numbers, or why there are none; the index is still the log's.
     ensures reply { IfOk result (λ v. DependentsReply (entries_meant entries.now) at (Ok v.items)) }
     ensures why { IfErr result (λ e. DependentsReply (entries_meant entries.now) at (Err e)) }
     ensures indexed { IsIndexed index.new entries.now }
@@ -47,14 +50,19 @@ fn undo_each<M: Mover>(
     undone: &[u64],
     mover: &M,
 ) -> (usize, usize)
+    // The log, its workbook and its index belong together, and each undo is free when its turn comes.
     requires few { length entries.old < 2 ^ 63 }
     requires kept { Shows entries.old book.old.cells }
     requires indexed { IsIndexed index.old entries.old }
     requires valid { AreValid (numbered_entries entries.old) }
     requires free { CanUndoAll (entries_meant entries.old) (places undone.now) }
+
+    // They belong together afterwards.
     ensures kept { Shows entries.new book.new.cells }
     ensures indexed { IsIndexed index.new entries.new }
     ensures valid { AreValid (numbered_entries entries.new) }
+
+    // How many are undone, from the first; fewer than all only where an undo wanted memory.
     ensures within { result.0 ≤ length undone.now }
     ensures undone { AreUndone (numbered_entries entries.old) book.old.writes (take result.0 undone.now) (numbered_entries entries.new) result.1
         book.new.writes }
@@ -86,22 +94,31 @@ pub fn undo_listed<M: Mover>(
     listed: &[u64],
     mover: &M,
 ) -> Result<(usize, usize), NoMemory>
+    // The log, its workbook and its index belong together, and the numbers are the dependents'.
     requires few { length entries.old < 2 ^ 63 }
     requires kept { Shows entries.old book.old.cells }
     requires indexed { IsIndexed index.old entries.old }
     requires valid { AreValid (numbered_entries entries.old) }
     requires listed { DependentsReply (entries_meant entries.old) at (Ok listed.now) }
+
+    // They belong together afterwards.
     ensures kept { Shows entries.new book.new.cells }
     ensures indexed { IsIndexed index.new entries.new }
     ensures valid { AreValid (numbered_entries entries.new) }
+
+    // How many are undone; fewer than all only where an undo wanted memory.
     ensures within { IfOk result (λ r. r.0 ≤ length listed.now) }
     ensures reply { IfOk result (λ r. CascadeReply (entries_meant entries.old) at (Ok (take r.0 listed.now, r.1))) }
     ensures whole { IfOk result (λ r. r.0 < length listed.now → has_wanted undoer.new ≡ true) }
     ensures wanted { OnErr result (has_wanted undoer.new ≡ true) }
+
+    // They are out of force; the others stay, with their cells; the cells set back are counted.
     ensures entries { IfOk result (λ r. numbered_entries entries.new ≡ all_out_of_force (take r.0 listed.now) (numbered_entries entries.old)) }
     ensures others { IfOk result (λ r. OthersStay (entries_meant entries.old) (places (take r.0 listed.now)) (entries_meant entries.new)) }
     ensures cells { IfOk result (λ r. OtherCellsStay (entries_meant entries.old) (places (take r.0 listed.now)) (entries_meant entries.new)) }
     ensures writes { IfOk result (λ r. book.new.writes ≡ written_more book.old.writes (set_back (entries_meant entries.old) (places (take r.0 listed.now)))) }
+
+    // Without memory nothing has changed.
     ensures entries_stay { OnErr result (numbered_entries entries.new ≡ numbered_entries entries.old) }
     ensures book_stays { OnErr result (book.new ≡ book.old) }
 {
@@ -122,21 +139,30 @@ pub fn cascade_at<M: Mover>(
     at: usize,
     mover: &M,
 ) -> Result<(Vec<u64>, usize), Refusal>
+    // The place is in the log, which belongs together with its workbook and its index.
     requires in_log { at < length entries.old }
     requires few { length entries.old < 2 ^ 63 }
     requires kept { Shows entries.old book.old.cells }
     requires indexed { IsIndexed index.old entries.old }
     requires valid { AreValid (numbered_entries entries.old) }
+
+    // They belong together afterwards.
     ensures kept { Shows entries.new book.new.cells }
     ensures indexed { IsIndexed index.new entries.new }
     ensures valid { AreValid (numbered_entries entries.new) }
+
+    // The answer: which edits are undone, or why none is.
     ensures reply { IfOk result (λ r. CascadeReply (entries_meant entries.old) at (Ok (r.0.items, r.1))) }
     ensures why { IfErr result (λ e. CascadeReply (entries_meant entries.old) at (Err e)) }
     ensures whole { IfOk result (λ r. has_wanted undoer.new ≡ false → DependentsReply (entries_meant entries.old) at (Ok r.0.items)) }
+
+    // They are out of force; the others stay, with their cells; the cells set back are counted.
     ensures entries { IfOk result (λ r. numbered_entries entries.new ≡ all_out_of_force r.0.items (numbered_entries entries.old)) }
     ensures others { IfOk result (λ r. OthersStay (entries_meant entries.old) (places r.0.items) (entries_meant entries.new)) }
     ensures cells { IfOk result (λ r. OtherCellsStay (entries_meant entries.old) (places r.0.items) (entries_meant entries.new)) }
     ensures writes { IfOk result (λ r. book.new.writes ≡ written_more book.old.writes (set_back (entries_meant entries.old) (places r.0.items))) }
+
+    // After a refusal nothing has changed.
     ensures entries_stay { OnErr result (numbered_entries entries.new ≡ numbered_entries entries.old) }
     ensures book_stays { OnErr result (book.new ≡ book.old) }
 {

@@ -28,14 +28,21 @@ pub fn add<M: Mover>(
     edit: Edit,
     mover: &M,
 ) -> Result<(u64, usize), Refusal>
+    // The log and its workbook belong together, and the edit is one.
     requires kept { Shows entries.old.items book.old.cells }
     requires valid { AreValid (numbered_entries entries.old.items) }
     requires valid_edit { IsValid edit }
+
+    // They belong together afterwards.
     ensures kept { Shows entries.new.items book.new.cells }
+
+    // The answer; the edit is the last of the log, and the cells that were set are counted.
     ensures reply { EditReply (entries_meant entries.old.items) (meaning edit) result }
     ensures entries { OnOk result (numbered_entries entries.new.items ≡ numbered_entries entries.old.items ++ record { edit = edit; in_force = true } ∷ []) }
     ensures appended { OnOk result ((x : Entry) × (entries.new.items ≡ entries.old.items ++ x ∷ [])) }
     ensures writes { IfOk result (λ r. book.new.writes ≡ written_more book.old.writes r.1) }
+
+    // After a refusal nothing has changed.
     ensures entries_stay { OnErr result (entries.new.items ≡ entries.old.items) }
     ensures book_stays { OnErr result (book.new ≡ book.old) }
 {
@@ -69,15 +76,22 @@ fn keep_new<M: Mover>(
     footprint: Footprint,
     mover: &M,
 ) -> Result<u64, NoMemory>
+    // The log and its workbook belong together, and the plan is the edit's.
     requires kept { Shows entries.old.items book.old.cells }
     requires outcome { outcome (meaning edit) book.old.cells ≡ Ok delta }
     requires reads { footprint ≡ reads (meaning edit) book.old.cells }
     requires well_formed { IsWellFormed (apply delta book.old.cells) }
+
+    // They belong together afterwards.
     ensures kept { Shows entries.new.items book.new.cells }
+
+    // The number; the edit is the last of the log, and the cells that were set are counted.
     ensures number { IfOk result (λ k. k ≡ length entries.old.items + 1) }
     ensures entries { OnOk result (numbered_entries entries.new.items ≡ numbered_entries entries.old.items ++ record { edit = edit; in_force = true } ∷ []) }
     ensures appended { OnOk result ((x : Entry) × (entries.new.items ≡ entries.old.items ++ x ∷ [])) }
     ensures writes { OnOk result (book.new.writes ≡ written_more book.old.writes (count_of delta)) }
+
+    // Without memory nothing has changed.
     ensures entries_stay { OnErr result (entries.new.items ≡ entries.old.items) }
     ensures book_stays { OnErr result (book.new ≡ book.old) }
 {

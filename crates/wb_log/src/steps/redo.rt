@@ -37,10 +37,13 @@ fn plan_again(
     index: &mut Index,
     at: usize,
 ) -> Result<(Delta, Footprint, usize), Refusal>
+    // The place is in the log, which belongs together with its workbook and its index.
     requires in_log { at < length entries.now }
     requires few { length entries.now < 2 ^ 63 }
     requires indexed { IsIndexed index.old entries.now }
     requires kept { Shows entries.now book.now.cells }
+
+    // The plan, or why there is none; the index is still the log's.
     ensures ok { IfOk result (λ p. PlansAgain entries.now at book.now.cells p.0 p.1 p.2) }
     ensures err { IfErr result (λ why. RedoReply (entries_meant entries.now) at (Err why)) }
     ensures indexed { IsIndexed index.new entries.now }
@@ -126,8 +129,11 @@ fn put_in<M: Mover>(
     footprint: Footprint,
     mover: &M,
 ) -> Result<(), NoMemory>
+    // The changes lead to a well-formed workbook.
     requires few { at < 2 ^ 63 }
     requires well_formed { IsWellFormed (apply delta book.old.cells) }
+
+    // The edit is kept with what takes it back, and the workbook and the index have it.
     ensures entry { OnOk result (entry.new ≡ record {
       edit = entry.old.edit;
       kept =
@@ -137,6 +143,8 @@ fn put_in<M: Mover>(
     ensures writes { OnOk result (book.new.writes ≡ written_more book.old.writes (count_of delta)) }
     ensures put { OnOk result ((count : ℕ) (footprints : Footprints) → Indexes index.old count footprints → footprints (at + 1) ≡ None →
         Indexes index.new count (with_footprint footprints (at + 1) (kept_in entry.new))) }
+
+    // Without memory nothing has changed.
     ensures entry_stays { OnErr result (entry.new ≡ entry.old) }
     ensures book_stays { OnErr result (book.new ≡ book.old) }
     ensures index_stays { OnErr result (index.new ≡ index.old) }
@@ -162,17 +170,24 @@ pub fn redo_at<M: Mover>(
     at: usize,
     mover: &M,
 ) -> Result<usize, Refusal>
+    // The place is in the log, which belongs together with its workbook and its index.
     requires in_log { at < length entries.old }
     requires few { length entries.old < 2 ^ 63 }
     requires kept { Shows entries.old book.old.cells }
     requires indexed { IsIndexed index.old entries.old }
     requires valid { AreValid (numbered_entries entries.old) }
+
+    // They belong together afterwards.
     ensures kept { Shows entries.new book.new.cells }
     ensures indexed { IsIndexed index.new entries.new }
+
+    // The answer; the edit is in force in its own place, and the cells that were set are counted.
     ensures reply { RedoReply (entries_meant entries.old) at result }
     ensures entries { OnOk result (numbered_entries entries.new ≡ into_force at (numbered_entries entries.old)) }
     ensures in_place { OnOk result (RedoesInPlace (entries_meant entries.old) at (entries_meant entries.new)) }
     ensures writes { IfOk result (λ n. book.new.writes ≡ written_more book.old.writes n) }
+
+    // After a refusal nothing has changed.
     ensures entries_stay { OnErr result (numbered_entries entries.new ≡ numbered_entries entries.old) }
     ensures book_stays { OnErr result (book.new ≡ book.old) }
 {

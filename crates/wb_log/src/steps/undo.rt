@@ -40,12 +40,17 @@ fn take_back<M: Mover>(
     at: usize,
     mover: &M,
 ) -> Result<usize, Refusal>
+    // What the edit wrote can be set back.
     requires few { at < 2 ^ 63 }
     requires well_formed { LeavesWellFormed entry.old book.old.cells }
+
+    // How many cells are set back, or why none is; the index has the edit no more.
     ensures ok { IfOk result (λ n. TakenBack entry.old n entry.new book.old book.new) }
     ensures why { IfErr result (λ e. e ≡ refusal_of entry.old) }
     ensures taken { OnOk result ((count : ℕ) (footprints : Footprints) → Indexes index.old count footprints → footprints (at + 1) ≡ kept_in entry.old →
         Indexes index.new count (with_footprint footprints (at + 1) None)) }
+
+    // After a refusal nothing has changed.
     ensures entry_stays { OnErr result (entry.new ≡ entry.old) }
     ensures book_stays { OnErr result (book.new ≡ book.old) }
     ensures index_stays { OnErr result (index.new ≡ index.old) }
@@ -72,19 +77,26 @@ fn undo_free<M: Mover>(
     at: usize,
     mover: &M,
 ) -> Result<usize, Refusal>
+    // The place is in the log, which belongs together with its workbook and its index; nothing blocks the undo.
     requires in_log { at < length entries.old }
     requires few { length entries.old < 2 ^ 63 }
     requires kept { Shows entries.old book.old.cells }
     requires indexed { IsIndexed index.old entries.old }
     requires valid { AreValid (numbered_entries entries.old) }
     requires free { MayUndo entries.old at None }
+
+    // They belong together afterwards.
     ensures kept { Shows entries.new book.new.cells }
     ensures indexed { IsIndexed index.new entries.new }
+
+    // The answer; the edit is out of force, its cells are set back and counted, and the others stay.
     ensures reply { UndoReply (entries_meant entries.old) at result }
     ensures entries { OnOk result (numbered_entries entries.new ≡ out_of_force at (numbered_entries entries.old)) }
     ensures set_back { OnOk result (SetsBack (entries_meant entries.old) at (entries_meant entries.new)) }
     ensures others { OnOk result (LeavesOthers (entries_meant entries.old) at (entries_meant entries.new)) }
     ensures writes { IfOk result (λ n. book.new.writes ≡ written_more book.old.writes n) }
+
+    // After a refusal nothing has changed.
     ensures entries_stay { OnErr result (numbered_entries entries.new ≡ numbered_entries entries.old) }
     ensures book_stays { OnErr result (book.new ≡ book.old) }
 {
@@ -99,18 +111,25 @@ pub fn undo_at<M: Mover>(
     at: usize,
     mover: &M,
 ) -> Result<usize, Refusal>
+    // The place is in the log, which belongs together with its workbook and its index.
     requires in_log { at < length entries.old }
     requires few { length entries.old < 2 ^ 63 }
     requires kept { Shows entries.old book.old.cells }
     requires indexed { IsIndexed index.old entries.old }
     requires valid { AreValid (numbered_entries entries.old) }
+
+    // They belong together afterwards.
     ensures kept { Shows entries.new book.new.cells }
     ensures indexed { IsIndexed index.new entries.new }
+
+    // The answer; the edit is out of force, its cells are set back and counted, and the others stay.
     ensures reply { UndoReply (entries_meant entries.old) at result }
     ensures entries { OnOk result (numbered_entries entries.new ≡ out_of_force at (numbered_entries entries.old)) }
     ensures set_back { OnOk result (SetsBack (entries_meant entries.old) at (entries_meant entries.new)) }
     ensures others { OnOk result (LeavesOthers (entries_meant entries.old) at (entries_meant entries.new)) }
     ensures writes { IfOk result (λ n. book.new.writes ≡ written_more book.old.writes n) }
+
+    // After a refusal nothing has changed.
     ensures entries_stay { OnErr result (numbered_entries entries.new ≡ numbered_entries entries.old) }
     ensures book_stays { OnErr result (book.new ≡ book.old) }
 {
@@ -127,17 +146,24 @@ pub fn undo_latest<M: Mover>(
     index: &mut Index,
     mover: &M,
 ) -> Result<(u64, usize), Refusal>
+    // The log, its workbook and its index belong together.
     requires few { length entries.old < 2 ^ 63 }
     requires kept { Shows entries.old book.old.cells }
     requires indexed { IsIndexed index.old entries.old }
     requires valid { AreValid (numbered_entries entries.old) }
+
+    // They belong together afterwards.
     ensures kept { Shows entries.new book.new.cells }
     ensures indexed { IsIndexed index.new entries.new }
+
+    // The answer; the edit is out of force, the workbook is as before it, and the others stay.
     ensures reply { LastReply (entries_meant entries.old) result }
     ensures entries { IfOk result (λ r. numbered_entries entries.new ≡ out_of_force (r.0 - 1) (numbered_entries entries.old)) }
     ensures restored { IfOk result (λ r. Restores (entries_meant entries.old) (r.0 - 1) (entries_meant entries.new)) }
     ensures others { IfOk result (λ r. LeavesOthers (entries_meant entries.old) (r.0 - 1) (entries_meant entries.new)) }
     ensures writes { IfOk result (λ r. book.new.writes ≡ written_more book.old.writes r.1) }
+
+    // After a refusal nothing has changed.
     ensures entries_stay { OnErr result (numbered_entries entries.new ≡ numbered_entries entries.old) }
     ensures book_stays { OnErr result (book.new ≡ book.old) }
 {

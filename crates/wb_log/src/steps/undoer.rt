@@ -40,16 +40,23 @@ impl Undoer {
         at: usize,
         mover: &M,
     ) -> Result<usize, NoMemory>
+        // The log, its workbook and its index belong together, and nothing blocks the undo.
         requires few { length entries.old < 2 ^ 63 }
         requires kept { Shows entries.old book.old.cells }
         requires indexed { IsIndexed index.old entries.old }
         requires valid { AreValid (numbered_entries entries.old) }
         requires free { IsFree (entries_meant entries.old) at }
+
+        // They belong together afterwards.
         ensures kept { Shows entries.new book.new.cells }
         ensures indexed { IsIndexed index.new entries.new }
+
+        // The answer; the edit is out of force, and the cells that were set back are counted.
         ensures reply { IfOk result (λ n. UndoReply (entries_meant entries.old) at (Ok n)) }
         ensures entries { OnOk result (numbered_entries entries.new ≡ out_of_force at (numbered_entries entries.old)) }
         ensures writes { IfOk result (λ n. book.new.writes ≡ written_more book.old.writes n) }
+
+        // Without memory nothing has changed, and the undoer knows that an undo wanted it.
         ensures entries_stay { OnErr result (numbered_entries entries.new ≡ numbered_entries entries.old) }
         ensures book_stays { OnErr result (book.new ≡ book.old) }
         ensures cause { has_wanted self.new ≡ is_err result }
