@@ -140,7 +140,7 @@ pub trait Store {
         ensures layout { same_layout self.old self.new }
         ensures holds { OnOk result (HoldsExactly Self.Index.cmp (contents self.new) (Self.Dom.indices old.now)) }
 
-        // Where the pairs were dropped from an array, its elements are as before.
+        // Where a `reshape` dropped the pairs from an array, its elements are as before that.
         ensures undoes { OnOk result ((before : List (Self.Index × ℤ)) → HoldsExactly Self.Index.cmp before (Self.Dom.indices old.now) →
             dropped ≡ left_out Self.Index.cmp before (Self.Dom.indices new.now) → AgreeOnCommon Self.Index.cmp before (contents self.old) → (q : Self.Index) →
             value_at Self.Index.cmp (contents self.new) q ≡ value_at Self.Index.cmp before q) }

@@ -39,7 +39,7 @@ impl<L: Ledger> Counted<L> {
         ensures seats { self.new.journal.seats ≡ self.old.journal.seats }
         ensures entries { length self.new.journal.entries ≡ share_after (length self.old.journal.entries) result }
 
-        // The total counts an entry, and so does the pass, which has it.
+        // An entry is counted in the total and in the share of the pass, which has it.
         ensures total { self.new.calls.total ≡ share_after self.old.calls.total result }
         ensures seat { pass.new.seat ≡ pass.old.seat }
         ensures own { pass.new.own ≡ own_after pass.old.seat pass.old.own request result }

@@ -162,7 +162,7 @@ pub fn serve<L: Opening, M: Mover>(
     ensures answers { AnswersCourse shared.old.course pass.old.seat request result shared.new.course }
     ensures left { leaves_all result ≡ true → shared.new.course.history ≡ shared.old.course.history }
 
-    // The total counts an entry, and so does the pass, which has it.
+    // An entry is counted in the total and in the share of the pass, which has it.
     ensures total { shared.new.total ≡ share_after shared.old.total result }
     ensures seat { pass.new.seat ≡ pass.old.seat }
     ensures own { pass.new.own ≡ own_after pass.old.seat pass.old.own request result }

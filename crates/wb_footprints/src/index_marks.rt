@@ -117,7 +117,7 @@ impl IndexMarks {
         self.blocks.join_in(points, after, waiting)
     }
 
-    // Those above `after` at a point.
+    // Those above `after` at a point join the numbers that wait.
     fn join_at(&self, point: Point, after: u64, waiting: &mut Numbers) -> Result<(), NoMemory>
         ensures { OnOk result (JoinedAfter waiting.old waiting.new (index_marked self.now (Index.Point point)) after) }
     {

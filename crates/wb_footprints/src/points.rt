@@ -64,7 +64,7 @@ impl Points {
         }
     }
 
-    /// How many there are.
+    /// How many points there are.
     pub fn len(&self) -> usize
         ensures value { result ≡ length self.now }
         ensures ascending { IsStrictlySortedBy point_cmp self.now }
@@ -86,8 +86,8 @@ impl Points {
         }
     }
 
-    /// Whether one of the others is one of them: of two rectangles by their ranges, and else by the points of one that is
-    /// none, up to the first that is one of the other.
+    /// Whether one of the other points is one of these: of two rectangles by their ranges, and else by the points of one that is
+    /// no rectangle, up to the first that is one of the other.
     pub fn meets(&self, others: &Points) -> bool
         ensures { result ≡ list_any (in_points self.now) others.now }
     {
@@ -97,7 +97,7 @@ impl Points {
         }
     }
 
-    // Whether one of the others, which are the points of a rectangle, is one of them.
+    // Whether one of the points of a rectangle is one of these.
     fn meets_area(&self, others: &Points, area: &AnyRect) -> bool
         requires { others.now ≡ product area.now }
         ensures { result ≡ list_any (in_points self.now) others.now }
@@ -108,7 +108,7 @@ impl Points {
         }
     }
 
-    // Whether one of the others is one of them.
+    // Whether one of the points of a list is one of these.
     fn has_one(&self, others: &[Point]) -> bool
         ensures { result ≡ list_any (in_points self.now) others.now }
     {
@@ -120,7 +120,7 @@ impl Points {
         false
     }
 
-    /// Whether the point is one of them: by the ranges of a rectangle, and else by a binary search where it lies between the
+    /// Whether the point is one of these: by the ranges of a rectangle, and else by a binary search where it lies between the
     /// first and the last.
     pub fn contains(&self, point: &Point) -> bool
         ensures { result ≡ in_points self.now point.now }

@@ -28,7 +28,7 @@ pub struct SweptCells {
 }
 
 impl SweptCells {
-    /// None yet.
+    /// A sweep that went through no cell and asked for no family.
     pub fn new(alloc: Global) -> SweptCells
         ensures { (index : FootIndex) (waiting : Numbers) (after : ℕ) → AreSwept index result waiting after }
     {

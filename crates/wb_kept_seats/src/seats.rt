@@ -187,7 +187,7 @@ impl<L: KeptOpening> Seats<L> {
         &self.shared
     }
 
-    /// What is shared.
+    /// What is shared, the history and the journal, given up.
     pub fn into_shared(self) -> Shared<L>
         ensures { result.course ≡ self.course }
     {

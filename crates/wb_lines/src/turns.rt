@@ -147,7 +147,7 @@ fn answer_lines<
     ensures err { OnErr result ((asked : List (List ℕ)) → AreTaken M.reads asked taken.old.items → (done rest : List (List ℕ))
         × (asked ≡ done ++ rest) × ((texts : List ℕ) × Replies (AnswersLine M.answers) state.old done texts state.new)) }
 
-    // Each line is answered or stays, and one is answered at least.
+    // Each line is answered or stays, and of some lines one is answered at least.
     ensures count { OnOk result (length replies.new.items + length taken.new.items ≡ length taken.old.items) }
     ensures some { OnOk result (0 < length taken.old.items → 0 < length replies.new.items) }
 {

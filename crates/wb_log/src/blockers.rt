@@ -40,7 +40,7 @@ fn is_named(pattern: &Pattern, cell: &Cell) -> bool
     pattern.matches(*cell)
 }
 
-// Whether the cell is one of those.
+// Whether the cell is one of some cells.
 fn is_listed(cells: &Changes, cell: &Cell) -> bool
     ensures { result ≡ covers workbook (patterns_of cells.now) cell.now }
 {

@@ -179,14 +179,14 @@ impl Element {
         Edit::Set(self.array, self.place, self.value)
     }
 
-    /// The cell that it changes.
+    /// The cell that the edit changes.
     pub(crate) fn cell(&self) -> Cell
         ensures { result ≡ cell.Element self.now.array self.now.place }
     {
         Cell::Element(self.array, self.place)
     }
 
-    /// What it reads.
+    /// What the edit reads.
     pub(crate) fn reads(&self) -> [Pattern; 2]
         ensures { result ≡ element_reads self.now.array self.now.place }
     {
@@ -205,14 +205,14 @@ impl Copied {
         Edit::Copy(self.array, self.place, self.source, self.from, self.more)
     }
 
-    /// The cell that it changes.
+    /// The cell that the edit changes.
     pub(crate) fn cell(&self) -> Cell
         ensures { result ≡ cell.Element self.now.array self.now.place }
     {
         Cell::Element(self.array, self.place)
     }
 
-    /// What it reads, where both elements are there.
+    /// What the edit reads, where both elements are there.
     pub(crate) fn reads(&self) -> [Pattern; 4]
         ensures { result ≡ copy_reads self.now.array self.now.place self.now.source self.now.from }
     {
@@ -233,14 +233,14 @@ impl Implicit {
         Edit::Irv(self.array, self.value)
     }
 
-    /// The cell that it changes.
+    /// The cell that the edit changes.
     pub(crate) fn cell(&self) -> Cell
         ensures { result ≡ cell.Implicit self.now.array }
     {
         Cell::Implicit(self.array)
     }
 
-    /// What it reads.
+    /// What the edit reads.
     pub(crate) fn reads(&self) -> [Pattern; 1]
         ensures { result ≡ implicit_reads self.now.array }
     {

@@ -81,7 +81,7 @@ impl<'a> Files<'a> {
         self.told
     }
 
-    /// The system's words for it.
+    /// The system's words for why no journal is kept, or no more of it.
     pub fn cause(&self) -> Option<io::Error> {
         self.cause
     }

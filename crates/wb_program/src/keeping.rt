@@ -119,7 +119,7 @@ pub(crate) fn serve_from<D: Device, R: Source, W: Sink, M: Mover>(
     }
 }
 
-/// How it comes out where a journal is not opened.
+/// How a command comes out whose journal is not opened.
 pub(crate) fn turned_away<D, W: Sink>(
     alloc: Global,
     why: OpenKeptErr,

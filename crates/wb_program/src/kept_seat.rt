@@ -65,7 +65,7 @@ impl<D: Device> Failing<D> {
         }
     }
 
-    /// Whether it has, where a desk was not settled for this cause.
+    /// Whether a commit was refused since the file failed, after a desk was not settled for this cause.
     pub(crate) fn after(self, cause: SettleErr) -> Failing<D>
         requires { cause ≡ SettleErr.NotKept CommitErr.DiskFault → FailsOnce D.faults }
     {
@@ -77,7 +77,7 @@ impl<D: Device> Failing<D> {
         }
     }
 
-    /// Whether it has.
+    /// Whether a commit was refused since the file failed.
     pub(crate) fn has_failed(&self) -> bool
         ensures { result ≡ true → FailsOnce D.faults }
     {

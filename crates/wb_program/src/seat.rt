@@ -44,7 +44,7 @@ impl Holds for Hold {
 }
 
 impl Hold {
-    /// Of a turn that has not begun.
+    /// What is held and spent of a turn that has not begun: nothing.
     pub(crate) fn unspent() -> Hold
         ensures { result ≡ record { is_held = false; spent = 0; answered = 0 } }
     {

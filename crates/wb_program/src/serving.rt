@@ -142,7 +142,7 @@ fn shown(alloc: Global, history: &History, whole: bool) -> Result<String, NoMemo
     }
 }
 
-// The number of entries, and that text.
+// The number of entries, and the text of the workbook or of the whole history.
 fn settled_text<L: Opening>(
     alloc: Global,
     shared: &Shared<L>,

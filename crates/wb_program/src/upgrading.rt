@@ -38,7 +38,7 @@ fn loaded<M: Mover>(alloc: Global, text: BookText, mover: &M) -> Result<History,
     }
 }
 
-// The text of that history.
+// The text of the history whose one edit is the load of this text.
 fn text_of_load<M: Mover>(alloc: Global, text: BookText, mover: &M) -> Result<String, NoMemory>
     ensures text { IfOk result (λ t. string_bytes t ≡ history_text (loaded text)) }
     ensures upgraded { OnOk result (IsUpgraded text) }
@@ -49,7 +49,7 @@ fn text_of_load<M: Mover>(alloc: Global, text: BookText, mover: &M) -> Result<St
     print_history(alloc, &history)
 }
 
-// The text of the history of its load, where the bytes are the text of a workbook.
+// The text of the history whose one edit is the load of these bytes, where they are the text of a workbook.
 fn upgraded<M: Mover>(alloc: Global, bytes: &[u8], mover: &M) -> Result<Option<String>, NoMemory>
     ensures some { IfOk result (λ r. IfSome r (λ t. IsUpgraded bytes.now × (string_bytes t ≡ history_text (loaded bytes.now)))) }
     ensures none { IfOk result (λ r. IfNone r (HasNoBook bytes.now)) }

@@ -21,7 +21,7 @@ pub enum Pattern {
 }
 
 impl Pattern {
-    /// Whether the cell is one of these.
+    /// Whether the pattern names the cell.
     pub fn matches(&self, cell: Cell) -> bool
         ensures { result ≡ matches self.now cell }
     {

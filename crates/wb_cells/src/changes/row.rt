@@ -95,7 +95,7 @@ impl Row {
         }
     }
 
-    /// The index of a cell, if it is one of these.
+    /// The index of a cell, if the cell is one of the row.
     pub(crate) fn index_of(&self, cell: &Cell) -> Option<AnyIndex>
         ensures { IfSome result (λ i. cell.now ≡ cell_of self.now i) }
     {

@@ -118,7 +118,7 @@ impl<C> Opened<C> {
         }
     }
 
-    /// Its word, and the beginning that has no turn.
+    /// The word of the book, and the beginning that has no turn.
     pub(crate) fn of<G: Group>(self) -> (Count<G, C>, Front<G, C>)
         requires { self.seen.book ≡ G.book }
         ensures { result.1 ≡ [] }
@@ -139,14 +139,14 @@ impl<C> Opened<C> {
 }
 
 impl<G: Group, C> Front<G, C> {
-    /// How many turns it has.
+    /// How many turns the beginning has.
     pub fn len(&self) -> u64
         ensures { result ≡ length self.now }
     {
         self.count
     }
 
-    /// A copy.
+    /// A copy of the beginning.
     pub fn again(&self) -> Front<G, C>
         ensures { result ≡ self.now }
     {
@@ -166,7 +166,7 @@ impl<G: Group, C> Front<G, C> {
         self.count <= other.count
     }
 
-    /// Two of one length are the same.
+    /// Two beginnings of one length are the same.
     pub fn agrees(&self, other: &Front<G, C>)
         requires { length self.now ≡ length other.now }
         ensures { self.now ≡ other.now }

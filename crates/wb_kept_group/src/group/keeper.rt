@@ -98,7 +98,7 @@ impl<G: Group, C: Drop, E: Drop, T: Store<C, E> + Drop> Keeper<G, C, E, T> {
     /// Keeps all turns that wait at a desk, and gives the store back, which has all that were made there then. After an error
     /// it is what is left of a call that added turns to it.
     pub fn keep_all<W: Desk<G, C>>(self, alloc: Global, desk: &mut W) -> Result<T, (KeepErr<E>, T)>
-        // There is a ledger, and all of its parts are there.
+        // The group has all parts of its ledger, and there are some.
         requires { (G.all ≡ G.parts) × (0 < G.all) }
 
         // The store has all turns that were made, and leaves at any moment what one leaves that adds them.

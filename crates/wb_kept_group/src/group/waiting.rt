@@ -17,7 +17,7 @@ pub trait Desk<G: Group, C: Drop> {
 
     /// Takes all turns that wait. The share that says how many were taken says then that these were, too.
     fn take(&mut self, alloc: Global, mark: &mut Share<G>) -> Batch<G, C>
-        // The share is all of its ledger.
+        // The share has all parts of the ledger, and there are some.
         requires whole { (mark.old.parts ≡ G.all) × (G.all ≡ G.parts) × (0 < G.all) }
 
         // The batch: all turns that were made, behind those that were taken before.

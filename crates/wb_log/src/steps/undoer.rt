@@ -24,7 +24,7 @@ pub struct Undoer {
 }
 
 impl Undoer {
-    /// It made no undo.
+    /// An undoer that made no undo.
     pub fn new() -> Undoer
         ensures { has_wanted result ≡ false }
     {

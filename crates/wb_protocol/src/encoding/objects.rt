@@ -9,7 +9,7 @@ use serde_json::{Value, json};
 use std::alloc::{AllocError, Global};
 use wb_cells::{AnyIndex, Name};
 
-/// `d`, `is`, `map`.
+/// The members `d`, `is`, `map` and `op`.
 pub(crate) fn new_domain(alloc: Global, d: &Name, is: &str, map: &str) -> Result<Value, AllocError>
     ensures { IfOk result (λ v. view v ≡ object (member (codes "d") (string d.now)
         (member (codes "is") (string is.now) (member (codes "map") (string map.now) (member (codes "op") (string (codes "domain")) no_members))))) }
@@ -17,7 +17,7 @@ pub(crate) fn new_domain(alloc: Global, d: &Name, is: &str, map: &str) -> Result
     json!(in alloc; {"d": d.as_str(), "is": is, "map": map, "op": "domain"})
 }
 
-/// `d`, `map`.
+/// The members `d`, `map` and `op`.
 pub(crate) fn remapped(alloc: Global, d: &Name, map: &str) -> Result<Value, AllocError>
     ensures { IfOk result (λ v. view v ≡ object (member (codes "d") (string d.now)
         (member (codes "map") (string map.now) (member (codes "op") (string (codes "remap")) no_members)))) }
@@ -25,7 +25,7 @@ pub(crate) fn remapped(alloc: Global, d: &Name, map: &str) -> Result<Value, Allo
     json!(in alloc; {"d": d.as_str(), "map": map, "op": "remap"})
 }
 
-/// `d`, `of`.
+/// The members `d`, `of` and `op`.
 pub(crate) fn domain_of(alloc: Global, op: &str, d: &Name, of: &str) -> Result<Value, AllocError>
     ensures { IfOk result (λ v. view v ≡ object (member (codes "d") (string d.now)
         (member (codes "of") (string of.now) (member (codes "op") (string op.now) no_members)))) }
@@ -49,7 +49,7 @@ pub fn index_of_domain(alloc: Global, op: &str, d: &Name, i: &AnyIndex) -> Resul
     json!(in alloc; {"d": d.as_str(), "i": &i, "op": op})
 }
 
-/// `a`, `d`.
+/// The members `a`, `d` and `op`.
 pub(crate) fn new_array(alloc: Global, a: &Name, d: &Name) -> Result<Value, AllocError>
     ensures { IfOk result (λ v. view v ≡ object (member (codes "a") (string a.now)
         (member (codes "d") (string d.now) (member (codes "op") (string (codes "array")) no_members)))) }
@@ -57,14 +57,14 @@ pub(crate) fn new_array(alloc: Global, a: &Name, d: &Name) -> Result<Value, Allo
     json!(in alloc; {"a": a.as_str(), "d": d.as_str(), "op": "array"})
 }
 
-/// `a`.
+/// The members `a` and `op`.
 pub(crate) fn of_array(alloc: Global, op: &str, a: &Name) -> Result<Value, AllocError>
     ensures { IfOk result (λ v. view v ≡ object (member (codes "a") (string a.now) (member (codes "op") (string op.now) no_members))) }
 {
     json!(in alloc; {"a": a.as_str(), "op": op})
 }
 
-/// `a`, `i`, `v`.
+/// The members `a`, `i`, `op` and `v`.
 pub(crate) fn new_element(
     alloc: Global,
     a: &Name,
@@ -78,7 +78,7 @@ pub(crate) fn new_element(
     json!(in alloc; {"a": a.as_str(), "i": &i, "op": "set", "v": v})
 }
 
-/// `a`, `on`, `v`.
+/// The members `a`, `on`, `op` and `v`.
 pub(crate) fn filled(alloc: Global, a: &Name, on: &str, v: i64) -> Result<Value, AllocError>
     ensures { IfOk result (λ x. view x ≡ object (member (codes "a") (string a.now)
         (member (codes "on") (string on.now) (member (codes "op") (string (codes "fill")) (member (codes "v") (integer_data v) no_members))))) }
@@ -86,7 +86,7 @@ pub(crate) fn filled(alloc: Global, a: &Name, on: &str, v: i64) -> Result<Value,
     json!(in alloc; {"a": a.as_str(), "on": on, "op": "fill", "v": v})
 }
 
-/// `a`, `v`.
+/// The members `a`, `op` and `v`.
 pub(crate) fn array_with(alloc: Global, op: &str, a: &Name, v: i64) -> Result<Value, AllocError>
     ensures { IfOk result (λ x. view x ≡ object (member (codes "a") (string a.now)
         (member (codes "op") (string op.now) (member (codes "v") (integer_data v) no_members)))) }
@@ -94,7 +94,7 @@ pub(crate) fn array_with(alloc: Global, op: &str, a: &Name, v: i64) -> Result<Va
     json!(in alloc; {"a": a.as_str(), "op": op, "v": v})
 }
 
-/// `a`, `b`, `c`, `i`, `j`.
+/// The members `a`, `b`, `c`, `i`, `j` and `op`.
 pub(crate) fn copied(
     alloc: Global,
     a: &Name,
@@ -112,7 +112,7 @@ pub(crate) fn copied(
     json!(in alloc; {"a": a.as_str(), "b": b.as_str(), "c": c, "i": &i, "j": &j, "op": "copy"})
 }
 
-/// `a`, `b`, `how`.
+/// The members `a`, `b`, `how` and `op`.
 pub(crate) fn combined(alloc: Global, a: &Name, how: &str, b: &Name) -> Result<Value, AllocError>
     ensures { IfOk result (λ v. view v ≡ object (member (codes "a") (string a.now)
         (member (codes "b") (string b.now) (member (codes "how") (string how.now) (member (codes "op") (string (codes "all")) no_members))))) }
@@ -120,14 +120,14 @@ pub(crate) fn combined(alloc: Global, a: &Name, how: &str, b: &Name) -> Result<V
     json!(in alloc; {"a": a.as_str(), "b": b.as_str(), "how": how, "op": "all"})
 }
 
-/// `text`.
+/// The members `op` and `text`.
 pub(crate) fn loaded(alloc: Global, text: &str) -> Result<Value, AllocError>
     ensures { IfOk result (λ v. view v ≡ object (member (codes "op") (string (codes "load")) (member (codes "text") (string text.now) no_members))) }
 {
     json!(in alloc; {"op": "load", "text": text})
 }
 
-/// `d`, `or`.
+/// The members `d`, `op` and `or`.
 pub(crate) fn united(alloc: Global, d: &Name, other: &str) -> Result<Value, AllocError>
     ensures { IfOk result (λ v. view v ≡ object (member (codes "d") (string d.now)
         (member (codes "op") (string (codes "reshape")) (member (codes "or") (string other.now) no_members)))) }
@@ -135,7 +135,7 @@ pub(crate) fn united(alloc: Global, d: &Name, other: &str) -> Result<Value, Allo
     json!(in alloc; {"d": d.as_str(), "op": "reshape", "or": other})
 }
 
-/// `and`, `d`.
+/// The members `and`, `d` and `op`.
 pub(crate) fn intersected(alloc: Global, d: &Name, other: &str) -> Result<Value, AllocError>
     ensures { IfOk result (λ v. view v ≡ object (member (codes "and") (string other.now)
         (member (codes "d") (string d.now) (member (codes "op") (string (codes "reshape")) no_members)))) }
@@ -143,7 +143,7 @@ pub(crate) fn intersected(alloc: Global, d: &Name, other: &str) -> Result<Value,
     json!(in alloc; {"and": other, "d": d.as_str(), "op": "reshape"})
 }
 
-/// `d`, `minus`.
+/// The members `d`, `minus` and `op`.
 pub(crate) fn diminished(alloc: Global, d: &Name, other: &str) -> Result<Value, AllocError>
     ensures { IfOk result (λ v. view v ≡ object (member (codes "d") (string d.now)
         (member (codes "minus") (string other.now) (member (codes "op") (string (codes "reshape")) no_members)))) }
@@ -151,7 +151,7 @@ pub(crate) fn diminished(alloc: Global, d: &Name, other: &str) -> Result<Value, 
     json!(in alloc; {"d": d.as_str(), "minus": other, "op": "reshape"})
 }
 
-/// `d`, `xor`.
+/// The members `d`, `op` and `xor`.
 pub(crate) fn exchanged(alloc: Global, d: &Name, other: &str) -> Result<Value, AllocError>
     ensures { IfOk result (λ v. view v ≡ object (member (codes "d") (string d.now)
         (member (codes "op") (string (codes "reshape")) (member (codes "xor") (string other.now) no_members)))) }

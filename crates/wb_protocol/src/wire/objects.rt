@@ -9,7 +9,7 @@ use serde_json::{Value, json};
 use std::alloc::{AllocError, Global};
 use wb_cells::{AnyIndex, Name};
 
-/// `a`, `i`.
+/// The members `a`, `i` and `op`.
 pub(crate) fn element(alloc: Global, a: &Name, i: &AnyIndex) -> Result<Value, AllocError>
     ensures { IfOk result (λ v. view v ≡ object (member (codes "a") (string a.now)
         (member (codes "i") (index_data i.now) (member (codes "op") (string (codes "get")) no_members)))) }
@@ -18,14 +18,14 @@ pub(crate) fn element(alloc: Global, a: &Name, i: &AnyIndex) -> Result<Value, Al
     json!(in alloc; {"a": a.as_str(), "i": &i, "op": "get"})
 }
 
-/// `k`.
+/// The members `k` and `op`.
 pub(crate) fn by_number(alloc: Global, op: &str, k: u64) -> Result<Value, AllocError>
     ensures { IfOk result (λ v. view v ≡ object (member (codes "k") (number (unsigned k)) (member (codes "op") (string op.now) no_members))) }
 {
     json!(in alloc; {"k": k, "op": op})
 }
 
-/// `a`, `l`.
+/// The members `a`, `l` and `op`.
 pub(crate) fn piece(alloc: Global, a: &Name, l: u64) -> Result<Value, AllocError>
     ensures { IfOk result (λ v. view v ≡ object (member (codes "a") (string a.now)
         (member (codes "l") (number (unsigned l)) (member (codes "op") (string (codes "piece")) no_members)))) }
@@ -33,7 +33,7 @@ pub(crate) fn piece(alloc: Global, a: &Name, l: u64) -> Result<Value, AllocError
     json!(in alloc; {"a": a.as_str(), "l": l, "op": "piece"})
 }
 
-/// `a`, `how`.
+/// The members `a`, `how` and `op`.
 pub(crate) fn reduction(alloc: Global, a: &Name, how: &str) -> Result<Value, AllocError>
     ensures { IfOk result (λ v. view v ≡ object (member (codes "a") (string a.now)
         (member (codes "how") (string how.now) (member (codes "op") (string (codes "reduce")) no_members)))) }
@@ -41,7 +41,7 @@ pub(crate) fn reduction(alloc: Global, a: &Name, how: &str) -> Result<Value, All
     json!(in alloc; {"a": a.as_str(), "how": how, "op": "reduce"})
 }
 
-/// No member but the op.
+/// The member `op` alone.
 pub(crate) fn plain(alloc: Global, op: &str) -> Result<Value, AllocError>
     ensures { IfOk result (λ v. view v ≡ object (member (codes "op") (string op.now) no_members)) }
 {
