@@ -7,10 +7,10 @@ use Rattle.wb_command.specs.declared.Asked.{Asked}
 use Rattle.wb_command.specs.declared.Asked.TheVariants.{Serve}
 use Rattle.wb_history.specs.Past.{Past}
 use Rattle.wb_program.specs.Doing.{Fails, FailsAfterInput, FailsToHost, Finishes}
-use Rattle.wb_program.specs.Resuming.{IsOpening}
-use Rattle.wb_program.specs.Running.{HasFailed, opening}
+use Rattle.wb_sessions.specs.Resuming.{IsOpening}
+use Rattle.wb_sessions.specs.Running.{HasFailed, opening}
 use Rattle.wb_program.specs.declared.accepting.Accepts as Accepts
-use Rattle.wb_program.proofs.Sent.{no_fault_of_0}
+use Rattle.wb_sessions.proofs.Sent.{no_fault_of_0}
 
 -- The status after an input that has no history is not 0.
 pub no_opening_of_0 : (status : ℕ) (read text : List ℕ) → status ≡ 0 → IsOpening (Err status) read text → ⊥

@@ -19,8 +19,8 @@ use Rattle.wb_program.specs.Days.{AllBack}
 use Rattle.wb_program.specs.KeptDays.{BreaksOff, EndsKeptDay, FailsKeptDay, HasNoDesk, LeavesDesk, SettlesKept}
 use Rattle.wb_program.specs.KeptSeats.{FailsOnce}
 use Rattle.wb_program.specs.declared.accepting.Accepts as Accepts
-use Rattle.wb_program.specs.declared.files.FileFault.TheVariants.{Failed}
-use Rattle.wb_program.specs.declared.keeping.KeptRun.{KeptRun}
+use Rattle.wb_sessions.specs.declared.files.FileFault.TheVariants.{Failed}
+use Rattle.wb_sessions.specs.declared.keeping.KeptRun.{KeptRun}
 use Rattle.wb_program.proofs.Ending.{disagrees}
 
 of_passes : (k : KeptCourse) (ps : List Held) (cause : SettleErr) (why : Cause) → cause ≡ Passes why → IsSettleCause k ps cause

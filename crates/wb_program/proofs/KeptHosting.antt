@@ -6,11 +6,11 @@ use Rattle.wb_lines.specs.declared.sink.Sink as Sink
 use Rattle.wb_lines.specs.declared.source.Source as Source
 use Rattle.wb_command.specs.declared.Asked.{Asked}
 use Rattle.wb_command.specs.declared.Asked.TheVariants.{ServeKept}
-use Rattle.wb_program.specs.Keeping.{ReadsNothing, Streams, its_writer}
+use Rattle.wb_sessions.specs.Keeping.{ReadsNothing, Streams, its_writer}
 use Rattle.wb_program.specs.KeptDays.{KeepsDay, RunsDesk, UsesDesk}
 use Rattle.wb_program.specs.declared.accepting.Accepts as Accepts
-use Rattle.wb_program.specs.declared.files.OpensFiles as OpensFiles
-use Rattle.wb_program.specs.declared.keeping.KeptRun.{KeptRun}
+use Rattle.wb_sessions.specs.declared.files.OpensFiles as OpensFiles
+use Rattle.wb_sessions.specs.declared.keeping.KeptRun.{KeptRun}
 use Rattle.wb_program.proofs.Used.{did_nothing}
 
 module _ {I O N D : Type 0} (source : Source.Ghosts I) (sink : Sink.Ghosts O) (accepts : Accepts.Ghosts N I O) (device : Device.Ghosts D) where

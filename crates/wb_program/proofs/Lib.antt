@@ -1,17 +1,9 @@
-pub mod Statuses
-pub mod Opening
-pub mod Loading
-pub mod Sent
 pub mod Reading
 pub mod Seated
 pub mod Ending
 pub mod Hosting
 pub mod Finishing
-pub mod Opened
-pub mod Begun
-pub mod MadeAnew
 pub mod Used
-pub mod Judged
 pub mod KeptReading
 pub mod KeptEnding
 pub mod KeptHosting

@@ -6,13 +6,13 @@ use Rattle.wb_command.specs.declared.Asked.{Asked}
 use Rattle.wb_command.specs.declared.Asked.TheVariants.{Compact, RunKept}
 use Rattle.wb_keep.specs.declared.disk.device.Device as Device
 use Rattle.wb_program.specs.Files.{UsesFiles}
-use Rattle.wb_program.specs.Keeping.{DoesNothing, ReadsNothing, RunsKept, Streams, UsesFile, its_writer}
+use Rattle.wb_sessions.specs.Keeping.{DoesNothing, ReadsNothing, RunsKept, Streams, UsesFile, its_writer}
 use Rattle.wb_history.specs.Past.{Past}
-use Rattle.wb_program.specs.Beginning.{BeginsAt, RunsBegun}
-use Rattle.wb_program.specs.Compacting.{Compacts}
-use Rattle.wb_program.specs.declared.files.OpensFiles as OpensFiles
-use Rattle.wb_program.specs.declared.keeping.KeptRun.{KeptRun}
-use Rattle.wb_program.proofs.Begun.{reads_behind}
+use Rattle.wb_sessions.specs.Beginning.{BeginsAt, RunsBegun}
+use Rattle.wb_sessions.specs.Compacting.{Compacts}
+use Rattle.wb_sessions.specs.declared.files.OpensFiles as OpensFiles
+use Rattle.wb_sessions.specs.declared.keeping.KeptRun.{KeptRun}
+use Rattle.wb_sessions.proofs.Begun.{reads_behind}
 
 pub nothing_consumed : (o : Option (List ℕ)) → Consumes o o []
 nothing_consumed None = tt

@@ -7,13 +7,13 @@ use Rattle.wb_lines.specs.declared.source.Source as Source
 use Rattle.wb_history.specs.Past.{Past}
 use Rattle.wb_command.specs.declared.Asked.{Asked}
 use Rattle.wb_command.specs.declared.Asked.TheVariants as ask
-use Rattle.wb_program.specs.Checking.{IsAnswered, IsNoRecord, IsFault, Judges, Says}
+use Rattle.wb_sessions.specs.Checking.{IsAnswered, IsNoRecord, IsFault, Judges, Says}
 use Rattle.wb_program.specs.Days.{EndsDay, FailsDay}
-use Rattle.wb_program.specs.Resuming.{IsRecord, IsResumed}
-use Rattle.wb_program.specs.Running.{HasFailed, HasFailedByNow, ServesFromEmpty, opening, status_of}
-use Rattle.wb_program.specs.Upgrading.{Upgrades}
+use Rattle.wb_sessions.specs.Resuming.{IsRecord, IsResumed}
+use Rattle.wb_sessions.specs.Running.{HasFailed, HasFailedByNow, ServesFromEmpty, opening, status_of}
+use Rattle.wb_sessions.specs.Upgrading.{Upgrades}
 use Rattle.wb_program.specs.declared.accepting.Accepts as Accepts
-use Rattle.wb_program.specs.declared.checking.Verdict.TheVariants.{Refused}
+use Rattle.wb_sessions.specs.declared.checking.Verdict.TheVariants.{Refused}
 
 -- a session from the empty workbook ended with this status
 abbrev pub IsRun : ℕ → (read : List ℕ) → (left : Option (List ℕ)) → List ℕ → Type 0

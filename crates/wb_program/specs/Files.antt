@@ -3,10 +3,10 @@ use Rattle.std.specs.Prelude.{◌≡◌, ℕ, true, false}
 use Rattle.wb_command.specs.declared.Asked.{Asked}
 use Rattle.wb_command.specs.declared.Asked.TheVariants as ask
 use Rattle.wb_keep.specs.declared.disk.device.Device as Device
-use Rattle.wb_program.specs.Beginning.{BeginsAt}
-use Rattle.wb_program.specs.Compacting.{Compacts}
-use Rattle.wb_program.specs.Keeping.{ReadsNothing, RunsKept, Streams, UsesFile, its_writer}
-use Rattle.wb_program.specs.declared.files.OpensFiles as OpensFiles
+use Rattle.wb_sessions.specs.Beginning.{BeginsAt}
+use Rattle.wb_sessions.specs.Compacting.{Compacts}
+use Rattle.wb_sessions.specs.Keeping.{ReadsNothing, RunsKept, Streams, UsesFile, its_writer}
+use Rattle.wb_sessions.specs.declared.files.OpensFiles as OpensFiles
 
 module _ {D J H : Type 0} (device : Device.Ghosts D) (files : OpensFiles.Ghosts J D H) where
   -- A session with a journal opens one, what makes one anew, and a desk with one. No other command does.

@@ -13,17 +13,17 @@ use Rattle.wb_history.specs.Past.{Past}
 use Rattle.wb_desk.specs.Courses.{IsCourse}
 use Rattle.wb_command.specs.declared.Asked.{Asked}
 use Rattle.wb_command.specs.declared.Asked.TheVariants as ask
-use Rattle.wb_program.specs.Checking.{IsFault}
+use Rattle.wb_sessions.specs.Checking.{IsFault}
 use Rattle.wb_program.specs.Days.{FailsDay, IsDay}
 use Rattle.wb_program.specs.Doing.{listening}
-use Rattle.wb_program.specs.Keeping.{FailsToOpen, IsKeptHistory, IsNotOpened, IsOpened, ReadsNothing, RefusesFile, RefusesLines, Streams, its_writer}
+use Rattle.wb_sessions.specs.Keeping.{FailsToOpen, IsKeptHistory, IsNotOpened, IsOpened, ReadsNothing, RefusesFile, RefusesLines, Streams, its_writer}
 use Rattle.wb_program.specs.KeptSeats.{FailsOnce}
 use Rattle.wb_program.specs.Serving.{NeverSettles, PrintsSettled}
 use Rattle.wb_program.specs.declared.accepting.Accepts as Accepts
-use Rattle.wb_program.specs.declared.files.FileFault.{FileFault}
-use Rattle.wb_program.specs.declared.files.FileFault.TheVariants as faults
-use Rattle.wb_program.specs.declared.files.OpensFiles as OpensFiles
-use Rattle.wb_program.specs.declared.keeping.KeptRun.{KeptRun}
+use Rattle.wb_sessions.specs.declared.files.FileFault.{FileFault}
+use Rattle.wb_sessions.specs.declared.files.FileFault.TheVariants as faults
+use Rattle.wb_sessions.specs.declared.files.OpensFiles as OpensFiles
+use Rattle.wb_sessions.specs.declared.keeping.KeptRun.{KeptRun}
 
 module _ {D : Type 0} (device : Device.Ghosts D) where
   -- Nothing is told of the file; or that it failed, with status 3, which it did.

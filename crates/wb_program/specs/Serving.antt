@@ -14,7 +14,7 @@ use Rattle.wb_desk.specs.Seats.{IsNumberOfSeats}
 use Rattle.wb_desk.specs.Serving.{Held, own_after, share_after, AnswersSome}
 use Rattle.wb_text.specs.Lines.{book_text}
 use Rattle.wb_protocol.specs.Encoding.Text.{history_text}
-use Rattle.wb_program.specs.Checking.{IsFault, IsPrinted}
+use Rattle.wb_sessions.specs.Checking.{IsFault, IsPrinted}
 
 -- a pass after a reply to its request
 abbrev pub held_after : Held → Request → Reply → Held

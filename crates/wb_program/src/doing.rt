@@ -2,31 +2,22 @@
 ghost use Rattle.std.specs.Prelude.{◌≡◌, ◌⊎◌, ◌++◌, ℕ, List, true, false, IfOk, IfErr, take};
 ghost use Rattle.std.specs.Io.KnownBytes.{Appends, Consumes, IsAtEnd};
 ghost use Rattle.wb_desk.specs.Openings.{nothing_done};
-ghost use Rattle.wb_program.specs.Checking.{IsFault};
-ghost use Rattle.wb_program.specs.Reasons.{Tells, TellsWhy, WhyNoHistory};
-ghost use Rattle.wb_program.specs.Resuming.{left_in, failed_in, reads_in};
-ghost use Rattle.wb_program.specs.Running.{HasFailed};
+ghost use Rattle.wb_sessions.specs.Checking.{IsFault};
+ghost use Rattle.wb_sessions.specs.Reasons.{Tells, WhyNoHistory};
+ghost use Rattle.wb_program.specs.Telling.{TellsWhy};
+ghost use Rattle.wb_sessions.specs.Resuming.{left_in, failed_in, reads_in};
+ghost use Rattle.wb_sessions.specs.Running.{HasFailed};
 ghost use Rattle.wb_keeping.specs.Opening.{IsOpening};
-ghost use Rattle.wb_program.specs.Beginning.{BeginsAt, RunsBegun};
-ghost use Rattle.wb_program.specs.Compacting.{Compacts};
+ghost use Rattle.wb_sessions.specs.Beginning.{BeginsAt, RunsBegun};
+ghost use Rattle.wb_sessions.specs.Compacting.{Compacts};
 ghost use Rattle.wb_program.specs.Files.{UsesFiles};
-ghost use Rattle.wb_program.specs.Keeping.{FinishesKept, RunsKept, UsesFile, streams, writer_alone};
+ghost use Rattle.wb_sessions.specs.Keeping.{FinishesKept, RunsKept, UsesFile, streams, writer_alone};
 ghost use Rattle.wb_program.specs.KeptDays.{KeepsDay};
 ghost use Rattle.wb_program.specs.Doing.{listening, Hosts, HostsHistory, Does, FailsToHost, FailsAfterInput, Finishes, Fails};
 
 use crate::accepting::{AcceptErr, Accepts, Binds};
-use crate::beginning::{begin_kept_with, opening_from};
-use crate::checking::{check_with, tell};
-use crate::compacting::compact_with;
-use crate::files::{FileFault, OpensFiles};
-use crate::keeping::{KeptRun, run_kept_with};
 use crate::kept_hosting::serve_kept;
-use crate::put_back::PutBack;
-use crate::reasons::Reason;
-use crate::resuming::{history_from, resume_with};
-use crate::running::{DONE, INPUT_OR_OUTPUT_FAILED, NO_MEMORY, run_with};
 use crate::serving::{serve_history, serve_on};
-use crate::upgrading::upgrade_with;
 use std::alloc::Global;
 use std::sync::Wait;
 use std::thread::Threads;
@@ -36,6 +27,11 @@ use wb_history::History;
 use wb_keep::disk::Replaces;
 use wb_keeping::Opening;
 use wb_lines::{Sink, Source};
+use wb_sessions::{
+    DONE, FileFault, INPUT_OR_OUTPUT_FAILED, KeptRun, NO_MEMORY, OpensFiles, PutBack, Reason,
+    begin_kept_with, check_with, compact_with, history_from, opening_from, resume_with,
+    run_kept_with, run_with, tell, upgrade_with,
+};
 
 /// Listens on a port and tells which one: what connections come from, or the exit status after a fault.
 pub(crate) fn listen<B: Binds<N, I, O>, N: Accepts<I, O> + Drop, I, O, W: Sink>(

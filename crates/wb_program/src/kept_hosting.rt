@@ -2,15 +2,12 @@
 ghost use Rattle.std.specs.Prelude.{◌≡◌, ◌⊎◌, ℕ, List, true};
 ghost use Rattle.std.specs.Io.KnownBytes.{Appends};
 ghost use Rattle.wb_keep.specs.Disk.Device.{Only};
-ghost use Rattle.wb_program.specs.Keeping.{IsKeptHistory, writer_alone};
+ghost use Rattle.wb_sessions.specs.Keeping.{IsKeptHistory, writer_alone};
 ghost use Rattle.wb_program.specs.KeptDays.{FailsKeptDay, HostsKept, RunsDesk, UsesDesk};
 
 use crate::accepting::{Accepts, Binds};
 use crate::doing::listen;
-use crate::files::{FileFault, OpensFiles};
-use crate::keeping::{KeptRun, opened, turned_away};
 use crate::kept_serving::serve_kept_on;
-use crate::running::{INPUT_OR_OUTPUT_FAILED, NO_MEMORY};
 use std::alloc::Global;
 use std::sync::Wait;
 use std::thread::Threads;
@@ -19,6 +16,9 @@ use wb_history::History;
 use wb_keep::disk::{Device, Replaces};
 use wb_kept::Kept;
 use wb_lines::{Sink, Source};
+use wb_sessions::{
+    FileFault, INPUT_OR_OUTPUT_FAILED, KeptRun, NO_MEMORY, OpensFiles, opened, turned_away,
+};
 
 // A desk on a port, on the history of a journal that was opened.
 fn host_kept<

@@ -3,18 +3,15 @@ ghost use Rattle.std.specs.Prelude.{◌≡◌, ◌⊎◌, ℕ, List, [], false, 
 ghost use Rattle.std.specs.Io.KnownBytes.{Appends};
 ghost use Rattle.wb_desk.specs.Serving.{new_passes};
 ghost use Rattle.wb_keep.specs.Lines.{recovered};
-ghost use Rattle.wb_program.specs.Checking.{IsFault};
+ghost use Rattle.wb_sessions.specs.Checking.{IsFault};
 ghost use Rattle.wb_program.specs.Days.{AllBack, ServedOn};
-ghost use Rattle.wb_program.specs.Keeping.{IsKeptHistory};
+ghost use Rattle.wb_sessions.specs.Keeping.{IsKeptHistory};
 ghost use Rattle.wb_program.specs.KeptDays.{BreaksOff, EndsKeptDay, FailsKeptDay, LeavesDesk, SettlesKept, TellsOfFile};
 ghost use Rattle.wb_program.specs.KeptSeats.{FailsOnce};
 
 use crate::accepting::{AcceptErr, Accepts};
 use crate::door::Door;
-use crate::files::FileFault;
-use crate::keeping::KeptRun;
 use crate::kept_seat::{Failing, KeptDesk, serve_kept_seat};
-use crate::running::{BAD_COMMAND_LINE, INPUT_OR_OUTPUT_FAILED, NO_MEMORY};
 use crate::serving::{Promised, print_settled};
 use std::alloc::Global;
 use std::marker::Brand;
@@ -32,6 +29,7 @@ use wb_kept::{Changes, Kept};
 use wb_kept_group::group::Opened;
 use wb_kept_seats::{Desk, KeptOpening, Seats, SettleErr, Settled, Unsettled, settle};
 use wb_lines::{Sink, Source};
+use wb_sessions::{BAD_COMMAND_LINE, FileFault, INPUT_OR_OUTPUT_FAILED, KeptRun, NO_MEMORY};
 
 // The exit status of a day that was not settled, and what is told of the file: where it failed, that is the cause.
 fn blamed<D: Device + Drop>(failing: &Failing<D>, status: u8) -> (u8, Option<FileFault>)

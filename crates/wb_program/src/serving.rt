@@ -2,14 +2,12 @@
 ghost use Rattle.std.specs.Prelude.{◌≡◌, ℕ, List, IfOk, IfErr, string_bytes, true, false};
 ghost use Rattle.std.specs.Io.KnownBytes.{Appends};
 ghost use Rattle.wb_desk.specs.Openings.{nothing_done};
-ghost use Rattle.wb_program.specs.Checking.{IsFault};
+ghost use Rattle.wb_sessions.specs.Checking.{IsFault};
 ghost use Rattle.wb_program.specs.Serving.{shown, settled_text, PrintsSettled};
 ghost use Rattle.wb_program.specs.Days.{ServedOn, AllBack, EndsDay, FailsDay};
 
 use crate::accepting::{AcceptErr, Accepts};
-use crate::checking::tell;
 use crate::door::Door;
-use crate::running::{BAD_COMMAND_LINE, INPUT_OR_OUTPUT_FAILED, NO_MEMORY};
 use crate::seat::serve_seat;
 use std::alloc::Global;
 use std::marker::Brand;
@@ -25,6 +23,7 @@ use wb_lines::{Sink, Source};
 use wb_protocol::encoding::print_history;
 use wb_range::NoMemory;
 use wb_reading::print_book;
+use wb_sessions::{BAD_COMMAND_LINE, INPUT_OR_OUTPUT_FAILED, NO_MEMORY, tell};
 
 /// What the thread of a seat promises: its pass, served on the connection.
 pub(crate) struct Promised<L: Opening, I, O> {

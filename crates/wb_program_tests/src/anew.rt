@@ -12,7 +12,8 @@ use wb_command::{Asked, FilePath};
 use wb_keep::START;
 use wb_keep::disk::MemoryFile;
 use wb_lines::{Input, Output};
-use wb_program::{FileFault, Ports, PutBack, compact_with, do_asked, run_kept_with};
+use wb_program::{Ports, do_asked};
+use wb_sessions::{FileFault, PutBack, compact_with, run_kept_with};
 
 // More calls than are made here.
 const NEVER: usize = 1000;

@@ -11,7 +11,8 @@ use wb_arrays::{Crew, Mover};
 use wb_keep::START;
 use wb_keep::disk::MemoryFile;
 use wb_lines::{Input, Output};
-use wb_program::{AcceptErr, Accepts, Binds, FileFault, KeptRun, host_kept_with};
+use wb_program::{AcceptErr, Accepts, Binds, host_kept_with};
+use wb_sessions::{FileFault, KeptRun};
 
 // More calls than a day makes here.
 const NEVER: usize = 1000;

@@ -7,9 +7,8 @@ use std::process::Abort;
 use std::test::Fail;
 use wb_arrays::{Crew, Mover};
 use wb_lines::{Input, Output};
-use wb_program::{
-    Connections, PutBack, check_with, history_from, resume_with, run_with, serve_history,
-};
+use wb_program::{Connections, serve_history};
+use wb_sessions::{PutBack, check_with, history_from, resume_with, run_with};
 
 const LINES: &[u8] =
     b"{\"op\":\"domain\",\"d\":\"D\",\"is\":\"{1..4}\"}\n{\"op\":\"array\",\"a\":\"A\",\"d\":\"D\"}\n{\"op\":\"set\",\"a\":\"A\",\"i\":4,\"v\":9}\n{\"op\":\"undo\"}\n{\"op\":\"history\"}\n";

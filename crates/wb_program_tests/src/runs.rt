@@ -7,7 +7,7 @@ use std::test::Fail;
 use wb_arrays::{Crew, Mover};
 use wb_command::{CommandErr, command_of};
 use wb_lines::{Input, Output};
-use wb_program::{check_with, run_with};
+use wb_sessions::{check_with, run_with};
 
 const FIRST_RUN: &[u8] =
     b"{\"op\":\"domain\",\"d\":\"D\",\"is\":\"{1..4}\"}\n{\"op\":\"array\",\"a\":\"A\",\"d\":\"D\"}\n{\"op\":\"set\",\"a\":\"A\",\"i\":4,\"v\":9}\n{\"op\":\"undo\"}\n{\"op\":\"get\",\"a\":\"A\",\"i\":4}\n";

@@ -9,7 +9,7 @@ use std::process::Abort;
 use std::test::Fail;
 use wb_arrays::{Crew, Mover};
 use wb_lines::{Input, Output};
-use wb_program::{PutBack, check_with, resume_with, upgrade_with};
+use wb_sessions::{PutBack, check_with, resume_with, upgrade_with};
 
 const WORKBOOK: &[u8] =
     b"chapel-workbook 1\narray A over D [0, 0, 0, 9]\nrect D {1..4} none\nend\n";

@@ -13,9 +13,10 @@ use std::thread::Threads;
 use wb_arrays::{Crew, Mover};
 use wb_command::{Asked, CommandErr, command_of};
 use wb_lines::{Input, Output};
-use wb_program::{
-    BAD_COMMAND_LINE, DONE, FileFault, Files, INPUT_OR_OUTPUT_FAILED, NO_MEMORY, Ports, PutBack,
-    REFUSED, Reason, do_asked,
+use wb_program::{Ports, do_asked};
+use wb_sessions::{
+    BAD_COMMAND_LINE, DONE, FileFault, Files, INPUT_OR_OUTPUT_FAILED, NO_MEMORY, PutBack, REFUSED,
+    Reason,
 };
 
 /// The words of most command lines: so many are lent without memory of their own.

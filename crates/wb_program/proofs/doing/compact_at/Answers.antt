@@ -1,6 +1,6 @@
 use Rattle.std.proofs.Common.{inl, refl, subst}
-use Rattle.wb_program.specs.Compacting.{Compacts}
-use Rattle.wb_program.specs.Keeping.{writer_alone}
+use Rattle.wb_sessions.specs.Compacting.{Compacts}
+use Rattle.wb_sessions.specs.Keeping.{writer_alone}
 use Rattle.wb_program.proofs.doing.compact_at.Goals as goal
 
 pub returns-in-Ok : goal.returns-in-Ok

@@ -1,8 +1,8 @@
 use Rattle.std.proofs.Common.{[], false, refl, rules, subst, sym, true}
-use Rattle.wb_program.specs.Compacting.{Compacts}
+use Rattle.wb_sessions.specs.Compacting.{Compacts}
 use Rattle.wb_program.specs.Doing.{Does}
-use Rattle.wb_program.specs.Keeping.{RunsKept}
-use Rattle.wb_program.specs.Resuming.{left_in}
+use Rattle.wb_sessions.specs.Keeping.{RunsKept}
+use Rattle.wb_sessions.specs.Resuming.{left_in}
 use Rattle.wb_program.proofs.Finishing.{desk_fails, desk_finishes, resumed_desk_fails, resumed_desk_finishes}
 use Rattle.wb_program.proofs.Hosting.{history_hosted, hosted, resumed, upgraded}
 use Rattle.wb_program.proofs.KeptHosting.{kept_asked, wrote}

@@ -2,7 +2,7 @@ use Rattle.std.proofs.Common.{◌++◌, inl, inr, refl}
 use Rattle.std.proofs.KnownBytes.{Appends-trans}
 use Rattle.wb_program.specs.Doing.{listening}
 use Rattle.wb_program.proofs.Finishing.{not_told}
-use Rattle.wb_program.proofs.Sent.{no_fault_of_0}
+use Rattle.wb_sessions.proofs.Sent.{no_fault_of_0}
 use Rattle.wb_program.proofs.doing.host.Goals as goal
 
 pub returns-in-Ok-clause-hosts : goal.returns-in-Ok-clause-hosts

@@ -1,7 +1,7 @@
 use Rattle.std.proofs.Common.{inl, inr, refl, rules, ◌∙◌}
 use Rattle.std.proofs.KnownBytes.{Appends-nil}
 use Rattle.wb_program.specs.Doing.{listening}
-use Rattle.wb_program.proofs.Sent.{told_front, told_whole}
+use Rattle.wb_sessions.proofs.Sent.{told_front, told_whole}
 use Rattle.wb_program.proofs.doing.listen.Goals as goal
 
 pub returns-in-Err-Failed-clause-fault : goal.returns-in-Err-Failed-clause-fault

@@ -1,6 +1,6 @@
 use Rattle.std.proofs.Common.{inl, refl, subst}
-use Rattle.wb_program.specs.Beginning.{RunsBegun}
-use Rattle.wb_program.specs.Keeping.{streams}
+use Rattle.wb_sessions.specs.Beginning.{RunsBegun}
+use Rattle.wb_sessions.specs.Keeping.{streams}
 use Rattle.wb_program.proofs.doing.run_begun.Goals as goal
 
 pub returns-in-Ok-clause-keeps : goal.returns-in-Ok-clause-keeps

@@ -1,5 +1,5 @@
 use Rattle.std.proofs.Common.{inl, refl, subst}
-use Rattle.wb_program.specs.Keeping.{RunsKept, streams}
+use Rattle.wb_sessions.specs.Keeping.{RunsKept, streams}
 use Rattle.wb_program.proofs.doing.run_kept.Goals as goal
 
 pub returns-in-Ok-clause-keeps : goal.returns-in-Ok-clause-keeps

@@ -1,6 +1,6 @@
 use Rattle.std.proofs.Common.{inl, inr, refl}
-use Rattle.wb_program.specs.Keeping.{Streams}
-use Rattle.wb_program.specs.Resuming.{failed_in, left_in, reads_in}
+use Rattle.wb_sessions.specs.Keeping.{Streams}
+use Rattle.wb_sessions.specs.Resuming.{failed_in, left_in, reads_in}
 use Rattle.wb_program.proofs.doing.run_resumed.Goals as goal
 
 pub returns-in-Ok-clause-keeps : goal.returns-in-Ok-clause-keeps

@@ -1,5 +1,5 @@
 use Rattle.std.proofs.Common.{inl, refl, subst}
-use Rattle.wb_program.specs.Keeping.{writer_alone}
+use Rattle.wb_sessions.specs.Keeping.{writer_alone}
 use Rattle.wb_program.specs.KeptDays.{RunsDesk}
 use Rattle.wb_program.proofs.kept_hosting.serve_kept.Goals as goal
 

@@ -1,9 +1,0 @@
-use Rattle.std.proofs.Common.{sym, ◌∙◌}
-use Rattle.wb_program.proofs.Statuses.{done_ends, failed_ends}
-use Rattle.wb_program.proofs.running.run_with.Goals as goal
-
-pub returns-clause-done : goal.returns-clause-done
-returns-clause-done g c h = done_ends _ _ _ _ _ _ _ c.session.ensures.read c.session.ensures.written (sym c.status_of.ensures ∙ h)
-
-pub returns-clause-failed : goal.returns-clause-failed
-returns-clause-failed g c h = failed_ends _ _ _ _ _ _ _ c.session.ensures.read c.session.ensures.written (sym c.status_of.ensures ∙ h)

@@ -1,7 +1,0 @@
-use Rattle.std.proofs.Common.{rules}
-use Rattle.wb_program.proofs.Loading.{when_printed}
-use Rattle.wb_program.proofs.upgrading.text_of_load.Goals as goal
-
-pub returns-clause-upgraded : goal.returns-clause-upgraded
-returns-clause-upgraded g c =
-    when_printed c.args.text c.in_ok-history.history.entries c.print_history.result c.as_str-workbook.ensures.book (search rules) c.print_history.ensures.said

@@ -1,0 +1,9 @@
+pub mod Statuses
+pub mod Opening
+pub mod Loading
+pub mod Sent
+pub mod Opened
+pub mod Begun
+pub mod MadeAnew
+pub mod Judged
+pub mod Telling

@@ -1,0 +1,79 @@
+-- The load of a workbook's text is accepted where there is nothing yet, and makes that workbook.
+use Rattle.std.proofs.Common.{◌≡◌, ℕ, zero, suc, Bool, true, List, [], ◌∷◌, Some, is_some, Result, Ok, Err, IsOk, OnOk, slice_get, refl, sym, ap, subst, ◌∙◌}
+use Rattle.std.specs.FinMap.{empty, get-empty}
+use Rattle.std.specs.FinMap.Entries.{where_key}
+use Rattle.selective_undo.specs.Edit.{Trace, outcome, seen, trace, write, written}
+use Rattle.selective_undo.specs.Changes.{apply}
+use Rattle.selective_undo.specs.History.{IsLegal, replay}
+use Rattle.selective_undo.proofs.Evaluation.{entries-empty, entries-retain_keys}
+use Rattle.wb_cells.specs.declared.cells.pattern.Pattern.TheVariants.{Objects}
+use Rattle.wb_cells.specs.Cells.{cell_cmp, cell_order, matches}
+use Rattle.wb_edit.specs.Commands.{book_cells, load}
+use Rattle.wb_edit.specs.Trees.{judged}
+use Rattle.wb_edit.specs.Objects.{is_empty}
+use Rattle.wb_cells.specs.Schema.{workbook}
+use Rattle.wb_edit.specs.declared.edit.Edit.{Edit}
+use Rattle.wb_edit.specs.declared.edit.Edit.TheVariants.{Load}
+use Rattle.wb_edit.proofs.Loading.{becomes}
+use Rattle.wb_history.specs.Past.{Numbered, meant}
+use Rattle.wb_history.specs.Restored.{RestoreReply, marked}
+use Rattle.wb_history.specs.declared.restore.RestoreErr.{RestoreErr}
+use Rattle.wb_history.specs.declared.restore.RestoreErr.TheVariants.{NotLegal}
+use Rattle.wb_protocol.specs.Histories.Text.{AreProper, AreSaid, history_text}
+use Rattle.wb_text.specs.Texts.Books.{IsBookText, book_in, cells_in, is_book_text}
+use Rattle.wb_text.proofs.Texts.Back.{book_back, cells_back}
+use Rattle.wb_sessions.specs.Checking.{IsPrinted}
+use Rattle.wb_sessions.specs.Upgrading.{loaded, IsUpgraded, Prints}
+
+-- ---- in the empty workbook
+
+none_seen : seen workbook Objects empty ≡ []
+none_seen = entries-retain_keys cell_order empty (matches Objects) ∙ ap (where_key cell_cmp (matches Objects)) (entries-empty cell_cmp)
+
+accepted : (text : List ℕ) → outcome (load text) empty ≡ Ok (book_cells (cells_in text))
+accepted text = ap (λ es. outcome (judged (is_empty es) (λ x. write (book_cells (cells_in text)))) empty) none_seen
+
+made : (text : List ℕ) → replay (meant (loaded text)) ≡ cells_in text
+made text = ap (λ o. apply (written o) empty) (accepted text) ∙ becomes (cells_in text) empty (λ c. get-empty cell_cmp c)
+
+-- ---- the history of the load
+
+alone : (u t : Trace workbook) (k : ℕ) → slice_get (Some u ∷ []) k ≡ Some (Some t) → u ≡ t
+alone u t zero e = cc
+alone u t (suc k) e = cc
+
+pub load_legal : (text : List ℕ) → IsLegal (meant (loaded text))
+load_legal text k t is =
+    let same = alone (trace (load text) empty) t k is in
+    subst (λ (u : Trace workbook). IsOk u.outcome) same (subst IsOk (sym (accepted text)) refl)
+
+is_text : (text : List ℕ) → IsBookText text → is_book_text text ≡ true
+is_text text h = ap is_some (ap book_in h.spelled ∙ book_back h.workbook h.well_formed)
+
+pub is_upgraded : (text : List ℕ) → IsBookText text → (AreProper (loaded text) → AreSaid (loaded text)) → IsUpgraded text
+is_upgraded text h said = record {
+  workbook = h.workbook;
+  well_formed = h.well_formed;
+  spelled = h.spelled;
+  is_history = (load_legal text, said ((tt, (is_text text h, tt)), tt));
+  same_workbook = made text ∙ cells_back text h;
+}
+
+-- where the text of the history of the load was printed
+pub when_printed : {A E : Type 0} (text : List ℕ) (es : List Numbered) (r : Result A E) → IsBookText text → es ≡ loaded text
+    → OnOk r (AreProper es → AreSaid es) → OnOk r (IsUpgraded text)
+when_printed text es (Ok a) h same said = is_upgraded text h (subst (λ es. AreProper es → AreSaid es) same said)
+when_printed text es (Err e) h same said = tt
+
+-- the list of that edit alone has a history
+pub no_other : (text : List ℕ) (es : List (Edit × Bool)) (why : RestoreErr) → es ≡ (Load text, true) ∷ [] → why ≡ NotLegal
+    → RestoreReply (marked es) (Err why) → ⊥
+no_other text es why same is reply =
+    let told : IsLegal (meant (marked es)) → ⊥ = subst (λ w. RestoreReply (marked es) (Err w)) is reply in
+    told (subst (λ l. IsLegal (meant (marked l))) (sym same) (load_legal text))
+
+-- what was printed is the text of the history of the load of what was read
+pub prints : (read bytes whole told text : List ℕ) (status : ℕ) → bytes ≡ read → whole ≡ history_text (loaded bytes) → told ≡ whole
+    → IsPrinted told status text → Prints read status text
+prints read bytes whole told text status same is told_is h =
+    subst (λ w. IsPrinted w status text) (told_is ∙ is ∙ ap (λ b. history_text (loaded b)) same) h

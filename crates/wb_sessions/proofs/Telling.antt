@@ -1,0 +1,44 @@
+-- That status 1 comes with a refusal alone, and what is told then.
+use Rattle.std.proofs.Common.{◌≡◌, ◌⊎◌, inl, inr, ℕ, List, refl, Some}
+use Rattle.wb_lines.specs.declared.machine.SessionEnd.{SessionEnd}
+use Rattle.wb_lines.specs.declared.machine.SessionEnd.TheVariants.{Done, ReadFault, WriteFault, TooManyReads, NoMemory}
+use Rattle.wb_sessions.specs.Checking.{IsFault, IsPrinted, Says, status_of_verdict}
+use Rattle.wb_sessions.specs.Reasons.{look_of, told_of}
+use Rattle.wb_sessions.specs.Running.{status_of}
+use Rattle.wb_sessions.specs.declared.checking.Verdict.{Verdict}
+use Rattle.wb_sessions.specs.declared.checking.Verdict.TheVariants as verdicts
+
+-- what is known of a refusal, where there was no fault in place of it
+pub or_fault : {P S F : Type 0} → P → S ⊎ F → (P × S) ⊎ F
+or_fault p (inl s) = inl (p, s)
+or_fault p (inr f) = inr f
+
+-- a fault has another status
+pub no_fault_of_1 : (status : ℕ) → status ≡ 1 → IsFault status → ⊥
+no_fault_of_1 status e (inl three) = cc
+no_fault_of_1 status e (inr four) = cc
+
+-- so has what is printed whole
+pub no_print_of_1 : (status : ℕ) (whole text : List ℕ) → status ≡ 1 → IsPrinted whole status text → ⊥
+no_print_of_1 status whole text e (inl all) = cc (e, all.0)
+no_print_of_1 status whole text e (inr part) = no_fault_of_1 status e part.0
+
+-- and a session
+pub no_end_of_1 : (end : SessionEnd) → status_of end ≡ 1 → ⊥
+no_end_of_1 (Done n) e = cc
+no_end_of_1 (ReadFault n) e = cc
+no_end_of_1 (WriteFault n) e = cc
+no_end_of_1 (TooManyReads n) e = cc
+no_end_of_1 (NoMemory n) e = cc
+
+-- a verdict that was printed with status 0
+no_say_of_1 : (v : Verdict) (status : ℕ) (text : List ℕ) → status ≡ 1 → status_of_verdict v ≡ 0 → Says v status text → ⊥
+no_say_of_1 v status text e zero_of (inl said) = cc (e, said.0, zero_of)
+no_say_of_1 v status text e zero_of (inr part) = no_fault_of_1 status e part.0
+
+-- of a verdict that was printed with status 1 it is told why the bytes are refused
+pub told_of_1 : (v : Verdict) (status : ℕ) (text bytes : List ℕ) → status ≡ 1 → Says v status text → told_of v bytes ≡ Some (look_of bytes)
+told_of_1 (verdicts.Workbook count) status text bytes e says = absurd (no_say_of_1 (verdicts.Workbook count) status text e refl says)
+told_of_1 (verdicts.History count edits) status text bytes e says = absurd (no_say_of_1 (verdicts.History count edits) status text e refl says)
+told_of_1 (verdicts.Journal count edits) status text bytes e says = absurd (no_say_of_1 (verdicts.Journal count edits) status text e refl says)
+told_of_1 verdicts.Refused status text bytes e says = refl

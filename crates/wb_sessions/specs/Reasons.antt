@@ -1,0 +1,75 @@
+-- Why an input is refused, and which reason is told.
+use Rattle.std.specs.Prelude.{◌≡◌, ◌⊎◌, ℕ, Bool, true, false, List, ◌++◌, Option, None, Some, codes, nat_eq}
+use Rattle.std.specs.Io.KnownBytes.{Consumes}
+use Rattle.std.specs.List.{ends_with, starts_with}
+use Rattle.wb_history.specs.Past.{Past}
+use Rattle.wb_sessions.specs.Checking.{IsNoRecord, IsTextOf}
+use Rattle.wb_sessions.specs.Resuming.{HasNoEnd, IsRecord, IsUpToEnd, last_line}
+use Rattle.wb_sessions.specs.Upgrading.{HasNoBook}
+use Rattle.wb_sessions.specs.declared.checking.Verdict.{Verdict}
+use Rattle.wb_sessions.specs.declared.checking.Verdict.TheVariants as verdicts
+use Rattle.wb_sessions.specs.declared.reasons.Reason.{Reason}
+use Rattle.wb_sessions.specs.declared.reasons.Reason.TheVariants as reasons
+
+-- ---- the reasons
+
+-- a text of ours begins with the first word of its first line, a journal with that whole line
+abbrev pub begins_with : List ℕ → List ℕ → Bool
+begins_with front bytes = starts_with nat_eq bytes front
+
+-- by how bytes end that begin as a text of ours
+abbrev pub end_of : (ended : Bool) → Reason
+end_of true = reasons.Altered
+end_of false = reasons.CutShort
+
+-- by how bytes begin, as a text of ours or not, and end
+abbrev pub front_of : (ours ended : Bool) → Reason
+front_of true ended = end_of ended
+front_of false ended = reasons.NotOurs
+
+-- the same, where they may begin as a journal
+abbrev pub shape_of : (journal ours ended : Bool) → Reason
+shape_of true ours ended = reasons.Journal
+shape_of false ours ended = front_of ours ended
+
+-- why bytes are refused, by how they begin and end
+abbrev pub look_of : List ℕ → Reason
+look_of bytes = shape_of (begins_with (codes "chapel-workbook 3\n") bytes) (begins_with (codes "chapel-workbook ") bytes) (ends_with nat_eq bytes last_line)
+
+-- the text of a workbook
+abbrev pub IsBook : List ℕ → Type 0
+IsBook bytes = (count : ℕ) × IsTextOf bytes count
+
+-- Where the text of a history is wanted: the bytes are that of a workbook, or else they are refused by their looks.
+abbrev pub WhyNoHistory : List ℕ → Reason → Type 0
+WhyNoHistory bytes why = (IsBook bytes × (why ≡ reasons.Workbook)) ⊎ (HasNoBook bytes × (why ≡ look_of bytes))
+
+-- Where the text of a workbook is wanted: the bytes are that of a history, or else they are refused by their looks.
+abbrev pub WhyNoBook : List ℕ → Reason → Type 0
+WhyNoBook bytes why = (((past : Past) × IsRecord bytes past) × (why ≡ reasons.History)) ⊎ (IsNoRecord bytes × (why ≡ look_of bytes))
+
+-- Where the text of a history is wanted in front of a session: there is no line `end`, or what stands up to the first one is refused.
+abbrev pub WhyNoOpening : List ℕ → Reason → Type 0
+WhyNoOpening read why = (HasNoEnd read × (why ≡ look_of read))
+    ⊎ ((front behind : List ℕ) × (read ≡ front ++ behind) × IsUpToEnd front × WhyNoHistory front why)
+
+-- Where any text of ours is wanted, and a journal would do: the bytes are refused by their looks.
+abbrev pub WhyNothing : List ℕ → Reason → Type 0
+WhyNothing bytes why = why ≡ look_of bytes
+
+-- ---- what is told
+
+-- a reason of this kind is told for what was read
+pub record Tells (is : List ℕ → Reason → Type 0) (old left : Option (List ℕ)) (told : Option Reason) : Type 0 where
+  pub read : List ℕ
+  pub why : Reason
+  pub consumed : Consumes old left read
+  pub is_why : is read why
+  pub is_told : told ≡ Some why
+
+-- what is told of a verdict on bytes
+abbrev pub told_of : Verdict → List ℕ → Option Reason
+told_of (verdicts.Workbook count) bytes = None
+told_of (verdicts.History count edits) bytes = None
+told_of (verdicts.Journal count edits) bytes = None
+told_of verdicts.Refused bytes = Some (look_of bytes)

@@ -1,0 +1,125 @@
+//! Sessions whose journal begins with the history whose text comes first.
+ghost use Rattle.std.specs.Prelude.{◌≡◌, ◌⊎◌, ℕ, List, [], true, IfOk, IfErr, IfSome, IfNone};
+ghost use Rattle.std.specs.Io.KnownBytes.{Appends, Consumes};
+ghost use Rattle.wb_keep.specs.Disk.Device.{Only};
+ghost use Rattle.wb_keeping.specs.Opening.{IsOpening};
+ghost use Rattle.wb_lines.specs.Causes.{RisesBy};
+ghost use Rattle.wb_sessions.specs.Beginning.{RunsBegun, TellsOf};
+ghost use Rattle.wb_sessions.specs.Checking.{IsAnswered, IsFault, IsNoRecord, Says};
+ghost use Rattle.wb_sessions.specs.Keeping.{FailsKept, FinishesKept, streams};
+ghost use Rattle.wb_sessions.specs.Resuming.{left_in, failed_in, reads_in, IsRecord, IsUpToEnd, NoOpening};
+ghost use Rattle.wb_sessions.specs.Running.{HasFailedByNow};
+ghost use Rattle.wb_sessions.specs.declared.checking.Verdict.TheVariants.{Refused};
+
+use crate::checking::{Verdict, say};
+use crate::files::FileFault;
+use crate::keeping::{KeptRun, serve_from};
+use crate::put_back::PutBack;
+use crate::resuming::{parts, read_opening};
+use crate::running::{INPUT_OR_OUTPUT_FAILED, NO_MEMORY};
+use std::alloc::Global;
+use std::str::from_utf8;
+use wb_arrays::Mover;
+use wb_keep::disk::Device;
+use wb_keeping::{BeginErr, Opening, begin_kept, opening_of};
+use wb_lines::{LineFault, Sink, Source};
+use wb_range::NoMemory;
+
+// The history of these bytes, with the line that it begins with, if they are the text of one.
+fn opening_in<M: Mover>(alloc: Global, bytes: &[u8], mover: &M) -> Result<Option<Opening>, NoMemory>
+    ensures some { IfOk result (λ r. IfSome r (λ o. IsOpening o × IsRecord bytes.now o.history)) }
+    ensures none { IfOk result (λ r. IfNone r (IsNoRecord bytes.now)) }
+{
+    let Ok(text) = from_utf8(bytes) else {
+        return Ok(None);
+    };
+    match opening_of(alloc, text, mover) {
+        Ok(found) => Ok(found),
+        Err(_) => Err(NoMemory),
+    }
+}
+
+/// Reads the text of a history up to its line `end`, and leaves what comes behind it: the history, with the line that it begins
+/// with. Or the exit status, after `refused` was printed, where there is no such text, or after a fault.
+pub fn opening_from<R: Source, W: Sink, M: Mover>(
+    alloc: Global,
+    reader: &mut PutBack<R>,
+    writer: &mut W,
+    mover: &M,
+) -> Result<Opening, u8>
+    // The history, by its text up to the end; nothing is printed.
+    ensures opening { IfOk result (λ o. IsOpening o) }
+    ensures text { IfOk result (λ o. (front : List ℕ) × Consumes (left_in R.remaining reader.old) (left_in R.remaining reader.new) front
+        × IsUpToEnd front × IsRecord front o.history) }
+    ensures counted { IfOk result (λ _. (made : ℕ) × RisesBy made (reads_in reader.old) (reads_in reader.new)) }
+    ensures silent { IfOk result (λ _. writer.new ≡ writer.old) }
+
+    // The exit status, with what was read and printed, and what failed.
+    ensures refused { IfErr result (λ status. (read : List ℕ) × Consumes (left_in R.remaining reader.old) (left_in R.remaining reader.new) read
+        × ((text : List ℕ) × Appends (W.contents writer.old) (W.contents writer.new) text
+        × ((NoOpening read × Says Refused status text) ⊎ (IsFault status × (text ≡ []))))) }
+    ensures flushed { IfErr result (λ status. IsAnswered status → W.flushed writer.new ≡ true) }
+    ensures failed { IfErr result (λ status. status ≡ 3
+        → HasFailedByNow (failed_in reader.new) (reads_in reader.old) (reads_in reader.new) (W.failed writer.new)) }
+{
+    let bytes = match read_opening(alloc, reader) {
+        Ok(bytes) => bytes,
+        Err(LineFault::NoMemory) => return Err(NO_MEMORY),
+        Err(LineFault::ReadFault) => return Err(INPUT_OR_OUTPUT_FAILED),
+        Err(LineFault::TooManyReads) => return Err(INPUT_OR_OUTPUT_FAILED),
+    };
+    let Some((front, behind)) = parts(&bytes) else {
+        return Err(say(alloc, Verdict::Refused, writer));
+    };
+    match opening_in(alloc, front, mover) {
+        Ok(Some(opening)) => match reader.put_back(behind) {
+            Ok(()) => Ok(opening),
+            Err(_) => Err(NO_MEMORY),
+        },
+        Ok(None) => Err(say(alloc, Verdict::Refused, writer)),
+        Err(NoMemory) => Err(NO_MEMORY),
+    }
+}
+
+// How it comes out where a file is not begun with a history.
+fn not_begun<D>(why: BeginErr, file: D) -> KeptRun<D>
+    ensures told { TellsOf why result.status result.fault }
+    ensures file { result.file ≡ file }
+{
+    let (status, fault) = match why {
+        BeginErr::NotOurs => (INPUT_OR_OUTPUT_FAILED, Some(FileFault::NotOurs)),
+        BeginErr::HasLines => (INPUT_OR_OUTPUT_FAILED, Some(FileFault::HasLines)),
+        BeginErr::Memory => (NO_MEMORY, None),
+        BeginErr::Failed => (INPUT_OR_OUTPUT_FAILED, Some(FileFault::Failed)),
+    };
+    KeptRun {
+        status,
+        fault,
+        file,
+    }
+}
+
+/// Begins a file that holds these bytes with a history, and then answers each line of the reader on it, as `run_kept_with` does.
+/// A file that has a line, and one of another kind, stays as it was, and nothing is printed. A crash leaves the lines from before or the
+/// history, and after the first reply the history after the first so many lines.
+pub fn begin_kept_with<D: Device, R: Source, W: Sink, M: Mover>(
+    alloc: Global,
+    opening: Opening,
+    file: D,
+    held: &[u8],
+    reader: &mut R,
+    writer: &mut W,
+    mover: &M,
+) -> KeptRun<D>
+    requires opening { IsOpening opening }
+    requires read { D.seen file ≡ held.now }
+    requires durable { Only (D.seen file) (D.may_leave file) }
+    ensures runs { RunsBegun D.Device opening.history file held.now result (streams R.Source W.Sink reader.old reader.new writer.old writer.new) }
+    ensures done { FinishesKept result.status (streams R.Source W.Sink reader.old reader.new writer.old writer.new) }
+    ensures failed { FailsKept result.status result.fault (streams R.Source W.Sink reader.old reader.new writer.old writer.new) }
+{
+    match begin_kept(alloc, opening, file, held) {
+        Ok(kept) => serve_from(alloc, kept, reader, writer, mover),
+        Err((why, file)) => not_begun(why, file),
+    }
+}
