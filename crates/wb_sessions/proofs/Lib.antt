@@ -2,7 +2,7 @@ pub mod Statuses
 pub mod Opening
 pub mod Loading
 pub mod Sent
-pub mod Opened
+pub mod OpenedJournals
 pub mod Begun
 pub mod MadeAnew
 pub mod Judged

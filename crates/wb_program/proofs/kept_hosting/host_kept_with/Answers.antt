@@ -1,6 +1,6 @@
 use Rattle.std.proofs.Common.{inl, inr, refl}
 use Rattle.wb_sessions.specs.Keeping.{writer_alone}
-use Rattle.wb_sessions.proofs.Opened.{turned}
+use Rattle.wb_sessions.proofs.OpenedJournals.{turned}
 use Rattle.wb_program.proofs.kept_hosting.host_kept_with.Goals as goal
 
 pub returns-in-Ok-clause-runs : goal.returns-in-Ok-clause-runs

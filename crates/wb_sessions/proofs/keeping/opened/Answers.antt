@@ -1,4 +1,4 @@
-use Rattle.wb_sessions.proofs.Opened.{caused, granted_by, opened_by}
+use Rattle.wb_sessions.proofs.OpenedJournals.{caused, granted_by, opened_by}
 use Rattle.wb_sessions.proofs.keeping.opened.Goals as goal
 
 pub open-requires-clause-grants : goal.open-requires-clause-grants
