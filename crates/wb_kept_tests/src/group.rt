@@ -4,6 +4,7 @@ ghost use Rattle.wb_keep.specs.Disk.Calls.{seen_after, MayLeave};
 ghost use Rattle.wb_keep.specs.Lines.{recovered};
 ghost use Rattle.wb_keep.specs.Keep.{IsSettled};
 
+use crate::files::{NEVER, opened};
 use std::alloc::{AllocError, Global};
 use std::marker::Brand;
 use std::sync::ledger::Blank;
@@ -12,9 +13,9 @@ use std::test::Fail;
 use std::thread;
 use std::thread::Threads;
 use wb_keep::disk::MemoryFile;
-use wb_keep::{AppendErr, LineLog, open};
+use wb_keep::{AppendErr, LineLog};
 use wb_kept::Changes;
-use wb_kept_group::group::{Keeper, Opened, Told, Waiting};
+use wb_kept_group::group::{Front, Keeper, Opened, Told, Waiting};
 use wb_kept_group::{Journal, Opening};
 
 const HELD: &[u8] = b"chapel-workbook 3\n up\n#";
@@ -32,6 +33,18 @@ fn one_line(alloc: Global) -> Result<Changes, AllocError> {
     Ok(changes)
 }
 
+/// Makes a turn, which waits then.
+fn turn_made<R: Wait, O: Opening>(
+    rt: &R,
+    alloc: Global,
+    desk: &Place<O>,
+) -> Option<Front<O, Changes>> {
+    match one_line(alloc) {
+        Ok(changes) => desk.lock(rt).add(changes).ok(),
+        Err(_) => None,
+    }
+}
+
 /// Makes a turn. Once it is kept, its number is told.
 fn turn_kept<R: Wait, O: Opening>(
     rt: &R,
@@ -42,12 +55,7 @@ fn turn_kept<R: Wait, O: Opening>(
 ) -> Option<u64>
     requires { (O.all ≡ O.parts) × (0 < O.all) }
 {
-    let Ok(changes) = one_line(alloc) else {
-        return None;
-    };
-    let Ok(front) = desk.lock(rt).add(changes) else {
-        return None;
-    };
+    let front = turn_made(rt, alloc, desk)?;
     match wb_kept_group::group::keep(rt, alloc, desk, keeper, told, &front) {
         Ok(()) => Some(front.len()),
         Err(_) => None,
@@ -81,7 +89,7 @@ fn two_threads<O: Opening + Send + Sync, R: Threads + Wait + Sync>(
     opened: Opened<Changes>,
     blank: Blank,
     log: LineLog<MemoryFile>,
-) -> Result<(Vec<u64>, Vec<u64>, Vec<u8>), AllocError>
+) -> (Vec<u64>, Vec<u64>, Result<Vec<u8>, AllocError>)
     requires settled { IsSettled (λ f. seen_after f.calls) (λ f. MayLeave f.calls) log }
     requires opening { O.opening ≡ recovered (seen_after log.device.calls) }
     requires book { opened.seen.book ≡ O.book }
@@ -100,11 +108,22 @@ fn two_threads<O: Opening + Send + Sync, R: Threads + Wait + Sync>(
             requires { (O.all ≡ O.parts) × (0 < O.all) }
         { ten_turns(rt, alloc, &desk, &keeper, &told) },
     );
-    Ok((
-        one,
-        two,
-        file_of(alloc, desk.into_inner(), keeper.into_inner())?,
-    ))
+    let left = file_of(alloc, desk.into_inner(), keeper.into_inner());
+    (one, two, left)
+}
+
+/// The journal once all turns are kept, or after a fault.
+fn journal_of<O: Opening>(
+    alloc: Global,
+    desk: &mut Waiting<O, Changes>,
+    keeper: InFile<O>,
+) -> Journal<O, MemoryFile>
+    requires { (O.all ≡ O.parts) × (0 < O.all) }
+{
+    match keeper.keep_all(alloc, desk) {
+        Ok(journal) => journal,
+        Err((_, journal)) => journal,
+    }
 }
 
 /// What the file has once all turns are kept, or after a fault.
@@ -116,11 +135,8 @@ fn file_of<O: Opening>(
     requires { (O.all ≡ O.parts) × (0 < O.all) }
 {
     let mut desk = desk;
-    let journal = match keeper.keep_all(alloc, &mut desk) {
-        Ok(journal) => journal,
-        Err((_, journal)) => journal,
-    };
-    journal.into_log().device.left().to_vec(alloc)
+    let log = journal_of(alloc, &mut desk, keeper).into_log();
+    log.device.left().to_vec(alloc)
 }
 
 /// How often a number was told.
@@ -145,40 +161,73 @@ fn each_alone(file: Vec<u8>) -> Vec<u8> {
     file
 }
 
+/// Whether each of the first twenty numbers was told once.
+fn are_told_once(one: &[u64], two: &[u64]) -> bool {
+    for number in 1..=20u64 {
+        if times_told(one, number).saturating_add(times_told(two, number)) != 1 {
+            return false;
+        }
+    }
+    true
+}
+
+/// How many numbers each of two threads is told, whether they are the first twenty, and what their file has at the end, which
+/// is cut off in the call after so many. None if it is refused.
+fn told_and_left<R: Threads + Wait + Sync>(
+    rt: &R,
+    alloc: Global,
+    calls: usize,
+) -> Result<Option<(usize, usize, bool, Vec<u8>)>, AllocError> {
+    let Ok(log) = opened(alloc, HELD, calls, 0)? else {
+        return Ok(None);
+    };
+    let (one, two, left) = two_threads::<Brand, _>(rt, alloc, Opened::new(), Blank::new(1), log);
+    let is_once = are_told_once(&one, &two);
+    match left {
+        Ok(left) => Ok(Some((one.len(), two.len(), is_once, each_alone(left)))),
+        Err(error) => Err(error),
+    }
+}
+
+/// The file of twenty turns, each as a batch of its own: one line from before, and one of each turn.
+const KEPT: &[u8] =
+    b"chapel-workbook 3\n up\n up\n up\n up\n up\n up\n up\n up\n up\n up\n up\n up\n up\n up\n up\n up\n up\n up\n up\n up\n up\n#";
+
 #[test]
 fn threads_are_kept_together(rt: HostRuntime) -> Result<(), Fail> {
-    let alloc = rt.alloc();
-    let file = MemoryFile::new(alloc, HELD.to_vec(alloc)?, 1000, 0);
-    let Ok((log, _)) = open(alloc, file, HELD) else {
+    let Some((one, two, are_told_once, left)) = told_and_left(&rt, rt.alloc(), NEVER)? else {
         panic!(rt; "refused");
     };
-    let (one, two, left) = two_threads::<Brand, _>(&rt, alloc, Opened::new(), Blank::new(1), log)?;
-    assert!(rt; one.len() == 10 && two.len() == 10);
-    for number in 1..=20u64 {
-        assert!(rt; times_told(&one, number).saturating_add(times_told(&two, number)) == 1);
-    }
-    // One line from before, and one of each of the twenty turns, in some batches.
-    assert_eq!(rt;
-        each_alone(left).as_slice(),
-        b"chapel-workbook 3\n up\n up\n up\n up\n up\n up\n up\n up\n up\n up\n up\n up\n up\n up\n up\n up\n up\n up\n up\n up\n up\n#".as_slice()
-    );
+    assert!(rt; one == 10 && two == 10 && are_told_once);
+    // The turns are in some batches.
+    assert!(rt; left.as_slice() == KEPT);
     Ok(())
 }
 
 #[test]
 fn nobody_is_told_after_a_fault(rt: HostRuntime) -> Result<(), Fail> {
-    let alloc = rt.alloc();
     // To open the file takes three calls, a batch two more: the second batch fails in its second call.
-    let file = MemoryFile::new(alloc, HELD.to_vec(alloc)?, 6, 0);
-    let Ok((log, _)) = open(alloc, file, HELD) else {
+    let Some((one, two, _, left)) = told_and_left(&rt, rt.alloc(), 6)? else {
         panic!(rt; "refused");
     };
-    let (one, two, left) = two_threads::<Brand, _>(&rt, alloc, Opened::new(), Blank::new(1), log)?;
     // At most the turns of one batch were told: one of each thread.
-    assert!(rt; one.len() + two.len() == 1 || one.len() + two.len() == 2);
+    let told = one.saturating_add(two);
+    assert!(rt; told == 1 || told == 2);
     // The first batch is in the file, behind the line from before.
-    assert!(rt; each_alone(left).starts_with(b"chapel-workbook 3\n up\n up\n"));
+    assert!(rt; left.starts_with(b"chapel-workbook 3\n up\n up\n"));
     Ok(())
+}
+
+/// Makes a turn, if there is room.
+fn make_one<O: Opening>(alloc: Global, desk: &mut Waiting<O, Changes>) -> Result<(), AllocError> {
+    let _ = desk.add(one_line(alloc)?);
+    Ok(())
+}
+
+/// Makes two turns, if there is room.
+fn make_two<O: Opening>(alloc: Global, desk: &mut Waiting<O, Changes>) -> Result<(), AllocError> {
+    make_one(alloc, desk)?;
+    make_one(alloc, desk)
 }
 
 /// What is left of two turns whose file is cut off while both are brought to it.
@@ -194,29 +243,39 @@ fn two_turns<O: Opening>(
     requires ledger { (blank.name ≡ O.name) × (blank.parts ≡ O.parts) × (O.all ≡ O.parts) × (0 < O.all) }
 {
     let (mut desk, front, mark) = Waiting::<O, Changes>::open(alloc, opened, blank);
+    let made = make_two(alloc, &mut desk);
     let keeper = Keeper::new(Journal::new(alloc, log), front, mark);
-    let _ = desk.add(one_line(alloc)?);
-    let _ = desk.add(one_line(alloc)?);
-    file_of(alloc, desk, keeper)
+    let left = file_of(alloc, desk, keeper);
+    match made {
+        Ok(()) => left,
+        Err(error) => Err(error),
+    }
 }
+
+/// Whether these bytes are left of two turns whose file is cut off in the call after so many, of which so many bytes reach it.
+fn is_left(alloc: Global, calls: usize, torn: usize, bytes: &[u8]) -> Result<bool, AllocError> {
+    match opened(alloc, HELD, calls, torn)? {
+        Ok(log) => {
+            let left = two_turns::<Brand>(alloc, Opened::new(), Blank::new(1), log)?;
+            Ok(left.as_slice() == bytes)
+        }
+        Err(_) => Ok(false),
+    }
+}
+
+/// How many calls are made, how many bytes of the next reach the file, and what is left.
+const LEFT: &[(usize, usize, &[u8])] = &[
+    (3, 0, b"chapel-workbook 3\n up\n#"),
+    (3, 5, b"chapel-workbook 3\n up\n+up\n "),
+    (3, 8, b"chapel-workbook 3\n up\n+up\n up\n"),
+    (4, 0, b"chapel-workbook 3\n up\n+up\n up\n#"),
+    (5, 0, b"chapel-workbook 3\n up\n+up\n up\n#"),
+];
 
 #[test]
 fn turns_that_wait_are_kept_all_or_none(rt: HostRuntime) -> Result<(), Fail> {
-    let alloc = rt.alloc();
-    // How many calls are made, how many bytes of the next reach the file, and what is left.
-    for (calls, torn, expected) in [
-        (3, 0, b"chapel-workbook 3\n up\n#".as_slice()),
-        (3, 5, b"chapel-workbook 3\n up\n+up\n "),
-        (3, 8, b"chapel-workbook 3\n up\n+up\n up\n"),
-        (4, 0, b"chapel-workbook 3\n up\n+up\n up\n#"),
-        (5, 0, b"chapel-workbook 3\n up\n+up\n up\n#"),
-    ] {
-        let file = MemoryFile::new(alloc, HELD.to_vec(alloc)?, calls, torn);
-        let Ok((log, _)) = open(alloc, file, HELD) else {
-            panic!(rt; "refused");
-        };
-        let left = two_turns::<Brand>(alloc, Opened::new(), Blank::new(1), log)?;
-        assert_eq!(rt; left.as_slice(), expected);
+    for (calls, torn, bytes) in LEFT {
+        assert!(rt; is_left(rt.alloc(), *calls, *torn, bytes)?);
     }
     Ok(())
 }

@@ -7,6 +7,8 @@ mod compact;
 #[cfg(test)]
 mod disk;
 #[cfg(test)]
+mod files;
+#[cfg(test)]
 mod group;
 #[cfg(test)]
 mod keep;

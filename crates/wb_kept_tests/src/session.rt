@@ -1,14 +1,16 @@
 //! Files that are opened or refused, and a session that is cut off in each call.
+ghost use Rattle.wb_kept.specs.Keeping.{IsKept};
+ghost use Rattle.wb_kept_tests.specs.Tallies.{Grants};
+
+use crate::files::NEVER;
 use crate::tally::{Tally, answer, make};
 use std::alloc::{AllocError, Global};
 use std::fs;
 use std::test::Fail;
 use wb_keep::START;
-use wb_keep::disk::{MemoryFile, open_file};
-use wb_kept::{Changes, KeptEnd, OpenKeptErr, open, serve_kept};
+use wb_keep::disk::{Device, MemoryFile, open_file};
+use wb_kept::{Changes, Kept, KeptEnd, OpenKeptErr, open, serve_kept};
 use wb_lines::{Input, Output};
-
-const NEVER: usize = 1000;
 
 const PATH: &str = "wb_kept_session.log";
 
@@ -21,99 +23,140 @@ fn state_of(alloc: Global, bytes: &[u8]) -> Result<Result<u8, OpenKeptErr>, Allo
     }
 }
 
-/// Serves the lines over a new file, until it is cut off in the call after so many. Returns the end, what was written and
-/// what is left.
-fn cut_off(
+/// Serves the lines. Whether the session ends so, with these replies.
+fn is_served<D: Device>(
+    alloc: Global,
+    kept: &mut Kept<u8, D>,
+    lines: &[u8],
+    end: KeptEnd,
+    replies: &[u8],
+) -> bool
+    requires { IsKept 0 Grants D.seen D.may_leave kept.old }
+{
+    let answer = |state: &mut u8, line: &[u8], changes: &mut Changes| answer(
+        alloc, state, line, changes,
+    );
+    let mut written = Vec::new(alloc);
+    let ended = serve_kept::<Tally, u8, _, _, _, _>(
+        alloc,
+        &answer,
+        kept,
+        &mut Input::new(lines),
+        &mut Output::new(&mut written),
+    );
+    ended == end && written.as_slice() == replies
+}
+
+/// What is left of a file, if all went well.
+fn left_if(alloc: Global, is_well: bool, left: &[u8]) -> Result<Option<Vec<u8>>, AllocError> {
+    if is_well {
+        return Ok(Some(left.to_vec(alloc)?));
+    }
+    Ok(None)
+}
+
+/// Serves the lines over a new file, until it is cut off in the call after so many. What is left of it, where the session ends
+/// so with these replies.
+fn left_of(
     alloc: Global,
     lines: &[u8],
     calls: usize,
     torn: usize,
-) -> Result<(KeptEnd, Vec<u8>, Vec<u8>), AllocError> {
+    end: KeptEnd,
+    replies: &[u8],
+) -> Result<Option<Vec<u8>>, AllocError> {
     let held = b"chapel-workbook 3\n up\n#";
-    let answer = |state: &mut u8, line: &[u8], changes: &mut Changes| answer(
-        alloc, state, line, changes,
-    );
     let file = MemoryFile::new(alloc, held.to_vec(alloc)?, calls, torn);
-    let mut written = Vec::new(alloc);
     match open::<Tally, u8, _, _>(alloc, &make, 0u8, file, held) {
-        Err((_, file)) => Ok((KeptEnd::DiskFault(0), written, file.left().to_vec(alloc)?)),
         Ok(mut kept) => {
-            let end = serve_kept::<Tally, u8, _, _, _, _>(
-                alloc,
-                &answer,
-                &mut kept,
-                &mut Input::new(lines),
-                &mut Output::new(&mut written),
-            );
-            let left = kept.log.device.left().to_vec(alloc)?;
-            Ok((end, written, left))
+            let is_well = is_served(alloc, &mut kept, lines, end, replies);
+            left_if(alloc, is_well, kept.log.device.left())
+        }
+        Err((_, file)) => {
+            let is_well = end == KeptEnd::DiskFault(0) && replies.is_empty();
+            left_if(alloc, is_well, file.left())
         }
     }
 }
 
+/// What a new file stands for that is cut off so, where the session ends so with these replies.
+fn state_after(
+    alloc: Global,
+    lines: &[u8],
+    calls: usize,
+    torn: usize,
+    end: KeptEnd,
+    replies: &[u8],
+) -> Result<Option<Result<u8, OpenKeptErr>>, AllocError> {
+    match left_of(alloc, lines, calls, torn, end, replies)? {
+        Some(left) => Ok(Some(state_of(alloc, &left)?)),
+        None => Ok(None),
+    }
+}
+
+/// Whether a file is refused, and handed back as it was.
+fn is_refused(alloc: Global, bytes: &[u8]) -> Result<bool, AllocError> {
+    let file = MemoryFile::new(alloc, bytes.to_vec(alloc)?, NEVER, 0);
+    match open::<Tally, u8, _, _>(alloc, &make, 0u8, file, bytes) {
+        Ok(_) => Ok(false),
+        Err((_, file)) => Ok(file.bytes() == bytes),
+    }
+}
+
+/// Files, and what they stand for, or why they are refused.
+const FILES: &[(&[u8], Result<u8, OpenKeptErr>)] = &[
+    (b"", Ok(0)),
+    (b"chapel-workbook 3\n up\n+up\n up\n+up\n# up\n", Ok(3)),
+    (
+        b"chapel-workbook 3\n up\n down\n#",
+        Err(OpenKeptErr::NotGranted(1)),
+    ),
+    (b"x", Err(OpenKeptErr::NotOurs)),
+];
+
 #[test]
 fn files_are_opened_or_refused(rt: HostRuntime) -> Result<(), Fail> {
-    let alloc = rt.alloc();
-    assert!(rt; state_of(alloc, b"")? == Ok(0));
-    assert!(rt; state_of(alloc, b"chapel-workbook 3\n up\n+up\n up\n+up\n# up\n")? == Ok(3));
-    assert!(rt;
-        state_of(alloc, b"chapel-workbook 3\n up\n down\n#")? == Err(OpenKeptErr::NotGranted(1))
-    );
-    assert!(rt; state_of(alloc, b"x")? == Err(OpenKeptErr::NotOurs));
-    let held = b"chapel-workbook 3\n up\n down\nx";
-    let file = MemoryFile::new(alloc, held.to_vec(alloc)?, NEVER, 0);
-    let Err((_, file)) = open::<Tally, u8, _, _>(alloc, &make, 0u8, file, held) else {
-        panic!(rt; "opened");
-    };
-    assert_eq!(rt; file.bytes(), held.as_slice());
+    for (bytes, state) in FILES {
+        assert!(rt; state_of(rt.alloc(), bytes)? == *state);
+    }
+    assert!(rt; is_refused(rt.alloc(), b"chapel-workbook 3\n up\n down\nx")?);
     Ok(())
 }
 
 #[test]
 fn questions_make_no_call(rt: HostRuntime) -> Result<(), Fail> {
-    let alloc = rt.alloc();
     // To open the file takes three calls.
-    let (end, written, left) = cut_off(alloc, b"how many\nhow many\n", 3, 0)?;
-    assert!(rt; end == KeptEnd::Done(2));
-    assert_eq!(rt; written.as_slice(), b"b\nb\n".as_slice());
-    assert_eq!(rt; left.as_slice(), b"chapel-workbook 3\n up\n#".as_slice());
+    let left = left_of(
+        rt.alloc(),
+        b"how many\nhow many\n",
+        3,
+        0,
+        KeptEnd::Done(2),
+        b"b\nb\n",
+    )?;
+    assert!(rt; left.as_deref() == Some(b"chapel-workbook 3\n up\n#".as_slice()));
     Ok(())
 }
 
-/// Serves the lines over the file at the path, which is made where it is missing.
-fn serve_at(rt: &HostRuntime, lines: &[u8]) -> Result<Option<Vec<u8>>, Fail> {
-    let alloc = rt.alloc();
-    let answer = |state: &mut u8, line: &[u8], changes: &mut Changes| answer(
-        alloc, state, line, changes,
-    );
-    let mut written = Vec::new(alloc);
+/// Serves two lines over the file at the path, which is made where it is missing. Whether both are served, with these
+/// replies.
+fn is_served_at(rt: &HostRuntime, lines: &[u8], replies: &[u8]) -> bool {
     let Ok((file, held)) = open_file(rt, PATH, &START) else {
-        return Ok(None);
+        return false;
     };
-    let Ok(mut kept) = open::<Tally, u8, _, _>(alloc, &make, 0u8, file, &held) else {
-        return Ok(None);
-    };
-    let end = serve_kept::<Tally, u8, _, _, _, _>(
-        alloc,
-        &answer,
-        &mut kept,
-        &mut Input::new(lines),
-        &mut Output::new(&mut written),
-    );
-    if !matches!(end, KeptEnd::Done(_)) {
-        return Ok(None);
+    match open::<Tally, u8, _, _>(rt.alloc(), &make, 0u8, file, &held) {
+        Ok(mut kept) => { is_served(rt.alloc(), &mut kept, lines, KeptEnd::Done(2), replies) }
+        Err(_) => false,
     }
-    Ok(Some(written))
 }
 
 #[test]
 fn a_real_file_outlives_its_sessions(rt: HostRuntime) -> Result<(), Fail> {
     let _ = fs::remove_file(&rt, PATH);
-    assert!(rt; serve_at(&rt, b"up\ntwice\n")?.as_deref() == Some(b"ok\nok\n".as_slice()));
-    assert!(rt; serve_at(&rt, b"how many\nup\n")?.as_deref() == Some(b"d\nok\n".as_slice()));
-    assert_eq!(rt;
-        fs::read(&rt, PATH)?.as_slice(),
-        b"chapel-workbook 3\n+up\n+up\n up\n up\n#".as_slice()
+    assert!(rt; is_served_at(&rt, b"up\ntwice\n", b"ok\nok\n"));
+    assert!(rt; is_served_at(&rt, b"how many\nup\n", b"d\nok\n"));
+    assert!(rt;
+        fs::read(&rt, PATH)?.as_slice() == b"chapel-workbook 3\n+up\n+up\n up\n up\n#".as_slice()
     );
     fs::remove_file(&rt, PATH)?;
     Ok(())
@@ -122,18 +165,13 @@ fn a_real_file_outlives_its_sessions(rt: HostRuntime) -> Result<(), Fail> {
 #[test]
 fn a_session_is_cut_off_in_each_call(rt: HostRuntime) -> Result<(), Fail> {
     let alloc = rt.alloc();
-    let lines = b"up\ntwice\nhow many\nup\n";
-    let (end, written, left) = cut_off(alloc, lines, NEVER, 0)?;
-    assert!(rt; end == KeptEnd::Done(4));
-    assert_eq!(rt; written.as_slice(), b"ok\nok\ne\nok\n".as_slice());
-    assert!(rt; state_of(alloc, &left)? == Ok(5));
+    let lines = b"up\ntwice\nhow many\nup\n".as_slice();
+    let state = state_after(alloc, lines, NEVER, 0, KeptEnd::Done(4), b"ok\nok\ne\nok\n")?;
+    assert!(rt; state == Some(Ok(5)));
     for calls in 0..5 {
         for torn in 0..20 {
-            let (end, written, left) = cut_off(alloc, lines, calls, torn)?;
-            assert!(rt; end == KeptEnd::DiskFault(0));
-            assert!(rt; written.is_empty());
-            let state = state_of(alloc, &left)?;
-            assert!(rt; state == Ok(1) || state == Ok(5));
+            let state = state_after(alloc, lines, calls, torn, KeptEnd::DiskFault(0), b"")?;
+            assert!(rt; state == Some(Ok(1)) || state == Some(Ok(5)));
         }
     }
     Ok(())

@@ -1,6 +1,6 @@
 //! A count up to 200. The line `up` adds one, `twice` two, and any other asks for it.
-ghost use Rattle.std.specs.Prelude.{◌≡◌, ◌++◌, ℕ, List, IfOk, true, false};
-ghost use Rattle.wb_kept_tests.specs.Tallies.{Grants, Answers, leads_to, one_state};
+ghost use Rattle.std.specs.Prelude.{◌≡◌, ◌++◌, ◌+◌, ◌<◌, ℕ, List, [], ◌∷◌, IfOk, OnOk, true, false};
+ghost use Rattle.wb_kept_tests.specs.Tallies.{Grants, Answers, up, leads_to, one_state};
 
 use std::alloc::{AllocError, Global};
 use wb_kept::{Changes, Machine};
@@ -36,6 +36,15 @@ pub fn make(state: &mut u8, change: &[u8]) -> Result<bool, AllocError>
     Ok(true)
 }
 
+/// Adds one, and the change that says so.
+fn add_one(state: &mut u8, changes: &mut Changes) -> Result<(), AllocError>
+    requires { state.old < 200 }
+    ensures { OnOk result ((state.new ≡ state.old + 1) × (changes.new ≡ changes.old ++ up ∷ [])) }
+{
+    *state += 1;
+    changes.push(UP)
+}
+
 /// Answers a line.
 pub fn answer(
     alloc: Global,
@@ -47,14 +56,12 @@ pub fn answer(
         × (changes.new ≡ changes.old ++ made)) }
 {
     if line == UP && *state < MOST {
-        *state += 1;
-        changes.push(UP)?;
+        add_one(state, changes)?;
         return Vec::from_slice(alloc, b"ok");
     }
     if line == b"twice".as_slice() && *state < MOST - 1 {
-        *state += 2;
-        changes.push(UP)?;
-        changes.push(UP)?;
+        add_one(state, changes)?;
+        add_one(state, changes)?;
         return Vec::from_slice(alloc, b"ok");
     }
     Vec::from_slice(alloc, &[b'a' + *state % 26])

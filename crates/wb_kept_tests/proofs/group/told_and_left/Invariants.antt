@@ -1,6 +1,6 @@
 use Rattle.wb_keep.specs.Disk.Calls.{seen_after}
 use Rattle.wb_keep.specs.Lines.{recovered}
-use Rattle.wb_kept_tests.proofs.group.threads_are_kept_together.Given as goal
+use Rattle.wb_kept_tests.proofs.group.told_and_left.Given as goal
 
 abbrev pub ghosts-two_threads-O-Ledger : goal.ghosts-two_threads-O-Ledger
 ghosts-two_threads-O-Ledger g a = record { name = a.blank.name; parts = a.blank.parts }
