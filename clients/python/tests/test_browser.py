@@ -29,6 +29,28 @@ for (const [mode, type] of [["cors", "application/json"], ["no-cors", "text/plai
 ASKED = 7 * 3 + 2
 """So many times."""
 
+AT_THE_DOOR = """<!doctype html><title>at the door</title><script>
+const told = [];
+const desk = "127.0.0.1:%PORT%";
+const lines = '{"op":"domain","d":"D","is":"{1..4}"}\\n{"op":"array","a":"A","d":"D"}\\n';
+for (const [mode, type] of [["cors", "application/json"], ["cors", "text/plain"], ["no-cors", "text/plain"]])
+  fetch("http://" + desk, {method: "POST", mode, headers: {"Content-Type": type}, body: lines})
+    .then(answer => told.push(mode + " " + answer.type), () => told.push("refused"));
+const image = new Image();
+image.onload = () => told.push("an image came");
+image.onerror = () => told.push("refused");
+image.src = "http://" + desk;
+const channel = new WebSocket("ws://" + desk);
+channel.onopen = () => { told.push("a channel is open"); channel.send(lines); };
+channel.onerror = () => told.push("refused");
+</script>
+<form method="post" enctype="text/plain" action="http://127.0.0.1:%PORT%/">
+<textarea name="x">
+{"op":"domain","d":"D","is":"{1..4}"}
+{"op":"array","a":"A","d":"D"}
+</textarea></form>"""
+"""A page of another site, which posts lines to a desk's own port, by requests and by a form, and opens a channel to it."""
+
 CELL = ".value[data-key='A[{}]']"
 
 
@@ -110,6 +132,21 @@ class Page(InABrowser):
                 told = browser.js("told.filter(x => x !== 'refused' && x !== 'no-cors opaque 0').join()")
                 self.assertEqual(told, "")
         self.assertEqual(desk.settled(), (0, "chapel-workbook 1\nend\n"))
+
+    def test_another_site_changes_nothing_at_a_desk(self):
+        """A desk hears nothing of a connection whose first line is no object, so no body of a browser's request."""
+        desk = Server(seats=16)
+        self.addCleanup(desk.close)
+        book = desk.connect()
+        port = self.elsewhere(AT_THE_DOOR.replace("%PORT%", str(desk.port)))
+        browser = self.browser
+        self.go(f"http://localhost:{port}/")
+        browser.until("told.length === 5")
+        self.assertEqual(browser.js("told.filter(x => x !== 'refused').join()"), "")
+        browser.js("document.forms[0].submit()")
+        browser.until("location.protocol === 'chrome-error:'")
+        self.assertEqual(book.print_text(), "chapel-workbook 1\nend\n")
+        self.assertEqual(desk.connect().history_text(), "chapel-workbook 2\nhistory 0\nend\n")
 
     def test_another_site_frames_and_opens_nothing(self):
         page = serve(Workbook.run(PROGRAM))
