@@ -113,7 +113,7 @@ class Desks(Files):
             with self.assertRaisesRegex(SessionEnded, "ended with status 3"):
                 Workbook.serve(port=desk.port, program=PROGRAM)
             with self.assertRaisesRegex(SessionEnded, "ended with status 3"):
-                Workbook.serve(port=desk.port, journal=self.path, program=with_journal("serve"))
+                Workbook.serve(port=desk.port, journal=self.path, program=PROGRAM)
 
     def test_a_desk_that_is_closed(self):
         desk = Workbook.serve(seats=1, program=PROGRAM)
