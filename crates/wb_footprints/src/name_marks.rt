@@ -19,13 +19,25 @@ use wb_cells::Name;
 use wb_range::NoMemory;
 
 /// Numbers at the parts of one object.
-#[derive(Drop)]
 pub struct NameMarks {
     slots: SlotMarks,
     users: Marks<Name>,
     inside: IndexMarks,
     members: IndexMarks,
     elements: IndexMarks,
+}
+
+// In a function of its own, so that a function that lets marks go need not prove anew how each field is let go.
+impl Drop for NameMarks {
+    fn drop(self) {
+        let NameMarks {
+            slots: _,
+            users: _,
+            inside: _,
+            members: _,
+            elements: _,
+        } = self;
+    }
 }
 
 impl NameMarks {

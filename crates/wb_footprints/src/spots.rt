@@ -1,6 +1,9 @@
 //! Which numbers stand at which parts of which objects.
 
-ghost use Rattle.std.specs.Prelude.{◌≡◌, ℕ, ◌&&◌, false, true, IsTrue, OnOk, OnErr};
+ghost use Rattle.std.specs.Prelude.{◌≡◌, ℕ, ◌&&◌, false, true, List, IsTrue, Some, OnOk, OnErr};
+ghost use Rattle.std.specs.BTreeMap.{get, Updates};
+ghost use Rattle.std.specs.Cmp.Lexicographic.{slice_cmp};
+ghost use Rattle.std.specs.Ordering.{nat_cmp};
 ghost use Rattle.std.specs.List.{list_any};
 ghost use Rattle.wb_footprints.specs.Relation.{Sets, Clears, IsLeastAfter, JoinedAfter};
 ghost use Rattle.wb_footprints.specs.Points.{Coordinates};
@@ -45,10 +48,7 @@ impl SpotMarks {
         }
         let mut marks = NameMarks::new(self.alloc);
         marks.add(part, number)?;
-        match self.names.insert(name, marks) {
-            Ok(_) => Ok(()),
-            Err(_) => Err(NoMemory),
-        }
+        self.put(name, marks)
     }
 
     /// Adds a number at many points of the object of a name, and says whether it did.
@@ -62,9 +62,20 @@ impl SpotMarks {
         if !marks.add_block(kind, block) {
             return false;
         }
-        match self.names.insert(name, marks) {
-            Ok(_) => true,
+        match self.put(name, marks) {
+            Ok(()) => true,
             Err(_) => false,
+        }
+    }
+
+    // Puts the marks of a name.
+    fn put(&mut self, name: Name, marks: NameMarks) -> Result<(), NoMemory>
+        ensures ok { OnOk result (Updates (slice_cmp nat_cmp) self.old.names self.new.names name (Some marks)) }
+        ensures err { OnErr result ((d : List ℕ) → get (slice_cmp nat_cmp) self.new.names d ≡ get (slice_cmp nat_cmp) self.old.names d) }
+    {
+        match self.names.insert(name, marks) {
+            Ok(_) => Ok(()),
+            Err(_) => Err(NoMemory),
         }
     }
 

@@ -25,13 +25,18 @@ module _ {D : Type 0} (seen : D → List ℕ) (moment : D → ℕ) (left_since :
   stood : (lines c : List ℕ) → may_leave old c → IsOldOrNew (recovered (seen old)) (lines_of lines) c
   stood lines c left = is_old (seen old) (lines_of lines) c rest (durable c left)
 
+  -- no call was made on the file
+  pub unmoved : (lines : List ℕ) → ((c : List ℕ) → left_since old (moment old) c → may_leave old c)
+      → LeavesOnly moment left_since old old (IsOldOrNew (recovered (seen old)) (lines_of lines))
+  unmoved lines only_now = started moment left_since old (IsOldOrNew (recovered (seen old)) (lines_of lines)) (λ c left. stood lines c (only_now c left))
+
   pub each_moment : (lines file : List ℕ) → file ≡ header ++ marked (lines_of lines) ++ 35 ∷ [] → ((c : List ℕ) → left_since old (moment old) c → may_leave old c)
       → ((c : List ℕ) → may_leave new c → may_leave old c ⊎ (c ≡ file)) → Elapses (moment old) (moment new) (left_since old) (left_since new) (may_leave new)
       → LeavesOnly moment left_since old new (IsOldOrNew (recovered (seen old)) (lines_of lines))
   each_moment lines file is only_now crash time =
       let P = IsOldOrNew (recovered (seen old)) (lines_of lines) in
       goes_on moment left_since old old new P (may_leave new)
-      (started moment left_since old P (λ c left. stood lines c (only_now c left)))
+      (unmoved lines only_now)
       time
       (λ c now. ⊎_elim (λ was. stood lines c was) (λ put. is_new (recovered (seen old)) lines c (put ∙ is)) (crash c now))
 

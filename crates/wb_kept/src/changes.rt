@@ -58,7 +58,8 @@ impl Changes {
     }
 }
 
-fn add_line(text: &mut Vec<u8>, line: &[u8]) -> Result<(), AllocError>
+/// Adds a line with its end. Where there is no memory for it, nothing is added.
+pub(crate) fn add_line(text: &mut Vec<u8>, line: &[u8]) -> Result<(), AllocError>
     ensures ok { OnOk result (text.new.items ≡ text.old.items ++ ended line.now) }
     ensures err { OnErr result (text.new.items ≡ text.old.items) }
 {

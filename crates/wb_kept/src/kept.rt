@@ -10,7 +10,7 @@ ghost use Rattle.wb_kept.specs.Runs.{Step, Leads, AnswersLine};
 ghost use Rattle.wb_kept.specs.Answering.{AnswersBy, GrantsBy};
 ghost use Rattle.wb_kept.specs.Keeping.{IsKept, IsPlace};
 
-use crate::changes::Changes;
+use crate::changes::{Changes, add_line};
 use crate::machine::Machine;
 use std::alloc::{AllocError, Global};
 use wb_keep::disk::Device;
@@ -215,8 +215,7 @@ impl<S, D: Device> Kept<S, D> {
             bytes,
             &mut turn.changes,
         )?;
-        turn.replies.extend_from_slice(&reply)?;
-        turn.replies.push(b'\n')?;
+        add_line(&mut turn.replies, &reply)?;
         Ok(())
     }
 

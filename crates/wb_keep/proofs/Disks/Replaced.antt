@@ -4,6 +4,10 @@ use Rattle.wb_keep.specs.Disk.Device.{Elapses}
 use Rattle.wb_keep.specs.Disk.Calls.{Call, made, made_durable, named, folder_synced, Reaches, MayLeave, LeftSince}
 use Rattle.wb_keep.specs.Disk.Laws.{left_now}
 
+-- a crash leaves what it might have left before, or the new bytes
+abbrev pub Either : List Call → List ℕ → List Call → Type 0
+Either old bytes new = (c : List ℕ) → MayLeave new c → MayLeave old c ⊎ (c ≡ bytes)
+
 -- time goes on from these calls to those
 abbrev pub Later : List Call → List Call → Type 0
 Later old new = Elapses (length old) (length new) (LeftSince old) (LeftSince new) (MayLeave new)
@@ -59,6 +63,17 @@ module _ (calls : List Call) (bytes : List ℕ) where
   pub in_place_either : (c : List ℕ) → MayLeave in_place c → MayLeave calls c ⊎ (c ≡ bytes)
   in_place_either c (inl now) = inr now
   in_place_either c (inr (d, which, same)) = either d c which same
+
+  -- the same where the name was not given, and after the sync of the folder
+  pub unnamed_either : (c : List ℕ) → MayLeave (named false ∷ ready) c → MayLeave calls c ⊎ (c ≡ bytes)
+  unnamed_either c (inl now) = inl (inl now)
+  unnamed_either c (inr (d, which, same)) = either d c which same
+
+  pub folder_either : (done : Bool) (c : List ℕ) → MayLeave (folder_synced done ∷ in_place) c → MayLeave calls c ⊎ (c ≡ bytes)
+  folder_either true c (inl now) = inr now
+  folder_either false c (inl now) = inr now
+  folder_either true c (inr (d, is, same)) = inr (same ∙ is)
+  folder_either false c (inr (d, reached, same)) = subst (λ (x : List ℕ). MayLeave calls x ⊎ (x ≡ bytes)) (sym same) (in_place_either d (inr reached))
 
   -- and all moments of it
   pub synced_time : (done : Bool) → Later calls (made_durable done ∷ written)

@@ -17,9 +17,9 @@ returns-in-Some-clause-err c =
     on_err_weaker c.add.result (λ h. part_same c.args.self.now.names (c.get_mut.follows.lender c.add.new.self) c.args.name (Some c.in-Some.marks.now)
     c.add.new.self v (w.3 (search rules)) (ap Some (sym h))) c.add.ensures.err
 
-pub returns-in-Ok-clause-ok : goal.returns-in-Ok-clause-ok
-returns-in-Ok-clause-ok c =
+pub returns-clause-ok : goal.returns-clause-ok
+returns-clause-ok c =
     let same = c.get_mut.follows.holds-at-none in
     let v = sym c.in_default.ensures.value in
-    part_new c.args.self.now.names c.get_mut.follows.lender-at-none c.insert.new.self c.args.name c.new-marks.result c.add-2.new.self same v
-    c.in-Ok.ensures.updates c.new-marks.ensures c.args.part.now c.args.number c.in_ok-add.ensures.ok
+    on_ok_weaker c.put.result (λ h. part_new c.args.self.now.names c.get_mut.follows.lender-at-none c.put.new.self.names c.args.name
+    c.new-marks.result c.add-2.new.self same v h c.new-marks.ensures c.args.part.now c.args.number c.in_ok-add.ensures.ok) c.put.ensures.ok

@@ -19,5 +19,5 @@ returns-in-Ok c =
     let v = sym c.in_default.ensures.value in
     let b = c.args.block in
     let set = rw c.if-not-add_block.false at c.add_block-2.ensures in
-    parts_new c.args.self.now.names c.get_mut.follows.lender-at-none c.insert.new.self c.args.name c.new-marks.result c.add_block-2.new.self same v
-    c.in-Ok.ensures.updates c.new-marks.ensures (in_run c.args.kind b.points) b.number set
+    parts_new c.args.self.now.names c.get_mut.follows.lender-at-none c.put.new.self.names c.args.name c.new-marks.result c.add_block-2.new.self same v
+    c.in-Ok.ensures.ok c.new-marks.ensures (in_run c.args.kind b.points) b.number set

@@ -1,9 +1,28 @@
 use Rattle.std.proofs.Common.{◌≡◌, ◌+◌, ◌-◌, List, ℕ, [], ◌∷◌, ◌++◌, length, refl, sym, ◌∙◌, ap, rules}
 use Rattle.std.proofs.lemmas.List.{append-nil}
 use Rattle.wb_keep.specs.Lines.{lines_of, recovered, marked}
-use Rattle.wb_keep.proofs.Appending.{moments, settled}
+use Rattle.wb_keep.proofs.Appending.{unmoved, moments, settled}
 use Rattle.wb_keep.proofs.Crash.{no_new}
 use Rattle.wb_keep.proofs.keep.LineLog.append.Goals as goal
+
+-- the file was left alone
+pub returns-in_err-block-clause-any_moment : goal.returns-in_err-block-clause-any_moment
+returns-in_err-block-clause-any_moment g c =
+    let D = g.D.Device in
+    let d0 = c.args.self.now.device in
+    unmoved D.seen D.moment D.left_since D.may_leave c.args.lines.now d0 c.requires.file c.requires.durable (g.met.D.Device.only_now d0)
+
+pub returns-then-len-eq1-clause-any_moment : goal.returns-then-len-eq1-clause-any_moment
+returns-then-len-eq1-clause-any_moment g c =
+    let D = g.D.Device in
+    let d0 = c.args.self.now.device in
+    unmoved D.seen D.moment D.left_since D.may_leave c.args.lines.now d0 c.requires.file c.requires.durable (g.met.D.Device.only_now d0)
+
+pub returns-then-mark-ge-MAX_LENGTH-clause-any_moment : goal.returns-then-mark-ge-MAX_LENGTH-clause-any_moment
+returns-then-mark-ge-MAX_LENGTH-clause-any_moment g c =
+    let D = g.D.Device in
+    let d0 = c.args.self.now.device in
+    unmoved D.seen D.moment D.left_since D.may_leave c.args.lines.now d0 c.requires.file c.requires.durable (g.met.D.Device.only_now d0)
 
 -- no line was added
 pub returns-then-len-eq1-clause-acknowledged : goal.returns-then-len-eq1-clause-acknowledged

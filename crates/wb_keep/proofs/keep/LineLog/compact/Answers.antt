@@ -1,8 +1,15 @@
 use Rattle.std.proofs.Common.{◌≡◌, ◌-◌, ◌∙◌, ap, length, rules}
 use Rattle.std.specs.Prelude.{ℕ, [], ◌∷◌, ◌++◌}
 use Rattle.wb_keep.specs.Lines.{lines_of, header, marked}
-use Rattle.wb_keep.proofs.InPlace.{each_moment, settled}
+use Rattle.wb_keep.proofs.InPlace.{unmoved, each_moment, settled}
 use Rattle.wb_keep.proofs.keep.LineLog.compact.Goals as goal
+
+-- the file was left alone
+pub returns-in_default-clause-any_moment : goal.returns-in_default-clause-any_moment
+returns-in_default-clause-any_moment g c =
+    let D = g.D.Device in
+    let d0 = c.args.self.now.device in
+    unmoved D.seen D.moment D.left_since D.may_leave d0 d0 c.requires.file c.requires.durable c.args.lines.now (g.met.D.Device.only_now d0)
 
 pub returns-in-Ok-replace-clause-compacted : goal.returns-in-Ok-replace-clause-compacted
 returns-in-Ok-replace-clause-compacted g c =
@@ -15,6 +22,13 @@ returns-in-Ok-replace-clause-compacted g c =
 
 pub returns-in-Ok-replace-clause-any_moment : goal.returns-in-Ok-replace-clause-any_moment
 returns-in-Ok-replace-clause-any_moment g c =
+    let D = g.D.Device in
+    let d0 = c.args.self.now.device in
+    each_moment D.seen D.moment D.left_since D.may_leave d0 c.replace.new.self c.requires.file c.requires.durable c.args.lines.now c.deref.result.now
+    (c.deref.ensures.value ∙ c.in-Ok.ensures) (g.met.D.Device.only_now d0) c.replace.ensures.crash c.replace.ensures.time
+
+pub returns-in-Err-NotMade-clause-any_moment : goal.returns-in-Err-NotMade-clause-any_moment
+returns-in-Err-NotMade-clause-any_moment g c =
     let D = g.D.Device in
     let d0 = c.args.self.now.device in
     each_moment D.seen D.moment D.left_since D.may_leave d0 c.replace.new.self c.requires.file c.requires.durable c.args.lines.now c.deref.result.now
