@@ -19,7 +19,7 @@ class Bulk(unittest.TestCase):
     def test_a_list(self):
         A = self.wb.array("A", self.wb.domain("D", range(1, 8)))
         edits = A.put([5, 5, 5, 0, 0, 3, 2**63 - 1])
-        self.assertEqual([e.what for e in edits], ["A[1..3] = 5", "A[4..5] = 0", "A[6] = 3", "A[7] = 9223372036854775807"])
+        self.assertEqual([e.what for e in edits], ["A[1..7] = [5, 5, 5, 0, 0, 3, 9223372036854775807]"])
         self.assertEqual(list(A), [5, 5, 5, 0, 0, 3, 2**63 - 1])
         A[:] = [7] * 7
         self.assertEqual((self.wb.last_edit.what, list(A)), ("A = 7", [7] * 7))
@@ -61,7 +61,7 @@ class Bulk(unittest.TestCase):
         A = self.wb.array("A", self.wb.domain("D", range(1, 8)))
         A[range(2, 5)] = [5, 6, 6]
         self.assertEqual(list(A), [0, 5, 6, 6, 0, 0, 0])
-        self.assertEqual([e.what for e in A.put([1, 1, 2], "{1..5 by -2}")], ["A[3..5 by -2] = 1", "A[1] = 2"])
+        self.assertEqual([e.what for e in A.put([1, 1, 2], "{1..5 by -2}")], ["A[1..5 by -2] = [1, 1, 2]"])
         self.assertEqual(list(A), [2, 5, 1, 6, 1, 0, 0])
         A[range(6, 8)] = (9, 9)
         self.assertEqual((self.wb.last_edit.what, list(A)), ("A[6..7] = 9", [2, 5, 1, 6, 1, 9, 9]))
@@ -112,7 +112,7 @@ class Bulk(unittest.TestCase):
         A = self.wb.array("A", self.wb.domain("D", "{1..256, 1..256}"))
         values = [[(row * column) % 7 for column in range(256)] for row in range(256)]
         edits = A.put(values)
-        self.assertGreater(len(edits), 50000)
+        self.assertEqual([edit.cells for edit in edits], [16384] * 4)
         self.assertEqual(list(A), [value for row in values for value in row])
 
     @unittest.skipUnless(numpy, "numpy isn't there")

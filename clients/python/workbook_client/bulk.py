@@ -1,6 +1,5 @@
 """Many elements of an array at once, from lists or from an array of numpy's."""
 
-import itertools
 from typing import Any, Iterator, List, Mapping, Sequence, Tuple
 
 from . import requests
@@ -8,10 +7,13 @@ from .literals import Index, integer
 from .requests import Request
 from .snapshot import AnyDomain, RectDomain
 
+LONGEST = 65_000
+"""The numbers of one `put` have so many bytes at most, so that its line is within 65,536."""
+
 
 def changes(array: str, domain: AnyDomain, values: Any) -> Iterator[Request]:
-    """The changes that give an array these elements: one where all are the same number, else a
-    fill for each run of one number along the last dimension, and a set for each other element.
+    """The changes that give an array these elements: one where all are the same number. Else a `put` over a rectangle, or more
+    where one line would be too long, and over a sparse or an associative domain a set for each element.
 
     The values are looked at before the first of these.
     """
@@ -25,7 +27,7 @@ def part(array: str, ranges: Tuple[range, ...], values: Any) -> Iterator[Request
     elements = flat(values, [len(each) for each in ranges])
     if len(elements) > 1 and len(set(elements)) == 1:
         return iter([requests.fill(array, ranges, elements[0])])
-    return _runs(array, ranges, elements)
+    return _puts(array, ranges, elements)
 
 
 def at_indices(array: str, domain: AnyDomain, values: Mapping[Index, int]) -> Iterator[Request]:
@@ -41,7 +43,7 @@ def _whole(array: str, domain: AnyDomain, indices: Sequence[Index], elements: Li
     if len(elements) > 1 and len(set(elements)) == 1:
         return iter([requests.fill_all(array, elements[0])])
     if isinstance(domain, RectDomain):
-        return _runs(array, domain.ranges, elements)
+        return _puts(array, domain.ranges, elements)
     return (requests.set(array, index, value) for index, value in zip(indices, elements))
 
 
@@ -57,15 +59,16 @@ def flat(values: Any, shape: Sequence[int]) -> List[int]:
     return [value for part in values for value in flat(part, shape[1:])]
 
 
-def _runs(array: str, ranges: Tuple[range, ...], elements: List[int]) -> Iterator[Request]:
-    *outer, last = ranges
-    for row, place in enumerate(itertools.product(*outer)):
-        start = 0
-        for value, run in itertools.groupby(elements[row * len(last) : (row + 1) * len(last)]):
-            end = start + sum(1 for _ in run)
-            if end == start + 1:
-                yield requests.set(array, (*place, last[start]), value)
-            else:
-                here = tuple(range(at, at + 1) for at in place)
-                yield requests.fill(array, (*here, last[start:end]), value)
-            start = end
+def _puts(array: str, ranges: Tuple[range, ...], elements: List[int]) -> Iterator[Request]:
+    """One `put`, or one of each half along the first range that has two indices where the line would be too long."""
+    if len(elements) < 2:
+        for value in elements:
+            yield requests.set(array, tuple(part[0] for part in ranges), value)
+    elif sum(len(str(value)) + 1 for value in elements) <= LONGEST:
+        yield requests.put(array, ranges, elements)
+    else:
+        at = next(at for at, part in enumerate(ranges) if len(part) > 1)
+        half = len(ranges[at]) // 2
+        cut = half * (len(elements) // len(ranges[at]))
+        yield from _puts(array, (*ranges[:at], ranges[at][:half], *ranges[at + 1 :]), elements[:cut])
+        yield from _puts(array, (*ranges[:at], ranges[at][half:], *ranges[at + 1 :]), elements[cut:])

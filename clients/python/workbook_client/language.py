@@ -325,7 +325,9 @@ class _Parser:
             if self.now.kind == "end":
                 return Command("show", (name, on))
             self.wants("=", "after the ranges")
-            return self.end(requests.fill(name, on, self.number()))
+            if self.takes("["):
+                return self.end(requests.put(name, on, self.numbers()))
+            return self.end(requests.fill(name, on, self.number('a whole number, or as many as there are indices, as [5, 6]')))
         index = self.indices("]")
         self.wants("]", "after the index")
         if self.now.kind == "end":
@@ -366,6 +368,16 @@ class _Parser:
         return self.end(make(name, given))
 
     # --- literals: the text itself goes to the program; here its grammar is looked at
+
+    def numbers(self) -> List[int]:
+        """5, 6]: the numbers of a list whose bracket is open."""
+        if self.takes("]"):
+            return []
+        found = [self.number("the first number of the list")]
+        while self.takes(","):
+            found.append(self.number("the next number of the list"))
+        self.wants("]", "after the numbers")
+        return found
 
     def index(self) -> Any:
         """3, (1, 2) or "x"."""

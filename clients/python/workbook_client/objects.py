@@ -183,8 +183,8 @@ class Array(_Named):
         the domain's shape, or from an array of numpy's of that shape. Over a sparse or an
         associative domain it is one list. With `on` the elements of a rectangle, in its order.
 
-        A run of one number goes as one fill, so there are as many edits as there are runs. Without
-        `on` the domain is read first, from the workbook's text.
+        Over a rectangle that is one edit, or more where a line would be too long, and else an edit for each element; where all
+        are one number, it is always one. Without `on` the domain is read first, from the workbook's text.
         """
         if on is None:
             shot = self._shot()
@@ -196,7 +196,7 @@ class Array(_Named):
 
     def from_csv(self, source: files.Source) -> "List[Edit]":
         """The elements of a file of a spreadsheet, all or none: a table for an array of rank 2, with headings or without; else
-        a line for each element, its index and then the element. Each run of one number is an edit, as in `put`. The file
+        a line for each element, its index and then the element. There are as many edits as `put` has. The file
         is text in UTF-8; whole numbers only. ValueError tells the row and the column of what is none."""
         text, shot = files.text_of(source), self._shot()
         values = sheets.values_of(text, shot, self.name)

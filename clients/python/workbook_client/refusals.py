@@ -9,6 +9,7 @@ from .errors import WorkbookError
 _CLOSER = {
     ("E05", "irv"): "only an array over a sparse domain has an implicit value.",
     ("E05", "fill"): "ranges of the array's rank are wanted, and an array over a rectangular domain.",
+    ("E05", "put"): "ranges of the array's rank are wanted, and an array over a rectangular domain.",
     ("E05", "all"): "both must be arrays over the same domain.",
     ("E05", "get"): "that is no array, or its indices have another rank or type.",
     ("E05", "set"): "that is no array, or its indices have another rank or type.",
@@ -23,6 +24,8 @@ _CLOSER = {
         "are for rectangular domains, {..} of indices for the others, set operations for associative ones."
     ),
     ("E06", "fill"): "the rectangle reaches beyond the array's domain.",
+    ("E06", "put"): "the rectangle reaches beyond the array's domain.",
+    ("E01", "put"): "as many numbers are wanted as the rectangle has indices.",
     ("E06", "piece"): "there is no such locale; they are counted from 0.",
     ("E08", "reshape"): "an index of a sparse domain in it would be left outside; take that out first.",
     ("E11", "undo"): "there is nothing to take back, or no edit has that number.",

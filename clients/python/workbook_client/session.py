@@ -36,6 +36,7 @@ Arrays         A over D                      0 at each index
                A[1] = B[2] + 3               a copy: it reads B[2]
                A[4] += 3                     a copy from itself
                A[1..2] = 7   A = 0           fills a rectangle, or all of it
+               A[1..3] = [5, 6, 7]           a number for each index
                A = B   A += B   A *= B       element by element
                B.irv = 7                     the implicit value over a sparse domain
                drop A                        an array goes, or an unused domain
@@ -253,7 +254,7 @@ class Session:
             self.wrapped(f"headings that can't be titles were left out: {', '.join(made.left)}")
 
     def imported(self, what: str, edits: List[Edit]) -> None:
-        """Tells by which edits a file came in. There is no one edit of many elements."""
+        """Tells by which edits a file came in."""
         first, last = (edits[0].number, edits[-1].number) if edits else (0, 0)
         by = f"edits {first} to {last}, of which each is taken back by itself" if first < last else f"edit {first}"
         self.wrapped(f"{what} the numbers of the file, by {by}" if edits else "the file has no number, so nothing changed")

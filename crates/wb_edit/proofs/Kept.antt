@@ -12,6 +12,7 @@ pub mod Irv
 pub mod Copy
 pub mod NewElements
 pub mod Fill
+pub mod Put
 pub mod FillAll
 pub mod DropArray
 pub mod All

@@ -4,6 +4,7 @@ pub mod Looks
 pub mod Sources
 use Rattle.std.proofs.Common.{◌≡◌, ℕ, zero, suc, false, ℤ, pos, ◌+ℤ◌, List, [], ◌∷◌, map, length, Option, Some, None, refl, subst}
 use Rattle.std.specs.FinMap.{get, entries, entries_sorted}
+use Rattle.std.specs.List.{zip}
 use Rattle.std.specs.Map.{keys_of}
 use Rattle.std.specs.Ordering.{eq_by_cmp}
 use Rattle.selective_undo.specs.Changes.{changes, AllOnce}
@@ -29,13 +30,17 @@ use Rattle.wb_cells.specs.WellFormed.{IsWellFormed}
 use Rattle.wb_reshape.specs.Dropped.{dropped_domain_cells}
 use Rattle.wb_reshape.proofs.Fills.{arrays, zeros_once}
 use Rattle.wb_reshape.proofs.Users.{users}
+use Rattle.wb_edit.specs.declared.asked_numbers.AskedNumbers.{AskedNumbers}
+use Rattle.wb_edit.specs.declared.asked_numbers.AskedNumbers.TheVariants.{Rectangle as numbered, Indices as set_numbered}
+use Rattle.wb_edit.specs.ValidNumbers.{AreAskedOnce}
 use Rattle.wb_edit.specs.declared.asked_rectangle.AskedRectangle.TheVariants.{Ranges, Indices}
-use Rattle.wb_edit.specs.declared.edit.Edit.TheVariants.{Domain, Remap, Sparse, Assoc, Array, Set, Irv, Copy, Fill, FillAll, DropArray, All, Add, Remove}
+use Rattle.wb_edit.specs.declared.edit.Edit.TheVariants.{Domain, Remap, Sparse, Assoc, Array, Set, Irv, Copy, Fill, Put, FillAll, DropArray, All, Add, Remove}
 use Rattle.wb_edit.specs.declared.edit.Edit.TheVariants.{DropDomain, Reshape, Load}
 use Rattle.wb_edit.specs.declared.operation.Operation.{Operation}
 use Rattle.wb_cells.specs.declared.refusal.Refusal.TheVariants.{WrongKind}
 use Rattle.wb_edit.specs.Changed.{set_all}
-use Rattle.wb_edit.specs.Commands.{new_domain_changes, domain, remap, sparse, assoc, new_array_changes, array, set, irv, copy, fill, fill_all, dropped_cells}
+use Rattle.wb_edit.specs.Commands.{new_domain_changes, domain, remap, sparse, assoc, new_array_changes, array, set, irv, copy, fill, put_numbers, put, fill_all}
+use Rattle.wb_edit.specs.Commands.{dropped_cells}
 use Rattle.wb_edit.specs.Commands.{drop_array, number_cells, all_results, all, drop_domain, add_unless, remove_if, book_cells, load}
 use Rattle.wb_edit.specs.Elements.{elements, same_domain, results, all_within, over_one_domain}
 use Rattle.wb_edit.specs.Implicit.{has_implicit, parent_in, implicit_value, implicit_inside, implicit_at, or_implicit, element_or_implicit}
@@ -55,7 +60,7 @@ use Rattle.wb_edit.proofs.IndexedCells.{elsewhere}
 use Rattle.wb_edit.proofs.Elements.{elements_ascend, elements_once}
 use Rattle.wb_edit.proofs.Loading.{puts_once}
 use Rattle.wb_edit.proofs.SideBySide.{kept_ascend}
-use Rattle.wb_edit.proofs.Once.IndexedCells.{once_indexed, once_resized, once_ended, once_seen}
+use Rattle.wb_edit.proofs.Once.IndexedCells.{once_numbered, once_indexed, once_resized, once_ended, once_seen}
 use Rattle.wb_edit.proofs.Once.Looks.{Once, once_read, once_judged, once_test, once_all, once_indices, rectangle_once, none_once, none_apart}
 use Rattle.wb_edit.proofs.Once.Sources.{resized_once, reshape_once}
 use Rattle.wb_text.specs.Texts.Books.{cells_in}
@@ -149,6 +154,18 @@ fill_once s a on v once =
     once_all s (map (Element a) (indices on)) (λ vs. judged (all_there vs) (λ y. last)) (
     once_judged s (all_there (map (get s) (map (Element a) (indices on)))) (λ y. last) (λ y _.
     once_indexed (Element a) (λ i j e. cc) (Some (Number v)) (indices on) once))))
+
+numbers_once : (s : Cells) (a : Name) (kind : Kind) (on : List Range) (vs : List ℤ) → IsListedOnce (indices on) → Once (put_numbers a kind on vs) s
+numbers_once s a kind on vs once =
+    let last : Tree = write (number_cells a (zip (indices on) vs)) in
+    once_judged s (of_rank (length on) kind) (λ x. all_elements a (indices on) (λ y. last)) (λ x _.
+    once_all s (map (Element a) (indices on)) (λ vs. judged (all_there vs) (λ y. last)) (
+    once_judged s (all_there (map (get s) (map (Element a) (indices on)))) (λ y. last) (λ y _. once_numbered a (indices on) vs once)))
+
+put_once : (s : Cells) (a : Name) (asked : AskedNumbers) → AreAskedOnce asked → Once (put a asked) s
+put_once s a set_numbered once = once_test s (Object a) array_kind (λ over. refuse WrongKind) (λ over _. tt)
+put_once s a (numbered r) once =
+    once_test s (Object a) array_kind (λ array. put_numbers a array.1 r.0 r.1) (λ array _. numbers_once s a array.1 r.0 r.1 once)
 
 -- ---- one index
 
@@ -247,6 +264,7 @@ each_cell_once (Irv a v) s valid once h = irv_once s a v
 each_cell_once (Copy a i b j c) s valid once h = copy_once s a i b j c
 each_cell_once (Fill a (Ranges on) v) s valid once h = fill_once s a on v once
 each_cell_once (Fill a Indices v) s valid once h = once_test s (Object a) array_kind (λ over. refuse WrongKind) (λ over _. tt)
+each_cell_once (Put a asked) s valid once h = put_once s a asked once
 each_cell_once (FillAll a v) s valid once h = fill_all_once s a v
 each_cell_once (DropArray a) s valid once h = drop_array_once s a
 each_cell_once (All a how b) s valid once h = all_once s a how b

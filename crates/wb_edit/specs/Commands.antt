@@ -10,6 +10,7 @@ pub mod Set
 pub mod Irv
 pub mod Copy
 pub mod Fill
+pub mod Put
 pub mod FillAll
 pub mod DropArray
 pub mod All
@@ -28,6 +29,7 @@ pub use Rattle.wb_edit.specs.Commands.Set.{set}
 pub use Rattle.wb_edit.specs.Commands.Irv.{irv}
 pub use Rattle.wb_edit.specs.Commands.Copy.{copy}
 pub use Rattle.wb_edit.specs.Commands.Fill.{fill}
+pub use Rattle.wb_edit.specs.Commands.Put.{put_numbers, put}
 pub use Rattle.wb_edit.specs.Commands.FillAll.{fill_all}
 pub use Rattle.wb_edit.specs.Commands.DropArray.{dropped_cells, drop_array}
 pub use Rattle.wb_edit.specs.Commands.All.{number_cells, all_results, all}

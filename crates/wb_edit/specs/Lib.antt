@@ -15,6 +15,7 @@ pub mod Sources
 pub mod Commands
 pub mod Plans
 pub mod Changed
+pub mod ValidNumbers
 pub mod ValidSources
 pub mod Valid
 pub mod Laws

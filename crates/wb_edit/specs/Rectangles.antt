@@ -1,6 +1,6 @@
 -- Tests on the rectangle that a command is asked for, and on its indices: whether an array may have them, and whether its
 -- elements at all of them are there.
-use Rattle.std.specs.Prelude.{ℕ, ◌==◌, Bool, true, false, List, [], ◌∷◌, map, Option, is_some, Result, Ok, Err}
+use Rattle.std.specs.Prelude.{ℕ, ℤ, ◌==◌, Bool, true, false, List, [], ◌∷◌, map, Option, is_some, Result, Ok, Err}
 use Rattle.std.specs.List.{list_all}
 use Rattle.wb_cells.specs.declared.cells.cell.Cell.{Cell}
 use Rattle.wb_cells.specs.declared.cells.cell.Cell.TheVariants.{Element}
@@ -10,6 +10,8 @@ use Rattle.wb_cells.specs.declared.cells.value.Value.{Value}
 use Rattle.wb_cells.specs.declared.values.index.Index.{Index}
 use Rattle.wb_cells.specs.Cells.{Name}
 use Rattle.wb_cells.specs.Shapes.{Range}
+use Rattle.wb_edit.specs.declared.asked_numbers.AskedNumbers.{AskedNumbers}
+use Rattle.wb_edit.specs.declared.asked_numbers.AskedNumbers.TheVariants.{Rectangle as numbered, Indices as set_numbered}
 use Rattle.wb_edit.specs.declared.asked_rectangle.AskedRectangle.{AskedRectangle}
 use Rattle.wb_edit.specs.declared.asked_rectangle.AskedRectangle.TheVariants.{Ranges, Indices}
 use Rattle.wb_cells.specs.declared.refusal.Refusal.{Refusal}
@@ -22,6 +24,11 @@ use Rattle.wb_edit.specs.Trees.{Look, ◌>>=◌, read, judged}
 abbrev pub ranges_of : AskedRectangle → Result (List Range) Refusal
 ranges_of (Ranges rs) = Ok rs
 ranges_of Indices = Err WrongKind
+
+-- the ranges and the numbers that are asked for; a set in the place of the rectangle is of the wrong kind
+abbrev pub numbers_of : AskedNumbers → Result (List Range × List ℤ) Refusal
+numbers_of (numbered r) = Ok r
+numbers_of set_numbered = Err WrongKind
 
 abbrev pub is_rectangular_of : ℕ → Kind → Bool
 is_rectangular_of rank (Rectangular r) = r == rank
@@ -53,6 +60,10 @@ read_all (c ∷ cs) next = do
 -- the ranges of the rectangle that is asked for: looks at nothing
 abbrev pub asked_ranges : AskedRectangle → Look (List Range)
 asked_ranges asked = judged (ranges_of asked)
+
+-- the ranges and the numbers that are asked for: looks at nothing
+abbrev pub asked_numbers : AskedNumbers → Look (List Range × List ℤ)
+asked_numbers asked = judged (numbers_of asked)
 
 -- an array over a rectangular domain of the rank: looks at nothing
 abbrev pub over_rectangle : ℕ → Kind → Look (Unit {0})

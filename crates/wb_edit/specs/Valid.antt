@@ -10,9 +10,10 @@ use Rattle.wb_cells.specs.WellFormed.{IsRectangle}
 use Rattle.wb_edit.specs.declared.asked_rectangle.AskedRectangle.{AskedRectangle}
 use Rattle.wb_edit.specs.declared.asked_rectangle.AskedRectangle.TheVariants.{Ranges, Indices}
 use Rattle.wb_edit.specs.declared.edit.Edit.{Edit as Command}
+use Rattle.wb_edit.specs.ValidNumbers.{AreAskedNumbers, AreAskedOnce}
 use Rattle.wb_edit.specs.ValidSources.{AreNewIndices, AreNewIndicesOnce}
 use Rattle.wb_text.specs.Texts.Books.{IsBookText}
-use Rattle.wb_edit.specs.declared.edit.Edit.TheVariants.{Domain, Remap, Sparse, Assoc, Array, Set, Irv, Copy, Fill, FillAll, DropArray, All, Add, Remove}
+use Rattle.wb_edit.specs.declared.edit.Edit.TheVariants.{Domain, Remap, Sparse, Assoc, Array, Set, Irv, Copy, Fill, Put, FillAll, DropArray, All, Add, Remove}
 use Rattle.wb_edit.specs.declared.edit.Edit.TheVariants.{DropDomain, Reshape, Load}
 
 -- the ranges that are asked for are those of a rectangular domain
@@ -45,6 +46,8 @@ IsValid (Irv a v) = FitsSigned w64 v
 IsValid (Copy a i b j c) = FitsSigned w64 c
 -- the number is one of 64 bits
 IsValid (Fill a asked v) = FitsSigned w64 v
+-- the numbers are of 64 bits, one for each index
+IsValid (Put a asked) = AreAskedNumbers asked
 -- the number is one of 64 bits
 IsValid (FillAll a v) = FitsSigned w64 v
 -- nothing is asked
@@ -65,5 +68,6 @@ IsValid (Load text) = IsBookText text
 -- The indices that a command carries are listed once each; those of every value of the type `Edit` are.
 abbrev pub ListsOnce : Command → Type 0
 ListsOnce (Fill a asked v) = IsAskedOnce asked
+ListsOnce (Put a asked) = AreAskedOnce asked
 ListsOnce (Reshape d source) = AreNewIndicesOnce source
 ListsOnce _ = ⊤

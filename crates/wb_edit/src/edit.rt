@@ -1,11 +1,15 @@
 ghost use Rattle.std.specs.Prelude.{◌≡◌, IfOk};
 ghost use Rattle.wb_edit.specs.Valid.{IsAsked, IsAskedOnce, IsValid, ListsOnce};
+ghost use Rattle.wb_edit.specs.ValidNumbers.{AreAskedNumbers, AreAskedOnce};
 ghost use Rattle.wb_edit.specs.ValidSources.{IsOperand, IsOperandOnce, AreNewIndices, AreNewIndicesOnce};
 
+use crate::asked_numbers::AskedNumbers;
 use crate::asked_rectangle::AskedRectangle;
 use crate::operation::Operation;
 use std::alloc::Global;
-use wb_cells::{AnyIndex, AnyLayout, KeyType, Name, index_validity, indices_validity};
+use wb_cells::{
+    AnyIndex, AnyLayout, KeyType, Name, index_validity, indices_validity, numbers_validity,
+};
 use wb_range::{Domain, NoMemory};
 use wb_reshape::{NewIndices, Operand};
 use wb_text::BookText;
@@ -35,6 +39,8 @@ pub enum Edit {
     Copy(Name, AnyIndex, Name, AnyIndex, i64),
     /// One number as the elements of an array at the indices of a rectangle.
     Fill(Name, AskedRectangle, i64),
+    /// A number for each index of a rectangle, as the elements of an array there.
+    Put(Name, AskedNumbers),
     /// One number as every element of an array.
     FillAll(Name, i64),
     /// The end of an array: it, and its elements, are no more.
@@ -69,6 +75,7 @@ impl Drop for Edit {
             | Edit::Irv(_, _)
             | Edit::Copy(_, _, _, _, _)
             | Edit::Fill(_, _, _)
+            | Edit::Put(_, _)
             | Edit::FillAll(_, _)
             | Edit::DropArray(_)
             | Edit::All(_, _, _)
@@ -82,7 +89,7 @@ impl Drop for Edit {
 }
 
 impl Edit {
-    /// An equal edit, or `NoMemory` where none is left for a set of indices or a text in it. All else is of a fixed size and takes none.
+    /// An equal edit, or `NoMemory` where none is left for a set of indices, for numbers or a text in it. All else is of a fixed size and takes none.
     pub fn copy(&self, alloc: Global) -> Result<Edit, NoMemory>
         ensures { IfOk result (λ e. e ≡ self.now) }
     {
@@ -98,6 +105,7 @@ impl Edit {
                 Ok(Edit::Copy(*array, *index, *source, *place, *more))
             }
             Edit::Fill(array, on, value) => Ok(Edit::Fill(*array, *on, *value)),
+            Edit::Put(array, asked) => Ok(Edit::Put(*array, asked.copy(alloc)?)),
             Edit::FillAll(array, value) => Ok(Edit::FillAll(*array, *value)),
             Edit::DropArray(array) => Ok(Edit::DropArray(*array)),
             Edit::All(array, how, other) => Ok(Edit::All(*array, *how, *other)),
@@ -110,7 +118,7 @@ impl Edit {
     }
 
     /// Computes nothing. Callers learn what every edit is: its new name is a name, its ranges and mapping are within the limits,
-    /// its number is one of 64 bits, its indices are made of such numbers or of texts of labels, and its text is a workbook's.
+    /// its numbers are of 64 bits and as many as the indices that they are for, its indices are made of such numbers or of texts of labels, and its text is a workbook's.
     pub fn validity(&self)
         ensures { IsValid self.now }
     {
@@ -154,6 +162,7 @@ impl Edit {
                 // For the proof: the number is one of 64 bits.
                 let _value = *value;
             }
+            Edit::Put(_, asked) => numbers_asked_validity(asked),
             Edit::FillAll(_, value) => {
                 // For the proof: the number is one of 64 bits.
                 let _value = *value;
@@ -177,6 +186,7 @@ impl Edit {
     {
         match self {
             Edit::Fill(_, on, _) => asked_listing(on),
+            Edit::Put(_, asked) => numbers_asked_listing(asked),
             Edit::Reshape(_, source) => source_listing(source),
             Edit::Domain(_, _, _) => {}
             Edit::Remap(_, _) => {}
@@ -207,6 +217,29 @@ fn asked_listing(asked: &AskedRectangle)
             let _once = ranges.size();
         }
         AskedRectangle::Indices => {}
+    }
+}
+
+// Computes nothing. Callers learn that the rectangle of the numbers has each index once.
+fn numbers_asked_listing(asked: &AskedNumbers)
+    ensures { AreAskedOnce asked.now }
+{
+    match asked {
+        AskedNumbers::Rectangle(numbered) => {
+            // For the proof: each index of the ranges is listed once.
+            let _once = numbered.ranges().size();
+        }
+        AskedNumbers::Indices => {}
+    }
+}
+
+// Computes nothing. Callers learn what the numbers are that are asked for, and that they are as many as the indices.
+fn numbers_asked_validity(asked: &AskedNumbers)
+    ensures { AreAskedNumbers asked.now }
+{
+    match asked {
+        AskedNumbers::Rectangle(numbered) => numbers_validity(numbered.numbers()),
+        AskedNumbers::Indices => {}
     }
 }
 

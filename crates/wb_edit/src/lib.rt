@@ -4,6 +4,7 @@
 //! proved to do what the tree says, and [`laws`] what holds of every command.
 #![tactic(auto)]
 
+mod asked_numbers;
 mod asked_rectangle;
 mod attempt_err;
 mod commands;
@@ -12,15 +13,18 @@ mod footprint;
 mod indexed_cells;
 pub mod laws;
 mod looks;
+mod numbered_rectangle;
 mod operation;
 mod planning;
 mod same;
 
+pub use crate::asked_numbers::AskedNumbers;
 pub use crate::asked_rectangle::AskedRectangle;
 pub use crate::edit::Edit;
 pub use crate::footprint::Footprint;
 pub use crate::looks::implicit::{has_implicit, parent_in};
 pub use crate::looks::judgements;
 pub use crate::looks::numbers::element_or_refusal;
+pub use crate::numbered_rectangle::NumberedRectangle;
 pub use crate::operation::Operation;
 pub use crate::planning::{PlanErr, plan};

@@ -4,7 +4,7 @@ ghost use Rattle.wb_edit.specs.Plans.{Attempts, IsPlan};
 
 use crate::attempt_err::AttemptErr;
 use crate::commands::{
-    add, all, array, assoc, copy, domain, drop_array, drop_domain, fill, fill_all, irv, load,
+    add, all, array, assoc, copy, domain, drop_array, drop_domain, fill, fill_all, irv, load, put,
     remap, remove, reshape, set, sparse,
 };
 use crate::edit::Edit;
@@ -73,6 +73,7 @@ fn attempt(
             )
         }
         Edit::Fill(name, on, value) => fill::plan_fill(alloc, book, footprint, *name, on, *value),
+        Edit::Put(name, asked) => put::plan_put(alloc, book, footprint, *name, asked),
         Edit::FillAll(name, value) => {
             fill_all::plan_fill_all(alloc, book, footprint, *name, *value)
         }

@@ -86,6 +86,12 @@ impl Edit {
                 }
                 *c == *z
             }
+            (Edit::Put(a, b), Edit::Put(x, y)) => {
+                if !a.is_same(x) {
+                    return false;
+                }
+                b.is_same(y)
+            }
             (Edit::FillAll(a, b), Edit::FillAll(x, y)) => {
                 if !a.is_same(x) {
                     return false;

@@ -22,6 +22,9 @@ const TEXT: &str =
 const REDONE: &str =
     "chapel-workbook 2\narray A over D [0, 0, 0, 9]\nrect D {1..4} none\nhistory 3\n+ {\"d\":\"D\",\"is\":\"{1..4}\",\"map\":\"none\",\"op\":\"domain\"}\n+ {\"a\":\"A\",\"d\":\"D\",\"op\":\"array\"}\n+ {\"a\":\"A\",\"i\":4,\"op\":\"set\",\"v\":9}\nend\n";
 
+const NUMBERED: &str =
+    "chapel-workbook 2\narray A over D [0, 7, -8, 0]\nrect D {1..4} none\nhistory 4\n+ {\"d\":\"D\",\"is\":\"{1..4}\",\"map\":\"none\",\"op\":\"domain\"}\n+ {\"a\":\"A\",\"d\":\"D\",\"op\":\"array\"}\n+ {\"a\":\"A\",\"on\":\"{2..3}\",\"op\":\"put\",\"vs\":[7,-8]}\n- {\"a\":\"A\",\"on\":\"{}\",\"op\":\"put\",\"vs\":[]}\nend\n";
+
 const MORE: &str = "{\"op\":\"redo\",\"k\":3}\n{\"op\":\"get\",\"a\":\"A\",\"i\":4}\n";
 
 const MORE_REPLIES: &[u8] = b"{\"n\":1,\"redone\":3}\n{\"value\":9}\n";
@@ -29,7 +32,7 @@ const MORE_REPLIES: &[u8] = b"{\"n\":1,\"redone\":3}\n{\"value\":9}\n";
 const REFUSED: &[u8] = b"refused\n";
 
 // Parts of that text, and what stands in their place in texts of no history.
-const DAMAGED: [(&str, &str); 56] = [
+const DAMAGED: [(&str, &str); 60] = [
     ("chapel-workbook 2", "chapel-workbook 1"),
     ("chapel-workbook 2", " chapel-workbook 2"),
     ("chapel-workbook 2\n", ""),
@@ -104,6 +107,22 @@ const DAMAGED: [(&str, &str); 56] = [
         "- {\"d\":\"D\",\"op\":\"size\"}",
     ),
     ("- {\"a\":\"A\",\"i\":4,\"op\":\"set\",\"v\":9}", ""),
+    (
+        "{\"a\":\"A\",\"i\":4,\"op\":\"set\",\"v\":9}",
+        "{\"a\":\"A\",\"on\":\"{2..3}\",\"op\":\"put\",\"vs\":[7]}",
+    ),
+    (
+        "{\"a\":\"A\",\"i\":4,\"op\":\"set\",\"v\":9}",
+        "{\"a\":\"A\",\"on\":\"{2..3}\",\"op\":\"put\",\"vs\":[7, -8]}",
+    ),
+    (
+        "{\"a\":\"A\",\"i\":4,\"op\":\"set\",\"v\":9}",
+        "{\"a\":\"A\",\"op\":\"put\",\"on\":\"{2..3}\",\"vs\":[7,-8]}",
+    ),
+    (
+        "{\"a\":\"A\",\"i\":4,\"op\":\"set\",\"v\":9}",
+        "{\"a\":\"A\",\"on\":\"{}\",\"op\":\"put\",\"vs\":[7]}",
+    ),
 ];
 
 // The text with one thing in the place of another.
@@ -152,6 +171,7 @@ fn history_text(rt: HostRuntime) -> Result<(), Fail> {
     assert!(rt; output.as_slice().ends_with(TOLD));
     judge(&rt, alloc, TEXT, 0, b"ok 2 3\n", &alone)?;
     judge(&rt, alloc, REDONE, 0, b"ok 2 3\n", &alone)?;
+    judge(&rt, alloc, NUMBERED, 0, b"ok 2 4\n", &alone)?;
     for (part, other) in &DAMAGED {
         let text = damaged(alloc, part, other)?;
         judge(&rt, alloc, text.as_str(), 1, REFUSED, &alone)?;

@@ -110,6 +110,24 @@ index_of null = None
 index_of (boolean b) = None
 index_of (object ms) = None
 
+-- integers of 64 bits with a sign
+abbrev pub integers_listed : Items → Option (List ℤ)
+integers_listed no_items = Some []
+integers_listed (item d ds) = option_and_then (λ z. option_map (λ zs. z ∷ zs) (integers_listed ds)) (integer_of d)
+
+-- an array of such integers
+abbrev pub integers_of : Data → Option (List ℤ)
+integers_of (array ds) = integers_listed ds
+integers_of null = None
+integers_of (boolean b) = None
+integers_of (number n) = None
+integers_of (string text) = None
+integers_of (object ms) = None
+
+-- a field that is such an array
+abbrev pub integers_field : List ℕ → Data → Result (List ℤ) Refusal
+integers_field key d = ok_or (option_and_then integers_of (get key d)) BadRequest
+
 -- a field that is an index
 abbrev pub index_field : List ℕ → Data → Result Index Refusal
 index_field key d = ok_or (option_and_then index_of (get key d)) BadRequest

@@ -1,21 +1,23 @@
 -- The request that a line is, or why it is none: the names, numbers and texts of all its fields are read first, then its
 -- literals, then their limits are judged, and then its mapping.
-use Rattle.std.specs.Prelude.{ℕ, ℤ, List, codes, Option, Some, None, Result, Ok, Err, bytes_eq, nat_eq, if◌then◌else◌}
+use Rattle.std.specs.Prelude.{ℕ, ℤ, List, length, codes, Option, Some, None, Result, Ok, Err, bytes_eq, nat_eq, if◌then◌else◌}
 use Rattle.std.specs.Str.{is_utf8}
 use Rattle.serde_json.specs.Data.{Data}
 use Rattle.serde_json.specs.Read.{read}
 use Rattle.wb_cells.specs.Cells.{Name}
+use Rattle.wb_cells.specs.Shapes.{Range, indices}
+use Rattle.wb_edit.specs.declared.asked_numbers.AskedNumbers.TheVariants.{Rectangle as numbered, Indices as not_numbered}
 use Rattle.wb_edit.specs.declared.asked_rectangle.AskedRectangle.TheVariants.{Ranges, Indices}
 use Rattle.wb_edit.specs.declared.edit.Edit.TheVariants.{Domain as NewDomain, Remap, Reshape, Sparse}
 use Rattle.wb_edit.specs.declared.edit.Edit.TheVariants.{Assoc, DropDomain, Add, Remove, Array, Set}
-use Rattle.wb_edit.specs.declared.edit.Edit.TheVariants.{Irv, Copy, Fill, FillAll, DropArray, All, Load}
+use Rattle.wb_edit.specs.declared.edit.Edit.TheVariants.{Irv, Copy, Fill, Put, FillAll, DropArray, All, Load}
 use Rattle.wb_history.specs.declared.query.Query.TheVariants.{Get, Size, Where, Piece, Reduce, State}
 use Rattle.wb_log.specs.declared.refusal.Refusal.{Refusal}
 use Rattle.wb_log.specs.declared.refusal.Refusal.TheVariants.{BadRequest}
 use Rattle.wb_literals.specs.Domain.{Domain, rectangle, set}
 use Rattle.wb_literals.specs.declared.mapping.MappingLiteral.{MappingLiteral}
-use Rattle.wb_protocol.specs.Fields.{◌>>=◌, field_count, has_fields, has_fields_and, text_field, optional_text, i64_field, u64_field, name_field, index_field}
-use Rattle.wb_protocol.specs.Fields.{key_type_field, operation_field, reduction_field}
+use Rattle.wb_protocol.specs.Fields.{◌>>=◌, field_count, has_fields, has_fields_and, text_field, optional_text, i64_field, u64_field, name_field}
+use Rattle.wb_protocol.specs.Fields.{index_field, integers_field, key_type_field, operation_field, reduction_field}
 use Rattle.wb_protocol.specs.Literals.{literal_domain, literal_mapping, optional_mapping, text_of_book, domain_within, mapping_within}
 use Rattle.wb_protocol.specs.Sources.{source_of}
 use Rattle.wb_protocol.specs.declared.requests.request.Request.{Request}
@@ -167,6 +169,27 @@ fill_of d = do
   literal ← literal_domain text
   fill_over name literal value
 
+-- a number for each index of ranges, in their order: as many as there are indices
+abbrev pub put_on : Name → List Range → List ℤ → Result Request Refusal
+put_on name on vs = if nat_eq (length vs) (length (indices on)) then Ok (Change (Put name (numbered (on, vs)))) else Err BadRequest
+
+-- numbers at the indices of what a literal spells: a set is no rectangle, which is for the workbook to refuse
+abbrev pub put_over : Name → Domain → List ℤ → Result Request Refusal
+put_over name (rectangle r) vs = do
+  ranges ← domain_within r
+  put_on name ranges vs
+put_over name (set items) vs = Ok (Change (Put name not_numbered))
+
+-- {"op":"put","a":NAME,"on":LITERAL,"vs":INTEGERS}
+abbrev pub put_of : Data → Result Request Refusal
+put_of d = do
+  unit ← has_fields 4 d
+  name ← name_field (codes "a") d
+  text ← text_field (codes "on") d
+  vs ← integers_field (codes "vs") d
+  literal ← literal_domain text
+  put_over name literal vs
+
 -- {"op":"fill_all","a":NAME,"v":INTEGER}
 abbrev pub fill_all_of : Data → Result Request Refusal
 fill_all_of d = do
@@ -315,6 +338,7 @@ by_array_op op d =
     if bytes_eq op (codes "drop_array") then drop_array_of d else
     if bytes_eq op (codes "set") then set_of d else
     if bytes_eq op (codes "fill") then fill_of d else
+    if bytes_eq op (codes "put") then put_of d else
     if bytes_eq op (codes "fill_all") then fill_all_of d else
     if bytes_eq op (codes "irv") then irv_of d else
     if bytes_eq op (codes "copy") then copy_of d else

@@ -266,6 +266,16 @@ def fill(look, r):
     return cells
 
 
+def put(look, r):
+    _, kind = look.array(r["a"])
+    look.demand(r["on"][0] == "rectangle", "E05")
+    look.demand(kind == ("rect", len(r["on"][1])), "E05")
+    cells = {("Element", r["a"], i): v for i, v in zip(indices_of(r["on"][1]), r["vs"], strict=True)}
+    there = [look.cell(*cell) for cell in cells]
+    look.demand(None not in there, "E06")
+    return cells
+
+
 def fill_all(look, r):
     look.array(r["a"])
     return {("Element", r["a"], i): r["v"] for i in look.family("Element", r["a"])}
@@ -314,7 +324,7 @@ def load(look, r):
 
 CHANGES = {
     "domain": domain, "remap": remap, "sparse": sparse, "assoc": assoc, "drop_domain": drop_domain, "reshape": reshape,
-    "add": add, "remove": remove, "array": array, "drop_array": drop_array, "set": set_one, "fill": fill,
+    "add": add, "remove": remove, "array": array, "drop_array": drop_array, "set": set_one, "fill": fill, "put": put,
     "fill_all": fill_all, "irv": irv, "copy": copy, "all": all_of, "load": load,
 }
 

@@ -137,10 +137,11 @@ class Hostile:
 
     def placed(self, literal):
         """A request that has the literal in one of the places where literals stand."""
-        rank = self.chance.randint(0, 5)
+        rank = self.chance.randint(0, 6)
         return compact([
             {"op": "domain", "d": "X", "is": literal}, {"op": "domain", "d": "D", "is": "{1..2}", "map": literal},
             {"op": "remap", "d": "D", "map": literal}, {"op": "fill", "a": "A", "on": literal, "v": 1},
+            {"op": "put", "a": "A", "on": literal, "vs": [1, 2]},
             {"op": "reshape", "d": self.pick("DMCSRNT"), self.pick(["to", "slice", "or", "and", "minus", "xor", "translate"]): literal},
             {"op": "sparse", "d": "X", "of": literal},
         ][rank]).encode()

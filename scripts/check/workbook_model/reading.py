@@ -3,7 +3,7 @@
 import json
 import re
 
-from .literals import HIGH, LOW, Refused, domain_literal, is_text_index, mapping_literal
+from .literals import HIGH, LOW, Refused, domain_literal, is_text_index, mapping_literal, size_of
 from .texts import read_book
 
 LONGEST_LINE = 65_536
@@ -75,6 +75,12 @@ def index(value):
     return offset(value)
 
 
+def integers(value):
+    if not isinstance(value, list):
+        raise Refused("E01")
+    return list(map(integer, value))
+
+
 def word(*words):
     def read(value):
         if not isinstance(value, str) or value not in words:
@@ -123,6 +129,7 @@ FIELDS = {
     "drop_array": {"a": name},
     "set": {"a": name, "i": index, "v": integer},
     "fill": {"a": name, "on": domain, "v": integer},
+    "put": {"a": name, "on": domain, "vs": integers},
     "fill_all": {"a": name, "v": integer},
     "irv": {"a": name, "v": integer},
     "copy": {"a": name, "i": index, "b": name, "j": index, "c": integer},
@@ -174,6 +181,8 @@ def request_of(members):
             faults.append(why.code)
     if faults:
         raise Refused(min(faults))
+    if found["op"] == "put" and found["on"][0] == "rectangle" and len(found["vs"]) != size_of(found["on"][1]):
+        raise Refused("E01")
     return found
 
 

@@ -1,5 +1,6 @@
 """Requests by chance, over a few names, so that they meet each other: most are possible, some are refused."""
 
+from .literals import domain_literal, size_of
 from .reading import FIELDS
 
 TEXTS = ["", "a", "b", "z", "a b", "é", "0", "x" * 64]
@@ -164,6 +165,14 @@ class Requests:
         kind = NAMES[OVER.get(a, "D")]
         return {"a": a, "on": self.rectangle(kind if kind != "text" else 1), "v": self.integer()}
 
+    def make_put(self):
+        """Numbers, mostly as many as the rectangle has indices."""
+        a = self.array_name()
+        kind = NAMES[OVER.get(a, "D")]
+        on = self.rectangle(kind if kind != "text" else 1)
+        count = size_of(domain_literal(on)[1]) + (self.pick([-1, 1]) if self.rarely(0.1) else 0)
+        return {"a": a, "on": on, "vs": [self.integer() for _ in range(count)]}
+
     def make_fill_all(self):
         return {"a": self.array_name(), "v": self.integer()}
 
@@ -214,6 +223,6 @@ class Requests:
 # How often each op is asked for.
 SHARES = {
     "domain": 4, "sparse": 2, "assoc": 2, "drop_domain": 2, "reshape": 8, "add": 8, "remove": 4, "remap": 3, "array": 4,
-    "drop_array": 2, "set": 16, "fill": 5, "fill_all": 2, "irv": 2, "copy": 8, "all": 4, "undo": 22, "redo": 18, "get": 4,
+    "drop_array": 2, "set": 16, "fill": 5, "put": 5, "fill_all": 2, "irv": 2, "copy": 8, "all": 4, "undo": 22, "redo": 18, "get": 4,
     "where": 2, "size": 2, "piece": 2, "state": 3, "print": 1, "edits": 2, "cascade": 2, "dependents": 4, "reduce": 4, "load": 1,
 }

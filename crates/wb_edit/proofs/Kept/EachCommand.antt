@@ -1,6 +1,6 @@
 -- Every command keeps a workbook well formed.
 use Rattle.wb_edit.specs.Laws.{KeepsWellFormed}
-use Rattle.wb_edit.specs.declared.edit.Edit.TheVariants.{Domain, Remap, Sparse, Assoc, Array, Set, Irv, Copy, Fill, FillAll, DropArray, All, Add, Remove}
+use Rattle.wb_edit.specs.declared.edit.Edit.TheVariants.{Domain, Remap, Sparse, Assoc, Array, Set, Irv, Copy, Fill, Put, FillAll, DropArray, All, Add, Remove}
 use Rattle.wb_edit.specs.declared.edit.Edit.TheVariants.{DropDomain, Reshape, Load}
 use Rattle.wb_edit.proofs.Kept.Domain.{domain_kept}
 use Rattle.wb_edit.proofs.Kept.Sparse.{sparse_kept}
@@ -11,6 +11,7 @@ use Rattle.wb_edit.proofs.Kept.Irv.{irv_kept}
 use Rattle.wb_edit.proofs.Kept.Set.{set_kept}
 use Rattle.wb_edit.proofs.Kept.Copy.{copy_kept}
 use Rattle.wb_edit.proofs.Kept.Fill.{fill_kept}
+use Rattle.wb_edit.proofs.Kept.Put.{put_kept}
 use Rattle.wb_edit.proofs.Kept.FillAll.{fill_all_kept}
 use Rattle.wb_edit.proofs.Kept.DropArray.{drop_array_kept}
 use Rattle.wb_edit.proofs.Kept.All.{all_kept}
@@ -30,6 +31,7 @@ keeps_well_formed (Set a i v) s valid h = set_kept s a i v valid h
 keeps_well_formed (Irv a v) s valid h = irv_kept s a v valid h
 keeps_well_formed (Copy a i b j c) s valid h = copy_kept s a i b j c h
 keeps_well_formed (Fill a asked v) s valid h = fill_kept s a asked v valid h
+keeps_well_formed (Put a asked) s valid h = put_kept s a asked valid h
 keeps_well_formed (FillAll a v) s valid h = fill_all_kept s a v valid h
 keeps_well_formed (DropArray a) s valid h = drop_array_kept s a h
 keeps_well_formed (All a how b) s valid h = all_kept s a how b h

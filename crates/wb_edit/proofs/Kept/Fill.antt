@@ -30,7 +30,7 @@ use Rattle.wb_edit.proofs.Kept.Steps.{Keeps, keeps_read, keeps_judged}
 pub keeps_all : (s : Cells) (cs : List Cell) (next : List (Option Value) → Tree) → Keeps (next (map (get s) cs)) s → Keeps (read_all cs next) s
 keeps_all s cs next kept = subst (λ o. IsWellFormed (apply (written o) s)) (sym ((gives_all s cs [] next).0)) kept
 
-found_there : (b : Bool) (x : Unit {0}) → there_if b ≡ Ok x → b ≡ true
+pub found_there : (b : Bool) (x : Unit {0}) → there_if b ≡ Ok x → b ≡ true
 found_there true x e = refl
 found_there false x e = cc
 

@@ -3,7 +3,7 @@ use Rattle.std.proofs.Common.{◌≡◌, ℕ, zero, suc, false, T, ℤ, List, []
 use Rattle.std.specs.Cmp.{Equal-is}
 use Rattle.std.specs.FinMap.{is_sorted}
 use Rattle.std.specs.FinMap.Entries.{below_all}
-use Rattle.std.specs.List.{AllByRecursion}
+use Rattle.std.specs.List.{AllByRecursion, zip}
 use Rattle.std.specs.Map.{keys_of}
 use Rattle.std.specs.Ordering.{eq_by_cmp}
 use Rattle.selective_undo.specs.declared.Change.{Change}
@@ -28,6 +28,7 @@ use Rattle.wb_reshape.specs.Writes.{put_all, clear_all}
 use Rattle.wb_reshape.proofs.Gets.{same_key}
 use Rattle.wb_reshape.proofs.Sorted.{first, second}
 use Rattle.wb_edit.specs.Changed.{set_all, AreApart}
+use Rattle.wb_edit.specs.Commands.{number_cells}
 use Rattle.wb_edit.proofs.Becoming.{less_and_equal}
 use Rattle.wb_edit.proofs.IndexedCells.{changes-append, elsewhere}
 use Rattle.wb_edit.proofs.Elements.{index_order}
@@ -82,6 +83,25 @@ module _ (f : Index → Cell) (distinct : Distinct f) where
   once_exchanged leaving coming v leave come apart =
       once_append (clear_all (map f leaving)) (put_all (map f coming) v) (once_indexed None leaving leave) (once_indexed (Some v) coming come) (
       each_of (λ c. changes cell_cmp (put_all (map f coming) v) c ≡ false) f None leaving (λ p i e. others (Some v) i coming (λ q g. apart p q i e g)))
+
+-- ---- elements that become numbers, in the order of their indices
+
+not_numbered : (a : Name) (i : Index) (js : List Index) (vs : List ℤ) → ((q : ℕ) → slice_get js q ≡ Some i → ⊥) →
+    changes cell_cmp (number_cells a (zip js vs)) (Element a i) ≡ false
+not_numbered a i [] vs other = refl
+not_numbered a i (j ∷ js) [] other = refl
+not_numbered a i (j ∷ js) (v ∷ vs) other =
+    let differs : eq_by_cmp cell_cmp (Element a i) (Element a j) ≡ false = not_true _ λ e.
+    let cell : Element a i ≡ Element a j = cell_order.strict (Element a i) (Element a j) ((Equal-is (cell_cmp (Element a i) (Element a j))).0 e) in
+    let same : i ≡ j = cc in
+    other zero (ap Some (sym same)) in
+    let rest = not_numbered a i js vs (λ q e. other (suc q) e) in
+    rw (differs, rest) refl
+
+pub once_numbered : (a : Name) (is : List Index) (vs : List ℤ) → IsListedOnce is → AllOnce cell_cmp (number_cells a (zip is vs))
+once_numbered a [] vs once = tt
+once_numbered a (i ∷ is) [] once = tt
+once_numbered a (i ∷ is) (v ∷ vs) once = (not_numbered a i is vs (not_again i is once), once_numbered a is vs (later i is once))
 
 -- ---- indices that leave a domain, and others that come
 

@@ -1,6 +1,6 @@
 -- What each command means.
 use Rattle.wb_edit.specs.declared.edit.Edit.{Edit as Command}
-use Rattle.wb_edit.specs.declared.edit.Edit.TheVariants.{Domain, Remap, Sparse, Assoc, Array, Set, Irv, Copy, Fill, FillAll, DropArray, All, Add, Remove}
+use Rattle.wb_edit.specs.declared.edit.Edit.TheVariants.{Domain, Remap, Sparse, Assoc, Array, Set, Irv, Copy, Fill, Put, FillAll, DropArray, All, Add, Remove}
 use Rattle.wb_edit.specs.declared.edit.Edit.TheVariants.{DropDomain, Reshape, Load}
 use Rattle.wb_edit.specs.Trees.{Tree}
 use Rattle.wb_edit.specs.Commands.Domain.{domain}
@@ -12,6 +12,7 @@ use Rattle.wb_edit.specs.Commands.Set.{set}
 use Rattle.wb_edit.specs.Commands.Irv.{irv}
 use Rattle.wb_edit.specs.Commands.Copy.{copy}
 use Rattle.wb_edit.specs.Commands.Fill.{fill}
+use Rattle.wb_edit.specs.Commands.Put.{put}
 use Rattle.wb_edit.specs.Commands.FillAll.{fill_all}
 use Rattle.wb_edit.specs.Commands.DropArray.{drop_array}
 use Rattle.wb_edit.specs.Commands.All.{all}
@@ -32,6 +33,7 @@ meaning (Set a i v) = set a i v
 meaning (Irv a v) = irv a v
 meaning (Copy a i b j c) = copy a i b j c
 meaning (Fill a asked v) = fill a asked v
+meaning (Put a asked) = put a asked
 meaning (FillAll a v) = fill_all a v
 meaning (DropArray a) = drop_array a
 meaning (All a how b) = all a how b

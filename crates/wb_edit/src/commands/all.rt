@@ -183,8 +183,8 @@ fn number_made(how: &Operation, x: &i64, y: &i64) -> Result<i64, AttemptErr>
     stopped(result_of(how, *x, *y))
 }
 
-// The elements of an array at the indices of ranges become numbers, one after another.
-fn rectangle_changes(
+/// The elements of an array at the indices of ranges become numbers, one after another.
+pub(crate) fn rectangle_changes(
     alloc: Global,
     array: Name,
     ranges: &AnyRect,

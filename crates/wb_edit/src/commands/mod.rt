@@ -13,6 +13,7 @@ pub mod fill;
 pub mod fill_all;
 pub mod irv;
 pub mod load;
+pub mod put;
 pub mod remap;
 pub mod remove;
 pub mod reshape;

@@ -8,8 +8,8 @@ use Rattle.serde_json.specs.Written.{compact_text, has_float, items_have_float, 
 use Rattle.serde_json.specs.declared.value.Value.{Value}
 use Rattle.wb_cells.specs.declared.values.index.Index.TheVariants.{Point, Text}
 use Rattle.wb_protocol.specs.Encoding.Values.{integer_data, point_data}
-use Rattle.wb_protocol.specs.Encoding.Table.{Meaning, word, name, integer, number, index, given, mapping, optional_mapping, book, some_set}
-use Rattle.wb_protocol.specs.Encoding.Table.{Fields}
+use Rattle.wb_protocol.specs.Encoding.Table.{Meaning, word, name, integer, number, index, given, mapping, optional_mapping, book, numbers}
+use Rattle.wb_protocol.specs.Encoding.Table.{some_set, some_numbers, Fields}
 use Rattle.wb_protocol.specs.Encoding.Encoded.{data_of, members_of}
 
 -- ---- no number in it is a float
@@ -39,7 +39,9 @@ whole_data (given g) = refl
 whole_data (mapping m) = refl
 whole_data (optional_mapping m) = refl
 whole_data (book text) = refl
+whole_data (numbers on vs) = whole_integers vs
 whole_data some_set = refl
+whole_data some_numbers = refl
 
 whole_members : (fs : Fields) → members_have_float (members_of fs) ≡ false
 whole_members [] = refl
@@ -72,7 +74,9 @@ flat_data (given g) = omega arith
 flat_data (mapping m) = omega arith
 flat_data (optional_mapping m) = omega arith
 flat_data (book text) = omega arith
+flat_data (numbers on vs) = let e = flat_integers vs in omega (arith, e)
 flat_data some_set = omega arith
+flat_data some_numbers = omega arith
 
 flat_members : (fs : Fields) → members_depth (members_of fs) ≤ 1
 flat_members [] = omega arith

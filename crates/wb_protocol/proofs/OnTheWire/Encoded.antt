@@ -1,9 +1,10 @@
 -- The canonical object of a request is that request.
-use Rattle.std.proofs.Common.{◌≡◌, ◌∙◌, ◌^◌, ℕ, ℤ, pos, negsuc, List, [], ◌∷◌, codes, length, Option, Some, None, inl, inr, nat_eq, refl, sym, ap, subst}
+use Rattle.std.proofs.Common.{◌≡◌, ◌∙◌, ◌^◌, ℕ, ℤ, pos, negsuc, List, [], ◌∷◌, map, codes, length, Option, Some, None, inl, inr, nat_eq, refl, sym, ap, subst}
 use Rattle.std.proofs.Common.{append-nil, if◌then◌else◌, arith, lt-ltb}
 use Rattle.std.proofs.lemmas.List.Elements.{recursion_from_All}
-use Rattle.serde_json.specs.Data.{unsigned, string}
+use Rattle.serde_json.specs.Data.{unsigned, string, no_items}
 use Rattle.serde_json.specs.Find.{get_member, of_integer}
+use Rattle.serde_json.specs.View.{items_of}
 use Rattle.wb_range.specs.Canonical.{IsRange}
 use Rattle.wb_rect.specs.Product.{IsRectangle}
 use Rattle.wb_dist.specs.Maps.{LayoutMap, whole, block, cyclic, block_cyclic}
@@ -26,9 +27,9 @@ use Rattle.wb_text.proofs.Parsed.Back.Ranges.{literal_of_all, rectangle_spelled,
 use Rattle.wb_text.proofs.Parsed.Back.Sets as sets
 use Rattle.wb_protocol.specs.Encoding.Values.{integer_data, point_data, index_data}
 use Rattle.wb_protocol.specs.declared.requests.request.Request.{Request}
-use Rattle.wb_protocol.specs.Wire.Table.{Meaning, word, name, integer, number, index, given, mapping, optional_mapping, book, some_set}
-use Rattle.wb_protocol.specs.Wire.Table.{Fields, table}
-use Rattle.wb_protocol.specs.Wire.Spelled.{IsInteger, IsIndex, IsOperand, IsMapping, Spells, Says, without, HasFields, IsRequest}
+use Rattle.wb_protocol.specs.Wire.Table.{Meaning, word, name, integer, number, index, given, mapping, optional_mapping, book, numbers}
+use Rattle.wb_protocol.specs.Wire.Table.{some_set, some_numbers, Fields, table}
+use Rattle.wb_protocol.specs.Wire.Spelled.{IsInteger, AreIntegers, IsIndex, IsOperand, IsMapping, Spells, Says, without, HasFields, IsRequest}
 use Rattle.wb_protocol.specs.Wire.Encoded.{given_text, data_of, members_of, request_data}
 use Rattle.wb_protocol.specs.Wire.Proper.{AllWithin, ArePoints, AreTexts, AreAlike, IsProperIndex, IsProperOperand, IsProper, AreProper, IsProperRequest}
 use Rattle.wb_protocol.proofs.OnTheWire.Members.{found_by, same_key}
@@ -38,6 +39,10 @@ use Rattle.wb_protocol.proofs.OnTheWire.Members.{found_by, same_key}
 integer_spelled : (z : ℤ) → IsWithin z → IsInteger (integer_data z) z
 integer_spelled (pos n) h = (unsigned n, refl, rw (lt-ltb n (2 ^ 63) h) refl)
 integer_spelled (negsuc n) h = (of_integer (negsuc n), refl, refl)
+
+integers_spelled : (zs : List ℤ) → AllWithin zs → AreIntegers (items_of (map integer_data zs)) zs
+integers_spelled [] h = tt
+integers_spelled (z ∷ zs) h = (integer_spelled z h.0, integers_spelled zs h.1)
 
 index_spelled : (i : Index) → IsProperIndex i → IsIndex (index_data i) i
 unfolding point_data
@@ -110,7 +115,9 @@ spelled (given g) h = given_spelled g h
 spelled (mapping m) h = mapping_given m h
 spelled (optional_mapping m) h = mapping_given m h
 spelled (book text) h = (refl, h)
+spelled (numbers on vs) h = ((items_of (map integer_data vs), refl, integers_spelled vs h.0), h.1)
 spelled some_set h = (codes "{}", nothing, refl, ([], tt, refl))
+spelled some_numbers h = ([], (no_items, refl, tt))
 
 has_members : (fs : Fields) → AreProper fs → HasFields (members_of fs) fs
 has_members [] h = refl

@@ -29,7 +29,7 @@ use Rattle.wb_literals.specs.declared.limits.limit.LimitErr.{LimitErr}
 use Rattle.wb_literals.specs.declared.limits.limit.LimitErr.TheVariants.{TooLarge, BadMapping}
 use Rattle.wb_reshape.specs.declared.operand.Operand.{Operand}
 use Rattle.wb_reshape.specs.declared.operand.Operand.TheVariants.{Named}
-use Rattle.wb_protocol.specs.Fields.{◌>>=◌, name_of, key_type_of, operation_of, reduction_of, index_of}
+use Rattle.wb_protocol.specs.Fields.{◌>>=◌, name_of, key_type_of, operation_of, reduction_of, integers_of, index_of}
 use Rattle.wb_protocol.specs.Literals.{literal_domain, literal_mapping, text_of_book, refusal_of_limit, within, domain_within, mapping_within}
 use Rattle.wb_protocol.specs.Sources.{is_braced, given_within, given_literal, given_name, given_text, given_by, point_in, offsets_by}
 use Rattle.wb_text.specs.Texts.Books.{is_book_text}
@@ -37,7 +37,7 @@ use Rattle.wb_protocol.specs.Wire.Faults.{Fault, bad_request, bad_literal, too_l
 use Rattle.wb_protocol.specs.Wire.Faults as kinds
 use Rattle.wb_protocol.proofs.OnTheWire.Values.{no_ok, some_of_ok, text_in, text_read, str_found, name_found, name_read, type_found, type_read, operation_found}
 use Rattle.wb_protocol.proofs.OnTheWire.Values.{operation_read, reduction_found, reduction_read, integer_in, integer_found, integer_read, number_in, natural_found}
-use Rattle.wb_protocol.proofs.OnTheWire.Values.{natural_read, index_in, index_found, index_read}
+use Rattle.wb_protocol.proofs.OnTheWire.Values.{natural_read, index_in, index_found, index_read, integers_in, integers_found_of, integers_read}
 use Rattle.wb_protocol.proofs.OnTheWire.Spellings.{domain_found, domain_read, literal_read, offsets_found, offsets_read}
 use Rattle.wb_protocol.proofs.OnTheWire.TooLarge.{domain_large}
 
@@ -167,6 +167,11 @@ number_reader = plain_reader kinds.number number_in refl (λ v why e. or_only (o
 pub index_reader : IsReader (plain kinds.index) index_in
 index_reader = plain_reader kinds.index index_in refl (λ v why e. or_only (index_of v) BadRequest why e)
     (λ v n e bad. bad n (index_found (Some v) n e)) (λ v e n s. no_ok BadRequest n (sym e ∙ index_read (Some v) n s))
+
+pub integers_reader : IsReader (plain kinds.integers) integers_in
+integers_reader = plain_reader kinds.integers integers_in refl (λ v why e. or_only (integers_of v) BadRequest why e)
+    (λ v zs e bad. bad (zs, integers_found_of v zs (some_of_ok (integers_of v) BadRequest zs e)))
+    (λ v e s. no_ok BadRequest s.0 (sym e ∙ integers_read (Some v) v s.0 refl s.1))
 
 pub offsets_reader : IsReader (plain kinds.offsets) offsets_in
 offsets_reader = plain_reader kinds.offsets offsets_in refl (λ v why e. or_only (option_and_then point_in (index_of v)) BadRequest why e)

@@ -1,5 +1,5 @@
 -- What is read as a request is that request.
-use Rattle.std.proofs.Common.{◌≡◌, ◌+◌, ℕ, ℤ, true, false, List, [], ◌∷◌, codes, length, Option, Some, None, Result, Ok, Err, refl, sym, ◌∙◌, subst, nat_eq}
+use Rattle.std.proofs.Common.{◌≡◌, ◌+◌, ℕ, ℤ, true, false, List, [], ◌∷◌, codes, length, Option, Some, None, Result, Ok, Err, refl, sym, ap, ◌∙◌, subst, nat_eq}
 use Rattle.std.proofs.Common.{if◌then◌else◌, arith, eqb-true}
 use Rattle.std.specs.Prelude.{bytes_eq}
 use Rattle.std.specs.Option.{option_map_or}
@@ -8,10 +8,12 @@ use Rattle.serde_json.specs.Data.{Data, null, boolean, number as json_number, st
 use Rattle.serde_json.specs.Find.{get_member}
 use Rattle.wb_cells.specs.Cells.{Name}
 use Rattle.wb_cells.specs.declared.values.index.Index.TheVariants.{Point}
+use Rattle.wb_cells.specs.Shapes.{indices}
+use Rattle.wb_edit.specs.declared.asked_numbers.AskedNumbers.TheVariants.{Rectangle as numbered, Indices as not_numbered}
 use Rattle.wb_edit.specs.declared.asked_rectangle.AskedRectangle.TheVariants.{Ranges, Indices}
 use Rattle.wb_edit.specs.declared.edit.Edit.TheVariants.{Domain, Remap, Reshape, Sparse, Assoc}
 use Rattle.wb_edit.specs.declared.edit.Edit.TheVariants.{DropDomain, Add, Remove, Array, Set, Irv, Copy}
-use Rattle.wb_edit.specs.declared.edit.Edit.TheVariants.{Fill, FillAll, DropArray, All, Load}
+use Rattle.wb_edit.specs.declared.edit.Edit.TheVariants.{Fill, Put, FillAll, DropArray, All, Load}
 use Rattle.wb_history.specs.declared.query.Query.TheVariants.{Get, Size, Where, Piece, Reduce, State}
 use Rattle.wb_log.specs.declared.refusal.Refusal.{Refusal}
 use Rattle.wb_log.specs.declared.refusal.Refusal.TheVariants.{BadRequest}
@@ -27,20 +29,21 @@ use Rattle.wb_reshape.specs.declared.new_indices.SetOperation.TheVariants.{Union
 use Rattle.wb_reshape.specs.declared.new_indices.NewIndices.{NewIndices}
 use Rattle.wb_reshape.specs.declared.new_indices.NewIndices.TheVariants.{To, Slice, Displace, Combine}
 use Rattle.wb_protocol.specs.Fields.{◌>>=◌, member_count, has_fields, has_fields_and, text_field, optional_text, text_if_there, name_field, index_field, i64_field}
-use Rattle.wb_protocol.specs.Fields.{u64_field, key_type_field, operation_field, reduction_field}
+use Rattle.wb_protocol.specs.Fields.{integers_field, u64_field, key_type_field, operation_field, reduction_field}
 use Rattle.wb_protocol.specs.Literals.{literal_domain, literal_mapping, optional_mapping as mapping_if_there, text_of_book, domain_within, mapping_within}
 use Rattle.wb_protocol.specs.Sources.{given_by, offsets_by, to_by, slice_by, displace_by, combine_by, combination_of, source_of}
-use Rattle.wb_protocol.specs.Requests.{domain_with, domain_by, domain_of, remap_of, reshape_of, fill_over, fill_of, load_of, undo_by_number, undo_of, print_of}
-use Rattle.wb_protocol.specs.Requests.{history_of, edits_of, by_op, request_of, array_of, drop_array_of, set_of, fill_all_of, copy_of, irv_of, all_of, sparse_of}
-use Rattle.wb_protocol.specs.Requests.{assoc_of, add_of, remove_of, drop_domain_of, redo_of, cascade_of, dependents_of, get_of, where_of, size_of, piece_of}
+use Rattle.wb_protocol.specs.Requests.{domain_with, domain_by, domain_of, remap_of, reshape_of, fill_over, fill_of, put_on, put_over, put_of, load_of}
+use Rattle.wb_protocol.specs.Requests.{undo_by_number, undo_of, print_of, history_of, edits_of, by_op, request_of, array_of, drop_array_of, set_of, fill_all_of, copy_of}
+use Rattle.wb_protocol.specs.Requests.{irv_of, all_of, sparse_of, assoc_of, add_of, remove_of, drop_domain_of, redo_of, cascade_of, dependents_of, get_of, where_of, size_of, piece_of}
 use Rattle.wb_protocol.specs.Requests.{reduce_of, state_of}
 use Rattle.wb_protocol.specs.declared.requests.request.Request.{Request}
 use Rattle.wb_protocol.specs.declared.requests.request.Request.TheVariants.{Change, Undo, Redo, Cascade, Dependents, Ask, Print, History, Edits}
-use Rattle.wb_protocol.specs.Wire.Table.{Meaning, word, name, integer, index, given, mapping, optional_mapping, book, some_set, Fields, op, table}
-use Rattle.wb_protocol.specs.Wire.Spelled.{IsIndex, IsOperand, Says, HasFields, IsRequest}
+use Rattle.wb_protocol.specs.Wire.Table.{Meaning, word, name, integer, index, given, mapping, optional_mapping, book, numbers, some_set, some_numbers}
+use Rattle.wb_protocol.specs.Wire.Table.{Fields, op, table}
+use Rattle.wb_protocol.specs.Wire.Spelled.{IsIntegers, IsIndex, IsOperand, Says, HasFields, IsRequest}
 use Rattle.wb_protocol.proofs.OnTheWire.Members.{are_apart, is_needed, are_needed, AllSay, there, is_there, exactly, has_fields as has_fields_of}
 use Rattle.wb_protocol.proofs.OnTheWire.Values.{step, ok_same, no_ok, text_found, says_text, valued, word_found, name_found, index_found, integer_found, natural_found}
-use Rattle.wb_protocol.proofs.OnTheWire.Values.{type_found, operation_found, reduction_found}
+use Rattle.wb_protocol.proofs.OnTheWire.Values.{chosen, type_found, operation_found, reduction_found, integers_found}
 use Rattle.wb_protocol.proofs.OnTheWire.Spellings.{count_found, domain_found, rectangle_found, given_found, offsets_found, mapping_found, book_found, optional_found}
 use Rattle.wb_protocol.proofs.OnTheWire.Spellings.{optional_count}
 use Rattle.wb_protocol.proofs.OnTheWire.Steps.{one, two, two_of, three, five}
@@ -241,6 +244,38 @@ fill_found ms r s e =
     fill_over_found ms x.0 x.1 x.2 l.0 r s (count_found ms 4 tt x.3) (name_found (get_member (codes "a") ms) x.0 x.4)
     (text_found (get_member (codes "on") ms) x.1 x.5) (integer_found (get_member (codes "v") ms) x.2 x.6) (domain_found x.1 l.0 l.1) l.2
 
+put_over_found : (ms : Members) (a : Name) (text : List ℕ) (v : Data) (vs : List ℤ) (l : literals.Domain) (r : Request) →
+    Says (get_member (codes "op") ms) (word (codes "put")) → member_count ms ≡ 4
+    → Says (get_member (codes "a") ms) (name a) → get_member (codes "on") ms ≡ Some (string text) → get_member (codes "vs") ms ≡ Some v → IsIntegers v vs →
+    grammar.IsDomain text l → put_over a l vs ≡ Ok r → HasFields ms (table r)
+put_over_found ms a text v vs (literals.rectangle l) r s n named on at integral spelled e =
+    let x = step (domain_within l) (λ ranges. put_on a ranges vs) r e in
+    let k = chosen (nat_eq (length vs) (length (indices x.0))) (Change (Put a (numbered (x.0, vs)))) r x.2 in
+    as_table ms (Change (Put a (numbered (x.0, vs)))) r (ap Ok k.1) refl refl n (
+      named,
+      (
+        says_text (get_member (codes "on") ms) (given (Rectangle x.0)) text on (text, l, refl, spelled, rectangle_found l x.0 x.1),
+        (s, (valued (get_member (codes "vs") ms) v (numbers x.0 vs) at (integral, eqb-true (length vs) (length (indices x.0)) k.0), tt)),
+      ),
+    )
+put_over_found ms a text v vs (literals.set listed) r s n named on at integral spelled e =
+    as_table ms (Change (Put a not_numbered)) r e refl refl n (
+      named,
+      (
+        says_text (get_member (codes "on") ms) some_set text on (text, listed, refl, spelled),
+        (s, (valued (get_member (codes "vs") ms) v some_numbers at (vs, integral), tt)),
+      ),
+    )
+
+put_found : IsFound (codes "put") put_of
+put_found ms r s e =
+    let x = three (has_fields 4 (object ms)) (name_field (codes "a") (object ms)) (text_field (codes "on") (object ms)) (integers_field (codes "vs") (object ms))
+    (λ a text vs. literal_domain text >>= (λ l. put_over a l vs)) r e in
+    let l = step (literal_domain x.1) (λ l. put_over x.0 l x.2) r x.7 in
+    let v = integers_found (get_member (codes "vs") ms) x.2 x.6 in
+    put_over_found ms x.0 x.1 v.0 x.2 l.0 r s (count_found ms 4 tt x.3) (name_found (get_member (codes "a") ms) x.0 x.4)
+    (text_found (get_member (codes "on") ms) x.1 x.5) v.1 v.2 (domain_found x.1 l.0 l.1) l.2
+
 load_found : IsFound (codes "load") load_of
 load_found ms r s e =
     let x = one (has_fields 2 (object ms)) (text_field (codes "text") (object ms)) (λ text. text_of_book text >>= (λ t. Ok (Change (Load t)))) r e in
@@ -413,7 +448,7 @@ abbrev pub readers : List Reader
 readers = (codes "domain", domain_of) ∷ (codes "remap", remap_of) ∷ (codes "sparse", sparse_of) ∷ (codes "assoc", assoc_of) ∷
     (codes "drop_domain", drop_domain_of) ∷ (codes "reshape", reshape_of) ∷ (codes "add", add_of)
     ∷ (codes "remove", remove_of) ∷ (codes "load", load_of) ∷ (codes "array", array_of) ∷ (codes "drop_array", drop_array_of) ∷ (codes "set", set_of) ∷
-    (codes "fill", fill_of) ∷ (codes "fill_all", fill_all_of) ∷ (codes "irv", irv_of)
+    (codes "fill", fill_of) ∷ (codes "put", put_of) ∷ (codes "fill_all", fill_all_of) ∷ (codes "irv", irv_of)
     ∷ (codes "copy", copy_of) ∷ (codes "all", all_of) ∷ (codes "undo", undo_of) ∷ (codes "redo", redo_of) ∷ (codes "cascade", cascade_of) ∷
     (codes "dependents", dependents_of) ∷ (codes "get", get_of) ∷ (codes "where", where_of) ∷ (codes "size", size_of) ∷ (codes "piece", piece_of)
     ∷ (codes "reduce", reduce_of) ∷ (codes "state", state_of) ∷ (codes "print", print_of) ∷ (codes "history", history_of) ∷ (codes "edits", edits_of) ∷ []
@@ -446,26 +481,29 @@ all_found = (
                         (
                           fill_found,
                           (
-                            fill_all_found,
+                            put_found,
                             (
-                              irv_found,
+                              fill_all_found,
                               (
-                                copy_found,
+                                irv_found,
                                 (
-                                  all_found_of,
+                                  copy_found,
                                   (
-                                    undo_found,
+                                    all_found_of,
                                     (
-                                      redo_found,
+                                      undo_found,
                                       (
-                                        cascade_found,
+                                        redo_found,
                                         (
-                                          dependents_found,
+                                          cascade_found,
                                           (
-                                            get_found,
+                                            dependents_found,
                                             (
-                                              where_found,
-                                              (size_found, (piece_found, (reduce_found, (state_found, (print_found, (history_found, (edits_found, tt))))))),
+                                              get_found,
+                                              (
+                                                where_found,
+                                                (size_found, (piece_found, (reduce_found, (state_found, (print_found, (history_found, (edits_found, tt))))))),
+                                              ),
                                             ),
                                           ),
                                         ),

@@ -11,11 +11,11 @@ use Rattle.wb_protocol.specs.Fields.{◌>>=◌, member_count, has_fields}
 use Rattle.wb_protocol.specs.Replies.{code_of}
 use Rattle.wb_protocol.specs.declared.requests.request.Request.{Request}
 use Rattle.wb_protocol.specs.Wire.Faults.{Fault, bad_request, bad_literal, too_large, bad_mapping, code, refusal_of, forms, HasKeys, NamesOp, IsWhole, Plain, Kind}
-use Rattle.wb_protocol.specs.Wire.Faults.{plain, kind_of, Fails, IsFault, not_whole, of_member, IsLeastFault}
+use Rattle.wb_protocol.specs.Wire.Faults.{plain, kind_of, Fails, IsMiscounted, IsFault, not_whole, of_member, IsLeastFault}
 use Rattle.wb_protocol.proofs.OnTheWire.Values.{no_ok, some_same}
 use Rattle.wb_protocol.proofs.OnTheWire.Spellings.{count_read}
 use Rattle.wb_protocol.proofs.OnTheWire.Steps.{one_of, two_of, three_of, five_of}
-use Rattle.wb_protocol.proofs.OnTheWire.Keys.{has, apart, IsThere, AllKeys, keys_made, passes, lacks, miscounted, FailsAt, all_faults}
+use Rattle.wb_protocol.proofs.OnTheWire.Keys.{has, apart, IsThere, AllKeys, keys_made, IsForm, passes, lacks, miscounted, uncounted_op, FailsAt, all_faults}
 use Rattle.wb_protocol.proofs.OnTheWire.Failing.{err_same, no_err, IsReader}
 
 -- ---- codes
@@ -217,10 +217,16 @@ pub whole_fine : (ms : Members) (o : List ℕ) (ks : List (List ℕ)) → NamesO
     AllKeys ks (IsThere ms) → HasKeys ms (codes "op" ∷ ks)
 whole_fine ms o ks s a n t = keys_made (codes "op" ∷ ks) ms a n ((string o, s), t)
 
-pub all_fine : (ms : Members) (o : List ℕ) (ks : List (List ℕ)) → NamesOp ms o → Contains forms (o, ks) → apart (codes "op" ∷ ks) ≡ true →
+-- as many numbers as there have to be, in an op that counts them too
+pub all_fine_by : (ms : Members) (o : List ℕ) (ks : List (List ℕ)) → NamesOp ms o → Contains forms (o, ks) → apart (codes "op" ∷ ks) ≡ true →
+    member_count ms ≡ suc (length ks) → AllKeys ks (Fine ms o) → (IsMiscounted (object ms) → ⊥) → NoFault (object ms)
+all_fine_by ms o ks s c a n t count =
+    all_faults ms o ks (λ f. ⊥) s c (whole_fine ms o ks s a n (each_key (Fine ms o) (IsThere ms) (λ k x. x.0) ks t))
+    (each_key (Fine ms o) (λ k. (f : Fault) → FailsAt ms o k f → ⊥) (λ k x. x.1) ks t) count
+
+pub all_fine : (ms : Members) (o : List ℕ) (ks : List (List ℕ)) → NamesOp ms o → IsForm (o, ks) → apart (codes "op" ∷ ks) ≡ true →
     member_count ms ≡ suc (length ks) → AllKeys ks (Fine ms o) → NoFault (object ms)
-all_fine ms o ks s c a n t = all_faults ms o ks (λ f. ⊥) s c (whole_fine ms o ks s a n (each_key (Fine ms o) (IsThere ms) (λ k x. x.0) ks t))
-    (each_key (Fine ms o) (λ k. (f : Fault) → FailsAt ms o k f → ⊥) (λ k x. x.1) ks t)
+all_fine ms o ks s c a n t = all_fine_by ms o ks s c.0 a n t (uncounted_op ms o s c.1)
 
 -- no fault of a key's value has a lower code than f
 abbrev pub IsAbove : Members → List ℕ → Fault → List ℕ → Type 0
@@ -229,17 +235,27 @@ IsAbove ms o f k = (g : Fault) → FailsAt ms o k g → code f ≤ code g
 pub fine_above : (ms : Members) (o k : List ℕ) (f : Fault) → Fine ms o k → IsAbove ms o f k
 fine_above ms o k f x g y = absurd (x.1 g y)
 
-pub least_of : (ms : Members) (o : List ℕ) (ks : List (List ℕ)) (f : Fault) → NamesOp ms o → Contains forms (o, ks) → HasKeys ms (codes "op" ∷ ks) →
+least_by : (ms : Members) (o : List ℕ) (ks : List (List ℕ)) (f : Fault) → NamesOp ms o → Contains forms (o, ks) → HasKeys ms (codes "op" ∷ ks) →
+    IsFault (object ms) f → AllKeys ks (IsAbove ms o f) → (IsMiscounted (object ms) → ⊥) → IsLeastFault (object ms) f
+least_by ms o ks f s c h x all count = (x, all_faults ms o ks (λ g. code f ≤ code g) s c h all (λ m. absurd (count m)))
+
+pub least_of : (ms : Members) (o : List ℕ) (ks : List (List ℕ)) (f : Fault) → NamesOp ms o → IsForm (o, ks) → HasKeys ms (codes "op" ∷ ks) →
     IsFault (object ms) f → AllKeys ks (IsAbove ms o f) → IsLeastFault (object ms) f
-least_of ms o ks f s c h x all = (x, all_faults ms o ks (λ g. code f ≤ code g) s c h all)
+least_of ms o ks f s c h x all = least_by ms o ks f s c.0 h x all (uncounted_op ms o s c.1)
 
 -- the value of one member is refused, and no other has a lower code
-pub value_bad : (ms : Members) (o : List ℕ) (ks : List (List ℕ)) → NamesOp ms o → Contains forms (o, ks) → HasKeys ms (codes "op" ∷ ks) →
+pub value_bad_by : (ms : Members) (o : List ℕ) (ks : List (List ℕ)) → NamesOp ms o → Contains forms (o, ks) → HasKeys ms (codes "op" ∷ ks) →
     (k : List ℕ) {kind : Kind} {A : Type 0} {read : Option Data → Result A Refusal}
     → IsReader kind read → kind_of o k ≡ Some kind → (v : Data) → get_member k ms ≡ Some v → (why : Refusal) → read (Some v) ≡ Err why
-    → ((f : Fault) → IsAbove ms o f k → AllKeys ks (IsAbove ms o f)) → Refused (object ms) why
-value_bad ms o ks s c h k {kind} r kd v g why e all =
+    → ((f : Fault) → IsAbove ms o f k → AllKeys ks (IsAbove ms o f)) → (IsMiscounted (object ms) → ⊥) → Refused (object ms) why
+value_bad_by ms o ks s c h k {kind} r kd v g why e all count =
     let x = r.bad v why e in
     let same : IsAbove ms o x.0 k = λ f y. code_same x.0 f (err_same (refusal_of x.0) (refusal_of f)
     (sym (e ∙ ap Err x.1) ∙ r.failing v f (fails_there ms o k kind v f kd g y))) in
-    (x.0, x.1, least_of ms o ks x.0 s c h (member_fault ms o k kind v x.0 s kd g x.2) (all x.0 same))
+    (x.0, x.1, least_by ms o ks x.0 s c h (member_fault ms o k kind v x.0 s kd g x.2) (all x.0 same) count)
+
+pub value_bad : (ms : Members) (o : List ℕ) (ks : List (List ℕ)) → NamesOp ms o → IsForm (o, ks) → HasKeys ms (codes "op" ∷ ks) →
+    (k : List ℕ) {kind : Kind} {A : Type 0} {read : Option Data → Result A Refusal}
+    → IsReader kind read → kind_of o k ≡ Some kind → (v : Data) → get_member k ms ≡ Some v → (why : Refusal) → read (Some v) ≡ Err why
+    → ((f : Fault) → IsAbove ms o f k → AllKeys ks (IsAbove ms o f)) → Refused (object ms) why
+value_bad ms o ks s c h k r kd v g why e all = value_bad_by ms o ks s c.0 h k r kd v g why e all (uncounted_op ms o s c.1)

@@ -9,7 +9,7 @@ use Rattle.serde_json.specs.Data.{Data, string, object, Members}
 use Rattle.serde_json.specs.Find.{get_member}
 use Rattle.wb_protocol.specs.Fields.{member_count}
 use Rattle.wb_protocol.specs.Wire.Spelled.{without}
-use Rattle.wb_protocol.specs.Wire.Faults.{forms, HasKeys, NamesOp, IsWhole, Kind, kind_of, Fault, Fails, IsFault, not_whole, of_member}
+use Rattle.wb_protocol.specs.Wire.Faults.{forms, HasKeys, NamesOp, IsWhole, Kind, kind_of, Fault, bad_request, Fails, IsMiscounted, IsFault, not_whole, of_member, of_count}
 use Rattle.wb_protocol.proofs.OnTheWire.Members.{true_false, equal_key, same_key, other_same, count_out, there, free_parts, unequal, nothing_there}
 use Rattle.wb_protocol.proofs.OnTheWire.Values.{no_some}
 
@@ -85,8 +85,16 @@ of_form op ks p a c =
     let h : passes op p (op, ks) ≡ true = All-contains (λ x. passes op p x ≡ true) forms (op, ks) (AllPass-from_list_all (passes op p) forms a) c in
     sym (ap (λ (b : Bool). if b then p ks else true) (same_key op)) ∙ h
 
-pub form_at : (k : ℕ) (x : List ℕ × List (List ℕ)) → nat_lt k (length forms) ≡ true → slice_index_or forms k x ≡ x → Contains forms x
-form_at k x h e = (k, ltb-true k (length forms) h, e)
+pub contained_at : (k : ℕ) (x : List ℕ × List (List ℕ)) → nat_lt k (length forms) ≡ true → slice_index_or forms k x ≡ x → Contains forms x
+contained_at k x h e = (k, ltb-true k (length forms) h, e)
+
+-- a form of an op whose numbers nothing counts
+abbrev pub IsForm : List ℕ × List (List ℕ) → Type 0
+IsForm x = Contains forms x × (bytes_eq x.0 (codes "put") ≡ false)
+
+pub form_at : (k : ℕ) (x : List ℕ × List (List ℕ)) → nat_lt k (length forms) ≡ true → slice_index_or forms k x ≡ x → bytes_eq x.0 (codes "put") ≡ false →
+    IsForm x
+form_at k x h e other = (contained_at k x h e, other)
 
 pub members_same : (ms ns : Members) → object ms ≡ object ns → ms ≡ ns
 members_same ms ns e = cc
@@ -120,6 +128,12 @@ pub miscounted : (ms : Members) (op : List ℕ) (n : ℕ) → NamesOp ms op → 
 miscounted ms op n s a other = not_whole_by ms op s (λ ks c h. other
     (keys_counted (codes "op" ∷ ks) ms h ∙ ap suc (eqb-true (length ks) n (of_form op ks (λ ks. nat_eq (length ks) n) a c))))
 
+-- only a put is counted
+pub uncounted_op : (ms : Members) (op : List ℕ) → NamesOp ms op → bytes_eq op (codes "put") ≡ false → IsMiscounted (object ms) → ⊥
+uncounted_op ms op s other m =
+    let o : op ≡ codes "put" = op_same op (codes "put") (sym s ∙ subst (λ ms. NamesOp ms (codes "put")) (sym (members_same ms m.members m.is_object)) m.names_op) in
+    true_false (sym (ap (λ op. bytes_eq op (codes "put")) o) ∙ other)
+
 -- ---- all faults of an object that is whole
 
 -- the member of a key fails
@@ -145,8 +159,10 @@ member_with ms op P fault s h ns other k kind v m t kd g f =
     h k (kind, v, subst (λ op. kind_of op k ≡ Some kind) (sym o) kd, subst (λ ms. get_member k ms ≡ Some v) (sym m) g, f)
 
 pub all_faults : (ms : Members) (op : List ℕ) (ks : List (List ℕ)) (P : Fault → Type 0) → NamesOp ms op → Contains forms (op, ks) → HasKeys ms (codes "op" ∷ ks)
-    → AllKeys ks (λ k. (g : Fault) → FailsAt ms op k g → P g) → (fault : Fault) → IsFault (object ms) fault → P fault
-all_faults ms op ks P s c h all fault (not_whole e other) = absurd (other (ms, op, ks, refl, s, c, h))
-all_faults ms op ks P s c h all fault (of_member m) =
+    → AllKeys ks (λ k. (g : Fault) → FailsAt ms op k g → P g) → (IsMiscounted (object ms) → P bad_request) → (fault : Fault) → IsFault (object ms) fault →
+    P fault
+all_faults ms op ks P s c h all count fault (not_whole e other) = absurd (other (ms, op, ks, refl, s, c, h))
+all_faults ms op ks P s c h all count fault (of_count e m) = subst P (sym e) (count m)
+all_faults ms op ks P s c h all count fault (of_member m) =
     member_with ms op P fault s (at_member ms op ks P fault h all) m.members m.op m.key m.kind m.value (members_same ms m.members m.is_object) m.names_op
     m.is_kind m.is_value m.fails

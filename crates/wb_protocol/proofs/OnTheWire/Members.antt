@@ -11,8 +11,8 @@ use Rattle.std.proofs.lemmas.Slice.Eq.{bytes_eq-Decides}
 use Rattle.serde_json.specs.Data.{Data, Members, no_members, member}
 use Rattle.serde_json.specs.Find.{get_member}
 use Rattle.wb_protocol.specs.Fields.{member_count}
-use Rattle.wb_protocol.specs.Wire.Table.{Meaning, word, name, integer, number, index, given, mapping, optional_mapping, book, some_set}
-use Rattle.wb_protocol.specs.Wire.Table.{Fields}
+use Rattle.wb_protocol.specs.Wire.Table.{Meaning, word, name, integer, number, index, given, mapping, optional_mapping, book, numbers}
+use Rattle.wb_protocol.specs.Wire.Table.{some_set, some_numbers, Fields}
 use Rattle.wb_protocol.specs.Wire.Spelled.{Says, without, HasFields}
 
 pub true_false : {X : Type 0} → true ≡ false → X
@@ -165,7 +165,9 @@ is_needed (index i) = true
 is_needed (given g) = true
 is_needed (mapping m) = true
 is_needed (book text) = true
+is_needed (numbers on vs) = true
 is_needed some_set = true
+is_needed some_numbers = true
 
 abbrev pub are_needed : Fields → Bool
 are_needed [] = true
@@ -182,7 +184,9 @@ is_there None (index i) h s = absurd s
 is_there None (given g) h s = absurd s
 is_there None (mapping m) h s = absurd s
 is_there None (book text) h s = absurd s
+is_there None (numbers on vs) h s = absurd s
 is_there None some_set h s = absurd s
+is_there None some_numbers h s = absurd s
 
 pub all_there : (fs : Fields) (ms : Members) → are_needed fs ≡ true → AllSay fs ms → count_there fs ms ≡ length fs
 all_there [] ms h a = refl

@@ -1,5 +1,5 @@
 -- What is a request is read as that request.
-use Rattle.std.proofs.Common.{◌≡◌, ◌+◌, ℕ, ℤ, true, List, [], ◌∷◌, codes, Option, Some, None, Result, Ok, refl, ap, ◌∙◌, arith}
+use Rattle.std.proofs.Common.{◌≡◌, ◌+◌, ℕ, ℤ, true, List, [], ◌∷◌, length, codes, Option, Some, None, Result, Ok, refl, ap, ◌∙◌, arith, eq-eqb}
 use Rattle.serde_json.specs.Data.{Data, string, object, Members}
 use Rattle.serde_json.specs.Find.{get_member}
 use Rattle.wb_dist.specs.Maps.{LayoutMap}
@@ -9,12 +9,15 @@ use Rattle.wb_cells.specs.declared.values.index.Index.TheVariants.{Point}
 use Rattle.wb_cells.specs.declared.cells.kind.KeyType.{KeyType}
 use Rattle.wb_edit.specs.declared.operation.Operation.{Operation}
 use Rattle.wb_arrays.specs.declared.reduction.Op.{Op}
+use Rattle.wb_cells.specs.Shapes.{indices}
+use Rattle.wb_edit.specs.declared.asked_numbers.AskedNumbers.{AskedNumbers}
+use Rattle.wb_edit.specs.declared.asked_numbers.AskedNumbers.TheVariants.{Rectangle as numbered, Indices as not_numbered}
 use Rattle.wb_edit.specs.declared.asked_rectangle.AskedRectangle.{AskedRectangle}
 use Rattle.wb_edit.specs.declared.asked_rectangle.AskedRectangle.TheVariants.{Ranges, Indices}
 use Rattle.wb_edit.specs.declared.edit.Edit.{Edit}
 use Rattle.wb_edit.specs.declared.edit.Edit.TheVariants.{Domain, Remap, Reshape, Sparse, Assoc}
 use Rattle.wb_edit.specs.declared.edit.Edit.TheVariants.{DropDomain, Add, Remove, Array, Set, Irv, Copy}
-use Rattle.wb_edit.specs.declared.edit.Edit.TheVariants.{Fill, FillAll, DropArray, All, Load}
+use Rattle.wb_edit.specs.declared.edit.Edit.TheVariants.{Fill, Put, FillAll, DropArray, All, Load}
 use Rattle.wb_history.specs.declared.query.Query.{Query}
 use Rattle.wb_history.specs.declared.query.Query.TheVariants.{Get, Size, Where, Piece, Reduce, State}
 use Rattle.wb_log.specs.declared.refusal.Refusal.{Refusal}
@@ -27,17 +30,19 @@ use Rattle.wb_reshape.specs.declared.new_indices.SetOperation.TheVariants.{Union
 use Rattle.wb_reshape.specs.declared.new_indices.NewIndices.{NewIndices}
 use Rattle.wb_reshape.specs.declared.new_indices.NewIndices.TheVariants.{To, Slice, Displace, Combine}
 use Rattle.wb_protocol.specs.Fields.{◌>>=◌, member_count, has_fields, has_fields_and, text_field, optional_text, name_field, index_field, i64_field, u64_field}
-use Rattle.wb_protocol.specs.Fields.{key_type_field, operation_field, reduction_field}
+use Rattle.wb_protocol.specs.Fields.{integers_field, key_type_field, operation_field, reduction_field}
 use Rattle.wb_protocol.specs.Literals.{literal_domain, literal_mapping, optional_mapping as mapping_if_there, text_of_book, mapping_within}
 use Rattle.wb_protocol.specs.Sources.{source_of}
-use Rattle.wb_protocol.specs.Requests.{domain_with, domain_by, fill_over, by_op, request_of}
+use Rattle.wb_protocol.specs.Requests.{domain_with, domain_by, fill_over, put_over, by_op, request_of}
 use Rattle.wb_protocol.specs.declared.requests.request.Request.{Request}
 use Rattle.wb_protocol.specs.declared.requests.request.Request.TheVariants.{Change, Undo, Redo, Cascade, Dependents, Ask, Print, History, Edits}
-use Rattle.wb_protocol.specs.Wire.Table.{Meaning, word, name, integer, index, given, mapping, optional_mapping, book, some_set, Fields, op}
+use Rattle.wb_protocol.specs.Wire.Table.{Meaning, word, name, integer, index, given, mapping, optional_mapping, book, numbers}
+use Rattle.wb_protocol.specs.Wire.Table.{some_set, some_numbers, Fields, op}
 use Rattle.wb_protocol.specs.Wire.Table.{table}
-use Rattle.wb_protocol.specs.Wire.Spelled.{Spells, Says, HasFields, IsRequest}
+use Rattle.wb_protocol.specs.Wire.Spelled.{IsIntegers, Spells, Says, HasFields, IsRequest}
 use Rattle.wb_protocol.proofs.OnTheWire.Members.{is_free, is_needed, is_there, there, all_say, all_counted, counted, no_other}
-use Rattle.wb_protocol.proofs.OnTheWire.Values.{text_read, word_read, name_read, index_read, integer_read, natural_read, type_read, operation_read, reduction_read}
+use Rattle.wb_protocol.proofs.OnTheWire.Values.{text_read, word_read, name_read, index_read, integer_read, integers_read, natural_read, type_read}
+use Rattle.wb_protocol.proofs.OnTheWire.Values.{operation_read, reduction_read}
 use Rattle.wb_protocol.proofs.OnTheWire.Spellings.{count_read, domain_read, rectangle_read, given_read, offsets_read, literal_read, mapping_read, optional_read}
 use Rattle.wb_protocol.proofs.OnTheWire.Steps.{one_read, two_of, two_read, three_read, five_read}
 
@@ -255,6 +260,33 @@ fill_read ms a Indices v h =
     let x = said (get_member (codes "on") ms) some_set refl s.1.0 in
     fill_by ms a x.2.0 v (literals.set x.2.1) r (counted (table r) ms refl refl h) s.1.1.0 s.0 (x.1 ∙ ap Some x.2.2) s.1.1.1.0 x.2.3 refl
 
+put_by : (ms : Members) (a : Name) (text : List ℕ) (v : Data) (vs : List ℤ) (l : literals.Domain) (r : Request) → member_count ms ≡ 4 →
+    Says (get_member (codes "op") ms) (word (codes "put")) → Says (get_member (codes "a") ms) (name a)
+    → get_member (codes "on") ms ≡ Some (string text) → get_member (codes "vs") ms ≡ Some v → IsIntegers v vs → grammar.IsDomain text l →
+    put_over a l vs ≡ Ok r → request_of (object ms) ≡ Ok r
+put_by ms a text v vs l r n s named on at integral spelled e =
+    op_read ms (codes "put") r s (three_read (has_fields 4 (object ms)) (name_field (codes "a") (object ms)) (text_field (codes "on") (object ms))
+    (integers_field (codes "vs") (object ms))
+    (λ a text vs. literal_domain text >>= (λ l. put_over a l vs)) a text vs r (count_read ms 4 n) (name_read (get_member (codes "a") ms) a named)
+    (text_read (get_member (codes "on") ms) text on) (integers_read (get_member (codes "vs") ms) v vs at integral)
+    (step_read (literal_domain text) (λ l. put_over a l vs) l (Ok r) (domain_read text l spelled) e))
+
+put_read : (ms : Members) (a : Name) (asked : AskedNumbers) → HasFields ms (table (Change (Put a asked))) →
+    request_of (object ms) ≡ Ok (Change (Put a asked))
+put_read ms a (numbered (on, vs)) h =
+    let r : Request = Change (Put a (numbered (on, vs))) in
+    let s = all_say (table r) ms refl h in
+    let x = said (get_member (codes "on") ms) (given (Rectangle on)) refl s.1.0 in
+    let y = said (get_member (codes "vs") ms) (numbers on vs) refl s.1.1.1.0 in
+    put_by ms a x.2.0 y.0 vs (literals.rectangle x.2.1) r (counted (table r) ms refl refl h) s.1.1.0 s.0 (x.1 ∙ ap Some x.2.2) y.1 y.2.0 x.2.3
+    (rw (rectangle_read x.2.1 on x.2.4, eq-eqb (length vs) (length (indices on)) y.2.1) refl)
+put_read ms a not_numbered h =
+    let r : Request = Change (Put a not_numbered) in
+    let s = all_say (table r) ms refl h in
+    let x = said (get_member (codes "on") ms) some_set refl s.1.0 in
+    let y = said (get_member (codes "vs") ms) some_numbers refl s.1.1.1.0 in
+    put_by ms a x.2.0 y.0 y.2.0 (literals.set x.2.1) r (counted (table r) ms refl refl h) s.1.1.0 s.0 (x.1 ∙ ap Some x.2.2) y.1 y.2.1 x.2.3 refl
+
 load_read : (ms : Members) (text : List ℕ) → HasFields ms (table (Change (Load text))) → request_of (object ms) ≡ Ok (Change (Load text))
 load_read ms text h =
     let s = all_say (table (Change (Load text))) ms refl h in
@@ -447,6 +479,7 @@ edit_read ms (Array a d) h = array_read ms a d h
 edit_read ms (DropArray a) h = drop_array_read ms a h
 edit_read ms (Set a i v) h = set_read ms a i v h
 edit_read ms (Fill a on v) h = fill_read ms a on v h
+edit_read ms (Put a asked) h = put_read ms a asked h
 edit_read ms (FillAll a v) h = fill_all_read ms a v h
 edit_read ms (Irv a v) h = irv_read ms a v h
 edit_read ms (Copy a i b j c) h = copy_read ms a i b j c h

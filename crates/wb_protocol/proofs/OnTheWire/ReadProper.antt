@@ -1,7 +1,7 @@
 -- A request that was read of a line is one that a line can say.
-use Rattle.std.proofs.Common.{◌≡◌, ℕ, Bool, true, false, List, [], ◌∷◌, Option, Some, None, Ok, refl, sym, subst, arith, if◌then◌else◌}
+use Rattle.std.proofs.Common.{◌≡◌, ℕ, ℤ, Bool, true, false, List, [], ◌∷◌, Option, Some, None, Ok, refl, sym, subst, arith, if◌then◌else◌}
 use Rattle.std.specs.Prelude.{bytes_eq}
-use Rattle.serde_json.specs.Data.{Data, Members, no_members, member}
+use Rattle.serde_json.specs.Data.{Data, Items, no_items, item, Members, no_members, member}
 use Rattle.serde_json.specs.Find.{get_member}
 use Rattle.wb_cells.specs.Layouts.{IsLayout}
 use Rattle.wb_cells.specs.declared.values.index.Index.{Index}
@@ -11,13 +11,13 @@ use Rattle.wb_reshape.specs.declared.operand.Operand.{Operand}
 use Rattle.wb_reshape.specs.declared.operand.Operand.TheVariants.{Rectangle, Items as Listed, Named}
 use Rattle.wb_protocol.specs.Requests.{request}
 use Rattle.wb_protocol.specs.declared.requests.request.Request.{Request}
-use Rattle.wb_protocol.specs.Wire.Table.{Meaning, word, name, integer, number, index, given, mapping, optional_mapping, book, some_set}
-use Rattle.wb_protocol.specs.Wire.Table.{Fields, table}
-use Rattle.wb_protocol.specs.Wire.Spelled.{IsIndex, IsOperand, Spells, Says, without, HasFields}
-use Rattle.wb_protocol.specs.Wire.Proper.{IsProperIndex, IsProperOperand, IsProper, AreProper, IsProperRequest}
+use Rattle.wb_protocol.specs.Wire.Table.{Meaning, word, name, integer, number, index, given, mapping, optional_mapping, book, numbers}
+use Rattle.wb_protocol.specs.Wire.Table.{some_set, some_numbers, Fields, table}
+use Rattle.wb_protocol.specs.Wire.Spelled.{AreIntegers, IsIndex, IsOperand, Spells, Says, without, HasFields}
+use Rattle.wb_protocol.specs.Wire.Proper.{AllWithin, IsProperIndex, IsProperOperand, IsProper, AreProper, IsProperRequest}
 use Rattle.wb_protocol.proofs.OnTheWire.Lines.{line_found}
 use Rattle.wb_protocol.proofs.OnTheWire.Mappings.{mapping_is}
-use Rattle.wb_protocol.proofs.OnTheWire.Readable.{IsFit, AreFit, read_fits, member_fits, integer_within}
+use Rattle.wb_protocol.proofs.OnTheWire.Readable.{IsFit, AreFitItems, AreFit, read_fits, member_fits, integer_within}
 use Rattle.wb_protocol.proofs.OnTheWire.Rectangles.{domain_is}
 use Rattle.wb_protocol.proofs.OnTheWire.Sets.{ascending_again, set_is}
 
@@ -41,6 +41,12 @@ index_is d (Point (i ∷ j ∷ k ∷ [])) f h =
 index_is d (Point (i ∷ j ∷ k ∷ l ∷ is)) f h = absurd h
 index_is d (Text t) f h = h.1
 
+integers_are : (ds : Items) (zs : List ℤ) → AreFitItems ds → AreIntegers ds zs → AllWithin zs
+integers_are no_items [] f h = tt
+integers_are (item d ds) (z ∷ zs) f h = (integer_within d h.0.0 z f.0 h.0.1 h.0.2, integers_are ds zs f.1 h.1)
+integers_are no_items (z ∷ zs) f h = absurd h
+integers_are (item d ds) [] f h = absurd h
+
 given_is : (d : Data) (g : Operand) → IsOperand d g → IsProperOperand g
 given_is d (Rectangle ranges) h = domain_is h.1 ranges h.4
 given_is d (Listed is) h = subst (λ is. IsProperOperand (Listed is)) h.4 (set_is h.0 h.1 h.3, ascending_again (listed_in h.1))
@@ -56,7 +62,9 @@ spelled_is d (given g) f h = given_is d g h
 spelled_is d (mapping m) f h = mapping_is h.0 h.1 m h.3 h.4
 spelled_is d (optional_mapping m) f h = mapping_is h.0 h.1 m h.3 h.4
 spelled_is d (book text) f h = h.1
+spelled_is d (numbers on vs) f h = (integers_are h.0.0 vs (subst IsFit h.0.1 f) h.0.2, h.1)
 spelled_is d some_set f h = tt
+spelled_is d some_numbers f h = tt
 
 -- a member that is missing is a mapping, which is then the one of a single locale
 missing_is : (x : Meaning) → Says None x → IsProper x
@@ -69,7 +77,9 @@ missing_is (index i) h = absurd h
 missing_is (given g) h = absurd h
 missing_is (mapping m) h = absurd h
 missing_is (book text) h = absurd h
+missing_is (numbers on vs) h = absurd h
 missing_is some_set h = absurd h
+missing_is some_numbers h = absurd h
 
 said_is : (o : Option Data) (x : Meaning) → ((d : Data) → o ≡ Some d → IsFit d) → Says o x → IsProper x
 said_is None x f h = missing_is x h

@@ -9,9 +9,10 @@ use Rattle.serde_json.specs.Data.{Data, null, boolean, number as json_number, st
 use Rattle.serde_json.specs.Find.{get_member, as_str}
 use Rattle.wb_dist.specs.Maps.{LayoutMap, whole}
 use Rattle.wb_cells.specs.Cells.{Name}
-use Rattle.wb_cells.specs.Shapes.{Range}
+use Rattle.wb_cells.specs.Shapes.{Range, indices}
+use Rattle.wb_edit.specs.declared.asked_numbers.AskedNumbers.TheVariants.{Rectangle as numbered}
 use Rattle.wb_edit.specs.declared.asked_rectangle.AskedRectangle.TheVariants.{Ranges, Indices}
-use Rattle.wb_edit.specs.declared.edit.Edit.TheVariants.{Domain as NewDomain, Remap, Reshape, Fill, Load}
+use Rattle.wb_edit.specs.declared.edit.Edit.TheVariants.{Domain as NewDomain, Remap, Reshape, Fill, Put, Load}
 use Rattle.wb_log.specs.declared.refusal.Refusal.{Refusal}
 use Rattle.wb_log.specs.declared.refusal.Refusal.TheVariants.{BadRequest, BadLiteral}
 use Rattle.wb_literals.specs.Domain.{Domain, rectangle, set, domain_of as domain_of_text}
@@ -21,32 +22,36 @@ use Rattle.wb_literals.specs.Set.{Items as Listed}
 use Rattle.wb_literals.specs.declared.mapping.MappingLiteral.{MappingLiteral}
 use Rattle.wb_literals.specs.declared.mapping.MappingLiteral.TheVariants.{Whole}
 use Rattle.wb_literals.specs.declared.rectangle.RectangleLiteral.{RectangleLiteral}
+use Rattle.wb_reshape.specs.declared.operand.Operand.TheVariants.{Rectangle}
 use Rattle.wb_reshape.specs.declared.new_indices.Displacement.TheVariants.{Translate, Expand}
 use Rattle.wb_reshape.specs.declared.new_indices.SetOperation.TheVariants.{Union, Intersection, Difference, SymmetricDifference}
 use Rattle.wb_reshape.specs.declared.new_indices.NewIndices.{NewIndices}
 use Rattle.wb_reshape.specs.declared.new_indices.NewIndices.TheVariants.{To, Slice, Displace, Combine}
 use Rattle.wb_protocol.specs.Fields.{◌>>=◌, member_count, has_fields, has_fields_and, text_field, optional_text, text_if_there, name_field, i64_field, u64_field}
+use Rattle.wb_protocol.specs.Fields.{integers_field}
 use Rattle.wb_protocol.specs.Literals.{literal_domain, literal_mapping, text_of_book, domain_within, mapping_within}
 use Rattle.wb_protocol.specs.Sources.{to_by, slice_by, displace_by, combine_by, source_of}
-use Rattle.wb_protocol.specs.Requests.{domain_with, domain_by, domain_of, remap_of, reshape_of, fill_over, fill_of, load_of, undo_by_number, undo_of, print_of}
-use Rattle.wb_protocol.specs.Requests.{history_of, edits_of, by_op, request_of}
+use Rattle.wb_protocol.specs.Requests.{domain_with, domain_by, domain_of, remap_of, reshape_of, fill_over, fill_of, put_on, put_over, put_of, load_of}
+use Rattle.wb_protocol.specs.Requests.{undo_by_number, undo_of, print_of, history_of, edits_of, by_op, request_of}
 use Rattle.wb_protocol.specs.declared.requests.request.Request.{Request}
 use Rattle.wb_protocol.specs.declared.requests.request.Request.TheVariants.{Change, Undo, Print, History, Edits}
 use Rattle.wb_protocol.specs.Wire.Faults.{Fault, bad_request, bad_literal, too_large, bad_mapping, code, refusal_of, forms, HasKeys, NamesOp, IsWhole, Kind, kind_of}
-use Rattle.wb_protocol.specs.Wire.Faults.{Fails, not_whole}
+use Rattle.wb_protocol.specs.Wire.Faults.{Fails, IsMiscounted, not_whole, of_count}
+use Rattle.wb_protocol.specs.Wire.Spelled.{IsOperand}
 use Rattle.wb_protocol.specs.Wire.Faults as kinds
 use Rattle.wb_protocol.proofs.OnTheWire.Members.{true_false, equal_key}
 use Rattle.wb_protocol.proofs.OnTheWire.Values.{no_ok, some_of_ok, no_some, mapped, str_found, text_in, text_found, text_read, integer_in}
-use Rattle.wb_protocol.proofs.OnTheWire.Spellings.{count_found, domain_found, domain_read, literal_read}
+use Rattle.wb_protocol.proofs.OnTheWire.Values.{ok_same, some_same, integers_in, integers_found, integers_read}
+use Rattle.wb_protocol.proofs.OnTheWire.Spellings.{count_found, domain_found, domain_read, rectangle_found, rectangle_read, literal_read}
 use Rattle.wb_protocol.proofs.OnTheWire.Steps.{two_of}
 use Rattle.wb_protocol.proofs.OnTheWire.Found.{Reader, by_first, readers}
-use Rattle.wb_protocol.proofs.OnTheWire.Keys.{has, apart, AllKeys, keys_counted, no_more, of_form, form_at, members_same, not_whole_by, key_there, passes, lacks, FailsAt}
-use Rattle.wb_protocol.proofs.OnTheWire.Failing.{err_same, no_err, or_only, IsReader, name_in, name_reader, integer_reader, number_reader, offsets_reader, text_bad}
-use Rattle.wb_protocol.proofs.OnTheWire.Failing.{unspelled_domain, unspelled_mapping, rectangle_err, domain_judged, domain_in, domain_reader, mapping_in, mapping_reader}
+use Rattle.wb_protocol.proofs.OnTheWire.Keys.{has, apart, AllKeys, keys_counted, no_more, of_form, contained_at, form_at, IsForm, members_same, not_whole_by, key_there, passes, lacks, FailsAt}
+use Rattle.wb_protocol.proofs.OnTheWire.Failing.{err_same, no_err, or_only, IsReader, name_in, name_reader, integer_reader, integers_reader, number_reader, offsets_reader}
+use Rattle.wb_protocol.proofs.OnTheWire.Failing.{text_bad, unspelled_domain, unspelled_mapping, rectangle_err, domain_judged, domain_in, domain_reader, mapping_in, mapping_reader}
 use Rattle.wb_protocol.proofs.OnTheWire.Failing.{workbook_in, workbook_reader, string_same, source_reader}
 use Rattle.wb_protocol.proofs.OnTheWire.Judged.{refusal_same, NoFault, Refused, Judges, Judged, IsJudged, first, bind_judged, one_judged, two_judged, three_judged}
 use Rattle.wb_protocol.proofs.OnTheWire.Judged.{fails_there, member_fault, Fine, fine, field_bad, field_bad_by, uncounted, count_bad, whole_fine, all_fine, IsAbove}
-use Rattle.wb_protocol.proofs.OnTheWire.Judged.{fine_above, least_of, value_bad}
+use Rattle.wb_protocol.proofs.OnTheWire.Judged.{fine_above, least_of, all_fine_by, value_bad_by, value_bad}
 use Rattle.std.specs.List.{list_all}
 use Rattle.wb_protocol.proofs.OnTheWire.RefusedPlain.{sparse_judged, assoc_judged, drop_domain_judged, add_judged, remove_judged, array_judged, drop_array_judged, set_judged}
 use Rattle.wb_protocol.proofs.OnTheWire.RefusedPlain.{fill_all_judged, irv_judged, copy_judged, all_judged, redo_judged, cascade_judged, dependents_judged, get_judged}
@@ -87,7 +92,7 @@ remap_judged ms s =
         → Judged ms (literal_mapping text >>= (λ spelled. mapping_within spelled >>= (λ m. Ok (Change (Remap d m)))))
     with_map d text n p at =
         let o = codes "remap" in let ks = codes "d" ∷ codes "map" ∷ [] in
-        let c : Contains forms (o, ks) = form_at 15 (o, ks) refl refl in
+        let c : IsForm (o, ks) = form_at 15 (o, ks) refl refl refl in
         let named : Fine ms o (codes "d") = fine ms o (codes "d") name_reader refl d p in
         spelled_judged (Judged ms) (literal_mapping text) mapping_within (λ m. Change (Remap d m))
         (λ why e. value_bad ms o ks s c (whole_fine ms o ks s refl (count_found ms 3 tt n) (named.0, ((string text, at), tt))) (codes "map") mapping_reader
@@ -106,7 +111,7 @@ load_judged ms s =
         Judged ms (text_of_book text >>= (λ t. Ok (Change (Load t))))
     with_text text n at =
         let o = codes "load" in let ks = codes "text" ∷ [] in
-        let c : Contains forms (o, ks) = form_at 35 (o, ks) refl refl in
+        let c : IsForm (o, ks) = form_at 35 (o, ks) refl refl refl in
         bind_judged (Judged ms) (text_of_book text) (λ t. Ok (Change (Load t)))
         (λ why e. value_bad ms o ks s c (whole_fine ms o ks s refl (count_found ms 2 tt n) ((string text, at), tt)) (codes "text") workbook_reader refl
         (string text) at why e (λ f same. (same, tt)))
@@ -150,7 +155,7 @@ fill_judged ms s =
         → Judged ms (literal_domain text >>= (λ l. fill_over a l v))
     with_text a text v n p at q =
         let o = codes "fill" in let ks = codes "a" ∷ codes "on" ∷ codes "v" ∷ [] in
-        let c : Contains forms (o, ks) = form_at 19 (o, ks) refl refl in
+        let c : IsForm (o, ks) = form_at 19 (o, ks) refl refl refl in
         let named : Fine ms o (codes "a") = fine ms o (codes "a") name_reader refl a p in
         let value : Fine ms o (codes "v") = fine ms o (codes "v") integer_reader refl v q in
         let bad : (why : Refusal) → domain_in (Some (string text)) ≡ Err why → Refused (object ms) why =
@@ -164,6 +169,99 @@ fill_judged ms s =
         (λ r e. bind_judged (Judged ms) (domain_within r) (λ ranges. Ok (Change (Fill a (Ranges ranges) v)))
         (λ why f. bad why (judged_err (literal_domain text) r why e f)) (λ ranges f. good (judged_ok (literal_domain text) r ranges e f)))
         (λ listed e. good (set_ok (literal_domain text) listed e))
+
+-- ---- numbers, as many as a rectangle has indices
+
+-- the literal of a rectangle is read as it
+rectangle_told : (text : List ℕ) (ranges : List Range) → IsOperand (string text) (Rectangle ranges) → (l : RectangleLiteral) ×
+    (literal_domain text ≡ Ok (rectangle l)) × (domain_within l ≡ Ok ranges)
+rectangle_told text ranges h = (
+  h.1,
+  subst (λ t. literal_domain t ≡ Ok (rectangle h.1)) (sym (string_same text h.0 h.2)) (domain_read h.0 (rectangle h.1) h.3),
+  rectangle_read h.1 ranges h.4,
+)
+
+-- what is miscounted, by what is read of its members
+other_count : (ms : Members) (text : List ℕ) (vs : List ℤ) → get_member (codes "on") ms ≡ Some (string text) →
+    integers_in (get_member (codes "vs") ms) ≡ Ok vs → IsMiscounted (object ms) → (l : RectangleLiteral) × (ranges : List Range) ×
+    (literal_domain text ≡ Ok (rectangle l)) × (domain_within l ≡ Ok ranges) × (length vs ≡ length (indices ranges) → ⊥)
+other_count ms text vs at q m =
+    let same : ms ≡ m.members = members_same ms m.members m.is_object in
+    let on : get_member (codes "on") ms ≡ Some m.on = subst (λ ms. get_member (codes "on") ms ≡ Some m.on) (sym same) m.is_on in
+    let is_text : m.on ≡ string text = some_same m.on (string text) (sym on ∙ at) in
+    let told = rectangle_told text m.ranges (subst (λ d. IsOperand d (Rectangle m.ranges)) is_text m.rectangle) in
+    let v : get_member (codes "vs") ms ≡ Some m.vs = subst (λ ms. get_member (codes "vs") ms ≡ Some m.vs) (sym same) m.is_vs in
+    let found : m.found ≡ vs = ok_same m.found vs (sym (integers_read (get_member (codes "vs") ms) m.vs m.found v m.integral) ∙ q) in
+    (told.0, m.ranges, told.1, told.2, λ e. m.differ (ap length found ∙ e))
+
+rectangle_is : (k r : RectangleLiteral) → rectangle k ≡ rectangle r → k ≡ r
+rectangle_is k r e = cc
+
+ranges_are : (l : Result Domain Refusal) (k r : RectangleLiteral) (js is : List Range) → l ≡ Ok (rectangle k) → l ≡ Ok (rectangle r) →
+    domain_within k ≡ Ok js → domain_within r ≡ Ok is → js ≡ is
+ranges_are l k r js is a b c d = ok_same js is (sym c ∙ ap domain_within (rectangle_is k r (ok_same (rectangle k) (rectangle r) (sym a ∙ b))) ∙ d)
+
+no_set : (k : RectangleLiteral) (listed : Listed) → rectangle k ≡ set listed → ⊥
+no_set k listed e = cc
+
+put_judged : IsJudged (codes "put") put_of
+put_judged ms s =
+    let o = codes "put" in
+    three_judged (Judged ms) (has_fields 4 (object ms)) (name_field (codes "a") (object ms)) (text_field (codes "on") (object ms))
+    (integers_field (codes "vs") (object ms)) (λ a text vs. literal_domain text >>= (λ l. put_over a l vs))
+    (λ why. count_bad ms o 3 s refl why) (λ why. field_bad ms o (codes "a") s name_reader refl refl why)
+    (λ why e. text_field_bad ms o (codes "on") kinds.domain s (λ v h. h) refl refl why (get_member (codes "on") ms) refl e)
+    (λ why. field_bad ms o (codes "vs") s integers_reader refl refl why)
+    (λ a text vs n p q r. with_text a text vs n p (text_found (get_member (codes "on") ms) text q) r)
+  where
+    with_text : (a : Name) (text : List ℕ) (vs : List ℤ) → has_fields 4 (object ms) ≡ Ok tt → name_in (get_member (codes "a") ms) ≡ Ok a →
+        get_member (codes "on") ms ≡ Some (string text) → integers_in (get_member (codes "vs") ms) ≡ Ok vs
+        → Judged ms (literal_domain text >>= (λ l. put_over a l vs))
+    with_text a text vs n p at q =
+        let o = codes "put" in let ks = codes "a" ∷ codes "on" ∷ codes "vs" ∷ [] in
+        let c : Contains forms (o, ks) = contained_at 39 (o, ks) refl refl in
+        let named : Fine ms o (codes "a") = fine ms o (codes "a") name_reader refl a p in
+        let value : Fine ms o (codes "vs") = fine ms o (codes "vs") integers_reader refl vs q in
+        let bad : (why : Refusal) → domain_in (Some (string text)) ≡ Err why → Refused (object ms) why =
+        λ why e. value_bad_by ms o ks s c (whole_fine ms o ks s refl (count_found ms 4 tt n) (named.0, ((string text, at), (value.0, tt))))
+        (codes "on") domain_reader refl (string text) at why e (λ f same.
+        (fine_above ms o (codes "a") f named, (same, (fine_above ms o (codes "vs") f value, tt))))
+        (λ m. let x = other_count ms text vs at q m in no_err (sym (judged_ok (literal_domain text) x.0 x.1 x.2 x.3) ∙ e)) in
+        let good : domain_in (Some (string text)) ≡ Ok tt → (IsMiscounted (object ms) → ⊥) → NoFault (object ms) =
+        λ e count. all_fine_by ms o ks s c refl (count_found ms 4 tt n)
+        (named, (fine ms o (codes "on") domain_reader refl tt (ap domain_in at ∙ e), (value, tt))) count in
+        let other : (r : RectangleLiteral) (ranges : List Range) → literal_domain text ≡ Ok (rectangle r) → domain_within r ≡ Ok ranges →
+        (length vs ≡ length (indices ranges) → ⊥) → Refused (object ms) BadRequest =
+        λ r ranges e f differ. let v = integers_found (get_member (codes "vs") ms) vs q in
+        first (object ms) BadRequest refl (of_count refl (record {
+          members = ms;
+          on = string text;
+          vs = v.0;
+          ranges = ranges;
+          found = vs;
+          is_object = refl;
+          names_op = s;
+          is_on = at;
+          is_vs = v.1;
+          rectangle = (text, r, refl, domain_found text (rectangle r) e, rectangle_found r ranges f);
+          integral = v.2;
+          differ = differ;
+        })) in
+        let counted : (r : RectangleLiteral) (ranges : List Range) → literal_domain text ≡ Ok (rectangle r) → domain_within r ≡ Ok ranges →
+        Judged ms (put_on a ranges vs) =
+        λ r ranges e f. elim (nat_eq (length vs) (length (indices ranges))) as (λ b. nat_eq (length vs) (length (indices ranges)) ≡ b →
+        Judged {X = Request} ms (if b then Ok (Change (Put a (numbered (ranges, vs)))) else Err BadRequest)) [
+          | true ↦ λ k. good (judged_ok (literal_domain text) r ranges e f) (λ m. let x = other_count ms text vs at q m in
+              x.4 (eqb-true (length vs) (length (indices ranges)) k ∙
+              ap (λ is. length (indices is)) (sym (ranges_are (literal_domain text) x.0 r x.1 ranges x.2 e x.3 f))))
+          | false ↦ λ k. other r ranges e f (λ same. true_false (sym (eq-eqb (length vs) (length (indices ranges)) same) ∙ k))
+        ] refl in
+        by_domain (Judged ms) (literal_domain text) (λ l. put_over a l vs)
+        (λ why e. bad why (unspelled_err (literal_domain text) why e))
+        (λ r e. bind_judged (Judged ms) (domain_within r) (λ ranges. put_on a ranges vs)
+        (λ why f. bad why (judged_err (literal_domain text) r why e f)) (λ ranges f. counted r ranges e f))
+        (λ listed e. good (set_ok (literal_domain text) listed e) (λ m. let x = other_count ms text vs at q m in
+        no_set x.0 listed (ok_same (rectangle x.0) (set listed) (sym x.2 ∙ e))))
 
 -- ---- a new domain, whose mapping may be missing
 
@@ -198,7 +296,7 @@ module _ (ms : Members) (s : NamesOp ms (codes "domain")) where
       → Judged ms (domain_by d text None)
   without_map d text none n p at =
       let o = codes "domain" in let ks = codes "d" ∷ codes "is" ∷ [] in
-      let c : Contains forms (o, ks) = form_at 0 (o, ks) refl refl in
+      let c : IsForm (o, ks) = form_at 0 (o, ks) refl refl refl in
       let named : Fine ms o (codes "d") = fine ms o (codes "d") name_reader refl d p in
       let bad : (why : Refusal) → domain_in (Some (string text)) ≡ Err why → Refused (object ms) why =
       λ why e. value_bad ms o ks s c (whole_fine ms o ks s refl (count_found ms 3 tt n) (named.0, ((string text, at), tt)))
@@ -216,7 +314,7 @@ module _ (ms : Members) (s : NamesOp ms (codes "domain")) where
       → Judged ms (domain_by d text (Some map))
   with_map d text map mapped n p at =
       let o = codes "domain" in let ks = codes "d" ∷ codes "is" ∷ codes "map" ∷ [] in
-      let c : Contains forms (o, ks) = form_at 1 (o, ks) refl refl in
+      let c : IsForm (o, ks) = form_at 1 (o, ks) refl refl refl in
       let named : Fine ms o (codes "d") = fine ms o (codes "d") name_reader refl d p in
       let h : HasKeys ms (codes "op" ∷ ks) = whole_fine ms o ks s refl (count_found ms 4 tt n) (named.0, ((string text, at), ((string map, mapped), tt))) in
       let is_fails : (g : Fault) → FailsAt ms o (codes "is") g → Fails kinds.domain (string text) g =
@@ -369,7 +467,7 @@ no_source ms s n = not_whole_by ms (codes "reshape") s (λ ks c h. one_there sou
 
 module _ (ms : Members) (s : NamesOp ms (codes "reshape")) (n : member_count ms ≡ 3) (named : Fine ms (codes "reshape") (codes "d")) where
   at_source : (k : List ℕ) {kind : Kind} {A : Type 0} {read : Option Data → Result A Refusal} → IsReader kind read → (K : A → NewIndices) →
-      kind_of (codes "reshape") k ≡ Some kind → Contains forms (codes "reshape", codes "d" ∷ k ∷ [])
+      kind_of (codes "reshape") k ≡ Some kind → IsForm (codes "reshape", codes "d" ∷ k ∷ [])
       → apart (codes "op" ∷ codes "d" ∷ k ∷ []) ≡ true → (v : Data) → get_member k ms ≡ Some v → Judged {X = NewIndices} ms (read (Some v) >>= (λ a. Ok (K a)))
   at_source k {kind} {A} {read} r K kd c a v g =
       let o = codes "reshape" in let ks = codes "d" ∷ k ∷ [] in
@@ -382,22 +480,22 @@ module _ (ms : Members) (s : NamesOp ms (codes "reshape")) (n : member_count ms 
   sources_judged =
       let o = codes "reshape" in
       source_judged (Judged {X = NewIndices} ms) (get_member (codes "to") ms) to_by _
-      (λ v g. at_source (codes "to") source_reader To refl (form_at 5 (o, codes "d" ∷ codes "to" ∷ []) refl refl) refl v g) (λ a.
+      (λ v g. at_source (codes "to") source_reader To refl (form_at 5 (o, codes "d" ∷ codes "to" ∷ []) refl refl refl) refl v g) (λ a.
       source_judged (Judged {X = NewIndices} ms) (get_member (codes "slice") ms) slice_by _
-      (λ v g. at_source (codes "slice") source_reader Slice refl (form_at 6 (o, codes "d" ∷ codes "slice" ∷ []) refl refl) refl v g) (λ b.
+      (λ v g. at_source (codes "slice") source_reader Slice refl (form_at 6 (o, codes "d" ∷ codes "slice" ∷ []) refl refl refl) refl v g) (λ b.
       source_judged (Judged {X = NewIndices} ms) (get_member (codes "translate") ms) (displace_by Translate) _
-      (λ v g. at_source (codes "translate") offsets_reader (Displace Translate) refl (form_at 7 (o, codes "d" ∷ codes "translate" ∷ []) refl refl) refl v
+      (λ v g. at_source (codes "translate") offsets_reader (Displace Translate) refl (form_at 7 (o, codes "d" ∷ codes "translate" ∷ []) refl refl refl) refl v
       g) (λ c.
       source_judged (Judged {X = NewIndices} ms) (get_member (codes "expand") ms) (displace_by Expand) _
-      (λ v g. at_source (codes "expand") offsets_reader (Displace Expand) refl (form_at 8 (o, codes "d" ∷ codes "expand" ∷ []) refl refl) refl v g) (λ d.
+      (λ v g. at_source (codes "expand") offsets_reader (Displace Expand) refl (form_at 8 (o, codes "d" ∷ codes "expand" ∷ []) refl refl refl) refl v g) (λ d.
       source_judged (Judged {X = NewIndices} ms) (get_member (codes "or") ms) (combine_by Union) _
-      (λ v g. at_source (codes "or") source_reader (Combine Union) refl (form_at 9 (o, codes "d" ∷ codes "or" ∷ []) refl refl) refl v g) (λ e.
+      (λ v g. at_source (codes "or") source_reader (Combine Union) refl (form_at 9 (o, codes "d" ∷ codes "or" ∷ []) refl refl refl) refl v g) (λ e.
       source_judged (Judged {X = NewIndices} ms) (get_member (codes "and") ms) (combine_by Intersection) _
-      (λ v g. at_source (codes "and") source_reader (Combine Intersection) refl (form_at 10 (o, codes "d" ∷ codes "and" ∷ []) refl refl) refl v g) (λ f.
+      (λ v g. at_source (codes "and") source_reader (Combine Intersection) refl (form_at 10 (o, codes "d" ∷ codes "and" ∷ []) refl refl refl) refl v g) (λ f.
       source_judged (Judged {X = NewIndices} ms) (get_member (codes "minus") ms) (combine_by Difference) _
-      (λ v g. at_source (codes "minus") source_reader (Combine Difference) refl (form_at 11 (o, codes "d" ∷ codes "minus" ∷ []) refl refl) refl v g) (λ g.
+      (λ v g. at_source (codes "minus") source_reader (Combine Difference) refl (form_at 11 (o, codes "d" ∷ codes "minus" ∷ []) refl refl refl) refl v g) (λ g.
       source_judged (Judged {X = NewIndices} ms) (get_member (codes "xor") ms) (combine_by SymmetricDifference) _
-      (λ v g. at_source (codes "xor") source_reader (Combine SymmetricDifference) refl (form_at 12 (o, codes "d" ∷ codes "xor" ∷ []) refl refl) refl v g)
+      (λ v g. at_source (codes "xor") source_reader (Combine SymmetricDifference) refl (form_at 12 (o, codes "d" ∷ codes "xor" ∷ []) refl refl refl) refl v g)
       (λ h.
       first (object ms) BadRequest refl (not_whole refl (no_source ms s (a, (b, (c, (d, (e, (f, (g, (h, tt))))))))))))))))))
 
@@ -419,17 +517,17 @@ reshape_judged ms s =
 print_judged : IsJudged (codes "print") print_of
 print_judged ms s =
     bind_judged (Judged ms) (has_fields 1 (object ms)) (λ u. Ok Print) (λ why. count_bad ms (codes "print") 0 s refl why)
-    (λ u n. all_fine ms (codes "print") [] s (form_at 32 (codes "print", []) refl refl) refl (count_found ms 1 u n) tt)
+    (λ u n. all_fine ms (codes "print") [] s (form_at 32 (codes "print", []) refl refl refl) refl (count_found ms 1 u n) tt)
 
 history_judged : IsJudged (codes "history") history_of
 history_judged ms s =
     bind_judged (Judged ms) (has_fields 1 (object ms)) (λ u. Ok History) (λ why. count_bad ms (codes "history") 0 s refl why)
-    (λ u n. all_fine ms (codes "history") [] s (form_at 33 (codes "history", []) refl refl) refl (count_found ms 1 u n) tt)
+    (λ u n. all_fine ms (codes "history") [] s (form_at 33 (codes "history", []) refl refl refl) refl (count_found ms 1 u n) tt)
 
 edits_judged : IsJudged (codes "edits") edits_of
 edits_judged ms s =
     bind_judged (Judged ms) (has_fields 1 (object ms)) (λ u. Ok Edits) (λ why. count_bad ms (codes "edits") 0 s refl why)
-    (λ u n. all_fine ms (codes "edits") [] s (form_at 38 (codes "edits", []) refl refl) refl (count_found ms 1 u n) tt)
+    (λ u n. all_fine ms (codes "edits") [] s (form_at 38 (codes "edits", []) refl refl refl) refl (count_found ms 1 u n) tt)
 
 undo_whole : (ms : Members) → NamesOp ms (codes "undo") → (member_count ms ≡ 1 → ⊥) → (member_count ms ≡ 2 → ⊥) → IsWhole (object ms) → ⊥
 undo_whole ms s one two = not_whole_by ms (codes "undo") s (λ ks c h.
@@ -452,13 +550,13 @@ undo_judged : IsJudged (codes "undo") undo_of
 undo_judged ms s =
     let o = codes "undo" in
     elim (nat_eq (member_count ms) 1) as (λ b. nat_eq (member_count ms) 1 ≡ b → Judged ms (if b then Ok (Undo None) else undo_by_number (object ms))) [
-      | true ↦ λ e. all_fine ms o [] s (form_at 24 (o, []) refl refl) refl (eqb-true (member_count ms) 1 e) tt
+      | true ↦ λ e. all_fine ms o [] s (form_at 24 (o, []) refl refl refl) refl (eqb-true (member_count ms) 1 e) tt
       | false ↦ λ e.
           let one : member_count ms ≡ 1 → ⊥ = λ q. true_false (sym (eq-eqb (member_count ms) 1 q) ∙ e) in
           one_judged (Judged ms) (has_fields 2 (object ms)) (u64_field (codes "k") (object ms)) (λ k. Ok (Undo (Some k)))
           (λ why f. let x = uncounted ms 2 why f in first (object ms) why x.0 (not_whole refl (undo_whole ms s one x.1)))
           (λ why f. field_bad_by ms o (codes "k") s number_reader refl (undo_lacks ms s one) why f)
-          (λ k n p. all_fine ms o (codes "k" ∷ []) s (form_at 25 (o, codes "k" ∷ []) refl refl) refl (count_found ms 2 tt n)
+          (λ k n p. all_fine ms o (codes "k" ∷ []) s (form_at 25 (o, codes "k" ∷ []) refl refl refl) refl (count_found ms 2 tt n)
           (fine ms o (codes "k") number_reader refl k p, tt))
     ] refl
 
@@ -509,32 +607,35 @@ every_judged = (
                         (
                           fill_judged,
                           (
-                            fill_all_judged,
+                            put_judged,
                             (
-                              irv_judged,
+                              fill_all_judged,
                               (
-                                copy_judged,
+                                irv_judged,
                                 (
-                                  all_judged,
+                                  copy_judged,
                                   (
-                                    undo_judged,
+                                    all_judged,
                                     (
-                                      redo_judged,
+                                      undo_judged,
                                       (
-                                        cascade_judged,
+                                        redo_judged,
                                         (
-                                          dependents_judged,
+                                          cascade_judged,
                                           (
-                                            get_judged,
+                                            dependents_judged,
                                             (
-                                              where_judged,
+                                              get_judged,
                                               (
-                                                size_judged,
+                                                where_judged,
                                                 (
-                                                  piece_judged,
+                                                  size_judged,
                                                   (
-                                                    reduce_judged,
-                                                    (state_judged, (print_judged, (history_judged, (edits_judged, tt)))),
+                                                    piece_judged,
+                                                    (
+                                                      reduce_judged,
+                                                      (state_judged, (print_judged, (history_judged, (edits_judged, tt)))),
+                                                    ),
                                                   ),
                                                 ),
                                               ),

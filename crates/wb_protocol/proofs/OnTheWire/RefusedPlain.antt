@@ -18,7 +18,7 @@ sparse_judged ms s =
     two_judged (Judged ms) (has_fields 3 (object ms)) (name_field (codes "d") (object ms)) (name_field (codes "of") (object ms))
     (λ d parent. Ok (Change (Sparse d parent))) (λ why. count_bad ms o 2 s refl why) (λ why. field_bad ms o (codes "d") s name_reader refl refl why)
     (λ why. field_bad ms o (codes "of") s name_reader refl refl why)
-    (λ a b n p q. all_fine ms o (codes "d" ∷ codes "of" ∷ []) s (form_at 2 (o, codes "d" ∷ codes "of" ∷ []) refl refl) refl (count_found ms 3 tt n)
+    (λ a b n p q. all_fine ms o (codes "d" ∷ codes "of" ∷ []) s (form_at 2 (o, codes "d" ∷ codes "of" ∷ []) refl refl refl) refl (count_found ms 3 tt n)
     (fine ms o (codes "d") name_reader refl a p, (fine ms o (codes "of") name_reader refl b q, tt)))
 
 pub assoc_judged : IsJudged (codes "assoc") assoc_of
@@ -27,7 +27,7 @@ assoc_judged ms s =
     two_judged (Judged ms) (has_fields 3 (object ms)) (name_field (codes "d") (object ms)) (key_type_field (codes "of") (object ms))
     (λ d type. Ok (Change (Assoc d type))) (λ why. count_bad ms o 2 s refl why) (λ why. field_bad ms o (codes "d") s name_reader refl refl why)
     (λ why. field_bad ms o (codes "of") s key_type_reader refl refl why)
-    (λ a b n p q. all_fine ms o (codes "d" ∷ codes "of" ∷ []) s (form_at 3 (o, codes "d" ∷ codes "of" ∷ []) refl refl) refl (count_found ms 3 tt n)
+    (λ a b n p q. all_fine ms o (codes "d" ∷ codes "of" ∷ []) s (form_at 3 (o, codes "d" ∷ codes "of" ∷ []) refl refl refl) refl (count_found ms 3 tt n)
     (fine ms o (codes "d") name_reader refl a p, (fine ms o (codes "of") key_type_reader refl b q, tt)))
 
 pub drop_domain_judged : IsJudged (codes "drop_domain") drop_domain_of
@@ -35,7 +35,7 @@ drop_domain_judged ms s =
     let o = codes "drop_domain" in
     one_judged (Judged ms) (has_fields 2 (object ms)) (name_field (codes "d") (object ms)) (λ d. Ok (Change (DropDomain d)))
     (λ why. count_bad ms o 1 s refl why) (λ why. field_bad ms o (codes "d") s name_reader refl refl why)
-    (λ a n p. all_fine ms o (codes "d" ∷ []) s (form_at 4 (o, codes "d" ∷ []) refl refl) refl (count_found ms 2 tt n)
+    (λ a n p. all_fine ms o (codes "d" ∷ []) s (form_at 4 (o, codes "d" ∷ []) refl refl refl) refl (count_found ms 2 tt n)
     (fine ms o (codes "d") name_reader refl a p, tt))
 
 pub add_judged : IsJudged (codes "add") add_of
@@ -44,7 +44,7 @@ add_judged ms s =
     two_judged (Judged ms) (has_fields 3 (object ms)) (name_field (codes "d") (object ms)) (index_field (codes "i") (object ms)) (λ d i. Ok (Change (Add d i)))
     (λ why. count_bad ms o 2 s refl why) (λ why. field_bad ms o (codes "d") s name_reader refl refl why)
     (λ why. field_bad ms o (codes "i") s index_reader refl refl why)
-    (λ a b n p q. all_fine ms o (codes "d" ∷ codes "i" ∷ []) s (form_at 13 (o, codes "d" ∷ codes "i" ∷ []) refl refl) refl (count_found ms 3 tt n)
+    (λ a b n p q. all_fine ms o (codes "d" ∷ codes "i" ∷ []) s (form_at 13 (o, codes "d" ∷ codes "i" ∷ []) refl refl refl) refl (count_found ms 3 tt n)
     (fine ms o (codes "d") name_reader refl a p, (fine ms o (codes "i") index_reader refl b q, tt)))
 
 pub remove_judged : IsJudged (codes "remove") remove_of
@@ -53,7 +53,7 @@ remove_judged ms s =
     two_judged (Judged ms) (has_fields 3 (object ms)) (name_field (codes "d") (object ms)) (index_field (codes "i") (object ms))
     (λ d i. Ok (Change (Remove d i))) (λ why. count_bad ms o 2 s refl why) (λ why. field_bad ms o (codes "d") s name_reader refl refl why)
     (λ why. field_bad ms o (codes "i") s index_reader refl refl why)
-    (λ a b n p q. all_fine ms o (codes "d" ∷ codes "i" ∷ []) s (form_at 14 (o, codes "d" ∷ codes "i" ∷ []) refl refl) refl (count_found ms 3 tt n)
+    (λ a b n p q. all_fine ms o (codes "d" ∷ codes "i" ∷ []) s (form_at 14 (o, codes "d" ∷ codes "i" ∷ []) refl refl refl) refl (count_found ms 3 tt n)
     (fine ms o (codes "d") name_reader refl a p, (fine ms o (codes "i") index_reader refl b q, tt)))
 
 pub array_judged : IsJudged (codes "array") array_of
@@ -62,7 +62,7 @@ array_judged ms s =
     two_judged (Judged ms) (has_fields 3 (object ms)) (name_field (codes "a") (object ms)) (name_field (codes "d") (object ms))
     (λ a d. Ok (Change (Array a d))) (λ why. count_bad ms o 2 s refl why) (λ why. field_bad ms o (codes "a") s name_reader refl refl why)
     (λ why. field_bad ms o (codes "d") s name_reader refl refl why)
-    (λ a b n p q. all_fine ms o (codes "a" ∷ codes "d" ∷ []) s (form_at 16 (o, codes "a" ∷ codes "d" ∷ []) refl refl) refl (count_found ms 3 tt n)
+    (λ a b n p q. all_fine ms o (codes "a" ∷ codes "d" ∷ []) s (form_at 16 (o, codes "a" ∷ codes "d" ∷ []) refl refl refl) refl (count_found ms 3 tt n)
     (fine ms o (codes "a") name_reader refl a p, (fine ms o (codes "d") name_reader refl b q, tt)))
 
 pub drop_array_judged : IsJudged (codes "drop_array") drop_array_of
@@ -70,7 +70,7 @@ drop_array_judged ms s =
     let o = codes "drop_array" in
     one_judged (Judged ms) (has_fields 2 (object ms)) (name_field (codes "a") (object ms)) (λ a. Ok (Change (DropArray a)))
     (λ why. count_bad ms o 1 s refl why) (λ why. field_bad ms o (codes "a") s name_reader refl refl why)
-    (λ a n p. all_fine ms o (codes "a" ∷ []) s (form_at 17 (o, codes "a" ∷ []) refl refl) refl (count_found ms 2 tt n)
+    (λ a n p. all_fine ms o (codes "a" ∷ []) s (form_at 17 (o, codes "a" ∷ []) refl refl refl) refl (count_found ms 2 tt n)
     (fine ms o (codes "a") name_reader refl a p, tt))
 
 pub set_judged : IsJudged (codes "set") set_of
@@ -80,7 +80,7 @@ set_judged ms s =
     (i64_field (codes "v") (object ms)) (λ a i v. Ok (Change (Set a i v))) (λ why. count_bad ms o 3 s refl why)
     (λ why. field_bad ms o (codes "a") s name_reader refl refl why) (λ why. field_bad ms o (codes "i") s index_reader refl refl why)
     (λ why. field_bad ms o (codes "v") s integer_reader refl refl why)
-    (λ a b c n p q r. all_fine ms o (codes "a" ∷ codes "i" ∷ codes "v" ∷ []) s (form_at 18 (o, codes "a" ∷ codes "i" ∷ codes "v" ∷ []) refl refl) refl
+    (λ a b c n p q r. all_fine ms o (codes "a" ∷ codes "i" ∷ codes "v" ∷ []) s (form_at 18 (o, codes "a" ∷ codes "i" ∷ codes "v" ∷ []) refl refl refl) refl
     (count_found ms 4 tt n) (
       fine ms o (codes "a") name_reader refl a p,
       (fine ms o (codes "i") index_reader refl b q, (fine ms o (codes "v") integer_reader refl c r, tt)),
@@ -92,7 +92,7 @@ fill_all_judged ms s =
     two_judged (Judged ms) (has_fields 3 (object ms)) (name_field (codes "a") (object ms)) (i64_field (codes "v") (object ms))
     (λ a v. Ok (Change (FillAll a v))) (λ why. count_bad ms o 2 s refl why) (λ why. field_bad ms o (codes "a") s name_reader refl refl why)
     (λ why. field_bad ms o (codes "v") s integer_reader refl refl why)
-    (λ a b n p q. all_fine ms o (codes "a" ∷ codes "v" ∷ []) s (form_at 20 (o, codes "a" ∷ codes "v" ∷ []) refl refl) refl (count_found ms 3 tt n)
+    (λ a b n p q. all_fine ms o (codes "a" ∷ codes "v" ∷ []) s (form_at 20 (o, codes "a" ∷ codes "v" ∷ []) refl refl refl) refl (count_found ms 3 tt n)
     (fine ms o (codes "a") name_reader refl a p, (fine ms o (codes "v") integer_reader refl b q, tt)))
 
 pub irv_judged : IsJudged (codes "irv") irv_of
@@ -101,7 +101,7 @@ irv_judged ms s =
     two_judged (Judged ms) (has_fields 3 (object ms)) (name_field (codes "a") (object ms)) (i64_field (codes "v") (object ms)) (λ a v. Ok (Change (Irv a v)))
     (λ why. count_bad ms o 2 s refl why) (λ why. field_bad ms o (codes "a") s name_reader refl refl why)
     (λ why. field_bad ms o (codes "v") s integer_reader refl refl why)
-    (λ a b n p q. all_fine ms o (codes "a" ∷ codes "v" ∷ []) s (form_at 21 (o, codes "a" ∷ codes "v" ∷ []) refl refl) refl (count_found ms 3 tt n)
+    (λ a b n p q. all_fine ms o (codes "a" ∷ codes "v" ∷ []) s (form_at 21 (o, codes "a" ∷ codes "v" ∷ []) refl refl refl) refl (count_found ms 3 tt n)
     (fine ms o (codes "a") name_reader refl a p, (fine ms o (codes "v") integer_reader refl b q, tt)))
 
 pub copy_judged : IsJudged (codes "copy") copy_of
@@ -113,7 +113,7 @@ copy_judged ms s =
     (λ why. field_bad ms o (codes "i") s index_reader refl refl why) (λ why. field_bad ms o (codes "b") s name_reader refl refl why)
     (λ why. field_bad ms o (codes "j") s index_reader refl refl why) (λ why. field_bad ms o (codes "c") s integer_reader refl refl why)
     (λ a b c d e n p q r t w. all_fine ms o (codes "a" ∷ codes "i" ∷ codes "b" ∷ codes "j" ∷ codes "c" ∷ []) s
-    (form_at 22 (o, codes "a" ∷ codes "i" ∷ codes "b" ∷ codes "j" ∷ codes "c" ∷ []) refl refl) refl (count_found ms 6 tt n) (
+    (form_at 22 (o, codes "a" ∷ codes "i" ∷ codes "b" ∷ codes "j" ∷ codes "c" ∷ []) refl refl refl) refl (count_found ms 6 tt n) (
       fine ms o (codes "a") name_reader refl a p,
       (
         fine ms o (codes "i") index_reader refl b q,
@@ -134,7 +134,7 @@ all_judged ms s =
     (name_field (codes "b") (object ms)) (λ a how b. Ok (Change (All a how b))) (λ why. count_bad ms o 3 s refl why)
     (λ why. field_bad ms o (codes "a") s name_reader refl refl why) (λ why. field_bad ms o (codes "how") s operation_reader refl refl why)
     (λ why. field_bad ms o (codes "b") s name_reader refl refl why)
-    (λ a b c n p q r. all_fine ms o (codes "a" ∷ codes "how" ∷ codes "b" ∷ []) s (form_at 23 (o, codes "a" ∷ codes "how" ∷ codes "b" ∷ []) refl refl) refl
+    (λ a b c n p q r. all_fine ms o (codes "a" ∷ codes "how" ∷ codes "b" ∷ []) s (form_at 23 (o, codes "a" ∷ codes "how" ∷ codes "b" ∷ []) refl refl refl) refl
     (count_found ms 4 tt n) (
       fine ms o (codes "a") name_reader refl a p,
       (fine ms o (codes "how") operation_reader refl b q, (fine ms o (codes "b") name_reader refl c r, tt)),
@@ -145,7 +145,7 @@ redo_judged ms s =
     let o = codes "redo" in
     one_judged (Judged ms) (has_fields 2 (object ms)) (u64_field (codes "k") (object ms)) (λ k. Ok (Redo k)) (λ why. count_bad ms o 1 s refl why)
     (λ why. field_bad ms o (codes "k") s number_reader refl refl why)
-    (λ a n p. all_fine ms o (codes "k" ∷ []) s (form_at 26 (o, codes "k" ∷ []) refl refl) refl (count_found ms 2 tt n)
+    (λ a n p. all_fine ms o (codes "k" ∷ []) s (form_at 26 (o, codes "k" ∷ []) refl refl refl) refl (count_found ms 2 tt n)
     (fine ms o (codes "k") number_reader refl a p, tt))
 
 pub cascade_judged : IsJudged (codes "cascade") cascade_of
@@ -153,7 +153,7 @@ cascade_judged ms s =
     let o = codes "cascade" in
     one_judged (Judged ms) (has_fields 2 (object ms)) (u64_field (codes "k") (object ms)) (λ k. Ok (Cascade k)) (λ why. count_bad ms o 1 s refl why)
     (λ why. field_bad ms o (codes "k") s number_reader refl refl why)
-    (λ a n p. all_fine ms o (codes "k" ∷ []) s (form_at 36 (o, codes "k" ∷ []) refl refl) refl (count_found ms 2 tt n)
+    (λ a n p. all_fine ms o (codes "k" ∷ []) s (form_at 36 (o, codes "k" ∷ []) refl refl refl) refl (count_found ms 2 tt n)
     (fine ms o (codes "k") number_reader refl a p, tt))
 
 pub dependents_judged : IsJudged (codes "dependents") dependents_of
@@ -161,7 +161,7 @@ dependents_judged ms s =
     let o = codes "dependents" in
     one_judged (Judged ms) (has_fields 2 (object ms)) (u64_field (codes "k") (object ms)) (λ k. Ok (Dependents k)) (λ why. count_bad ms o 1 s refl why)
     (λ why. field_bad ms o (codes "k") s number_reader refl refl why)
-    (λ a n p. all_fine ms o (codes "k" ∷ []) s (form_at 37 (o, codes "k" ∷ []) refl refl) refl (count_found ms 2 tt n)
+    (λ a n p. all_fine ms o (codes "k" ∷ []) s (form_at 37 (o, codes "k" ∷ []) refl refl refl) refl (count_found ms 2 tt n)
     (fine ms o (codes "k") number_reader refl a p, tt))
 
 pub get_judged : IsJudged (codes "get") get_of
@@ -170,7 +170,7 @@ get_judged ms s =
     two_judged (Judged ms) (has_fields 3 (object ms)) (name_field (codes "a") (object ms)) (index_field (codes "i") (object ms)) (λ a i. Ok (Ask (Get a i)))
     (λ why. count_bad ms o 2 s refl why) (λ why. field_bad ms o (codes "a") s name_reader refl refl why)
     (λ why. field_bad ms o (codes "i") s index_reader refl refl why)
-    (λ a b n p q. all_fine ms o (codes "a" ∷ codes "i" ∷ []) s (form_at 27 (o, codes "a" ∷ codes "i" ∷ []) refl refl) refl (count_found ms 3 tt n)
+    (λ a b n p q. all_fine ms o (codes "a" ∷ codes "i" ∷ []) s (form_at 27 (o, codes "a" ∷ codes "i" ∷ []) refl refl refl) refl (count_found ms 3 tt n)
     (fine ms o (codes "a") name_reader refl a p, (fine ms o (codes "i") index_reader refl b q, tt)))
 
 pub where_judged : IsJudged (codes "where") where_of
@@ -179,7 +179,7 @@ where_judged ms s =
     two_judged (Judged ms) (has_fields 3 (object ms)) (name_field (codes "d") (object ms)) (index_field (codes "i") (object ms)) (λ d i. Ok (Ask (Where d i)))
     (λ why. count_bad ms o 2 s refl why) (λ why. field_bad ms o (codes "d") s name_reader refl refl why)
     (λ why. field_bad ms o (codes "i") s index_reader refl refl why)
-    (λ a b n p q. all_fine ms o (codes "d" ∷ codes "i" ∷ []) s (form_at 28 (o, codes "d" ∷ codes "i" ∷ []) refl refl) refl (count_found ms 3 tt n)
+    (λ a b n p q. all_fine ms o (codes "d" ∷ codes "i" ∷ []) s (form_at 28 (o, codes "d" ∷ codes "i" ∷ []) refl refl refl) refl (count_found ms 3 tt n)
     (fine ms o (codes "d") name_reader refl a p, (fine ms o (codes "i") index_reader refl b q, tt)))
 
 pub size_judged : IsJudged (codes "size") size_of
@@ -187,7 +187,7 @@ size_judged ms s =
     let o = codes "size" in
     one_judged (Judged ms) (has_fields 2 (object ms)) (name_field (codes "d") (object ms)) (λ d. Ok (Ask (Size d))) (λ why. count_bad ms o 1 s refl why)
     (λ why. field_bad ms o (codes "d") s name_reader refl refl why)
-    (λ a n p. all_fine ms o (codes "d" ∷ []) s (form_at 29 (o, codes "d" ∷ []) refl refl) refl (count_found ms 2 tt n)
+    (λ a n p. all_fine ms o (codes "d" ∷ []) s (form_at 29 (o, codes "d" ∷ []) refl refl refl) refl (count_found ms 2 tt n)
     (fine ms o (codes "d") name_reader refl a p, tt))
 
 pub piece_judged : IsJudged (codes "piece") piece_of
@@ -196,7 +196,7 @@ piece_judged ms s =
     two_judged (Judged ms) (has_fields 3 (object ms)) (name_field (codes "a") (object ms)) (u64_field (codes "l") (object ms)) (λ a l. Ok (Ask (Piece a l)))
     (λ why. count_bad ms o 2 s refl why) (λ why. field_bad ms o (codes "a") s name_reader refl refl why)
     (λ why. field_bad ms o (codes "l") s number_reader refl refl why)
-    (λ a b n p q. all_fine ms o (codes "a" ∷ codes "l" ∷ []) s (form_at 30 (o, codes "a" ∷ codes "l" ∷ []) refl refl) refl (count_found ms 3 tt n)
+    (λ a b n p q. all_fine ms o (codes "a" ∷ codes "l" ∷ []) s (form_at 30 (o, codes "a" ∷ codes "l" ∷ []) refl refl refl) refl (count_found ms 3 tt n)
     (fine ms o (codes "a") name_reader refl a p, (fine ms o (codes "l") number_reader refl b q, tt)))
 
 pub reduce_judged : IsJudged (codes "reduce") reduce_of
@@ -206,7 +206,7 @@ reduce_judged ms s =
     (λ a how. Ok (Ask (Reduce a how)))
     (λ why. count_bad ms o 2 s refl why) (λ why. field_bad ms o (codes "a") s name_reader refl refl why)
     (λ why. field_bad ms o (codes "how") s reduction_reader refl refl why)
-    (λ a b n p q. all_fine ms o (codes "a" ∷ codes "how" ∷ []) s (form_at 34 (o, codes "a" ∷ codes "how" ∷ []) refl refl) refl (count_found ms 3 tt n)
+    (λ a b n p q. all_fine ms o (codes "a" ∷ codes "how" ∷ []) s (form_at 34 (o, codes "a" ∷ codes "how" ∷ []) refl refl refl) refl (count_found ms 3 tt n)
     (fine ms o (codes "a") name_reader refl a p, (fine ms o (codes "how") reduction_reader refl b q, tt)))
 
 pub state_judged : IsJudged (codes "state") state_of
@@ -214,5 +214,5 @@ state_judged ms s =
     let o = codes "state" in
     one_judged (Judged ms) (has_fields 2 (object ms)) (u64_field (codes "k") (object ms)) (λ k. Ok (Ask (State k))) (λ why. count_bad ms o 1 s refl why)
     (λ why. field_bad ms o (codes "k") s number_reader refl refl why)
-    (λ a n p. all_fine ms o (codes "k" ∷ []) s (form_at 31 (o, codes "k" ∷ []) refl refl) refl (count_found ms 2 tt n)
+    (λ a n p. all_fine ms o (codes "k" ∷ []) s (form_at 31 (o, codes "k" ∷ []) refl refl refl) refl (count_found ms 2 tt n)
     (fine ms o (codes "k") number_reader refl a p, tt))

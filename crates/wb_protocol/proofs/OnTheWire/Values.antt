@@ -1,6 +1,6 @@
 -- Each kind of field: what is read of it is what its value spells, and the other way round.
 use Rattle.std.proofs.Common.{◌≡◌, ℕ, ℤ, Bool, true, false, List, [], ◌∷◌, codes, Option, Some, None, option_map, option_and_then, Result, Ok, Err, refl, sym}
-use Rattle.std.proofs.Common.{ap, ◌∙◌, if◌then◌else◌}
+use Rattle.std.proofs.Common.{ap, ◌∙◌, subst, if◌then◌else◌}
 use Rattle.std.specs.Prelude.{bytes_eq}
 use Rattle.std.specs.Option.{ok_or}
 use Rattle.std.proofs.lemmas.Slice.Eq.{bytes_eq-Decides}
@@ -19,9 +19,10 @@ use Rattle.wb_log.specs.declared.refusal.Refusal.{Refusal}
 use Rattle.wb_log.specs.declared.refusal.Refusal.TheVariants.{BadRequest}
 use Rattle.wb_arrays.specs.declared.reduction.Op.{Op}
 use Rattle.wb_arrays.specs.declared.reduction.Op.TheVariants as reductions
-use Rattle.wb_protocol.specs.Fields.{◌>>=◌, name_of, integer_of, pair_of, triple_of, tuple_of, index_of, key_type_of, operation_of, reduction_of}
+use Rattle.wb_protocol.specs.Fields.{◌>>=◌, name_of, integer_of, integers_listed, integers_of, pair_of, triple_of, tuple_of, index_of}
+use Rattle.wb_protocol.specs.Fields.{key_type_of, operation_of, reduction_of}
 use Rattle.wb_protocol.specs.Wire.Table.{Meaning, word, name, integer, number, index, type_word, operation_word, reduction_word}
-use Rattle.wb_protocol.specs.Wire.Spelled.{IsInteger, IsIndex, Spells, Says}
+use Rattle.wb_protocol.specs.Wire.Spelled.{IsInteger, AreIntegers, IsIntegers, IsIndex, Spells, Says}
 
 -- ---- steps
 
@@ -268,3 +269,39 @@ index_found (Some d) i e = index_found_of d i (some_of_ok (index_of d) BadReques
 pub index_read : (o : Option Data) (i : Index) → Says o (index i) → index_in o ≡ Ok i
 index_read None i s = absurd s
 index_read (Some d) i s = rw (index_read_of d i s) refl
+
+-- ---- arrays of integers
+
+listed_found : (ds : JsonItems) (zs : List ℤ) → integers_listed ds ≡ Some zs → AreIntegers ds zs
+listed_found no_items zs e = subst (AreIntegers no_items) (some_same [] zs e) tt
+listed_found (item d ds) zs e =
+    let z = some_step (integer_of d) (λ z. option_map (λ zs. z ∷ zs) (integers_listed ds)) zs e in
+    let more = mapped (λ zs. z.0 ∷ zs) (integers_listed ds) zs z.2 in
+    subst (AreIntegers (item d ds)) more.2 (integer_found_of d z.0 z.1, listed_found ds more.0 more.1)
+
+listed_read : (ds : JsonItems) (zs : List ℤ) → AreIntegers ds zs → integers_listed ds ≡ Some zs
+listed_read no_items [] s = refl
+listed_read (item d ds) (z ∷ zs) s = rw (integer_read_of d z s.0, listed_read ds zs s.1) refl
+listed_read no_items (z ∷ zs) s = absurd s
+listed_read (item d ds) [] s = absurd s
+
+pub integers_found_of : (d : Data) (zs : List ℤ) → integers_of d ≡ Some zs → IsIntegers d zs
+integers_found_of null zs e = no_some zs e
+integers_found_of (boolean b) zs e = no_some zs e
+integers_found_of (json_number n) zs e = no_some zs e
+integers_found_of (string t) zs e = no_some zs e
+integers_found_of (array ds) zs e = (ds, refl, listed_found ds zs e)
+integers_found_of (object ms) zs e = no_some zs e
+
+integers_read_of : (d : Data) (zs : List ℤ) → IsIntegers d zs → integers_of d ≡ Some zs
+integers_read_of d zs s = ap integers_of s.1 ∙ listed_read s.0 zs s.2
+
+abbrev pub integers_in : Option Data → Result (List ℤ) Refusal
+integers_in o = ok_or (option_and_then integers_of o) BadRequest
+
+pub integers_found : (o : Option Data) (zs : List ℤ) → integers_in o ≡ Ok zs → (v : Data) × (o ≡ Some v) × IsIntegers v zs
+integers_found None zs e = no_ok BadRequest zs e
+integers_found (Some d) zs e = (d, refl, integers_found_of d zs (some_of_ok (integers_of d) BadRequest zs e))
+
+pub integers_read : (o : Option Data) (v : Data) (zs : List ℤ) → o ≡ Some v → IsIntegers v zs → integers_in o ≡ Ok zs
+integers_read o v zs e s = ap integers_in e ∙ ap (λ x. ok_or x BadRequest) (integers_read_of v zs s)

@@ -1,14 +1,15 @@
 -- The canonical line of an edit's request: every field is written, keys ascending, literals canonical.
-use Rattle.std.specs.Prelude.{ℕ, List, [], ◌∷◌, codes}
-use Rattle.serde_json.specs.Data.{Data, number as json_number, unsigned, string, object, Members, no_members, member}
+use Rattle.std.specs.Prelude.{ℕ, List, [], ◌∷◌, map, codes}
+use Rattle.serde_json.specs.Data.{Data, number as json_number, unsigned, string, array, no_items, object, Members, no_members, member}
+use Rattle.serde_json.specs.View.{items_of}
 use Rattle.serde_json.specs.Written.{compact_text}
 use Rattle.wb_edit.specs.declared.edit.Edit.{Edit}
 use Rattle.wb_reshape.specs.declared.operand.Operand.{Operand}
 use Rattle.wb_reshape.specs.declared.operand.Operand.TheVariants.{Rectangle, Items, Named}
 use Rattle.wb_text.specs.Literals.{rectangle_text, set_text, mapping_text}
 use Rattle.wb_protocol.specs.Encoding.Values.{integer_data, index_data}
-use Rattle.wb_protocol.specs.Encoding.Table.{Meaning, word, name, integer, number, index, given, mapping, optional_mapping, book, some_set}
-use Rattle.wb_protocol.specs.Encoding.Table.{Fields, edit_table}
+use Rattle.wb_protocol.specs.Encoding.Table.{Meaning, word, name, integer, number, index, given, mapping, optional_mapping, book, numbers}
+use Rattle.wb_protocol.specs.Encoding.Table.{some_set, some_numbers, Fields, edit_table}
 
 -- the canonical literal, or the name
 abbrev pub given_text : Operand → List ℕ
@@ -27,7 +28,9 @@ data_of (given g) = string (given_text g)
 data_of (mapping m) = string (mapping_text m)
 data_of (optional_mapping m) = string (mapping_text m)
 data_of (book text) = string text
+data_of (numbers on vs) = array (items_of (map integer_data vs))
 data_of some_set = string (codes "{}")
+data_of some_numbers = array no_items
 
 abbrev pub members_of : Fields → Members
 members_of [] = no_members

@@ -3,6 +3,7 @@
 use Rattle.std.specs.Prelude.{ℕ, ℤ, List, [], ◌∷◌, codes}
 use Rattle.wb_dist.specs.Maps.{LayoutMap}
 use Rattle.wb_cells.specs.Cells.{Name}
+use Rattle.wb_cells.specs.Shapes.{Range}
 use Rattle.wb_cells.specs.declared.values.index.Index.{Index}
 use Rattle.wb_cells.specs.declared.values.index.Index.TheVariants.{Point}
 use Rattle.wb_cells.specs.declared.cells.kind.KeyType.{KeyType}
@@ -12,13 +13,14 @@ use Rattle.wb_reshape.specs.declared.operand.Operand.TheVariants.{Rectangle}
 use Rattle.wb_reshape.specs.declared.new_indices.Displacement.TheVariants.{Translate, Expand}
 use Rattle.wb_reshape.specs.declared.new_indices.SetOperation.TheVariants.{Union, Intersection, Difference, SymmetricDifference}
 use Rattle.wb_reshape.specs.declared.new_indices.NewIndices.TheVariants.{To, Slice, Displace, Combine}
+use Rattle.wb_edit.specs.declared.asked_numbers.AskedNumbers.TheVariants as asked
 use Rattle.wb_edit.specs.declared.asked_rectangle.AskedRectangle.TheVariants.{Ranges, Indices}
 use Rattle.wb_edit.specs.declared.operation.Operation.{Operation}
 use Rattle.wb_edit.specs.declared.operation.Operation.TheVariants as operations
 use Rattle.wb_edit.specs.declared.edit.Edit.{Edit}
 use Rattle.wb_edit.specs.declared.edit.Edit.TheVariants.{Domain, Remap, Reshape, Sparse, Assoc}
 use Rattle.wb_edit.specs.declared.edit.Edit.TheVariants.{DropDomain, Add, Remove, Array, Set, Irv, Copy}
-use Rattle.wb_edit.specs.declared.edit.Edit.TheVariants.{Fill, FillAll, DropArray, All, Load}
+use Rattle.wb_edit.specs.declared.edit.Edit.TheVariants.{Fill, Put, FillAll, DropArray, All, Load}
 
 -- What a value spells.
 pub data Meaning : Type 0 where
@@ -36,8 +38,12 @@ pub data Meaning : Type 0 where
   optional_mapping : LayoutMap → Meaning
   -- the text of a workbook
   book : List ℕ → Meaning
+  -- an integer of 64 bits with a sign for each index of ranges, in their order
+  numbers : List Range → List ℤ → Meaning
   -- whichever set of indices
   some_set : Meaning
+  -- whichever integers
+  some_numbers : Meaning
 
 -- members of an object, each a key and what its value spells
 abbrev pub Fields : Type 0
@@ -81,6 +87,9 @@ edit_table (DropArray a) = (codes "a", name a) ∷ op (codes "drop_array") ∷ [
 edit_table (Set a i v) = (codes "a", name a) ∷ (codes "i", index i) ∷ op (codes "set") ∷ (codes "v", integer v) ∷ []
 edit_table (Fill a (Ranges on) v) = (codes "a", name a) ∷ (codes "on", given (Rectangle on)) ∷ op (codes "fill") ∷ (codes "v", integer v) ∷ []
 edit_table (Fill a Indices v) = (codes "a", name a) ∷ (codes "on", some_set) ∷ op (codes "fill") ∷ (codes "v", integer v) ∷ []
+edit_table (Put a (asked.Rectangle r)) = (codes "a", name a) ∷ (codes "on", given (Rectangle r.0)) ∷ op (codes "put") ∷
+    (codes "vs", numbers r.0 r.1) ∷ []
+edit_table (Put a asked.Indices) = (codes "a", name a) ∷ (codes "on", some_set) ∷ op (codes "put") ∷ (codes "vs", some_numbers) ∷ []
 edit_table (FillAll a v) = (codes "a", name a) ∷ op (codes "fill_all") ∷ (codes "v", integer v) ∷ []
 edit_table (Irv a v) = (codes "a", name a) ∷ op (codes "irv") ∷ (codes "v", integer v) ∷ []
 edit_table (Copy a i b j c) = (codes "a", name a) ∷ (codes "b", name b) ∷ (codes "c", integer c) ∷ (codes "i", index i) ∷ (codes "j", index j) ∷ op

@@ -1,10 +1,11 @@
 -- Why a JSON value is no request, apart from the order in which it is read: what is wrong with each member, and with the
 -- object itself. The least code among all that is wrong is the answer.
-use Rattle.std.specs.Prelude.{◌≡◌, ◌≤◌, ◌⊎◌, ℕ, ℤ, List, [], ◌∷◌, ◌++◌, codes, bytes_eq, if◌then◌else◌, true, false, Option, Some, None, Err, Contains}
+use Rattle.std.specs.Prelude.{◌≡◌, ◌≢◌, ◌≤◌, ◌⊎◌, ℕ, ℤ, List, [], ◌∷◌, ◌++◌, codes, length, bytes_eq, if◌then◌else◌, true, false, Option, Some, None, Err, Contains}
 use Rattle.serde_json.specs.Data.{Data, string, object, Members, no_members}
 use Rattle.serde_json.specs.Find.{get_member}
 use Rattle.wb_cells.specs.Cells.{Name}
 use Rattle.wb_cells.specs.Names.{is_name}
+use Rattle.wb_cells.specs.Shapes.{Range, indices}
 use Rattle.wb_cells.specs.declared.values.index.Index.{Index}
 use Rattle.wb_cells.specs.declared.values.index.Index.TheVariants.{Point}
 use Rattle.wb_cells.specs.declared.cells.kind.KeyType.{KeyType}
@@ -20,9 +21,10 @@ use Rattle.wb_literals.specs.declared.rectangle.RectangleLiteral.{RectangleLiter
 use Rattle.wb_literals.specs.Limits.Literals.{domain_within}
 use Rattle.wb_literals.specs.Limits.Mappings.{mapping_within}
 use Rattle.wb_literals.specs.declared.limits.limit.LimitErr.TheVariants as limits
+use Rattle.wb_reshape.specs.declared.operand.Operand.TheVariants.{Rectangle}
 use Rattle.wb_text.specs.Texts.Books.{is_book_text}
 use Rattle.wb_protocol.specs.Wire.Table as table
-use Rattle.wb_protocol.specs.Wire.Spelled.{Spells, without}
+use Rattle.wb_protocol.specs.Wire.Spelled.{IsIntegers, Spells, without}
 
 -- what can be wrong, by the code of its refusal
 pub data Fault : Type 0 where
@@ -93,6 +95,7 @@ forms =
     ∷ (codes "cascade", codes "k" ∷ [])
     ∷ (codes "dependents", codes "k" ∷ [])
     ∷ (codes "edits", [])
+    ∷ (codes "put", codes "a" ∷ codes "on" ∷ codes "vs" ∷ [])
     ∷ []
 
 -- the members of these keys are there, each once, in any order, and no others
@@ -117,6 +120,8 @@ pub data Plain : Type 0 where
   integer : Plain
   number : Plain
   index : Plain
+  -- an array of integers, however many
+  integers : Plain
   -- an integer for each dimension
   offsets : Plain
   -- the type of an associative domain's indices, what becomes of each element of an array, and what of all of them
@@ -156,6 +161,7 @@ kinds =
     ∷ (codes "to", source)
     ∷ (codes "translate", plain offsets)
     ∷ (codes "v", plain integer)
+    ∷ (codes "vs", plain integers)
     ∷ (codes "xor", source)
     ∷ []
 
@@ -183,6 +189,7 @@ IsBad (plain name) d = (n : Name) → Spells d (table.name n) → ⊥
 IsBad (plain integer) d = (z : ℤ) → Spells d (table.integer z) → ⊥
 IsBad (plain number) d = (n : ℕ) → Spells d (table.number n) → ⊥
 IsBad (plain index) d = (i : Index) → Spells d (table.index i) → ⊥
+IsBad (plain integers) d = Spells d table.some_numbers → ⊥
 IsBad (plain offsets) d = (is : List ℤ) → Spells d (table.index (Point is)) → ⊥
 IsBad (plain key_type) d = (t : KeyType) → Spells d (table.word (table.type_word t)) → ⊥
 IsBad (plain operation) d = (how : Operation) → Spells d (table.word (table.operation_word how)) → ⊥
@@ -242,10 +249,27 @@ pub record MemberFails (d : Data) (fault : Fault) : Type 0 where
   pub is_value : get_member key members ≡ Some value
   pub fails : Fails kind value fault
 
--- The members aren't those of a request, or the value of one fails, whatever else is wrong.
+-- a put whose numbers aren't as many as the indices of its rectangle, which is within the limits
+pub record IsMiscounted (d : Data) : Type 0 where
+  pub members : Members
+  pub on : Data
+  pub vs : Data
+  pub ranges : List Range
+  pub found : List ℤ
+  pub is_object : d ≡ object members
+  pub names_op : NamesOp members (codes "put")
+  pub is_on : get_member (codes "on") members ≡ Some on
+  pub is_vs : get_member (codes "vs") members ≡ Some vs
+  pub rectangle : Spells on (table.given (Rectangle ranges))
+  pub integral : IsIntegers vs found
+  pub differ : length found ≢ length (indices ranges)
+
+-- The members aren't those of a request, or the value of one fails, or one has more or fewer numbers than another has indices,
+-- whatever else is wrong.
 pub data IsFault (d : Data) (fault : Fault) : Type 0 where
   not_whole : fault ≡ bad_request → (IsWhole d → ⊥) → IsFault d fault
   of_member : MemberFails d fault → IsFault d fault
+  of_count : fault ≡ bad_request → IsMiscounted d → IsFault d fault
 
 -- a fault, and no other has a lower code
 abbrev pub IsLeastFault : Data → Fault → Type 0

@@ -5,6 +5,7 @@ use Rattle.wb_sets.specs.Labels.{IsLabel, is_label}
 use Rattle.wb_rect.specs.Product.{IsRectangle}
 use Rattle.wb_cells.specs.Layouts.{IsLayout}
 use Rattle.wb_cells.specs.Names.{is_name}
+use Rattle.wb_cells.specs.Shapes.{indices}
 use Rattle.wb_cells.specs.declared.values.index.Index.{Index}
 use Rattle.wb_cells.specs.declared.values.index.Index.TheVariants.{Point, Text}
 use Rattle.wb_literals.specs.Integer.{IsWithin}
@@ -13,8 +14,8 @@ use Rattle.wb_reshape.specs.declared.operand.Operand.{Operand}
 use Rattle.wb_reshape.specs.declared.operand.Operand.TheVariants.{Rectangle, Items, Named}
 use Rattle.wb_text.specs.Texts.Books.{is_book_text}
 use Rattle.wb_protocol.specs.declared.requests.request.Request.{Request}
-use Rattle.wb_protocol.specs.Wire.Table.{Meaning, word, name, integer, number, index, given, mapping, optional_mapping, book, some_set}
-use Rattle.wb_protocol.specs.Wire.Table.{Fields, table}
+use Rattle.wb_protocol.specs.Wire.Table.{Meaning, word, name, integer, number, index, given, mapping, optional_mapping, book, numbers}
+use Rattle.wb_protocol.specs.Wire.Table.{some_set, some_numbers, Fields, table}
 
 abbrev pub AllWithin : List ℤ → Type 0
 AllWithin [] = Unit {0}
@@ -61,7 +62,9 @@ IsProper (given g) = IsProperOperand g
 IsProper (mapping m) = IsLayout m
 IsProper (optional_mapping m) = IsLayout m
 IsProper (book text) = is_book_text text ≡ true
+IsProper (numbers on vs) = AllWithin vs × (length vs ≡ length (indices on))
 IsProper some_set = Unit {0}
+IsProper some_numbers = Unit {0}
 
 abbrev pub AreProper : Fields → Type 0
 AreProper [] = Unit {0}

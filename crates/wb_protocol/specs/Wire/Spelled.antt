@@ -1,11 +1,12 @@
 -- Which JSON objects (RFC 8259, section 4) are requests, apart from how they are read: an object has the members that the
 -- table lists, each once and in any order, and no others, and the value of each spells what the table says.
-use Rattle.std.specs.Prelude.{◌≡◌, ℕ, ℤ, List, [], ◌∷◌, true, if◌then◌else◌, bytes_eq, Option, Some, None, Ok}
-use Rattle.serde_json.specs.Data.{Num, Data, number as json_number, string, array, object, no_items, item, Members, no_members, member}
+use Rattle.std.specs.Prelude.{◌≡◌, ℕ, ℤ, List, [], ◌∷◌, length, true, if◌then◌else◌, bytes_eq, Option, Some, None, Ok}
+use Rattle.serde_json.specs.Data.{Num, Data, number as json_number, string, array, object, Items as JsonItems, no_items, item, Members, no_members, member}
 use Rattle.serde_json.specs.Find.{get_member, as_i64, as_u64}
 use Rattle.wb_sets.specs.Labels.{is_label}
 use Rattle.wb_dist.specs.Maps.{LayoutMap, whole}
 use Rattle.wb_cells.specs.Names.{is_name}
+use Rattle.wb_cells.specs.Shapes.{indices}
 use Rattle.wb_cells.specs.declared.values.index.Index.{Index}
 use Rattle.wb_cells.specs.declared.values.index.Index.TheVariants.{Point, Text}
 use Rattle.wb_literals.specs.Grammar as grammar
@@ -19,14 +20,25 @@ use Rattle.wb_reshape.specs.declared.operand.Operand.{Operand}
 use Rattle.wb_reshape.specs.declared.operand.Operand.TheVariants.{Rectangle, Items, Named}
 use Rattle.wb_text.specs.Texts.Books.{is_book_text}
 use Rattle.wb_protocol.specs.declared.requests.request.Request.{Request}
-use Rattle.wb_protocol.specs.Wire.Table.{Meaning, word, name, integer, number, index, given, mapping, optional_mapping, book, some_set}
-use Rattle.wb_protocol.specs.Wire.Table.{Fields, table}
+use Rattle.wb_protocol.specs.Wire.Table.{Meaning, word, name, integer, number, index, given, mapping, optional_mapping, book, numbers}
+use Rattle.wb_protocol.specs.Wire.Table.{some_set, some_numbers, Fields, table}
 
 -- ---- what one value spells
 
 -- a number without fraction or exponent, of 64 bits with a sign
 abbrev pub IsInteger : Data → ℤ → Type 0
 IsInteger d z = (n : Num) × (d ≡ json_number n) × (as_i64 n ≡ Some z)
+
+-- such numbers, one after another
+abbrev pub AreIntegers : JsonItems → List ℤ → Type 0
+AreIntegers no_items [] = Unit {0}
+AreIntegers (item d ds) (z ∷ zs) = IsInteger d z × AreIntegers ds zs
+AreIntegers no_items (z ∷ zs) = ⊥
+AreIntegers (item d ds) [] = ⊥
+
+-- an array of them
+abbrev pub IsIntegers : Data → List ℤ → Type 0
+IsIntegers d zs = (ds : JsonItems) × (d ≡ array ds) × AreIntegers ds zs
 
 -- the same without a sign
 abbrev pub IsNumber : Data → ℕ → Type 0
@@ -63,6 +75,8 @@ Spells d (given g) = IsOperand d g
 Spells d (mapping m) = IsMapping d m
 Spells d (optional_mapping m) = IsMapping d m
 Spells d (book text) = (d ≡ string text) × (is_book_text text ≡ true)
+Spells d (numbers on vs) = IsIntegers d vs × (length vs ≡ length (indices on))
+Spells d some_numbers = (vs : List ℤ) × IsIntegers d vs
 Spells d some_set = (text : List ℕ) × (listed : Listed) × (d ≡ string text) × grammar.IsSet text listed
 
 -- what a missing member spells
@@ -76,7 +90,9 @@ MayLack (index i) = ⊥
 MayLack (given g) = ⊥
 MayLack (mapping m) = ⊥
 MayLack (book text) = ⊥
+MayLack (numbers on vs) = ⊥
 MayLack some_set = ⊥
+MayLack some_numbers = ⊥
 
 -- what a member spells, if there is one
 abbrev pub Says : Option Data → Meaning → Type 0

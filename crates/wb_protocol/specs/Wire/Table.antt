@@ -8,7 +8,7 @@ use Rattle.wb_arrays.specs.declared.reduction.Op.TheVariants as reductions
 use Rattle.wb_protocol.specs.declared.requests.request.Request.{Request}
 use Rattle.wb_protocol.specs.declared.requests.request.Request.TheVariants.{Change, Undo, Redo, Cascade, Dependents, Ask, Print, History, Edits}
 pub use Rattle.wb_protocol.specs.Encoding.Table.{Meaning, word, name, integer, number, index}
-pub use Rattle.wb_protocol.specs.Encoding.Table.{given, mapping, optional_mapping, book, some_set}
+pub use Rattle.wb_protocol.specs.Encoding.Table.{given, mapping, optional_mapping, book, numbers, some_set, some_numbers}
 pub use Rattle.wb_protocol.specs.Encoding.Table.{Fields, op, type_word, operation_word}
 
 abbrev pub reduction_word : Op → List ℕ

@@ -5,20 +5,23 @@ ghost use Rattle.serde_json.specs.Data.{depth};
 ghost use Rattle.serde_json.specs.Read.{read, max_depth};
 ghost use Rattle.serde_json.specs.View.{view};
 ghost use Rattle.serde_json.specs.Written.{compact_text, has_float};
+ghost use Rattle.wb_edit.specs.declared.asked_numbers.AskedNumbers.TheVariants.{Rectangle as numbered_on, Indices as numbered_set};
 ghost use Rattle.wb_edit.specs.declared.asked_rectangle.AskedRectangle.TheVariants.{Ranges, Indices};
-ghost use Rattle.wb_edit.specs.declared.edit.Edit.TheVariants.{Domain as new_domain_edit, Remap, Fill};
+ghost use Rattle.wb_edit.specs.declared.edit.Edit.TheVariants.{Domain as new_domain_edit, Remap, Fill, Put};
 ghost use Rattle.wb_protocol.specs.Encoding.Encoded.{edit_data, edit_text};
 
-use crate::encoding::literals::{mapping_text, operation_word, rectangle_text, type_word};
+use crate::encoding::literals::{
+    integers_value, mapping_text, operation_word, rectangle_text, type_word,
+};
 use crate::encoding::objects::{
     array_with, combined, copied, domain_of, filled, index_of_domain, loaded, new_array,
-    new_domain, new_element, of_array, of_domain, remapped,
+    new_domain, new_element, numbered, of_array, of_domain, remapped,
 };
 use crate::encoding::sources::reshaped;
 use serde_json::Value;
 use std::alloc::{AllocError, Global};
 use wb_cells::{AnyLayout, AnyRect, Name};
-use wb_edit::{AskedRectangle, Edit};
+use wb_edit::{AskedNumbers, AskedRectangle, Edit, NumberedRectangle};
 use wb_range::NoMemory;
 
 fn rectangular_on(
@@ -78,6 +81,30 @@ fn fill(alloc: Global, a: &Name, on: &AskedRectangle, v: i64) -> Result<Value, A
     }
 }
 
+fn put_on(alloc: Global, a: &Name, by: &NumberedRectangle) -> Result<Value, AllocError>
+    ensures { IfOk result (λ x. view x ≡ edit_data (Put a.now (numbered_on by.now))) }
+{
+    let on = rectangle_text(alloc, &by.ranges())?;
+    let vs = integers_value(alloc, by.numbers())?;
+    numbered(alloc, a, &on, &vs)
+}
+
+fn put_on_set(alloc: Global, a: &Name) -> Result<Value, AllocError>
+    ensures { IfOk result (λ x. view x ≡ edit_data (Put a.now numbered_set)) }
+{
+    let vs = integers_value(alloc, &[])?;
+    numbered(alloc, a, "{}", &vs)
+}
+
+fn put(alloc: Global, a: &Name, by: &AskedNumbers) -> Result<Value, AllocError>
+    ensures { IfOk result (λ x. view x ≡ edit_data (Put a.now by.now)) }
+{
+    match by {
+        AskedNumbers::Rectangle(numbered) => put_on(alloc, a, numbered),
+        AskedNumbers::Indices => put_on_set(alloc, a),
+    }
+}
+
 /// The canonical object of an edit's request.
 pub fn edit_value(alloc: Global, edit: &Edit) -> Result<Value, AllocError>
     ensures { IfOk result (λ v. view v ≡ edit_data edit.now) }
@@ -95,6 +122,7 @@ pub fn edit_value(alloc: Global, edit: &Edit) -> Result<Value, AllocError>
         Edit::DropArray(a) => of_array(alloc, "drop_array", a),
         Edit::Set(a, i, v) => new_element(alloc, a, i, *v),
         Edit::Fill(a, on, v) => fill(alloc, a, on, *v),
+        Edit::Put(a, by) => put(alloc, a, by),
         Edit::FillAll(a, v) => array_with(alloc, "fill_all", a, *v),
         Edit::Irv(a, v) => array_with(alloc, "irv", a, *v),
         Edit::Copy(a, i, b, j, c) => copied(alloc, a, i, b, j, *c),

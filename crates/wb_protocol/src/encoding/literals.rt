@@ -52,8 +52,8 @@ pub(crate) fn given_text(alloc: Global, given: &Operand) -> Result<String, Alloc
     }
 }
 
-// Integers as an array.
-fn integers_value(alloc: Global, integers: &[i64]) -> Result<Value, AllocError>
+/// Integers as an array.
+pub(crate) fn integers_value(alloc: Global, integers: &[i64]) -> Result<Value, AllocError>
     ensures { IfOk result (λ v. view v ≡ array (items_of (map integer_data integers.now))) }
 {
     let mut items = Vec::new(alloc);

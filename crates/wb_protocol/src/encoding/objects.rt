@@ -86,6 +86,14 @@ pub(crate) fn filled(alloc: Global, a: &Name, on: &str, v: i64) -> Result<Value,
     json!(in alloc; {"a": a.as_str(), "on": on, "op": "fill", "v": v})
 }
 
+/// The members `a`, `on`, `op` and `vs`.
+pub(crate) fn numbered(alloc: Global, a: &Name, on: &str, vs: &Value) -> Result<Value, AllocError>
+    ensures { IfOk result (λ x. view x ≡ object (member (codes "a") (string a.now)
+        (member (codes "on") (string on.now) (member (codes "op") (string (codes "put")) (member (codes "vs") (view vs.now) no_members))))) }
+{
+    json!(in alloc; {"a": a.as_str(), "on": on, "op": "put", "vs": vs})
+}
+
 /// The members `a`, `op` and `v`.
 pub(crate) fn array_with(alloc: Global, op: &str, a: &Name, v: i64) -> Result<Value, AllocError>
     ensures { IfOk result (λ x. view x ≡ object (member (codes "a") (string a.now)

@@ -3,17 +3,17 @@ ghost use Rattle.std.specs.Prelude.{◌≡◌, codes};
 ghost use Rattle.serde_json.specs.View.{view};
 ghost use Rattle.wb_literals.specs.Said.{domain};
 ghost use Rattle.wb_protocol.specs.Answers.{IsAnswer};
-ghost use Rattle.wb_protocol.specs.Requests.{array_of, drop_array_of, set_of, fill_over, fill_of, fill_all_of, copy_of, irv_of, all_of};
+ghost use Rattle.wb_protocol.specs.Requests.{array_of, drop_array_of, set_of, fill_over, fill_of, put_on, put_over, put_of, fill_all_of, copy_of, irv_of, all_of};
 
 use crate::requests::fields::{
-    has_fields, i64_field, index_field, name_field, operation_field, text_field,
+    has_fields, i64_field, index_field, integers_field, name_field, operation_field, text_field,
 };
 use crate::requests::literals::{domain_within, literal_domain};
 use crate::requests::request::Request;
 use serde_json::Value;
 use std::alloc::Global;
-use wb_cells::Name;
-use wb_edit::{AskedRectangle, Edit};
+use wb_cells::{AnyRect, Name};
+use wb_edit::{AskedNumbers, AskedRectangle, Edit, NumberedRectangle};
 use wb_history::Refusal;
 use wb_literals::DomainLiteral;
 
@@ -73,6 +73,45 @@ pub(crate) fn fill_of(alloc: Global, value: &Value) -> Result<Request, Refusal>
     let number = i64_field(value, "v")?;
     let literal = literal_domain(alloc, text)?;
     let request = fill_over(name, &literal, number)?;
+    Ok(request)
+}
+
+// A number for each index of a rectangle.
+fn put_on(name: Name, on: AnyRect, numbers: Vec<i64>) -> Result<Request, Refusal>
+    ensures { result ≡ put_on name on numbers.items }
+{
+    match NumberedRectangle::new(on, numbers) {
+        Some(numbered) => {
+            let asked = AskedNumbers::Rectangle(numbered);
+            Ok(Request::Change(Edit::Put(name, asked)))
+        }
+        None => Err(Refusal::BadRequest),
+    }
+}
+
+// Numbers at the indices of what a literal spells.
+fn put_over(name: Name, literal: &DomainLiteral, numbers: Vec<i64>) -> Result<Request, Refusal>
+    ensures { result ≡ put_over name (domain literal.now) numbers.items }
+{
+    match literal {
+        DomainLiteral::Rectangle(rectangle) => {
+            let ranges = domain_within(rectangle)?;
+            put_on(name, ranges, numbers)
+        }
+        DomainLiteral::Set(_) => Ok(Request::Change(Edit::Put(name, AskedNumbers::Indices))),
+    }
+}
+
+/// A number for each index of a rectangle.
+pub(crate) fn put_of(alloc: Global, value: &Value) -> Result<Request, Refusal>
+    ensures { IsAnswer (put_of (view value.now)) result }
+{
+    has_fields(value, 4)?;
+    let name = name_field(value, "a")?;
+    let text = text_field(value, "on")?;
+    let numbers = integers_field(alloc, value, "vs")?;
+    let literal = literal_domain(alloc, text)?;
+    let request = put_over(name, &literal, numbers)?;
     Ok(request)
 }
 

@@ -1,12 +1,15 @@
 // Fields of a JSON object, by their names.
 ghost use Rattle.std.specs.Prelude.{◌≡◌, ◌<◌, ◌^◌, ℕ, List, codes, option_map};
+ghost use Rattle.std.specs.Option.{ok_or};
 ghost use Rattle.std.specs.Result.{result_map_both};
 ghost use Rattle.serde_json.specs.View.{view, items_view};
 ghost use Rattle.wb_protocol.specs.Fields.{field_count, has_fields, has_fields_and, text_field, optional_text, i64_field, u64_field, name_of, name_field};
-ghost use Rattle.wb_protocol.specs.Fields.{integer_of, pair_of, triple_of, tuple_of, label_of, index_of, index_field, key_type_of, key_type_field, operation_of};
-ghost use Rattle.wb_protocol.specs.Fields.{operation_field, reduction_of, reduction_field};
+ghost use Rattle.wb_protocol.specs.Fields.{integer_of, integers_of, integers_field, pair_of, triple_of, tuple_of, label_of, index_of, index_field, key_type_of};
+ghost use Rattle.wb_protocol.specs.Answers.{IsAnswer};
+ghost use Rattle.wb_protocol.specs.Fields.{integers_listed, key_type_field, operation_of, operation_field, reduction_of, reduction_field};
 
 use serde_json::Value;
+use std::alloc::Global;
 use wb_arrays::Op;
 use wb_cells::{AnyIndex, Index, KeyType, Name, Point};
 use wb_edit::Operation;
@@ -166,6 +169,51 @@ pub(crate) fn index_of(value: &Value) -> Option<Index>
         Value::Null => None,
         Value::Bool(_) => None,
         Value::Object(_) => None,
+    }
+}
+
+// The integers that values are.
+fn integers_listed(alloc: Global, items: &[Value]) -> Result<Vec<i64>, Refusal>
+    ensures { IsAnswer (ok_or (integers_listed (items_view items.now)) Refusal.BadRequest) (result_map_both (λ v. v.items) (λ e. e) result) }
+{
+    let mut integers = match Vec::with_capacity(alloc, items.len()) {
+        Ok(integers) => integers,
+        Err(_) => return Err(Refusal::NoMemory),
+    };
+    for item in items {
+        match item.as_i64() {
+            Some(integer) => {
+                if integers.push(integer).is_err() {
+                    return Err(Refusal::NoMemory);
+                }
+            }
+            None => return Err(Refusal::BadRequest),
+        }
+    }
+    Ok(integers)
+}
+
+// The integers that an array has.
+fn integers_of(alloc: Global, value: &Value) -> Result<Vec<i64>, Refusal>
+    ensures { IsAnswer (ok_or (integers_of (view value.now)) Refusal.BadRequest) (result_map_both (λ v. v.items) (λ e. e) result) }
+{
+    match value {
+        Value::Array(items) => integers_listed(alloc, items.as_slice()),
+        Value::Number(_) => Err(Refusal::BadRequest),
+        Value::String(_) => Err(Refusal::BadRequest),
+        Value::Null => Err(Refusal::BadRequest),
+        Value::Bool(_) => Err(Refusal::BadRequest),
+        Value::Object(_) => Err(Refusal::BadRequest),
+    }
+}
+
+/// A field that is an array of integers.
+pub(crate) fn integers_field(alloc: Global, value: &Value, key: &str) -> Result<Vec<i64>, Refusal>
+    ensures { IsAnswer (integers_field key.now (view value.now)) (result_map_both (λ v. v.items) (λ e. e) result) }
+{
+    match value.get(key) {
+        Some(field) => integers_of(alloc, field),
+        None => Err(Refusal::BadRequest),
     }
 }
 

@@ -6,7 +6,7 @@ ghost use Rattle.wb_protocol.specs.Answers.{IsAnswer};
 ghost use Rattle.wb_protocol.specs.Requests.{undo_by_number, undo_of, redo_of, cascade_of, dependents_of, by_history_op, by_array_op, by_op, request_of, request};
 
 use crate::requests::arrays::{
-    all_of, array_of, copy_of, drop_array_of, fill_all_of, fill_of, irv_of, set_of,
+    all_of, array_of, copy_of, drop_array_of, fill_all_of, fill_of, irv_of, put_of, set_of,
 };
 use crate::requests::books::load_of;
 use crate::requests::domains::{domain_of, drop_domain_of, remap_of, reshape_of};
@@ -94,6 +94,7 @@ fn by_array_op(alloc: Global, op: &str, value: &Value) -> Result<Request, Refusa
         "drop_array" => drop_array_of(value),
         "set" => set_of(value),
         "fill" => fill_of(alloc, value),
+        "put" => put_of(alloc, value),
         "fill_all" => fill_all_of(value),
         "irv" => irv_of(value),
         "copy" => copy_of(value),

@@ -7,7 +7,7 @@ use wb_protocol::wire::{edit_text, request_text};
 use wb_protocol::{Request, read_request};
 
 // Lines, each with the canonical line of its request.
-const LINES: [(&str, &str); 19] = [
+const LINES: [(&str, &str); 21] = [
     (
         "{\"op\":\"domain\",\"d\":\"D\",\"is\":\"{1..4}\"}",
         "{\"d\":\"D\",\"is\":\"{1..4}\",\"map\":\"none\",\"op\":\"domain\"}",
@@ -31,6 +31,14 @@ const LINES: [(&str, &str); 19] = [
     (
         "{\"op\":\"fill\",\"a\":\"A\",\"on\":\"{2,1}\",\"v\":5}",
         "{\"a\":\"A\",\"on\":\"{}\",\"op\":\"fill\",\"v\":5}",
+    ),
+    (
+        "{\"op\":\"put\",\"vs\":[ 1,-2 ,9223372036854775807],\"on\":\"{1..#3}\",\"a\":\"A\"}",
+        "{\"a\":\"A\",\"on\":\"{1..3}\",\"op\":\"put\",\"vs\":[1,-2,9223372036854775807]}",
+    ),
+    (
+        "{\"op\":\"put\",\"a\":\"A\",\"on\":\"{2,1}\",\"vs\":[5]}",
+        "{\"a\":\"A\",\"on\":\"{}\",\"op\":\"put\",\"vs\":[]}",
     ),
     (
         "{\"op\":\"reshape\",\"d\":\"T\",\"or\":\"{\\\"b\\\",\\\"a\\\",\\\"b\\\"}\"}",

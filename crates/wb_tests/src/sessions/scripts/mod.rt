@@ -6,6 +6,7 @@ mod histories;
 mod loads;
 mod mappings;
 mod members;
+mod puts;
 mod reductions;
 mod requests;
 mod reshapes;
@@ -116,6 +117,7 @@ fn play_each<M: Mover>(rt: &impl Abort, alloc: Global, mover: &M) -> Result<(), 
         histories::SCRIPTS.as_slice(),
         cascades::SCRIPTS.as_slice(),
         members::SCRIPTS.as_slice(),
+        puts::SCRIPTS.as_slice(),
         reshapes::SCRIPTS.as_slice(),
         mappings::SCRIPTS.as_slice(),
         reductions::SCRIPTS.as_slice(),
