@@ -1,8 +1,9 @@
 -- What a crash leaves of a batch that is written over the mark behind whole batches.
 use Rattle.std.proofs.Common.{◌≡◌, ◌⊎◌, ◌≤◌, inl, inr, ℕ, zero, suc, ◌+◌, ◌-◌, true, List, [], ◌∷◌, ◌++◌, length, get_or, take, drop, refl, sym, ◌∙◌, ap, subst, arith, append_assoc, append-nil, length-append, take-append-drop}
-use Rattle.std.proofs.lemmas.List.{take_at, drop_all, get_or-drop, get_or-append_right}
+use Rattle.std.proofs.lemmas.List.{take_at, drop-replicate, length-replicate, replicate-append-replicate, get_or-drop, get_or-append_right}
+use Rattle.std.proofs.Math.Seq.{drop-append-add}
 use Rattle.wb_keep.specs.Disk.Device.{Holds, Torn, OneOf}
-use Rattle.wb_keep.specs.Lines.{onto, lines_of, stuffed, has_hole, with_next, counted, marked, header, recovered, HasHeader, IsWhole, IsAtRest}
+use Rattle.wb_keep.specs.Lines.{onto, lines_of, stuffed, has_hole, with_next, counted, marked, header, recovered, zeros, HasHeader, IsWhole, IsAtRest}
 use Rattle.wb_keep.specs.Keep.{IsBeforeOrAfter}
 use Rattle.wb_keep.proofs.Feeds.{IsLine, AreLines, lines_of_other}
 use Rattle.wb_keep.proofs.Batches.{with_hole, no_hole, not_counted, stuffed_line, marked_line, marked_alone, whole_marked, whole_append}
@@ -115,32 +116,54 @@ left_of_write new are (byte ∷ left) each = elim (each 0) [
 pub recovered_rest : (batches rest : List ℕ) → IsWhole batches → counted (lines_of rest) ≡ [] → recovered (header ++ batches ++ rest) ≡ counted (lines_of batches)
 recovered_rest batches rest whole none = whole rest ∙ ap (λ (ls : List (List ℕ)). counted (lines_of batches) ++ ls) none ∙ append-nil (counted (lines_of batches))
 
-pub mark_none : counted (lines_of (35 ∷ [])) ≡ []
-mark_none = refl
+pub mark_none : (behind : List ℕ) → counted (lines_of (35 ∷ behind)) ≡ []
+mark_none behind = not_counted 35 behind (omega arith) (omega arith)
 
-module _ (file : List ℕ) (rest : IsAtRest file) (new : List (List ℕ)) (are : AreLines new) (mark : ℕ) (at : mark + 1 ≡ length file) (block : List ℕ) (holds_new : block ≡ marked new ++ 35 ∷ []) where
+-- bytes 0 are as none: behind an end `get_or` says 0
+no_byte : (n i : ℕ) → get_or (zeros n) i 0 ≡ 0
+no_byte zero i = refl
+no_byte (suc n) zero = refl
+no_byte (suc n) (suc i) = no_byte n i
+
+before_zeros : (bytes : List ℕ) (n i : ℕ) → get_or (bytes ++ zeros n) i 0 ≡ get_or bytes i 0
+before_zeros [] n i = no_byte n i
+before_zeros (byte ∷ bytes) n zero = refl
+before_zeros (byte ∷ bytes) n (suc i) = before_zeros bytes n i
+
+pub length-zeros : (n : ℕ) → length (zeros n) ≡ n
+length-zeros n = length-replicate {A = ℕ} n 0
+
+module _ (file : List ℕ) (rest : IsAtRest file) (new : List (List ℕ)) (are : AreLines new) (mark : ℕ) (at : mark + 1 + rest.room ≡ length file)
+    (block : List ℕ) (is_block : block ≡ marked new ++ 35 ∷ []) (more : ℕ) (bytes : List ℕ) (are_bytes : bytes ≡ block ++ zeros more) where
   abbrev pub front : List ℕ
   front = header ++ rest.batches
 
   abbrev pub old : List (List ℕ)
   old = counted (lines_of rest.batches)
 
-  is : file ≡ front ++ 35 ∷ []
+  abbrev pub tail : List ℕ
+  tail = 35 ∷ zeros rest.room
+
+  is : file ≡ front ++ tail
   is = rest.is
 
   stands_for : recovered file ≡ old
-  stands_for = ap recovered is ∙ recovered_rest rest.batches (35 ∷ []) rest.whole mark_none
+  stands_for = ap recovered is ∙ recovered_rest rest.batches tail rest.whole (mark_none (zeros rest.room))
 
   size : length front ≡ mark
-  size = omega (arith, at, ap length is, length-append front (35 ∷ []))
+  size = omega (arith, at, ap length is, length-append front tail, length-zeros rest.room)
 
   before : take mark file ≡ front
-  before = ap (λ (l : List ℕ). take mark l) is ∙ take_at front (35 ∷ []) mark size
+  before = ap (λ (l : List ℕ). take mark l) is ∙ take_at front tail mark size
 
   was : (i : ℕ) → get_or file (mark + i) 0 ≡ get_or (35 ∷ []) i 0
   was i =
       let same : mark + i - mark ≡ i = omega arith in
-      ap (λ (l : List ℕ). get_or l (mark + i) 0) is ∙ get_or-append_right front (35 ∷ []) mark (mark + i) 0 size (omega arith) ∙ ap (λ (n : ℕ). get_or (35 ∷ []) n 0) same
+      ap (λ (l : List ℕ). get_or l (mark + i) 0) is ∙ get_or-append_right front tail mark (mark + i) 0 size (omega arith) ∙ ap (λ (n : ℕ). get_or tail n 0) same
+      ∙ before_zeros (35 ∷ []) rest.room i
+
+  is_put : (i : ℕ) → get_or bytes i 0 ≡ get_or (marked new ++ 35 ∷ []) i 0
+  is_put i = ap (λ (l : List ℕ). get_or l i 0) are_bytes ∙ before_zeros block more i ∙ ap (λ (l : List ℕ). get_or l i 0) is_block
 
   -- behind the batches stands what is left of the write
   stands : (c : List ℕ) → c ≡ front ++ drop mark c → NoneOrAll new (drop mark c) → IsBeforeOrAfter (recovered file) new c
@@ -153,45 +176,61 @@ module _ (file : List ℕ) (rest : IsAtRest file) (new : List (List ℕ)) (are :
     lines = inr (ap recovered split ∙ rest.whole (drop mark c) ∙ (λ i. sym stands_for i ++ all i));
   }
 
-  pub torn_batch : (c : List ℕ) → Torn mark block file c → IsBeforeOrAfter (recovered file) new c
+  pub torn_batch : (c : List ℕ) → Torn mark bytes file c → IsBeforeOrAfter (recovered file) new c
   torn_batch c torn =
       let split : c ≡ front ++ drop mark c = sym (take-append-drop mark c) ∙ ap (λ (l : List ℕ). l ++ drop mark c) (torn.before ∙ before) in
       stands c split
       (left_of_write new are (drop mark c)
       (λ i. subst (λ (x : ℕ). OneOf (get_or (35 ∷ []) i 0) (get_or (marked new ++ 35 ∷ []) i 0) x) (sym (get_or-drop mark c i 0))
       (subst (λ (x : ℕ). OneOf x (get_or (marked new ++ 35 ∷ []) i 0) (get_or c (mark + i) 0)) (was i)
-      (subst (λ (b : List ℕ). OneOf (get_or file (mark + i) 0) (get_or b i 0) (get_or c (mark + i) 0)) holds_new (torn.each i)))))
+      (subst (λ (x : ℕ). OneOf (get_or file (mark + i) 0) x (get_or c (mark + i) 0)) (is_put i) (torn.each i)))))
 
   -- all of it is written
   abbrev pub all_batches : List ℕ
   all_batches = rest.batches ++ marked new
 
-  all_whole : IsWhole all_batches
+  pub all_whole : IsWhole all_batches
   all_whole = whole_append rest.batches (marked new) rest.whole (whole_marked new are)
 
   many : 1 ≤ length block
-  many = omega (arith, ap length holds_new, length-append (marked new) (35 ∷ []))
+  many = omega (arith, ap length is_block, length-append (marked new) (35 ∷ []))
 
-  written : (c : List ℕ) → Holds file mark block c → c ≡ header ++ all_batches ++ 35 ∷ []
+  long : length bytes ≡ length block + more
+  long = ap length are_bytes ∙ length-append block (zeros more) ∙ ap (λ (n : ℕ). length block + n) (length-zeros more)
+
+  -- the room that was there, so far as it is not written over
+  abbrev pub kept : ℕ
+  kept = rest.room - (length bytes - 1)
+
+  -- it stands behind the one that is written
+  abbrev pub room : ℕ
+  room = more + kept
+
+  behind : drop (mark + length bytes) file ≡ zeros kept
+  behind =
+      let one : length bytes ≡ suc (length bytes - 1) = omega (arith, long, many) in
+      (λ i. drop (sym size i + length bytes) (is i)) ∙ drop-append-add front tail (length bytes) ∙ ap (λ (n : ℕ). drop n tail) one
+      ∙ drop-replicate {X = ℕ} (length bytes - 1) rest.room 0
+
+  pub written : (c : List ℕ) → Holds file mark bytes c → c ≡ header ++ all_batches ++ 35 ∷ zeros room
   written c holds =
-      let nothing : drop (mark + length block) file ≡ [] = drop_all (mark + length block) file (omega (arith, at, many)) in
+      let joined : zeros more ++ zeros kept ≡ zeros room = replicate-append-replicate {A = ℕ} more kept 0 in
+      let put : bytes ++ zeros kept ≡ marked new ++ 35 ∷ zeros room =
+      ap (λ (l : List ℕ). l ++ zeros kept) are_bytes ∙ append_assoc block (zeros more) (zeros kept) ∙ (λ i. is_block i ++ joined i) ∙ append_assoc (marked new) (35 ∷ []) (zeros room) in
       holds
-      ∙ (λ i. before i ++ block ++ nothing i)
-      ∙ append-nil (front ++ block)
-      ∙ ap (λ (l : List ℕ). front ++ l) holds_new
-      ∙ ap (λ (l : List ℕ). header ++ l) (sym (append_assoc rest.batches (marked new) (35 ∷ [])))
+      ∙ (λ i. before i ++ bytes ++ behind i)
+      ∙ append_assoc front bytes (zeros kept)
+      ∙ ap (λ (l : List ℕ). front ++ l) put
+      ∙ ap (λ (l : List ℕ). header ++ l) (sym (append_assoc rest.batches (marked new) (35 ∷ zeros room)))
 
-  pub written_rest : (c : List ℕ) → Holds file mark block c → IsAtRest c
-  written_rest c holds = record { batches = all_batches; is = written c holds; whole = all_whole }
-
-  pub written_lines : (c : List ℕ) → Holds file mark block c → recovered c ≡ recovered file ++ new
+  pub written_lines : (c : List ℕ) → Holds file mark bytes c → recovered c ≡ recovered file ++ new
   written_lines c holds =
-      ap recovered (written c holds) ∙ recovered_rest all_batches (35 ∷ []) all_whole mark_none
+      ap recovered (written c holds) ∙ recovered_rest all_batches (35 ∷ zeros room) all_whole (mark_none (zeros room))
       ∙ rest.whole (marked new) ∙ (λ i. sym stands_for i ++ marked_alone new are i)
 
-  pub length-written : (c : List ℕ) → Holds file mark block c → length c ≡ mark + length block
+  pub length-written : (c : List ℕ) → Holds file mark bytes c → length c ≡ mark + length block + room
   length-written c holds =
-      omega (arith, ap length (written c holds), size, ap length holds_new, length-append header rest.batches, length-append header all_batches, length-append (header ++ all_batches) (35 ∷ []), length-append all_batches (35 ∷ []), length-append rest.batches (marked new), length-append (marked new) (35 ∷ []))
+      omega (arith, ap length (written c holds), size, ap length is_block, length-append header rest.batches, length-append header (all_batches ++ 35 ∷ zeros room), length-append all_batches (35 ∷ zeros room), length-append rest.batches (marked new), length-append (marked new) (35 ∷ []), length-zeros room)
 
 -- a block that is a mark alone has no line
 pub no_new : (new : List (List ℕ)) (block : List ℕ) → block ≡ marked new ++ 35 ∷ [] → length block ≡ 1 → new ≡ []
@@ -205,6 +244,6 @@ no_new (line ∷ next ∷ lines) block is one =
 -- a new file of one batch
 pub one_batch : (new : List (List ℕ)) → AreLines new → (file : List ℕ) → file ≡ header ++ marked new ++ 35 ∷ [] → IsAtRest file × (recovered file ≡ new)
 one_batch new are file is = (
-  record { batches = marked new; is = is; whole = whole_marked new are },
-  ap recovered is ∙ recovered_rest (marked new) (35 ∷ []) (whole_marked new are) mark_none ∙ marked_alone new are,
+  record { batches = marked new; room = 0; is = is; whole = whole_marked new are },
+  ap recovered is ∙ recovered_rest (marked new) (35 ∷ []) (whole_marked new are) (mark_none []) ∙ marked_alone new are,
 )

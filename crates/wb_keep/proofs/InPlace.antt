@@ -6,6 +6,7 @@ use Rattle.wb_keep.specs.Lines.{lines_of, header, marked, recovered, HasHeader, 
 use Rattle.wb_keep.specs.Keep.{IsOldOrNew, IsSettled}
 use Rattle.wb_keep.specs.declared.keep.LineLog.{LineLog}
 use Rattle.wb_keep.proofs.Feeds.{are_lines}
+use Rattle.wb_keep.proofs.Batches.{whole_marked}
 use Rattle.wb_keep.proofs.Crash.{one_batch}
 
 -- a file at rest has its header
@@ -42,14 +43,29 @@ module _ {D : Type 0} (seen : D → List ℕ) (moment : D → ℕ) (left_since :
 
 -- a new log is settled
 pub settled : {D : Type 0} (seen : D → List ℕ) (may_leave : D → List ℕ → Type 0) (log : LineLog D) (lines file : List ℕ) → file ≡ header ++ marked (lines_of lines) ++ 35 ∷ [] → seen log.device ≡ file
-    → log.mark ≡ length file - 1 → Only file (may_leave log.device) → IsSettled seen may_leave log × (recovered (seen log.device) ≡ lines_of lines)
-settled seen may_leave log lines file is held end durable =
+    → log.mark ≡ length file - 1 → log.last ≡ log.mark → Only file (may_leave log.device) → IsSettled seen may_leave log × (recovered (seen log.device) ≡ lines_of lines)
+settled seen may_leave log lines file is held at same durable =
     let one = one_batch (lines_of lines) (are_lines lines) file is in
     let size : 1 ≤ length file = omega (arith, ap length is, length-append (marked (lines_of lines)) (35 ∷ []), length-append header (marked (lines_of lines) ++ 35 ∷ [])) in (
       record {
-        file = subst IsAtRest (sym held) one.0;
-        mark = omega (arith, end, size, ap length held);
+        file = record { batches = marked (lines_of lines); room = 0; is = held ∙ is; whole = whole_marked (lines_of lines) (are_lines lines) };
+        mark = omega (arith, at, size, ap length held);
+        last = omega (arith, at, same, size, ap length held);
         durable = subst (λ (f : List ℕ). Only f (may_leave log.device)) (sym held) durable;
       },
       ap recovered held ∙ one.1,
     )
+
+-- the old file goes on
+pub goes_on_settled : {D : Type 0} (seen : D → List ℕ) (may_leave : D → List ℕ → Type 0) (log new : LineLog D) → IsSettled seen may_leave log → new.mark ≡ log.mark → new.last ≡ log.last
+    → seen new.device ≡ seen log.device → ((c : List ℕ) → may_leave new.device c → may_leave log.device c)
+    → IsSettled seen may_leave new × (recovered (seen new.device) ≡ recovered (seen log.device))
+goes_on_settled seen may_leave log new s mark last same stays = (
+  record {
+    file = record { batches = s.file.batches; room = s.file.room; is = same ∙ s.file.is; whole = s.file.whole };
+    mark = omega (arith, mark, s.mark, ap length same);
+    last = omega (arith, last, s.last, ap length same);
+    durable = λ c left. s.durable c (stays c left) ∙ sym same;
+  },
+  ap recovered same,
+)

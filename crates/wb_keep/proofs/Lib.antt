@@ -1,6 +1,7 @@
 pub mod Disks
 mod Appending
 mod Batches
+mod Closing
 mod Crash
 mod Feeds
 mod InPlace

@@ -58,6 +58,7 @@ impl<D: Replaces> LineLog<D> {
         match self.device.replace(host, &file) {
             Ok(()) => {
                 self.mark = file.len() - 1;
+                self.last = self.mark;
                 Ok(())
             }
             Err(ReplaceErr::NotMade) => Err(CompactErr::NotMade),

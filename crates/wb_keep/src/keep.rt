@@ -1,14 +1,14 @@
 //! The log: a header, batches of lines, and the mark of a line that does not count.
-ghost use Rattle.std.specs.Prelude.{◌≡◌, ◌≢◌, ◌<◌, ◌≤◌, ◌^◌, ◌++◌, ◌+◌, max, [], length, map, IsTrue, IsFalse, IfOk, IfErr, IsErrAnd, OnOk, OnErr, IsErrOf, Err};
-ghost use Rattle.wb_keep.specs.Disk.Device.{Only, LeavesOnly, Torn, Holds};
-ghost use Rattle.wb_keep.specs.Lines.{lines_of, recovered, IsAtRest, is_ours};
+ghost use Rattle.std.specs.Prelude.{◌≡◌, ◌≢◌, ◌<◌, ◌≤◌, ◌^◌, ◌++◌, ◌+◌, max, [], length, take, map, IsTrue, IsFalse, IfOk, IfErr, IsErrAnd, OnOk, OnErr, IsErrOf, Err};
+ghost use Rattle.wb_keep.specs.Disk.Device.{Only, LeavesOnly, Torn, Cut, Holds};
+ghost use Rattle.wb_keep.specs.Lines.{lines_of, recovered, IsClosed, is_ours};
 ghost use Rattle.wb_keep.specs.Keep.{IsSettled, IsBeforeOrAfter};
 ghost use Rattle.wb_keep.specs.Run.{lines_in, HasSome};
 ghost use Rattle.wb_keep.specs.declared.keep.AppendErr.TheVariants.{Memory, Failed};
 ghost use Rattle.wb_keep.specs.Repair.{IsRepairable, StandsForTheSame, tail_at};
 
 use crate::disk::{Device, DeviceFault};
-use crate::lines::{CLOSED, block_of, counted_lines};
+use crate::lines::{CLOSED, block_of, counted_lines, with_room};
 use std::alloc::{AllocError, Global};
 
 /// The first line.
@@ -26,6 +26,8 @@ pub struct LineLog<D: Device> {
     pub device: D,
     /// Where the mark stands that closes the file.
     pub mark: usize,
+    /// Where its last byte stands. Behind the mark is room for more.
+    pub last: usize,
 }
 
 /// Why a file is not opened.
@@ -96,14 +98,35 @@ fn put<D: Device>(device: &mut D, at: usize, bytes: &[u8]) -> Result<(), DeviceF
     device.sync()
 }
 
+/// Cuts a file off at a length, all of which is on the disk, and syncs.
+fn cut_off<D: Device>(device: &mut D, len: usize) -> Result<(), DeviceFault>
+    // All of the file is on the disk, and the length is within it.
+    requires durable { Only (D.seen device.old) (D.may_leave device.old) }
+    requires within { len ≤ length (D.seen device.old) }
+
+    // That much is left, all of it on the disk.
+    ensures cut { OnOk result (D.seen device.new ≡ take len (D.seen device.old)) }
+    ensures durable { OnOk result (Only (D.seen device.new) (D.may_leave device.new)) }
+
+    // A crash at any moment leaves some length between.
+    ensures any_moment { LeavesOnly D.moment D.left_since device.old device.new (Cut len (D.seen device.old)) }
+
+    // It doesn't give up by itself.
+    ensures failed { OnErr result (D.faults device.old < D.faults device.new) }
+    ensures faults { D.faults device.old ≤ D.faults device.new }
+{
+    device.cut(len)?;
+    device.sync()
+}
+
 /// Puts the end of a file right that a crash may have left. It may crash too.
 fn repair<D: Device>(device: &mut D, end: usize) -> Result<(), DeviceFault>
     // All of the file is on the disk, and its end can be put right.
     requires durable { Only (D.seen device.old) (D.may_leave device.old) }
     requires repairable { IsRepairable (D.seen device.old) end }
 
-    // The lines are the same, the file is at rest, and all is on the disk.
-    ensures at_rest { OnOk result (IsAtRest (D.seen device.new) × (recovered (D.seen device.new) ≡ recovered (D.seen device.old))) }
+    // The lines are the same, the file ends with its mark, and all is on the disk.
+    ensures at_rest { OnOk result (IsClosed (D.seen device.new) × (recovered (D.seen device.new) ≡ recovered (D.seen device.old))) }
     ensures mark { OnOk result (max end 18 + 1 ≡ length (D.seen device.new)) }
     ensures durable { OnOk result (Only (D.seen device.new) (D.may_leave device.new)) }
 
@@ -164,6 +187,7 @@ pub fn resume<D: Device>(device: D, end: usize) -> Result<LineLog<D>, D>
     requires durable { Only (D.seen device) (D.may_leave device) }
 
     ensures settled { IfOk result (λ log. IsSettled D.seen D.may_leave log × (recovered (D.seen log.device) ≡ recovered (D.seen device))) }
+    ensures closed { IfOk result (λ log. IsClosed (D.seen log.device)) }
 
     // A crash at any moment leaves the same lines.
     ensures any_moment { IfOk result (λ log. LeavesOnly D.moment D.left_since device log.device (StandsForTheSame (D.seen device))) }
@@ -177,6 +201,7 @@ pub fn resume<D: Device>(device: D, end: usize) -> Result<LineLog<D>, D>
         Ok(()) => Ok(LineLog {
             device,
             mark: end.max(HEADER.len()),
+            last: end.max(HEADER.len()),
         }),
         Err(_) => Err(device),
     }
@@ -196,6 +221,7 @@ pub fn open<D: Device>(
     ensures lines { IfOk result (λ opened. map (λ line. line.items) opened.1.items ≡ recovered held.now) }
     ensures settled { IfOk result (λ opened. IsSettled D.seen D.may_leave opened.0
         × (recovered (D.seen opened.0.device) ≡ recovered held.now)) }
+    ensures closed { IfOk result (λ opened. IsClosed (D.seen opened.0.device)) }
 
     // A crash at any moment leaves the same lines.
     ensures any_moment { IfOk result (λ opened. LeavesOnly D.moment D.left_since device opened.0.device (StandsForTheSame held.now)) }
@@ -241,6 +267,35 @@ impl<D: Device> LineLog<D> {
         ensures faults { D.faults self.old.device ≤ D.faults self.new.device }
         ensures full { IsErrOf result AppendErr.Full → 2 ^ 60 ≤ self.old.mark }
     {
+        self.append_ahead(alloc, lines, 0)
+    }
+
+    /// The same; where the file gets longer, with so much room behind the new mark. `close` cuts off what is left of it.
+    pub fn append_ahead(
+        &mut self,
+        alloc: Global,
+        lines: &[u8],
+        room: usize,
+    ) -> Result<(), AppendErr>
+        requires { IsSettled D.seen D.may_leave self.old }
+
+        ensures acknowledged { OnOk result (IsSettled D.seen D.may_leave self.new
+            × (recovered (D.seen self.new.device) ≡ recovered (D.seen self.old.device) ++ lines_of lines.now)) }
+
+        // A crash at any moment of the call leaves the lines from before it, with all of the new ones or with none.
+        ensures any_moment { LeavesOnly D.moment D.left_since self.old.device self.new.device
+            (IsBeforeOrAfter (recovered (D.seen self.old.device)) (lines_of lines.now)) }
+
+        // Without a line no call is made on the file, nor where there is no memory or no room.
+        ensures idle { lines_of lines.now ≡ [] → self.new ≡ self.old }
+        ensures memory { IsErrOf result AppendErr.Memory → self.new ≡ self.old }
+        ensures no_room { IsErrOf result AppendErr.Full → self.new ≡ self.old }
+
+        // It doesn't give up by itself.
+        ensures failed { IsErrOf result AppendErr.Failed → D.faults self.old.device < D.faults self.new.device }
+        ensures faults { D.faults self.old.device ≤ D.faults self.new.device }
+        ensures full { IsErrOf result AppendErr.Full → 2 ^ 60 ≤ self.old.mark }
+    {
         let block = block_of(alloc, lines)?;
         if block.len() == 1 {
             return Ok(());
@@ -249,8 +304,39 @@ impl<D: Device> LineLog<D> {
         if mark >= MAX_LENGTH {
             return Err(AppendErr::Full);
         }
-        put(&mut self.device, mark, &block)?;
-        self.mark = mark + (block.len() - 1);
+        let more = block.len() - 1;
+        let bytes = with_room(block, self.last - mark, room)?;
+        put(&mut self.device, mark, &bytes)?;
+        self.mark = mark + more;
+        self.last = self.last.max(mark + (bytes.len() - 1));
+        Ok(())
+    }
+
+    /// Cuts off the room behind the mark. The log may go on.
+    pub fn close(&mut self) -> Result<(), DeviceFault>
+        requires { IsSettled D.seen D.may_leave self.old }
+
+        // The file ends with its mark, has the same lines, and all of it is on the disk.
+        ensures closed { OnOk result (IsClosed (D.seen self.new.device)) }
+        ensures settled { OnOk result (IsSettled D.seen D.may_leave self.new
+            × (recovered (D.seen self.new.device) ≡ recovered (D.seen self.old.device))) }
+
+        // A crash at any moment leaves the same lines.
+        ensures any_moment { LeavesOnly D.moment D.left_since self.old.device self.new.device (StandsForTheSame (D.seen self.old.device)) }
+
+        // Without room no call is made.
+        ensures idle { self.old.last ≡ self.old.mark → self.new ≡ self.old }
+
+        // It doesn't give up by itself.
+        ensures failed { OnErr result (D.faults self.old.device < D.faults self.new.device) }
+        ensures faults { D.faults self.old.device ≤ D.faults self.new.device }
+    {
+        let mark = self.mark;
+        if self.last == mark {
+            return Ok(());
+        }
+        cut_off(&mut self.device, mark + 1)?;
+        self.last = mark;
         Ok(())
     }
 

@@ -23,6 +23,9 @@ pub trait Device {
     /// How often the file has failed.
     ghost faults: { Self → ℕ };
 
+    /// How much room is worth having ahead: a sync of what is written within a file takes less than one of a longer file.
+    const ROOM: usize;
+
     /// Writes over what is there, and past the end. Until a sync, a crash may leave each byte of the range as it was, as it
     /// is written, or 0, and any length between.
     fn write_at(&mut self, at: usize, bytes: &[u8]) -> Result<(), DeviceFault>

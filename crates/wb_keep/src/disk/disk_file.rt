@@ -238,6 +238,8 @@ impl Device for DiskFile {
 
     ghost only_now = { λ f. no_other f.calls };
 
+    const ROOM: usize = 16_384;
+
     fn write_at(&mut self, at: usize, bytes: &[u8]) -> Result<(), DeviceFault> {
         let outcome = self.file.write_all_at(bytes, at as u64);
         self.calls.write(at, bytes, outcome.is_ok());

@@ -97,6 +97,9 @@ impl Device for MemoryFile {
 
     ghost only_now = { λ f. no_other f.calls };
 
+    /// So little that some batches of a test have room enough, and others don't.
+    const ROOM: usize = 8;
+
     fn write_at(&mut self, at: usize, bytes: &[u8]) -> Result<(), DeviceFault> {
         if self.left_to_do == 0 {
             if self.left.is_none() {
