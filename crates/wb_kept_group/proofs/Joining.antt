@@ -1,12 +1,13 @@
 -- Turns behind turns.
-use Rattle.std.proofs.Common.{◌≡◌, ℕ, ◌+◌, ◌<◌, ◌≤◌, Result, Ok, Err, List, [], ◌∷◌, ◌++◌, length, take, get_or, refl, sym, ap, ◌∙◌, subst, inl, append_assoc, append-nil}
+use Rattle.std.proofs.Common.{◌≡◌, ℕ, ◌+◌, ◌<◌, ◌≤◌, Result, Ok, Err, List, [], ◌∷◌, ◌++◌, length, take, get_or, refl, sym, ap, ◌∙◌, subst, inl, inr, append_assoc, append-nil}
 use Rattle.std.specs.Prelude.{◌^◌, IfErr}
 use Rattle.std.proofs.lemmas.List.{take_more}
 use Rattle.std.proofs.lemmas.List.Concat.{flat_map-append}
 use Rattle.wb_keep.specs.Disk.Device.{LeavesOnly}
-use Rattle.wb_keep.proofs.Disks.Moments.{started}
+use Rattle.wb_keep.proofs.Disks.Moments.{started, joined}
 use Rattle.wb_keep.specs.Lines.{recovered, HasHeader}
 use Rattle.wb_keep.specs.Keep.{IsSettled, IsBeforeOrAfter}
+use Rattle.wb_keep.specs.Repair.{StandsForTheSame}
 use Rattle.wb_keep.specs.declared.keep.AppendErr.{AppendErr}
 use Rattle.wb_keep.specs.declared.keep.AppendErr.TheVariants.{Failed, Full, Memory}
 use Rattle.wb_keep.specs.declared.keep.LineLog.{LineLog}
@@ -34,6 +35,16 @@ module _ {D : Type 0} (seen : D → List ℕ) (may_leave : D → List ℕ → Ty
   idle only_now log more s = started moment left_since log.device (IsBeforeOrAfter (recovered (seen log.device)) more)
       (λ c left. subst (IsBeforeOrAfter (recovered (seen log.device)) more) (sym (s.durable c (only_now log.device c left)))
       (record { head = subst HasHeader (sym s.file.is) refl; lines = inl refl }))
+
+  -- lines were added, and then the file was brought to an end in which it stands for the same
+  pub last_moments : (old mid : LineLog D) (new : D) (was before text more : List (List ℕ)) → IsSettled seen may_leave mid → recovered (seen mid.device) ≡ was ++ text → was ≡ before → text ≡ more
+      → LeavesOnly moment left_since old.device mid.device (IsBeforeOrAfter was text) → LeavesOnly moment left_since mid.device new (StandsForTheSame (seen mid.device))
+      → LeavesOnly moment left_since old.device new (IsBeforeOrAfter before more)
+  last_moments old mid new was before text more s lines same_before same_more added closed =
+      subst (λ (ls : List (List ℕ)). LeavesOnly moment left_since old.device new (IsBeforeOrAfter ls more)) same_before
+      (subst (λ (ls : List (List ℕ)). LeavesOnly moment left_since old.device new (IsBeforeOrAfter was ls)) same_more
+      (joined moment left_since old.device mid.device new (IsBeforeOrAfter was text) (StandsForTheSame (seen mid.device)) added closed
+      (λ c same. record { head = same.head (subst HasHeader (sym s.file.is) refl); lines = inr (same.lines ∙ lines) })))
 
 -- an error of a call on a log, of which each kind has its cause, tells truly of the call
 pub tells_truly : {D X : Type 0} (faults : D → ℕ) (r : Result X AppendErr) (old new : LineLog D) → (r ≡ Err Memory → new ≡ old)

@@ -1,8 +1,9 @@
 //! A file that has the changes of turns.
-ghost use Rattle.std.specs.Prelude.{◌≡◌, ◌++◌};
+ghost use Rattle.std.specs.Prelude.{◌≡◌, ◌++◌, IfOk};
+ghost use Rattle.wb_kept_group.specs.Together.{changes_in};
 
 use crate::group::{Group, Store};
-use std::alloc::Global;
+use std::alloc::{AllocError, Global};
 use std::marker::{Brand, PhantomData};
 use wb_keep::disk::Device;
 use wb_keep::{AppendErr, LineLog};
@@ -51,10 +52,21 @@ impl<O: Opening, D: Device> Journal<O, D> {
     }
 }
 
+/// The changes of turns, in order.
+fn all_of(alloc: Global, turns: &[Changes]) -> Result<Changes, AllocError>
+    ensures { IfOk result (λ all. all ≡ changes_in turns.now) }
+{
+    let mut all = Changes::new(alloc);
+    for turn in turns {
+        all.append(turn)?;
+    }
+    Ok(all)
+}
+
 impl<O: Opening, D: Device> Store<Changes, AppendErr> for Journal<O, D> {
     ghost use Rattle.std.specs.Prelude.{◌≡◌, ◌++◌};
     ghost use Rattle.wb_keep.specs.Disk.Device.{LeavesOnly};
-    ghost use Rattle.wb_keep.specs.Lines.{recovered};
+    ghost use Rattle.wb_keep.specs.Lines.{recovered, IsClosed};
     ghost use Rattle.wb_keep.specs.Keep.{IsSettled, IsBeforeOrAfter};
     ghost use Rattle.wb_kept_group.specs.Together.{changes_in, Tells};
 
@@ -64,11 +76,18 @@ impl<O: Opening, D: Device> Store<Changes, AppendErr> for Journal<O, D> {
 
     ghost tells = { λ e old new. Tells D.faults e old.log new.log };
 
+    ghost closed = { λ j. IsClosed (D.seen j.log.device) };
+
     fn add(&mut self, turns: &[Changes]) -> Result<(), AppendErr> {
-        let mut all = Changes::new(self.alloc);
-        for turn in turns {
-            all.append(turn)?;
-        }
-        self.log.append(self.alloc, all.as_text())
+        let all = all_of(self.alloc, turns)?;
+        self.log.append_ahead(self.alloc, all.as_text(), D::ROOM)
+    }
+
+    fn finish(&mut self, turns: &[Changes]) -> Result<(), AppendErr> {
+        let all = all_of(self.alloc, turns)?;
+        self.log.append(self.alloc, all.as_text())?;
+        // What is left of the room that earlier turns were to be written to is cut off.
+        self.log.close()?;
+        Ok(())
     }
 }

@@ -38,6 +38,7 @@ impl<L: KeptOpening, D: Device> File<L, D> {
 impl<L: KeptOpening, D: Device> Store<Changes, AppendErr> for File<L, D> {
     ghost use Rattle.std.specs.Prelude.{◌≡◌, ◌++◌};
     ghost use Rattle.wb_keep.specs.Disk.Device.{LeavesOnly};
+    ghost use Rattle.wb_keep.specs.Lines.{IsClosed};
     ghost use Rattle.wb_keep.specs.Keep.{IsBeforeOrAfter};
     ghost use Rattle.wb_kept_group.specs.Together.{changes_in, Tells};
     ghost use Rattle.wb_kept_seats.specs.Files.{HasTurns};
@@ -49,7 +50,13 @@ impl<L: KeptOpening, D: Device> Store<Changes, AppendErr> for File<L, D> {
 
     ghost tells = { λ e old new. Tells D.faults e old.journal.log new.journal.log };
 
+    ghost closed = { λ f. IsClosed (D.seen f.journal.log.device) };
+
     fn add(&mut self, turns: &[Changes]) -> Result<(), AppendErr> {
         self.journal.add(turns)
+    }
+
+    fn finish(&mut self, turns: &[Changes]) -> Result<(), AppendErr> {
+        self.journal.finish(turns)
     }
 }

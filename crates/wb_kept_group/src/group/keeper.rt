@@ -104,6 +104,7 @@ impl<G: Group, C: Drop, E: Drop, T: Store<C, E> + Drop> Keeper<G, C, E, T> {
         // The store has all turns that were made, and leaves at any moment what one leaves that adds them.
         ensures kept { IfOk result (λ store. (self.is_open ≡ true) × T.has store (W.made desk.old)) }
         ensures any_moment { IfOk result (λ store. (turns : List C) × (W.made desk.old ≡ self.turns ++ turns) × T.leaves self.store store self.turns turns) }
+        ensures closed { IfOk result (λ store. T.closed store) }
 
         // After an error: what is left, and why.
         ensures left { IfErr result (λ e. IsLeft T.has T.leaves (W.made desk.old) e.1) }
@@ -129,7 +130,7 @@ impl<G: Group, C: Drop, E: Drop, T: Store<C, E> + Drop> Keeper<G, C, E, T> {
         if !is_open {
             return Err((KeepErr::Closed, store));
         }
-        match store.add(&batch.turns) {
+        match store.finish(&batch.turns) {
             Ok(()) => Ok(store),
             Err(error) => Err((KeepErr::Failed(error), store)),
         }
