@@ -43,30 +43,34 @@ fn add_text(alloc: Global, texts: &mut Vec<Vec<u8>>, text: &[u8]) -> Result<(), 
     }
 }
 
-/// Adds two batches, until one of them fails. Returns how many were acknowledged.
-fn acknowledged(alloc: Global, log: &mut LineLog<MemoryFile>) -> usize
+/// Adds two batches, with so much room behind each that makes the file longer, until one of them fails, and closes the log.
+/// Returns how many were acknowledged.
+fn acknowledged(alloc: Global, log: &mut LineLog<MemoryFile>, room: usize) -> usize
     requires { IsSettled (λ f. seen_after f.calls) (λ f. MayLeave f.calls) log.old }
 {
-    if log.append(alloc, b"two\nthree\n").is_err() {
+    if log.append_ahead(alloc, b"two\nthree\n", room).is_err() {
         return 0;
     }
-    if log.append(alloc, b"four\n").is_err() {
+    if log.append_ahead(alloc, b"four\n", room).is_err() {
         return 1;
     }
+    // Both are on the disk, whether the room is cut off or not.
+    let _ = log.close();
     2
 }
 
-/// Opens the file and adds two batches, until it is cut off in the call after so many. Returns what is left, and how
-/// many batches were acknowledged.
+/// Opens the file, adds two batches and closes it, until it is cut off in the call after so many. Returns what is left, and
+/// how many batches were acknowledged.
 fn cut_off(
     alloc: Global,
     bytes: &[u8],
     calls: usize,
     torn: usize,
+    room: usize,
 ) -> Result<(Vec<u8>, usize), AllocError> {
     match opened(alloc, bytes, calls, torn)? {
         Ok(mut log) => {
-            let count = acknowledged(alloc, &mut log);
+            let count = acknowledged(alloc, &mut log, room);
             left_with(alloc, log.device.left(), count)
         }
         Err(file) => left_with(alloc, file.left(), 0),
@@ -198,6 +202,8 @@ const FILES: &[(&[u8], Option<&[u8]>)] = &[
         Some(b"one\ntwo\n"),
     ),
     (b"chapel-workbook 3\n one\n tw", Some(b"one\n")),
+    (b"chapel-workbook 3\n one\n#\0\0\0", Some(b"one\n")),
+    (b"chapel-workbook 3\n one\n\0\0\0 two\n#", Some(b"one\n")),
     (
         b"chapel-workbook 3\n+one\n+two\n three\n+four\n#",
         Some(b"one\ntwo\nthree\n"),
@@ -217,20 +223,30 @@ fn only_our_files_are_opened(rt: HostRuntime) -> Result<(), Fail> {
 }
 
 /// How many batches a file has that is opened once more, and cut off again. None if it is refused, or in between.
-fn batches_then(alloc: Global, left: &[u8], calls: usize) -> Result<Option<usize>, AllocError> {
-    let (left, _) = cut_off(alloc, left, calls, 0)?;
+fn batches_then(
+    alloc: Global,
+    left: &[u8],
+    calls: usize,
+    room: usize,
+) -> Result<Option<usize>, AllocError> {
+    let (left, _) = cut_off(alloc, left, calls, 0, room)?;
     batches_in(alloc, &left)
 }
 
 /// Whether a file that is cut off has the batches that were acknowledged, each whole, and stands for the same once it is
 /// opened and cut off again.
-fn has_acknowledged(alloc: Global, calls: usize, torn: usize) -> Result<bool, AllocError> {
-    let (left, count) = cut_off(alloc, FIRST, calls, torn)?;
+fn has_acknowledged(
+    alloc: Global,
+    calls: usize,
+    torn: usize,
+    room: usize,
+) -> Result<bool, AllocError> {
+    let (left, count) = cut_off(alloc, FIRST, calls, torn, room)?;
     let Some(found) = batches_in(alloc, &left)? else {
         return Ok(false);
     };
     for again in 0..4 {
-        if batches_then(alloc, &left, again)? != Some(found) {
+        if batches_then(alloc, &left, again, room)? != Some(found) {
             return Ok(false);
         }
     }
@@ -242,8 +258,52 @@ fn a_crash_in_each_call_and_at_each_byte(rt: HostRuntime) -> Result<(), Fail> {
     let alloc = rt.alloc();
     for calls in 0..8 {
         for torn in 0..16 {
-            assert!(rt; has_acknowledged(alloc, calls, torn)?);
+            assert!(rt; has_acknowledged(alloc, calls, torn, 0)?);
         }
     }
+    Ok(())
+}
+
+#[test]
+fn a_crash_with_room_behind_the_mark(rt: HostRuntime) -> Result<(), Fail> {
+    let alloc = rt.alloc();
+    // The second batch takes six bytes behind its first one: more than three, and less than twelve.
+    for calls in 0..10 {
+        for torn in 0..26 {
+            assert!(rt; has_acknowledged(alloc, calls, torn, 3)?);
+            assert!(rt; has_acknowledged(alloc, calls, torn, 12)?);
+        }
+    }
+    Ok(())
+}
+
+/// What a log has after two batches with room for four bytes more, and once it is closed.
+fn with_room(alloc: Global) -> Result<Option<(Vec<u8>, Vec<u8>, Vec<u8>)>, AllocError> {
+    let Ok(mut log) = opened(alloc, FIRST, NEVER, 0)? else {
+        return Ok(None);
+    };
+    if log.append_ahead(alloc, b"two\n", 4).is_err() {
+        return Ok(None);
+    }
+    let first = log.device.bytes().to_vec(alloc)?;
+    if log.append_ahead(alloc, b"3\n", 4).is_err() {
+        return Ok(None);
+    }
+    let second = log.device.bytes().to_vec(alloc)?;
+    if log.close().is_err() {
+        return Ok(None);
+    }
+    let closed = log.device.bytes().to_vec(alloc)?;
+    Ok(Some((first, second, closed)))
+}
+
+#[test]
+fn room_is_written_over_and_cut_off(rt: HostRuntime) -> Result<(), Fail> {
+    let Some((first, second, closed)) = with_room(rt.alloc())? else {
+        return Err(Fail::new("no room was written"));
+    };
+    assert!(rt; first.as_slice() == b"chapel-workbook 3\n one\n two\n#\0\0\0\0".as_slice());
+    assert!(rt; second.as_slice() == b"chapel-workbook 3\n one\n two\n 3\n#\0".as_slice());
+    assert!(rt; closed.as_slice() == b"chapel-workbook 3\n one\n two\n 3\n#".as_slice());
     Ok(())
 }

@@ -10,7 +10,7 @@ from collections import Counter
 
 from .records import BEGUN, CUT, ENDED, FOLDER, NAMED, RENAMED, SYNC, TAKEN_AWAY, TOLD, WRITE
 
-WHOLE = 512  # a longer write is torn in each way at some of its bytes alone
+WHOLE = 512  # a longer write is torn in each way at some of its bytes alone; of one with zeros at its end, that is said of each part
 SOME = 48
 TOGETHER = 5  # of more calls that are not synced, some sets alone
 
@@ -32,11 +32,17 @@ def torn(old, call, chance):
     was = old[at : at + size].ljust(size, b"\0")
     either = bytes(chance.choice(two) for two in zip(was, bytes(size)))
     some = bytes(chance.choice(three) for three in zip(was, data, bytes(size)))
+    front = len(data.rstrip(b"\0"))
     for other in dict.fromkeys([was, bytes(size), either, some]):
-        for k in range(size + 1) if size <= WHOLE else sorted(chance.sample(range(size + 1), SOME)):
+        for k in [*places(range(front + 1), chance), *places(range(front + 1, size + 1), chance)]:
             yield from shorter(old, laid(old, at, data[:k] + other[k:]), at + k)
             yield from shorter(old, laid(old, at, other[:k] + data[k:]), at + k)
             yield laid(old, at, data[:k] + other[k : k + 1] + data[k + 1 :])
+
+
+def places(all_of, chance):
+    """Each of some places, or of many some."""
+    return all_of if len(all_of) <= WHOLE else sorted(chance.sample(all_of, SOME))
 
 
 def shorter(old, new, at):
@@ -50,7 +56,7 @@ def taken(old, call, chance):
     """What a crash may leave of a call."""
     if call.kind == WRITE:
         return torn(old, call, chance)
-    return (old[:length] for length in range(min(call.at, len(old)), len(old) + 1))
+    return (old[:length] for length in {call.at, len(old), *places(range(min(call.at, len(old)), len(old) + 1), chance)} if length <= len(old))
 
 
 def outcomes(base, calls, chance):
