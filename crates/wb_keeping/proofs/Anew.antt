@@ -3,8 +3,10 @@ use Rattle.std.proofs.Common.{◌≡◌, ◌≢◌, inr, ⊎_elim, ℕ, List, []
 use Rattle.std.proofs.lemmas.Bool.Decides.{nat_tests}
 use Rattle.selective_undo.specs.History.{traces}
 use Rattle.wb_cells.specs.Cells.{written_more}
+use Rattle.wb_keep.specs.Disk.Device.{Only, LeavesOnly}
 use Rattle.wb_keep.specs.Keep.{IsOldOrNew}
 use Rattle.wb_keep.specs.Lines.{onto, lines_of, recovered, IsAtRest, HasHeader}
+use Rattle.wb_keep.proofs.Disks.Moments.{started}
 use Rattle.wb_kept.specs.Runs.{Leads}
 use Rattle.wb_lines.specs.Lines.{IsUnbroken}
 use Rattle.wb_history.specs.Past.{Numbered, Past, meant}
@@ -52,3 +54,13 @@ module _ (h : Past) (line : List ℕ) (begins : (q : Past) → q.entries ≡ h.e
 
 pub head_at_rest : (file : List ℕ) → IsAtRest file → HasHeader file
 head_at_rest file rest = subst HasHeader (sym rest.is) refl
+
+-- ---- a log that is left alone
+
+pub unmoved : {D : Type 0} (seen : D → List ℕ) (moment : D → ℕ) (left_since : D → ℕ → List ℕ → Type 0) (may_leave : D → List ℕ → Type 0) (device : D) (h : Past) → IsAtRest (seen device)
+    → Only (seen device) (may_leave device) → Leads Grants no_edit (recovered (seen device)) h → ((c : List ℕ) → left_since device (moment device) c → may_leave device c)
+    → LeavesOnly moment left_since device device (HasEdits h.entries)
+unmoved seen moment left_since may_leave device h rest durable leads only_now =
+    started moment left_since device (HasEdits h.entries)
+    (λ c left.
+    subst (HasEdits h.entries) (sym (durable c (only_now c left))) (record { history = h; same = refl; leads = leads; head = head_at_rest (seen device) rest }))

@@ -6,8 +6,21 @@ use Rattle.wb_keep.specs.Keep.{IsOldOrNew}
 use Rattle.wb_keep.specs.Lines.{lines_of, recovered}
 use Rattle.wb_keeping.specs.Granting.Beginning.{lines_ask}
 use Rattle.wb_keeping.specs.Anew.{HasEdits}
-use Rattle.wb_keeping.proofs.Anew.{begun, head_at_rest, old_or_new, one_line}
+use Rattle.wb_keeping.proofs.Anew.{begun, head_at_rest, old_or_new, one_line, unmoved}
 use Rattle.wb_keeping.proofs.compacting.compact.Goals as goal
+
+-- the log was left alone
+pub returns-in_default-clause-any_moment : goal.returns-in_default-clause-any_moment
+returns-in_default-clause-any_moment g c =
+    let D = g.D.Device in
+    let d0 = c.args.log.now.device in
+    unmoved D.seen D.moment D.left_since D.may_leave d0 c.args.history.now c.requires.settled.file c.requires.settled.durable c.requires.leads (g.met.D.Device.only_now d0)
+
+pub returns-then-is_err-clause-any_moment : goal.returns-then-is_err-clause-any_moment
+returns-then-is_err-clause-any_moment g c =
+    let D = g.D.Device in
+    let d0 = c.args.log.now.device in
+    unmoved D.seen D.moment D.left_since D.may_leave d0 c.args.history.now c.requires.settled.file c.requires.settled.durable c.requires.leads (g.met.D.Device.only_now d0)
 
 pub returns-clause-any_moment : goal.returns-clause-any_moment
 returns-clause-any_moment g c =
