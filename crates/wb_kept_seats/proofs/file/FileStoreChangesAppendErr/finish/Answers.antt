@@ -6,3 +6,6 @@ pub returns-clause-kept : goal.returns-clause-kept
 returns-clause-kept g c before has =
     on_ok_weaker c.finish.result (λ now. has_more g.D.Device.seen g.D.Device.may_leave g.D.Device.moment g.D.Device.left_since g.L.KeptOpening.lines g.L.KeptOpening.begun
     c.args.self.now.journal.log c.finish.new.self.log before c.args.turns.now has (c.finish.ensures.any_moment before (has.settled, has.lines_are)) now) (c.finish.ensures.kept before (has.settled, has.lines_are))
+
+pub returns-clause-any_moment : goal.returns-clause-any_moment
+returns-clause-any_moment g c before has = c.finish.ensures.any_moment before (has.settled, has.lines_are)
