@@ -3,7 +3,7 @@
 import unittest
 
 from tests.support import PROGRAM
-from workbook_client import OutOfDomain, Overflow, Workbook, WrongKind
+from workbook_client import OutOfDomain, Overflow, Workbook, WrongKind, bulk, requests
 
 try:
     import numpy
@@ -79,6 +79,31 @@ class Bulk(unittest.TestCase):
             B[range(1, 3)] = [1, 2]
         self.assertEqual(list(A), before)
 
+    def test_elements_by_their_indices(self):
+        """Those of a rectangle are one edit."""
+        A = self.wb.array("A", self.wb.domain("D", "{1..4, 1..9 by 2}"))
+        domain = self.wb.snapshot().domains["D"]
+        for values, wanted in (
+            ({(2, 3): 1, (2, 5): 2, (3, 3): 3, (3, 5): 4}, ["A[2..3, 3..5 by 2] = [1, 2, 3, 4]"]),
+            ({(4, 5): 1, (2, 5): 2}, ["A[2..4 by 2, 5..5] = [2, 1]"]),
+            ({(1, 1): 5}, ["A[1, 1] = 5"]),
+            ({(1, 1): 5, (2, 3): 6}, ["A[1, 1] = 5", "A[2, 3] = 6"]),
+            ({(1, 1): 5, (1, 3): 6, (1, 7): 7}, ["A[1, 1] = 5", "A[1, 3] = 6", "A[1, 7] = 7"]),
+            ({(1, 1): 5, (1, 3): 5}, ["A[1..1, 1..3 by 2] = 5"]),
+            ({3: 5, 4: 6}, ["A[3..4] = [5, 6]"]),
+            ({"a": 5, "b": 6}, ['A["a"] = 5', 'A["b"] = 6']),
+            ({1: 5, (2, 3): 6}, ["A[1] = 5", "A[2, 3] = 6"]),
+            ({}, []),
+        ):
+            with self.subTest(values):
+                made = list(bulk.at_indices("A", domain, values))
+                self.assertEqual([requests.in_words(request) for request in made], wanted)
+                if all(isinstance(index, tuple) for index in values):
+                    with self.wb.trying():
+                        for request in made:
+                            self.wb.change(request)
+                    self.assertEqual({index: A[index] for index in values}, values)
+
     def test_empty(self):
         A = self.wb.array("A", self.wb.domain("D", "{1..0}"))
         self.assertEqual(A.put([]), [])
@@ -114,6 +139,27 @@ class Bulk(unittest.TestCase):
         edits = A.put(values)
         self.assertEqual([edit.cells for edit in edits], [16384] * 4)
         self.assertEqual(list(A), [value for row in values for value in row])
+
+    def test_a_table_of_pandas(self):
+        class Frame:
+            """What is used of a DataFrame of pandas'."""
+
+            shape = (2, 2)
+
+            def __init__(self, rows):
+                self.rows = rows
+
+            def to_numpy(self, dtype=None):
+                return self.rows
+
+        A = self.wb.array("A", self.wb.domain("D", "{1..2, 1..2}"))
+        A[:] = Frame([[1, 2], [3, 4]])
+        self.assertEqual((list(A), self.wb.last_edit.what), ([1, 2, 3, 4], "A[1..2, 1..2] = [1, 2, 3, 4]"))
+        with self.assertRaises(TypeError):
+            A[:] = Frame([[1, 2], [3, 4.5]])
+        with self.assertRaises(ValueError):
+            A[:] = Frame([[1, 2, 3], [3, 4, 5]])
+        self.assertEqual(list(A), [1, 2, 3, 4])
 
     @unittest.skipUnless(numpy, "numpy isn't there")
     def test_numpy(self):

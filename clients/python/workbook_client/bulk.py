@@ -1,6 +1,8 @@
-"""Many elements of an array at once, from lists or from an array of numpy's."""
+"""Many elements of an array at once, from lists, an array of numpy's or a table of pandas'."""
 
-from typing import Any, Iterator, List, Mapping, Sequence, Tuple
+import itertools
+import math
+from typing import Any, Collection, Iterator, List, Mapping, Optional, Sequence, Tuple
 
 from . import requests
 from .literals import Index, integer
@@ -23,19 +25,46 @@ def changes(array: str, domain: AnyDomain, values: Any) -> Iterator[Request]:
 
 
 def part(array: str, ranges: Tuple[range, ...], values: Any) -> Iterator[Request]:
-    """The changes that give a part of an array these elements, in the order of the ranges: as `changes`."""
-    elements = flat(values, [len(each) for each in ranges])
+    """The changes that give a part of an array these elements, nested as the ranges are: as `changes`."""
+    return at_ranges(array, ranges, flat(values, [len(each) for each in ranges]))
+
+
+def at_ranges(array: str, ranges: Tuple[range, ...], elements: List[int]) -> Iterator[Request]:
+    """The changes that give a part of an array as many elements, in the order of the ranges: as `changes`."""
+    if len(elements) != math.prod(len(each) for each in ranges):
+        raise ValueError(f"{len(elements):,} elements, where the ranges have {math.prod(len(each) for each in ranges):,} indices")
     if len(elements) > 1 and len(set(elements)) == 1:
         return iter([requests.fill(array, ranges, elements[0])])
     return _puts(array, ranges, elements)
 
 
 def at_indices(array: str, domain: AnyDomain, values: Mapping[Index, int]) -> Iterator[Request]:
-    """The changes that give an array elements by their indices: as `changes` where all indices are there, and else a set for each."""
+    """The changes that give an array elements by their indices: as `changes` where all indices are there, a `put` where they are
+    those of a rectangle, and else a set for each."""
     indices = domain.indices()
-    if len(values) != len(indices) or not all(index in values for index in indices):
+    if len(values) == len(indices) and all(index in values for index in indices):
+        return _whole(array, domain, indices, [values[index] for index in indices])
+    ranges = _rectangle(values) if isinstance(domain, RectDomain) else None
+    if ranges is None:
         return (requests.set(array, index, value) for index, value in values.items())
-    return _whole(array, domain, indices, [values[index] for index in indices])
+    places = itertools.product(*ranges)
+    return at_ranges(array, ranges, [values[place if len(ranges) > 1 else place[0]] for place in places])
+
+
+def _rectangle(indices: Collection[Index]) -> Optional[Tuple[range, ...]]:
+    """The ranges of which just these are the indices, if there are any."""
+    places = [index if isinstance(index, tuple) else (index,) for index in indices]
+    ranges: List[range] = []
+    if len({len(place) for place in places}) != 1:
+        return None
+    for numbers in zip(*places):
+        if not all(isinstance(number, int) for number in numbers):
+            return None
+        line = sorted(set(numbers))
+        ranges.append(range(line[0], line[-1] + 1, line[1] - line[0] if len(line) > 1 else 1))
+        if len(ranges[-1]) != len(line):
+            return None
+    return tuple(ranges) if math.prod(map(len, ranges)) == len(places) else None
 
 
 def _whole(array: str, domain: AnyDomain, indices: Sequence[Index], elements: List[int]) -> Iterator[Request]:
@@ -49,6 +78,8 @@ def _whole(array: str, domain: AnyDomain, indices: Sequence[Index], elements: Li
 
 def flat(values: Any, shape: Sequence[int]) -> List[int]:
     """The whole numbers of nested lists of this shape, row by row."""
+    if hasattr(values, "to_numpy"):  # a table of pandas'
+        values = values.to_numpy(dtype=object)
     if hasattr(values, "tolist"):  # an array of numpy's, of array's, or a memoryview
         values = values.tolist()
     if not isinstance(values, (list, tuple)) or len(values) != shape[0]:

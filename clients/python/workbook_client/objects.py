@@ -125,7 +125,7 @@ class Domain(_Named):
 
 
 def _are_many(value: Any) -> bool:
-    """Whether it is a list, or an array of numpy's of rank 1 or more."""
+    """Whether it is a list, an array of numpy's of rank 1 or more, or a table of pandas'."""
     return isinstance(value, (list, tuple)) or bool(getattr(value, "shape", None))
 
 
@@ -180,7 +180,7 @@ class Array(_Named):
 
     def put(self, values: Any, on: Optional[Ranges] = None) -> "List[Edit]":
         """Every element, in the domain's order, all or none: from a list, from lists of lists of
-        the domain's shape, or from an array of numpy's of that shape. Over a sparse or an
+        the domain's shape, or from an array of numpy's or a table of pandas' of that shape. Over a sparse or an
         associative domain it is one list. With `on` the elements of a rectangle, in its order.
 
         Over a rectangle that is one edit, or more where a line would be too long, and else an edit for each element; where all
