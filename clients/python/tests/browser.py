@@ -16,12 +16,12 @@ from contextlib import contextmanager
 from http.server import ThreadingHTTPServer
 from typing import Any, Iterator, List, Optional
 
-from tests.support import HERE  # noqa: F401  (so that the package beside the tests is found)
+from tests.support import PATIENCE  # the package beside the tests is found by it, too
 from workbook_client import Workbook
 from workbook_client.page import serve
 
 CHROMIUM = shutil.which("chromium") or shutil.which("chromium-browser") or shutil.which("google-chrome")
-WAIT = 20.0
+WAIT = 20.0 * PATIENCE
 
 KEYS = {
     "Enter": 13, "Tab": 9, "Escape": 27, "Delete": 46, "F2": 113, "ArrowLeft": 37, "ArrowUp": 38, "ArrowRight": 39, "ArrowDown": 40,
@@ -48,7 +48,11 @@ class Browser:
         )
         self.faults: List[str] = []
         self.number = 0
-        self._connect()
+        try:
+            self._connect()
+        except BaseException:
+            self.process.kill()
+            raise
         self.do("Emulation.setDeviceMetricsOverride", width=width, height=height, deviceScaleFactor=1, mobile=False)
         scheme = [{"name": "prefers-color-scheme", "value": "dark" if dark else "light"}]
         self.do("Emulation.setEmulatedMedia", features=scheme)
@@ -85,7 +89,7 @@ class Browser:
         self.number += 1
         data = json.dumps({"id": self.number, "method": method, "params": params}).encode()
         size = len(data)
-        head = struct.pack("!BB", 0x81, 0x80 | size) if size < 126 else struct.pack("!BBH", 0x81, 0xFE, size)
+        head = struct.pack("!BB", 0x81, 0x80 | size) if size < 126 else struct.pack("!BBH", 0x81, 0xFE, size) if size < 65536 else struct.pack("!BBQ", 0x81, 0xFF, size)
         mask = os.urandom(4)
         self.socket.sendall(head + mask + bytes(byte ^ mask[n % 4] for n, byte in enumerate(data)))
         while True:

@@ -26,6 +26,10 @@ def program() -> str:
 
 
 PROGRAM = program()
+PATIENCE = float(os.environ.get("WORKBOOK_PATIENCE", "1"))
+"""How many times as long what has to come is waited for: more than once on a machine that does much else."""
+LONG = 60 * PATIENCE
+"""So many seconds a command may take."""
 
 
 class Server:
@@ -98,7 +102,7 @@ class Terminal:
     def until(self, words: str) -> str:
         """What is shown up to these words."""
         while words not in self._seen:
-            if self.waits(30):
+            if self.waits(30 * PATIENCE):
                 raise AssertionError(f"waited for {words!r}, saw {self._seen!r}")
             try:
                 self._seen += os.read(self._parent, 4096).decode()
@@ -110,7 +114,7 @@ class Terminal:
 
     def ends(self) -> int:
         """The exit status of one that ends."""
-        return self.process.wait(30)
+        return self.process.wait(30 * PATIENCE)
 
     def close(self) -> None:
         """Ends it."""

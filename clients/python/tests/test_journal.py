@@ -9,7 +9,7 @@ import unittest
 import urllib.request
 from typing import List
 
-from tests.support import HERE, PROGRAM, Terminal
+from tests.support import HERE, LONG, PROGRAM, Terminal
 from workbook_client import Blocked, NotOpened, NotTakenBack, OutOfDomain, SessionEnded, Workbook, view
 
 PACKAGE = HERE.parents[1]
@@ -214,7 +214,7 @@ class NotJournals(Kept):
                 with self.subTest(f"{module} {why}"):
                     gone = subprocess.run(
                         [sys.executable, "-m", module, "--program", PROGRAM, "--journal", path],
-                        input="D = {1..4}\n", capture_output=True, text=True, cwd=PACKAGE, timeout=60,
+                        input="D = {1..4}\n", capture_output=True, text=True, cwd=PACKAGE, timeout=LONG,
                     )
                     self.assertEqual((gone.returncode, gone.stdout, "Traceback" in gone.stderr), (3, "", False))
                     self.assertRegex(gone.stderr, why)
@@ -229,7 +229,7 @@ class NotJournals(Kept):
         for words in (["--journal", "a", "--resume", "b"], ["a", "--resume", "b"], ["a", "--journal", "b"], ["a", "--connect", ":1"]):
             with self.subTest(words):
                 gone = subprocess.run(
-                    [sys.executable, "-m", "workbook_client", *words], input="", capture_output=True, text=True, cwd=PACKAGE, timeout=60,
+                    [sys.executable, "-m", "workbook_client", *words], input="", capture_output=True, text=True, cwd=PACKAGE, timeout=LONG,
                 )
                 self.assertEqual((gone.returncode, "Traceback" in gone.stderr), (3, False))
                 self.assertRegex(gone.stderr, "goes on")
@@ -246,7 +246,7 @@ class ForPeople(Kept):
         ):
             done = subprocess.run(
                 [sys.executable, "-m", "workbook_client", "--program", PROGRAM, *words], input=line + "\n", capture_output=True, text=True,
-                cwd=PACKAGE, timeout=60,
+                cwd=PACKAGE, timeout=LONG,
             )
             self.assertEqual(done.returncode, 0, done.stderr)
             first = " ".join(done.stdout.partition(">")[0].split())
@@ -267,7 +267,7 @@ class ForPeople(Kept):
         """Its last sentence tells where the work is."""
         done = subprocess.run(
             [sys.executable, "-c", SMALL_DISK, sys.executable, "-m", "workbook_client", "--program", PROGRAM, self.path],
-            input="D = {1..4}\nA over D\n" + "A[1] = 5\n" * 20, capture_output=True, text=True, cwd=PACKAGE, timeout=60,
+            input="D = {1..4}\nA over D\n" + "A[1] = 5\n" * 20, capture_output=True, text=True, cwd=PACKAGE, timeout=LONG,
         )
         self.assertEqual((done.returncode, "Traceback" in done.stderr), (3, False))
         self.assertIn(f"what it had answered is kept in {self.path}", done.stderr)
@@ -281,7 +281,7 @@ class ForPeople(Kept):
             self.assertEqual(view.View(book).state()["kept"], "")
 
     def is_answered(self, url: str) -> None:
-        with urllib.request.urlopen(urllib.request.Request(url, headers={"Sec-Fetch-Site": "none"}), timeout=30) as answer:
+        with urllib.request.urlopen(urllib.request.Request(url, headers={"Sec-Fetch-Site": "none"}), timeout=LONG) as answer:
             self.assertIn(b"<title>workbook</title>", answer.read())
 
     def test_the_page_at_a_terminal(self):

@@ -9,7 +9,7 @@ import tempfile
 import time
 import unittest
 
-from tests.support import HERE, PROGRAM
+from tests.support import HERE, LONG, PROGRAM
 from workbook_client import NoProgram, NoSeat, NotOpened, NotResumed, SessionEnded, Workbook, compact
 from workbook_client.language import Command, LanguageError, parse
 from workbook_client.session import Session
@@ -175,7 +175,7 @@ class Compacting(Files):
     def test_a_session_where_the_journal_is_in_use_says_so(self):
         with Workbook.run(PROGRAM, journal=self.path):
             gone = subprocess.run([sys.executable, "-m", "workbook_client", "--program", PROGRAM, self.path], input="", capture_output=True,
-                                  text=True, cwd=PACKAGE, timeout=60)
+                                  text=True, cwd=PACKAGE, timeout=LONG)
         self.assertEqual((gone.returncode, gone.stdout), (3, ""))
         self.assertTrue(re.search("plan.wb isn't opened: the journal is in use", gone.stderr), gone.stderr)
 

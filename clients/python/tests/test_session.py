@@ -9,7 +9,7 @@ import sys
 import tempfile
 import unittest
 
-from tests.support import HERE, PROGRAM, Server, Terminal
+from tests.support import HERE, LONG, PROGRAM, Server, Terminal
 from workbook_client import Workbook
 from workbook_client.language import WORDS
 from workbook_client.session import Session
@@ -218,7 +218,7 @@ class Whole(unittest.TestCase):
     def run_with(self, script: str, *words: str) -> "subprocess.CompletedProcess[str]":
         return subprocess.run(
             [sys.executable, "-m", "workbook_client", "--program", PROGRAM, *words],
-            input=script, capture_output=True, text=True, cwd=PACKAGE, timeout=60,
+            input=script, capture_output=True, text=True, cwd=PACKAGE, timeout=LONG,
         )
 
     def test_statuses(self):
@@ -253,7 +253,7 @@ class Whole(unittest.TestCase):
                 for module in ("workbook_client", "workbook_client.page"):
                     with self.subTest(" ".join([module, *words])):
                         gone = subprocess.run(
-                            [sys.executable, "-m", module, *words], input="", capture_output=True, text=True, cwd=PACKAGE, timeout=60,
+                            [sys.executable, "-m", module, *words], input="", capture_output=True, text=True, cwd=PACKAGE, timeout=LONG,
                         )
                         self.assertEqual((gone.returncode, gone.stdout), (2 if "HOST" in why or "a port" in why else 3, ""))
                         self.assertIn(why, gone.stderr)
@@ -272,7 +272,7 @@ class Whole(unittest.TestCase):
         for module in ("workbook_client", "workbook_client.page"):
             gone = subprocess.run(
                 [sys.executable, "-m", module, "--connect", f"127.0.0.1:{server.port}"],
-                input="", capture_output=True, text=True, cwd=PACKAGE, timeout=60,
+                input="", capture_output=True, text=True, cwd=PACKAGE, timeout=LONG,
             )
             self.assertEqual((gone.returncode, gone.stdout), (3, ""))
             self.assertIn("all its seats are taken", gone.stderr)
@@ -366,7 +366,7 @@ class Whole(unittest.TestCase):
         code = re.search(r"```python\n(.*?)```", text, re.S)[1]
         wanted = re.findall(r"print\(.*\) +# (.*)", code)
         told = subprocess.run(
-            [sys.executable, "-c", code], capture_output=True, text=True, cwd=PACKAGE, timeout=30,
+            [sys.executable, "-c", code], capture_output=True, text=True, cwd=PACKAGE, timeout=LONG,
             env={**os.environ, "WORKBOOK_PROGRAM": PROGRAM},
         )
         self.assertEqual(told.stdout.splitlines(), wanted, told.stderr)

@@ -12,7 +12,7 @@ import unittest
 import warnings
 from typing import Any, Dict, List, Tuple
 
-from tests.support import HERE, PROGRAM, Terminal
+from tests.support import HERE, LONG, PROGRAM, Terminal
 from workbook_client import Workbook, streams
 from workbook_client.terminal import Desk, Log, address
 
@@ -116,7 +116,7 @@ class Streams(unittest.TestCase):
         redis = self.redis(answers=True)
         done = subprocess.run(
             [sys.executable, "-m", "workbook_client", "--connect", redis.url + "/plan"], input="D = {1..4}\nA over D\nA[2] = 5\nA\n",
-            capture_output=True, text=True, cwd=PACKAGE, timeout=60,
+            capture_output=True, text=True, cwd=PACKAGE, timeout=LONG,
         )
         self.assertEqual((done.returncode, done.stderr), (0, ""))
         self.assertIn("│ 0 │ 5 │ 0 │ 0 │", done.stdout)
@@ -169,7 +169,7 @@ class Streams(unittest.TestCase):
             for module in ("workbook_client", "workbook_client.page"):
                 with self.subTest(f"{module} {where}"):
                     gone = subprocess.run(
-                        [sys.executable, "-m", module, "--connect", where], input="", capture_output=True, text=True, cwd=PACKAGE, timeout=60,
+                        [sys.executable, "-m", module, "--connect", where], input="", capture_output=True, text=True, cwd=PACKAGE, timeout=LONG,
                     )
                     self.assertEqual((gone.returncode, gone.stdout, "Traceback" in gone.stderr), (status, "", False))
                     self.assertIn(why, gone.stderr)
