@@ -232,7 +232,7 @@ class Grid(InABrowser):
         self.assertEqual(browser.js(COPIED), "1\t2\t3\n-5\t0\t7")
         browser.click(cell("A[2, 2]"))
         browser.key("v", CTRL)  # what was copied here is pasted here
-        self.says(browser, "6 cells of A set by 6 edits, 15 to 20")
+        self.says(browser, "6 cells of A set by edit 4")
         self.has("A", 1, 2, 3, 4, -5, 1, 2, 3, 9, -5, 0, 7)
         self.assertEqual(browser.faults, [])
 
@@ -240,13 +240,87 @@ class Grid(InABrowser):
         browser = self.grid()
         browser.click(cell("A[2, 2]"))
         self.pastes(browser, "10\t20\r\n-30\t+40\r\n")
-        self.says(browser, "4 cells of A set by 4 edits, 3 to 6, of which each is taken back by itself")
+        self.says(browser, "4 cells of A set by edit 3")
         self.shows(browser, "A[3, 3]", 40)
-        self.assertEqual(self.edits(browser), ["A[2, 2] = 10", "A[2, 3] = 20", "A[3, 2] = -30", "A[3, 3] = 40"])
+        self.assertEqual(self.edits(browser), ["A[2..3, 2..3] = [10, 20, -30, 40]"])
         self.assertEqual(browser.js(CHOSEN), "A[2, 2] A[2, 3] A[3, 2] A[3, 3]")
         self.assertEqual(browser.js("document.querySelectorAll('.changed').length"), 0)  # what one does oneself isn't marked
-        browser.key("z", CTRL)
+        browser.key("z", CTRL)  # a paste is one edit
         self.shows(browser, "A[3, 3]", 0)
+        self.has("A", *[0] * 12)
+        self.assertEqual(browser.faults, [])
+
+    def test_pasting_where_ranges_run_downward(self):
+        """Each number goes where it is shown."""
+        browser = self.grid(range(9, 0, -4), range(10, 0, -3))
+        browser.click(cell("A[5, 10]"))
+        self.pastes(browser, "1\t2\t3\n4\t5\t6\n")
+        self.says(browser, "6 cells of A set by edit 3")
+        self.shows(browser, "A[1, 4]", 6)
+        self.has("A", 0, 0, 0, 0, 1, 2, 3, 0, 4, 5, 6, 0)
+        self.assertEqual(self.edits(browser), ["A[1..5 by -4, 4..10 by -3] = [1, 2, 3, 4, 5, 6]"])
+        self.assertEqual(browser.js(CHOSEN), "A[5, 10] A[5, 7] A[5, 4] A[1, 10] A[1, 7] A[1, 4]")
+        self.assertEqual(browser.faults, [])
+
+    def test_pasting_a_row_and_into_a_plane(self):
+        browser = self.grid(range(1, 6))
+        browser.click(cell("A[2]"))
+        self.pastes(browser, "7\t8\t9")
+        self.says(browser, "3 cells of A set by edit 3")
+        self.has("A", 0, 7, 8, 9, 0)
+        self.pastes(browser, "7\n8")
+        self.says(browser, "2 rows and 1 column don't fit into A from [2] on")
+        with self.held() as book:
+            book.array("B", book.domain("E", (range(1, 3), range(1, 3), range(1, 4))))
+        browser.until(f"document.querySelector({json.dumps(cell('B[2, 1, 2]'))}) !== null")
+        browser.click(cell("B[2, 1, 2]"))
+        self.pastes(browser, "1\t2\n3\t4\n")
+        self.says(browser, "4 cells of B set by edit 6")
+        self.shows(browser, "B[2, 2, 3]", 4)
+        self.has("B", 0, 0, 0, 0, 0, 0, 0, 1, 2, 0, 3, 4)
+        self.assertEqual(self.edits(browser)[-1], "B[2..2, 1..2, 2..3] = [1, 2, 3, 4]")
+        self.assertEqual(browser.faults, [])
+
+    def test_pasting_many_numbers(self):
+        """Five thousand are one edit, also where not all of them are in the part that is shown."""
+        browser = self.grid(range(1, 101), range(1, 101))
+        browser.until("document.querySelectorAll('.value').length === 4000")
+        browser.click(cell("A[1, 1]"))
+        self.pastes(browser, "\n".join("\t".join(str(row * column) for column in range(1, 101)) for row in range(1, 51)))
+        self.says(browser, "5,000 cells of A set by edit 3")
+        self.shows(browser, "A[40, 100]", 4000)
+        self.assertEqual(browser.js("document.querySelectorAll('.changed').length"), 0)
+        with self.held() as book:
+            self.assertEqual((book["A"][50, 100], book["A"][51, 1]), (5000, 0))
+        browser.click(".parts button:nth-of-type(3)")
+        self.shows(browser, "A[50, 100]", 5000)
+        browser.click(cell("A[41, 1]"))
+        self.pastes(browser, "\n".join(["1\t" * 99 + "2"] * 61))
+        self.says(browser, "61 rows and 100 columns don't fit into A from [41, 1] on")
+        self.assertEqual(browser.faults, [])
+
+    def test_a_large_array_has_parts(self):
+        browser = self.grid(range(1, 257), range(1, 257))
+        words = "document.querySelector('.parts').firstChild.data"
+        self.assertEqual(browser.js(words), "part 1 of 16: 4096 of 65536 elements")
+        self.assertEqual(browser.js("[...document.querySelectorAll('.parts button')].map(x => x.disabled)"), [True, True, False, False])
+        browser.click(".parts button:nth-of-type(4)")
+        browser.until(words + " === 'part 16 of 16: 4096 of 65536 elements'")
+        browser.click(cell("A[256, 256]"))
+        browser.keys("5")
+        browser.key("Enter")
+        self.shows(browser, "A[256, 256]", 5)
+        browser.click(".parts button:nth-of-type(2)")
+        browser.until(words + ".startsWith('part 15')")
+        self.assertEqual(browser.js("document.querySelectorAll('.value')[0].dataset.key"), "A[225, 1]")
+        with self.held() as book:
+            book["D"].reshape("{1..3, 1..5000}")  # fewer parts: the last of them is shown
+        browser.until(words + " === 'part 6 of 6: 904 of 15000 elements'")
+        self.assertEqual(browser.js("document.querySelectorAll('.value')[0].dataset.key"), "A[3, 4097]")
+        browser.click(cell("A[3, 4100]"))
+        self.pastes(browser, "1\t2\t3")
+        self.says(browser, "3 cells of A set by edit 5")
+        self.shows(browser, "A[3, 4102]", 3)
         self.assertEqual(browser.faults, [])
 
     def test_what_is_not_pasted(self):
@@ -263,6 +337,7 @@ class Grid(InABrowser):
             ("1\t9223372036854775808", "a number has 64 bits at most, and 9223372036854775808 has more"),
             ("1\t2\t3\t4\t5", "1 row and 5 columns don't fit into A from [1, 1] on"),
             ("1\n2\n3\n4", "4 rows and 1 column don't fit into A from [1, 1] on"),
+            ("1\t2\n3", "row 2 of what is pasted has 1 cell, and row 1 has 2"),
         ):
             with self.subTest(text):
                 self.pastes(browser, text)

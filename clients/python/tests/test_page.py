@@ -13,7 +13,7 @@ import threading
 import unittest
 from urllib.parse import urlsplit
 
-from tests.support import HERE, PROGRAM, Server
+from tests.support import HERE, LONG, PATIENCE, PROGRAM, Server
 from workbook_client import Workbook, view
 from workbook_client.page import SCRIPTS, serve
 
@@ -32,7 +32,7 @@ class Page(unittest.TestCase):
 
     def ask(self, path, body=None, key=None, **headers):
         """Asks as the page does, but for the headers that are told; those of None are left out."""
-        asked = http.client.HTTPConnection("127.0.0.1", self.port, timeout=10)
+        asked = http.client.HTTPConnection("127.0.0.1", self.port, timeout=10 * PATIENCE)
         headers = {"Sec_Fetch_Site": "same-origin", **headers}
         headers = {name.replace("_", "-"): value for name, value in headers.items() if value is not None}
         path = (self.key if key is None else key) + path
@@ -61,7 +61,7 @@ class Page(unittest.TestCase):
         _, state = self.ask("/state?sight=1-")
         (array,) = state["arrays"]
         self.assertEqual(array["values"], [[["1"], "1", "9223372036854775807"], [["2"], "2", "9223372036854775806"]])
-        self.assertEqual((array["locales"], array["ranged"]), ([0, 1], True))
+        self.assertEqual((array["locales"], array["ranges"], array["part"]), ([0, 1], [["1", "1", 2]], [0, 1, 0]))
         told = [(e["k"], e["on"], e["needs"]) for e in state["edits"]]
         self.assertEqual(told, [(1, True, [4, 3, 2, 1]), (2, True, [4, 3, 2]), (3, True, [4, 3]), (4, True, [4])])
         self.assertEqual(self.ask("/needs?k=2")[1], {"ok": True, "k": 2, "needs": [4, 3, 2]})
@@ -134,7 +134,7 @@ class Page(unittest.TestCase):
                 with self.subTest(words):
                     gone = subprocess.run(
                         [sys.executable, "-m", "workbook_client.page", "--program", PROGRAM, *words], input="", capture_output=True, text=True,
-                        cwd=HERE.parents[1], timeout=60,
+                        cwd=HERE.parents[1], timeout=LONG,
                     )
                     self.assertEqual(gone.returncode, 3)
                     self.assertTrue(gone.stderr.startswith(f"workbook_client.page: {why}"), gone.stderr)
@@ -216,7 +216,52 @@ class Page(unittest.TestCase):
         (array,) = [a for a in self.ask("/state")[1]["arrays"] if a["name"] == "Hours"]
         self.assertEqual((array["down"], array["across"]), ({"1": "Ada", "2": "Emmy"}, {"1": "Mon", "2": "Tue"}))
 
+    def test_a_table_that_is_pasted_is_one_edit(self):
+        self.open(Workbook.run(PROGRAM))
+        self.lines("D = {1..100, 1..100}", "A over D", "A = 7")
+        told = self.ask("/do", {"op": "paste", "a": "A", "on": "{2..3, 1..5 by -2}", "vs": ["1", "+2", "-3", "4", "5", "6"]})[1]
+        self.assertEqual((told["ok"], told["say"].strip()), (True, "6 cells of A set by edit 4"))
+        self.assertIn("│ 2 │ -3 │ 7 │ 2 │ 7 │ 1 │", self.lines("A[2..2, 1..5]")["say"])
+        for number, words in (("12345", "set by edit 5"), ("123456789012", "set by 2 edits, 6 to 7, of which each is taken back by itself")):
+            told = self.ask("/do", {"op": "paste", "a": "A", "on": "{1..60, 1..100}", "vs": [number] * 5999 + ["1"]})[1]
+            self.assertEqual((told["ok"], told["say"].strip()), (True, "6,000 cells of A " + words))
+        self.assertEqual(self.ask("/state")[1]["edits"][4]["what"], "A[1..60, 1..100] = [12345, 12345, 12345, 12345, 12345, 12345, 12345, 12345, ...]")
+        before = self.ask("/history")[1]
+        for on, numbers, words in (
+            ("{1..2}", ["1", "2"], "E05"), ("{99..101, 1..1}", ["1", "2", "3"], "E06"), ("{1..1, 1..2}", ["1"], "1 elements, where the ranges have 2"),
+            ("{1..1, 1..2}", ["1", "1.5"], "whole numbers only: 1.5 isn't one"), ("{1..1, 1..2}", ["1", 2.5], "2.5 isn't one"),
+            ("{1..1, 1..2}", ["1", "9" * 19 + "9"], "64 bits at most"), ("{1..1, x}", ["1"], "a part is shown by ranges"), ("{1..0}", [], "nothing to paste"),
+            ("{1..1, 1..2}", "12", "vs is a list"),
+        ):
+            with self.subTest(on, numbers=numbers):
+                told = self.ask("/do", {"op": "paste", "a": "A", "on": on, "vs": numbers})[1]
+                self.assertEqual((told["ok"], words in told["say"]), (False, True), told["say"])
+        self.assertEqual(self.ask("/history")[1], before)
+
+    def test_parts_of_a_large_array(self):
+        book = Workbook.run(PROGRAM)
+        for name, ranges in (("D", "{1..100, 1..100}"), ("E", "{1..3, 1..5000}"), ("F", "{2..10 by 2, 1..40, 1..40}"), ("L", "{1..5000}"), ("O", "{1..0}")):
+            book.array("A" + name, book.domain(name, ranges))
+        people = book.assoc("N", "int")
+        people.reshape(set(range(5000)))
+        book.array("AN", people)
+        self.open(book)
+
+        def shown():
+            told = {a["name"]: a for a in self.ask("/state")[1]["arrays"]}
+            return {name: [*a["part"], a["values"][0][1] if a["values"] else "", len(a["values"])] for name, a in told.items()}
+
+        self.assertEqual(shown(), {"AD": [0, 3, 0, 0, "1, 1", 4000], "AE": [0, 6, 0, 0, "1, 1", 4096], "AF": [0, 3, 0, 0, 0, "2, 1, 1", 3200],
+                                   "AL": [0, 2, 0, "1", 4096], "AN": [0, 2, 0, "0", 4096], "AO": [0, 1, 0, "", 0]})
+        for name in ("AD", "AE", "AF", "AL", "AN", "AO"):
+            self.assertTrue(self.ask("/do", {"op": "turn", "a": name, "part": 5})[1]["ok"])
+        self.assertEqual(shown(), {"AD": [2, 3, 80, 0, "81, 1", 2000], "AE": [5, 6, 2, 4096, "3, 4097", 904], "AF": [2, 3, 4, 0, 0, "10, 1, 1", 1600],
+                                   "AL": [1, 2, 4096, "4097", 904], "AN": [1, 2, 4096, "4096", 904], "AO": [0, 1, 0, "", 0]})
+        for part in (-1, "1", None, True, 1.5):
+            self.assertFalse(self.ask("/do", {"op": "turn", "a": "AD", "part": part})[1]["ok"])
+
     def test_pasted_cells_are_edits_of_their_own(self):
+        """Where no ranges say which they are."""
         self.open(Workbook.run(PROGRAM))
         self.lines("D = {1..2, 1..2}", "A over D", "T = text", 'T += "x"', "P over T")
         told = self.ask("/do", {"op": "paste", "a": "A", "cells": [["1, 1", "5"], ["1, 2", "+6"], ["2, 1", "-7"]]})[1]
@@ -429,7 +474,7 @@ class Page(unittest.TestCase):
 
     def test_nothing_from_elsewhere_runs_in_the_page(self):
         self.open(Workbook.run(PROGRAM))
-        asked = http.client.HTTPConnection("127.0.0.1", self.port, timeout=10)
+        asked = http.client.HTTPConnection("127.0.0.1", self.port, timeout=10 * PATIENCE)
         asked.request("GET", self.key + "/", headers={"Sec-Fetch-Site": "none"})
         answer = asked.getresponse()
         answer.read()

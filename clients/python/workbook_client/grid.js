@@ -235,13 +235,13 @@ async function fill(typed) {
   const on = area(), many = on.cells.flat().filter(Boolean), wrong = whole(typed, placeOf(many[0]).card.decimals);
   if (many.length === 1) return put(many[0], typed);
   if (wrong) return tell(false, wrong);
-  if (spelled(on)) return setMany(many, {line: spelled(on) + " = " + typed}, spelled(on) + " = " + typed);
-  return setMany(many, {op: "paste", a: on.name, cells: many.map(cell => [placeOf(cell).at, typed])}, where(on) + " = " + typed);
+  const keys = many.map(cell => cell.dataset.key);
+  if (spelled(on)) return setMany(keys, {line: spelled(on) + " = " + typed}, spelled(on) + " = " + typed);
+  return setMany(keys, {op: "paste", a: on.name, cells: many.map(cell => [placeOf(cell).at, typed])}, where(on) + " = " + typed);
 }
 
-/** Asks for something that sets these cells, which aren't marked by that. */
-async function setMany(cells, what, words) {
-  const keys = cells.map(cell => cell.dataset.key);
+/** Asks for something that sets the cells of these keys, which aren't marked by that. */
+async function setMany(keys, what, words) {
   keys.forEach(key => setting.add(key));
   await ask(what, words);
   keys.forEach(key => setting.delete(key));
@@ -257,17 +257,23 @@ function onCopy(e) {
   tell(true, where(area()) + " copied");
 }
 
-/** A table that was copied elsewhere: each of its cells becomes a set, all or none. */
+/** A table that was copied elsewhere: one edit where ranges say which cells they are, else each of them is set, all or none. */
 function onPaste(e) {
   if (!chosen || typing(e.target)) return;
   e.preventDefault();
-  const {cells, wrong, one} = placed(e.clipboardData.getData("text/plain"), area());
+  const to = area(), {wrong, one, on, vs, set, keys, last} = placed(e.clipboardData.getData("text/plain"), to);
   if (wrong) return tell(false, wrong);
   if (one) return fill(one);
-  setMany(cells.map(([cell]) => cell), {op: "paste", a: chosen.name, cells: cells.map(([cell, v]) => [placeOf(cell).at, v])},
-    cells.length + " cells of " + chosen.name);
-  choose(cells[0][0]);
-  choose(cells[cells.length - 1][0], true);
+  const what = on ? {on, vs} : {cells: set.map(([cell, number]) => [placeOf(cell).at, number])};
+  setMany(keys, {op: "paste", a: to.name, ...what}, keys.length + " cells of " + to.name);
+  chooseFrom(to, ...last);
+}
+
+/** Chooses so many rows and columns from the first one of a rectangle on, as far as they are shown. */
+function chooseFrom({plane, top, left}, rows, columns) {
+  const these = plane.cells.slice(top, top + rows).flatMap(row => row.slice(left, left + columns)).filter(Boolean);
+  choose(these[0]);
+  choose(these[these.length - 1], true);
 }
 
 /** A cell that gets the focus otherwise is chosen too. */

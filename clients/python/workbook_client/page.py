@@ -28,7 +28,7 @@ from .view import Sight, View
 HERE = Path(__file__).parent
 SCRIPTS = ("page.js", "talk.js", "edits.js", "grid.js", "tables.js", "pasting.js")
 KINDS = {".html": "text/html; charset=utf-8", ".css": "text/css; charset=utf-8", ".js": "text/javascript; charset=utf-8"}
-LONGEST = 1 << 20
+LONGEST = 1 << 21
 """So many bytes a request of the page may have."""
 OPENED = ("", "text", "history", "csv")
 """What is opened by its address, or by a link of the page; all else the page itself asks for."""

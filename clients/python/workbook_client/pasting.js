@@ -23,50 +23,81 @@ function rowsOf(text) {
   return lines.map(line => line.split("\t").map(cell => cell.trim()));
 }
 
-/** What a text sets, from the chosen cells' first one on: each cell with its number; or one number for all of them; or what is
-    wrong, and then nothing is set. */
+/** What a text sets, from the chosen cells' first one on: `one` number for all of them; or by `on`, ranges with their numbers `vs`, or
+    by `cells`, each a cell's index and its number; with the keys of these cells. Or what is `wrong`, and then nothing is set. */
 export function placed(text, on) {
-  const rows = rowsOf(text), wide = Math.max(...rows.map(row => row.length));
+  const rows = rowsOf(text), wide = rows[0].length, decimals = on.plane.card.decimals;
   if (rows.length === 1 && wide === 1) {
-    const wrong = whole(rows[0][0], on.plane.card.decimals);
+    const wrong = whole(rows[0][0], decimals);
     return wrong ? {wrong} : {one: rows[0][0]};
   }
-  const {plane, top, left} = on;
-  if (top + rows.length > plane.cells.length || left + wide > plane.columns.length) {
-    return {wrong: size(rows.length, wide) + " don't fit into " + on.name + " from [" + first(on) + "] on"};
-  }
-  const cells = [];
-  for (const [r, row] of rows.entries()) {
-    for (const [c, number] of row.entries()) {
-      const cell = plane.cells[top + r][left + c];
-      if (!cell && !number) continue; // nothing there, and nothing for it
-      const wrong = cell ? whole(number, on.plane.card.decimals) : "there is no element";
-      if (wrong) return {wrong: "row " + (r + 1) + ", column " + (c + 1) + " of what is pasted: " + wrong};
-      cells.push([cell, number]);
-    }
-  }
-  return cells.length ? {cells} : {wrong: "there is no number in what is pasted"};
+  const other = rows.findIndex(row => row.length !== wide);
+  if (other > 0) return {wrong: "row " + (other + 1) + " of what is pasted has " + cellsOf(rows[other].length) + ", and row 1 has " + wide};
+  return on.plane.ranged ? onRanges(rows, on, decimals) : onCells(rows, on, decimals);
 }
 
-/** The index of the chosen cells' first place. */
-const first = ({plane, top, left}) => [...plane.top, ...(plane.line ? [] : [plane.rows[top]]), plane.columns[left]].join(", ");
+/** Over a rectangle all indices are there, also those of parts that aren't shown now. */
+function onRanges(rows, {plane, name, top, left}, decimals) {
+  const down = plane.line ? [null] : axis(plane.axes[plane.top.length]), across = axis(plane.axes[plane.axes.length - 1]);
+  const [r, c] = [plane.row + top, plane.column + left];
+  const these = [down.slice(r, r + rows.length), across.slice(c, c + rows[0].length)];
+  if (these[0].length < rows.length || these[1].length < rows[0].length) return unfit(rows, name, at(plane, down[r], across[c]));
+  const wrong = firstWrong(rows, number => whole(number, decimals));
+  if (wrong) return {wrong};
+  const spelled = [...plane.top.map(one), ...(plane.line ? [] : [range(these[0])]), range(these[1])];
+  const ats = these[0].flatMap(i => these[1].map(j => at(plane, i, j)));
+  return {on: "{" + spelled.join(", ") + "}", vs: rows.flat(), keys: ats.map(place => name + "[" + place + "]"), last: [rows.length, rows[0].length]};
+}
+
+/** Of another domain those indices are there that are shown. */
+function onCells(rows, {plane, name, top, left}, decimals) {
+  if (top + rows.length > plane.cells.length || left + rows[0].length > plane.columns.length) {
+    return unfit(rows, name, at(plane, plane.rows[top], plane.columns[left]));
+  }
+  const cellAt = (r, c) => plane.cells[top + r][left + c];
+  const wrong = firstWrong(rows, (number, r, c) => (cellAt(r, c) ? whole(number, decimals) : number && "there is no element"));
+  if (wrong) return {wrong};
+  const set = rows.flatMap((row, r) => row.map((number, c) => [cellAt(r, c), number])).filter(([cell]) => cell);
+  return set.length ? {set, keys: set.map(([cell]) => cell.dataset.key), last: [rows.length, rows[0].length]} : {wrong: "there is no number in what is pasted"};
+}
+
+/** The first cell of a text of which something is wrong, and what. */
+function firstWrong(rows, judged) {
+  for (const [r, row] of rows.entries()) {
+    for (const [c, number] of row.entries()) {
+      const wrong = judged(number, r, c);
+      if (wrong) return "row " + (r + 1) + ", column " + (c + 1) + " of what is pasted: " + wrong;
+    }
+  }
+  return "";
+}
+
+const unfit = (rows, name, from) => ({wrong: size(rows.length, rows[0].length) + " don't fit into " + name + " from [" + from + "] on"});
+
+/** An index of a plane, as it stands in brackets. */
+const at = (plane, row, column) => [...plane.top, ...(plane.line ? [] : [row]), column].join(", ");
+
+/** All numbers of a range that is told by its first one, its stride and how many there are. */
+const axis = ([first, step, length]) => Array.from({length}, (_, n) => String(BigInt(first) + BigInt(step) * BigInt(n)));
 
 const size = (rows, columns) => rows + (rows === 1 ? " row" : " rows") + " and " + columns + (columns === 1 ? " column" : " columns");
+const cellsOf = n => n + (n === 1 ? " cell" : " cells");
 
 /** The chosen cells as an array with ranges, "A[1..2, 3..4]"; nothing where no ranges are just these: holes, or indices that are
     texts or no ranges of the array's. */
 export function spelled(on) {
   const {plane, name} = on;
   if (!plane.ranged || on.cells.flat().some(cell => !cell)) return "";
-  const ranges = [...plane.top.map(t => t + ".." + t), range(plane.columns, on.left, on.right)];
-  if (!plane.line) ranges.splice(-1, 0, range(plane.rows, on.top, on.bottom));
+  const ranges = [...plane.top.map(one), range(plane.columns.slice(on.left, on.right + 1))];
+  if (!plane.line) ranges.splice(-1, 0, range(plane.rows.slice(on.top, on.bottom + 1)));
   return name + "[" + ranges.join(", ") + "]";
 }
 
-/** Numbers of a list as a range: its ends, and its stride. */
-function range(numbers, from, to) {
-  const ends = [BigInt(numbers[from]), BigInt(numbers[to])];
-  if (from === to) return ends[0] + ".." + ends[0];
-  const by = BigInt(numbers[from + 1]) - ends[0], low = by > 0n ? ends[0] : ends[1], high = by > 0n ? ends[1] : ends[0];
-  return low + ".." + high + (by === 1n || by === -1n ? "" : " by " + (by < 0n ? -by : by));
+const one = number => number + ".." + number;
+
+/** Numbers of a list as a range, in their order: its ends, and its stride. */
+function range(numbers) {
+  if (numbers.length === 1) return one(numbers[0]);
+  const first = BigInt(numbers[0]), last = BigInt(numbers[numbers.length - 1]), by = BigInt(numbers[1]) - first;
+  return (by > 0n ? first + ".." + last : last + ".." + first) + (by === 1n ? "" : " by " + by);
 }

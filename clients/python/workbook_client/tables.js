@@ -1,6 +1,6 @@
 /* Arrays as tables of cells, drawn once and then kept up to date in place. */
 
-import {make, put, state} from "./talk.js";
+import {ask, button, make, put, state} from "./talk.js";
 
 /** What is drawn: of each array its card, by name. */
 const cards = new Map();
@@ -34,7 +34,7 @@ export function showArrays(root, tinted, kept) {
 
 function cardFor(a, tinted, kept) {
   const looks = [a.down, a.across, a.decimals];
-  const sign = JSON.stringify([a.over, a.words, a.size, a.irv, tinted && a.locales, looks, a.values.map(v => v[1])]);
+  const sign = JSON.stringify([a.over, a.words, a.size, a.part, a.irv, tinted && a.locales, looks, a.values.map(v => v[1])]);
   const held = cards.get(a.name);
   if (held && held.sign !== sign && held === kept) return held;
   if (held) note(held, a);
@@ -119,13 +119,24 @@ function card(a, locales, sign) {
   csv.download = a.name + ".csv";
   const by = a.decimals ? ", shown / 1" + "0".repeat(a.decimals) : "";
   const title = make("h3", "", a.name, make("small", "", "over " + a.over + " = " + a.words + by), csv);
-  const made = {name: a.name, sign, ranged: a.ranged, decimals: a.decimals, root: make("section", "card", title), cells: new Map()};
+  const made = {name: a.name, sign, ranges: a.ranges, decimals: a.decimals, root: make("section", "card", title), cells: new Map()};
   const cells = a.values.map(([parts, at, value], n) => ({parts, at, value, locale: locales ? locales[n] : null}));
   made.root.append(elements(a, cells, made));
   if (a.parent) made.root.append(make("p", "note", "elsewhere in " + a.parent + ": " + pointed(a.irv, a.decimals)));
-  if (a.size > cells.length) made.root.append(make("p", "note", "the first " + cells.length + " of " + a.size + " elements"));
+  if (a.part[1] > 1) made.root.append(turner(a));
   if (locales) made.root.append(legend(locales));
   return made;
+}
+
+/** Which part of a large array is shown, and the way to the others. */
+function turner(a) {
+  const [number, of] = a.part, turn = (to, word) => {
+    const made = button("turn", word, () => ask({op: "turn", a: a.name, part: to}, "part " + (to + 1) + " of " + a.name));
+    made.disabled = to < 0 || to >= of || to === number;
+    return made;
+  };
+  const words = "part " + (number + 1) + " of " + of + ": " + a.values.length + " of " + a.size + " elements";
+  return make("p", "note parts", words, turn(0, "first"), turn(number - 1, "before"), turn(number + 1, "next"), turn(of - 1, "last"));
 }
 
 function elements(a, cells, made) {
@@ -153,9 +164,11 @@ function legend(locales) {
 
 const hue = locale => (165 + locale * 137.5) % 360;
 
-/** A plane of cells: its rows, each a list of cells and holes, and what stands before and above them. */
-function planeOf(card, top, rows, columns, line) {
-  return {card, top, rows, columns, line, ranged: card.ranged, cells: rows.map(() => columns.map(() => null))};
+/** A plane of cells: its rows, each a list of cells and holes, and what stands before and above them. Over a rectangle it has the
+    array's ranges too, and how many rows and columns are before those that are shown. */
+function planeOf(card, top, rows, columns, line, begins) {
+  const [row, column] = line ? [0, begins[0]] : begins.slice(-2);
+  return {card, top, rows, columns, line, row, column, ranged: card.ranges.length > 0, axes: card.ranges, cells: rows.map(() => columns.map(() => null))};
 }
 
 /** Tells who doesn't see it what cells are below. */
@@ -174,7 +187,7 @@ function heading(tag, kind, titles, at) {
 }
 
 function row(a, cells, card) {
-  const boxes = grid(make("div", "cells"), "listbox", a.name), on = planeOf(card, [], [""], cells.map(c => c.parts[0]), true);
+  const boxes = grid(make("div", "cells"), "listbox", a.name), on = planeOf(card, [], [""], cells.map(c => c.parts[0]), true, a.part.slice(2));
   cells.forEach((c, n) => boxes.append(make("div", "box", heading("div", "at", a.down, c.parts[0]), value(a, c, "div", on, 0, n))));
   return boxes;
 }
@@ -184,7 +197,7 @@ function plane(a, cells, card, top) {
   const rows = [...new Set(cells.map(c => c.parts[down]))];
   const columns = [...new Set(cells.map(c => c.parts[across]))];
   if (cells.length < rows.length * columns.length) columns.sort((x, y) => (BigInt(x) < BigInt(y) ? -1 : 1));
-  const on = planeOf(card, top, rows, columns, false);
+  const on = planeOf(card, top, rows, columns, false, a.part.slice(2));
   const there = new Map(cells.map(c => [c.parts[down] + "," + c.parts[across], c]));
   const heads = columns.map(c => heading("th", "", top.length ? {} : a.across, c));
   const table = grid(make("table", "", make("tr", "", make("th"), ...heads)), "grid", a.name);

@@ -49,7 +49,7 @@ export let quiet = 0;
 
 const GONE = {say: "The page's server is gone", tries: true, unanswered: [], kind: "server"};
 const listeners = {state: () => {}, away: () => {}, back: () => {}, light: () => {}};
-let sight = () => "", looks = 0, heardAt = null;
+let sight = () => "", looks = 0, latest = null, heardAt = null;
 
 /** Whom to tell: of a new state, of a workbook that went away and is there again, of an edit in the way. */
 export function listen(others) { Object.assign(listeners, others); }
@@ -57,16 +57,20 @@ export function listen(others) { Object.assign(listeners, others); }
 /** What tells which edits are in sight. */
 export function watch(inSight) { sight = inSight; }
 
-/** Looks whether anything changed. */
-export async function poll() {
-  const mine = ++looks;
+/** Looks whether anything changed. A look that a later one has overtaken ends with that one. */
+export function poll() {
+  latest = look(++looks);
+  return latest;
+}
+
+async function look(mine) {
   let status = 0, told = GONE;
   try {
     const answer = await fetch("state?seen=" + (state ? state.version : "") + "&sight=" + sight());
     status = answer.status;
     told = status === 204 ? null : await answer.json();
   } catch { /* the server is gone */ }
-  if (mine !== looks) return; // a later look is on its way
+  if (mine !== looks) return latest;
   if (status === 200 || status === 204) here(told);
   else gone(told, status);
 }
@@ -102,7 +106,7 @@ async function send(what, words) {
   const told = away ? {ok: false, sent: false, say: ""} : await answerTo(what, words);
   if (told.sent === false) told.say = "Not sent, since the workbook isn't there now: " + words;
   tell(Boolean(told.ok), told.say || "");
-  if (told.unanswered) { looks++; gone(told, 0); }
+  if (told.unanswered) { looks++; latest = null; gone(told, 0); }
   else if (!away) await poll();
   if (told.by) listeners.light(told.by);
   return told;

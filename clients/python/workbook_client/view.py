@@ -9,13 +9,13 @@ import time
 from contextlib import contextmanager
 from typing import Any, Callable, Dict, Iterator, List, NamedTuple, Optional, Set, Tuple
 
-from . import hearing, requests, sheets, titles
+from . import bulk, cuts, hearing, requests, sheets, titles
 from .book import Workbook
 from .edits import Cascade, Edit
 from .errors import NotTakenBack, SessionEnded, WorkbookError
 from .hearing import News
 from .language import LanguageError, parse
-from .literals import Index, index_text
+from .literals import GREATEST, LEAST, Index, index_text, spelled_ranges
 from .objects import Array
 from .reach import Reach, in_words
 from .refusals import Refusal
@@ -25,7 +25,7 @@ from .tables import harmless, pointed
 from .titles import Labels
 
 MOST = 4096
-"""So many elements of an array are shown."""
+"""So many elements of an array are shown at once."""
 LATEST = 300
 """So many of the latest edits are shown."""
 ASKED = 60
@@ -113,6 +113,7 @@ class View:
         self._reach = Reach(book)
         self._news = ""  # what is told of a workbook that is there again
         self._decimals: Dict[str, int] = {}  # how many digits stand behind a point, by array
+        self._cuts: Dict[str, int] = {}  # which part of a large array is shown
 
     # --- a workbook that goes away
 
@@ -273,22 +274,23 @@ class View:
 
     def _array(self, shot: Snapshot, name: str) -> Json:
         array = shot.arrays[name]
-        domain = shot.domains[array.over]
-        values = list(shot.array(name).items())
+        domain, elements = shot.domains[array.over], shot.array(name)
+        part = cuts.cut(domain, self._cuts.get(name, 0), MOST)
         of = domain.of if isinstance(domain, SparseDomain) else None
         lies = shot.domains[of] if of else domain
         shown: Json = {
             "name": name,
             "over": array.over,
             "words": harmless(domain.in_words()),
-            "size": len(values),
-            "ranged": isinstance(domain, RectDomain),
-            "values": [[_parts(i), _at(i), str(value)] for i, value in values[:MOST]],
+            "size": len(elements),
+            "ranges": [[str(each.start), str(each.step), len(each)] for each in domain.ranges] if isinstance(domain, RectDomain) else [],
+            "values": [[_parts(i), _at(i), str(elements[i])] for i in part.indices],
+            "part": [part.number, part.of, *part.begins],
             "locales": None,
             **self._titles(shot, name),
         }
         if isinstance(lies, RectDomain) and lies.map != "none" and self.book.alone:
-            shown["locales"] = self._locales(name, values[:MOST])
+            shown["locales"] = self._locales(name, part.indices)
         if of is not None:
             shown["irv"], shown["parent"] = str(array.irv), of
         return shown
@@ -299,10 +301,10 @@ class View:
         down, across = ({str(at): harmless(title) for at, title in each.items()} for each in (drawn.down, drawn.across))
         return {"down": down, "across": across, "decimals": drawn.decimals}
 
-    def _locales(self, name: str, values: List[Tuple[Index, int]]) -> List[int]:
+    def _locales(self, name: str, indices: List[Index]) -> List[int]:
         pieces = Array(self.book, name).pieces()
         at = {i: locale for locale, piece in enumerate(pieces) for i in piece}
-        return [at.get(i, 0) for i, _ in values]
+        return [at.get(i, 0) for i in indices]
 
     def _edit(self, edit: Edit) -> Json:
         return {
@@ -349,9 +351,9 @@ class View:
                 self._hold(k, by)
         return told
 
-    def _looks(self) -> Tuple[Labels, Dict[str, int]]:
-        """How tables are shown: their titles, and the digits behind a point."""
-        return dict(self.book.labels), dict(self._decimals)
+    def _looks(self) -> Tuple[Labels, Dict[str, int], Dict[str, int]]:
+        """How tables are shown: their titles, the digits behind a point, and the parts of large ones."""
+        return dict(self.book.labels), dict(self._decimals), dict(self._cuts)
 
     def _wrong(self, session: Doing, wrong: Exception) -> None:
         session.failed = True
@@ -396,13 +398,21 @@ class View:
         self._version += 1
 
     def _paste(self, session: Doing, asked: Json) -> None:
-        """Sets many elements of an array, each by an edit, all or none as in a block of `trying`."""
-        wanted = [_set(asked.get("a"), cell) for cell in _listed(asked, "cells")]
+        """Gives many elements of an array their numbers, all or none as in a block of `trying`: by one edit where ranges say which
+        they are, or more where a line would be too long; else each by an edit."""
+        wanted = list(_put(asked)) if "on" in asked else [_set(asked.get("a"), cell) for cell in _listed(asked, "cells")]
         if not wanted:
             raise ValueError("there is nothing to paste")
         with self.book.trying(), self.book.pipeline():
             edits = [self.book.change(request) for request in wanted]
-        session.wrapped(f"{_many(len(edits), 'cell')} of {wanted[0]['a']} set by {_as_one(edits)}")
+        session.wrapped(f"{_many(sum(edit.cells for edit in edits), 'cell')} of {wanted[0]['a']} set by {_as_one(edits)}")
+
+    def _turn(self, asked: Json) -> None:
+        """Another part of a large array is shown."""
+        name, number = str(asked.get("a")), asked.get("part")
+        if not isinstance(number, int) or isinstance(number, bool) or number < 0:
+            raise ValueError("that is no part of an array")
+        self._cuts[name] = number
 
     def _hold(self, k: int, by: int) -> None:
         """After a refused undo the page shows who is in the way."""
@@ -443,6 +453,7 @@ ACTS: Dict[str, Callable[[View, Doing, Json], None]] = {
     "put_back": lambda view, session, asked: view._put_back(session, asked),
     "leave": lambda view, session, asked: view._leave(asked),
     "paste": lambda view, session, asked: view._paste(session, asked),
+    "turn": lambda view, session, asked: view._turn(asked),
 }
 """What the page does beside lines."""
 
@@ -468,15 +479,30 @@ def _listed(asked: Json, key: str) -> List[Any]:
     return found
 
 
+def _put(asked: Json) -> Iterator[requests.Request]:
+    """The changes that give the indices of a rectangle these numbers, which are texts, in the order of its ranges."""
+    name, numbers = asked.get("a"), [_whole(value) for value in _listed(asked, "vs")]
+    return bulk.at_ranges(str(name), spelled_ranges(str(asked.get("on"))), numbers)
+
+
 def _set(name: Any, cell: Any) -> requests.Request:
     """A cell's `set`: its index as the short language has it in brackets, and its number, both as texts."""
     at, value = (cell if isinstance(cell, list) and len(cell) == 2 else ["", ""])
-    if not re.fullmatch("[+-]?[0-9]+", str(value)):
-        raise ValueError(f"whole numbers only: {str(value)[:40] or 'an empty cell'} isn't one")
-    what = parse(f"{name}[{at}] = {str(value).lstrip('+')}", lambda _: None)
+    what = parse(f"{name}[{at}] = {_whole(value)}", lambda _: None)
     if not isinstance(what, dict) or what["op"] != "set" or what["a"] != name:
         raise ValueError(f"{at!r:.60} is no index")
     return what
+
+
+def _whole(value: Any) -> int:
+    """A whole number as it was typed."""
+    text = str(value)
+    if not re.fullmatch("[+-]?[0-9]+", text):
+        raise ValueError(f"whole numbers only: {text[:40] or 'an empty cell'} isn't one")
+    number = int(text) if len(text.lstrip("+-0")) < 20 else GREATEST + 1
+    if not LEAST <= number <= GREATEST:
+        raise ValueError(f"a number has 64 bits at most, and {text[:40]} has more")
+    return number
 
 
 def _many(number: int, what: str) -> str:
