@@ -253,7 +253,7 @@ def command(program: Optional[Program] = None, word: str = "run") -> List[str]:
     if found is None:
         raise NoProgram(
             f"there is no program {wanted or 'workbook'!r}: give its path (--program, or "
-            "WORKBOOK_PROGRAM); in the repository it is crates/workbook/out/workbook once `rt` "
-            "has built it"
+            "WORKBOOK_PROGRAM); in the repository it is crates/workbook/out/workbook once `rt ci` has "
+            "passed, and until then scripts/model-program stands in, slow and unproved"
         )
     return [found, word]
