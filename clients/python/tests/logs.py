@@ -9,7 +9,7 @@ import threading
 import time
 from typing import Dict, List, Tuple
 
-from tests.support import HERE, PROGRAM
+from tests.support import HERE, PATIENCE, PROGRAM
 from workbook_client import log
 from workbook_client.redis import Redis, RedisGone
 
@@ -71,7 +71,7 @@ class WorkerProcess:
 
     def wait(self, seconds: float = 60.0) -> int:
         try:
-            return self.process.wait(seconds)
+            return self.process.wait(seconds * PATIENCE)
         finally:
             if self.process.poll() is None:
                 self.process.kill()
@@ -99,7 +99,7 @@ class Caller:
 
     def wait(self, seconds: float = 120.0) -> List[Tuple[int, bytes]]:
         """The replies, once there are as many as requests."""
-        end = time.monotonic() + seconds
+        end = time.monotonic() + seconds * PATIENCE
         while time.monotonic() < end:
             found = self.replies()
             if len(found) >= self.sent:

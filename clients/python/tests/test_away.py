@@ -202,7 +202,7 @@ class Answers(unittest.TestCase):
             file.flush()
             asked = book.snapshot
             book.snapshot = lambda: (asked(), server.kill())[0]  # type: ignore[method-assign, func-returns-value]
-            with self.assertRaisesRegex(SessionEnded, "requests without a reply, since .* has closed the connection"):
+            with self.assertRaisesRegex(SessionEnded, "1 request without a reply, since .* has closed the connection"):
                 session.line(f"import A {file.name}")
         self.assertEqual(self.told(), "")
 
