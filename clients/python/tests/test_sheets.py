@@ -324,7 +324,7 @@ class BySession(unittest.TestCase):
 
     def test_a_new_table_has_its_titles(self):
         told = self.say(f"import Hours {self.file(HOURS)}")
-        self.assertIn("Hours is new, and has the numbers of the file, by edits 1 to 17, of which each is taken back by itself", told)
+        self.assertIn("Hours is new, and has the numbers of the file, by edits 1 to 14, of which each is taken back by itself", told)
         self.assertEqual(self.say("Hours").splitlines(), ["Hours over HoursDomain", *TITLED])
         self.assertEqual(self.say("show Hours / 10").splitlines()[0], "Hours over HoursDomain, shown / 10")
         self.assertIn("│ Emmy │ 0.4 │ 0.0 │ -0.6 │", self.say("show Hours / 10"))
@@ -333,7 +333,7 @@ class BySession(unittest.TestCase):
         self.assertEqual(self.say(f"export Hours {path}"), f"  {path}: 6 elements of Hours\n")
         with open(path, encoding="utf-8") as file:
             self.assertEqual(file.read(), HOURS.replace("who", ""))
-        self.assertIn("Hours has the numbers of the file, by edit 18\n", self.say(f"import Hours {path}"))
+        self.assertIn("Hours has the numbers of the file, by edit 15\n", self.say(f"import Hours {path}"))
         self.assertIn("1 │   8 │", self.say("label Hours rows", "Hours"))
         self.assertIn("Emmy │   4 │", self.say("label Hours rows HoursRow", "Hours"))
         self.assertIn("│ Ida │   4 │", self.say('HoursRowTitles -= "Emmy"', 'HoursRowTitles += "Ida"', 'HoursRow["Ida"] = 2', "Hours"))

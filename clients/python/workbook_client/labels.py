@@ -6,6 +6,7 @@ from . import requests
 from .edits import Edit
 from .literals import label
 from .objects import Array
+from .refusals import LineTooLong
 from .sheets import Table
 from .titles import WAYS
 
@@ -61,6 +62,9 @@ def _titled(book: "Workbook", name: str, headings: Sequence[str]) -> List[Edit]:
     """A new array over texts, which has each one's place from 1 on."""
     domain = f"{name}Titles"
     edits = [book.change(requests.assoc(domain, "text"))]
-    edits += [book.change(requests.add(domain, text)) for text in headings]
+    try:
+        edits.append(book.change(requests.reshape(domain, "to", set(headings))))
+    except LineTooLong:
+        edits += [book.change(requests.add(domain, text)) for text in headings]
     edits.append(book.change(requests.array(name, domain)))
     return edits + [book.change(requests.set(name, text, place)) for place, text in enumerate(headings, start=1)]

@@ -2,7 +2,7 @@
 
 from typing import TYPE_CHECKING, Any, List
 
-from . import requests
+from . import bulk, requests
 from .edits import Edit
 from .refusals import LineTooLong
 from .snapshot import AssocDomain, Elements, RectDomain, Snapshot
@@ -37,6 +37,10 @@ def _domain(book: "Workbook", domain: Any) -> List[Edit]:
 
 def _elements(book: "Workbook", wanted: Snapshot, array: Elements) -> List[Edit]:
     edits = [book.change(requests.array(array.name, array.over))]
+    domain = wanted.domains[array.over]
+    if isinstance(domain, RectDomain):
+        made = bulk.at_ranges(array.name, domain.ranges, array.elements) if any(array.elements) else ()
+        return edits + [book.change(request) for request in made]
     if array.irv:
         edits.append(book.change(requests.irv(array.name, array.irv)))
     values = array.elements
