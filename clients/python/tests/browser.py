@@ -89,7 +89,8 @@ class Browser:
         self.number += 1
         data = json.dumps({"id": self.number, "method": method, "params": params}).encode()
         size = len(data)
-        head = struct.pack("!BB", 0x81, 0x80 | size) if size < 126 else struct.pack("!BBH", 0x81, 0xFE, size) if size < 65536 else struct.pack("!BBQ", 0x81, 0xFF, size)
+        kind, form = (0x80 | size, "") if size < 126 else (0xFE, "H") if size < 65536 else (0xFF, "Q")
+        head = struct.pack("!BB" + form, 0x81, kind, *([size] if form else []))
         mask = os.urandom(4)
         self.socket.sendall(head + mask + bytes(byte ^ mask[n % 4] for n, byte in enumerate(data)))
         while True:

@@ -23,8 +23,9 @@ function rowsOf(text) {
   return lines.map(line => line.split("\t").map(cell => cell.trim()));
 }
 
-/** What a text sets, from the chosen cells' first one on: `one` number for all of them; or by `on`, ranges with their numbers `vs`, or
-    by `cells`, each a cell's index and its number; with the keys of these cells. Or what is `wrong`, and then nothing is set. */
+/** What a text sets, from the chosen cells' first one on: `one` number for all of them; or the ranges `on` with their numbers `vs`; or a
+    `set` of cells, each with its number. With the keys of these cells, and how many rows and columns they are. Or what is `wrong`, and
+    then nothing is set. */
 export function placed(text, on) {
   const rows = rowsOf(text), wide = rows[0].length, decimals = on.plane.card.decimals;
   if (rows.length === 1 && wide === 1) {
@@ -45,8 +46,8 @@ function onRanges(rows, {plane, name, top, left}, decimals) {
   const wrong = firstWrong(rows, number => whole(number, decimals));
   if (wrong) return {wrong};
   const spelled = [...plane.top.map(one), ...(plane.line ? [] : [range(these[0])]), range(these[1])];
-  const ats = these[0].flatMap(i => these[1].map(j => at(plane, i, j)));
-  return {on: "{" + spelled.join(", ") + "}", vs: rows.flat(), keys: ats.map(place => name + "[" + place + "]"), last: [rows.length, rows[0].length]};
+  const keys = these[0].flatMap(i => these[1].map(j => name + "[" + at(plane, i, j) + "]"));
+  return {on: "{" + spelled.join(", ") + "}", vs: rows.flat(), keys, last: [rows.length, rows[0].length]};
 }
 
 /** Of another domain those indices are there that are shown. */
@@ -58,7 +59,8 @@ function onCells(rows, {plane, name, top, left}, decimals) {
   const wrong = firstWrong(rows, (number, r, c) => (cellAt(r, c) ? whole(number, decimals) : number && "there is no element"));
   if (wrong) return {wrong};
   const set = rows.flatMap((row, r) => row.map((number, c) => [cellAt(r, c), number])).filter(([cell]) => cell);
-  return set.length ? {set, keys: set.map(([cell]) => cell.dataset.key), last: [rows.length, rows[0].length]} : {wrong: "there is no number in what is pasted"};
+  if (!set.length) return {wrong: "there is no number in what is pasted"};
+  return {set, keys: set.map(([cell]) => cell.dataset.key), last: [rows.length, rows[0].length]};
 }
 
 /** The first cell of a text of which something is wrong, and what. */

@@ -168,7 +168,8 @@ const hue = locale => (165 + locale * 137.5) % 360;
     array's ranges too, and how many rows and columns are before those that are shown. */
 function planeOf(card, top, rows, columns, line, begins) {
   const [row, column] = line ? [0, begins[0]] : begins.slice(-2);
-  return {card, top, rows, columns, line, row, column, ranged: card.ranges.length > 0, axes: card.ranges, cells: rows.map(() => columns.map(() => null))};
+  const cells = rows.map(() => columns.map(() => null));
+  return {card, top, rows, columns, line, row, column, ranged: card.ranges.length > 0, axes: card.ranges, cells};
 }
 
 /** Tells who doesn't see it what cells are below. */
