@@ -1,4 +1,4 @@
-//! Arrays: kept whole and in pieces, over every kind of domain, and what a change of domain does to them.
+//! Arrays: in one map and in pieces, over every kind of domain, and what a change of domain does to them.
 ghost use Rattle.std.specs.Prelude.{IfOk};
 ghost use Rattle.wb_arrays.specs.Elements.{HoldsExactly};
 
@@ -16,10 +16,12 @@ use wb_rect::Rect;
 
 // The moves take an array from a domain to another and back: the first element and that of new indices, the mapping, the
 // domains, an index outside the old one, and those to look at. The answer is what setting a 9 outside gave, the elements
-// over the new domain, the pairs that were lost, the elements over the old domain again, and how many there are. `piece`
-// is the pairs of a locale, whose elements count up from 1.
+// over the new domain, the pairs that were lost, the elements over the old domain again, and how many there are. `move_whole`
+// does so with an array in one map; a 9 is set outside behind the moves, and the elements follow. `piece` is the pairs of a
+// locale, whose elements count up from 1.
 const ROWS: &str = r"
 move 1 0 block 2 5 1 _ 2 1 4 1 _ 3 6 1 _ 5 6 1 2 3 4 5 7 -> Err(OutOfDomain) [None, None, Some(3), Some(4), Some(0), None] [([1], 1), ([2], 2)] [Some(1), Some(2), Some(3), Some(4), None, None] 4
+move_whole 1 0 1 4 1 _ 3 6 1 _ 5 6 1 2 3 4 5 6 -> [None, None, Some(3), Some(4), Some(0), Some(0)] [([1], 1), ([2], 2)] [Some(1), Some(2), Some(3), Some(4), None, None] 4 Err(OutOfDomain) [Some(1), Some(2), Some(3), Some(4), None, None]
 move_sparse 7 5 1 1 2 2 1 4 1 _ 1 4 1 _ 2 1 1 2 3 1 4 1 _ 1 4 1 _ 2 2 3 4 4 4 4 2 1 1 4 4 -> Err(OutOfDomain) [None, Some(5)] [([1, 1], 7)] [Some(7), None] 2
 move_integers 7 5 2 1 2 2 2 3 3 2 1 3 -> Err(OutOfDomain) [None, Some(5)] [(1, 7)] [Some(7), None] 2
 piece 1 0 cyclic 1 4 1 10 1 _ 1 -> Ok([([2], 2), ([6], 6), ([10], 10)])
@@ -31,7 +33,7 @@ piece 1 0 block 1 10 1 _ 4 1 10 1 _ 4 -> Err(NoLocale)
 ";
 
 // The elements count up from the first, in the order of the domain.
-pub fn numbered<D: Domain>(alloc: Global, domain: &D, first: i64) -> Result<Bound<D>, Fail>
+fn numbered<D: Domain>(alloc: Global, domain: &D, first: i64) -> Result<Bound<D>, Fail>
     ensures { IfOk result (λ b. HoldsExactly D.Index.cmp b (D.indices domain.now)) }
 {
     let mut whole = Bound::new(alloc, domain)?;
@@ -47,8 +49,12 @@ pub fn numbered<D: Domain>(alloc: Global, domain: &D, first: i64) -> Result<Boun
     Ok(whole)
 }
 
-// The elements at these indices.
-fn elements<S: Store>(alloc: Global, array: &S, indices: &[S::Index]) -> Result<String, Fail> {
+/// The elements at these indices.
+pub(crate) fn elements<S: Store>(
+    alloc: Global,
+    array: &S,
+    indices: &[S::Index],
+) -> Result<String, Fail> {
     let mut elements = Vec::new(alloc);
     for i in indices {
         elements.push(array.get(*i))?;
@@ -57,7 +63,7 @@ fn elements<S: Store>(alloc: Global, array: &S, indices: &[S::Index]) -> Result<
 }
 
 // What becomes of an array over `old` that goes to `new` and back, at these indices.
-pub fn there_and_back<I: Key + Debug, S: Store<Index = I>>(
+fn there_and_back<I: Key + Debug, S: Store<Index = I>>(
     alloc: Global,
     array: &mut S,
     old: &S::Dom,
@@ -93,6 +99,32 @@ fn in_pieces<I: Key + Debug, D: Domain<Index = I>, M: Mapping<Index = I>>(
     let mut pieces = Pieces::split(alloc, mapping, &whole)?;
     let moved = there_and_back(alloc, &mut pieces, old, new, given.1, indices)?;
     Ok(format!(in alloc; "{refused:?} {moved}")?)
+}
+
+// What becomes of an array in one map over `old` that goes to `new` and back, at these indices, and then what setting a 9 outside
+// gives, and the elements.
+fn in_one_map<D: Domain>(
+    alloc: Global,
+    given: (i64, i64),
+    (old, new): (&D, &D),
+    outside: D::Index,
+    indices: &[D::Index],
+) -> Result<String, Fail>
+where
+    D::Index: Debug,
+{
+    let mut whole = numbered(alloc, old, given.0)?;
+    let moved = there_and_back(alloc, &mut whole, old, new, given.1, indices)?;
+    let refused = whole.set(outside, 9);
+    let after = elements(alloc, &whole, indices)?;
+    Ok(format!(in alloc; "{moved} {refused:?} {after}")?)
+}
+
+fn by_one_map(alloc: Global, given: (i64, i64), words: &mut Words<'_>) -> Result<String, Fail> {
+    let (old, new): (Rect<1>, Rect<1>) = (rectangle(words)?, rectangle(words)?);
+    let outside = words.index();
+    let looks = words.indices(alloc)?;
+    in_one_map(alloc, given, (&old, &new), outside, looks.as_slice())
 }
 
 fn by_rectangles(alloc: Global, given: (i64, i64), words: &mut Words<'_>) -> Result<String, Fail> {
@@ -161,6 +193,7 @@ impl Subject for Arrays {
         let given = (words.number(), words.number());
         match call {
             "move" => by_rectangles(alloc, given, words),
+            "move_whole" => by_one_map(alloc, given, words),
             "move_sparse" => by_sparse_sets(alloc, given, words),
             "move_integers" => by_integer_sets(alloc, given, words),
             _ => piece(alloc, given.0, words),

@@ -1,6 +1,5 @@
 //! Index sets, mappings and arrays: the crates from `wb_range` to `wb_arrays`.
 mod arrays;
-mod bounds;
 mod mappings;
 pub(crate) mod movers;
 mod moves;
