@@ -1,7 +1,9 @@
 //! Arrays moved to another mapping, by one thread, by several and by none.
 ghost use Rattle.std.specs.Prelude.{⊤};
 
+use crate::index_sets::arrays::elements;
 use crate::index_sets::mappings::layout;
+use crate::index_sets::rectangles::rectangle;
 use crate::index_sets::rows::{Words, shown};
 use std::alloc::Global;
 use std::marker::PhantomData;
@@ -11,35 +13,43 @@ use std::test::Fail;
 use std::thread::Threads;
 use wb_arrays::{BadWorkers, Bound, Crew, Gate, MoveErr, Mover, Open, Pieces, Store, Way, Workers};
 use wb_dist::{BadMapping, Layout};
-use wb_range::Range;
+use wb_range::NoMemory;
 use wb_rect::Rect;
 
-// The elements at 1, 2 .., in the pieces of the mapping. A refused growth is tried again once.
-fn pieces_of(
-    rt: &impl Abort,
-    alloc: Global,
-    layout: &Layout<1>,
-    elements: &[i64],
-) -> Result<Pieces<Rect<1>, Layout<1>>, Fail> {
-    let domain = Rect::new([Range::new(1, elements.len() as i64, 1, None)?])?;
-    let mut whole = match Bound::new(alloc, &domain) {
-        Ok(whole) => whole,
-        Err(_) => Bound::new(alloc, &domain)?,
-    };
-    for (p, element) in elements.iter().enumerate() {
-        assert!(rt; whole.set([p as i64 + 1], *element) == Ok(0));
-    }
-    match Pieces::split(alloc, layout, &whole) {
-        Ok(pieces) => Ok(pieces),
-        Err(_) => Ok(Pieces::split(alloc, layout, &whole)?),
+/// An array over a rectangle of one range, in pieces.
+pub(crate) type Parts = Pieces<Rect<1>, Layout<1>>;
+
+// An array of zeros. A refused growth is tried again once.
+fn zeros(alloc: Global, domain: &Rect<1>) -> Result<Bound<Rect<1>>, NoMemory> {
+    match Bound::new(alloc, domain) {
+        Ok(whole) => Ok(whole),
+        Err(_) => Bound::new(alloc, domain),
     }
 }
 
-// The tens 10, 20 .. 100 at 1 to 10, in blocks.
-pub fn tens(rt: &impl Abort, alloc: Global) -> Result<Pieces<Rect<1>, Layout<1>>, Fail> {
-    let elements = [10, 20, 30, 40, 50, 60, 70, 80, 90, 100];
+// The tens 10, 20 .. 100 at 1 to 10.
+fn whole_tens(rt: &impl Abort, alloc: Global) -> Result<Bound<Rect<1>>, Fail> {
+    let domain = rectangle(&mut Words::of("1 10 1 _"))?;
+    let mut whole = zeros(alloc, &domain)?;
+    for i in 1..=10i64 {
+        assert!(rt; whole.set([i], i.wrapping_mul(10)) == Ok(0));
+    }
+    Ok(whole)
+}
+
+// An array in the pieces of a layout. A refused growth is tried again once.
+fn split(alloc: Global, layout: &Layout<1>, whole: &Bound<Rect<1>>) -> Result<Parts, NoMemory> {
+    match Pieces::split(alloc, layout, whole) {
+        Ok(pieces) => Ok(pieces),
+        Err(_) => Pieces::split(alloc, layout, whole),
+    }
+}
+
+// The tens, in blocks.
+pub fn tens(rt: &impl Abort, alloc: Global) -> Result<Parts, Fail> {
     let blocks = layout(&mut Words::of("block 1 10 1 _ 4"))?;
-    pieces_of(rt, alloc, &blocks, &elements)
+    let whole = whole_tens(rt, alloc)?;
+    Ok(split(alloc, &blocks, &whole)?)
 }
 
 // Four locales in turn.
@@ -52,9 +62,9 @@ fn moved_at_last<X: Mover>(
     rt: &impl Abort,
     alloc: Global,
     mover: &X,
-    from: &Pieces<Rect<1>, Layout<1>>,
+    from: &Parts,
     to: &Layout<1>,
-) -> Result<Pieces<Rect<1>, Layout<1>>, MoveErr> {
+) -> Result<Parts, MoveErr> {
     let moved = mover.move_pieces(alloc, from, to);
     if moved.is_ok() {
         return moved;
@@ -64,28 +74,65 @@ fn moved_at_last<X: Mover>(
     mover.move_pieces(alloc, from, to)
 }
 
-// What lies on each locale.
-const MOVED: [&str; 4] = [
-    "[([1], 10), ([5], 50), ([9], 90)]",
-    "[([2], 20), ([6], 60), ([10], 100)]",
-    "[([3], 30), ([7], 70)]",
-    "[([4], 40), ([8], 80)]",
+// The array that pieces are. A refused growth is tried again once.
+fn gathered(pieces: &Parts) -> Result<Bound<Rect<1>>, NoMemory> {
+    match pieces.gather() {
+        Ok(whole) => Ok(whole),
+        Err(_) => pieces.gather(),
+    }
+}
+
+// What lies on each locale, in blocks and in turn; there is no fifth one.
+const BLOCKS: [&str; 5] = [
+    "Some([([1], 10), ([2], 20), ([3], 30)])",
+    "Some([([4], 40), ([5], 50)])",
+    "Some([([6], 60), ([7], 70), ([8], 80)])",
+    "Some([([9], 90), ([10], 100)])",
+    "None",
 ];
 
-// Moves the tens by the mover, and looks at each piece and at the whole.
-fn moves_the_tens<X: Mover>(rt: &impl Abort, alloc: Global, mover: &X) -> Result<(), Fail> {
-    let from = tens(rt, alloc)?;
-    let moved = moved_at_last(rt, alloc, mover, &from, &in_turn()?)?;
-    for (locale, wanted) in MOVED.iter().enumerate() {
-        let pairs = shown(alloc, &moved.pairs(locale).expect(rt, "a locale"))?;
+const MOVED: [&str; 5] = [
+    "Some([([1], 10), ([5], 50), ([9], 90)])",
+    "Some([([2], 20), ([6], 60), ([10], 100)])",
+    "Some([([3], 30), ([7], 70)])",
+    "Some([([4], 40), ([8], 80)])",
+    "None",
+];
+
+// That this lies on each locale.
+fn lie_so(rt: &impl Abort, alloc: Global, pieces: &Parts, all: &[&str]) -> Result<(), Fail> {
+    for (locale, wanted) in all.iter().enumerate() {
+        let pairs = shown(alloc, &pieces.pairs(locale))?;
         assert!(rt; pairs.as_str() == *wanted, "{pairs}");
     }
-    let whole = match moved.gather() {
-        Ok(whole) => whole,
-        Err(_) => moved.gather()?,
-    };
-    assert!(rt; whole.len() == 10);
     Ok(())
+}
+
+// The elements at 0 to 11.
+const WHOLE: &str =
+    "[None, Some(10), Some(20), Some(30), Some(40), Some(50), Some(60), Some(70), Some(80), Some(90), Some(100), None]";
+
+// That pieces, gathered, are the tens.
+fn are_tens(rt: &impl Abort, alloc: Global, pieces: &Parts) -> Result<(), Fail> {
+    let whole = gathered(pieces)?;
+    assert!(rt; whole.len() == 10);
+    let looks = [[0], [1], [2], [3], [4], [5], [6], [7], [8], [9], [10], [11]];
+    let told = elements(alloc, &whole, looks.as_slice())?;
+    assert!(rt; told.as_str() == WHOLE, "{told}");
+    Ok(())
+}
+
+/// Moves the tens by the mover, and looks at each piece, before and after, and at the whole.
+pub(crate) fn moves_the_tens<X: Mover>(
+    rt: &impl Abort,
+    alloc: Global,
+    mover: &X,
+) -> Result<(), Fail> {
+    let from = tens(rt, alloc)?;
+    let moved = moved_at_last(rt, alloc, mover, &from, &in_turn()?)?;
+    lie_so(rt, alloc, &from, &BLOCKS)?;
+    lie_so(rt, alloc, &moved, &MOVED)?;
+    are_tens(rt, alloc, &moved)
 }
 
 // One thread and 1, 3 and 64 workers make the same pieces.

@@ -1,33 +1,19 @@
-//! A move seen whole: the array that its pieces are, and how often each worker passes its gate.
+//! Arrays moved by crews; and how often each worker passes its gate.
 
-use crate::index_sets::movers::{in_turn, tens};
+use crate::index_sets::movers::{in_turn, moves_the_tens, tens};
 use std::alloc::Global;
 use std::process::Abort;
 use std::sync::atomic::{AtomicUsize, Ordering};
 use std::test::Fail;
 use std::thread::Threads;
-use wb_arrays::{Crew, Gate, Mover, Store, Workers};
+use wb_arrays::{Crew, Gate, Mover, Workers};
 
-// Moves the tens by the mover, and gathers them: they are the array, and there is no fifth piece.
-fn gathers_the_tens<X: Mover>(rt: &impl Abort, alloc: Global, mover: &X) -> Result<(), Fail> {
-    let from = tens(rt, alloc)?;
-    let moved = mover.move_pieces(alloc, &from, &in_turn()?)?;
-    let whole = moved.gather()?;
-    for i in 1..=10i64 {
-        assert!(rt; whole.get([i]) == Some(i.wrapping_mul(10)));
-    }
-    assert!(rt; whole.len() == 10);
-    assert!(rt; whole.get([0]).is_none() && whole.get([11]).is_none());
-    assert!(rt; moved.pairs(3).is_some() && moved.pairs(4).is_none());
-    assert!(rt; from.pairs(3).is_some() && from.pairs(4).is_none());
-    Ok(())
-}
-
+// A crew of one thread, and of 1, 3 and 64 workers.
 #[test]
-fn gathers_what_was_moved(rt: HostRuntime) -> Result<(), Fail> {
-    gathers_the_tens(&rt, rt.alloc(), &Crew::alone(&rt))?;
+fn pieces_by_any_crew(rt: HostRuntime) -> Result<(), Fail> {
+    moves_the_tens(&rt, rt.alloc(), &Crew::alone(&rt))?;
     for count in [1, 3, 64] {
-        gathers_the_tens(&rt, rt.alloc(), &Crew::new(&rt, count)?)?;
+        moves_the_tens(&rt, rt.alloc(), &Crew::new(&rt, count)?)?;
     }
     Ok(())
 }
