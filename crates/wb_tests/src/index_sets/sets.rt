@@ -8,6 +8,14 @@ use wb_range::NoMemory;
 use wb_rect::Rect;
 use wb_sets::{Assoc, BadLabel, Label, Sparse, SparseErr};
 
+// Whether a label has its text, or nothing where the text is no label.
+fn kept(text: &str) -> Option<bool> {
+    match Label::new(text) {
+        Ok(label) => Some(label.as_str() == text),
+        Err(BadLabel) => None,
+    }
+}
+
 // The bounds of texts, and what else is no label.
 #[test]
 fn bounds_of_texts(rt: HostRuntime) {
@@ -30,10 +38,7 @@ fn bounds_of_texts(rt: HostRuntime) {
         ("\u{1f}", false),
         ("\u{7f}", false),
     ] {
-        match Label::new(text) {
-            Ok(label) => assert!(rt; is_label && label.as_str() == text, "{text:?}"),
-            Err(BadLabel) => assert!(rt; !is_label, "{text:?}"),
-        }
+        assert!(rt; kept(text) == is_label.then_some(true), "{text:?}");
     }
 }
 
@@ -197,12 +202,23 @@ impl<const R: usize> Subject for Members<R> {
 
 #[test]
 fn rows_of_sets(rt: HostRuntime) -> Result<(), Fail> {
-    let alloc = rt.alloc();
-    play(&rt, alloc, &mut Operations, OPERATIONS)?;
-    let names = Assoc::empty(alloc);
-    play(&rt, alloc, &mut Texts { names }, TEXTS)?;
-    let set: Sparse<1> = sparse(alloc, &mut Words::of("1 4 1 _ 0"))?;
-    play(&rt, alloc, &mut Members { set }, LINE)?;
-    let set: Sparse<2> = sparse(alloc, &mut Words::of("1 4 1 _ 1 4 1 _ 0"))?;
-    play(&rt, alloc, &mut Members { set }, SQUARE)
+    play(&rt, rt.alloc(), &mut Operations, OPERATIONS)
+}
+
+#[test]
+fn rows_of_texts(rt: HostRuntime) -> Result<(), Fail> {
+    let names = Assoc::empty(rt.alloc());
+    play(&rt, rt.alloc(), &mut Texts { names }, TEXTS)
+}
+
+#[test]
+fn rows_of_a_line(rt: HostRuntime) -> Result<(), Fail> {
+    let set: Sparse<1> = sparse(rt.alloc(), &mut Words::of("1 4 1 _ 0"))?;
+    play(&rt, rt.alloc(), &mut Members { set }, LINE)
+}
+
+#[test]
+fn rows_of_a_square(rt: HostRuntime) -> Result<(), Fail> {
+    let set: Sparse<2> = sparse(rt.alloc(), &mut Words::of("1 4 1 _ 1 4 1 _ 0"))?;
+    play(&rt, rt.alloc(), &mut Members { set }, SQUARE)
 }
