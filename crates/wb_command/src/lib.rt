@@ -32,8 +32,7 @@ const RUN_RESUME: &str = "Go on from the history whose text comes first";
 const SERVE_RESUME: &str =
     "Begin with the history whose text is standard input, and print the text of the whole history at the end";
 
-const JOURNAL: &str =
-    "Keep each change in this file, and go on from those that it has; not with --resume";
+const JOURNAL: &str = "Keep each change in this file, and go on from those that it has";
 
 const WORKERS: &str =
     "How many workers move arrays to another mapping; 1 where it is left out (1 to 64)";
