@@ -1,9 +1,13 @@
-"""Servers with many connections, each a client in a process of its own: how many lines a second all of them have answered."""
+"""Servers with many connections, each a client in a process of its own, or all of one small process: how many lines a second all of
+them have answered, and what the clients took of a processor for a line."""
 
 import os
+import shutil
 import socket
+import struct
 import subprocess
 import sys
+import tempfile
 import threading
 import time
 
@@ -17,6 +21,7 @@ class Desk:
     """A served desk, of which each connection has a domain and an array of its own; with a journal file it keeps its changes."""
 
     name = "desk"
+    set_reply = '{"edit"'  # how it begins
 
     def __init__(self, program, seats, journal=None):
         self.process = subprocess.Popen(serving(program, seats, journal), stdin=subprocess.DEVNULL, stdout=subprocess.PIPE)
@@ -48,6 +53,7 @@ class Redis(redis_server.Server):
     """A redis server, for the same clients."""
 
     name = "redis"
+    set_reply = "+OK"
 
     def first_lines(self, seat):
         return []
@@ -107,16 +113,23 @@ def client(server, seat, kind, at_once, count, ready, go, done):
     lines = [server.line(kind, seat, k) for k in range(count)]
     os.write(ready, b".")
     os.read(go, 1)
+    used = time.process_time()
     if at_once:
         send_at_once(connection, lines, ends_of_replies(server, kind))
     else:
         send_one_by_one(connection, lines, ends_of_replies(server, kind))
-    os.write(done, b"%r\n" % time.monotonic())
+    os.write(done, b"%r %r\n" % (time.monotonic(), time.process_time() - used))
     connection.close()
 
 
 def lines_a_second(server, seats, kind, at_once, count):
-    """Lets so many clients of a server go at the same moment, each with so many lines, and ends the server."""
+    """The lines a second of so many clients of a server, each in a process of its own, with so many lines each; the server ends."""
+    return asked_by_each(server, seats, kind, at_once, count)[0]
+
+
+def asked_by_each(server, seats, kind, at_once, count):
+    """Lets so many clients of a server go at the same moment, each with so many lines, and ends the server: the lines a second, and the
+    processor microseconds that the clients took for a line."""
     children = []
     try:
         ready, go, done = os.pipe(), os.pipe(), os.pipe()
@@ -139,11 +152,40 @@ def lines_a_second(server, seats, kind, at_once, count):
             if os.waitpid(child, 0)[1] != 0:
                 sys.exit("a client failed")
         os.close(done[1])
-        ends = [float(word) for word in os.fdopen(done[0]).read().split()]
+        words = [float(word) for word in os.fdopen(done[0]).read().split()]
         for end in (ready[0], ready[1], go[0], go[1]):
             os.close(end)
         server.end()
     except BaseException:
         server.kill()
         raise
-    return seats * count / (max(ends) - start)
+    return seats * count / (max(words[::2]) - start), sum(words[1::2]) * 1e6 / (seats * count)
+
+
+def small_clients(room):
+    """The program of clients.c beside this file, made in a folder; none where there is no C compiler `cc`."""
+    if not shutil.which("cc"):
+        return None
+    made = os.path.join(room, "clients")
+    subprocess.run(["cc", "-O2", "-o", made, os.path.join(os.path.dirname(os.path.realpath(__file__)), "clients.c")], check=True)
+    return made
+
+
+def asked_by_one(clients, server, seats, count):
+    """Lets that program send so many `set` lines one by one on each of so many connections, and ends the server: the lines a second, and
+    the processor microseconds that the clients took for a line."""
+    try:
+        first = len(server.first_lines(0))
+        with tempfile.TemporaryFile() as lines:
+            for seat in range(seats):
+                for line in [*server.first_lines(seat), *(server.line("set", seat, k) for k in range(count))]:
+                    lines.write(struct.pack("<I", len(line)) + line)
+            lines.seek(0)
+            words = [clients, str(server.port), str(seats), str(first), str(count), server.set_reply]
+            told = subprocess.run(words, stdin=lines, stdout=subprocess.PIPE, check=True, timeout=redis_server.SECONDS).stdout
+        server.end()
+    except BaseException:
+        server.kill()
+        raise
+    seconds, used = map(float, told.split())
+    return seats * count / seconds, used * 1e6 / (seats * count)

@@ -106,6 +106,14 @@ def of_wait(of):
              aimed("%s such lines" % short(of["lines"]), of["lines"], 2))]
 
 
+def by_python(found):
+    """What Python clients measure of desks of so many connections, where others were there too."""
+    theirs = [it["by Python"] for it in found if it["by Python"]["desk"] != it["desk"]]
+    ratios = [it["ratio"] for it in theirs if "ratio" in it]
+    beside = "%s of redis-server" % listed(ratios) if ratios else ""
+    return [("the same, a Python process a seat", "%s a second" % listed(it["desk"] for it in theirs), beside)] if theirs else []
+
+
 def of_journal(of):
     at_once, single, opening = of["at once"], of["one by one"], of["opening"]
     rows = [
@@ -118,6 +126,7 @@ def of_journal(of):
         ratios = [it["ratio"] for it in found if "ratio" in it]
         beside = aimed("%s of redis-server that syncs each" % listed(ratios), min(ratios), 1, True) if ratios else "no redis-server there"
         rows.append(("the same, %s seats" % ", ".join(str(it["connections"]) for it in found), "%s a second" % listed(it["desk"] for it in found), beside))
+        rows += by_python(found)
     memory = opening["peak"] / opening["history"]
     return rows + [
         ("a change in the file", "%s bytes" % short(of["bytes"]["file"]), "its line %s" % short(of["bytes"]["line"])),

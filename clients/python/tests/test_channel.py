@@ -198,6 +198,11 @@ class Connections(unittest.TestCase):
         with self.assertRaisesRegex(NoSeat, "all its seats are taken"):
             Workbook.connect("127.0.0.1", port, wait=0.2)
 
+    def test_a_server_without_a_free_seat(self):
+        port = self.server(lambda connection: connection.sendall(b'{"error":"E93","name":"no-seat"}\n'))
+        with self.assertRaisesRegex(NoSeat, f"127.0.0.1:{port}: all its seats are taken; one is free again"):
+            Workbook.connect("127.0.0.1", port)
+
     def test_a_server_that_closes_at_once(self):
         port = self.server(lambda connection: None)
         with self.assertRaisesRegex(NoSeat, "no seat left, or has ended"):

@@ -151,7 +151,7 @@ class TestInstall(Scratch):
         self.install()
         unit = self.prefix / "lib/systemd/system/workbook@.service"
         lines = unit.read_text(encoding="utf-8").splitlines()
-        self.assertIn(f"ExecStart={self.prefix}/bin/workbook serve --journal %S/workbook/%i.wb --port %i --seats ${{WORKBOOK_SEATS}}", lines)
+        self.assertIn(f"ExecStart={self.prefix}/bin/workbook serve --stay --idle ${{WORKBOOK_IDLE}} --journal %S/workbook/%i.wb --port %i --seats ${{WORKBOOK_SEATS}}", lines)
         self.assertNotIn("@", "".join(line for line in lines if not line.startswith("#")))
         if shutil.which("systemd-analyze"):
             done = started(["systemd-analyze", "verify", "--man=no", unit])

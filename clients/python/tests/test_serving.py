@@ -51,6 +51,38 @@ class Desks(Files):
             self.assertEqual((two["A"][1], two.where, desk.address), (5, desk.address, desk.address))
             self.assertEqual(desk.settled(), "chapel-workbook 1\narray A over D [5, 0]\nrect D {1..2} none\nend\n")
 
+    def test_a_desk_that_stays(self):
+        """Its one seat is taken again and again, and the desk ends once it is told to."""
+        with Workbook.serve(seats=1, stay=True, program=PROGRAM) as desk:
+            one = desk.connect()
+            one.array("A", one.domain("D", range(1, 3)))[1] = 5
+            with self.assertRaisesRegex(NoSeat, "all its seats are taken; one is free again"):
+                desk.connect()
+            one.close()
+            self.assertEqual(self.seat(desk)["A"][1], 5)
+            self.assertEqual(desk.settled(), "chapel-workbook 1\narray A over D [5, 0]\nrect D {1..2} none\nend\n")
+
+    def test_a_desk_that_stays_and_is_kept(self):
+        """An idle connection gives its seat back; a desk that was ended by force has lost nothing."""
+        with Workbook.serve(seats=1, journal=self.path, stay=True, idle=1, program=PROGRAM) as desk:
+            idle = desk.connect()
+            idle.array("A", idle.domain("D", range(1, 3)))[1] = 5
+            self.assertEqual(self.seat(desk)["A"][1], 5)
+            with self.assertRaises(SessionEnded):
+                idle.counts()
+        with Workbook.serve(seats=1, journal=self.path, stay=True, program=PROGRAM) as desk:
+            self.assertEqual(list(desk.connect()["A"]), [5, 0])
+            self.assertIn("array A over D [5, 0]", desk.settled())
+
+    def seat(self, desk) -> Workbook:
+        """The seat of a desk that stays, once it is free."""
+        for _ in range(200):
+            try:
+                return desk.connect()
+            except NoSeat:
+                time.sleep(0.05)
+        return desk.connect()
+
     def test_gone_on_from_a_history(self):
         text = self.kept_plan()
         with Workbook.serve(seats=1, resume=text, program=PROGRAM) as desk:
@@ -107,8 +139,9 @@ class Desks(Files):
             Workbook.serve(resume="milk, bread\n", program=PROGRAM)
         with self.assertRaisesRegex(SessionEnded, r"ended with status 2 \(a bad command line"):
             Workbook.serve(resume=EMPTY * 10_000, program=[sys.executable, "-c", "import sys; sys.exit(2)"])
-        with self.assertRaises(ValueError):
-            Workbook.serve(resume=EMPTY, journal=self.path)
+        for wrong in ({"resume": EMPTY, "journal": self.path}, {"resume": EMPTY, "stay": True}, {"idle": 5}):
+            with self.assertRaises(ValueError):
+                Workbook.serve(**wrong)
         with Workbook.serve(program=PROGRAM) as desk:
             with self.assertRaisesRegex(SessionEnded, "ended with status 3"):
                 Workbook.serve(port=desk.port, program=PROGRAM)

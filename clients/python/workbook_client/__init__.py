@@ -38,6 +38,7 @@ from .refusals import (
     InUse,
     LineTooLong,
     NameTaken,
+    NoFreeSeat,
     NoMemory,
     NoSuchEdit,
     NoSuchName,
@@ -59,7 +60,7 @@ __version__ = "0.1.0"
 
 __all__ = [
     "Array", "BadLiteral", "BadMapping", "BadRequest", "Blocked", "Cascade", "Compacted", "Domain", "Edit",
-    "Empty", "InForce", "InUse", "LineTooLong", "NameTaken", "NoAnswer", "NoMemory", "NoProgram",
+    "Empty", "InForce", "InUse", "LineTooLong", "NameTaken", "NoAnswer", "NoFreeSeat", "NoMemory", "NoProgram",
     "NoSeat", "NoServer", "NoSuchEdit", "NoSuchName", "NotEmpty", "NotInForce", "NotOpened", "NotResumed",
     "NotTakenBack", "OutOfDomain", "OutOfParent", "Overflow", "Pipeline", "Reading", "Refusal", "RefusedInPlace",
     "Served", "SessionEnded", "Snapshot", "StrangePass", "StrangeReply", "TooLarge", "Workbook",

@@ -108,14 +108,20 @@ class Workbook:
     @classmethod
     def serve(
         cls, seats: int = 2, port: int = 0, journal: Optional[journals.Path] = None, resume: Optional[str] = None,
-        program: Optional[Program] = None,
+        program: Optional[Program] = None, stay: bool = False, idle: Optional[int] = None,
     ) -> Served:
         """Starts a desk, `workbook serve`, on 127.0.0.1: so many seats, 1 to 16, of one workbook, on a port or on any free one. With
         a `journal` each change is kept there, on the disk, before its reply comes, and the next desk or session goes on from it;
-        else the workbook is empty, or goes on from a history's text. `place()` of what is given says where it lies."""
+        else the workbook is empty, or goes on from a history's text. With `stay` a seat is free again when its connection has ended,
+        and a connection is ended that is idle for `idle` seconds, 300 where that is None, never where it is 0. `place()` of what is
+        given says where it lies."""
         if journal is not None and resume is not None:
             raise ValueError("a workbook goes on from a history or from its journal, not from both")
-        return Served(cls.connect, seats, port, journal, resume, program)
+        if stay and resume is not None:
+            raise ValueError("a desk that stays goes on from its journal, not from a history")
+        if idle is not None and not stay:
+            raise ValueError("only a desk that stays ends connections that are idle")
+        return Served(cls.connect, seats, port, journal, resume, program, stay, idle)
 
     @classmethod
     def connect(
@@ -123,8 +129,8 @@ class Workbook:
     ) -> "Workbook":
         """Takes the next seat of a workbook that `workbook serve` shares.
 
-        A server whose seats are taken lets connect, and then says nothing: `NoSeat` where it
-        hasn't answered a first line within `wait` seconds. A seat is given once; it isn't free
+        `NoSeat` where its seats are taken. A server that gives each seat once lets connect then, and says nothing:
+        it hasn't answered a first line within `wait` seconds. One that stays says so at once, and a seat is free
         again when its connection ends. `timeout` is that of the replies after.
         """
         channel = SocketChannel(host, port, wait)
@@ -137,6 +143,9 @@ class Workbook:
             raise NoSeat(
                 f"{channel.where} took the connection and gave {no}: all its seats are taken"
             ) from no
+        except NoSeat as no:
+            book.close()
+            raise NoSeat(f"{channel.where}: {no}") from no
         except StrangeReply:
             book.close()
             raise

@@ -20,7 +20,7 @@ class NoServer(SessionEnded):
 
 
 class NoSeat(SessionEnded):
-    """A server took the connection and answers nothing: its seats are taken."""
+    """A server took the connection, and its seats are taken: it says so, or answers nothing."""
 
 
 class NotResumed(SessionEnded):

@@ -5,7 +5,7 @@ from collections import deque
 from typing import Any, Callable, Deque, Dict, List, Optional, Tuple, Type, TypeVar
 
 from .channel import Channel
-from .errors import SessionEnded, StrangeReply
+from .errors import NoSeat, SessionEnded, StrangeReply
 from .refusals import LineTooLong, Refusal, refusal
 from .requests import Request
 
@@ -128,6 +128,8 @@ class Exchange:
         self._put(NO_OP, reading, None)
         while reading.reply is None:
             self.read_one()
+        if reading.reply.get("error") == "E93":
+            raise NoSeat("all its seats are taken; one is free again once somebody has left")
         if reading.reply.get("error") != "E01":
             raise StrangeReply(f"what answers there is no workbook: {dict(reading.reply)!r:.200}")
 

@@ -185,12 +185,17 @@ class StrangePass(Refusal):
     advice = "the desk doesn't know this seat; connect again."
 
 
+class NoFreeSeat(Refusal):
+    code, name = "E93", "no-seat"
+    advice = "no seat of the desk is free; connect again once somebody has left."
+
+
 BY_CODE: Dict[str, Type[Refusal]] = {
     kind.code: kind
     for kind in (
         BadRequest, BadLiteral, NameTaken, NoSuchName, WrongKind, OutOfDomain, OutOfParent, InUse,
         TooLarge, Overflow, NoSuchEdit, NotInForce, InForce, Blocked, BadMapping, RefusedInPlace,
-        NotEmpty, Empty, NoMemory, LineTooLong, StrangePass,
+        NotEmpty, Empty, NoMemory, LineTooLong, StrangePass, NoFreeSeat,
     )
 }
 

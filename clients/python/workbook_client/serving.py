@@ -19,24 +19,28 @@ OTHER_FAULTS = ("workbook: input or output failed", "workbook: the port ")
 
 
 class Served:
-    """A desk. It ends by itself once each of its seats was taken and left, and else by `close`."""
+    """A desk. It ends by itself once each of its seats was taken and left, or, where it stays, by `settled`; and else by `close`."""
 
     def __init__(
         self, take: "Callable[[str, int], Workbook]", seats: int, port: int, journal: Optional[journals.Path], resume: Optional[str],
-        program: Optional[Program],
+        program: Optional[Program], stay: bool, idle: Optional[int],
     ):
         self._take = take
         self.seats = seats
-        """How many seats it has, each of which is taken once."""
+        """How many seats it has. Each is taken once; where it stays, again and again."""
+        self.stays = stay
+        """Whether a seat is free again when its connection has ended."""
         self.journal = None if journal is None else journals.place_of(journal)
         """The file in which each change is kept before its reply comes; None where it is kept nowhere."""
         self._books: "List[Workbook]" = []
-        words = _words(program, seats, port, self.journal, resume is not None)
+        words = [*_words(program, seats, port, self.journal, resume is not None), *_staying(stay, idle)]
         self._said = scratch()
         self._process = self._started(words)
         assert self._process.stdin and self._process.stdout
         self._told: IO[bytes] = self._process.stdout
-        self._gives(self._process.stdin, resume or "")
+        self._input: IO[bytes] = self._process.stdin
+        if not stay:
+            self._gives(resume or "")
         self.host, self.port = "127.0.0.1", self._listening()
 
     def _started(self, words: List[str]) -> "subprocess.Popen[bytes]":
@@ -49,11 +53,12 @@ class Served:
                 self._said.close()
             raise NoProgram(f"{words[0]!r} can't be started: {fault}") from fault
 
-    def _gives(self, to: IO[bytes], text: str) -> None:
-        """Hands over the text of a history. A program that has ended takes none, and why is told by what it said."""
+    def _gives(self, text: str) -> None:
+        """Hands over its whole input: the text of a history, or the line that ends it. A program that has ended takes none, and why is
+        told by what it said."""
         try:
-            with to:
-                to.write(text.encode())
+            with self._input:
+                self._input.write(text.encode())
         except BrokenPipeError:
             pass
 
@@ -102,10 +107,12 @@ class Served:
 
     def settled(self) -> str:
         """Leaves the seats that `connect` gave, waits until all are left, and gives the text that the desk ends with: that of the
-        workbook, or of the history where it went on from one. A seat that nobody took is waited for too. `SessionEnded` where the desk
-        ended in another way."""
+        workbook, or of the history where it went on from one. A seat that nobody took is waited for too. A desk that stays is told to
+        end: it waits for nobody. `SessionEnded` where the desk ended in another way."""
         for book in self._books:
             book.close()
+        if self.stays and not self._input.closed:
+            self._gives("stop\n")
         first, _, text = self._told.read().decode().partition("\n")
         if self._process.wait() or not first.startswith("settled "):
             raise self._not_there()
@@ -117,6 +124,8 @@ class Served:
             book.close()
         self._process.kill()
         self._process.wait()
+        if not self._input.closed:
+            self._gives("")
         self._told.close()
         if self._said is not None:
             self._said.close()
@@ -137,3 +146,10 @@ def _words(program: Optional[Program], seats: int, port: int, journal: Optional[
     if journal is not None:
         words += ["--journal", journal]
     return words + (["--resume"] if resumes else [])
+
+
+def _staying(stay: bool, idle: Optional[int]) -> List[str]:
+    """The words for a desk that stays."""
+    if not stay:
+        return []
+    return ["--stay", *([] if idle is None else ["--idle", str(idle)])]

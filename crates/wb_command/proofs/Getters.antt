@@ -7,9 +7,14 @@ use Rattle.std.proofs.lemmas.Slice.Eq.{bytes_eq-Decides}
 use Rattle.clap.specs.Words.{ReadsOne, Row, Text, TriesOne, one_of, one_text, rows_of}
 use Rattle.clap.specs.declared.parser.matches.Found.{Found}
 use Rattle.clap.proofs.WalkLemmas.{one_text-rows}
-use Rattle.wb_command.specs.Asks.{HasNumber, HasWorkers, IsDesk, Means, Writes, is_set, word_of}
+use Rattle.wb_command.specs.Asks.{HasNumber, HasWorkers, IsDay, IsDesk, IsOptional, IsPlace, IsStay, Means, MeansAny, Writes, is_set, word_of}
 use Rattle.wb_command.specs.declared.Asked.{Asked}
 use Rattle.wb_command.specs.declared.Asked.TheVariants.{Run, RunKept, Check, Upgrade, Compact, Serve, ServeKept}
+use Rattle.wb_command.specs.declared.Place.{Place}
+use Rattle.wb_command.specs.declared.Place.TheVariants.{Port, Socket}
+use Rattle.wb_command.specs.declared.Stay.{Stay}
+use Rattle.wb_command.specs.declared.Wanted.{Wanted}
+use Rattle.wb_command.specs.declared.Wanted.TheVariants as wanted
 
 some≢none : {X : Type 0} (x : X) → Some x ≡ None → ⊥
 some≢none x e = true≢false (ap is_some e)
@@ -71,6 +76,41 @@ module _ {E : Type 0} (G : Text → Result ℕ E → Type 0) (only : (u : Text) 
   workers_read f r none some = workers_in (one_of (codes "workers") (rows_of f)) r
       (λ e. none (one_text-rows f (codes "workers") ∙ e)) (λ t e. some t (one_text-rows f (codes "workers") ∙ e))
 
+-- a number that need not be told, by the text of its option
+module _ {E : Type 0} (bits : ℕ) (G : Text → Result ℕ E → Type 0) (only : (u : Text) (x : Result ℕ E) → G u x → ParsesUnsigned bits 10 u x) where
+  abbrev OptionalIn : Option Text → Option ℕ → Type 0
+  OptionalIn o None = o ≡ None
+  OptionalIn o (Some n) = NumberIn bits o n
+
+  optional_in : (o : Option Text) (r : Result (Option ℕ) E) → (o ≡ None → r ≡ Ok None) → ((t : Text) → o ≡ Some t → TriesOne G t r)
+      → MatchResult r (OptionalIn o) (λ _. (p : Option ℕ) → OptionalIn o p → ⊥)
+  optional_in None (Ok None) none some = refl
+  optional_in None (Ok (Some v)) none some = absurd (true≢false (ap is_number (none refl)))
+    where
+      is_number : Result (Option ℕ) E → Bool
+      is_number (Ok (Some n)) = true
+      is_number _ = false
+  optional_in None (Err e) none some = absurd (true≢false (ap is_failed (none refl)))
+    where
+      is_failed : Result (Option ℕ) E → Bool
+      is_failed (Err e) = true
+      is_failed _ = false
+  optional_in (Some t) (Ok None) none some = absurd (some t refl)
+  optional_in (Some t) (Ok (Some v)) none some =
+      let p = only t (Ok v) (some t refl) in
+      (p.0.0, p.0.1, p.1)
+  optional_in (Some t) (Err e) none some = λ p h. elim p as (λ p. OptionalIn (Some t) p → ⊥) [
+    | None ↦ λ h. some≢none t h
+    | Some n ↦ λ h. only t (Err e) (some t refl) (h.0, h.1)
+  ] h
+
+  -- of `try_get_one`
+  pub optional_read : (f : Found) (name : Text) (r : Result (Option ℕ) E) → (one_text f name ≡ None → r ≡ Ok None)
+      → ((t : Text) → one_text f name ≡ Some t → TriesOne G t r)
+      → MatchResult r (OptionalIn (one_of name (rows_of f))) (λ _. (p : Option ℕ) → OptionalIn (one_of name (rows_of f)) p → ⊥)
+  optional_read f name r none some = optional_in (one_of name (rows_of f)) r
+      (λ e. none (one_text-rows f name ∙ e)) (λ t e. some t (one_text-rows f name ∙ e))
+
 -- ---- flags
 
 abbrev is_true_text : Text → Bool
@@ -113,15 +153,92 @@ run_alone found none (Serve port seats resume workers) m = absurd (true≢false 
 run_alone found none (ServeKept journal port seats workers) m = absurd (true≢false (ap (bytes_eq (codes "run")) m.0))
 
 -- `serve` means nothing where one of its numbers was not found
-pub serve_alone : (found : List Row) → ((port seats workers : ℕ) → IsDesk found port seats workers → ⊥)
+pub serve_alone : (found : List Row) → ((place : Place) (seats workers : ℕ) → IsDesk found place seats workers → ⊥)
     → (asked : Asked) → Means (codes "serve") found asked → ⊥
 serve_alone found none (Run resume workers) m = absurd (true≢false (ap (bytes_eq (codes "serve")) m.0))
 serve_alone found none (RunKept journal resume workers) m = absurd (true≢false (ap (bytes_eq (codes "serve")) m.0))
 serve_alone found none Check m = absurd (true≢false (ap (bytes_eq (codes "serve")) m))
 serve_alone found none Upgrade m = absurd (true≢false (ap (bytes_eq (codes "serve")) m))
 serve_alone found none (Compact journal) m = absurd (true≢false (ap (bytes_eq (codes "serve")) m.0))
-serve_alone found none (Serve port seats resume workers) m = none port seats workers m.3
-serve_alone found none (ServeKept journal port seats workers) m = none port seats workers m.3
+serve_alone found none (Serve port seats resume workers) m = none (Port port) seats workers m.4
+serve_alone found none (ServeKept journal port seats workers) m = none (Port port) seats workers m.4
+
+-- without `--stay` it means a desk of one day
+pub serve_day : (found : List Row) (asked : Asked) → Means (codes "serve") found asked → IsDay found
+serve_day found (Run resume workers) m = absurd (true≢false (ap (bytes_eq (codes "serve")) m.0))
+serve_day found (RunKept journal resume workers) m = absurd (true≢false (ap (bytes_eq (codes "serve")) m.0))
+serve_day found Check m = absurd (true≢false (ap (bytes_eq (codes "serve")) m))
+serve_day found Upgrade m = absurd (true≢false (ap (bytes_eq (codes "serve")) m))
+serve_day found (Compact journal) m = absurd (true≢false (ap (bytes_eq (codes "serve")) m.0))
+serve_day found (Serve port seats resume workers) m = m.3
+serve_day found (ServeKept journal port seats workers) m = m.3
+
+-- which means nothing where the number of seconds of an idle connection can't be read
+pub day_unread : (found : List Row) → ((o : Option ℕ) → IsOptional 32 (codes "idle") found o → ⊥) → (asked : Asked) → Means (codes "serve") found asked → ⊥
+day_unread found none asked m = none None (serve_day found asked m).1
+
+written_somewhere : (bits : ℕ) (o : Option Text) (n : ℕ) → NumberIn bits o n → o ≡ None → ⊥
+written_somewhere bits None n h e = h
+written_somewhere bits (Some t) n h e = some≢none t e
+
+-- or where it is told
+pub day_idle : (found : List Row) (o : Option ℕ) → IsOptional 32 (codes "idle") found o → is_some o ≡ true → (asked : Asked) → Means (codes "serve") found asked → ⊥
+day_idle found None h some asked m = true≢false (sym some)
+day_idle found (Some n) h some asked m = written_somewhere 32 (one_of (codes "idle") found) n h (serve_day found asked m).1
+
+no_word : (word : Text) → Some word ≡ None → ⊥
+no_word word e = true≢false (ap is_some e)
+
+-- without `--stay` it means a port
+day_port : (found : List Row) (asked : Asked) → Means (codes "serve") found asked → (port : ℕ) × IsPlace found (Port port)
+day_port found (Run resume workers) m = absurd (true≢false (ap (bytes_eq (codes "serve")) m.0))
+day_port found (RunKept journal resume workers) m = absurd (true≢false (ap (bytes_eq (codes "serve")) m.0))
+day_port found Check m = absurd (true≢false (ap (bytes_eq (codes "serve")) m))
+day_port found Upgrade m = absurd (true≢false (ap (bytes_eq (codes "serve")) m))
+day_port found (Compact journal) m = absurd (true≢false (ap (bytes_eq (codes "serve")) m.0))
+day_port found (Serve port seats resume workers) m = (port, m.4.0)
+day_port found (ServeKept journal port seats workers) m = (port, m.4.0)
+
+-- and nothing where a socket was found
+pub day_socket : (found : List Row) (path : Text) → IsPlace found (Socket path) → (asked : Asked) → Means (codes "serve") found asked → ⊥
+day_socket found path h asked m = no_word path (sym h.1 ∙ (day_port found asked m).1.1)
+
+-- no place where a port and a socket were found, nor where neither was
+pub place_of_both : (found : List Row) (port : ℕ) (path : Text) → HasNumber 16 (codes "port") found port → word_of (codes "socket") found ≡ Some path
+    → (place : Place) → IsPlace found place → ⊥
+place_of_both found port path h word (Port other) p = no_word path (sym word ∙ p.1)
+place_of_both found port path h word (Socket other) p = written_somewhere 16 (one_of (codes "port") found) port h p.0
+
+pub place_of_neither : (found : List Row) → one_of (codes "port") found ≡ None → word_of (codes "socket") found ≡ None
+    → (place : Place) → IsPlace found place → ⊥
+place_of_neither found none word (Port other) p = written_somewhere 16 (one_of (codes "port") found) other p.0 none
+place_of_neither found none word (Socket other) p = no_word other (sym p.1 ∙ word)
+
+-- no place where the port can't be read
+pub place_unread : (found : List Row) → ((o : Option ℕ) → IsOptional 16 (codes "port") found o → ⊥) → (place : Place) → IsPlace found place → ⊥
+place_unread found none (Port port) p = none (Some port) p.0
+place_unread found none (Socket path) p = none None p.0
+
+-- with `--stay` it means a desk that stays
+pub stay_alone : (found : List Row) → is_set (codes "stay") found ≡ true → ((s : Stay) → IsStay found s → ⊥)
+    → (w : Wanted) → MeansAny (codes "serve") found w → ⊥
+stay_alone found set none (wanted.Once asked) m = true≢false (sym set ∙ (serve_day found asked m).0)
+stay_alone found set none (wanted.Stay stay) m = none stay m.2
+stay_alone found set none (wanted.StayKept journal stay) m = none stay m.2
+
+-- without it, no desk that stays
+pub day_alone : (found : List Row) → is_set (codes "stay") found ≡ false → ((asked : Asked) → Means (codes "serve") found asked → ⊥)
+    → (w : Wanted) → MeansAny (codes "serve") found w → ⊥
+day_alone found set none (wanted.Once asked) m = none asked m
+day_alone found set none (wanted.Stay stay) m = true≢false (sym m.2.0 ∙ set)
+day_alone found set none (wanted.StayKept journal stay) m = true≢false (sym m.2.0 ∙ set)
+
+-- of the other commands none means a desk that stays
+pub once_alone : (name : Text) (found : List Row) → name ≢ codes "serve" → ((asked : Asked) → Means name found asked → ⊥)
+    → (w : Wanted) → MeansAny name found w → ⊥
+once_alone name found other none (wanted.Once asked) m = none asked m
+once_alone name found other none (wanted.Stay stay) m = other m.0
+once_alone name found other none (wanted.StayKept journal stay) m = other m.0
 
 -- `compact` means nothing where no file was found
 pub compact_alone : (found : List Row) → ((journal : Text) → word_of (codes "file") found ≡ Some journal → ⊥)

@@ -10,7 +10,7 @@ use Rattle.clap.specs.declared.error.kind.ErrorKind.TheVariants.{OutOfMemory}
 use Rattle.clap.specs.declared.parser.matches.ArgMatches.{ArgMatches}
 use Rattle.clap.proofs.OnLiterals.{clap_on_literals}
 use Rattle.wb_command.specs.Asks.{Asks, IsMeant, IsRequest, Refuses, Tells, program}
-use Rattle.wb_command.specs.declared.Asked.{Asked}
+use Rattle.wb_command.specs.declared.Wanted.{Wanted}
 use Rattle.wb_command.specs.declared.CommandErr.{CommandErr}
 use Rattle.wb_command.specs.declared.CommandErr.TheVariants.{Help, BadCommandLine, NothingMeant, NoMemory}
 
@@ -52,14 +52,14 @@ module _ (command : Command) (built : app_of command ≡ program) (words : List 
   found_by m has = (has (ap is_simple built ∙ program_simple)).1 ∙ ap (λ (a : App). subcommand_of a words) built
 
 -- the answer to words that clap takes
-pub answer_asked : (words : List Text) (r : Option Asked) (m : ArgMatches) → fault_of program words ≡ [] → subcommand_rows_of m ≡ subcommand_of program words
-    → MatchOption r ((asked : Asked) → IsMeant (subcommand_rows_of m) asked → ⊥) (IsMeant (subcommand_rows_of m))
+pub answer_asked : (words : List Text) (r : Option Wanted) (m : ArgMatches) → fault_of program words ≡ [] → subcommand_rows_of m ≡ subcommand_of program words
+    → MatchOption r ((asked : Wanted) → IsMeant (subcommand_rows_of m) asked → ⊥) (IsMeant (subcommand_rows_of m))
     → IfOk (ok_or r NothingMeant) (Asks words)
 answer_asked words None m none found read = tt
 answer_asked words (Some asked) m none found read = (none, subst (λ o. IsMeant o asked) found read)
 
-pub answer_refused : (words : List Text) (r : Option Asked) (m : ArgMatches) → fault_of program words ≡ [] → subcommand_rows_of m ≡ subcommand_of program words
-    → MatchOption r ((asked : Asked) → IsMeant (subcommand_rows_of m) asked → ⊥) (IsMeant (subcommand_rows_of m))
+pub answer_refused : (words : List Text) (r : Option Wanted) (m : ArgMatches) → fault_of program words ≡ [] → subcommand_rows_of m ≡ subcommand_of program words
+    → MatchOption r ((asked : Wanted) → IsMeant (subcommand_rows_of m) asked → ⊥) (IsMeant (subcommand_rows_of m))
     → IfErr (ok_or r NothingMeant) (Refuses words)
 answer_refused words None m none found read = (none, λ asked meant. read asked (subst (λ o. IsMeant o asked) (sym found) meant))
 answer_refused words (Some asked) m none found read = tt

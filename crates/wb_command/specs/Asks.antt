@@ -1,7 +1,7 @@
 -- What the words of a command line ask for. How words are read is clap's: `--workers 4` or `--workers=4`, options in any
 -- order, what is said twice, `--`. clap's `fault_of` lists what it refuses of the words for a command that is written out
 -- as here, and `subcommand_of` gives the subcommand that they name with what was found for its options.
-use Rattle.std.specs.Prelude.{◌≡◌, ◌≢◌, ◌⊎◌, ◌<◌, ◌^◌, ℕ, Bool, true, false, List, [], ◌∷◌, Option, Some, None, IsSomeAnd, ⊤, pos, codes, bytes_eq}
+use Rattle.std.specs.Prelude.{◌≡◌, ◌≢◌, ◌⊎◌, ◌<◌, ◌^◌, ℕ, Bool, true, false, List, [], ◌∷◌, Option, Some, None, IsSomeAnd, ⊤, pos, codes, bytes_eq, unwrap_or}
 use Rattle.std.specs.Option.{option_map_or}
 use Rattle.std.specs.Str.Parse.{IsNumeral, digits_value, without_leading_plus}
 use Rattle.clap.specs.Words.{App, Row, Rule, Shape, Text, IsAmong, fault_of, first_of, kind_of, new_rule, one_of, subcommand_of}
@@ -13,6 +13,11 @@ use Rattle.clap.specs.declared.error.kind.ErrorKind.{ErrorKind}
 use Rattle.clap.specs.declared.error.kind.ErrorKind.TheVariants.{DisplayHelp, DisplayVersion, OutOfMemory}
 use Rattle.wb_command.specs.declared.Asked.{Asked}
 use Rattle.wb_command.specs.declared.Asked.TheVariants.{Run, RunKept, Check, Upgrade, Compact, Serve, ServeKept}
+use Rattle.wb_command.specs.declared.Place.{Place}
+use Rattle.wb_command.specs.declared.Place.TheVariants.{Port, Socket}
+use Rattle.wb_command.specs.declared.Stay.{Stay}
+use Rattle.wb_command.specs.declared.Wanted.{Wanted}
+use Rattle.wb_command.specs.declared.Wanted.TheVariants as wanted
 use Rattle.wb_command.specs.declared.CommandErr.{CommandErr}
 use Rattle.wb_command.specs.declared.CommandErr.TheVariants.{Help, BadCommandLine, NothingMeant, NoMemory}
 
@@ -52,10 +57,19 @@ abbrev pub workers_option : Rule
 workers_option = number (codes "workers") 1 64
 
 abbrev pub port_option : Rule
-port_option = needed (number (codes "port") 0 65535)
+port_option = number (codes "port") 0 65535
 
 abbrev pub seats_option : Rule
 seats_option = needed (number (codes "seats") 1 16)
+
+abbrev pub socket_option : Rule
+socket_option = worded (codes "socket")
+
+abbrev pub stay_option : Rule
+stay_option = flag (codes "stay")
+
+abbrev pub idle_option : Rule
+idle_option = number (codes "idle") 0 86400
 
 -- a command of the program, with its options
 abbrev pub command : Text → List Rule → Shape
@@ -74,7 +88,8 @@ abbrev pub compact_command : Shape
 compact_command = command (codes "compact") (file_word ∷ [])
 
 abbrev pub serve_command : Shape
-serve_command = command (codes "serve") (port_option ∷ seats_option ∷ resume_option ∷ journal_option ∷ workers_option ∷ [])
+serve_command = command (codes "serve")
+    (port_option ∷ seats_option ∷ stay_option ∷ socket_option ∷ idle_option ∷ resume_option ∷ journal_option ∷ workers_option ∷ [])
 
 -- the commands of the program: one more is a line here and a line of `Means`
 abbrev pub commands : List Shape
@@ -110,11 +125,29 @@ is_set name found = option_map_or (λ text. bytes_eq text (codes "true")) (one_o
 abbrev pub word_of : Text → List Row → Option Text
 word_of name found = first_of name found
 
--- the numbers of a desk are those that were found for its options
-abbrev pub IsDesk : List Row → ℕ → ℕ → ℕ → Type 0
-IsDesk found port seats workers = HasNumber 16 (codes "port") found port × HasNumber 8 (codes "seats") found seats × HasWorkers found workers
+-- the number is what was found for the option, if something was
+abbrev pub IsOptional : ℕ → Text → List Row → Option ℕ → Type 0
+IsOptional bits name found None = one_of name found ≡ None
+IsOptional bits name found (Some n) = HasNumber bits name found n
 
--- what the command of this name asks for, where this was found for its options
+-- where a desk listens: the port that was found, or the word for a socket, and never both
+abbrev pub IsPlace : List Row → Place → Type 0
+IsPlace found (Port port) = HasNumber 16 (codes "port") found port × (word_of (codes "socket") found ≡ None)
+IsPlace found (Socket path) = (one_of (codes "port") found ≡ None) × (word_of (codes "socket") found ≡ Some path)
+
+-- the place and the numbers of a desk are those that were found for its options
+abbrev pub IsDesk : List Row → Place → ℕ → ℕ → Type 0
+IsDesk found place seats workers = IsPlace found place × HasNumber 8 (codes "seats") found seats × HasWorkers found workers
+
+-- the number of seconds of an idle connection, which is 300 where nothing was found
+abbrev pub HasIdle : List Row → ℕ → Type 0
+HasIdle found n = (o : Option ℕ) × IsOptional 32 (codes "idle") found o × (n ≡ unwrap_or o 300)
+
+-- a desk of one day: neither of the options was found that a desk has which stays
+abbrev pub IsDay : List Row → Type 0
+IsDay found = (is_set (codes "stay") found ≡ false) × (one_of (codes "idle") found ≡ None)
+
+-- what the command of this name asks for that comes to its own end, where this was found for its options
 abbrev pub Means : Text → List Row → Asked → Type 0
 Means name found (Run resume workers) =
     (name ≡ codes "run") × (resume ≡ is_set (codes "resume") found) × (word_of (codes "journal") found ≡ None) × HasWorkers found workers
@@ -124,17 +157,28 @@ Means name found Check = name ≡ codes "check"
 Means name found Upgrade = name ≡ codes "upgrade"
 Means name found (Compact journal) = (name ≡ codes "compact") × (word_of (codes "file") found ≡ Some journal)
 Means name found (Serve port seats resume workers) =
-    (name ≡ codes "serve") × (resume ≡ is_set (codes "resume") found) × (word_of (codes "journal") found ≡ None) × IsDesk found port seats workers
+    (name ≡ codes "serve") × (resume ≡ is_set (codes "resume") found) × (word_of (codes "journal") found ≡ None) × IsDay found × IsDesk found (Port port) seats workers
 Means name found (ServeKept journal port seats workers) =
-    (name ≡ codes "serve") × (is_set (codes "resume") found ≡ false) × (word_of (codes "journal") found ≡ Some journal) × IsDesk found port seats workers
+    (name ≡ codes "serve") × (is_set (codes "resume") found ≡ false) × (word_of (codes "journal") found ≡ Some journal) × IsDay found
+    × IsDesk found (Port port) seats workers
+
+-- the place and the numbers of a desk that stays are those that were found for its options
+abbrev pub IsStay : List Row → Stay → Type 0
+IsStay found s = (is_set (codes "stay") found ≡ true) × (is_set (codes "resume") found ≡ false) × HasIdle found s.idle × IsDesk found s.place s.seats s.workers
+
+-- what the command of this name asks for
+abbrev pub MeansAny : Text → List Row → Wanted → Type 0
+MeansAny name found (wanted.Once asked) = Means name found asked
+MeansAny name found (wanted.Stay stay) = (name ≡ codes "serve") × (word_of (codes "journal") found ≡ None) × IsStay found stay
+MeansAny name found (wanted.StayKept journal stay) = (name ≡ codes "serve") × (word_of (codes "journal") found ≡ Some journal) × IsStay found stay
 
 -- the same of the command that the words name, if they name one
-abbrev pub IsMeant : Option (Text × List Row) → Asked → Type 0
-IsMeant named asked = IsSomeAnd named (λ p. Means p.0 p.1 asked)
+abbrev pub IsMeant : Option (Text × List Row) → Wanted → Type 0
+IsMeant named asked = IsSomeAnd named (λ p. MeansAny p.0 p.1 asked)
 
 -- the words, the program's own name first, ask for this: clap refuses nothing of them, and the command that they name
 -- means it
-abbrev pub Asks : List Text → Asked → Type 0
+abbrev pub Asks : List Text → Wanted → Type 0
 Asks words asked = (fault_of program words ≡ []) × IsMeant (subcommand_of program words) asked
 
 -- ---- what asks for nothing
@@ -153,7 +197,7 @@ HasMistake words kind = HasFault words kind × (IsRequest kind → ⊥)
 
 -- clap finds no fault in the words, and what it finds asks for nothing
 abbrev pub AsksNothing : List Text → Type 0
-AsksNothing words = (fault_of program words ≡ []) × ((asked : Asked) → IsMeant (subcommand_of program words) asked → ⊥)
+AsksNothing words = (fault_of program words ≡ []) × ((asked : Wanted) → IsMeant (subcommand_of program words) asked → ⊥)
 
 -- why the words ask for nothing; want of memory has no cause
 abbrev pub Refuses : List Text → CommandErr → Type 0

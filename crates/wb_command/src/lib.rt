@@ -1,11 +1,11 @@
 //! The command line of the program.
 #![tactic(auto)]
 
-ghost use Rattle.std.specs.Prelude.{◌≡◌, ℕ, false, IfErr, IfOk, MatchOption, MatchResult, codes, option_map};
+ghost use Rattle.std.specs.Prelude.{◌≡◌, ◌≢◌, ℕ, Option, true, false, IfErr, IfOk, MatchOption, MatchResult, codes, option_map};
 ghost use Rattle.clap.specs.Walk.{texts};
 ghost use Rattle.clap.specs.Words.{app_of, found_of, rows_of, rule_of, shape_of, subcommand_rows_of};
 ghost use Rattle.clap.specs.declared.builder.command.Command.TheViews.{out-Command as fields_of};
-ghost use Rattle.wb_command.specs.Asks.{Asks, HasNumber, HasWorkers, IsMeant, Means, Refuses, Tells, is_set, word_of};
+ghost use Rattle.wb_command.specs.Asks.{Asks, HasNumber, HasWorkers, IsMeant, IsOptional, IsPlace, Means, MeansAny, Refuses, Tells, is_set, word_of};
 ghost use Rattle.wb_command.specs.Asks as spec;
 
 use clap::error::ErrorKind;
@@ -39,7 +39,20 @@ const WORKERS: &str =
 
 const PORT: &str = "The port to listen on; 0 takes any free one (0 to 65535)";
 
-const SEATS: &str = "How many connections are accepted, each once (1 to 16)";
+const SEATS: &str =
+    "How many connections have a seat at a time; without --stay so many are accepted, each once (1 to 16)";
+
+const SOCKET: &str =
+    "The file of a socket to listen on in the place of a port, for whoever owns it; with --stay alone";
+
+const STAY: &str =
+    "Lend a seat again when its connection has ended, until the line 'stop' comes on standard input; not with --resume";
+
+const IDLE: &str =
+    "After how many seconds without a byte a connection is ended, 0 for never; 300 where it is left out; with --stay alone (0 to 86400)";
+
+/// After how many seconds without a byte a connection of a desk that stays is ended, where none are told.
+const IDLE_SECONDS: u32 = 300;
 
 /// The path of a file, a word of the command line.
 #[derive(Debug, Drop)]
@@ -112,6 +125,42 @@ pub enum Asked<'a> {
     },
 }
 
+/// Where a desk listens.
+#[derive(Debug, Drop)]
+pub enum Place<'a> {
+    /// On a port of this machine, or on any port where that is 0.
+    Port(u16),
+    /// On a socket, which is the file at a path.
+    Socket(FilePath<'a>),
+}
+
+/// A desk that stays: of 1 to 16 seats, each lent to one connection after another.
+#[derive(Debug, Drop)]
+pub struct Stay<'a> {
+    /// Where it listens.
+    pub place: Place<'a>,
+    /// How many seats there are.
+    pub seats: u8,
+    /// After how many seconds without a byte a connection is ended, at most 86,400; never where that is 0.
+    pub idle: u32,
+    /// How many workers move arrays.
+    pub workers: u8,
+}
+
+/// What the words of a command line ask for: what comes to its own end, or a desk that stays until it is stopped.
+#[derive(Debug, Drop)]
+pub enum Wanted<'a> {
+    /// What comes to its own end.
+    Once(Asked<'a>),
+    /// A desk that stays.
+    Stay(Stay<'a>),
+    /// A desk that stays, on the history that a journal has, which keeps each change there.
+    StayKept {
+        journal: FilePath<'a>,
+        stay: Stay<'a>,
+    },
+}
+
 /// Why the words of a command line ask for nothing.
 #[derive(Debug, Drop)]
 pub enum CommandErr {
@@ -126,11 +175,11 @@ pub enum CommandErr {
 }
 
 /// What the words ask for, the program's own name first.
-pub fn command_of<'a>(alloc: Global, words: &'a [&'a str]) -> Result<Asked<'a>, CommandErr>
+pub fn command_of<'a>(alloc: Global, words: &'a [&'a str]) -> Result<Wanted<'a>, CommandErr>
     ensures asked { IfOk result (Asks (texts words.now)) }
     ensures refused { IfErr result (Refuses (texts words.now)) }
-    ensures only { (asked : Asked) → Asks (texts words.now) asked
-        → MatchResult result (λ given. given ≡ asked) (λ cause. cause ≡ CommandErr.NoMemory) }
+    ensures only { (wanted : Wanted) → Asks (texts words.now) wanted
+        → MatchResult result (λ given. given ≡ wanted) (λ cause. cause ≡ CommandErr.NoMemory) }
 {
     let command = program(alloc).map_err(|_| CommandErr::NoMemory)?;
     match command.try_get_matches_from(words) {
@@ -219,6 +268,9 @@ fn serve_command<'a>(alloc: Global) -> Result<Command<'a>, AllocError>
         .after_help(SERVE_EXAMPLE)
         .arg(port_option(alloc))?
         .arg(seats_option(alloc))?
+        .arg(stay_flag(alloc))?
+        .arg(socket_option(alloc))?
+        .arg(idle_option(alloc))?
         .arg(resume_flag(alloc, SERVE_RESUME))?
         .arg(journal_option(alloc))?
         .arg(workers_option(alloc))
@@ -271,7 +323,6 @@ fn port_option<'a>(alloc: Global) -> Arg<'a>
     Arg::new(alloc, "port")
         .long("port")
         .help(PORT)
-        .required(true)
         .action(ArgAction::Set)
         .value_parser(clap::value_parser!(u16))
 }
@@ -288,10 +339,41 @@ fn seats_option<'a>(alloc: Global) -> Arg<'a>
         .value_parser(clap::value_parser!(u8).range(1..=16))
 }
 
+// The file of a socket in the place of the port.
+fn socket_option<'a>(alloc: Global) -> Arg<'a>
+    ensures { (rule_of result ≡ spec.socket_option) × (result.global ≡ false) }
+{
+    Arg::new(alloc, "socket")
+        .long("socket")
+        .help(SOCKET)
+        .action(ArgAction::Set)
+}
+
+// Whether a seat is lent again.
+fn stay_flag<'a>(alloc: Global) -> Arg<'a>
+    ensures { (rule_of result ≡ spec.stay_option) × (result.global ≡ false) }
+{
+    Arg::new(alloc, "stay")
+        .long("stay")
+        .help(STAY)
+        .action(ArgAction::SetTrue)
+}
+
+// After how many seconds a connection is ended that is idle.
+fn idle_option<'a>(alloc: Global) -> Arg<'a>
+    ensures { (rule_of result ≡ spec.idle_option) × (result.global ≡ false) }
+{
+    Arg::new(alloc, "idle")
+        .long("idle")
+        .help(IDLE)
+        .action(ArgAction::Set)
+        .value_parser(clap::value_parser!(u32).range(0..=86400))
+}
+
 // What the matched words ask for.
-fn read_off<'a>(matches: &ArgMatches<'a>) -> Option<Asked<'a>>
+fn read_off<'a>(matches: &ArgMatches<'a>) -> Option<Wanted<'a>>
     ensures { MatchOption result
-        ((asked : Asked) → IsMeant (subcommand_rows_of matches.now) asked → ⊥)
+        ((wanted : Wanted) → IsMeant (subcommand_rows_of matches.now) wanted → ⊥)
         (IsMeant (subcommand_rows_of matches.now)) }
 {
     let (name, found) = matches.subcommand()?;
@@ -299,7 +381,23 @@ fn read_off<'a>(matches: &ArgMatches<'a>) -> Option<Asked<'a>>
 }
 
 // What the command of this name asks for by what was found for its options.
-fn asked_by<'a>(name: &str, found: &ArgMatches<'a>) -> Option<Asked<'a>>
+fn asked_by<'a>(name: &str, found: &ArgMatches<'a>) -> Option<Wanted<'a>>
+    ensures { MatchOption result
+        ((wanted : Wanted) → MeansAny name.now (rows_of (found_of found.now)) wanted → ⊥)
+        (MeansAny name.now (rows_of (found_of found.now))) }
+{
+    match name {
+        "serve" => serve_of(found),
+        _ => match once_of(name, found) {
+            Some(asked) => Some(Wanted::Once(asked)),
+            None => None,
+        },
+    }
+}
+
+// What the command of this name asks for that is no desk.
+fn once_of<'a>(name: &str, found: &ArgMatches<'a>) -> Option<Asked<'a>>
+    requires { name.now ≢ codes "serve" }
     ensures { MatchOption result
         ((asked : Asked) → Means name.now (rows_of (found_of found.now)) asked → ⊥)
         (Means name.now (rows_of (found_of found.now))) }
@@ -309,7 +407,6 @@ fn asked_by<'a>(name: &str, found: &ArgMatches<'a>) -> Option<Asked<'a>>
         "check" => Some(Asked::Check),
         "upgrade" => Some(Asked::Upgrade),
         "compact" => compact_of(found),
-        "serve" => serve_of(found),
         _ => None,
     }
 }
@@ -320,7 +417,7 @@ fn run_of<'a>(found: &ArgMatches<'a>) -> Option<Asked<'a>>
         ((asked : Asked) → Means (codes "run") (rows_of (found_of found.now)) asked → ⊥)
         (Means (codes "run") (rows_of (found_of found.now))) }
 {
-    let resume = is_resumed(found);
+    let resume = is_told(found, "resume");
     let workers = workers_of(found)?;
     match path_of(found, "journal") {
         None => Some(Asked::Run { resume, workers }),
@@ -345,15 +442,66 @@ fn compact_of<'a>(found: &ArgMatches<'a>) -> Option<Asked<'a>>
 }
 
 // What `serve` asks for.
-fn serve_of<'a>(found: &ArgMatches<'a>) -> Option<Asked<'a>>
+fn serve_of<'a>(found: &ArgMatches<'a>) -> Option<Wanted<'a>>
+    ensures { MatchOption result
+        ((wanted : Wanted) → MeansAny (codes "serve") (rows_of (found_of found.now)) wanted → ⊥)
+        (MeansAny (codes "serve") (rows_of (found_of found.now))) }
+{
+    if is_told(found, "stay") {
+        return stay_of(found);
+    }
+    match day_of(found) {
+        Some(asked) => Some(Wanted::Once(asked)),
+        None => None,
+    }
+}
+
+// What `serve` asks for with `--stay`.
+fn stay_of<'a>(found: &ArgMatches<'a>) -> Option<Wanted<'a>>
+    requires { is_set (codes "stay") (rows_of (found_of found.now)) ≡ true }
+    ensures { MatchOption result
+        ((wanted : Wanted) → MeansAny (codes "serve") (rows_of (found_of found.now)) wanted → ⊥)
+        (MeansAny (codes "serve") (rows_of (found_of found.now))) }
+{
+    let place = place_of(found)?;
+    let seats = seats_of(found)?;
+    let workers = workers_of(found)?;
+    let idle = idle_of(found)?.unwrap_or(IDLE_SECONDS);
+    // A desk that stays begins with its journal's history, or with the empty workbook.
+    if is_told(found, "resume") {
+        return None;
+    }
+    let stay = Stay {
+        place,
+        seats,
+        idle,
+        workers,
+    };
+    match path_of(found, "journal") {
+        None => Some(Wanted::Stay(stay)),
+        Some(journal) => Some(Wanted::StayKept { journal, stay }),
+    }
+}
+
+// What `serve` asks for without `--stay`: a desk of one day.
+fn day_of<'a>(found: &ArgMatches<'a>) -> Option<Asked<'a>>
+    requires { is_set (codes "stay") (rows_of (found_of found.now)) ≡ false }
     ensures { MatchOption result
         ((asked : Asked) → Means (codes "serve") (rows_of (found_of found.now)) asked → ⊥)
         (Means (codes "serve") (rows_of (found_of found.now))) }
 {
-    let port = port_of(found)?;
+    let place = place_of(found)?;
+    // Only a desk that stays listens on a socket.
+    let Place::Port(port) = place else {
+        return None;
+    };
     let seats = seats_of(found)?;
-    let resume = is_resumed(found);
+    let resume = is_told(found, "resume");
     let workers = workers_of(found)?;
+    // Only a desk that stays ends connections that are idle.
+    if idle_of(found)?.is_some() {
+        return None;
+    }
     match path_of(found, "journal") {
         None => Some(Asked::Serve {
             port,
@@ -372,13 +520,35 @@ fn serve_of<'a>(found: &ArgMatches<'a>) -> Option<Asked<'a>>
     }
 }
 
-// The port.
-fn port_of(found: &ArgMatches) -> Option<u16>
+// Where the desk listens: on a port, or on a socket.
+fn place_of<'a>(found: &ArgMatches<'a>) -> Option<Place<'a>>
     ensures { MatchOption result
-        ((n : ℕ) → HasNumber 16 (codes "port") (rows_of (found_of found.now)) n → ⊥)
-        (HasNumber 16 (codes "port") (rows_of (found_of found.now))) }
+        ((place : Place) → IsPlace (rows_of (found_of found.now)) place → ⊥)
+        (IsPlace (rows_of (found_of found.now))) }
 {
-    found.get_one::<u16>("port")
+    let port = port_of(found)?;
+    match path_of(found, "socket") {
+        None => match port {
+            Some(port) => Some(Place::Port(port)),
+            None => None,
+        },
+        Some(path) => match port {
+            Some(_) => None,
+            None => Some(Place::Socket(path)),
+        },
+    }
+}
+
+// The port, if that is told.
+fn port_of(found: &ArgMatches) -> Option<Option<u16>>
+    ensures { MatchOption result
+        ((o : Option ℕ) → IsOptional 16 (codes "port") (rows_of (found_of found.now)) o → ⊥)
+        (IsOptional 16 (codes "port") (rows_of (found_of found.now))) }
+{
+    match found.try_get_one::<u16>("port") {
+        Ok(port) => Some(port),
+        Err(_) => None,
+    }
 }
 
 // The number of seats.
@@ -390,11 +560,23 @@ fn seats_of(found: &ArgMatches) -> Option<u8>
     found.get_one::<u8>("seats")
 }
 
-// Whether the text of a history comes first.
-fn is_resumed(found: &ArgMatches) -> bool
-    ensures { result ≡ is_set (codes "resume") (rows_of (found_of found.now)) }
+// Whether the flag of this name is set.
+fn is_told(found: &ArgMatches, name: &str) -> bool
+    ensures { result ≡ is_set name.now (rows_of (found_of found.now)) }
 {
-    found.get_one::<bool>("resume").unwrap_or(false)
+    found.get_one::<bool>(name).unwrap_or(false)
+}
+
+// After how many seconds an idle connection is ended, if that is told.
+fn idle_of(found: &ArgMatches) -> Option<Option<u32>>
+    ensures { MatchOption result
+        ((o : Option ℕ) → IsOptional 32 (codes "idle") (rows_of (found_of found.now)) o → ⊥)
+        (IsOptional 32 (codes "idle") (rows_of (found_of found.now))) }
+{
+    match found.try_get_one::<u32>("idle") {
+        Ok(idle) => Some(idle),
+        Err(_) => None,
+    }
 }
 
 // The path of this name, if there is one.

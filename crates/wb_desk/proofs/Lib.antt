@@ -1,5 +1,7 @@
 pub mod Replies
-pub mod Runs
+pub mod Courses
 pub mod Parts
 pub mod Passes
 pub mod Whole
+pub mod Opened
+pub mod Results

@@ -3,6 +3,7 @@ pub mod Records
 pub mod Courses
 pub mod Serving
 pub mod Settling
+pub mod Early
 pub mod Openings
 pub mod Seats
 pub mod Locked

@@ -1,7 +1,6 @@
 -- How a desk answers one request of a pass.
-use Rattle.std.specs.Prelude.{◌≡◌, ℕ, ◌+◌, ◌<◌, true, false, MatchBool, List, [], ◌∷◌, ◌++◌, length, zero, suc, refl}
+use Rattle.std.specs.Prelude.{◌≡◌, ℕ, ◌+◌, ◌<◌, true, false, MatchBool, List, [], ◌∷◌, ◌++◌, length, slice_set, zero, suc, refl}
 use Rattle.std.specs.Coded.{Coded, code_by, coded×, coded_list, coded_ℕ}
-use Rattle.wb_history.specs.Past.{Past}
 use Rattle.wb_log.specs.declared.refusal.Refusal.TheVariants.{StrangePass}
 use Rattle.wb_protocol.specs.Machine.{Step}
 use Rattle.wb_protocol.specs.declared.replies.reply.Reply.{Reply}
@@ -9,10 +8,10 @@ use Rattle.wb_protocol.specs.declared.replies.reply.Reply.TheVariants.{Refused}
 use Rattle.wb_protocol.specs.declared.requests.request.Request.{Request}
 use Rattle.wb_desk.specs.contracts.entry.Entry as entry_row
 use Rattle.wb_desk.specs.declared.entry.Entry.{Entry}
-use Rattle.wb_desk.specs.Entries.{of_seat, is_entered}
-use Rattle.wb_desk.specs.Courses.{Course, IsCourse}
+use Rattle.wb_desk.specs.Entries.{is_entered}
+use Rattle.wb_desk.specs.Courses.{Course, IsCourse, Marked, Start, list_of, with_entry}
 
--- What a pass shows: its seat, the list of its own entries, and the amount of its share of the ledger.
+-- What a pass shows: its seat, the list of its own entries that are not settled yet, and the amount of its share of the ledger.
 pub record Held : Type 0 where
   pub seat : ℕ
   pub own : List Entry
@@ -23,9 +22,9 @@ held_code =
     code_by (ℕ × (List Entry × ℕ)) (coded× coded_ℕ (coded× (coded_list entry_row.the_row.coded) coded_ℕ))
     (λ h. (h.seat, (h.own, h.share))) (λ p. record { seat = p.0; own = p.1.0; share = p.1.1 }) (λ h. refl)
 
--- The seat is one of the desk's, and has as many entries in the journal as in this list.
+-- The seat is one of the desk's, and as many of its entries are kept as there are in this list.
 abbrev pub Knows : Course → (seat : ℕ) → (own : List Entry) → Type 0
-Knows c seat own = (seat < c.seats) × (length (of_seat seat c.entries) ≡ length own)
+Knows c seat own = (seat < c.seats) × (length (list_of c.entries seat) ≡ length own)
 
 -- A pass is answered that it is strange exactly where the desk doesn't know it.
 abbrev pub IsStrange : Course → ℕ → List Entry → Reply → Type 0
@@ -34,15 +33,20 @@ IsStrange c seat own r = ((r ≡ Refused StrangePass) → ¬ Knows c seat own) �
 abbrev pub entry : ℕ → Request → Reply → Entry
 entry seat asked r = record { seat = seat; request = asked; reply = r }
 
--- the reply is the machine's, and is entered last
+-- the reply is the machine's, and is entered last in the list of the seat
 pub record Enters (c : Course) (seat : ℕ) (asked : Request) (r : Reply) (d : Course) : Type 0 where
   pub reply : Step c.history asked r d.history
-  pub entries : d.entries ≡ c.entries ++ entry seat asked r ∷ []
+  pub entries : d.entries ≡ slice_set c.entries seat (list_of c.entries seat ++ entry seat asked r ∷ [])
+  pub settled : d.settled ≡ c.settled
   pub seats : d.seats ≡ c.seats
 
 -- a reply of the desk to a known pass: the machine's, or that there was no memory
 abbrev pub AnswersCourse : Course → ℕ → Request → Reply → Course → Type 0
 AnswersCourse c seat asked r d = MatchBool (is_entered r) (Enters c seat asked r d) (d ≡ c)
+
+-- all entries of a course after a reply
+abbrev pub course_after : List Marked → ℕ → Request → Reply → List Marked
+course_after all seat asked r = elim (is_entered r) [ true ↦ with_entry all (entry seat asked r) | false ↦ all ]
 
 -- the list of a pass after a reply
 abbrev pub own_after : ℕ → List Entry → Request → Reply → List Entry
@@ -52,12 +56,12 @@ own_after seat own asked r = elim (is_entered r) [ true ↦ own ++ entry seat as
 abbrev pub share_after : ℕ → Reply → ℕ
 share_after n r = elim (is_entered r) [ true ↦ n + 1 | false ↦ n ]
 
--- Some course from the opening gave the reply: it has as many entries of the seat as this list, or else the reply is that the pass is
--- strange.
-abbrev pub AnswersSome : Past → ℕ → List Entry → Request → Reply → Type 0
+-- Some course from the opening gave the reply: as many entries of the seat are kept as there are in this list, or else the reply is that
+-- the pass is strange.
+abbrev pub AnswersSome : Start → ℕ → List Entry → Request → Reply → Type 0
 AnswersSome opening seat own asked r = (c : Course) × IsCourse opening c × IsStrange c seat own r × ((d : Course) × AnswersCourse c seat asked r d)
 
--- a pass with which nothing was asked yet
+-- a pass with which nothing was asked yet, or whose entries were settled
 abbrev pub new_pass : ℕ → Held
 new_pass seat = record { seat = seat; own = []; share = 0 }
 

@@ -1,10 +1,10 @@
--- When a desk is settled: each seat has one pass, and the journal's entries of the seat, in order, are the pass's list.
+-- When a desk is settled: each seat has one pass, and the list of the seat's entries is the pass's list.
 use Rattle.std.specs.Prelude.{◌≡◌, ◌≢◌, ℕ, zero, suc, ◌+◌, ◌<◌, ◌==◌, List, [], ◌∷◌, Some, filter, length, take, slice_get}
 use Rattle.std.specs.List.{sum_by}
 use Rattle.wb_desk.specs.declared.entry.Entry.{Entry}
 use Rattle.wb_desk.specs.declared.settling.Cause.{Cause}
 use Rattle.wb_desk.specs.declared.settling.Cause.TheVariants.{MissingPass, Differs}
-use Rattle.wb_desk.specs.Entries.{of_seat}
+use Rattle.wb_desk.specs.Courses.{list_of}
 use Rattle.wb_desk.specs.Serving.{Held}
 
 -- the passes of a seat
@@ -18,21 +18,21 @@ HasOnePass ps k = length (passes_of k ps) ≡ 1
 abbrev pub IsOnly : List Held → ℕ → ℕ → Type 0
 IsOnly ps k i = (p : Held) × (slice_get ps i ≡ Some p) × (passes_of k ps ≡ p ∷ [])
 
--- A seat agrees with the journal: it has one pass, and this has the seat's entries, in order.
-abbrev pub Agrees : List Entry → List Held → ℕ → Type 0
-Agrees es ps k = (p : Held) × (passes_of k ps ≡ p ∷ []) × (of_seat k es ≡ p.own)
+-- A seat agrees with these lists: it has one pass, and this has the list of the seat.
+abbrev pub Agrees : List (List Entry) → List Held → ℕ → Type 0
+Agrees lists ps k = (p : Held) × (passes_of k ps ≡ p ∷ []) × (list_of lists k ≡ p.own)
 
 -- so many seats agree
-abbrev pub IsSettled : ℕ → List Entry → List Held → Type 0
-IsSettled n es ps = (k : ℕ) → k < n → Agrees es ps k
+abbrev pub IsSettled : ℕ → List (List Entry) → List Held → Type 0
+IsSettled n lists ps = (k : ℕ) → k < n → Agrees lists ps k
 
 -- the least place at which two lists differ
 abbrev pub FirstDifference : List Entry → List Entry → ℕ → Type 0
 FirstDifference xs ys i = (take i xs ≡ take i ys) × (slice_get xs i ≢ slice_get ys i)
 
--- the seat has one pass, whose list first differs from the seat's entries at this place
-abbrev pub DiffersAt : List Entry → List Held → ℕ → ℕ → Type 0
-DiffersAt es ps k place = (p : Held) × (passes_of k ps ≡ p ∷ []) × FirstDifference (of_seat k es) p.own place
+-- the seat has one pass, whose list first differs from the seat's at this place
+abbrev pub DiffersAt : List (List Entry) → List Held → ℕ → ℕ → Type 0
+DiffersAt lists ps k place = (p : Held) × (passes_of k ps ≡ p ∷ []) × FirstDifference (list_of lists k) p.own place
 
 -- the least seat that has no pass, or more than one
 pub record IsMissing (n : ℕ) (ps : List Held) (k : ℕ) : Type 0 where
@@ -41,16 +41,16 @@ pub record IsMissing (n : ℕ) (ps : List Held) (k : ℕ) : Type 0 where
   pub least : (j : ℕ) → j < k → HasOnePass ps j
 
 -- Each seat has one pass; the least seat that doesn't agree, and the least place where it doesn't.
-pub record IsDifferent (n : ℕ) (es : List Entry) (ps : List Held) (k place : ℕ) : Type 0 where
+pub record IsDifferent (n : ℕ) (lists : List (List Entry)) (ps : List Held) (k place : ℕ) : Type 0 where
   pub seat : k < n
   pub passes : (j : ℕ) → j < n → HasOnePass ps j
-  pub least : IsSettled k es ps
-  pub different : DiffersAt es ps k place
+  pub least : IsSettled k lists ps
+  pub different : DiffersAt lists ps k place
 
 -- the first cause why a desk of so many seats is not settled
-abbrev pub IsCause : ℕ → List Entry → List Held → Cause → Type 0
-IsCause n es ps (MissingPass k) = IsMissing n ps k
-IsCause n es ps (Differs k place) = IsDifferent n es ps k place
+abbrev pub IsCause : ℕ → List (List Entry) → List Held → Cause → Type 0
+IsCause n lists ps (MissingPass k) = IsMissing n ps k
+IsCause n lists ps (Differs k place) = IsDifferent n lists ps k place
 
 -- the lengths of the lists of the passes of so many seats, together
 abbrev pub total_of_passes : ℕ → List Held → ℕ

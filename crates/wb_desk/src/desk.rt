@@ -1,17 +1,19 @@
 //! A desk: opened, asked under its lock, and settled.
 
-ghost use Rattle.std.specs.Prelude.{◌≡◌, length, IfOk, IfErr, MatchResult};
+ghost use Rattle.std.specs.Prelude.{◌≡◌, true, false, List, length, IfOk, IfErr, OnOk, MatchResult};
 ghost use Rattle.wb_desk.specs.Settling.{IsSettled, IsCause, total_of_passes};
 ghost use Rattle.wb_desk.specs.Openings.{nothing_done};
-ghost use Rattle.wb_desk.specs.Courses.{IsCourse};
+ghost use Rattle.wb_desk.specs.Courses.{IsCourse, IsWhole, Marked, Tells, count_of};
+ghost use Rattle.wb_desk.specs.Early.{EndsWithAll};
+ghost use Rattle.wb_desk.specs.declared.entry.Entry.{Entry};
 ghost use Rattle.wb_desk.specs.Seats.{IsNumberOfSeats, IsSeatsErr};
-ghost use Rattle.wb_desk.specs.Answering.{AnswersAmong};
-ghost use Rattle.wb_desk.specs.Serving.{own_after, share_after, new_passes};
+ghost use Rattle.wb_desk.specs.Answering.{AnswersAmong, DiffersInSome, StandsInSome};
+ghost use Rattle.wb_desk.specs.Serving.{new_pass, own_after, share_after, new_passes};
 
 use crate::opening::Opening;
 use crate::shared::Shared;
 use crate::turn::Turn;
-use crate::{Cause, Pass};
+use crate::{Cause, Difference, Pass};
 use std::alloc::Global;
 use std::sync::ledger::Blank;
 use std::sync::{Mutex, MutexGuard, Wait};
@@ -66,7 +68,7 @@ impl<L: Opening> Desk<L> {
         requires name { blank.name ≡ L.name }
         requires parts { blank.parts ≡ L.parts }
         requires sixteen { blank.parts ≡ 16 }
-        requires opening { L.opening ≡ nothing_done }
+        requires opening { L.opening.history ≡ nothing_done }
         requires seats { L.seats ≡ seats }
 
         // A pass for each seat, or why there is no desk.
@@ -90,7 +92,7 @@ impl<L: Opening> Desk<L> {
         requires name { blank.name ≡ L.name }
         requires parts { blank.parts ≡ L.parts }
         requires sixteen { blank.parts ≡ 16 }
-        requires opening { L.opening ≡ history }
+        requires opening { L.opening.history ≡ history }
         requires seats { L.seats ≡ seats }
 
         // A pass for each seat, or why there is no desk; then the history comes back.
@@ -134,6 +136,20 @@ impl<L: Opening> Desk<L> {
         turn.end();
         reply
     }
+
+    /// Takes the lock, and settles the seat of a pass early: where the entries of the pass are those that are kept of the seat,
+    /// both are let go.
+    pub fn settle_seat<R: Wait>(&self, rt: &R, pass: &mut Pass<L>) -> Result<usize, Difference>
+        requires { L.opening.early ≡ true }
+        ensures ok { IfOk result (λ n. (n ≡ length pass.old.own) × (pass.new ≡ new_pass pass.old.seat)) }
+        ensures stands { OnOk result (StandsInSome L.seats L.opening pass.old.seat pass.old.own) }
+        ensures err { IfErr result (λ why. DiffersInSome L.seats L.opening pass.old.seat pass.old.own why × (pass.new ≡ pass.old)) }
+    {
+        let turn = Turn::at(self);
+        let settled = turn.settle_seat(rt, pass);
+        turn.end();
+        settled
+    }
 }
 
 /// What is left where a desk is not settled: the locked value, the passes as they were handed in, and why.
@@ -144,13 +160,17 @@ pub struct Unsettled<L: Opening> {
     pub cause: Cause,
 }
 
-/// Takes the locked value out of a desk, where each seat has one pass and the journal's entries of the seat, in order, are
-/// the list of that pass.
+/// Takes the locked value out of a desk, where each seat has one pass and the entries that are kept of the seat, in order, are
+/// the list of that pass. In the course each seat's entries are then those that were settled early, and those of its pass; where
+/// no seat may be settled early, those of its pass alone.
 pub fn settle<L: Opening>(desk: Desk<L>, passes: Vec<Pass<L>>) -> Result<Shared<L>, Unsettled<L>>
     ensures course { MatchResult result (λ s. IsCourse L.opening s.course) (λ u. IsCourse L.opening u.shared.course) }
     ensures seats { MatchResult result (λ s. s.course.seats ≡ L.seats) (λ u. u.shared.course.seats ≡ L.seats) }
     ensures ok { IfOk result (λ s. IsSettled s.course.seats s.course.entries passes.items) }
-    ensures whole { IfOk result (λ s. length s.course.entries ≡ total_of_passes s.course.seats passes.items) }
+    ensures whole { IfOk result (λ s. count_of s.course.entries ≡ total_of_passes s.course.seats passes.items) }
+    ensures stands { IfOk result (λ s. (all : List Marked) × Tells L.opening.history all s.course × EndsWithAll all s.course.seats passes.items) }
+    ensures plain { L.opening.early ≡ false → MatchResult result (λ s. (es : List Entry) × IsWhole L.opening.history es s.course)
+        (λ u. (es : List Entry) × IsWhole L.opening.history es u.shared.course) }
     ensures passes { IfErr result (λ u. u.passes.items ≡ passes.items) }
     ensures cause { IfErr result (λ u. IsCause u.shared.course.seats u.shared.course.entries passes.items u.cause) }
 {

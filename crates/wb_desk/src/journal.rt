@@ -1,14 +1,16 @@
-//! The history of a desk, and the journal of all that was asked there and replied.
+//! The history of a desk, and the journal of all that was asked there and replied, but for what was settled early.
 
-ghost use Rattle.std.specs.Prelude.{◌≡◌, ℕ, slice_index, ◌<◌, Bool, true, false, List, [], ◌∷◌, ◌++◌, length, MatchBool, MatchOption, IfOk, IfErr, OnErr};
+ghost use Rattle.std.specs.Prelude.{◌≡◌, ◌+◌, true, [], ◌∷◌, ◌++◌, length, MatchBool, MatchOption, IfOk, IfErr, OnErr};
 ghost use Rattle.wb_desk.specs.Entries.{is_entered};
-ghost use Rattle.wb_desk.specs.Settling.{IsSettled, IsCause};
-ghost use Rattle.wb_desk.specs.Serving.{Knows, IsStrange, Enters, entry, own_after, AnswersCourse};
+ghost use Rattle.wb_desk.specs.Courses.{count_of, empty_lists, list_of};
+ghost use Rattle.wb_desk.specs.Settling.{FirstDifference, IsSettled, IsCause};
+ghost use Rattle.wb_desk.specs.Serving.{Knows, IsStrange, Enters, entry, own_after, share_after, AnswersCourse};
+ghost use Rattle.wb_desk.specs.Early.{LetsGo};
 
 use crate::entry::Record;
 use crate::pass::Pass;
-use crate::replying::recorded;
-use crate::settling::{Cause, first_cause};
+use crate::records::{Records, answer_at, clear_at, difference_at, no_records};
+use crate::settling::{Cause, Difference, first_cause};
 use std::alloc::Global;
 use std::marker::Model;
 use std::sync::ledger::Ledger;
@@ -17,11 +19,15 @@ use wb_history::{History, Refusal};
 use wb_protocol::{Reply, Request};
 use wb_range::NoMemory;
 
-/// A history, and the journal of all that was asked of it and replied since the opening. Contracts see it as a course.
+/// A history, and of each seat a list of what it asked and was replied since the opening, but for what was settled early.
+/// Contracts see it as a course.
 pub struct Journal {
     history: History,
-    entries: Vec<Record>,
-    counts: Vec<usize>,
+    lists: Vec<Records>,
+    // How many entries the lists have.
+    count: usize,
+    // How many entries were settled early: exact below 2^64 - 1.
+    settled: u64,
 }
 
 // In a function of its own, so that a crate above need not prove anew how each field is let go.
@@ -29,37 +35,39 @@ impl Drop for Journal {
     fn drop(self) {
         let Journal {
             history: _,
-            entries: _,
-            counts: _,
+            lists: _,
+            count: _,
+            settled: _,
         } = self;
     }
 }
 
 impl Model for Journal {
-    ghost use Rattle.std.specs.Prelude.{length};
-    ghost use Rattle.wb_desk.specs.Courses.{Course, course_code, AreCounts};
+    ghost use Rattle.std.specs.Prelude.{◌≡◌, length};
+    ghost use Rattle.wb_desk.specs.Courses.{Course, course_code, count_of};
 
     ghost Value = { Course };
 
     ghost coded = { course_code };
 
-    ghost view = { λ a. record { seats = length a.counts.items; entries = a.entries.items; history = a.history } };
+    ghost view = { λ a. record { seats = length a.lists.items; entries = a.lists.items; settled = a.settled; history = a.history } };
 
-    ghost invariant = { λ a. AreCounts a.counts.items a.entries.items };
+    ghost invariant = { λ a. a.count ≡ count_of a.lists.items };
 }
 
 impl Journal {
     /// An empty journal for so many seats, at a history, which is given back where there is no memory.
     pub fn at(alloc: Global, seats: usize, history: History) -> Result<Journal, History>
-        ensures ok { IfOk result (λ j. j ≡ record { seats = seats; entries = []; history = history }) }
+        ensures ok { IfOk result (λ j. j ≡ record { seats = seats; entries = empty_lists seats; settled = 0; history = history }) }
         ensures back { IfErr result (λ h. h ≡ history) }
     {
-        match zeros(alloc, seats) {
-            Ok(counts) => {
+        match no_records(alloc, seats) {
+            Ok(lists) => {
                 Ok(Journal {
                     history,
-                    entries: Vec::new(alloc),
-                    counts,
+                    lists,
+                    count: 0,
+                    settled: 0,
                 })
             }
             Err(NoMemory) => Err(history),
@@ -70,28 +78,28 @@ impl Journal {
     pub fn seats(&self) -> usize
         ensures { result ≡ self.now.seats }
     {
-        self.counts.len()
+        self.lists.len()
     }
 
-    // The entries.
-    fn entries(&self) -> &[Record]
-        ensures { result.now ≡ self.now.entries }
-    {
-        self.entries.as_slice()
-    }
-
-    /// The number of entries.
+    /// The number of entries that are kept.
     pub fn len(&self) -> usize
-        ensures { result ≡ length self.now.entries }
+        ensures { result ≡ count_of self.now.entries }
     {
-        self.entries.len()
+        self.count
+    }
+
+    /// How many entries were settled early: exact below 2^64 - 1.
+    pub fn settled(&self) -> u64
+        ensures { result ≡ self.now.settled }
+    {
+        self.settled
     }
 
     /// Why these passes and the journal do not agree.
     pub fn cause<L: Ledger>(&self, passes: &[Pass<L>]) -> Option<Cause>
         ensures { MatchOption result (IsSettled self.now.seats self.now.entries passes.now) (λ why. IsCause self.now.seats self.now.entries passes.now why) }
     {
-        first_cause(self.entries(), passes, self.seats())
+        first_cause(self.lists.as_slice(), passes)
     }
 
     /// The history that came of the journal.
@@ -101,14 +109,14 @@ impl Journal {
         &self.history
     }
 
-    // Whether a seat is one of the desk's, and has so many entries.
+    // Whether a seat is one of the desk's, and so many of its entries are kept.
     fn knows(&self, seat: usize, own: &[Record]) -> bool
         ensures { MatchBool result (Knows self.now seat own.now) (¬ Knows self.now seat own.now) }
     {
-        if seat >= self.counts.len() {
+        if seat >= self.lists.len() {
             return false;
         }
-        self.counts[seat] == own.len()
+        self.lists[seat].len() == own.len()
     }
 
     // Answers a pass that is known.
@@ -123,19 +131,27 @@ impl Journal {
         requires { Knows self.old seat own.old.items }
         ensures ok { IfOk result (λ r. (is_entered r ≡ true) × Enters self.old seat request r self.new ×
             (own.new.items ≡ own.old.items ++ entry seat request r ∷ [])) }
+        ensures count { IfOk result (λ r. count_of self.new.entries ≡ count_of self.old.entries + 1) }
         ensures err { OnErr result ((self.new ≡ self.old) × (own.new.items ≡ own.old.items)) }
     {
-        if self.entries.reserve(1).is_err() {
+        if self.count == usize::MAX {
             return Err(NoMemory);
         }
-        if own.reserve(1).is_err() {
-            return Err(NoMemory);
+        match answer_at(
+            alloc,
+            &mut self.history,
+            seat,
+            request,
+            &mut self.lists,
+            own,
+            mover,
+        ) {
+            Ok(reply) => {
+                self.count += 1;
+                Ok(reply)
+            }
+            Err(NoMemory) => Err(NoMemory),
         }
-        let (reply, first, second) = recorded(alloc, &mut self.history, seat, request, mover)?;
-        self.entries.push_reserved(first);
-        own.push_reserved(second);
-        self.counts[seat] = own.len();
-        Ok(reply)
     }
 
     /// Answers a request of a seat, whose own entries these are, and enters the reply in the journal and among them.
@@ -149,6 +165,7 @@ impl Journal {
     ) -> Reply
         ensures strange { IsStrange self.old seat own.old.items result }
         ensures answers { AnswersCourse self.old seat request result self.new }
+        ensures count { count_of self.new.entries ≡ share_after (count_of self.old.entries) result }
         ensures own { own.new.items ≡ own_after seat own.old.items request result }
     {
         if !self.knows(seat, own.as_slice()) {
@@ -159,11 +176,35 @@ impl Journal {
             Err(NoMemory) => Reply::Refused(Refusal::NoMemory),
         }
     }
-}
 
-// So many zeros.
-fn zeros(alloc: Global, count: usize) -> Result<Vec<usize>, NoMemory>
-    ensures { IfOk result (λ v. (length v.items ≡ count) × ((k : ℕ) → k < count → slice_index v.items k ≡ 0)) }
-{
-    Ok(Vec::from_elem(alloc, 0, count)?)
+    /// Settles a seat early, whose own entries these are: where they are those that are kept of the seat, both are let go.
+    pub(crate) fn settle_seat(
+        &mut self,
+        alloc: Global,
+        seat: usize,
+        own: &mut Vec<Record>,
+    ) -> Result<usize, Difference>
+        ensures ok { IfOk result (λ n. LetsGo self.old seat own.old.items n self.new × (own.new.items ≡ [])) }
+        ensures count { IfOk result (λ n. count_of self.new.entries + n ≡ count_of self.old.entries) }
+        ensures err { IfErr result (λ why. FirstDifference (list_of self.old.entries seat) own.old.items why.place × (self.new ≡ self.old) ×
+            (own.new.items ≡ own.old.items)) }
+    {
+        if seat >= self.lists.len() {
+            if own.len() == 0 {
+                return Ok(0);
+            }
+            return Err(Difference { place: 0 });
+        }
+        match difference_at(self.lists.as_slice(), seat, own.as_slice()) {
+            Some(place) => Err(Difference { place }),
+            None => {
+                let count = own.len();
+                clear_at(&mut self.lists, seat, alloc);
+                *own = Vec::new(alloc);
+                self.count -= count;
+                self.settled = self.settled.saturating_add(count as u64);
+                Ok(count)
+            }
+        }
+    }
 }

@@ -9,6 +9,7 @@ mod entry;
 mod journal;
 mod opening;
 mod pass;
+mod records;
 mod replying;
 mod settling;
 mod shared;
@@ -20,6 +21,7 @@ pub use crate::entry::{CountedEdits, Entry, Form, LentEntry, NewElement, ReadEle
 pub use crate::journal::Journal;
 pub use crate::opening::Opening;
 pub use crate::pass::Pass;
-pub use crate::settling::Cause;
-pub use crate::shared::{Shared, serve};
+pub use crate::records::Records;
+pub use crate::settling::{Cause, Difference};
+pub use crate::shared::{Shared, serve, settle_seat};
 pub use crate::turn::Turn;

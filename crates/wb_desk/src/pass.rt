@@ -6,7 +6,7 @@ use crate::entry::Record;
 use std::marker::Model;
 use std::sync::ledger::{Ledger, Share};
 
-/// One seat's pass: the list of its own entries, and its share of the desk's ledger, which has as many units.
+/// One seat's pass: the list of its own entries that are not settled yet, and its share of the desk's ledger, which has as many units.
 pub struct Pass<L: Ledger> {
     pub(crate) seat: usize,
     pub(crate) own: Vec<Record>,

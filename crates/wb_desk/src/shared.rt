@@ -1,15 +1,16 @@
 //! What a desk keeps under its lock, and how it answers one request.
 
-ghost use Rattle.std.specs.Prelude.{◌≡◌, ◌≤◌, ◌+◌, Bool, true, false, List, ◌++◌, ◌∷◌, [], length, IfOk, IfErr, OnOk, MatchOption};
+ghost use Rattle.std.specs.Prelude.{◌≡◌, ◌≤◌, ◌+◌, true, List, IfOk, IfErr, OnOk, MatchOption};
 ghost use Rattle.wb_desk.specs.Entries.{leaves_all};
-ghost use Rattle.wb_desk.specs.Courses.{IsCourse};
+ghost use Rattle.wb_desk.specs.Courses.{IsCourse, Marked, Tells, count_of, empty_lists};
 ghost use Rattle.wb_desk.specs.Settling.{IsSettled, IsCause};
-ghost use Rattle.wb_desk.specs.Serving.{IsStrange, AnswersCourse, own_after, share_after, new_passes};
+ghost use Rattle.wb_desk.specs.Serving.{IsStrange, AnswersCourse, course_after, own_after, share_after, new_passes};
+ghost use Rattle.wb_desk.specs.Early.{SettlesSeat, DiffersSeat, EndsWith, course_settled};
 ghost use Rattle.wb_desk.specs.Seats.{IsNumberOfSeats, IsSeatsErr};
 
 use crate::desk::DeskErr;
 use crate::opening::Opening;
-use crate::{Cause, Counted, Journal, Pass};
+use crate::{Cause, Counted, Difference, Journal, Pass};
 use std::alloc::Global;
 use std::marker::Model;
 use std::sync::ledger::{Blank, Ledger, Share};
@@ -18,7 +19,7 @@ use wb_history::History;
 use wb_protocol::{Reply, Request};
 use wb_range::NoMemory;
 
-/// The locked value of a desk: the history, the journal, each seat's number of entries, and the ledger's book.
+/// The locked value of a desk: the history, the journal, and the ledger's book.
 pub struct Shared<L: Opening> {
     pub(crate) alloc: Global,
     pub(crate) kept: Counted<L>,
@@ -37,8 +38,8 @@ impl<L: Opening> Drop for Shared<L> {
 }
 
 impl<L: Opening> Model for Shared<L> {
-    ghost use Rattle.std.specs.Prelude.{◌≡◌, ◌+◌, length};
-    ghost use Rattle.wb_desk.specs.Courses.{IsCourse};
+    ghost use Rattle.std.specs.Prelude.{◌≡◌, ◌+◌};
+    ghost use Rattle.wb_desk.specs.Courses.{IsCourse, count_of};
     ghost use Rattle.wb_desk.specs.Locked.{Locked, locked_code};
 
     ghost Value = { Locked };
@@ -47,7 +48,7 @@ impl<L: Opening> Model for Shared<L> {
 
     ghost view = { λ a. record { course = a.kept.journal; total = a.kept.calls.total } };
 
-    ghost invariant = { λ a. (a.kept.calls.total ≡ length a.kept.journal.entries) × (a.rest.amount ≡ 0) × (a.rest.parts + a.kept.journal.seats ≡ 16) ×
+    ghost invariant = { λ a. (a.kept.calls.total ≡ count_of a.kept.journal.entries) × (a.rest.amount ≡ 0) × (a.rest.parts + a.kept.journal.seats ≡ 16) ×
         (a.kept.journal.seats ≡ L.seats) × IsCourse L.opening a.kept.journal };
 }
 
@@ -77,6 +78,7 @@ fn first_passes<L: Ledger>(
 impl<L: Opening> Shared<L> {
     /// What a desk of 1 to 16 seats keeps on the workbook of a history, with no entry yet, and a pass for each seat. Where
     /// there is no such desk, the history is given back.
+    #[tactic(auto, using(crate::proofs::Opened::opened_course, crate::proofs::Opened::opened_count))]
     pub fn open_at(
         alloc: Global,
         blank: Blank,
@@ -87,11 +89,9 @@ impl<L: Opening> Shared<L> {
         requires name { blank.name ≡ L.name }
         requires parts { blank.parts ≡ L.parts }
         requires sixteen { blank.parts ≡ 16 }
-        requires opening { L.opening ≡ history }
+        requires opening { L.opening.history ≡ history }
         requires seats { L.seats ≡ seats }
-
-        // The course without entries, and a pass for each seat.
-        ensures opened { IfOk result (λ r. r.0.course ≡ record { seats = seats; entries = []; history = history }) }
+        ensures opened { IfOk result (λ r. r.0.course ≡ record { seats = seats; entries = empty_lists seats; settled = 0; history = history }) }
         ensures ok { IfOk result (λ r. IsNumberOfSeats seats × (r.1.items ≡ new_passes seats)) }
 
         // Why there is no desk; then the history comes back.
@@ -118,12 +118,19 @@ impl<L: Opening> Shared<L> {
         }
     }
 
-    /// The length of the journal.
+    /// The number of entries that are kept.
     pub fn entries(&self) -> usize
-        ensures count { result ≡ length self.now.course.entries }
-        ensures total { self.now.total ≡ length self.now.course.entries }
+        ensures count { result ≡ count_of self.now.course.entries }
+        ensures total { self.now.total ≡ count_of self.now.course.entries }
     {
         self.kept.journal.len()
+    }
+
+    /// How many entries were settled early: exact below 2^64 - 1.
+    pub fn settled(&self) -> u64
+        ensures { result ≡ self.now.course.settled }
+    {
+        self.kept.journal.settled()
     }
 
     /// The history that came of the journal.
@@ -146,7 +153,7 @@ impl<L: Opening> Shared<L> {
     }
 }
 
-/// Answers one request of a pass.
+/// Answers one request of a pass. Whatever is all of the course goes on with this entry.
 pub fn serve<L: Opening, M: Mover>(
     shared: &mut Shared<L>,
     pass: &mut Pass<L>,
@@ -156,8 +163,7 @@ pub fn serve<L: Opening, M: Mover>(
     // What is kept before is a course of the desk.
     ensures course { IsCourse L.opening shared.old.course }
     ensures seats { shared.old.course.seats ≡ L.seats }
-
-    // The answer, by the course before and after.
+    ensures goes_on { (all : List Marked) → Tells L.opening.history all shared.old.course → Tells L.opening.history (course_after all pass.old.seat request result) shared.new.course }
     ensures strange { IsStrange shared.old.course pass.old.seat pass.old.own result }
     ensures answers { AnswersCourse shared.old.course pass.old.seat request result shared.new.course }
     ensures left { leaves_all result ≡ true → shared.new.course.history ≡ shared.old.course.history }
@@ -169,4 +175,22 @@ pub fn serve<L: Opening, M: Mover>(
     ensures share { pass.new.share ≡ share_after pass.old.share result }
 {
     shared.kept.answer(shared.alloc, pass, request, mover)
+}
+
+/// Settles the seat of a pass early: where the entries of the pass are those that are kept of the seat, both are let go. They
+/// stand in the course as before, at the end of the seat's entries.
+pub fn settle_seat<L: Opening>(
+    shared: &mut Shared<L>,
+    pass: &mut Pass<L>,
+) -> Result<usize, Difference>
+    requires { L.opening.early ≡ true }
+    ensures course { IsCourse L.opening shared.old.course }
+    ensures seats { shared.old.course.seats ≡ L.seats }
+    ensures goes_on { (all : List Marked) → Tells L.opening.history all shared.old.course → Tells L.opening.history (course_settled all pass.old.seat result) shared.new.course }
+    ensures ok { IfOk result (λ n. SettlesSeat shared.old.course pass.old n shared.new.course pass.new) }
+    ensures total { IfOk result (λ n. shared.new.total + n ≡ shared.old.total) }
+    ensures err { IfErr result (λ why. DiffersSeat shared.old.course pass.old why shared.new.course pass.new × (shared.new.total ≡ shared.old.total)) }
+    ensures stands { OnOk result ((all : List Marked) → Tells L.opening.history all shared.old.course → EndsWith all pass.old.seat pass.old.own) }
+{
+    shared.kept.settle_seat(shared.alloc, pass)
 }

@@ -1,13 +1,13 @@
 //! A turn at a desk: its lock, held from one request to the next.
 
-ghost use Rattle.std.specs.Prelude.{◌≡◌};
-ghost use Rattle.wb_desk.specs.Answering.{AnswersAmong};
-ghost use Rattle.wb_desk.specs.Serving.{own_after, share_after};
+ghost use Rattle.std.specs.Prelude.{◌≡◌, true, length, IfOk, IfErr, OnOk};
+ghost use Rattle.wb_desk.specs.Answering.{AnswersAmong, DiffersInSome, StandsInSome};
+ghost use Rattle.wb_desk.specs.Serving.{new_pass, own_after, share_after};
 
-use crate::Pass;
 use crate::desk::Desk;
 use crate::opening::Opening;
-use crate::shared::{Shared, serve};
+use crate::shared::{Shared, serve, settle_seat};
+use crate::{Difference, Pass};
 use std::cell::Cell;
 use std::sync::{MutexGuard, Wait};
 use wb_arrays::Mover;
@@ -48,6 +48,23 @@ impl<'d, L: Opening> Turn<'d, L> {
         let reply = serve(&mut guard, pass, request, mover);
         self.held.set(Some(guard));
         reply
+    }
+
+    /// Settles the seat of a pass early, under the lock, which stays held: where the entries of the pass are those that are kept
+    /// of the seat, both are let go.
+    pub fn settle_seat<R: Wait>(&self, rt: &R, pass: &mut Pass<L>) -> Result<usize, Difference>
+        requires { L.opening.early ≡ true }
+        ensures ok { IfOk result (λ n. (n ≡ length pass.old.own) × (pass.new ≡ new_pass pass.old.seat)) }
+        ensures stands { OnOk result (StandsInSome L.seats L.opening pass.old.seat pass.old.own) }
+        ensures err { IfErr result (λ why. DiffersInSome L.seats L.opening pass.old.seat pass.old.own why × (pass.new ≡ pass.old)) }
+    {
+        let mut guard = match self.held.take() {
+            Some(guard) => guard,
+            None => self.desk.taken(rt),
+        };
+        let settled = settle_seat(&mut guard, pass);
+        self.held.set(Some(guard));
+        settled
     }
 
     /// Lets the lock go, if it is held.

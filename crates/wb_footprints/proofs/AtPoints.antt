@@ -1,5 +1,5 @@
 -- The least number at one of several points.
-use Rattle.std.proofs.Common.{◌≡◌, ℕ, ◌<◌, ◌≤◌, ◌+◌, Bool, true, false, ◌&&◌, ◌||◌, ◌==◌, Option}
+use Rattle.std.proofs.Common.{◌≡◌, ℕ, ◌<◌, ◌≤◌, ◌+◌, Bool, true, false, ◌&&◌, ◌||◌, Option}
 use Rattle.std.proofs.Common.{None, List, [], ◌++◌, length, take, get_or, refl, sym, ap, ◌∙◌}
 use Rattle.std.specs.List.{list_any}
 use Rattle.std.proofs.lemmas.List.{take_all}
@@ -7,6 +7,7 @@ use Rattle.std.proofs.lemmas.List.Folds.{list_any_more, list_any-append}
 use Rattle.wb_footprints.specs.declared.blocks.Block.{Block}
 use Rattle.wb_footprints.specs.Relation.{IsLeastAfter}
 use Rattle.wb_footprints.specs.Points.{Coordinates, in_points}
+use Rattle.wb_footprints.specs.Numbers.{numbered}
 use Rattle.wb_footprints.specs.Blocks.{in_blocks}
 use Rattle.wb_footprints.proofs.Meeting.{any_or, any_like, any_none, least_like}
 
@@ -62,15 +63,15 @@ none_least ps after = λ n up. any_none ps
 
 -- one block more
 pub block_more : (xs : List Block) (i after : ℕ) (d : Block) → i < length xs → (x : Block) → x ≡ get_or xs i d → (ps : List Coordinates) (r : Option ℕ) →
-    IsLeastAfter (λ n. list_any (λ p. in_blocks (take i xs) p n) ps || (list_any (in_points x.points) ps && (x.number == n))) after r →
+    IsLeastAfter (λ n. list_any (λ p. in_blocks (take i xs) p n) ps || (list_any (in_points x.points) ps && numbered x.numbers n)) after r →
     IsLeastAfter (λ n. list_any (λ p. in_blocks (take (i + 1) xs) p n) ps) after r
 block_more xs i after d l x e ps r h =
-    least_like (λ n. list_any (λ p. in_blocks (take i xs) p n) ps || (list_any (in_points x.points) ps && (x.number == n)))
+    least_like (λ n. list_any (λ p. in_blocks (take i xs) p n) ps || (list_any (in_points x.points) ps && numbered x.numbers n))
     (λ n. list_any (λ p. in_blocks (take (i + 1) xs) p n) ps) after r
-    (λ n. any_like (λ p. in_blocks (take (i + 1) xs) p n) (λ p. in_blocks (take i xs) p n || (in_points x.points p && (x.number == n))) ps
-    (λ p. rw e (list_any_more (λ b. in_points b.points p && (b.number == n)) xs i d l))
-    ∙ any_or (λ p. in_blocks (take i xs) p n) (λ p. in_points x.points p && (x.number == n)) ps
-    ∙ ap (λ b. list_any (λ p. in_blocks (take i xs) p n) ps || b) (and_last (x.number == n) (in_points x.points) ps)) h
+    (λ n. any_like (λ p. in_blocks (take (i + 1) xs) p n) (λ p. in_blocks (take i xs) p n || (in_points x.points p && numbered x.numbers n)) ps
+    (λ p. rw e (list_any_more (λ b. in_points b.points p && numbered b.numbers n) xs i d l))
+    ∙ any_or (λ p. in_blocks (take i xs) p n) (λ p. in_points x.points p && numbered x.numbers n) ps
+    ∙ ap (λ b. list_any (λ p. in_blocks (take i xs) p n) ps || b) (and_last (numbered x.numbers n) (in_points x.points) ps)) h
 
 pub blocks_all : (xs : List Block) (i after : ℕ) → length xs ≤ i → (ps : List Coordinates) (r : Option ℕ) →
     IsLeastAfter (λ n. list_any (λ p. in_blocks (take i xs) p n) ps) after r → IsLeastAfter (λ n. list_any (λ p. in_blocks xs p n) ps) after r

@@ -1,6 +1,6 @@
 -- Blocks: what is in them, after one is added and after those of a number are taken away.
 use Rattle.std.proofs.Common.{◌≡◌, ◌⊎◌, inl, inr, ℕ, ◌<◌, ◌≤◌, ◌+◌, ◌-◌, Bool, true, false, ◌&&◌, ◌||◌, ◌==◌, if◌then◌else◌, List, [], ◌∷◌, ◌++◌, Option, Some}
-use Rattle.std.proofs.Common.{None, Result, Ok, Err, length, take, drop, get_or, suc, zero, refl, sym, ap, subst, ◌∙◌, arith}
+use Rattle.std.proofs.Common.{None, Result, Ok, Err, length, take, drop, set, get_or, suc, zero, refl, sym, ap, subst, ◌∙◌, arith}
 use Rattle.std.specs.Cmp.{IsTotalOrder}
 use Rattle.std.specs.Cmp.Lexicographic.{lists_total}
 use Rattle.std.specs.Cmp.{int_cmp_total}
@@ -17,8 +17,10 @@ use Rattle.std.proofs.lemmas.Bool.Decides.{nat_tests}
 use Rattle.wb_sets.specs.Places.{IsGap}
 use Rattle.wb_sets.proofs.Ascending.{gap_by}
 use Rattle.wb_footprints.specs.declared.blocks.Block.{Block}
+use Rattle.wb_footprints.specs.declared.numbers.Numbers.{Numbers}
 use Rattle.wb_footprints.specs.Relation.{Sets, IsLeastAfter}
 use Rattle.wb_footprints.specs.Points.{Coordinates, point_cmp, in_points}
+use Rattle.wb_footprints.specs.Numbers.{numbered}
 use Rattle.wb_footprints.specs.Blocks.{in_blocks}
 use Rattle.wb_footprints.proofs.Meeting.{least_like}
 
@@ -127,29 +129,29 @@ above_last xs p x s some is less =
 
 -- ---- the least number
 
-module _ (p : ℕ → Bool) (hit : Bool) (number after : ℕ) where
+module _ (p q : ℕ → Bool) (hit : Bool) (after : ℕ) where
   abbrev more : ℕ → Bool
-  more n = p n || (hit && (number == n))
+  more n = p n || (hit && q n)
 
-  pub too_low : (first : Option ℕ) → number ≤ after → IsLeastAfter p after first → IsLeastAfter more after first
-  too_low None low h = λ n up. or_out (p n) _ (h n up) (and_out hit _ (above_apart number n (omega arith)))
-  too_low (Some j) low h = (h.0, or_in (p j) _ h.1, λ n up down. or_out (p n) _ (h.2 n up down) (and_out hit _ (above_apart number n (omega arith))))
+  pub none_more : (first : Option ℕ) → IsLeastAfter q after None → IsLeastAfter p after first → IsLeastAfter more after first
+  none_more None h g = λ n up. or_out (p n) _ (g n up) (and_out hit _ (h n up))
+  none_more (Some i) h g = (g.0, or_in (p i) _ g.1, λ n up down. or_out (p n) _ (g.2 n up down) (and_out hit _ (h n up)))
 
-  pub too_high : (j : ℕ) → j ≤ number → IsLeastAfter p after (Some j) → IsLeastAfter more after (Some j)
-  too_high j high h = (h.0, or_in (p j) _ h.1, λ n up down. or_out (p n) _ (h.2 n up down) (and_out hit _ (below_apart number n (omega arith))))
+  pub too_high : (i j : ℕ) → i ≤ j → IsLeastAfter q after (Some j) → IsLeastAfter p after (Some i) → IsLeastAfter more after (Some i)
+  too_high i j l h g = (g.0, or_in (p i) _ g.1, λ n up down. or_out (p n) _ (g.2 n up down) (and_out hit _ (h.2 n up (omega (arith, l, down)))))
 
   pub not_hit : (first : Option ℕ) → hit ≡ false → IsLeastAfter p after first → IsLeastAfter more after first
-  not_hit None e h = λ n up. or_out (p n) _ (h n up) (ap (λ b. b && (number == n)) e)
-  not_hit (Some j) e h = (h.0, or_in (p j) _ h.1, λ n up down. or_out (p n) _ (h.2 n up down) (ap (λ b. b && (number == n)) e))
+  not_hit None e h = λ n up. or_out (p n) _ (h n up) (ap (λ b. b && q n) e)
+  not_hit (Some j) e h = (h.0, or_in (p j) _ h.1, λ n up down. or_out (p n) _ (h.2 n up down) (ap (λ b. b && q n) e))
 
-  at_number : hit ≡ true → more number ≡ true
-  at_number e = or_last (p number) _ (ap (λ b. b && (number == number)) e ∙ itself number)
+  at_number : (j : ℕ) → hit ≡ true → q j ≡ true → more j ≡ true
+  at_number j e is = or_last (p j) _ (ap (λ b. b && q j) e ∙ is)
 
-  pub first_hit : hit ≡ true → after < number → IsLeastAfter p after None → IsLeastAfter more after (Some number)
-  first_hit e up h = (up, at_number e, λ n above down. or_out (p n) _ (h n above) (and_out hit _ (below_apart number n down)))
+  pub first_hit : (j : ℕ) → hit ≡ true → IsLeastAfter q after (Some j) → IsLeastAfter p after None → IsLeastAfter more after (Some j)
+  first_hit j e h g = (h.0, at_number j e h.1, λ n up down. or_out (p n) _ (g n up) (and_out hit _ (h.2 n up down)))
 
-  pub lesser_hit : (j : ℕ) → hit ≡ true → after < number → number < j → IsLeastAfter p after (Some j) → IsLeastAfter more after (Some number)
-  lesser_hit j e up low h = (up, at_number e, λ n above down. or_out (p n) _ (h.2 n above (omega arith)) (and_out hit _ (below_apart number n down)))
+  pub lesser_hit : (i j : ℕ) → hit ≡ true → j < i → IsLeastAfter q after (Some j) → IsLeastAfter p after (Some i) → IsLeastAfter more after (Some j)
+  lesser_hit i j e l h g = (h.0, at_number j e h.1, λ n up down. or_out (p n) _ (g.2 n up (omega (arith, l, down))) (and_out hit _ (h.2 n up down)))
 
 -- ---- a list of blocks
 
@@ -159,11 +161,69 @@ removed_any f [] i d l h = let no : ⊥ = omega arith in absurd no
 removed_any f (x ∷ xs) zero d l h = sym (ap (λ b. b || list_any f xs) h)
 removed_any f (x ∷ xs) (suc i) d l h = let e : suc i + 1 ≡ suc (i + 1) = omega arith in rw e (ap (λ b. f x || b) (removed_any f xs i d (omega arith) h))
 
-pub without : (xs ys : List Block) (number i : ℕ) (d : Block) → i < length xs → ((get_or xs i d).number == number) ≡ true → ys ≡ take i xs ++ drop (i + 1) xs →
-    (p : Coordinates) (n : ℕ) → (number == n) ≡ false → in_blocks ys p n ≡ in_blocks xs p n
-without xs ys number i d l its e p n other =
-    let apart : ((get_or xs i d).number == n) ≡ false = ap (λ k. k == n) (number_is _ _ its) ∙ other in
-    rw e (removed_any (λ b. in_points b.points p && (b.number == n)) xs i d l (and_out (in_points (get_or xs i d).points p) _ apart))
+set_any : {X : Type 0} (f : X → Bool) (xs : List X) (i : ℕ) (y d : X) → i < length xs → f y ≡ f (get_or xs i d) → list_any f (set xs i y) ≡ list_any f xs
+set_any f [] i y d l h = let no : ⊥ = omega arith in absurd no
+set_any f (x ∷ xs) zero y d l h = ap (λ b. b || list_any f xs) h
+set_any f (x ∷ xs) (suc i) y d l h = ap (λ b. f x || b) (set_any f xs i y d (omega arith) h)
+
+raised : (h num x r : Bool) → ((h && (if num then true else x)) || r) ≡ (if h && num then true else ((h && x) || r))
+raised true true x r = refl
+raised true false x r = refl
+raised false num x r = refl
+
+beside : (x c r : Bool) → (x || (if c then true else r)) ≡ (if c then true else (x || r))
+beside true true r = refl
+beside true false r = refl
+beside false c r = refl
+
+-- a block with other numbers at the same points
+abbrev pub renumbered : Block → Numbers → Block
+renumbered b new = record { points = b.points; numbers = new }
+
+-- a number more at the points of a block
+pub number_more : (xs : List Block) (i number : ℕ) (b : Block) (new : Numbers) → i < length xs → b ≡ get_or xs i b →
+    ((n : ℕ) → numbered new n ≡ (if number == n then true else numbered b.numbers n)) → (p : Coordinates) (n : ℕ) →
+    in_blocks (set xs i (renumbered b new)) p n ≡ (if in_points b.points p && (number == n) then true else in_blocks xs p n)
+number_more [] i number b new l is more p n = let no : ⊥ = omega arith in absurd no
+number_more (x ∷ xs) zero number b new l is more p n =
+    ap (λ v. (in_points b.points p && v) || in_blocks xs p n) (more n)
+    ∙ raised (in_points b.points p) (number == n) (numbered b.numbers n) (in_blocks xs p n)
+    ∙ ap (λ (y : Block). if in_points b.points p && (number == n) then true else ((in_points y.points p && numbered y.numbers n) || in_blocks xs p n)) is
+number_more (x ∷ xs) (suc i) number b new l is more p n =
+    ap (λ r. (in_points x.points p && numbered x.numbers n) || r) (number_more xs i number b new (omega arith) is more p n)
+    ∙ beside (in_points x.points p && numbered x.numbers n) (in_points b.points p && (number == n)) (in_blocks xs p n)
+
+pub number_set : (xs : List Block) (i number : ℕ) (b : Block) (new : Numbers) → i < length xs → b ≡ get_or xs i b →
+    ((n : ℕ) → numbered new n ≡ (if number == n then true else numbered b.numbers n)) → (ps : List Coordinates) → ((d : Block) → (get_or xs i d).points ≡ ps) →
+    Sets (in_blocks xs) (in_blocks (set xs i (renumbered b new))) (λ p. in_points ps p) number true
+number_set xs i number b new l is more ps h = record {
+  at = λ p n.
+      number_more xs i number b new l is more p n
+      ∙ ap (λ qs. if in_points qs p && (number == n) then true else in_blocks xs p n) (ap (λ (y : Block). y.points) is ∙ h b);
+}
+
+-- the same numbers again
+pub number_same : (xs : List Block) (i number : ℕ) (b : Block) (new : Numbers) → i < length xs → b ≡ get_or xs i b → new ≡ b.numbers → (here : Coordinates → Bool) →
+    Sets (in_blocks xs) (in_blocks (set xs i (renumbered b new))) (λ p. false && here p) number true
+number_same xs i number b new l is same here = record {
+  at = λ p n.
+      set_any (λ (y : Block). in_points y.points p && numbered y.numbers n) xs i (renumbered b new) b l
+      (ap (λ ns. in_points b.points p && numbered ns n) same ∙ ap (λ (y : Block). in_points y.points p && numbered y.numbers n) is);
+}
+
+-- the other numbers, where one is taken away from a block
+pub number_less : (xs : List Block) (i number : ℕ) (b : Block) (new : Numbers) → i < length xs → b ≡ get_or xs i b →
+    ((n : ℕ) → numbered new n ≡ (if number == n then false else numbered b.numbers n)) → (p : Coordinates) (n : ℕ) → (number == n) ≡ false →
+    in_blocks (set xs i (renumbered b new)) p n ≡ in_blocks xs p n
+number_less xs i number b new l is less p n other = set_any (λ (y : Block). in_points y.points p && numbered y.numbers n) xs i (renumbered b new) b l
+    (ap (λ v. in_points b.points p && v) (less n ∙ ap (λ c. if c then false else numbered b.numbers n) other)
+    ∙ ap (λ (y : Block). in_points y.points p && numbered y.numbers n) is)
+
+-- a block without numbers
+pub bare_gone : (xs ys : List Block) (i : ℕ) (b : Block) → i < length xs → ((n : ℕ) → numbered (get_or xs i b).numbers n ≡ false) → ys ≡ take i xs ++ drop (i + 1) xs →
+    (p : Coordinates) (n : ℕ) → in_blocks ys p n ≡ in_blocks xs p n
+bare_gone xs ys i b l none e p n = rw e (removed_any (λ (y : Block). in_points y.points p && numbered y.numbers n) xs i b l
+    (and_out (in_points (get_or xs i b).points p) _ (none n)))
 
 pub cleared : (old new : List Block) (number : ℕ) → ((p : Coordinates) (n : ℕ) → (number == n) ≡ false → in_blocks new p n ≡ in_blocks old p n) →
     ((p : Coordinates) → in_blocks new p number ≡ false) → Sets (in_blocks old) (in_blocks new) (λ p. true) number false
@@ -173,13 +233,7 @@ cleared old new number others gone = record { at = λ p n. by p n (number == n) 
     by p n true e = subst (λ (k : ℕ). in_blocks new p k ≡ false) (number_is number n e) (gone p)
     by p n false e = others p n e
 
-pub one_apart : (xs : List Block) (i number : ℕ) (d : Block) → i < length xs → (x : Block) → x ≡ get_or xs i d → (x.number == number) ≡ false →
-    ((p : Coordinates) → in_blocks (take i xs) p number ≡ false) → (p : Coordinates) → in_blocks (take (i + 1) xs) p number ≡ false
-one_apart xs i number d l x e apart h p =
-    list_any_more (λ b. in_points b.points p && (b.number == number)) xs i d l
-    ∙ or_out _ _ (h p) (and_out _ _ (ap (λ (y : Block). y.number == number) (sym e) ∙ apart))
-
 pub least_more : (xs : List Block) (i after : ℕ) (d : Block) → i < length xs → (x : Block) → x ≡ get_or xs i d → (p : Coordinates) (r : Option ℕ) →
-    IsLeastAfter (λ n. in_blocks (take i xs) p n || (in_points x.points p && (x.number == n))) after r → IsLeastAfter (in_blocks (take (i + 1) xs) p) after r
-least_more xs i after d l x e p r h = least_like (λ n. in_blocks (take i xs) p n || (in_points x.points p && (x.number == n))) (in_blocks (take (i + 1) xs) p)
-    after r (λ n. rw e (list_any_more (λ b. in_points b.points p && (b.number == n)) xs i d l)) h
+    IsLeastAfter (λ n. in_blocks (take i xs) p n || (in_points x.points p && numbered x.numbers n)) after r → IsLeastAfter (in_blocks (take (i + 1) xs) p) after r
+least_more xs i after d l x e p r h = least_like (λ n. in_blocks (take i xs) p n || (in_points x.points p && numbered x.numbers n)) (in_blocks (take (i + 1) xs) p)
+    after r (λ n. rw e (list_any_more (λ b. in_points b.points p && numbered b.numbers n) xs i d l)) h

@@ -1,5 +1,5 @@
 -- The points of rectangles: which are among them, and whether two have one in common.
-use Rattle.std.proofs.Common.{◌≡◌, ◌↔◌, ℕ, Bool, true, false, ℤ, List, [], ◌∷◌, Option, Some, None, is_some, length, slice_get, refl, sym, ap, subst, ◌∙◌, arith}
+use Rattle.std.proofs.Common.{◌≡◌, ◌↔◌, true, false, Decides, ℤ, List, [], ◌∷◌, is_some, length, slice_get, refl, sym, ap, subst, ◌∙◌, arith}
 use Rattle.std.specs.List.{Contains, list_any}
 use Rattle.std.specs.Ordering.{is_eq, eq_by_cmp}
 use Rattle.std.specs.declared.cmp.Ordering.{Ordering}
@@ -20,6 +20,13 @@ equal_from : (o : Ordering) → is_eq o ≡ true → o ≡ Equal
 equal_from Less e = cc
 equal_from Equal e = refl
 equal_from Greater e = cc
+
+-- points that compare as equal are one
+pub same_points : (a b : Coordinates) → Decides (eq_by_cmp point_cmp a b) (a ≡ b)
+same_points a b = (
+  λ e. points_exact a b (equal_from (point_cmp a b) e),
+  λ same. subst (λ (p : Coordinates). eq_by_cmp point_cmp a p ≡ true) same ((eq_by_cmp_equiv points_total).refl a),
+)
 
 -- ---- a point among points
 

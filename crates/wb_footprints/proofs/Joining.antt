@@ -5,7 +5,6 @@ use Rattle.std.specs.List.{list_any}
 use Rattle.std.specs.List.Sorted.{IsStrictlySortedBy}
 use Rattle.std.specs.declared.cmp.Ordering.TheVariants.{Less}
 use Rattle.std.proofs.lemmas.Bool.{cases_lt}
-use Rattle.std.proofs.lemmas.Bool.Decides.{nat_tests}
 use Rattle.std.proofs.lemmas.List.{take_all, get_or_default}
 use Rattle.std.proofs.lemmas.List.Folds.{list_any_more, list_any-append}
 use Rattle.selective_undo.specs.declared.Change.{Change}
@@ -18,7 +17,7 @@ use Rattle.wb_footprints.specs.Numbers.{numbered}
 use Rattle.wb_footprints.specs.Marks.{pair_cmp}
 use Rattle.wb_footprints.specs.Points.{Coordinates, point_cmp}
 use Rattle.wb_footprints.specs.Relation.{IsLeastAfter, JoinedAfter, AreAllAfter}
-use Rattle.wb_footprints.proofs.Added.{at_self, added_here, added_stays, added_from}
+use Rattle.wb_footprints.proofs.Added.{added_here, added_stays, added_from}
 use Rattle.wb_footprints.proofs.AtMarks.{any_past, pair_less, pair_up}
 use Rattle.wb_footprints.proofs.InRuns.{all_more}
 use Rattle.wb_footprints.proofs.Meeting.{any_or, any_like, any_none}
@@ -92,42 +91,20 @@ joined_above old new p q after e h = record {
 pub joined_like : (old new : Numbers) (p q : ℕ → Bool) (after : ℕ) → ((n : ℕ) → q n ≡ p n) → JoinedAfter old new p after → JoinedAfter old new q after
 joined_like old new p q after e h = joined_above old new p q after (λ n up. e n) h
 
--- ---- the number of a block
+-- ---- the numbers of a block
 
-low_apart : (a n : ℕ) → a < n → (a == n) ≡ false
-low_apart a n l = grind (arith, nat_tests)
+pub not_hit : (hit : Bool) (q : ℕ → Bool) (after : ℕ) (old : Numbers) → hit ≡ false → JoinedAfter old old (λ n. hit && q n) after
+not_hit hit q after old e = none_joined old _ after (λ n up. ap (λ b. b && q n) e)
 
-and_first : (a b : Bool) → a ≡ false → a && b ≡ false
-and_first a b e = ap (λ x. x && b) e
+pub all_hit : (hit : Bool) (q : ℕ → Bool) (after : ℕ) (old new : Numbers) → hit ≡ true → JoinedAfter old new q after → JoinedAfter old new (λ n. hit && q n) after
+all_hit hit q after old new e h = joined_like old new q (λ n. hit && q n) after (λ n. ap (λ b. b && q n) e) h
 
-and_last : (a b : Bool) → b ≡ false → a && b ≡ false
-and_last true b e = e
-and_last false b e = refl
+and_out : (hit b : Bool) → b ≡ false → hit && b ≡ false
+and_out true b e = e
+and_out false b e = refl
 
-and_second : (a b : Bool) → a && b ≡ true → b ≡ true
-and_second true b e = e
-and_second false b e = cc
-
-module _ (hit : Bool) (number after : ℕ) where
-  pub too_low : (old : Numbers) → number ≤ after → JoinedAfter old old (λ n. hit && (number == n)) after
-  too_low old low = none_joined old _ after (λ n up. and_last hit _ (low_apart number n (omega arith)))
-
-  pub not_hit : (old : Numbers) → hit ≡ false → JoinedAfter old old (λ n. hit && (number == n)) after
-  not_hit old e = none_joined old _ after (λ n up. and_first hit (number == n) e)
-
-  pub number_joined : (old new : Numbers) → hit ≡ true → after < number → ((n : ℕ) → numbered new n ≡ (if number == n then true else numbered old n)) →
-      JoinedAfter old new (λ n. hit && (number == n)) after
-  number_joined old new e up is = record {
-    from = λ n has. elim (added_from old new number is n has) [
-      | inl had ↦ inl had
-      | inr same ↦ inr (
-        subst (λ (m : ℕ). after < m) same up,
-        ap (λ b. b && (number == n)) e ∙ subst (λ (m : ℕ). (number == m) ≡ true) same (at_self number),
-      )
-    ];
-    stay = added_stays old new number is;
-    all = λ n above its. is n ∙ ap (λ b. if b then true else numbered old n) (and_second hit (number == n) its);
-  }
+pub none_above : (hit : Bool) (q : ℕ → Bool) (after : ℕ) (old : Numbers) → IsLeastAfter q after None → JoinedAfter old old (λ n. hit && q n) after
+none_above hit q after old h = none_joined old _ after (λ n up. and_out hit (q n) (h n up))
 
 -- ---- a list
 

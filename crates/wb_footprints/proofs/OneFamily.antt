@@ -1,26 +1,23 @@
 -- The cells of a run are of one family.
-use Rattle.std.proofs.Common.{◌≡◌, ℕ, ℤ, ◌+◌, ◌<◌, Bool, ◌||◌, true, false, List, [], ◌∷◌, Option, map, length, take, get_or, refl, sym, ap}
-use Rattle.std.proofs.Common.{subst, ◌∙◌, arith}
+use Rattle.std.proofs.Common.{◌≡◌, ℕ, ℤ, ◌<◌, Bool, true, List, [], ◌∷◌, Option, map, length, get_or, refl, sym, ap}
+use Rattle.std.proofs.Common.{◌∙◌, arith}
 use Rattle.std.specs.Cmp.Lexicographic.{slice_cmp}
 use Rattle.std.specs.List.{list_any}
 use Rattle.std.specs.Ordering.{nat_cmp, eq_by_cmp}
-use Rattle.std.proofs.lemmas.List.Folds.{list_any-append}
 use Rattle.selective_undo.specs.declared.Change.{Change}
 use Rattle.wb_cells.specs.declared.cells.cell.Cell.{Cell}
 use Rattle.wb_cells.specs.declared.cells.value.Value.{Value}
 use Rattle.wb_cells.specs.declared.changes.row.Row.{Row}
 use Rattle.wb_cells.specs.declared.changes.row.Row.TheVariants.{Inside, Members, Elements}
-use Rattle.wb_cells.specs.declared.changes.run.ChangeRun.{ChangeRun}
 use Rattle.wb_cells.specs.declared.changes.run.Form.{Form}
 use Rattle.wb_cells.specs.declared.changes.run.Form.TheVariants.{One, Line, Plane, Solid, Rectangle, Numbers}
 use Rattle.wb_cells.specs.declared.values.index.Index.TheVariants.{Point}
 use Rattle.wb_cells.specs.Cells.{Name, same_names}
-use Rattle.wb_cells.specs.Runs.{cell_of, change_at, packed_changes, rectangle_entries, numbered_entries, changes_in, all_changes}
+use Rattle.wb_cells.specs.Runs.{cell_of, change_at, packed_changes, rectangle_entries, numbered_entries, changes_in}
 use Rattle.wb_footprints.specs.declared.foot_index.FootIndex.{FootIndex}
 use Rattle.wb_footprints.specs.declared.place.Place.{Place}
 use Rattle.wb_footprints.specs.Places.{family, place_marked}
 use Rattle.wb_footprints.specs.Footprints.{marked_family}
-use Rattle.wb_footprints.proofs.Joining.{more_runs}
 use Rattle.wb_footprints.proofs.Meeting.{any_like, any_map, at_family}
 use Rattle.wb_footprints.proofs.Ranges.{equal_from}
 use Rattle.wb_footprints.proofs.ReadPlaces.{or_false}

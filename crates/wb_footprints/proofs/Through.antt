@@ -1,8 +1,9 @@
 -- Cells that a sweep went through, and families that it asked for.
 use Rattle.std.proofs.Common.{if◌then◌else◌, ◌≡◌, ℕ, ◌+◌, ◌<◌, ◌==◌, Bool, true, false, true≢false, ◌&&◌, ◌||◌, List, length, take, get_or, refl, sym, ap, ◌∙◌}
-use Rattle.std.proofs.Common.{subst, arith, ◌⊎◌, inl, inr, [], ◌∷◌, ◌++◌}
-use Rattle.std.proofs.lemmas.List.Folds.{list_any_more, list_any-append}
-use Rattle.std.specs.List.{list_any}
+use Rattle.std.proofs.Common.{subst, arith, ◌⊎◌, inl, inr, [], ◌∷◌, ◌++◌, zero, suc}
+use Rattle.std.proofs.lemmas.List.Folds.{list_any_more, list_any-append, list_any_at, Any-from_list_any}
+use Rattle.std.specs.List.{list_any, Contains}
+use Rattle.std.specs.Global.{Vec}
 use Rattle.std.specs.Ordering.{eq_by_cmp}
 use Rattle.std.specs.Cmp.{Equal-is}
 use Rattle.wb_cells.specs.declared.cells.cell.Cell.{Cell}
@@ -11,6 +12,7 @@ use Rattle.wb_footprints.specs.declared.foot_index.FootIndex.{FootIndex}
 use Rattle.wb_footprints.specs.declared.marks.Marks.{Marks}
 use Rattle.wb_footprints.specs.declared.numbers.Numbers.{Numbers}
 use Rattle.wb_footprints.specs.declared.part.Kind.{Kind}
+use Rattle.wb_footprints.specs.declared.runs.Run.{Run}
 use Rattle.wb_footprints.specs.declared.swept.SweptCells.{SweptCells}
 use Rattle.wb_footprints.specs.Numbers.{numbered}
 use Rattle.wb_footprints.specs.Marks.{marked}
@@ -18,7 +20,7 @@ use Rattle.wb_footprints.specs.Points.{Coordinates}
 use Rattle.wb_footprints.specs.Places.{cell_at}
 use Rattle.wb_footprints.specs.Footprints.{marked_own, marked_family}
 use Rattle.wb_footprints.specs.Relation.{Sets, JoinedAfter}
-use Rattle.wb_footprints.specs.Swept.{AreSwept, AreWaiting, FailsBehind}
+use Rattle.wb_footprints.specs.Swept.{AreSwept, AreWaiting, FailsBehind, IsGone}
 use Rattle.wb_footprints.proofs.InBlocks.{or_last}
 use Rattle.wb_footprints.proofs.Meeting.{any_in_front}
 
@@ -60,21 +62,77 @@ wait_stays : (f : Cell → ℕ → Bool) (s t : Marks Cell) (w v : Numbers) (aft
     Wait f s w after → Wait f t v after
 wait_stays f s t w v after e stay h = λ c k n is up met. stay n (h c k n (sym (ap (λ x. marked cell_cmp x c k) e) ∙ is) up met)
 
+-- a cell that the sweep went through is still one
+gone_stays : (s t : SweptCells) (c : Cell) (k : ℕ) → t.cells ≡ s.cells → t.runs ≡ s.runs → IsGone t c k → IsGone s c k
+gone_stays s t c k e same (inl is) = inl (sym (ap (λ m. marked cell_cmp m c k) e) ∙ is)
+gone_stays s t c k e same (inr g) = inr (g.0, subst (λ (v : Vec Run). Contains v.items g.0) same g.1, g.2)
+
 -- the sweep goes through a cell, of which all wait
 pub swept_more : (m : FootIndex) (s t : SweptCells) (w v : Numbers) (after : ℕ) (c : Cell) → AreSwept m s w after → JoinedAfter w v (marked_own m c) after →
-    Sets (marked cell_cmp s.cells) (marked cell_cmp t.cells) (eq_by_cmp cell_cmp c) 1 true → t.families ≡ s.families → AreSwept m t v after
-swept_more m s t w v after c h joined sets same = record {
-  cells = wait_more (marked_own m) s.cells t.cells w v after c h.cells joined sets;
+    Sets (marked cell_cmp s.cells) (marked cell_cmp t.cells) (eq_by_cmp cell_cmp c) 1 true → t.runs ≡ s.runs → t.families ≡ s.families → AreSwept m t v after
+swept_more m s t w v after c h joined sets runs same = record {
+  cells = λ d k n is up met. by d k n up met is;
   families = wait_stays (marked_family m) s.families t.families w v after same joined.stay h.families;
 }
+  where
+    by : (d : Cell) (k n : ℕ) → after < n → marked_own m d n ≡ true → IsGone t d k → numbered v n ≡ true
+    by d k n up met (inl is) = wait_more (marked_own m) s.cells t.cells w v after c (λ e j i at high own. h.cells e j i (inl at) high own) joined sets d k n is up met
+    by d k n up met (inr g) =
+        joined.stay n (h.cells d k n (inr (g.0, subst (λ (x : Vec Run). Contains x.items g.0) runs g.1, g.2)) up met)
 
 -- it asks for a family, of which all wait
 pub asked_more : (m : FootIndex) (s t : SweptCells) (w v : Numbers) (after : ℕ) (c : Cell) → AreSwept m s w after → JoinedAfter w v (marked_family m c) after →
-    Sets (marked cell_cmp s.families) (marked cell_cmp t.families) (eq_by_cmp cell_cmp c) 1 true → t.cells ≡ s.cells → AreSwept m t v after
-asked_more m s t w v after c h joined sets same = record {
-  cells = wait_stays (marked_own m) s.cells t.cells w v after same joined.stay h.cells;
+    Sets (marked cell_cmp s.families) (marked cell_cmp t.families) (eq_by_cmp cell_cmp c) 1 true → t.cells ≡ s.cells → t.runs ≡ s.runs → AreSwept m t v after
+asked_more m s t w v after c h joined sets same runs = record {
+  cells = λ d k n is up met. joined.stay n (h.cells d k n (gone_stays s t d k same runs is) up met);
   families = wait_more (marked_family m) s.families t.families w v after c h.families joined sets;
 }
+
+-- ---- runs kept whole
+
+-- runs are one where their cells are of one row and at the same points
+pub same_run : (a b : Run) → a.row.name ≡ b.row.name → a.row.kind ≡ b.row.kind → a.points ≡ b.points → a ≡ b
+same_run a b name kind points = λ i. record { row = record { name = name i; kind = kind i }; points = points i }
+
+pub point_there : (f : Coordinates → Bool) (ps : List Coordinates) (p : Coordinates) → Contains ps p → f p ≡ true → list_any f ps ≡ true
+point_there f ps p h e = list_any_at f ps h.0 p h.1 (ap f h.2 ∙ e)
+
+-- those at the cells of a run that is kept wait
+pub run_waits : (m : FootIndex) (s : SweptCells) (w : Numbers) (after : ℕ) (run : Run) → AreSwept m s w after → Contains s.runs.items run →
+    AreWaiting m run.row.kind run.row.name run.points w after
+run_waits m s w after run h kept n up met =
+    let one = Any-from_list_any (λ p. marked_own m (cell_at run.row.kind run.row.name p) n) run.points met in
+    h.cells (cell_at run.row.kind run.row.name one.1) 0 n (inr (run, kept, (one.1, (one.0, one.2, one.3), refl))) up one.4
+
+in_behind : {X : Type 0} (xs : List X) (y x : X) → Contains (xs ++ y ∷ []) x → Contains xs x ⊎ (x ≡ y)
+in_behind [] y x (zero, l, e) = inr (sym e)
+in_behind [] y x (suc k, l, e) = absurd (omega (arith, l))
+in_behind (z ∷ zs) y x (zero, l, e) = inl (zero, omega arith, e)
+in_behind (z ∷ zs) y x (suc k, l, e) = elim (in_behind zs y x (k, omega (arith, l), e)) [
+  | inl h ↦ inl (suc h.0, omega (arith, h.1), h.2)
+  | inr same ↦ inr same
+]
+
+-- one run more of which all wait
+pub kept_more : (m : FootIndex) (s t : SweptCells) (w : Numbers) (after : ℕ) (run : Run) → AreSwept m s w after →
+    AreWaiting m run.row.kind run.row.name run.points w after → t.cells ≡ s.cells → t.families ≡ s.families → t.runs.items ≡ s.runs.items ++ run ∷ [] →
+    AreSwept m t w after
+kept_more m s t w after run h waits cells families runs = record {
+  cells = λ c k n is up met. by c k n up met is;
+  families = wait_stays (marked_family m) s.families t.families w w after families (λ n had. had) h.families;
+}
+  where
+    own : (c : Cell) (k n : ℕ) → after < n → marked_own m c n ≡ true → (r : Run) → (Contains s.runs.items r ⊎ (r ≡ run)) →
+        ((p : Coordinates) × Contains r.points p × (c ≡ cell_at r.row.kind r.row.name p)) → numbered w n ≡ true
+    own c k n up met r (inl had) g = h.cells c k n (inr (r, had, g)) up met
+    own c k n up met r (inr same) g =
+        let there = subst (λ (x : Run). (p : Coordinates) × Contains x.points p × (c ≡ cell_at x.row.kind x.row.name p)) same g in
+        waits n up (point_there (λ p. marked_own m (cell_at run.row.kind run.row.name p) n) run.points there.0 there.1
+        (ap (λ x. marked_own m x n) (sym there.2) ∙ met))
+
+    by : (c : Cell) (k n : ℕ) → after < n → marked_own m c n ≡ true → IsGone t c k → numbered w n ≡ true
+    by c k n up met (inl is) = h.cells c k n (inl (sym (ap (λ x. marked cell_cmp x c k) cells) ∙ is)) up met
+    by c k n up met (inr g) = own c k n up met g.0 (in_behind s.runs.items run g.0 (subst (λ (xs : List Run). Contains xs g.0) runs g.1)) g.2
 
 -- ---- the points of a run
 
@@ -84,12 +142,12 @@ any_here f xs i d low is = any_in_front f xs (i + 1) (list_any_more f xs i d low
 -- one point more of those of which all wait
 pub run_more : (m : FootIndex) (s t : SweptCells) (w : Numbers) (after : ℕ) (kind : Kind) (name : Name) (ps : List Coordinates) (i : ℕ) (p : Coordinates) (c : Cell) →
     AreSwept m s w after → AreWaiting m kind name ps w after → i < length ps → p ≡ get_or ps i p → c ≡ cell_at kind name p →
-    Sets (marked cell_cmp s.cells) (marked cell_cmp t.cells) (eq_by_cmp cell_cmp c) 1 true → t.families ≡ s.families → AreSwept m t w after
-run_more m s t w after kind name ps i p c h waits low is at sets same =
+    Sets (marked cell_cmp s.cells) (marked cell_cmp t.cells) (eq_by_cmp cell_cmp c) 1 true → t.runs ≡ s.runs → t.families ≡ s.families → AreSwept m t w after
+run_more m s t w after kind name ps i p c h waits low is at sets runs same =
     swept_more m s t w w after c h
     (wait_already w (marked_own m c) after (λ n up met. waits n up (any_here (λ q. marked_own m (cell_at kind name q) n) ps i p low
     (ap (λ q. marked_own m (cell_at kind name q) n) (sym is) ∙ ap (λ x. marked_own m x n) (sym at) ∙ met))))
-    sets same
+    sets runs same
 
 not_true : (b : Bool) → (b ≡ true → ⊥) → b ≡ false
 not_true true never = absurd (never refl)
@@ -108,7 +166,7 @@ new_joined m s w v after kind name fresh ps h is joined = record {
   where
     fails : (n : ℕ) → after < n → numbered w n ≡ false → FailsBehind s kind name (λ p. marked_own m (cell_at kind name p) n)
     fails n up none = λ p k gone. not_true (marked_own m (cell_at kind name p) n)
-        (λ met. true≢false (sym (h.cells (cell_at kind name p) k n gone up met) ∙ none))
+        (λ met. true≢false (sym (h.cells (cell_at kind name p) k n (inl gone) up met) ∙ none))
 
     came : (n : ℕ) → numbered v n ≡ true → (b : Bool) → numbered w n ≡ b →
         (numbered w n ≡ true) ⊎ ((after < n) × (list_any (λ p. marked_own m (cell_at kind name p) n) ps ≡ true))

@@ -1,11 +1,12 @@
 -- A sweep over an index: which cells it went through, and of which families it asked.
-use Rattle.std.specs.Prelude.{◌≡◌, ℕ, ◌<◌, Bool, true, false, List}
-use Rattle.std.specs.List.{list_any}
+use Rattle.std.specs.Prelude.{◌≡◌, ◌⊎◌, ℕ, ◌<◌, Bool, true, false, List}
+use Rattle.std.specs.List.{list_any, Contains}
 use Rattle.wb_cells.specs.declared.cells.cell.Cell.{Cell}
 use Rattle.wb_cells.specs.Cells.{Name, cell_cmp}
 use Rattle.wb_footprints.specs.declared.foot_index.FootIndex.{FootIndex}
 use Rattle.wb_footprints.specs.declared.numbers.Numbers.{Numbers}
 use Rattle.wb_footprints.specs.declared.part.Kind.{Kind}
+use Rattle.wb_footprints.specs.declared.runs.Run.{Run}
 use Rattle.wb_footprints.specs.declared.swept.SweptCells.{SweptCells}
 use Rattle.wb_footprints.specs.Numbers.{numbered}
 use Rattle.wb_footprints.specs.Marks.{marked}
@@ -13,13 +14,18 @@ use Rattle.wb_footprints.specs.Points.{Coordinates}
 use Rattle.wb_footprints.specs.Places.{cell_at}
 use Rattle.wb_footprints.specs.Footprints.{marked_own, marked_family}
 
+-- a sweep went through a cell: it is one of those that it keeps, or of a run that it keeps whole
+abbrev pub IsGone : SweptCells → Cell → ℕ → Type 0
+IsGone s c k = (marked cell_cmp s.cells c k ≡ true) ⊎
+    ((run : Run) × Contains s.runs.items run × ((p : Coordinates) × Contains run.points p × (c ≡ cell_at run.row.kind run.row.name p)))
+
 -- All numbers wait that are above another one and are marked at a cell that a sweep went through, or at the family of a cell
 -- of whose family it asked.
 pub record AreSwept (index : FootIndex) (swept : SweptCells) (waiting : Numbers) (after : ℕ) : Type 0 where
-  pub cells : (c : Cell) (k n : ℕ) → marked cell_cmp swept.cells c k ≡ true → after < n → marked_own index c n ≡ true → numbered waiting n ≡ true
+  pub cells : (c : Cell) (k n : ℕ) → IsGone swept c k → after < n → marked_own index c n ≡ true → numbered waiting n ≡ true
   pub families : (c : Cell) (k n : ℕ) → marked cell_cmp swept.families c k ≡ true → after < n → marked_family index c n ≡ true → numbered waiting n ≡ true
 
--- a test fails at each point of a row whose cell a sweep went through
+-- a test fails at each point of a row whose cell is one of those that a sweep keeps
 abbrev pub FailsBehind : SweptCells → Kind → Name → (Coordinates → Bool) → Type 0
 FailsBehind s kind name f = (p : Coordinates) (k : ℕ) → marked cell_cmp s.cells (cell_at kind name p) k ≡ true → f p ≡ false
 

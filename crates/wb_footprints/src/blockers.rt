@@ -104,7 +104,7 @@ impl FootIndex {
 
     /// Those above `after` at the own place of one of the cells of a run join the numbers that wait; those cells are asked that the
     /// sweep did not go through.
-    fn join_own_run(
+    fn join_own_left(
         &self,
         run: &Run,
         after: u64,
@@ -123,6 +123,27 @@ impl FootIndex {
                 self.join_own_new(&Run { row, points }, after, waiting, swept)
             }
         }
+    }
+
+    /// Those above `after` at the own place of one of the cells of a run join the numbers that wait. Nothing is asked of a run that
+    /// the sweep keeps whole: they wait already.
+    fn join_own_run(
+        &self,
+        run: Run,
+        after: u64,
+        waiting: &mut Numbers,
+        swept: &mut SweptCells,
+    ) -> Result<(), NoMemory>
+        requires { AreSwept self.now swept.old waiting.old after }
+        ensures joined { OnOk result (JoinedAfter waiting.old waiting.new
+            (λ n. list_any (λ p. marked_own self.now (cell_at run.row.kind run.row.name p) n) run.points) after) }
+        ensures swept { OnOk result (AreSwept self.now swept.new waiting.new after) }
+    {
+        if swept.has_run(&run) {
+            return Ok(());
+        }
+        self.join_own_left(&run, after, waiting, swept)?;
+        swept.keep(run)
     }
 
     /// Those above `after` at the own place of one of the cells of a run join the numbers that wait; few cells are asked one by
@@ -144,7 +165,7 @@ impl FootIndex {
         }
         match Run::of_cells(self.touched.alloc, cells) {
             None => self.join_own_each(cells, after, waiting, swept),
-            Some(run) => self.join_own_run(&run, after, waiting, swept),
+            Some(run) => self.join_own_run(run, after, waiting, swept),
         }
     }
 

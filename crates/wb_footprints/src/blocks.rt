@@ -1,10 +1,11 @@
-//! Blocks: many points of one object at which one number stands.
+//! Blocks: many points of one object, and the numbers that stand at all of them.
 
-ghost use Rattle.std.specs.Prelude.{◌≡◌, ℕ, Bool, ◌&&◌, ◌||◌, ◌==◌, true, false, ◌++◌, [], ◌∷◌, length, ◌<◌};
-ghost use Rattle.std.specs.Prelude.{IfSome, IfNone, OnOk, IsTrue, slice_index_or, if◌then◌else◌};
+ghost use Rattle.std.specs.Prelude.{◌≡◌, ℕ, Bool, ◌&&◌, ◌||◌, ◌==◌, true, false, List, [], length, take, ◌<◌, ◌≤◌, ◌+◌, ◌-◌};
+ghost use Rattle.std.specs.Prelude.{IfSome, IsSome, OnOk, IsTrue, slice_index_or, if◌then◌else◌};
 ghost use Rattle.std.specs.List.{list_any};
 ghost use Rattle.wb_footprints.specs.Relation.{Sets, IsLeastAfter, JoinedAfter};
 ghost use Rattle.wb_footprints.specs.Points.{Coordinates, in_points};
+ghost use Rattle.wb_footprints.specs.Numbers.{numbered};
 ghost use Rattle.wb_footprints.specs.Blocks.{in_blocks};
 
 use crate::numbers::Numbers;
@@ -13,86 +14,107 @@ use std::alloc::Global;
 use wb_cells::Point;
 use wb_range::NoMemory;
 
-// So many blocks at most stand side by side: a question goes through all of them.
+// So many blocks may stand side by side whatever they are: a question goes through all of them. A block of more points may come
+// beside so many as it has points, since its points one by one would take longer to enter than the blocks to go through.
 const MOST: usize = 64;
 
-/// A number at some points.
+/// A block as it comes: one number at some points.
 #[derive(Drop)]
-pub struct Block {
+pub struct NewBlock {
     pub(crate) number: u64,
     pub(crate) points: Points,
 }
 
+/// Points at each of which the same numbers stand.
+#[derive(Drop)]
+pub struct Block {
+    pub(crate) points: Points,
+    pub(crate) numbers: Numbers,
+}
+
 impl Block {
-    /// The lesser of the number, where it is above `after` and stands at the point, and of a first one.
+    /// The lesser of the block's least number above `after`, where it stands at the point, and of a first one.
     fn or_first(&self, first: Option<u64>, point: &Point, after: u64) -> Option<u64>
-        ensures { (p : ℕ → Bool) → IsLeastAfter p after first → IsLeastAfter (λ n. p n || (in_points self.now.points point.now && (self.now.number == n)))
-            after result }
+        ensures { (p : ℕ → Bool) → IsLeastAfter p after first →
+            IsLeastAfter (λ n. p n || (in_points self.now.points point.now && numbered self.now.numbers n)) after result }
     {
-        if self.number <= after {
-            return first;
-        }
-        if let Some(least) = first {
-            if least <= self.number {
-                return first;
+        match self.numbers.least_after(after) {
+            None => first,
+            Some(number) => {
+                if is_reached(first, number) {
+                    return first;
+                }
+                if self.points.contains(point) {
+                    Some(number)
+                } else {
+                    first
+                }
             }
         }
-        if !self.points.contains(point) {
-            return first;
-        }
-        Some(self.number)
     }
 
-    /// The lesser of the number, where it is above `after` and stands at one of several points, and of a first one.
+    /// The lesser of the block's least number above `after`, where it stands at one of several points, and of a first one.
     fn or_first_in(&self, first: Option<u64>, points: &Points, after: u64) -> Option<u64>
         ensures { (p : ℕ → Bool) → IsLeastAfter p after first →
-            IsLeastAfter (λ n. p n || (list_any (in_points self.now.points) points.now && (self.now.number == n))) after result }
+            IsLeastAfter (λ n. p n || (list_any (in_points self.now.points) points.now && numbered self.now.numbers n)) after result }
     {
-        if self.number <= after {
-            return first;
-        }
-        if let Some(least) = first {
-            if least <= self.number {
-                return first;
+        match self.numbers.least_after(after) {
+            None => first,
+            Some(number) => {
+                if is_reached(first, number) {
+                    return first;
+                }
+                if self.points.meets(points) {
+                    Some(number)
+                } else {
+                    first
+                }
             }
         }
-        if !self.points.meets(points) {
-            return first;
-        }
-        Some(self.number)
     }
 
-    /// The number, where it is above `after` and stands at the point, joins those that wait.
+    /// The block's numbers above `after`, where they stand at the point, join those that wait.
     fn join(&self, point: &Point, after: u64, waiting: &mut Numbers) -> Result<(), NoMemory>
-        ensures { OnOk result (JoinedAfter waiting.old waiting.new (λ n. in_points self.now.points point.now && (self.now.number == n)) after) }
+        ensures { OnOk result (JoinedAfter waiting.old waiting.new
+            (λ n. in_points self.now.points point.now && numbered self.now.numbers n) after) }
     {
-        if self.number <= after {
-            return Ok(());
+        if self.points.contains(point) {
+            return self.numbers.join_after(after, waiting);
         }
-        if !self.points.contains(point) {
-            return Ok(());
-        }
-        waiting.add(self.number)
+        Ok(())
     }
 
-    /// The number, where it is above `after` and stands at one of several points, joins those that wait.
+    /// The block's numbers above `after`, where they stand at one of several points, join those that wait.
     fn join_in(&self, points: &Points, after: u64, waiting: &mut Numbers) -> Result<(), NoMemory>
         ensures { OnOk result (JoinedAfter waiting.old waiting.new
-            (λ n. list_any (in_points self.now.points) points.now && (self.now.number == n)) after) }
+            (λ n. list_any (in_points self.now.points) points.now && numbered self.now.numbers n) after) }
     {
-        if self.number <= after {
+        if self.numbers.least_after(after).is_none() {
             return Ok(());
         }
-        if !self.points.meets(points) {
-            return Ok(());
+        if self.points.meets(points) {
+            return self.numbers.join_after(after, waiting);
         }
-        waiting.add(self.number)
+        Ok(())
     }
 }
 
-/// Blocks in no order.
+// Whether a first number, if there is one, is no greater than another.
+fn is_reached(first: Option<u64>, number: u64) -> bool
+    ensures reached { IsTrue result → IfSome first (λ i. i ≤ number) }
+    ensures some { IsTrue result → IsSome first }
+    ensures before { result ≡ false → IfSome first (λ i. number < i) }
+{
+    match first {
+        Some(least) => least <= number,
+        None => false,
+    }
+}
+
+/// Blocks in no order, no two of which are seen to be of the same points.
 #[derive(Drop)]
 pub struct Blocks {
+    alloc: Global,
     list: Vec<Block>,
 }
 
@@ -102,55 +124,105 @@ impl Blocks {
         ensures { result.list.items ≡ [] }
     {
         Blocks {
+            alloc,
             list: Vec::new(alloc),
         }
     }
 
-    /// Adds a block, and says whether it did: not where there are as many as may be or no memory is left.
-    pub fn add(&mut self, block: Block) -> bool
-        ensures { self.new.list.items ≡ (if result then self.old.list.items ++ block ∷ [] else self.old.list.items) }
+    /// Adds a number at some points: to the block of these, or as a block of its own. It says whether it did: not where as many
+    /// blocks stand as may be beside it, or no memory is left.
+    pub fn add(&mut self, block: NewBlock) -> bool
+        ensures { Sets (in_blocks self.old.list.items) (in_blocks self.new.list.items) (λ p. result && in_points block.points p) block.number true }
     {
-        if self.list.len() >= MOST {
-            return false;
-        }
-        match self.list.push(block) {
-            Ok(()) => true,
-            Err(_) => false,
+        match self.place_of(&block.points) {
+            Some(place) => self.add_at(place, block.number),
+            None => self.put(block),
         }
     }
 
-    /// Takes away the blocks of a number.
-    pub fn take(&mut self, number: u64)
-        ensures { Sets (in_blocks self.old.list.items) (in_blocks self.new.list.items) (λ p. true) number false }
-    {
-        while let Some(place) = self.place_of(number) {
-            self.list.remove(place);
-        }
-    }
-
-    /// Whether no block is of the number.
-    pub fn is_clear(&self, number: u64) -> bool
-        ensures { IsTrue result → (p : Coordinates) → in_blocks self.now.list.items p number ≡ false }
-    {
-        match self.place_of(number) {
-            Some(_) => false,
-            None => true,
-        }
-    }
-
-    // The place of a block of the number.
-    fn place_of(&self, number: u64) -> Option<usize>
-        ensures found { IfSome result (λ i. (i < length self.now.list.items) × ((d : _) → ((slice_index_or self.now.list.items i d).number == number) ≡ true)) }
-        ensures none { IfNone result ((p : Coordinates) → in_blocks self.now.list.items p number ≡ false) }
+    // The place of the block of some points.
+    fn place_of(&self, points: &Points) -> Option<usize>
+        ensures { IfSome result (λ i. (i < length self.now.list.items) ×
+            ((d : Block) → (slice_index_or self.now.list.items i d).points ≡ points.now)) }
     {
         let mut place = 0;
         for block in &self.list {
-            if block.number == number {
+            if block.points.is_same(points) {
                 return Some(place);
             }
             place += 1;
         }
         None
+    }
+
+    // Adds a number to the block at a place, and says whether there was memory for it.
+    fn add_at(&mut self, place: usize, number: u64) -> bool
+        requires { place < length self.old.list.items }
+        ensures { (ps : List Coordinates) → ((d : Block) → (slice_index_or self.old.list.items place d).points ≡ ps) →
+            Sets (in_blocks self.old.list.items) (in_blocks self.new.list.items) (λ p. result && in_points ps p) number true }
+    {
+        match self.list[place].numbers.add(number) {
+            Ok(()) => true,
+            Err(_) => false,
+        }
+    }
+
+    // Adds a block of one number, and says whether it did.
+    fn put(&mut self, block: NewBlock) -> bool
+        ensures { Sets (in_blocks self.old.list.items) (in_blocks self.new.list.items) (λ p. result && in_points block.points p) block.number true }
+    {
+        if self.list.len() >= block.points.len().max(MOST) {
+            return false;
+        }
+        let mut numbers = Numbers::new(self.alloc);
+        if numbers.add(block.number).is_err() {
+            return false;
+        }
+        let points = block.points;
+        match self.list.push(Block { points, numbers }) {
+            Ok(()) => true,
+            Err(_) => false,
+        }
+    }
+
+    /// Takes a number away from all blocks, and those blocks that have no number any more.
+    pub fn take(&mut self, number: u64)
+        ensures { Sets (in_blocks self.old.list.items) (in_blocks self.new.list.items) (λ p. true) number false }
+    {
+        let mut place = 0;
+        while place < self.list.len() {
+            if self.take_at(place, number) {
+                place += 1;
+            }
+        }
+    }
+
+    // Takes a number away from the block at a place, and the block where it has none any more; says whether the block stays.
+    fn take_at(&mut self, place: usize, number: u64) -> bool
+        requires { place < length self.old.list.items }
+        ensures others { (p : Coordinates) (n : ℕ) → (number == n) ≡ false → in_blocks self.new.list.items p n ≡ in_blocks self.old.list.items p n }
+        ensures gone { (p : Coordinates) → in_blocks (take place self.old.list.items) p number ≡ false →
+            in_blocks (take (if result then place + 1 else place) self.new.list.items) p number ≡ false }
+        ensures count { length self.new.list.items ≡ (if result then length self.old.list.items else length self.old.list.items - 1) }
+    {
+        self.list[place].numbers.take(number);
+        if self.list[place].numbers.is_empty() {
+            self.list.remove(place);
+            return false;
+        }
+        true
+    }
+
+    /// Whether no block has the number.
+    pub fn is_clear(&self, number: u64) -> bool
+        ensures { IsTrue result → (p : Coordinates) → in_blocks self.now.list.items p number ≡ false }
+    {
+        for block in &self.list {
+            if block.numbers.has(number) {
+                return false;
+            }
+        }
+        true
     }
 
     /// The least number above `after` at a point.

@@ -9,7 +9,7 @@ ghost use Rattle.wb_cells.specs.Runs.{changes_in, all_changes, in_first};
 ghost use Rattle.wb_footprints.specs.Rows.{AreOfRow};
 ghost use Rattle.wb_footprints.specs.Footprints.{at_cell, marked_at, run_marked, IsUnmarked};
 
-use crate::blocks::Block;
+use crate::blocks::NewBlock;
 use crate::marking::Marking;
 use crate::place::own;
 use crate::place_marks::PlaceMarks;
@@ -72,7 +72,7 @@ fn mark_row(
     if !marks.add_block(
         row.name,
         row.kind,
-        Block {
+        NewBlock {
             number,
             points: run.points,
         },

@@ -10,7 +10,7 @@ ghost use Rattle.wb_footprints.specs.Points.{Coordinates, point_cmp};
 ghost use Rattle.wb_footprints.specs.Relation.{Sets, Clears, IsLeastAfter, JoinedAfter};
 ghost use Rattle.wb_footprints.specs.Parts.{index_marked, in_index};
 
-use crate::blocks::{Block, Blocks};
+use crate::blocks::{Blocks, NewBlock};
 use crate::earlier::earlier;
 use crate::marks::Marks;
 use crate::numbers::Numbers;
@@ -53,7 +53,7 @@ impl IndexMarks {
     }
 
     /// Adds a number at many points, and says whether it did. Where not, they may go one by one.
-    pub fn add_block(&mut self, block: Block) -> bool
+    pub fn add_block(&mut self, block: NewBlock) -> bool
         ensures { Sets (index_marked self.old) (index_marked self.new) (λ i. result && in_index block.points i) block.number true }
     {
         self.blocks.add(block)

@@ -7,7 +7,7 @@ ghost use Rattle.wb_footprints.specs.Relation.{Sets, Clears, IsLeastAfter, Joine
 ghost use Rattle.wb_footprints.specs.Points.{Coordinates};
 ghost use Rattle.wb_footprints.specs.Parts.{part_at, part_marked, is_same_part, in_run};
 
-use crate::blocks::Block;
+use crate::blocks::NewBlock;
 use crate::index_marks::IndexMarks;
 use crate::marks::Marks;
 use crate::numbers::Numbers;
@@ -69,7 +69,7 @@ impl NameMarks {
     }
 
     /// Adds a number at many points, and says whether it did.
-    pub fn add_block(&mut self, kind: Kind, block: Block) -> bool
+    pub fn add_block(&mut self, kind: Kind, block: NewBlock) -> bool
         ensures { Sets (part_marked self.old) (part_marked self.new) (λ x. result && in_run kind block.points x) block.number true }
     {
         match kind {

@@ -1,6 +1,6 @@
 //! Which numbers have a footprint.
 
-ghost use Rattle.std.specs.Prelude.{◌≡◌, ℕ, ◌==◌, false, true, OnOk, OnErr, IfOk, IfSome, IfNone, if◌then◌else◌};
+ghost use Rattle.std.specs.Prelude.{◌≡◌, ℕ, ◌==◌, false, true, IsTrue, OnOk, OnErr, IfOk, IfSome, IfNone, if◌then◌else◌};
 ghost use Rattle.wb_footprints.specs.Relation.{AreAllAfter, IsGreatest, IsLeast, IsLeastAfter, JoinedAfter};
 ghost use Rattle.wb_footprints.specs.Numbers.{numbered};
 
@@ -41,6 +41,20 @@ impl Numbers {
         ensures { (n : ℕ) → numbered self.new n ≡ (if number == n then false else numbered self.old n) }
     {
         self.set.remove(&number);
+    }
+
+    /// Whether there is no number.
+    pub fn is_empty(&self) -> bool
+        ensures { IsTrue result → (n : ℕ) → numbered self.now n ≡ false }
+    {
+        self.set.is_empty()
+    }
+
+    /// Whether a number is in the set.
+    pub fn has(&self, number: u64) -> bool
+        ensures { result ≡ numbered self.now number }
+    {
+        self.set.contains(&number)
     }
 
     /// Takes the least number away.

@@ -1,5 +1,8 @@
 //! What a cell or a family of cells is to the object that its name tells.
 
+ghost use Rattle.std.specs.Prelude.{◌≡◌};
+ghost use Rattle.std.specs.Bool.{Decides};
+
 use wb_cells::{AnyIndex, Name};
 
 /// The cells of an object of which there is one, and its families.
@@ -20,6 +23,20 @@ pub enum Kind {
     Inside,
     Members,
     Elements,
+}
+
+impl Kind {
+    /// Whether both are one kind.
+    pub(crate) fn is_same(self, other: Kind) -> bool
+        ensures { Decides result (self ≡ other) }
+    {
+        match (self, other) {
+            (Kind::Inside, Kind::Inside) => true,
+            (Kind::Members, Kind::Members) => true,
+            (Kind::Elements, Kind::Elements) => true,
+            _ => false,
+        }
+    }
 }
 
 /// A cell or a family of cells, without the name.

@@ -7,7 +7,7 @@ ghost use Rattle.wb_footprints.specs.Relation.{Sets, Clears, IsLeastAfter, Joine
 ghost use Rattle.wb_footprints.specs.Points.{Coordinates};
 ghost use Rattle.wb_footprints.specs.Places.{own, cell_at, place_marked, is_same_place, in_places};
 
-use crate::blocks::Block;
+use crate::blocks::NewBlock;
 use crate::marks::Marks;
 use crate::numbers::Numbers;
 use crate::part::Kind;
@@ -51,7 +51,7 @@ impl PlaceMarks {
     }
 
     /// Adds a number at many points of the object of a name, and says whether it did. Where not, they may go one by one.
-    pub fn add_block(&mut self, name: Name, kind: Kind, block: Block) -> bool
+    pub fn add_block(&mut self, name: Name, kind: Kind, block: NewBlock) -> bool
         ensures { Sets (place_marked self.old) (place_marked self.new) (λ q. result && in_places name kind block.points q) block.number true }
     {
         self.spots.add_block(name, kind, block)

@@ -131,6 +131,36 @@ impl Points {
         }
     }
 
+    /// Whether they are seen to be the same points: as ranges that are the same, or point by point.
+    pub fn is_same(&self, others: &Points) -> bool
+        ensures { IsTrue result → self.now ≡ others.now }
+    {
+        match &self.held {
+            Held::Listed(points) => others.is_list(points.as_slice()),
+            Held::Within(area) => others.is_area(area),
+        }
+    }
+
+    // Whether they are seen to be the points of a list.
+    fn is_list(&self, list: &[Point]) -> bool
+        ensures { IsTrue result → list.now ≡ self.now }
+    {
+        match &self.held {
+            Held::Listed(points) => are_same(list, points.as_slice()),
+            Held::Within(_) => false,
+        }
+    }
+
+    // Whether they are seen to be the points of a rectangle.
+    fn is_area(&self, area: &AnyRect) -> bool
+        ensures { IsTrue result → product area.now ≡ self.now }
+    {
+        match &self.held {
+            Held::Listed(_) => false,
+            Held::Within(own) => area.is_same(own),
+        }
+    }
+
     /// The first place, from another one on, whose point is not below a point: that one, or by a binary search.
     pub fn place_from(&self, from: usize, point: &Point) -> usize
         requires { from ≤ length self.now }
@@ -177,6 +207,13 @@ impl Points {
         }
         (low, middle)
     }
+}
+
+// Whether two lists have the same points, each at its place.
+fn are_same(points: &[Point], others: &[Point]) -> bool
+    ensures { IsTrue result → points.now ≡ others.now }
+{
+    points == others
 }
 
 // The point at a place of a list.

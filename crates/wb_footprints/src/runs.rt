@@ -67,6 +67,16 @@ impl Row {
         }
     }
 
+    /// Whether they are the same cells of one object.
+    fn is_same(&self, other: &Row) -> bool
+        ensures { IsTrue result → (self.now.name ≡ other.now.name) × (self.now.kind ≡ other.now.kind) }
+    {
+        if !self.name.is_same(&other.name) {
+            return false;
+        }
+        self.kind.is_same(other.kind)
+    }
+
     /// The cell at a point.
     pub(crate) fn cell(&self, point: &Point) -> Cell
         ensures { result ≡ cell_at self.now.kind self.now.name point.now }
@@ -109,6 +119,16 @@ pub struct Run {
 }
 
 impl Run {
+    /// Whether they are seen to be the same cells.
+    pub(crate) fn is_same(&self, other: &Run) -> bool
+        ensures { IsTrue result → self.now ≡ other.now }
+    {
+        if !self.row.is_same(&other.row) {
+            return false;
+        }
+        self.points.is_same(&other.points)
+    }
+
     /// The run that cells are, in whichever order, if all are of one row, and there is memory.
     pub(crate) fn of_cells(alloc: Global, cells: &ChangeRun) -> Option<Run>
         ensures some { IfSome result (λ run. 0 < length run.points) }

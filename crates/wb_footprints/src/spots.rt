@@ -10,7 +10,7 @@ ghost use Rattle.wb_footprints.specs.Points.{Coordinates};
 ghost use Rattle.wb_footprints.specs.Parts.{Spot, part_at};
 ghost use Rattle.wb_footprints.specs.Spots.{spot_marked, is_same_spot, in_spots};
 
-use crate::blocks::Block;
+use crate::blocks::NewBlock;
 use crate::name_marks::NameMarks;
 use crate::numbers::Numbers;
 use crate::part::{Kind, Part};
@@ -52,7 +52,7 @@ impl SpotMarks {
     }
 
     /// Adds a number at many points of the object of a name, and says whether it did.
-    pub fn add_block(&mut self, name: Name, kind: Kind, block: Block) -> bool
+    pub fn add_block(&mut self, name: Name, kind: Kind, block: NewBlock) -> bool
         ensures { Sets (spot_marked self.old) (spot_marked self.new) (λ s. result && in_spots name kind block.points s) block.number true }
     {
         if let Some(marks) = self.names.get_mut(&name) {

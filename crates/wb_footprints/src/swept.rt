@@ -1,7 +1,7 @@
 //! The cells that a sweep over the index went through, and the families that it asked for.
 
 ghost use Rattle.std.specs.Prelude.{◌≡◌, ℕ, ◌||◌, Bool, true, IsTrue, IfSome, OnOk};
-ghost use Rattle.std.specs.List.{list_any};
+ghost use Rattle.std.specs.List.{list_any, Contains};
 ghost use Rattle.std.specs.Ordering.{eq_by_cmp};
 ghost use Rattle.wb_cells.specs.Cells.{cell_cmp};
 ghost use Rattle.wb_footprints.specs.declared.foot_index.FootIndex.{FootIndex};
@@ -19,11 +19,17 @@ use std::alloc::Global;
 use wb_cells::{AnyIndex, Cell, Index, Point};
 use wb_range::NoMemory;
 
+// So many runs at most are kept whole: each run that comes is compared with them.
+const MOST: usize = 64;
+
 /// The cells that a sweep over the index went through, from the least number up, and the families that it asked for, each by
-/// one cell of it: what met one of them waits already, so that each is asked for once, however many edits touched it.
+/// one cell of it: what met one of them waits already, so that each is asked for once, however many edits touched it. Some of
+/// the runs that it went through are kept whole beside their cells, so that one that comes again is known without a search for
+/// each of its cells.
 #[derive(Drop)]
 pub struct SweptCells {
     pub(crate) cells: Marks<Cell>,
+    pub(crate) runs: Vec<Run>,
     pub(crate) families: Marks<Cell>,
 }
 
@@ -32,9 +38,13 @@ impl SweptCells {
     pub fn new(alloc: Global) -> SweptCells
         ensures { (index : FootIndex) (waiting : Numbers) (after : ℕ) → AreSwept index result waiting after }
     {
+        let cells = Marks::new(alloc);
+        let runs = Vec::new(alloc);
+        let families = Marks::new(alloc);
         SweptCells {
-            cells: Marks::new(alloc),
-            families: Marks::new(alloc),
+            cells,
+            runs,
+            families,
         }
     }
 
@@ -55,6 +65,7 @@ impl SweptCells {
     /// The sweep goes through the cell.
     pub(crate) fn add(&mut self, cell: &Cell) -> Result<(), NoMemory>
         ensures cells { OnOk result (Sets (marked cell_cmp self.old.cells) (marked cell_cmp self.new.cells) (eq_by_cmp cell_cmp cell.now) 1 true) }
+        ensures runs { self.new.runs ≡ self.old.runs }
         ensures families { self.new.families ≡ self.old.families }
     {
         self.cells.add(*cell, 1)
@@ -64,8 +75,35 @@ impl SweptCells {
     pub(crate) fn add_family(&mut self, cell: &Cell) -> Result<(), NoMemory>
         ensures families { OnOk result (Sets (marked cell_cmp self.old.families) (marked cell_cmp self.new.families) (eq_by_cmp cell_cmp cell.now) 1 true) }
         ensures cells { self.new.cells ≡ self.old.cells }
+        ensures runs { self.new.runs ≡ self.old.runs }
     {
         self.families.add(*cell, 1)
+    }
+
+    /// Whether the sweep keeps such a run whole.
+    pub(crate) fn has_run(&self, run: &Run) -> bool
+        ensures { IsTrue result → Contains self.now.runs.items run.now }
+    {
+        for kept in &self.runs {
+            if kept.is_same(run) {
+                return true;
+            }
+        }
+        false
+    }
+
+    /// The sweep keeps a run whole of whose cells all wait, as long as it has room for one.
+    pub(crate) fn keep(&mut self, run: Run) -> Result<(), NoMemory>
+        ensures { OnOk result ((index : FootIndex) (waiting : Numbers) (after : ℕ) → AreSwept index self.old waiting after →
+            AreWaiting index run.row.kind run.row.name run.points waiting after → AreSwept index self.new waiting after) }
+    {
+        if self.runs.len() >= MOST {
+            return Ok(());
+        }
+        match self.runs.push(run) {
+            Ok(()) => Ok(()),
+            Err(_) => Err(NoMemory),
+        }
     }
 
     /// The sweep goes through the cells of a run.

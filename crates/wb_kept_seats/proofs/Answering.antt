@@ -16,10 +16,10 @@ use Rattle.wb_keeping.specs.Granting.Granting.{Grants, no_edit, AddsIfEdited, Ad
 use Rattle.wb_keeping.specs.Granting.Leading.{changes_lead}
 use Rattle.wb_keeping.proofs.Added.{adds_none, edit_added, other_added}
 use Rattle.wb_protocol.specs.Wire.Encoded.{request_line}
-use Rattle.wb_desk.proofs.Runs.{course_more}
-use Rattle.wb_desk.specs.Courses.{Course}
+use Rattle.wb_desk.proofs.Courses.{all_more, tells_answered}
+use Rattle.wb_desk.specs.Courses.{Course, Marked, all_of}
 use Rattle.wb_desk.specs.Entries.{is_entered, leaves_all}
-use Rattle.wb_desk.specs.Serving.{AnswersCourse, Enters, IsStrange, entry, share_after}
+use Rattle.wb_desk.specs.Serving.{AnswersCourse, Enters, IsStrange, course_after, entry, share_after}
 use Rattle.wb_desk.specs.declared.entry.Entry.{Entry}
 use Rattle.wb_kept_seats.specs.Lines.{IsSaid, IsLineOfEdit, IsAhead, Adds}
 use Rattle.wb_kept_seats.specs.KeptCourses.{KeptCourse, StandsForFront, IsKeptCourse}
@@ -118,24 +118,25 @@ leads_behind c d seat asked r kept old new said answers (made, are, is) before =
 
 -- ---- the journal
 
-entries_grow : (c d : Course) (seat : ℕ) (asked : Request) (r : Reply) → AnswersCourse c seat asked r d → (more : List Entry) × (d.entries ≡ c.entries ++ more)
-entries_grow c d seat asked r answers = by_entered (is_entered r) answers
+all_grow : (ms : List Marked) (seat : ℕ) (asked : Request) (r : Reply) → (more : List Entry) × (all_of (course_after ms seat asked r) ≡ all_of ms ++ more)
+all_grow ms seat asked r = by_entered (is_entered r) refl
   where
-    by_entered : (b : Bool) → MatchBool b (Enters c seat asked r d) (d ≡ c) → (more : List Entry) × (d.entries ≡ c.entries ++ more)
-    by_entered true enters = (entry seat asked r ∷ [], enters.entries)
-    by_entered false same = ([], ap (λ (x : Course). x.entries) same ∙ sym (append-nil c.entries))
+    by_entered : (b : Bool) → is_entered r ≡ b → (more : List Entry) × (all_of (course_after ms seat asked r) ≡ all_of ms ++ more)
+    by_entered true e = (entry seat asked r ∷ [], rw (course_after, e) (all_more ms (entry seat asked r)))
+    by_entered false e = ([], rw (course_after, e) (sym (append-nil (all_of ms))))
 
-stands_on : (opening : Past) (k l : KeptCourse) (seat : ℕ) (asked : Request) (r : Reply) (lines : List (List ℕ)) → AnswersCourse k.course seat asked r l.course
-    → StandsForFront opening k.course.entries lines → StandsForFront opening l.course.entries lines
-stands_on opening k l seat asked r lines answers stands =
-    let grow = entries_grow k.course l.course seat asked r answers in
-    subst (λ (es : List Entry). StandsForFront opening es lines) (sym grow.1) (stands_more opening k.course.entries grow.0 lines stands)
+stands_on : (opening : Past) (ms : List Marked) (seat : ℕ) (asked : Request) (r : Reply) (lines : List (List ℕ)) → StandsForFront opening (all_of ms) lines
+    → StandsForFront opening (all_of (course_after ms seat asked r)) lines
+stands_on opening ms seat asked r lines stands =
+    let grow = all_grow ms seat asked r in
+    subst (λ (es : List Entry). StandsForFront opening es lines) (sym grow.1) (stands_more opening (all_of ms) grow.0 lines stands)
 
 pub kept_answered : (opening : Past) (lines : List (List ℕ)) (k l : KeptCourse) (seat : ℕ) (own : List Entry) (asked : Request) (r : Reply) → IsSaid asked
     → AnswersKept k seat own asked r l → IsKeptCourse opening lines k → IsKeptCourse opening lines l
 kept_answered opening lines k l seat own asked r said a kept = record {
-  is_course = course_more opening k.course seat own asked r l.course kept.is_course a.strange a.answers;
-  fronts = λ front begins. stands_on opening k l seat asked r (lines ++ changes_in front) a.answers
+  all = course_after kept.all seat asked r;
+  tells = tells_answered opening kept.all k.course seat own asked r l.course a.strange a.answers kept.tells;
+  fronts = λ front begins. stands_on opening kept.all seat asked r (lines ++ changes_in front)
       (kept.fronts front (subst (λ turns. IsPrefix front turns) a.turns.0 begins));
   leads = λ now.
       let waits = a.waits now in

@@ -6,6 +6,7 @@ use Rattle.wb_keep.specs.Keep.{IsSettled}
 use Rattle.wb_keep.specs.declared.keep.LineLog.{LineLog}
 use Rattle.wb_kept_group.specs.Together.{changes_in}
 use Rattle.wb_history.specs.Past.{Past}
+use Rattle.wb_desk.specs.Courses.{Course, Marked, Tells, all_of}
 use Rattle.wb_desk.specs.declared.entry.Entry.{Entry}
 use Rattle.wb_kept_seats.specs.KeptCourses.{StandsForFront}
 
@@ -37,3 +38,8 @@ pub record LeavesFronts {D : Type 0} (moment : D → ℕ) (left_since : D → �
     (log : LineLog D) : Type 0 where
   pub later : begun ≤ moment log.device
   pub each : (file : List ℕ) → left_since log.device begun file → StandsForFront opening entries (recovered file)
+
+-- some entries are all of a course, and such a crash leaves a file that stands for a front of them
+abbrev pub LeavesFrontsOf : {D : Type 0} → (D → ℕ) → (D → ℕ → List ℕ → Type 0) → (opening : Past) → (begun : ℕ) → Course → LineLog D → Type 0
+LeavesFrontsOf moment left_since opening begun c log =
+    (all : List Marked) × Tells opening all c × LeavesFronts moment left_since opening begun (all_of all) log

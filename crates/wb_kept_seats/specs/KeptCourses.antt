@@ -6,7 +6,7 @@ use Rattle.wb_kept.specs.Sessions.{IsFront}
 use Rattle.wb_kept_group.specs.Together.{changes_in}
 use Rattle.wb_history.specs.Past.{Past}
 use Rattle.wb_keeping.specs.Granting.Granting.{Grants, no_edit}
-use Rattle.wb_desk.specs.Courses.{Course, IsCourse, Runs}
+use Rattle.wb_desk.specs.Courses.{Course, Marked, Tells, Runs, all_of}
 use Rattle.wb_desk.specs.declared.entry.Entry.{Entry}
 use Rattle.wb_desk.specs.Locked.{Locked}
 
@@ -37,9 +37,14 @@ abbrev pub EachFrontStands : Past → List (List ℕ) → List Entry → List (L
 EachFrontStands opening lines entries turns =
     (front : List (List (List ℕ))) → IsPrefix front turns → StandsForFront opening entries (lines ++ changes_in front)
 
--- It is a course from the opening, of which each front of the turns stands for a front. While it is open, the lines of the opening, with
--- the changes of all turns and of the one under way behind them, lead to its history.
+-- It is a course from the opening, and each front of the turns stands for a front of all its entries. While it is open, the lines of the
+-- opening, with the changes of all turns and of the one under way behind them, lead to its history.
 pub record IsKeptCourse (opening : Past) (lines : List (List ℕ)) (k : KeptCourse) : Type 0 where
-  pub is_course : IsCourse opening k.course
-  pub fronts : EachFrontStands opening lines k.course.entries k.made
+  pub all : List Marked
+  pub tells : Tells opening all k.course
+  pub fronts : EachFrontStands opening lines (all_of all) k.made
   pub leads : k.is_open ≡ true → Leads Grants no_edit ((lines ++ changes_in k.made) ++ k.waiting) k.course.history
+
+-- some entries are all of a course, and each front of the turns stands for a front of them
+abbrev pub EachFrontStandsIn : Past → List (List ℕ) → Course → List (List (List ℕ)) → Type 0
+EachFrontStandsIn opening lines c turns = (all : List Marked) × Tells opening all c × EachFrontStands opening lines (all_of all) turns

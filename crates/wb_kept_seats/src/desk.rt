@@ -54,7 +54,7 @@ impl<L: KeptOpening, D: Device + Drop> Desk<L, D> {
         requires taking { (taking.name ≡ L.taking) × (taking.parts ≡ 1) }
 
         // What the desk is opened on: the history that the file stands for, at this moment.
-        requires opening { L.opening ≡ kept.state }
+        requires opening { L.opening.history ≡ kept.state }
         requires seats { L.seats ≡ seats }
         requires begun { L.begun ≡ D.moment kept.log.device }
         requires lines { L.lines ≡ recovered (D.seen kept.log.device) }

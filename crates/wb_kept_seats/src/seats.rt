@@ -1,13 +1,14 @@
 //! What a desk keeps under its lock: what is shared, and the changes of its turns that are not in the file yet.
-ghost use Rattle.std.specs.Prelude.{◌≡◌, ◌≢◌, ◌<◌, ◌↔◌, ◌++◌, ◌∷◌, [], true, false, Err, IfOk, IfErr, OnOk, OnErr, IsErrOf};
+ghost use Rattle.std.specs.Prelude.{◌≡◌, ◌≢◌, ◌<◌, ◌↔◌, ◌++◌, ◌∷◌, [], true, false, List, Err, IfOk, IfErr, OnOk, OnErr, IsErrOf};
 ghost use Rattle.wb_keep.specs.declared.keep.LineLog.{LineLog};
 ghost use Rattle.wb_kept.specs.Runs.{Leads};
 ghost use Rattle.wb_kept_group.specs.Together.{changes_in};
 ghost use Rattle.wb_keeping.specs.Granting.Granting.{Grants, no_edit};
-ghost use Rattle.wb_desk.specs.Courses.{IsCourse};
+ghost use Rattle.wb_desk.specs.Courses.{IsCourse, Marked, Tells, empty_lists};
+ghost use Rattle.wb_desk.specs.Early.{SettlesSeat, DiffersSeat, EndsWith};
 ghost use Rattle.wb_desk.specs.Serving.{own_after, share_after, new_passes};
 ghost use Rattle.wb_desk.specs.Seats.{IsNumberOfSeats, IsSeatsErr};
-ghost use Rattle.wb_kept_seats.specs.KeptCourses.{EachFrontStands};
+ghost use Rattle.wb_kept_seats.specs.KeptCourses.{EachFrontStandsIn};
 ghost use Rattle.wb_kept_seats.specs.Files.{HasTurns, LeavesTurns};
 ghost use Rattle.wb_kept_seats.specs.Answering.{AnswersKept};
 
@@ -22,7 +23,7 @@ use std::marker::Model;
 use std::mem;
 use std::sync::ledger::{Blank, Share};
 use wb_arrays::Mover;
-use wb_desk::{DeskErr, Pass, Shared, serve};
+use wb_desk::{DeskErr, Difference, Pass, Shared, serve, settle_seat};
 use wb_history::History;
 use wb_keep::disk::Device;
 use wb_keep::{AppendErr, LineLog};
@@ -56,7 +57,7 @@ impl<L: KeptOpening> Model for Seats<L> {
 
     ghost view = { λ s. kept_course s.shared s.turns s.changes s.is_open };
 
-    ghost invariant = { λ s. IsKeptCourse L.opening L.lines (kept_course s.shared s.turns s.changes s.is_open) };
+    ghost invariant = { λ s. IsKeptCourse L.opening.history L.lines (kept_course s.shared s.turns s.changes s.is_open) };
 }
 
 impl<L: KeptOpening> Seats<L> {
@@ -78,12 +79,12 @@ impl<L: KeptOpening> Seats<L> {
         requires taking { (taking.name ≡ L.taking) × (taking.parts ≡ 1) }
 
         // What the desk is opened on: a history that the lines of its file lead to.
-        requires opening { L.opening ≡ history }
+        requires opening { L.opening.history ≡ history }
         requires seats { L.seats ≡ seats }
         requires leads { Leads Grants no_edit L.lines history }
 
         // The course without entries, no turn yet, and a pass for each seat.
-        ensures opened { IfOk result (λ r. r.seats.course ≡ record { seats = seats; entries = []; history = history }) }
+        ensures opened { IfOk result (λ r. r.seats.course ≡ record { seats = seats; entries = empty_lists seats; settled = 0; history = history }) }
         ensures turns { IfOk result (λ r. (r.seats.made ≡ []) × (r.seats.taken ≡ []) × (r.seats.waiting ≡ []) × (r.seats.is_open ≡ true)) }
         ensures front { IfOk result (λ r. (r.front ≡ []) × (r.mark.parts ≡ 1) × (r.mark.amount ≡ 0)) }
         ensures ok { IfOk result (λ r. IsNumberOfSeats seats × (r.passes.items ≡ new_passes seats)) }
@@ -134,6 +135,19 @@ impl<L: KeptOpening> Seats<L> {
         Sealed::new(reply, self.turns.made().again())
     }
 
+    /// Settles the seat of a pass early: where the entries of the pass are those that are kept of the seat, both are let go. The
+    /// turns, and the changes that wait, are left as they are.
+    pub(crate) fn settle_seat(&mut self, pass: &mut Pass<L>) -> Result<usize, Difference>
+        requires { L.opening.early ≡ true }
+        ensures course { IsCourse L.opening self.old.course × (self.old.course.seats ≡ L.seats) }
+        ensures ok { IfOk result (λ n. SettlesSeat self.old.course pass.old n self.new.course pass.new) }
+        ensures err { IfErr result (λ why. DiffersSeat self.old.course pass.old why self.new.course pass.new) }
+        ensures turns { (self.new.made ≡ self.old.made) × (self.new.taken ≡ self.old.taken) × (self.new.waiting ≡ self.old.waiting) × (self.new.is_open ≡ self.old.is_open) }
+        ensures stands { OnOk result ((all : List Marked) → Tells L.opening.history all self.old.course → EndsWith all pass.old.seat pass.old.own) }
+    {
+        settle_seat(&mut self.shared, pass)
+    }
+
     /// Ends the turn under way: its changes wait then, behind those of all turns that were made. Without memory for that it
     /// stays under way, and nothing changes.
     pub(crate) fn end(&mut self) -> Result<Front<Turns<L>, Changes>, CommitErr>
@@ -182,7 +196,7 @@ impl<L: KeptOpening> Seats<L> {
     /// What is shared: the history and the journal.
     pub fn shared(&self) -> &Shared<L>
         ensures course { result.now.course ≡ self.now.course }
-        ensures fronts { EachFrontStands L.opening L.lines self.now.course.entries self.now.made }
+        ensures fronts { EachFrontStandsIn L.opening.history L.lines self.now.course self.now.made }
     {
         &self.shared
     }

@@ -1,11 +1,12 @@
 //! The end of a desk whose changes are kept.
-ghost use Rattle.std.specs.Prelude.{◌≡◌, ◌<◌, false, length, IfOk, IfErr, MatchResult};
+ghost use Rattle.std.specs.Prelude.{◌≡◌, ◌<◌, false, List, IfOk, IfErr, MatchResult};
 ghost use Rattle.wb_keep.specs.declared.keep.LineLog.{LineLog};
 ghost use Rattle.wb_kept.specs.Keeping.{IsKept};
 ghost use Rattle.wb_keeping.specs.Granting.Granting.{Grants, no_edit};
-ghost use Rattle.wb_desk.specs.Courses.{IsCourse};
+ghost use Rattle.wb_desk.specs.Courses.{IsCourse, Marked, Tells, count_of};
+ghost use Rattle.wb_desk.specs.Early.{EndsWithAll};
 ghost use Rattle.wb_desk.specs.Settling.{IsSettled, total_of_passes};
-ghost use Rattle.wb_kept_seats.specs.Files.{LeavesFronts};
+ghost use Rattle.wb_kept_seats.specs.Files.{LeavesFrontsOf};
 ghost use Rattle.wb_kept_seats.specs.Settling.{IsSettleCause};
 
 use crate::commit::CommitErr;
@@ -63,8 +64,8 @@ fn not_kept<L: KeptOpening, D: Device>(
     }
 }
 
-/// Takes what was locked out of a desk, keeps all that waits, and sees whether each seat has one pass and the journal's entries
-/// of the seat, in order, are the list of that pass. The file stands for the history then.
+/// Takes what was locked out of a desk, keeps all that waits, and sees whether each seat has one pass and the entries that are
+/// kept of the seat, in order, are the list of that pass. The file stands for the history then.
 pub fn settle<L: KeptOpening, D: Device + Drop>(
     desk: Desk<L, D>,
     passes: Vec<Pass<L>>,
@@ -75,12 +76,13 @@ pub fn settle<L: KeptOpening, D: Device + Drop>(
 
     // Settled: the entries of each seat are those of its pass, and the file stands for the history.
     ensures ok { IfOk result (λ s. IsSettled s.seats.course.seats s.seats.course.entries passes.items) }
-    ensures whole { IfOk result (λ s. length s.seats.course.entries ≡ total_of_passes s.seats.course.seats passes.items) }
+    ensures whole { IfOk result (λ s. count_of s.seats.course.entries ≡ total_of_passes s.seats.course.seats passes.items) }
+    ensures stands { IfOk result (λ s. (all : List Marked) × Tells L.opening.history all s.seats.course × EndsWithAll all s.seats.course.seats passes.items) }
     ensures kept { IfOk result (λ s. IsKept no_edit Grants D.seen D.may_leave (record { state = s.seats.course.history; log = s.log })) }
 
     // A crash at any moment since the opening leaves a file that stands for the history after the first so many entries.
-    ensures any_moment { MatchResult result (λ s. LeavesFronts D.moment D.left_since L.opening L.begun s.seats.course.entries s.log)
-        (λ u. LeavesFronts D.moment D.left_since L.opening L.begun u.seats.course.entries u.log) }
+    ensures any_moment { MatchResult result (λ s. LeavesFrontsOf D.moment D.left_since L.opening.history L.begun s.seats.course s.log)
+        (λ u. LeavesFrontsOf D.moment D.left_since L.opening.history L.begun u.seats.course u.log) }
 
     // Not settled: the passes come back, and the cause.
     ensures passes { IfErr result (λ u. u.passes.items ≡ passes.items) }

@@ -1,11 +1,12 @@
 //! A turn at a desk: its lock, from the first request to the end of the turn.
-ghost use Rattle.std.specs.Prelude.{◌≡◌, ◌≢◌, ◌↔◌, ◌++◌, ◌∷◌, [], false, Err, IfOk, IfErr};
+ghost use Rattle.std.specs.Prelude.{◌≡◌, ◌≢◌, ◌↔◌, ◌++◌, ◌∷◌, [], true, false, Err, IfOk, IfErr, OnOk};
 ghost use Rattle.std.specs.Sync.Mutex.{mutex_guard_value};
 ghost use Rattle.wb_kept.specs.Runs.{Leads};
 ghost use Rattle.wb_kept_group.specs.Together.{changes_in};
 ghost use Rattle.wb_keeping.specs.Granting.Granting.{Grants, no_edit};
+ghost use Rattle.wb_desk.specs.Early.{SettlesSeat, DiffersSeat};
 ghost use Rattle.wb_desk.specs.Serving.{own_after, share_after};
-ghost use Rattle.wb_desk.specs.Answering.{AnswersAmong};
+ghost use Rattle.wb_desk.specs.Answering.{AnswersAmong, DiffersInSome, StandsInSome};
 ghost use Rattle.wb_kept_seats.specs.Answering.{AnswersKept};
 
 use crate::commit::CommitErr;
@@ -15,7 +16,7 @@ use crate::sealing::Sealed;
 use crate::seats::Seats;
 use std::sync::MutexGuard;
 use wb_arrays::Mover;
-use wb_desk::Pass;
+use wb_desk::{Difference, Pass};
 use wb_kept::Changes;
 use wb_kept_group::group::Front;
 use wb_protocol::Reply;
@@ -42,6 +43,20 @@ impl<'d, L: KeptOpening> Turn<'d, L> {
         ensures sealed { result.made ≡ (mutex_guard_value self.old.guard).made }
     {
         self.guard.answer(pass, said, mover)
+    }
+
+    /// Settles the seat of a pass early: where the entries of the pass are those that are kept of the seat, both are let go. The
+    /// turns, and the changes that wait, are left as they are.
+    pub fn settle_seat(&mut self, pass: &mut Pass<L>) -> Result<usize, Difference>
+        requires { L.opening.early ≡ true }
+        ensures ok { IfOk result (λ n. SettlesSeat (mutex_guard_value self.old.guard).course pass.old n (mutex_guard_value self.new.guard).course pass.new) }
+        ensures err { IfErr result (λ why. DiffersSeat (mutex_guard_value self.old.guard).course pass.old why (mutex_guard_value self.new.guard).course pass.new) }
+        ensures stands { OnOk result (StandsInSome L.seats L.opening pass.old.seat pass.old.own) }
+        ensures differs { IfErr result (λ why. DiffersInSome L.seats L.opening pass.old.seat pass.old.own why) }
+        ensures turns { ((mutex_guard_value self.new.guard).made ≡ (mutex_guard_value self.old.guard).made) × ((mutex_guard_value self.new.guard).waiting ≡ (mutex_guard_value self.old.guard).waiting)
+            × ((mutex_guard_value self.new.guard).is_open ≡ (mutex_guard_value self.old.guard).is_open) }
+    {
+        self.guard.settle_seat(pass)
     }
 
     /// Ends the turn, and lets the lock go. Its changes wait to be kept then, behind those of all turns that were made; the

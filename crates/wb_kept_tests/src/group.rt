@@ -112,6 +112,35 @@ fn two_threads<O: Opening + Send + Sync, R: Threads + Wait + Sync>(
     (one, two, left)
 }
 
+/// What each of six threads was told, and what their file has at the end.
+fn six_threads<O: Opening + Send + Sync, R: Threads + Wait + Sync>(
+    rt: &R,
+    alloc: Global,
+    opened: Opened<Changes>,
+    blank: Blank,
+    log: LineLog<MemoryFile>,
+) -> Result<(Vec<Vec<u64>>, Vec<u8>), AllocError>
+    requires settled { IsSettled (λ f. seen_after f.calls) (λ f. MayLeave f.calls) log }
+    requires opening { O.opening ≡ recovered (seen_after log.device.calls) }
+    requires book { opened.seen.book ≡ O.book }
+    requires ledger { (blank.name ≡ O.name) × (blank.parts ≡ O.parts) × (O.all ≡ O.parts) × (0 < O.all) }
+{
+    let (waiting, front, mark) = Waiting::<O, Changes>::open(alloc, opened, blank);
+    let desk = Mutex::new(waiting);
+    let keeper = Mutex::new(Keeper::new(Journal::new(alloc, log), front, mark));
+    let told = Told::new();
+    let numbers = thread::map_indices(
+        rt,
+        alloc,
+        6,
+        &|_place| -> Vec<u64>
+            requires { (O.all ≡ O.parts) × (0 < O.all) }
+        { ten_turns(rt, alloc, &desk, &keeper, &told) },
+    );
+    let left = file_of(alloc, desk.into_inner(), keeper.into_inner());
+    Ok((numbers?, left?))
+}
+
 /// The journal once all turns are kept, or after a fault.
 fn journal_of<O: Opening>(
     alloc: Global,
@@ -201,6 +230,39 @@ fn threads_are_kept_together(rt: HostRuntime) -> Result<(), Fail> {
     assert!(rt; one == 10 && two == 10 && are_told_once);
     // The turns are in some batches.
     assert!(rt; left.as_slice() == KEPT);
+    Ok(())
+}
+
+/// How often a number was told to any of several threads.
+fn times_told_to_all(told: &[Vec<u64>], number: u64) -> usize {
+    let mut times = 0usize;
+    for one in told {
+        times = times.saturating_add(times_told(one, number));
+    }
+    times
+}
+
+/// A file of so many turns, each as a batch of its own, behind one line from before.
+fn file_of_turns(alloc: Global, turns: usize) -> Result<Vec<u8>, AllocError> {
+    let mut bytes = b"chapel-workbook 3\n up\n".to_vec(alloc)?;
+    for _ in 0..turns {
+        bytes.extend_from_slice(b" up\n")?;
+    }
+    bytes.push(b'#')?;
+    Ok(bytes)
+}
+
+#[test]
+fn six_threads_are_kept_together(rt: HostRuntime) -> Result<(), Fail> {
+    let alloc = rt.alloc();
+    let Ok(log) = opened(alloc, HELD, NEVER, 0)? else {
+        panic!(rt; "refused");
+    };
+    let (told, left) = six_threads::<Brand, _>(&rt, alloc, Opened::new(), Blank::new(1), log)?;
+    for number in 1..=60u64 {
+        assert!(rt; times_told_to_all(&told, number) == 1);
+    }
+    assert!(rt; each_alone(left).as_slice() == file_of_turns(alloc, 60)?.as_slice());
     Ok(())
 }
 

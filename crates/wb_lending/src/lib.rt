@@ -8,3 +8,4 @@ mod sitting;
 
 pub use crate::guests::{Guests, Hosts, Next, TurnsAway};
 pub use crate::lending::{LendErr, lend};
+pub use crate::sitting::{taken, turn_away_all};

@@ -6,8 +6,8 @@ use crate::guests::{Guests, Hosts, Next, TurnsAway};
 use std::marker::PhantomData;
 use std::sync::{Mutex, Wait};
 
-// The next guest for a place.
-fn taken<R: Wait, G: Guests<C, D, E>, C, D, E>(rt: &R, guests: &Mutex<G>) -> Next<C>
+/// The next guest for a place, if one is there.
+pub fn taken<R: Wait, G: Guests<C, D, E>, C, D, E>(rt: &R, guests: &Mutex<G>) -> Next<C>
     ensures came { (c : C) → result ≡ Next.Came c → (g : G) × (n : ℕ) × G.came g n c }
     ensures over { result ≡ Next.Over → Ended G.Guests }
 {
@@ -41,7 +41,7 @@ pub(crate) fn sit<R: Wait, H: Hosts<P, C, E>, G: Guests<C, D, E>, P, C, D, E>(
 }
 
 /// Turns away who comes while no place is free, until nobody comes any more.
-pub(crate) fn turn_away_all<R: Wait, T: TurnsAway<D>, G: Guests<C, D, E>, C, D, E>(
+pub fn turn_away_all<R: Wait, T: TurnsAway<D>, G: Guests<C, D, E>, C, D, E>(
     rt: &R,
     porter: &T,
     guests: &Mutex<G>,

@@ -1,10 +1,10 @@
 -- That the undos of a cascade may all be made, one after another, and what they leave.
-use Rattle.std.proofs.Common.{◌≡◌, ◌≢◌, ℕ, zero, suc, ◌-◌, ◌<◌, ◌≤◌, Bool, true, false, true≢false, List, [], ◌∷◌, Option, Some, None, Ok, length, take}
-use Rattle.std.proofs.Common.{slice_get, slice_set, if◌then◌else◌, inl, inr, arith, refl, sym, ap, subst, ◌∙◌, ◌↔◌}
+use Rattle.std.proofs.Common.{◌≡◌, ℕ, zero, suc, ◌-◌, ◌<◌, Bool, true, false, true≢false, List, [], ◌∷◌, Option, Some, None, Ok, length, take}
+use Rattle.std.proofs.Common.{slice_get, slice_set, if◌then◌else◌, inl, inr, arith, refl, sym, ap, subst, ◌∙◌}
 use Rattle.std.specs.FinMap.{get}
 use Rattle.std.proofs.lemmas.List.{length-map, take_all}
-use Rattle.selective_undo.specs.Edit.{State, Trace, step, writes}
-use Rattle.selective_undo.specs.History.{Entry, done, undone, undo, traces, traces_from, replay, state_before, InForce, IsLegal, Dependent, itself, CanUndo, CanUndoAll}
+use Rattle.selective_undo.specs.Edit.{Trace, step}
+use Rattle.selective_undo.specs.History.{Entry, done, undone, undo, traces, traces_from, replay, state_before, InForce, IsLegal, Dependent, itself, CanUndoAll}
 use Rattle.selective_undo.specs.History.{Has, Falls}
 use Rattle.selective_undo.proofs.Dependents.{dependents_law, gone, others_stay}
 use Rattle.selective_undo.proofs.Inverses.{set_back_law}

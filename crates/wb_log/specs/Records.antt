@@ -1,24 +1,31 @@
 -- What the records stand for in which entries are kept.
-use Rattle.std.specs.Prelude.{ℤ, List, [], ◌∷◌, Option, Some, None, option_map}
+use Rattle.std.specs.Prelude.{Bool, true, false, List, [], ◌∷◌, Option, Some, None, option_map, slice_get}
 use Rattle.selective_undo.specs.Log.{Footprint}
 use Rattle.wb_cells.specs.declared.cells.cell.Cell.{Cell}
-use Rattle.wb_cells.specs.declared.cells.cell.Cell.TheVariants.{Object, Implicit, Element}
-use Rattle.wb_cells.specs.declared.cells.value.Value.TheVariants.{Number}
+use Rattle.wb_cells.specs.declared.cells.cell.Cell.TheVariants.{Object, Implicit, Element, Member}
+use Rattle.wb_cells.specs.declared.cells.value.Value.{Value}
+use Rattle.wb_cells.specs.declared.cells.value.Value.TheVariants as value
 use Rattle.wb_cells.specs.declared.cells.pattern.Pattern.{Pattern}
-use Rattle.wb_cells.specs.declared.cells.pattern.Pattern.TheVariants.{One}
+use Rattle.wb_cells.specs.declared.cells.pattern.Pattern.TheVariants.{One, Uses}
 use Rattle.wb_cells.specs.declared.values.index.Index.{Index}
 use Rattle.wb_cells.specs.Cells.{Name, Changes}
 use Rattle.wb_cells.specs.Schema.{workbook}
+use Rattle.wb_cells.specs.Shapes.{Range, indices}
+use Rattle.wb_edit.specs.declared.asked_rectangle.AskedRectangle.TheVariants.{Ranges}
 use Rattle.wb_edit.specs.declared.edit.Edit as command
-use Rattle.wb_edit.specs.declared.edit.Edit.TheVariants.{Set as SetTo, Copy as CopyTo, Irv as IrvTo}
+use Rattle.wb_edit.specs.declared.edit.Edit.TheVariants.{Set as SetTo, Copy as CopyTo, Irv as IrvTo, Add, Remove, Fill as FillWith}
+use Rattle.wb_log.specs.declared.entry.Before.{Before}
+use Rattle.wb_log.specs.declared.entry.Before.TheVariants.{Number, Present, Nothing}
+use Rattle.wb_log.specs.declared.entry.Was.{Was}
+use Rattle.wb_log.specs.declared.entry.Was.TheVariants.{Untold, Number as WasNumber, Present as WasPresent, Nothing as WasNothing}
 use Rattle.wb_log.specs.declared.entry.Entry.{Entry}
 use Rattle.wb_log.specs.declared.entry.Kept.{Kept}
 use Rattle.wb_log.specs.declared.entry.Form.{Form}
-use Rattle.wb_log.specs.declared.entry.Form.TheVariants.{Set, Copy, Irv, Whole}
+use Rattle.wb_log.specs.declared.entry.Form.TheVariants.{Set, Copy, Irv, Member as OneMember, Fill, Whole}
 use Rattle.wb_log.specs.declared.entry.LentEdit.{LentEdit}
 use Rattle.wb_log.specs.declared.entry.LentEdit.TheVariants.{Own, Lent as LentOne}
 use Rattle.wb_log.specs.declared.entry.LentFootprint.{LentFootprint}
-use Rattle.wb_log.specs.declared.entry.LentFootprint.TheVariants.{Set as OfSet, Copy as OfCopy, Irv as OfIrv, Lent as LentKept}
+use Rattle.wb_log.specs.declared.entry.LentFootprint.TheVariants.{Set as OfSet, Copy as OfCopy, Irv as OfIrv, Member as OfMember, Fill as OfFill, Lent as LentKept}
 use Rattle.wb_log.specs.Kept.{footprint}
 
 -- what a new value of an element reads: the array, and the element
@@ -33,28 +40,69 @@ copy_reads a i b j = One (Object a) ∷ One (Object b) ∷ One (Element a i) ∷
 abbrev pub implicit_reads : Name → List Pattern
 implicit_reads a = One (Object a) ∷ []
 
--- what takes back a change of one cell that held a number
-abbrev pub number_before : Cell → ℤ → Changes
-number_before c old = record { cell = c; value = Some (Number old) } ∷ []
+-- an index comes to a domain, or leaves it
+abbrev pub member_edit : Bool → Name → Index → command.Edit
+member_edit true d i = Add d i
+member_edit false d i = Remove d i
+
+-- what either reads where nothing is bound to the domain and no parent is asked: the domain, the index, and what is bound
+abbrev pub member_reads : Name → Index → List Pattern
+member_reads d i = One (Object d) ∷ One (Member d i) ∷ Uses d ∷ []
+
+-- the element of an array at the first index of some, or the array where there is none
+abbrev pub first_element : Name → Option Index → Cell
+first_element a (Some i) = Element a i
+first_element a None = Object a
+
+-- the cell of a fill at the one index of a rectangle
+abbrev pub filled_cell : Name → List Range → Cell
+filled_cell a on = first_element a (slice_get (indices on) 0)
+
+-- what such a fill reads: the array, and the element
+abbrev pub fill_reads : Name → List Range → List Pattern
+fill_reads a on = One (Object a) ∷ One (filled_cell a on) ∷ []
+
+-- what a cell held, as a value
+abbrev pub value_before : Before → Option Value
+value_before (Number n) = Some (value.Number n)
+value_before Present = Some value.Present
+value_before Nothing = None
+
+-- what a cell held, if it is told
+abbrev pub before_in : Was → Option Before
+before_in Untold = None
+before_in (WasNumber n) = Some (Number n)
+before_in WasPresent = Some Present
+before_in WasNothing = Some Nothing
+
+-- what takes back a change of one cell
+abbrev pub cell_before : Cell → Before → Changes
+cell_before c old = record { cell = c; value = value_before old } ∷ []
 
 -- both, kept of an edit that read patterns and changed such a cell, if it is in force
-abbrev pub number_kept : List Pattern → Cell → Option ℤ → Option Kept
-number_kept rs c old = option_map (λ n. record { footprint = rs; inverse = number_before c n }) old
+abbrev pub one_kept : List Pattern → Cell → Option Before → Option Kept
+one_kept rs c old = option_map (λ b. record { footprint = rs; inverse = cell_before c b }) old
 
--- what is kept of a form's edit, by the number that was, if it is in force
-abbrev pub kept_of : Form → Option ℤ → Option Kept
-kept_of (Set x) old = number_kept (element_reads x.array x.place) (Element x.array x.place) old
+-- what is kept of a form's edit, by what the one cell held that it changed, if it is in force
+abbrev pub kept_of : Form → Option Before → Option Kept
+kept_of (Set x) old = one_kept (element_reads x.array x.place) (Element x.array x.place) old
 kept_of (Copy x) old =
     let y = x.value in
-    number_kept (copy_reads y.array y.place y.source y.from) (Element y.array y.place) old
-kept_of (Irv x) old = number_kept (implicit_reads x.array) (Implicit x.array) old
+    one_kept (copy_reads y.array y.place y.source y.from) (Element y.array y.place) old
+kept_of (Irv x) old = one_kept (implicit_reads x.array) (Implicit x.array) old
+kept_of (OneMember x) old = one_kept (member_reads x.domain x.place) (Member x.domain x.place) old
+kept_of (Fill x) old =
+    let y = x.value in
+    one_kept (fill_reads y.array y.on) (filled_cell y.array y.on) old
 kept_of (Whole w) old = None
 
 -- the entry that a form stands for
 abbrev pub shown : Form → Entry
-shown (Set x) = record { edit = SetTo x.array x.place x.value; kept = kept_of (Set x) x.was }
-shown (Copy x) = record { edit = CopyTo x.value.array x.value.place x.value.source x.value.from x.value.more; kept = kept_of (Copy x) x.value.was }
-shown (Irv x) = record { edit = IrvTo x.array x.value; kept = kept_of (Irv x) x.was }
+shown (Set x) = record { edit = SetTo x.array x.place x.value; kept = kept_of (Set x) (before_in x.was) }
+shown (Copy x) = record { edit = CopyTo x.value.array x.value.place x.value.source x.value.from x.value.more; kept = kept_of (Copy x) (before_in x.value.was) }
+shown (Irv x) = record { edit = IrvTo x.array x.value; kept = kept_of (Irv x) (before_in x.was) }
+shown (OneMember x) = record { edit = member_edit x.comes x.domain x.place; kept = kept_of (OneMember x) (before_in x.was) }
+shown (Fill x) = record { edit = FillWith x.value.array (Ranges x.value.on) x.value.value; kept = kept_of (Fill x) (before_in x.value.was) }
 shown (Whole w) = w.value
 
 -- the edit that is lent
@@ -67,4 +115,6 @@ abbrev pub lent_footprint : LentFootprint → Footprint workbook
 lent_footprint (OfSet rs b) = footprint rs b
 lent_footprint (OfCopy rs b) = footprint rs b
 lent_footprint (OfIrv rs b) = footprint rs b
+lent_footprint (OfMember rs b) = footprint rs b
+lent_footprint (OfFill rs b) = footprint rs b
 lent_footprint (LentKept k) = footprint k.now.footprint k.now.inverse

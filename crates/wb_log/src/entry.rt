@@ -1,6 +1,6 @@
 //! The entries of a history, and the records in which they are kept.
 
-ghost use Rattle.std.specs.Prelude.{◌≡◌, [], ◌∷◌, ◌++◌, None, IfOk, is_some, option_map};
+ghost use Rattle.std.specs.Prelude.{◌≡◌, [], ◌∷◌, ◌++◌, None, IfOk, IfSome, is_some, option_map};
 ghost use Rattle.selective_undo.specs.Changes.{AllOnce};
 ghost use Rattle.wb_cells.specs.declared.cells.cell.Cell.TheVariants as cell;
 ghost use Rattle.wb_cells.specs.declared.cells.pattern.Pattern.TheVariants as pattern;
@@ -8,14 +8,16 @@ ghost use Rattle.wb_cells.specs.Cells.{cell_cmp};
 ghost use Rattle.wb_edit.specs.declared.edit.Edit.TheVariants as command;
 ghost use Rattle.wb_cells.specs.Reads.{all_read};
 ghost use Rattle.wb_log.specs.Kept.{kept_in};
-ghost use Rattle.wb_log.specs.Records.{element_reads, copy_reads, implicit_reads, number_before as before_of, lent_edit, lent_footprint, shown, kept_of};
+ghost use Rattle.wb_edit.specs.declared.asked_rectangle.AskedRectangle.TheVariants as asked_for;
+ghost use Rattle.wb_log.specs.Records.{element_reads, copy_reads, implicit_reads, member_edit, member_reads, filled_cell, fill_reads, value_before, before_in, cell_before};
+ghost use Rattle.wb_log.specs.Records.{lent_edit, lent_footprint, shown, kept_of};
 
 use std::alloc::Global;
 use std::marker::Model;
 use wb_cells::{
-    AnyCell, AnyIndex, Cell, CellChange, Changes, Inverse, Name, Pattern, ReadRun, Value,
+    AnyCell, AnyIndex, AnyRect, Cell, CellChange, Changes, Inverse, Name, Pattern, ReadRun, Value,
 };
-use wb_edit::{Edit, Footprint};
+use wb_edit::{AskedRectangle, Edit, Footprint};
 use wb_range::NoMemory;
 
 /// What an edit in force read, and what takes it back.
@@ -32,13 +34,37 @@ pub struct Entry {
     pub kept: Option<Kept>,
 }
 
+/// What a cell held before an edit that changed no other.
+#[derive(Clone, Copy)]
+pub enum Before {
+    /// A number.
+    Number(i64),
+    /// That an index is there.
+    Present,
+    /// Nothing.
+    Nothing,
+}
+
+/// What a cell held, while the edit is in force, in the room of a `Before`.
+#[derive(Clone, Copy)]
+pub enum Was {
+    /// The edit is out of force.
+    Untold,
+    /// A number.
+    Number(i64),
+    /// That an index is there.
+    Present,
+    /// Nothing.
+    Nothing,
+}
+
 /// A new value of an element that was there, and what it was, while the edit is in force.
 #[derive(Drop)]
 pub struct Element {
     pub(crate) array: Name,
     pub(crate) place: AnyIndex,
     pub(crate) value: i64,
-    pub(crate) was: Option<i64>,
+    pub(crate) was: Was,
 }
 
 /// An element that became another one and a number more, and what it was, while the edit is in force.
@@ -49,7 +75,7 @@ pub struct Copied {
     pub(crate) source: Name,
     pub(crate) from: AnyIndex,
     pub(crate) more: i64,
-    pub(crate) was: Option<i64>,
+    pub(crate) was: Was,
 }
 
 /// A new implicit value of an array, and what it was, while the edit is in force.
@@ -57,11 +83,29 @@ pub struct Copied {
 pub struct Implicit {
     pub(crate) array: Name,
     pub(crate) value: i64,
-    pub(crate) was: Option<i64>,
+    pub(crate) was: Was,
 }
 
-/// How an entry is kept. Of all forms but the last, what the edit read, and what takes it back, follow from what the number
-/// was that it changed.
+/// An index that came to a domain over which no array is, or left it, and what was there, while the edit is in force.
+#[derive(Drop)]
+pub struct Member {
+    pub(crate) domain: Name,
+    pub(crate) place: AnyIndex,
+    pub(crate) comes: bool,
+    pub(crate) was: Was,
+}
+
+/// A number as the element at the one index of a rectangle, and what it was, while the edit is in force.
+#[derive(Drop)]
+pub struct Filled {
+    pub(crate) array: Name,
+    pub(crate) on: AnyRect,
+    pub(crate) value: i64,
+    pub(crate) was: Was,
+}
+
+/// How an entry is kept. Of all forms but the last, what the edit read, and what takes it back, follow from what the one cell
+/// held that it changed.
 #[derive(Drop)]
 pub enum Form {
     /// A new value of an element that was there.
@@ -70,6 +114,10 @@ pub enum Form {
     Copy(Box<Copied>),
     /// A new implicit value.
     Irv(Implicit),
+    /// An index that comes to a domain over which no array is, or leaves it.
+    Member(Member),
+    /// One number as one element.
+    Fill(Box<Filled>),
     /// Any edit.
     Whole(Box<Entry>),
 }
@@ -120,6 +168,8 @@ pub enum LentFootprint<'a> {
     Set([Pattern; 2], Inverse),
     Copy([Pattern; 4], Inverse),
     Irv([Pattern; 1], Inverse),
+    Member([Pattern; 3], Inverse),
+    Fill([Pattern; 2], Inverse),
     Lent(&'a Kept),
 }
 
@@ -132,6 +182,8 @@ impl<'a> LentFootprint<'a> {
             LentFootprint::Set(reads, _) => (reads, &[]),
             LentFootprint::Copy(reads, _) => (reads, &[]),
             LentFootprint::Irv(reads, _) => (reads, &[]),
+            LentFootprint::Member(reads, _) => (reads, &[]),
+            LentFootprint::Fill(reads, _) => (reads, &[]),
             LentFootprint::Lent(kept) => kept.footprint.parts(),
         }
     }
@@ -145,17 +197,57 @@ impl<'a> LentFootprint<'a> {
             LentFootprint::Set(_, inverse) => inverse.before(),
             LentFootprint::Copy(_, inverse) => inverse.before(),
             LentFootprint::Irv(_, inverse) => inverse.before(),
+            LentFootprint::Member(_, inverse) => inverse.before(),
+            LentFootprint::Fill(_, inverse) => inverse.before(),
             LentFootprint::Lent(kept) => kept.inverse.before(),
         }
     }
 }
 
-// What sets a cell back that held a number.
-fn number_before(changed: Cell, was: &i64) -> Inverse
-    ensures { result ≡ before_of changed was.now }
+impl Before {
+    // What the cell held, as a value.
+    fn value(&self) -> Option<Value>
+        ensures { result ≡ value_before self.now }
+    {
+        match self {
+            Before::Number(number) => Some(Value::Number(*number)),
+            Before::Present => Some(Value::Present),
+            Before::Nothing => None,
+        }
+    }
+}
+
+impl Was {
+    // What a cell held, or that nothing is told of it.
+    fn of(was: Option<Before>) -> Was
+        ensures { before_in result ≡ was }
+    {
+        match was {
+            None => Was::Untold,
+            Some(Before::Number(number)) => Was::Number(number),
+            Some(Before::Present) => Was::Present,
+            Some(Before::Nothing) => Was::Nothing,
+        }
+    }
+
+    // What the cell held, if it is told.
+    fn before(&self) -> Option<Before>
+        ensures { result ≡ before_in self.now }
+    {
+        match self {
+            Was::Untold => None,
+            Was::Number(number) => Some(Before::Number(*number)),
+            Was::Present => Some(Before::Present),
+            Was::Nothing => Some(Before::Nothing),
+        }
+    }
+}
+
+// What sets a cell back.
+fn set_back(changed: Cell, was: &Before) -> Inverse
+    ensures { result ≡ cell_before changed was.now }
 {
-    let change = CellChange::new(changed, Some(Value::Number(*was)));
-    Inverse::new(Changes::one(change))
+    Inverse::new(Changes::one(CellChange::new(changed, was.value())))
 }
 
 // The pattern of what stands under a name, and that of an element.
@@ -248,15 +340,78 @@ impl Implicit {
     }
 }
 
+impl Member {
+    /// The edit.
+    pub(crate) fn edit(&self) -> Edit
+        ensures { result ≡ member_edit self.now.comes self.now.domain self.now.place }
+    {
+        if self.comes {
+            Edit::Add(self.domain, self.place)
+        } else {
+            Edit::Remove(self.domain, self.place)
+        }
+    }
+
+    /// The cell that the edit changes.
+    pub(crate) fn cell(&self) -> Cell
+        ensures { result ≡ cell.Member self.now.domain self.now.place }
+    {
+        Cell::Member(self.domain, self.place)
+    }
+
+    /// What the edit reads, where nothing is bound to the domain and it has no parent to be asked.
+    pub(crate) fn reads(&self) -> [Pattern; 3]
+        ensures { result ≡ member_reads self.now.domain self.now.place }
+    {
+        [
+            object_pattern(&self.domain),
+            Pattern::One(AnyCell::new(self.cell())),
+            Pattern::Uses(self.domain),
+        ]
+    }
+}
+
+impl Filled {
+    /// The edit.
+    pub(crate) fn edit(&self) -> Edit
+        ensures { result ≡ command.Fill self.now.array (asked_for.Ranges self.now.on) self.now.value }
+    {
+        Edit::Fill(self.array, AskedRectangle::Ranges(self.on), self.value)
+    }
+
+    /// The cell that the edit changes.
+    pub(crate) fn cell(&self) -> Cell
+        ensures { result ≡ filled_cell self.now.array self.now.on }
+    {
+        match self.on.nth(0) {
+            Some(index) => Cell::Element(self.array, index),
+            None => Cell::Object(self.array),
+        }
+    }
+
+    /// What the edit reads.
+    pub(crate) fn reads(&self) -> [Pattern; 2]
+        ensures { result ≡ fill_reads self.now.array self.now.on }
+    {
+        [
+            object_pattern(&self.array),
+            Pattern::One(AnyCell::new(self.cell())),
+        ]
+    }
+}
+
 impl Form {
-    /// Keeps the number that was, or none, where the edit is out of force. One that is kept whole is out of force then.
-    pub(crate) fn keep(&mut self, was: Option<i64>)
+    /// Keeps what the cell held, or none, where the edit is out of force. One that is kept whole is out of force then.
+    pub(crate) fn keep(&mut self, was: Option<Before>)
         ensures { shown self.new ≡ record { edit = (shown self.old).edit; kept = kept_of self.old was } }
     {
+        let told = Was::of(was);
         match self {
-            Form::Set(element) => element.was = was,
-            Form::Copy(copied) => copied.was = was,
-            Form::Irv(implicit) => implicit.was = was,
+            Form::Set(element) => element.was = told,
+            Form::Copy(copied) => copied.was = told,
+            Form::Irv(implicit) => implicit.was = told,
+            Form::Member(member) => member.was = told,
+            Form::Fill(filled) => filled.was = told,
             Form::Whole(entry) => entry.kept = None,
         }
     }
@@ -269,6 +424,8 @@ impl Form {
             Form::Set(element) => Ok(element.edit()),
             Form::Copy(copied) => Ok(copied.edit()),
             Form::Irv(implicit) => Ok(implicit.edit()),
+            Form::Member(member) => Ok(member.edit()),
+            Form::Fill(filled) => Ok(filled.edit()),
             Form::Whole(entry) => entry.edit.copy(alloc),
         }
     }
@@ -293,6 +450,8 @@ impl Record {
             Form::Set(element) => LentEdit::Own(element.edit()),
             Form::Copy(copied) => LentEdit::Own(copied.edit()),
             Form::Irv(implicit) => LentEdit::Own(implicit.edit()),
+            Form::Member(member) => LentEdit::Own(member.edit()),
+            Form::Fill(filled) => LentEdit::Own(filled.edit()),
             Form::Whole(entry) => LentEdit::Lent(&entry.edit),
         }
     }
@@ -302,9 +461,11 @@ impl Record {
         ensures { result ≡ is_some self.now.kept }
     {
         match &self.form {
-            Form::Set(element) => element.was.is_some(),
-            Form::Copy(copied) => copied.was.is_some(),
-            Form::Irv(implicit) => implicit.was.is_some(),
+            Form::Set(element) => element.was.before().is_some(),
+            Form::Copy(copied) => copied.was.before().is_some(),
+            Form::Irv(implicit) => implicit.was.before().is_some(),
+            Form::Member(member) => member.was.before().is_some(),
+            Form::Fill(filled) => filled.was.before().is_some(),
             Form::Whole(entry) => entry.kept.is_some(),
         }
     }
@@ -314,25 +475,39 @@ impl Record {
         ensures { option_map lent_footprint result ≡ kept_in self.now }
     {
         match &self.form {
-            Form::Set(element) => match &element.was {
+            Form::Set(element) => match element.was.before() {
                 None => None,
                 Some(was) => Some(LentFootprint::Set(
                     element.reads(),
-                    number_before(element.cell(), was),
+                    set_back(element.cell(), &was),
                 )),
             },
-            Form::Copy(copied) => match &copied.was {
+            Form::Copy(copied) => match copied.was.before() {
                 None => None,
                 Some(was) => Some(LentFootprint::Copy(
                     copied.reads(),
-                    number_before(copied.cell(), was),
+                    set_back(copied.cell(), &was),
                 )),
             },
-            Form::Irv(implicit) => match &implicit.was {
+            Form::Irv(implicit) => match implicit.was.before() {
                 None => None,
                 Some(was) => Some(LentFootprint::Irv(
                     implicit.reads(),
-                    number_before(implicit.cell(), was),
+                    set_back(implicit.cell(), &was),
+                )),
+            },
+            Form::Member(member) => match member.was.before() {
+                None => None,
+                Some(was) => Some(LentFootprint::Member(
+                    member.reads(),
+                    set_back(member.cell(), &was),
+                )),
+            },
+            Form::Fill(filled) => match filled.was.before() {
+                None => None,
+                Some(was) => Some(LentFootprint::Fill(
+                    filled.reads(),
+                    set_back(filled.cell(), &was),
                 )),
             },
             Form::Whole(entry) => match &entry.kept {
@@ -351,6 +526,48 @@ impl Record {
     }
 }
 
+// An index that comes to a domain, or leaves it, out of force.
+fn member_aside(domain: &Name, place: &AnyIndex, comes: bool) -> Form
+    ensures { shown result ≡ record { edit = member_edit comes domain.now place.now; kept = None } }
+{
+    Form::Member(Member {
+        domain: *domain,
+        place: *place,
+        comes,
+        was: Was::Untold,
+    })
+}
+
+// A fill at the one index of a rectangle, out of force.
+fn fill_aside(alloc: Global, array: &Name, on: &AnyRect, value: i64) -> Result<Form, NoMemory>
+    ensures { IfOk result (λ f. shown f ≡ record { edit = command.Fill array.now (asked_for.Ranges on.now) value; kept = None }) }
+{
+    let filled = Filled {
+        array: *array,
+        on: *on,
+        value,
+        was: Was::Untold,
+    };
+    Ok(Form::Fill(Box::new(alloc, filled)?))
+}
+
+// The ranges that are asked for, where they have one index.
+fn ranges_of_one(asked: &AskedRectangle) -> Option<AnyRect>
+    ensures { IfSome result (λ on. asked.now ≡ asked_for.Ranges on) }
+{
+    match asked {
+        AskedRectangle::Ranges(on) => { if on.size() == 1 { Some(*on) } else { None } }
+        AskedRectangle::Indices => None,
+    }
+}
+
+// An edit that is kept whole, out of force.
+fn whole_aside(alloc: Global, edit: Edit) -> Result<Form, NoMemory>
+    ensures { IfOk result (λ f. shown f ≡ record { edit = edit; kept = None }) }
+{
+    Ok(Form::Whole(Box::new(alloc, Entry { edit, kept: None })?))
+}
+
 // The form for an edit, which is out of force.
 fn form_aside(alloc: Global, edit: Edit) -> Result<Form, NoMemory>
     ensures { IfOk result (λ f. shown f ≡ record { edit = edit; kept = None }) }
@@ -360,12 +577,12 @@ fn form_aside(alloc: Global, edit: Edit) -> Result<Form, NoMemory>
             array: *array,
             place: *place,
             value: *value,
-            was: None,
+            was: Was::Untold,
         })),
         Edit::Irv(array, value) => Ok(Form::Irv(Implicit {
             array: *array,
             value: *value,
-            was: None,
+            was: Was::Untold,
         })),
         Edit::Copy(array, place, source, from, more) => {
             let copied = Copied {
@@ -374,10 +591,16 @@ fn form_aside(alloc: Global, edit: Edit) -> Result<Form, NoMemory>
                 source: *source,
                 from: *from,
                 more: *more,
-                was: None,
+                was: Was::Untold,
             };
             Ok(Form::Copy(Box::new(alloc, copied)?))
         }
-        _ => Ok(Form::Whole(Box::new(alloc, Entry { edit, kept: None })?)),
+        Edit::Add(domain, place) => Ok(member_aside(domain, place, true)),
+        Edit::Remove(domain, place) => Ok(member_aside(domain, place, false)),
+        Edit::Fill(array, asked, value) => match ranges_of_one(asked) {
+            Some(on) => fill_aside(alloc, array, &on, *value),
+            None => whole_aside(alloc, edit),
+        },
+        _ => whole_aside(alloc, edit),
     }
 }

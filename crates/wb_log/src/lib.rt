@@ -12,7 +12,8 @@ pub mod steps;
 mod sweep;
 
 pub use crate::entry::{
-    Copied, Element, Entry, Form, Implicit, Kept, LentEdit, LentFootprint, Record,
+    Before, Copied, Element, Entry, Filled, Form, Implicit, Kept, LentEdit, LentFootprint, Member,
+    Record, Was,
 };
 pub use crate::index::Index;
 pub use crate::refusal::Refusal;

@@ -2,8 +2,7 @@
 use Rattle.std.proofs.Common.{◌≡◌, ◌∙◌, ℕ, List, subst}
 use Rattle.wb_lines.specs.declared.sink.Sink as Sink
 use Rattle.wb_lines.specs.declared.source.Source as Source
-use Rattle.wb_history.specs.Past.{Past}
-use Rattle.wb_desk.specs.Courses.{Course, IsCourse}
+use Rattle.wb_desk.specs.Courses.{Course, IsCourse, Start}
 use Rattle.wb_desk.specs.Serving.{Held, new_passes}
 use Rattle.wb_desk.specs.Settling.{IsSettled, IsCause}
 use Rattle.wb_desk.specs.declared.settling.Cause.{Cause}
@@ -11,7 +10,7 @@ use Rattle.wb_program.specs.Days.{AllBack, Disagrees, Ended, IsDay}
 use Rattle.wb_program.specs.declared.accepting.Accepts as Accepts
 
 module _ {I O N : Type 0} (source : Source.Ghosts I) (sink : Sink.Ghosts O) (accepts : Accepts.Ghosts N I O) where
-  abbrev ended : (opening : Past) (seats : ℕ) (c : Course) (hs ks : List Held) → hs ≡ new_passes seats
+  abbrev ended : (opening : Start) (seats : ℕ) (c : Course) (hs ks : List Held) → hs ≡ new_passes seats
       → (from : N) × AllBack source sink accepts opening from hs ks → IsCourse opening c → c.seats ≡ seats → Ended source sink accepts opening seats c
   ended opening seats c hs ks new back course many = record {
     from = back.0;
@@ -22,7 +21,7 @@ module _ {I O N : Type 0} (source : Source.Ghosts I) (sink : Sink.Ghosts O) (acc
   }
 
   -- it settled
-  pub is_day : (opening : Past) (n seats : ℕ) (c : Course) (hs ks : List Held) → n ≡ seats → hs ≡ new_passes seats
+  pub is_day : (opening : Start) (n seats : ℕ) (c : Course) (hs ks : List Held) → n ≡ seats → hs ≡ new_passes seats
       → (from : N) × AllBack source sink accepts opening from hs ks → IsCourse opening c → c.seats ≡ n → IsSettled c.seats c.entries ks
       → IsDay source sink accepts opening seats c
   is_day opening n seats c hs ks same new back course many settled = record {
@@ -31,7 +30,7 @@ module _ {I O N : Type 0} (source : Source.Ghosts I) (sink : Sink.Ghosts O) (acc
   }
 
   -- it did not
-  pub disagrees : (opening : Past) (n seats : ℕ) (c : Course) (hs ks : List Held) (cause : Cause) → n ≡ seats → hs ≡ new_passes seats
+  pub disagrees : (opening : Start) (n seats : ℕ) (c : Course) (hs ks : List Held) (cause : Cause) → n ≡ seats → hs ≡ new_passes seats
       → (from : N) × AllBack source sink accepts opening from hs ks → IsCourse opening c → c.seats ≡ n → IsCause c.seats c.entries ks cause
       → Disagrees source sink accepts opening seats
   disagrees opening n seats c hs ks cause same new back course many is = record {

@@ -10,7 +10,7 @@ use Rattle.wb_kept_seats.specs.declared.settling.SettleErr.TheVariants.{Passes}
 use Rattle.wb_lines.specs.declared.sink.Sink as Sink
 use Rattle.wb_lines.specs.declared.source.Source as Source
 use Rattle.wb_history.specs.Past.{Past}
-use Rattle.wb_desk.specs.Courses.{IsCourse}
+use Rattle.wb_desk.specs.Courses.{IsCourse, Start}
 use Rattle.wb_desk.specs.Serving.{Held, new_passes}
 use Rattle.wb_desk.specs.Settling.{IsCause}
 use Rattle.wb_desk.specs.declared.settling.Cause.{Cause}
@@ -48,7 +48,7 @@ module _ {D : Type 0} (device : Device.Ghosts D) where
 
 module _ {I O N D : Type 0} (source : Source.Ghosts I) (sink : Sink.Ghosts O) (accepts : Accepts.Ghosts N I O) (device : Device.Ghosts D) where
   -- the passes came back, and the desk did not settle
-  pub not_settled : (opening : Past) (n : ℕ) (k : KeptCourse) (ps : List Held) (cause : SettleErr) (status : ℕ) (run : KeptRun D) (write_failed : Bool)
+  pub not_settled : (opening : Start) (n : ℕ) (k : KeptCourse) (ps : List Held) (cause : SettleErr) (status : ℕ) (run : KeptRun D) (write_failed : Bool)
       → (from : N) × AllBack source sink accepts opening from (new_passes n) ps → IsCourse opening k.course → k.course.seats ≡ n
       → IsSettleCause k ps cause → (status ≡ 3 → (why : Cause) × (cause ≡ Passes why))
       → (status ≡ 3) ⊎ ((run.fault ≡ Some Failed) × FailsOnce device.faults) → FailsKeptDay source sink accepts device opening n run write_failed
@@ -58,25 +58,25 @@ module _ {I O N D : Type 0} (source : Source.Ghosts I) (sink : Sink.Ghosts O) (a
   not_settled opening n k ps cause status run write_failed back course many is passes (inr h) = inr h
 
   -- no connection or thread could be had
-  pub not_served : (opening : Past) (n : ℕ) (status : ℕ) (run : KeptRun D) (write_failed : Bool)
+  pub not_served : (opening : Start) (n : ℕ) (status : ℕ) (run : KeptRun D) (write_failed : Bool)
       → (status ≡ 3 → (from : N) × (accepts.failed from ≡ true))
       → (status ≡ 3) ⊎ ((run.fault ≡ Some Failed) × FailsOnce device.faults) → FailsKeptDay source sink accepts device opening n run write_failed
   not_served opening n status run write_failed failed (inl e) = inl (inl (failed e))
   not_served opening n status run write_failed failed (inr h) = inr h
 
-  pub ends : (opening : Past) (begun n : ℕ) (file : D) (run : KeptRun D) (text : List ℕ)
+  pub ends : (opening : Start) (begun n : ℕ) (file : D) (run : KeptRun D) (text : List ℕ)
       → SettlesKept source sink accepts device opening begun n run text ⊎ BreaksOff device opening begun n run text
       → EndsKeptDay source sink accepts device opening begun n file run text
   ends opening begun n file run text (inl h) = inl h
   ends opening begun n file run text (inr h) = inr (inl h)
 
   -- as many passes as the desk has seats
-  pub all_new : (opening : Past) (n seats : ℕ) (hs ks : List Held) → n ≡ seats → hs ≡ new_passes seats
+  pub all_new : (opening : Start) (n seats : ℕ) (hs ks : List Held) → n ≡ seats → hs ≡ new_passes seats
       → (from : N) × AllBack source sink accepts opening from hs ks → (from : N) × AllBack source sink accepts opening from (new_passes n) ks
   all_new opening n seats hs ks same new back = (back.0, subst (λ l. AllBack source sink accepts opening back.0 l ks) (new ∙ ap new_passes (sym same)) back.1)
 
   -- a desk whose port was not told
-  pub port_not_told : (opening : Past) (n : ℕ) (run : KeptRun D) (port_failed write_failed : Bool) → (port_failed ≡ true) ⊎ (write_failed ≡ true)
+  pub port_not_told : (opening : Start) (n : ℕ) (run : KeptRun D) (port_failed write_failed : Bool) → (port_failed ≡ true) ⊎ (write_failed ≡ true)
       → (port_failed ≡ true) ⊎ FailsKeptDay source sink accepts device opening n run write_failed
   port_not_told opening n run port_failed write_failed (inl port) = inl port
   port_not_told opening n run port_failed write_failed (inr write) = inr (inl (inr (inl write)))

@@ -3,7 +3,7 @@ use Rattle.std.proofs.Common.{◌≡◌, ◌∙◌, ℕ, List, Some, get_or, sli
 use Rattle.std.proofs.lemmas.Option.{get_or_from_slice_get}
 use Rattle.wb_lines.specs.declared.sink.Sink as Sink
 use Rattle.wb_lines.specs.declared.source.Source as Source
-use Rattle.wb_history.specs.Past.{Past}
+use Rattle.wb_desk.specs.Courses.{Start}
 use Rattle.wb_desk.specs.Serving.{Held}
 use Rattle.wb_program.specs.Days.{CameBack, ServedOn}
 use Rattle.wb_program.specs.declared.accepting.Accepts as Accepts
@@ -28,7 +28,7 @@ seated accepts from hs number n p h j i q o at came is_pass is_reader is_writer 
     record { came = subst (λ q. accepts.came from number i q) (sym is_writer) read; pass = λ d. place d ∙ sym is_pass }
 
 -- a thread that kept its promise
-pub came_back : {I O N : Type 0} (source : Source.Ghosts I) (sink : Sink.Ghosts O) (accepts : Accepts.Ghosts N I O) (opening : Past) (from : N)
+pub came_back : {I O N : Type 0} (source : Source.Ghosts I) (sink : Sink.Ghosts O) (accepts : Accepts.Ghosts N I O) (opening : Start) (from : N)
     (hs ks first : List Held) (number : ℕ) (h k p : Held) (i : I) (o : O) → first ≡ hs → slice_get hs number ≡ Some h → slice_get ks number ≡ Some k
     → IsSeated accepts from first number p i o → ServedOn source sink opening p i o (get_or ks number k)
     → CameBack source sink accepts opening from number h k

@@ -6,8 +6,7 @@ use Rattle.wb_lines.specs.Turns.{ServesTurns}
 use Rattle.wb_lines.specs.declared.machine.SessionEnd.{SessionEnd}
 use Rattle.wb_lines.specs.declared.sink.Sink as Sink
 use Rattle.wb_lines.specs.declared.source.Source as Source
-use Rattle.wb_history.specs.Past.{Past}
-use Rattle.wb_desk.specs.Courses.{Course, IsCourse}
+use Rattle.wb_desk.specs.Courses.{Course, IsCourse, Start}
 use Rattle.wb_desk.specs.Serving.{Held, new_passes}
 use Rattle.wb_desk.specs.Settling.{IsSettled, IsCause}
 use Rattle.wb_desk.specs.declared.settling.Cause.{Cause}
@@ -19,7 +18,7 @@ use Rattle.wb_program.specs.declared.door.Door.{Door}
 module _ {I O : Type 0} (source : Source.Ghosts I) (sink : Sink.Ghosts O) where
   -- A pass was served on a connection, and is another one then: a session of the desk's replies to what is heard of its reader, up to the
   -- end of that or a fault.
-  pub record ServedOn (opening : Past) (h : Held) (i : I) (o : O) (k : Held) : Type 0 where
+  pub record ServedOn (opening : Start) (h : Held) (i : I) (o : O) (k : Held) : Type 0 where
     pub end : SessionEnd
     pub door : Door I
     pub writer : O
@@ -33,20 +32,20 @@ module _ {I O : Type 0} (source : Source.Ghosts I) (sink : Sink.Ghosts O) where
 
 module _ {I O N : Type 0} (source : Source.Ghosts I) (sink : Sink.Ghosts O) (accepts : Accepts.Ghosts N I O) where
   -- The connection of this number came, and the pass was served on it.
-  pub record CameBack (opening : Past) (from : N) (number : ℕ) (h k : Held) : Type 0 where
+  pub record CameBack (opening : Start) (from : N) (number : ℕ) (h k : Held) : Type 0 where
     pub reader : I
     pub writer : O
     pub came : accepts.came from number reader writer
     pub served : ServedOn source sink opening h reader writer k
 
   -- These passes came back, each from the connection of its number, in place of those.
-  pub record AllBack (opening : Past) (from : N) (hs ks : List Held) : Type 0 where
+  pub record AllBack (opening : Start) (from : N) (hs ks : List Held) : Type 0 where
     pub accepted : accepts.accepted from ≡ length hs
     pub count : length ks ≡ length hs
     pub each : (number : ℕ) (h k : Held) → slice_get hs number ≡ Some h → slice_get ks number ≡ Some k → CameBack opening from number h k
 
   -- what is left of a day when all connections have ended: what accepted them, the course, and the passes
-  pub record Ended (opening : Past) (seats : ℕ) (c : Course) : Type 0 where
+  pub record Ended (opening : Start) (seats : ℕ) (c : Course) : Type 0 where
     pub from : N
     pub passes : List Held
     pub all_back : AllBack opening from (new_passes seats) passes
@@ -54,16 +53,16 @@ module _ {I O N : Type 0} (source : Source.Ghosts I) (sink : Sink.Ghosts O) (acc
     pub so_many : c.seats ≡ seats
 
   -- A day of so many seats: as many connections came, each pass was served on its own, and the course has the entries of each.
-  pub record IsDay (opening : Past) (seats : ℕ) (c : Course) : Type 0 where
+  pub record IsDay (opening : Start) (seats : ℕ) (c : Course) : Type 0 where
     pub ended : Ended opening seats c
     pub settled : IsSettled seats c.entries ended.passes
 
   -- A day of a desk from this opening ends: its course was printed, or a front of that; or it never settled.
-  abbrev pub EndsDay : Bool → Past → ℕ → ℕ → List ℕ → Type 0
+  abbrev pub EndsDay : Bool → Start → ℕ → ℕ → List ℕ → Type 0
   EndsDay whole opening seats status text = ((c : Course) × IsDay opening seats c × PrintsSettled whole c status text) ⊎ NeverSettles seats status text
 
   -- the passes came back, and for this cause they don't agree with the journal
-  pub record Disagrees (opening : Past) (seats : ℕ) : Type 0 where
+  pub record Disagrees (opening : Start) (seats : ℕ) : Type 0 where
     pub course : Course
     pub ended : Ended opening seats course
     pub cause : Cause
@@ -71,5 +70,5 @@ module _ {I O N : Type 0} (source : Source.Ghosts I) (sink : Sink.Ghosts O) (acc
 
   -- Why a day fails: a connection or its thread could not be had, or the latest write or flush failed, or the passes don't agree with the
   -- journal.
-  abbrev pub FailsDay : Past → ℕ → (write_failed : Bool) → Type 0
+  abbrev pub FailsDay : Start → ℕ → (write_failed : Bool) → Type 0
   FailsDay opening seats write_failed = ((from : N) × (accepts.failed from ≡ true)) ⊎ ((write_failed ≡ true) ⊎ Disagrees opening seats)

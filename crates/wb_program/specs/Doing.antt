@@ -5,6 +5,7 @@ use Rattle.wb_lines.specs.declared.machine.SessionEnd.{SessionEnd}
 use Rattle.wb_lines.specs.declared.sink.Sink as Sink
 use Rattle.wb_lines.specs.declared.source.Source as Source
 use Rattle.wb_history.specs.Past.{Past}
+use Rattle.wb_desk.specs.Openings.{whole_from}
 use Rattle.wb_command.specs.declared.Asked.{Asked}
 use Rattle.wb_command.specs.declared.Asked.TheVariants as ask
 use Rattle.wb_sessions.specs.Checking.{IsAnswered, IsNoRecord, IsFault, Judges, Says}
@@ -27,7 +28,7 @@ module _ {I O N : Type 0} (source : Source.Ghosts I) (sink : Sink.Ghosts O) (acc
   -- The port was told, and then a day was served; or a fault came before that, after a front of what is told.
   abbrev pub Hosts : Bool → Past → ℕ → ℕ → List ℕ → Type 0
   Hosts whole past seats status text =
-      ((port : ℕ) × (day : List ℕ) × (text ≡ listening port ++ day) × EndsDay source sink accepts whole past seats status day)
+      ((port : ℕ) × (day : List ℕ) × (text ≡ listening port ++ day) × EndsDay source sink accepts whole (whole_from past) seats status day)
       ⊎ (IsFault status × ((port count : ℕ) × (text ≡ take count (listening port))))
 
   -- a desk from the history whose text was read; or that was refused, which was printed; or there was a fault, and nothing was
@@ -51,7 +52,7 @@ module _ {I O N : Type 0} (source : Source.Ghosts I) (sink : Sink.Ghosts O) (acc
 
   -- Why a desk fails: its port could not be had, or its day failed.
   abbrev pub FailsToHost : Past → ℕ → (port_failed write_failed : Bool) → Type 0
-  FailsToHost past seats port_failed write_failed = (port_failed ≡ true) ⊎ FailsDay source sink accepts past seats write_failed
+  FailsToHost past seats port_failed write_failed = (port_failed ≡ true) ⊎ FailsDay source sink accepts (whole_from past) seats write_failed
 
   -- the text of a history was read, and a desk from it failed
   abbrev pub FailsAfterInput : ℕ → (old new : Option (List ℕ)) → (port_failed write_failed : Bool) → Type 0

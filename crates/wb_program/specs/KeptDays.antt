@@ -5,12 +5,13 @@ use Rattle.wb_keep.specs.Disk.Device.{Only}
 use Rattle.wb_keep.specs.declared.disk.device.Device as Device
 use Rattle.wb_kept.specs.declared.kept.Kept.{Kept}
 use Rattle.wb_keep.specs.declared.keep.LineLog.{LineLog}
-use Rattle.wb_kept_seats.specs.Files.{LeavesFronts}
+use Rattle.wb_kept_seats.specs.Files.{LeavesFrontsOf}
 use Rattle.wb_kept_seats.specs.KeptCourses.{KeptCourse}
 use Rattle.wb_lines.specs.declared.sink.Sink as Sink
 use Rattle.wb_lines.specs.declared.source.Source as Source
 use Rattle.wb_history.specs.Past.{Past}
-use Rattle.wb_desk.specs.Courses.{IsCourse}
+use Rattle.wb_desk.specs.Courses.{IsCourse, Start}
+use Rattle.wb_desk.specs.Openings.{whole_from}
 use Rattle.wb_command.specs.declared.Asked.{Asked}
 use Rattle.wb_command.specs.declared.Asked.TheVariants as ask
 use Rattle.wb_sessions.specs.Checking.{IsFault}
@@ -32,14 +33,14 @@ module _ {D : Type 0} (device : Device.Ghosts D) where
 
   -- What is left of a desk of so many seats: a course from its opening, and the log in the file. A crash at any moment since it was opened
   -- leaves a file that stands for the history after the first so many entries.
-  pub record LeavesDesk (opening : Past) (begun seats : ℕ) (k : KeptCourse) (log : LineLog D) (file : D) : Type 0 where
+  pub record LeavesDesk (opening : Start) (begun seats : ℕ) (k : KeptCourse) (log : LineLog D) (file : D) : Type 0 where
     pub is_course : IsCourse opening k.course
     pub so_many : k.course.seats ≡ seats
-    pub any_moment : LeavesFronts device.moment device.left_since opening begun k.course.entries log
+    pub any_moment : LeavesFrontsOf device.moment device.left_since opening.history begun k.course log
     pub is_file : file ≡ log.device
 
   -- A day was not settled, and nothing was printed.
-  pub record BreaksOff (opening : Past) (begun seats : ℕ) (run : KeptRun D) (text : List ℕ) : Type 0 where
+  pub record BreaksOff (opening : Start) (begun seats : ℕ) (run : KeptRun D) (text : List ℕ) : Type 0 where
     pub left : KeptCourse
     pub log : LineLog D
     pub leaves : LeavesDesk opening begun seats left log run.file
@@ -55,7 +56,7 @@ module _ {D : Type 0} (device : Device.Ghosts D) where
 
 module _ {I O N D : Type 0} (source : Source.Ghosts I) (sink : Sink.Ghosts O) (accepts : Accepts.Ghosts N I O) (device : Device.Ghosts D) where
   -- A day was settled and printed, and the file stands for its history.
-  pub record SettlesKept (opening : Past) (begun seats : ℕ) (run : KeptRun D) (text : List ℕ) : Type 0 where
+  pub record SettlesKept (opening : Start) (begun seats : ℕ) (run : KeptRun D) (text : List ℕ) : Type 0 where
     pub left : KeptCourse
     pub log : LineLog D
     pub leaves : LeavesDesk device opening begun seats left log run.file
@@ -65,17 +66,17 @@ module _ {I O N D : Type 0} (source : Source.Ghosts I) (sink : Sink.Ghosts O) (a
     pub is_fault : run.fault ≡ None
 
   -- A day of a desk that was opened on this file ends.
-  abbrev pub EndsKeptDay : Past → ℕ → ℕ → D → KeptRun D → List ℕ → Type 0
+  abbrev pub EndsKeptDay : Start → ℕ → ℕ → D → KeptRun D → List ℕ → Type 0
   EndsKeptDay opening begun seats file run text = SettlesKept opening begun seats run text
       ⊎ (BreaksOff device opening begun seats run text ⊎ HasNoDesk device seats file run text)
 
   -- Why such a day fails: as a day does whose changes aren't kept, or the file failed.
-  abbrev pub FailsKeptDay : Past → ℕ → KeptRun D → (write_failed : Bool) → Type 0
+  abbrev pub FailsKeptDay : Start → ℕ → KeptRun D → (write_failed : Bool) → Type 0
   FailsKeptDay opening seats run write_failed =
       FailsDay source sink accepts opening seats write_failed ⊎ ((run.fault ≡ Some faults.Failed) × FailsOnce device.faults)
 
   -- The port was told, and then the day was served; or a fault came before that, after a front of what is told, and the file is untouched.
-  abbrev pub HostsKept : Past → ℕ → ℕ → D → KeptRun D → List ℕ → Type 0
+  abbrev pub HostsKept : Start → ℕ → ℕ → D → KeptRun D → List ℕ → Type 0
   HostsKept opening begun seats file run text =
       ((port : ℕ) × (day : List ℕ) × (text ≡ listening port ++ day) × EndsKeptDay opening begun seats file run day)
       ⊎ (IsFault run.status × (run.file ≡ file) × (run.fault ≡ None) × ((port count : ℕ) × (text ≡ take count (listening port))))
@@ -86,9 +87,9 @@ module _ {I O N D : Type 0} (source : Source.Ghosts I) (sink : Sink.Ghosts O) (a
     pub is_opened : IsOpened device file held opened
     pub text : List ℕ
     pub written : Appends s.sent s.told text
-    pub hosts : HostsKept opened.state (device.moment opened.log.device) seats opened.log.device run text
+    pub hosts : HostsKept (whole_from opened.state) (device.moment opened.log.device) seats opened.log.device run text
     pub flushed : run.status ≡ 0 → s.flushed ≡ true
-    pub failed : run.status ≡ 3 → (port_failed ≡ true) ⊎ FailsKeptDay opened.state seats run s.write_failed
+    pub failed : run.status ≡ 3 → (port_failed ≡ true) ⊎ FailsKeptDay (whole_from opened.state) seats run s.write_failed
 
   -- a desk on the history of the journal; or a line of it is refused, or the file; or it could not be opened
   abbrev pub RunsDesk : (file : D) → (held : List ℕ) → (seats : ℕ) → KeptRun D → (port_failed : Bool) → Streams → Type 0

@@ -1,7 +1,7 @@
 -- What a connection at a desk is written, and what the program prints once a desk is settled.
-use Rattle.std.specs.Prelude.{◌≡◌, ◌⊎◌, ℕ, Bool, true, false, List, [], ◌++◌, codes, decimal, length, Result, Ok, Err}
+use Rattle.std.specs.Prelude.{◌≡◌, ◌⊎◌, ℕ, Bool, true, false, List, [], ◌++◌, codes, decimal, Result, Ok, Err}
 use Rattle.selective_undo.specs.History.{replay}
-use Rattle.wb_history.specs.Past.{Past, Numbered, meant}
+use Rattle.wb_history.specs.Past.{Numbered, meant}
 use Rattle.wb_log.specs.declared.refusal.Refusal.{Refusal}
 use Rattle.wb_log.specs.declared.refusal.Refusal.TheVariants.{NoMemory}
 use Rattle.wb_protocol.specs.Replies.{reply_of}
@@ -9,7 +9,7 @@ use Rattle.wb_protocol.specs.Requests.{request}
 use Rattle.wb_protocol.specs.declared.replies.reply.Reply.{Reply}
 use Rattle.wb_protocol.specs.declared.replies.reply.Reply.TheVariants.{Refused}
 use Rattle.wb_protocol.specs.declared.requests.request.Request.{Request}
-use Rattle.wb_desk.specs.Courses.{Course}
+use Rattle.wb_desk.specs.Courses.{Course, Start, count_of}
 use Rattle.wb_desk.specs.Seats.{IsNumberOfSeats}
 use Rattle.wb_desk.specs.Serving.{Held, own_after, share_after, AnswersSome}
 use Rattle.wb_text.specs.Lines.{book_text}
@@ -21,7 +21,7 @@ abbrev pub held_after : Held → Request → Reply → Held
 held_after h asked r = record { seat = h.seat; own = own_after h.seat h.own asked r; share = share_after h.share r }
 
 -- What was read is answered by the desk, or by why it is no request.
-abbrev pub RepliesIfRead : Past → Held → Result Request Refusal → Reply → Held → Type 0
+abbrev pub RepliesIfRead : Start → Held → Result Request Refusal → Reply → Held → Type 0
 RepliesIfRead opening h (Ok asked) r k = AnswersSome opening h.seat h.own asked r × (k ≡ held_after h asked r)
 RepliesIfRead opening h (Err why) r k = (r ≡ Refused why) × (k ≡ h)
 
@@ -34,7 +34,7 @@ abbrev pub IsReadAs : List ℕ → Result Request Refusal → Type 0
 IsReadAs line asked = (request line ≡ asked) ⊎ (asked ≡ Err NoMemory)
 
 -- A line is answered with the text of a reply of the desk to the pass, which is another one then.
-pub record AnswersSeat (opening : Past) (h : Held) (line text : List ℕ) (k : Held) : Type 0 where
+pub record AnswersSeat (opening : Start) (h : Held) (line text : List ℕ) (k : Held) : Type 0 where
   pub reply : Reply
   pub is_reply : RepliesIfRead opening h (request line) reply k ⊎ NothingAsked h reply k
   pub is_text : text ≡ reply_of reply
@@ -44,9 +44,9 @@ abbrev pub shown : Bool → List Numbered → List ℕ
 shown false es = book_text (replay (meant es))
 shown true es = history_text es
 
--- what is printed of a desk that is settled: the number of entries, and that text
+-- what is printed of a desk that is settled: the number of entries that are kept, and that text
 abbrev pub settled_text : Bool → Course → List ℕ
-settled_text whole c = codes "settled " ++ (decimal (length c.entries) ++ (codes "\n" ++ shown whole c.history.entries))
+settled_text whole c = codes "settled " ++ (decimal (count_of c.entries) ++ (codes "\n" ++ shown whole c.history.entries))
 
 -- That was printed of a course, with status 0; or a front of it, at a fault.
 abbrev pub PrintsSettled : Bool → Course → ℕ → List ℕ → Type 0

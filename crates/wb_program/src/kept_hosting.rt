@@ -1,6 +1,7 @@
 //! A desk on a port whose changes are kept in the journal at a path.
 ghost use Rattle.std.specs.Prelude.{◌≡◌, ◌⊎◌, ℕ, List, true};
 ghost use Rattle.std.specs.Io.KnownBytes.{Appends};
+ghost use Rattle.wb_desk.specs.Openings.{whole_from};
 ghost use Rattle.wb_keep.specs.Disk.Device.{Only};
 ghost use Rattle.wb_sessions.specs.Keeping.{IsKeptHistory, writer_alone};
 ghost use Rattle.wb_program.specs.KeptDays.{FailsKeptDay, HostsKept, RunsDesk, UsesDesk};
@@ -42,10 +43,10 @@ fn host_kept<
 ) -> KeptRun<D>
     requires kept { IsKeptHistory D.Device kept }
     ensures hosts { (text : List ℕ) × Appends (W.contents writer.old) (W.contents writer.new) text
-        × HostsKept I.Source O.Sink N.Accepts D.Device kept.state (D.moment kept.log.device) seats kept.log.device result text }
+        × HostsKept I.Source O.Sink N.Accepts D.Device (whole_from kept.state) (D.moment kept.log.device) seats kept.log.device result text }
     ensures flushed { result.status ≡ 0 → W.flushed writer.new ≡ true }
     ensures failed { result.status ≡ 3 → (B.failed ports.new ≡ true)
-        ⊎ FailsKeptDay I.Source O.Sink N.Accepts D.Device kept.state seats result (W.failed writer.new) }
+        ⊎ FailsKeptDay I.Source O.Sink N.Accepts D.Device (whole_from kept.state) seats result (W.failed writer.new) }
 {
     match listen(alloc, ports, port, writer) {
         Ok(connections) => {

@@ -17,6 +17,8 @@ use crate::seat::{Hold, Seat, text_of};
 use std::alloc::{AllocError, Global};
 use std::cell::Cell;
 use std::marker::{Model, PhantomData};
+use std::sync::atomic::AtomicBool;
+use std::sync::atomic::Ordering::SeqCst;
 use std::sync::{Mutex, Wait};
 use wb_arrays::Mover;
 use wb_desk::Pass;
@@ -28,7 +30,7 @@ use wb_protocol::Reply;
 
 /// Whether a commit was refused since the file failed.
 #[derive(Drop)]
-pub(crate) struct Failing<D: Device> {
+pub struct Failing<D: Device> {
     has_failed: bool,
     of: PhantomData<D>,
 }
@@ -66,7 +68,7 @@ impl<D: Device> Failing<D> {
     }
 
     /// Whether a commit was refused since the file failed, after a desk was not settled for this cause.
-    pub(crate) fn after(self, cause: SettleErr) -> Failing<D>
+    pub fn after(self, cause: SettleErr) -> Failing<D>
         requires { cause ≡ SettleErr.NotKept CommitErr.DiskFault → FailsOnce D.faults }
     {
         match cause {
@@ -78,33 +80,44 @@ impl<D: Device> Failing<D> {
     }
 
     /// Whether a commit was refused since the file failed.
-    pub(crate) fn has_failed(&self) -> bool
+    pub fn has_failed(&self) -> bool
         ensures { result ≡ true → FailsOnce D.faults }
     {
         self.has_failed
     }
 }
 
-/// A desk whose changes are kept, and whether its file has failed.
+/// A desk whose changes are kept, whether its file has failed, and whether it keeps nothing more.
 #[derive(Drop)]
-pub(crate) struct KeptDesk<L: KeptOpening, D: Device + Drop> {
+pub struct KeptDesk<L: KeptOpening, D: Device + Drop> {
     desk: Desk<L, D>,
     failing: Mutex<Failing<D>>,
+    is_shut: AtomicBool,
 }
 
 impl<L: KeptOpening, D: Device + Drop> KeptDesk<L, D> {
     /// A desk whose file has not failed.
-    pub(crate) fn of(desk: Desk<L, D>) -> KeptDesk<L, D> {
+    pub fn of(desk: Desk<L, D>) -> KeptDesk<L, D> {
         KeptDesk {
             desk,
             failing: Mutex::new(Failing::not_yet()),
+            is_shut: AtomicBool::new(false),
         }
     }
 
     /// The desk, and whether its file has failed.
-    pub(crate) fn into_parts(self) -> (Desk<L, D>, Failing<D>) {
-        let KeptDesk { desk, failing } = self;
+    pub fn into_parts(self) -> (Desk<L, D>, Failing<D>) {
+        let KeptDesk {
+            desk,
+            failing,
+            is_shut: _,
+        } = self;
         (desk, failing.into_inner())
+    }
+
+    /// Whether a turn could not be kept, for whatever cause, so that no later one is.
+    pub fn is_shut(&self) -> bool {
+        self.is_shut.load(SeqCst)
     }
 
     // Notes why nothing more is kept, where the file is the cause.
@@ -123,12 +136,19 @@ impl<L: KeptOpening, D: Device + Drop> KeptDesk<L, D> {
     // Ends a turn, which lets the desk's lock go, and waits until its changes are kept. The receipt opens its replies; where they
     // can't be kept there is none.
     fn keep<R: Wait>(&self, rt: &R, turn: Turn<'_, L>) -> Option<Receipt<L, D>> {
-        let Ok(front) = turn.end() else {
-            return None;
+        let front = match turn.end() {
+            Ok(front) => front,
+            Err(CommitErr::Closed) => {
+                self.is_shut.store(true, SeqCst);
+                return None;
+            }
+            // (without memory the changes come to the next turn)
+            Err(CommitErr::NoMemory) | Err(CommitErr::DiskFault) => return None,
         };
         match self.desk.keep(rt, front) {
             Ok(receipt) => Some(receipt),
             Err(why) => {
+                self.is_shut.store(true, SeqCst);
                 self.note(rt, why);
                 None
             }

@@ -1,6 +1,7 @@
 //! A desk on connections whose changes are kept in a journal: a day of it, and the file that is given back.
 ghost use Rattle.std.specs.Prelude.{◌≡◌, ◌⊎◌, ℕ, List, [], false, true, None, Some, IfOk, IfErr};
 ghost use Rattle.std.specs.Io.KnownBytes.{Appends};
+ghost use Rattle.wb_desk.specs.Openings.{whole_from};
 ghost use Rattle.wb_desk.specs.Serving.{new_passes};
 ghost use Rattle.wb_keep.specs.Lines.{recovered};
 ghost use Rattle.wb_sessions.specs.Checking.{IsFault};
@@ -45,7 +46,7 @@ fn blamed<D: Device + Drop>(failing: &Failing<D>, status: u8) -> (u8, Option<Fil
 }
 
 /// How a day comes out that never begins.
-pub(crate) fn never_begun<D: Device + Drop>(status: u8, kept: Kept<History, D>) -> KeptRun<D>
+pub fn never_begun<D: Device + Drop>(status: u8, kept: Kept<History, D>) -> KeptRun<D>
     ensures { result ≡ record { status = status; fault = None; file = kept.log.device } }
 {
     KeptRun {
@@ -55,8 +56,8 @@ pub(crate) fn never_begun<D: Device + Drop>(status: u8, kept: Kept<History, D>) 
     }
 }
 
-// How a day comes out that was not settled.
-fn broken_off<L: KeptOpening, D: Device + Drop>(
+/// How a day comes out that was not settled.
+pub fn broken_off<L: KeptOpening, D: Device + Drop>(
     seats: &Seats<L>,
     log: LineLog<D>,
     failing: &Failing<D>,
@@ -77,8 +78,8 @@ fn broken_off<L: KeptOpening, D: Device + Drop>(
     }
 }
 
-// How a day comes out where no connection or thread could be had.
-fn left_off<L: KeptOpening, D: Device + Drop>(
+/// How a day comes out where no connection or thread could be had.
+pub fn left_off<L: KeptOpening, D: Device + Drop>(
     alloc: Global,
     desk: KeptDesk<L, D>,
     status: u8,
@@ -105,9 +106,9 @@ fn left_off<L: KeptOpening, D: Device + Drop>(
     }
 }
 
-// The exit status of a day that was not settled, if its file did not fail. (A desk or a keeper that is closed had no memory
-// then.)
-fn status_of_cause(cause: SettleErr) -> u8
+/// The exit status of a day that was not settled, if its file did not fail. (A desk or a keeper that is closed had no memory
+/// then.)
+pub fn status_of_cause(cause: SettleErr) -> u8
     ensures fault { IsFault result }
     ensures passes { result ≡ 3 → ((why : Cause) × (cause ≡ SettleErr.Passes why)) }
 {
@@ -154,8 +155,8 @@ fn settled<L: KeptOpening, N: Accepts<I, O>, I: Source, O: Sink, D: Device + Dro
     }
 }
 
-// Answers what is heard of a connection at a seat until its end or a fault, and gives the pass back.
-fn serve_kept_connection<
+/// Answers what is heard of a connection at a seat until its end or a fault, and gives the pass back.
+pub fn serve_kept_connection<
     L: KeptOpening,
     D: Device + Drop,
     R: Wait,
@@ -277,7 +278,7 @@ fn serve_kept_day<
     requires taking { (taking.name ≡ L.taking) × (taking.parts ≡ 1) }
 
     // What the desk is opened on: the history that the file stands for, at this moment.
-    requires opening { L.opening ≡ kept.state }
+    requires opening { L.opening.history ≡ kept.state }
     requires seats { L.seats ≡ seats }
     requires begun { L.begun ≡ D.moment kept.log.device }
     requires lines { L.lines ≡ recovered (D.seen kept.log.device) }
@@ -330,9 +331,9 @@ pub fn serve_kept_on<
     requires kept { IsKeptHistory D.Device kept }
     requires first { N.accepted connections ≡ 0 }
     ensures ends { (text : List ℕ) × Appends (W.contents writer.old) (W.contents writer.new) text
-        × EndsKeptDay I.Source O.Sink N.Accepts D.Device kept.state (D.moment kept.log.device) seats kept.log.device result text }
+        × EndsKeptDay I.Source O.Sink N.Accepts D.Device (whole_from kept.state) (D.moment kept.log.device) seats kept.log.device result text }
     ensures flushed { result.status ≡ 0 → W.flushed writer.new ≡ true }
-    ensures failed { result.status ≡ 3 → FailsKeptDay I.Source O.Sink N.Accepts D.Device kept.state seats result (W.failed writer.new) }
+    ensures failed { result.status ≡ 3 → FailsKeptDay I.Source O.Sink N.Accepts D.Device (whole_from kept.state) seats result (W.failed writer.new) }
 {
     serve_kept_day::<Brand, R, N, I, O, D, W, M>(
         rt,

@@ -1,7 +1,7 @@
 //! A desk on connections: each seat's lines come on a connection of its own, in a thread of its own.
 ghost use Rattle.std.specs.Prelude.{◌≡◌, ℕ, List, IfOk, IfErr, string_bytes, true, false};
 ghost use Rattle.std.specs.Io.KnownBytes.{Appends};
-ghost use Rattle.wb_desk.specs.Openings.{nothing_done};
+ghost use Rattle.wb_desk.specs.Openings.{nothing_done, whole_from};
 ghost use Rattle.wb_sessions.specs.Checking.{IsFault};
 ghost use Rattle.wb_program.specs.Serving.{shown, settled_text, PrintsSettled};
 ghost use Rattle.wb_program.specs.Days.{ServedOn, AllBack, EndsDay, FailsDay};
@@ -46,9 +46,9 @@ impl<L: Opening, I: Source, O: Sink> Promise<Pass<L>> for Promised<L, I, O> {
     ghost kept_by = { λ p k. ServedOn I.Source O.Sink L.opening p.pass.value p.reader.value p.writer.value k };
 }
 
-// Answers what is heard of a connection at a seat until its end or a fault, and gives the pass back. Replies are gathered while
-// more lines lie ahead.
-fn serve_connection<L: Opening, R: Wait, I: Source + Drop, O: Sink + Drop, M: Mover>(
+/// Answers what is heard of a connection at a seat until its end or a fault, and gives the pass back. Replies are gathered while
+/// more lines lie ahead.
+pub fn serve_connection<L: Opening, R: Wait, I: Source + Drop, O: Sink + Drop, M: Mover>(
     rt: &R,
     alloc: Global,
     desk: &Desk<L>,
@@ -155,7 +155,7 @@ fn settled_text<L: Opening>(
 }
 
 /// Prints how many entries there are, and the workbook or the history: the exit status.
-pub(crate) fn print_settled<L: Opening, W: Sink>(
+pub fn print_settled<L: Opening, W: Sink>(
     alloc: Global,
     shared: &Shared<L>,
     whole: bool,
@@ -196,7 +196,7 @@ fn serve_day<
     requires name { blank.name ≡ L.name }
     requires parts { blank.parts ≡ L.parts }
     requires sixteen { blank.parts ≡ 16 }
-    requires opening { L.opening ≡ history }
+    requires opening { L.opening.history ≡ history }
     requires seats { L.seats ≡ seats }
     requires first { N.accepted connections ≡ 0 }
 
@@ -236,9 +236,9 @@ pub fn serve_on<
 >(rt: &R, alloc: Global, connections: N, seats: usize, writer: &mut W, mover: &M) -> u8
     requires { N.accepted connections ≡ 0 }
     ensures prints { (text : List ℕ) × Appends (W.contents writer.old) (W.contents writer.new) text
-        × EndsDay I.Source O.Sink N.Accepts false nothing_done seats result text }
+        × EndsDay I.Source O.Sink N.Accepts false (whole_from nothing_done) seats result text }
     ensures flushed { result ≡ 0 → W.flushed writer.new ≡ true }
-    ensures failed { result ≡ 3 → FailsDay I.Source O.Sink N.Accepts nothing_done seats (W.failed writer.new) }
+    ensures failed { result ≡ 3 → FailsDay I.Source O.Sink N.Accepts (whole_from nothing_done) seats (W.failed writer.new) }
 {
     let history = History::new(alloc);
     serve_day::<Brand, R, N, I, O, W, M>(
@@ -274,9 +274,9 @@ pub fn serve_history<
 ) -> u8
     requires { N.accepted connections ≡ 0 }
     ensures prints { (text : List ℕ) × Appends (W.contents writer.old) (W.contents writer.new) text
-        × EndsDay I.Source O.Sink N.Accepts true history seats result text }
+        × EndsDay I.Source O.Sink N.Accepts true (whole_from history) seats result text }
     ensures flushed { result ≡ 0 → W.flushed writer.new ≡ true }
-    ensures failed { result ≡ 3 → FailsDay I.Source O.Sink N.Accepts history seats (W.failed writer.new) }
+    ensures failed { result ≡ 3 → FailsDay I.Source O.Sink N.Accepts (whole_from history) seats (W.failed writer.new) }
 {
     serve_day::<Brand, R, N, I, O, W, M>(
         rt,

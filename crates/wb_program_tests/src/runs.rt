@@ -5,7 +5,7 @@ use std::alloc::Global;
 use std::process::Abort;
 use std::test::Fail;
 use wb_arrays::{Crew, Mover};
-use wb_command::{CommandErr, command_of};
+use wb_command::{CommandErr, Wanted, command_of};
 use wb_lines::{Input, Output};
 use wb_sessions::{check_with, run_with};
 
@@ -63,12 +63,22 @@ workbook serve --seats 16 --resume --port 65535 --workers 4 -> Serve { port: 655
 workbook serve --port 0 --seats 1 --journal plan.wb -> ServeKept { journal: FilePath { word: "plan.wb" }, port: 0, seats: 1, workers: 1 }
 workbook serve --port 7000 --seats 2 --journal plan.wb --workers 3 -> ServeKept { journal: FilePath { word: "plan.wb" }, port: 7000, seats: 2, workers: 3 }
 workbook serve --port 7000 --seats 2 --journal plan.wb --resume -> nothing is meant
+workbook serve --stay --port 0 --seats 1 -> Stay(Stay { place: Port(0), seats: 1, idle: 300, workers: 1 })
+workbook serve --idle 0 --seats 2 --port 7000 --stay --workers 3 -> Stay(Stay { place: Port(7000), seats: 2, idle: 0, workers: 3 })
+workbook serve --stay --port 0 --seats 1 --journal plan.wb --idle 86400 -> StayKept { journal: FilePath { word: "plan.wb" }, stay: Stay { place: Port(0), seats: 1, idle: 86400, workers: 1 } }
+workbook serve --stay --socket plan.socket --seats 4 -> Stay(Stay { place: Socket(FilePath { word: "plan.socket" }), seats: 4, idle: 300, workers: 1 })
+workbook serve --stay --socket plan.socket --port 0 --seats 4 -> nothing is meant
+workbook serve --socket plan.socket --seats 4 -> nothing is meant
+workbook serve --stay --port 0 --seats 1 --resume -> nothing is meant
+workbook serve --port 0 --seats 1 --idle 5 -> nothing is meant
+workbook serve --stay --port 0 --seats 1 --idle 86401 -> bad command line
+workbook serve --stay=yes --port 0 --seats 1 -> bad command line
 workbook serve --port 0 --seats 2 --journal -> bad command line
 workbook serve --port 0 --seats 2 --workers 0 -> bad command line
 workbook serve --port 0 --seats 2 --workers 65 -> bad command line
 workbook serve -> bad command line
 workbook serve --port 0 -> bad command line
-workbook serve --seats 2 -> bad command line
+workbook serve --seats 2 -> nothing is meant
 workbook serve --port 65536 --seats 2 -> bad command line
 workbook serve --port -1 --seats 2 -> bad command line
 workbook serve --port http --seats 2 -> bad command line
@@ -84,7 +94,8 @@ fn asked(alloc: Global, line: &str) -> Result<String, Fail> {
         words.push(word)?;
     }
     match command_of(alloc, words.as_slice()) {
-        Ok(asked) => Ok(format!(in alloc; "{asked:?}")?),
+        Ok(Wanted::Once(asked)) => Ok(format!(in alloc; "{asked:?}")?),
+        Ok(wanted) => Ok(format!(in alloc; "{wanted:?}")?),
         Err(CommandErr::Help(_)) => Ok(String::from_str(alloc, "help")?),
         Err(CommandErr::BadCommandLine(_)) => Ok(String::from_str(alloc, "bad command line")?),
         Err(CommandErr::NothingMeant) => Ok(String::from_str(alloc, "nothing is meant")?),

@@ -2,22 +2,25 @@
 #![tactic(auto)]
 
 use smallvec::SmallVec;
-use std::env;
-use std::fs::{File, OpenOptions};
+use std::fs::{File, Files as FileSystem, OpenOptions};
 use std::io::{self, BufWriter};
 use std::net::{Net, TcpListener, TcpStream};
 use std::os::fd::AsRawFd;
 use std::process::ExitCode;
 use std::sync::Wait;
 use std::thread::Threads;
+use std::time::Clock;
+use std::{env, thread};
 use wb_arrays::{Crew, Mover};
-use wb_command::{Asked, CommandErr, command_of};
+use wb_command::{Asked, CommandErr, FilePath, Place, Stay, Wanted, command_of};
 use wb_lines::{Input, Output};
 use wb_program::{Ports, do_asked};
 use wb_sessions::{
     BAD_COMMAND_LINE, DONE, FileFault, Files, INPUT_OR_OUTPUT_FAILED, NO_MEMORY, PutBack, REFUSED,
     Reason,
 };
+use wb_staying::{stay, stay_kept};
+use wb_visits::{Landings, Stop, wait_for_stop};
 
 /// The words of most command lines: so many are lent without memory of their own.
 const FEW: usize = 8;
@@ -39,10 +42,12 @@ struct Ending {
 enum Why {
     /// The words of the command line are none, as the reader of words tells it.
     Words(String),
-    /// They are options that don't go together.
+    /// They are options that don't go together, or one is missing.
     Together,
     /// The port could not be had, in the system's words.
     Port(io::Error),
+    /// The socket could not be had, in the system's words.
+    Socket(io::Error),
     /// No journal is kept, or no more of it, in the system's words if it has any.
     File(FileFault, Option<io::Error>),
     /// This change of a journal, from 0, is not granted.
@@ -101,6 +106,9 @@ fn tell(rt: &HostRuntime, ending: Ending) {
         (REFUSED, Some(Why::Line(place))) => tell_line(rt, place),
         (BAD_COMMAND_LINE, why) => tell_of_words(rt, why),
         (INPUT_OR_OUTPUT_FAILED, Some(Why::Port(cause))) => tell_of_port(rt, cause),
+        (INPUT_OR_OUTPUT_FAILED, Some(Why::Socket(cause))) => {
+            eprintln!(rt; "workbook: the socket was not opened: {cause}")
+        }
         (INPUT_OR_OUTPUT_FAILED, Some(Why::File(fault, cause))) => tell_of_file(rt, fault, cause),
         (INPUT_OR_OUTPUT_FAILED, _) => eprintln!(rt; "workbook: input or output failed"),
         (NO_MEMORY, _) => eprintln!(rt; "workbook: no memory"),
@@ -142,7 +150,9 @@ fn tell_of_words(rt: &HostRuntime, why: Option<Why>) -> io::Result<()> {
             eprintln!(rt; "; for more, try '--help'")
         }
         Some(Why::Together) => {
-            eprintln!(rt; "workbook: these options don't go together; for more, try '--help'")
+            eprintln!(rt;
+                "workbook: these options don't go together, or one is missing; for more, try '--help'"
+            )
         }
         _ => Ok(()),
     }
@@ -192,10 +202,9 @@ fn tell_of_file(rt: &HostRuntime, fault: FileFault, cause: Option<io::Error>) ->
 }
 
 // Does what the words of the command line ask for.
-fn by_words<R: Net<Listener = TcpListener, Stream = TcpStream> + Threads + Wait + Sync>(
-    rt: &HostRuntime,
-    net: &R,
-) -> io::Result<Ending> {
+fn by_words<
+    R: Net<Listener = TcpListener, Stream = TcpStream> + FileSystem + Threads + Wait + Clock + Sync,
+>(rt: &HostRuntime, net: &R) -> io::Result<Ending> {
     let alloc = rt.alloc();
     let mut words = Vec::new(alloc);
     for word in env::args(rt)? {
@@ -208,7 +217,7 @@ fn by_words<R: Net<Listener = TcpListener, Stream = TcpStream> + Threads + Wait 
             .map_err(|_| io::ErrorKind::OutOfMemory)?;
     }
     match command_of(alloc, texts.as_slice()) {
-        Ok(asked) => by_crew(rt, net, asked),
+        Ok(wanted) => by_crew(rt, net, wanted),
         Err(CommandErr::Help(error)) => {
             error.print(rt)?;
             Ok(Ending::of(DONE))
@@ -226,18 +235,31 @@ fn by_words<R: Net<Listener = TcpListener, Stream = TcpStream> + Threads + Wait 
 }
 
 // Does what is asked for, with as many workers as are asked for.
-fn by_crew<R: Net<Listener = TcpListener, Stream = TcpStream> + Threads + Wait + Sync>(
-    rt: &HostRuntime,
-    net: &R,
-    asked: Asked<'_>,
-) -> io::Result<Ending> {
-    match Crew::new(net, workers_of(&asked)) {
-        Ok(crew) => on_devices(rt, net, asked, &crew),
+fn by_crew<
+    R: Net<Listener = TcpListener, Stream = TcpStream> + FileSystem + Threads + Wait + Clock + Sync,
+>(rt: &HostRuntime, net: &R, wanted: Wanted<'_>) -> io::Result<Ending> {
+    match Crew::new(net, workers_wanted(&wanted)) {
+        Ok(crew) => match wanted {
+            Wanted::Once(asked) => on_devices(rt, net, asked, &crew),
+            Wanted::Stay(stay) => until_stopped(rt, net, None, &stay, &crew),
+            Wanted::StayKept { journal, stay } => {
+                until_stopped(rt, net, Some(journal), &stay, &crew)
+            }
+        },
         Err(_) => Ok(Ending::of(BAD_COMMAND_LINE)),
     }
 }
 
 // How many workers move arrays.
+fn workers_wanted(wanted: &Wanted<'_>) -> usize {
+    match wanted {
+        Wanted::Once(asked) => workers_of(asked),
+        Wanted::Stay(stay) => stay.workers as usize,
+        Wanted::StayKept { stay, .. } => stay.workers as usize,
+    }
+}
+
+// How many workers move arrays, of what comes to its own end.
 fn workers_of(asked: &Asked<'_>) -> usize {
     match asked {
         Asked::Run { workers, .. } => *workers as usize,
@@ -278,6 +300,56 @@ fn on_devices<
         (None, None, Some(FileFault::NotGranted(place))) => Some(Why::Line(place)),
         (None, None, Some(fault)) => Some(Why::File(fault, files.cause())),
         (None, None, None) => None,
+    };
+    Ok(Ending { status, why })
+}
+
+// Has a desk stay, perhaps with a journal, until the line `stop` comes on standard input.
+fn until_stopped<
+    R: Net<Listener = TcpListener, Stream = TcpStream> + FileSystem + Threads + Wait + Clock + Sync,
+    M: Mover + Sync,
+>(
+    rt: &HostRuntime,
+    net: &R,
+    journal: Option<FilePath<'_>>,
+    asked: &Stay<'_>,
+    mover: &M,
+) -> io::Result<Ending> {
+    let alloc = rt.alloc();
+    let stop = Stop::new(alloc).map_err(|_| io::ErrorKind::OutOfMemory)?;
+    let told = stop.again().map_err(|_| io::ErrorKind::OutOfMemory)?;
+    let input = rt.stdin();
+    // (the thread waits for a line that may never come, and ends with the program)
+    let _waiting = thread::spawn(net, move || wait_for_stop(input, alloc, told)).map_err(
+        |_| io::ErrorKind::Other,
+    )?;
+    let mut ports = Landings::of(net, alloc, stop, asked.idle);
+    let mut files = Files::of(rt);
+    let mut output = Output::new(BufWriter::new(alloc, rt.stdout())?);
+    let status = match journal {
+        None => stay(net, alloc, &mut ports, asked, &mut output, mover),
+        Some(path) => stay_kept(
+            net,
+            alloc,
+            &mut ports,
+            &mut files,
+            path.as_str(),
+            asked,
+            &mut output,
+            mover,
+        ),
+    };
+    if let Place::Socket(path) = &asked.place {
+        ports.take_away(path.as_str());
+    }
+    let why = match (ports.cause(), files.told()) {
+        (Some(cause), _) => Some(match &asked.place {
+            Place::Port(_) => Why::Port(cause),
+            Place::Socket(_) => Why::Socket(cause),
+        }),
+        (None, Some(FileFault::NotGranted(place))) => Some(Why::Line(place)),
+        (None, Some(fault)) => Some(Why::File(fault, files.cause())),
+        (None, None) => None,
     };
     Ok(Ending { status, why })
 }

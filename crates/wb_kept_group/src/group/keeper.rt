@@ -87,6 +87,7 @@ impl<G: Group, C: Drop, E: Drop, T: Store<C, E> + Drop> Keeper<G, C, E, T> {
         let batch = desk.lock(rt).take(alloc, &mut self.mark);
         self.front.agrees(&batch.before);
         self.front = batch.after;
+        told.begin(&self.front);
         if let Err(error) = self.store.add(&batch.turns) {
             self.is_open = false;
             return Err(KeepErr::Failed(error));
@@ -152,8 +153,9 @@ fn keep_if_free<R: Wait, G: Group, C: Drop, E: Drop, T: Store<C, E> + Drop, W: D
 {
     let mut guard = keeper.try_lock()?;
     let kept = guard.keep(rt, alloc, desk, told, front);
+    let last = told.look();
     drop(guard);
-    told.wake();
+    told.wake(last, kept.is_ok());
     Some(kept)
 }
 
@@ -172,15 +174,15 @@ pub fn keep<R: Wait, G: Group, C: Drop, E: Drop, T: Store<C, E> + Drop, W: Desk<
     ensures failed { (error : E) → result ≡ Err (KeepErr.Failed error) → (old : T × List C) × T.has old.0 old.1 × IsGivenUp T.leaves T.tells old error }
 {
     for _ in rt.forever() {
-        let ended = told.ended();
-        if told.has(rt, front) {
+        let look = told.look();
+        if look.has_taken(front.len()) && told.has(rt, front) {
             return Ok(());
         }
         match keep_if_free(rt, alloc, desk, keeper, told, front) {
             Some(Ok(true)) => return Ok(()),
             Some(Ok(false)) => {}
             Some(Err(error)) => return Err(error),
-            None => told.wait(rt, ended),
+            None => told.wait(rt, look, front),
         }
     }
     Err(KeepErr::Closed)

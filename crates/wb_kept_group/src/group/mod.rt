@@ -1,6 +1,7 @@
 //! Turns that several threads make under one lock, and that are kept together under another.
 
 mod book;
+mod ends;
 mod keeper;
 mod store;
 mod told;

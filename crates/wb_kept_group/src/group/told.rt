@@ -3,9 +3,9 @@ ghost use Rattle.std.specs.Prelude.{◌≡◌, true};
 ghost use Rattle.wb_kept_group.specs.Group.Keeping.{WasHad};
 
 use crate::group::book::{Front, Group};
+use crate::group::ends::{Ends, Look};
 use crate::group::store::Store;
 use std::marker::{Model, PhantomData};
-use std::sync::atomic::{AtomicU64, Ordering};
 use std::sync::{Mutex, Wait};
 
 /// Turns that some store had. Contracts see it as those turns.
@@ -27,11 +27,12 @@ impl<G: Group, C: Drop, E: Drop, T: Store<C, E> + Drop> Model for Noted<G, C, E,
     ghost invariant = { λ n. WasHad T.has n.front };
 }
 
-/// The turns that were kept when a batch was last, under a lock that is held for a look alone, and how many batches ended.
+/// The turns that were kept when a batch was last, under a lock that is held for a look alone, and where those sleep that wait
+/// for the end of a batch.
 #[derive(Drop)]
 pub struct Told<G: Group, C: Drop, E: Drop, T: Store<C, E> + Drop> {
     noted: Mutex<Option<Noted<G, C, E, T>>>,
-    ended: AtomicU64,
+    ends: Ends,
 }
 
 impl<G: Group, C: Drop, E: Drop, T: Store<C, E> + Drop> Told<G, C, E, T> {
@@ -39,7 +40,7 @@ impl<G: Group, C: Drop, E: Drop, T: Store<C, E> + Drop> Told<G, C, E, T> {
     pub fn new() -> Told<G, C, E, T> {
         Told {
             noted: Mutex::new(None),
-            ended: AtomicU64::new(0),
+            ends: Ends::new(),
         }
     }
 
@@ -65,20 +66,28 @@ impl<G: Group, C: Drop, E: Drop, T: Store<C, E> + Drop> Told<G, C, E, T> {
         *self.noted.lock(rt) = Some(noted);
     }
 
-    /// How many batches ended.
-    pub(crate) fn ended(&self) -> u64 {
-        self.ended.load(Ordering::SeqCst)
+    /// Notes that a batch was taken, up to the last turn of a front.
+    pub(crate) fn begin(&self, front: &Front<G, C>) {
+        self.ends.begin(front.len());
     }
 
-    /// Wakes all that wait for the end of a batch, whether it was kept or not. The lock under which it was kept is let go
-    /// before, so that no thread finds it held after this.
-    pub(crate) fn wake(&self) {
-        let _ = self.ended.fetch_add(1, Ordering::SeqCst);
-        self.ended.wake_all();
+    /// A look at the batch that was taken last.
+    pub(crate) fn look(&self) -> Look {
+        self.ends.look()
     }
 
-    /// Waits for the end of a batch, where none ended since so many had.
-    pub(crate) fn wait<R: Wait>(&self, rt: &R, ended: u64) {
-        self.ended.park(rt, (ended % 4_294_967_296) as u32);
+    /// Wakes those that wait for the end of the batch that had been taken last at a look, and one of those that wait to take the
+    /// next. Where nothing is kept any more, all are woken.
+    pub(crate) fn wake(&self, look: Look, is_open: bool) {
+        if is_open {
+            self.ends.end(look);
+        } else {
+            self.ends.close();
+        }
+    }
+
+    /// Waits for the end of the batch that has the last turn of a front, or of the one before it.
+    pub(crate) fn wait<R: Wait>(&self, rt: &R, look: Look, front: &Front<G, C>) {
+        self.ends.wait(rt, look, front.len());
     }
 }

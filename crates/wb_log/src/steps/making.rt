@@ -1,18 +1,20 @@
 //! The changes of a planned edit are made, and what takes them back is kept in the form that takes the least room.
 
-ghost use Rattle.std.specs.Prelude.{◌≡◌, [], ◌∷◌, Some, IfOk, IfSome, OnOk, OnErr, true};
+ghost use Rattle.std.specs.Prelude.{◌≡◌, [], ◌∷◌, ◌++◌, Some, IfOk, IfSome, OnOk, OnErr, true};
 ghost use Rattle.std.specs.FinMap.{get};
 ghost use Rattle.std.specs.Ordering.{eq_by_cmp};
 ghost use Rattle.selective_undo.specs.Changes.{apply, inverse};
 ghost use Rattle.wb_cells.specs.Cells.{Cells, cell_cmp, written_more, count_of};
 ghost use Rattle.wb_cells.specs.WellFormed.{IsWellFormed};
-ghost use Rattle.wb_log.specs.Records.{shown, kept_of, number_before};
+ghost use Rattle.wb_cells.specs.Reads.{read_in, all_read, patterns_of};
+ghost use Rattle.wb_cells.specs.declared.cells.pattern.Pattern.TheVariants.{One};
+ghost use Rattle.wb_log.specs.Records.{shown, kept_of, cell_before, value_before};
 
-use crate::entry::{Entry, Form, Kept, Record};
+use crate::entry::{Before, Entry, Form, Kept, Record};
 use std::alloc::Global;
 use wb_arrays::Mover;
 use wb_book::Book;
-use wb_cells::{Cell, Changes, Delta, Pattern, Value};
+use wb_cells::{Cell, Changes, Delta, Pattern, ReadRun, Value};
 use wb_edit::{Edit, Footprint};
 use wb_range::NoMemory;
 
@@ -23,13 +25,20 @@ pub(crate) fn is_same(a: &Cell, b: &Cell) -> bool
     *a == *b
 }
 
-// Whether the patterns are equal, and are those of a cell.
-fn is_same_one(pattern: &Pattern, other: &Pattern) -> bool
+// Whether the patterns are equal. It may miss that, but not the other way round.
+fn is_same_pattern(pattern: &Pattern, other: &Pattern) -> bool
     ensures { result ≡ true → pattern.now ≡ other.now }
 {
-    match (pattern, other) {
-        (Pattern::One(one), Pattern::One(by)) => is_same(&one.cell(), &by.cell()),
-        _ => false,
+    match pattern {
+        Pattern::One(one) => match other {
+            Pattern::One(by) => is_same(&one.cell(), &by.cell()),
+            _ => false,
+        },
+        Pattern::Uses(name) => match other {
+            Pattern::Uses(by) => name.is_same(by),
+            _ => false,
+        },
+        Pattern::Objects | Pattern::Members(_) | Pattern::Elements(_) => false,
     }
 }
 
@@ -41,13 +50,14 @@ fn are_same(reads: &[Pattern], others: &[Pattern]) -> bool
         return false;
     }
     for at in 0..reads.len() {
-        if !is_same_one(&reads[at], &others[at]) {
+        if !is_same_pattern(&reads[at], &others[at]) {
             return false;
         }
     }
     true
 }
 
+// Whether a list of changes is of one cell, this one.
 fn changes_one(changes: &Changes, target: &Cell) -> bool
     ensures { result ≡ true → (s : Cells) → inverse changes.now s ≡ record { cell = target.now; value = get s target.now } ∷ [] }
 {
@@ -58,43 +68,104 @@ fn changes_one(changes: &Changes, target: &Cell) -> bool
     is_same(&changes.cell_near(0, &mut near), target)
 }
 
-// What number a cell held, where all that a plan does is to change it, and these are all the patterns that it read.
-fn old_number(
+// Whether the cells of a list are one, this one.
+fn lists_one(cells: &Changes, target: &Cell) -> bool
+    ensures { result ≡ true → patterns_of cells.now ≡ One target.now ∷ [] }
+{
+    if cells.len() != 1 {
+        return false;
+    }
+    let mut near = 0;
+    is_same(&cells.cell_near(0, &mut near), target)
+}
+
+// Whether a run is of one pattern, this one.
+fn is_run_of(run: &ReadRun, pattern: &Pattern) -> bool
+    ensures { result ≡ true → read_in run.now ≡ pattern.now ∷ [] }
+{
+    match run {
+        ReadRun::Single(one) => is_same_pattern(one, pattern),
+        ReadRun::Cells(cells) => match pattern {
+            Pattern::One(cell) => lists_one(cells, &cell.cell()),
+            _ => false,
+        },
+    }
+}
+
+// Whether the patterns that were read first, and that of the one run behind them, are these.
+fn are_of(first: &[Pattern], rest: &[ReadRun], reads: &[Pattern]) -> bool
+    ensures { result ≡ true → first.now ++ all_read rest.now ≡ reads.now }
+{
+    if rest.len() != 1 {
+        return false;
+    }
+    let Some((last, start)) = reads.split_last() else {
+        return false;
+    };
+    if !are_same(first, start) {
+        return false;
+    }
+    is_run_of(&rest[0], last)
+}
+
+// Whether the patterns of a footprint are these, of which the last may be kept in a run.
+fn is_of(footprint: &Footprint, reads: &[Pattern]) -> bool
+    ensures { result ≡ true → footprint.now ≡ reads.now }
+{
+    let (first, rest) = footprint.parts();
+    if rest.is_empty() {
+        return are_same(first, reads);
+    }
+    are_of(first, rest, reads)
+}
+
+// What a cell held, where that is a number, that an index is there, or nothing.
+fn held(book: &Book, target: &Cell) -> Option<Before>
+    ensures { IfSome result (λ was. get book.now.cells target.now ≡ value_before was) }
+{
+    match book.get(target) {
+        None => Some(Before::Nothing),
+        Some(Value::Number(number)) => Some(Before::Number(number)),
+        Some(Value::Present) => Some(Before::Present),
+        Some(_) => None,
+    }
+}
+
+// What a cell held, where all that a plan does is to change it, and these are all the patterns that it read.
+fn old_value(
     book: &Book,
     reads: &[Pattern],
     target: &Cell,
     delta: &Delta,
     footprint: &Footprint,
-) -> Option<i64>
-    ensures { IfSome result (λ was. (footprint.now ≡ reads.now) × (inverse delta.now book.now.cells ≡ number_before target.now was)) }
+) -> Option<Before>
+    ensures { IfSome result (λ was. (footprint.now ≡ reads.now) × (inverse delta.now book.now.cells ≡ cell_before target.now was)) }
 {
-    let (first, rest) = footprint.parts();
-    if !rest.is_empty() || !are_same(first, reads) {
+    if !is_of(footprint, reads) {
         return None;
     }
     if !changes_one(delta.changes(), target) {
         return None;
     }
-    match book.get(target) {
-        Some(Value::Number(was)) => Some(was),
-        _ => None,
-    }
+    held(book, target)
 }
 
-// What number the edit of a form changed, where what it read, and what takes it back, follow from that.
-fn old_of(book: &Book, form: &Form, delta: &Delta, footprint: &Footprint) -> Option<i64>
+// What the cell held that the edit of a form changed, where what it read, and what takes it back, follow from that.
+fn old_of(book: &Book, form: &Form, delta: &Delta, footprint: &Footprint) -> Option<Before>
     ensures { IfSome result (λ was. kept_of form.now (Some was) ≡ Some (record { footprint = footprint.now; inverse = inverse delta.now book.now.cells })) }
 {
     match form {
-        Form::Set(element) => old_number(book, &element.reads(), &element.cell(), delta, footprint),
-        Form::Copy(copied) => old_number(book, &copied.reads(), &copied.cell(), delta, footprint),
-        Form::Irv(implicit) => old_number(
+        Form::Set(element) => old_value(book, &element.reads(), &element.cell(), delta, footprint),
+        Form::Copy(copied) => old_value(book, &copied.reads(), &copied.cell(), delta, footprint),
+        Form::Irv(implicit) => old_value(
             book,
             &implicit.reads(),
             &implicit.cell(),
             delta,
             footprint,
         ),
+        Form::Member(member) => old_value(book, &member.reads(), &member.cell(), delta, footprint),
+        Form::Fill(filled) => old_value(book, &filled.reads(), &filled.cell(), delta, footprint),
         Form::Whole(_) => None,
     }
 }
@@ -186,7 +257,7 @@ fn make_unlike<M: Mover>(
     }
 }
 
-// Makes the changes, and keeps what takes them back: the number that was, where all else follows from it.
+// Makes the changes, and keeps what takes them back: what the one cell held, where all else follows from it.
 fn make_form<M: Mover>(
     alloc: Global,
     book: &mut Book,

@@ -171,7 +171,7 @@ fn day_of<L: Opening + Send + Sync, R: Threads + Wait + Sync, M: Mover + Sync>(
     requires name { blank.name ≡ L.name }
     requires parts { blank.parts ≡ L.parts }
     requires sixteen { blank.parts ≡ 16 }
-    requires opening { L.opening ≡ nothing_done }
+    requires opening { L.opening.history ≡ nothing_done }
     requires seats { L.seats ≡ day.now.seats }
 {
     let (desk, mut passes) = match Desk::<L>::new(alloc, blank, day.seats) {

@@ -1,4 +1,5 @@
 //! Days of a desk: `wb_desk`.
 mod days;
+mod early;
 mod openings;
 mod threads;

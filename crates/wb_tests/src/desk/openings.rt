@@ -39,7 +39,7 @@ fn day_from<L: Opening, R: Wait, M: Mover>(
     requires name { blank.name ≡ L.name }
     requires parts { blank.parts ≡ L.parts }
     requires sixteen { blank.parts ≡ 16 }
-    requires opening { L.opening ≡ history }
+    requires opening { L.opening.history ≡ history }
     requires seats { L.seats ≡ 1 }
 {
     let Ok((desk, mut passes)) = Desk::<L>::open_at(alloc, blank, 1, history) else {
@@ -88,7 +88,7 @@ fn given_back<L: Opening>(
     requires name { blank.name ≡ L.name }
     requires parts { blank.parts ≡ L.parts }
     requires sixteen { blank.parts ≡ 16 }
-    requires opening { L.opening ≡ history }
+    requires opening { L.opening.history ≡ history }
     requires seats { L.seats ≡ seats }
 {
     match Desk::<L>::open_at(alloc, blank, seats, history) {

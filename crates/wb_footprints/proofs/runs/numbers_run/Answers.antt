@@ -1,4 +1,4 @@
-use Rattle.std.proofs.Common.{Some, length, map, sym, ap, ◌∙◌}
+use Rattle.std.proofs.Common.{Some, map, ap, ◌∙◌}
 use Rattle.std.specs.List.{list_any}
 use Rattle.std.proofs.lemmas.List.{length-map}
 use Rattle.std.proofs.lemmas.Slice.Zip.{firsts-zip}

@@ -248,6 +248,30 @@ const UNDONE_AND_REDONE: &str = r#"
 {"op":"state","k":6} -> {"in_force":false}
 "#;
 
+// Fills at the one index of a rectangle, by number, among sets of the same elements.
+const FILLS_OF_ONE_ELEMENT: &str = r#"
+{"op":"domain","d":"D","is":"{1..4}"} -> {"edit":1,"n":3}
+{"op":"array","a":"A","d":"D"} -> {"edit":2,"n":7}
+{"op":"set","a":"A","i":2,"v":5} -> {"edit":3,"n":1}
+{"op":"fill","a":"A","on":"{2..2}","v":7} -> {"edit":4,"n":1}
+{"op":"fill","a":"A","on":"{3..4 by 2}","v":8} -> {"edit":5,"n":1}
+{"op":"undo","k":3} -> {"by":4,"error":"E14","name":"blocked"}
+{"op":"set","a":"A","i":3,"v":9} -> {"edit":6,"n":1}
+{"op":"undo","k":5} -> {"by":6,"error":"E14","name":"blocked"}
+{"op":"undo","k":4} -> {"n":1,"undone":4}
+{"op":"get","a":"A","i":2} -> {"value":5}
+{"op":"undo","k":3} -> {"n":1,"undone":3}
+{"op":"redo","k":4} -> {"n":1,"redone":4}
+{"op":"redo","k":3} -> {"by":4,"error":"E14","name":"blocked"}
+{"op":"undo","k":4} -> {"n":1,"undone":4}
+{"op":"get","a":"A","i":2} -> {"value":0}
+{"op":"cascade","k":5} -> {"n":2,"undone":[6,5]}
+{"op":"get","a":"A","i":3} -> {"value":0}
+{"op":"redo","k":5} -> {"n":1,"redone":5}
+{"op":"get","a":"A","i":3} -> {"value":8}
+{"op":"undo","k":2} -> {"by":5,"error":"E14","name":"blocked"}
+"#;
+
 // Fills and a reshape of so many cells that the index keeps them as blocks.
 const RUNS_OF_MANY_CELLS: &str = r#"
 {"op":"domain","d":"D","is":"{1..100}"} -> {"edit":1,"n":3}
@@ -300,7 +324,7 @@ const ARRAYS_OF_MANY_ELEMENTS: &str = r#"
 "#;
 
 /// Each script, over a history of its own.
-pub const SCRIPTS: [Script; 18] = [
+pub const SCRIPTS: [Script; 19] = [
     ("", UNDONE_AND_REDONE, 6, 44),
     (OPENING, REFUSED, 2, 10),
     (OPENING, SIZES, 3, 16),
@@ -317,6 +341,7 @@ pub const SCRIPTS: [Script; 18] = [
     (OPENING, DROPPED, 5, 39),
     (OPENING, COMBINED, 10, 47),
     (OPENING, NOT_COMBINED, 8, 30),
+    ("", FILLS_OF_ONE_ELEMENT, 6, 21),
     ("", RUNS_OF_MANY_CELLS, 8, 1116),
     ("", ARRAYS_OF_MANY_ELEMENTS, 7, 911),
 ];

@@ -136,12 +136,57 @@ const COPIES_OVER_A_SPARSE_DOMAIN: &str = r#"
 {"op":"get","a":"A","i":2} -> {"value":6}
 "#;
 
+// Indices that come to an associative domain and leave it, by number, and an array over it that comes later and goes.
+const COMING_AND_LEAVING: &str = r#"
+{"op":"assoc","d":"N","of":"int"} -> {"edit":1,"n":1}
+{"op":"add","d":"N","i":5} -> {"edit":2,"n":1}
+{"op":"add","d":"N","i":6} -> {"edit":3,"n":1}
+{"op":"remove","d":"N","i":5} -> {"edit":4,"n":1}
+{"op":"undo","k":1} -> {"by":2,"error":"E14","name":"blocked"}
+{"op":"undo","k":2} -> {"by":4,"error":"E14","name":"blocked"}
+{"op":"undo","k":3} -> {"n":1,"undone":3}
+{"op":"size","d":"N"} -> {"size":0}
+{"op":"undo","k":4} -> {"n":1,"undone":4}
+{"op":"where","d":"N","i":5} -> {"locale":0}
+{"op":"array","a":"A","d":"N"} -> {"edit":5,"n":4}
+{"op":"undo","k":2} -> {"by":5,"error":"E14","name":"blocked"}
+{"op":"redo","k":3} -> {"by":5,"error":"E14","name":"blocked"}
+{"op":"undo","k":5} -> {"n":4,"undone":5}
+{"op":"redo","k":3} -> {"n":1,"redone":3}
+{"op":"redo","k":5} -> {"n":5,"redone":5}
+{"op":"redo","k":4} -> {"by":5,"error":"E14","name":"blocked"}
+{"op":"undo","k":5} -> {"n":5,"undone":5}
+{"op":"redo","k":4} -> {"n":1,"redone":4}
+{"op":"where","d":"N","i":5} -> {"error":"E06","name":"out-of-domain"}
+{"op":"undo"} -> {"n":1,"undone":4}
+{"op":"where","d":"N","i":5} -> {"locale":0}
+"#;
+
+// An index came while no array was over its domain, and is brought back where one is.
+const COMING_UNDER_AN_ARRAY: &str = r#"
+{"op":"assoc","d":"N","of":"int"} -> {"edit":1,"n":1}
+{"op":"array","a":"A","d":"N"} -> {"edit":2,"n":3}
+{"op":"undo","k":2} -> {"n":3,"undone":2}
+{"op":"add","d":"N","i":5} -> {"edit":3,"n":1}
+{"op":"undo","k":3} -> {"n":1,"undone":3}
+{"op":"redo","k":2} -> {"n":3,"redone":2}
+{"op":"redo","k":3} -> {"n":2,"redone":3}
+{"op":"get","a":"A","i":5} -> {"value":0}
+{"op":"undo","k":2} -> {"by":3,"error":"E14","name":"blocked"}
+{"op":"undo","k":3} -> {"n":2,"undone":3}
+{"op":"undo","k":2} -> {"n":3,"undone":2}
+{"op":"redo","k":3} -> {"n":1,"redone":3}
+{"op":"size","d":"N"} -> {"size":1}
+"#;
+
 /// Each script, over a history of its own.
-pub const SCRIPTS: [Script; 6] = [
+pub const SCRIPTS: [Script; 8] = [
     ("", ADDING_TWICE, 4, 3),
     ("", SPARSE_WITH_AN_IMPLICIT_VALUE, 7, 25),
     ("", INDEX_REMOVED, 7, 15),
     ("", DOMAINS_DROPPED, 13, 61),
     ("", MAPPED_BY_THE_PARENT, 5, 9),
     ("", COPIES_OVER_A_SPARSE_DOMAIN, 9, 23),
+    ("", COMING_AND_LEAVING, 5, 27),
+    ("", COMING_UNDER_AN_ARRAY, 3, 20),
 ];

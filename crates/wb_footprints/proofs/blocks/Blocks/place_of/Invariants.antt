@@ -1,7 +1,5 @@
-use Rattle.std.proofs.Common.{◌≡◌, false, take}
-use Rattle.wb_footprints.specs.Points.{Coordinates}
-use Rattle.wb_footprints.specs.Blocks.{in_blocks}
+use Rattle.std.proofs.Common.{◌≡◌}
 use Rattle.wb_footprints.proofs.blocks.Blocks.place_of.Given as goal
 
 abbrev pub invariant-loop-block : goal.invariant-loop-block
-invariant-loop-block l = record { at : l.place ≡ l.block-index; none : (p : Coordinates) → in_blocks (take l.block-index l.self.list.items) p l.number ≡ false }
+invariant-loop-block l = l.place ≡ l.block-index

@@ -1,10 +1,13 @@
-use Rattle.std.proofs.Common.{◌≡◌, ℕ, false, ◌==◌, length}
+use Rattle.std.proofs.Common.{◌≡◌, ℕ, false, ◌==◌, ◌-◌, length, take}
 use Rattle.wb_footprints.specs.Points.{Coordinates}
 use Rattle.wb_footprints.specs.Blocks.{in_blocks}
 use Rattle.wb_footprints.proofs.blocks.Blocks.take.Given as goal
 
 abbrev pub invariant-loop-place : goal.invariant-loop-place
-invariant-loop-place l = (p : Coordinates) (n : ℕ) → (l.number == n) ≡ false → in_blocks l.self.list.items p n ≡ in_blocks l.initial.self.list.items p n
+invariant-loop-place l = record {
+  others : (p : Coordinates) (n : ℕ) → (l.number == n) ≡ false → in_blocks l.self.list.items p n ≡ in_blocks l.initial.self.list.items p n;
+  gone : (p : Coordinates) → in_blocks (take l.place l.self.list.items) p l.number ≡ false;
+}
 
 abbrev pub decreases-loop-place : goal.decreases-loop-place
-decreases-loop-place l = length l.self.list.items
+decreases-loop-place l = length l.self.list.items - l.place

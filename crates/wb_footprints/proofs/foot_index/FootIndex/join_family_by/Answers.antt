@@ -16,5 +16,5 @@ pub returns-clause-swept : goal.returns-clause-swept
 returns-clause-swept c =
     on_ok_weaker c.add_family.result
     (λ sets. asked_more c.args.self.now c.args.swept.now c.add_family.new.self c.args.waiting.now c.join_family.new.waiting c.args.after c.args.cell.now
-    c.requires c.in_ok-join_family.ensures sets c.add_family.ensures.cells)
+    c.requires c.in_ok-join_family.ensures sets c.add_family.ensures.cells c.add_family.ensures.runs)
     c.add_family.ensures.families

@@ -1,11 +1,22 @@
 use Rattle.std.proofs.lemmas.Result.{on_ok_weaker}
-use Rattle.wb_footprints.proofs.Through.{new_joined}
+use Rattle.std.specs.List.{list_any}
+use Rattle.wb_footprints.specs.Places.{cell_at}
+use Rattle.wb_footprints.specs.Footprints.{marked_own}
+use Rattle.wb_footprints.proofs.Through.{wait_already, run_waits}
 use Rattle.wb_footprints.proofs.foot_index.FootIndex.join_own_run.Goals as goal
 
-pub returns-in-Some-clause-joined : goal.returns-in-Some-clause-joined
-returns-in-Some-clause-joined c =
-    let row = c.args.run.now.row in
-    on_ok_weaker c.join_own_new.result
-    (λ h. new_joined c.args.self.now c.args.swept.now c.args.waiting.now c.join_own_new.new.waiting c.args.after row.kind row.name c.in-Some.points
-    c.args.run.now.points c.requires c.in-Some.ensures h)
-    c.join_own_new.ensures.joined
+pub returns-then-has_run-clause-joined : goal.returns-then-has_run-clause-joined
+returns-then-has_run-clause-joined c =
+    let m = c.args.self.now in
+    let run = c.args.run in
+    wait_already c.args.waiting.now (λ n. list_any (λ p. marked_own m (cell_at run.row.kind run.row.name p) n) run.points) c.args.after
+    (run_waits m c.args.swept.now c.args.waiting.now c.args.after run c.requires (c.has_run.ensures c.if-has_run.true))
+
+pub returns-clause-joined : goal.returns-clause-joined
+returns-clause-joined c = on_ok_weaker c.keep.result (λ h. c.in_ok-join_own_left.ensures.joined) c.keep.ensures
+
+pub returns-clause-swept : goal.returns-clause-swept
+returns-clause-swept c =
+    on_ok_weaker c.keep.result
+    (λ h. h c.args.self.now c.join_own_left.new.waiting c.args.after c.in_ok-join_own_left.ensures.swept c.in_ok-join_own_left.ensures.joined.all)
+    c.keep.ensures

@@ -19,7 +19,7 @@ invariant_of-self g c =
     let ahead = subst (λ (asked : Request). IsAhead asked c.line_ahead-ahead.result) c.request.ensures.request c.line_ahead-ahead.ensures in
     let a = answered k l c.args.pass.now.seat c.args.pass.now.own c.args.said c.line_ahead-ahead.result c.serve-reply.result told.strange answers told.total
     refl refl ahead waits.ensures.left waits.ensures.told in
-    kept_answered g.L.Opening.opening g.L.KeptOpening.lines k l c.args.pass.now.seat c.args.pass.now.own c.args.said c.serve-reply.result c.into_request.ensures.said a c.self.invariant
+    kept_answered g.L.Opening.opening.history g.L.KeptOpening.lines k l c.args.pass.now.seat c.args.pass.now.own c.args.said c.serve-reply.result c.into_request.ensures.said a c.self.invariant
 
 pub returns-clause-answers : goal.returns-clause-answers
 returns-clause-answers g c =

@@ -7,7 +7,7 @@ pub invariant_of-self : goal.invariant_of-self
 invariant_of-self g c =
     let was = c.self.inside in
     let added = c.in-Ok.ensures.made in
-    kept_ended g.L.Opening.opening g.L.KeptOpening.lines (kept_course was.shared was.turns was.changes was.is_open)
+    kept_ended g.L.Opening.opening.history g.L.KeptOpening.lines (kept_course was.shared was.turns was.changes was.is_open)
     (kept_course was.shared c.add.new.self c.replace-changes.new.dest was.is_open) c.self.invariant c.if-not-self.false refl
     (ap (λ w. w.1) added.1 ∙ added.0 ∙ ap (λ (turn : List (List ℕ)). was.turns.1 ++ turn ∷ []) c.replace-changes.ensures.value)
     (c.replace-changes.ensures.after ∙ c.new.ensures)

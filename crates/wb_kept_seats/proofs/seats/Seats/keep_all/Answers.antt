@@ -1,13 +1,20 @@
-use Rattle.std.proofs.Common.{◌≡◌, ◌<◌, sym, ap, ◌∙◌, subst}
+use Rattle.std.proofs.Common.{◌≡◌, ◌<◌, refl, sym, ap, ◌∙◌, subst}
 use Rattle.wb_keep.specs.declared.keep.LineLog.{LineLog}
 use Rattle.wb_keep.specs.declared.keep.AppendErr.TheVariants as appending
 use Rattle.wb_kept_seats.specs.declared.commit.CommitErr.TheVariants.{DiskFault}
 use Rattle.wb_kept_seats.specs.Files.{LeavesTurns}
-use Rattle.wb_kept_seats.specs.KeptCourses.{KeptCourse}
+use Rattle.wb_kept_seats.specs.KeptCourses.{KeptCourse, kept_course}
 use Rattle.wb_kept_seats.proofs.Files.{left_within}
+use Rattle.wb_kept_seats.proofs.Fronts.{kept_same}
 use Rattle.wb_kept_seats.proofs.Committing.{fault_by, same_error, no_error}
 use Rattle.wb_kept_seats.proofs.seats.Seats.keep_all.Goals.{in-Ok, in-Err}
 use Rattle.wb_kept_seats.proofs.seats.Seats.keep_all.Goals as goal
+
+pub invariant_of-self : goal.invariant_of-self
+invariant_of-self g c =
+    let was = c.self.inside in
+    kept_same g.L.Opening.opening.history g.L.KeptOpening.lines (kept_course was.shared was.turns was.changes was.is_open)
+    (kept_course was.shared c.keep_all.new.desk was.changes was.is_open) c.self.invariant refl c.keep_all.ensures.made refl refl
 
 pub returns-clause-any_moment : goal.returns-clause-any_moment
 returns-clause-any_moment g c = elim c.match-keep_all.branch [

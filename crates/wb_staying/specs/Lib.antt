@@ -1,0 +1,2 @@
+pub mod KeptStays
+pub mod Stays

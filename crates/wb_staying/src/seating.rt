@@ -1,0 +1,134 @@
+//! The seats of a desk that stays, each lent to one connection after another by a thread of its own.
+//!
+//! `wb_lending` lends any places, by a host who serves. Here the call that serves stands in the loop itself, since no proof is made
+//! of a method of a trait that comes to a mover's threads.
+ghost use Rattle.std.specs.Prelude.{◌≡◌, IfOk, IfErr, true};
+ghost use Rattle.wb_lending.specs.Lending.{AllLent, Lent};
+ghost use Rattle.wb_staying.specs.Stays.{hosts_at};
+
+use std::alloc::Global;
+use std::marker::PhantomData;
+use std::snapshot::Snapshot;
+use std::sync::{Mutex, Wait};
+use std::thread;
+use std::thread::{Promise, Threads};
+use std::time::Clock;
+use wb_arrays::Mover;
+use wb_desk::{Desk, Opening, Pass};
+use wb_lending::{Guests, LendErr, Next, taken, turn_away_all};
+use wb_lines::{Sink, Source};
+use wb_program::serve_connection;
+use wb_visits::{Left, Porter, Surplus, Visit, rest};
+
+/// What the thread of a seat promises: its pass, served on connections that came, one after another.
+pub(crate) struct Promised<L: Opening, G, I, O, X> {
+    pub(crate) pass: Snapshot<Pass<L>>,
+    pub(crate) of: PhantomData<(G, I, O, X)>,
+}
+
+impl<L: Opening, G, I, O, X> Drop for Promised<L, G, I, O, X> {
+    fn drop(self) {
+        let Promised { pass: _, of: _ } = self;
+    }
+}
+
+impl<L: Opening, G: Guests<Visit<I, O>, X, Left>, I: Source, O: Sink, X> Promise<Pass<L>>
+    for Promised<L, G, I, O, X> {
+    ghost kept_by = { λ p k. Lent G.Guests (hosts_at I.Source O.Sink G.Guests L.opening) p.pass.value k };
+}
+
+// Lends a seat to one connection after another, until nobody comes any more: its pass then.
+fn sit<
+    L: Opening,
+    R: Wait + Clock,
+    G: Guests<Visit<I, O>, X, Left>,
+    I: Source + Drop,
+    O: Sink + Drop,
+    X,
+    M: Mover,
+>(
+    rt: &R,
+    alloc: Global,
+    desk: &Desk<L>,
+    guests: &Mutex<G>,
+    pass: Pass<L>,
+    mover: &M,
+    of: PhantomData<(I, O, X)>,
+) -> Pass<L>
+    ensures { Lent G.Guests (hosts_at I.Source O.Sink G.Guests L.opening) pass result }
+{
+    let _ = of;
+    let mut now = pass;
+    for _ in rt.forever() {
+        match taken::<R, G, Visit<I, O>, X, Left>(rt, guests) {
+            Next::Came(visit) => {
+                let (reader, writer, left) = visit.into_parts();
+                let served = serve_connection(rt, alloc, desk, now, reader, writer, mover);
+                now = served;
+                guests.lock(rt).leave(left);
+            }
+            Next::Nobody => rest(rt),
+            Next::Over => return now,
+        }
+    }
+    unreachable!()
+}
+
+/// Lends each seat of a desk to one connection after another, until nobody comes any more: the passes then. Who comes while no
+/// seat is free is turned away.
+pub(crate) fn lend_seats<
+    L: Opening + Send + Sync,
+    R: Threads + Wait + Clock + Sync,
+    G: Guests<Visit<I, O>, Surplus<T>, Left> + Send,
+    I: Source + Send + Drop,
+    O: Sink + Send + Drop,
+    T: Sink + Send + Drop,
+    M: Mover + Sync,
+>(
+    rt: &R,
+    alloc: Global,
+    desk: &Desk<L>,
+    guests: &Mutex<G>,
+    passes: Vec<Pass<L>>,
+    mover: &M,
+) -> Result<Vec<Pass<L>>, LendErr>
+    ensures ok { IfOk result (λ ks. AllLent G.Guests (hosts_at I.Source O.Sink G.Guests L.opening) passes.items ks.items) }
+    ensures failed { IfErr result (λ why. why ≡ LendErr.NoThread → (g : G) × (G.failed g ≡ true)) }
+{
+    thread::scope(
+        thread::scope_env(),
+        rt,
+        move |scope| -> Result<Vec<Pass<L>>, LendErr>
+            ensures ok { IfOk result (λ ks. AllLent G.Guests (hosts_at I.Source O.Sink G.Guests L.opening) passes.items ks.items) }
+            ensures failed { IfErr result (λ why. why ≡ LendErr.NoThread → (g : G) × (G.failed g ≡ true)) }
+        {
+            let Ok(mut handles) = Vec::with_capacity(alloc, passes.len()) else {
+                return Err(LendErr::NoMemory);
+            };
+            for pass in passes {
+                let promise = Promised::<L, G, I, O, Surplus<T>> {
+                    pass: Snapshot::of(&pass),
+                    of: PhantomData,
+                };
+                let of = PhantomData;
+                match scope.spawn_with(promise, move || {
+                    sit::<L, R, G, I, O, Surplus<T>, M>(rt, alloc, desk, guests, pass, mover, of)
+                }) {
+                    Ok(handle) => handles.push_reserved(handle),
+                    Err(refused) => {
+                        guests.lock(rt).note_refused(&refused);
+                        return Err(LendErr::NoThread);
+                    }
+                }
+            }
+            let porter = Porter::of(rt);
+            turn_away_all::<R, Porter<'_, R>, G, Visit<I, O>, Surplus<T>, Left>(
+                rt, &porter, guests,
+            );
+            match thread::join_promised(rt, handles) {
+                Ok(passes) => Ok(passes),
+                Err(_) => Err(LendErr::NoMemory),
+            }
+        },
+    )
+}
