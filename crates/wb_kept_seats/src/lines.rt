@@ -10,7 +10,7 @@ use wb_kept::Changes;
 use wb_protocol::wire::edit_text;
 use wb_protocol::{Reply, Request};
 
-/// The line of a request, which is given away as it is answered.
+/// The line of a request.
 #[derive(Drop)]
 pub(crate) enum Ahead {
     /// An edit's canonical line.

@@ -1,28 +1,31 @@
 //! Requests that were read of lines.
 ghost use Rattle.std.specs.Prelude.{◌≡◌, ◌≢◌, Ok, Err, IfOk, IfErr};
 ghost use Rattle.wb_protocol.specs.Requests.{request};
-ghost use Rattle.wb_kept_seats.specs.Lines.{IsSaid};
+ghost use Rattle.wb_kept_seats.specs.Lines.{IsSaid, IsAhead};
 
+use crate::lines::{Ahead, line_ahead};
 use std::alloc::Global;
 use std::marker::Model;
 use wb_history::Refusal;
 use wb_protocol::{Request, read_request};
 
-/// A request that was read of a line, so that a line can say it. Contracts see the request.
+/// A request that was read of a line, so that a line can say it, and the line of its change, made while no lock is held. Contracts
+/// see the request.
 #[derive(Drop)]
 pub struct Said {
     request: Request,
+    ahead: Ahead,
 }
 
 impl Model for Said {
     ghost use Rattle.wb_protocol.specs.declared.requests.request.Request.{Request};
-    ghost use Rattle.wb_kept_seats.specs.Lines.{IsSaid};
+    ghost use Rattle.wb_kept_seats.specs.Lines.{IsSaid, IsAhead};
 
     ghost Value = { Request };
 
     ghost view = { λ s. s.request };
 
-    ghost invariant = { λ s. IsSaid s.request };
+    ghost invariant = { λ s. IsSaid s.request × IsAhead s.request s.ahead };
 }
 
 impl Said {
@@ -32,7 +35,10 @@ impl Said {
         ensures err { IfErr result (λ why. why ≢ Refusal.NoMemory → request line.now ≡ Err why) }
     {
         match read_request(alloc, line) {
-            Ok(request) => Ok(Said { request }),
+            Ok(request) => {
+                let ahead = line_ahead(alloc, &request);
+                Ok(Said { request, ahead })
+            }
             Err(why) => Err(why),
         }
     }
@@ -45,12 +51,13 @@ impl Said {
         &self.request
     }
 
-    /// The request, given up.
-    pub(crate) fn into_request(self) -> Request
-        ensures request { result ≡ self }
+    /// The request, and the line of its change, given up.
+    pub(crate) fn into_parts(self) -> (Request, Ahead)
+        ensures request { result.0 ≡ self }
         ensures said { IsSaid self }
+        ensures ahead { IsAhead self result.1 }
     {
-        let Said { request } = self;
-        request
+        let Said { request, ahead } = self;
+        (request, ahead)
     }
 }

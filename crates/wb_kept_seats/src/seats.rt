@@ -14,7 +14,7 @@ ghost use Rattle.wb_kept_seats.specs.Answering.{AnswersKept};
 
 use crate::commit::CommitErr;
 use crate::file::File;
-use crate::lines::{let_wait, line_ahead};
+use crate::lines::let_wait;
 use crate::opening::{KeptOpening, Turns};
 use crate::said::Said;
 use crate::sealing::Sealed;
@@ -128,8 +128,8 @@ impl<L: KeptOpening> Seats<L> {
         ensures own { pass.new.own ≡ own_after pass.old.seat pass.old.own said result.value }
         ensures share { pass.new.share ≡ share_after pass.old.share result.value }
     {
-        let ahead = line_ahead(self.alloc, said.request());
-        let reply = serve(&mut self.shared, pass, said.into_request(), mover);
+        let (request, ahead) = said.into_parts();
+        let reply = serve(&mut self.shared, pass, request, mover);
         let was_open = self.is_open;
         self.is_open = let_wait(self.alloc, &mut self.changes, &ahead, &reply, was_open);
         Sealed::new(reply, self.turns.made().again())
