@@ -7,7 +7,7 @@ use Rattle.wb_log.specs.declared.refusal.Refusal.TheVariants.{NoSuchEdit}
 use Rattle.wb_log.specs.Cascades.{DependentsReply, CascadeReply, OfNumber}
 use Rattle.wb_protocol.specs.Machine.{Step}
 use Rattle.wb_protocol.specs.declared.replies.reply.Reply.{Reply}
-use Rattle.wb_protocol.specs.declared.replies.reply.Reply.TheVariants.{Edited, Undone, Cascaded, Redone, Listed, Answered, Printed, Counted, Refused}
+use Rattle.wb_protocol.specs.declared.replies.reply.Reply.TheVariants.{Edited, Undone, Cascaded, Redone, Listed, Answered, Printed, PrintedFrom, Counted, Refused}
 use Rattle.wb_protocol.specs.declared.requests.request.Request.{Request}
 use Rattle.wb_protocol.specs.declared.requests.request.Request.TheVariants.{Change, Undo, Redo, Cascade, Dependents, Ask, Print, History, Edits}
 use Rattle.wb_desk.specs.Entries.{is_entered, is_long, leaves_all, cascade_in}
@@ -24,7 +24,8 @@ refused_leaves p (Cascade k) why q s = s.1
 refused_leaves p (Dependents k) why q s = s.1
 refused_leaves p (Ask a) why q s = s.1
 refused_leaves p Print why q s = s.1
-refused_leaves p History why q s = s.1
+refused_leaves p (History None) why q s = s.1
+refused_leaves p (History (Some k)) why q s = s.1
 refused_leaves p Edits why q s = absurd s
 
 answered_leaves : (p : Past) (asked : Request) (a : Answer) (q : Past) → Step p asked (Answered a) q → q ≡ p
@@ -36,7 +37,8 @@ answered_leaves p (Cascade k) a q s = absurd s
 answered_leaves p (Dependents k) a q s = absurd s
 answered_leaves p (Ask asked) a q s = s.1
 answered_leaves p Print a q s = absurd s
-answered_leaves p History a q s = absurd s
+answered_leaves p (History None) a q s = absurd s
+answered_leaves p (History (Some k)) a q s = absurd s
 answered_leaves p Edits a q s = absurd s
 
 printed_leaves : (p : Past) (asked : Request) (t : _) (q : Past) → Step p asked (Printed t) q → q ≡ p
@@ -48,8 +50,22 @@ printed_leaves p (Cascade k) t q s = absurd s
 printed_leaves p (Dependents k) t q s = absurd s
 printed_leaves p (Ask asked) t q s = absurd s
 printed_leaves p Print t q s = s.1
-printed_leaves p History t q s = s.1
+printed_leaves p (History None) t q s = s.1
+printed_leaves p (History (Some k)) t q s = absurd s
 printed_leaves p Edits t q s = absurd s
+
+printed_from_leaves : (p : Past) (asked : Request) (n : ℕ) (t : _) (q : Past) → Step p asked (PrintedFrom n t) q → q ≡ p
+printed_from_leaves p (Change e) n t q s = absurd s
+printed_from_leaves p (Undo (Some k)) n t q s = absurd s
+printed_from_leaves p (Undo None) n t q s = absurd s
+printed_from_leaves p (Redo k) n t q s = absurd s
+printed_from_leaves p (Cascade k) n t q s = absurd s
+printed_from_leaves p (Dependents k) n t q s = absurd s
+printed_from_leaves p (Ask asked) n t q s = absurd s
+printed_from_leaves p Print n t q s = absurd s
+printed_from_leaves p (History None) n t q s = absurd s
+printed_from_leaves p (History (Some k)) n t q s = s.2
+printed_from_leaves p Edits n t q s = absurd s
 
 listed_leaves : (p : Past) (asked : Request) (ks : List ℕ) (q : Past) → Step p asked (Listed ks) q → q ≡ p
 listed_leaves p (Change e) ks q s = absurd s
@@ -60,7 +76,8 @@ listed_leaves p (Cascade k) ks q s = absurd s
 listed_leaves p (Dependents k) ks q s = s.1
 listed_leaves p (Ask asked) ks q s = absurd s
 listed_leaves p Print ks q s = absurd s
-listed_leaves p History ks q s = absurd s
+listed_leaves p (History None) ks q s = absurd s
+listed_leaves p (History (Some k)) ks q s = absurd s
 listed_leaves p Edits ks q s = absurd s
 
 counted_leaves : (p : Past) (asked : Request) (n w : ℕ) (q : Past) → Step p asked (Counted n w) q → q ≡ p
@@ -72,7 +89,8 @@ counted_leaves p (Cascade k) n w q s = absurd s
 counted_leaves p (Dependents k) n w q s = absurd s
 counted_leaves p (Ask asked) n w q s = absurd s
 counted_leaves p Print n w q s = absurd s
-counted_leaves p History n w q s = absurd s
+counted_leaves p (History None) n w q s = absurd s
+counted_leaves p (History (Some k)) n w q s = absurd s
 counted_leaves p Edits n w q s = s.2
 
 -- Only an undo with dependents is replied by what it undid.
@@ -85,7 +103,8 @@ cascaded_leaves p (Cascade k) ks n q none s = cc
 cascaded_leaves p (Dependents k) ks n q none s = absurd s
 cascaded_leaves p (Ask asked) ks n q none s = absurd s
 cascaded_leaves p Print ks n q none s = absurd s
-cascaded_leaves p History ks n q none s = absurd s
+cascaded_leaves p (History None) ks n q none s = absurd s
+cascaded_leaves p (History (Some k)) ks n q none s = absurd s
 cascaded_leaves p Edits ks n q none s = absurd s
 
 pub is_cascade : (asked : Request) (k : ℕ) → cascade_in asked ≡ Some k → asked ≡ Cascade k
@@ -96,7 +115,7 @@ is_cascade (Redo j) k is = cc
 is_cascade (Dependents j) k is = cc
 is_cascade (Ask asked) k is = cc
 is_cascade Print k is = cc
-is_cascade History k is = cc
+is_cascade (History from) k is = cc
 is_cascade Edits k is = cc
 
 err_same : {X Y : Type 0} (v w : Refusal) → ◌≡◌ {A = Result X Refusal} (Err v) (Err w) → ◌≡◌ {A = Result Y Refusal} (Err v) (Err w)
@@ -115,6 +134,7 @@ unentered_leaves p asked (Redone k n) q s e = cc
 unentered_leaves p asked (Listed ks) q s e = cc
 unentered_leaves p asked (Answered a) q s e = cc
 unentered_leaves p asked (Printed t) q s e = cc
+unentered_leaves p asked (PrintedFrom n t) q s e = cc
 unentered_leaves p asked (Counted n w) q s e = cc
 unentered_leaves p asked (Refused why) q s e = refused_leaves p asked why q s
 
@@ -126,6 +146,7 @@ long_leaves p asked (Redone k n) q none s e = cc
 long_leaves p asked (Listed ks) q none s e = listed_leaves p asked ks q s
 long_leaves p asked (Answered a) q none s e = answered_leaves p asked a q s
 long_leaves p asked (Printed t) q none s e = printed_leaves p asked t q s
+long_leaves p asked (PrintedFrom n t) q none s e = printed_from_leaves p asked n t q s
 long_leaves p asked (Counted n w) q none s e = cc
 long_leaves p asked (Refused why) q none s e = cc
 
@@ -137,6 +158,7 @@ left p asked (Redone k n) q s e = cc
 left p asked (Listed ks) q s e = listed_leaves p asked ks q s
 left p asked (Answered a) q s e = answered_leaves p asked a q s
 left p asked (Printed t) q s e = printed_leaves p asked t q s
+left p asked (PrintedFrom n t) q s e = printed_from_leaves p asked n t q s
 left p asked (Counted n w) q s e = counted_leaves p asked n w q s
 left p asked (Refused why) q s e = refused_leaves p asked why q s
 
@@ -156,6 +178,7 @@ change_leaves p e (Redone k n) q set s off = absurd s
 change_leaves p e (Listed ks) q set s off = absurd s
 change_leaves p e (Answered a) q set s off = absurd s
 change_leaves p e (Printed t) q set s off = absurd s
+change_leaves p e (PrintedFrom n t) q set s off = absurd s
 change_leaves p e (Counted n w) q set s off = absurd s
 change_leaves p e (Refused why) q set s off = refused_leaves p (Change e) why q s
 
@@ -167,6 +190,7 @@ ask_leaves p a (Redone k n) q s = absurd s
 ask_leaves p a (Listed ks) q s = absurd s
 ask_leaves p a (Answered v) q s = answered_leaves p (Ask a) v q s
 ask_leaves p a (Printed t) q s = absurd s
+ask_leaves p a (PrintedFrom n t) q s = absurd s
 ask_leaves p a (Counted n w) q s = absurd s
 ask_leaves p a (Refused why) q s = refused_leaves p (Ask a) why q s
 
@@ -178,6 +202,7 @@ edits_leaves p (Redone k n) q s = absurd s
 edits_leaves p (Listed ks) q s = absurd s
 edits_leaves p (Answered a) q s = absurd s
 edits_leaves p (Printed t) q s = absurd s
+edits_leaves p (PrintedFrom n t) q s = absurd s
 edits_leaves p (Counted n w) q s = s.2
 edits_leaves p (Refused why) q s = absurd s
 
@@ -189,5 +214,5 @@ element_leaves p (Redo k) r q small s off = cc
 element_leaves p (Cascade k) r q small s off = cc
 element_leaves p (Dependents k) r q small s off = cc
 element_leaves p Print r q small s off = cc
-element_leaves p History r q small s off = cc
+element_leaves p (History from) r q small s off = cc
 element_leaves p Edits r q small s off = edits_leaves p r q s

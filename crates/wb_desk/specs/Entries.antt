@@ -5,7 +5,7 @@ use Rattle.wb_log.specs.declared.refusal.Refusal.TheVariants.{BadRequest, BadLit
 use Rattle.wb_log.specs.declared.refusal.Refusal.TheVariants.{NoSuchEdit, NotInForce, InForce, Blocked}
 use Rattle.wb_log.specs.declared.refusal.Refusal.TheVariants.{RefusedInPlace, NoMemory, StrangePass}
 use Rattle.wb_protocol.specs.declared.replies.reply.Reply.{Reply}
-use Rattle.wb_protocol.specs.declared.replies.reply.Reply.TheVariants.{Edited, Undone, Cascaded, Redone, Listed, Answered, Printed, Counted, Refused}
+use Rattle.wb_protocol.specs.declared.replies.reply.Reply.TheVariants.{Edited, Undone, Cascaded, Redone, Listed, Answered, Printed, PrintedFrom, Counted, Refused}
 use Rattle.wb_protocol.specs.declared.requests.request.Request.{Request}
 use Rattle.wb_protocol.specs.declared.requests.request.Request.TheVariants.{Change, Undo, Redo, Cascade, Dependents, Ask, Print, History, Edits}
 use Rattle.wb_desk.specs.declared.entry.Entry.{Entry}
@@ -35,6 +35,7 @@ is_entered (Redone k n) = true
 is_entered (Listed ks) = true
 is_entered (Answered a) = true
 is_entered (Printed t) = true
+is_entered (PrintedFrom n t) = true
 is_entered (Counted n w) = true
 is_entered (Refused why) = is_told why
 
@@ -47,6 +48,7 @@ is_long (Redone k n) = false
 is_long (Listed ks) = true
 is_long (Answered a) = true
 is_long (Printed t) = true
+is_long (PrintedFrom n t) = true
 is_long (Counted n w) = false
 is_long (Refused why) = false
 
@@ -59,6 +61,7 @@ leaves_all (Redone k n) = false
 leaves_all (Listed ks) = true
 leaves_all (Answered a) = true
 leaves_all (Printed t) = true
+leaves_all (PrintedFrom n t) = true
 leaves_all (Counted n w) = true
 leaves_all (Refused why) = true
 
@@ -71,5 +74,5 @@ cascade_in (Redo k) = None
 cascade_in (Dependents k) = None
 cascade_in (Ask asked) = None
 cascade_in Print = None
-cascade_in History = None
+cascade_in (History from) = None
 cascade_in Edits = None

@@ -213,7 +213,7 @@ pub(crate) fn is_of_numbers(request: &Request) -> bool
         | Request::Cascade(_)
         | Request::Dependents(_)
         | Request::Print
-        | Request::History => false,
+        | Request::History(_) => false,
     }
 }
 
@@ -290,6 +290,6 @@ pub(crate) fn small_record(seat: usize, request: &Request, reply: &Reply) -> Opt
         | Request::Cascade(_)
         | Request::Dependents(_)
         | Request::Print
-        | Request::History => None,
+        | Request::History(_) => None,
     }
 }

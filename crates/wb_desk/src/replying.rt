@@ -44,6 +44,7 @@ pub(crate) fn is_entered(reply: &Reply) -> bool
         Reply::Listed(_) => true,
         Reply::Answered(_) => true,
         Reply::Printed(_) => true,
+        Reply::PrintedFrom(_, _) => true,
         Reply::Counted(_, _) => true,
         Reply::Refused(why) => is_told(*why),
     }
@@ -62,6 +63,7 @@ fn copied(alloc: Global, reply: &Reply) -> Result<Reply, NoMemory>
         Reply::Listed(edits) => Ok(Reply::Listed(edits.copy(alloc)?)),
         Reply::Answered(answer) => Ok(Reply::Answered(answer.copy(alloc)?)),
         Reply::Printed(text) => Ok(Reply::Printed(text.copy(alloc)?)),
+        Reply::PrintedFrom(edits, text) => Ok(Reply::PrintedFrom(*edits, text.copy(alloc)?)),
         Reply::Counted(edits, writes) => Ok(Reply::Counted(*edits, *writes)),
         Reply::Refused(why) => Ok(Reply::Refused(*why)),
     }
@@ -79,7 +81,7 @@ fn cascade_in(request: &Request) -> Option<u64>
         | Request::Dependents(_)
         | Request::Ask(_)
         | Request::Print
-        | Request::History
+        | Request::History(_)
         | Request::Edits => None,
     }
 }

@@ -9,7 +9,7 @@ use Rattle.wb_log.specs.declared.refusal.Refusal.{Refusal}
 use Rattle.wb_protocol.specs.Machine.{Step, StepIfRead}
 use Rattle.wb_protocol.specs.Replies.{reply_of}
 use Rattle.wb_protocol.specs.declared.replies.reply.Reply.{Reply}
-use Rattle.wb_protocol.specs.declared.replies.reply.Reply.TheVariants.{Edited, Undone, Cascaded, Redone, Listed, Answered, Printed, Counted, Refused}
+use Rattle.wb_protocol.specs.declared.replies.reply.Reply.TheVariants.{Edited, Undone, Cascaded, Redone, Listed, Answered, Printed, PrintedFrom, Counted, Refused}
 use Rattle.wb_protocol.specs.declared.requests.request.Request.{Request}
 use Rattle.wb_protocol.specs.declared.requests.request.Request.TheVariants.{Change}
 use Rattle.wb_keeping.specs.Granting.Granting.{Grants, no_edit, AddsIfEdited, AddsLinesOf, AreLinesOf, changes_made}
@@ -41,6 +41,7 @@ left_none (Redone k n) asked e = absurd (no_both false refl e)
 left_none (Listed ks) asked e = refl
 left_none (Answered a) asked e = refl
 left_none (Printed t) asked e = refl
+left_none (PrintedFrom n t) asked e = refl
 left_none (Counted n w) asked e = refl
 left_none (Refused why) asked e = refl
 
@@ -52,6 +53,7 @@ unentered_left (Redone k n) e = absurd (no_both true e refl)
 unentered_left (Listed ks) e = refl
 unentered_left (Answered a) e = refl
 unentered_left (Printed t) e = refl
+unentered_left (PrintedFrom n t) e = refl
 unentered_left (Counted n w) e = refl
 unentered_left (Refused why) e = refl
 

@@ -49,6 +49,7 @@ fn leaves_all(reply: &Reply) -> bool
         Reply::Listed(_) => true,
         Reply::Answered(_) => true,
         Reply::Printed(_) => true,
+        Reply::PrintedFrom(_, _) => true,
         Reply::Counted(_, _) => true,
         Reply::Refused(_) => true,
     }

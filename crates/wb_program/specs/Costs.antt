@@ -7,7 +7,7 @@ use Rattle.wb_history.specs.declared.query.Query.{Query}
 use Rattle.wb_history.specs.declared.query.Query.TheVariants.{Get, Size, Where, Piece, Reduce, State}
 use Rattle.wb_log.specs.declared.refusal.Refusal.{Refusal}
 use Rattle.wb_protocol.specs.declared.replies.reply.Reply.{Reply}
-use Rattle.wb_protocol.specs.declared.replies.reply.Reply.TheVariants.{Edited, Undone, Cascaded, Redone, Listed, Answered, Printed, Counted, Refused}
+use Rattle.wb_protocol.specs.declared.replies.reply.Reply.TheVariants.{Edited, Undone, Cascaded, Redone, Listed, Answered, Printed, PrintedFrom, Counted, Refused}
 use Rattle.wb_protocol.specs.declared.requests.request.Request.{Request}
 use Rattle.wb_protocol.specs.declared.requests.request.Request.TheVariants.{Change, Undo, Redo, Cascade, Dependents, Ask, Print, History, Edits}
 use Rattle.wb_desk.specs.declared.entry.Entry.{Entry}
@@ -31,6 +31,7 @@ told_cost (Redone k n) = 8 * n
 told_cost (Listed ks) = 16 * length ks
 told_cost (Answered a) = answer_cost a
 told_cost (Printed t) = length t
+told_cost (PrintedFrom n t) = length t
 told_cost (Counted n w) = 0
 told_cost (Refused why) = 0
 
@@ -63,7 +64,7 @@ request_cost (Cascade k) = cost_limit
 request_cost (Dependents k) = cost_limit
 request_cost (Ask q) = look_cost q
 request_cost Print = 0
-request_cost History = 0
+request_cost (History from) = 0
 request_cost Edits = 0
 
 -- and nothing where a line is no request

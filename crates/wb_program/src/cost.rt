@@ -65,7 +65,7 @@ fn cost_of_request(request: &Request) -> u64
         | Request::Undo(_)
         | Request::Redo(_)
         | Request::Print
-        | Request::History
+        | Request::History(_)
         | Request::Edits => 0,
     }
 }
@@ -95,7 +95,7 @@ pub(crate) fn cost_of(reply: &Reply) -> u64
         Reply::Redone(_, cells) => cost_of_many(*cells, CELL),
         Reply::Listed(numbers) => cost_of_many(numbers.as_slice().len(), NUMBER),
         Reply::Answered(answer) => cost_of_answer(answer),
-        Reply::Printed(text) => cost_of_many(text.as_str().len(), 1),
+        Reply::Printed(text) | Reply::PrintedFrom(_, text) => cost_of_many(text.as_str().len(), 1),
         Reply::Counted(_, _) | Reply::Refused(_) => 0,
     }
 }

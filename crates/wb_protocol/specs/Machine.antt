@@ -13,11 +13,11 @@ use Rattle.wb_history.specs.declared.query.Query.{Query}
 use Rattle.wb_log.specs.declared.refusal.Refusal.{Refusal}
 use Rattle.wb_log.specs.declared.refusal.Refusal.TheVariants.{NoMemory}
 use Rattle.wb_text.specs.Lines.{book_text}
-use Rattle.wb_protocol.specs.Encoding.Text.{history_text}
+use Rattle.wb_protocol.specs.Encoding.Text.{history_text, lines_from}
 use Rattle.wb_protocol.specs.Replies.{reply_of}
 use Rattle.wb_protocol.specs.Requests.{request}
 use Rattle.wb_protocol.specs.declared.replies.reply.Reply.{Reply}
-use Rattle.wb_protocol.specs.declared.replies.reply.Reply.TheVariants.{Edited, Undone, Cascaded, Redone, Listed, Answered, Printed, Counted, Refused}
+use Rattle.wb_protocol.specs.declared.replies.reply.Reply.TheVariants.{Edited, Undone, Cascaded, Redone, Listed, Answered, Printed, PrintedFrom, Counted, Refused}
 use Rattle.wb_protocol.specs.declared.requests.request.Request.{Request}
 use Rattle.wb_protocol.specs.declared.requests.request.Request.TheVariants.{Change, Undo, Redo, Cascade, Dependents, Ask, Print, History, Edits}
 
@@ -96,6 +96,12 @@ PrintsHistory p (Printed t) q = (t ≡ history_text p.entries) × (q ≡ p)
 PrintsHistory p (Refused why) q = (why ≡ NoMemory) × (q ≡ p)
 PrintsHistory p _ q = ⊥
 
+-- the lines of the edits from a number on, and how many edits there are, unless memory ran out
+abbrev pub PrintsFrom : Past → ℕ → Reply → Past → Type 0
+PrintsFrom p k (PrintedFrom n t) q = (n ≡ length p.entries) × (t ≡ lines_from k p.entries) × (q ≡ p)
+PrintsFrom p k (Refused why) q = (why ≡ NoMemory) × (q ≡ p)
+PrintsFrom p k _ q = ⊥
+
 -- how many edits there are, in force or not, and how many cells were set
 abbrev pub Counts : Past → Reply → Past → Type 0
 Counts p (Counted n w) q = (n ≡ length p.entries) × (w ≡ p.writes) × (q ≡ p)
@@ -111,7 +117,8 @@ Step p (Cascade k) r q = Cascades p k r q
 Step p (Dependents k) r q = ListsDependents p k r q
 Step p (Ask asked) r q = Answers p asked r q
 Step p Print r q = Prints p r q
-Step p History r q = PrintsHistory p r q
+Step p (History None) r q = PrintsHistory p r q
+Step p (History (Some k)) r q = PrintsFrom p k r q
 Step p Edits r q = Counts p r q
 
 -- What was read is answered by a step, or by why it is no request.

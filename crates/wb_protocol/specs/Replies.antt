@@ -16,7 +16,7 @@ use Rattle.wb_log.specs.declared.refusal.Refusal.TheVariants.{NotInForce, InForc
 use Rattle.wb_log.specs.declared.refusal.Refusal.TheVariants.{NoMemory, StrangePass}
 use Rattle.wb_protocol.specs.Pieces.{piece_data}
 use Rattle.wb_protocol.specs.declared.replies.reply.Reply.{Reply}
-use Rattle.wb_protocol.specs.declared.replies.reply.Reply.TheVariants.{Edited, Undone, Cascaded, Redone, Listed, Answered, Printed, Counted, Refused as Refusing}
+use Rattle.wb_protocol.specs.declared.replies.reply.Reply.TheVariants.{Edited, Undone, Cascaded, Redone, Listed, Answered, Printed, PrintedFrom, Counted, Refused as Refusing}
 
 -- ---- the code and the name of each refusal
 
@@ -108,6 +108,7 @@ reply_data (Listed ks) = object (member (codes "dependents") (numbers_data ks) n
 reply_data (Redone k n) = object (member (codes "n") (number (unsigned n)) (member (codes "redone") (number (unsigned k)) no_members))
 reply_data (Answered a) = answer_data a
 reply_data (Printed t) = object (member (codes "text") (string t) no_members)
+reply_data (PrintedFrom n t) = object (member (codes "edits") (number (unsigned n)) (member (codes "text") (string t) no_members))
 reply_data (Counted n w) = object (member (codes "edits") (number (unsigned n)) (member (codes "writes") (number (unsigned w)) no_members))
 reply_data (Refusing r) = refusal_data r
 

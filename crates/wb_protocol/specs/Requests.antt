@@ -301,11 +301,16 @@ print_of d = do
   unit ← has_fields 1 d
   Ok Print
 
--- {"op":"history"}
+-- {"op":"history","from":NUMBER}
+abbrev pub history_from : Data → Result Request Refusal
+history_from d = do
+  unit ← has_fields 2 d
+  number ← u64_field (codes "from") d
+  Ok (History (Some number))
+
+-- the same with or without the field `from`
 abbrev pub history_of : Data → Result Request Refusal
-history_of d = do
-  unit ← has_fields 1 d
-  Ok History
+history_of d = if nat_eq (field_count d) 1 then Ok (History None) else history_from d
 
 -- {"op":"edits"}
 abbrev pub edits_of : Data → Result Request Refusal

@@ -18,10 +18,10 @@ use Rattle.wb_log.specs.declared.refusal.Refusal.{Refusal}
 use Rattle.wb_log.specs.declared.refusal.Refusal.TheVariants.{NoMemory}
 use Rattle.wb_history.specs.declared.query.Query.{Query}
 use Rattle.wb_kept.specs.Runs.{Leads}
-use Rattle.wb_protocol.specs.Machine.{Changes, UndoesNumber, UndoesLatest, Redoes, Cascades, ListsDependents, Answers as AnswersQuery, Prints, PrintsHistory, Counts, Step, StepIfRead}
+use Rattle.wb_protocol.specs.Machine.{Changes, UndoesNumber, UndoesLatest, Redoes, Cascades, ListsDependents, Answers as AnswersQuery, Prints, PrintsHistory, PrintsFrom, Counts, Step, StepIfRead}
 use Rattle.wb_protocol.specs.Requests.{request}
 use Rattle.wb_protocol.specs.declared.replies.reply.Reply.{Reply}
-use Rattle.wb_protocol.specs.declared.replies.reply.Reply.TheVariants.{Edited, Undone, Cascaded, Redone, Listed, Answered, Printed, Counted, Refused}
+use Rattle.wb_protocol.specs.declared.replies.reply.Reply.TheVariants.{Edited, Undone, Cascaded, Redone, Listed, Answered, Printed, PrintedFrom, Counted, Refused}
 use Rattle.wb_protocol.specs.declared.requests.request.Request.{Request}
 use Rattle.wb_protocol.specs.declared.requests.request.Request.TheVariants.{Change, Undo, Redo, Cascade, Dependents, Ask, Print, History, Edits}
 use Rattle.wb_keeping.specs.Granting.Granting.{GrantsRequest, GrantsAsked, Grants, Answers, AreLinesOf, undos_of, changes_made}
@@ -198,11 +198,17 @@ print_leads p (Printed t) q made step lines = none_made p q made step.1 lines
 print_leads p (Refused why) q made step lines = none_made p q made step.1 lines
 print_leads p r q made step lines = absurd step
 
-history_leads : (p : Past) (r : Reply) (q : Past) (made : List (List ℕ)) → PrintsHistory p r q → AreLinesOf (changes_made r (Ok History)) made →
+history_leads : (p : Past) (r : Reply) (q : Past) (made : List (List ℕ)) → PrintsHistory p r q → AreLinesOf (changes_made r (Ok (History None))) made →
     Leads Grants p made q
 history_leads p (Printed t) q made step lines = none_made p q made step.1 lines
 history_leads p (Refused why) q made step lines = none_made p q made step.1 lines
 history_leads p r q made step lines = absurd step
+
+from_leads : (p : Past) (k : ℕ) (r : Reply) (q : Past) (made : List (List ℕ)) → PrintsFrom p k r q → AreLinesOf (changes_made r (Ok (History (Some k)))) made →
+    Leads Grants p made q
+from_leads p k (PrintedFrom n t) q made step lines = none_made p q made step.2 lines
+from_leads p k (Refused why) q made step lines = none_made p q made step.1 lines
+from_leads p k r q made step lines = absurd step
 
 count_leads : (p : Past) (r : Reply) (q : Past) (made : List (List ℕ)) → Counts p r q → AreLinesOf (changes_made r (Ok Edits)) made → Leads Grants p made q
 count_leads p (Counted n w) q made step lines = none_made p q made step.2 lines
@@ -220,7 +226,8 @@ step_leads p (Cascade k) r q made step lines = all_lead p k r q made step lines
 step_leads p (Dependents k) r q made step lines = list_leads p k r q made step lines
 step_leads p (Ask asked) r q made step lines = query_leads p asked r q made step lines
 step_leads p Print r q made step lines = print_leads p r q made step lines
-step_leads p History r q made step lines = history_leads p r q made step lines
+step_leads p (History None) r q made step lines = history_leads p r q made step lines
+step_leads p (History (Some k)) r q made step lines = from_leads p k r q made step lines
 step_leads p Edits r q made step lines = count_leads p r q made step lines
 
 refused_leads : (p q : Past) (asked : Result Request Refusal) (r : Reply) (why : Refusal) (made : List (List ℕ)) → r ≡ Refused why → q ≡ p →

@@ -7,11 +7,11 @@ use Rattle.wb_history.specs.Restored.{one_of}
 use Rattle.wb_history.specs.declared.query.Query.{Query}
 use Rattle.wb_log.specs.declared.refusal.Refusal.{Refusal}
 use Rattle.wb_protocol.specs.Machine.{Changes, UndoesNumber, UndoesLatest, Cascades, Redoes}
-use Rattle.wb_protocol.specs.Machine.{ListsDependents, Answers, Prints, PrintsHistory, Counts, Step}
+use Rattle.wb_protocol.specs.Machine.{ListsDependents, Answers, Prints, PrintsHistory, PrintsFrom, Counts, Step}
 use Rattle.wb_protocol.specs.Machine.{StepIfRead}
 use Rattle.wb_protocol.specs.Requests.{request}
 use Rattle.wb_protocol.specs.declared.replies.reply.Reply.{Reply}
-use Rattle.wb_protocol.specs.declared.replies.reply.Reply.TheVariants.{Edited, Undone, Cascaded, Redone, Listed, Answered, Printed, Counted, Refused}
+use Rattle.wb_protocol.specs.declared.replies.reply.Reply.TheVariants.{Edited, Undone, Cascaded, Redone, Listed, Answered, Printed, PrintedFrom, Counted, Refused}
 use Rattle.wb_protocol.specs.declared.requests.request.Request.{Request}
 use Rattle.wb_protocol.specs.declared.requests.request.Request.TheVariants.{Change, Undo, Redo, Cascade, Dependents, Ask, Print, History, Edits}
 use Rattle.wb_protocol.specs.Histories.Laws.{KeepsAsked}
@@ -46,6 +46,7 @@ module _ (p q : Past) (asked : AreAsked p.entries) where
   changes e one (Listed ns) h = absurd h
   changes e one (Answered a) h = absurd h
   changes e one (Printed t) h = absurd h
+  changes e one (PrintedFrom n t) h = absurd h
   changes e one (Counted n w) h = absurd h
   changes e one (Refused why) h = same h.1
 
@@ -57,6 +58,7 @@ module _ (p q : Past) (asked : AreAsked p.entries) where
   undoes m (Listed ns) h = absurd h
   undoes m (Answered a) h = absurd h
   undoes m (Printed t) h = absurd h
+  undoes m (PrintedFrom n t) h = absurd h
   undoes m (Counted n w) h = absurd h
   undoes m (Refused why) h = same h.1
 
@@ -68,6 +70,7 @@ module _ (p q : Past) (asked : AreAsked p.entries) where
   undoes_latest (Listed ns) h = absurd h
   undoes_latest (Answered a) h = absurd h
   undoes_latest (Printed t) h = absurd h
+  undoes_latest (PrintedFrom n t) h = absurd h
   undoes_latest (Counted n w) h = absurd h
   undoes_latest (Refused why) h = same h.1
 
@@ -79,6 +82,7 @@ module _ (p q : Past) (asked : AreAsked p.entries) where
   cascades m (Listed ns) h = absurd h
   cascades m (Answered a) h = absurd h
   cascades m (Printed t) h = absurd h
+  cascades m (PrintedFrom n t) h = absurd h
   cascades m (Counted n w) h = absurd h
   cascades m (Refused why) h = same h.1
 
@@ -90,6 +94,7 @@ module _ (p q : Past) (asked : AreAsked p.entries) where
   redoes m (Listed ns) h = absurd h
   redoes m (Answered a) h = absurd h
   redoes m (Printed t) h = absurd h
+  redoes m (PrintedFrom n t) h = absurd h
   redoes m (Counted n w) h = absurd h
   redoes m (Refused why) h = same h.1
 
@@ -101,6 +106,7 @@ module _ (p q : Past) (asked : AreAsked p.entries) where
   lists m (Listed ns) h = same h.1
   lists m (Answered a) h = absurd h
   lists m (Printed t) h = absurd h
+  lists m (PrintedFrom n t) h = absurd h
   lists m (Counted n w) h = absurd h
   lists m (Refused why) h = same h.1
 
@@ -112,6 +118,7 @@ module _ (p q : Past) (asked : AreAsked p.entries) where
   answers x (Listed ns) h = absurd h
   answers x (Answered a) h = same h.1
   answers x (Printed t) h = absurd h
+  answers x (PrintedFrom n t) h = absurd h
   answers x (Counted n w) h = absurd h
   answers x (Refused why) h = same h.1
 
@@ -123,6 +130,7 @@ module _ (p q : Past) (asked : AreAsked p.entries) where
   prints (Listed ns) h = absurd h
   prints (Answered a) h = absurd h
   prints (Printed t) h = same h.1
+  prints (PrintedFrom n t) h = absurd h
   prints (Counted n w) h = absurd h
   prints (Refused why) h = same h.1
 
@@ -134,8 +142,21 @@ module _ (p q : Past) (asked : AreAsked p.entries) where
   prints_history (Listed ns) h = absurd h
   prints_history (Answered a) h = absurd h
   prints_history (Printed t) h = same h.1
+  prints_history (PrintedFrom n t) h = absurd h
   prints_history (Counted n w) h = absurd h
   prints_history (Refused why) h = same h.1
+
+  prints_from : (k : ℕ) (r : Reply) → PrintsFrom p k r q → AreAsked q.entries
+  prints_from m (Edited k n) h = absurd h
+  prints_from m (Undone k n) h = absurd h
+  prints_from m (Cascaded ns n) h = absurd h
+  prints_from m (Redone k n) h = absurd h
+  prints_from m (Listed ns) h = absurd h
+  prints_from m (Answered a) h = absurd h
+  prints_from m (Printed t) h = absurd h
+  prints_from m (PrintedFrom n t) h = same h.2
+  prints_from m (Counted n w) h = absurd h
+  prints_from m (Refused why) h = same h.1
 
   counts : (r : Reply) → Counts p r q → AreAsked q.entries
   counts (Edited k n) h = absurd h
@@ -145,6 +166,7 @@ module _ (p q : Past) (asked : AreAsked p.entries) where
   counts (Listed ns) h = absurd h
   counts (Answered a) h = absurd h
   counts (Printed t) h = absurd h
+  counts (PrintedFrom n t) h = absurd h
   counts (Counted n w) h = same h.2
   counts (Refused why) h = absurd h
 
@@ -159,7 +181,8 @@ module _ (p q : Past) (asked : AreAsked p.entries) where
   step_asked (Dependents k) r one h = lists k r h
   step_asked (Ask x) r one h = answers x r h
   step_asked Print r one h = prints r h
-  step_asked History r one h = prints_history r h
+  step_asked (History None) r one h = prints_history r h
+  step_asked (History (Some k)) r one h = prints_from k r h
   step_asked Edits r one h = counts r h
 
   read_asked : (x : Result Request Refusal) (r : Reply) → ((e : Edit) → x ≡ Ok (Change e) → IsAsked e) → StepIfRead p x r q → AreAsked q.entries

@@ -33,7 +33,7 @@ use Rattle.wb_protocol.specs.Fields.{integers_field, u64_field, key_type_field, 
 use Rattle.wb_protocol.specs.Literals.{literal_domain, literal_mapping, optional_mapping as mapping_if_there, text_of_book, domain_within, mapping_within}
 use Rattle.wb_protocol.specs.Sources.{given_by, offsets_by, to_by, slice_by, displace_by, combine_by, combination_of, source_of}
 use Rattle.wb_protocol.specs.Requests.{domain_with, domain_by, domain_of, remap_of, reshape_of, fill_over, fill_of, put_on, put_over, put_of, load_of}
-use Rattle.wb_protocol.specs.Requests.{undo_by_number, undo_of, print_of, history_of, edits_of, by_op, request_of, array_of, drop_array_of, set_of, fill_all_of, copy_of}
+use Rattle.wb_protocol.specs.Requests.{undo_by_number, undo_of, print_of, history_from, history_of, edits_of, by_op, request_of, array_of, drop_array_of, set_of, fill_all_of, copy_of}
 use Rattle.wb_protocol.specs.Requests.{irv_of, all_of, sparse_of, assoc_of, add_of, remove_of, drop_domain_of, redo_of, cascade_of, dependents_of, get_of, where_of, size_of, piece_of}
 use Rattle.wb_protocol.specs.Requests.{reduce_of, state_of}
 use Rattle.wb_protocol.specs.declared.requests.request.Request.{Request}
@@ -402,9 +402,13 @@ print_found ms r s e =
     as_table ms Print r x.2 refl refl (count_found ms 1 tt x.1) (s, tt)
 
 history_found : IsFound (codes "history") history_of
-history_found ms r s e =
-    let x = step (has_fields 1 (object ms)) (λ u. Ok History) r e in
-    as_table ms History r x.2 refl refl (count_found ms 1 tt x.1) (s, tt)
+history_found ms r s e = elim (nat_eq (member_count ms) 1) as (λ b. nat_eq (member_count ms) 1 ≡ b →
+    (if b then Ok (History None) else history_from (object ms)) ≡ Ok r → HasFields ms (table r)) [
+      | true ↦ λ h f. as_table ms (History None) r f refl refl (eqb-true (member_count ms) 1 h) (s, tt)
+      | false ↦ λ h f.
+          let x = one (has_fields 2 (object ms)) (u64_field (codes "from") (object ms)) (λ k. Ok (History (Some k))) r f in
+          as_table ms (History (Some x.0)) r x.3 refl refl (count_found ms 2 tt x.1) (natural_found (get_member (codes "from") ms) x.0 x.2, (s, tt))
+    ] refl e
 
 edits_found : IsFound (codes "edits") edits_of
 edits_found ms r s e =

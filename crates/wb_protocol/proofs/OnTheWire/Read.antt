@@ -445,10 +445,14 @@ print_read ms h =
     let s = all_say (table Print) ms refl h in
     op_read ms (codes "print") Print s.0 (rw (count_read ms 1 (counted (table Print) ms refl refl h)) refl)
 
-history_read : (ms : Members) → HasFields ms (table History) → request_of (object ms) ≡ Ok History
-history_read ms h =
-    let s = all_say (table History) ms refl h in
-    op_read ms (codes "history") History s.0 (rw (count_read ms 1 (counted (table History) ms refl refl h)) refl)
+history_read : (ms : Members) (from : Option ℕ) → HasFields ms (table (History from)) → request_of (object ms) ≡ Ok (History from)
+history_read ms None h =
+    let s = all_say (table (History None)) ms refl h in
+    op_read ms (codes "history") (History None) s.0 (rw (counted (table (History None)) ms refl refl h) refl)
+history_read ms (Some k) h =
+    let s = all_say (table (History (Some k))) ms refl h in
+    let n = counted (table (History (Some k))) ms refl refl h in
+    op_read ms (codes "history") (History (Some k)) s.1.0 (rw (n, natural_read (get_member (codes "from") ms) k s.0) refl)
 
 edits_read : (ms : Members) → HasFields ms (table Edits) → request_of (object ms) ≡ Ok Edits
 edits_read ms h =
@@ -502,7 +506,7 @@ members_read ms (Cascade k) h = cascade_read ms k h
 members_read ms (Dependents k) h = dependents_read ms k h
 members_read ms (Ask q) h = query_read ms q h
 members_read ms Print h = print_read ms h
-members_read ms History h = history_read ms h
+members_read ms (History from) h = history_read ms from h
 members_read ms Edits h = edits_read ms h
 
 pub request_read : (d : Data) (r : Request) → IsRequest d r → request_of d ≡ Ok r

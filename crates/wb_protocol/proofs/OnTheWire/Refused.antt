@@ -32,7 +32,7 @@ use Rattle.wb_protocol.specs.Fields.{integers_field}
 use Rattle.wb_protocol.specs.Literals.{literal_domain, literal_mapping, text_of_book, domain_within, mapping_within}
 use Rattle.wb_protocol.specs.Sources.{to_by, slice_by, displace_by, combine_by, source_of}
 use Rattle.wb_protocol.specs.Requests.{domain_with, domain_by, domain_of, remap_of, reshape_of, fill_over, fill_of, put_on, put_over, put_of, load_of}
-use Rattle.wb_protocol.specs.Requests.{undo_by_number, undo_of, print_of, history_of, edits_of, by_op, request_of}
+use Rattle.wb_protocol.specs.Requests.{undo_by_number, undo_of, print_of, history_from, history_of, edits_of, by_op, request_of}
 use Rattle.wb_protocol.specs.declared.requests.request.Request.{Request}
 use Rattle.wb_protocol.specs.declared.requests.request.Request.TheVariants.{Change, Undo, Print, History, Edits}
 use Rattle.wb_protocol.specs.Wire.Faults.{Fault, bad_request, bad_literal, too_large, bad_mapping, code, refusal_of, forms, HasKeys, NamesOp, IsWhole, Kind, kind_of}
@@ -111,7 +111,7 @@ load_judged ms s =
         Judged ms (text_of_book text >>= (λ t. Ok (Change (Load t))))
     with_text text n at =
         let o = codes "load" in let ks = codes "text" ∷ [] in
-        let c : IsForm (o, ks) = form_at 35 (o, ks) refl refl refl in
+        let c : IsForm (o, ks) = form_at 36 (o, ks) refl refl refl in
         bind_judged (Judged ms) (text_of_book text) (λ t. Ok (Change (Load t)))
         (λ why e. value_bad ms o ks s c (whole_fine ms o ks s refl (count_found ms 2 tt n) ((string text, at), tt)) (codes "text") workbook_reader refl
         (string text) at why e (λ f same. (same, tt)))
@@ -519,30 +519,29 @@ print_judged ms s =
     bind_judged (Judged ms) (has_fields 1 (object ms)) (λ u. Ok Print) (λ why. count_bad ms (codes "print") 0 s refl why)
     (λ u n. all_fine ms (codes "print") [] s (form_at 32 (codes "print", []) refl refl refl) refl (count_found ms 1 u n) tt)
 
-history_judged : IsJudged (codes "history") history_of
-history_judged ms s =
-    bind_judged (Judged ms) (has_fields 1 (object ms)) (λ u. Ok History) (λ why. count_bad ms (codes "history") 0 s refl why)
-    (λ u n. all_fine ms (codes "history") [] s (form_at 33 (codes "history", []) refl refl refl) refl (count_found ms 1 u n) tt)
-
 edits_judged : IsJudged (codes "edits") edits_of
 edits_judged ms s =
     bind_judged (Judged ms) (has_fields 1 (object ms)) (λ u. Ok Edits) (λ why. count_bad ms (codes "edits") 0 s refl why)
-    (λ u n. all_fine ms (codes "edits") [] s (form_at 38 (codes "edits", []) refl refl refl) refl (count_found ms 1 u n) tt)
+    (λ u n. all_fine ms (codes "edits") [] s (form_at 39 (codes "edits", []) refl refl refl) refl (count_found ms 1 u n) tt)
 
-undo_whole : (ms : Members) → NamesOp ms (codes "undo") → (member_count ms ≡ 1 → ⊥) → (member_count ms ≡ 2 → ⊥) → IsWhole (object ms) → ⊥
-undo_whole ms s one two = not_whole_by ms (codes "undo") s (λ ks c h.
+-- an op whose forms have no other member, or one
+one_more_whole : (ms : Members) (o : List ℕ) → NamesOp ms o → list_all (passes o (λ ks. if nat_eq (length ks) 0 then true else nat_eq (length ks) 1)) forms ≡ true →
+    (member_count ms ≡ 1 → ⊥) → (member_count ms ≡ 2 → ⊥) → IsWhole (object ms) → ⊥
+one_more_whole ms o s all one two = not_whole_by ms o s (λ ks c h.
     let n = keys_counted (codes "op" ∷ ks) ms h in
-    let p = of_form (codes "undo") ks (λ ks. if nat_eq (length ks) 0 then true else nat_eq (length ks) 1) refl c in
+    let p = of_form o ks (λ ks. if nat_eq (length ks) 0 then true else nat_eq (length ks) 1) all c in
     elim (nat_eq (length ks) 0) as (λ b. nat_eq (length ks) 0 ≡ b → (if b then true else nat_eq (length ks) 1) ≡ true → ⊥) [
       | true ↦ λ e q. one (n ∙ ap suc (eqb-true (length ks) 0 e))
       | false ↦ λ e q. two (n ∙ ap suc (eqb-true (length ks) 1 q))
     ] refl p)
 
-undo_lacks : (ms : Members) → NamesOp ms (codes "undo") → (member_count ms ≡ 1 → ⊥) → get_member (codes "k") ms ≡ None → IsWhole (object ms) → ⊥
-undo_lacks ms s one none = not_whole_by ms (codes "undo") s (λ ks c h.
-    let p = of_form (codes "undo") ks (λ ks. if has (codes "k") ks then true else nat_eq (length ks) 0) refl c in
-    elim (has (codes "k") ks) as (λ b. has (codes "k") ks ≡ b → (if b then true else nat_eq (length ks) 0) ≡ true → ⊥) [
-      | true ↦ λ e q. let x = key_there (codes "k") ks ms e h in no_some x.0 (sym none ∙ x.1)
+-- the one that each longer form has
+one_more_lacks : (ms : Members) (o k : List ℕ) → NamesOp ms o → list_all (passes o (λ ks. if has k ks then true else nat_eq (length ks) 0)) forms ≡ true →
+    (member_count ms ≡ 1 → ⊥) → get_member k ms ≡ None → IsWhole (object ms) → ⊥
+one_more_lacks ms o k s all one none = not_whole_by ms o s (λ ks c h.
+    let p = of_form o ks (λ ks. if has k ks then true else nat_eq (length ks) 0) all c in
+    elim (has k ks) as (λ b. has k ks ≡ b → (if b then true else nat_eq (length ks) 0) ≡ true → ⊥) [
+      | true ↦ λ e q. let x = key_there k ks ms e h in no_some x.0 (sym none ∙ x.1)
       | false ↦ λ e q. one (keys_counted (codes "op" ∷ ks) ms h ∙ ap suc (eqb-true (length ks) 0 q))
     ] refl p)
 
@@ -554,10 +553,24 @@ undo_judged ms s =
       | false ↦ λ e.
           let one : member_count ms ≡ 1 → ⊥ = λ q. true_false (sym (eq-eqb (member_count ms) 1 q) ∙ e) in
           one_judged (Judged ms) (has_fields 2 (object ms)) (u64_field (codes "k") (object ms)) (λ k. Ok (Undo (Some k)))
-          (λ why f. let x = uncounted ms 2 why f in first (object ms) why x.0 (not_whole refl (undo_whole ms s one x.1)))
-          (λ why f. field_bad_by ms o (codes "k") s number_reader refl (undo_lacks ms s one) why f)
+          (λ why f. let x = uncounted ms 2 why f in first (object ms) why x.0 (not_whole refl (one_more_whole ms o s refl one x.1)))
+          (λ why f. field_bad_by ms o (codes "k") s number_reader refl (one_more_lacks ms o (codes "k") s refl one) why f)
           (λ k n p. all_fine ms o (codes "k" ∷ []) s (form_at 25 (o, codes "k" ∷ []) refl refl refl) refl (count_found ms 2 tt n)
           (fine ms o (codes "k") number_reader refl k p, tt))
+    ] refl
+
+history_judged : IsJudged (codes "history") history_of
+history_judged ms s =
+    let o = codes "history" in
+    elim (nat_eq (member_count ms) 1) as (λ b. nat_eq (member_count ms) 1 ≡ b → Judged ms (if b then Ok (History None) else history_from (object ms))) [
+      | true ↦ λ e. all_fine ms o [] s (form_at 33 (o, []) refl refl refl) refl (eqb-true (member_count ms) 1 e) tt
+      | false ↦ λ e.
+          let one : member_count ms ≡ 1 → ⊥ = λ q. true_false (sym (eq-eqb (member_count ms) 1 q) ∙ e) in
+          one_judged (Judged ms) (has_fields 2 (object ms)) (u64_field (codes "from") (object ms)) (λ k. Ok (History (Some k)))
+          (λ why f. let x = uncounted ms 2 why f in first (object ms) why x.0 (not_whole refl (one_more_whole ms o s refl one x.1)))
+          (λ why f. field_bad_by ms o (codes "from") s number_reader refl (one_more_lacks ms o (codes "from") s refl one) why f)
+          (λ k n p. all_fine ms o (codes "from" ∷ []) s (form_at 34 (o, codes "from" ∷ []) refl refl refl) refl (count_found ms 2 tt n)
+          (fine ms o (codes "from") number_reader refl k p, tt))
     ] refl
 
 -- ---- by the op

@@ -153,7 +153,7 @@ cascade_judged ms s =
     let o = codes "cascade" in
     one_judged (Judged ms) (has_fields 2 (object ms)) (u64_field (codes "k") (object ms)) (λ k. Ok (Cascade k)) (λ why. count_bad ms o 1 s refl why)
     (λ why. field_bad ms o (codes "k") s number_reader refl refl why)
-    (λ a n p. all_fine ms o (codes "k" ∷ []) s (form_at 36 (o, codes "k" ∷ []) refl refl refl) refl (count_found ms 2 tt n)
+    (λ a n p. all_fine ms o (codes "k" ∷ []) s (form_at 37 (o, codes "k" ∷ []) refl refl refl) refl (count_found ms 2 tt n)
     (fine ms o (codes "k") number_reader refl a p, tt))
 
 pub dependents_judged : IsJudged (codes "dependents") dependents_of
@@ -161,7 +161,7 @@ dependents_judged ms s =
     let o = codes "dependents" in
     one_judged (Judged ms) (has_fields 2 (object ms)) (u64_field (codes "k") (object ms)) (λ k. Ok (Dependents k)) (λ why. count_bad ms o 1 s refl why)
     (λ why. field_bad ms o (codes "k") s number_reader refl refl why)
-    (λ a n p. all_fine ms o (codes "k" ∷ []) s (form_at 37 (o, codes "k" ∷ []) refl refl refl) refl (count_found ms 2 tt n)
+    (λ a n p. all_fine ms o (codes "k" ∷ []) s (form_at 38 (o, codes "k" ∷ []) refl refl refl) refl (count_found ms 2 tt n)
     (fine ms o (codes "k") number_reader refl a p, tt))
 
 pub get_judged : IsJudged (codes "get") get_of
@@ -206,7 +206,7 @@ reduce_judged ms s =
     (λ a how. Ok (Ask (Reduce a how)))
     (λ why. count_bad ms o 2 s refl why) (λ why. field_bad ms o (codes "a") s name_reader refl refl why)
     (λ why. field_bad ms o (codes "how") s reduction_reader refl refl why)
-    (λ a b n p q. all_fine ms o (codes "a" ∷ codes "how" ∷ []) s (form_at 34 (o, codes "a" ∷ codes "how" ∷ []) refl refl refl) refl (count_found ms 3 tt n)
+    (λ a b n p q. all_fine ms o (codes "a" ∷ codes "how" ∷ []) s (form_at 35 (o, codes "a" ∷ codes "how" ∷ []) refl refl refl) refl (count_found ms 3 tt n)
     (fine ms o (codes "a") name_reader refl a p, (fine ms o (codes "how") reduction_reader refl b q, tt)))
 
 pub state_judged : IsJudged (codes "state") state_of

@@ -1,5 +1,5 @@
 -- The text of a history: the lines of its workbook's objects, and a line for each of its edits, in their order.
-use Rattle.std.specs.Prelude.{◌≡◌, ℕ, Bool, true, false, List, [], ◌∷◌, ◌++◌, length, codes, decimal, Some, ⊤}
+use Rattle.std.specs.Prelude.{◌≡◌, ℕ, ◌-◌, Bool, true, false, List, [], ◌∷◌, ◌++◌, length, drop, codes, decimal, Some, ⊤}
 use Rattle.std.specs.List.{flat_map}
 use Rattle.std.specs.Str.{is_utf8}
 use Rattle.serde_json.specs.Read.{read}
@@ -33,6 +33,10 @@ abbrev pub history_text : List Numbered → List ℕ
 history_text es =
     codes "chapel-workbook 2\n" ++ (objects_text (replay (meant es)) ++
     (codes "history " ++ (decimal (length es) ++ (codes "\n" ++ (flat_map edit_line es ++ codes "end\n")))))
+
+-- the lines of the edits whose number, from 1, is this one or greater: from 0 on they are all, and behind the last edit there is none
+abbrev pub lines_from : ℕ → List Numbered → List ℕ
+lines_from k es = flat_map edit_line (drop (k - 1) es)
 
 -- ---- what the lines of edits are
 

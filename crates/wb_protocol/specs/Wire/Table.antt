@@ -31,5 +31,6 @@ table (Ask (Piece a l)) = (codes "a", name a) ∷ (codes "l", number l) ∷ op (
 table (Ask (Reduce a how)) = (codes "a", name a) ∷ (codes "how", word (reduction_word how)) ∷ op (codes "reduce") ∷ []
 table (Ask (State k)) = (codes "k", number k) ∷ op (codes "state") ∷ []
 table Print = op (codes "print") ∷ []
-table History = op (codes "history") ∷ []
+table (History None) = op (codes "history") ∷ []
+table (History (Some k)) = (codes "from", number k) ∷ op (codes "history") ∷ []
 table Edits = op (codes "edits") ∷ []

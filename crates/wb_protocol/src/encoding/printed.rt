@@ -1,8 +1,8 @@
-//! The text of a whole history.
-ghost use Rattle.std.specs.Prelude.{◌≡◌, ◌++◌, ℕ, List, IfOk, OnOk, codes, string_bytes, Some, option_map};
+//! The text of a whole history, and the lines of its edits from a number on.
+ghost use Rattle.std.specs.Prelude.{◌≡◌, ◌++◌, ℕ, List, drop, IfOk, OnOk, codes, string_bytes, Some, option_map};
 ghost use Rattle.std.specs.List.{flat_map};
 ghost use Rattle.wb_history.specs.Restored.{one_of};
-ghost use Rattle.wb_protocol.specs.Encoding.Text.{mark, edit_line, objects_text, history_text, IsJson, AreJson};
+ghost use Rattle.wb_protocol.specs.Encoding.Text.{mark, edit_line, objects_text, history_text, lines_from, IsJson, AreJson};
 
 use crate::encoding::edits::edit_text;
 use std::alloc::{AllocError, Global};
@@ -55,18 +55,32 @@ fn push_edit(alloc: Global, out: &mut String, edit: &Edit, in_force: bool) -> Re
     Ok(())
 }
 
-// The lines of all edits, in their order.
-fn push_edits(alloc: Global, out: &mut String, history: &History) -> Result<(), NoMemory>
-    ensures lines { OnOk result (string_bytes out.new ≡ string_bytes out.old ++ flat_map edit_line history.now.entries) }
-    ensures json { OnOk result (AreJson history.now.entries) }
+// The lines of the edits behind the first so many, in their order.
+fn push_edits(
+    alloc: Global,
+    out: &mut String,
+    history: &History,
+    first: u64,
+) -> Result<(), NoMemory>
+    ensures lines { OnOk result (string_bytes out.new ≡ string_bytes out.old ++ flat_map edit_line (drop first history.now.entries)) }
+    ensures json { OnOk result (AreJson (drop first history.now.entries)) }
 {
-    for before in 0..history.len() {
+    for before in first..history.len() {
         match history.edit_at(before + 1) {
             Some((edit, in_force)) => push_edit(alloc, out, edit.as_edit(), in_force)?,
             None => unreachable!(),
         }
     }
     Ok(())
+}
+
+/// The lines of the edits from a number on, as the text of the history has them. `NoMemory` where none is left.
+pub fn print_edits_from(alloc: Global, history: &History, from: u64) -> Result<String, NoMemory>
+    ensures { IfOk result (λ t. string_bytes t ≡ lines_from from history.now.entries) }
+{
+    let mut out = String::new(alloc);
+    push_edits(alloc, &mut out, history, from.saturating_sub(1))?;
+    Ok(out)
 }
 
 /// The text of a history: the line `chapel-workbook 2`, the lines of its workbook's objects, how many edits there are,
@@ -81,7 +95,7 @@ pub fn print_history(alloc: Global, history: &History) -> Result<String, NoMemor
     out.push_str("chapel-workbook 2\n")?;
     push_objects(alloc, &mut out, history.book())?;
     write!(out, "history {count}\n")?;
-    push_edits(alloc, &mut out, history)?;
+    push_edits(alloc, &mut out, history, 0)?;
     out.push_str("end\n")?;
     Ok(out)
 }

@@ -57,7 +57,7 @@ fn edit_of(alloc: Global, line: &[u8]) -> Result<Option<Edit>, NoMemory>
             | Request::Dependents(_)
             | Request::Ask(_)
             | Request::Print
-            | Request::History
+            | Request::History(_)
             | Request::Edits,
         ) => Ok(None),
         Err(Refusal::NoMemory) => Err(NoMemory),

@@ -25,6 +25,8 @@ pub enum Reply {
     Answered(Answer),
     /// The text of the workbook, or of the history.
     Printed(PrintedText),
+    /// How many edits there are, and the lines of those from a number on.
+    PrintedFrom(u64, PrintedText),
     /// How many edits there are, and how many cells were set.
     Counted(u64, u128),
     /// Why nothing was done.
@@ -42,6 +44,7 @@ impl Drop for Reply {
             | Reply::Listed(_)
             | Reply::Answered(_)
             | Reply::Printed(_)
+            | Reply::PrintedFrom(_, _)
             | Reply::Counted(_, _)
             | Reply::Refused(_) => {}
         }
@@ -61,6 +64,7 @@ impl Reply {
             Reply::Listed(edits) => Ok(Reply::Listed(edits.copy(alloc)?)),
             Reply::Answered(answer) => Ok(Reply::Answered(answer.copy(alloc)?)),
             Reply::Printed(text) => Ok(Reply::Printed(text.copy(alloc)?)),
+            Reply::PrintedFrom(edits, text) => Ok(Reply::PrintedFrom(*edits, text.copy(alloc)?)),
             Reply::Counted(edits, writes) => Ok(Reply::Counted(*edits, *writes)),
             Reply::Refused(why) => Ok(Reply::Refused(*why)),
         }
@@ -83,6 +87,12 @@ impl Reply {
             (Reply::Listed(edits), Reply::Listed(by)) => edits.is_same(by),
             (Reply::Answered(answer), Reply::Answered(by)) => answer.is_same(by),
             (Reply::Printed(text), Reply::Printed(by)) => text.as_str() == by.as_str(),
+            (Reply::PrintedFrom(edits, text), Reply::PrintedFrom(by, of)) => {
+                if *edits != *by {
+                    return false;
+                }
+                text.as_str() == of.as_str()
+            }
             (Reply::Counted(edits, writes), Reply::Counted(by, to)) => {
                 if *edits != *by {
                     return false;

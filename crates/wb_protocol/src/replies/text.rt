@@ -6,7 +6,7 @@ ghost use Rattle.serde_json.specs.Written.{compact_text};
 ghost use Rattle.wb_log.specs.declared.refusal.Refusal.TheVariants.{Blocked};
 ghost use Rattle.wb_protocol.specs.Printed.{numbers_text, value_text, size_text, locale_text, in_force_text};
 ghost use Rattle.wb_protocol.specs.Replies.{edit_code, edit_name, code_of, name_of, refusal_data, answer_data, reply_data, reply_of};
-ghost use Rattle.wb_protocol.specs.declared.replies.reply.Reply.TheVariants.{Printed};
+ghost use Rattle.wb_protocol.specs.declared.replies.reply.Reply.TheVariants.{Printed, PrintedFrom};
 
 use crate::replies::numbers_text::{dependents_text, undone_text};
 use crate::replies::pieces::piece_text;
@@ -216,6 +216,20 @@ fn printed_text(alloc: Global, text: &str) -> Result<String, AllocError>
     value.to_string(alloc)
 }
 
+// The object of how many edits there are, and the lines of some.
+fn printed_from_value(alloc: Global, edits: u64, text: &str) -> Result<Value, AllocError>
+    ensures { IfOk result (λ v. view v ≡ reply_data (PrintedFrom edits text.now)) }
+{
+    json!(in alloc; {"edits": edits, "text": text})
+}
+
+fn printed_from_text(alloc: Global, edits: u64, text: &str) -> Result<String, AllocError>
+    ensures { IfOk result (λ s. string_bytes s ≡ reply_of (PrintedFrom edits text.now)) }
+{
+    let value = printed_from_value(alloc, edits, text)?;
+    value.to_string(alloc)
+}
+
 #[tactic(auto, using(crate::proofs::Texts::edited_is, crate::proofs::Texts::undone_is, crate::proofs::Texts::cascaded_is, crate::proofs::Texts::redone_is, crate::proofs::Texts::listed_is, crate::proofs::Texts::counted_is))]
 fn text_of(alloc: Global, reply: &Reply) -> Result<String, AllocError>
     ensures { IfOk result (λ s. string_bytes s ≡ reply_of reply.now) }
@@ -228,6 +242,7 @@ fn text_of(alloc: Global, reply: &Reply) -> Result<String, AllocError>
         Reply::Listed(edits) => dependents_text(alloc, edits),
         Reply::Answered(answer) => answer_text(alloc, answer),
         Reply::Printed(text) => printed_text(alloc, text.as_str()),
+        Reply::PrintedFrom(edits, text) => printed_from_text(alloc, *edits, text.as_str()),
         Reply::Counted(edits, writes) => counts_text(alloc, *edits, *writes),
         Reply::Refused(refusal) => refusal_text(alloc, *refusal),
     }

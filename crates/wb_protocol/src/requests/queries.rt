@@ -1,9 +1,11 @@
 // Requests for what the workbook and its history say.
 ghost use Rattle.std.specs.Prelude.{◌≡◌, codes};
 ghost use Rattle.serde_json.specs.View.{view};
-ghost use Rattle.wb_protocol.specs.Requests.{get_of, where_of, size_of, piece_of, reduce_of, state_of, print_of, history_of, edits_of};
+ghost use Rattle.wb_protocol.specs.Requests.{get_of, where_of, size_of, piece_of, reduce_of, state_of, print_of, history_from, history_of, edits_of};
 
-use crate::requests::fields::{has_fields, index_field, name_field, reduction_field, u64_field};
+use crate::requests::fields::{
+    field_count, has_fields, index_field, name_field, reduction_field, u64_field,
+};
 use crate::requests::request::Request;
 use serde_json::Value;
 use wb_history::{Query, Refusal};
@@ -74,12 +76,23 @@ pub(crate) fn print_of(value: &Value) -> Result<Request, Refusal>
     Ok(Request::Print)
 }
 
-/// The text of the history.
+fn history_from(value: &Value) -> Result<Request, Refusal>
+    ensures { result ≡ history_from (view value.now) }
+{
+    has_fields(value, 2)?;
+    let number = u64_field(value, "from")?;
+    Ok(Request::History(Some(number)))
+}
+
+/// The text of the history, or the lines of its edits from a number on.
 pub(crate) fn history_of(value: &Value) -> Result<Request, Refusal>
     ensures { result ≡ history_of (view value.now) }
 {
-    has_fields(value, 1)?;
-    Ok(Request::History)
+    if field_count(value) == 1 {
+        Ok(Request::History(None))
+    } else {
+        history_from(value)
+    }
 }
 
 /// How many edits there are, and how many cells were set.

@@ -23,8 +23,8 @@ pub enum Request {
     Ask(Query),
     /// The text of the workbook.
     Print,
-    /// The text of the history.
-    History,
+    /// The text of the history, or the lines of its edits from a number on.
+    History(Option<u64>),
     /// How many edits there are, and how many cells were set.
     Edits,
 }
@@ -42,7 +42,7 @@ impl Request {
             Request::Dependents(number) => Ok(Request::Dependents(*number)),
             Request::Ask(query) => Ok(Request::Ask(*query)),
             Request::Print => Ok(Request::Print),
-            Request::History => Ok(Request::History),
+            Request::History(from) => Ok(Request::History(*from)),
             Request::Edits => Ok(Request::Edits),
         }
     }
@@ -59,7 +59,7 @@ impl Request {
             (Request::Dependents(number), Request::Dependents(by)) => *number == *by,
             (Request::Ask(query), Request::Ask(by)) => query.is_same(by),
             (Request::Print, Request::Print) => true,
-            (Request::History, Request::History) => true,
+            (Request::History(from), Request::History(by)) => is_same_number(*from, *by),
             (Request::Edits, Request::Edits) => true,
             _ => false,
         }

@@ -1,8 +1,8 @@
 // One request after another, each a step of the history.
 ghost use Rattle.std.specs.Prelude.{◌≡◌, Some, None};
-ghost use Rattle.wb_protocol.specs.Machine.{Changes, UndoesNumber, UndoesLatest, Redoes, Cascades, ListsDependents, Answers, Prints, PrintsHistory, Counts, Step};
+ghost use Rattle.wb_protocol.specs.Machine.{Changes, UndoesNumber, UndoesLatest, Redoes, Cascades, ListsDependents, Answers, Prints, PrintsHistory, PrintsFrom, Counts, Step};
 
-use crate::encoding::print_history;
+use crate::encoding::{print_edits_from, print_history};
 use crate::replies::edit_numbers::EditNumbers;
 use crate::replies::printed_text::PrintedText;
 use crate::replies::reply::Reply;
@@ -94,6 +94,15 @@ fn print_whole_history(alloc: Global, history: &History) -> Reply
     }
 }
 
+fn print_from(alloc: Global, history: &History, from: u64) -> Reply
+    ensures { PrintsFrom history.now from result history.now }
+{
+    match print_edits_from(alloc, history, from) {
+        Ok(text) => Reply::PrintedFrom(history.len(), PrintedText::new(text)),
+        Err(_) => Reply::Refused(Refusal::NoMemory),
+    }
+}
+
 fn count_edits(history: &History) -> Reply
     ensures { Counts history.now result history.now }
 {
@@ -119,7 +128,8 @@ pub fn answer_request<M: Mover>(
         Request::Dependents(number) => list_dependents(history, number),
         Request::Ask(query) => answer_query(history, &query, mover),
         Request::Print => print_workbook(alloc, history),
-        Request::History => print_whole_history(alloc, history),
+        Request::History(Some(from)) => print_from(alloc, history, from),
+        Request::History(None) => print_whole_history(alloc, history),
         Request::Edits => count_edits(history),
     }
 }

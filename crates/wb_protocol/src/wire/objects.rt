@@ -25,6 +25,13 @@ pub(crate) fn by_number(alloc: Global, op: &str, k: u64) -> Result<Value, AllocE
     json!(in alloc; {"k": k, "op": op})
 }
 
+/// The members `from` and `op`.
+pub(crate) fn from_number(alloc: Global, from: u64) -> Result<Value, AllocError>
+    ensures { IfOk result (λ v. view v ≡ object (member (codes "from") (number (unsigned from)) (member (codes "op") (string (codes "history")) no_members))) }
+{
+    json!(in alloc; {"from": from, "op": "history"})
+}
+
 /// The members `a`, `l` and `op`.
 pub(crate) fn piece(alloc: Global, a: &Name, l: u64) -> Result<Value, AllocError>
     ensures { IfOk result (λ v. view v ≡ object (member (codes "a") (string a.now)

@@ -9,7 +9,7 @@ ghost use Rattle.wb_protocol.specs.Wire.Table.{reduction_word};
 
 use crate::Request;
 use crate::encoding::{edit_value, index_of_domain, line_of, of_domain};
-use crate::wire::objects::{by_number, element, piece, plain, reduction};
+use crate::wire::objects::{by_number, element, from_number, piece, plain, reduction};
 use serde_json::Value;
 use std::alloc::{AllocError, Global};
 use wb_arrays::Op;
@@ -53,7 +53,8 @@ fn request_value(alloc: Global, request: &Request) -> Result<Value, AllocError>
         Request::Dependents(k) => by_number(alloc, "dependents", *k),
         Request::Ask(query) => query_value(alloc, query),
         Request::Print => plain(alloc, "print"),
-        Request::History => plain(alloc, "history"),
+        Request::History(Some(from)) => from_number(alloc, *from),
+        Request::History(None) => plain(alloc, "history"),
         Request::Edits => plain(alloc, "edits"),
     }
 }

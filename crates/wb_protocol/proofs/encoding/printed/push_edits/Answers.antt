@@ -1,4 +1,4 @@
-use Rattle.std.proofs.Common.{◌∙◌, ◌++◌, Some, ap, sym, take, string_bytes}
+use Rattle.std.proofs.Common.{◌∙◌, ◌++◌, Some, ap, sym, take, drop, string_bytes}
 use Rattle.std.specs.List.{flat_map}
 use Rattle.std.proofs.lemmas.List.{append_assoc}
 use Rattle.wb_history.specs.Restored.{one_of}
@@ -9,13 +9,14 @@ use Rattle.wb_protocol.proofs.encoding.printed.push_edits.Goals as goal
 pub loop-before-preserved : goal.loop-before-preserved
 loop-before-preserved c =
     let es = c.args.history.now.entries in
+    let f = c.args.first in
     let k = c.loop-before.before in
     let x = one_of c.as_edit.result.now c.in-Some.in_force in
     let there = ap (λ e. Some (one_of e c.in-Some.in_force)) c.as_edit.ensures ∙ c.in-Some.ensures in
     let old = string_bytes c.args.out.now in
     record {
       lines = c.in_ok-push_edit-in-Some.ensures.line ∙ ap (λ t. t ++ edit_line x) c.loop-before.invariant.lines ∙
-          append_assoc old (flat_map edit_line (take k es)) (edit_line x)
-          ∙ ap (λ t. old ++ t) (sym (lines_more es k x there));
-      json = json_more es k x there c.loop-before.invariant.json c.in_ok-push_edit-in-Some.ensures.json;
+          append_assoc old (flat_map edit_line (drop f (take k es))) (edit_line x)
+          ∙ ap (λ t. old ++ t) (sym (lines_more es f k x c.loop-before.auto.before there));
+      json = json_more es f k x c.loop-before.auto.before there c.loop-before.invariant.json c.in_ok-push_edit-in-Some.ensures.json;
     }
