@@ -7,7 +7,7 @@ use wb_protocol::wire::{edit_text, request_text};
 use wb_protocol::{Request, read_request};
 
 // Lines, each with the canonical line of its request.
-const LINES: [(&str, &str); 21] = [
+const LINES: [(&str, &str); 23] = [
     (
         "{\"op\":\"domain\",\"d\":\"D\",\"is\":\"{1..4}\"}",
         "{\"d\":\"D\",\"is\":\"{1..4}\",\"map\":\"none\",\"op\":\"domain\"}",
@@ -86,6 +86,11 @@ const LINES: [(&str, &str); 21] = [
         "{\"a\":\"A\",\"how\":\"min\",\"op\":\"reduce\"}",
     ),
     ("{ \"op\":\"edits\" }", "{\"op\":\"edits\"}"),
+    ("{\"op\":\"history\"}", "{\"op\":\"history\"}"),
+    (
+        "{\"op\":\"history\", \"from\":3}",
+        "{\"from\":3,\"op\":\"history\"}",
+    ),
 ];
 
 // The line of a request, or of its edit.

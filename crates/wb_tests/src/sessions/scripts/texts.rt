@@ -1,4 +1,4 @@
-//! The text of a workbook after worked requests, as the format spells it.
+//! The text of a workbook after worked requests, as the format spells it, and the lines of its edits from a number on.
 
 use super::Script;
 
@@ -74,11 +74,38 @@ const SPELLINGS_OF_RANGES: &str = r#"
 {"op":"print"} -> {"text":"chapel-workbook 1\nrect P {2..10 by -2} none\nrect Q {2..10 by 2} none\nrect R {5..7} none\nrect S {1..0} none\nrect T {1..0} none\nrect U {10..10} none\nend\n"}
 "#;
 
+// The lines of the edits from a number on, in force and out of force, with how many edits there are.
+const EDITS_FROM: &str = r#"
+{"op":"history","from":1} -> {"edits":0,"text":""}
+{"op":"domain","d":"D","is":"{1..4}"} -> {"edit":1,"n":3}
+{"op":"array","a":"A","d":"D"} -> {"edit":2,"n":7}
+{"op":"set","a":"A","i":4,"v":9} -> {"edit":3,"n":1}
+{"op":"undo","k":3} -> {"n":1,"undone":3}
+{"op":"history","from":3} -> {"edits":3,"text":"- {\"a\":\"A\",\"i\":4,\"op\":\"set\",\"v\":9}\n"}
+{"from":2,"op":"history"} -> {"edits":3,"text":"+ {\"a\":\"A\",\"d\":\"D\",\"op\":\"array\"}\n- {\"a\":\"A\",\"i\":4,\"op\":\"set\",\"v\":9}\n"}
+{"op":"history","from":1} -> {"edits":3,"text":"+ {\"d\":\"D\",\"is\":\"{1..4}\",\"map\":\"none\",\"op\":\"domain\"}\n+ {\"a\":\"A\",\"d\":\"D\",\"op\":\"array\"}\n- {\"a\":\"A\",\"i\":4,\"op\":\"set\",\"v\":9}\n"}
+{"op":"history","from":0} -> {"edits":3,"text":"+ {\"d\":\"D\",\"is\":\"{1..4}\",\"map\":\"none\",\"op\":\"domain\"}\n+ {\"a\":\"A\",\"d\":\"D\",\"op\":\"array\"}\n- {\"a\":\"A\",\"i\":4,\"op\":\"set\",\"v\":9}\n"}
+{"op":"history","from":4} -> {"edits":3,"text":""}
+{"op":"history","from":5} -> {"edits":3,"text":""}
+{"op":"history","from":18446744073709551615} -> {"edits":3,"text":""}
+{"op":"redo","k":3} -> {"n":1,"redone":3}
+{"op":"history","from":3} -> {"edits":3,"text":"+ {\"a\":\"A\",\"i\":4,\"op\":\"set\",\"v\":9}\n"}
+{"op":"history"} -> {"text":"chapel-workbook 2\narray A over D [0, 0, 0, 9]\nrect D {1..4} none\nhistory 3\n+ {\"d\":\"D\",\"is\":\"{1..4}\",\"map\":\"none\",\"op\":\"domain\"}\n+ {\"a\":\"A\",\"d\":\"D\",\"op\":\"array\"}\n+ {\"a\":\"A\",\"i\":4,\"op\":\"set\",\"v\":9}\nend\n"}
+{"op":"history","from":-1} -> {"error":"E01","name":"bad-request"}
+{"op":"history","from":1.0} -> {"error":"E01","name":"bad-request"}
+{"op":"history","from":"1"} -> {"error":"E01","name":"bad-request"}
+{"op":"history","from":null} -> {"error":"E01","name":"bad-request"}
+{"op":"history","from":18446744073709551616} -> {"error":"E01","name":"bad-request"}
+{"op":"history","k":1} -> {"error":"E01","name":"bad-request"}
+{"op":"history","from":1,"k":1} -> {"error":"E01","name":"bad-request"}
+"#;
+
 /// Each script, over a history of its own.
-pub const SCRIPTS: [Script; 5] = [
+pub const SCRIPTS: [Script; 6] = [
     ("", NOTHING, 0, 0),
     ("", FIRST_RUN, 3, 19),
     ("", EVERY_KIND, 22, 52),
     ("", STRIDED_AND_ALIGNED, 8, 23),
     ("", SPELLINGS_OF_RANGES, 6, 18),
+    ("", EDITS_FROM, 3, 13),
 ];
