@@ -9,7 +9,7 @@ from workbook_client import hearing, refusals, requests
 from workbook_client import (
     Array, BadLiteral, BadMapping, BadRequest, Blocked, Cascade, Empty, InForce, InUse, LineTooLong,
     NameTaken, NoSuchEdit, NoSuchName, NotEmpty, NotInForce, NotResumed, OutOfDomain,
-    OutOfParent, Overflow, Refusal, RefusedInPlace, Snapshot, TooLarge, Workbook,
+    OutOfParent, Overflow, Refusal, RefusedInPlace, Snapshot, StrangeReply, TooLarge, Workbook,
     WrongKind, block, block_cyclic, cyclic,
 )
 
@@ -350,6 +350,8 @@ class Dependents(Case):
         told = [(e.number, e.what, e.was_in_force, e.cells) for e in self.wb.history()]
         self.assertEqual(told[3], (4, "A[2] = A[1] + 1", False, 1))
         self.assertEqual(told[6], (7, "A += A", True, 4))
+        self.assertEqual([e.number for e in self.wb.history(since=6)], [6, 7])
+        self.assertEqual(self.wb.history(since=8), [])
 
 
 class Blocks(Case):
@@ -600,6 +602,20 @@ class Replies(unittest.TestCase):
         with self.assertRaises(NotInForce):
             wb.dependents(3)
         self.assertEqual(channel.sent, [{"op": "dependents", "k": 3}] * 3)
+
+    def test_history_from(self):
+        line = '{"a":"A","i":4,"op":"set","v":9}'
+        channel = Told({"edits": 19, "text": f"+ {line}\n- {line}\n"}, {"edits": 19, "text": ""}, {"text": ""})
+        wb = Workbook(channel, "me", alone=False)
+        told = [(e.number, e.what, e.who, e.was_in_force) for e in wb.history(since=18)]
+        self.assertEqual(told, [(18, "A[4] = 9", "another", True), (19, "A[4] = 9", "another", False)])
+        self.assertEqual(wb.history(since=20), [])
+        with self.assertRaises(StrangeReply):
+            wb.history(since=2)
+        self.assertEqual(channel.sent, [{"op": "history", "from": k} for k in (18, 20, 2)])
+        for k in (-1, 1.5, True):
+            with self.assertRaises((TypeError, ValueError)):
+                requests.history_from(k)
 
     def test_counts(self):
         channel, wb = self.book({"edits": 3, "writes": 2**64})

@@ -32,6 +32,18 @@ class Shared(unittest.TestCase):
         self.assertEqual(self.one.undo(3).number, 3)
         self.assertEqual([e.was_in_force for e in self.two.history()], [True, True, False, False])
 
+    def test_the_history_from_a_number_on(self):
+        A = self.one.array("A", self.one.domain("D", range(1, 5)))
+        A[1] = 5
+        A[2] = 6
+        self.one.undo(3)
+        told = [(e.number, e.who, e.what, e.was_in_force) for e in self.two.history(since=3)]
+        self.assertEqual(told, [(3, "another", "A[1] = 5", False), (4, "another", "A[2] = 6", True)])
+        self.assertEqual(self.two.history(since=5), [])
+        self.assertEqual(sorted(self.two.edits), [3, 4])
+        # four edits, an undo, and two questions
+        self.assertEqual(self.server.settled()[0], 7)
+
     def test_dependents_and_cascade(self):
         """Who needs an edit is a question like others, and a cascade is one step of the desk."""
         A = self.one.array("A", self.one.domain("D", range(1, 5)))

@@ -82,7 +82,7 @@ class Workbook:
         except BaseException:
             book.close()
             raise
-        hearing.note(book, past, "before")
+        hearing.note(book, past.edits, "before")
         return book
 
     @classmethod
@@ -93,7 +93,7 @@ class Workbook:
         try:
             book.exchange.knock()  # however long the file is: its changes are made again first
             if book.counts() != (0, 0):
-                hearing.note(book, hearing.read(book.history_text()), "before")
+                hearing.note(book, hearing.read(book.history_text()).edits, "before")
         except SessionEnded as no:
             told = journals.refused(channel, no)
             book.close()
@@ -328,12 +328,16 @@ class Workbook:
         told = self.ask(requests.edits())
         return told.number("edits"), told.number("writes")
 
-    def history(self) -> List[Edit]:
-        """Every edit, by number. `who` of those of others is "another", and `cells` of theirs is
-        -1. In a shared workbook the text of the whole history is asked for."""
+    def history(self, since: int = 1) -> List[Edit]:
+        """Every edit, by number, or those from number `since` on. `who` of those of others is
+        "another", and `cells` of theirs is -1. In a shared workbook the text of the whole history
+        is asked for, or of it the lines of these edits alone."""
         if not self.alone:
-            hearing.hear_all(self)
-        return [self.edits[number] for number in sorted(self.edits)]
+            if since > 1:
+                hearing.hear_from(self, since)
+            else:
+                hearing.hear_all(self)
+        return [self.edits[number] for number in sorted(self.edits) if number >= since]
 
     def load(self, text: str) -> List[Edit]:
         """Makes the objects of a workbook's text in an empty workbook, all or none.

@@ -1,7 +1,7 @@
 """What others do in a shared workbook, as far as this session asks for it.
 
-The text of the history tells all, and grows with it; whether an edit is in force is a question for
-each. Whether anything changed at all is one short question (`Workbook.counts`).
+The text of the history tells all, and grows with it; the lines of its edits from a number on tell of
+these alone. Whether anything changed at all is one short question (`Workbook.counts`).
 """
 
 import json
@@ -37,20 +37,32 @@ def read(text: str) -> Past:
     lines = rest.split("\n")
     if not mark or not objects.startswith("chapel-workbook 2") or lines[-2:] != ["end", ""]:
         raise ValueError("this is no text of a history: that starts with `chapel-workbook 2` and ends with `end`")
-    edits = {number: (line[0] == "+", json.loads(line[2:])) for number, line in enumerate(lines[1:-2], start=1)}
-    return Past(Snapshot.read(objects.replace("workbook 2", "workbook 1", 1) + "\nend\n"), edits)
+    return Past(Snapshot.read(objects.replace("workbook 2", "workbook 1", 1) + "\nend\n"), _edits(lines[1:-2], 1))
+
+
+def _edits(lines: List[str], first: int) -> "Dict[int, tuple[bool, Request]]":
+    """What the lines of edits tell, by the number of the first."""
+    return {number: (line[0] == "+", json.loads(line[2:])) for number, line in enumerate(lines, start=first)}
 
 
 def hear_all(book: "Workbook") -> Snapshot:
     """Hears of every edit, by one question whose answer grows with the history; gives the workbook."""
     past = read(book.history_text())
-    note(book, past, "another")
+    note(book, past.edits, "another")
     return past.snapshot
 
 
-def note(book: "Workbook", past: Past, who: str) -> None:
-    """Notes what a history tells; edits that were unheard of are someone's."""
-    for number, (in_force, request) in past.edits.items():
+def hear_from(book: "Workbook", k: int) -> int:
+    """Hears of the edits from number k on, by one question whose answer has their lines alone; gives how many edits there are."""
+    told = book.ask(requests.history_from(k))
+    lines = told.text("text").split("\n")[:-1]
+    note(book, _edits(lines, max(k, 1)), "another")
+    return told.number("edits")
+
+
+def note(book: "Workbook", edits: "Dict[int, tuple[bool, Request]]", who: str) -> None:
+    """Notes what a history tells of edits; those that were unheard of are someone's."""
+    for number, (in_force, request) in edits.items():
         edit = _known(book, number, in_force, who)
         edit.what = edit.what or requests.in_words(request)
 
@@ -114,7 +126,7 @@ def hear_again(book: "Workbook") -> News:
     other = any(number not in past.edits or not _alike(edit.what, past.edits[number][1]) for number, edit in known.items())
     if other:
         book.edits.clear()
-    note(book, past, book.who if book.alone else "another")
+    note(book, past.edits, book.who if book.alone else "another")
     now = {number: in_force for number, (in_force, _) in past.edits.items()}
     return News(
         len(now), max(known, default=0), other, [k for k in now if k > max(known, default=0)],

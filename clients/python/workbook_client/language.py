@@ -177,6 +177,8 @@ class _Parser:
             k = self.count("the number of the edit; `history` lists them")
             self.end(None)
             return requests.cascade(k) if word == "cascade" else Command(word, (k,))
+        if word == "history":
+            return self.end(Command(word, () if self.now.kind == "end" else (self.count("the number of an edit, to begin with"),)))
         if word == "show":
             return self.show()
         if word == "label":

@@ -48,7 +48,7 @@ Looking        A     A[4]     A[1..20]       a table, an element, a part of the 
                + reduce A    min reduce A    max reduce A
                size D    where D 3    piece A 0    names    text
                colours on    colours off     tables by locale, or plain
-Edits          history                       every edit: who, what, whether in force
+Edits          history    history 18         every edit, or from 18 on: who, what, whether in force
                undo    undo 3    redo 3      one edit alone, the latest if none is named
                dependents 3    cascade 3     who needs edit 3; takes it back with those
 Files          save FILE    load FILE        the text of the workbook
@@ -284,10 +284,10 @@ class Session:
             return
         self.say(self.table(["name", "kind", "what"], rows))
 
-    def do_history(self) -> None:
-        edits = self.book.history()
+    def do_history(self, since: int = 1) -> None:
+        edits = self.book.history(since)
         if not edits:
-            self.wrapped("no edits yet")
+            self.wrapped("no edits yet" if since <= 1 else f"no edits from {since} on")
             return
         rows = [
             [str(e.number), e.who, e.what or "?", "" if e.cells < 0 else str(e.cells),
@@ -296,7 +296,7 @@ class Session:
         ]
         self.say(self.table(["edit", "who", "what", "cells", "now"], rows))
         if len(edits) > SHOWN:
-            self.wrapped(f"and {len(edits) - SHOWN:,} before these")
+            self.wrapped(f"and {len(edits) - SHOWN:,} before these" + (f", from {since} on" if since > 1 else ""))
 
     def table(self, head: List[str], rows: List[List[str]]) -> str:
         taken = sum(max(len(row[c]) for row in [head, *rows]) + 3 for c in range(len(head)) if c != 2)

@@ -219,9 +219,12 @@ def spelled(key, value):
 
 
 def history(machine, r):
-    """The text of the history: that of the workbook, and then each edit with its mark."""
-    objects = machine.book.text().split("\n")[1:-2]
+    """The text of the history: that of the workbook, and then each edit with its mark; or the lines of the edits from a number on."""
     edits = [("+ " if edit.before is not None else "- ") + line_of(edit.request) for edit in machine.edits]
+    if "from" in r:
+        asked = [line for number, line in enumerate(edits, start=1) if number >= r["from"]]
+        return {"edits": len(edits), "text": "".join(line + "\n" for line in asked)}
+    objects = machine.book.text().split("\n")[1:-2]
     return {"text": "\n".join(["chapel-workbook 2", *objects, "history %d" % len(edits), *edits, "end", ""])}
 
 

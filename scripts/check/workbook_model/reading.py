@@ -142,7 +142,7 @@ FIELDS = {
     "piece": {"a": name, "l": count},
     "state": {"k": count},
     "print": {},
-    "history": {},
+    "history": {"?from": count},
     "edits": {},
     "load": {"text": book_text},
     "cascade": {"k": count},

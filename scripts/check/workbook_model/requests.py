@@ -211,6 +211,11 @@ class Requests:
         return {}
 
     make_edits = make_print
+
+    def make_history(self):
+        """The lines of edits from a number on: mostly of a late one, since the whole text is long."""
+        return {"from": self.number()}
+
     make_cascade = make_dependents = make_redo
 
     def make_reduce(self):
@@ -224,5 +229,5 @@ class Requests:
 SHARES = {
     "domain": 4, "sparse": 2, "assoc": 2, "drop_domain": 2, "reshape": 8, "add": 8, "remove": 4, "remap": 3, "array": 4,
     "drop_array": 2, "set": 16, "fill": 5, "put": 5, "fill_all": 2, "irv": 2, "copy": 8, "all": 4, "undo": 22, "redo": 18, "get": 4,
-    "where": 2, "size": 2, "piece": 2, "state": 3, "print": 1, "edits": 2, "cascade": 2, "dependents": 4, "reduce": 4, "load": 1,
+    "where": 2, "size": 2, "piece": 2, "state": 3, "print": 1, "history": 2, "edits": 2, "cascade": 2, "dependents": 4, "reduce": 4, "load": 1,
 }
