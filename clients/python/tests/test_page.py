@@ -425,18 +425,22 @@ class Page(unittest.TestCase):
         self.assertIn("edits 4 and 3 taken back", self.ask("/do", {"op": "cascade", "k": 3})[1]["say"])
         self.assertIn("array A over D [0, 0, 0]", self.ask("/text")[1])
 
-    def test_of_a_long_history_others_edits_have_no_words(self):
+    def test_of_a_long_history_the_latest_lines_are_asked(self):
         server = Server(seats=2)
         self.addCleanup(server.close)
-        for name, value in (("APART", 0.0), ("MANY", 2)):
+        for name, value in (("APART", 0.0), ("LATEST", 2)):
             self.addCleanup(setattr, view, name, getattr(view, name))
             setattr(view, name, value)
         self.open(server.connect())
         other = server.connect()
         self.lines("D = {1..2}", "A over D")
         other["A"][1] = 6
-        edits = self.ask("/state")[1]["edits"]
-        self.assertEqual([(e["what"], e["on"]) for e in edits][1:], [("A over D", True), ("", True)])
+        state = self.ask("/state")[1]
+        self.assertEqual([(e["what"], e["on"]) for e in state["edits"]], [("A over D", True), ("A[1] = 6", True)])
+        self.assertEqual((state["earlier"], state["arrays"][0]["values"][0][2]), (1, "6"))
+        other.undo(3)
+        other["A"][2] = 7
+        self.assertEqual([(e["what"], e["on"]) for e in self.ask("/state")[1]["edits"]], [("A[1] = 6", False), ("A[2] = 7", True)])
 
     def test_what_looking_costs_a_desk(self):
         server = Server(seats=1)

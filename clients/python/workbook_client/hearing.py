@@ -5,19 +5,16 @@ these alone. Whether anything changed at all is one short question (`Workbook.co
 """
 
 import json
+from itertools import count
 from typing import TYPE_CHECKING, Dict, Iterable, List, NamedTuple
 
 from . import requests
 from .edits import Edit
-from .refusals import NoSuchEdit
 from .requests import Request
 from .snapshot import Snapshot
 
 if TYPE_CHECKING:
     from .book import Workbook
-
-AT_ONCE = 64
-"""So many numbers that may have no edit are asked for at once."""
 
 
 class Past(NamedTuple):
@@ -67,36 +64,10 @@ def note(book: "Workbook", edits: "Dict[int, tuple[bool, Request]]", who: str) -
         edit.what = edit.what or requests.in_words(request)
 
 
-def learn(book: "Workbook", numbers: Iterable[int]) -> bool:
-    """Asks whether these known edits are in force. Says whether one was heard of otherwise."""
-    changed = False
-    for reading in [book.exchange.post(requests.state(number)) for number in numbers]:
-        edit = book.edits[reading.request["k"]]
-        changed |= edit.was_in_force != reading.value
-        edit.was_in_force = reading.value
-    return changed
-
-
-def find_new(book: "Workbook") -> bool:
-    """Asks for the edits that this session hasn't heard of. Says whether there are any.
-
-    Where there is none, that is one question: whether the number after the last known one is an
-    edit. Numbers below it that are unknown are edits of others.
-    """
-    last = max(book.edits, default=0)
-    missing = [number for number in range(1, last) if number not in book.edits]
-    for reading in [book.exchange.post(requests.state(number)) for number in missing]:
-        _known(book, reading.request["k"], reading.value)
-    number, many = last + 1, 1
-    while True:
-        asked = [book.exchange.post(requests.state(k)) for k in range(number, number + many)]
-        try:
-            for reading in asked:
-                _known(book, reading.request["k"], reading.value)
-        except NoSuchEdit:
-            book.exchange.read_all()
-            return bool(missing) or max(book.edits, default=0) > last
-        number, many = number + many, min(2 * many, AT_ONCE)
+def hear_latest(book: "Workbook", edits: int, latest: int) -> None:
+    """Hears, of so many edits, of those that this session doesn't know and of the latest ones. What became of others isn't heard."""
+    unknown = next(number for number in count(1) if number not in book.edits)
+    hear_from(book, max(1, min(unknown, edits - latest + 1)))
 
 
 class News(NamedTuple):

@@ -27,11 +27,9 @@ from .titles import Labels
 MOST = 4096
 """So many elements of an array are shown at once."""
 LATEST = 300
-"""So many of the latest edits are shown."""
+"""So many of the latest edits are shown. With more, the text of the whole history isn't asked for."""
 ASKED = 60
 """Of so many edits in sight it is asked at once who needs them, the latest first."""
-MANY = 2000
-"""With more edits, what others' edits did isn't asked: the text of the history would be long."""
 APART = 1.5
 """So many seconds lie between two looks at a shared workbook, however many pages are open."""
 TERMINAL_ALONE = {
@@ -224,8 +222,8 @@ class View:
     def _look(self) -> None:
         """Whether anything changed in a shared workbook, by one short question, since each stays at
         the desk as an entry. Where something did, the text of the history is asked for, or of a
-        long one whether the latest edits are in force. What an edit that set nothing became is
-        heard with the next change."""
+        long one the lines of the latest edits. What an edit that set nothing became is heard with
+        the next change."""
         if time.monotonic() < self._looked + APART:
             return
         counts = self.book.counts()
@@ -243,11 +241,10 @@ class View:
 
     def _hear(self, edits: int) -> None:
         """What others did, of so many edits."""
-        if edits <= MANY:
+        if edits <= LATEST:
             self._shot = hearing.hear_all(self.book)
         else:
-            hearing.find_new(self.book)
-            hearing.learn(self.book, sorted(self.book.edits)[-LATEST:])
+            hearing.hear_latest(self.book, edits, LATEST)
 
     def _state(self, edits: List[Edit]) -> Json:
         if self._objects is None:
