@@ -219,7 +219,7 @@ put_judged ms s =
         → Judged ms (literal_domain text >>= (λ l. put_over a l vs))
     with_text a text vs n p at q =
         let o = codes "put" in let ks = codes "a" ∷ codes "on" ∷ codes "vs" ∷ [] in
-        let c : Contains forms (o, ks) = contained_at 39 (o, ks) refl refl in
+        let c : Contains forms (o, ks) = contained_at 40 (o, ks) refl refl in
         let named : Fine ms o (codes "a") = fine ms o (codes "a") name_reader refl a p in
         let value : Fine ms o (codes "vs") = fine ms o (codes "vs") integers_reader refl vs q in
         let bad : (why : Refusal) → domain_in (Some (string text)) ≡ Err why → Refused (object ms) why =
