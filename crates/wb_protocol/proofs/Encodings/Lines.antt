@@ -1,5 +1,5 @@
 -- The lines that are printed so far.
-use Rattle.std.proofs.Common.{◌≡◌, ◌≤◌, ℕ, zero, suc, ◌+◌, List, [], ◌∷◌, ◌++◌, length, take, drop, slice_get, refl, sym, ap, ◌∙◌, subst, Option, Some, None, arith}
+use Rattle.std.proofs.Common.{◌≡◌, ◌≤◌, ℕ, zero, suc, ◌+◌, List, [], ◌∷◌, ◌++◌, take, drop, slice_get, refl, sym, ap, ◌∙◌, subst, Option, Some, None, arith}
 use Rattle.std.specs.List.{flat_map}
 use Rattle.std.proofs.lemmas.Grind.{flat_map-append}
 use Rattle.std.proofs.lemmas.List.{append-nil}
@@ -30,20 +30,6 @@ behind_more : (es : List Numbered) (f k : ℕ) (x : Numbered) → f ≤ k → So
 behind_more es f k x l e =
     let next : k + 1 ≡ suc k = omega arith in
     ap (λ n. drop f (take n es)) next ∙ behind_next es f k x l (e ∙ ap (numbered_at es) next)
-
-pub none_behind : (es : List Numbered) (k : ℕ) → drop k (take k es) ≡ []
-none_behind es zero = refl
-none_behind [] (suc k) = refl
-none_behind (x ∷ es) (suc k) = none_behind es k
-
-pub all_behind : (es : List Numbered) (f k : ℕ) → length es ≤ k → drop f (take k es) ≡ drop f es
-all_behind es f k l = ap (drop f) (take_whole es k l)
-  where
-    take_whole : (es : List Numbered) (k : ℕ) → length es ≤ k → take k es ≡ es
-    take_whole [] zero l = refl
-    take_whole [] (suc k) l = refl
-    take_whole (x ∷ es) zero l = absurd (omega (arith, l))
-    take_whole (x ∷ es) (suc k) l = ap (λ zs. x ∷ zs) (take_whole es k (omega (arith, l)))
 
 pub lines_more : (es : List Numbered) (f k : ℕ) (x : Numbered) → f ≤ k → Some x ≡ numbered_at es (k + 1) →
     flat_map edit_line (drop f (take (k + 1) es)) ≡ flat_map edit_line (drop f (take k es)) ++ edit_line x
