@@ -1,5 +1,5 @@
 -- Guests of one place, and what came back of places whose threads were started.
-use Rattle.std.proofs.Common.{◌≡◌, ◌∙◌, ◌+◌, ◌<◌, ℕ, List, [], ◌∷◌, ◌++◌, Some, below_more, get_or, length, slice_get, refl, sym, subst, ap}
+use Rattle.std.proofs.Common.{◌≡◌, ◌∙◌, ◌+◌, ◌<◌, ℕ, List, [], ◌∷◌, ◌++◌, Some, true, below_more, get_or, length, slice_get, refl, sym, subst, ap}
 use Rattle.std.proofs.Math.ListN.{get_or-append}
 use Rattle.std.proofs.Math.Seq.{get_or-append_seam}
 use Rattle.std.proofs.lemmas.Option.{get_or_from_slice_get}
@@ -9,8 +9,8 @@ use Rattle.wb_lending.specs.declared.guests.Hosts as Hosts
 
 -- one guest more was served behind these
 pub one_more : {G H P C D E : Type 0} (guests : Guests.Ghosts G C D E) (hosts : Hosts.Ghosts H P C E) (cs : List C) (p m k : P) (c : C) (g : G) (n : ℕ)
-    → Served guests hosts p cs m → guests.came g n c → hosts.served m c k → Served guests hosts p (cs ++ c ∷ []) k
-one_more guests hosts [] p m k c g n is_m came served = (g, n, k, came, subst (λ m. hosts.served m c k) is_m served, refl)
+    → Served guests hosts p cs m → guests.came g n c → hosts.served m c k true → Served guests hosts p (cs ++ c ∷ []) k
+one_more guests hosts [] p m k c g n is_m came served = (g, n, k, came, subst (λ m. hosts.served m c k true) is_m served, refl)
 one_more guests hosts (d ∷ cs) p m k c g n before came served =
     (before.0, before.1, before.2, before.3, before.4, one_more guests hosts cs before.2 m k c g n before.5 came served)
 

@@ -58,6 +58,12 @@ pub trait Guests<C, D, E> {
         ensures inside { inside self.new ≡ inside self.old - 1 }
         ensures places { places self.new ≡ places self.old };
 
+    /// A guest who was served leaves, and the place is there no more.
+    fn retire(&mut self, served: E)
+        ensures counted { counted self.new ≡ counted self.old }
+        ensures inside { inside self.new ≡ inside self.old - 1 }
+        ensures places { places self.new ≡ places self.old - 1 };
+
     /// Tells that no thread could be had for a place: from here on nobody comes any more.
     fn note_refused<F>(&mut self, refused: &SpawnError<F>)
         ensures { failed self.new ≡ true };
@@ -65,12 +71,12 @@ pub trait Guests<C, D, E> {
 
 /// Who serves guests, each on what a place keeps.
 pub trait Hosts<P, C, E> {
-    // The guest was served, and the place keeps another thing then.
-    ghost served: { P → C → P → Type 0 };
+    // The guest was served, and the place keeps another thing then; and whether it may be lent on.
+    ghost served: { P → C → P → Bool → Type 0 };
 
-    /// Serves a guest: what the place keeps then, and what is left of the guest.
-    fn serve(&self, kept: P, guest: C) -> (P, E)
-        ensures { served kept guest result.0 };
+    /// Serves a guest: what the place keeps then, what is left of the guest, and whether the place may be lent on.
+    fn serve(&self, kept: P, guest: C) -> (P, E, bool)
+        ensures { served kept guest result.0 result.2 };
 
     /// Waits a while.
     fn rest(&self);

@@ -36,8 +36,8 @@ impl<H: Hosts<P, C, E>, G: Guests<C, D, E>, P, C, D, E> Promise<P> for Promised<
     ghost kept_by = { λ p k. Lent G.Guests H.Hosts p.kept.value k };
 }
 
-/// Lends each place to one guest after another, until nobody comes any more: what they keep then. Who comes while no place is
-/// free is turned away.
+/// Lends each place to one guest after another, until nobody comes any more: what they keep then. A place that may not be lent on is
+/// retired before that. Who comes while no place is free is turned away, and so is everybody once all are retired.
 pub fn lend<
     R: Threads + Wait + Sync,
     H: Hosts<P, C, E> + Sync,

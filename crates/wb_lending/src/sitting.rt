@@ -14,7 +14,7 @@ pub fn taken<R: Wait, G: Guests<C, D, E>, C, D, E>(rt: &R, guests: &Mutex<G>) ->
     guests.lock(rt).next()
 }
 
-/// Lends a place to one guest after another, until nobody comes any more: what it keeps then.
+/// Lends a place to one guest after another, until nobody comes any more, or it may not be lent on and is retired: what it keeps then.
 pub(crate) fn sit<R: Wait, H: Hosts<P, C, E>, G: Guests<C, D, E>, P, C, D, E>(
     rt: &R,
     host: &H,
@@ -29,7 +29,11 @@ pub(crate) fn sit<R: Wait, H: Hosts<P, C, E>, G: Guests<C, D, E>, P, C, D, E>(
     for _ in rt.forever() {
         match taken::<R, G, C, D, E>(rt, guests) {
             Next::Came(guest) => {
-                let (kept, served) = host.serve(now, guest);
+                let (kept, served, may_be_lent) = host.serve(now, guest);
+                if !may_be_lent {
+                    guests.lock(rt).retire(served);
+                    return kept;
+                }
                 now = kept;
                 guests.lock(rt).leave(served);
             }

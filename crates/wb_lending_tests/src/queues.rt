@@ -8,6 +8,9 @@ use std::sync::atomic::Ordering::SeqCst;
 use std::thread::{SpawnError, Threads};
 use wb_lending::{Guests, Hosts, LendErr, Next, TurnsAway, lend};
 
+// More guests than come here.
+const MANY: u64 = 2000;
+
 // A guest for a place, by its number.
 struct Visitor(u64);
 
@@ -90,6 +93,12 @@ impl Guests<Visitor, Extra, Gone> for Queue {
         self.inside = self.inside.saturating_sub(1);
     }
 
+    fn retire(&mut self, served: Gone) {
+        let Gone = served;
+        self.inside = self.inside.saturating_sub(1);
+        self.places = self.places.saturating_sub(1);
+    }
+
     fn note_refused<F>(&mut self, refused: &SpawnError<F>) {
         let _ = refused;
         self.ahead = 0;
@@ -97,15 +106,18 @@ impl Guests<Visitor, Extra, Gone> for Queue {
     }
 }
 
-// Counts whom a place serves.
-struct Counter;
+// Counts whom a place serves, which may be lent on while they are fewer than so many.
+struct Counter {
+    most: u64,
+}
 
 impl Hosts<u64, Visitor, Gone> for Counter {
-    ghost served = { λ p c k. p ≤ k };
+    ghost served = { λ p c k may_be_lent. p ≤ k };
 
-    fn serve(&self, kept: u64, guest: Visitor) -> (u64, Gone) {
+    fn serve(&self, kept: u64, guest: Visitor) -> (u64, Gone, bool) {
         let Visitor(_) = guest;
-        (kept.saturating_add(1), Gone)
+        let served = kept.saturating_add(1);
+        (served, Gone, served < self.most)
     }
 
     fn rest(&self) {}
@@ -128,20 +140,26 @@ impl TurnsAway<Extra> for Porter {
     fn rest(&self) {}
 }
 
-// How many of so many guests were served and turned away, by so many places.
+// How many of so many guests were served and turned away, by so many places, each of which serves so many at most.
 fn both_of<R: Threads + Wait + Sync>(
     rt: &R,
     alloc: Global,
     ahead: u64,
     is_hasty: bool,
     places: Vec<u64>,
+    most: u64,
 ) -> Result<(u64, u64), LendErr> {
     let porter = Porter {
         turned: AtomicU64::new(0),
     };
     let queue = Queue::of(ahead, places.len() as u64, is_hasty);
     let kept = lend::<R, Counter, Porter, Queue, u64, Visitor, Extra, Gone>(
-        rt, alloc, &Counter, &porter, queue, places,
+        rt,
+        alloc,
+        &Counter { most },
+        &porter,
+        queue,
+        places,
     )?;
     let mut served = 0u64;
     for place in &kept {
@@ -156,7 +174,7 @@ fn each_guest_is_served_or_turned_away(rt: HostRuntime) -> Result<(), LendErr> {
     let Ok(places) = vec![in alloc; 0u64, 0u64] else {
         return Err(LendErr::NoMemory);
     };
-    let (served, turned) = both_of(&rt, alloc, 1000, true, places)?;
+    let (served, turned) = both_of(&rt, alloc, 1000, true, places, MANY)?;
     assert!(rt; served > 0 && served.saturating_add(turned) == 1000);
     Ok(())
 }
@@ -164,7 +182,7 @@ fn each_guest_is_served_or_turned_away(rt: HostRuntime) -> Result<(), LendErr> {
 #[test]
 fn without_a_place_all_are_turned_away(rt: HostRuntime) -> Result<(), LendErr> {
     let alloc: Global = rt.alloc();
-    let (served, turned) = both_of(&rt, alloc, 10, true, Vec::new(alloc))?;
+    let (served, turned) = both_of(&rt, alloc, 10, true, Vec::new(alloc), MANY)?;
     assert!(rt; served == 0 && turned == 10);
     Ok(())
 }
@@ -175,7 +193,24 @@ fn a_place_is_lent_again_and_again(rt: HostRuntime) -> Result<(), LendErr> {
     let Ok(places) = vec![in alloc; 0u64] else {
         return Err(LendErr::NoMemory);
     };
-    let (served, turned) = both_of(&rt, alloc, 1000, false, places)?;
+    let (served, turned) = both_of(&rt, alloc, 1000, false, places, MANY)?;
     assert!(rt; served == 1000 && turned == 0);
+    Ok(())
+}
+
+// Each of two places serves three guests, and everybody else is turned away, also once both are retired.
+#[test]
+fn a_place_that_may_not_be_lent_on_is_retired(rt: HostRuntime) -> Result<(), LendErr> {
+    let alloc: Global = rt.alloc();
+    let Ok(places) = vec![in alloc; 0u64, 0u64] else {
+        return Err(LendErr::NoMemory);
+    };
+    let (served, turned) = both_of(&rt, alloc, 1000, true, places, 3)?;
+    assert!(rt; served <= 6 && served.saturating_add(turned) == 1000);
+    let Ok(places) = vec![in alloc; 0u64] else {
+        return Err(LendErr::NoMemory);
+    };
+    let (served, turned) = both_of(&rt, alloc, 1000, true, places, 1)?;
+    assert!(rt; served == 1 && turned == 999);
     Ok(())
 }

@@ -6,6 +6,7 @@ use Rattle.wb_lines.specs.declared.source.Source as Source
 use Rattle.wb_desk.specs.Courses.{Start}
 use Rattle.wb_desk.specs.Serving.{Held}
 use Rattle.wb_program.specs.Days.{CameBack, ServedOn}
+use Rattle.wb_program.specs.Serving.{AnswersSeat}
 use Rattle.wb_program.specs.declared.accepting.Accepts as Accepts
 
 -- the connection of this number came, and the pass is the one at that place
@@ -30,7 +31,7 @@ seated accepts from hs number n p h j i q o at came is_pass is_reader is_writer 
 -- a thread that kept its promise
 pub came_back : {I O N : Type 0} (source : Source.Ghosts I) (sink : Sink.Ghosts O) (accepts : Accepts.Ghosts N I O) (opening : Start) (from : N)
     (hs ks first : List Held) (number : ℕ) (h k p : Held) (i : I) (o : O) → first ≡ hs → slice_get hs number ≡ Some h → slice_get ks number ≡ Some k
-    → IsSeated accepts from first number p i o → ServedOn source sink opening p i o (get_or ks number k)
+    → IsSeated accepts from first number p i o → ServedOn source sink (AnswersSeat opening) p i o (get_or ks number k)
     → CameBack source sink accepts opening from number h k
 came_back source sink accepts opening from hs ks first number h k p i o is_first is_h is_k seat kept =
     let same : p ≡ h = sym (seat.pass h) ∙ (ap (λ l. get_or l number h) is_first ∙ get_or_from_slice_get hs number h h is_h) in
@@ -39,5 +40,5 @@ came_back source sink accepts opening from hs ks first number h k p i o is_first
       reader = i;
       writer = o;
       came = seat.came;
-      served = subst (λ p. ServedOn source sink opening p i o k) same (subst (ServedOn source sink opening p i o) there kept);
+      served = subst (λ p. ServedOn source sink (AnswersSeat opening) p i o k) same (subst (ServedOn source sink (AnswersSeat opening) p i o) there kept);
     }

@@ -16,9 +16,9 @@ use Rattle.wb_program.specs.declared.accepting.Accepts as Accepts
 use Rattle.wb_program.specs.declared.door.Door.{Door}
 
 module _ {I O : Type 0} (source : Source.Ghosts I) (sink : Sink.Ghosts O) where
-  -- A pass was served on a connection, and is another one then: a session of the desk's replies to what is heard of its reader, up to the
-  -- end of that or a fault.
-  pub record ServedOn (opening : Start) (h : Held) (i : I) (o : O) (k : Held) : Type 0 where
+  -- A pass was served on a connection, and is another one then: a session of replies, of which lines get these at a pass, to what is heard of
+  -- its reader, up to the end of that or a fault.
+  pub record ServedOn (answers : Held → List ℕ → List ℕ → Held → Type 0) (h : Held) (i : I) (o : O) (k : Held) : Type 0 where
     pub end : SessionEnd
     pub door : Door I
     pub writer : O
@@ -28,7 +28,7 @@ module _ {I O : Type 0} (source : Source.Ghosts I) (sink : Sink.Ghosts O) where
     pub consumed : Consumes (option_map heard (source.remaining i)) (left_at source.remaining door) read
     pub text : List ℕ
     pub appended : Appends (sink.contents o) (sink.contents writer) text
-    pub session : ServesTurns (AnswersSeat opening) end h read (left_at source.remaining door) text k
+    pub session : ServesTurns answers end h read (left_at source.remaining door) text k
 
 module _ {I O N : Type 0} (source : Source.Ghosts I) (sink : Sink.Ghosts O) (accepts : Accepts.Ghosts N I O) where
   -- The connection of this number came, and the pass was served on it.
@@ -36,7 +36,7 @@ module _ {I O N : Type 0} (source : Source.Ghosts I) (sink : Sink.Ghosts O) (acc
     pub reader : I
     pub writer : O
     pub came : accepts.came from number reader writer
-    pub served : ServedOn source sink opening h reader writer k
+    pub served : ServedOn source sink (AnswersSeat opening) h reader writer k
 
   -- These passes came back, each from the connection of its number, in place of those.
   pub record AllBack (opening : Start) (from : N) (hs ks : List Held) : Type 0 where

@@ -1,5 +1,6 @@
 pub mod Door
 pub mod Serving
+pub mod Early
 pub mod Costs
 pub mod Accepting
 pub mod Days

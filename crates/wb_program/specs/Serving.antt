@@ -44,13 +44,13 @@ abbrev pub shown : Bool → List Numbered → List ℕ
 shown false es = book_text (replay (meant es))
 shown true es = history_text es
 
--- what is printed of a desk that is settled: the number of entries that are kept, and that text
-abbrev pub settled_text : Bool → Course → List ℕ
-settled_text whole c = codes "settled " ++ (decimal (count_of c.entries) ++ (codes "\n" ++ shown whole c.history.entries))
+-- what is printed of a desk that is settled: a number of entries, and that text
+abbrev pub settled_text : Bool → ℕ → List Numbered → List ℕ
+settled_text whole n es = codes "settled " ++ (decimal n ++ (codes "\n" ++ shown whole es))
 
--- That was printed of a course, with status 0; or a front of it, at a fault.
+-- That was printed of a course, with the number of entries that are kept and status 0; or a front of it, at a fault.
 abbrev pub PrintsSettled : Bool → Course → ℕ → List ℕ → Type 0
-PrintsSettled whole c status text = IsPrinted (settled_text whole c) status text
+PrintsSettled whole c status text = IsPrinted (settled_text whole (count_of c.entries) c.history.entries) status text
 
 -- No desk was opened or settled, and nothing was printed: there can be no desk of so many seats, or there was a fault.
 abbrev pub NeverSettles : ℕ → ℕ → List ℕ → Type 0

@@ -7,12 +7,14 @@ ghost use Rattle.wb_lines.specs.Turns.{ServesTurns, cost_limit, turn_limit};
 ghost use Rattle.wb_lines.specs.declared.machine.SessionEnd.{SessionEnd};
 ghost use Rattle.wb_protocol.specs.Replies.{reply_of};
 ghost use Rattle.wb_program.specs.Costs.{kept_line_cost};
+ghost use Rattle.wb_program.specs.Early.{IsSettledFrom};
 ghost use Rattle.wb_program.specs.Door.{left_at, failed_at, reads_at};
 ghost use Rattle.wb_program.specs.Serving.{AnswersSeat, IsReadAs};
 ghost use Rattle.wb_program.specs.KeptSeats.{FailsOnce, told_text};
 
 use crate::cost::{cost_of_both, cost_of_last, cost_to_answer_said};
 use crate::door::Door;
+use crate::early::{CanSettle, Early, LEFT_LIMIT, Settlings};
 use crate::seat::{Hold, Seat, text_of};
 use std::alloc::{AllocError, Global};
 use std::cell::Cell;
@@ -21,7 +23,7 @@ use std::sync::atomic::AtomicBool;
 use std::sync::atomic::Ordering::SeqCst;
 use std::sync::{Mutex, Wait};
 use wb_arrays::Mover;
-use wb_desk::Pass;
+use wb_desk::{Difference, Pass};
 use wb_history::Refusal;
 use wb_keep::disk::Device;
 use wb_kept_seats::{CommitErr, Desk, KeptOpening, Receipt, Said, Sealed, SettleErr, Turn};
@@ -120,6 +122,26 @@ impl<L: KeptOpening, D: Device + Drop> KeptDesk<L, D> {
         self.is_shut.load(SeqCst)
     }
 
+    /// Settles the seat of a pass whose connection ended, in a turn of its own, or tells where the pass and the desk first differ.
+    pub fn settle_left<R: Wait>(
+        &self,
+        rt: &R,
+        early: &Early<L>,
+        pass: &mut Pass<L>,
+    ) -> Option<Difference>
+        ensures { IsSettledFrom 1 L.seats L.opening pass.old result pass.new }
+    {
+        // (only a desk whose opening allows it is settled early)
+        let _ = early;
+        if pass.own().len() < LEFT_LIMIT {
+            return None;
+        }
+        let mut turn = self.desk.turn(rt);
+        let told = turn.settle(pass);
+        end_turn(Some(turn));
+        told
+    }
+
     // Notes why nothing more is kept, where the file is the cause.
     fn note<R: Wait>(&self, rt: &R, why: CommitErr)
         requires { why ≡ CommitErr.DiskFault → FailsOnce D.faults }
@@ -167,11 +189,11 @@ struct Turns<'d, L: KeptOpening, D: Device + Drop> {
 // A reply that the desk sealed, or why a line is no request.
 type Told<L> = Result<Sealed<L, Reply>, Refusal>;
 
-impl<L: KeptOpening> Asks<Result<Said, Refusal>> for Seat<L> {
+impl<L: KeptOpening, S> Asks<Result<Said, Refusal>> for Seat<L, S> {
     ghost reads = { IsReadAs };
 }
 
-impl<L: KeptOpening> Tells<Result<Sealed<L, Reply>, Refusal>> for Seat<L> {
+impl<L: KeptOpening, S> Tells<Result<Sealed<L, Reply>, Refusal>> for Seat<L, S> {
     ghost text = { told_text };
 }
 
@@ -208,14 +230,15 @@ impl<'d, L: KeptOpening, D: Device + Drop> Turns<'d, L, D> {
     }
 
     // The reply to a line that was read, in the turn that is under way or in a new one, and what it cost.
-    fn answer<R: Wait, M: Mover>(
+    fn answer<S: Settlings<L>, R: Wait, M: Mover>(
         &self,
         rt: &R,
+        settlings: &S,
         pass: &mut Pass<L>,
         asked: Result<Said, Refusal>,
         mover: &M,
     ) -> (Told<L>, u64)
-        ensures answers { (line : List ℕ) → IsReadAs line asked → AnswersSeat L.opening pass.old line (told_text result.0) pass.new }
+        ensures answers { (line : List ℕ) → IsReadAs line asked → S.answers pass.old line (told_text result.0) pass.new }
         ensures cost { result.1 ≡ kept_line_cost asked pass.new.own }
     {
         let least = cost_to_answer_said(&asked);
@@ -223,6 +246,7 @@ impl<'d, L: KeptOpening, D: Device + Drop> Turns<'d, L, D> {
             Some(turn) => turn,
             None => self.desk.desk.turn(rt),
         };
+        settlings.before_line(&mut turn, pass);
         let told = reply_in(&mut turn, pass, asked, mover);
         end_turn(self.under_way.replace(Some(turn)));
         let cost = cost_of_both(least, cost_of_last(pass));
@@ -285,10 +309,19 @@ fn said_of(alloc: Global, line: &[u8]) -> Result<Said, Refusal>
 }
 
 // Answers each line that is read, in turns at the desk, of which none is under way yet.
-fn serve_in_kept_turns<L: KeptOpening, D: Device + Drop, R: Wait, I: Source, O: Sink, M: Mover>(
+fn serve_in_kept_turns<
+    L: KeptOpening,
+    S: Settlings<L>,
+    D: Device + Drop,
+    R: Wait,
+    I: Source,
+    O: Sink,
+    M: Mover,
+>(
     rt: &R,
     alloc: Global,
     turns: &Turns<'_, L, D>,
+    settlings: &S,
     pass: Pass<L>,
     door: &mut Door<I>,
     writer: &mut O,
@@ -299,7 +332,7 @@ fn serve_in_kept_turns<L: KeptOpening, D: Device + Drop, R: Wait, I: Source, O: 
         × WritesUntil end (O.flushed writer.new) (O.failed writer.new)
         × ((read : List ℕ) × Consumes (left_at I.remaining door.old) (left_at I.remaining door.new) read
         × ((text : List ℕ) × Appends (O.contents writer.old) (O.contents writer.new) text
-        × ServesTurns (AnswersSeat L.opening) end pass read (left_at I.remaining door.new) text result)) }
+        × ServesTurns S.answers end pass read (left_at I.remaining door.new) text result)) }
 {
     // (each of the functions borrows variables of its own)
     let mut pass = pass;
@@ -313,11 +346,11 @@ fn serve_in_kept_turns<L: KeptOpening, D: Device + Drop, R: Wait, I: Source, O: 
         u64,
     )
         requires room { (hold.old.spent < cost_limit) × (hold.old.answered < turn_limit) }
-        ensures answers { (line : List ℕ) → IsReadAs line asked → AnswersSeat L.opening pass.old line (told_text result.0) pass.new }
+        ensures answers { (line : List ℕ) → IsReadAs line asked → S.answers pass.old line (told_text result.0) pass.new }
         ensures cost { result.1 ≡ kept_line_cost asked pass.new.own }
         ensures spends { (hold.new.spent ≡ hold.old.spent + result.1) × (hold.new.answered ≡ hold.old.answered + 1) }
     {
-        let (told, cost) = turns.answer(rt, pass, asked, mover);
+        let (told, cost) = turns.answer(rt, settlings, pass, asked, mover);
         hold.answer(cost);
         (told, cost)
     };
@@ -336,7 +369,7 @@ fn serve_in_kept_turns<L: KeptOpening, D: Device + Drop, R: Wait, I: Source, O: 
         hold.let_go();
     };
     let _ = serve_turns::<
-        Seat<L>,
+        Seat<L, S>,
         Pass<L>,
         Hold,
         Result<Said, Refusal>,
@@ -358,6 +391,7 @@ fn serve_in_kept_turns<L: KeptOpening, D: Device + Drop, R: Wait, I: Source, O: 
 /// a turn are in the file before its replies are made texts. Where they can't be kept, nothing more is told, and the session ends.
 pub(crate) fn serve_kept_seat<
     L: KeptOpening,
+    S: Settlings<L>,
     D: Device + Drop,
     R: Wait,
     I: Source,
@@ -367,6 +401,7 @@ pub(crate) fn serve_kept_seat<
     rt: &R,
     alloc: Global,
     desk: &KeptDesk<L, D>,
+    settlings: &S,
     pass: Pass<L>,
     door: &mut Door<I>,
     writer: &mut O,
@@ -377,10 +412,10 @@ pub(crate) fn serve_kept_seat<
         × WritesUntil end (O.flushed writer.new) (O.failed writer.new)
         × ((read : List ℕ) × Consumes (left_at I.remaining door.old) (left_at I.remaining door.new) read
         × ((text : List ℕ) × Appends (O.contents writer.old) (O.contents writer.new) text
-        × ServesTurns (AnswersSeat L.opening) end pass read (left_at I.remaining door.new) text result)) }
+        × ServesTurns S.answers end pass read (left_at I.remaining door.new) text result)) }
 {
     let turns = Turns::at(desk);
-    let pass = serve_in_kept_turns(rt, alloc, &turns, pass, door, writer, mover);
+    let pass = serve_in_kept_turns(rt, alloc, &turns, settlings, pass, door, writer, mover);
     turns.end();
     pass
 }

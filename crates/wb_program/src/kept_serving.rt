@@ -12,6 +12,7 @@ ghost use Rattle.wb_program.specs.KeptSeats.{FailsOnce};
 
 use crate::accepting::{AcceptErr, Accepts};
 use crate::door::Door;
+use crate::early::{Settlings, WithItsDesk};
 use crate::kept_seat::{Failing, KeptDesk, serve_kept_seat};
 use crate::serving::{Promised, print_settled};
 use std::alloc::Global;
@@ -158,6 +159,7 @@ fn settled<L: KeptOpening, N: Accepts<I, O>, I: Source, O: Sink, D: Device + Dro
 /// Answers what is heard of a connection at a seat until its end or a fault, and gives the pass back.
 pub fn serve_kept_connection<
     L: KeptOpening,
+    S: Settlings<L>,
     D: Device + Drop,
     R: Wait,
     I: Source + Drop,
@@ -167,16 +169,26 @@ pub fn serve_kept_connection<
     rt: &R,
     alloc: Global,
     desk: &KeptDesk<L, D>,
+    settlings: &S,
     pass: Pass<L>,
     reader: I,
     writer: O,
     mover: &M,
 ) -> Pass<L>
-    ensures { ServedOn I.Source O.Sink L.opening pass reader writer result }
+    ensures { ServedOn I.Source O.Sink S.answers pass reader writer result }
 {
     let mut door = Door::of(reader);
     let mut writer = writer;
-    serve_kept_seat(rt, alloc, desk, pass, &mut door, &mut writer, mover)
+    serve_kept_seat(
+        rt,
+        alloc,
+        desk,
+        settlings,
+        pass,
+        &mut door,
+        &mut writer,
+        mover,
+    )
 }
 
 // Accepts a connection for each pass, serves it there in a thread of its own, and joins them all: the passes, or the exit
@@ -225,8 +237,15 @@ fn serve_all_kept<
                     writer: Snapshot::of(&writer),
                 };
                 match scope.spawn_with(promise, move || {
-                    serve_kept_connection::<L, D, R, I, O, M>(
-                        rt, alloc, desk, pass, reader, writer, mover,
+                    serve_kept_connection::<L, WithItsDesk, D, R, I, O, M>(
+                        rt,
+                        alloc,
+                        desk,
+                        &WithItsDesk,
+                        pass,
+                        reader,
+                        writer,
+                        mover,
                     )
                 }) {
                     Ok(handle) => {

@@ -8,10 +8,11 @@ ghost use Rattle.wb_protocol.specs.Replies.{reply_of};
 ghost use Rattle.wb_protocol.specs.Requests.{request};
 ghost use Rattle.wb_program.specs.Costs.{line_cost};
 ghost use Rattle.wb_program.specs.Door.{left_at, failed_at, reads_at};
-ghost use Rattle.wb_program.specs.Serving.{RepliesIfRead, NothingAsked, AnswersSeat, IsReadAs};
+ghost use Rattle.wb_program.specs.Serving.{RepliesIfRead, NothingAsked, IsReadAs};
 
 use crate::cost::{cost_of, cost_of_both, cost_to_answer};
 use crate::door::Door;
+use crate::early::{Settlings, Waiting};
 use std::alloc::{AllocError, Global};
 use std::marker::PhantomData;
 use std::sync::Wait;
@@ -21,9 +22,9 @@ use wb_history::Refusal;
 use wb_lines::{Asks, Holds, Machine, Sink, Source, Tells, serve_turns};
 use wb_protocol::{Reply, Request, read_request, reply_text};
 
-// What a seat at a desk of this name may answer.
-pub(crate) struct Seat<L> {
-    of: PhantomData<L>,
+// What a seat at a desk of this name may answer that is settled so.
+pub(crate) struct Seat<L, S> {
+    of: PhantomData<(L, S)>,
 }
 
 // Whether a turn may hold the desk's lock, what its lines have cost, and how many they are. Each function below that has the turn
@@ -76,15 +77,15 @@ impl Hold {
     }
 }
 
-impl<L: Opening> Machine<Pass<L>> for Seat<L> {
-    ghost answers = { AnswersSeat L.opening };
+impl<L: Opening, S: Settlings<L>> Machine<Pass<L>> for Seat<L, S> {
+    ghost answers = { S.answers };
 }
 
-impl<L: Opening> Asks<Result<Request, Refusal>> for Seat<L> {
+impl<L: Opening, S> Asks<Result<Request, Refusal>> for Seat<L, S> {
     ghost reads = { IsReadAs };
 }
 
-impl<L: Opening> Tells<Reply> for Seat<L> {
+impl<L: Opening, S> Tells<Reply> for Seat<L, S> {
     ghost text = { reply_of };
 }
 
@@ -105,17 +106,20 @@ fn reply_to<L: Opening, R: Wait, M: Mover>(
 }
 
 // The reply to a line that was read, and what it cost.
-fn answer_asked<L: Opening, R: Wait, M: Mover>(
+fn answer_asked<L: Opening, S: Settlings<L>, R: Wait, M: Mover>(
     rt: &R,
     turn: &Turn<'_, L>,
+    settlings: &S,
     pass: &mut Pass<L>,
     asked: Result<Request, Refusal>,
     mover: &M,
 ) -> (Reply, u64)
-    ensures answers { (line : List ℕ) → IsReadAs line asked → AnswersSeat L.opening pass.old line (reply_of result.0) pass.new }
+    ensures answers { (line : List ℕ) → IsReadAs line asked → S.answers pass.old line (reply_of result.0) pass.new }
     ensures cost { result.1 ≡ line_cost asked result.0 }
 {
     let least = cost_to_answer(&asked);
+    let mut waiting = Waiting { rt, turn };
+    settlings.before_line(&mut waiting, pass);
     let reply = reply_to(rt, turn, pass, asked, mover);
     let cost = cost_of_both(least, cost_of(&reply));
     (reply, cost)
@@ -132,10 +136,11 @@ pub(crate) fn text_of(alloc: Global, reply: &Reply) -> Result<Vec<u8>, AllocErro
 }
 
 // Answers each line that comes through the door by turns of a seat at a desk, as `serve_seat` does, and gives the pass back.
-fn serve_in_turns<L: Opening, R: Wait, I: Source, O: Sink, M: Mover>(
+fn serve_in_turns<L: Opening, S: Settlings<L>, R: Wait, I: Source, O: Sink, M: Mover>(
     rt: &R,
     alloc: Global,
     turn: &Turn<'_, L>,
+    settlings: &S,
     pass: Pass<L>,
     door: &mut Door<I>,
     writer: &mut O,
@@ -146,7 +151,7 @@ fn serve_in_turns<L: Opening, R: Wait, I: Source, O: Sink, M: Mover>(
         × WritesUntil end (O.flushed writer.new) (O.failed writer.new)
         × ((read : List ℕ) × Consumes (left_at I.remaining door.old) (left_at I.remaining door.new) read
         × ((text : List ℕ) × Appends (O.contents writer.old) (O.contents writer.new) text
-        × ServesTurns (AnswersSeat L.opening) end pass read (left_at I.remaining door.new) text result)) }
+        × ServesTurns S.answers end pass read (left_at I.remaining door.new) text result)) }
 {
     // (each of the functions borrows variables of its own)
     let mut pass = pass;
@@ -160,11 +165,11 @@ fn serve_in_turns<L: Opening, R: Wait, I: Source, O: Sink, M: Mover>(
         u64,
     )
         requires room { (hold.old.spent < cost_limit) × (hold.old.answered < turn_limit) }
-        ensures answers { (line : List ℕ) → IsReadAs line asked → AnswersSeat L.opening pass.old line (reply_of result.0) pass.new }
+        ensures answers { (line : List ℕ) → IsReadAs line asked → S.answers pass.old line (reply_of result.0) pass.new }
         ensures cost { result.1 ≡ line_cost asked result.0 }
         ensures spends { (hold.new.spent ≡ hold.old.spent + result.1) × (hold.new.answered ≡ hold.old.answered + 1) }
     {
-        let (reply, cost) = answer_asked(rt, turn, pass, asked, mover);
+        let (reply, cost) = answer_asked(rt, turn, settlings, pass, asked, mover);
         hold.answer(cost);
         (reply, cost)
     };
@@ -181,7 +186,7 @@ fn serve_in_turns<L: Opening, R: Wait, I: Source, O: Sink, M: Mover>(
         hold.let_go();
     };
     let _ = serve_turns::<
-        Seat<L>,
+        Seat<L, S>,
         Pass<L>,
         Hold,
         Result<Request, Refusal>,
@@ -199,14 +204,16 @@ fn serve_in_turns<L: Opening, R: Wait, I: Source, O: Sink, M: Mover>(
 }
 
 /// Answers each line that comes through the door at a seat of a desk, in order, until the end of input or a fault, and gives the
-/// pass back: it writes exactly the texts of the replies, each with a line end, and each the desk's to the pass as it was then.
+/// pass back: it writes exactly the texts of the replies, each with a line end, and each the desk's to the pass as it was then, or as an early
+/// settlement left it.
 /// Lines that lie ahead are read first, and then answered in turns of the lock. A turn ends after 256 lines, or once they have
 /// cost 65,536 by the cells that they touched, the numbers that they list and the texts that they print; a reduction is as dear
 /// as a whole turn. Texts are made and sent after the lock is let go.
-pub fn serve_seat<L: Opening, R: Wait, I: Source, O: Sink, M: Mover>(
+pub fn serve_seat<L: Opening, S: Settlings<L>, R: Wait, I: Source, O: Sink, M: Mover>(
     rt: &R,
     alloc: Global,
     desk: &Desk<L>,
+    settlings: &S,
     pass: Pass<L>,
     door: &mut Door<I>,
     writer: &mut O,
@@ -217,10 +224,10 @@ pub fn serve_seat<L: Opening, R: Wait, I: Source, O: Sink, M: Mover>(
         × WritesUntil end (O.flushed writer.new) (O.failed writer.new)
         × ((read : List ℕ) × Consumes (left_at I.remaining door.old) (left_at I.remaining door.new) read
         × ((text : List ℕ) × Appends (O.contents writer.old) (O.contents writer.new) text
-        × ServesTurns (AnswersSeat L.opening) end pass read (left_at I.remaining door.new) text result)) }
+        × ServesTurns S.answers end pass read (left_at I.remaining door.new) text result)) }
 {
     let turn = Turn::at(desk);
-    let pass = serve_in_turns(rt, alloc, &turn, pass, door, writer, mover);
+    let pass = serve_in_turns(rt, alloc, &turn, settlings, pass, door, writer, mover);
     turn.end();
     pass
 }

@@ -2,12 +2,14 @@
 ghost use Rattle.std.specs.Prelude.{◌≡◌, ℕ, List, IfOk, IfErr, string_bytes, true, false};
 ghost use Rattle.std.specs.Io.KnownBytes.{Appends};
 ghost use Rattle.wb_desk.specs.Openings.{nothing_done, whole_from};
-ghost use Rattle.wb_sessions.specs.Checking.{IsFault};
-ghost use Rattle.wb_program.specs.Serving.{shown, settled_text, PrintsSettled};
+ghost use Rattle.wb_sessions.specs.Checking.{IsFault, IsPrinted};
+ghost use Rattle.wb_program.specs.Early.{PrintsAll};
+ghost use Rattle.wb_program.specs.Serving.{AnswersSeat, shown, settled_text, PrintsSettled};
 ghost use Rattle.wb_program.specs.Days.{ServedOn, AllBack, EndsDay, FailsDay};
 
 use crate::accepting::{AcceptErr, Accepts};
 use crate::door::Door;
+use crate::early::{Settlings, WithItsDesk};
 use crate::seat::serve_seat;
 use std::alloc::Global;
 use std::marker::Brand;
@@ -43,25 +45,42 @@ impl<L: Opening, I, O> Drop for Promised<L, I, O> {
 }
 
 impl<L: Opening, I: Source, O: Sink> Promise<Pass<L>> for Promised<L, I, O> {
-    ghost kept_by = { λ p k. ServedOn I.Source O.Sink L.opening p.pass.value p.reader.value p.writer.value k };
+    ghost kept_by = { λ p k. ServedOn I.Source O.Sink (AnswersSeat L.opening) p.pass.value p.reader.value p.writer.value k };
 }
 
 /// Answers what is heard of a connection at a seat until its end or a fault, and gives the pass back. Replies are gathered while
 /// more lines lie ahead.
-pub fn serve_connection<L: Opening, R: Wait, I: Source + Drop, O: Sink + Drop, M: Mover>(
+pub fn serve_connection<
+    L: Opening,
+    S: Settlings<L>,
+    R: Wait,
+    I: Source + Drop,
+    O: Sink + Drop,
+    M: Mover,
+>(
     rt: &R,
     alloc: Global,
     desk: &Desk<L>,
+    settlings: &S,
     pass: Pass<L>,
     reader: I,
     writer: O,
     mover: &M,
 ) -> Pass<L>
-    ensures { ServedOn I.Source O.Sink L.opening pass reader writer result }
+    ensures { ServedOn I.Source O.Sink S.answers pass reader writer result }
 {
     let mut door = Door::of(reader);
     let mut writer = writer;
-    serve_seat(rt, alloc, desk, pass, &mut door, &mut writer, mover)
+    serve_seat(
+        rt,
+        alloc,
+        desk,
+        settlings,
+        pass,
+        &mut door,
+        &mut writer,
+        mover,
+    )
 }
 
 // Accepts a connection for each pass, serves it there in a thread of its own, and joins them all: the passes, or the exit
@@ -109,7 +128,16 @@ fn serve_all<
                     writer: Snapshot::of(&writer),
                 };
                 match scope.spawn_with(promise, move || {
-                    serve_connection::<L, R, I, O, M>(rt, alloc, desk, pass, reader, writer, mover)
+                    serve_connection::<L, WithItsDesk, R, I, O, M>(
+                        rt,
+                        alloc,
+                        desk,
+                        &WithItsDesk,
+                        pass,
+                        reader,
+                        writer,
+                        mover,
+                    )
                 }) {
                     Ok(handle) => {
                         if handles.push(handle).is_err() {
@@ -141,20 +169,40 @@ fn shown(alloc: Global, history: &History, whole: bool) -> Result<String, NoMemo
     }
 }
 
-// The number of entries, and the text of the workbook or of the whole history.
-fn settled_text<L: Opening>(
+// A number of entries, and the text of the workbook or of the whole history.
+fn settled_text(
     alloc: Global,
-    shared: &Shared<L>,
+    count: u64,
+    history: &History,
     whole: bool,
 ) -> Result<String, NoMemory>
-    ensures { IfOk result (λ t. string_bytes t ≡ settled_text whole shared.now.course) }
+    ensures { IfOk result (λ t. string_bytes t ≡ settled_text whole count history.now.entries) }
 {
-    let count = shared.entries();
-    let text = shown(alloc, shared.history(), whole)?;
+    let text = shown(alloc, history, whole)?;
     Ok(format!(in alloc; "settled {count}\n{text}")?)
 }
 
-/// Prints how many entries there are, and the workbook or the history: the exit status.
+// Prints a number of entries, and the workbook or the history: the exit status.
+fn tell_settled<W: Sink>(
+    alloc: Global,
+    count: u64,
+    history: &History,
+    whole: bool,
+    writer: &mut W,
+) -> u8
+    ensures prints { (text : List ℕ) × Appends (W.contents writer.old) (W.contents writer.new) text
+        × IsPrinted (settled_text whole count history.now.entries) result text }
+    ensures flushed { result ≡ 0 → W.flushed writer.new ≡ true }
+    ensures failed { result ≡ 3 → W.failed writer.new ≡ true }
+{
+    let text = match settled_text(alloc, count, history, whole) {
+        Ok(text) => text,
+        Err(NoMemory) => return NO_MEMORY,
+    };
+    tell(text.as_str(), writer)
+}
+
+/// Prints how many entries are kept, and the workbook or the history: the exit status.
 pub fn print_settled<L: Opening, W: Sink>(
     alloc: Global,
     shared: &Shared<L>,
@@ -165,11 +213,19 @@ pub fn print_settled<L: Opening, W: Sink>(
     ensures flushed { result ≡ 0 → W.flushed writer.new ≡ true }
     ensures failed { result ≡ 3 → W.failed writer.new ≡ true }
 {
-    let text = match settled_text(alloc, shared, whole) {
-        Ok(text) => text,
-        Err(NoMemory) => return NO_MEMORY,
-    };
-    tell(text.as_str(), writer)
+    let count = shared.entries() as u64;
+    tell_settled(alloc, count, shared.history(), whole, writer)
+}
+
+/// Prints how many entries there are, those too that were settled early, and the workbook: the exit status.
+pub fn print_all<L: Opening, W: Sink>(alloc: Global, shared: &Shared<L>, writer: &mut W) -> u8
+    ensures prints { (text : List ℕ) × Appends (W.contents writer.old) (W.contents writer.new) text × PrintsAll shared.now.course result text }
+    ensures flushed { result ≡ 0 → W.flushed writer.new ≡ true }
+    ensures failed { result ≡ 3 → W.failed writer.new ≡ true }
+{
+    let kept = shared.entries() as u64;
+    let count = shared.settled().saturating_add(kept);
+    tell_settled(alloc, count, shared.history(), false, writer)
 }
 
 // A day of a desk: opened, served and settled. The exit status.

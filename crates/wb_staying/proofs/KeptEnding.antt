@@ -29,7 +29,7 @@ of_passes k ps cause why e is = subst (λ c. IsSettleCause k ps c) e is
 module _ {I O G X E D : Type 0} (source : Source.Ghosts I) (sink : Sink.Ghosts O) (guests : Guests.Ghosts G (Visit I O) X E) (device : Device.Ghosts D) where
   -- the passes came back, and the desk did not settle
   pub not_settled : (opening : Start) (n : ℕ) (k : KeptCourse) (ps : List Held) (cause : SettleErr) (status : ℕ) (run : KeptRun D) (write_failed : Bool)
-      → AllLent guests (hosts_at source sink guests opening) (new_passes n) ps → IsCourse opening k.course → k.course.seats ≡ n
+      → AllLent guests (hosts_at source sink guests n opening) (new_passes n) ps → IsCourse opening k.course → k.course.seats ≡ n
       → IsSettleCause k ps cause → (status ≡ 3 → (why : Cause) × (cause ≡ Passes why))
       → (status ≡ 3) ⊎ ((run.fault ≡ Some Failed) × FailsOnce device.faults) → FailsKeptStay source sink guests device opening n run write_failed
   not_settled opening n k ps cause status run write_failed back course many is passes (inl e) =
@@ -52,8 +52,8 @@ module _ {I O G X E D : Type 0} (source : Source.Ghosts I) (sink : Sink.Ghosts O
 
   -- as many passes as the desk has seats
   pub all_new : (opening : Start) (n seats : ℕ) (hs ks : List Held) → n ≡ seats → hs ≡ new_passes seats
-      → AllLent guests (hosts_at source sink guests opening) hs ks → AllLent guests (hosts_at source sink guests opening) (new_passes n) ks
-  all_new opening n seats hs ks same new back = subst (λ l. AllLent guests (hosts_at source sink guests opening) l ks) (new ∙ ap new_passes (sym same)) back
+      → AllLent guests (hosts_at source sink guests n opening) hs ks → AllLent guests (hosts_at source sink guests n opening) (new_passes n) ks
+  all_new opening n seats hs ks same new back = subst (λ l. AllLent guests (hosts_at source sink guests n opening) l ks) (new ∙ ap new_passes (sym same)) back
 
   -- a desk whose port was not told
   pub port_not_told : (opening : Start) (n : ℕ) (run : KeptRun D) (port_failed write_failed : Bool) → (port_failed ≡ true) ⊎ (write_failed ≡ true)

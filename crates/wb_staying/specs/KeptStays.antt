@@ -16,11 +16,10 @@ use Rattle.wb_sessions.specs.declared.files.FileFault.TheVariants as faults
 use Rattle.wb_sessions.specs.declared.files.OpensFiles as OpensFiles
 use Rattle.wb_sessions.specs.declared.keeping.KeptRun.{KeptRun}
 use Rattle.wb_desk.specs.Courses.{Start}
-use Rattle.wb_desk.specs.Openings.{whole_from}
 use Rattle.wb_command.specs.declared.Place.{Place}
+use Rattle.wb_program.specs.Early.{PrintsAll, early_from}
 use Rattle.wb_program.specs.KeptDays.{BreaksOff, HasNoDesk, LeavesDesk}
 use Rattle.wb_program.specs.KeptSeats.{FailsOnce}
-use Rattle.wb_program.specs.Serving.{PrintsSettled}
 use Rattle.wb_staying.specs.Stays.{FailsStay, IsStay, listening_at}
 use Rattle.wb_visits.specs.declared.visit.Visit.{Visit}
 
@@ -32,7 +31,7 @@ module _ {I O G X E D : Type 0} (source : Source.Ghosts I) (sink : Sink.Ghosts O
     pub leaves : LeavesDesk device opening begun seats left log run.file
     pub stay : IsStay source sink guests opening seats left.course
     pub kept : IsKeptHistory device (record { state = left.course.history; log = log })
-    pub prints : PrintsSettled false left.course run.status text
+    pub prints : PrintsAll left.course run.status text
     pub is_fault : run.fault ≡ None
 
   -- A desk that was opened on this file ends.
@@ -58,9 +57,9 @@ module _ {I O G X E D : Type 0} (source : Source.Ghosts I) (sink : Sink.Ghosts O
     pub is_opened : IsOpened device file held opened
     pub text : List ℕ
     pub written : Appends s.sent s.told text
-    pub hosts : HostsKeptStay (whole_from opened.state) (device.moment opened.log.device) place seats opened.log.device run text
+    pub hosts : HostsKeptStay (early_from opened.state) (device.moment opened.log.device) place seats opened.log.device run text
     pub flushed : run.status ≡ 0 → s.flushed ≡ true
-    pub failed : run.status ≡ 3 → (port_failed ≡ true) ⊎ FailsKeptStay (whole_from opened.state) seats run s.write_failed
+    pub failed : run.status ≡ 3 → (port_failed ≡ true) ⊎ FailsKeptStay (early_from opened.state) seats run s.write_failed
 
   -- a desk on the history of the journal; or a line of it is refused, or the file; or it could not be opened
   abbrev pub RunsStay : (file : D) → (held : List ℕ) → (place : Place) → (seats : ℕ) → KeptRun D → (port_failed : Bool) → Streams → Type 0

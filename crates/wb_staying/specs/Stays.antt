@@ -1,20 +1,23 @@
 -- A desk that stays: each seat is lent to one connection after another, and in the end the desk is settled.
-use Rattle.std.specs.Prelude.{◌≡◌, ◌⊎◌, ℕ, Bool, true, false, List, ◌++◌, codes, take}
+use Rattle.std.specs.Prelude.{◌≡◌, ◌⊎◌, ℕ, Bool, true, false, List, Option, is_none, ◌++◌, codes, take}
 use Rattle.wb_lending.specs.Lending.{AllLent}
 use Rattle.wb_lending.specs.declared.guests.Guests as Guests
 use Rattle.wb_lending.specs.declared.guests.Hosts as Hosts
 use Rattle.wb_lines.specs.declared.sink.Sink as Sink
 use Rattle.wb_lines.specs.declared.source.Source as Source
-use Rattle.wb_desk.specs.Courses.{Course, IsCourse, Start}
+use Rattle.wb_desk.specs.Courses.{Course, IsCourse, Marked, Start, Tells}
+use Rattle.wb_desk.specs.Early.{EndsWithAll}
 use Rattle.wb_desk.specs.Serving.{Held, new_passes}
 use Rattle.wb_desk.specs.Settling.{IsSettled, IsCause}
 use Rattle.wb_desk.specs.declared.settling.Cause.{Cause}
+use Rattle.wb_desk.specs.declared.settling.Difference.{Difference}
 use Rattle.wb_command.specs.declared.Place.{Place}
 use Rattle.wb_command.specs.declared.Place.TheVariants.{Port, Socket}
 use Rattle.wb_sessions.specs.Checking.{IsFault}
 use Rattle.wb_program.specs.Days.{ServedOn}
 use Rattle.wb_program.specs.Doing.{listening}
-use Rattle.wb_program.specs.Serving.{PrintsSettled, NeverSettles}
+use Rattle.wb_program.specs.Early.{AnswersEarly, IsSettledFrom, PrintsAll}
+use Rattle.wb_program.specs.Serving.{NeverSettles}
 use Rattle.wb_visits.specs.declared.visit.Visit.{Visit}
 
 -- the line that tells where a desk listens: the port that it has, or the path of the socket
@@ -22,26 +25,39 @@ abbrev pub listening_at : Place → ℕ → List ℕ
 listening_at (Port asked) port = listening port
 listening_at (Socket path) port = codes "listening on " ++ (path ++ codes "\n")
 
+module _ {I O : Type 0} (source : Source.Ghosts I) (sink : Sink.Ghosts O) where
+  -- At a desk of so many seats a pass was served on a connection, where a line that found 64 entries or more was answered after an early
+  -- settlement. Once the connection ended, the seat was settled early too, if entries were left; this is the difference that was told then.
+  pub record ServedEarly (seats : ℕ) (opening : Start) (h : Held) (i : I) (o : O) (told : Option Difference) (k : Held) : Type 0 where
+    pub left : Held
+    pub served : ServedOn source sink (AnswersEarly seats opening) h i o left
+    pub settled : IsSettledFrom 1 seats opening left told k
+
 module _ {I O G D E : Type 0} (source : Source.Ghosts I) (sink : Sink.Ghosts O) (guests : Guests.Ghosts G (Visit I O) D E) where
-  -- Who serves at a desk of this opening: a pass is served on a connection, as a day's are.
-  abbrev pub hosts_at : Start → Hosts.Ghosts G Held (Visit I O) E
-  hosts_at opening = record { served = λ h v k. ServedOn source sink opening h v.reader v.writer k }
+  -- Who serves at a desk of so many seats and this opening: a pass is served on a connection and settled, and its seat may be lent on where no
+  -- difference was told.
+  abbrev pub hosts_at : ℕ → Start → Hosts.Ghosts G Held (Visit I O) E
+  hosts_at seats opening = record {
+    served = λ h v k may_be_lent. (told : Option Difference) × (may_be_lent ≡ is_none told) × ServedEarly source sink seats opening h v.reader v.writer told k;
+  }
 
   -- What is left once nobody comes any more: the passes, each lent to one connection after another, and the course.
   pub record Ended (opening : Start) (seats : ℕ) (c : Course) : Type 0 where
     pub passes : List Held
-    pub all_lent : AllLent guests (hosts_at opening) (new_passes seats) passes
+    pub all_lent : AllLent guests (hosts_at seats opening) (new_passes seats) passes
     pub is_course : IsCourse opening c
     pub so_many : c.seats ≡ seats
 
-  -- A desk of so many seats that stayed: the course has the entries of each pass.
+  -- A desk of so many seats that stayed: the entries that are kept of each seat are those of its pass, and in the course they come after those
+  -- that were settled early.
   pub record IsStay (opening : Start) (seats : ℕ) (c : Course) : Type 0 where
     pub ended : Ended opening seats c
     pub settled : IsSettled seats c.entries ended.passes
+    pub stands : (all : List Marked) × Tells opening.history all c × EndsWithAll all seats ended.passes
 
   -- The course was printed, or a front of that; or the desk never settled.
   abbrev pub EndsStay : Start → ℕ → ℕ → List ℕ → Type 0
-  EndsStay opening seats status text = ((c : Course) × IsStay opening seats c × PrintsSettled false c status text) ⊎ NeverSettles seats status text
+  EndsStay opening seats status text = ((c : Course) × IsStay opening seats c × PrintsAll c status text) ⊎ NeverSettles seats status text
 
   -- the passes came back, and for this cause they don't agree with the journal
   pub record Disagrees (opening : Start) (seats : ℕ) : Type 0 where

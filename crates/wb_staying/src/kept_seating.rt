@@ -1,9 +1,9 @@
 //! The seats of a desk that stays, and whose changes are kept, each lent to one connection after another by a thread of its own.
 ghost use Rattle.std.specs.Prelude.{◌≡◌, IfOk, IfErr, true};
 ghost use Rattle.wb_lending.specs.Lending.{AllLent, Lent};
-ghost use Rattle.wb_staying.specs.Stays.{hosts_at};
+ghost use Rattle.wb_staying.specs.Stays.{hosts_at, ServedEarly};
 
-use crate::seating::Promised;
+use crate::seating::{Promised, tell_retired};
 use std::alloc::Global;
 use std::marker::PhantomData;
 use std::snapshot::Snapshot;
@@ -12,12 +12,12 @@ use std::thread;
 use std::thread::Threads;
 use std::time::Clock;
 use wb_arrays::Mover;
-use wb_desk::Pass;
+use wb_desk::{Difference, Pass};
 use wb_keep::disk::Device;
 use wb_kept_seats::KeptOpening;
 use wb_lending::{Guests, LendErr, Next, taken, turn_away_all};
 use wb_lines::{Sink, Source};
-use wb_program::{KeptDesk, serve_kept_connection};
+use wb_program::{Early, KeptDesk, serve_kept_connection};
 use wb_visits::{Left, Porter, Surplus, Visit, rest};
 
 // What is left of a connection: the last, where the desk keeps nothing more, since it has no reply for anybody then.
@@ -28,10 +28,35 @@ fn after<L: KeptOpening, D: Device + Drop>(desk: &KeptDesk<L, D>, left: Left) ->
     left
 }
 
-// Lends a seat to one connection after another, until nobody comes any more: its pass then.
+// Serves a pass on a connection, and settles its seat then: the pass, and where it and the desk first differ, if they do.
+fn serve_visit<
+    L: KeptOpening,
+    R: Wait,
+    I: Source + Drop,
+    O: Sink + Drop,
+    D: Device + Drop,
+    M: Mover,
+>(
+    rt: &R,
+    alloc: Global,
+    desk: &KeptDesk<L, D>,
+    early: &Early<L>,
+    pass: Pass<L>,
+    reader: I,
+    writer: O,
+    mover: &M,
+) -> (Pass<L>, Option<Difference>)
+    ensures { ServedEarly I.Source O.Sink L.seats L.opening pass reader writer result.1 result.0 }
+{
+    let mut pass = serve_kept_connection(rt, alloc, desk, early, pass, reader, writer, mover);
+    let told = desk.settle_left(rt, early, &mut pass);
+    (pass, told)
+}
+
+// Lends a seat to one connection after another, until nobody comes any more, or its pass and the desk differ: its pass then.
 fn sit<
     L: KeptOpening,
-    R: Wait + Clock,
+    R: Wait + Clock + Eprint,
     G: Guests<Visit<I, O>, X, Left>,
     I: Source + Drop,
     O: Sink + Drop,
@@ -42,12 +67,13 @@ fn sit<
     rt: &R,
     alloc: Global,
     desk: &KeptDesk<L, D>,
+    early: &Early<L>,
     guests: &Mutex<G>,
     pass: Pass<L>,
     mover: &M,
     of: PhantomData<(I, O, X)>,
 ) -> Pass<L>
-    ensures { Lent G.Guests (hosts_at I.Source O.Sink G.Guests L.opening) pass result }
+    ensures { Lent G.Guests (hosts_at I.Source O.Sink G.Guests L.seats L.opening) pass result }
 {
     let _ = of;
     let mut now = pass;
@@ -55,9 +81,19 @@ fn sit<
         match taken::<R, G, Visit<I, O>, X, Left>(rt, guests) {
             Next::Came(visit) => {
                 let (reader, writer, left) = visit.into_parts();
-                let served = serve_kept_connection(rt, alloc, desk, now, reader, writer, mover);
-                now = served;
-                guests.lock(rt).leave(after(desk, left));
+                let (pass, told) = serve_visit(rt, alloc, desk, early, now, reader, writer, mover);
+                let left = after(desk, left);
+                match told {
+                    None => {
+                        now = pass;
+                        guests.lock(rt).leave(left);
+                    }
+                    Some(why) => {
+                        tell_retired(rt, pass.seat(), why);
+                        guests.lock(rt).retire(left);
+                        return pass;
+                    }
+                }
             }
             Next::Nobody => rest(rt),
             Next::Over => return now,
@@ -66,11 +102,11 @@ fn sit<
     unreachable!()
 }
 
-/// Lends each seat of a desk whose changes are kept to one connection after another, until nobody comes any more: the passes then. Who comes while no
-/// seat is free is turned away.
+/// Lends each seat of a desk whose changes are kept to one connection after another, until nobody comes any more: the passes then. A seat
+/// whose pass and the desk differ is retired before that. Who comes while no seat is free is turned away.
 pub(crate) fn lend_kept_seats<
     L: KeptOpening + Send + Sync,
-    R: Threads + Wait + Clock + Sync,
+    R: Threads + Wait + Clock + Eprint + Sync,
     G: Guests<Visit<I, O>, Surplus<T>, Left> + Send,
     I: Source + Send + Drop,
     O: Sink + Send + Drop,
@@ -81,18 +117,19 @@ pub(crate) fn lend_kept_seats<
     rt: &R,
     alloc: Global,
     desk: &KeptDesk<L, D>,
+    early: &Early<L>,
     guests: &Mutex<G>,
     passes: Vec<Pass<L>>,
     mover: &M,
 ) -> Result<Vec<Pass<L>>, LendErr>
-    ensures ok { IfOk result (λ ks. AllLent G.Guests (hosts_at I.Source O.Sink G.Guests L.opening) passes.items ks.items) }
+    ensures ok { IfOk result (λ ks. AllLent G.Guests (hosts_at I.Source O.Sink G.Guests L.seats L.opening) passes.items ks.items) }
     ensures failed { IfErr result (λ why. why ≡ LendErr.NoThread → (g : G) × (G.failed g ≡ true)) }
 {
     thread::scope(
         thread::scope_env(),
         rt,
         move |scope| -> Result<Vec<Pass<L>>, LendErr>
-            ensures ok { IfOk result (λ ks. AllLent G.Guests (hosts_at I.Source O.Sink G.Guests L.opening) passes.items ks.items) }
+            ensures ok { IfOk result (λ ks. AllLent G.Guests (hosts_at I.Source O.Sink G.Guests L.seats L.opening) passes.items ks.items) }
             ensures failed { IfErr result (λ why. why ≡ LendErr.NoThread → (g : G) × (G.failed g ≡ true)) }
         {
             let Ok(mut handles) = Vec::with_capacity(alloc, passes.len()) else {
@@ -105,7 +142,9 @@ pub(crate) fn lend_kept_seats<
                 };
                 let of = PhantomData;
                 match scope.spawn_with(promise, move || {
-                    sit::<L, R, G, I, O, Surplus<T>, D, M>(rt, alloc, desk, guests, pass, mover, of)
+                    sit::<L, R, G, I, O, Surplus<T>, D, M>(
+                        rt, alloc, desk, early, guests, pass, mover, of,
+                    )
                 }) {
                     Ok(handle) => handles.push_reserved(handle),
                     Err(refused) => {

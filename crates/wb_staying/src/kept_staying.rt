@@ -1,13 +1,13 @@
 //! A desk that stays, whose changes are kept in a journal.
 ghost use Rattle.std.specs.Prelude.{◌≡◌, ◌⊎◌, ℕ, List, IfOk, IfErr, length, true};
 ghost use Rattle.std.specs.Io.KnownBytes.{Appends};
-ghost use Rattle.wb_desk.specs.Openings.{whole_from};
 ghost use Rattle.wb_desk.specs.Serving.{new_passes};
 ghost use Rattle.wb_keep.specs.Disk.Device.{Only};
 ghost use Rattle.wb_keep.specs.Lines.{recovered};
 ghost use Rattle.wb_lending.specs.Lending.{AllLent};
 ghost use Rattle.wb_sessions.specs.Checking.{IsFault};
 ghost use Rattle.wb_sessions.specs.Keeping.{IsKeptHistory, writer_alone};
+ghost use Rattle.wb_program.specs.Early.{early_from};
 ghost use Rattle.wb_program.specs.KeptDays.{BreaksOff};
 ghost use Rattle.wb_staying.specs.Stays.{hosts_at};
 ghost use Rattle.wb_staying.specs.KeptStays.{EndsKeptStay, FailsKeptStay, HostsKeptStay, RunsStay, SettlesKept, UsesStay};
@@ -31,7 +31,7 @@ use wb_kept_group::group::Opened;
 use wb_kept_seats::{Desk, KeptOpening, Settled, Unsettled, settle};
 use wb_lending::Guests;
 use wb_lines::{Sink, Source};
-use wb_program::{KeptDesk, broken_off, left_off, never_begun, print_settled, status_of_cause};
+use wb_program::{Early, KeptDesk, broken_off, left_off, never_begun, print_all, status_of_cause};
 use wb_sessions::{
     BAD_COMMAND_LINE, FileFault, INPUT_OR_OUTPUT_FAILED, KeptRun, NO_MEMORY, OpensFiles, opened,
     turned_away,
@@ -41,7 +41,7 @@ use wb_visits::{Lands, Left, Surplus, Visit};
 // Lends each seat to one connection after another, until nobody comes any more: the passes, or the exit status that is left.
 fn lend_all_kept<
     L: KeptOpening + Send + Sync,
-    R: Threads + Wait + Clock + Sync,
+    R: Threads + Wait + Clock + Eprint + Sync,
     G: Guests<Visit<I, O>, Surplus<T>, Left> + Send + Drop,
     I: Source + Send + Drop,
     O: Sink + Send + Drop,
@@ -56,12 +56,16 @@ fn lend_all_kept<
     passes: Vec<Pass<L>>,
     mover: &M,
 ) -> Result<Vec<Pass<L>>, u8>
-    ensures ok { IfOk result (λ ks. AllLent G.Guests (hosts_at I.Source O.Sink G.Guests L.opening) passes.items ks.items) }
+    requires early { L.opening.early ≡ true }
+    ensures ok { IfOk result (λ ks. AllLent G.Guests (hosts_at I.Source O.Sink G.Guests L.seats L.opening) passes.items ks.items) }
     ensures fault { IfErr result (λ status. IsFault status) }
     ensures failed { IfErr result (λ status. status ≡ 3 → (from : G) × (G.failed from ≡ true)) }
 {
     let guests = Mutex::new(guests);
-    match lend_kept_seats::<L, R, G, I, O, T, D, M>(rt, alloc, desk, &guests, passes, mover) {
+    let early = Early::<L>::allowed();
+    match lend_kept_seats::<L, R, G, I, O, T, D, M>(
+        rt, alloc, desk, &early, &guests, passes, mover,
+    ) {
         Ok(passes) => Ok(passes),
         Err(why) => Err(status_of(why)),
     }
@@ -77,7 +81,7 @@ fn settled<
     D: Device + Drop,
     W: Sink,
 >(alloc: Global, desk: KeptDesk<L, D>, passes: Vec<Pass<L>>, writer: &mut W) -> KeptRun<D>
-    requires back { AllLent G.Guests (hosts_at I.Source O.Sink G.Guests L.opening) (new_passes L.seats) passes.items }
+    requires back { AllLent G.Guests (hosts_at I.Source O.Sink G.Guests L.seats L.opening) (new_passes L.seats) passes.items }
     ensures ends { (text : List ℕ) × Appends (W.contents writer.old) (W.contents writer.new) text
         × (SettlesKept I.Source O.Sink G.Guests D.Device L.opening L.begun L.seats result text
         ⊎ BreaksOff D.Device L.opening L.begun L.seats result text) }
@@ -88,7 +92,7 @@ fn settled<
     match settle(desk, passes) {
         Ok(done) => {
             let Settled { seats, log } = done;
-            let status = print_settled(alloc, seats.shared(), false, writer);
+            let status = print_all(alloc, seats.shared(), writer);
             KeptRun {
                 status,
                 fault: None,
@@ -110,7 +114,7 @@ fn settled<
 // A desk that stays, whose changes are kept: opened, lent and settled.
 fn lend_kept_desk<
     L: KeptOpening + Send + Sync,
-    R: Threads + Wait + Clock + Sync,
+    R: Threads + Wait + Clock + Eprint + Sync,
     G: Guests<Visit<I, O>, Surplus<T>, Left> + Send + Drop,
     I: Source + Send + Drop,
     O: Sink + Send + Drop,
@@ -139,6 +143,7 @@ fn lend_kept_desk<
 
     // What the desk is opened on: the history that the file stands for, at this moment.
     requires opening { L.opening.history ≡ kept.state }
+    requires early { L.opening.early ≡ true }
     requires seats { L.seats ≡ seats }
     requires begun { L.begun ≡ D.moment kept.log.device }
     requires lines { L.lines ≡ recovered (D.seen kept.log.device) }
@@ -171,7 +176,7 @@ fn lend_kept_desk<
 /// the changes of its turn are in the file. The file stands for the history in the end, and a crash at any moment leaves the history
 /// after the first so many entries. The exit status is as that of a day's desk (`serve_kept_on` of `wb_program`).
 pub fn lend_kept_on<
-    R: Threads + Wait + Clock + Sync,
+    R: Threads + Wait + Clock + Eprint + Sync,
     G: Guests<Visit<I, O>, Surplus<T>, Left> + Send + Drop,
     I: Source + Send + Drop,
     O: Sink + Send + Drop,
@@ -192,9 +197,9 @@ pub fn lend_kept_on<
     requires places { G.places guests ≡ seats }
     requires first { G.inside guests ≡ 0 }
     ensures ends { (text : List ℕ) × Appends (W.contents writer.old) (W.contents writer.new) text
-        × EndsKeptStay I.Source O.Sink G.Guests D.Device (whole_from kept.state) (D.moment kept.log.device) seats kept.log.device result text }
+        × EndsKeptStay I.Source O.Sink G.Guests D.Device (early_from kept.state) (D.moment kept.log.device) seats kept.log.device result text }
     ensures flushed { result.status ≡ 0 → W.flushed writer.new ≡ true }
-    ensures failed { result.status ≡ 3 → FailsKeptStay I.Source O.Sink G.Guests D.Device (whole_from kept.state) seats result (W.failed writer.new) }
+    ensures failed { result.status ≡ 3 → FailsKeptStay I.Source O.Sink G.Guests D.Device (early_from kept.state) seats result (W.failed writer.new) }
 {
     lend_kept_desk::<Brand, R, G, I, O, T, D, W, M>(
         rt,
@@ -212,7 +217,7 @@ pub fn lend_kept_on<
 
 // A desk that stays, on the history of a journal that was opened.
 fn host_stay<
-    R: Threads + Wait + Clock + Sync,
+    R: Threads + Wait + Clock + Eprint + Sync,
     B: Lands<G, Visit<I, O>, Surplus<T>, Left>,
     G: Guests<Visit<I, O>, Surplus<T>, Left> + Send + Drop,
     I: Source + Send + Drop,
@@ -232,10 +237,10 @@ fn host_stay<
 ) -> KeptRun<D>
     requires kept { IsKeptHistory D.Device kept }
     ensures hosts { (text : List ℕ) × Appends (W.contents writer.old) (W.contents writer.new) text
-        × HostsKeptStay I.Source O.Sink G.Guests D.Device (whole_from kept.state) (D.moment kept.log.device) asked.now.place asked.now.seats kept.log.device result text }
+        × HostsKeptStay I.Source O.Sink G.Guests D.Device (early_from kept.state) (D.moment kept.log.device) asked.now.place asked.now.seats kept.log.device result text }
     ensures flushed { result.status ≡ 0 → W.flushed writer.new ≡ true }
     ensures failed { result.status ≡ 3 → (B.failed ports.new ≡ true)
-        ⊎ FailsKeptStay I.Source O.Sink G.Guests D.Device (whole_from kept.state) asked.now.seats result (W.failed writer.new) }
+        ⊎ FailsKeptStay I.Source O.Sink G.Guests D.Device (early_from kept.state) asked.now.seats result (W.failed writer.new) }
 {
     match land(alloc, ports, &asked.place, asked.seats, writer) {
         Ok(guests) => lend_kept_on::<R, G, I, O, T, D, W, M>(
@@ -258,7 +263,7 @@ fn host_stay<
 /// A desk that stays, on the history that a journal has, whose file holds these bytes. It opens the journal first, as
 /// `host_kept_with` of `wb_program` does, then tells where it listens, and then lends its seats as `lend_kept_on` does.
 pub fn stay_kept_with<
-    R: Threads + Wait + Clock + Sync,
+    R: Threads + Wait + Clock + Eprint + Sync,
     B: Lands<G, Visit<I, O>, Surplus<T>, Left>,
     G: Guests<Visit<I, O>, Surplus<T>, Left> + Send + Drop,
     I: Source + Send + Drop,
@@ -292,7 +297,7 @@ pub fn stay_kept_with<
 
 /// A desk that stays, on the history that the journal at a path has, as `stay_kept_with` has it; the file is given back.
 pub fn stay_kept<
-    R: Threads + Wait + Clock + Sync,
+    R: Threads + Wait + Clock + Eprint + Sync,
     B: Lands<G, Visit<I, O>, Surplus<T>, Left>,
     G: Guests<Visit<I, O>, Surplus<T>, Left> + Send + Drop,
     I: Source + Send + Drop,

@@ -4,7 +4,7 @@
 //! of a method of a trait that comes to a mover's threads.
 ghost use Rattle.std.specs.Prelude.{◌≡◌, IfOk, IfErr, true};
 ghost use Rattle.wb_lending.specs.Lending.{AllLent, Lent};
-ghost use Rattle.wb_staying.specs.Stays.{hosts_at};
+ghost use Rattle.wb_staying.specs.Stays.{hosts_at, ServedEarly};
 
 use std::alloc::Global;
 use std::marker::PhantomData;
@@ -14,10 +14,10 @@ use std::thread;
 use std::thread::{Promise, Threads};
 use std::time::Clock;
 use wb_arrays::Mover;
-use wb_desk::{Desk, Opening, Pass};
+use wb_desk::{Desk, Difference, Opening, Pass};
 use wb_lending::{Guests, LendErr, Next, taken, turn_away_all};
 use wb_lines::{Sink, Source};
-use wb_program::serve_connection;
+use wb_program::{Early, serve_connection};
 use wb_visits::{Left, Porter, Surplus, Visit, rest};
 
 /// What the thread of a seat promises: its pass, served on connections that came, one after another.
@@ -34,13 +34,39 @@ impl<L: Opening, G, I, O, X> Drop for Promised<L, G, I, O, X> {
 
 impl<L: Opening, G: Guests<Visit<I, O>, X, Left>, I: Source, O: Sink, X> Promise<Pass<L>>
     for Promised<L, G, I, O, X> {
-    ghost kept_by = { λ p k. Lent G.Guests (hosts_at I.Source O.Sink G.Guests L.opening) p.pass.value k };
+    ghost kept_by = { λ p k. Lent G.Guests (hosts_at I.Source O.Sink G.Guests L.seats L.opening) p.pass.value k };
 }
 
-// Lends a seat to one connection after another, until nobody comes any more: its pass then.
+/// Tells on standard error that a seat is retired, since its pass and the desk first differ there. Where that fails, nothing is told.
+pub(crate) fn tell_retired<R: Eprint>(rt: &R, seat: usize, why: Difference) {
+    let place = why.place;
+    let _ = eprintln!(rt;
+        "workbook: seat {seat} is lent no more, since its pass and the desk differ at entry {place}"
+    );
+}
+
+// Serves a pass on a connection, and settles its seat then: the pass, and where it and the desk first differ, if they do.
+fn serve_visit<L: Opening, R: Wait, I: Source + Drop, O: Sink + Drop, M: Mover>(
+    rt: &R,
+    alloc: Global,
+    desk: &Desk<L>,
+    early: &Early<L>,
+    pass: Pass<L>,
+    reader: I,
+    writer: O,
+    mover: &M,
+) -> (Pass<L>, Option<Difference>)
+    ensures { ServedEarly I.Source O.Sink L.seats L.opening pass reader writer result.1 result.0 }
+{
+    let mut pass = serve_connection(rt, alloc, desk, early, pass, reader, writer, mover);
+    let told = early.settle_left(rt, desk, &mut pass);
+    (pass, told)
+}
+
+// Lends a seat to one connection after another, until nobody comes any more, or its pass and the desk differ: its pass then.
 fn sit<
     L: Opening,
-    R: Wait + Clock,
+    R: Wait + Clock + Eprint,
     G: Guests<Visit<I, O>, X, Left>,
     I: Source + Drop,
     O: Sink + Drop,
@@ -50,12 +76,13 @@ fn sit<
     rt: &R,
     alloc: Global,
     desk: &Desk<L>,
+    early: &Early<L>,
     guests: &Mutex<G>,
     pass: Pass<L>,
     mover: &M,
     of: PhantomData<(I, O, X)>,
 ) -> Pass<L>
-    ensures { Lent G.Guests (hosts_at I.Source O.Sink G.Guests L.opening) pass result }
+    ensures { Lent G.Guests (hosts_at I.Source O.Sink G.Guests L.seats L.opening) pass result }
 {
     let _ = of;
     let mut now = pass;
@@ -63,9 +90,18 @@ fn sit<
         match taken::<R, G, Visit<I, O>, X, Left>(rt, guests) {
             Next::Came(visit) => {
                 let (reader, writer, left) = visit.into_parts();
-                let served = serve_connection(rt, alloc, desk, now, reader, writer, mover);
-                now = served;
-                guests.lock(rt).leave(left);
+                let (pass, told) = serve_visit(rt, alloc, desk, early, now, reader, writer, mover);
+                match told {
+                    None => {
+                        now = pass;
+                        guests.lock(rt).leave(left);
+                    }
+                    Some(why) => {
+                        tell_retired(rt, pass.seat(), why);
+                        guests.lock(rt).retire(left);
+                        return pass;
+                    }
+                }
             }
             Next::Nobody => rest(rt),
             Next::Over => return now,
@@ -74,11 +110,11 @@ fn sit<
     unreachable!()
 }
 
-/// Lends each seat of a desk to one connection after another, until nobody comes any more: the passes then. Who comes while no
-/// seat is free is turned away.
+/// Lends each seat of a desk to one connection after another, until nobody comes any more: the passes then. A seat whose pass and the
+/// desk differ is retired before that. Who comes while no seat is free is turned away.
 pub(crate) fn lend_seats<
     L: Opening + Send + Sync,
-    R: Threads + Wait + Clock + Sync,
+    R: Threads + Wait + Clock + Eprint + Sync,
     G: Guests<Visit<I, O>, Surplus<T>, Left> + Send,
     I: Source + Send + Drop,
     O: Sink + Send + Drop,
@@ -88,18 +124,19 @@ pub(crate) fn lend_seats<
     rt: &R,
     alloc: Global,
     desk: &Desk<L>,
+    early: &Early<L>,
     guests: &Mutex<G>,
     passes: Vec<Pass<L>>,
     mover: &M,
 ) -> Result<Vec<Pass<L>>, LendErr>
-    ensures ok { IfOk result (λ ks. AllLent G.Guests (hosts_at I.Source O.Sink G.Guests L.opening) passes.items ks.items) }
+    ensures ok { IfOk result (λ ks. AllLent G.Guests (hosts_at I.Source O.Sink G.Guests L.seats L.opening) passes.items ks.items) }
     ensures failed { IfErr result (λ why. why ≡ LendErr.NoThread → (g : G) × (G.failed g ≡ true)) }
 {
     thread::scope(
         thread::scope_env(),
         rt,
         move |scope| -> Result<Vec<Pass<L>>, LendErr>
-            ensures ok { IfOk result (λ ks. AllLent G.Guests (hosts_at I.Source O.Sink G.Guests L.opening) passes.items ks.items) }
+            ensures ok { IfOk result (λ ks. AllLent G.Guests (hosts_at I.Source O.Sink G.Guests L.seats L.opening) passes.items ks.items) }
             ensures failed { IfErr result (λ why. why ≡ LendErr.NoThread → (g : G) × (G.failed g ≡ true)) }
         {
             let Ok(mut handles) = Vec::with_capacity(alloc, passes.len()) else {
@@ -112,7 +149,9 @@ pub(crate) fn lend_seats<
                 };
                 let of = PhantomData;
                 match scope.spawn_with(promise, move || {
-                    sit::<L, R, G, I, O, Surplus<T>, M>(rt, alloc, desk, guests, pass, mover, of)
+                    sit::<L, R, G, I, O, Surplus<T>, M>(
+                        rt, alloc, desk, early, guests, pass, mover, of,
+                    )
                 }) {
                     Ok(handle) => handles.push_reserved(handle),
                     Err(refused) => {

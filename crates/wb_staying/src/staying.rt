@@ -1,8 +1,9 @@
 //! A desk that stays, whose changes aren't kept.
 ghost use Rattle.std.specs.Prelude.{◌≡◌, ◌⊎◌, ℕ, List, IfOk, IfErr, length, true};
 ghost use Rattle.std.specs.Io.KnownBytes.{Appends};
-ghost use Rattle.wb_desk.specs.Openings.{nothing_done, whole_from};
+ghost use Rattle.wb_desk.specs.Openings.{nothing_done};
 ghost use Rattle.wb_lending.specs.Lending.{AllLent};
+ghost use Rattle.wb_program.specs.Early.{early_from};
 ghost use Rattle.wb_sessions.specs.Checking.{IsFault};
 ghost use Rattle.wb_staying.specs.Stays.{hosts_at, EndsStay, FailsStay, HostsStay};
 
@@ -20,7 +21,7 @@ use wb_desk::{Desk, DeskErr, Opening, Pass, settle};
 use wb_history::History;
 use wb_lending::{Guests, LendErr};
 use wb_lines::{Sink, Source};
-use wb_program::print_settled;
+use wb_program::{Early, print_all};
 use wb_sessions::{BAD_COMMAND_LINE, INPUT_OR_OUTPUT_FAILED, NO_MEMORY};
 use wb_visits::{Lands, Left, Surplus, Visit};
 
@@ -39,7 +40,7 @@ pub(crate) fn status_of(why: LendErr) -> u8
 // left.
 fn lend_all<
     L: Opening + Send + Sync,
-    R: Threads + Wait + Clock + Sync,
+    R: Threads + Wait + Clock + Eprint + Sync,
     G: Guests<Visit<I, O>, Surplus<T>, Left> + Send + Drop,
     I: Source + Send + Drop,
     O: Sink + Send + Drop,
@@ -53,12 +54,14 @@ fn lend_all<
     passes: Vec<Pass<L>>,
     mover: &M,
 ) -> Result<Vec<Pass<L>>, u8>
-    ensures ok { IfOk result (λ ks. AllLent G.Guests (hosts_at I.Source O.Sink G.Guests L.opening) passes.items ks.items) }
+    requires early { L.opening.early ≡ true }
+    ensures ok { IfOk result (λ ks. AllLent G.Guests (hosts_at I.Source O.Sink G.Guests L.seats L.opening) passes.items ks.items) }
     ensures fault { IfErr result (λ status. IsFault status) }
     ensures failed { IfErr result (λ status. status ≡ 3 → (from : G) × (G.failed from ≡ true)) }
 {
     let guests = Mutex::new(guests);
-    match lend_seats::<L, R, G, I, O, T, M>(rt, alloc, desk, &guests, passes, mover) {
+    let early = Early::<L>::allowed();
+    match lend_seats::<L, R, G, I, O, T, M>(rt, alloc, desk, &early, &guests, passes, mover) {
         Ok(passes) => Ok(passes),
         Err(why) => Err(status_of(why)),
     }
@@ -67,7 +70,7 @@ fn lend_all<
 // A desk that stays: opened, lent and settled. The exit status.
 fn lend_desk<
     L: Opening + Send + Sync,
-    R: Threads + Wait + Clock + Sync,
+    R: Threads + Wait + Clock + Eprint + Sync,
     G: Guests<Visit<I, O>, Surplus<T>, Left> + Send + Drop,
     I: Source + Send + Drop,
     O: Sink + Send + Drop,
@@ -89,6 +92,7 @@ fn lend_desk<
     requires parts { blank.parts ≡ L.parts }
     requires sixteen { blank.parts ≡ 16 }
     requires opening { L.opening.history ≡ history }
+    requires early { L.opening.early ≡ true }
     requires seats { L.seats ≡ seats }
     requires places { G.places guests ≡ seats }
     requires first { G.inside guests ≡ 0 }
@@ -109,15 +113,17 @@ fn lend_desk<
         Err(status) => return status,
     };
     match settle(desk, passes) {
-        Ok(shared) => print_settled(alloc, &shared, false, writer),
+        Ok(shared) => print_all(alloc, &shared, writer),
         Err(_) => INPUT_OR_OUTPUT_FAILED,
     }
 }
 
 /// Lends the seats of a desk to the connections that come, each seat to one after another, until nobody comes any more; settles, and
-/// prints the number of entries and the workbook. The exit status is as that of a day's desk (`serve_on` of `wb_program`).
+/// prints the number of entries, with those that were settled early, and the workbook. A seat is settled early after each connection,
+/// and before a line that finds 64 entries or more. One whose pass and the desk differ is lent no more, which is told on standard error.
+/// The exit status is as that of a day's desk (`serve_on` of `wb_program`).
 pub fn lend_on<
-    R: Threads + Wait + Clock + Sync,
+    R: Threads + Wait + Clock + Eprint + Sync,
     G: Guests<Visit<I, O>, Surplus<T>, Left> + Send + Drop,
     I: Source + Send + Drop,
     O: Sink + Send + Drop,
@@ -128,9 +134,9 @@ pub fn lend_on<
     requires places { G.places guests ≡ seats }
     requires first { G.inside guests ≡ 0 }
     ensures prints { (text : List ℕ) × Appends (W.contents writer.old) (W.contents writer.new) text
-        × EndsStay I.Source O.Sink G.Guests (whole_from nothing_done) seats result text }
+        × EndsStay I.Source O.Sink G.Guests (early_from nothing_done) seats result text }
     ensures flushed { result ≡ 0 → W.flushed writer.new ≡ true }
-    ensures failed { result ≡ 3 → FailsStay I.Source O.Sink G.Guests (whole_from nothing_done) seats (W.failed writer.new) }
+    ensures failed { result ≡ 3 → FailsStay I.Source O.Sink G.Guests (early_from nothing_done) seats (W.failed writer.new) }
 {
     let history = History::new(alloc);
     lend_desk::<Brand, R, G, I, O, T, W, M>(
@@ -147,7 +153,7 @@ pub fn lend_on<
 
 /// A desk that stays, on an empty workbook: it tells where it listens, and lends its seats as `lend_on` does. The exit status.
 pub fn stay<
-    R: Threads + Wait + Clock + Sync,
+    R: Threads + Wait + Clock + Eprint + Sync,
     B: Lands<G, Visit<I, O>, Surplus<T>, Left>,
     G: Guests<Visit<I, O>, Surplus<T>, Left> + Send + Drop,
     I: Source + Send + Drop,
@@ -157,10 +163,10 @@ pub fn stay<
     M: Mover + Sync,
 >(rt: &R, alloc: Global, ports: &mut B, asked: &Stay<'_>, writer: &mut W, mover: &M) -> u8
     ensures hosts { (text : List ℕ) × Appends (W.contents writer.old) (W.contents writer.new) text
-        × HostsStay I.Source O.Sink G.Guests (whole_from nothing_done) asked.now.place asked.now.seats result text }
+        × HostsStay I.Source O.Sink G.Guests (early_from nothing_done) asked.now.place asked.now.seats result text }
     ensures flushed { result ≡ 0 → W.flushed writer.new ≡ true }
     ensures failed { result ≡ 3 → (B.failed ports.new ≡ true)
-        ⊎ FailsStay I.Source O.Sink G.Guests (whole_from nothing_done) asked.now.seats (W.failed writer.new) }
+        ⊎ FailsStay I.Source O.Sink G.Guests (early_from nothing_done) asked.now.seats (W.failed writer.new) }
 {
     match land(alloc, ports, &asked.place, asked.seats, writer) {
         Ok(guests) => lend_on::<R, G, I, O, T, W, M>(

@@ -36,6 +36,16 @@ const REPLIES: &[u8] =
 const SETTLED: &[u8] =
     b"settled 4\nchapel-workbook 1\narray A over D [5, 0]\nrect D {1..2} none\nend\n";
 
+// So many lines of one connection find more than 64 entries, again and again; they are fewer than a crowd.
+const MANY: usize = 300;
+
+const EDITS: &[u8] = b"{\"edit\":1,\"n\":3}\n{\"edit\":2,\"n\":5}\n";
+
+const VALUE: &[u8] = b"{\"value\":0}\n";
+
+const SETTLED_MANY: &[u8] =
+    b"settled 303\nchapel-workbook 1\narray A over D [0, 0]\nrect D {1..2} none\nend\n";
+
 const LISTENING: &[u8] = b"listening on 127.0.0.1:7000\n";
 
 const JOURNAL: &[u8] =
@@ -167,6 +177,11 @@ impl<'a> Guests<Coming<'a>, Sent<'a>, Left> for Street<'a> {
         self.inside = self.inside.saturating_sub(1);
     }
 
+    fn retire(&mut self, served: Left) {
+        self.leave(served);
+        self.places = self.places.saturating_sub(1);
+    }
+
     fn note_refused<F>(&mut self, refused: &SpawnError<F>) {
         let _ = refused;
         self.ahead = &[];
@@ -226,7 +241,7 @@ struct Stayed {
 }
 
 // A desk of so many seats that stays, without a journal.
-fn what_stayed<R: Threads + Wait + Clock + Sync, M: Mover + Sync>(
+fn what_stayed<R: Threads + Wait + Clock + Eprint + Sync, M: Mover + Sync>(
     rt: &R,
     alloc: Global,
     ahead: &[&[u8]],
@@ -266,7 +281,7 @@ fn what_stayed<R: Threads + Wait + Clock + Sync, M: Mover + Sync>(
 }
 
 // A desk of one seat that stays, on a file that holds these bytes and does so many calls.
-fn stayed_kept<R: Threads + Wait + Clock + Sync, M: Mover + Sync>(
+fn stayed_kept<R: Threads + Wait + Clock + Eprint + Sync, M: Mover + Sync>(
     rt: &R,
     alloc: Global,
     held: &[u8],
@@ -328,6 +343,31 @@ fn a_seat_is_lent_again(rt: HostRuntime) -> Result<(), Fail> {
     assert_eq!(rt; desk.served.as_slice(), REPLIES);
     assert!(rt; desk.turned.is_empty());
     assert_eq!(rt; desk.printed.as_slice(), SETTLED);
+    Ok(())
+}
+
+// A seat is settled early while its connection lasts, and once it ended: the number of entries has those too.
+#[test]
+fn lines_that_were_settled_early_are_counted(rt: HostRuntime) -> Result<(), Fail> {
+    let alone = Crew::alone(&rt);
+    let alloc = rt.alloc();
+    let mut asked = FIRST.to_vec(alloc)?;
+    for _ in 0..MANY {
+        asked.extend_from_slice(THIRD)?;
+    }
+    let desk = what_stayed(
+        &rt,
+        alloc,
+        &[asked.as_slice(), THIRD, b""],
+        1,
+        false,
+        &alone,
+    );
+    assert_eq!(rt; desk.status, 0);
+    let told = desk.served.strip_prefix(EDITS).ok_or("two edits")?;
+    assert!(rt; repeats(told, VALUE));
+    assert_eq!(rt; told.len() / VALUE.len(), MANY + 1);
+    assert_eq!(rt; desk.printed.as_slice(), SETTLED_MANY);
     Ok(())
 }
 

@@ -1,5 +1,5 @@
 //! Connections that come over a port of this machine or over a socket, for as many seats as a desk has.
-ghost use Rattle.std.specs.Prelude.{◌≡◌, ◌<◌, ◌↔◌, ℕ, Bool, true, IfOk};
+ghost use Rattle.std.specs.Prelude.{◌≡◌, ◌-◌, ◌<◌, ◌↔◌, ℕ, Bool, true, IfOk};
 
 use crate::binding::{on_port, on_socket};
 use crate::connection::Listener;
@@ -56,6 +56,18 @@ impl Visits {
             self.is_over = true;
         }
         self.is_over
+    }
+
+    // A connection that was served leaves; where it is the last, the desk is told to end.
+    fn take_leave(&mut self, served: Left)
+        ensures counted { self.new.counted ≡ self.old.counted }
+        ensures inside { self.new.inside ≡ self.old.inside - 1 }
+        ensures places { self.new.places ≡ self.old.places }
+    {
+        if served.leave() {
+            self.stop.tell();
+        }
+        self.inside = self.inside.saturating_sub(1);
     }
 
     // The next connection, if one is there, and it can be had in both ways.
@@ -125,10 +137,12 @@ impl Guests<Visit<Hearing, Telling>, Surplus<Output<Parting>>, Left> for Visits 
     }
 
     fn leave(&mut self, served: Left) {
-        if served.leave() {
-            self.stop.tell();
-        }
-        self.inside = self.inside.saturating_sub(1);
+        self.take_leave(served);
+    }
+
+    fn retire(&mut self, served: Left) {
+        self.take_leave(served);
+        self.places = self.places.saturating_sub(1);
     }
 
     fn note_refused<F>(&mut self, refused: &SpawnError<F>) {

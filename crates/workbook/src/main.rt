@@ -203,7 +203,13 @@ fn tell_of_file(rt: &HostRuntime, fault: FileFault, cause: Option<io::Error>) ->
 
 // Does what the words of the command line ask for.
 fn by_words<
-    R: Net<Listener = TcpListener, Stream = TcpStream> + FileSystem + Threads + Wait + Clock + Sync,
+    R: Net<Listener = TcpListener, Stream = TcpStream>
+        + FileSystem
+        + Threads
+        + Wait
+        + Clock
+        + Eprint
+        + Sync,
 >(rt: &HostRuntime, net: &R) -> io::Result<Ending> {
     let alloc = rt.alloc();
     let mut words = Vec::new(alloc);
@@ -236,7 +242,13 @@ fn by_words<
 
 // Does what is asked for, with as many workers as are asked for.
 fn by_crew<
-    R: Net<Listener = TcpListener, Stream = TcpStream> + FileSystem + Threads + Wait + Clock + Sync,
+    R: Net<Listener = TcpListener, Stream = TcpStream>
+        + FileSystem
+        + Threads
+        + Wait
+        + Clock
+        + Eprint
+        + Sync,
 >(rt: &HostRuntime, net: &R, wanted: Wanted<'_>) -> io::Result<Ending> {
     match Crew::new(net, workers_wanted(&wanted)) {
         Ok(crew) => match wanted {
@@ -306,7 +318,13 @@ fn on_devices<
 
 // Has a desk stay, perhaps with a journal, until the line `stop` comes on standard input.
 fn until_stopped<
-    R: Net<Listener = TcpListener, Stream = TcpStream> + FileSystem + Threads + Wait + Clock + Sync,
+    R: Net<Listener = TcpListener, Stream = TcpStream>
+        + FileSystem
+        + Threads
+        + Wait
+        + Clock
+        + Eprint
+        + Sync,
     M: Mover + Sync,
 >(
     rt: &HostRuntime,

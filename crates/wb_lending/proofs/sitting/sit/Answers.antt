@@ -1,4 +1,4 @@
-use Rattle.std.proofs.Common.{[], ◌∷◌, ◌++◌, rules}
+use Rattle.std.proofs.Common.{◌≡◌, [], ◌∷◌, ◌++◌, true, rules, subst}
 use Rattle.wb_lending.proofs.Places.{one_more}
 use Rattle.wb_lending.proofs.sitting.sit.Goals as goal
 
@@ -7,4 +7,9 @@ loop-preserved-in-Came g c =
     let was = c.loop.invariant in
     let guest = c.in-Came.guest in
     let told = c.in-Came.ensures.came guest (search rules) in
-    (was.0 ++ guest ∷ [], one_more g.G.Guests g.H.Hosts was.0 c.args.kept c.loop.now c.serve-kept.result.0 guest told.0 told.1 was.1 told.2 c.serve-kept.ensures)
+    let kept = c.serve-kept.result.0 in
+    let may_be_lent : c.serve-kept.result.2 ≡ true = search rules in (
+      was.0 ++ guest ∷ [],
+      one_more g.G.Guests g.H.Hosts was.0 c.args.kept c.loop.now kept guest told.0 told.1 was.1 told.2
+          (subst (g.H.Hosts.served c.loop.now guest kept) may_be_lent c.serve-kept.ensures),
+    )

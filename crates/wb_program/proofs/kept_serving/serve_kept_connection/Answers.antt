@@ -2,4 +2,4 @@ use Rattle.wb_program.proofs.Behind.{behind_door}
 use Rattle.wb_program.proofs.kept_serving.serve_kept_connection.Goals as goal
 
 pub returns : goal.returns
-returns g c = behind_door g.I.Source g.O.Sink g.L.Opening.opening _ _ _ _ _ _ _ c.of-door.ensures c.serve_kept_seat.ensures
+returns g c = behind_door g.I.Source g.O.Sink g.S.Settlings.answers _ _ _ _ _ _ _ c.of-door.ensures c.serve_kept_seat.ensures

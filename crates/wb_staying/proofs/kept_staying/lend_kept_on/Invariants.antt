@@ -1,4 +1,4 @@
-use Rattle.wb_desk.specs.Openings.{whole_from}
+use Rattle.wb_program.specs.Early.{early_from}
 use Rattle.wb_keep.specs.Lines.{recovered}
 use Rattle.wb_staying.proofs.kept_staying.lend_kept_on.Given as goal
 
@@ -6,7 +6,7 @@ abbrev pub ghosts-lend_kept_desk-L-Ledger : goal.ghosts-lend_kept_desk-L-Ledger
 ghosts-lend_kept_desk-L-Ledger g a = record { name = a.blank.name; parts = a.blank.parts }
 
 abbrev pub ghosts-lend_kept_desk-L-Opening : goal.ghosts-lend_kept_desk-L-Opening
-ghosts-lend_kept_desk-L-Opening g a = record { opening = whole_from a.kept.state; seats = a.seats }
+ghosts-lend_kept_desk-L-Opening g a = record { opening = early_from a.kept.state; seats = a.seats }
 
 abbrev pub ghosts-lend_kept_desk-L-KeptOpening : goal.ghosts-lend_kept_desk-L-KeptOpening
 ghosts-lend_kept_desk-L-KeptOpening g a = record {

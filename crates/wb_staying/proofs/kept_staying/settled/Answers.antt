@@ -1,7 +1,7 @@
-use Rattle.std.proofs.Common.{[], false, inl, inr, refl, subst}
+use Rattle.std.proofs.Common.{[], inl, inr, refl, subst}
 use Rattle.std.proofs.KnownBytes.{Appends-nil}
 use Rattle.wb_desk.specs.Serving.{new_passes}
-use Rattle.wb_program.specs.Serving.{PrintsSettled}
+use Rattle.wb_program.specs.Early.{PrintsAll}
 use Rattle.wb_staying.proofs.Ending.{is_stay}
 use Rattle.wb_staying.proofs.KeptEnding.{not_settled}
 use Rattle.wb_staying.proofs.kept_staying.settled.Goals as goal
@@ -9,7 +9,7 @@ use Rattle.wb_staying.proofs.kept_staying.settled.Goals as goal
 pub returns-in-Ok-clause-ends : goal.returns-in-Ok-clause-ends
 returns-in-Ok-clause-ends g c =
     let told = c.in-Ok.ensures in
-    let prints = c.print_settled-status.ensures.prints in
+    let prints = c.print_all-status.ensures.prints in
     let k = c.in-Ok.done.seats in (
       prints.0,
       prints.1,
@@ -18,9 +18,9 @@ returns-in-Ok-clause-ends g c =
         log = c.in-Ok.done.log;
         leaves = record { is_course = told.course; so_many = told.seats; any_moment = told.any_moment; is_file = refl };
         stay = is_stay g.I.Source g.O.Sink g.G.Guests g.L.Opening.opening g.L.Opening.seats g.L.Opening.seats k.course (new_passes g.L.Opening.seats)
-            c.args.passes.items refl refl c.requires.back told.course told.seats told.ok;
+            c.args.passes.items refl refl c.requires.back told.course told.seats told.ok told.stands;
         kept = told.kept;
-        prints = subst (λ x. PrintsSettled false x c.print_settled-status.result prints.0) c.shared.ensures.course prints.2;
+        prints = subst (λ x. PrintsAll x c.print_all-status.result prints.0) c.shared.ensures.course prints.2;
         is_fault = refl;
       }),
     )

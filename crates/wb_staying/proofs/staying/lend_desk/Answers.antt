@@ -24,14 +24,14 @@ returns-clause-failed g c h =
 pub returns-in-Ok-settle-clause-prints : goal.returns-in-Ok-settle-clause-prints
 returns-in-Ok-settle-clause-prints g c =
     let told = c.in-Ok-settle.ensures in
-    let prints = c.print_settled.ensures.prints in (
+    let prints = c.print_all.ensures.prints in (
       prints.0,
       prints.1,
       inl (
         c.in-Ok-settle.shared.course,
         is_stay g.I.Source g.O.Sink g.G.Guests g.L.Opening.opening g.L.Opening.seats
             c.args.seats c.in-Ok-settle.shared.course c.in-Ok.made.1.items c.in-Ok-lend_all.passes.items c.requires.seats c.in-Ok.ensures.ok.1
-            c.in-Ok-lend_all.ensures.ok told.course told.seats told.ok,
+            c.in-Ok-lend_all.ensures.ok told.course told.seats told.ok told.stands,
         prints.2,
       ),
     )

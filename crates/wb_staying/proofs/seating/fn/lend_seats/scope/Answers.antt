@@ -42,7 +42,7 @@ returns-in-Ok-join_promised g c =
             let within : place < length back.items = slice_get_within back.items place k is_k in
             let low : place < vec_len c.loop-pass.handles = search (rules, within, told.len) in
             let e = (told.each place k low).1 in
-            lent_back g.G.Guests (hosts_at g.I.Source g.O.Sink g.G.Guests g.L.Opening.opening) c.captures.passes.items back.items first place p k e.handle.promise.pass.value gives.0 is_p is_k
+            lent_back g.G.Guests (hosts_at g.I.Source g.O.Sink g.G.Guests g.L.Opening.seats g.L.Opening.opening) c.captures.passes.items back.items first place p k e.handle.promise.pass.value gives.0 is_p is_k
             (λ d. was.2 place e.handle d low ∙ ap (λ x. x.promise.pass.value) (sym e.handle_is)) e.kept;
         ended = c.turn_away_all.ensures;
       };
