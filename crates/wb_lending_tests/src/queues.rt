@@ -107,6 +107,7 @@ impl Guests<Visitor, Extra, Gone> for Queue {
 }
 
 // Counts whom a place serves, which may be lent on while they are fewer than so many.
+#[derive(Drop)]
 struct Counter {
     most: u64,
 }
@@ -152,14 +153,10 @@ fn both_of<R: Threads + Wait + Sync>(
     let porter = Porter {
         turned: AtomicU64::new(0),
     };
+    let counter = Counter { most };
     let queue = Queue::of(ahead, places.len() as u64, is_hasty);
     let kept = lend::<R, Counter, Porter, Queue, u64, Visitor, Extra, Gone>(
-        rt,
-        alloc,
-        &Counter { most },
-        &porter,
-        queue,
-        places,
+        rt, alloc, &counter, &porter, queue, places,
     )?;
     let mut served = 0u64;
     for place in &kept {
