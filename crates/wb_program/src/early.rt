@@ -75,11 +75,13 @@ impl<L: Opening> Early<L> {
     ) -> Option<Difference>
         ensures { IsSettledFrom 1 L.seats L.opening pass.old result pass.new }
     {
-        let turn = Turn::at(desk);
-        let mut waiting = Waiting { rt, turn: &turn };
-        let told = settle_from(LEFT_LIMIT, &mut waiting, pass);
-        turn.end();
-        told
+        if pass.own().len() < LEFT_LIMIT {
+            return None;
+        }
+        match desk.settle_seat(rt, pass) {
+            Ok(_) => None,
+            Err(why) => Some(why),
+        }
     }
 }
 

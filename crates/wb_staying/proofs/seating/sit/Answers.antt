@@ -2,8 +2,8 @@ use Rattle.std.proofs.Common.{[], ◌∷◌, ◌++◌, inr, rules}
 use Rattle.wb_staying.proofs.Seats.{lent_on, retired}
 use Rattle.wb_staying.proofs.seating.sit.Goals as goal
 
-pub loop-preserved-in-Came-None : goal.loop-preserved-in-Came-None
-loop-preserved-in-Came-None g c =
+pub loop-preserved-in-None-told : goal.loop-preserved-in-None-told
+loop-preserved-in-None-told g c =
     let was = c.loop.invariant in
     let visit = c.in-Came.visit in
     let told = c.in-Came.ensures.came visit (search rules) in
@@ -14,8 +14,8 @@ loop-preserved-in-Came-None g c =
           parts.result.0 parts.result.1 served.result.1 told.0 told.1 was.1 told.2 parts.ensures.0 parts.ensures.1 (search rules) served.ensures,
     )
 
-pub returns-in-Came-Some : goal.returns-in-Came-Some
-returns-in-Came-Some g c =
+pub returns-in-Some-told : goal.returns-in-Some-told
+returns-in-Some-told g c =
     let was = c.loop.invariant in
     let visit = c.in-Came.visit in
     let told = c.in-Came.ensures.came visit (search rules) in
@@ -26,5 +26,5 @@ returns-in-Came-Some g c =
       last = c.loop.now;
       served = was.1;
       ended = inr (retired g.I.Source g.O.Sink g.G.Guests g.L.Opening.seats g.L.Opening.opening c.loop.now served.result.0 visit
-          parts.result.0 parts.result.1 served.result.1 c.in-Some.why told.0 told.1 told.2 parts.ensures.0 parts.ensures.1 (search rules) served.ensures);
+          parts.result.0 parts.result.1 served.result.1 c.in-Some-told.why told.0 told.1 told.2 parts.ensures.0 parts.ensures.1 (search rules) served.ensures);
     }
