@@ -2,7 +2,6 @@
 use Rattle.std.proofs.Common.{◌≡◌, ◌⊎◌, ◌∙◌, inl, inr, refl, ℕ, Bool, true, List, [], None, Some, sym, ap, subst}
 use Rattle.wb_keep.specs.declared.disk.device.Device as Device
 use Rattle.wb_kept.specs.declared.kept.Kept.{Kept}
-use Rattle.wb_keep.specs.declared.keep.LineLog.{LineLog}
 use Rattle.wb_kept_seats.specs.KeptCourses.{KeptCourse}
 use Rattle.wb_kept_seats.specs.Settling.{IsSettleCause}
 use Rattle.wb_kept_seats.specs.declared.settling.SettleErr.{SettleErr}
@@ -16,7 +15,7 @@ use Rattle.wb_desk.specs.Settling.{IsCause}
 use Rattle.wb_desk.specs.declared.settling.Cause.{Cause}
 use Rattle.wb_desk.specs.Seats.{IsNumberOfSeats}
 use Rattle.wb_program.specs.Days.{AllBack}
-use Rattle.wb_program.specs.KeptDays.{BreaksOff, EndsKeptDay, FailsKeptDay, HasNoDesk, LeavesDesk, SettlesKept}
+use Rattle.wb_program.specs.KeptDays.{BreaksOff, EndsKeptDay, FailsKeptDay, HasNoDesk, SettlesKept}
 use Rattle.wb_program.specs.KeptSeats.{FailsOnce}
 use Rattle.wb_program.specs.declared.accepting.Accepts as Accepts
 use Rattle.wb_sessions.specs.declared.files.FileFault.TheVariants.{Failed}

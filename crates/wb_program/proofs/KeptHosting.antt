@@ -1,5 +1,5 @@
 -- What a desk with a journal wrote, and that this is what was asked for.
-use Rattle.std.proofs.Common.{◌≡◌, ◌⊎◌, ◌∙◌, inl, inr, ℕ, Bool, true, false, List, [], Option, refl, sym, ap, subst}
+use Rattle.std.proofs.Common.{◌≡◌, inl, inr, ℕ, Bool, List, sym, subst}
 use Rattle.std.specs.Io.KnownBytes.{Appends}
 use Rattle.wb_keep.specs.declared.disk.device.Device as Device
 use Rattle.wb_lines.specs.declared.sink.Sink as Sink

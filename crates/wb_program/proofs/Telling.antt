@@ -1,5 +1,5 @@
 -- Which reason is told by what a command line asks for, and that a desk ends with another status than a refusal.
-use Rattle.std.proofs.Common.{◌≡◌, ◌⊎◌, inl, inr, ℕ, Bool, List, Option, ◌∙◌, ap, subst, sym}
+use Rattle.std.proofs.Common.{◌≡◌, inl, inr, ℕ, Bool, List, Option, ◌∙◌, ap, subst, sym}
 use Rattle.wb_command.specs.declared.Asked.{Asked}
 use Rattle.wb_command.specs.declared.Asked.TheVariants.{Run, Serve}
 use Rattle.wb_lines.specs.declared.sink.Sink as Sink

@@ -5,7 +5,7 @@ use Rattle.wb_sessions.specs.Keeping.{RunsKept}
 use Rattle.wb_sessions.specs.Resuming.{left_in}
 use Rattle.wb_program.proofs.Finishing.{desk_fails, desk_finishes, resumed_desk_fails, resumed_desk_finishes}
 use Rattle.wb_program.proofs.Hosting.{history_hosted, hosted, resumed, upgraded}
-use Rattle.wb_program.proofs.KeptHosting.{kept_asked, wrote}
+use Rattle.wb_program.proofs.KeptHosting.{wrote}
 use Rattle.wb_program.proofs.Telling.{run_tells, serve_tells}
 use Rattle.wb_program.proofs.Used.{began, keeps_anew, keeps_begun, keeps_run, made_anew, nothing_consumed, ran, read_and_wrote}
 use Rattle.wb_program.proofs.doing.do_asked.Goals as goal

@@ -1,4 +1,4 @@
-use Rattle.std.proofs.Common.{inl, inr, refl}
+use Rattle.std.proofs.Common.{inr}
 use Rattle.wb_sessions.specs.Keeping.{Streams}
 use Rattle.wb_sessions.specs.Resuming.{failed_in, left_in, reads_in}
 use Rattle.wb_program.proofs.doing.run_resumed.Goals as goal

@@ -1,4 +1,4 @@
-use Rattle.std.proofs.Common.{[], inl, inr, refl, rules}
+use Rattle.std.proofs.Common.{[], inl, inr, rules}
 use Rattle.std.proofs.KnownBytes.{Appends-nil}
 use Rattle.wb_program.proofs.KeptEnding.{all_new, bad_seats, ends, no_memory, not_served}
 use Rattle.wb_program.proofs.kept_serving.serve_kept_day.Goals as goal

@@ -1,4 +1,4 @@
-use Rattle.std.proofs.Common.{◌≡◌, false, rules, arith, subst}
+use Rattle.std.proofs.Common.{◌≡◌, false, rules, subst}
 use Rattle.wb_sessions.specs.Checking.{IsPrinted}
 use Rattle.wb_program.specs.Early.{entries_of}
 use Rattle.wb_program.specs.Serving.{settled_text}
