@@ -14,5 +14,5 @@ returns-clause-prints g c =
       told.0,
       told.1,
       subst (λ h. IsPrinted (settled_text false (entries_of course) h.entries) status told.0) c.history.ensures.history
-      (subst (λ n. IsPrinted (settled_text false n c.history.result.now.entries) status told.0) count told.2),
+          (subst (λ n. IsPrinted (settled_text false n c.history.result.now.entries) status told.0) count told.2),
     )
