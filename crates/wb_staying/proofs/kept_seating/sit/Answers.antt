@@ -1,6 +1,9 @@
-use Rattle.std.proofs.Common.{[], ◌∷◌, ◌++◌, inr, rules}
+use Rattle.std.proofs.Common.{[], ◌∷◌, ◌++◌, inr, refl, rules}
 use Rattle.wb_staying.proofs.Seats.{lent_on, retired}
 use Rattle.wb_staying.proofs.kept_seating.sit.Goals as goal
+
+pub loop-init : goal.loop-init
+loop-init g c = ([], refl)
 
 pub loop-preserved-in-None-told : goal.loop-preserved-in-None-told
 loop-preserved-in-None-told g c =

@@ -13,6 +13,9 @@ returns-in-Err-default-NoMemory-clause-prints g c = ([], Appends-nil _, inr (ref
 pub returns-in-Err-clause-prints : goal.returns-in-Err-clause-prints
 returns-in-Err-clause-prints g c = ([], Appends-nil _, inr (refl, inr c.in-Err.ensures.fault))
 
+pub returns-clause-prints : goal.returns-clause-prints
+returns-clause-prints g c = ([], Appends-nil _, inr (refl, inr (inl refl)))
+
 pub returns-clause-failed : goal.returns-clause-failed
 returns-clause-failed g c h =
     let left = c.in-Err-settle.field-0 in
