@@ -1,5 +1,5 @@
 -- How a desk that stays ends.
-use Rattle.std.proofs.Common.{◌≡◌, ◌∙◌, ℕ, zero, suc, List, [], ◌∷◌, ◌++◌, ◌+◌, length, length-append, refl, sym, ap, subst, arith}
+use Rattle.std.proofs.Common.{◌≡◌, ◌∙◌, ℕ, zero, suc, List, [], ◌∷◌, ◌++◌, ◌+◌, length, length-append, refl, ap, subst, arith}
 use Rattle.wb_lending.specs.Lending.{AllLent}
 use Rattle.wb_lending.specs.declared.guests.Guests as Guests
 use Rattle.wb_lines.specs.declared.sink.Sink as Sink

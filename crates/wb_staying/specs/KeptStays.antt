@@ -1,5 +1,5 @@
 -- A desk that stays, whose changes are kept in a journal, and what is done with its file.
-use Rattle.std.specs.Prelude.{◌≡◌, ◌⊎◌, ℕ, Bool, true, false, List, ◌++◌, None, Some, take}
+use Rattle.std.specs.Prelude.{◌≡◌, ◌⊎◌, ℕ, Bool, true, List, ◌++◌, None, Some, take}
 use Rattle.std.specs.Io.KnownBytes.{Appends}
 use Rattle.wb_keep.specs.Disk.Device.{Only}
 use Rattle.wb_keep.specs.declared.disk.device.Device as Device

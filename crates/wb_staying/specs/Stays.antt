@@ -1,5 +1,5 @@
 -- A desk that stays: each seat is lent to one connection after another, and in the end the desk is settled.
-use Rattle.std.specs.Prelude.{◌≡◌, ◌⊎◌, ℕ, Bool, true, false, List, Option, is_none, ◌++◌, codes, take}
+use Rattle.std.specs.Prelude.{◌≡◌, ◌⊎◌, ℕ, Bool, true, List, Option, is_none, ◌++◌, codes, take}
 use Rattle.wb_lending.specs.Lending.{AllLent}
 use Rattle.wb_lending.specs.declared.guests.Guests as Guests
 use Rattle.wb_lending.specs.declared.guests.Hosts as Hosts

@@ -1,4 +1,4 @@
-use Rattle.std.proofs.Common.{[], ◌∙◌, ap, inl, inr, length, refl, rules, sym}
+use Rattle.std.proofs.Common.{[], inl, inr, rules}
 use Rattle.std.proofs.KnownBytes.{Appends-nil}
 use Rattle.wb_program.proofs.KeptEnding.{bad_seats, no_memory}
 use Rattle.wb_staying.proofs.KeptEnding.{all_new, ends, not_lent}
