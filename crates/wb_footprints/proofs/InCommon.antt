@@ -1,5 +1,5 @@
 -- The points of rectangles: which are among them, and whether two have one in common.
-use Rattle.std.proofs.Common.{◌≡◌, ◌↔◌, true, false, Decides, ℤ, List, [], ◌∷◌, is_some, length, slice_get, refl, sym, ap, subst, ◌∙◌, arith}
+use Rattle.std.proofs.Common.{◌≡◌, ◌↔◌, Bool, ◌||◌, true, false, Decides, ℤ, List, [], ◌∷◌, is_some, length, slice_get, refl, sym, ap, subst, ◌∙◌, arith}
 use Rattle.std.specs.List.{Contains, list_any}
 use Rattle.std.specs.Ordering.{is_eq, eq_by_cmp}
 use Rattle.std.specs.declared.cmp.Ordering.{Ordering}
@@ -53,6 +53,14 @@ shared_back ps qs =
     any_swap (λ q p. eq_by_cmp point_cmp p q) qs ps
     ∙ any_like (λ p. list_any (λ q. eq_by_cmp point_cmp p q) qs) (in_points qs) ps
     (λ p. any_like (λ q. eq_by_cmp point_cmp p q) (λ q. eq_by_cmp point_cmp q p) qs (λ q. (eq_by_cmp_equiv points_total).symm p q))
+
+or_false : (a : Bool) → a || false ≡ a
+or_false true = refl
+or_false false = refl
+
+-- a point alone
+pub shared_one : (ps : List Coordinates) (p : Coordinates) → in_points ps p ≡ list_any (in_points (p ∷ [])) ps
+shared_one ps p = sym (or_false (in_points ps p)) ∙ shared_back ps (p ∷ [])
 
 -- two lists have a point in common exactly where the list of all those that both have is not empty
 pub shared_first : (zs ps qs : List Coordinates) → ((i : Coordinates) → Contains zs i ↔ (Contains ps i × Contains qs i)) →

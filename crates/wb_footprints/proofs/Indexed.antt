@@ -9,7 +9,7 @@ use Rattle.wb_footprints.specs.Relation.{Sets}
 use Rattle.wb_footprints.specs.Marks.{marked}
 use Rattle.wb_footprints.specs.PointMarks.{point_marked}
 use Rattle.wb_footprints.specs.Points.{Coordinates, in_points}
-use Rattle.wb_footprints.specs.Blocks.{in_blocks}
+use Rattle.wb_footprints.specs.Reaches.{in_reaches}
 use Rattle.wb_footprints.specs.Parts.{index_marked, in_index}
 use Rattle.wb_footprints.proofs.Meeting.{any_none}
 
@@ -30,11 +30,11 @@ text_out : (ps : List Coordinates) (t : List ℕ) → in_index ps (Text t) ≡ f
 text_out ps t = any_none ps
 
 module _ (old new : IndexMarks) (ps : List Coordinates) (number : ℕ) (points : new.points ≡ old.points) (texts : new.texts ≡ old.texts) (done : Bool)
-    (h : Sets (in_blocks old.blocks.list.items) (in_blocks new.blocks.list.items) (λ p. done && in_points ps p) number true) where
+    (h : Sets (in_reaches old.blocks.reaches.items) (in_reaches new.blocks.reaches.items) (λ p. done && in_points ps p) number true) where
   added_at : (i : Index) (n : ℕ) →
       index_marked new i n ≡ (if (done && in_index ps i) && (number == n) then true else index_marked old i n)
   added_at (Point p) n = rw (points, h.at p n)
-      (with_hit (point_marked old.points p n) ((done && in_points ps p) && (number == n)) (in_blocks old.blocks.list.items p n))
+      (with_hit (point_marked old.points p n) ((done && in_points ps p) && (number == n)) (in_reaches old.blocks.reaches.items p n))
   added_at (Text t) n = ap (λ m. marked (slice_cmp nat_cmp) m t n) texts ∙
       sym (unless ((done && in_index ps (Text t)) && (number == n)) true (marked (slice_cmp nat_cmp) old.texts t n)
       (and_any done (in_index ps (Text t)) (number == n) (text_out ps t)))

@@ -25,3 +25,7 @@ pub mod SortedPoints
 pub mod Products
 pub mod InCommon
 pub mod Through
+pub mod InGroups
+pub mod InKeys
+pub mod InReach
+pub mod InReaches

@@ -1,5 +1,5 @@
 -- Points in order, each once: the same tests find one of them.
-use Rattle.std.proofs.Common.{◌≡◌, ◌↔◌, Bool, true, List, [], refl, ap, ◌∙◌}
+use Rattle.std.proofs.Common.{◌≡◌, ◌↔◌, Bool, true, List, [], ◌∷◌, refl, ap, ◌∙◌}
 use Rattle.std.specs.List.{list_any, Contains}
 use Rattle.std.specs.List.Retain.{IsFiltered, DiffersFromLast}
 use Rattle.std.specs.List.Sorted.{IsPermutation, IsSorted, IsStrictlySortedBy}
@@ -27,3 +27,7 @@ module _ (xs ys zs : List Coordinates) (sorted : IsSorted point_cmp ys) (kept : 
   pub found_alike : IsPermutation xs ys → (f : Coordinates → Bool) → list_any f zs ≡ list_any f xs
   found_alike moved f = same_any f xs zs
       (members-gathered point_cmp points_total points_exact (eq_by_cmp point_cmp) (eq_by_cmp_equiv points_total) (λ x y. refl) xs ys zs moved kept)
+
+pub alone : (p : Coordinates) → IsStrictlySortedBy point_cmp (p ∷ [])
+unfolding IsStrictlySortedBy
+alone p = (tt, tt)

@@ -5,7 +5,10 @@ pub mod Slots
 pub mod Points
 pub mod Held
 pub mod PointMarks
+pub mod Keys
 pub mod Blocks
+pub mod Groups
+pub mod Reaches
 pub mod Parts
 pub mod Spots
 pub mod Places

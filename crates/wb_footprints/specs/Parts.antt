@@ -16,7 +16,7 @@ use Rattle.wb_footprints.specs.Marks.{marked}
 use Rattle.wb_footprints.specs.Slots.{slot_cmp, slot_marked}
 use Rattle.wb_footprints.specs.PointMarks.{point_marked}
 use Rattle.wb_footprints.specs.Points.{Coordinates}
-use Rattle.wb_footprints.specs.Blocks.{in_blocks}
+use Rattle.wb_footprints.specs.Reaches.{in_reaches}
 
 -- a part of the object of a name
 abbrev pub Spot : Type 0
@@ -24,7 +24,7 @@ Spot = Name × Part
 
 -- whether a number stands at an index: alone, or in a block
 abbrev pub index_marked : IndexMarks → Index → ℕ → Bool
-index_marked m (Point p) n = point_marked m.points p n || in_blocks m.blocks.list.items p n
+index_marked m (Point p) n = point_marked m.points p n || in_reaches m.blocks.reaches.items p n
 index_marked m (Text t) n = marked (slice_cmp nat_cmp) m.texts t n
 
 -- whether an index is one of some points

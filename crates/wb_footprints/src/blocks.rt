@@ -11,12 +11,7 @@ ghost use Rattle.wb_footprints.specs.Blocks.{in_blocks};
 use crate::numbers::Numbers;
 use crate::points::Points;
 use std::alloc::Global;
-use wb_cells::Point;
 use wb_range::NoMemory;
-
-// So many blocks may stand side by side whatever they are: a question goes through all of them. A block of more points may come
-// beside so many as it has points, since its points one by one would take longer to enter than the blocks to go through.
-const MOST: usize = 64;
 
 /// A block as it comes: one number at some points.
 #[derive(Drop)]
@@ -33,26 +28,6 @@ pub struct Block {
 }
 
 impl Block {
-    /// The lesser of the block's least number above `after`, where it stands at the point, and of a first one.
-    fn or_first(&self, first: Option<u64>, point: &Point, after: u64) -> Option<u64>
-        ensures { (p : ℕ → Bool) → IsLeastAfter p after first →
-            IsLeastAfter (λ n. p n || (in_points self.now.points point.now && numbered self.now.numbers n)) after result }
-    {
-        match self.numbers.least_after(after) {
-            None => first,
-            Some(number) => {
-                if is_reached(first, number) {
-                    return first;
-                }
-                if self.points.contains(point) {
-                    Some(number)
-                } else {
-                    first
-                }
-            }
-        }
-    }
-
     /// The lesser of the block's least number above `after`, where it stands at one of several points, and of a first one.
     fn or_first_in(&self, first: Option<u64>, points: &Points, after: u64) -> Option<u64>
         ensures { (p : ℕ → Bool) → IsLeastAfter p after first →
@@ -71,17 +46,6 @@ impl Block {
                 }
             }
         }
-    }
-
-    /// The block's numbers above `after`, where they stand at the point, join those that wait.
-    fn join(&self, point: &Point, after: u64, waiting: &mut Numbers) -> Result<(), NoMemory>
-        ensures { OnOk result (JoinedAfter waiting.old waiting.new
-            (λ n. in_points self.now.points point.now && numbered self.now.numbers n) after) }
-    {
-        if self.points.contains(point) {
-            return self.numbers.join_after(after, waiting);
-        }
-        Ok(())
     }
 
     /// The block's numbers above `after`, where they stand at one of several points, join those that wait.
@@ -129,8 +93,7 @@ impl Blocks {
         }
     }
 
-    /// Adds a number at some points: to the block of these, or as a block of its own. It says whether it did: not where as many
-    /// blocks stand as may be beside it, or no memory is left.
+    /// Adds a number at some points: to the block of these, or as a block of its own. It says whether there was memory for it.
     pub fn add(&mut self, block: NewBlock) -> bool
         ensures { Sets (in_blocks self.old.list.items) (in_blocks self.new.list.items) (λ p. result && in_points block.points p) block.number true }
     {
@@ -167,13 +130,10 @@ impl Blocks {
         }
     }
 
-    // Adds a block of one number, and says whether it did.
+    // Adds a block of one number, and says whether there was memory for it.
     fn put(&mut self, block: NewBlock) -> bool
         ensures { Sets (in_blocks self.old.list.items) (in_blocks self.new.list.items) (λ p. result && in_points block.points p) block.number true }
     {
-        if self.list.len() >= block.points.len().max(MOST) {
-            return false;
-        }
         let mut numbers = Numbers::new(self.alloc);
         if numbers.add(block.number).is_err() {
             return false;
@@ -213,27 +173,11 @@ impl Blocks {
         true
     }
 
-    /// Whether no block has the number.
-    pub fn is_clear(&self, number: u64) -> bool
-        ensures { IsTrue result → (p : Coordinates) → in_blocks self.now.list.items p number ≡ false }
+    /// Whether there is no block.
+    pub fn is_empty(&self) -> bool
+        ensures { IsTrue result → (p : Coordinates) (n : ℕ) → in_blocks self.now.list.items p n ≡ false }
     {
-        for block in &self.list {
-            if block.numbers.has(number) {
-                return false;
-            }
-        }
-        true
-    }
-
-    /// The least number above `after` at a point.
-    pub fn least_after(&self, point: &Point, after: u64) -> Option<u64>
-        ensures { IsLeastAfter (in_blocks self.now.list.items point.now) after result }
-    {
-        let mut first = None;
-        for block in &self.list {
-            first = block.or_first(first, point, after);
-        }
-        first
+        self.list.is_empty()
     }
 
     /// The least number above `after` at one of several points, block by block: one of a number that can't be the least is
@@ -246,21 +190,6 @@ impl Blocks {
             first = block.or_first_in(first, points, after);
         }
         first
-    }
-
-    /// Those above `after` at a point join the numbers that wait.
-    pub fn join_after(
-        &self,
-        point: &Point,
-        after: u64,
-        waiting: &mut Numbers,
-    ) -> Result<(), NoMemory>
-        ensures { OnOk result (JoinedAfter waiting.old waiting.new (in_blocks self.now.list.items point.now) after) }
-    {
-        for block in &self.list {
-            block.join(point, after, waiting)?;
-        }
-        Ok(())
     }
 
     /// Those above `after` at one of several points join the numbers that wait, each block once.

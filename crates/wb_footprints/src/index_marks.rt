@@ -10,7 +10,8 @@ ghost use Rattle.wb_footprints.specs.Points.{Coordinates, point_cmp};
 ghost use Rattle.wb_footprints.specs.Relation.{Sets, Clears, IsLeastAfter, JoinedAfter};
 ghost use Rattle.wb_footprints.specs.Parts.{index_marked, in_index};
 
-use crate::blocks::{Blocks, NewBlock};
+use crate::block_marks::BlockMarks;
+use crate::blocks::NewBlock;
 use crate::earlier::earlier;
 use crate::marks::Marks;
 use crate::numbers::Numbers;
@@ -26,7 +27,7 @@ use wb_sets::Label;
 pub struct IndexMarks {
     points: PointMarks,
     texts: Marks<Label>,
-    blocks: Blocks,
+    blocks: BlockMarks,
 }
 
 impl IndexMarks {
@@ -37,7 +38,7 @@ impl IndexMarks {
         IndexMarks {
             points: PointMarks::new(alloc),
             texts: Marks::new(alloc),
-            blocks: Blocks::new(alloc),
+            blocks: BlockMarks::new(alloc),
         }
     }
 

@@ -6,12 +6,15 @@
 #![tactic(auto)]
 
 mod areas;
+mod block_marks;
 mod blockers;
 mod blocks;
 mod cell_lists;
 mod earlier;
 mod foot_index;
+mod groups;
 mod index_marks;
+mod keys;
 mod marking;
 mod marks;
 mod name_marks;
@@ -22,6 +25,7 @@ mod place_marks;
 mod point_marks;
 mod points;
 mod queries;
+mod reach_marks;
 mod reading;
 mod runs;
 mod slot_marks;

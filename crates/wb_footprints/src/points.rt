@@ -1,13 +1,15 @@
 //! Points in ascending order.
 
-ghost use Rattle.std.specs.Prelude.{◌≡◌, ℕ, ◌+◌, ◌-◌, ◌<◌, ◌≤◌, Bool, [], false, Some, IsTrue, IfSome, length, slice_get, slice_index_or};
+ghost use Rattle.std.specs.Prelude.{◌≡◌, ℕ, ◌+◌, ◌-◌, ◌<◌, ◌≤◌, Bool, [], ◌∷◌, true, false, Some, IsTrue, IfSome, length, slice_get, slice_index_or};
 ghost use Rattle.std.specs.List.{list_any};
 ghost use Rattle.std.specs.List.Sorted.{IsStrictlySortedBy};
 ghost use Rattle.std.specs.declared.cmp.Ordering.TheVariants.{Less};
+ghost use Rattle.wb_footprints.specs.Keys.{key_of};
 ghost use Rattle.wb_footprints.specs.Points.{Coordinates, point_cmp, in_points};
 ghost use Rattle.wb_rect.specs.Product.{product};
 
 use crate::areas::{count_in, have_common, point_in, upward};
+use crate::keys::key_of;
 use std::alloc::Global;
 use std::marker::Model;
 use wb_cells::{AnyIndex, AnyRect, Index, Point};
@@ -19,6 +21,8 @@ pub enum Held {
     Listed(Vec<Point>),
     /// As the indices of a rectangle whose ranges go upward, by its ranges alone.
     Within(AnyRect),
+    /// One point alone.
+    One(Point),
 }
 
 /// Points of which each is below the next. Contracts see the list of them.
@@ -64,6 +68,27 @@ impl Points {
         }
     }
 
+    /// One point.
+    pub fn one(point: &Point) -> Points
+        ensures { result ≡ point.now ∷ [] }
+    {
+        Points {
+            held: Held::One(*point),
+        }
+    }
+
+    /// The keys of the first point and of the last: those of all are between them.
+    pub fn ends(&self) -> (u64, u64)
+        requires { 0 < length self.now }
+        ensures within { (p : Coordinates) → in_points self.now p ≡ true → (result.0 ≤ key_of p) × (key_of p ≤ result.1) }
+        ensures order { result.0 ≤ result.1 }
+        ensures first { 0 < result.0 }
+    {
+        let first = self.point(0);
+        let last = self.point(self.len() - 1);
+        (key_of(&first), key_of(&last))
+    }
+
     /// How many points there are.
     pub fn len(&self) -> usize
         ensures value { result ≡ length self.now }
@@ -72,6 +97,7 @@ impl Points {
         match &self.held {
             Held::Listed(points) => points.len(),
             Held::Within(area) => count_in(&area.ranked()),
+            Held::One(_) => 1,
         }
     }
 
@@ -83,6 +109,7 @@ impl Points {
         match &self.held {
             Held::Listed(points) => point_of(points.as_slice(), at),
             Held::Within(area) => point_in(&area.ranked(), at),
+            Held::One(point) => *point,
         }
     }
 
@@ -94,6 +121,7 @@ impl Points {
         match &others.held {
             Held::Listed(points) => self.has_one(points.as_slice()),
             Held::Within(area) => self.meets_area(others, area),
+            Held::One(point) => self.contains(point),
         }
     }
 
@@ -105,6 +133,7 @@ impl Points {
         match &self.held {
             Held::Listed(points) => others.has_one(points.as_slice()),
             Held::Within(own) => have_common(&own.ranked(), &area.ranked()),
+            Held::One(point) => others.contains(point),
         }
     }
 
@@ -128,6 +157,7 @@ impl Points {
         match &self.held {
             Held::Listed(points) => is_among(points.as_slice(), point),
             Held::Within(area) => area.contains(&AnyIndex::new(Index::Point(*point))),
+            Held::One(own) => *own == *point,
         }
     }
 
@@ -138,6 +168,7 @@ impl Points {
         match &self.held {
             Held::Listed(points) => others.is_list(points.as_slice()),
             Held::Within(area) => others.is_area(area),
+            Held::One(_) => false,
         }
     }
 
@@ -147,7 +178,7 @@ impl Points {
     {
         match &self.held {
             Held::Listed(points) => are_same(list, points.as_slice()),
-            Held::Within(_) => false,
+            Held::Within(_) | Held::One(_) => false,
         }
     }
 
@@ -156,8 +187,8 @@ impl Points {
         ensures { IsTrue result → product area.now ≡ self.now }
     {
         match &self.held {
-            Held::Listed(_) => false,
             Held::Within(own) => area.is_same(own),
+            Held::Listed(_) | Held::One(_) => false,
         }
     }
 

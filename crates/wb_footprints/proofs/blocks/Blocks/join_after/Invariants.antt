@@ -1,7 +1,0 @@
-use Rattle.std.proofs.Common.{take}
-use Rattle.wb_footprints.specs.Relation.{JoinedAfter}
-use Rattle.wb_footprints.specs.Blocks.{in_blocks}
-use Rattle.wb_footprints.proofs.blocks.Blocks.join_after.Given as goal
-
-abbrev pub invariant-loop-block : goal.invariant-loop-block
-invariant-loop-block l = JoinedAfter l.initial.waiting l.waiting (in_blocks (take l.block-index l.self.list.items) l.point) l.after
