@@ -17,10 +17,10 @@ use crate::{Cause, Difference, Pass};
 use std::alloc::Global;
 use std::sync::ledger::Blank;
 use std::sync::{Mutex, MutexGuard, Wait};
-use std::thread::yield_now;
 use thiserror::Error;
 use wb_arrays::Mover;
 use wb_history::History;
+use wb_locks::take_lock;
 use wb_protocol::{Reply, Request};
 
 /// Why there is no desk.
@@ -34,27 +34,12 @@ pub enum DeskErr {
     NoMemory,
 }
 
-// How often a thread looks for the lock before it sleeps.
-const LOOKS: u32 = 1_000;
-
 /// A workbook that several seats share. Whoever wants its lock takes the door first, and keeps it until the lock is had: who lets
 /// the lock go can't have it again before the one at the door had it.
 #[derive(Drop)]
 pub struct Desk<L: Opening> {
     door: Mutex<()>,
     shared: Mutex<Shared<L>>,
-}
-
-// Takes a lock. What a lock is held for is mostly done sooner than a thread that sleeps is woken, so this looks a while before it
-// sleeps, and lets other threads run between two looks.
-fn taken<'m, R: Wait, T>(lock: &'m Mutex<T>, rt: &R) -> MutexGuard<'m, T> {
-    for _ in 0..LOOKS {
-        if let Some(guard) = lock.try_lock() {
-            return guard;
-        }
-        yield_now();
-    }
-    lock.lock(rt)
 }
 
 impl<L: Opening> Desk<L> {
@@ -112,8 +97,8 @@ impl<L: Opening> Desk<L> {
 
     // Takes the lock, after the door.
     pub(crate) fn taken<R: Wait>(&self, rt: &R) -> MutexGuard<'_, Shared<L>> {
-        let door = taken(&self.door, rt);
-        let guard = taken(&self.shared, rt);
+        let door = take_lock(&self.door, rt);
+        let guard = take_lock(&self.shared, rt);
         drop(door);
         guard
     }

@@ -24,6 +24,7 @@ use wb_keep::AppendErr;
 use wb_keep::disk::Device;
 use wb_kept::{Changes, Kept};
 use wb_kept_group::group::{Front, Keeper, Opened, Told};
+use wb_locks::take_lock;
 
 /// A workbook that several seats share, and whose changes are kept in a file. Turns are made under one lock and kept under
 /// another: while some are brought to the disk, others are made.
@@ -90,7 +91,7 @@ impl<L: KeptOpening, D: Device + Drop> Desk<L, D> {
 
     /// Takes the lock for a turn.
     pub fn turn<R: Wait>(&self, rt: &R) -> Turn<'_, L> {
-        Turn::of(self.seats.lock(rt))
+        Turn::of(take_lock(&self.seats, rt))
     }
 
     /// Sees to it that all turns of a front are kept, with those that wait meanwhile, and gives a receipt for them. The desk's

@@ -11,6 +11,8 @@ use std::alloc::Global;
 use std::marker::{Model, PhantomData};
 use std::sync::ledger::Share;
 use std::sync::{Mutex, Wait};
+use std::thread::yield_now;
+use wb_locks::take_lock;
 
 /// A store with the turns that it has. Once it failed it is asked for nothing more.
 #[derive(Drop)]
@@ -84,7 +86,7 @@ impl<G: Group, C: Drop, E: Drop, T: Store<C, E> + Drop> Keeper<G, C, E, T> {
         if front.is_within(&self.front) {
             return Ok(true);
         }
-        let batch = desk.lock(rt).take(alloc, &mut self.mark);
+        let batch = take_lock(desk, rt).take(alloc, &mut self.mark);
         self.front.agrees(&batch.before);
         self.front = batch.after;
         told.begin(&self.front);
@@ -159,8 +161,12 @@ fn keep_if_free<R: Wait, G: Group, C: Drop, E: Drop, T: Store<C, E> + Drop, W: D
     Some(kept)
 }
 
+// So often a thread looks whether a batch has ended before it sleeps.
+const LOOKS: u32 = 100;
+
 /// Sees to it that all turns of a front are kept, with those that wait meanwhile. No clause can name what a lock guards, so
-/// the store is one that was kept there.
+/// the store is one that was kept there. While another thread keeps some, this looks a while and lets others run, and then
+/// sleeps.
 pub fn keep<R: Wait, G: Group, C: Drop, E: Drop, T: Store<C, E> + Drop, W: Desk<G, C>>(
     rt: &R,
     alloc: Global,
@@ -173,6 +179,7 @@ pub fn keep<R: Wait, G: Group, C: Drop, E: Drop, T: Store<C, E> + Drop, W: Desk<
     ensures kept { OnOk result ((store : T) × (behind : List C) × T.has store (front.now ++ behind)) }
     ensures failed { (error : E) → result ≡ Err (KeepErr.Failed error) → (old : T × List C) × T.has old.0 old.1 × IsGivenUp T.leaves T.tells old error }
 {
+    let mut looks = LOOKS;
     for _ in rt.forever() {
         let look = told.look();
         if look.has_taken(front.len()) && told.has(rt, front) {
@@ -182,6 +189,10 @@ pub fn keep<R: Wait, G: Group, C: Drop, E: Drop, T: Store<C, E> + Drop, W: Desk<
             Some(Ok(true)) => return Ok(()),
             Some(Ok(false)) => {}
             Some(Err(error)) => return Err(error),
+            None if looks > 0 => {
+                looks -= 1;
+                yield_now();
+            }
             None => told.wait(rt, look, front),
         }
     }
