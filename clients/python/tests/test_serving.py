@@ -10,9 +10,10 @@ import time
 import unittest
 
 from tests.support import HERE, LONG, PROGRAM
-from workbook_client import NoProgram, NoSeat, NotOpened, NotResumed, SessionEnded, Workbook, compact
+from workbook_client import NoNames, NoProgram, NoSeat, NotOpened, NotResumed, SessionEnded, Workbook, compact
 from workbook_client.language import Command, LanguageError, parse
 from workbook_client.session import Session
+from workbook_client.view import APART, View
 
 PACKAGE = HERE.parents[1]
 EMPTY = "chapel-workbook 2\nhistory 0\nend\n"
@@ -73,6 +74,49 @@ class Desks(Files):
         with Workbook.serve(seats=1, journal=self.path, stay=True, program=PROGRAM) as desk:
             self.assertEqual(list(desk.connect()["A"]), [5, 0])
             self.assertIn("array A over D [5, 0]", desk.settled())
+
+    def test_who_did_what(self):
+        """At a desk that stays each hears by name what others did, in the library, in a session and on the page."""
+        with Workbook.serve(seats=2, journal=self.path, stay=True, program=PROGRAM) as desk:
+            ben, eva = desk.connect(name="Ben"), desk.connect(name="Eva")
+            A = ben.array("A", ben.domain("D", range(1, 5)))
+            A[1] = 5
+            view = View(ben)
+            self.assertEqual(view.state()["taken"], [])
+            eva.undo(3)
+            eva["A"].set(2, 6)
+            time.sleep(APART)
+            state = view.state()
+            self.assertEqual((state["taken"], state["takers"]), ([3], {"3": "Eva"}))
+            self.assertEqual([(e["k"], e["by"]) for e in state["edits"]], [(1, ""), (2, ""), (3, ""), (4, "Eva")])
+            told = [(e.number, e.who, e.by, e.was_in_force, e.turned_by) for e in ben.history()]
+            self.assertEqual(told, [(1, "me", "", True, ""), (2, "me", "", True, ""), (3, "me", "", False, "Eva"), (4, "another", "Eva", True, "")])
+            self.assertEqual([(e.number, e.by, e.turned_by) for e in eva.history()], [(1, "Ben", ""), (2, "Ben", ""), (3, "Ben", ""), (4, "", "")])
+            out = io.StringIO()
+            Session(ben, out).line("history 3")
+            self.assertIn("taken back by Eva", out.getvalue())
+            self.assertIn("Eva", out.getvalue().splitlines()[-2])
+            out = io.StringIO()
+            Session(ben, out).line("undo 3")
+            self.assertIn("Eva took it back\n  next: redo 3", out.getvalue())
+            out = io.StringIO()
+            Session(ben, out).line("undo 2")
+            self.assertIn("Blocked by edit 4 of Eva", out.getvalue())
+            ben.redo(3)
+            self.assertEqual([e.turned_by for e in ben.history()], ["", "", "", ""])
+            eva.close()
+            one = self.seat(desk)
+            one.undo(4)
+            self.assertEqual(ben.history()[3].turned_by, f"seat {1 - ben.names_heard.seat}")
+
+    def test_names_that_are_not_taken(self):
+        with Workbook.serve(seats=1, program=PROGRAM) as desk:
+            with self.assertRaisesRegex(NoNames, "does not take the name 'Ben': only a desk that stays"):
+                desk.connect(name="Ben")
+        with Workbook.serve(seats=1, stay=True, program=PROGRAM) as desk:
+            with self.assertRaisesRegex(NoNames, "at most 32 bytes"):
+                desk.connect(name="B" * 33)
+            self.assertEqual(self.seat(desk).counts(), (0, 0))
 
     def seat(self, desk) -> Workbook:
         """The seat of a desk that stays, once it is free."""

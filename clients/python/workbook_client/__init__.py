@@ -14,6 +14,7 @@ from .book import Workbook
 from .edits import Cascade, Edit, Pipeline
 from .errors import (
     NoAnswer,
+    NoNames,
     NoProgram,
     NoSeat,
     NoServer,
@@ -60,7 +61,7 @@ __version__ = "0.1.0"
 
 __all__ = [
     "Array", "BadLiteral", "BadMapping", "BadRequest", "Blocked", "Cascade", "Compacted", "Domain", "Edit",
-    "Empty", "InForce", "InUse", "LineTooLong", "NameTaken", "NoAnswer", "NoFreeSeat", "NoMemory", "NoProgram",
+    "Empty", "InForce", "InUse", "LineTooLong", "NameTaken", "NoAnswer", "NoFreeSeat", "NoMemory", "NoNames", "NoProgram",
     "NoSeat", "NoServer", "NoSuchEdit", "NoSuchName", "NotEmpty", "NotInForce", "NotOpened", "NotResumed",
     "NotTakenBack", "OutOfDomain", "OutOfParent", "Overflow", "Pipeline", "Reading", "Refusal", "RefusedInPlace",
     "Served", "SessionEnded", "Snapshot", "StrangePass", "StrangeReply", "TooLarge", "Workbook",

@@ -6,13 +6,14 @@ from typing import Any, Callable, Dict, Iterator, List, Optional, Tuple, Union
 from . import files, hearing, journal as journals, labels, notebook, requests, sheets, turning
 from .channel import Channel, Program, ProgramChannel, SocketChannel, command
 from .edits import Cascade, Edit, Pipeline
-from .errors import NoAnswer, NoSeat, NotResumed, SessionEnded, StrangeReply
+from .errors import NoAnswer, NoNames, NoSeat, NotResumed, SessionEnded, StrangeReply
 from .exchange import Exchange, Reading, Reply, first_refusal
 from .files import Source
 from .literals import Ranges
+from .names import Names
 from .objects import Array, Domain, ours
 from .rebuilding import rebuild
-from .refusals import LineTooLong, NoSuchName, NotEmpty, WrongKind
+from .refusals import BadRequest, LineTooLong, NoSuchName, NotEmpty, WrongKind
 from .requests import Request
 from .serving import Served
 from .snapshot import Snapshot
@@ -40,6 +41,8 @@ class Workbook:
         """The latest edit of this session: of `A[4] = 9` or `A += B`, which are no expressions."""
         self.labels: Labels = {}
         """The titles that arrays have where this session shows them; nothing of it is in the workbook."""
+        self.names_heard = Names(self)
+        """Who did what at a desk that stays, once this session has said its name."""
         self.steps = turning.Steps(self)
         self._pipeline: Optional[Pipeline] = None
         self._anew: Optional[Callable[[], Workbook]] = None
@@ -125,19 +128,25 @@ class Workbook:
 
     @classmethod
     def connect(
-        cls, host: str, port: int, wait: Optional[float] = 5.0, timeout: Optional[float] = None
+        cls, host: str, port: int, wait: Optional[float] = 5.0, timeout: Optional[float] = None, name: Optional[str] = None
     ) -> "Workbook":
         """Takes the next seat of a workbook that `workbook serve` shares.
 
         `NoSeat` where its seats are taken. A server that gives each seat once lets connect then, and says nothing:
         it hasn't answered a first line within `wait` seconds. One that stays says so at once, and a seat is free
-        again when its connection ends. `timeout` is that of the replies after.
+        again when its connection ends. `timeout` is that of the replies after. `name` is what others there are told of who did what,
+        at most 32 bytes without quotes, backslashes and control characters; a desk that gives each seat once takes none: `NoNames`.
         """
         channel = SocketChannel(host, port, wait)
         book = cls(channel, "me", alone=False, where=channel.where)
         channel.timeout = wait
         try:
             book.exchange.knock()
+            if name is not None:
+                book.names_heard.hello(name)
+        except BadRequest as no:
+            book.close()
+            raise NoNames(f"{channel.where} does not take the name {name!r}: only a desk that stays takes names, of at most 32 bytes") from no
         except NoAnswer as no:
             book.close()
             raise NoSeat(
@@ -156,7 +165,7 @@ class Workbook:
             book.close()
             raise
         channel.timeout = timeout
-        book._anew = lambda: cls.connect(host, port, wait, timeout)
+        book._anew = lambda: cls.connect(host, port, wait, timeout, name)
         return book
 
     @classmethod
@@ -330,13 +339,14 @@ class Workbook:
 
     def history(self, since: int = 1) -> List[Edit]:
         """Every edit, by number, or those from number `since` on. `who` of those of others is
-        "another", and `cells` of theirs is -1. In a shared workbook the text of the whole history
+        "another", `by` their name at a desk that told it, and `cells` of theirs is -1. In a shared workbook the text of the whole history
         is asked for, or of it the lines of these edits alone."""
         if not self.alone:
             if since > 1:
                 hearing.hear_from(self, since)
             else:
                 hearing.hear_all(self)
+            self.names_heard.hear()
         return [self.edits[number] for number in sorted(self.edits) if number >= since]
 
     def load(self, text: str) -> List[Edit]:

@@ -71,13 +71,13 @@ export const marksOfEdits = () => fresh.size;
 
 function row(e) {
   const facts = [];
-  if (!state.alone) facts.push(e.who);
+  if (!state.alone) facts.push(e.by || e.who);
   if (e.cells >= 0) facts.push(cellsOf(e.cells));
   if (!e.on) facts.push("taken back");
   const meta = make("span", "meta", make("span", "", facts.join(" · ")));
   const act = button("", e.on ? "undo" : "redo", () => ask({op: e.on ? "undo" : "redo", k: e.k}, act.textContent + " " + e.k));
   const made = make("li", (e.on ? "" : "off ") + (fresh.has(e.k) ? "fresh" : ""), make("span", "k", String(e.k)),
-    make("span", "what", e.what || "(by another seat)"), act, meta);
+    make("span", "what", e.what || "(by " + (e.by || "another seat") + ")"), act, meta);
   made.dataset.k = e.k;
   if (e.on && e.needs && e.needs.length > 1) blocked(e, act, meta);
   if (looked && looked.k === e.k) made.append(leap());
@@ -131,7 +131,7 @@ export function light(k) {
 // --- what was taken back, and may be put back
 
 function drawNotices() {
-  const sign = JSON.stringify([state.taken, state.cascaded]);
+  const sign = JSON.stringify([state.taken, state.takers, state.cascaded]);
   if (noticed === sign) return;
   noticed = sign;
   $("notices").replaceChildren(...notices());
@@ -140,14 +140,29 @@ function drawNotices() {
 function notices() {
   const made = [];
   if (state.taken.length) {
-    const many = state.taken.length > 1, which = named(state.taken);
-    made.push(notice("your edit" + (many ? "s " : " ") + which + (many ? " were" : " was") + " taken back by another",
-      many ? "put them back" : "put it back", state.taken));
+    made.push(...takers().map(([name, ks]) => taken(name, ks)));
   }
   if (state.cascaded.length) {
     made.push(notice("a cascade took back " + numbered(state.cascaded), "put back " + listed(state.cascaded), state.cascaded));
   }
   return made;
+}
+
+/** One's own edits that others took back, by the names of these; "" where a name wasn't heard. */
+function takers() {
+  const by = new Map();
+  for (const k of state.taken) {
+    const name = state.takers[k] || "";
+    by.set(name, [...(by.get(name) || []), k]);
+  }
+  return [...by];
+}
+
+/** The notice of one's own edits that another took back. */
+function taken(name, ks) {
+  const many = ks.length > 1, which = "your edit" + (many ? "s " : " ") + named(ks);
+  const words = name ? name + " took back " + which : which + (many ? " were" : " was") + " taken back by another";
+  return notice(words, many ? "put them back" : "put it back", ks);
 }
 
 /** Edits by their numbers; one alone with what it did. */

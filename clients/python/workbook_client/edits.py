@@ -24,10 +24,14 @@ class Cascade(NamedTuple):
 class Edit:
     """An accepted change. Its number never changes, whether it is in force or not."""
 
-    __slots__ = ("_book", "what", "who", "_number", "_cells", "_reading", "was_in_force")
+    __slots__ = ("_book", "what", "who", "by", "turned_by", "_number", "_cells", "_reading", "was_in_force")
 
     def __init__(self, book: "Workbook", what: str, who: str, number: int = -1, cells: int = -1):
         self._book, self.what, self.who = book, what, who
+        self.by = ""
+        """The name of another who made it, as far as that was heard."""
+        self.turned_by = ""
+        """The name of another who last took it back or put it back, as far as that was heard."""
         self._number, self._cells = number, cells
         self._reading: Optional[Reading] = None  # while it is on its way, or where it was refused
         self.was_in_force = True

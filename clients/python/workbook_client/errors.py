@@ -23,6 +23,10 @@ class NoSeat(SessionEnded):
     """A server took the connection, and its seats are taken: it says so, or answers nothing."""
 
 
+class NoNames(SessionEnded):
+    """A desk does not take a name: it gives each seat once, or this is no name."""
+
+
 class NotResumed(SessionEnded):
     """A program did not go on from a text, which is no history's."""
 

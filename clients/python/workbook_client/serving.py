@@ -22,7 +22,7 @@ class Served:
     """A desk. It ends by itself once each of its seats was taken and left, or, where it stays, by `settled`; and else by `close`."""
 
     def __init__(
-        self, take: "Callable[[str, int], Workbook]", seats: int, port: int, journal: Optional[journals.Path], resume: Optional[str],
+        self, take: "Callable[..., Workbook]", seats: int, port: int, journal: Optional[journals.Path], resume: Optional[str],
         program: Optional[Program], stay: bool, idle: Optional[int],
     ):
         self._take = take
@@ -98,9 +98,9 @@ class Served:
             return f"{at}: this workbook is kept nowhere; history_text() of a seat is all of it"
         return f"{at}: each change is kept in {self.journal}, before it is told"
 
-    def connect(self, timeout: Optional[float] = None) -> "Workbook":
-        """Takes the next seat."""
-        book = self._take(self.host, self.port)
+    def connect(self, timeout: Optional[float] = None, name: Optional[str] = None) -> "Workbook":
+        """Takes the next seat, and says a name there, as `Workbook.connect` does."""
+        book = self._take(self.host, self.port, name=name)
         book.exchange.channel.timeout = timeout
         self._books.append(book)
         return book

@@ -189,7 +189,7 @@ class Session:
 
     def moved(self, how: str, edit: Edit) -> None:
         self.hear_of([edit.number])
-        whose = " of another seat" if edit.who == "another" else ""
+        whose = "" if edit.who != "another" else f" of {edit.by}" if edit.by else " of another seat"
         what = f": {edit.what}" if edit.what else ""
         self.say(f"  edit {edit.number}{whose} is {how}, {_cells(edit.cells)}{what}")
 
@@ -290,8 +290,7 @@ class Session:
             self.wrapped("no edits yet" if since <= 1 else f"no edits from {since} on")
             return
         rows = [
-            [str(e.number), e.who, e.what or "?", "" if e.cells < 0 else str(e.cells),
-             "in force" if e.was_in_force else "taken back"]
+            [str(e.number), e.by or e.who, e.what or "?", "" if e.cells < 0 else str(e.cells), _now(e)]
             for e in edits[-SHOWN:]
         ]
         self.say(self.table(["edit", "who", "what", "cells", "now"], rows))
@@ -322,9 +321,10 @@ class Session:
         return edit.what if edit else ""
 
     def hear_of(self, numbers: List[int]) -> None:
-        """Asks what others' edits among these did, where the history isn't long."""
+        """Asks what others' edits among these did, where the history isn't long, and who did what, where the desk tells it."""
         if hearing.unheard(self.book, numbers) and max(self.book.edits, default=0) <= FEW and not self.book.alone:
             hearing.hear_all(self.book)
+        self.book.names_heard.hear()
 
     def do_text(self) -> None:
         self.say(self.book.print_text().rstrip("\n"))
@@ -385,13 +385,21 @@ class Session:
         if hint:
             self.wrapped(hint)
         if isinstance(no, NotInForce) and no.request["op"] in ("undo", "cascade"):
-            self.say(f"  next: redo {no.request['k']}")
+            self.taken_back(no.request["k"])
+
+    def taken_back(self, k: int) -> None:
+        """Who took an edit back, where another did whose name was heard; and what puts it back."""
+        self.hear_of([k])
+        edit = self.book.edits.get(k)
+        if edit and edit.turned_by:
+            self.say(f"  {edit.turned_by} took it back")
+        self.say(f"  next: redo {k}")
 
     def blocked(self, no: Blocked) -> None:
         k, redo = no.request["k"], no.request["op"] == "redo"
         self.hear_of([no.by])
         by = self.book.edits.get(no.by)
-        whose = "" if by and by.who == self.book.who else " of another seat"
+        whose = "" if by and by.who == self.book.who else f" of {by.by}" if by and by.by else " of another seat"
         what = whose + (f" ({by.what})" if by and by.what else "")
         self.wrapped(
             f"Blocked by edit {no.by}{what}: it is later, in force, and read or touched "
@@ -424,6 +432,13 @@ def numbered(numbers: List[int]) -> str:
 
 def _edits(number: int) -> str:
     return "1 edit" if number == 1 else f"{number:,} edits"
+
+
+def _now(edit: Edit) -> str:
+    """Whether an edit is in force, and who took it back, where that is another who has said a name."""
+    if edit.was_in_force:
+        return "in force"
+    return f"taken back by {edit.turned_by}" if edit.turned_by else "taken back"
 
 
 def _cells(number: int) -> str:

@@ -187,6 +187,7 @@ def arguments(description: str) -> argparse.ArgumentParser:
         "--connect", metavar="WHERE", type=address,
         help="a shared workbook: HOST:PORT, where `workbook serve` listens, or redis://HOST/NAME, which workers answer",
     )
+    parser.add_argument("--name", help="what others at a desk that stays are told of who did what; with --connect")
     parser.add_argument("--resume", metavar="FILE", help="go on from a history that `keep FILE` has written")
     parser.add_argument("--journal", metavar="FILE", help="keep each change in FILE, and go on from those that are there")
     parser.add_argument("plan", nargs="?", metavar="FILE", help="the same as --journal FILE")
@@ -200,10 +201,12 @@ def open_book(args: argparse.Namespace) -> Workbook:
         raise NoProgram("a workbook goes on from one file: that of --journal, or that of --resume")
     if args.connect and given:
         raise NoProgram("a shared workbook is kept, and goes on, by `workbook serve`, not by its seats")
+    if args.name is not None and not isinstance(args.connect, Desk):
+        raise NoProgram("only a desk that stays takes a name: --connect HOST:PORT --name NAME")
     if isinstance(args.connect, Log):
         return Workbook.stream(*args.connect)
     if args.connect:
-        return Workbook.connect(*args.connect)
+        return Workbook.connect(*args.connect, name=args.name)
     if args.resume is None and given:
         return Workbook.run(args.program, journal=given[0])
     if args.resume is None:

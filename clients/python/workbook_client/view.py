@@ -16,6 +16,7 @@ from .errors import NotTakenBack, SessionEnded, WorkbookError
 from .hearing import News
 from .language import LanguageError, parse
 from .literals import GREATEST, LEAST, Index, index_text, spelled_ranges
+from .names import takers
 from .objects import Array
 from .reach import Reach, in_words
 from .refusals import Refusal
@@ -231,6 +232,7 @@ class View:
             before = self._mine()
             self._hear(counts[0])
             self._taken += [k for k in before if self._is_off(k)]
+            self.book.names_heard.hear()
             self._heard, self._objects = counts, None
             self._version += 1
         self._looked = time.monotonic()
@@ -261,6 +263,7 @@ class View:
             "where": harmless(self.book.where),
             "news": harmless(self._news),
             "taken": sorted(set(self._taken)),
+            "takers": {str(k): harmless(name) for k, name in takers(self.book, self._taken).items()},
             "cascaded": self._cascaded,
             **self._objects,
             "edits": [self._edit(edit) for edit in edits[-LATEST:]],
@@ -305,7 +308,7 @@ class View:
 
     def _edit(self, edit: Edit) -> Json:
         return {
-            "k": edit.number, "what": harmless(edit.what), "who": edit.who, "cells": edit.cells,
+            "k": edit.number, "what": harmless(edit.what), "who": edit.who, "by": harmless(edit.by), "cells": edit.cells,
             "on": edit.was_in_force, "needs": self._needs.get(edit.number) if edit.was_in_force else None,
         }
 

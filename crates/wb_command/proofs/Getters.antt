@@ -186,6 +186,10 @@ pub day_idle : (found : List Row) (o : Option ℕ) → IsOptional 32 (codes "idl
 day_idle found None h some asked m = true≢false (sym some)
 day_idle found (Some n) h some asked m = written_somewhere 32 (one_of (codes "idle") found) n h (serve_day found asked m).1
 
+-- or where it is to be quiet
+pub day_quiet : (found : List Row) → is_set (codes "quiet") found ≡ true → (asked : Asked) → Means (codes "serve") found asked → ⊥
+day_quiet found set asked m = true≢false (sym set ∙ (serve_day found asked m).2)
+
 no_word : (word : Text) → Some word ≡ None → ⊥
 no_word word e = true≢false (ap is_some e)
 

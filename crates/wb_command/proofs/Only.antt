@@ -1,5 +1,5 @@
 -- Words ask for one thing at most.
-use Rattle.std.proofs.Common.{◌≡◌, ◌∙◌, ℕ, true, false, List, Option, Some, None, ap, ap₂, refl, sym, subst, inl, inr, true≢false}
+use Rattle.std.proofs.Common.{◌≡◌, ◌∙◌, ℕ, Bool, true, false, List, Option, Some, None, ap, ap₂, refl, sym, subst, inl, inr, true≢false}
 use Rattle.std.specs.Prelude.{Result, Ok, Err, IfOk, IfErr, MatchResult, IsSomeAnd, codes, bytes_eq, is_some, unwrap_or}
 use Rattle.clap.specs.Words.{IsAmong, Row, Text, one_of, subcommand_of}
 use Rattle.wb_command.specs.Asks.{Asks, HasNumber, HasWorkers, IsDesk, IsMeant, IsOptional, IsPlace, IsStay, Means, MeansAny, Refuses, Writes, is_set, program}
@@ -111,15 +111,16 @@ one_place found (Port p) (Socket b) h k = absurd (no_word b (sym k.1 ∙ h.1))
 one_place found (Socket a) (Port q) h k = absurd (no_word a (sym h.1 ∙ k.1))
 one_place found (Socket a) (Socket b) h k = ap Socket (same_word a b (sym h.1 ∙ k.1))
 
-abbrev stay_of : Place → ℕ → ℕ → ℕ → Stay
-stay_of place seats idle workers = record { place = place; seats = seats; idle = idle; workers = workers }
+abbrev stay_of : Place → ℕ → ℕ → Bool → ℕ → Stay
+stay_of place seats idle quiet workers = record { place = place; seats = seats; idle = idle; quiet = quiet; workers = workers }
 
 one_stay : (found : List Row) (s t : Stay) → IsStay found s → IsStay found t → s ≡ t
 one_stay found s t h k =
     let same_idle : s.idle ≡ t.idle = h.2.2 ∙ (ap (λ o. unwrap_or o 300) (one_idle found h.2.0 k.2.0 h.2.1 k.2.1) ∙ sym k.2.2) in
-    ap₂ (λ place seats. stay_of place seats s.idle s.workers) (one_place found s.place t.place h.3.0 k.3.0)
+    ap₂ (λ place seats. stay_of place seats s.idle s.quiet s.workers) (one_place found s.place t.place h.3.0 k.3.0)
     (one_number 8 (codes "seats") found s.seats t.seats h.3.1 k.3.1)
-    ∙ ap₂ (stay_of t.place t.seats) same_idle (one_workers found s.workers t.workers h.3.2 k.3.2)
+    ∙ (ap₂ (λ idle quiet. stay_of t.place t.seats idle quiet s.workers) same_idle (h.4 ∙ sym k.4)
+    ∙ ap (stay_of t.place t.seats t.idle t.quiet) (one_workers found s.workers t.workers h.3.2 k.3.2))
 
 not_both : (name : Text) (found : List Row) (asked : Asked) → Means name found asked → name ≡ codes "serve" → is_set (codes "stay") found ≡ true → ⊥
 not_both name found asked m serve set = true≢false (sym set ∙ (serve_day found asked (subst (λ n. Means n found asked) serve m)).0)

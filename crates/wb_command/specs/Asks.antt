@@ -71,6 +71,9 @@ stay_option = flag (codes "stay")
 abbrev pub idle_option : Rule
 idle_option = number (codes "idle") 0 86400
 
+abbrev pub quiet_option : Rule
+quiet_option = flag (codes "quiet")
+
 -- a command of the program, with its options
 abbrev pub command : Text → List Rule → Shape
 command name options = record (new_shape name) { rules = options }
@@ -89,7 +92,7 @@ compact_command = command (codes "compact") (file_word ∷ [])
 
 abbrev pub serve_command : Shape
 serve_command = command (codes "serve")
-    (port_option ∷ seats_option ∷ stay_option ∷ socket_option ∷ idle_option ∷ resume_option ∷ journal_option ∷ workers_option ∷ [])
+    (port_option ∷ seats_option ∷ stay_option ∷ socket_option ∷ idle_option ∷ quiet_option ∷ resume_option ∷ journal_option ∷ workers_option ∷ [])
 
 -- the commands of the program: one more is a line here and a line of `Means`
 abbrev pub commands : List Shape
@@ -143,9 +146,9 @@ IsDesk found place seats workers = IsPlace found place × HasNumber 8 (codes "se
 abbrev pub HasIdle : List Row → ℕ → Type 0
 HasIdle found n = (o : Option ℕ) × IsOptional 32 (codes "idle") found o × (n ≡ unwrap_or o 300)
 
--- a desk of one day: neither of the options was found that a desk has which stays
+-- a desk of one day: none of the options was found that a desk has which stays
 abbrev pub IsDay : List Row → Type 0
-IsDay found = (is_set (codes "stay") found ≡ false) × (one_of (codes "idle") found ≡ None)
+IsDay found = (is_set (codes "stay") found ≡ false) × (one_of (codes "idle") found ≡ None) × (is_set (codes "quiet") found ≡ false)
 
 -- what the command of this name asks for that comes to its own end, where this was found for its options
 abbrev pub Means : Text → List Row → Asked → Type 0
@@ -162,9 +165,10 @@ Means name found (ServeKept journal port seats workers) =
     (name ≡ codes "serve") × (is_set (codes "resume") found ≡ false) × (word_of (codes "journal") found ≡ Some journal) × IsDay found
     × IsDesk found (Port port) seats workers
 
--- the place and the numbers of a desk that stays are those that were found for its options
+-- the place and the numbers of a desk that stays are those that were found for its options, and whether it is quiet is told
 abbrev pub IsStay : List Row → Stay → Type 0
-IsStay found s = (is_set (codes "stay") found ≡ true) × (is_set (codes "resume") found ≡ false) × HasIdle found s.idle × IsDesk found s.place s.seats s.workers
+IsStay found s = (is_set (codes "stay") found ≡ true) × (is_set (codes "resume") found ≡ false) × HasIdle found s.idle
+    × IsDesk found s.place s.seats s.workers × (s.quiet ≡ is_set (codes "quiet") found)
 
 -- what the command of this name asks for
 abbrev pub MeansAny : Text → List Row → Wanted → Type 0

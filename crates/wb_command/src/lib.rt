@@ -2,6 +2,7 @@
 #![tactic(auto)]
 
 ghost use Rattle.std.specs.Prelude.{◌≡◌, ◌≢◌, ℕ, Option, true, false, IfErr, IfOk, MatchOption, MatchResult, codes, option_map};
+ghost use Rattle.clap.specs.Simple.{new_shape};
 ghost use Rattle.clap.specs.Walk.{texts};
 ghost use Rattle.clap.specs.Words.{app_of, found_of, rows_of, rule_of, shape_of, subcommand_rows_of};
 ghost use Rattle.clap.specs.declared.builder.command.Command.TheViews.{out-Command as fields_of};
@@ -50,6 +51,8 @@ const STAY: &str =
 
 const IDLE: &str =
     "After how many seconds without a byte a connection is ended, 0 for never; 300 where it is left out; with --stay alone (0 to 86400)";
+
+const QUIET: &str = "Tell nothing of the connections on standard error; with --stay alone";
 
 /// After how many seconds without a byte a connection of a desk that stays is ended, where none are told.
 const IDLE_SECONDS: u32 = 300;
@@ -143,6 +146,8 @@ pub struct Stay<'a> {
     pub seats: u8,
     /// After how many seconds without a byte a connection is ended, at most 86,400; never where that is 0.
     pub idle: u32,
+    /// Whether it tells nothing of its connections.
+    pub quiet: bool,
     /// How many workers move arrays.
     pub workers: u8,
 }
@@ -263,17 +268,25 @@ fn serve_command<'a>(alloc: Global) -> Result<Command<'a>, AllocError>
     ensures { IfOk result (λ command. (shape_of command ≡ spec.serve_command)
         × ((fields_of command).has_globals ≡ false)) }
 {
-    Command::new(alloc, "serve")
-        .about("Answers the request lines of each seat on a connection of its own")
-        .after_help(SERVE_EXAMPLE)
+    bare_serve(alloc)
         .arg(port_option(alloc))?
         .arg(seats_option(alloc))?
         .arg(stay_flag(alloc))?
         .arg(socket_option(alloc))?
         .arg(idle_option(alloc))?
+        .arg(quiet_flag(alloc))?
         .arg(resume_flag(alloc, SERVE_RESUME))?
         .arg(journal_option(alloc))?
         .arg(workers_option(alloc))
+}
+
+// The command `serve` without its options.
+fn bare_serve<'a>(alloc: Global) -> Command<'a>
+    ensures { (shape_of result ≡ new_shape (codes "serve")) × ((fields_of result).has_globals ≡ false) }
+{
+    Command::new(alloc, "serve")
+        .about("Answers the request lines of each seat on a connection of its own")
+        .after_help(SERVE_EXAMPLE)
 }
 
 // Whether the text of a history comes first, and what help says of that.
@@ -368,6 +381,16 @@ fn idle_option<'a>(alloc: Global) -> Arg<'a>
         .help(IDLE)
         .action(ArgAction::Set)
         .value_parser(clap::value_parser!(u32).range(0..=86400))
+}
+
+// Whether nothing is told of connections.
+fn quiet_flag<'a>(alloc: Global) -> Arg<'a>
+    ensures { (rule_of result ≡ spec.quiet_option) × (result.global ≡ false) }
+{
+    Arg::new(alloc, "quiet")
+        .long("quiet")
+        .help(QUIET)
+        .action(ArgAction::SetTrue)
 }
 
 // What the matched words ask for.
@@ -467,6 +490,7 @@ fn stay_of<'a>(found: &ArgMatches<'a>) -> Option<Wanted<'a>>
     let seats = seats_of(found)?;
     let workers = workers_of(found)?;
     let idle = idle_of(found)?.unwrap_or(IDLE_SECONDS);
+    let quiet = is_told(found, "quiet");
     // A desk that stays begins with its journal's history, or with the empty workbook.
     if is_told(found, "resume") {
         return None;
@@ -475,6 +499,7 @@ fn stay_of<'a>(found: &ArgMatches<'a>) -> Option<Wanted<'a>>
         place,
         seats,
         idle,
+        quiet,
         workers,
     };
     match path_of(found, "journal") {
@@ -498,8 +523,8 @@ fn day_of<'a>(found: &ArgMatches<'a>) -> Option<Asked<'a>>
     let seats = seats_of(found)?;
     let resume = is_told(found, "resume");
     let workers = workers_of(found)?;
-    // Only a desk that stays ends connections that are idle.
-    if idle_of(found)?.is_some() {
+    // Only a desk that stays ends connections that are idle, and tells of them.
+    if idle_of(found)?.is_some() || is_told(found, "quiet") {
         return None;
     }
     match path_of(found, "journal") {

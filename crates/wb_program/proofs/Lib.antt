@@ -8,5 +8,5 @@ pub mod KeptReading
 pub mod KeptEnding
 pub mod KeptHosting
 pub mod Telling
-pub mod Heard
+pub mod ThroughDoor
 pub mod Behind

@@ -1,11 +1,14 @@
 -- Seats that are settled while their connections last.
-use Rattle.std.specs.Prelude.{◌≡◌, ◌+◌, ◌-◌, ◌^◌, ◌<◌, ◌≤◌, ℕ, List, MatchOption, Option, None, true, false, length, min}
+use Rattle.std.specs.Prelude.{◌≡◌, ◌+◌, ◌-◌, ◌^◌, ◌<◌, ◌≤◌, ℕ, List, MatchOption, Option, None, true, false, length, min, nat_le, if◌then◌else◌}
 use Rattle.wb_history.specs.Past.{Past}
 use Rattle.wb_desk.specs.Answering.{DiffersInSome, StandsInSome}
 use Rattle.wb_desk.specs.Courses.{Course, Start, count_of}
 use Rattle.wb_desk.specs.Serving.{Held, new_pass}
+use Rattle.wb_desk.specs.declared.entry.Entry.{Entry}
 use Rattle.wb_desk.specs.declared.settling.Difference.{Difference}
+use Rattle.wb_lines.specs.Turns.{cost_limit}
 use Rattle.wb_sessions.specs.Checking.{IsPrinted}
+use Rattle.wb_program.specs.Costs.{last_cost}
 use Rattle.wb_program.specs.Serving.{AnswersSeat, settled_text}
 
 -- at a history, and seats may be settled early
@@ -23,16 +26,17 @@ abbrev pub IsSettledFrom : ℕ → ℕ → Start → Held → Option Difference 
 IsSettledFrom limit seats opening h told k =
     (length h.own < limit → (told ≡ None) × (k ≡ h)) × (limit ≤ length h.own → IsSettledEarly seats opening h told k)
 
--- A seat is settled before its next line once its pass has so many entries.
-abbrev pub kept_limit : ℕ
-kept_limit = 64
+-- Before its next line a seat is settled once its pass has so many entries: 64 of them, or any, where the last one's reply tells of 4,096
+-- bytes or more, as a long text does.
+abbrev pub kept_limit : List Entry → ℕ
+kept_limit own = if nat_le 4096 (min cost_limit (last_cost own)) then 1 else 64
 
 -- A line is answered, at a desk of so many seats, with the text of a reply of the desk to what the pass is before the line: as it was, or
 -- settled early.
 pub record AnswersEarly (seats : ℕ) (opening : Start) (h : Held) (line text : List ℕ) (k : Held) : Type 0 where
   pub told : Option Difference
   pub before : Held
-  pub is_before : IsSettledFrom kept_limit seats opening h told before
+  pub is_before : IsSettledFrom (kept_limit h.own) seats opening h told before
   pub answers : AnswersSeat opening before line text k
 
 -- how many entries a course has, those too that were settled early, counted up to 2^64 - 1

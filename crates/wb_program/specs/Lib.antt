@@ -9,3 +9,4 @@ pub mod Files
 pub mod Doing
 pub mod KeptDays
 pub mod Telling
+pub mod Words

@@ -109,7 +109,8 @@ fn cost_of_answer(answer: &Answer) -> u64
     }
 }
 
-fn cost_of_many(count: usize, each: u64) -> u64
+/// What so many of a list cost, of which each costs as much.
+pub(crate) fn cost_of_many(count: usize, each: u64) -> u64
     ensures { result ≡ min cost_limit (each * count) }
 {
     each.saturating_mul(count as u64).min(WHOLE_TURN)

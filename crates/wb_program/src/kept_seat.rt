@@ -5,17 +5,20 @@ ghost use Rattle.std.specs.Io.KnownBytes.{Appends, Consumes};
 ghost use Rattle.wb_lines.specs.Causes.{ReadsUntil, WritesUntil};
 ghost use Rattle.wb_lines.specs.Turns.{ServesTurns, cost_limit, turn_limit};
 ghost use Rattle.wb_lines.specs.declared.machine.SessionEnd.{SessionEnd};
+ghost use Rattle.wb_company.specs.Texts.{answer_text};
 ghost use Rattle.wb_protocol.specs.Replies.{reply_of};
 ghost use Rattle.wb_program.specs.Costs.{kept_line_cost};
 ghost use Rattle.wb_program.specs.Early.{IsSettledFrom};
 ghost use Rattle.wb_program.specs.Door.{left_at, failed_at, reads_at};
 ghost use Rattle.wb_program.specs.Serving.{AnswersSeat, IsReadAs};
+ghost use Rattle.wb_program.specs.Words.{IsHeardAs, heard_cost, heard_text};
 ghost use Rattle.wb_program.specs.KeptSeats.{FailsOnce, told_text};
 
 use crate::cost::{cost_of_both, cost_of_last, cost_to_answer_said};
 use crate::door::Door;
 use crate::early::{CanSettle, Early, LEFT_LIMIT, Settlings};
 use crate::seat::{Hold, Seat, text_of};
+use crate::words::{Answered, AnyWord, Heard, cost_of_word, text_of_word, word_or_why};
 use std::alloc::{AllocError, Global};
 use std::cell::Cell;
 use std::marker::{Model, PhantomData};
@@ -23,6 +26,7 @@ use std::sync::atomic::AtomicBool;
 use std::sync::atomic::Ordering::SeqCst;
 use std::sync::{Mutex, Wait};
 use wb_arrays::Mover;
+use wb_company::{Answer, Word};
 use wb_desk::{Difference, Pass};
 use wb_history::Refusal;
 use wb_keep::disk::Device;
@@ -189,12 +193,12 @@ struct Turns<'d, L: KeptOpening, D: Device + Drop> {
 // A reply that the desk sealed, or why a line is no request.
 type Told<L> = Result<Sealed<L, Reply>, Refusal>;
 
-impl<L: KeptOpening, S> Asks<Result<Said, Refusal>> for Seat<L, S> {
-    ghost reads = { IsReadAs };
+impl<L: KeptOpening, S: Settlings<L>> Asks<Heard<Said>> for Seat<L, S> {
+    ghost reads = { IsHeardAs IsReadAs S.hears };
 }
 
-impl<L: KeptOpening, S> Tells<Result<Sealed<L, Reply>, Refusal>> for Seat<L, S> {
-    ghost text = { told_text };
+impl<L: KeptOpening, S> Tells<Answered<Result<Sealed<L, Reply>, Refusal>>> for Seat<L, S> {
+    ghost text = { heard_text told_text };
 }
 
 // Ends a turn, if one is under way, and lets the desk's lock go.
@@ -247,10 +251,59 @@ impl<'d, L: KeptOpening, D: Device + Drop> Turns<'d, L, D> {
             None => self.desk.desk.turn(rt),
         };
         settlings.before_line(&mut turn, pass);
+        let found = pass.own().len();
         let told = reply_in(&mut turn, pass, asked, mover);
+        settlings.note(pass, found);
         end_turn(self.under_way.replace(Some(turn)));
         let cost = cost_of_both(least, cost_of_last(pass));
         (told, cost)
+    }
+
+    // What a word is answered at a pass, in the turn that is under way or in a new one, and what it cost.
+    fn answer_word<S: Settlings<L>, R: Wait>(
+        &self,
+        rt: &R,
+        settlings: &S,
+        pass: &Pass<L>,
+        word: Word,
+    ) -> (Answered<Told<L>>, u64)
+        ensures answers { (line : List ℕ) → S.hears line word → S.answers pass.now line (heard_text told_text result.0) pass.now }
+        ensures cost { result.1 ≡ heard_cost (λ asked told. kept_line_cost asked pass.now.own) (Heard.Word word) result.0 }
+    {
+        let turn = match self.under_way.take() {
+            Some(turn) => turn,
+            None => self.desk.desk.turn(rt),
+        };
+        let said = settlings.answer_word(pass, word);
+        end_turn(self.under_way.replace(Some(turn)));
+        match said {
+            Ok(answer) => {
+                let cost = cost_of_word(&answer);
+                (Answered::Word(answer), cost)
+            }
+            Err(why) => (Answered::Reply(Err(why)), 0),
+        }
+    }
+
+    // What a line that was heard is answered, and what it cost.
+    fn answer_heard<S: Settlings<L>, R: Wait, M: Mover>(
+        &self,
+        rt: &R,
+        settlings: &S,
+        pass: &mut Pass<L>,
+        heard: Heard<Said>,
+        mover: &M,
+    ) -> (Answered<Told<L>>, u64)
+        ensures answers { (line : List ℕ) → IsHeardAs IsReadAs S.hears line heard → S.answers pass.old line (heard_text told_text result.0) pass.new }
+        ensures cost { result.1 ≡ heard_cost (λ asked told. kept_line_cost asked pass.new.own) heard result.0 }
+    {
+        match heard {
+            Heard::Asked(asked) => {
+                let (told, cost) = self.answer(rt, settlings, pass, asked, mover);
+                (Answered::Reply(told), cost)
+            }
+            Heard::Word(word) => self.answer_word(rt, settlings, pass, word.into_word()),
+        }
     }
 
     // Lets the lock go, if it is held, and waits until what the replies tell of is kept. Where it can't be, no receipt is left.
@@ -277,6 +330,31 @@ impl<'d, L: KeptOpening, D: Device + Drop> Turns<'d, L, D> {
         }
     }
 
+    // The text of a reply, or of what a word is answered, where its turn was kept.
+    fn text_of_answered(
+        &self,
+        alloc: Global,
+        told: Answered<Told<L>>,
+    ) -> Result<Vec<u8>, AllocError>
+        ensures { IfOk result (λ text. text.items ≡ heard_text told_text told) }
+    {
+        match told {
+            Answered::Reply(told) => self.text(alloc, told),
+            Answered::Word(answer) => self.word_text(alloc, &answer),
+        }
+    }
+
+    // The text of what a word is answered, where its turn was kept.
+    fn word_text(&self, alloc: Global, answer: &Answer) -> Result<Vec<u8>, AllocError>
+        ensures { IfOk result (λ text. text.items ≡ answer_text answer.now) }
+    {
+        let Some(receipt) = self.receipt.take() else {
+            return Err(AllocError);
+        };
+        self.receipt.set(Some(receipt));
+        text_of_word(alloc, answer)
+    }
+
     // Ends the turn that is under way, if one is.
     fn end(self) {
         let Turns {
@@ -301,11 +379,17 @@ fn opened<L: KeptOpening, D: Device + Drop>(receipt: &Receipt<L, D>, told: Told<
     }
 }
 
-// What a line is read as.
-fn said_of(alloc: Global, line: &[u8]) -> Result<Said, Refusal>
-    ensures { IsReadAs line.now result }
+// What a line is: its request, or why it is none, or a word for the desk.
+fn heard<L: KeptOpening, S: Settlings<L>>(alloc: Global, settlings: &S, line: &[u8]) -> Heard<Said>
+    ensures { IsHeardAs IsReadAs S.hears line.now result }
 {
-    Said::read(alloc, line)
+    match Said::read(alloc, line) {
+        Ok(said) => Heard::Asked(Ok(said)),
+        Err(why) => match word_or_why::<L, S>(alloc, settlings, line, why) {
+            Ok(word) => Heard::Word(AnyWord::new(word)),
+            Err(why) => Heard::Asked(Err(why)),
+        },
+    }
 }
 
 // Answers each line that is read, in turns at the desk, of which none is under way yet.
@@ -338,27 +422,28 @@ fn serve_in_kept_turns<
     let mut pass = pass;
     let mut hold = Hold::unspent();
     let to_read = alloc;
-    let parse = |line: &[u8]| -> Result<Said, Refusal>
-        ensures { IsReadAs line.now result }
-    { said_of(to_read, line) };
-    let answer = |pass: &mut Pass<L>, hold: &mut Hold, asked: Result<Said, Refusal>| -> (
-        Told<L>,
+    let ear = settlings;
+    let parse = |line: &[u8]| -> Heard<Said>
+        ensures { IsHeardAs IsReadAs S.hears line.now result }
+    { heard::<L, S>(to_read, ear, line) };
+    let answer = |pass: &mut Pass<L>, hold: &mut Hold, asked: Heard<Said>| -> (
+        Answered<Told<L>>,
         u64,
     )
         requires room { (hold.old.spent < cost_limit) × (hold.old.answered < turn_limit) }
-        ensures answers { (line : List ℕ) → IsReadAs line asked → S.answers pass.old line (told_text result.0) pass.new }
-        ensures cost { result.1 ≡ kept_line_cost asked pass.new.own }
+        ensures answers { (line : List ℕ) → IsHeardAs IsReadAs S.hears line asked → S.answers pass.old line (heard_text told_text result.0) pass.new }
+        ensures cost { result.1 ≡ heard_cost (λ asked told. kept_line_cost asked pass.new.own) asked result.0 }
         ensures spends { (hold.new.spent ≡ hold.old.spent + result.1) × (hold.new.answered ≡ hold.old.answered + 1) }
     {
-        let (told, cost) = turns.answer(rt, settlings, pass, asked, mover);
+        let (told, cost) = turns.answer_heard(rt, settlings, pass, asked, mover);
         hold.answer(cost);
         (told, cost)
     };
     let to_tell = alloc;
     let kept = turns;
-    let tell = |_hold: &Hold, told: Told<L>| -> Result<Vec<u8>, AllocError>
-        ensures { IfOk result (λ text. text.items ≡ told_text told) }
-    { kept.text(to_tell, told) };
+    let tell = |_hold: &Hold, told: Answered<Told<L>>| -> Result<Vec<u8>, AllocError>
+        ensures { IfOk result (λ text. text.items ≡ heard_text told_text told) }
+    { kept.text_of_answered(to_tell, told) };
     let held = turns;
     let at = rt;
     let let_go = |hold: &mut Hold|
@@ -372,8 +457,8 @@ fn serve_in_kept_turns<
         Seat<L, S>,
         Pass<L>,
         Hold,
-        Result<Said, Refusal>,
-        Told<L>,
+        Heard<Said>,
+        Answered<Told<L>>,
         _,
         _,
         _,

@@ -12,11 +12,12 @@ mod kept_seat;
 mod kept_serving;
 mod seat;
 mod serving;
+mod words;
 
 pub use crate::accepting::{AcceptErr, Accepts, Binds, Connections, Ports};
 pub use crate::doing::do_asked;
 pub use crate::door::Door;
-pub use crate::early::{CanSettle, Early, Settlings, WithItsDesk};
+pub use crate::early::{CanSettle, Early, Settlings, Staying, WithItsDesk};
 pub use crate::kept_hosting::host_kept_with;
 pub use crate::kept_seat::{Failing, KeptDesk};
 pub use crate::kept_serving::{
@@ -24,3 +25,4 @@ pub use crate::kept_serving::{
 };
 pub use crate::seat::serve_seat;
 pub use crate::serving::{print_all, print_settled, serve_connection, serve_history, serve_on};
+pub use crate::words::{Answered, AnyWord, Heard};

@@ -9,14 +9,17 @@ ghost use Rattle.wb_protocol.specs.Requests.{request};
 ghost use Rattle.wb_program.specs.Costs.{line_cost};
 ghost use Rattle.wb_program.specs.Door.{left_at, failed_at, reads_at};
 ghost use Rattle.wb_program.specs.Serving.{RepliesIfRead, NothingAsked, IsReadAs};
+ghost use Rattle.wb_program.specs.Words.{IsHeardAs, heard_cost, heard_text};
 
 use crate::cost::{cost_of, cost_of_both, cost_to_answer};
 use crate::door::Door;
 use crate::early::{Settlings, Waiting};
+use crate::words::{Answered, AnyWord, Heard, cost_of_word, text_of_word, word_or_why};
 use std::alloc::{AllocError, Global};
 use std::marker::PhantomData;
 use std::sync::Wait;
 use wb_arrays::Mover;
+use wb_company::Word;
 use wb_desk::{Desk, Opening, Pass, Turn};
 use wb_history::Refusal;
 use wb_lines::{Asks, Holds, Machine, Sink, Source, Tells, serve_turns};
@@ -81,12 +84,25 @@ impl<L: Opening, S: Settlings<L>> Machine<Pass<L>> for Seat<L, S> {
     ghost answers = { S.answers };
 }
 
-impl<L: Opening, S> Asks<Result<Request, Refusal>> for Seat<L, S> {
-    ghost reads = { IsReadAs };
+impl<L: Opening, S: Settlings<L>> Asks<Heard<Request>> for Seat<L, S> {
+    ghost reads = { IsHeardAs IsReadAs S.hears };
 }
 
-impl<L: Opening, S> Tells<Reply> for Seat<L, S> {
-    ghost text = { reply_of };
+impl<L: Opening, S> Tells<Answered<Reply>> for Seat<L, S> {
+    ghost text = { heard_text reply_of };
+}
+
+// What a line is: its request, or why it is none, or a word for the desk.
+fn heard<L: Opening, S: Settlings<L>>(alloc: Global, settlings: &S, line: &[u8]) -> Heard<Request>
+    ensures { IsHeardAs IsReadAs S.hears line.now result }
+{
+    match read_request(alloc, line) {
+        Ok(request) => Heard::Asked(Ok(request)),
+        Err(why) => match word_or_why::<L, S>(alloc, settlings, line, why) {
+            Ok(word) => Heard::Word(AnyWord::new(word)),
+            Err(why) => Heard::Asked(Err(why)),
+        },
+    }
 }
 
 // The reply to a line that was read: that of the desk to its request, or why it is none.
@@ -120,9 +136,50 @@ fn answer_asked<L: Opening, S: Settlings<L>, R: Wait, M: Mover>(
     let least = cost_to_answer(&asked);
     let mut waiting = Waiting { rt, turn };
     settlings.before_line(&mut waiting, pass);
+    let found = pass.own().len();
     let reply = reply_to(rt, turn, pass, asked, mover);
+    settlings.note(pass, found);
     let cost = cost_of_both(least, cost_of(&reply));
     (reply, cost)
+}
+
+// What a word is answered at a pass, and what it cost.
+fn answer_word<L: Opening, S: Settlings<L>>(
+    settlings: &S,
+    pass: &Pass<L>,
+    word: Word,
+) -> (Answered<Reply>, u64)
+    ensures answers { (line : List ℕ) → S.hears line word → S.answers pass.now line (heard_text reply_of result.0) pass.now }
+    ensures cost { result.1 ≡ heard_cost line_cost (Heard.Word word) result.0 }
+{
+    match settlings.answer_word(pass, word) {
+        Ok(answer) => {
+            let cost = cost_of_word(&answer);
+            (Answered::Word(answer), cost)
+        }
+        Err(why) => (Answered::Reply(Reply::Refused(why)), 0),
+    }
+}
+
+// What a line that was heard is answered, and what it cost.
+fn answer_heard<L: Opening, S: Settlings<L>, R: Wait, M: Mover>(
+    rt: &R,
+    turn: &Turn<'_, L>,
+    settlings: &S,
+    pass: &mut Pass<L>,
+    heard: Heard<Request>,
+    mover: &M,
+) -> (Answered<Reply>, u64)
+    ensures answers { (line : List ℕ) → IsHeardAs IsReadAs S.hears line heard → S.answers pass.old line (heard_text reply_of result.0) pass.new }
+    ensures cost { result.1 ≡ heard_cost line_cost heard result.0 }
+{
+    match heard {
+        Heard::Asked(asked) => {
+            let (reply, cost) = answer_asked(rt, turn, settlings, pass, asked, mover);
+            (Answered::Reply(reply), cost)
+        }
+        Heard::Word(word) => answer_word(settlings, pass, word.into_word()),
+    }
 }
 
 /// The text of a reply.
@@ -132,6 +189,16 @@ pub(crate) fn text_of(alloc: Global, reply: &Reply) -> Result<Vec<u8>, AllocErro
     match reply_text(alloc, reply) {
         Ok(text) => Ok(text.into_bytes()),
         Err(_) => Err(AllocError),
+    }
+}
+
+// The text of a reply, or of what a word is answered.
+fn text_of_answered(alloc: Global, told: &Answered<Reply>) -> Result<Vec<u8>, AllocError>
+    ensures { IfOk result (λ text. text.items ≡ heard_text reply_of told.now) }
+{
+    match told {
+        Answered::Reply(reply) => text_of(alloc, reply),
+        Answered::Word(answer) => text_of_word(alloc, answer),
     }
 }
 
@@ -157,26 +224,27 @@ fn serve_in_turns<L: Opening, S: Settlings<L>, R: Wait, I: Source, O: Sink, M: M
     let mut pass = pass;
     let mut hold = Hold::unspent();
     let to_read = alloc;
-    let parse = |line: &[u8]| -> Result<Request, Refusal>
-        ensures { IsReadAs line.now result }
-    { read_request(to_read, line) };
-    let answer = |pass: &mut Pass<L>, hold: &mut Hold, asked: Result<Request, Refusal>| -> (
-        Reply,
+    let ear = settlings;
+    let parse = |line: &[u8]| -> Heard<Request>
+        ensures { IsHeardAs IsReadAs S.hears line.now result }
+    { heard::<L, S>(to_read, ear, line) };
+    let answer = |pass: &mut Pass<L>, hold: &mut Hold, asked: Heard<Request>| -> (
+        Answered<Reply>,
         u64,
     )
         requires room { (hold.old.spent < cost_limit) × (hold.old.answered < turn_limit) }
-        ensures answers { (line : List ℕ) → IsReadAs line asked → S.answers pass.old line (reply_of result.0) pass.new }
-        ensures cost { result.1 ≡ line_cost asked result.0 }
+        ensures answers { (line : List ℕ) → IsHeardAs IsReadAs S.hears line asked → S.answers pass.old line (heard_text reply_of result.0) pass.new }
+        ensures cost { result.1 ≡ heard_cost line_cost asked result.0 }
         ensures spends { (hold.new.spent ≡ hold.old.spent + result.1) × (hold.new.answered ≡ hold.old.answered + 1) }
     {
-        let (reply, cost) = answer_asked(rt, turn, settlings, pass, asked, mover);
+        let (told, cost) = answer_heard(rt, turn, settlings, pass, asked, mover);
         hold.answer(cost);
-        (reply, cost)
+        (told, cost)
     };
     let to_tell = alloc;
-    let tell = |_hold: &Hold, reply: Reply| -> Result<Vec<u8>, AllocError>
-        ensures { IfOk result (λ text. text.items ≡ reply_of reply) }
-    { text_of(to_tell, &reply) };
+    let tell = |_hold: &Hold, told: Answered<Reply>| -> Result<Vec<u8>, AllocError>
+        ensures { IfOk result (λ text. text.items ≡ heard_text reply_of told) }
+    { text_of_answered(to_tell, &told) };
     let held = turn;
     let let_go = |hold: &mut Hold|
         ensures free { hold.new.is_held ≡ false }
@@ -189,8 +257,8 @@ fn serve_in_turns<L: Opening, S: Settlings<L>, R: Wait, I: Source, O: Sink, M: M
         Seat<L, S>,
         Pass<L>,
         Hold,
-        Result<Request, Refusal>,
-        Reply,
+        Heard<Request>,
+        Answered<Reply>,
         _,
         _,
         _,

@@ -16,8 +16,9 @@ use Rattle.wb_command.specs.declared.Place.TheVariants.{Port, Socket}
 use Rattle.wb_sessions.specs.Checking.{IsFault}
 use Rattle.wb_program.specs.Days.{ServedOn}
 use Rattle.wb_program.specs.Doing.{listening}
-use Rattle.wb_program.specs.Early.{AnswersEarly, IsSettledFrom, PrintsAll}
+use Rattle.wb_program.specs.Early.{IsSettledFrom, PrintsAll}
 use Rattle.wb_program.specs.Serving.{NeverSettles}
+use Rattle.wb_program.specs.Words.{AnswersStaying}
 use Rattle.wb_visits.specs.declared.visit.Visit.{Visit}
 
 -- the line that tells where a desk listens: the port that it has, or the path of the socket
@@ -26,11 +27,11 @@ listening_at (Port asked) port = listening port
 listening_at (Socket path) port = codes "listening on " ++ (path ++ codes "\n")
 
 module _ {I O : Type 0} (source : Source.Ghosts I) (sink : Sink.Ghosts O) where
-  -- At a desk of so many seats a pass was served on a connection, where a line that found 64 entries or more was answered after an early
-  -- settlement. Once the connection ended, the seat was settled early too, if entries were left; this is the difference that was told then.
+  -- At a desk of so many seats a pass was served on a connection, where a line that found 64 entries or more, or that the last reply
+  -- was long, was answered after an early settlement, and one that is a word for the desk was answered as such. Once the connection ended, the seat was settled early too, if entries were left; this is the difference that was told then.
   pub record ServedEarly (seats : ℕ) (opening : Start) (h : Held) (i : I) (o : O) (told : Option Difference) (k : Held) : Type 0 where
     pub left : Held
-    pub served : ServedOn source sink (AnswersEarly seats opening) h i o left
+    pub served : ServedOn source sink (AnswersStaying seats opening) h i o left
     pub settled : IsSettledFrom 1 seats opening left told k
 
 module _ {I O G D E : Type 0} (source : Source.Ghosts I) (sink : Sink.Ghosts O) (guests : Guests.Ghosts G (Visit I O) D E) where

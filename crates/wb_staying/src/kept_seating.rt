@@ -3,21 +3,23 @@ ghost use Rattle.std.specs.Prelude.{◌≡◌, IfOk, IfErr, true};
 ghost use Rattle.wb_lending.specs.Lending.{AllLent, Lent};
 ghost use Rattle.wb_staying.specs.Stays.{hosts_at, ServedEarly};
 
-use crate::seating::{Promised, tell_retired};
+use crate::seating::Promised;
+use crate::telling::{tell_left, tell_retired};
 use std::alloc::Global;
 use std::marker::PhantomData;
 use std::snapshot::Snapshot;
 use std::sync::{Mutex, Wait};
 use std::thread;
 use std::thread::Threads;
-use std::time::Clock;
+use std::time::{Clock, Instant};
 use wb_arrays::Mover;
+use wb_company::Company;
 use wb_desk::{Difference, Pass};
 use wb_keep::disk::Device;
 use wb_kept_seats::KeptOpening;
 use wb_lending::{Guests, LendErr, Next, taken, turn_away_all};
 use wb_lines::{Sink, Source};
-use wb_program::{Early, KeptDesk, serve_kept_connection};
+use wb_program::{Early, KeptDesk, Staying, serve_kept_connection};
 use wb_visits::{Left, Porter, Surplus, Visit, rest};
 
 // What is left of a connection: the last, where the desk keeps nothing more, since it has no reply for anybody then.
@@ -41,6 +43,7 @@ fn serve_visit<
     alloc: Global,
     desk: &KeptDesk<L, D>,
     early: &Early<L>,
+    company: &Company,
     pass: Pass<L>,
     reader: I,
     writer: O,
@@ -48,7 +51,8 @@ fn serve_visit<
 ) -> (Pass<L>, Option<Difference>)
     ensures { ServedEarly I.Source O.Sink L.seats L.opening pass reader writer result.1 result.0 }
 {
-    let mut pass = serve_kept_connection(rt, alloc, desk, early, pass, reader, writer, mover);
+    let staying = Staying::of(rt, early, company);
+    let mut pass = serve_kept_connection(rt, alloc, desk, &staying, pass, reader, writer, mover);
     let told = desk.settle_left(rt, early, &mut pass);
     (pass, told)
 }
@@ -68,6 +72,7 @@ fn sit<
     alloc: Global,
     desk: &KeptDesk<L, D>,
     early: &Early<L>,
+    company: &Company,
     guests: &Mutex<G>,
     pass: Pass<L>,
     mover: &M,
@@ -81,7 +86,12 @@ fn sit<
         match taken::<R, G, Visit<I, O>, X, Left>(rt, guests) {
             Next::Came(visit) => {
                 let (reader, writer, left) = visit.into_parts();
-                let (pass, told) = serve_visit(rt, alloc, desk, early, now, reader, writer, mover);
+                let came = Instant::now(rt).ok();
+                company.come(rt, now.seat());
+                let (pass, told) = serve_visit(
+                    rt, alloc, desk, early, company, now, reader, writer, mover,
+                );
+                tell_left(rt, company, pass.seat(), pass.own().len(), came, &left);
                 let left = after(desk, left);
                 match told {
                     None => {
@@ -89,7 +99,7 @@ fn sit<
                         guests.lock(rt).leave(left);
                     }
                     Some(why) => {
-                        tell_retired(rt, pass.seat(), why);
+                        tell_retired(rt, company, pass.seat(), why);
                         guests.lock(rt).retire(left);
                         return pass;
                     }
@@ -118,6 +128,7 @@ pub(crate) fn lend_kept_seats<
     alloc: Global,
     desk: &KeptDesk<L, D>,
     early: &Early<L>,
+    company: &Company,
     guests: &Mutex<G>,
     passes: Vec<Pass<L>>,
     mover: &M,
@@ -143,7 +154,7 @@ pub(crate) fn lend_kept_seats<
                 let of = PhantomData;
                 match scope.spawn_with(promise, move || {
                     sit::<L, R, G, I, O, Surplus<T>, D, M>(
-                        rt, alloc, desk, early, guests, pass, mover, of,
+                        rt, alloc, desk, early, company, guests, pass, mover, of,
                     )
                 }) {
                     Ok(handle) => handles.push_reserved(handle),
@@ -153,7 +164,7 @@ pub(crate) fn lend_kept_seats<
                     }
                 }
             }
-            let porter = Porter::of(rt);
+            let porter = Porter::of(rt, company.is_quiet());
             turn_away_all::<R, Porter<'_, R>, G, Visit<I, O>, Surplus<T>, Left>(
                 rt, &porter, guests,
             );

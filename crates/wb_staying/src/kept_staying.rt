@@ -16,6 +16,7 @@ use crate::kept_seating::lend_kept_seats;
 use crate::landing::land;
 use crate::staying::status_of;
 use std::alloc::Global;
+use std::fs::{File, Files};
 use std::marker::Brand;
 use std::sync::ledger::Blank;
 use std::sync::{Mutex, Wait};
@@ -23,6 +24,7 @@ use std::thread::Threads;
 use std::time::Clock;
 use wb_arrays::Mover;
 use wb_command::Stay;
+use wb_company::Company;
 use wb_desk::{DeskErr, Pass};
 use wb_history::History;
 use wb_keep::disk::{Device, Replaces};
@@ -53,6 +55,7 @@ fn lend_all_kept<
     alloc: Global,
     guests: G,
     desk: &KeptDesk<L, D>,
+    company: &Company,
     passes: Vec<Pass<L>>,
     mover: &M,
 ) -> Result<Vec<Pass<L>>, u8>
@@ -64,7 +67,7 @@ fn lend_all_kept<
     let guests = Mutex::new(guests);
     let early = Early::<L>::allowed();
     match lend_kept_seats::<L, R, G, I, O, T, D, M>(
-        rt, alloc, desk, &early, &guests, passes, mover,
+        rt, alloc, desk, &early, company, &guests, passes, mover,
     ) {
         Ok(passes) => Ok(passes),
         Err(why) => Err(status_of(why)),
@@ -129,6 +132,7 @@ fn lend_kept_desk<
     blank: Blank,
     taking: Blank,
     guests: G,
+    company: &Company,
     seats: usize,
     kept: Kept<History, D>,
     writer: &mut W,
@@ -166,7 +170,9 @@ fn lend_kept_desk<
         Err((kept, DeskErr::NoMemory)) => return never_begun(NO_MEMORY, kept),
     };
     let desk = KeptDesk::of(desk);
-    match lend_all_kept::<L, R, G, I, O, T, D, M>(rt, alloc, guests, &desk, passes, mover) {
+    match lend_all_kept::<L, R, G, I, O, T, D, M>(
+        rt, alloc, guests, &desk, company, passes, mover,
+    ) {
         Ok(passes) => settled::<L, G, I, O, T, D, W>(alloc, desk, passes, writer),
         Err(status) => left_off(alloc, desk, status),
     }
@@ -188,6 +194,7 @@ pub fn lend_kept_on<
     rt: &R,
     alloc: Global,
     guests: G,
+    company: &Company,
     seats: usize,
     kept: Kept<History, D>,
     writer: &mut W,
@@ -208,6 +215,7 @@ pub fn lend_kept_on<
         Blank::new(16),
         Blank::new(1),
         guests,
+        company,
         seats,
         kept,
         writer,
@@ -230,6 +238,7 @@ fn host_stay<
     rt: &R,
     alloc: Global,
     ports: &mut B,
+    company: &Company,
     asked: &Stay<'_>,
     kept: Kept<History, D>,
     writer: &mut W,
@@ -247,6 +256,7 @@ fn host_stay<
             rt,
             alloc,
             guests,
+            company,
             asked.seats as usize,
             kept,
             writer,
@@ -276,6 +286,7 @@ pub fn stay_kept_with<
     rt: &R,
     alloc: Global,
     ports: &mut B,
+    company: &Company,
     asked: &Stay<'_>,
     file: D,
     held: &[u8],
@@ -289,7 +300,7 @@ pub fn stay_kept_with<
 {
     match opened(alloc, file, held, mover) {
         Ok(kept) => host_stay::<R, B, G, I, O, T, D, W, M>(
-            rt, alloc, ports, asked, kept, writer, mover,
+            rt, alloc, ports, company, asked, kept, writer, mover,
         ),
         Err((why, file)) => turned_away(alloc, why, file, writer),
     }
@@ -297,7 +308,7 @@ pub fn stay_kept_with<
 
 /// A desk that stays, on the history that the journal at a path has, as `stay_kept_with` has it; the file is given back.
 pub fn stay_kept<
-    R: Threads + Wait + Clock + Eprint + Sync,
+    R: Threads + Wait + Clock + Eprint + Files<File = File> + Sync,
     B: Lands<G, Visit<I, O>, Surplus<T>, Left>,
     G: Guests<Visit<I, O>, Surplus<T>, Left> + Send + Drop,
     I: Source + Send + Drop,
@@ -313,6 +324,7 @@ pub fn stay_kept<
     ports: &mut B,
     files: &mut J,
     path: &str,
+    company: &Company,
     asked: &Stay<'_>,
     writer: &mut W,
     mover: &M,
@@ -323,12 +335,13 @@ pub fn stay_kept<
 {
     match files.open(path) {
         Ok((file, held)) => {
+            company.watch(rt, path);
             let KeptRun {
                 status,
                 fault,
                 file,
             } = stay_kept_with::<R, B, G, I, O, T, D, W, M>(
-                rt, alloc, ports, asked, file, &held, writer, mover,
+                rt, alloc, ports, company, asked, file, &held, writer, mover,
             );
             files.close(file, fault);
             status

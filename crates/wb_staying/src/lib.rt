@@ -6,6 +6,7 @@ mod kept_staying;
 mod landing;
 mod seating;
 mod staying;
+mod telling;
 
 pub use crate::kept_staying::{lend_kept_on, stay_kept, stay_kept_with};
 pub use crate::staying::{lend_on, stay};

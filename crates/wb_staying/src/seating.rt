@@ -6,18 +6,20 @@ ghost use Rattle.std.specs.Prelude.{◌≡◌, IfOk, IfErr, true};
 ghost use Rattle.wb_lending.specs.Lending.{AllLent, Lent};
 ghost use Rattle.wb_staying.specs.Stays.{hosts_at, ServedEarly};
 
+use crate::telling::{tell_left, tell_retired};
 use std::alloc::Global;
 use std::marker::PhantomData;
 use std::snapshot::Snapshot;
 use std::sync::{Mutex, Wait};
 use std::thread;
 use std::thread::{Promise, Threads};
-use std::time::Clock;
+use std::time::{Clock, Instant};
 use wb_arrays::Mover;
+use wb_company::Company;
 use wb_desk::{Desk, Difference, Opening, Pass};
 use wb_lending::{Guests, LendErr, Next, taken, turn_away_all};
 use wb_lines::{Sink, Source};
-use wb_program::{Early, serve_connection};
+use wb_program::{Early, Staying, serve_connection};
 use wb_visits::{Left, Porter, Surplus, Visit, rest};
 
 /// What the thread of a seat promises: its pass, served on connections that came, one after another.
@@ -37,20 +39,13 @@ impl<L: Opening, G: Guests<Visit<I, O>, X, Left>, I: Source, O: Sink, X> Promise
     ghost kept_by = { λ p k. Lent G.Guests (hosts_at I.Source O.Sink G.Guests L.seats L.opening) p.pass.value k };
 }
 
-/// Tells on standard error that a seat is retired, since its pass and the desk first differ there. Where that fails, nothing is told.
-pub(crate) fn tell_retired<R: Eprint>(rt: &R, seat: usize, why: Difference) {
-    let place = why.place;
-    let _ = eprintln!(rt;
-        "workbook: seat {seat} is lent no more, since its pass and the desk differ at entry {place}"
-    );
-}
-
 // Serves a pass on a connection, and settles its seat then: the pass, and where it and the desk first differ, if they do.
 fn serve_visit<L: Opening, R: Wait, I: Source + Drop, O: Sink + Drop, M: Mover>(
     rt: &R,
     alloc: Global,
     desk: &Desk<L>,
     early: &Early<L>,
+    company: &Company,
     pass: Pass<L>,
     reader: I,
     writer: O,
@@ -58,7 +53,8 @@ fn serve_visit<L: Opening, R: Wait, I: Source + Drop, O: Sink + Drop, M: Mover>(
 ) -> (Pass<L>, Option<Difference>)
     ensures { ServedEarly I.Source O.Sink L.seats L.opening pass reader writer result.1 result.0 }
 {
-    let mut pass = serve_connection(rt, alloc, desk, early, pass, reader, writer, mover);
+    let staying = Staying::of(rt, early, company);
+    let mut pass = serve_connection(rt, alloc, desk, &staying, pass, reader, writer, mover);
     let told = early.settle_left(rt, desk, &mut pass);
     (pass, told)
 }
@@ -77,6 +73,7 @@ fn sit<
     alloc: Global,
     desk: &Desk<L>,
     early: &Early<L>,
+    company: &Company,
     guests: &Mutex<G>,
     pass: Pass<L>,
     mover: &M,
@@ -90,14 +87,19 @@ fn sit<
         match taken::<R, G, Visit<I, O>, X, Left>(rt, guests) {
             Next::Came(visit) => {
                 let (reader, writer, left) = visit.into_parts();
-                let (pass, told) = serve_visit(rt, alloc, desk, early, now, reader, writer, mover);
+                let came = Instant::now(rt).ok();
+                company.come(rt, now.seat());
+                let (pass, told) = serve_visit(
+                    rt, alloc, desk, early, company, now, reader, writer, mover,
+                );
+                tell_left(rt, company, pass.seat(), pass.own().len(), came, &left);
                 match told {
                     None => {
                         now = pass;
                         guests.lock(rt).leave(left);
                     }
                     Some(why) => {
-                        tell_retired(rt, pass.seat(), why);
+                        tell_retired(rt, company, pass.seat(), why);
                         guests.lock(rt).retire(left);
                         return pass;
                     }
@@ -125,6 +127,7 @@ pub(crate) fn lend_seats<
     alloc: Global,
     desk: &Desk<L>,
     early: &Early<L>,
+    company: &Company,
     guests: &Mutex<G>,
     passes: Vec<Pass<L>>,
     mover: &M,
@@ -150,7 +153,7 @@ pub(crate) fn lend_seats<
                 let of = PhantomData;
                 match scope.spawn_with(promise, move || {
                     sit::<L, R, G, I, O, Surplus<T>, M>(
-                        rt, alloc, desk, early, guests, pass, mover, of,
+                        rt, alloc, desk, early, company, guests, pass, mover, of,
                     )
                 }) {
                     Ok(handle) => handles.push_reserved(handle),
@@ -160,7 +163,7 @@ pub(crate) fn lend_seats<
                     }
                 }
             }
-            let porter = Porter::of(rt);
+            let porter = Porter::of(rt, company.is_quiet());
             turn_away_all::<R, Porter<'_, R>, G, Visit<I, O>, Surplus<T>, Left>(
                 rt, &porter, guests,
             );

@@ -17,6 +17,7 @@ use std::thread::Threads;
 use std::time::Clock;
 use wb_arrays::Mover;
 use wb_command::Stay;
+use wb_company::Company;
 use wb_desk::{Desk, DeskErr, Opening, Pass, settle};
 use wb_history::History;
 use wb_lending::{Guests, LendErr};
@@ -51,6 +52,7 @@ fn lend_all<
     alloc: Global,
     guests: G,
     desk: &Desk<L>,
+    company: &Company,
     passes: Vec<Pass<L>>,
     mover: &M,
 ) -> Result<Vec<Pass<L>>, u8>
@@ -61,7 +63,9 @@ fn lend_all<
 {
     let guests = Mutex::new(guests);
     let early = Early::<L>::allowed();
-    match lend_seats::<L, R, G, I, O, T, M>(rt, alloc, desk, &early, &guests, passes, mover) {
+    match lend_seats::<L, R, G, I, O, T, M>(
+        rt, alloc, desk, &early, company, &guests, passes, mover,
+    ) {
         Ok(passes) => Ok(passes),
         Err(why) => Err(status_of(why)),
     }
@@ -82,6 +86,7 @@ fn lend_desk<
     alloc: Global,
     blank: Blank,
     guests: G,
+    company: &Company,
     seats: usize,
     history: History,
     writer: &mut W,
@@ -108,7 +113,9 @@ fn lend_desk<
         Err((_, DeskErr::BadSeats)) => return BAD_COMMAND_LINE,
         Err((_, DeskErr::NoMemory)) => return NO_MEMORY,
     };
-    let passes = match lend_all::<L, R, G, I, O, T, M>(rt, alloc, guests, &desk, passes, mover) {
+    let passes = match lend_all::<L, R, G, I, O, T, M>(
+        rt, alloc, guests, &desk, company, passes, mover,
+    ) {
         Ok(passes) => passes,
         Err(status) => return status,
     };
@@ -120,7 +127,8 @@ fn lend_desk<
 
 /// Lends the seats of a desk to the connections that come, each seat to one after another, until nobody comes any more; settles, and
 /// prints the number of entries, with those that were settled early, and the workbook. A seat is settled early after each connection,
-/// and before a line that finds 64 entries or more. One whose pass and the desk differ is lent no more, which is told on standard error.
+/// and before a line that finds 64 entries or more, or a long reply. One whose pass and the desk differ is lent no more, which is told on
+/// standard error.
 /// The exit status is as that of a day's desk (`serve_on` of `wb_program`).
 pub fn lend_on<
     R: Threads + Wait + Clock + Eprint + Sync,
@@ -130,7 +138,15 @@ pub fn lend_on<
     T: Sink + Send + Drop,
     W: Sink,
     M: Mover + Sync,
->(rt: &R, alloc: Global, guests: G, seats: usize, writer: &mut W, mover: &M) -> u8
+>(
+    rt: &R,
+    alloc: Global,
+    guests: G,
+    company: &Company,
+    seats: usize,
+    writer: &mut W,
+    mover: &M,
+) -> u8
     requires places { G.places guests ≡ seats }
     requires first { G.inside guests ≡ 0 }
     ensures prints { (text : List ℕ) × Appends (W.contents writer.old) (W.contents writer.new) text
@@ -144,6 +160,7 @@ pub fn lend_on<
         alloc,
         Blank::new(16),
         guests,
+        company,
         seats,
         history,
         writer,
@@ -161,7 +178,15 @@ pub fn stay<
     T: Sink + Send + Drop,
     W: Sink,
     M: Mover + Sync,
->(rt: &R, alloc: Global, ports: &mut B, asked: &Stay<'_>, writer: &mut W, mover: &M) -> u8
+>(
+    rt: &R,
+    alloc: Global,
+    ports: &mut B,
+    company: &Company,
+    asked: &Stay<'_>,
+    writer: &mut W,
+    mover: &M,
+) -> u8
     ensures hosts { (text : List ℕ) × Appends (W.contents writer.old) (W.contents writer.new) text
         × HostsStay I.Source O.Sink G.Guests (early_from nothing_done) asked.now.place asked.now.seats result text }
     ensures flushed { result ≡ 0 → W.flushed writer.new ≡ true }
@@ -173,6 +198,7 @@ pub fn stay<
             rt,
             alloc,
             guests,
+            company,
             asked.seats as usize,
             writer,
             mover,

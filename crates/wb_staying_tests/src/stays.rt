@@ -10,6 +10,7 @@ use std::thread::{SpawnError, Threads};
 use std::time::Clock;
 use wb_arrays::{Crew, Mover};
 use wb_command::{FilePath, Place, Stay};
+use wb_company::Company;
 use wb_keep::START;
 use wb_keep::disk::MemoryFile;
 use wb_lending::{Guests, Next};
@@ -59,6 +60,31 @@ const BAD_REQUEST: &[u8] = b"{\"error\":\"E01\",\"name\":\"bad-request\"}\n";
 const NO_SEAT: &[u8] = b"{\"error\":\"E93\",\"name\":\"no-seat\"}\n";
 
 const NOTHING_DONE: &[u8] = b"settled 0\nchapel-workbook 1\nend\n";
+
+// A connection that says its name, and then another, which it may not; and what it does then.
+const BEN: &[u8] =
+    b"{\"op\":\"hello\",\"name\":\"Ben\"}\n{\"op\":\"hello\",\"name\":\"Eva\"}\n{\"op\":\"domain\",\"d\":\"D\",\"is\":\"{1..2}\"}\n{\"op\":\"undo\",\"k\":1}\n{\"op\":\"redo\",\"k\":1}\n{\"op\":\"edits\",\"from\":2}\n";
+
+const BEN_TOLD: &[u8] =
+    b"{\"seat\":0}\n{\"error\":\"E01\",\"name\":\"bad-request\"}\n{\"edit\":1,\"n\":3}\n{\"n\":3,\"undone\":1}\n{\"n\":3,\"redone\":1}\n{\"done\":[{\"did\":\"undo\",\"edit\":1,\"name\":\"Ben\",\"seat\":0},{\"did\":\"redo\",\"edit\":1,\"name\":\"Ben\",\"seat\":0}],\"from\":2}\n";
+
+// One that says no name, after it: a cascade is an undo of each edit that it takes back.
+const NOBODY: &[u8] =
+    b"{\"op\":\"array\",\"a\":\"A\",\"d\":\"D\"}\n{\"op\":\"cascade\",\"k\":1}\n{\"op\":\"edits\",\"from\":0}\n{\"op\":\"edits\",\"from\":9}\n";
+
+const NOBODY_TOLD: &[u8] =
+    b"{\"edit\":2,\"n\":5}\n{\"n\":8,\"undone\":[2,1]}\n{\"done\":[{\"did\":\"edit\",\"edit\":1,\"name\":\"Ben\",\"seat\":0},{\"did\":\"undo\",\"edit\":1,\"name\":\"Ben\",\"seat\":0},{\"did\":\"redo\",\"edit\":1,\"name\":\"Ben\",\"seat\":0},{\"did\":\"edit\",\"edit\":2,\"name\":null,\"seat\":0},{\"did\":\"undo\",\"edit\":2,\"name\":null,\"seat\":0},{\"did\":\"undo\",\"edit\":1,\"name\":null,\"seat\":0}],\"from\":1}\n{\"done\":[],\"from\":7}\n";
+
+// Lines that are no words: a name of 33 bytes, names with what no label has, fields that are missing, too many, or of another type.
+const NO_WORDS: &[u8] =
+    b"{\"op\":\"hello\",\"name\":\"123456789012345678901234567890123\"}\n{\"op\":\"hello\",\"name\":\"a\\\"b\"}\n{\"op\":\"hello\",\"name\":\"a\\nb\"}\n{\"op\":\"hello\"}\n{\"op\":\"hello\",\"name\":7}\n{\"op\":\"hello\",\"name\":\"Ben\",\"seat\":1}\n{\"op\":\"edits\",\"from\":-1}\n{\"op\":\"desk\",\"k\":1}\n";
+
+// How a desk stands that has two entries, up to since when.
+const STANDS: &[u8] =
+    b"{\"op\":\"hello\",\"name\":\"12345678901234567890123456789012\"}\n{\"op\":\"domain\",\"d\":\"D\",\"is\":\"{1..2}\"}\n{\"op\":\"size\",\"d\":\"D\"}\n{\"op\":\"desk\"}\n";
+
+const STANDS_TOLD: &[u8] =
+    b"{\"seat\":0}\n{\"edit\":1,\"n\":3}\n{\"size\":2}\n{\"entries\":2,\"free\":0,\"journal\":null,\"names\":[{\"name\":\"12345678901234567890123456789012\",\"seat\":0}],\"seats\":1,\"since\":";
 
 // So many come at once.
 const CROWD: usize = 500;
@@ -248,7 +274,8 @@ fn what_stayed<R: Threads + Wait + Clock + Eprint + Sync, M: Mover + Sync>(
     seats: u64,
     is_hasty: bool,
     mover: &M,
-) -> Stayed {
+) -> Result<Stayed, AllocError> {
+    let company = Company::new(rt, alloc, seats as usize, true)?;
     let served = Mutex::new(Vec::new(alloc));
     let turned = Mutex::new(Vec::new(alloc));
     let mut printed = Vec::new(alloc);
@@ -266,18 +293,19 @@ fn what_stayed<R: Threads + Wait + Clock + Eprint + Sync, M: Mover + Sync>(
         rt,
         alloc,
         street,
+        &company,
         seats as usize,
         &mut Output::new(&mut printed),
         mover,
     );
-    Stayed {
+    Ok(Stayed {
         status,
         fault: None,
         served: served.into_inner(),
         turned: turned.into_inner(),
         printed,
         left: Vec::new(alloc),
-    }
+    })
 }
 
 // A desk of one seat that stays, on a file that holds these bytes and does so many calls.
@@ -292,11 +320,13 @@ fn stayed_kept<R: Threads + Wait + Clock + Eprint + Sync, M: Mover + Sync>(
     let served = Mutex::new(Vec::new(alloc));
     let turned = Mutex::new(Vec::new(alloc));
     let file = MemoryFile::new(alloc, held.to_vec(alloc)?, done, 0);
+    let company = Company::new(rt, alloc, 1, true)?;
     let mut printed = Vec::new(alloc);
     let asked = Stay {
         place: Place::Port(7000),
         seats: 1,
         idle: 0,
+        quiet: true,
         workers: 1,
     };
     let KeptRun {
@@ -311,6 +341,7 @@ fn stayed_kept<R: Threads + Wait + Clock + Eprint + Sync, M: Mover + Sync>(
             served: &served,
             turned: &turned,
         },
+        &company,
         &asked,
         file,
         held,
@@ -338,7 +369,7 @@ fn a_seat_is_lent_again(rt: HostRuntime) -> Result<(), Fail> {
         1,
         false,
         &alone,
-    );
+    )?;
     assert_eq!(rt; desk.status, 0);
     assert_eq!(rt; desk.served.as_slice(), REPLIES);
     assert!(rt; desk.turned.is_empty());
@@ -362,7 +393,7 @@ fn lines_that_were_settled_early_are_counted(rt: HostRuntime) -> Result<(), Fail
         1,
         false,
         &alone,
-    );
+    )?;
     assert_eq!(rt; desk.status, 0);
     let told = desk.served.strip_prefix(EDITS).ok_or("two edits")?;
     assert!(rt; repeats(told, VALUE));
@@ -382,6 +413,7 @@ fn a_desk_on_a_socket_tells_its_path(rt: HostRuntime) -> Result<(), Fail> {
         place: Place::Socket(FilePath::new("plan.socket")),
         seats: 1,
         idle: 0,
+        quiet: true,
         workers: 1,
     };
     let mut ports = Port {
@@ -390,14 +422,57 @@ fn a_desk_on_a_socket_tells_its_path(rt: HostRuntime) -> Result<(), Fail> {
         turned: &turned,
     };
     let mut output = Output::new(&mut printed);
+    let company = Company::new(&rt, alloc, 1, true)?;
     assert_eq!(rt;
-        stay(&rt, alloc, &mut ports, &asked, &mut output, &alone),
+        stay(&rt, alloc, &mut ports, &company, &asked, &mut output, &alone),
         0
     );
     let rest = printed
         .strip_prefix(b"listening on plan.socket\n")
         .ok_or("a path")?;
     assert_eq!(rt; rest, SETTLED);
+    Ok(())
+}
+
+// Who did what is told by the names that connections say.
+#[test]
+fn a_desk_tells_who_did_what(rt: HostRuntime) -> Result<(), Fail> {
+    let alone = Crew::alone(&rt);
+    let desk = what_stayed(&rt, rt.alloc(), &[BEN, NOBODY], 1, false, &alone)?;
+    assert_eq!(rt; desk.status, 0);
+    let told = desk.served.strip_prefix(BEN_TOLD).ok_or("what Ben is told")?;
+    assert_eq!(rt; told, NOBODY_TOLD);
+    Ok(())
+}
+
+// The same of a desk with a journal, which has none of it.
+#[test]
+fn a_kept_desk_tells_who_did_what(rt: HostRuntime) -> Result<(), Fail> {
+    let alone = Crew::alone(&rt);
+    let desk = stayed_kept(&rt, rt.alloc(), &START, &[BEN, NOBODY], NEVER, &alone)?;
+    assert_eq!(rt; desk.status, 0);
+    let told = desk.served.strip_prefix(BEN_TOLD).ok_or("what Ben is told")?;
+    assert_eq!(rt; told, NOBODY_TOLD);
+    assert!(rt; !desk.left.windows(3).any(|part| part == b"Ben".as_slice()));
+    Ok(())
+}
+
+#[test]
+fn lines_that_are_no_words_are_no_requests(rt: HostRuntime) -> Result<(), Fail> {
+    let alone = Crew::alone(&rt);
+    let desk = what_stayed(&rt, rt.alloc(), &[NO_WORDS], 1, false, &alone)?;
+    assert!(rt; repeats(&desk.served, BAD_REQUEST));
+    assert_eq!(rt; desk.served.len() / BAD_REQUEST.len(), 8);
+    assert_eq!(rt; desk.printed.as_slice(), NOTHING_DONE);
+    Ok(())
+}
+
+#[test]
+fn a_desk_tells_how_it_stands(rt: HostRuntime) -> Result<(), Fail> {
+    let alone = Crew::alone(&rt);
+    let desk = what_stayed(&rt, rt.alloc(), &[STANDS], 1, false, &alone)?;
+    let since = desk.served.strip_prefix(STANDS_TOLD).ok_or("how it stands")?;
+    assert!(rt; since.ends_with(b"}\n") && since.len() > 11);
     Ok(())
 }
 
@@ -416,7 +491,7 @@ fn repeats(text: &[u8], line: &[u8]) -> bool {
 #[test]
 fn each_of_a_crowd_is_served_or_turned_away(rt: HostRuntime) -> Result<(), Fail> {
     let alone = Crew::alone(&rt);
-    let desk = what_stayed(&rt, rt.alloc(), &[NO_REQUEST; CROWD], 1, true, &alone);
+    let desk = what_stayed(&rt, rt.alloc(), &[NO_REQUEST; CROWD], 1, true, &alone)?;
     assert_eq!(rt; desk.status, 0);
     assert!(rt; repeats(&desk.served, BAD_REQUEST) && repeats(&desk.turned, NO_SEAT));
     let served = desk.served.len() / BAD_REQUEST.len();
@@ -430,7 +505,7 @@ fn each_of_a_crowd_is_served_or_turned_away(rt: HostRuntime) -> Result<(), Fail>
 fn no_desk_of_so_many_seats(rt: HostRuntime) -> Result<(), Fail> {
     let alone = Crew::alone(&rt);
     for seats in [0u64, 17] {
-        let desk = what_stayed(&rt, rt.alloc(), &[FIRST], seats, false, &alone);
+        let desk = what_stayed(&rt, rt.alloc(), &[FIRST], seats, false, &alone)?;
         assert!(rt; desk.status == 2 && desk.served.is_empty() && desk.printed.is_empty());
     }
     Ok(())

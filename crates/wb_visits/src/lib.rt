@@ -8,6 +8,7 @@ mod parting;
 mod patience;
 mod porter;
 mod stop;
+mod trace;
 mod visit;
 
 pub use crate::connection::Connection;
@@ -16,4 +17,5 @@ pub use crate::parting::Parting;
 pub use crate::patience::{Ear, Mouth};
 pub use crate::porter::{Porter, rest};
 pub use crate::stop::{Stop, wait_for_stop};
+pub use crate::trace::{Trace, Why};
 pub use crate::visit::{Left, Surplus, Visit};

@@ -6,6 +6,7 @@ use crate::connection::Listener;
 use crate::parting::Parting;
 use crate::patience::{Ear, Mouth};
 use crate::stop::Stop;
+use crate::trace::Trace;
 use crate::visit::{Left, Surplus, Visit};
 use std::alloc::Global;
 use std::fs::{self, Files};
@@ -76,10 +77,13 @@ impl Visits {
         // (without these the connection could not be ended)
         connection.set_patience(WAIT).ok()?;
         let again = connection.again().ok()?;
-        let ear = Ear::of(connection, self.stop.again().ok()?, self.most_waits);
-        let mouth = Mouth::of(again, self.stop.again().ok()?, self.most_waits);
+        let trace = Trace::new(self.alloc).ok()?;
+        let stop = self.stop.again().ok()?;
+        let ear = Ear::of(connection, stop, self.most_waits, trace.again().ok()?);
+        let stop = self.stop.again().ok()?;
+        let mouth = Mouth::of(again, stop, self.most_waits, trace.again().ok()?);
         let writer = BufWriter::new(self.alloc, mouth).ok()?;
-        Some(Visit::of(Input::new(ear), Output::new(writer)))
+        Some(Visit::traced(Input::new(ear), Output::new(writer), trace))
     }
 
     // The next connection, if one is there, as one that is told something and then ended.

@@ -1,6 +1,10 @@
 //! The reader and the writer of a connection, which fail where the desk is to end, or where it is idle for too long.
+ghost use Rattle.std.specs.Prelude.{◌≤◌, IfOk, length};
+ghost use Rattle.std.specs.Counts.{IsPrefixLen};
+
 use crate::connection::Connection;
 use crate::stop::Stop;
+use crate::trace::{Trace, Why};
 use std::io::{self, ErrorKind, Read, Write};
 use std::net::Shutdown;
 
@@ -10,38 +14,24 @@ pub struct Ear {
     connection: Connection,
     stop: Stop,
     most_waits: u64,
+    trace: Trace,
 }
 
 impl Ear {
     /// The reader of this connection.
-    pub fn of(connection: Connection, stop: Stop, most_waits: u64) -> Ear {
+    pub fn of(connection: Connection, stop: Stop, most_waits: u64, trace: Trace) -> Ear {
         Ear {
             connection,
             stop,
             most_waits,
+            trace,
         }
     }
-}
 
-// The connection is ended for its peer, whoever else has a handle of it.
-impl Drop for Ear {
-    fn drop(self) {
-        let Ear {
-            connection,
-            stop: _,
-            most_waits: _,
-        } = self;
-        let _ = connection.end(Shutdown::Both);
-    }
-}
-
-// Whether a call ended since nothing came for a while, or nothing could be sent.
-fn has_waited(error: &io::Error) -> bool {
-    matches!(error.kind(), ErrorKind::WouldBlock | ErrorKind::TimedOut)
-}
-
-impl Read for Ear {
-    fn read(&mut self, bytes: &mut [u8]) -> io::Result<usize> {
+    // The next bytes, or why there are none.
+    fn heard(&mut self, bytes: &mut [u8]) -> io::Result<usize>
+        ensures { IfOk result (λ n. IsPrefixLen n bytes.new) }
+    {
         for _ in 0..self.most_waits {
             if self.stop.is_told() {
                 return Err(ErrorKind::ConnectionAborted.into());
@@ -55,6 +45,45 @@ impl Read for Ear {
     }
 }
 
+// The connection is ended for its peer, whoever else has a handle of it.
+impl Drop for Ear {
+    fn drop(self) {
+        let Ear {
+            connection,
+            stop: _,
+            most_waits: _,
+            trace: _,
+        } = self;
+        let _ = connection.end(Shutdown::Both);
+    }
+}
+
+// Whether a call ended since nothing came for a while, or nothing could be sent.
+fn has_waited(error: &io::Error) -> bool {
+    matches!(error.kind(), ErrorKind::WouldBlock | ErrorKind::TimedOut)
+}
+
+impl Read for Ear {
+    fn read(&mut self, bytes: &mut [u8]) -> io::Result<usize> {
+        let read = self.heard(bytes);
+        match &read {
+            Ok(0) => self.trace.note_end(Why::Ended),
+            Ok(_) => {}
+            Err(error) => self.trace.note_end(why_of(error, Why::Idle)),
+        }
+        read
+    }
+}
+
+// Why a call failed; this, where it waited for too long.
+fn why_of(error: &io::Error, waited: Why) -> Why {
+    match error.kind() {
+        ErrorKind::TimedOut => waited,
+        ErrorKind::ConnectionAborted => Why::Stopped,
+        _ => Why::Failed,
+    }
+}
+
 /// A writer of a connection whose writes wait a short while at a time. Where nothing can be sent it fails after so many waits in a
 /// row, and at once where the desk is to end.
 #[derive(Drop)]
@@ -62,21 +91,24 @@ pub struct Mouth {
     connection: Connection,
     stop: Stop,
     most_waits: u64,
+    trace: Trace,
 }
 
 impl Mouth {
     /// The writer of this connection.
-    pub fn of(connection: Connection, stop: Stop, most_waits: u64) -> Mouth {
+    pub fn of(connection: Connection, stop: Stop, most_waits: u64, trace: Trace) -> Mouth {
         Mouth {
             connection,
             stop,
             most_waits,
+            trace,
         }
     }
-}
 
-impl Write for Mouth {
-    fn write(&mut self, bytes: &[u8]) -> io::Result<usize> {
+    // How many bytes could be sent.
+    fn sent(&mut self, bytes: &[u8]) -> io::Result<usize>
+        ensures { IfOk result (λ n. n ≤ length bytes.now) }
+    {
         for _ in 0..self.most_waits {
             match self.connection.write(bytes) {
                 Err(error) if has_waited(&error) => {}
@@ -87,6 +119,17 @@ impl Write for Mouth {
             }
         }
         Err(ErrorKind::TimedOut.into())
+    }
+}
+
+impl Write for Mouth {
+    fn write(&mut self, bytes: &[u8]) -> io::Result<usize> {
+        let sent = self.sent(bytes);
+        match &sent {
+            Ok(count) => self.trace.note_sent(bytes.get(..*count).unwrap_or(bytes)),
+            Err(error) => self.trace.note_end(why_of(error, Why::Unread)),
+        }
+        sent
     }
 
     fn flush(&mut self) -> io::Result<()> {

@@ -20,16 +20,17 @@ pub fn rest(clock: &impl Clock) {
     thread::sleep(clock, Duration::from_millis(REST));
 }
 
-/// Who tells connections that no seat is free.
+/// Who tells connections that no seat is free, and standard error of each of them, where it isn't quiet.
 #[derive(Drop)]
 pub struct Porter<'a, R> {
     rt: &'a R,
+    is_quiet: bool,
 }
 
 impl<'a, R> Porter<'a, R> {
-    /// A porter, by a handle of the clock.
-    pub fn of(rt: &'a R) -> Porter<'a, R> {
-        Porter { rt }
+    /// A porter, by a handle of the clock and of standard error.
+    pub fn of(rt: &'a R, is_quiet: bool) -> Porter<'a, R> {
+        Porter { rt, is_quiet }
     }
 }
 
@@ -44,12 +45,15 @@ fn tell_no_seat<O: Sink>(writer: &mut O)
     let _ = writer.flush();
 }
 
-impl<'a, R: Clock, O: Sink + Drop> TurnsAway<Surplus<O>> for Porter<'a, R> {
+impl<'a, R: Clock + Eprint, O: Sink + Drop> TurnsAway<Surplus<O>> for Porter<'a, R> {
     ghost turned_away = { λ d. IsTurnedAway O.Sink d.writer };
 
     fn turn_away(&self, guest: Surplus<O>) {
         let mut writer = guest.into_writer();
         tell_no_seat(&mut writer);
+        if !self.is_quiet {
+            let _ = eprintln!(self.rt; "workbook: a connection found no seat");
+        }
     }
 
     fn rest(&self) {

@@ -13,6 +13,7 @@ use std::time::Clock;
 use std::{env, thread};
 use wb_arrays::{Crew, Mover};
 use wb_command::{Asked, CommandErr, FilePath, Place, Stay, Wanted, command_of};
+use wb_company::Company;
 use wb_lines::{Input, Output};
 use wb_program::{Ports, do_asked};
 use wb_sessions::{
@@ -204,7 +205,7 @@ fn tell_of_file(rt: &HostRuntime, fault: FileFault, cause: Option<io::Error>) ->
 // Does what the words of the command line ask for.
 fn by_words<
     R: Net<Listener = TcpListener, Stream = TcpStream>
-        + FileSystem
+        + FileSystem<File = File>
         + Threads
         + Wait
         + Clock
@@ -243,7 +244,7 @@ fn by_words<
 // Does what is asked for, with as many workers as are asked for.
 fn by_crew<
     R: Net<Listener = TcpListener, Stream = TcpStream>
-        + FileSystem
+        + FileSystem<File = File>
         + Threads
         + Wait
         + Clock
@@ -319,7 +320,7 @@ fn on_devices<
 // Has a desk stay, perhaps with a journal, until the line `stop` comes on standard input.
 fn until_stopped<
     R: Net<Listener = TcpListener, Stream = TcpStream>
-        + FileSystem
+        + FileSystem<File = File>
         + Threads
         + Wait
         + Clock
@@ -341,17 +342,28 @@ fn until_stopped<
     let _waiting = thread::spawn(net, move || wait_for_stop(input, alloc, told)).map_err(
         |_| io::ErrorKind::Other,
     )?;
+    let company = Company::new(net, alloc, asked.seats as usize, asked.quiet)
+        .map_err(|_| io::ErrorKind::OutOfMemory)?;
     let mut ports = Landings::of(net, alloc, stop, asked.idle);
     let mut files = Files::of(rt);
     let mut output = Output::new(BufWriter::new(alloc, rt.stdout())?);
     let status = match journal {
-        None => stay(net, alloc, &mut ports, asked, &mut output, mover),
+        None => stay(
+            net,
+            alloc,
+            &mut ports,
+            &company,
+            asked,
+            &mut output,
+            mover,
+        ),
         Some(path) => stay_kept(
             net,
             alloc,
             &mut ports,
             &mut files,
             path.as_str(),
+            &company,
             asked,
             &mut output,
             mover,

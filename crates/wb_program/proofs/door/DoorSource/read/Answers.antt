@@ -1,4 +1,4 @@
-use Rattle.wb_program.proofs.Heard.{shorter, door_gives, sound_door, door_counts, door_rests}
+use Rattle.wb_program.proofs.ThroughDoor.{shorter, door_gives, sound_door, door_counts, door_rests}
 use Rattle.wb_program.proofs.door.DoorSource.read.Goals as goal
 
 pub returns-in-Ok : goal.returns-in-Ok
