@@ -628,6 +628,18 @@ class Replies(unittest.TestCase):
             wb.undo()
             self.assertEqual(wb.counts(), (3, 12))
 
+    def test_explain(self):
+        wrong = {"error": "E01", "field": "v", "name": "bad-request", "rule": "an integer"}
+        channel, wb = self.book({"wrong": wrong}, {"wrong": None})
+        self.assertEqual(wb.explain({"op": "irv", "a": "A", "v": 0.5}), wrong)
+        self.assertIsNone(wb.explain("{}"))
+        self.assertEqual(channel.sent, [{"op": "explain", "line": line} for line in ('{"op":"irv","a":"A","v":0.5}', "{}")])
+        with Workbook.run(PROGRAM) as wb:
+            self.assertIsNone(wb.explain({"op": "size", "d": "D"}))
+            told = wb.explain({"op": "size", "d": "D", "why": 1})
+            self.assertEqual((told["error"], told["field"]), ("E01", "why"))
+            self.assertEqual(wb.explain("size D")["rule"], "JSON in UTF-8")
+
     def test_refused_reductions(self):
         with Workbook.run(PROGRAM) as wb:
             D = wb.domain("D", range(1, 3))

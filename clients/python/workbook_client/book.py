@@ -7,7 +7,7 @@ from . import files, hearing, journal as journals, labels, notebook, requests, s
 from .channel import Channel, Program, ProgramChannel, SocketChannel, command
 from .edits import Cascade, Edit, Pipeline
 from .errors import NoAnswer, NoNames, NoSeat, NotResumed, SessionEnded, StrangeReply
-from .exchange import Exchange, Reading, Reply, first_refusal
+from .exchange import Exchange, Reading, Reply, first_refusal, text_of
 from .files import Source
 from .literals import Ranges
 from .names import Names
@@ -336,6 +336,14 @@ class Workbook:
         that set nothing: a question that costs the same however long the history is."""
         told = self.ask(requests.edits())
         return told.number("edits"), told.number("writes")
+
+    def explain(self, request: Union[Request, str]) -> Optional[Reply]:
+        """What is wrong with a request, or with a line: `error` and `name` are its code and that
+        code's name, `field` is the field that is wrong, or None, and `rule` says what is wanted.
+        None where nothing is wrong. It looks at no workbook, so it tells of the reading alone."""
+        line = request if isinstance(request, str) else text_of(request)
+        wrong = self.ask(requests.explain(line))["wrong"]
+        return None if wrong is None else Reply(wrong)
 
     def history(self, since: int = 1) -> List[Edit]:
         """Every edit, by number, or those from number `since` on. `who` of those of others is

@@ -191,8 +191,13 @@ _ENCODER = json.JSONEncoder(ensure_ascii=False, allow_nan=False, separators=(","
 _DECODER = json.JSONDecoder()
 
 
+def text_of(request: Request) -> str:
+    """The line of a request, without its end."""
+    return _ENCODER.encode(request)
+
+
 def _line(request: Request) -> bytes:
-    return _ENCODER.encode(request).encode() + b"\n"
+    return text_of(request).encode() + b"\n"
 
 
 def _reply(line: bytes) -> Optional[Reply]:

@@ -381,6 +381,7 @@ class Session:
             self.blocked(no)
             return
         self.wrapped(str(no))
+        self.explained(no)
         hint = hints.on(no, self.book.snapshot())
         if hint:
             self.wrapped(hint)
@@ -394,6 +395,17 @@ class Session:
         if edit and edit.turned_by:
             self.say(f"  {edit.turned_by} took it back")
         self.say(f"  next: redo {k}")
+
+    def explained(self, no: Refusal) -> None:
+        """Tells which field of a line isn't read, and what is wanted in it."""
+        if no.code not in ("E01", "E02"):
+            return
+        try:
+            wrong = self.book.explain(no.request)
+        except Refusal:
+            return
+        if wrong is not None:
+            self.wrapped(f"in {wrong['field'] or 'the line'}: {wrong.text('rule')} is wanted")
 
     def blocked(self, no: Blocked) -> None:
         k, redo = no.request["k"], no.request["op"] == "redo"

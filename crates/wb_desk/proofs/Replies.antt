@@ -7,9 +7,9 @@ use Rattle.wb_log.specs.declared.refusal.Refusal.TheVariants.{NoSuchEdit}
 use Rattle.wb_log.specs.Cascades.{DependentsReply, CascadeReply, OfNumber}
 use Rattle.wb_protocol.specs.Machine.{Step}
 use Rattle.wb_protocol.specs.declared.replies.reply.Reply.{Reply}
-use Rattle.wb_protocol.specs.declared.replies.reply.Reply.TheVariants.{Edited, Undone, Cascaded, Redone, Listed, Answered, Printed, PrintedFrom, Counted, Refused}
+use Rattle.wb_protocol.specs.declared.replies.reply.Reply.TheVariants.{Edited, Undone, Cascaded, Redone, Listed, Answered, Printed, PrintedFrom, Counted, Explained, Refused}
 use Rattle.wb_protocol.specs.declared.requests.request.Request.{Request}
-use Rattle.wb_protocol.specs.declared.requests.request.Request.TheVariants.{Change, Undo, Redo, Cascade, Dependents, Ask, Print, History, Edits}
+use Rattle.wb_protocol.specs.declared.requests.request.Request.TheVariants.{Change, Undo, Redo, Cascade, Dependents, Ask, Print, History, Edits, Explain}
 use Rattle.wb_desk.specs.Entries.{is_entered, is_long, leaves_all, cascade_in}
 use Rattle.wb_desk.specs.Records.{is_set, sets_or_asks, sets_element}
 use Rattle.wb_desk.specs.Courses.{Course}
@@ -27,6 +27,7 @@ refused_leaves p Print why q s = s.1
 refused_leaves p (History None) why q s = s.1
 refused_leaves p (History (Some k)) why q s = s.1
 refused_leaves p Edits why q s = absurd s
+refused_leaves p (Explain line) why q s = s.1
 
 answered_leaves : (p : Past) (asked : Request) (a : Answer) (q : Past) → Step p asked (Answered a) q → q ≡ p
 answered_leaves p (Change e) a q s = absurd s
@@ -40,6 +41,7 @@ answered_leaves p Print a q s = absurd s
 answered_leaves p (History None) a q s = absurd s
 answered_leaves p (History (Some k)) a q s = absurd s
 answered_leaves p Edits a q s = absurd s
+answered_leaves p (Explain line) a q s = absurd s
 
 printed_leaves : (p : Past) (asked : Request) (t : _) (q : Past) → Step p asked (Printed t) q → q ≡ p
 printed_leaves p (Change e) t q s = absurd s
@@ -53,6 +55,7 @@ printed_leaves p Print t q s = s.1
 printed_leaves p (History None) t q s = s.1
 printed_leaves p (History (Some k)) t q s = absurd s
 printed_leaves p Edits t q s = absurd s
+printed_leaves p (Explain line) t q s = absurd s
 
 printed_from_leaves : (p : Past) (asked : Request) (n : ℕ) (t : _) (q : Past) → Step p asked (PrintedFrom n t) q → q ≡ p
 printed_from_leaves p (Change e) n t q s = absurd s
@@ -66,6 +69,7 @@ printed_from_leaves p Print n t q s = absurd s
 printed_from_leaves p (History None) n t q s = absurd s
 printed_from_leaves p (History (Some k)) n t q s = s.2
 printed_from_leaves p Edits n t q s = absurd s
+printed_from_leaves p (Explain line) n t q s = absurd s
 
 listed_leaves : (p : Past) (asked : Request) (ks : List ℕ) (q : Past) → Step p asked (Listed ks) q → q ≡ p
 listed_leaves p (Change e) ks q s = absurd s
@@ -79,6 +83,7 @@ listed_leaves p Print ks q s = absurd s
 listed_leaves p (History None) ks q s = absurd s
 listed_leaves p (History (Some k)) ks q s = absurd s
 listed_leaves p Edits ks q s = absurd s
+listed_leaves p (Explain line) ks q s = absurd s
 
 counted_leaves : (p : Past) (asked : Request) (n w : ℕ) (q : Past) → Step p asked (Counted n w) q → q ≡ p
 counted_leaves p (Change e) n w q s = absurd s
@@ -92,6 +97,21 @@ counted_leaves p Print n w q s = absurd s
 counted_leaves p (History None) n w q s = absurd s
 counted_leaves p (History (Some k)) n w q s = absurd s
 counted_leaves p Edits n w q s = s.2
+counted_leaves p (Explain line) n w q s = absurd s
+
+explained_leaves : (p : Past) (asked : Request) (wrong : _) (q : Past) → Step p asked (Explained wrong) q → q ≡ p
+explained_leaves p (Change e) wrong q s = absurd s
+explained_leaves p (Undo (Some k)) wrong q s = absurd s
+explained_leaves p (Undo None) wrong q s = absurd s
+explained_leaves p (Redo k) wrong q s = absurd s
+explained_leaves p (Cascade k) wrong q s = absurd s
+explained_leaves p (Dependents k) wrong q s = absurd s
+explained_leaves p (Ask asked) wrong q s = absurd s
+explained_leaves p Print wrong q s = absurd s
+explained_leaves p (History None) wrong q s = absurd s
+explained_leaves p (History (Some k)) wrong q s = absurd s
+explained_leaves p Edits wrong q s = absurd s
+explained_leaves p (Explain line) wrong q s = s.1
 
 -- Only an undo with dependents is replied by what it undid.
 cascaded_leaves : (p : Past) (asked : Request) (ks : List ℕ) (n : ℕ) (q : Past) → cascade_in asked ≡ None → Step p asked (Cascaded ks n) q → q ≡ p
@@ -106,6 +126,7 @@ cascaded_leaves p Print ks n q none s = absurd s
 cascaded_leaves p (History None) ks n q none s = absurd s
 cascaded_leaves p (History (Some k)) ks n q none s = absurd s
 cascaded_leaves p Edits ks n q none s = absurd s
+cascaded_leaves p (Explain line) ks n q none s = absurd s
 
 pub is_cascade : (asked : Request) (k : ℕ) → cascade_in asked ≡ Some k → asked ≡ Cascade k
 is_cascade (Cascade j) k is = cc
@@ -117,6 +138,7 @@ is_cascade (Ask asked) k is = cc
 is_cascade Print k is = cc
 is_cascade (History from) k is = cc
 is_cascade Edits k is = cc
+is_cascade (Explain line) k is = cc
 
 err_same : {X Y : Type 0} (v w : Refusal) → ◌≡◌ {A = Result X Refusal} (Err v) (Err w) → ◌≡◌ {A = Result Y Refusal} (Err v) (Err w)
 err_same v w e = let same : v ≡ w = cc in ap Err same
@@ -136,6 +158,7 @@ unentered_leaves p asked (Answered a) q s e = cc
 unentered_leaves p asked (Printed t) q s e = cc
 unentered_leaves p asked (PrintedFrom n t) q s e = cc
 unentered_leaves p asked (Counted n w) q s e = cc
+unentered_leaves p asked (Explained wrong) q s e = cc
 unentered_leaves p asked (Refused why) q s e = refused_leaves p asked why q s
 
 pub long_leaves : (p : Past) (asked : Request) (r : Reply) (q : Past) → cascade_in asked ≡ None → Step p asked r q → is_long r ≡ true → q ≡ p
@@ -148,6 +171,7 @@ long_leaves p asked (Answered a) q none s e = answered_leaves p asked a q s
 long_leaves p asked (Printed t) q none s e = printed_leaves p asked t q s
 long_leaves p asked (PrintedFrom n t) q none s e = printed_from_leaves p asked n t q s
 long_leaves p asked (Counted n w) q none s e = cc
+long_leaves p asked (Explained wrong) q none s e = explained_leaves p asked wrong q s
 long_leaves p asked (Refused why) q none s e = cc
 
 pub left : (p : Past) (asked : Request) (r : Reply) (q : Past) → Step p asked r q → leaves_all r ≡ true → q ≡ p
@@ -160,6 +184,7 @@ left p asked (Answered a) q s e = answered_leaves p asked a q s
 left p asked (Printed t) q s e = printed_leaves p asked t q s
 left p asked (PrintedFrom n t) q s e = printed_from_leaves p asked n t q s
 left p asked (Counted n w) q s e = counted_leaves p asked n w q s
+left p asked (Explained wrong) q s e = explained_leaves p asked wrong q s
 left p asked (Refused why) q s e = refused_leaves p asked why q s
 
 pub course_left : (c : Course) (k : ℕ) (asked : Request) (r : Reply) (d : Course) → AnswersCourse c k asked r d → leaves_all r ≡ true → d.history ≡ c.history
@@ -180,6 +205,7 @@ change_leaves p e (Answered a) q set s off = absurd s
 change_leaves p e (Printed t) q set s off = absurd s
 change_leaves p e (PrintedFrom n t) q set s off = absurd s
 change_leaves p e (Counted n w) q set s off = absurd s
+change_leaves p e (Explained wrong) q set s off = absurd s
 change_leaves p e (Refused why) q set s off = refused_leaves p (Change e) why q s
 
 ask_leaves : (p : Past) (a : _) (r : Reply) (q : Past) → Step p (Ask a) r q → q ≡ p
@@ -192,6 +218,7 @@ ask_leaves p a (Answered v) q s = answered_leaves p (Ask a) v q s
 ask_leaves p a (Printed t) q s = absurd s
 ask_leaves p a (PrintedFrom n t) q s = absurd s
 ask_leaves p a (Counted n w) q s = absurd s
+ask_leaves p a (Explained wrong) q s = absurd s
 ask_leaves p a (Refused why) q s = refused_leaves p (Ask a) why q s
 
 edits_leaves : (p : Past) (r : Reply) (q : Past) → Step p Edits r q → q ≡ p
@@ -204,6 +231,7 @@ edits_leaves p (Answered a) q s = absurd s
 edits_leaves p (Printed t) q s = absurd s
 edits_leaves p (PrintedFrom n t) q s = absurd s
 edits_leaves p (Counted n w) q s = s.2
+edits_leaves p (Explained wrong) q s = absurd s
 edits_leaves p (Refused why) q s = absurd s
 
 pub element_leaves : (p : Past) (asked : Request) (r : Reply) (q : Past) → sets_or_asks asked ≡ true → Step p asked r q → sets_element asked r ≡ false → q ≡ p
@@ -216,3 +244,4 @@ element_leaves p (Dependents k) r q small s off = cc
 element_leaves p Print r q small s off = cc
 element_leaves p (History from) r q small s off = cc
 element_leaves p Edits r q small s off = edits_leaves p r q s
+element_leaves p (Explain line) r q small s off = cc

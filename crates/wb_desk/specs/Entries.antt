@@ -5,9 +5,9 @@ use Rattle.wb_log.specs.declared.refusal.Refusal.TheVariants.{BadRequest, BadLit
 use Rattle.wb_log.specs.declared.refusal.Refusal.TheVariants.{NoSuchEdit, NotInForce, InForce, Blocked}
 use Rattle.wb_log.specs.declared.refusal.Refusal.TheVariants.{RefusedInPlace, NoMemory, StrangePass}
 use Rattle.wb_protocol.specs.declared.replies.reply.Reply.{Reply}
-use Rattle.wb_protocol.specs.declared.replies.reply.Reply.TheVariants.{Edited, Undone, Cascaded, Redone, Listed, Answered, Printed, PrintedFrom, Counted, Refused}
+use Rattle.wb_protocol.specs.declared.replies.reply.Reply.TheVariants.{Edited, Undone, Cascaded, Redone, Listed, Answered, Printed, PrintedFrom, Counted, Explained, Refused}
 use Rattle.wb_protocol.specs.declared.requests.request.Request.{Request}
-use Rattle.wb_protocol.specs.declared.requests.request.Request.TheVariants.{Change, Undo, Redo, Cascade, Dependents, Ask, Print, History, Edits}
+use Rattle.wb_protocol.specs.declared.requests.request.Request.TheVariants.{Change, Undo, Redo, Cascade, Dependents, Ask, Print, History, Edits, Explain}
 use Rattle.wb_desk.specs.declared.entry.Entry.{Entry}
 
 -- the entries of a seat, in order
@@ -37,9 +37,10 @@ is_entered (Answered a) = true
 is_entered (Printed t) = true
 is_entered (PrintedFrom n t) = true
 is_entered (Counted n w) = true
+is_entered (Explained wrong) = true
 is_entered (Refused why) = is_told why
 
--- whether a reply is an answer, a list or a text, whose copies take memory
+-- whether a reply is an answer, a list, a text or what is told of a line, whose copies take memory
 abbrev pub is_long : Reply → Bool
 is_long (Edited k n) = false
 is_long (Undone k n) = false
@@ -50,9 +51,10 @@ is_long (Answered a) = true
 is_long (Printed t) = true
 is_long (PrintedFrom n t) = true
 is_long (Counted n w) = false
+is_long (Explained wrong) = true
 is_long (Refused why) = false
 
--- whether a reply says that nothing was changed: a refusal, an answer, dependents, a text or a count
+-- whether a reply says that nothing was changed: a refusal, an answer, dependents, a text, a count or what is told of a line
 abbrev pub leaves_all : Reply → Bool
 leaves_all (Edited k n) = false
 leaves_all (Undone k n) = false
@@ -63,6 +65,7 @@ leaves_all (Answered a) = true
 leaves_all (Printed t) = true
 leaves_all (PrintedFrom n t) = true
 leaves_all (Counted n w) = true
+leaves_all (Explained wrong) = true
 leaves_all (Refused why) = true
 
 -- the number of the edit that a request undoes with all that need it
@@ -76,3 +79,4 @@ cascade_in (Ask asked) = None
 cascade_in Print = None
 cascade_in (History from) = None
 cascade_in Edits = None
+cascade_in (Explain line) = None

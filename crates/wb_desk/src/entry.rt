@@ -213,7 +213,8 @@ pub(crate) fn is_of_numbers(request: &Request) -> bool
         | Request::Cascade(_)
         | Request::Dependents(_)
         | Request::Print
-        | Request::History(_) => false,
+        | Request::History(_)
+        | Request::Explain(_) => false,
     }
 }
 
@@ -290,6 +291,7 @@ pub(crate) fn small_record(seat: usize, request: &Request, reply: &Reply) -> Opt
         | Request::Cascade(_)
         | Request::Dependents(_)
         | Request::Print
-        | Request::History(_) => None,
+        | Request::History(_)
+        | Request::Explain(_) => None,
     }
 }

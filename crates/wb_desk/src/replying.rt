@@ -46,11 +46,12 @@ pub(crate) fn is_entered(reply: &Reply) -> bool
         Reply::Printed(_) => true,
         Reply::PrintedFrom(_, _) => true,
         Reply::Counted(_, _) => true,
+        Reply::Explained(_) => true,
         Reply::Refused(why) => is_told(*why),
     }
 }
 
-// An equal reply. Only an answer, a list or a text may find no memory.
+// An equal reply. Only an answer, a list, a text or what is told of a line may find no memory.
 fn copied(alloc: Global, reply: &Reply) -> Result<Reply, NoMemory>
     ensures ok { IfOk result (λ r. r ≡ reply.now) }
     ensures err { OnErr result (is_long reply.now ≡ true) }
@@ -65,6 +66,8 @@ fn copied(alloc: Global, reply: &Reply) -> Result<Reply, NoMemory>
         Reply::Printed(text) => Ok(Reply::Printed(text.copy(alloc)?)),
         Reply::PrintedFrom(edits, text) => Ok(Reply::PrintedFrom(*edits, text.copy(alloc)?)),
         Reply::Counted(edits, writes) => Ok(Reply::Counted(*edits, *writes)),
+        Reply::Explained(Some(wrong)) => Ok(Reply::Explained(Some(wrong.copy(alloc)?))),
+        Reply::Explained(None) => Ok(Reply::Explained(None)),
         Reply::Refused(why) => Ok(Reply::Refused(*why)),
     }
 }
@@ -82,7 +85,8 @@ fn cascade_in(request: &Request) -> Option<u64>
         | Request::Ask(_)
         | Request::Print
         | Request::History(_)
-        | Request::Edits => None,
+        | Request::Edits
+        | Request::Explain(_) => None,
     }
 }
 

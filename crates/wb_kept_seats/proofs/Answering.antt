@@ -9,7 +9,7 @@ use Rattle.wb_log.specs.declared.refusal.Refusal.{Refusal}
 use Rattle.wb_protocol.specs.Machine.{Step, StepIfRead}
 use Rattle.wb_protocol.specs.Replies.{reply_of}
 use Rattle.wb_protocol.specs.declared.replies.reply.Reply.{Reply}
-use Rattle.wb_protocol.specs.declared.replies.reply.Reply.TheVariants.{Edited, Undone, Cascaded, Redone, Listed, Answered, Printed, PrintedFrom, Counted, Refused}
+use Rattle.wb_protocol.specs.declared.replies.reply.Reply.TheVariants.{Edited, Undone, Cascaded, Redone, Listed, Answered, Printed, PrintedFrom, Counted, Explained, Refused}
 use Rattle.wb_protocol.specs.declared.requests.request.Request.{Request}
 use Rattle.wb_protocol.specs.declared.requests.request.Request.TheVariants.{Change}
 use Rattle.wb_keeping.specs.Granting.Granting.{Grants, no_edit, AddsIfEdited, AddsLinesOf, AreLinesOf, changes_made}
@@ -43,6 +43,7 @@ left_none (Answered a) asked e = refl
 left_none (Printed t) asked e = refl
 left_none (PrintedFrom n t) asked e = refl
 left_none (Counted n w) asked e = refl
+left_none (Explained wrong) asked e = refl
 left_none (Refused why) asked e = refl
 
 unentered_left : (r : Reply) → is_entered r ≡ false → leaves_all r ≡ true
@@ -55,6 +56,7 @@ unentered_left (Answered a) e = refl
 unentered_left (Printed t) e = refl
 unentered_left (PrintedFrom n t) e = refl
 unentered_left (Counted n w) e = refl
+unentered_left (Explained wrong) e = refl
 unentered_left (Refused why) e = refl
 
 adds_nothing : (r : Reply) (asked : Result Request Refusal) (lines : List (List ℕ)) → leaves_all r ≡ true → AddsLinesOf (changes_made r asked) lines lines

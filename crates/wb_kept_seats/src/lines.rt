@@ -51,6 +51,7 @@ fn leaves_all(reply: &Reply) -> bool
         Reply::Printed(_) => true,
         Reply::PrintedFrom(_, _) => true,
         Reply::Counted(_, _) => true,
+        Reply::Explained(_) => true,
         Reply::Refused(_) => true,
     }
 }

@@ -7,9 +7,9 @@ use Rattle.wb_history.specs.declared.query.Query.{Query}
 use Rattle.wb_history.specs.declared.query.Query.TheVariants.{Get, Size, Where, Piece, Reduce, State}
 use Rattle.wb_log.specs.declared.refusal.Refusal.{Refusal}
 use Rattle.wb_protocol.specs.declared.replies.reply.Reply.{Reply}
-use Rattle.wb_protocol.specs.declared.replies.reply.Reply.TheVariants.{Edited, Undone, Cascaded, Redone, Listed, Answered, Printed, PrintedFrom, Counted, Refused}
+use Rattle.wb_protocol.specs.declared.replies.reply.Reply.TheVariants.{Edited, Undone, Cascaded, Redone, Listed, Answered, Printed, PrintedFrom, Counted, Explained, Refused}
 use Rattle.wb_protocol.specs.declared.requests.request.Request.{Request}
-use Rattle.wb_protocol.specs.declared.requests.request.Request.TheVariants.{Change, Undo, Redo, Cascade, Dependents, Ask, Print, History, Edits}
+use Rattle.wb_protocol.specs.declared.requests.request.Request.TheVariants.{Change, Undo, Redo, Cascade, Dependents, Ask, Print, History, Edits, Explain}
 use Rattle.wb_desk.specs.declared.entry.Entry.{Entry}
 
 -- ---- what a reply tells of
@@ -33,6 +33,7 @@ told_cost (Answered a) = answer_cost a
 told_cost (Printed t) = length t
 told_cost (PrintedFrom n t) = length t
 told_cost (Counted n w) = 0
+told_cost (Explained wrong) = 0
 told_cost (Refused why) = 0
 
 -- of an entry's reply, if there is an entry
@@ -55,7 +56,7 @@ look_cost (Piece a l) = 0
 look_cost (Reduce a op) = cost_limit
 look_cost (State k) = 0
 
--- Dependents are looked for in the whole history.
+-- Dependents are looked for in the whole history, and a line that is explained is read, and its literals.
 abbrev pub request_cost : Request → ℕ
 request_cost (Change e) = 0
 request_cost (Undo k) = 0
@@ -66,6 +67,7 @@ request_cost (Ask q) = look_cost q
 request_cost Print = 0
 request_cost (History from) = 0
 request_cost Edits = 0
+request_cost (Explain line) = min cost_limit (length line)
 
 -- and nothing where a line is no request
 abbrev pub asked_cost : Result Request Refusal → ℕ

@@ -61,6 +61,7 @@ fn cost_of_request(request: &Request) -> u64
     match request {
         Request::Ask(query) => cost_to_look(query),
         Request::Dependents(_) | Request::Cascade(_) => WHOLE_TURN,
+        Request::Explain(line) => cost_of_many(line.as_str().len(), 1),
         Request::Change(_)
         | Request::Undo(_)
         | Request::Redo(_)
@@ -96,7 +97,7 @@ pub(crate) fn cost_of(reply: &Reply) -> u64
         Reply::Listed(numbers) => cost_of_many(numbers.as_slice().len(), NUMBER),
         Reply::Answered(answer) => cost_of_answer(answer),
         Reply::Printed(text) | Reply::PrintedFrom(_, text) => cost_of_many(text.as_str().len(), 1),
-        Reply::Counted(_, _) | Reply::Refused(_) => 0,
+        Reply::Counted(_, _) | Reply::Explained(_) | Reply::Refused(_) => 0,
     }
 }
 

@@ -243,6 +243,7 @@ fn note_last<L: Opening, R: Wait>(rt: &R, company: &Company, pass: &Pass<L>) {
         | Reply::Answered(_)
         | Reply::Printed(_)
         | Reply::PrintedFrom(_, _)
+        | Reply::Explained(_)
         | Reply::Counted(_, _)
         | Reply::Refused(_) => company.note(rt, seat, entries, Deed::Edited, &[]),
     }

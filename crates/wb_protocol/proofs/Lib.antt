@@ -1,5 +1,6 @@
 pub mod Encodings
 pub mod Counts
+pub mod Told
 pub mod Puts
 pub mod Lines
 pub mod Pieces

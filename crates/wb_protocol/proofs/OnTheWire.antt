@@ -20,3 +20,5 @@ pub mod Mappings
 pub mod Sets
 pub mod Readable
 pub mod ReadProper
+pub mod Which
+pub mod Explained

@@ -9,4 +9,6 @@ pub mod Replies
 pub mod Printed
 pub mod Machine
 pub mod Wire
+pub mod Explained
+pub mod Said
 pub mod Histories

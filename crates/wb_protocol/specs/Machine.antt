@@ -1,5 +1,5 @@
 -- The machine of requests and replies over a history: what is replied to a request, and what the history is next. A refusal,
--- a query, a list of dependents and a print, of the workbook or of the history, leave it as it was.
+-- a query, a list of dependents, what is told of a line, and a print, of the workbook or of the history, leave it as it was.
 use Rattle.std.specs.Prelude.{◌≡◌, ◌-◌, ◌⊎◌, ℕ, List, [], ◌∷◌, ◌++◌, true, Some, None, Result, Ok, Err, length}
 use Rattle.selective_undo.specs.History.{replay}
 use Rattle.wb_cells.specs.Cells.{written_more}
@@ -14,12 +14,13 @@ use Rattle.wb_log.specs.declared.refusal.Refusal.{Refusal}
 use Rattle.wb_log.specs.declared.refusal.Refusal.TheVariants.{NoMemory}
 use Rattle.wb_text.specs.Lines.{book_text}
 use Rattle.wb_protocol.specs.Encoding.Text.{history_text, lines_from}
+use Rattle.wb_protocol.specs.Explained.{explained}
 use Rattle.wb_protocol.specs.Replies.{reply_of}
 use Rattle.wb_protocol.specs.Requests.{request}
 use Rattle.wb_protocol.specs.declared.replies.reply.Reply.{Reply}
-use Rattle.wb_protocol.specs.declared.replies.reply.Reply.TheVariants.{Edited, Undone, Cascaded, Redone, Listed, Answered, Printed, PrintedFrom, Counted, Refused}
+use Rattle.wb_protocol.specs.declared.replies.reply.Reply.TheVariants.{Edited, Undone, Cascaded, Redone, Listed, Answered, Printed, PrintedFrom, Counted, Explained, Refused}
 use Rattle.wb_protocol.specs.declared.requests.request.Request.{Request}
-use Rattle.wb_protocol.specs.declared.requests.request.Request.TheVariants.{Change, Undo, Redo, Cascade, Dependents, Ask, Print, History, Edits}
+use Rattle.wb_protocol.specs.declared.requests.request.Request.TheVariants.{Change, Undo, Redo, Cascade, Dependents, Ask, Print, History, Edits, Explain}
 
 -- An edit comes last, in force; n cells were set.
 pub record Appends (e : Edit) (n : ℕ) (old new : Past) : Type 0 where
@@ -107,6 +108,12 @@ abbrev pub Counts : Past → Reply → Past → Type 0
 Counts p (Counted n w) q = (n ≡ length p.entries) × (w ≡ p.writes) × (q ≡ p)
 Counts p _ q = ⊥
 
+-- what is wrong with a line, unless memory ran out: the history has nothing to do with it
+abbrev pub Explains : Past → List ℕ → Reply → Past → Type 0
+Explains p line (Explained wrong) q = (wrong ≡ explained line) × (q ≡ p)
+Explains p line (Refused why) q = (why ≡ NoMemory) × (q ≡ p)
+Explains p line _ q = ⊥
+
 -- One step: from a history, by a request, to a reply and the next history.
 abbrev pub Step : Past → Request → Reply → Past → Type 0
 Step p (Change e) r q = Changes p e r q
@@ -120,6 +127,7 @@ Step p Print r q = Prints p r q
 Step p (History None) r q = PrintsHistory p r q
 Step p (History (Some k)) r q = PrintsFrom p k r q
 Step p Edits r q = Counts p r q
+Step p (Explain line) r q = Explains p line r q
 
 -- What was read is answered by a step, or by why it is no request.
 abbrev pub StepIfRead : Past → Result Request Refusal → Reply → Past → Type 0

@@ -1,6 +1,6 @@
 -- Replies as JSON values, their keys in ascending order, and their texts.
-use Rattle.std.specs.Prelude.{ℕ, List, map, codes}
-use Rattle.serde_json.specs.Data.{Data, boolean, number, unsigned, string, array, object, Members, member, no_members}
+use Rattle.std.specs.Prelude.{ℕ, List, map, codes, Option, Some, None}
+use Rattle.serde_json.specs.Data.{Data, null, boolean, number, unsigned, string, array, object, Members, member, no_members}
 use Rattle.serde_json.specs.Find.{of_integer}
 use Rattle.serde_json.specs.View.{items_of}
 use Rattle.serde_json.specs.Written.{compact_text}
@@ -14,9 +14,11 @@ use Rattle.wb_log.specs.declared.refusal.Refusal.{Refusal}
 use Rattle.wb_log.specs.declared.refusal.Refusal.TheVariants.{BadRequest, BadLiteral, Refused, NoSuchEdit}
 use Rattle.wb_log.specs.declared.refusal.Refusal.TheVariants.{NotInForce, InForce, Blocked, RefusedInPlace}
 use Rattle.wb_log.specs.declared.refusal.Refusal.TheVariants.{NoMemory, StrangePass}
+use Rattle.wb_protocol.specs.Explained.{Explanation, rule_text}
 use Rattle.wb_protocol.specs.Pieces.{piece_data}
+use Rattle.wb_protocol.specs.Wire.Faults.{refusal_of}
 use Rattle.wb_protocol.specs.declared.replies.reply.Reply.{Reply}
-use Rattle.wb_protocol.specs.declared.replies.reply.Reply.TheVariants.{Edited, Undone, Cascaded, Redone, Listed, Answered, Printed, PrintedFrom, Counted, Refused as Refusing}
+use Rattle.wb_protocol.specs.declared.replies.reply.Reply.TheVariants.{Edited, Undone, Cascaded, Redone, Listed, Answered, Printed, PrintedFrom, Counted, Explained, Refused as Refusing}
 
 -- ---- the code and the name of each refusal
 
@@ -100,6 +102,20 @@ answer_data (InForceIs b) = object (member (codes "in_force") (boolean b) no_mem
 abbrev pub numbers_data : List ℕ → Data
 numbers_data ks = array (items_of (map (λ k. number (unsigned k)) ks))
 
+-- the field that is wrong, if it is one
+abbrev pub field_data : Option (List ℕ) → Data
+field_data None = null
+field_data (Some key) = string key
+
+-- what is wrong: {"error":CODE,"field":KEY,"name":NAME,"rule":TEXT}, or null of a line that is a request
+abbrev pub wrong_data : Option Explanation → Data
+wrong_data None = null
+wrong_data (Some x) = object (
+    member (codes "error") (string (code_of (refusal_of x.fault))) (
+    member (codes "field") (field_data x.field) (
+    member (codes "name") (string (name_of (refusal_of x.fault))) (
+    member (codes "rule") (string (rule_text x.rule x.fault)) no_members))))
+
 abbrev pub reply_data : Reply → Data
 reply_data (Edited k n) = object (member (codes "edit") (number (unsigned k)) (member (codes "n") (number (unsigned n)) no_members))
 reply_data (Undone k n) = object (member (codes "n") (number (unsigned n)) (member (codes "undone") (number (unsigned k)) no_members))
@@ -110,6 +126,7 @@ reply_data (Answered a) = answer_data a
 reply_data (Printed t) = object (member (codes "text") (string t) no_members)
 reply_data (PrintedFrom n t) = object (member (codes "edits") (number (unsigned n)) (member (codes "text") (string t) no_members))
 reply_data (Counted n w) = object (member (codes "edits") (number (unsigned n)) (member (codes "writes") (number (unsigned w)) no_members))
+reply_data (Explained wrong) = object (member (codes "wrong") (wrong_data wrong) no_members)
 reply_data (Refusing r) = refusal_data r
 
 -- the text of a reply, without a line end

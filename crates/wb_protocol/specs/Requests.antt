@@ -21,7 +21,7 @@ use Rattle.wb_protocol.specs.Fields.{index_field, integers_field, key_type_field
 use Rattle.wb_protocol.specs.Literals.{literal_domain, literal_mapping, optional_mapping, text_of_book, domain_within, mapping_within}
 use Rattle.wb_protocol.specs.Sources.{source_of}
 use Rattle.wb_protocol.specs.declared.requests.request.Request.{Request}
-use Rattle.wb_protocol.specs.declared.requests.request.Request.TheVariants.{Change, Undo, Redo, Cascade, Dependents, Ask, Print, History, Edits}
+use Rattle.wb_protocol.specs.declared.requests.request.Request.TheVariants.{Change, Undo, Redo, Cascade, Dependents, Ask, Print, History, Edits, Explain}
 
 -- a new domain of what a literal spells, with a mapping: a set is no rectangle, which is for the workbook to refuse
 abbrev pub domain_with : Name → Domain → MappingLiteral → Result Request Refusal
@@ -318,6 +318,13 @@ edits_of d = do
   unit ← has_fields 1 d
   Ok Edits
 
+-- {"op":"explain","line":TEXT}
+abbrev pub explain_of : Data → Result Request Refusal
+explain_of d = do
+  unit ← has_fields 2 d
+  line ← text_field (codes "line") d
+  Ok (Explain line)
+
 -- what is asked of a history, by its op
 abbrev pub by_history_op : List ℕ → Data → Result Request Refusal
 by_history_op op d =
@@ -350,7 +357,7 @@ by_array_op op d =
     if bytes_eq op (codes "all") then all_of d else
     by_history_op op d
 
--- by its op, which is one of these, or that of a change to a domain, or of a workbook that is loaded
+-- by its op, which is one of these, or that of a change to a domain, of a workbook that is loaded, or of a line that is explained
 abbrev pub by_op : List ℕ → Data → Result Request Refusal
 by_op op d =
     if bytes_eq op (codes "domain") then domain_of d else
@@ -362,6 +369,7 @@ by_op op d =
     if bytes_eq op (codes "add") then add_of d else
     if bytes_eq op (codes "remove") then remove_of d else
     if bytes_eq op (codes "load") then load_of d else
+    if bytes_eq op (codes "explain") then explain_of d else
     by_array_op op d
 
 -- the request that a JSON value is

@@ -5,7 +5,7 @@ import json
 from . import literals as lit
 from .book import Book, Look, counted, plan
 from .literals import Refused
-from .reading import QUESTIONS, read
+from .reading import QUESTIONS, explained, read
 
 NAMES = {
     "E01": "bad-request", "E02": "bad-literal", "E03": "name-taken", "E04": "no-such-name", "E05": "wrong-kind",
@@ -232,7 +232,15 @@ def edits(machine, r):
     return {"edits": len(machine.edits), "writes": machine.writes}
 
 
+def explain(machine, r):
+    wrong = explained(r["line"])
+    if wrong is None:
+        return {"wrong": None}
+    code, field, rule = wrong
+    return {"wrong": {"error": code, "field": field, "name": NAMES[code], "rule": rule}}
+
+
 QUESTION = {
     "history": history, "edits": edits, "get": get, "where": where, "size": size, "piece": piece, "state": state, "print": print_text,
-    "dependents": dependents, "reduce": reduce,
+    "dependents": dependents, "reduce": reduce, "explain": explain,
 }

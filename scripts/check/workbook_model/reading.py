@@ -41,6 +41,10 @@ def json_of(line):
         raise Refused("E01") from None
 
 
+# What is wanted of a value, by how it is read and by the code that it is refused with.
+RULES = {}
+
+
 def name(value):
     if not isinstance(value, str) or not NAME.fullmatch(value):
         raise Refused("E01")
@@ -87,6 +91,7 @@ def word(*words):
             raise Refused("E01")
         return value
 
+    RULES[read] = {"E01": "%s or %s" % (", ".join(words[:-1]), words[-1])}
     return read
 
 
@@ -114,7 +119,31 @@ def book_text(value):
     return value
 
 
+def line_text(value):
+    """A text of whichever characters."""
+    return text(str)(value)
+
+
 domain, mapping = text(domain_literal), text(mapping_literal)
+WITHIN = "at most 65536 indices, bounds within 10^18"
+SPELLED = "a rectangle or a set, as {1..9} or {1, 5}"
+RULES.update({
+    name: {"E01": "a name: 1 to 32 letters, digits and _, a letter first"},
+    integer: {"E01": "an integer from -2^63 to 2^63-1, without fraction and exponent"},
+    count: {"E01": "an integer from 0 to 2^64-1, without fraction and exponent"},
+    index: {"E01": "an index: an integer, an array of 2 or 3 of them, or a text of at most 64 bytes without quotes, backslashes and control characters"},
+    integers: {"E01": "an array of integers from -2^63 to 2^63-1"},
+    offset: {"E01": "an integer, or an array of 2 or 3 of them"},
+    line_text: {"E01": "a text"},
+    domain: {"E01": "a text", "E02": SPELLED, "E09": WITHIN},
+    mapping: {
+        "E01": "a text", "E02": "none, blockDist(..), cyclicDist(..) or blockCycDist(..)",
+        "E09": "a box of at most 65536 indices, bounds within 10^18",
+        "E15": "parts of one rank, a box of filled ranges with stride 1, block sizes from 1, and a grid of 1 to 256 locales",
+    },
+    source: {"E01": "a literal in braces, or the name of a domain", "E02": SPELLED, "E09": WITHIN},
+    book_text: {"E01": "a text", "E02": "the text of a workbook, as print answers it"},
+})
 
 # The fields of each op. One that may be missing stands after a question mark.
 FIELDS = {
@@ -148,8 +177,9 @@ FIELDS = {
     "cascade": {"k": count},
     "dependents": {"k": count},
     "reduce": {"a": name, "how": word("+", "min", "max")},
+    "explain": {"line": line_text},
 }
-QUESTIONS = {"history", "edits", "get", "where", "size", "piece", "state", "print", "dependents", "reduce"}
+QUESTIONS = {"history", "edits", "get", "where", "size", "piece", "state", "print", "dependents", "reduce", "explain"}
 SOURCES = {**{how: offset for how in OFFSETS}, **{how: source for how in LITERALS}}
 
 
@@ -184,6 +214,54 @@ def request_of(members):
     if found["op"] == "put" and found["on"][0] == "rectangle" and len(found["vs"]) != size_of(found["on"][1]):
         raise Refused("E01")
     return found
+
+
+def forms_of(op):
+    """The forms of an op: the fields that a request of it has, each with its reader."""
+    if op == "reshape":
+        return [{"d": name, how: SOURCES[how]} for how in (LITERALS[0], LITERALS[1], *OFFSETS, *LITERALS[2:])]
+    fields = FIELDS[op]
+    needed = {key: read for key, read in fields.items() if key[0] != "?"}
+    return [needed, *([{key.lstrip("?"): read for key, read in fields.items()}] if len(needed) < len(fields) else [])]
+
+
+def misfit(members, forms):
+    """What is wrong with the members of an object that has none of the forms of its op."""
+    for key in sorted(members, key=str.encode):
+        if key != "op" and not any(key in form for form in forms):
+            return "E01", key, "no field that the op does not have"
+    for key in forms[0]:
+        if key not in members and all(key in form for form in forms):
+            return "E01", key, "each field that the op has"
+    return "E01", None, "one of the fields to, slice, translate, expand, or, and, minus and xor"
+
+
+def explained(line):
+    """What is wrong with a line, as the text of a request has it: the code, the field and what is wanted; None where nothing is. Of all
+    that is wrong it is the first with the least code."""
+    try:
+        members = json_of(line.encode("utf-8", "surrogatepass"))
+    except Refused:
+        return "E01", None, "JSON in UTF-8"
+    if not isinstance(members, dict):
+        return "E01", None, "a JSON object"
+    op = members.get("op")
+    if not isinstance(op, str) or op != "reshape" and op not in FIELDS:
+        return "E01", "op", "an op"
+    forms = forms_of(op)
+    form = next((form for form in forms if {"op", *form} == set(members)), None)
+    if form is None:
+        return misfit(members, forms)
+    faults, found = [], {}
+    for key, read_value in form.items():
+        try:
+            found[key] = read_value(members[key])
+        except Refused as why:
+            faults.append((why.code, key, RULES[read_value][why.code]))
+    if op == "put" and isinstance(found.get("vs"), list) and found.get("on", [""])[0] == "rectangle":
+        if len(found["vs"]) != size_of(found["on"][1]):
+            faults.append(("E01", "vs", "as many numbers as the rectangle has indices"))
+    return min(faults, key=lambda fault: fault[0], default=None)
 
 
 def read(line):

@@ -1,5 +1,7 @@
 """Requests by chance, over a few names, so that they meet each other: most are possible, some are refused."""
 
+import json
+
 from .literals import domain_literal, size_of
 from .reading import FIELDS
 
@@ -224,10 +226,21 @@ class Requests:
     def make_load(self):
         return {"text": self.pick(BOOKS)}
 
+    def make_explain(self):
+        """What is wrong with a line: a request by chance, of which often a member is missing or another one."""
+        op = self.pick(self.ops)
+        line = {"op": op, **(getattr(self, "make_" + op)() if op != "explain" else {})}
+        if self.rarely(0.6):
+            line[self.pick(["op", *line])] = self.pick([1, -1, 0.5, "", "A", "{1..", "{1..65537}", [1, 2], None])
+        if self.rarely(0.1):
+            del line[self.pick(list(line))]
+        return {"line": json.dumps(line, ensure_ascii=False)[: None if not self.rarely() else 9]}
+
 
 # How often each op is asked for.
 SHARES = {
     "domain": 4, "sparse": 2, "assoc": 2, "drop_domain": 2, "reshape": 8, "add": 8, "remove": 4, "remap": 3, "array": 4,
     "drop_array": 2, "set": 16, "fill": 5, "put": 5, "fill_all": 2, "irv": 2, "copy": 8, "all": 4, "undo": 22, "redo": 18, "get": 4,
     "where": 2, "size": 2, "piece": 2, "state": 3, "print": 1, "history": 2, "edits": 2, "cascade": 2, "dependents": 4, "reduce": 4, "load": 1,
+    "explain": 2,
 }

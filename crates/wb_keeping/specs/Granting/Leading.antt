@@ -18,12 +18,12 @@ use Rattle.wb_log.specs.declared.refusal.Refusal.{Refusal}
 use Rattle.wb_log.specs.declared.refusal.Refusal.TheVariants.{NoMemory}
 use Rattle.wb_history.specs.declared.query.Query.{Query}
 use Rattle.wb_kept.specs.Runs.{Leads}
-use Rattle.wb_protocol.specs.Machine.{Changes, UndoesNumber, UndoesLatest, Redoes, Cascades, ListsDependents, Answers as AnswersQuery, Prints, PrintsHistory, PrintsFrom, Counts, Step, StepIfRead}
+use Rattle.wb_protocol.specs.Machine.{Changes, UndoesNumber, UndoesLatest, Redoes, Cascades, ListsDependents, Answers as AnswersQuery, Prints, PrintsHistory, PrintsFrom, Counts, Explains, Step, StepIfRead}
 use Rattle.wb_protocol.specs.Requests.{request}
 use Rattle.wb_protocol.specs.declared.replies.reply.Reply.{Reply}
-use Rattle.wb_protocol.specs.declared.replies.reply.Reply.TheVariants.{Edited, Undone, Cascaded, Redone, Listed, Answered, Printed, PrintedFrom, Counted, Refused}
+use Rattle.wb_protocol.specs.declared.replies.reply.Reply.TheVariants.{Edited, Undone, Cascaded, Redone, Listed, Answered, Printed, PrintedFrom, Counted, Explained, Refused}
 use Rattle.wb_protocol.specs.declared.requests.request.Request.{Request}
-use Rattle.wb_protocol.specs.declared.requests.request.Request.TheVariants.{Change, Undo, Redo, Cascade, Dependents, Ask, Print, History, Edits}
+use Rattle.wb_protocol.specs.declared.requests.request.Request.TheVariants.{Change, Undo, Redo, Cascade, Dependents, Ask, Print, History, Edits, Explain}
 use Rattle.wb_keeping.specs.Granting.Granting.{GrantsRequest, GrantsAsked, Grants, Answers, AreLinesOf, undos_of, changes_made}
 use Rattle.wb_keeping.specs.Granting.Beginning.{never_both, begun_one}
 
@@ -214,6 +214,12 @@ count_leads : (p : Past) (r : Reply) (q : Past) (made : List (List ℕ)) → Cou
 count_leads p (Counted n w) q made step lines = none_made p q made step.2 lines
 count_leads p r q made step lines = absurd step
 
+explain_leads : (p : Past) (line : List ℕ) (r : Reply) (q : Past) (made : List (List ℕ)) → Explains p line r q → AreLinesOf (changes_made r (Ok (Explain line))) made →
+    Leads Grants p made q
+explain_leads p line (Explained wrong) q made step lines = none_made p q made step.1 lines
+explain_leads p line (Refused why) q made step lines = none_made p q made step.1 lines
+explain_leads p line r q made step lines = absurd step
+
 -- ---- the whole
 
 step_leads : (p : Past) (asked : Request) (r : Reply) (q : Past) (made : List (List ℕ)) → Step p asked r q → AreLinesOf (changes_made r (Ok asked)) made →
@@ -229,6 +235,7 @@ step_leads p Print r q made step lines = print_leads p r q made step lines
 step_leads p (History None) r q made step lines = history_leads p r q made step lines
 step_leads p (History (Some k)) r q made step lines = from_leads p k r q made step lines
 step_leads p Edits r q made step lines = count_leads p r q made step lines
+step_leads p (Explain line) r q made step lines = explain_leads p line r q made step lines
 
 refused_leads : (p q : Past) (asked : Result Request Refusal) (r : Reply) (why : Refusal) (made : List (List ℕ)) → r ≡ Refused why → q ≡ p →
     AreLinesOf (changes_made r asked) made → Leads Grants p made q

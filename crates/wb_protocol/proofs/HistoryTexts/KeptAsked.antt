@@ -7,13 +7,13 @@ use Rattle.wb_history.specs.Restored.{one_of}
 use Rattle.wb_history.specs.declared.query.Query.{Query}
 use Rattle.wb_log.specs.declared.refusal.Refusal.{Refusal}
 use Rattle.wb_protocol.specs.Machine.{Changes, UndoesNumber, UndoesLatest, Cascades, Redoes}
-use Rattle.wb_protocol.specs.Machine.{ListsDependents, Answers, Prints, PrintsHistory, PrintsFrom, Counts, Step}
+use Rattle.wb_protocol.specs.Machine.{ListsDependents, Answers, Prints, PrintsHistory, PrintsFrom, Counts, Explains, Step}
 use Rattle.wb_protocol.specs.Machine.{StepIfRead}
 use Rattle.wb_protocol.specs.Requests.{request}
 use Rattle.wb_protocol.specs.declared.replies.reply.Reply.{Reply}
-use Rattle.wb_protocol.specs.declared.replies.reply.Reply.TheVariants.{Edited, Undone, Cascaded, Redone, Listed, Answered, Printed, PrintedFrom, Counted, Refused}
+use Rattle.wb_protocol.specs.declared.replies.reply.Reply.TheVariants.{Edited, Undone, Cascaded, Redone, Listed, Answered, Printed, PrintedFrom, Counted, Explained, Refused}
 use Rattle.wb_protocol.specs.declared.requests.request.Request.{Request}
-use Rattle.wb_protocol.specs.declared.requests.request.Request.TheVariants.{Change, Undo, Redo, Cascade, Dependents, Ask, Print, History, Edits}
+use Rattle.wb_protocol.specs.declared.requests.request.Request.TheVariants.{Change, Undo, Redo, Cascade, Dependents, Ask, Print, History, Edits, Explain}
 use Rattle.wb_protocol.specs.Histories.Laws.{KeepsAsked}
 use Rattle.wb_protocol.specs.Histories.Text.{IsAsked, AreAsked}
 use Rattle.wb_protocol.proofs.HistoryTexts.Asked.{asked_with}
@@ -48,6 +48,7 @@ module _ (p q : Past) (asked : AreAsked p.entries) where
   changes e one (Printed t) h = absurd h
   changes e one (PrintedFrom n t) h = absurd h
   changes e one (Counted n w) h = absurd h
+  changes e one (Explained wrong) h = absurd h
   changes e one (Refused why) h = same h.1
 
   undoes : (k : ℕ) (r : Reply) → UndoesNumber p k r q → AreAsked q.entries
@@ -60,6 +61,7 @@ module _ (p q : Past) (asked : AreAsked p.entries) where
   undoes m (Printed t) h = absurd h
   undoes m (PrintedFrom n t) h = absurd h
   undoes m (Counted n w) h = absurd h
+  undoes m (Explained wrong) h = absurd h
   undoes m (Refused why) h = same h.1
 
   undoes_latest : (r : Reply) → UndoesLatest p r q → AreAsked q.entries
@@ -72,6 +74,7 @@ module _ (p q : Past) (asked : AreAsked p.entries) where
   undoes_latest (Printed t) h = absurd h
   undoes_latest (PrintedFrom n t) h = absurd h
   undoes_latest (Counted n w) h = absurd h
+  undoes_latest (Explained wrong) h = absurd h
   undoes_latest (Refused why) h = same h.1
 
   cascades : (k : ℕ) (r : Reply) → Cascades p k r q → AreAsked q.entries
@@ -84,6 +87,7 @@ module _ (p q : Past) (asked : AreAsked p.entries) where
   cascades m (Printed t) h = absurd h
   cascades m (PrintedFrom n t) h = absurd h
   cascades m (Counted n w) h = absurd h
+  cascades m (Explained wrong) h = absurd h
   cascades m (Refused why) h = same h.1
 
   redoes : (k : ℕ) (r : Reply) → Redoes p k r q → AreAsked q.entries
@@ -96,6 +100,7 @@ module _ (p q : Past) (asked : AreAsked p.entries) where
   redoes m (Printed t) h = absurd h
   redoes m (PrintedFrom n t) h = absurd h
   redoes m (Counted n w) h = absurd h
+  redoes m (Explained wrong) h = absurd h
   redoes m (Refused why) h = same h.1
 
   lists : (k : ℕ) (r : Reply) → ListsDependents p k r q → AreAsked q.entries
@@ -108,6 +113,7 @@ module _ (p q : Past) (asked : AreAsked p.entries) where
   lists m (Printed t) h = absurd h
   lists m (PrintedFrom n t) h = absurd h
   lists m (Counted n w) h = absurd h
+  lists m (Explained wrong) h = absurd h
   lists m (Refused why) h = same h.1
 
   answers : (x : Query) (r : Reply) → Answers p x r q → AreAsked q.entries
@@ -120,6 +126,7 @@ module _ (p q : Past) (asked : AreAsked p.entries) where
   answers x (Printed t) h = absurd h
   answers x (PrintedFrom n t) h = absurd h
   answers x (Counted n w) h = absurd h
+  answers x (Explained wrong) h = absurd h
   answers x (Refused why) h = same h.1
 
   prints : (r : Reply) → Prints p r q → AreAsked q.entries
@@ -132,6 +139,7 @@ module _ (p q : Past) (asked : AreAsked p.entries) where
   prints (Printed t) h = same h.1
   prints (PrintedFrom n t) h = absurd h
   prints (Counted n w) h = absurd h
+  prints (Explained wrong) h = absurd h
   prints (Refused why) h = same h.1
 
   prints_history : (r : Reply) → PrintsHistory p r q → AreAsked q.entries
@@ -144,6 +152,7 @@ module _ (p q : Past) (asked : AreAsked p.entries) where
   prints_history (Printed t) h = same h.1
   prints_history (PrintedFrom n t) h = absurd h
   prints_history (Counted n w) h = absurd h
+  prints_history (Explained wrong) h = absurd h
   prints_history (Refused why) h = same h.1
 
   prints_from : (k : ℕ) (r : Reply) → PrintsFrom p k r q → AreAsked q.entries
@@ -156,6 +165,7 @@ module _ (p q : Past) (asked : AreAsked p.entries) where
   prints_from m (Printed t) h = absurd h
   prints_from m (PrintedFrom n t) h = same h.2
   prints_from m (Counted n w) h = absurd h
+  prints_from m (Explained wrong) h = absurd h
   prints_from m (Refused why) h = same h.1
 
   counts : (r : Reply) → Counts p r q → AreAsked q.entries
@@ -168,7 +178,21 @@ module _ (p q : Past) (asked : AreAsked p.entries) where
   counts (Printed t) h = absurd h
   counts (PrintedFrom n t) h = absurd h
   counts (Counted n w) h = same h.2
+  counts (Explained wrong) h = absurd h
   counts (Refused why) h = absurd h
+
+  explains : (line : List ℕ) (r : Reply) → Explains p line r q → AreAsked q.entries
+  explains line (Edited k n) h = absurd h
+  explains line (Undone k n) h = absurd h
+  explains line (Cascaded ns n) h = absurd h
+  explains line (Redone k n) h = absurd h
+  explains line (Listed ns) h = absurd h
+  explains line (Answered a) h = absurd h
+  explains line (Printed t) h = absurd h
+  explains line (PrintedFrom n t) h = absurd h
+  explains line (Counted n w) h = absurd h
+  explains line (Explained wrong) h = same h.1
+  explains line (Refused why) h = same h.1
 
   -- ---- every line
 
@@ -184,6 +208,7 @@ module _ (p q : Past) (asked : AreAsked p.entries) where
   step_asked (History None) r one h = prints_history r h
   step_asked (History (Some k)) r one h = prints_from k r h
   step_asked Edits r one h = counts r h
+  step_asked (Explain line) r one h = explains line r h
 
   read_asked : (x : Result Request Refusal) (r : Reply) → ((e : Edit) → x ≡ Ok (Change e) → IsAsked e) → StepIfRead p x r q → AreAsked q.entries
   read_asked (Ok x) r one h = step_asked x r (λ e is. one e (ap Ok is)) h

@@ -113,6 +113,9 @@ offsets_in (Some v) = offsets_by v
 text_only : (v : Data) (why : Refusal) → text_in (Some v) ≡ Err why → why ≡ BadRequest
 text_only v why e = or_only (as_str v) BadRequest why e
 
+text_is : (v : Data) (t : List ℕ) → text_in (Some v) ≡ Ok t → v ≡ string t
+text_is v t e = str_found v t (some_of_ok (as_str v) BadRequest t e)
+
 name_only : (t : List ℕ) (why : Refusal) → name_of t ≡ Err why → why ≡ BadRequest
 name_only t why e = if_only (is_name t) t (Err BadRequest) why e (λ f. sym (err_same BadRequest why f))
 
@@ -173,6 +176,10 @@ integers_reader = plain_reader kinds.integers integers_in refl (λ v why e. or_o
     (λ v zs e bad. bad (zs, integers_found_of v zs (some_of_ok (integers_of v) BadRequest zs e)))
     (λ v e s. no_ok BadRequest s.0 (sym e ∙ integers_read (Some v) v s.0 refl s.1))
 
+pub text_reader : IsReader (plain kinds.any_text) text_in
+text_reader = plain_reader kinds.any_text text_in refl (λ v why e. text_only v why e)
+    (λ v t e bad. bad t (text_is v t e)) (λ v e t s. no_ok BadRequest t (sym e ∙ text_read (Some v) t (ap Some s)))
+
 pub offsets_reader : IsReader (plain kinds.offsets) offsets_in
 offsets_reader = plain_reader kinds.offsets offsets_in refl (λ v why e. or_only (option_and_then point_in (index_of v)) BadRequest why e)
     (λ v is e bad. bad is (offsets_found v is e)) (λ v e is s. no_ok BadRequest is (sym e ∙ offsets_read v is s))
@@ -181,9 +188,6 @@ offsets_reader = plain_reader kinds.offsets offsets_in refl (λ v why e. or_only
 
 pub text_bad : (v : Data) (why : Refusal) → text_in (Some v) ≡ Err why → (why ≡ BadRequest) × ((t : List ℕ) → v ≡ string t → ⊥)
 text_bad v why e = (text_only v why e, λ t q. no_err (sym (text_read (Some v) t (ap Some q)) ∙ e))
-
-text_is : (v : Data) (t : List ℕ) → text_in (Some v) ≡ Ok t → v ≡ string t
-text_is v t e = str_found v t (some_of_ok (as_str v) BadRequest t e)
 
 text_none : (v : Data) → ((t : List ℕ) → v ≡ string t → ⊥) → text_in (Some v) ≡ Err BadRequest
 text_none (string t) h = absurd (h t refl)

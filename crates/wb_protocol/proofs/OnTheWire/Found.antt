@@ -33,11 +33,11 @@ use Rattle.wb_protocol.specs.Fields.{integers_field, u64_field, key_type_field, 
 use Rattle.wb_protocol.specs.Literals.{literal_domain, literal_mapping, optional_mapping as mapping_if_there, text_of_book, domain_within, mapping_within}
 use Rattle.wb_protocol.specs.Sources.{given_by, offsets_by, to_by, slice_by, displace_by, combine_by, combination_of, source_of}
 use Rattle.wb_protocol.specs.Requests.{domain_with, domain_by, domain_of, remap_of, reshape_of, fill_over, fill_of, put_on, put_over, put_of, load_of}
-use Rattle.wb_protocol.specs.Requests.{undo_by_number, undo_of, print_of, history_from, history_of, edits_of, by_op, request_of, array_of, drop_array_of, set_of, fill_all_of, copy_of}
+use Rattle.wb_protocol.specs.Requests.{undo_by_number, undo_of, print_of, history_from, history_of, edits_of, explain_of, by_op, request_of, array_of, drop_array_of, set_of, fill_all_of, copy_of}
 use Rattle.wb_protocol.specs.Requests.{irv_of, all_of, sparse_of, assoc_of, add_of, remove_of, drop_domain_of, redo_of, cascade_of, dependents_of, get_of, where_of, size_of, piece_of}
 use Rattle.wb_protocol.specs.Requests.{reduce_of, state_of}
 use Rattle.wb_protocol.specs.declared.requests.request.Request.{Request}
-use Rattle.wb_protocol.specs.declared.requests.request.Request.TheVariants.{Change, Undo, Redo, Cascade, Dependents, Ask, Print, History, Edits}
+use Rattle.wb_protocol.specs.declared.requests.request.Request.TheVariants.{Change, Undo, Redo, Cascade, Dependents, Ask, Print, History, Edits, Explain}
 use Rattle.wb_protocol.specs.Wire.Table.{Meaning, word, name, integer, index, given, mapping, optional_mapping, book, numbers, some_set, some_numbers}
 use Rattle.wb_protocol.specs.Wire.Table.{Fields, op, table}
 use Rattle.wb_protocol.specs.Wire.Spelled.{IsIntegers, IsIndex, IsOperand, Says, HasFields, IsRequest}
@@ -415,6 +415,11 @@ edits_found ms r s e =
     let x = step (has_fields 1 (object ms)) (λ u. Ok Edits) r e in
     as_table ms Edits r x.2 refl refl (count_found ms 1 tt x.1) (s, tt)
 
+explain_found : IsFound (codes "explain") explain_of
+explain_found ms r s e =
+    let x = one (has_fields 2 (object ms)) (text_field (codes "line") (object ms)) (λ line. Ok (Explain line)) r e in
+    as_table ms (Explain x.0) r x.3 refl refl (count_found ms 2 tt x.1) (word_found (get_member (codes "line") ms) x.0 x.2, (s, tt))
+
 undo_found : IsFound (codes "undo") undo_of
 undo_found ms r s e = elim (nat_eq (member_count ms) 1) as (λ b. nat_eq (member_count ms) 1 ≡ b →
     (if b then Ok (Undo None) else undo_by_number (object ms)) ≡ Ok r → HasFields ms (table r)) [
@@ -451,7 +456,7 @@ first_found (x ∷ xs) h ms op r s e = elim (bytes_eq op x.0) as
 abbrev pub readers : List Reader
 readers = (codes "domain", domain_of) ∷ (codes "remap", remap_of) ∷ (codes "sparse", sparse_of) ∷ (codes "assoc", assoc_of) ∷
     (codes "drop_domain", drop_domain_of) ∷ (codes "reshape", reshape_of) ∷ (codes "add", add_of)
-    ∷ (codes "remove", remove_of) ∷ (codes "load", load_of) ∷ (codes "array", array_of) ∷ (codes "drop_array", drop_array_of) ∷ (codes "set", set_of) ∷
+    ∷ (codes "remove", remove_of) ∷ (codes "load", load_of) ∷ (codes "explain", explain_of) ∷ (codes "array", array_of) ∷ (codes "drop_array", drop_array_of) ∷ (codes "set", set_of) ∷
     (codes "fill", fill_of) ∷ (codes "put", put_of) ∷ (codes "fill_all", fill_all_of) ∷ (codes "irv", irv_of)
     ∷ (codes "copy", copy_of) ∷ (codes "all", all_of) ∷ (codes "undo", undo_of) ∷ (codes "redo", redo_of) ∷ (codes "cascade", cascade_of) ∷
     (codes "dependents", dependents_of) ∷ (codes "get", get_of) ∷ (codes "where", where_of) ∷ (codes "size", size_of) ∷ (codes "piece", piece_of)
@@ -477,36 +482,39 @@ all_found = (
                 (
                   load_found,
                   (
-                    array_found,
+                    explain_found,
                     (
-                      drop_array_found,
+                      array_found,
                       (
-                        set_found,
+                        drop_array_found,
                         (
-                          fill_found,
+                          set_found,
                           (
-                            put_found,
+                            fill_found,
                             (
-                              fill_all_found,
+                              put_found,
                               (
-                                irv_found,
+                                fill_all_found,
                                 (
-                                  copy_found,
+                                  irv_found,
                                   (
-                                    all_found_of,
+                                    copy_found,
                                     (
-                                      undo_found,
+                                      all_found_of,
                                       (
-                                        redo_found,
+                                        undo_found,
                                         (
-                                          cascade_found,
+                                          redo_found,
                                           (
-                                            dependents_found,
+                                            cascade_found,
                                             (
-                                              get_found,
+                                              dependents_found,
                                               (
-                                                where_found,
-                                                (size_found, (piece_found, (reduce_found, (state_found, (print_found, (history_found, (edits_found, tt))))))),
+                                                get_found,
+                                                (
+                                                  where_found,
+                                                  (size_found, (piece_found, (reduce_found, (state_found, (print_found, (history_found, (edits_found, tt))))))),
+                                                ),
                                               ),
                                             ),
                                           ),

@@ -35,7 +35,7 @@ use Rattle.wb_protocol.specs.Literals.{literal_domain, literal_mapping, optional
 use Rattle.wb_protocol.specs.Sources.{source_of}
 use Rattle.wb_protocol.specs.Requests.{domain_with, domain_by, fill_over, put_over, by_op, request_of}
 use Rattle.wb_protocol.specs.declared.requests.request.Request.{Request}
-use Rattle.wb_protocol.specs.declared.requests.request.Request.TheVariants.{Change, Undo, Redo, Cascade, Dependents, Ask, Print, History, Edits}
+use Rattle.wb_protocol.specs.declared.requests.request.Request.TheVariants.{Change, Undo, Redo, Cascade, Dependents, Ask, Print, History, Edits, Explain}
 use Rattle.wb_protocol.specs.Wire.Table.{Meaning, word, name, integer, index, given, mapping, optional_mapping, book, numbers}
 use Rattle.wb_protocol.specs.Wire.Table.{some_set, some_numbers, Fields, op}
 use Rattle.wb_protocol.specs.Wire.Table.{table}
@@ -459,6 +459,12 @@ edits_read ms h =
     let s = all_say (table Edits) ms refl h in
     op_read ms (codes "edits") Edits s.0 (rw (count_read ms 1 (counted (table Edits) ms refl refl h)) refl)
 
+explain_read : (ms : Members) (line : List ℕ) → HasFields ms (table (Explain line)) → request_of (object ms) ≡ Ok (Explain line)
+explain_read ms line h =
+    let s = all_say (table (Explain line)) ms refl h in
+    op_read ms (codes "explain") (Explain line) s.1.0 (one_read (has_fields 2 (object ms)) (text_field (codes "line") (object ms)) (λ line. Ok (Explain line))
+    line (Explain line) (count_read ms 2 (counted (table (Explain line)) ms refl refl h)) (word_read (get_member (codes "line") ms) line s.0) refl)
+
 undo_read : (ms : Members) (k : Option ℕ) → HasFields ms (table (Undo k)) → request_of (object ms) ≡ Ok (Undo k)
 undo_read ms None h =
     let s = all_say (table (Undo None)) ms refl h in
@@ -508,6 +514,7 @@ members_read ms (Ask q) h = query_read ms q h
 members_read ms Print h = print_read ms h
 members_read ms (History from) h = history_read ms from h
 members_read ms Edits h = edits_read ms h
+members_read ms (Explain line) h = explain_read ms line h
 
 pub request_read : (d : Data) (r : Request) → IsRequest d r → request_of d ≡ Ok r
 request_read d r h = ap request_of h.1 ∙ members_read h.0 r h.2

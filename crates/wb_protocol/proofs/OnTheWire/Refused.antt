@@ -55,7 +55,7 @@ use Rattle.wb_protocol.proofs.OnTheWire.Judged.{fine_above, least_of, all_fine_b
 use Rattle.std.specs.List.{list_all}
 use Rattle.wb_protocol.proofs.OnTheWire.RefusedPlain.{sparse_judged, assoc_judged, drop_domain_judged, add_judged, remove_judged, array_judged, drop_array_judged, set_judged}
 use Rattle.wb_protocol.proofs.OnTheWire.RefusedPlain.{fill_all_judged, irv_judged, copy_judged, all_judged, redo_judged, cascade_judged, dependents_judged, get_judged}
-use Rattle.wb_protocol.proofs.OnTheWire.RefusedPlain.{where_judged, size_judged, piece_judged, reduce_judged, state_judged}
+use Rattle.wb_protocol.proofs.OnTheWire.RefusedPlain.{where_judged, size_judged, piece_judged, reduce_judged, state_judged, explain_judged}
 
 -- ---- the ops with one literal
 
@@ -612,42 +612,45 @@ every_judged = (
                 (
                   load_judged,
                   (
-                    array_judged,
+                    explain_judged,
                     (
-                      drop_array_judged,
+                      array_judged,
                       (
-                        set_judged,
+                        drop_array_judged,
                         (
-                          fill_judged,
+                          set_judged,
                           (
-                            put_judged,
+                            fill_judged,
                             (
-                              fill_all_judged,
+                              put_judged,
                               (
-                                irv_judged,
+                                fill_all_judged,
                                 (
-                                  copy_judged,
+                                  irv_judged,
                                   (
-                                    all_judged,
+                                    copy_judged,
                                     (
-                                      undo_judged,
+                                      all_judged,
                                       (
-                                        redo_judged,
+                                        undo_judged,
                                         (
-                                          cascade_judged,
+                                          redo_judged,
                                           (
-                                            dependents_judged,
+                                            cascade_judged,
                                             (
-                                              get_judged,
+                                              dependents_judged,
                                               (
-                                                where_judged,
+                                                get_judged,
                                                 (
-                                                  size_judged,
+                                                  where_judged,
                                                   (
-                                                    piece_judged,
+                                                    size_judged,
                                                     (
-                                                      reduce_judged,
-                                                      (state_judged, (print_judged, (history_judged, (edits_judged, tt)))),
+                                                      piece_judged,
+                                                      (
+                                                        reduce_judged,
+                                                        (state_judged, (print_judged, (history_judged, (edits_judged, tt)))),
+                                                      ),
                                                     ),
                                                   ),
                                                 ),

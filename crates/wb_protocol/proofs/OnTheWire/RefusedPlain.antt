@@ -3,13 +3,13 @@ use Rattle.std.proofs.Common.{[], ◌∷◌, codes, Ok, refl}
 use Rattle.serde_json.specs.Data.{object}
 use Rattle.wb_edit.specs.declared.edit.Edit.TheVariants.{Sparse, Assoc, DropDomain, Add, Remove, Array, Set, Irv, Copy, FillAll, DropArray, All}
 use Rattle.wb_history.specs.declared.query.Query.TheVariants.{Get, Size, Where, Piece, Reduce, State}
-use Rattle.wb_protocol.specs.Fields.{has_fields, name_field, index_field, i64_field, u64_field, key_type_field, operation_field, reduction_field}
+use Rattle.wb_protocol.specs.Fields.{has_fields, text_field, name_field, index_field, i64_field, u64_field, key_type_field, operation_field, reduction_field}
 use Rattle.wb_protocol.specs.Requests.{array_of, drop_array_of, set_of, fill_all_of, copy_of, irv_of, all_of, sparse_of, assoc_of, add_of, remove_of}
-use Rattle.wb_protocol.specs.Requests.{drop_domain_of, redo_of, cascade_of, dependents_of, get_of, where_of, size_of, piece_of, reduce_of, state_of}
-use Rattle.wb_protocol.specs.declared.requests.request.Request.TheVariants.{Change, Redo, Cascade, Dependents, Ask}
+use Rattle.wb_protocol.specs.Requests.{drop_domain_of, redo_of, cascade_of, dependents_of, get_of, where_of, size_of, piece_of, reduce_of, state_of, explain_of}
+use Rattle.wb_protocol.specs.declared.requests.request.Request.TheVariants.{Change, Redo, Cascade, Dependents, Ask, Explain}
 use Rattle.wb_protocol.proofs.OnTheWire.Spellings.{count_found}
 use Rattle.wb_protocol.proofs.OnTheWire.Keys.{form_at}
-use Rattle.wb_protocol.proofs.OnTheWire.Failing.{name_reader, key_type_reader, operation_reader, reduction_reader, integer_reader, number_reader, index_reader}
+use Rattle.wb_protocol.proofs.OnTheWire.Failing.{name_reader, key_type_reader, operation_reader, reduction_reader, integer_reader, number_reader, index_reader, text_reader}
 use Rattle.wb_protocol.proofs.OnTheWire.Judged.{Judged, IsJudged, one_judged, two_judged, three_judged, five_judged, fine, field_bad, count_bad, all_fine}
 
 pub sparse_judged : IsJudged (codes "sparse") sparse_of
@@ -216,3 +216,11 @@ state_judged ms s =
     (λ why. field_bad ms o (codes "k") s number_reader refl refl why)
     (λ a n p. all_fine ms o (codes "k" ∷ []) s (form_at 31 (o, codes "k" ∷ []) refl refl refl) refl (count_found ms 2 tt n)
     (fine ms o (codes "k") number_reader refl a p, tt))
+
+pub explain_judged : IsJudged (codes "explain") explain_of
+explain_judged ms s =
+    let o = codes "explain" in
+    one_judged (Judged ms) (has_fields 2 (object ms)) (text_field (codes "line") (object ms)) (λ line. Ok (Explain line)) (λ why. count_bad ms o 1 s refl why)
+    (λ why. field_bad ms o (codes "line") s text_reader refl refl why)
+    (λ a n p. all_fine ms o (codes "line" ∷ []) s (form_at 41 (o, codes "line" ∷ []) refl refl refl) refl (count_found ms 2 tt n)
+    (fine ms o (codes "line") text_reader refl a p, tt))

@@ -24,7 +24,7 @@ use Rattle.wb_edit.specs.declared.edit.Edit.TheVariants.{Fill, Put, FillAll, Dro
 
 -- What a value spells.
 pub data Meaning : Type 0 where
-  -- this word and no other
+  -- this text and no other
   word : List ℕ → Meaning
   name : Name → Meaning
   -- an integer of 64 bits with a sign, and one without

@@ -97,6 +97,7 @@ forms =
     ∷ (codes "dependents", codes "k" ∷ [])
     ∷ (codes "edits", [])
     ∷ (codes "put", codes "a" ∷ codes "on" ∷ codes "vs" ∷ [])
+    ∷ (codes "explain", codes "line" ∷ [])
     ∷ []
 
 -- the members of these keys are there, each once, in any order, and no others
@@ -129,6 +130,8 @@ pub data Plain : Type 0 where
   key_type : Plain
   operation : Plain
   reduction : Plain
+  -- a text, whichever it is
+  any_text : Plain
 
 pub data Kind : Type 0 where
   plain : Plain → Kind
@@ -154,6 +157,7 @@ kinds =
     ∷ (codes "j", plain index)
     ∷ (codes "k", plain number)
     ∷ (codes "l", plain number)
+    ∷ (codes "line", plain any_text)
     ∷ (codes "map", mapping)
     ∷ (codes "minus", source)
     ∷ (codes "on", domain)
@@ -196,6 +200,7 @@ IsBad (plain offsets) d = (is : List ℤ) → Spells d (table.index (Point is)) 
 IsBad (plain key_type) d = (t : KeyType) → Spells d (table.word (table.type_word t)) → ⊥
 IsBad (plain operation) d = (how : Operation) → Spells d (table.word (table.operation_word how)) → ⊥
 IsBad (plain reduction) d = (how : Op) → Spells d (table.word (table.reduction_word how)) → ⊥
+IsBad (plain any_text) d = (text : List ℕ) → Spells d (table.word text) → ⊥
 IsBad domain d = (text : List ℕ) → d ≡ string text → ⊥
 IsBad mapping d = (text : List ℕ) → d ≡ string text → ⊥
 IsBad workbook d = (text : List ℕ) → d ≡ string text → ⊥

@@ -6,7 +6,7 @@ use Rattle.wb_history.specs.declared.query.Query.TheVariants.{Get, Size, Where, 
 use Rattle.wb_arrays.specs.declared.reduction.Op.{Op}
 use Rattle.wb_arrays.specs.declared.reduction.Op.TheVariants as reductions
 use Rattle.wb_protocol.specs.declared.requests.request.Request.{Request}
-use Rattle.wb_protocol.specs.declared.requests.request.Request.TheVariants.{Change, Undo, Redo, Cascade, Dependents, Ask, Print, History, Edits}
+use Rattle.wb_protocol.specs.declared.requests.request.Request.TheVariants.{Change, Undo, Redo, Cascade, Dependents, Ask, Print, History, Edits, Explain}
 pub use Rattle.wb_protocol.specs.Encoding.Table.{Meaning, word, name, integer, number, index}
 pub use Rattle.wb_protocol.specs.Encoding.Table.{given, mapping, optional_mapping, book, numbers, some_set, some_numbers}
 pub use Rattle.wb_protocol.specs.Encoding.Table.{Fields, op, type_word, operation_word}
@@ -34,3 +34,4 @@ table Print = op (codes "print") ∷ []
 table (History None) = op (codes "history") ∷ []
 table (History (Some k)) = (codes "from", number k) ∷ op (codes "history") ∷ []
 table Edits = op (codes "edits") ∷ []
+table (Explain line) = (codes "line", word line) ∷ op (codes "explain") ∷ []

@@ -58,7 +58,8 @@ fn edit_of(alloc: Global, line: &[u8]) -> Result<Option<Edit>, NoMemory>
             | Request::Ask(_)
             | Request::Print
             | Request::History(_)
-            | Request::Edits,
+            | Request::Edits
+            | Request::Explain(_),
         ) => Ok(None),
         Err(Refusal::NoMemory) => Err(NoMemory),
         Err(

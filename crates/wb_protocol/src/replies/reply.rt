@@ -1,6 +1,7 @@
 ghost use Rattle.std.specs.Prelude.{◌≡◌, IfOk};
 ghost use Rattle.std.specs.Bool.{Decides};
 
+use crate::explaining::explanation::Explanation;
 use crate::replies::edit_numbers::EditNumbers;
 use crate::replies::printed_text::PrintedText;
 use std::alloc::Global;
@@ -29,6 +30,8 @@ pub enum Reply {
     PrintedFrom(u64, PrintedText),
     /// How many edits there are, and how many cells were set.
     Counted(u64, u128),
+    /// What is wrong with a line, if anything is.
+    Explained(Option<Explanation>),
     /// Why nothing was done.
     Refused(Refusal),
 }
@@ -46,6 +49,7 @@ impl Drop for Reply {
             | Reply::Printed(_)
             | Reply::PrintedFrom(_, _)
             | Reply::Counted(_, _)
+            | Reply::Explained(_)
             | Reply::Refused(_) => {}
         }
     }
@@ -66,6 +70,8 @@ impl Reply {
             Reply::Printed(text) => Ok(Reply::Printed(text.copy(alloc)?)),
             Reply::PrintedFrom(edits, text) => Ok(Reply::PrintedFrom(*edits, text.copy(alloc)?)),
             Reply::Counted(edits, writes) => Ok(Reply::Counted(*edits, *writes)),
+            Reply::Explained(Some(wrong)) => Ok(Reply::Explained(Some(wrong.copy(alloc)?))),
+            Reply::Explained(None) => Ok(Reply::Explained(None)),
             Reply::Refused(why) => Ok(Reply::Refused(*why)),
         }
     }
@@ -99,6 +105,7 @@ impl Reply {
                 }
                 *writes == *to
             }
+            (Reply::Explained(wrong), Reply::Explained(by)) => are_equal(wrong, by),
             (Reply::Refused(why), Reply::Refused(by)) => why.is_same(*by),
             _ => false,
         }
@@ -109,4 +116,14 @@ fn are_same(edit: u64, n: usize, by: u64, m: usize) -> bool
     ensures { Decides result ((edit ≡ by) × (n ≡ m)) }
 {
     edit == by && n == m
+}
+
+fn are_equal(wrong: &Option<Explanation>, by: &Option<Explanation>) -> bool
+    ensures { Decides result (wrong.now ≡ by.now) }
+{
+    match (wrong, by) {
+        (Some(wrong), Some(by)) => wrong.is_same(by),
+        (None, None) => true,
+        _ => false,
+    }
 }

@@ -8,6 +8,7 @@ ghost use Rattle.wb_protocol.specs.Printed.{numbers_text, value_text, size_text,
 ghost use Rattle.wb_protocol.specs.Replies.{edit_code, edit_name, code_of, name_of, refusal_data, answer_data, reply_data, reply_of};
 ghost use Rattle.wb_protocol.specs.declared.replies.reply.Reply.TheVariants.{Printed, PrintedFrom};
 
+use crate::replies::explained_text::explained_text;
 use crate::replies::numbers_text::{dependents_text, undone_text};
 use crate::replies::pieces::piece_text;
 use crate::replies::reply::Reply;
@@ -55,7 +56,8 @@ fn edit_name(refusal: wb_cells::Refusal) -> &'static str
     }
 }
 
-fn code_of(refusal: Refusal) -> &'static str
+/// The code of a refusal.
+pub(crate) fn code_of(refusal: Refusal) -> &'static str
     ensures { result.now ≡ code_of refusal }
 {
     match refusal {
@@ -72,7 +74,8 @@ fn code_of(refusal: Refusal) -> &'static str
     }
 }
 
-fn name_of(refusal: Refusal) -> &'static str
+/// The name of a refusal.
+pub(crate) fn name_of(refusal: Refusal) -> &'static str
     ensures { result.now ≡ name_of refusal }
 {
     match refusal {
@@ -244,6 +247,7 @@ fn text_of(alloc: Global, reply: &Reply) -> Result<String, AllocError>
         Reply::Printed(text) => printed_text(alloc, text.as_str()),
         Reply::PrintedFrom(edits, text) => printed_from_text(alloc, *edits, text.as_str()),
         Reply::Counted(edits, writes) => counts_text(alloc, *edits, *writes),
+        Reply::Explained(wrong) => explained_text(alloc, wrong),
         Reply::Refused(refusal) => refusal_text(alloc, *refusal),
     }
 }

@@ -13,7 +13,8 @@ use wb_history::Refusal;
 use wb_reading::{BookErr, read_text};
 use wb_text::BookText;
 
-fn text_of_book(alloc: Global, text: &str) -> Result<BookText, Refusal>
+/// The text, where it is a workbook's.
+pub(crate) fn text_of_book(alloc: Global, text: &str) -> Result<BookText, Refusal>
     ensures { IsAnswer (text_of_book text.now) result }
 {
     match read_text(alloc, text) {

@@ -193,8 +193,8 @@ fn integers_listed(alloc: Global, items: &[Value]) -> Result<Vec<i64>, Refusal>
     Ok(integers)
 }
 
-// The integers that an array has.
-fn integers_of(alloc: Global, value: &Value) -> Result<Vec<i64>, Refusal>
+/// The integers that an array has.
+pub(crate) fn integers_of(alloc: Global, value: &Value) -> Result<Vec<i64>, Refusal>
     ensures { IsAnswer (ok_or (integers_of (view value.now)) Refusal.BadRequest) (result_map_both (λ v. v.items) (λ e. e) result) }
 {
     match value {
@@ -227,7 +227,8 @@ pub(crate) fn index_field(value: &Value, key: &str) -> Result<AnyIndex, Refusal>
     }
 }
 
-fn key_type_of(text: &str) -> Result<KeyType, Refusal>
+/// The type of an associative domain's indices, by its word.
+pub(crate) fn key_type_of(text: &str) -> Result<KeyType, Refusal>
     ensures { result ≡ key_type_of text.now }
 {
     match text {
@@ -245,7 +246,8 @@ pub(crate) fn key_type_field(value: &Value, key: &str) -> Result<KeyType, Refusa
     key_type_of(text)
 }
 
-fn operation_of(text: &str) -> Result<Operation, Refusal>
+/// An operation on two arrays, by its word.
+pub(crate) fn operation_of(text: &str) -> Result<Operation, Refusal>
     ensures { result ≡ operation_of text.now }
 {
     match text {
@@ -265,7 +267,8 @@ pub(crate) fn operation_field(value: &Value, key: &str) -> Result<Operation, Ref
     operation_of(text)
 }
 
-fn reduction_of(text: &str) -> Result<Op, Refusal>
+/// A reduction of an array, by its word.
+pub(crate) fn reduction_of(text: &str) -> Result<Op, Refusal>
     ensures { result ≡ reduction_of text.now }
 {
     match text {

@@ -3,7 +3,9 @@
 pub mod arrays;
 pub mod books;
 pub mod domains;
+pub mod explains;
 pub mod fields;
+pub mod line_text;
 pub mod literals;
 pub mod queries;
 pub mod reading;

@@ -10,6 +10,7 @@ use crate::requests::arrays::{
 };
 use crate::requests::books::load_of;
 use crate::requests::domains::{domain_of, drop_domain_of, remap_of, reshape_of};
+use crate::requests::explains::explain_of;
 use crate::requests::fields::{field_count, has_fields, text_field, u64_field};
 use crate::requests::queries::{
     edits_of, get_of, history_of, piece_of, print_of, reduce_of, size_of, state_of, where_of,
@@ -103,8 +104,8 @@ fn by_array_op(alloc: Global, op: &str, value: &Value) -> Result<Request, Refusa
     }
 }
 
-// What is asked by the word of an op: a change to a domain, a workbook that is loaded, a change to an array, or what is asked of a
-// history.
+// What is asked by the word of an op: a change to a domain, a workbook that is loaded, a line that is explained, a change to an
+// array, or what is asked of a history.
 #[tactic(auto, using(crate::proofs::Lines::as_answer))]
 fn by_op(alloc: Global, op: &str, value: &Value) -> Result<Request, Refusal>
     ensures { IsAnswer (by_op op.now (view value.now)) result }
@@ -119,6 +120,7 @@ fn by_op(alloc: Global, op: &str, value: &Value) -> Result<Request, Refusal>
         "add" => add_of(value),
         "remove" => remove_of(value),
         "load" => load_of(alloc, value),
+        "explain" => explain_of(alloc, value),
         _ => by_array_op(alloc, op, value),
     }
 }

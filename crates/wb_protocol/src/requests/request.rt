@@ -1,6 +1,7 @@
 ghost use Rattle.std.specs.Prelude.{◌≡◌, IfOk};
 ghost use Rattle.std.specs.Bool.{Decides};
 
+use crate::requests::line_text::LineText;
 use std::alloc::Global;
 use wb_edit::Edit;
 use wb_history::Query;
@@ -27,6 +28,8 @@ pub enum Request {
     History(Option<u64>),
     /// How many edits there are, and how many cells were set.
     Edits,
+    /// What is wrong with a line.
+    Explain(LineText),
 }
 
 impl Request {
@@ -44,6 +47,7 @@ impl Request {
             Request::Print => Ok(Request::Print),
             Request::History(from) => Ok(Request::History(*from)),
             Request::Edits => Ok(Request::Edits),
+            Request::Explain(line) => Ok(Request::Explain(line.copy(alloc)?)),
         }
     }
 
@@ -61,6 +65,7 @@ impl Request {
             (Request::Print, Request::Print) => true,
             (Request::History(from), Request::History(by)) => is_same_number(*from, *by),
             (Request::Edits, Request::Edits) => true,
+            (Request::Explain(line), Request::Explain(by)) => line.is_same(by),
             _ => false,
         }
     }

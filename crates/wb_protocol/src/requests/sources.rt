@@ -83,8 +83,8 @@ fn given_text(alloc: Global, text: &str) -> Result<Operand, Refusal>
     }
 }
 
-// What a field gives.
-fn given_by(alloc: Global, field: &Value) -> Result<Operand, Refusal>
+/// What a field gives.
+pub(crate) fn given_by(alloc: Global, field: &Value) -> Result<Operand, Refusal>
     ensures { IsAnswer (given_by (view field.now)) result }
 {
     match field.as_str() {
@@ -102,8 +102,8 @@ fn point_in(index: &Index) -> Option<Point>
     }
 }
 
-// An offset for each dimension.
-fn offsets_by(field: &Value) -> Result<Point, Refusal>
+/// An offset for each dimension.
+pub(crate) fn offsets_by(field: &Value) -> Result<Point, Refusal>
     ensures { result ≡ offsets_by (view field.now) }
 {
     match index_of(field) {

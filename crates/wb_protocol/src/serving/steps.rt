@@ -1,11 +1,13 @@
 // One request after another, each a step of the history.
 ghost use Rattle.std.specs.Prelude.{◌≡◌, Some, None};
-ghost use Rattle.wb_protocol.specs.Machine.{Changes, UndoesNumber, UndoesLatest, Redoes, Cascades, ListsDependents, Answers, Prints, PrintsHistory, PrintsFrom, Counts, Step};
+ghost use Rattle.wb_protocol.specs.Machine.{Changes, UndoesNumber, UndoesLatest, Redoes, Cascades, ListsDependents, Answers, Prints, PrintsHistory, PrintsFrom, Counts, Explains, Step};
 
 use crate::encoding::{print_edits_from, print_history};
+use crate::explaining::explained;
 use crate::replies::edit_numbers::EditNumbers;
 use crate::replies::printed_text::PrintedText;
 use crate::replies::reply::Reply;
+use crate::requests::line_text::LineText;
 use crate::requests::request::Request;
 use std::alloc::Global;
 use wb_arrays::Mover;
@@ -109,8 +111,17 @@ fn count_edits(history: &History) -> Reply
     Reply::Counted(history.len(), history.book().writes())
 }
 
+fn explain_line(alloc: Global, history: &History, line: &LineText) -> Reply
+    ensures { Explains history.now line.now result history.now }
+{
+    match explained(alloc, line.as_str().as_bytes()) {
+        Ok(wrong) => Reply::Explained(wrong),
+        Err(_) => Reply::Refused(Refusal::NoMemory),
+    }
+}
+
 /// Answers a request: an edit, an undo, alone or with dependents, or a redo changes the history; a refusal, a query, a
-/// list of dependents and a print leave it. Pieces that have to move are moved by the mover, which also makes reductions.
+/// list of dependents, what is told of a line and a print leave it. Pieces that have to move are moved by the mover, which also makes reductions.
 pub fn answer_request<M: Mover>(
     alloc: Global,
     history: &mut History,
@@ -131,5 +142,6 @@ pub fn answer_request<M: Mover>(
         Request::History(Some(from)) => print_from(alloc, history, from),
         Request::History(None) => print_whole_history(alloc, history),
         Request::Edits => count_edits(history),
+        Request::Explain(line) => explain_line(alloc, history, &line),
     }
 }

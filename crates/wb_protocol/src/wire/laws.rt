@@ -1,6 +1,7 @@
 //! What holds of the lines of requests: each law is the contract of a function that does nothing.
 
 ghost use Rattle.wb_protocol.specs.Wire.Laws.{ReadsExactly, ReadsLinesExactly, OneRequest, EncodesRequests, ReadsProper, RefusesByTheLeast, ReadsTheFaultless};
+ghost use Rattle.wb_protocol.specs.Explained.{TellsTheLeast};
 
 /// A JSON value is read as a request exactly where it is that request: an object with the members of the table, each
 /// once, in any order, and no others, whose values spell what the table says.
@@ -38,4 +39,10 @@ pub fn refuses_by_the_least()
 /// A JSON value is read as a request exactly where nothing is wrong with it.
 pub fn reads_the_faultless()
     ensures { ReadsTheFaultless }
+{}
+
+/// What is told of a JSON value that is no request is a fault of it with the least code of all, at the field where it is; of a
+/// request nothing is told.
+pub fn explains_the_least()
+    ensures { TellsTheLeast }
 {}

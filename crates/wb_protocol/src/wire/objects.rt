@@ -32,6 +32,13 @@ pub(crate) fn from_number(alloc: Global, from: u64) -> Result<Value, AllocError>
     json!(in alloc; {"from": from, "op": "history"})
 }
 
+/// The members `line` and `op`.
+pub(crate) fn of_line(alloc: Global, line: &str) -> Result<Value, AllocError>
+    ensures { IfOk result (λ v. view v ≡ object (member (codes "line") (string line.now) (member (codes "op") (string (codes "explain")) no_members))) }
+{
+    json!(in alloc; {"line": line, "op": "explain"})
+}
+
 /// The members `a`, `l` and `op`.
 pub(crate) fn piece(alloc: Global, a: &Name, l: u64) -> Result<Value, AllocError>
     ensures { IfOk result (λ v. view v ≡ object (member (codes "a") (string a.now)

@@ -9,7 +9,7 @@ ghost use Rattle.wb_protocol.specs.Wire.Table.{reduction_word};
 
 use crate::Request;
 use crate::encoding::{edit_value, index_of_domain, line_of, of_domain};
-use crate::wire::objects::{by_number, element, from_number, piece, plain, reduction};
+use crate::wire::objects::{by_number, element, from_number, of_line, piece, plain, reduction};
 use serde_json::Value;
 use std::alloc::{AllocError, Global};
 use wb_arrays::Op;
@@ -56,6 +56,7 @@ fn request_value(alloc: Global, request: &Request) -> Result<Value, AllocError>
         Request::History(Some(from)) => from_number(alloc, *from),
         Request::History(None) => plain(alloc, "history"),
         Request::Edits => plain(alloc, "edits"),
+        Request::Explain(line) => of_line(alloc, line.as_str()),
     }
 }
 

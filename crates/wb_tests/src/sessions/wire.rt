@@ -7,7 +7,11 @@ use wb_protocol::wire::{edit_text, request_text};
 use wb_protocol::{Request, read_request};
 
 // Lines, each with the canonical line of its request.
-const LINES: [(&str, &str); 23] = [
+const LINES: [(&str, &str); 24] = [
+    (
+        "{\"op\":\"explain\",\"line\":\"{\\\"op\\\": \\\"size\\\"}\"}",
+        "{\"line\":\"{\\\"op\\\": \\\"size\\\"}\",\"op\":\"explain\"}",
+    ),
     (
         "{\"op\":\"domain\",\"d\":\"D\",\"is\":\"{1..4}\"}",
         "{\"d\":\"D\",\"is\":\"{1..4}\",\"map\":\"none\",\"op\":\"domain\"}",

@@ -2,6 +2,7 @@
 
 mod cascades;
 mod examples;
+mod explains;
 mod histories;
 mod loads;
 mod mappings;
@@ -124,6 +125,7 @@ fn play_each<M: Mover>(rt: &impl Abort, alloc: Global, mover: &M) -> Result<(), 
         texts::SCRIPTS.as_slice(),
         loads::SCRIPTS.as_slice(),
         examples::SCRIPTS.as_slice(),
+        explains::SCRIPTS.as_slice(),
     ] {
         play_all(rt, alloc, scripts, mover)?;
     }

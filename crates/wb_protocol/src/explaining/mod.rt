@@ -1,0 +1,14 @@
+//! What is wrong with a line: the field, and the rule that it breaks (`specs/Explained.antt`).
+
+mod counts;
+pub mod explanation;
+pub mod fault;
+mod forms;
+mod keys;
+mod kinds;
+mod lines;
+mod members;
+mod rules;
+mod values;
+
+pub(crate) use crate::explaining::lines::explained;
