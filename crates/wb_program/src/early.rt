@@ -202,12 +202,7 @@ impl<'c, L: Opening, R: Wait> Settlings<L> for Staying<'c, L, R> {
 }
 
 // What a word is answered at a seat. A connection says its name once.
-fn answer_at<R: Wait>(
-    rt: &R,
-    company: &Company,
-    seat: usize,
-    word: Word,
-) -> Result<Answer, Refusal>
+fn answer_at<R: Wait>(rt: &R, company: &Company, seat: usize, word: Word) -> Result<Answer, Refusal>
     ensures { IsSaidTo seat word result }
 {
     match word {

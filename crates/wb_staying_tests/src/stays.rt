@@ -424,7 +424,15 @@ fn a_desk_on_a_socket_tells_its_path(rt: HostRuntime) -> Result<(), Fail> {
     let mut output = Output::new(&mut printed);
     let company = Company::new(&rt, alloc, 1, true)?;
     assert_eq!(rt;
-        stay(&rt, alloc, &mut ports, &company, &asked, &mut output, &alone),
+        stay(
+            &rt,
+            alloc,
+            &mut ports,
+            &company,
+            &asked,
+            &mut output,
+            &alone
+        ),
         0
     );
     let rest = printed
@@ -440,7 +448,10 @@ fn a_desk_tells_who_did_what(rt: HostRuntime) -> Result<(), Fail> {
     let alone = Crew::alone(&rt);
     let desk = what_stayed(&rt, rt.alloc(), &[BEN, NOBODY], 1, false, &alone)?;
     assert_eq!(rt; desk.status, 0);
-    let told = desk.served.strip_prefix(BEN_TOLD).ok_or("what Ben is told")?;
+    let told = desk
+        .served
+        .strip_prefix(BEN_TOLD)
+        .ok_or("what Ben is told")?;
     assert_eq!(rt; told, NOBODY_TOLD);
     Ok(())
 }
@@ -451,7 +462,10 @@ fn a_kept_desk_tells_who_did_what(rt: HostRuntime) -> Result<(), Fail> {
     let alone = Crew::alone(&rt);
     let desk = stayed_kept(&rt, rt.alloc(), &START, &[BEN, NOBODY], NEVER, &alone)?;
     assert_eq!(rt; desk.status, 0);
-    let told = desk.served.strip_prefix(BEN_TOLD).ok_or("what Ben is told")?;
+    let told = desk
+        .served
+        .strip_prefix(BEN_TOLD)
+        .ok_or("what Ben is told")?;
     assert_eq!(rt; told, NOBODY_TOLD);
     assert!(rt; !desk.left.windows(3).any(|part| part == b"Ben".as_slice()));
     Ok(())
@@ -471,7 +485,10 @@ fn lines_that_are_no_words_are_no_requests(rt: HostRuntime) -> Result<(), Fail> 
 fn a_desk_tells_how_it_stands(rt: HostRuntime) -> Result<(), Fail> {
     let alone = Crew::alone(&rt);
     let desk = what_stayed(&rt, rt.alloc(), &[STANDS], 1, false, &alone)?;
-    let since = desk.served.strip_prefix(STANDS_TOLD).ok_or("how it stands")?;
+    let since = desk
+        .served
+        .strip_prefix(STANDS_TOLD)
+        .ok_or("how it stands")?;
     assert!(rt; since.ends_with(b"}\n") && since.len() > 11);
     Ok(())
 }

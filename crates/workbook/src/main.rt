@@ -342,21 +342,14 @@ fn until_stopped<
     let _waiting = thread::spawn(net, move || wait_for_stop(input, alloc, told)).map_err(
         |_| io::ErrorKind::Other,
     )?;
-    let company = Company::new(net, alloc, asked.seats as usize, asked.quiet)
-        .map_err(|_| io::ErrorKind::OutOfMemory)?;
+    let company = Company::new(net, alloc, asked.seats as usize, asked.quiet).map_err(
+        |_| io::ErrorKind::OutOfMemory,
+    )?;
     let mut ports = Landings::of(net, alloc, stop, asked.idle);
     let mut files = Files::of(rt);
     let mut output = Output::new(BufWriter::new(alloc, rt.stdout())?);
     let status = match journal {
-        None => stay(
-            net,
-            alloc,
-            &mut ports,
-            &company,
-            asked,
-            &mut output,
-            mover,
-        ),
+        None => stay(net, alloc, &mut ports, &company, asked, &mut output, mover),
         Some(path) => stay_kept(
             net,
             alloc,
