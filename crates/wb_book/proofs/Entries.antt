@@ -22,8 +22,8 @@ use Rattle.wb_cells.specs.declared.changes.row.Row.TheVariants.{Inside, Members,
 use Rattle.wb_cells.specs.declared.changes.run.Form.{Form}
 use Rattle.wb_cells.specs.declared.values.index.Index.{Index}
 use Rattle.wb_cells.specs.Cells.{Name, Changes, cell_cmp, is_same_name}
-use Rattle.wb_cells.specs.Runs.{cell_of, change_at, packed_changes, changes_in, in_first, all_changes}
-use Rattle.wb_cells.specs.declared.values.index.Index.TheVariants.{Point}
+use Rattle.wb_cells.specs.Runs.{cell_of, change_at, packed_changes, labelled_at, labelled_changes, changes_in, in_first, all_changes}
+use Rattle.wb_cells.specs.declared.values.index.Index.TheVariants.{Point, Text}
 use Rattle.wb_cells.proofs.Runs.{all-append}
 use Rattle.wb_elements.specs.Entries.{row_changes}
 use Rattle.wb_book.specs.Groups.{Group, LeadTo, leaves, group_in, changes_in as changes_in_groups}
@@ -130,6 +130,15 @@ module _ (f : Form) (row : Row) (es : List (List ℤ × Option ℤ)) (is : chang
     pub row_dropped : b ≡ false → filter p (changes_in f) ≡ []
     row_dropped h = ap (filter p) is ∙ none_kept p (change_at row) (λ e. same e ∙ h) es
 
+-- the same of changes at labels
+module _ (f : Form) (row : Row) (es : List (List ℕ × Option ℤ)) (is : changes_in f ≡ labelled_changes row es) where
+  module _ (p : Change Cell Value → Bool) (b : Bool) (same : (e : List ℕ × Option ℤ) → p (labelled_at row e) ≡ b) where
+    pub labels_kept : b ≡ true → filter p (changes_in f) ≡ changes_in f
+    labels_kept h = ap (filter p) is ∙ all_kept p (labelled_at row) (λ e. same e ∙ h) es ∙ sym is
+
+    pub labels_dropped : b ≡ false → filter p (changes_in f) ≡ []
+    labels_dropped h = ap (filter p) is ∙ none_kept p (labelled_at row) (λ e. same e ∙ h) es
+
 pub leaves_row : (stored : Cell → Option Value) (row : Row) (i : Index) (v : Option Value) → leaves stored (record { cell = cell_of row i; value = v }) ≡ true
 leaves_row stored (Inside d) i v = refl
 leaves_row stored (Members d) i v = refl
@@ -154,6 +163,14 @@ never_named form row es n is e =
     let none : changes cell_cmp (packed_changes row es) (Object n) ≡ false =
     none_pass (λ (x : Change Cell Value). eq_by_cmp cell_cmp (Object n) x.cell) (change_at row) (λ y. no_object row n (Point y.0)) es in
     let all : changes cell_cmp (packed_changes row es) (Object n) ≡ true = ap (λ ys. changes cell_cmp ys (Object n)) (sym is) ∙ e in
+    true≢false (sym all ∙ none)
+
+pub never_labelled : (form : Form) (row : Row) (es : List (List ℕ × Option ℤ)) (n : Name) → changes_in form ≡ labelled_changes row es →
+    changes cell_cmp (changes_in form) (Object n) ≡ true → ⊥
+never_labelled form row es n is e =
+    let none : changes cell_cmp (labelled_changes row es) (Object n) ≡ false =
+    none_pass (λ (x : Change Cell Value). eq_by_cmp cell_cmp (Object n) x.cell) (labelled_at row) (λ y. no_object row n (Text y.0)) es in
+    let all : changes cell_cmp (labelled_changes row es) (Object n) ≡ true = ap (λ ys. changes cell_cmp ys (Object n)) (sym is) ∙ e in
     true≢false (sym all ∙ none)
 
 pub on_ok_ever : {T E P : Type 0} (r : Result T E) → P → OnOk r P

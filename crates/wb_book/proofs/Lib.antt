@@ -10,6 +10,7 @@ pub mod Seen
 pub mod Leads
 pub mod Entries
 pub mod EntriesSet
+pub mod EachChange
 pub mod Told
 pub mod Applied
 pub mod Built

@@ -117,6 +117,7 @@ fn are_stored(form: &Form) -> bool
         Form::Line(packed) => is_row_stored(packed.row()),
         Form::Plane(packed) => is_row_stored(packed.row()),
         Form::Solid(packed) => is_row_stored(packed.row()),
+        Form::Labels(labels) => is_row_stored(labels.row()),
         Form::Rectangle(rectangle) => is_row_stored(rectangle.row()),
         Form::Numbers(rectangle) => is_row_stored(rectangle.row()),
     }
@@ -455,6 +456,7 @@ fn form_before(
         Form::Line(packed) => line_before(alloc, arrays, packed),
         Form::Plane(packed) => plane_before(alloc, arrays, packed),
         Form::Solid(packed) => solid_before(alloc, arrays, packed),
+        Form::Labels(_) => Ok(None),
         Form::Rectangle(block) => same_before(alloc, cells, arrays, block),
         Form::Numbers(block) => each_before(alloc, cells, arrays, block),
     }

@@ -13,7 +13,7 @@ ghost use Rattle.wb_cells.specs.declared.cells.cell.Cell.TheVariants.{Object};
 ghost use Rattle.wb_cells.specs.declared.cells.value.Value.{Value as value_type};
 ghost use Rattle.wb_cells.specs.declared.cells.value.Value.TheVariants.{Number as number_value};
 ghost use Rattle.wb_cells.specs.Cells.{cell_cmp, is_same_name};
-ghost use Rattle.wb_cells.specs.Runs.{changes_in as run_changes, all_changes, packed_changes};
+ghost use Rattle.wb_cells.specs.Runs.{changes_in as run_changes, all_changes, packed_changes, labelled_changes};
 ghost use Rattle.wb_cells.specs.declared.values.index.Index.TheVariants.{Point as point_index};
 ghost use Rattle.wb_elements.specs.Blocks.{listed};
 ghost use Rattle.wb_elements.specs.Entries.{row_changes};
@@ -26,7 +26,9 @@ use std::alloc::Global;
 use std::collections::BTreeMap;
 use std::marker::Model;
 use std::mem;
-use wb_cells::{AnyIndex, Cell, CellChange, ChangeRun, Changes, Form, Name, Row, Value};
+use wb_cells::{
+    AnyIndex, Cell, CellChange, ChangeRun, Changes, Form, LabelChanges, Name, Row, Value,
+};
 use wb_elements::{AsIndex, Block, Elements, Kept, list_block};
 use wb_range::NoMemory;
 
@@ -294,6 +296,23 @@ fn add_block<B: Block>(
     }
 }
 
+// Adds changes at labels, one by one, to those of the arrays whose elements they set.
+fn add_labels(
+    alloc: Global,
+    groups: &mut BTreeMap<Name, Group>,
+    labels: &LabelChanges,
+) -> Result<(), NoMemory>
+    requires { list_all is_numeric (labelled_changes labels.now.0 labels.now.1) ≡ true }
+    ensures lead { (before : List (Change cell_type value_type)) → ((b : List ℕ) → LeadTo before b (changes_in groups.old.entries b)) →
+        OnOk result ((b : List ℕ) → LeadTo (before ++ labelled_changes labels.now.0 labels.now.1) b (changes_in groups.new.entries b)) }
+    ensures stays { (b : List ℕ) → IsSome (group_in groups.old.entries b) → IsSome (group_in groups.new.entries b) }
+{
+    for at in 0..labels.len() {
+        add_change(alloc, groups, &labels.change(at))?;
+    }
+    Ok(())
+}
+
 // Adds the changes of a run to those of the arrays whose elements they set; each object that changes is named as well.
 fn add_run(alloc: Global, groups: &mut BTreeMap<Name, Group>, form: &Form) -> Result<(), NoMemory>
     requires { list_all is_numeric (run_changes form.now) ≡ true }
@@ -307,6 +326,7 @@ fn add_run(alloc: Global, groups: &mut BTreeMap<Name, Group>, form: &Form) -> Re
         Form::Line(packed) => add_entries(alloc, groups, packed.row(), packed.changes()),
         Form::Plane(packed) => add_entries(alloc, groups, packed.row(), packed.changes()),
         Form::Solid(packed) => add_entries(alloc, groups, packed.row(), packed.changes()),
+        Form::Labels(labels) => add_labels(alloc, groups, labels),
         Form::Rectangle(block) => add_block(alloc, groups, block),
         Form::Numbers(block) => add_block(alloc, groups, block),
     }
@@ -392,6 +412,7 @@ fn run_leaves(cells: &BTreeMap<Cell, Value>, form: &Form) -> bool
         Form::Line(_) => true,
         Form::Plane(_) => true,
         Form::Solid(_) => true,
+        Form::Labels(_) => true,
         Form::Rectangle(_) => true,
         Form::Numbers(_) => true,
     }

@@ -6,7 +6,7 @@ ghost use Rattle.selective_undo.specs.Changes.{applied, apply};
 ghost use Rattle.wb_cells.specs.declared.values.index.Index.{Index};
 ghost use Rattle.std.specs.Map.{keys_of};
 ghost use Rattle.wb_cells.specs.Cells.{Cells, is_same_name};
-ghost use Rattle.wb_cells.specs.Runs.{changes_in, all_changes, packed_changes};
+ghost use Rattle.wb_cells.specs.Runs.{changes_in, all_changes, packed_changes, labelled_changes};
 ghost use Rattle.wb_cells.specs.declared.values.index.Index.TheVariants.{Point as point_index};
 ghost use Rattle.wb_book.specs.Kept.{array_in, with_element, with_elements, Agree, number_in, is_set};
 ghost use Rattle.wb_elements.specs.Entries.{row_changes, read_at};
@@ -17,7 +17,9 @@ ghost use Rattle.wb_book.specs.Joined.{answer, stored_in, element_in};
 
 use std::alloc::Global;
 use std::collections::BTreeMap;
-use wb_cells::{AnyIndex, Cell, CellChange, ChangeRun, Changes, Form, Name, Row, Value};
+use wb_cells::{
+    AnyIndex, Cell, CellChange, ChangeRun, Changes, Form, LabelChanges, Name, Row, Value,
+};
 use wb_elements::{AsIndex, Block, Elements, PieceKey, is_block_there, write_block};
 use wb_range::NoMemory;
 
@@ -191,6 +193,18 @@ fn is_block_set<B: Block>(arrays: &BTreeMap<Name, Elements>, block: &B) -> bool
     }
 }
 
+// Whether each change at labels sets an element that is there.
+fn are_labels_set(arrays: &BTreeMap<Name, Elements>, labels: &LabelChanges) -> bool
+    ensures { result ≡ list_all (is_set (element_in arrays.now.entries)) (labelled_changes labels.now.0 labels.now.1) }
+{
+    for at in 0..labels.len() {
+        if !is_set(arrays, &labels.change(at)) {
+            return false;
+        }
+    }
+    true
+}
+
 // Whether each change of a run sets an element that is there.
 fn is_run_set(arrays: &BTreeMap<Name, Elements>, form: &Form) -> bool
     ensures { result ≡ list_all (is_set (element_in arrays.now.entries)) (changes_in form.now) }
@@ -200,6 +214,7 @@ fn is_run_set(arrays: &BTreeMap<Name, Elements>, form: &Form) -> bool
         Form::Line(packed) => are_entries_set(arrays, packed.row(), packed.changes()),
         Form::Plane(packed) => are_entries_set(arrays, packed.row(), packed.changes()),
         Form::Solid(packed) => are_entries_set(arrays, packed.row(), packed.changes()),
+        Form::Labels(labels) => are_labels_set(arrays, labels),
         Form::Rectangle(block) => is_block_set(arrays, block),
         Form::Numbers(block) => is_block_set(arrays, block),
     }
@@ -310,6 +325,19 @@ fn set_block<B: Block>(arrays: &mut BTreeMap<Name, Elements>, block: &B)
     }
 }
 
+// Makes changes at labels, one by one, each of which sets an element that is there.
+fn set_labels(arrays: &mut BTreeMap<Name, Elements>, labels: &LabelChanges)
+    requires { list_all (is_set (element_in arrays.old.entries)) (labelled_changes labels.now.0 labels.now.1) ≡ true }
+    ensures agree { (s : Cells) → Agree arrays.old.entries s → Agree arrays.new.entries (apply (labelled_changes labels.now.0 labels.now.1) s) }
+    ensures there { (b : List ℕ) (i : Index) → is_some (element_in arrays.new.entries b i) ≡ is_some (element_in arrays.old.entries b i) }
+    ensures names { keys_of arrays.new.entries ≡ keys_of arrays.old.entries }
+    ensures lie { (b : List ℕ) → option_map (λ p. p.1) (array_in arrays.new.entries b) ≡ option_map (λ p. p.1) (array_in arrays.old.entries b) }
+{
+    for at in 0..labels.len() {
+        set_one(arrays, &labels.change(at));
+    }
+}
+
 // Makes the changes of a run, each of which sets an element that is there.
 fn set_run(arrays: &mut BTreeMap<Name, Elements>, form: &Form)
     requires { list_all (is_set (element_in arrays.old.entries)) (changes_in form.now) ≡ true }
@@ -323,6 +351,7 @@ fn set_run(arrays: &mut BTreeMap<Name, Elements>, form: &Form)
         Form::Line(packed) => set_entries(arrays, packed.row(), packed.changes()),
         Form::Plane(packed) => set_entries(arrays, packed.row(), packed.changes()),
         Form::Solid(packed) => set_entries(arrays, packed.row(), packed.changes()),
+        Form::Labels(labels) => set_labels(arrays, labels),
         Form::Rectangle(block) => set_block(arrays, block),
         Form::Numbers(block) => set_block(arrays, block),
     }

@@ -10,6 +10,7 @@ pub mod Leading
 pub mod Objects
 pub mod Users
 pub mod Families
+pub mod Labels
 pub mod Runs
 pub mod LastRun
 pub mod RectangleRead

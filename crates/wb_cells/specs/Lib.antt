@@ -5,6 +5,7 @@ pub mod Shapes
 pub mod Kinds
 pub mod Layouts
 pub mod Cells
+pub mod Labelled
 pub mod Runs
 pub mod Reads
 pub mod Schema

@@ -11,10 +11,10 @@ use Rattle.wb_cells.specs.declared.changes.indexed.IndexedChange.{IndexedChange}
 use Rattle.wb_cells.specs.declared.changes.row.Row.{Row}
 use Rattle.wb_cells.specs.declared.changes.row.Row.TheVariants.{Inside, Members, Elements}
 use Rattle.wb_cells.specs.declared.changes.run.Form.{Form}
-use Rattle.wb_cells.specs.declared.changes.run.Form.TheVariants.{One, Line, Plane, Solid, Rectangle, Numbers}
+use Rattle.wb_cells.specs.declared.changes.run.Form.TheVariants.{One, Line, Plane, Solid, Labels, Rectangle, Numbers}
 use Rattle.wb_cells.specs.declared.changes.run.ChangeRun.{ChangeRun}
 use Rattle.wb_cells.specs.declared.values.index.Index.{Index}
-use Rattle.wb_cells.specs.declared.values.index.Index.TheVariants.{Point}
+use Rattle.wb_cells.specs.declared.values.index.Index.TheVariants.{Point, Text}
 use Rattle.wb_cells.specs.Cells.{Changes, count_of}
 use Rattle.wb_rect.specs.Product.{product}
 
@@ -37,6 +37,13 @@ change_at row e = record { cell = cell_of row (Point e.0); value = option_map (v
 abbrev pub packed_changes : Row → List (List ℤ × Option ℤ) → Changes
 packed_changes row es = map (change_at row) es
 
+-- a change of a row by its label, and by the number that is set, if one is
+abbrev pub labelled_at : Row → List ℕ × Option ℤ → Change Cell Value
+labelled_at row e = record { cell = cell_of row (Text e.0); value = option_map (value_of row) e.1 }
+
+abbrev pub labelled_changes : Row → List (List ℕ × Option ℤ) → Changes
+labelled_changes row es = map (labelled_at row) es
+
 -- the change of a cell of a row, by its index and a number
 abbrev pub indexed_change : IndexedChange → Change Cell Value
 indexed_change e = record { cell = cell_of e.row e.index; value = option_map (value_of e.row) e.number }
@@ -55,6 +62,7 @@ changes_in (One x) = x ∷ []
 changes_in (Line p) = packed_changes p.row p.changes.items
 changes_in (Plane p) = packed_changes p.row p.changes.items
 changes_in (Solid p) = packed_changes p.row p.changes.items
+changes_in (Labels l) = labelled_changes l.0 l.1
 changes_in (Rectangle r) = packed_changes r.row (rectangle_entries r.ranges r.number)
 changes_in (Numbers r) = packed_changes r.row (numbered_entries r.ranges r.numbers.items)
 

@@ -20,6 +20,7 @@ pub use crate::changes::change::CellChange;
 pub use crate::changes::delta::Delta;
 pub use crate::changes::indexed::IndexedChange;
 pub use crate::changes::inverse::Inverse;
+pub use crate::changes::labels::LabelChanges;
 pub use crate::changes::list::Changes;
 pub use crate::changes::numbers::RectangleNumbers;
 pub use crate::changes::packed::Packed;

@@ -67,6 +67,10 @@ fn put_run(runs: &mut Vec<ReadRun>, run: ReadRun) -> Result<(), NoMemory>
     ensures ok { OnOk result (all_read runs.new.items ≡ all_read runs.old.items ++ read_in run) }
     ensures err { OnErr result (all_read runs.new.items ≡ all_read runs.old.items) }
 {
+    // A list of one run is common, and kept for long: it takes the room of one.
+    if runs.is_empty() && runs.reserve_exact(1).is_err() {
+        return Err(NoMemory);
+    }
     match runs.push(run) {
         Ok(()) => Ok(()),
         Err(_) => Err(NoMemory),

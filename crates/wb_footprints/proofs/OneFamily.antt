@@ -10,10 +10,10 @@ use Rattle.wb_cells.specs.declared.cells.value.Value.{Value}
 use Rattle.wb_cells.specs.declared.changes.row.Row.{Row}
 use Rattle.wb_cells.specs.declared.changes.row.Row.TheVariants.{Inside, Members, Elements}
 use Rattle.wb_cells.specs.declared.changes.run.Form.{Form}
-use Rattle.wb_cells.specs.declared.changes.run.Form.TheVariants.{One, Line, Plane, Solid, Rectangle, Numbers}
-use Rattle.wb_cells.specs.declared.values.index.Index.TheVariants.{Point}
+use Rattle.wb_cells.specs.declared.changes.run.Form.TheVariants.{One, Line, Plane, Solid, Labels, Rectangle, Numbers}
+use Rattle.wb_cells.specs.declared.values.index.Index.TheVariants.{Point, Text}
 use Rattle.wb_cells.specs.Cells.{Name, same_names}
-use Rattle.wb_cells.specs.Runs.{cell_of, change_at, packed_changes, rectangle_entries, numbered_entries, changes_in}
+use Rattle.wb_cells.specs.Runs.{cell_of, change_at, packed_changes, labelled_at, labelled_changes, rectangle_entries, numbered_entries, changes_in}
 use Rattle.wb_footprints.specs.declared.foot_index.FootIndex.{FootIndex}
 use Rattle.wb_footprints.specs.declared.place.Place.{Place}
 use Rattle.wb_footprints.specs.Places.{family, place_marked}
@@ -43,12 +43,19 @@ module _ (g : Option Place → Bool) where
   in_row (Members n) = made_alike (change_at (Members n)) (g (family (cell_of (Members n) (Point [])))) (λ e. refl)
   in_row (Elements n) = made_alike (change_at (Elements n)) (g (family (cell_of (Elements n) (Point [])))) (λ e. refl)
 
+  at_labels : (row : Row) (es : List (List ℕ × Option ℤ)) (d : Change Cell Value) (c : Cell) → 0 < length (labelled_changes row es) →
+      c ≡ (get_or (labelled_changes row es) 0 d).cell → list_any (λ x. g (family x.cell)) (labelled_changes row es) ≡ g (family c)
+  at_labels (Inside n) = made_alike (labelled_at (Inside n)) (g (family (cell_of (Inside n) (Text [])))) (λ e. refl)
+  at_labels (Members n) = made_alike (labelled_at (Members n)) (g (family (cell_of (Members n) (Text [])))) (λ e. refl)
+  at_labels (Elements n) = made_alike (labelled_at (Elements n)) (g (family (cell_of (Elements n) (Text [])))) (λ e. refl)
+
   pub one_family : (form : Form) (d : Change Cell Value) (c : Cell) → 0 < length (changes_in form) → c ≡ (get_or (changes_in form) 0 d).cell →
       list_any (λ x. g (family x.cell)) (changes_in form) ≡ g (family c)
   one_family (One x) d c some first = or_false (g (family x.cell)) ∙ ap (λ k. g (family k)) (sym first)
   one_family (Line p) d c some first = in_row p.row p.changes.items d c some first
   one_family (Plane p) d c some first = in_row p.row p.changes.items d c some first
   one_family (Solid p) d c some first = in_row p.row p.changes.items d c some first
+  one_family (Labels l) d c some first = at_labels l.0 l.1 d c some first
   one_family (Rectangle r) d c some first = in_row r.row (rectangle_entries r.ranges r.number) d c some first
   one_family (Numbers r) d c some first = in_row r.row (numbered_entries r.ranges r.numbers.items) d c some first
 

@@ -62,6 +62,7 @@ impl Row {
             Form::Line(line) => Some(Row::of(line.row())),
             Form::Plane(plane) => Some(Row::of(plane.row())),
             Form::Solid(solid) => Some(Row::of(solid.row())),
+            Form::Labels(_) => None,
             Form::Rectangle(rectangle) => Some(Row::of(rectangle.row())),
             Form::Numbers(rectangle) => Some(Row::of(rectangle.row())),
         }
@@ -152,6 +153,7 @@ impl Run {
             Form::Line(line) => packed_run(alloc, line),
             Form::Plane(plane) => packed_run(alloc, plane),
             Form::Solid(solid) => packed_run(alloc, solid),
+            Form::Labels(_) => None,
             Form::Rectangle(rectangle) => Some(rectangle_run(rectangle)),
             Form::Numbers(rectangle) => numbers_run(rectangle),
         }

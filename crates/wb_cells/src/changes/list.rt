@@ -278,7 +278,8 @@ fn has_place(runs: &[ChangeRun], number: usize, at: usize) -> bool
     }
 }
 
-// Adds a change that has a place of the list, to the last run or as a run of its own.
+// Adds a change that has a place of the list, to the last run or as a run of its own. The first run takes the room of one, since
+// most lists have no more, and are kept for long.
 fn put(
     alloc: Global,
     runs: &mut Option<Vec<ChangeRun>>,
@@ -291,7 +292,7 @@ fn put(
 {
     match runs {
         None => {
-            let mut list = Vec::new(alloc);
+            let mut list = Vec::with_capacity(alloc, 1)?;
             put_run(alloc, &mut list, start, change)?;
             *runs = Some(list);
             Ok(())
@@ -305,7 +306,7 @@ fn put(
     }
 }
 
-// Adds a run that has a place of the list, behind the others.
+// Adds a run that has a place of the list, behind the others. The first takes the room of one.
 fn put_form(
     alloc: Global,
     runs: &mut Option<Vec<ChangeRun>>,
@@ -318,7 +319,7 @@ fn put_form(
 {
     match runs {
         None => {
-            let mut list = Vec::new(alloc);
+            let mut list = Vec::with_capacity(alloc, 1)?;
             add_run(&mut list, start, form)?;
             *runs = Some(list);
             Ok(())

@@ -4,6 +4,7 @@ pub mod change;
 pub mod delta;
 pub mod indexed;
 pub mod inverse;
+pub mod labels;
 pub mod list;
 pub mod numbers;
 pub mod packed;

@@ -11,6 +11,7 @@ ghost use Rattle.wb_cells.specs.Runs.{changes_in, indexed_change, HasPlace};
 use crate::cells::cell::Cell;
 use crate::changes::change::{CellChange, counted_one};
 use crate::changes::indexed::IndexedChange;
+use crate::changes::labels::LabelChanges;
 use crate::changes::numbers::RectangleNumbers;
 use crate::changes::packed::Packed;
 use crate::changes::rectangle::RectangleChanges;
@@ -29,6 +30,8 @@ pub enum Form {
     Plane(Packed<2>),
     /// Changes at triples.
     Solid(Packed<3>),
+    /// Changes at labels.
+    Labels(LabelChanges),
     /// The same number, or none, at each index of a rectangle.
     Rectangle(RectangleChanges),
     /// A number at each index of a rectangle.
@@ -59,6 +62,9 @@ impl Form {
         if let Some(solid) = Packed::of(alloc, &row, change)? {
             return Ok(Form::Solid(solid));
         }
+        if let Some(labels) = LabelChanges::of(alloc, &row, change)? {
+            return Ok(Form::Labels(labels));
+        }
         Ok(Form::One(*change))
     }
 
@@ -73,6 +79,7 @@ impl Form {
             Form::Line(line) => line.add(change),
             Form::Plane(plane) => plane.add(change),
             Form::Solid(solid) => solid.add(change),
+            Form::Labels(labels) => labels.add(change),
             Form::Rectangle(_) => Ok(false),
             Form::Numbers(_) => Ok(false),
         }
@@ -91,6 +98,7 @@ impl Form {
             Form::Line(line) => line.add_indexed(change),
             Form::Plane(plane) => plane.add_indexed(change),
             Form::Solid(solid) => solid.add_indexed(change),
+            Form::Labels(labels) => labels.add_indexed(change),
             Form::Rectangle(_) => Ok(false),
             Form::Numbers(_) => Ok(false),
         }
@@ -107,6 +115,7 @@ impl Form {
             Form::Line(line) => line.len(),
             Form::Plane(plane) => plane.len(),
             Form::Solid(solid) => solid.len(),
+            Form::Labels(labels) => labels.len(),
             Form::Rectangle(rectangle) => rectangle.len(),
             Form::Numbers(rectangle) => rectangle.len(),
         }
@@ -121,6 +130,7 @@ impl Form {
             Form::Line(line) => line.count(),
             Form::Plane(plane) => plane.count(),
             Form::Solid(solid) => solid.count(),
+            Form::Labels(labels) => labels.count(),
             Form::Rectangle(rectangle) => rectangle.count(),
             Form::Numbers(rectangle) => rectangle.count(),
         }
@@ -152,6 +162,7 @@ impl ChangeRun {
             Form::Line(line) => line.change(at),
             Form::Plane(plane) => plane.change(at),
             Form::Solid(solid) => solid.change(at),
+            Form::Labels(labels) => labels.change(at),
             Form::Rectangle(rectangle) => rectangle.change(at),
             Form::Numbers(rectangle) => rectangle.change(at),
         }
@@ -167,6 +178,7 @@ impl ChangeRun {
             Form::Line(line) => line.cell(at),
             Form::Plane(plane) => plane.cell(at),
             Form::Solid(solid) => solid.cell(at),
+            Form::Labels(labels) => labels.cell(at),
             Form::Rectangle(rectangle) => rectangle.cell(at),
             Form::Numbers(rectangle) => rectangle.cell(at),
         }

@@ -1,9 +1,9 @@
 use Rattle.std.proofs.Common.{sym, ap, ◌∙◌}
 use Rattle.wb_cells.specs.declared.changes.row.Row.{Row}
 use Rattle.wb_cells.specs.Runs.{cell_of, changes_in, rectangle_entries, numbered_entries}
-use Rattle.wb_cells.specs.declared.values.index.Index.TheVariants.{Point}
+use Rattle.wb_cells.specs.declared.values.index.Index.TheVariants.{Point, Text}
 use Rattle.wb_book.specs.Joined.{is_stored}
-use Rattle.wb_book.proofs.Entries.{row_kept, row_dropped}
+use Rattle.wb_book.proofs.Entries.{row_kept, row_dropped, labels_kept, labels_dropped}
 use Rattle.wb_book.proofs.after.are_stored.Goals as goal
 
 pub returns-in-Line-clause-all : goal.returns-in-Line-clause-all
@@ -41,6 +41,20 @@ returns-in-Solid-clause-none c =
     row_dropped c.args.form.now c.in-Solid.packed.row c.in-Solid.packed.changes.items (ap changes_in c.in-Solid.is)
     (λ x. is_stored x.cell) c.is_row_stored-in-Solid.result
     (λ e. sym (c.is_row_stored-in-Solid.ensures (Point e.0) ∙ ap (λ (r : Row). is_stored (cell_of r (Point e.0))) c.row-in-Solid.ensures))
+
+pub returns-in-Labels-clause-all : goal.returns-in-Labels-clause-all
+returns-in-Labels-clause-all c =
+    let l = c.in-Labels.labels in
+    labels_kept c.args.form.now l.0 l.1 (ap changes_in c.in-Labels.is)
+    (λ x. is_stored x.cell) c.is_row_stored-in-Labels.result
+    (λ e. sym (c.is_row_stored-in-Labels.ensures (Text e.0) ∙ ap (λ (r : Row). is_stored (cell_of r (Text e.0))) c.row-in-Labels.ensures))
+
+pub returns-in-Labels-clause-none : goal.returns-in-Labels-clause-none
+returns-in-Labels-clause-none c =
+    let l = c.in-Labels.labels in
+    labels_dropped c.args.form.now l.0 l.1 (ap changes_in c.in-Labels.is)
+    (λ x. is_stored x.cell) c.is_row_stored-in-Labels.result
+    (λ e. sym (c.is_row_stored-in-Labels.ensures (Text e.0) ∙ ap (λ (r : Row). is_stored (cell_of r (Text e.0))) c.row-in-Labels.ensures))
 
 pub returns-in-Rectangle-clause-all : goal.returns-in-Rectangle-clause-all
 returns-in-Rectangle-clause-all c =

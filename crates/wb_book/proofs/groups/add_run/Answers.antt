@@ -6,7 +6,7 @@ use Rattle.wb_cells.specs.Cells.{Changes}
 use Rattle.wb_cells.specs.Runs.{changes_in as run_changes, packed_changes, rectangle_entries, numbered_entries}
 use Rattle.wb_book.specs.Groups.{LeadTo, changes_in, is_numeric}
 use Rattle.wb_book.proofs.ElementsSet.{both_true}
-use Rattle.wb_book.proofs.Entries.{never_named, on_ok_ever}
+use Rattle.wb_book.proofs.Entries.{never_named, never_labelled, on_ok_ever}
 use Rattle.wb_book.proofs.groups.add_run.Goals as goal
 
 pub add_change-requires : goal.add_change-requires
@@ -55,6 +55,19 @@ pub returns-in-Solid-clause-object : goal.returns-in-Solid-clause-object
 returns-in-Solid-clause-object c =
     on_ok_ever c.add_entries-in-Solid.result (λ b e. absurd (never_named c.args.form.now c.in-Solid.packed.row c.in-Solid.packed.changes.items b
     (ap run_changes c.in-Solid.is) e))
+
+pub add_labels-requires : goal.add_labels-requires
+add_labels-requires c = ap (λ f. list_all is_numeric (run_changes f)) (sym c.in-Labels.is) ∙ c.requires
+
+pub returns-in-Labels-clause-lead : goal.returns-in-Labels-clause-lead
+returns-in-Labels-clause-lead c = λ before lead.
+    subst (λ (ys : Changes). OnOk c.add_labels.result ((b : List ℕ) → LeadTo (before ++ ys) b (changes_in c.add_labels.new.groups.entries b)))
+    (sym (ap run_changes c.in-Labels.is)) (c.add_labels.ensures.lead before lead)
+
+pub returns-in-Labels-clause-object : goal.returns-in-Labels-clause-object
+returns-in-Labels-clause-object c =
+    let l = c.in-Labels.labels in
+    on_ok_ever c.add_labels.result (λ b e. absurd (never_labelled c.args.form.now l.0 l.1 b (ap run_changes c.in-Labels.is) e))
 
 pub returns-in-Rectangle-clause-lead : goal.returns-in-Rectangle-clause-lead
 returns-in-Rectangle-clause-lead c = λ before lead.

@@ -1,7 +1,7 @@
 use Rattle.std.proofs.Common.{sym, ap, ◌∙◌}
 use Rattle.std.specs.List.{list_all}
-use Rattle.wb_cells.specs.Runs.{changes_in, change_at, rectangle_entries, numbered_entries}
-use Rattle.wb_cells.specs.declared.values.index.Index.TheVariants.{Point}
+use Rattle.wb_cells.specs.Runs.{changes_in, change_at, labelled_at, rectangle_entries, numbered_entries}
+use Rattle.wb_cells.specs.declared.values.index.Index.TheVariants.{Point, Text}
 use Rattle.wb_book.specs.Joined.{stored_in}
 use Rattle.wb_book.specs.Groups.{leaves}
 use Rattle.wb_book.proofs.Entries.{all_pass, leaves_row}
@@ -27,6 +27,13 @@ returns-in-Solid c =
     let row = c.in-Solid.field-0.row in
     sym (ap (λ f. list_all p (changes_in f)) c.in-Solid.is
     ∙ all_pass p (change_at row) (λ e. leaves_row (stored_in c.args.cells.now.entries) row (Point e.0) _) c.in-Solid.field-0.changes.items)
+
+pub returns-in-Labels : goal.returns-in-Labels
+returns-in-Labels c =
+    let p = leaves (stored_in c.args.cells.now.entries) in
+    let l = c.in-Labels.field-0 in
+    sym (ap (λ f. list_all p (changes_in f)) c.in-Labels.is
+    ∙ all_pass p (labelled_at l.0) (λ e. leaves_row (stored_in c.args.cells.now.entries) l.0 (Text e.0) _) l.1)
 
 pub returns-in-Rectangle : goal.returns-in-Rectangle
 returns-in-Rectangle c =

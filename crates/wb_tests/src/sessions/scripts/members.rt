@@ -179,8 +179,43 @@ const COMING_UNDER_AN_ARRAY: &str = r#"
 {"op":"size","d":"N"} -> {"size":1}
 "#;
 
+// Labels of 0, 1, 2 and 64 bytes: fills of an array over them, indices that go and come back, and a drop, each taken back by number.
+const AT_LABELS: &str = r#"
+{"op":"assoc","d":"N","of":"text"} -> {"edit":1,"n":1}
+{"op":"reshape","d":"N","to":"{\"b\", \"xxxxxxxxxxxxxxxxxxxxxxxxxxxxxxxxxxxxxxxxxxxxxxxxxxxxxxxxxxxxxxxx\", \"\", \"é\"}"} -> {"edit":2,"n":4}
+{"op":"array","a":"A","d":"N"} -> {"edit":3,"n":7}
+{"op":"fill_all","a":"A","v":5} -> {"edit":4,"n":4}
+{"op":"set","a":"A","i":"é","v":-3} -> {"edit":5,"n":1}
+{"op":"fill_all","a":"A","v":6} -> {"edit":6,"n":4}
+{"op":"set","a":"A","i":"b","v":7} -> {"edit":7,"n":1}
+{"op":"undo","k":6} -> {"by":7,"error":"E14","name":"blocked"}
+{"op":"undo","k":7} -> {"n":1,"undone":7}
+{"op":"undo","k":6} -> {"n":4,"undone":6}
+{"op":"get","a":"A","i":"é"} -> {"value":-3}
+{"op":"get","a":"A","i":""} -> {"value":5}
+{"op":"get","a":"A","i":"xxxxxxxxxxxxxxxxxxxxxxxxxxxxxxxxxxxxxxxxxxxxxxxxxxxxxxxxxxxxxxxx"} -> {"value":5}
+{"op":"redo","k":6} -> {"n":4,"redone":6}
+{"op":"get","a":"A","i":"é"} -> {"value":6}
+{"op":"reshape","d":"N","minus":"{\"xxxxxxxxxxxxxxxxxxxxxxxxxxxxxxxxxxxxxxxxxxxxxxxxxxxxxxxxxxxxxxxx\", \"b\"}"} -> {"edit":8,"n":4}
+{"op":"get","a":"A","i":"b"} -> {"error":"E06","name":"out-of-domain"}
+{"op":"undo","k":6} -> {"by":8,"error":"E14","name":"blocked"}
+{"op":"undo","k":8} -> {"n":4,"undone":8}
+{"op":"get","a":"A","i":"b"} -> {"value":6}
+{"op":"redo","k":8} -> {"n":4,"redone":8}
+{"op":"size","d":"N"} -> {"size":2}
+{"op":"undo","k":8} -> {"n":4,"undone":8}
+{"op":"drop_array","a":"A"} -> {"edit":9,"n":7}
+{"op":"undo","k":9} -> {"n":7,"undone":9}
+{"op":"get","a":"A","i":"xxxxxxxxxxxxxxxxxxxxxxxxxxxxxxxxxxxxxxxxxxxxxxxxxxxxxxxxxxxxxxxx"} -> {"value":6}
+{"op":"remove","d":"N","i":""} -> {"edit":10,"n":2}
+{"op":"where","d":"N","i":""} -> {"error":"E06","name":"out-of-domain"}
+{"op":"undo","k":10} -> {"n":2,"undone":10}
+{"op":"get","a":"A","i":""} -> {"value":6}
+{"op":"print"} -> {"text":"chapel-workbook 1\narray A over N [6, 6, 6, 6]\nassoc N of text {\"\", \"b\", \"xxxxxxxxxxxxxxxxxxxxxxxxxxxxxxxxxxxxxxxxxxxxxxxxxxxxxxxxxxxxxxxx\", \"é\"}\nend\n"}
+"#;
+
 /// Each script, over a history of its own.
-pub const SCRIPTS: [Script; 8] = [
+pub const SCRIPTS: [Script; 9] = [
     ("", ADDING_TWICE, 4, 3),
     ("", SPARSE_WITH_AN_IMPLICIT_VALUE, 7, 25),
     ("", INDEX_REMOVED, 7, 15),
@@ -189,4 +224,5 @@ pub const SCRIPTS: [Script; 8] = [
     ("", COPIES_OVER_A_SPARSE_DOMAIN, 9, 23),
     ("", COMING_AND_LEAVING, 5, 27),
     ("", COMING_UNDER_AN_ARRAY, 3, 20),
+    ("", AT_LABELS, 10, 65),
 ];
