@@ -44,7 +44,12 @@ fn mark(in_force: bool) -> &'static str
 }
 
 /// The line of an edit, with its mark, put at the end of a text.
-pub fn push_edit(alloc: Global, out: &mut String, edit: &Edit, in_force: bool) -> Result<(), NoMemory>
+pub fn push_edit(
+    alloc: Global,
+    out: &mut String,
+    edit: &Edit,
+    in_force: bool,
+) -> Result<(), NoMemory>
     ensures line { OnOk result (string_bytes out.new ≡ string_bytes out.old ++ edit_line (one_of edit.now in_force)) }
     ensures json { OnOk result (IsJson edit.now) }
 {
