@@ -9,7 +9,7 @@ ghost use Rattle.wb_sessions.specs.Resuming.{left_in, failed_in, reads_in};
 ghost use Rattle.wb_sessions.specs.Running.{HasFailed};
 ghost use Rattle.wb_keeping.specs.Opening.{IsOpening};
 ghost use Rattle.wb_sessions.specs.Beginning.{BeginsAt, RunsBegun};
-ghost use Rattle.wb_sessions.specs.Compacting.{Compacts};
+ghost use Rattle.wb_sessions.specs.Compacting.{CompactsAt};
 ghost use Rattle.wb_program.specs.Files.{UsesFiles};
 ghost use Rattle.wb_sessions.specs.Keeping.{FinishesKept, RunsKept, UsesFile, streams, writer_alone};
 ghost use Rattle.wb_program.specs.KeptDays.{KeepsDay};
@@ -243,7 +243,7 @@ fn run_resumed<D: Replaces, J: OpensFiles<D>, R: Source, W: Sink, M: Mover>(
     }
 }
 
-// The journal at a path, made anew.
+// The journal that is found at a path, made anew.
 fn compact_at<D: Replaces, J: OpensFiles<D>, W: Sink, M: Mover>(
     alloc: Global,
     files: &mut J,
@@ -251,9 +251,9 @@ fn compact_at<D: Replaces, J: OpensFiles<D>, W: Sink, M: Mover>(
     writer: &mut W,
     mover: &M,
 ) -> u8
-    ensures keeps { UsesFile D.Device J.OpensFiles (Compacts D.Device) path.now result files.new (writer_alone W.Sink writer.old writer.new) }
+    ensures keeps { CompactsAt D.Device J.OpensFiles path.now result files.new (writer_alone W.Sink writer.old writer.new) }
 {
-    match files.open(path) {
+    match files.open_found(path) {
         Ok((file, held)) => {
             let KeptRun {
                 status,
@@ -272,7 +272,7 @@ fn compact_at<D: Replaces, J: OpensFiles<D>, W: Sink, M: Mover>(
 /// comes only with the writer flushed, and, where an input is read, at its end; 3 only where a read, a write, a flush, a port, a
 /// connection or a thread failed, or what the definition of each command names besides. A desk listens on a port that `ports` gives. A
 /// journal is in the file that `files` gives for its path, also one that begins with a history, and one that is made anew, which
-/// reads and prints nothing at status 0; no other command opens a file. With status 1 it tells why the input is refused.
+/// reads and prints nothing at status 0, and makes no file where none is found; no other command opens a file. With status 1 it tells why the input is refused.
 pub fn do_asked<
     R: Threads + Wait + Sync,
     B: Binds<N, I, O>,

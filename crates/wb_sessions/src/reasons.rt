@@ -33,6 +33,8 @@ pub enum Reason {
     Altered,
     /// It does not begin as a text of ours.
     NotOurs,
+    /// It has the header of a journal, and this change, from 0, is the first that is not granted.
+    NotGranted(usize),
 }
 
 /// Why these bytes are refused, by how they begin and end.

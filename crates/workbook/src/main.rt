@@ -132,6 +132,7 @@ fn tell_refused(rt: &HostRuntime, reason: Reason) -> io::Result<()> {
             "workbook: it begins and ends as a text of the program, but is not as the program prints one"
         ),
         Reason::NotOurs => eprintln!(rt; "workbook: it does not begin with 'chapel-workbook'"),
+        Reason::NotGranted(place) => tell_line(rt, place),
     }
 }
 
@@ -195,6 +196,9 @@ fn tell_of_file(rt: &HostRuntime, fault: FileFault, cause: Option<io::Error>) ->
         FileFault::NotGranted(_) => eprint!(rt; "workbook: the journal is refused")?,
         FileFault::Failed => eprint!(rt; "workbook: the journal failed")?,
         FileFault::NoMemory => eprint!(rt; "workbook: no memory for the journal")?,
+        FileFault::Missing => {
+            eprint!(rt; "workbook: there is no such journal, and compact makes none")?
+        }
     }
     match cause {
         Some(cause) => eprintln!(rt; ": {cause}"),

@@ -121,9 +121,11 @@ def changes_made(request, reply):
 
 
 class Journal:
-    """An open journal file, locked until it is closed. `held` is what it held."""
+    """An open journal file, locked until it is closed. `held` is what it held. One that is not there is made, or refused."""
 
-    def __init__(self, path):
+    def __init__(self, path, makes=True):
+        if not makes and not os.path.exists(path):
+            raise NotOpened("there is no such journal, and compact makes none")
         try:
             self.file = opened(path)
             self.path = os.path.realpath(path)

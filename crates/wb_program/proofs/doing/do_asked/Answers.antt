@@ -1,5 +1,4 @@
 use Rattle.std.proofs.Common.{[], false, refl, rules, subst, sym, true}
-use Rattle.wb_sessions.specs.Compacting.{Compacts}
 use Rattle.wb_program.specs.Doing.{Does}
 use Rattle.wb_sessions.specs.Keeping.{RunsKept}
 use Rattle.wb_sessions.specs.Resuming.{left_in}
@@ -7,7 +6,7 @@ use Rattle.wb_program.proofs.Finishing.{desk_fails, desk_finishes, resumed_desk_
 use Rattle.wb_program.proofs.Hosting.{history_hosted, hosted, resumed, upgraded}
 use Rattle.wb_program.proofs.KeptHosting.{wrote}
 use Rattle.wb_program.proofs.Telling.{run_tells, serve_tells}
-use Rattle.wb_program.proofs.Used.{began, keeps_anew, keeps_begun, keeps_run, made_anew, nothing_consumed, ran, read_and_wrote}
+use Rattle.wb_program.proofs.Used.{began, keeps_anew, keeps_begun, keeps_run, nothing_consumed, ran, read_and_wrote, renewed}
 use Rattle.wb_program.proofs.doing.do_asked.Goals as goal
 
 pub returns-else-resume-2-clause-does : goal.returns-else-resume-2-clause-does
@@ -161,8 +160,7 @@ returns-in-Compact-clause-keeps g c =
 
 pub returns-in-Compact-clause-does : goal.returns-in-Compact-clause-does
 returns-in-Compact-clause-does g c =
-    let told = (read_and_wrote g.D.Device g.J.OpensFiles (Compacts g.D.Device) (made_anew g.D.Device) c.as_str-in-Compact.result.now c.compact_at.result c.compact_at.new.files _
-    c.compact_at.ensures.keeps).1 in (
+    let told = (renewed g.D.Device g.J.OpensFiles c.as_str-in-Compact.result.now c.compact_at.result c.compact_at.new.files _ c.compact_at.ensures.keeps).1 in (
       [],
       nothing_consumed (left_in g.S.Source.remaining c.args.reader.now),
       (
