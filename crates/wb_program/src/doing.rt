@@ -1,9 +1,9 @@
 //! What the program does by what its command line asks for.
-ghost use Rattle.std.specs.Prelude.{◌≡◌, ◌⊎◌, ◌++◌, ℕ, List, true, false, IfOk, IfErr, take};
+ghost use Rattle.std.specs.Prelude.{◌≡◌, ◌≢◌, ◌⊎◌, ◌++◌, ℕ, List, true, false, IfOk, IfErr, take};
 ghost use Rattle.std.specs.Io.KnownBytes.{Appends, Consumes, IsAtEnd};
 ghost use Rattle.wb_desk.specs.Openings.{nothing_done};
 ghost use Rattle.wb_sessions.specs.Checking.{IsFault};
-ghost use Rattle.wb_sessions.specs.Reasons.{Tells, WhyNoHistory};
+ghost use Rattle.wb_sessions.specs.Reasons.{Tells, WhyNoHistory, WhyNoOpening};
 ghost use Rattle.wb_program.specs.Telling.{TellsWhy};
 ghost use Rattle.wb_sessions.specs.Resuming.{left_in, failed_in, reads_in};
 ghost use Rattle.wb_sessions.specs.Running.{HasFailed};
@@ -197,6 +197,7 @@ fn run_begun<D: Replaces, J: OpensFiles<D>, R: Source, W: Sink, M: Mover>(
     ensures keeps { UsesFile D.Device J.OpensFiles (RunsBegun D.Device opening.history) path.now result files.new
         (streams R.Source W.Sink reader.old reader.new writer.old writer.new) }
     ensures done { FinishesKept result (streams R.Source W.Sink reader.old reader.new writer.old writer.new) }
+    ensures granted { result ≢ 1 }
 {
     match files.open(path) {
         Ok((file, held)) => {
@@ -221,6 +222,7 @@ fn run_resumed<D: Replaces, J: OpensFiles<D>, R: Source, W: Sink, M: Mover>(
     reader: &mut PutBack<R>,
     writer: &mut W,
     mover: &M,
+    why: &mut Option<Reason>,
 ) -> u8
     ensures keeps { BeginsAt D.Device J.OpensFiles path.now result files.old files.new (record {
       unread = left_in R.remaining reader.old;
@@ -234,8 +236,9 @@ fn run_resumed<D: Replaces, J: OpensFiles<D>, R: Source, W: Sink, M: Mover>(
       write_failed = W.failed writer.new;
     }) }
     ensures done { result ≡ 0 → IsAtEnd (left_in R.remaining reader.new) × (W.flushed writer.new ≡ true) }
+    ensures why { result ≡ 1 → Tells WhyNoOpening (left_in R.remaining reader.old) (left_in R.remaining reader.new) why.new }
 {
-    match opening_from(alloc, reader, writer, mover) {
+    match opening_from(alloc, reader, writer, mover, why) {
         Ok(opening) => run_begun::<D, J, PutBack<R>, W, M>(
             alloc, files, path, opening, reader, writer, mover,
         ),
@@ -346,7 +349,15 @@ pub fn do_asked<
             ..
         } => {
             if resume {
-                run_resumed::<D, J, S, W, M>(alloc, files, journal.as_str(), reader, writer, mover)
+                run_resumed::<D, J, S, W, M>(
+                    alloc,
+                    files,
+                    journal.as_str(),
+                    reader,
+                    writer,
+                    mover,
+                    why,
+                )
             } else {
                 run_kept::<D, J, PutBack<S>, W, M>(
                     alloc,

@@ -1,5 +1,5 @@
 -- Why an input is refused, and which reason is told.
-use Rattle.std.specs.Prelude.{◌≡◌, ◌⊎◌, ℕ, Bool, true, false, List, ◌++◌, Option, None, Some, codes, nat_eq}
+use Rattle.std.specs.Prelude.{◌≡◌, ◌≢◌, ◌⊎◌, ℕ, Bool, true, false, List, ◌++◌, Option, None, Some, codes, nat_eq}
 use Rattle.std.specs.Io.KnownBytes.{Consumes}
 use Rattle.std.specs.List.{ends_with, starts_with}
 use Rattle.wb_history.specs.Past.{Past}
@@ -7,6 +7,7 @@ use Rattle.wb_keep.specs.Lines.{recovered}
 use Rattle.wb_keeping.specs.Granting.Granting.{Grants, no_edit}
 use Rattle.wb_kept.specs.Runs.{StopsAt}
 use Rattle.wb_sessions.specs.Checking.{IsHeaded, IsNoRecord, IsTextOf}
+use Rattle.wb_sessions.specs.Places.{WhyAltered}
 use Rattle.wb_sessions.specs.Resuming.{HasNoEnd, IsRecord, IsUpToEnd, last_line}
 use Rattle.wb_sessions.specs.Upgrading.{HasNoBook}
 use Rattle.wb_sessions.specs.declared.checking.Verdict.{Verdict}
@@ -43,9 +44,13 @@ look_of bytes = shape_of (begins_with (codes "chapel-workbook 3\n") bytes) (begi
 abbrev pub IsBook : List ℕ → Type 0
 IsBook bytes = (count : ℕ) × IsTextOf bytes count
 
--- Where the text of a history is wanted: the bytes are that of a workbook, or else they are refused by their looks.
+-- Bytes that begin and end as a text of ours are refused for the place where they are no history's, others by their looks.
+abbrev pub WhyNoText : List ℕ → Reason → Type 0
+WhyNoText bytes why = ((look_of bytes ≡ reasons.Altered) × WhyAltered bytes why) ⊎ ((look_of bytes ≢ reasons.Altered) × (why ≡ look_of bytes))
+
+-- Where the text of a history is wanted: the bytes are that of a workbook, or else they are refused for what they are as a text.
 abbrev pub WhyNoHistory : List ℕ → Reason → Type 0
-WhyNoHistory bytes why = (IsBook bytes × (why ≡ reasons.Workbook)) ⊎ (HasNoBook bytes × (why ≡ look_of bytes))
+WhyNoHistory bytes why = (IsBook bytes × (why ≡ reasons.Workbook)) ⊎ (HasNoBook bytes × WhyNoText bytes why)
 
 -- Where the text of a workbook is wanted: the bytes are that of a history, or else they are refused by their looks.
 abbrev pub WhyNoBook : List ℕ → Reason → Type 0
@@ -60,10 +65,15 @@ WhyNoOpening read why = (HasNoEnd read × (why ≡ look_of read))
 abbrev pub IsStop : List ℕ → ℕ → Type 0
 IsStop bytes place = IsHeaded bytes × StopsAt Grants no_edit (recovered bytes) place
 
+-- a journal stops at such a place, or there is no header of one
+abbrev pub StopsJournal : List ℕ → Option ℕ → Type 0
+StopsJournal bytes (Some place) = IsStop bytes place
+StopsJournal bytes None = ¬ IsHeaded bytes
+
 -- Where any text of ours is wanted, and a journal would do: bytes with its header are refused for the first change that is not granted,
--- others by their looks.
+-- others for what they are as a text.
 abbrev pub WhyNothing : List ℕ → Reason → Type 0
-WhyNothing bytes why = ((place : ℕ) × IsStop bytes place × (why ≡ reasons.NotGranted place)) ⊎ (¬ IsHeaded bytes × (why ≡ look_of bytes))
+WhyNothing bytes why = ((place : ℕ) × IsStop bytes place × (why ≡ reasons.NotGranted place)) ⊎ (¬ IsHeaded bytes × WhyNoText bytes why)
 
 -- ---- what is told
 
@@ -74,13 +84,6 @@ pub record Tells (is : List ℕ → Reason → Type 0) (old left : Option (List 
   pub consumed : Consumes old left read
   pub is_why : is read why
   pub is_told : told ≡ Some why
-
--- what is told beside a verdict on bytes that are refused for this, if they are
-abbrev pub told_of : Verdict → Reason → Option Reason
-told_of (verdicts.Workbook count) why = None
-told_of (verdicts.History count edits) why = None
-told_of (verdicts.Journal count edits) why = None
-told_of verdicts.Refused why = Some why
 
 -- where bytes are refused it is told why, beside another verdict nothing
 abbrev pub IsToldOf : List ℕ → Verdict → Option Reason → Type 0

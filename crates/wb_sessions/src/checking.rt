@@ -1,14 +1,14 @@
 //! Whether an input is the text of a workbook or of a history, or a journal.
 
-ghost use Rattle.std.specs.Prelude.{◌≡◌, ℕ, List, true, IfOk, IfErr, string_bytes};
+ghost use Rattle.std.specs.Prelude.{◌≡◌, ℕ, List, true, IfOk, IfErr, OnErr, string_bytes};
 ghost use Rattle.std.specs.Io.KnownBytes.{Appends, Consumes, IsAtEnd};
 ghost use Rattle.wb_reading.specs.Reading.{IsNoBook};
 ghost use Rattle.wb_sessions.specs.Checking.{IsJournalOf, IsNoJournal, IsTextVerdict, IsVerdict, verdict_text, status_of_verdict, IsPrinted, Says, Judges, IsAnswered};
-ghost use Rattle.wb_sessions.specs.Reasons.{IsToldOf, Tells, WhyNothing, told_of};
+ghost use Rattle.wb_sessions.specs.Reasons.{IsToldOf, StopsJournal, Tells, WhyNothing};
 ghost use Rattle.wb_sessions.specs.Running.{HasFailed};
 
 use crate::keeping::opened;
-use crate::reasons::{Reason, look_of};
+use crate::reasons::{Reason, why_no_text};
 use crate::running::{DONE, INPUT_OR_OUTPUT_FAILED, NO_MEMORY};
 use std::alloc::{AllocError, Global};
 use std::str::from_utf8;
@@ -78,17 +78,19 @@ fn verdict_as_text<M: Mover>(alloc: Global, bytes: &[u8], mover: &M) -> Result<V
     }
 }
 
-// How many objects and edits a journal has, if the bytes are one; or why they are none.
+// How many objects and edits a journal has, if the bytes are one; or the first change, from 0, that is not granted, if they have its
+// header.
 fn counts_of_journal<M: Mover>(
     alloc: Global,
     bytes: &[u8],
     mover: &M,
-) -> Result<Result<(usize, u64), Reason>, NoMemory>
+) -> Result<Result<(usize, u64), Option<usize>>, NoMemory>
     ensures ok { IfOk result (λ r. IfOk r (λ counts. IsJournalOf bytes.now counts.0 counts.1)) }
-    ensures err { IfOk result (λ r. IfErr r (λ why. IsNoJournal bytes.now × WhyNothing bytes.now why)) }
+    ensures none { IfOk result (λ r. OnErr r (IsNoJournal bytes.now)) }
+    ensures stop { IfOk result (λ r. IfErr r (λ stop. StopsJournal bytes.now stop)) }
 {
     if bytes.len() < HEADER_LENGTH {
-        return Ok(Err(look_of(bytes)));
+        return Ok(Err(None));
     }
     let Ok(held) = bytes.to_vec(alloc) else {
         return Err(NoMemory);
@@ -103,20 +105,46 @@ fn counts_of_journal<M: Mover>(
             let book = kept.state.book();
             Ok(Ok((book.objects(), kept.state.len())))
         }
-        Err((OpenKeptErr::NotOurs, _)) => Ok(Err(look_of(bytes))),
-        Err((OpenKeptErr::NotGranted(place), _)) => Ok(Err(Reason::NotGranted(place))),
+        Err((OpenKeptErr::NotOurs, _)) => Ok(Err(None)),
+        Err((OpenKeptErr::NotGranted(place), _)) => Ok(Err(Some(place))),
         // A file in memory fails only for want of it.
         Err(_) => Err(NoMemory),
     }
 }
 
-// What is told beside a verdict on bytes that are refused for this, if they are.
-fn told_of(verdict: Verdict, why: Reason) -> Option<Reason>
-    ensures { result ≡ told_of verdict why }
+// Why bytes are refused that are no journal, by the first change that is not granted, if they have its header.
+fn why_nothing<M: Mover>(
+    alloc: Global,
+    bytes: &[u8],
+    stop: Option<usize>,
+    mover: &M,
+) -> Result<Reason, NoMemory>
+    requires { StopsJournal bytes.now stop }
+    ensures { IfOk result (λ why. WhyNothing bytes.now why) }
+{
+    match stop {
+        Some(place) => Ok(Reason::NotGranted(place)),
+        None => why_no_text(alloc, bytes, mover),
+    }
+}
+
+// What is told beside a verdict on bytes that are no journal.
+fn told_of<M: Mover>(
+    alloc: Global,
+    bytes: &[u8],
+    verdict: Verdict,
+    stop: Option<usize>,
+    mover: &M,
+) -> Result<Option<Reason>, NoMemory>
+    requires { StopsJournal bytes.now stop }
+    ensures { IfOk result (λ told. IsToldOf bytes.now verdict told) }
 {
     match verdict {
-        Verdict::Workbook(_) | Verdict::History(_, _) | Verdict::Journal(_, _) => None,
-        Verdict::Refused => Some(why),
+        Verdict::Workbook(_) | Verdict::History(_, _) | Verdict::Journal(_, _) => Ok(None),
+        Verdict::Refused => match why_nothing(alloc, bytes, stop, mover) {
+            Ok(why) => Ok(Some(why)),
+            Err(NoMemory) => Err(NoMemory),
+        },
     }
 }
 
@@ -130,13 +158,17 @@ pub fn verdict_on<M: Mover>(
     ensures verdict { IfOk result (λ found. IsVerdict bytes.now found.0) }
     ensures told { IfOk result (λ found. IsToldOf bytes.now found.0 found.1) }
 {
-    let why = match counts_of_journal(alloc, bytes, mover) {
+    let stop = match counts_of_journal(alloc, bytes, mover) {
         Ok(Ok((objects, edits))) => return Ok((Verdict::Journal(objects, edits), None)),
-        Ok(Err(why)) => why,
+        Ok(Err(stop)) => stop,
         Err(NoMemory) => return Err(NoMemory),
     };
-    match verdict_as_text(alloc, bytes, mover) {
-        Ok(verdict) => Ok((verdict, told_of(verdict, why))),
+    let verdict = match verdict_as_text(alloc, bytes, mover) {
+        Ok(verdict) => verdict,
+        Err(NoMemory) => return Err(NoMemory),
+    };
+    match told_of(alloc, bytes, verdict, stop, mover) {
+        Ok(told) => Ok((verdict, told)),
         Err(NoMemory) => Err(NoMemory),
     }
 }

@@ -133,6 +133,13 @@ fn tell_refused(rt: &HostRuntime, reason: Reason) -> io::Result<()> {
         ),
         Reason::NotOurs => eprintln!(rt; "workbook: it does not begin with 'chapel-workbook'"),
         Reason::NotGranted(place) => tell_line(rt, place),
+        Reason::LineNotGranted(place) => {
+            let line = place.saturating_add(1);
+            eprintln!(rt; "workbook: line {line} of the history is not granted")
+        }
+        Reason::OtherHeading => eprintln!(rt;
+            "workbook: its edits are granted, and the lines above them are not what these edits make"
+        ),
     }
 }
 

@@ -1,2 +1,0 @@
-use Rattle.wb_sessions.proofs.Judged.{judged, told}
-use Rattle.wb_sessions.proofs.checking.verdict_on.Goals as goal
