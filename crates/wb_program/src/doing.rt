@@ -197,7 +197,7 @@ fn run_begun<D: Replaces, J: OpensFiles<D>, R: Source, W: Sink, M: Mover>(
     ensures keeps { UsesFile D.Device J.OpensFiles (RunsBegun D.Device opening.history) path.now result files.new
         (streams R.Source W.Sink reader.old reader.new writer.old writer.new) }
     ensures done { FinishesKept result (streams R.Source W.Sink reader.old reader.new writer.old writer.new) }
-    ensures granted { result ≢ 1 }
+    ensures no_refusal { result ≢ 1 }
 {
     match files.open(path) {
         Ok((file, held)) => {

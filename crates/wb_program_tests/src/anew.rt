@@ -13,7 +13,7 @@ use wb_keep::START;
 use wb_keep::disk::MemoryFile;
 use wb_lines::{Input, Output};
 use wb_program::{Ports, do_asked};
-use wb_sessions::{FileFault, PutBack, compact_with, run_kept_with};
+use wb_sessions::{FileFault, PutBack, Reason, compact_with, run_kept_with};
 
 // More calls than are made here.
 const NEVER: usize = 1000;
@@ -166,6 +166,7 @@ fn strange_lines_are_refused(rt: HostRuntime) -> Result<(), Fail> {
 struct Done {
     status: u8,
     fault: Option<FileFault>,
+    why: Option<Reason>,
     written: Vec<u8>,
     left: Option<Vec<u8>>,
 }
@@ -202,6 +203,7 @@ fn done_with<
     let mut ports = Ports::of(rt);
     let mut files = OneFile::of(alloc, held, calls);
     let mut written = Vec::new(alloc);
+    let mut why = None;
     let status = do_asked(
         rt,
         alloc,
@@ -211,7 +213,7 @@ fn done_with<
         &mut PutBack::new(alloc, Input::new(input)),
         &mut Output::new(&mut written),
         mover,
-        &mut None,
+        &mut why,
     );
     let left = match &files.file {
         Some(file) => Some(file.left().to_vec(alloc)?),
@@ -220,6 +222,7 @@ fn done_with<
     Ok(Done {
         status,
         fault: files.told,
+        why,
         written,
         left,
     })
@@ -276,9 +279,13 @@ fn a_file_with_a_line_is_not_begun(rt: HostRuntime) -> Result<(), Fail> {
     assert!(rt; foreign.status == 3 && foreign.fault == Some(FileFault::NotOurs));
     assert!(rt; foreign.written.is_empty());
     // Without a history no file is opened.
-    for input in [NO_HISTORY, b"", b"{\"op\":\"edits\"}\n"] {
+    for (input, reason) in [
+        (NO_HISTORY, Reason::OtherHeading),
+        (b"".as_slice(), Reason::NotOurs),
+        (b"{\"op\":\"edits\"}\n".as_slice(), Reason::NotOurs),
+    ] {
         let none = done_with(&rt, rt.alloc(), begun(), &START, 0, input, &alone)?;
-        assert!(rt; none.status == 1 && none.left.is_none());
+        assert!(rt; none.status == 1 && none.left.is_none() && none.why == Some(reason));
         assert_eq!(rt; none.written.as_slice(), REFUSED);
     }
     Ok(())

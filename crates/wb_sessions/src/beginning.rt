@@ -91,7 +91,7 @@ pub fn opening_from<R: Source, W: Sink, M: Mover>(
 fn not_begun<D>(why: BeginErr, file: D) -> KeptRun<D>
     ensures told { TellsOf why result.status result.fault }
     ensures file { result.file ≡ file }
-    ensures granted { result.status ≢ 1 }
+    ensures no_refusal { result.status ≢ 1 }
 {
     let (status, fault) = match why {
         BeginErr::NotOurs => (INPUT_OR_OUTPUT_FAILED, Some(FileFault::NotOurs)),
@@ -124,7 +124,7 @@ pub fn begin_kept_with<D: Device, R: Source, W: Sink, M: Mover>(
     ensures runs { RunsBegun D.Device opening.history file held.now result (streams R.Source W.Sink reader.old reader.new writer.old writer.new) }
     ensures done { FinishesKept result.status (streams R.Source W.Sink reader.old reader.new writer.old writer.new) }
     ensures failed { FailsKept result.status result.fault (streams R.Source W.Sink reader.old reader.new writer.old writer.new) }
-    ensures granted { result.status ≢ 1 }
+    ensures no_refusal { result.status ≢ 1 }
 {
     match begin_kept(alloc, opening, file, held) {
         Ok(kept) => serve_from(alloc, kept, reader, writer, mover),

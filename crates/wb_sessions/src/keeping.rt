@@ -32,7 +32,7 @@ pub struct KeptRun<D> {
 // The exit status after a session with a journal.
 fn status_of_end(end: KeptEnd) -> u8
     ensures status { result ≡ status_of_end end }
-    ensures granted { result ≢ 1 }
+    ensures no_refusal { result ≢ 1 }
 {
     match end {
         KeptEnd::Done(_) => DONE,
@@ -110,7 +110,7 @@ pub(crate) fn serve_from<D: Device, R: Source, W: Sink, M: Mover>(
     ensures serves { ServesOn D.Device kept result (streams R.Source W.Sink reader.old reader.new writer.old writer.new) }
     ensures done { FinishesKept result.status (streams R.Source W.Sink reader.old reader.new writer.old writer.new) }
     ensures failed { FailsKept result.status result.fault (streams R.Source W.Sink reader.old reader.new writer.old writer.new) }
-    ensures granted { result.status ≢ 1 }
+    ensures no_refusal { result.status ≢ 1 }
 {
     let mut kept = kept;
     let end = served(alloc, &mut kept, reader, writer, mover);

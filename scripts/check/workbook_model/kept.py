@@ -110,6 +110,16 @@ def restored(held):
     return machine
 
 
+def first_refused(held):
+    """The first of a file's changes, from 0, that isn't granted, or None."""
+    machine = Machine()
+    for place, line in enumerate(changes_of(held)):
+        machine = led(machine, line)
+        if machine is None:
+            return place
+    return None
+
+
 def changes_made(request, reply):
     """The lines that keep what a request did: none for a question, nor for a refusal."""
     if "edit" in reply:
