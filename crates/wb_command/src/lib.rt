@@ -193,9 +193,7 @@ pub fn command_of<'a>(alloc: Global, words: &'a [&'a str]) -> Result<Wanted<'a>,
 {
     let command = program(alloc).map_err(|_| CommandErr::NoMemory)?;
     match command.try_get_matches_from(words) {
-        Ok(matches) => {
-            read_off(&matches).ok_or(CommandErr::NothingMeant(misfit_in(&matches)))
-        }
+        Ok(matches) => { read_off(&matches).ok_or(CommandErr::NothingMeant(misfit_in(&matches))) }
         Err(error) => Err(error_of(error)),
     }
 }

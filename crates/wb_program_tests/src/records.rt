@@ -134,7 +134,11 @@ const PLACES: [(&str, &str, Reason); 22] = [
     ("history 3", "history 2", Reason::OtherHeading),
     ("history 3", "history  3", Reason::OtherHeading),
     ("- ", "+ ", Reason::OtherHeading),
-    ("chapel-workbook 2", "chapel-workbook 7", Reason::OtherHeading),
+    (
+        "chapel-workbook 2",
+        "chapel-workbook 7",
+        Reason::OtherHeading,
+    ),
     (
         "- {\"a\":\"A\",\"i\":4,\"op\":\"set\",\"v\":9}\n",
         "",
@@ -145,8 +149,16 @@ const PLACES: [(&str, &str, Reason); 22] = [
     ("+ {\"d\"", "- {\"d\"", Reason::LineNotGranted(5)),
     (",\"map\":\"none\"", "", Reason::LineNotGranted(4)),
     ("\"{1..4}\"", "\"{ 1..4}\"", Reason::LineNotGranted(4)),
-    ("\"d\":\"D\",\"op\"", "\"d\":\"E\",\"op\"", Reason::LineNotGranted(5)),
-    ("\"op\":\"array\"", "\"op\":\"\\u0061rray\"", Reason::LineNotGranted(5)),
+    (
+        "\"d\":\"D\",\"op\"",
+        "\"d\":\"E\",\"op\"",
+        Reason::LineNotGranted(5),
+    ),
+    (
+        "\"op\":\"array\"",
+        "\"op\":\"\\u0061rray\"",
+        Reason::LineNotGranted(5),
+    ),
     ("}\n- {", "}\n\n- {", Reason::LineNotGranted(6)),
     ("- ", "* ", Reason::LineNotGranted(6)),
     ("- ", "", Reason::LineNotGranted(6)),
