@@ -1,5 +1,8 @@
 pub mod Entries
+pub mod Briefs
 pub mod Records
+pub mod Tables
+pub mod Placings
 pub mod Courses
 pub mod Serving
 pub mod Settling

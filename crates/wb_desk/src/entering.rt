@@ -1,0 +1,348 @@
+//! A request answered by a history, and entered with its reply in the lists of journal and pass.
+
+ghost use Rattle.std.specs.Prelude.{◌≡◌, ◌&&◌, ◌++◌, ◌∷◌, [], length, true, false, IfOk, IfSome, OnOk, OnErr};
+ghost use Rattle.wb_protocol.specs.Machine.{Step};
+ghost use Rattle.wb_desk.specs.Briefs.{is_new_value, request_of};
+ghost use Rattle.wb_desk.specs.Entries.{is_entered};
+ghost use Rattle.wb_desk.specs.Placings.{IsPlaced, BothEnter, BothStay};
+ghost use Rattle.wb_desk.specs.Records.{IsKept, IsWithin, entries_in, is_edited, is_question, shown};
+ghost use Rattle.wb_desk.specs.Serving.{entry};
+ghost use Rattle.wb_desk.specs.Tables.{IsRoomy};
+
+use crate::brief::{brief_of, request_of};
+use crate::entry::Entry;
+use crate::form::{Form, form_of, nameless_form};
+use crate::placing::{Placed, places_of};
+use crate::register::Register;
+use crate::replying::{answered_question, boxed, is_entered, is_question};
+use std::alloc::Global;
+use std::sync::Arc;
+use wb_arrays::Mover;
+use wb_history::History;
+use wb_protocol::{Reply, Request, answer_request};
+use wb_range::NoMemory;
+
+// Enters one entry in two lists, which share it.
+fn enter_shared(
+    alloc: Global,
+    entry: Entry,
+    list: &mut Register,
+    own: &mut Register,
+) -> Result<(), NoMemory>
+    requires list { IsKept list.old × IsRoomy list.old }
+    requires own { IsKept own.old × IsRoomy own.old }
+    ensures kept { IsKept list.new × IsKept own.new }
+    ensures ok { OnOk result (BothEnter list.old list.new own.old own.new entry) }
+    ensures err { OnErr result (BothStay list.old list.new own.old own.new) }
+{
+    let Ok(one) = Arc::new(alloc, entry) else {
+        return Err(NoMemory);
+    };
+    let Ok(other) = Arc::try_clone(&one) else {
+        return Err(NoMemory);
+    };
+    list.add(Form::Shared(one));
+    own.add(Form::Shared(other));
+    Ok(())
+}
+
+// Enters a request and its reply whole.
+fn enter_whole(
+    alloc: Global,
+    seat: usize,
+    request: Request,
+    reply: &Reply,
+    list: &mut Register,
+    own: &mut Register,
+) -> Result<(), NoMemory>
+    requires list { IsKept list.old × IsRoomy list.old }
+    requires own { IsKept own.old × IsRoomy own.old }
+    ensures kept { IsKept list.new × IsKept own.new }
+    ensures ok { OnOk result (BothEnter list.old list.new own.old own.new (entry seat request reply.now)) }
+    ensures err { OnErr result (BothStay list.old list.new own.old own.new) }
+{
+    let Ok(reply) = reply.copy(alloc) else {
+        return Err(NoMemory);
+    };
+    let entry = Entry {
+        seat,
+        request,
+        reply,
+    };
+    enter_shared(alloc, entry, list, own)
+}
+
+// Enters what was asked of a name, and its reply. Memory may run out where that is no accepted new value.
+fn enter_placed(
+    alloc: Global,
+    seat: usize,
+    at: &Placed,
+    reply: &Reply,
+    list: &mut Register,
+    own: &mut Register,
+) -> Result<(), NoMemory>
+    requires placed { IsPlaced seat (request_of at.now.name at.now.brief) list.old own.old at.now }
+    requires list { IsKept list.old × IsRoomy list.old }
+    requires own { IsKept own.old × IsRoomy own.old }
+    ensures kept { IsKept list.new × IsKept own.new }
+    ensures ok { OnOk result (BothEnter list.old list.new own.old own.new (entry seat (request_of at.now.name at.now.brief) reply.now)) }
+    ensures err { OnErr result (BothStay list.old list.new own.old own.new) }
+    ensures full { OnErr result ((is_edited reply.now && is_new_value at.now.brief) ≡ false) }
+{
+    if let Some(one) = form_of(at.first, &at.brief, reply) {
+        if let Some(other) = form_of(at.second, &at.brief, reply) {
+            list.add(one);
+            own.add(other);
+            return Ok(());
+        }
+    }
+    enter_whole(
+        alloc,
+        seat,
+        request_of(at.name, &at.brief),
+        reply,
+        list,
+        own,
+    )
+}
+
+// Answers a request of a name whose places are known. Room is there.
+#[tactic(auto, using(crate::proofs::Replies::unentered_leaves, crate::proofs::Replies::placed_leaves))]
+fn answer_placed<M: Mover>(
+    alloc: Global,
+    history: &mut History,
+    seat: usize,
+    request: Request,
+    at: &Placed,
+    list: &mut Register,
+    own: &mut Register,
+    mover: &M,
+) -> Result<Reply, NoMemory>
+    requires placed { IsPlaced seat request list.old own.old at.now }
+    requires list { IsKept list.old × IsRoomy list.old }
+    requires own { IsKept own.old × IsRoomy own.old }
+    ensures kept { IsKept list.new × IsKept own.new }
+    ensures ok { IfOk result (λ r. (is_entered r ≡ true) × Step history.old request r history.new ×
+        BothEnter list.old list.new own.old own.new (entry seat request r)) }
+    ensures err { OnErr result ((history.new ≡ history.old) × BothStay list.old list.new own.old own.new) }
+{
+    let reply = answer_request(alloc, history, request, mover);
+    if !is_entered(&reply) {
+        return Err(NoMemory);
+    }
+    match enter_placed(alloc, seat, at, &reply, list, own) {
+        Ok(()) => Ok(reply),
+        Err(NoMemory) => Err(NoMemory),
+    }
+}
+
+// Enters a question and its reply.
+fn enter_question(
+    alloc: Global,
+    seat: usize,
+    request: Request,
+    reply: &Reply,
+    list: &mut Register,
+    own: &mut Register,
+) -> Result<(), NoMemory>
+    requires list { IsKept list.old × IsRoomy list.old }
+    requires own { IsKept own.old × IsRoomy own.old }
+    ensures kept { IsKept list.new × IsKept own.new }
+    ensures ok { OnOk result (BothEnter list.old list.new own.old own.new (entry seat request reply.now)) }
+    ensures err { OnErr result (BothStay list.old list.new own.old own.new) }
+{
+    if list.seat() == seat && own.seat() == seat {
+        if let Some(one) = nameless_form(&request, reply) {
+            if let Some(other) = nameless_form(&request, reply) {
+                list.add(one);
+                own.add(other);
+                return Ok(());
+            }
+        }
+    }
+    enter_whole(alloc, seat, request, reply, list, own)
+}
+
+// Answers a question. Room is there.
+fn answer_question<M: Mover>(
+    alloc: Global,
+    history: &mut History,
+    seat: usize,
+    request: Request,
+    list: &mut Register,
+    own: &mut Register,
+    mover: &M,
+) -> Result<Reply, NoMemory>
+    requires question { is_question request ≡ true }
+    requires list { IsKept list.old × IsRoomy list.old }
+    requires own { IsKept own.old × IsRoomy own.old }
+    ensures kept { IsKept list.new × IsKept own.new }
+    ensures ok { IfOk result (λ r. (is_entered r ≡ true) × Step history.old request r history.new ×
+        BothEnter list.old list.new own.old own.new (entry seat request r)) }
+    ensures err { OnErr result ((history.new ≡ history.old) × BothStay list.old list.new own.old own.new) }
+{
+    let Ok(asked) = request.copy(alloc) else {
+        return Err(NoMemory);
+    };
+    let Ok(reply) = answered_question(alloc, history, request, mover) else {
+        return Err(NoMemory);
+    };
+    match enter_question(alloc, seat, asked, &reply, list, own) {
+        Ok(()) => Ok(reply),
+        Err(NoMemory) => Err(NoMemory),
+    }
+}
+
+// Answers any request. Room is there, and memory for both entries is taken first.
+fn answer_change<M: Mover>(
+    alloc: Global,
+    history: &mut History,
+    seat: usize,
+    request: Request,
+    list: &mut Register,
+    own: &mut Register,
+    mover: &M,
+) -> Result<Reply, NoMemory>
+    requires list { IsKept list.old × IsRoomy list.old }
+    requires own { IsKept own.old × IsRoomy own.old }
+    ensures kept { IsKept list.new × IsKept own.new }
+    ensures ok { IfOk result (λ r. (is_entered r ≡ true) × Step history.old request r history.new ×
+        BothEnter list.old list.new own.old own.new (entry seat request r)) }
+    ensures err { OnErr result ((history.new ≡ history.old) × BothStay list.old list.new own.old own.new) }
+{
+    match boxed(alloc, history, seat, request, mover) {
+        Ok((reply, one, other)) => {
+            list.add(Form::Alone(one));
+            own.add(Form::Alone(other));
+            Ok(reply)
+        }
+        Err(NoMemory) => Err(NoMemory),
+    }
+}
+
+// Answers a request where there is room for its entry.
+fn answer_roomy<M: Mover>(
+    alloc: Global,
+    history: &mut History,
+    seat: usize,
+    request: Request,
+    list: &mut Register,
+    own: &mut Register,
+    mover: &M,
+) -> Result<Reply, NoMemory>
+    requires list { IsKept list.old × IsRoomy list.old }
+    requires own { IsKept own.old × IsRoomy own.old }
+    ensures kept { IsKept list.new × IsKept own.new }
+    ensures ok { IfOk result (λ r. (is_entered r ≡ true) × Step history.old request r history.new ×
+        BothEnter list.old list.new own.old own.new (entry seat request r)) }
+    ensures err { OnErr result ((history.new ≡ history.old) × BothStay list.old list.new own.old own.new) }
+{
+    match places_of(seat, &request, list, own) {
+        Ok(Some(at)) => answer_placed(alloc, history, seat, request, &at, list, own, mover),
+        Ok(None) => {
+            if is_question(&request) {
+                return answer_question(alloc, history, seat, request, list, own, mover);
+            }
+            answer_change(alloc, history, seat, request, list, own, mover)
+        }
+        Err(NoMemory) => Err(NoMemory),
+    }
+}
+
+/// Answers a request of a seat, and enters it with the reply in both lists; or in neither, where no memory is left.
+pub(crate) fn answer_in<M: Mover>(
+    alloc: Global,
+    history: &mut History,
+    seat: usize,
+    request: Request,
+    list: &mut Register,
+    own: &mut Register,
+    mover: &M,
+) -> Result<Reply, NoMemory>
+    requires list { IsKept list.old }
+    requires own { IsKept own.old }
+    ensures kept { IsKept list.new × IsKept own.new }
+    ensures ok { IfOk result (λ r. (is_entered r ≡ true) × Step history.old request r history.new ×
+        BothEnter list.old list.new own.old own.new (entry seat request r)) }
+    ensures err { OnErr result ((history.new ≡ history.old) × BothStay list.old list.new own.old own.new) }
+{
+    if list.make_room().is_err() {
+        return Err(NoMemory);
+    }
+    if own.make_room().is_err() {
+        return Err(NoMemory);
+    }
+    answer_roomy(alloc, history, seat, request, list, own, mover)
+}
+
+// Adds an entry to a list that has room: in few bytes, or whole.
+fn add_alone(alloc: Global, entry: Entry, list: &mut Register) -> Result<(), NoMemory>
+    requires { IsKept list.old × IsRoomy list.old }
+    ensures kept { IsKept list.new }
+    ensures ok { OnOk result (entries_in list.new ≡ entries_in list.old ++ entry ∷ []) }
+    ensures err { OnErr result (entries_in list.new ≡ entries_in list.old) }
+{
+    if list.seat() == entry.seat {
+        if let Some(form) = nameless_form(&entry.request, &entry.reply) {
+            list.add(form);
+            return Ok(());
+        }
+    }
+    match Box::new(alloc, entry) {
+        Ok(entry) => {
+            list.add(Form::Alone(entry));
+            Ok(())
+        }
+        Err(_) => Err(NoMemory),
+    }
+}
+
+// The form of an entry in a list, by the place of its name there; none, where it takes more.
+fn named_form(entry: &Entry, list: &mut Register) -> Result<Option<Form>, NoMemory>
+    requires { IsKept list.old }
+    ensures kept { IsKept list.new }
+    ensures same { (entries_in list.new ≡ entries_in list.old) × (list.new.forms ≡ list.old.forms) }
+    ensures form { IfOk result (λ o. IfSome o (λ f. IsWithin (length list.new.names.items) f × (shown list.new.seat list.new.names.items f ≡ entry.now))) }
+{
+    let Some((name, brief)) = brief_of(&entry.request) else {
+        return Ok(None);
+    };
+    match list.place_of(entry.seat, &name) {
+        Ok(Some(place)) => match form_of(place, &brief, &entry.reply) {
+            Some(form) => Ok(Some(form)),
+            None => Ok(None),
+        },
+        Ok(None) => Ok(None),
+        Err(NoMemory) => Err(NoMemory),
+    }
+}
+
+// Adds an entry to a list that has room: by the place of its name, or else.
+fn add_named(alloc: Global, entry: Entry, list: &mut Register) -> Result<(), NoMemory>
+    requires { IsKept list.old × IsRoomy list.old }
+    ensures kept { IsKept list.new }
+    ensures ok { OnOk result (entries_in list.new ≡ entries_in list.old ++ entry ∷ []) }
+    ensures err { OnErr result (entries_in list.new ≡ entries_in list.old) }
+{
+    match named_form(&entry, list) {
+        Ok(Some(form)) => {
+            list.add(form);
+            Ok(())
+        }
+        Ok(None) => add_alone(alloc, entry, list),
+        Err(NoMemory) => Err(NoMemory),
+    }
+}
+
+/// Adds an entry to a list; or none, where no memory is left.
+pub(crate) fn enter_alone(alloc: Global, entry: Entry, list: &mut Register) -> Result<(), NoMemory>
+    requires { IsKept list.old }
+    ensures kept { IsKept list.new }
+    ensures ok { OnOk result (entries_in list.new ≡ entries_in list.old ++ entry ∷ []) }
+    ensures err { OnErr result (entries_in list.new ≡ entries_in list.old) }
+{
+    if list.make_room().is_err() {
+        return Err(NoMemory);
+    }
+    add_named(alloc, entry, list)
+}

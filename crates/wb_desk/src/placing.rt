@@ -1,0 +1,50 @@
+//! The places of a request's name in the tables of two lists.
+
+ghost use Rattle.std.specs.Prelude.{◌≡◌, IfOk, IfSome};
+ghost use Rattle.wb_desk.specs.Records.{IsKept, entries_in};
+ghost use Rattle.wb_desk.specs.Placings.{IsPlaced};
+
+use crate::brief::{Brief, brief_of};
+use crate::register::Register;
+use wb_cells::Name;
+use wb_protocol::Request;
+use wb_range::NoMemory;
+
+/// A request of a name in few bytes, and where the name stands in the tables of two lists.
+#[derive(Drop)]
+pub struct Placed {
+    pub name: Name,
+    pub brief: Brief,
+    pub first: u8,
+    pub second: u8,
+}
+
+/// The places of a request's name in the tables of two lists of a seat; none, where the request isn't brief, or a table is full.
+pub(crate) fn places_of(
+    seat: usize,
+    request: &Request,
+    list: &mut Register,
+    own: &mut Register,
+) -> Result<Option<Placed>, NoMemory>
+    requires list { IsKept list.old }
+    requires own { IsKept own.old }
+    ensures list { IsKept list.new × (entries_in list.new ≡ entries_in list.old) × (list.new.forms ≡ list.old.forms) }
+    ensures own { IsKept own.new × (entries_in own.new ≡ entries_in own.old) × (own.new.forms ≡ own.old.forms) }
+    ensures placed { IfOk result (λ o. IfSome o (λ p. IsPlaced seat request.now list.new own.new p)) }
+{
+    let Some((name, brief)) = brief_of(request) else {
+        return Ok(None);
+    };
+    let Some(first) = list.place_of(seat, &name)? else {
+        return Ok(None);
+    };
+    let Some(second) = own.place_of(seat, &name)? else {
+        return Ok(None);
+    };
+    Ok(Some(Placed {
+        name,
+        brief,
+        first,
+        second,
+    }))
+}
