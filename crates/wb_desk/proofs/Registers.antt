@@ -10,7 +10,7 @@ use Rattle.wb_cells.specs.Cells.{Name}
 use Rattle.wb_desk.specs.declared.entry.Entry.{Entry}
 use Rattle.wb_desk.specs.declared.brief.Brief.{Brief}
 use Rattle.wb_desk.specs.declared.form.Form.{Form}
-use Rattle.wb_desk.specs.declared.form.Form.TheVariants.{Set, SetPair, Get, GetPair, GetTriple, Where, WherePair, WhereTriple, Size, Reduce, State, Count, Alone, Shared}
+use Rattle.wb_desk.specs.declared.form.Form.TheVariants.{Set, SetPair, Get, GetPair, GetTriple, Where, WherePair, WhereTriple, Size, Reduce, State, Count, Denied, AtIndex, OnLocale, Unanswered, Replied, OfLine, Alone, Shared}
 use Rattle.wb_desk.specs.declared.register.Register.{Register}
 use Rattle.wb_desk.specs.Records.{name_at, shown, IsWithin, IsKept, entries_in}
 use Rattle.wb_desk.specs.Tables.{IsFilled, IsFront, IsNamed}
@@ -36,6 +36,12 @@ within_more m n (Size p c) le w = omega arith
 within_more m n (Reduce p op v) le w = omega arith
 within_more m n (State k b) le w = w
 within_more m n (Count k c) le w = w
+within_more m n (Denied p why b) le w = omega arith
+within_more m n (AtIndex p t i) le w = omega arith
+within_more m n (OnLocale p l r) le w = omega arith
+within_more m n (Unanswered q why) le w = w
+within_more m n (Replied q r) le w = w
+within_more m n (OfLine l) le w = w
 within_more m n (Alone e) le w = w
 within_more m n (Shared e) le w = w
 
@@ -52,6 +58,12 @@ shown_front seat before names (Size p c) front w = rw (front_name before names p
 shown_front seat before names (Reduce p op v) front w = rw (front_name before names p front w) refl
 shown_front seat before names (State k b) front w = refl
 shown_front seat before names (Count k c) front w = refl
+shown_front seat before names (Denied p why b) front w = rw (front_name before names p front w) refl
+shown_front seat before names (AtIndex p t i) front w = rw (front_name before names p front w) refl
+shown_front seat before names (OnLocale p l r) front w = rw (front_name before names p front w) refl
+shown_front seat before names (Unanswered q why) front w = refl
+shown_front seat before names (Replied q r) front w = refl
+shown_front seat before names (OfLine l) front w = refl
 shown_front seat before names (Alone e) front w = refl
 shown_front seat before names (Shared e) front w = refl
 

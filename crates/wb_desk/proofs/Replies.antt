@@ -14,7 +14,7 @@ use Rattle.wb_desk.specs.Entries.{is_entered, is_long, leaves_all, cascade_in}
 use Rattle.wb_cells.specs.Cells.{Name}
 use Rattle.wb_edit.specs.declared.edit.Edit.TheVariants as edits
 use Rattle.wb_desk.specs.declared.brief.Brief.{Brief}
-use Rattle.wb_desk.specs.declared.brief.Brief.TheVariants.{Set, SetPair, Get, GetPair, GetTriple, Where, WherePair, WhereTriple, Size, Reduce}
+use Rattle.wb_desk.specs.declared.brief.Brief.TheVariants.{Set, SetPair, Get, GetPair, GetTriple, Where, WherePair, WhereTriple, Size, Reduce, Piece}
 use Rattle.wb_desk.specs.Briefs.{request_of, is_new_value, point_of}
 use Rattle.wb_desk.specs.Records.{is_edited, is_question}
 use Rattle.wb_desk.specs.Courses.{Course}
@@ -304,6 +304,7 @@ brief_leaves p a (WherePair i j) r q s off = question_leaves p (request_of a (Wh
 brief_leaves p a (WhereTriple i j k) r q s off = question_leaves p (request_of a (WhereTriple i j k)) r q refl s
 brief_leaves p a Size r q s off = question_leaves p (request_of a Size) r q refl s
 brief_leaves p a (Reduce op) r q s off = question_leaves p (request_of a (Reduce op)) r q refl s
+brief_leaves p a (Piece l) r q s off = question_leaves p (request_of a (Piece l)) r q refl s
 
 pub placed_leaves : (p : Past) (asked : Request) (a : Name) (b : Brief) (r : Reply) (q : Past) → request_of a b ≡ asked → Step p asked r q → (is_edited r && is_new_value b) ≡ false → q ≡ p
 placed_leaves p asked a b r q is s off = brief_leaves p a b r q (subst (λ (x : Request). Step p x r q) (sym is) s) off

@@ -10,7 +10,7 @@ use Rattle.wb_protocol.specs.declared.requests.request.Request.TheVariants.{Chan
 use Rattle.wb_desk.specs.declared.brief.Brief.{Brief}
 use Rattle.wb_desk.specs.declared.brief.Spot.{Spot}
 use Rattle.wb_desk.specs.declared.brief.Spot.TheVariants.{Single, Pair, Triple}
-use Rattle.wb_desk.specs.declared.brief.Brief.TheVariants.{Set, SetPair, Get, GetPair, GetTriple, Where, WherePair, WhereTriple, Size, Reduce}
+use Rattle.wb_desk.specs.declared.brief.Brief.TheVariants.{Set, SetPair, Get, GetPair, GetTriple, Where, WherePair, WhereTriple, Size, Reduce, Piece}
 
 -- the index with these coordinates
 abbrev pub point_of : List ℤ → Index
@@ -44,6 +44,7 @@ request_of d (WherePair i j) = where_of d (i ∷ j ∷ [])
 request_of d (WhereTriple i j k) = where_of d (i ∷ j ∷ k ∷ [])
 request_of d Size = Ask (queries.Size d)
 request_of a (Reduce op) = Ask (queries.Reduce a op)
+request_of a (Piece l) = Ask (queries.Piece a l)
 
 -- whether it is a new value of an element
 abbrev pub is_new_value : Brief → Bool
@@ -57,3 +58,4 @@ is_new_value (WherePair i j) = false
 is_new_value (WhereTriple i j k) = false
 is_new_value Size = false
 is_new_value (Reduce op) = false
+is_new_value (Piece l) = false

@@ -1,5 +1,6 @@
 pub mod Entries
 pub mod Briefs
+pub mod Asked
 pub mod Records
 pub mod Tables
 pub mod Placings

@@ -6,24 +6,28 @@ use Rattle.wb_cells.specs.Cells.{Name}
 use Rattle.wb_history.specs.declared.query.Answer.{Answer}
 use Rattle.wb_history.specs.declared.query.Answer.TheVariants as answers
 use Rattle.wb_history.specs.declared.query.Query.TheVariants as queries
+use Rattle.wb_log.specs.declared.refusal.Refusal.TheVariants as refusals
 use Rattle.wb_protocol.specs.declared.replies.reply.Reply.{Reply}
 use Rattle.wb_protocol.specs.declared.replies.reply.Reply.TheVariants.{Edited, Undone, Cascaded, Redone, Listed, Answered, Printed, PrintedFrom, Counted, Explained, Refused}
 use Rattle.wb_protocol.specs.declared.requests.request.Request.{Request}
 use Rattle.wb_protocol.specs.declared.requests.request.Request.TheVariants.{Change, Undo, Redo, Cascade, Dependents, Ask, Print, History, Edits, Explain}
 use Rattle.wb_desk.specs.declared.entry.Entry.{Entry}
 use Rattle.wb_desk.specs.declared.entry.LentEntry.{LentEntry}
-use Rattle.wb_desk.specs.declared.entry.LentEntry.TheVariants.{Own, Lent}
+use Rattle.wb_desk.specs.declared.entry.LentEntry.TheVariants.{Own, Lent, Replied as LentReply, OfLine as LentLine}
 use Rattle.wb_desk.specs.declared.brief.Brief.{Brief}
 use Rattle.wb_desk.specs.declared.brief.Brief.TheVariants as briefs
 use Rattle.wb_desk.specs.declared.form.Form.{Form}
-use Rattle.wb_desk.specs.declared.form.Form.TheVariants.{Set, SetPair, Get, GetPair, GetTriple, Where, WherePair, WhereTriple, Size, Reduce, State, Count, Alone, Shared}
+use Rattle.wb_desk.specs.declared.form.Form.TheVariants.{Set, SetPair, Get, GetPair, GetTriple, Where, WherePair, WhereTriple, Size, Reduce, State, Count, Denied, AtIndex, OnLocale, Unanswered, Replied, OfLine, Alone, Shared}
 use Rattle.wb_desk.specs.declared.register.Register.{Register}
+use Rattle.wb_desk.specs.Asked.{plain_request, request_at, reply_at}
 use Rattle.wb_desk.specs.Briefs.{request_of}
 
 -- the entry that is lent
 abbrev pub lent_entry : LentEntry → Entry
 lent_entry (Own e) = e
 lent_entry (Lent e) = e.now
+lent_entry (LentReply seat asked r) = record { seat = seat; request = asked; reply = r.now }
+lent_entry (LentLine seat l) = record { seat = seat; request = Explain l.now.line; reply = l.now.reply }
 
 -- the entry that is lent, if one is
 abbrev pub lent_in : Option LentEntry → Option Entry
@@ -56,6 +60,12 @@ shown seat names (Size p n) = answered seat (name_at names p) briefs.Size (answe
 shown seat names (Reduce p op v) = answered seat (name_at names p) (briefs.Reduce op) (answers.Value v)
 shown seat names (State k b) = record { seat = seat; request = Ask (queries.State k); reply = Answered (answers.InForce b) }
 shown seat names (Count n w) = record { seat = seat; request = Edits; reply = Counted n w }
+shown seat names (Denied p why b) = told seat (name_at names p) b (Refused (refusals.Refused why))
+shown seat names (AtIndex p t i) = record { seat = seat; request = request_at (name_at names p) (arc_value i) t; reply = reply_at t }
+shown seat names (OnLocale p l r) = told seat (name_at names p) (briefs.Piece l) (arc_value r)
+shown seat names (Unanswered q why) = record { seat = seat; request = plain_request q; reply = Refused why }
+shown seat names (Replied q r) = record { seat = seat; request = plain_request q; reply = arc_value r }
+shown seat names (OfLine l) = record { seat = seat; request = Explain (arc_value l).line; reply = (arc_value l).reply }
 shown seat names (Alone e) = e.value
 shown seat names (Shared e) = arc_value e
 
@@ -73,6 +83,12 @@ IsWithin most (Size p n) = p < most
 IsWithin most (Reduce p op v) = p < most
 IsWithin most (State k b) = Unit {0}
 IsWithin most (Count n w) = Unit {0}
+IsWithin most (Denied p why b) = p < most
+IsWithin most (AtIndex p t i) = p < most
+IsWithin most (OnLocale p l r) = p < most
+IsWithin most (Unanswered q why) = Unit {0}
+IsWithin most (Replied q r) = Unit {0}
+IsWithin most (OfLine l) = Unit {0}
 IsWithin most (Alone e) = Unit {0}
 IsWithin most (Shared e) = Unit {0}
 

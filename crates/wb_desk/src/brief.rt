@@ -13,7 +13,7 @@ use wb_history::Query;
 use wb_protocol::Request;
 
 /// What is asked of an array or a domain, but for its name: a new value of an element, or a question.
-#[derive(Drop)]
+#[derive(Clone, Copy)]
 pub enum Brief {
     /// A new value of the element at an integer.
     Set(i64, i64),
@@ -35,6 +35,8 @@ pub enum Brief {
     Size,
     /// A reduction.
     Reduce(Op),
+    /// The elements on a locale.
+    Piece(u64),
 }
 
 /// The coordinates of an index.
@@ -139,7 +141,8 @@ fn query_brief(query: &Query) -> Option<(Name, Brief)>
         },
         Query::Size(domain) => Some((*domain, Brief::Size)),
         Query::Reduce(array, op) => Some((*array, Brief::Reduce(*op))),
-        Query::Piece(_, _) | Query::State(_) => None,
+        Query::Piece(array, locale) => Some((*array, Brief::Piece(*locale))),
+        Query::State(_) => None,
     }
 }
 
@@ -213,5 +216,6 @@ pub(crate) fn request_of(name: Name, brief: &Brief) -> Request
         Brief::WhereTriple(i, j, k) => Request::Ask(Query::Where(name, triple(i, j, k))),
         Brief::Size => Request::Ask(Query::Size(name)),
         Brief::Reduce(op) => Request::Ask(Query::Reduce(name, *op)),
+        Brief::Piece(locale) => Request::Ask(Query::Piece(name, *locale)),
     }
 }

@@ -3,47 +3,62 @@
 ghost use Rattle.std.specs.Prelude.{◌≡◌, ◌<◌, ◌&&◌, ℕ, List, length, None, false, IfSome};
 ghost use Rattle.wb_history.specs.declared.query.Answer.TheVariants as answers;
 ghost use Rattle.wb_protocol.specs.declared.replies.reply.Reply.TheVariants as replies;
-ghost use Rattle.wb_protocol.specs.declared.requests.request.Request.TheVariants as asked;
+ghost use Rattle.wb_desk.specs.Asked.{plain_request, reply_at, request_at};
 ghost use Rattle.wb_desk.specs.Briefs.{request_of, is_new_value};
 ghost use Rattle.wb_desk.specs.Records.{IsWithin, is_edited, lent_entry, name_at, shown};
 ghost use Rattle.wb_desk.specs.Serving.{entry};
 
+use crate::at_index::{Told, reply_at, request_at};
 use crate::brief::{Brief, request_of};
-use crate::entry::{Entry, LentEntry};
+use crate::entry::{Entry, LentEntry, LineReply};
+use crate::plain::{Plain, plain_request};
 use std::alloc::Global;
 use std::sync::Arc;
 use wb_arrays::Op;
-use wb_cells::Name;
-use wb_history::{Answer, Query};
+use wb_cells::{AnyIndex, Name, Refusal as WhyRefused};
+use wb_history::{Answer, Query, Refusal};
 use wb_protocol::{Reply, Request};
 
-/// How an entry is kept. A name is its place in a table; the seat is that of the list.
+/// How an entry is kept. A name is its place in a table; the seat is that of the list. What takes memory of its own is kept once
+/// for two lists.
 #[derive(Drop)]
 pub enum Form {
     /// A new value at an integer, the number of its edit, and how many cells that changed.
-    Set(u8, i64, i64, u64, usize),
+    Set(u16, i64, i64, u64, usize),
     /// A new value at a pair, the number of its edit, and how many cells that changed.
-    SetPair(u8, i32, i32, i64, u64, usize),
+    SetPair(u16, i32, i32, i64, u64, usize),
     /// The element at an integer.
-    Get(u8, i64, i64),
+    Get(u16, i64, i64),
     /// The element at a pair.
-    GetPair(u8, i64, i64, i64),
+    GetPair(u16, i64, i64, i64),
     /// The element at a triple.
-    GetTriple(u8, i64, i64, i64, i64),
+    GetTriple(u16, i64, i64, i64, i64),
     /// The locale of an integer.
-    Where(u8, i64, usize),
+    Where(u16, i64, usize),
     /// The locale of a pair.
-    WherePair(u8, i64, i64, usize),
+    WherePair(u16, i64, i64, usize),
     /// The locale of a triple.
-    WhereTriple(u8, i64, i64, i64, usize),
+    WhereTriple(u16, i64, i64, i64, usize),
     /// How many indices there are.
-    Size(u8, usize),
+    Size(u16, usize),
     /// A reduction, and its value.
-    Reduce(u8, Op, i64),
+    Reduce(u16, Op, i64),
     /// The number of an edit, and whether it is in force.
     State(u64, bool),
     /// How many edits there are, and how many cells were set.
     Count(u64, u64),
+    /// What was asked of a name, and why it was refused.
+    Denied(u16, WhyRefused, Brief),
+    /// A question at an index that isn't brief, and its answer.
+    AtIndex(u16, Told, Arc<AnyIndex, Global>),
+    /// The elements on a locale.
+    OnLocale(u16, u64, Arc<Reply, Global>),
+    /// A question of no name, and why it was refused.
+    Unanswered(Plain, Refusal),
+    /// A question of no name, and its reply.
+    Replied(Plain, Arc<Reply, Global>),
+    /// A line that was asked about, and the reply.
+    OfLine(Arc<LineReply, Global>),
     /// Any entry, in one list alone.
     Alone(Box<Entry>),
     /// Any entry, in two lists.
@@ -51,7 +66,7 @@ pub enum Form {
 }
 
 // A new value that was accepted.
-fn edited_form(place: u8, brief: &Brief, number: &u64, count: &usize) -> Option<Form>
+fn edited_form(place: u16, brief: &Brief, number: &u64, count: &usize) -> Option<Form>
     ensures shown { IfSome result (λ f. (seat : ℕ) (names : List (List ℕ)) → shown seat names f ≡ entry seat (request_of (name_at names place) brief.now) (replies.Edited number.now count.now)) }
     ensures within { IfSome result (λ f. (most : ℕ) → place < most → IsWithin most f) }
     ensures none { result ≡ None → is_new_value brief.now ≡ false }
@@ -68,12 +83,13 @@ fn edited_form(place: u8, brief: &Brief, number: &u64, count: &usize) -> Option<
         | Brief::WherePair(_, _)
         | Brief::WhereTriple(_, _, _)
         | Brief::Size
-        | Brief::Reduce(_) => None,
+        | Brief::Reduce(_)
+        | Brief::Piece(_) => None,
     }
 }
 
 // A question that was answered by a value.
-fn value_form(place: u8, brief: &Brief, value: &i64) -> Option<Form>
+fn value_form(place: u16, brief: &Brief, value: &i64) -> Option<Form>
     ensures shown { IfSome result (λ f. (seat : ℕ) (names : List (List ℕ)) → shown seat names f ≡ entry seat (request_of (name_at names place) brief.now) (replies.Answered (answers.Value value.now))) }
     ensures within { IfSome result (λ f. (most : ℕ) → place < most → IsWithin most f) }
 {
@@ -87,12 +103,13 @@ fn value_form(place: u8, brief: &Brief, value: &i64) -> Option<Form>
         | Brief::Where(_)
         | Brief::WherePair(_, _)
         | Brief::WhereTriple(_, _, _)
-        | Brief::Size => None,
+        | Brief::Size
+        | Brief::Piece(_) => None,
     }
 }
 
 // A question that was answered by a locale.
-fn locale_form(place: u8, brief: &Brief, locale: &usize) -> Option<Form>
+fn locale_form(place: u16, brief: &Brief, locale: &usize) -> Option<Form>
     ensures shown { IfSome result (λ f. (seat : ℕ) (names : List (List ℕ)) → shown seat names f ≡ entry seat (request_of (name_at names place) brief.now) (replies.Answered (answers.Locale locale.now))) }
     ensures within { IfSome result (λ f. (most : ℕ) → place < most → IsWithin most f) }
 {
@@ -106,12 +123,13 @@ fn locale_form(place: u8, brief: &Brief, locale: &usize) -> Option<Form>
         | Brief::GetPair(_, _)
         | Brief::GetTriple(_, _, _)
         | Brief::Size
-        | Brief::Reduce(_) => None,
+        | Brief::Reduce(_)
+        | Brief::Piece(_) => None,
     }
 }
 
 // A question that was answered by a number of indices.
-fn size_form(place: u8, brief: &Brief, size: &usize) -> Option<Form>
+fn size_form(place: u16, brief: &Brief, size: &usize) -> Option<Form>
     ensures shown { IfSome result (λ f. (seat : ℕ) (names : List (List ℕ)) → shown seat names f ≡ entry seat (request_of (name_at names place) brief.now) (replies.Answered (answers.Size size.now))) }
     ensures within { IfSome result (λ f. (most : ℕ) → place < most → IsWithin most f) }
 {
@@ -125,12 +143,13 @@ fn size_form(place: u8, brief: &Brief, size: &usize) -> Option<Form>
         | Brief::Where(_)
         | Brief::WherePair(_, _)
         | Brief::WhereTriple(_, _, _)
-        | Brief::Reduce(_) => None,
+        | Brief::Reduce(_)
+        | Brief::Piece(_) => None,
     }
 }
 
 // A question that was answered.
-fn answered_form(place: u8, brief: &Brief, answer: &Answer) -> Option<Form>
+fn answered_form(place: u16, brief: &Brief, answer: &Answer) -> Option<Form>
     ensures shown { IfSome result (λ f. (seat : ℕ) (names : List (List ℕ)) → shown seat names f ≡ entry seat (request_of (name_at names place) brief.now) (replies.Answered answer.now)) }
     ensures within { IfSome result (λ f. (most : ℕ) → place < most → IsWithin most f) }
 {
@@ -142,8 +161,27 @@ fn answered_form(place: u8, brief: &Brief, answer: &Answer) -> Option<Form>
     }
 }
 
+// What was asked, and why it was refused.
+fn denied_form(place: u16, brief: &Brief, why: &Refusal) -> Option<Form>
+    ensures shown { IfSome result (λ f. (seat : ℕ) (names : List (List ℕ)) → shown seat names f ≡ entry seat (request_of (name_at names place) brief.now) (replies.Refused why.now)) }
+    ensures within { IfSome result (λ f. (most : ℕ) → place < most → IsWithin most f) }
+{
+    match why {
+        Refusal::Refused(why) => Some(Form::Denied(place, *why, *brief)),
+        Refusal::BadRequest
+        | Refusal::BadLiteral
+        | Refusal::NoSuchEdit
+        | Refusal::NotInForce
+        | Refusal::InForce
+        | Refusal::Blocked(_)
+        | Refusal::RefusedInPlace(_)
+        | Refusal::NoMemory
+        | Refusal::StrangePass => None,
+    }
+}
+
 /// What was asked of the name at a place of a table, and its reply, in few bytes. An accepted new value always is.
-pub(crate) fn form_of(place: u8, brief: &Brief, reply: &Reply) -> Option<Form>
+pub(crate) fn form_of(place: u16, brief: &Brief, reply: &Reply) -> Option<Form>
     ensures shown { IfSome result (λ f. (seat : ℕ) (names : List (List ℕ)) → shown seat names f ≡ entry seat (request_of (name_at names place) brief.now) reply.now) }
     ensures within { IfSome result (λ f. (most : ℕ) → place < most → IsWithin most f) }
     ensures none { result ≡ None → (is_edited reply.now && is_new_value brief.now) ≡ false }
@@ -151,6 +189,7 @@ pub(crate) fn form_of(place: u8, brief: &Brief, reply: &Reply) -> Option<Form>
     match reply {
         Reply::Edited(number, count) => edited_form(place, brief, number, count),
         Reply::Answered(answer) => answered_form(place, brief, answer),
+        Reply::Refused(why) => denied_form(place, brief, why),
         Reply::Undone(_, _)
         | Reply::Cascaded(_, _)
         | Reply::Redone(_, _)
@@ -158,59 +197,61 @@ pub(crate) fn form_of(place: u8, brief: &Brief, reply: &Reply) -> Option<Form>
         | Reply::Printed(_)
         | Reply::PrintedFrom(_, _)
         | Reply::Counted(_, _)
-        | Reply::Explained(_)
-        | Reply::Refused(_) => None,
+        | Reply::Explained(_) => None,
     }
 }
 
 // How many edits there are, and how many cells were set, if both are below 2^64.
-fn count_form(reply: &Reply) -> Option<Form>
-    ensures shown { IfSome result (λ f. (seat : ℕ) (names : List (List ℕ)) → shown seat names f ≡ entry seat asked.Edits reply.now) }
+fn count_form(plain: &Plain, edits: &u64, writes: &u128) -> Option<Form>
+    ensures shown { IfSome result (λ f. (seat : ℕ) (names : List (List ℕ)) → shown seat names f ≡ entry seat (plain_request plain.now) (replies.Counted edits.now writes.now)) }
     ensures within { IfSome result (λ f. (most : ℕ) → IsWithin most f) }
 {
-    match reply {
-        Reply::Counted(edits, writes) => match u64::try_from(*writes) {
+    match plain {
+        Plain::Edits => match u64::try_from(*writes) {
             Ok(writes) => Some(Form::Count(*edits, writes)),
             Err(_) => None,
         },
-        _ => None,
+        Plain::State(_)
+        | Plain::Dependents(_)
+        | Plain::Print
+        | Plain::History
+        | Plain::HistoryFrom(_) => None,
     }
 }
 
 // Whether an edit is in force.
-fn state_form(query: &Query, reply: &Reply) -> Option<Form>
-    ensures shown { IfSome result (λ f. (seat : ℕ) (names : List (List ℕ)) → shown seat names f ≡ entry seat (asked.Ask query.now) reply.now) }
+fn state_form(plain: &Plain, answer: &Answer) -> Option<Form>
+    ensures shown { IfSome result (λ f. (seat : ℕ) (names : List (List ℕ)) → shown seat names f ≡ entry seat (plain_request plain.now) (replies.Answered answer.now)) }
     ensures within { IfSome result (λ f. (most : ℕ) → IsWithin most f) }
 {
-    match (query, reply) {
-        (Query::State(number), Reply::Answered(Answer::InForce(in_force))) => {
-            Some(Form::State(*number, *in_force))
-        }
+    match (plain, answer) {
+        (Plain::State(number), Answer::InForce(in_force)) => Some(Form::State(*number, *in_force)),
         _ => None,
     }
 }
 
-/// A question that is of no name, and its reply, in few bytes.
-pub(crate) fn nameless_form(request: &Request, reply: &Reply) -> Option<Form>
-    ensures shown { IfSome result (λ f. (seat : ℕ) (names : List (List ℕ)) → shown seat names f ≡ entry seat request.now reply.now) }
+/// A question that is of no name and of no line, and its reply, in few bytes.
+pub(crate) fn nameless_form(plain: &Plain, reply: &Reply) -> Option<Form>
+    ensures shown { IfSome result (λ f. (seat : ℕ) (names : List (List ℕ)) → shown seat names f ≡ entry seat (plain_request plain.now) reply.now) }
     ensures within { IfSome result (λ f. (most : ℕ) → IsWithin most f) }
 {
-    match request {
-        Request::Edits => count_form(reply),
-        Request::Ask(query) => state_form(query, reply),
-        Request::Change(_)
-        | Request::Undo(_)
-        | Request::Redo(_)
-        | Request::Cascade(_)
-        | Request::Dependents(_)
-        | Request::Print
-        | Request::History(_)
-        | Request::Explain(_) => None,
+    match reply {
+        Reply::Refused(why) => Some(Form::Unanswered(*plain, *why)),
+        Reply::Answered(answer) => state_form(plain, answer),
+        Reply::Counted(edits, writes) => count_form(plain, edits, writes),
+        Reply::Edited(_, _)
+        | Reply::Undone(_, _)
+        | Reply::Cascaded(_, _)
+        | Reply::Redone(_, _)
+        | Reply::Listed(_)
+        | Reply::Printed(_)
+        | Reply::PrintedFrom(_, _)
+        | Reply::Explained(_) => None,
     }
 }
 
 // The name at a place of a table.
-fn name_at(names: &[Name], place: u8) -> Name
+fn name_at(names: &[Name], place: u16) -> Name
     requires { place < length names.now }
     ensures { result ≡ name_at names.now place }
 {
@@ -248,6 +289,28 @@ fn located(seat: usize, name: Name, brief: Brief, locale: usize) -> Entry
     ensures { result ≡ entry seat (request_of name brief) (replies.Answered (answers.Locale locale)) }
 {
     made(seat, name, brief, Reply::Answered(Answer::Locale(locale)))
+}
+
+// An entry of a question of no name that was refused.
+fn unanswered(seat: usize, plain: &Plain, why: Refusal) -> Entry
+    ensures { result ≡ entry seat (plain_request plain.now) (replies.Refused why) }
+{
+    Entry {
+        seat,
+        request: plain_request(plain),
+        reply: Reply::Refused(why),
+    }
+}
+
+// An entry of a question at an index.
+fn asked_at(seat: usize, name: Name, at: &AnyIndex, told: &Told) -> Entry
+    ensures { result ≡ entry seat (request_at name at.now told.now) (reply_at told.now) }
+{
+    Entry {
+        seat,
+        request: request_at(name, at, told),
+        reply: reply_at(told),
+    }
 }
 
 /// The entry that a form of a seat stands for, by a table of names.
@@ -304,6 +367,20 @@ pub(crate) fn shown<'f>(seat: usize, names: &[Name], form: &'f Form) -> LentEntr
             request: Request::Edits,
             reply: Reply::Counted(*edits, u128::from(*writes)),
         }),
+        Form::Denied(place, why, brief) => {
+            let reply = Reply::Refused(Refusal::Refused(*why));
+            LentEntry::Own(made(seat, name_at(names, *place), *brief, reply))
+        }
+        Form::AtIndex(place, told, at) => {
+            LentEntry::Own(asked_at(seat, name_at(names, *place), at, told))
+        }
+        Form::OnLocale(place, locale, reply) => {
+            let request = request_of(name_at(names, *place), &Brief::Piece(*locale));
+            LentEntry::Replied(seat, request, reply)
+        }
+        Form::Unanswered(plain, why) => LentEntry::Own(unanswered(seat, plain, *why)),
+        Form::Replied(plain, reply) => LentEntry::Replied(seat, plain_request(plain), reply),
+        Form::OfLine(told) => LentEntry::OfLine(seat, told),
         Form::Alone(entry) => LentEntry::Lent(entry),
         Form::Shared(entry) => LentEntry::Lent(entry),
     }

@@ -3,6 +3,7 @@
 //! A desk: one workbook that several seats share, with the journal of all that was asked and replied.
 #![tactic(auto)]
 
+mod at_index;
 mod brief;
 mod counted;
 mod desk;
@@ -13,6 +14,7 @@ mod journal;
 mod opening;
 mod pass;
 mod placing;
+mod plain;
 mod records;
 mod register;
 mod replying;

@@ -177,7 +177,7 @@ fn is_same_at(entries: &Records, own: &Records, place: usize) -> bool
     ensures { Decides result (slice_get entries.now place ≡ slice_get own.now place) }
 {
     match (entries.get(place), own.get(place)) {
-        (Some(entry), Some(other)) => entry.as_entry().is_same(other.as_entry()),
+        (Some(entry), Some(other)) => entry.is_same(&other),
         _ => unreachable!(),
     }
 }

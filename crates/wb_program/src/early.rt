@@ -227,7 +227,7 @@ fn note_last<L: Opening, R: Wait>(rt: &R, company: &Company, pass: &Pass<L>) {
         return;
     };
     let (seat, entries) = (pass.seat(), pass.own().len() as u64);
-    match &last.as_entry().reply {
+    match last.reply() {
         Reply::Edited(number, _) => company.note(rt, seat, entries, Deed::Edited, &[*number]),
         Reply::Undone(number, _) => company.note(rt, seat, entries, Deed::Undone, &[*number]),
         Reply::Redone(number, _) => company.note(rt, seat, entries, Deed::Redone, &[*number]),

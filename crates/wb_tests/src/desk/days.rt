@@ -10,7 +10,7 @@ use std::sync::ledger::Blank;
 use std::test::Fail;
 use std::thread::Threads;
 use wb_arrays::{Crew, Mover};
-use wb_desk::{Cause, Desk, DeskErr, Entry, Opening, Pass, Records, settle};
+use wb_desk::{Cause, Desk, DeskErr, Opening, Pass, Records, settle};
 use wb_protocol::{Reply, Request, read_request, reply_text};
 
 const NEW_SET: &str = "{\"op\":\"assoc\",\"d\":\"N\",\"of\":\"int\"}";
@@ -101,18 +101,11 @@ fn renumbered<L: Opening>(pass: Pass<L>, seat: usize) -> Pass<L> {
 fn with_first_replaced(alloc: Global, own: &Records, seat: usize) -> Option<Records> {
     let mut list = Records::new(alloc, seat);
     for place in 0..own.len() {
-        let lent = own.get(place)?;
-        let entry = lent.as_entry();
-        let request = match place {
-            0 => Request::Print,
-            _ => entry.request.copy(alloc).ok()?,
-        };
-        let reply = entry.reply.copy(alloc).ok()?;
-        let entry = Entry {
-            seat,
-            request,
-            reply,
-        };
+        let mut entry = own.get(place)?.copy(alloc).ok()?;
+        entry.seat = seat;
+        if place == 0 {
+            entry.request = Request::Print;
+        }
         list.push(alloc, entry).ok()?;
     }
     Some(list)

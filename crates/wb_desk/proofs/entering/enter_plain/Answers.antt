@@ -1,4 +1,4 @@
-use Rattle.wb_desk.proofs.entering.enter_question.Goals as goal
+use Rattle.wb_desk.proofs.entering.enter_plain.Goals as goal
 
 pub add-requires-clause-within : goal.add-requires-clause-within
 add-requires-clause-within c = c.in-Some.ensures.within _
