@@ -1,5 +1,5 @@
 -- Questions that are of no name and of no line, and questions at an index with what they are answered.
-use Rattle.std.specs.Prelude.{None, Some}
+use Rattle.std.specs.Prelude.{Bool, true, false, None, Some}
 use Rattle.wb_cells.specs.Cells.{Name}
 use Rattle.wb_cells.specs.declared.values.index.Index.{Index}
 use Rattle.wb_history.specs.declared.query.Answer.TheVariants as answers
@@ -22,6 +22,19 @@ plain_request Print = asked.Print
 plain_request History = asked.History None
 plain_request (HistoryFrom k) = asked.History (Some k)
 plain_request Edits = asked.Edits
+
+-- whether a request asks about a line
+abbrev pub is_of_line : Request → Bool
+is_of_line (asked.Explain line) = true
+is_of_line (asked.Change e) = false
+is_of_line (asked.Undo k) = false
+is_of_line (asked.Redo k) = false
+is_of_line (asked.Cascade k) = false
+is_of_line (asked.Dependents k) = false
+is_of_line (asked.Ask q) = false
+is_of_line asked.Print = false
+is_of_line (asked.History from) = false
+is_of_line asked.Edits = false
 
 -- the request at an index of which this was told: for an element, or for a locale
 abbrev pub request_at : Name → Index → Told → Request

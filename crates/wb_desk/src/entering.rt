@@ -5,7 +5,7 @@ ghost use Rattle.std.specs.Arc.{arc_value};
 ghost use Rattle.wb_protocol.specs.Machine.{Step};
 ghost use Rattle.wb_protocol.specs.declared.requests.request.Request.TheVariants as asked;
 ghost use Rattle.wb_desk.specs.declared.brief.Brief.TheVariants as briefs;
-ghost use Rattle.wb_desk.specs.Asked.{plain_request, reply_at, request_at};
+ghost use Rattle.wb_desk.specs.Asked.{is_of_line, plain_request, reply_at, request_at};
 ghost use Rattle.wb_desk.specs.Briefs.{is_new_value, request_of};
 ghost use Rattle.wb_desk.specs.Entries.{is_entered};
 ghost use Rattle.wb_desk.specs.Placings.{AreNamed, IsPlaced, BothEnter, BothStay};
@@ -18,7 +18,7 @@ use crate::brief::{Brief, brief_of, request_of};
 use crate::entry::{Entry, LineReply};
 use crate::form::{Form, form_of, nameless_form};
 use crate::placing::{Placed, both_places, places_of};
-use crate::plain::{Plain, plain_of};
+use crate::plain::{Plain, is_of_line, plain_of};
 use crate::register::Register;
 use crate::replying::{answered_question, boxed, is_entered, is_question};
 use std::alloc::Global;
@@ -326,6 +326,37 @@ fn enter_asked_at(
     }
 }
 
+// Enters what was asked about a line, and the reply.
+fn enter_explained(
+    alloc: Global,
+    seat: usize,
+    request: Request,
+    reply: &Reply,
+    list: &mut Register,
+    own: &mut Register,
+) -> Result<(), NoMemory>
+    requires line { is_of_line request ≡ true }
+    requires seats { (list.old.seat ≡ seat) × (own.old.seat ≡ seat) }
+    requires list { IsKept list.old × IsRoomy list.old }
+    requires own { IsKept own.old × IsRoomy own.old }
+    ensures kept { IsKept list.new × IsKept own.new }
+    ensures ok { OnOk result (BothEnter list.old list.new own.old own.new (entry seat request reply.now)) }
+    ensures err { OnErr result (BothStay list.old list.new own.old own.new) }
+{
+    match request {
+        Request::Explain(line) => enter_line(alloc, seat, line, reply, list, own),
+        Request::Change(_)
+        | Request::Undo(_)
+        | Request::Redo(_)
+        | Request::Cascade(_)
+        | Request::Dependents(_)
+        | Request::Ask(_)
+        | Request::Print
+        | Request::History(_)
+        | Request::Edits => unreachable!(),
+    }
+}
+
 // Enters a question at an index or about a line, and its reply, or any other one.
 fn enter_worded(
     alloc: Global,
@@ -342,12 +373,12 @@ fn enter_worded(
     ensures ok { OnOk result (BothEnter list.old list.new own.old own.new (entry seat request reply.now)) }
     ensures err { OnErr result (BothStay list.old list.new own.old own.new) }
 {
-    if let Some(question) = asked_at(&request, reply) {
-        return enter_asked_at(alloc, seat, request, reply, &question, list, own);
+    if is_of_line(&request) {
+        return enter_explained(alloc, seat, request, reply, list, own);
     }
-    match request {
-        Request::Explain(line) => enter_line(alloc, seat, line, reply, list, own),
-        other => enter_whole(alloc, seat, other, reply, list, own),
+    match asked_at(&request, reply) {
+        Some(question) => enter_asked_at(alloc, seat, request, reply, &question, list, own),
+        None => enter_whole(alloc, seat, request, reply, list, own),
     }
 }
 

@@ -2,7 +2,7 @@
 
 ghost use Rattle.std.specs.Prelude.{◌≡◌, IfSome};
 ghost use Rattle.wb_protocol.specs.declared.requests.request.Request.TheVariants as asked;
-ghost use Rattle.wb_desk.specs.Asked.{plain_request};
+ghost use Rattle.wb_desk.specs.Asked.{is_of_line, plain_request};
 
 use wb_history::Query;
 use wb_protocol::Request;
@@ -63,6 +63,24 @@ pub(crate) fn plain_of(request: &Request) -> Option<Plain>
         | Request::Redo(_)
         | Request::Cascade(_)
         | Request::Explain(_) => None,
+    }
+}
+
+/// Whether a request asks about a line.
+pub(crate) fn is_of_line(request: &Request) -> bool
+    ensures { result ≡ is_of_line request.now }
+{
+    match request {
+        Request::Explain(_) => true,
+        Request::Change(_)
+        | Request::Undo(_)
+        | Request::Redo(_)
+        | Request::Cascade(_)
+        | Request::Dependents(_)
+        | Request::Ask(_)
+        | Request::Print
+        | Request::History(_)
+        | Request::Edits => false,
     }
 }
 
