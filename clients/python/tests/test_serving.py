@@ -8,6 +8,7 @@ import sys
 import tempfile
 import time
 import unittest
+from typing import Optional
 
 from tests.support import HERE, LONG, PROGRAM
 from workbook_client import NoNames, NoProgram, NoSeat, NotOpened, NotResumed, SessionEnded, Workbook, compact
@@ -109,6 +110,30 @@ class Desks(Files):
             one.undo(4)
             self.assertEqual(ben.history()[3].turned_by, f"seat {1 - ben.names_heard.seat}")
 
+    def test_a_name_is_said_again_at_another_seat(self):
+        """What a session did before it was cut is still its own, and what others did has their names; also where the desk began anew."""
+        with Workbook.serve(seats=2, journal=self.path, stay=True, program=PROGRAM) as desk:
+            ben = desk.connect(name="Ben")
+            ben.array("A", ben.domain("D", range(1, 5)))
+            ben.exchange.channel.close()
+            eva = self.seat(desk, "Eva")
+            eva["A"].set(1, 5)
+            self.assertEqual(ben.again(), [])
+            ben["A"].set(2, 6)
+            self.assertEqual([(e.number, e.who, e.by) for e in ben.history()], [(1, "me", ""), (2, "me", ""), (3, "another", "Eva"), (4, "me", "")])
+            self.assertEqual([e.by for e in eva.history()], ["Ben", "Ben", "", "Ben"])
+            port = desk.port
+        with Workbook.serve(seats=2, port=port, journal=self.path, stay=True, program=PROGRAM) as desk:
+            ann = self.seat(desk, "Ann")
+            ann.undo(3)
+            self.assertEqual(ben.again(), [])
+            self.assertEqual(ben.names_heard.seat, 1)
+            self.assertEqual([(e.who, e.by, e.turned_by) for e in ben.history()], [
+                ("me", "", ""), ("me", "", ""), ("another", "Eva", "Ann"), ("me", "", "")])
+            ben.redo(3)
+            self.assertEqual(ann.history()[2].turned_by, "Ben")
+            ben.close()
+
     def test_names_that_are_not_taken(self):
         with Workbook.serve(seats=1, program=PROGRAM) as desk:
             with self.assertRaisesRegex(NoNames, "does not take the name 'Ben': only a desk that stays"):
@@ -118,14 +143,14 @@ class Desks(Files):
                 desk.connect(name="B" * 33)
             self.assertEqual(self.seat(desk).counts(), (0, 0))
 
-    def seat(self, desk) -> Workbook:
+    def seat(self, desk, name: Optional[str] = None) -> Workbook:
         """The seat of a desk that stays, once it is free."""
         for _ in range(200):
             try:
-                return desk.connect()
+                return desk.connect(name=name)
             except NoSeat:
                 time.sleep(0.05)
-        return desk.connect()
+        return desk.connect(name=name)
 
     def test_gone_on_from_a_history(self):
         text = self.kept_plan()

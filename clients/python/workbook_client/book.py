@@ -196,6 +196,7 @@ class Workbook:
         self.exchange.close()
         other = self._anew()
         self.exchange = Exchange(other.exchange.channel, self._hint)
+        self.names_heard.sits_again(other.names_heard)
         if self._tell is not None:
             self.tell_waits(self._tell)
         return lost
