@@ -64,6 +64,31 @@ class Desks(Files):
             self.assertEqual(self.seat(desk)["A"][1], 5)
             self.assertEqual(desk.settled(), "chapel-workbook 1\narray A over D [5, 0]\nrect D {1..2} none\nend\n")
 
+    def test_a_desk_on_a_socket(self):
+        """The library, a session and a page take a seat by the path of its socket, and take another when it is there again."""
+        path = os.path.join(self.place, "plan.socket")
+        with Workbook.serve(seats=2, journal=self.path, stay=True, socket=path, program=PROGRAM) as desk:
+            self.assertEqual((desk.address, desk.port), (path, None))
+            self.assertEqual(desk.place(), f"{path}, 2 seats: each change is kept in {self.path}, before it is told")
+            ben = desk.connect(name="Ben")
+            ben.array("A", ben.domain("D", range(1, 3)))[1] = 5
+            done = subprocess.run(
+                [sys.executable, "-m", "workbook_client", "--connect", path, "--name", "Eva"], input="A[2] = A[1] + 1\nhistory 4\n",
+                capture_output=True, text=True, cwd=PACKAGE, timeout=LONG,
+            )
+            self.assertEqual((done.returncode, done.stderr), (0, ""))
+            self.assertIn("A[2] = A[1] + 1", done.stdout)
+            self.assertEqual((list(ben["A"]), ben.where, ben.history()[3].by), ([5, 6], path, "Eva"))
+        with Workbook.serve(seats=1, journal=self.path, stay=True, socket=path, program=PROGRAM) as desk:
+            self.assertEqual((ben.again(), list(ben["A"])), ([], [5, 6]))
+            with self.assertRaisesRegex(SessionEnded, "the desk has ended with status 3 .*the socket was not opened: Address already in use"):
+                Workbook.serve(stay=True, socket=path, program=PROGRAM)
+            self.assertIn("array A over D [5, 6]", desk.settled())
+        self.assertFalse(os.path.exists(path))
+        for words in ({"socket": path}, {"socket": path, "stay": True, "port": 7000}):
+            with self.assertRaisesRegex(ValueError, "on a socket"):
+                Workbook.serve(program=PROGRAM, **words)
+
     def test_a_desk_that_stays_and_is_kept(self):
         """An idle connection gives its seat back; a desk that was ended by force has lost nothing."""
         with Workbook.serve(seats=1, journal=self.path, stay=True, idle=1, program=PROGRAM) as desk:

@@ -249,8 +249,9 @@ class Whole(unittest.TestCase):
                 (["--program", junk], "can't be started"), (["--program", echo], "no reply of a workbook"),
                 (["--program", shutil.which("true") or "true"], "has ended with status 0"),
                 (["--connect", "127.0.0.1:1"], "nobody listens"), (["--connect", "127.0.0.1:99999"], "a port is 1 to 65535"),
-                (["--connect", "a..b:7"], "nobody listens"), (["--connect", "localhost"], "HOST:PORT is wanted"),
-                (["--connect", "http://127.0.0.1:70x"], "HOST:PORT is wanted"),
+                (["--connect", "a..b:7"], "nobody listens"), (["--connect", "localhost"], "wanted is HOST:PORT"),
+                (["--connect", "http://127.0.0.1:70x"], "wanted is HOST:PORT"), (["--connect", junk], f"nobody listens at {junk}: Connection refused"),
+                (["--connect", "/no/such"], "nobody listens at /no/such: No such file"),
                 (["--connect", "127.0.0.1:0"], "a port is 1 to 65535"),
             ]:
                 for module in ("workbook_client", "workbook_client.page"):

@@ -9,7 +9,7 @@ import tempfile
 from pathlib import Path
 from typing import IO, List, Optional, Sequence, Union
 
-from .errors import NoAnswer, NoProgram, NoServer, SessionEnded
+from .errors import NoAnswer, NoProgram, NoServer, SessionEnded, sentence
 
 PIECE = 65_536
 """So many bytes are asked of the system at once."""
@@ -216,15 +216,14 @@ def last_words(said: Optional[IO[bytes]]) -> str:
 
 
 class SocketChannel(Channel):
-    """A seat of a served workbook."""
+    """A seat of a served workbook: at a port of a host, or, without a port, at the socket that lies at a path."""
 
-    def __init__(self, host: str, port: int, wait: Optional[float] = None):
-        self.where = f"{host}:{port}"
+    def __init__(self, host: str, port: Optional[int], wait: Optional[float] = None):
+        self.where = host if port is None else f"{host}:{port}"
         try:
-            self._socket = socket.create_connection((host, port), wait)
+            self._socket = _connected(host, port, wait)
         except (OSError, OverflowError, UnicodeError) as fault:  # the last two: no such port, and no such host
-            raise NoServer(f"nobody listens at {self.where}: {fault}") from fault
-        self._socket.setsockopt(socket.IPPROTO_TCP, socket.TCP_NODELAY, 1)
+            raise NoServer(f"nobody listens at {self.where}: {sentence(fault)}") from fault
         super().__init__(self._socket.fileno(), self._socket.fileno())
 
     def why(self) -> str:
@@ -235,6 +234,22 @@ class SocketChannel(Channel):
             return
         super().close()
         self._socket.close()
+
+
+def _connected(host: str, port: Optional[int], wait: Optional[float]) -> socket.socket:
+    """A connection whose lines go out at once."""
+    if port is not None:
+        over_net = socket.create_connection((host, port), wait)
+        over_net.setsockopt(socket.IPPROTO_TCP, socket.TCP_NODELAY, 1)
+        return over_net
+    local = socket.socket(socket.AF_UNIX, socket.SOCK_STREAM)
+    try:
+        local.settimeout(wait)
+        local.connect(host)
+    except BaseException:
+        local.close()
+        raise
+    return local
 
 
 BUILT = Path(__file__).resolve().parents[3] / "crates" / "workbook" / "out" / "workbook"

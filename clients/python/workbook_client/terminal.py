@@ -147,19 +147,25 @@ class Log(NamedTuple):
 
 
 class Desk(NamedTuple):
-    """A workbook that `workbook serve` shares."""
+    """A workbook that `workbook serve` shares: at a port of a host, or at the socket of a path."""
 
     host: str
-    port: int
+    port: Optional[int] = None
+
+
+WHERE = "HOST:PORT, as 127.0.0.1:7000, the path of a desk's socket with a / in it, as ./plan.socket, or redis://HOST/NAME"
+"""What --connect takes."""
 
 
 def address(text: str) -> Union[Desk, Log]:
-    """HOST:PORT, PORT alone with a colon before it, or [HOST]:PORT where the host has colons; or redis://HOST/NAME."""
+    """HOST:PORT, PORT alone with a colon before it, or [HOST]:PORT where the host has colons; a path; or redis://HOST/NAME."""
     if text.startswith("redis://"):
         return log_at(text)
+    if "/" in text and "://" not in text:
+        return Desk(os.path.expanduser(text))
     host, colon, port = text.rpartition(":")
     if not colon or not (port.isascii() and port.isdigit() and len(port) < 6):
-        raise argparse.ArgumentTypeError(f"HOST:PORT is wanted, as 127.0.0.1:7000, or redis://HOST/NAME, not {text!r}")
+        raise argparse.ArgumentTypeError(f"wanted is {WHERE}; not {text!r}")
     if not 1 <= int(port) <= 65535:
         raise argparse.ArgumentTypeError(f"a port is 1 to 65535, and not {port}")
     return Desk(host.strip("[]") or "127.0.0.1", int(port))
@@ -185,7 +191,7 @@ def arguments(description: str) -> argparse.ArgumentParser:
     where.add_argument("--program", help="the program to start (else WORKBOOK_PROGRAM, else workbook)")
     where.add_argument(
         "--connect", metavar="WHERE", type=address,
-        help="a shared workbook: HOST:PORT, where `workbook serve` listens, or redis://HOST/NAME, which workers answer",
+        help="a shared workbook: HOST:PORT, or the path of a socket, where `workbook serve` listens, or redis://HOST/NAME, which workers answer",
     )
     parser.add_argument("--name", help="what others at a desk that stays are told of who did what; with --connect")
     parser.add_argument("--resume", metavar="FILE", help="go on from a history that `keep FILE` has written")
