@@ -53,7 +53,11 @@ class Walk(unittest.TestCase):
         """Ends the desk of the walk, where the walk broke off before it did."""
         try:
             with open(os.path.join(self.place, "desk.pid"), encoding="ascii") as file:
-                os.kill(int(file.read()), signal.SIGKILL)
+                number = int(file.read())
+            with open(f"/proc/{number}/cmdline", "rb") as file:
+                words = file.read().split(b"\0")
+            if b"serve" in words and self.port.encode() in words:  # and no other process that has the number by now
+                os.kill(number, signal.SIGKILL)
         except (FileNotFoundError, ProcessLookupError):
             pass
 
