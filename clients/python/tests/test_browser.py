@@ -259,6 +259,27 @@ class Page(InABrowser):
         self.assertFalse(browser.js(f"{known}.includes(50)"))
         self.assertEqual(browser.faults, [])
 
+    def test_earlier_edits_are_shown_where_they_are_wanted(self):
+        server = Server(seats=2)
+        self.addCleanup(server.close)
+        other = server.connect()
+        A = other.array("A", other.domain("D", range(1, 3)))
+        with other.pipeline():
+            for i in range(700):
+                A[1] = i
+        browser = self.open(server.connect())
+        browser.until("document.querySelector('.edits li.earlier')?.innerText.includes('402 earlier edits')")
+        browser.click(".edits li.earlier button")
+        browser.until("document.querySelector('.edits li.earlier')?.innerText.includes('102 earlier edits')")
+        other.undo(702)
+        A[2] = 7  # what comes is seen as before
+        browser.until("document.querySelectorAll('.edits li').length === 601 && document.querySelector('.edits li').innerText.includes('A[2] = 7')")
+        browser.click(".edits li.earlier button")
+        browser.until("document.querySelectorAll('.edits li').length === 703 && !document.querySelector('.edits li.earlier')")
+        self.assertIn("D = {1..2}", browser.text(".edits li[data-k='1']"))
+        self.assertIn("taken back", browser.text(".edits li[data-k='702']"))
+        self.assertEqual(browser.faults, [])
+
     def test_a_cascade_is_put_back_upward(self):
         """Downward edit 5 would copy what stood in A[1] before edit 4."""
         book = Workbook.run(PROGRAM)

@@ -26,7 +26,7 @@ from .terminal import arguments, may_leave, open_book
 from .view import Sight, View
 
 HERE = Path(__file__).parent
-SCRIPTS = ("page.js", "talk.js", "edits.js", "grid.js", "tables.js", "pasting.js")
+SCRIPTS = ("page.js", "talk.js", "edits.js", "grid.js", "tables.js", "pasting.js", "newtable.js")
 KINDS = {".html": "text/html; charset=utf-8", ".css": "text/css; charset=utf-8", ".js": "text/javascript; charset=utf-8"}
 LONGEST = 1 << 21
 """So many bytes a request of the page may have."""

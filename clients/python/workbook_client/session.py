@@ -234,7 +234,7 @@ class Session:
 
     def do_label(self, name: str, way: str, source: Optional[str]) -> None:
         if source is None:
-            self.book.labels.pop((name, way), None)
+            self.book.labels[name, way] = None
             self.say(f"  {way} of {name} have their numbers")
             return
         found = titles.titles(titles.checked(self.book.snapshot(), name, way, source), source)
@@ -242,7 +242,10 @@ class Session:
         self.wrapped(f"{way} of {name} have titles from {source}: {len(found)} of them, {self.here}")
 
     def do_import(self, name: str, path: str) -> None:
-        text = files.read(path)
+        self.took(name, files.read(path))
+
+    def took(self, name: str, text: str) -> None:
+        """Takes in the text of a spreadsheet's file: as a new array, or into one that is there."""
         if self.book.kind(name) is not None:
             self.imported(f"{name} has", Array(self.book, name).from_csv(io.StringIO(text)))
             return

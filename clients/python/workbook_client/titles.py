@@ -1,4 +1,7 @@
-"""Titles of rows and columns, which a workbook has as an array over texts: `B["Ada"] = 3` calls row 3 Ada."""
+"""Titles of rows and columns, which a workbook has as an array over texts: `B["Ada"] = 3` calls row 3 Ada.
+
+An array `Hours` has the titles of `HoursRow` and `HoursColumn`, where these are there, unless a session tells others.
+"""
 
 from typing import Dict, Mapping, Optional, Tuple
 
@@ -7,8 +10,10 @@ from .tables import Looks
 
 WAYS = ("rows", "columns")
 """The ways of a table, in the order of an index."""
-Labels = Dict[Tuple[str, str], str]
-"""Of an array's "rows" or "columns", the array whose texts are their titles."""
+ENDINGS = {"rows": "Row", "columns": "Column"}
+"""How the array of titles is called, behind the name of the array that has them, where nothing else is told."""
+Labels = Dict[Tuple[str, str], Optional[str]]
+"""Of an array's "rows" or "columns", the array whose texts are their titles; None where they are to have none."""
 
 
 def titles(shot: Snapshot, source: Optional[str]) -> Dict[int, str]:
@@ -41,10 +46,20 @@ def _is_of_texts(shot: Snapshot, domain: str) -> bool:
     return isinstance(found, AssocDomain) and found.of == "text"
 
 
-def looks(labels: Mapping[Tuple[str, str], str], shot: Snapshot, name: str, decimals: int = 0, page: int = 0) -> Looks:
-    """How an array is shown: with the titles that it was given, as they are now."""
-    down, across = (titles(shot, labels.get((name, way))) for way in WAYS)
+def looks(labels: Mapping[Tuple[str, str], Optional[str]], shot: Snapshot, name: str, decimals: int = 0, page: int = 0) -> Looks:
+    """How an array is shown: with the titles that it was given, or those of an array that is called so, as they are now."""
+    rank = _rank(shot, name)
+    down, across = (
+        titles(shot, labels.get((name, way), name + ENDINGS[way])) if at < rank <= 2 else {} for at, way in enumerate(WAYS)
+    )
     return Looks(down, across, decimals, page)
+
+
+def _rank(shot: Snapshot, name: str) -> int:
+    """How many ways an array over a rectangle has; 0 for any other."""
+    array = shot.arrays.get(name)
+    domain = shot.domains[array.over] if array else None
+    return len(domain.ranges) if isinstance(domain, RectDomain) else 0
 
 
 def digits_of(by: int) -> int:
