@@ -6,6 +6,7 @@ import shutil
 import socket
 import subprocess
 import tempfile
+import time
 from pathlib import Path
 from typing import IO, List, Optional, Sequence, Union
 
@@ -16,6 +17,9 @@ PIECE = 65_536
 
 EARLY = 16_384
 """With so many bytes waiting, a send begins to write, so that the other side can begin too."""
+
+IDLE = 60.0
+"""Where nothing was sent for so many seconds, that may be why a connection was ended."""
 
 LONGEST_WORDS = 500
 """So much is told of what a program said at its end."""
@@ -220,14 +224,21 @@ class SocketChannel(Channel):
 
     def __init__(self, host: str, port: Optional[int], wait: Optional[float] = None):
         self.where = host if port is None else f"{host}:{port}"
+        self._sent_at = time.monotonic()
         try:
             self._socket = _connected(host, port, wait)
         except (OSError, OverflowError, UnicodeError) as fault:  # the last two: no such port, and no such host
             raise NoServer(f"nobody listens at {self.where}: {sentence(fault)}") from fault
         super().__init__(self._socket.fileno(), self._socket.fileno())
 
+    def send(self, line: bytes) -> None:
+        super().send(line)
+        self._sent_at = time.monotonic()
+
     def why(self) -> str:
-        return f"{self.where} has closed the connection"
+        quiet = time.monotonic() - self._sent_at
+        idle = f"; nothing was sent for {quiet:.0f} seconds, and a desk may end a connection that is idle for so long" if quiet >= IDLE else ""
+        return f"{self.where} has closed the connection{idle}"
 
     def close(self) -> None:
         if self.closed:
