@@ -363,6 +363,29 @@ class Page(InABrowser):
         self.assertEqual(browser.text("#notices"), "")
         self.assertEqual(browser.faults, [])
 
+    def test_who_did_it_by_name(self):
+        """At a desk that stays the history and the notices tell who made an edit, and who took one back."""
+        desk = Workbook.serve(seats=2, stay=True, program=PROGRAM)
+        self.addCleanup(desk.close)
+        browser = self.open(desk.connect(name="Ada"))
+        other = desk.connect(name="Ben\u202e")
+        self.line(browser, "D = {1..4}", "A over D", "A[1] = 5")
+        other.undo(3)
+        other["A"][2] = 6
+        browser.until("document.getElementById('notices').innerText.includes('Ben\ufffd took back your edit 3 (A[1] = 5)')")
+        browser.until("document.querySelector('.edits li[data-k=\"4\"]')?.innerText.includes('Ben\ufffd')")
+        self.assertIn("me · 1 cell · taken back", browser.text(".edits li[data-k='3']"))
+        browser.click("#notices button")  # put it back
+        self.shows(browser, "A[1]", 5)
+        self.line(browser, "undo 2")
+        self.says(browser, "Blocked by edit 3")
+        other.undo(3)
+        self.line(browser, "undo 2")
+        self.says(browser, "Blocked by edit 4 of Ben\ufffd (A[2] = 6)")
+        self.line(browser, "undo 3")
+        self.says(browser, "Ben\ufffd took it back")
+        self.assertEqual(browser.faults, [])
+
     def test_what_others_do_appears(self):
         server = Server(seats=2)
         self.addCleanup(server.close)
