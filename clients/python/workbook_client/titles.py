@@ -3,7 +3,7 @@
 An array `Hours` has the titles of `HoursRow` and `HoursColumn`, where these are there, unless a session tells others.
 """
 
-from typing import Dict, Mapping, Optional, Tuple
+from typing import Dict, List, Mapping, Optional, Tuple
 
 from .snapshot import AssocDomain, RectDomain, Snapshot
 from .tables import Looks
@@ -48,11 +48,20 @@ def _is_of_texts(shot: Snapshot, domain: str) -> bool:
 
 def looks(labels: Mapping[Tuple[str, str], Optional[str]], shot: Snapshot, name: str, decimals: int = 0, page: int = 0) -> Looks:
     """How an array is shown: with the titles that it was given, or those of an array that is called so, as they are now."""
-    rank = _rank(shot, name)
-    down, across = (
-        titles(shot, labels.get((name, way), name + ENDINGS[way])) if at < rank <= 2 else {} for at, way in enumerate(WAYS)
-    )
+    down, across = (titles(shot, source) for source in sources(labels, shot, name))
     return Looks(down, across, decimals, page)
+
+
+def sources(labels: Mapping[Tuple[str, str], Optional[str]], shot: Snapshot, name: str) -> List[Optional[str]]:
+    """What the arrays are called from which an array's rows and columns would have their titles."""
+    rank = _rank(shot, name)
+    return [labels.get((name, way), name + ENDINGS[way]) if at < rank <= 2 else None for at, way in enumerate(WAYS)]
+
+
+def last_with_titles(labels: Mapping[Tuple[str, str], Optional[str]], shot: Snapshot) -> List[str]:
+    """The names of all arrays: first those that are no titles of another, then those that are."""
+    used = {source for name in shot.arrays for source in sources(labels, shot, name)}
+    return sorted(shot.arrays, key=lambda name: (name in used and _is_of_texts(shot, shot.arrays[name].over), name))
 
 
 def _rank(shot: Snapshot, name: str) -> int:

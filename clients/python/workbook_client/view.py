@@ -257,7 +257,7 @@ class View:
                 "domains": [
                     {"name": name, "words": harmless(shot.domains[name].in_words())} for name in sorted(shot.domains)
                 ],
-                "arrays": [self._array(shot, name) for name in sorted(shot.arrays)],
+                "arrays": [self._array(shot, name) for name in titles.last_with_titles(self.book.labels, shot)],
             }
         state: Json = {
             "alone": self.book.alone,
