@@ -370,6 +370,7 @@ class Page(InABrowser):
         browser = self.open(desk.connect(name="Ada"))
         other = desk.connect(name="Ben\u202e")
         self.line(browser, "D = {1..4}", "A over D", "A[1] = 5")
+        browser.until("document.getElementById('where').innerText.endsWith(' with Ben\ufffd')")
         other.undo(3)
         other["A"][2] = 6
         browser.until("document.getElementById('notices').innerText.includes('Ben\ufffd took back your edit 3 (A[1] = 5)')")

@@ -135,6 +135,44 @@ class Desks(Files):
             one.undo(4)
             self.assertEqual(ben.history()[3].turned_by, f"seat {1 - ben.names_heard.seat}")
 
+    def test_who_is_there(self):
+        """By the words of a session, which may say its name later; the page tells of those who said one."""
+        with Workbook.serve(seats=4, stay=True, program=PROGRAM) as desk:
+            ben, eva, other = desk.connect(), desk.connect(name="Eva"), desk.connect()
+            out = io.StringIO()
+            session = Session(ben, out)
+            session.line("who")
+            self.assertEqual(out.getvalue(), "  Eva; 2 without a name; 1 of 4 seats free\n")
+            out.truncate(0), out.seek(0)
+            for line in ('hello Ben"', "hello " + "x" * 33, "hello Ben of the shop", "hello Bob", "who"):
+                session.line(line)
+            told = " ".join(out.getvalue().split())
+            self.assertEqual(told.count("the desk does not take the name"), 2)
+            self.assertIn("others here hear of Ben of the shop by what you do from now on", told)
+            self.assertIn("this session is called Ben of the shop, and a name is said once", told)
+            self.assertTrue(told.endswith("Ben of the shop (you) and Eva; 1 without a name; 1 of 4 seats free"), told)
+            view = View(eva)
+            state = view.state()
+            self.assertEqual(state["guests"], ["Ben of the shop"])
+            self.assertEqual(View(other).state()["guests"], [])  # who said no name asks for none
+            ben.exchange.channel.close()
+            self.assertEqual(ben.again(), [])  # the name is said again
+            self.assertIn("Ben of the shop", ben.desk().names.values())
+            ben.close()
+            self.wait_for(lambda: len(eva.desk().names) == 1)
+            view._looked = float("-inf")
+            later = view.state()
+            self.assertEqual(later["guests"], [])
+            self.assertNotEqual(later["version"], state["version"])
+
+    def wait_for(self, holds) -> None:
+        """Waits until something holds."""
+        for _ in range(200):
+            if holds():
+                return
+            time.sleep(0.05)
+        self.assertTrue(holds())
+
     def test_a_name_is_said_again_at_another_seat(self):
         """What a session did before it was cut is still its own, and what others did has their names; also where the desk began anew."""
         with Workbook.serve(seats=2, journal=self.path, stay=True, program=PROGRAM) as desk:
@@ -152,7 +190,7 @@ class Desks(Files):
             ann = self.seat(desk, "Ann")
             ann.undo(3)
             self.assertEqual(ben.again(), [])
-            self.assertEqual(ben.names_heard.seat, 1)
+            self.assertNotEqual(ben.names_heard.seat, ann.names_heard.seat)
             self.assertEqual([(e.who, e.by, e.turned_by) for e in ben.history()], [
                 ("me", "", ""), ("me", "", ""), ("another", "Eva", "Ann"), ("me", "", "")])
             ben.redo(3)

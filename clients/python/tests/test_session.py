@@ -76,6 +76,20 @@ class Talk(unittest.TestCase):
         for sign in ("..<", "..#", "+=", "-=", "*=", "|=", "&=", "^=", "//"):
             self.assertIn(sign, told)
 
+    def test_words_for_a_desk_are_for_a_desk(self):
+        """In a session alone there is nobody to tell, and at a desk that gives each seat once nothing is told."""
+        for line in ("who", "hello Ben"):
+            with self.subTest(line):
+                self.assertIn("that is for a desk: nobody else is here", self.say(line))
+                self.assertTrue(self.session.failed)
+        self.assertIn("expected your name, as in hello Ben", self.say("hello"))
+        self.assertIn("edit 1", self.say("hello = {1..4}"))
+        server = Server(seats=1)
+        self.addCleanup(server.close)
+        self.session = Session(server.connect(), io.StringIO(), width=200)
+        self.assertIn("this desk gives each seat once, and tells nothing of who has one", self.say("who"))
+        self.assertIn("the desk does not take the name 'Ben': only one that stays", self.say("hello Ben"))
+
     def test_exit_is_quit(self):
         self.assertFalse(self.session.line("exit"))
         self.assertFalse(self.session.line(" quit "))

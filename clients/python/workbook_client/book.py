@@ -10,7 +10,7 @@ from .errors import NoAnswer, NoNames, NoSeat, NotResumed, SessionEnded, Strange
 from .exchange import Exchange, Reading, Reply, first_refusal, text_of
 from .files import Source
 from .literals import Ranges
-from .names import Names
+from .names import Names, Standing, standing
 from .objects import Array, Domain, ours
 from .rebuilding import rebuild
 from .refusals import BadRequest, LineTooLong, NoSuchName, NotEmpty, WrongKind
@@ -169,7 +169,7 @@ class Workbook:
             book.close()
             raise
         channel.timeout = timeout
-        book._anew = lambda: cls.connect(host, port, wait, timeout, name)
+        book._anew = lambda: cls.connect(host, port, wait, timeout, book.names_heard.name)
         return book
 
     @classmethod
@@ -204,6 +204,28 @@ class Workbook:
         if self._tell is not None:
             self.tell_waits(self._tell)
         return lost
+
+    def hello(self, name: str) -> None:
+        """Says a name at a desk that stays, which a session may do once: others there are told of it. ValueError where that isn't so."""
+        self._at_a_desk()
+        if self.names_heard.name is not None:
+            raise ValueError(f"this session is called {self.names_heard.name}, and a name is said once")
+        try:
+            self.names_heard.hello(name)
+        except BadRequest as no:
+            raise ValueError(f"the desk does not take the name {name!r:.60}: only one that stays takes names, of at most 32 bytes") from no
+
+    def desk(self) -> Standing:
+        """How the desk stands: its seats, and who has said a name. ValueError where none tells of it."""
+        self._at_a_desk()
+        try:
+            return standing(self)
+        except BadRequest as no:
+            raise ValueError("this desk gives each seat once, and tells nothing of who has one") from no
+
+    def _at_a_desk(self) -> None:
+        if not isinstance(self.exchange.channel, SocketChannel):
+            raise ValueError("that is for a desk: nobody else is here" if self.alone else "that is for a desk, and not for a log")
 
     def close(self) -> None:
         """Ends the session. What the program was still to answer isn't waited for."""

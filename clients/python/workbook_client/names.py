@@ -26,6 +26,22 @@ class Doing(NamedTuple):
     seat: int
 
 
+class Standing(NamedTuple):
+    """How a desk that stays stands."""
+
+    seats: int
+    free: int
+    """How many of its seats nobody has."""
+    names: Dict[int, str]
+    """Who has said a name, by seat."""
+    since: int
+    """When it began, in seconds since 1970."""
+    entries: int
+    """How many requests it keeps that aren't checked yet."""
+    journal: Optional[int]
+    """How many bytes its journal has."""
+
+
 class Sitting(NamedTuple):
     """What was done from one number on, and before another, at a seat that this session had."""
 
@@ -96,6 +112,17 @@ class Names:
         else:
             edit.turned_by = name
         return True
+
+
+def standing(book: "Workbook") -> Standing:
+    """How the desk stands; `BadRequest` where it tells nothing of it."""
+    told = book.ask(requests.desk())
+    journal = None if told["journal"] is None else told.number("journal")
+    try:
+        names = {int(one["seat"]): str(one["name"]) for one in told.listed("names")}
+    except (KeyError, TypeError, ValueError) as wrong:
+        raise StrangeReply(f"what came tells of no names: {dict(told)!r:.200}") from wrong
+    return Standing(told.number("seats"), told.number("free"), names, told.number("since"), told.number("entries"), journal)
 
 
 def _doing(told: Any) -> Doing:

@@ -21,8 +21,11 @@ function show() {
 function place() {
   if (state.kept) return [state.kept.split("/").pop(), "kept in " + state.kept + ": each change is on the disk before it is told"];
   if (state.alone) return ["kept nowhere", "kept nowhere: it is gone when its program ends (--journal FILE keeps one)"];
-  return [state.where, "shared at " + state.where + ": other seats edit too"];
+  return [state.where, "shared at " + state.where + (state.guests.length ? " with " + listed(state.guests) : ": other seats edit too")];
 }
+
+/** "Ben", "Ben and Eva", "Ben, Eva and Ida". */
+const listed = names => [names.slice(0, -1).join(", "), names[names.length - 1]].filter(Boolean).join(" and ");
 
 /** How much changed that wasn't looked at yet; a click takes the marks off. */
 function showMarks() {

@@ -51,6 +51,7 @@ Looking        A     A[4]     A[1..20]       a table, an element, a part of the 
 Edits          history    history 18         every edit, or from 18 on: who, what, whether in force
                undo    undo 3    redo 3      one edit alone, the latest if none is named
                dependents 3    cascade 3     who needs edit 3; takes it back with those
+At a desk      who    hello Ben              who is there, and what others are told of who you are
 Files          save FILE    load FILE        the text of the workbook
                keep FILE                     the whole history, for --resume FILE
                import A FILE  export A FILE  a table of a spreadsheet, .csv or .tsv
@@ -306,6 +307,20 @@ class Session:
         cut = [[_cut(t, room) if c == 2 else t for c, t in enumerate(row)] for row in rows]
         return grid(head, [[Cell(t) for t in row] for row in cut], 10**6, left=len(head))
 
+    def do_who(self) -> None:
+        """Who is at the desk, by the names that they said."""
+        now = self.book.desk()
+        mine = self.book.names_heard.seat
+        named = [f"{name} (you)" if seat == mine else name for seat, name in now.names.items()]
+        without = now.seats - now.free - len(named)
+        parts = [_listed(named)] if named else []
+        parts += [f"{without} without a name"] if without else []
+        self.wrapped(f"{'; '.join(parts)}; {now.free} of {now.seats} seats free")
+
+    def do_hello(self, name: str) -> None:
+        self.book.hello(name)
+        self.say(f"  others here hear of {name} by what you do from now on")
+
     def do_dependents(self, k: int) -> None:
         found = self.book.dependents(k)
         if not found:
@@ -431,6 +446,11 @@ class Session:
             return _takes_back(self.book.dependents(k), k)
         except Refusal:
             return " takes back all that stand in the way"
+
+
+def _listed(words: List[str]) -> str:
+    *first, last = words
+    return f"{', '.join(first)} and {last}" if first else last
 
 
 def _takes_back(dependents: List[int], k: int) -> str:

@@ -115,6 +115,7 @@ class View:
         self._decimals: Dict[str, int] = {}  # how many digits stand behind a point, by array
         self._cuts: Dict[str, int] = {}  # which part of a large array is shown
         self._latest = LATEST  # so many of the latest edits are shown
+        self._guests: List[str] = []  # who else is at the desk, by name
 
     # --- a workbook that goes away
 
@@ -237,7 +238,18 @@ class View:
             self.book.names_heard.hear()
             self._heard, self._objects = counts, None
             self._version += 1
+        self._look_for_guests()
         self._looked = time.monotonic()
+
+    def _look_for_guests(self) -> None:
+        """Who else is at the desk, where it tells of names and this session has said one; no such question stays there."""
+        names = self.book.names_heard
+        if not names.tells:
+            return
+        guests = [name for seat, name in self.book.desk().names.items() if seat != names.seat]
+        if guests != self._guests:
+            self._guests = guests
+            self._version += 1
 
     def _mine(self) -> List[int]:
         """One's own edits in a shared workbook that are in force, as far as that was heard."""
@@ -263,6 +275,7 @@ class View:
             "alone": self.book.alone,
             "kept": harmless(self.book.journal or ""),
             "where": harmless(self.book.where),
+            "guests": [harmless(name) for name in self._guests],
             "news": harmless(self._news),
             "taken": sorted(set(self._taken)),
             "takers": {str(k): harmless(name) for k, name in takers(self.book, self._taken).items()},
