@@ -311,7 +311,8 @@ class Session:
         """Who is at the desk, by the names that they said."""
         now = self.book.desk()
         mine = self.book.names_heard.seat
-        named = [f"{name} (you)" if seat == mine else name for seat, name in now.names.items()]
+        others = sorted(name for seat, name in now.names.items() if seat != mine)
+        named = [*([f"{now.names[mine]} (you)"] if mine in now.names else []), *others]
         without = now.seats - now.free - len(named)
         parts = [_listed(named)] if named else []
         parts += [f"{without} without a name"] if without else []

@@ -246,7 +246,7 @@ class View:
         names = self.book.names_heard
         if not names.tells:
             return
-        guests = [name for seat, name in self.book.desk().names.items() if seat != names.seat]
+        guests = sorted(name for seat, name in self.book.desk().names.items() if seat != names.seat)
         if guests != self._guests:
             self._guests = guests
             self._version += 1
