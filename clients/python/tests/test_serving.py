@@ -9,9 +9,10 @@ import tempfile
 import time
 import unittest
 from typing import Optional
+from unittest import mock
 
 from tests.support import HERE, LONG, PROGRAM
-from workbook_client import NoNames, NoProgram, NoSeat, NotOpened, NotResumed, SessionEnded, Workbook, compact
+from workbook_client import NoNames, NoProgram, NoSeat, NotOpened, NotResumed, SessionEnded, Workbook, channel, compact, terminal
 from workbook_client.language import Command, LanguageError, parse
 from workbook_client.session import Session
 from workbook_client.view import APART, View
@@ -134,6 +135,30 @@ class Desks(Files):
             one = self.seat(desk)
             one.undo(4)
             self.assertEqual(ben.history()[3].turned_by, f"seat {1 - ben.names_heard.seat}")
+
+    def test_a_seat_that_was_idle_is_taken_again(self):
+        """Without much ado: the line is run, and the page shows what there is; what others did meanwhile is told."""
+        with Workbook.serve(seats=3, stay=True, idle=1, journal=self.path, program=PROGRAM) as desk, mock.patch.object(channel, "IDLE", 0.5):
+            ben, eva = desk.connect(name="Ben"), desk.connect(name="Eva")
+            ben.array("A", ben.domain("D", range(1, 5)))
+            out = io.StringIO()
+            session = Session(ben, out, width=200)
+            self.wait_for(ben.exchange.channel.is_gone)
+            self.assertTrue(terminal.answered(session, "A[1] = 5"))
+            self.assertEqual(out.getvalue(), "  (another seat was taken: the desk ends a connection that is idle)\n  edit 3, 1 cell\n")
+            view = View(ben)
+            version = view.state()["version"]
+            self.wait_for(ben.exchange.channel.is_gone)
+            eva.again()
+            eva["A"].set(2, 6)
+            self.assertNotEqual(view.state()["version"], version)  # as if it had been there all the time
+            self.assertEqual((view.state()["edits"][-1]["by"], view.state()["taken"]), ("Eva", []))
+            self.wait_for(ben.exchange.channel.is_gone)
+            eva.again()
+            eva["A"].set(2, 7)
+            out.truncate(0), out.seek(0)
+            terminal.answered(session, "A[2] = 8")
+            self.assertIn("is there again, with 5 edits\n  new: edit 5 (A[2] = 7)\n  edit 6, 1 cell\n", out.getvalue())
 
     def test_who_is_there(self):
         """By the words of a session, which may say its name later; the page tells of those who said one."""

@@ -94,6 +94,10 @@ class Channel:
                 self._read()
         return self.closed or self._ended or self._torn
 
+    def was_idle(self) -> bool:
+        """Whether nothing was sent for so long that the other side may have ended the session for that."""
+        return False
+
     def close(self) -> None:
         """Ends the session."""
         self.closed = True
@@ -236,9 +240,12 @@ class SocketChannel(Channel):
         self._sent_at = time.monotonic()
 
     def why(self) -> str:
-        quiet = time.monotonic() - self._sent_at
-        idle = f"; nothing was sent for {quiet:.0f} seconds, and a desk may end a connection that is idle for so long" if quiet >= IDLE else ""
+        quiet = f"; nothing was sent for {time.monotonic() - self._sent_at:.0f} seconds"
+        idle = f"{quiet}, and a desk may end a connection that is idle for so long" if self.was_idle() else ""
         return f"{self.where} has closed the connection{idle}"
+
+    def was_idle(self) -> bool:
+        return time.monotonic() - self._sent_at >= IDLE
 
     def close(self) -> None:
         if self.closed:

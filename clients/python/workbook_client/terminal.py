@@ -87,11 +87,9 @@ def converse(session: Session) -> int:
 def answered(session: Session, text: str) -> bool:
     """Runs a line that was typed. False where it asks for the end. A shared workbook that is away is waited for: a line that wasn't
     sent is run then, unless something was done meanwhile."""
-    if text.strip() not in WITHOUT and away.is_gone(session):
-        news = away.come_back(session, SessionEnded(session.book.exchange.channel.why()))
-        if not news.none:
-            session.wrapped("the line wasn't run, since that was before it: type it again, if it is still meant")
-            return True
+    if text.strip() not in WITHOUT and away.is_gone(session) and not is_still_meant(session):
+        session.wrapped("the line wasn't run, since that was before it: type it again, if it is still meant")
+        return True
     try:
         return session.line(text, PROMPT)
     except SessionEnded as end:
@@ -99,6 +97,15 @@ def answered(session: Session, text: str) -> bool:
     except KeyboardInterrupt:
         session.say("  (not waited for; its reply is read before the next)")
     return True
+
+
+def is_still_meant(session: Session) -> bool:
+    """Takes the workbook up again, and says whether a line that wasn't sent is run then: where nothing was done meanwhile. Who was
+    idle and takes another seat may run it too where others did something, as who kept a seat may."""
+    news = away.sat_again(session)
+    if news is not None:
+        return not news.other
+    return away.come_back(session, SessionEnded(session.book.exchange.channel.why())).none
 
 
 def may_leave(session: Session) -> bool:
