@@ -84,6 +84,7 @@ class Desks(Files):
             self.assertEqual((ben.again(), list(ben["A"])), ([], [5, 6]))
             with self.assertRaisesRegex(SessionEnded, "the desk has ended with status 3 .*the socket was not opened: Address already in use"):
                 Workbook.serve(stay=True, socket=path, program=PROGRAM)
+            ben.close()
             self.assertIn("array A over D [5, 6]", desk.settled())
         self.assertFalse(os.path.exists(path))
         for words in ({"socket": path}, {"socket": path, "stay": True, "port": 7000}):
@@ -159,6 +160,7 @@ class Desks(Files):
             out.truncate(0), out.seek(0)
             terminal.answered(session, "A[2] = 8")
             self.assertIn("is there again, with 5 edits\n  new: edit 5 (A[2] = 7)\n  edit 6, 1 cell\n", out.getvalue())
+            ben.close(), eva.close()
 
     def test_who_is_there(self):
         """By the words of a session, which may say its name later; the page tells of those who said one."""

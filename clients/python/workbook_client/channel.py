@@ -5,6 +5,7 @@ import select
 import shutil
 import socket
 import subprocess
+import sys
 import tempfile
 import time
 from pathlib import Path
@@ -290,3 +291,9 @@ def command(program: Optional[Program] = None, word: str = "run") -> List[str]:
             "passed, and until then scripts/model-program stands in, slow and unproved"
         )
     return [found, word]
+
+
+def called(module: str) -> str:
+    """What starts this: a command that was installed, or Python."""
+    name = os.path.basename(sys.argv[0])
+    return name if name.startswith("workbook-") else f"python3 -m {module}"

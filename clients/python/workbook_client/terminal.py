@@ -8,6 +8,7 @@ from typing import Any, List, NamedTuple, Optional, TextIO, Union
 
 from . import away, files, log
 from .book import Workbook
+from .channel import called
 from .errors import NoProgram, NotResumed, SessionEnded, WorkbookError, sentence
 from .language import WORDS
 from .redis import RedisRefused, place_of
@@ -191,9 +192,9 @@ def log_at(text: str) -> Log:
     return Log(url, name)
 
 
-def arguments(description: str) -> argparse.ArgumentParser:
+def arguments(description: str, module: str) -> argparse.ArgumentParser:
     """The options that the session and the page have in common."""
-    parser = argparse.ArgumentParser(description=description)
+    parser = argparse.ArgumentParser(description=description, prog=called(module))
     where = parser.add_mutually_exclusive_group()
     where.add_argument("--program", help="the program to start (else WORKBOOK_PROGRAM, else workbook)")
     where.add_argument(
@@ -244,8 +245,7 @@ def _answering(book: Workbook) -> Workbook:
 
 def main(words: Optional[List[str]] = None) -> int:
     """The session; gives the exit status."""
-    parser = arguments("A session with a workbook: `help` at the prompt lists its language.")
-    parser.prog = "python3 -m workbook_client"
+    parser = arguments("A session with a workbook: `help` at the prompt lists its language.", "workbook_client")
     parser.add_argument("--file", metavar="SCRIPT", help="run the lines of a file (- for standard input)")
     parser.add_argument("--keep-going", action="store_true", help="go on after a refused line of SCRIPT")
     parser.add_argument("--colours", action="store_true", help="tables coloured by locale from the start")

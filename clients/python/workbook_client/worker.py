@@ -13,7 +13,7 @@ from dataclasses import dataclass
 from typing import Dict, List, Optional, Sequence, Tuple
 
 from . import keeping, log
-from .channel import Channel, command
+from .channel import Channel, called, command
 from .errors import NoProgram, SessionEnded
 from .redis import Redis, RedisGone, RedisRefused, place_of, without_password
 
@@ -338,7 +338,7 @@ def seconds(text: str) -> float:
 
 def settings_of(words: Optional[Sequence[str]] = None) -> Settings:
     parser = argparse.ArgumentParser(
-        prog="python3 -m workbook_client.worker",
+        prog=called("workbook_client.worker"),
         description="Answers the requests of workbooks that stand in logs in Redis, with as many other workers as there are.",
     )
     parser.add_argument(
