@@ -245,23 +245,23 @@ class Session:
     def do_import(self, name: str, path: str) -> None:
         self.took(name, files.read(path))
 
-    def took(self, name: str, text: str) -> None:
-        """Takes in the text of a spreadsheet's file: as a new array, or into one that is there."""
+    def took(self, name: str, text: str, of: str = "file") -> None:
+        """Takes in the text of a spreadsheet's file, or of a table: as a new array, or into one that is there."""
         if self.book.kind(name) is not None:
-            self.imported(f"{name} has", Array(self.book, name).from_csv(io.StringIO(text)))
+            self.imported(f"{name} has", of, Array(self.book, name).from_csv(io.StringIO(text)))
             return
         made = labels.new_table(self.book, name, sheets.guessed(sheets.cells_of(text)))
-        self.imported(f"{name} is new, and has", made.edits)
+        self.imported(f"{name} is new, and has", of, made.edits)
         for way, source in made.titles.items():
             self.wrapped(f"its {way} have titles from {source}")
         if made.left:
             self.wrapped(f"headings that can't be titles were left out: {', '.join(made.left)}")
 
-    def imported(self, what: str, edits: List[Edit]) -> None:
-        """Tells by which edits a file came in."""
+    def imported(self, what: str, of: str, edits: List[Edit]) -> None:
+        """Tells by which edits a file, or a table, came in."""
         first, last = (edits[0].number, edits[-1].number) if edits else (0, 0)
         by = f"edits {first} to {last}, of which each is taken back by itself" if first < last else f"edit {first}"
-        self.wrapped(f"{what} the numbers of the file, by {by}" if edits else "the file has no number, so nothing changed")
+        self.wrapped(f"{what} the numbers of the {of}, by {by}" if edits else f"the {of} has no number, so nothing changed")
 
     def do_export(self, name: str, path: str) -> None:
         book = self.book.snapshot()

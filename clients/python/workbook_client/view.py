@@ -437,7 +437,7 @@ class View:
 
     def _table(self, session: Doing, asked: Json) -> None:
         """A new array of a table that was pasted or is a file's; the elements of one that is there become those of the table."""
-        session.took(named(str(asked.get("a", "")).strip()), str(asked.get("text", "")))
+        session.took(named(str(asked.get("a", "")).strip()), str(asked.get("text", "")), of="table")
 
     def _hold(self, k: int, by: int) -> None:
         """After a refused undo the page shows who is in the way."""
